@@ -1,0 +1,28 @@
+//! What happens at a node.
+
+use crate::frame::Frame;
+use mqtt_fields::Text;
+
+/// Something that happens at a node, at a moment in milliseconds.
+#[derive(Drop)]
+pub struct Event {
+    pub at: u64,
+    pub kind: EventKind,
+}
+
+/// What happens.
+#[derive(Drop)]
+pub enum EventKind {
+    /// The node begins its work. Before it, and for a second one, nothing comes of an event.
+    Started,
+    /// A client's connection was opened.
+    Opened { connection: u64 },
+    /// Bytes came on a connection.
+    Piece { connection: u64, bytes: Vec<u8> },
+    /// A frame came from another node.
+    Frame { frame: Frame },
+    /// The node is to send what it holds to another node.
+    Ship { peer: u16 },
+    /// A client's subscriptions are to be removed.
+    Evict { client: Text },
+}

@@ -1,0 +1,23 @@
+//! One node of the cluster: an event comes in, and packets, closes and frames go out.
+#![tactic(auto)]
+
+mod answers;
+mod bridge;
+mod connect;
+mod connection;
+mod desk;
+mod event;
+mod fault;
+mod frame;
+mod node;
+mod outcome;
+mod packets;
+mod publish;
+mod subscribe;
+mod unsubscribe;
+
+pub use event::{Event, EventKind};
+pub use fault::NodeFault;
+pub use frame::{Frame, FrameBody, FrameKind};
+pub use node::Node;
+pub use outcome::{Outcome, Output};

@@ -1,0 +1,128 @@
+//! The packets that a node sends.
+
+use crate::desk::Desk;
+use crate::fault::NodeFault;
+use mqtt_fields::{Properties, Property, Qos, SubscriptionOptions, Text, Value, identifier};
+use mqtt_message::Message;
+use mqtt_packets::{Bytes, Connack, Ended, Packet, Publish, Reasons, reason, write_packet};
+use std::alloc::Global;
+
+/// How many QoS 1 and 2 messages of a client may be unfinished.
+pub const RECEIVE_MAXIMUM: u16 = 100;
+
+/// The longest packet that a client may send, in bytes.
+pub const MAXIMUM_PACKET_SIZE: u32 = 1048576;
+
+/// The bytes of a packet, or none where it has no spelling.
+pub fn written(alloc: Global, packet: &Packet) -> Result<Option<Vec<u8>>, NodeFault> {
+    if !packet.is_sound() {
+        return Ok(None);
+    }
+    let mut bytes = Vec::new(alloc);
+    write_packet(alloc, packet, &mut bytes)?;
+    Ok(Some(bytes))
+}
+
+/// CONNACK to a client that is accepted (MQTT 5.0, 3.2).
+pub fn accepted(alloc: Global) -> Result<Packet, NodeFault> {
+    let mut properties = Properties::new(alloc);
+    properties.push(Property {
+        id: identifier::RECEIVE_MAXIMUM,
+        value: Value::Two(RECEIVE_MAXIMUM),
+    })?;
+    properties.push(Property {
+        id: identifier::MAXIMUM_PACKET_SIZE,
+        value: Value::Four(MAXIMUM_PACKET_SIZE),
+    })?;
+    Ok(Packet::Connack(Connack {
+        session_present: false,
+        reason: reason::SUCCESS,
+        properties,
+    }))
+}
+
+/// CONNACK to a client that is refused.
+pub fn refused(alloc: Global, reason: u8) -> Packet {
+    Packet::Connack(Connack {
+        session_present: false,
+        reason,
+        properties: Properties::new(alloc),
+    })
+}
+
+/// The server's DISCONNECT (MQTT 5.0, 3.14).
+pub fn disconnect(alloc: Global, reason: u8) -> Packet {
+    Packet::Disconnect(Ended {
+        reason,
+        properties: Properties::new(alloc),
+    })
+}
+
+/// SUBACK, with one reason for each filter in order (MQTT 5.0, 3.9).
+pub fn suback(alloc: Global, identifier: u16, reasons: Vec<u8>) -> Packet {
+    Packet::Suback(Reasons {
+        identifier,
+        properties: Properties::new(alloc),
+        reasons: Bytes::new(reasons),
+    })
+}
+
+/// UNSUBACK, with one reason for each filter in order (MQTT 5.0, 3.11).
+pub fn unsuback(alloc: Global, identifier: u16, reasons: Vec<u8>) -> Packet {
+    Packet::Unsuback(Reasons {
+        identifier,
+        properties: Properties::new(alloc),
+        reasons: Bytes::new(reasons),
+    })
+}
+
+/// The PUBLISH that brings a retained message to a subscription (MQTT 5.0, 3.3): with RETAIN 1, the least
+/// of both QoS, the message's own properties, then what is left of its interval, then the subscription's
+/// identifier.
+pub fn retained_publish(
+    desk: Desk,
+    message: &Message,
+    options: SubscriptionOptions,
+    subscription: u32,
+) -> Result<Packet, NodeFault> {
+    let Ok(topic) = Text::new(desk.alloc, message.topic.as_str()) else {
+        return Err(NodeFault::NoMemory);
+    };
+    let qos = match Qos::of(options.qos()) {
+        Some(granted) => granted.min(message.qos),
+        None => message.qos,
+    };
+    Ok(Packet::Publish(Publish {
+        dup: false,
+        qos,
+        retain: true,
+        topic,
+        identifier: 0,
+        properties: sent_properties(desk, message, subscription)?,
+        payload: Bytes::from_slice(desk.alloc, message.payload.as_slice())?,
+    }))
+}
+
+fn sent_properties(
+    desk: Desk,
+    message: &Message,
+    subscription: u32,
+) -> Result<Properties, NodeFault> {
+    let mut properties = Properties::new(desk.alloc);
+    for own in message.properties.as_slice() {
+        properties.push(own.copy(desk.alloc)?)?;
+    }
+    if let Some(left) = message.remaining(desk.at) {
+        properties.push(Property {
+            id: identifier::MESSAGE_EXPIRY_INTERVAL,
+            value: Value::Four(left),
+        })?;
+    }
+    if subscription != 0 {
+        properties.push(Property {
+            id: identifier::SUBSCRIPTION_IDENTIFIER,
+            value: Value::Vbi(subscription),
+        })?;
+    }
+    Ok(properties)
+}

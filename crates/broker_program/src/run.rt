@@ -1,0 +1,153 @@
+//! Scripts that are run.
+
+use crate::stop::Fault;
+use crate::task::Task;
+use broker_node::{Event, EventKind};
+use broker_script::{Command, MOST_BYTES, ScriptFault, parse_script};
+use cluster_play::{Cluster, PlayFault, Step};
+use mqtt_fields::Text;
+use std::alloc::Global;
+use std::fmt::Display;
+use std::fs;
+use std::io::{self, Read, Write};
+
+/// Runs a task, and answers the exit status.
+pub fn run_task(rt: &HostRuntime, task: Task) -> u8 {
+    let Task::Play(path) = task;
+    let mut out = rt.stdout();
+    let mut err = rt.stderr();
+    match read_file(rt, path.as_str()) {
+        Ok(script) => run_text(rt.alloc(), script.as_slice(), &mut out, &mut err),
+        Err(_) => stop_with(&Fault::Script(ScriptFault::NotText), &mut err),
+    }
+}
+
+/// The bytes of a file; of one that is too long only the first ones, so that it is still too long.
+fn read_file(rt: &HostRuntime, path: &str) -> io::Result<Vec<u8>> {
+    let mut bytes = Vec::new(rt.alloc());
+    let mut file = fs::open(rt, path)?.take(MOST_BYTES as u64 + 1);
+    file.read_to_end(&mut bytes)?;
+    Ok(bytes)
+}
+
+/// Runs a script: the lines of its steps go to `out`, each step's before the next one runs, and a
+/// fault to `err`. Answers the exit status.
+pub fn run_text<O: Write, E: Write>(alloc: Global, script: &[u8], out: &mut O, err: &mut E) -> u8 {
+    match run_script(alloc, script, out) {
+        Ok(()) => 0,
+        Err(fault) => stop_with(&fault, err),
+    }
+}
+
+fn stop_with<E: Write>(fault: &Fault, err: &mut E) -> u8 {
+    let _ = writeln!(err, "{fault}");
+    fault.status()
+}
+
+fn run_script<O: Write>(alloc: Global, script: &[u8], out: &mut O) -> Result<(), Fault> {
+    let commands = parse_script(alloc, script)?;
+    let nodes = match commands.first() {
+        Some(Command::Nodes { nodes }) => *nodes,
+        _ => 0,
+    };
+    let mut cluster = Cluster::new(alloc, nodes)?;
+    for command in commands {
+        if let Some(step) = step_of(alloc, command)? {
+            let trace = cluster.play(&[step])?;
+            write_lines(alloc, trace.lines.as_slice(), out)?;
+        }
+    }
+    write_end(alloc, &cluster, nodes, out)
+}
+
+/// The step that a command stands for; none for the number of nodes.
+fn step_of(alloc: Global, command: Command) -> Result<Option<Step>, Fault> {
+    let step = match command {
+        Command::Nodes { nodes: _ } => return Ok(None),
+        Command::Start { node, moment } => event(node, moment, EventKind::Started),
+        Command::Open {
+            node,
+            connection,
+            moment,
+        } => event(node, moment, EventKind::Opened { connection }),
+        Command::Bytes {
+            node,
+            connection,
+            moment,
+            bytes,
+        } => event(node, moment, EventKind::Piece { connection, bytes }),
+        Command::Ship { node, peer, moment } => event(node, moment, EventKind::Ship { peer }),
+        Command::Evict {
+            node,
+            client,
+            moment,
+        } => {
+            let client = client_of(alloc, client.as_str())?;
+            event(node, moment, EventKind::Evict { client })
+        }
+        Command::Deliver { frame, moment } => Step::Deliver { frame, at: moment },
+    };
+    Ok(Some(step))
+}
+
+/// A client that a script names; such a word is always a text.
+fn client_of(alloc: Global, word: &str) -> Result<Text, Fault> {
+    match Text::new(alloc, word) {
+        Ok(client) => Ok(client),
+        Err(_) => Err(Fault::Play(PlayFault::NoMemory)),
+    }
+}
+
+fn event(node: u16, at: u64, kind: EventKind) -> Step {
+    Step::Event {
+        node,
+        event: Event { at, kind },
+    }
+}
+
+/// Writes one line for each of these, all at once.
+fn write_lines<T: Display, O: Write>(alloc: Global, lines: &[T], out: &mut O) -> Result<(), Fault> {
+    let mut text = String::new(alloc);
+    for line in lines {
+        writeln!(&mut text, "{line}")?;
+    }
+    write_text(&text, out)
+}
+
+fn write_text<O: Write>(text: &String, out: &mut O) -> Result<(), Fault> {
+    match out.write_all(text.as_bytes()) {
+        Ok(()) => Ok(()),
+        Err(_) => Err(Fault::Output),
+    }
+}
+
+/// What each node holds, and which of them have taken the same.
+fn write_end<O: Write>(
+    alloc: Global,
+    cluster: &Cluster,
+    nodes: u16,
+    out: &mut O,
+) -> Result<(), Fault> {
+    let mut text = String::new(alloc);
+    for node in 0..nodes {
+        match cluster.holdings(node) {
+            Some((subscriptions, retained)) => {
+                writeln!(
+                    &mut text,
+                    "node {node} subscriptions {subscriptions} retained {retained}"
+                )?
+            }
+            None => writeln!(&mut text, "node {node} down")?,
+        }
+    }
+    for i in 0..nodes {
+        for j in i + 1..nodes {
+            match cluster.same_taken(i, j) {
+                Some(true) => writeln!(&mut text, "taken {i} {j} equal")?,
+                Some(false) => writeln!(&mut text, "taken {i} {j} differ")?,
+                None => {}
+            }
+        }
+    }
+    write_text(&text, out)
+}

@@ -1,0 +1,76 @@
+//! A stream in any pieces, and a packet of many filters.
+
+use super::check;
+use std::alloc::Global;
+use std::test::Fail;
+
+const STREAM: &str = "100e00044d5154540502003c000001613106000174006f6e820700010000017400";
+
+const ANSWERS: &str =
+    "sent 0 1 200b0000082100642700100000\nsent 0 1 900400010000\nsent 0 1 3106000174006f6e\nnode 0 subscriptions 1 retained 1\n";
+
+/// A script that sends the stream in two pieces, cut after so many digits.
+fn cut_after(alloc: Global, digits: usize) -> Result<String, Fail> {
+    let Some((front, back)) = STREAM.split_at_checked(digits) else {
+        return Err("no such cut".into());
+    };
+    Ok(format!(in alloc;
+        "nodes 1\nstart 0 0\nopen 0 1 0\nbytes 0 1 0 {front}\nbytes 0 1 0 {back}\n"
+    )?)
+}
+
+#[test]
+fn takes_a_stream_in_any_pieces(rt: HostRuntime) -> Result<(), Fail> {
+    for bytes in 1..33 {
+        let script = cut_after(rt.alloc(), 2 * bytes)?;
+        check(
+            &rt,
+            rt.alloc(),
+            "a cut stream",
+            script.as_str(),
+            (0, ANSWERS, ""),
+        )?;
+    }
+    Ok(())
+}
+
+/// Four digits as the hexadecimal text of their characters.
+fn digits(alloc: Global, number: u32) -> Result<String, Fail> {
+    let mut text = String::new(alloc);
+    for digit in [
+        number / 1000 % 10,
+        number / 100 % 10,
+        number / 10 % 10,
+        number % 10,
+    ] {
+        write!(&mut text, "3{digit}")?;
+    }
+    Ok(text)
+}
+
+#[test]
+fn refuses_the_filter_after_a_thousand(rt: HostRuntime) -> Result<(), Fail> {
+    let alloc = rt.alloc();
+    let mut script = String::from_str(
+        alloc,
+        "nodes 1\nstart 0 0\nopen 0 1 0\nbytes 0 1 0 100e00044d5154540502003c00000161\nbytes 0 1 0 82e236000100",
+    )?;
+    let mut out = String::from_str(
+        alloc,
+        "sent 0 1 200b0000082100642700100000\nsent 0 1 90ec07000100",
+    )?;
+    for k in 0..1001 {
+        let name = digits(alloc, k)?;
+        write!(&mut script, "0004{name}00")?;
+        out.push_str(if k < 1000 { "00" } else { "97" })?;
+    }
+    script.push_str("\n")?;
+    out.push_str("\nnode 0 subscriptions 1000 retained 0\n")?;
+    check(
+        &rt,
+        alloc,
+        "1,001 filters",
+        script.as_str(),
+        (0, out.as_str(), ""),
+    )
+}

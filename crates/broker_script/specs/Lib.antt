@@ -1,0 +1,4 @@
+pub mod Line
+pub mod Fault
+pub mod Script
+pub mod Laws

@@ -1,0 +1,167 @@
+//! Scripts that are read, and the faults of those that aren't.
+
+use crate::{Command, MOST_BYTES, ScriptFault, parse_script};
+use std::test::Fail;
+
+const CONNECT: &str = "nodes 2\n# c\n\nstart 0 0\nstart 1 0\nopen 1 1 0\n\
+    bytes 1 1 0 100e00044d5154540502003c00000161\nship 1 0 0\ndeliver 1 0\n";
+
+#[test]
+fn reads_commands(rt: HostRuntime) -> Result<(), Fail> {
+    let connect = hex::decode(rt.alloc(), "100e00044d5154540502003c00000161")?;
+    let commands = parse_script(rt.alloc(), CONNECT.as_bytes())?;
+    assert_eq!(rt; commands.len(), 7);
+    assert_eq!(rt; commands[0], Command::Nodes { nodes: 2 });
+    assert_eq!(rt; commands[2], Command::Start { node: 1, moment: 0 });
+    assert_eq!(rt;
+        commands[3],
+        Command::Open {
+            node: 1,
+            connection: 1,
+            moment: 0
+        }
+    );
+    assert_eq!(rt;
+        commands[4],
+        Command::Bytes {
+            node: 1,
+            connection: 1,
+            moment: 0,
+            bytes: connect
+        }
+    );
+    assert_eq!(rt;
+        commands[5],
+        Command::Ship {
+            node: 1,
+            peer: 0,
+            moment: 0
+        }
+    );
+    assert_eq!(rt;
+        commands[6],
+        Command::Deliver {
+            frame: 1,
+            moment: 0
+        }
+    );
+    let last = parse_script(rt.alloc(), b"nodes 8\nstart 7 18446744073709551615")?;
+    assert_eq!(rt; last.len(), 2);
+    assert_eq!(rt;
+        last[1],
+        Command::Start {
+            node: 7,
+            moment: u64::MAX
+        }
+    );
+    Ok(())
+}
+
+#[test]
+fn reads_clients(rt: HostRuntime) -> Result<(), Fail> {
+    let longest = "a".repeat(rt.alloc(), 256)?;
+    for client in ["a", "!#~", longest.as_str()] {
+        let script = format!(in rt.alloc(); "nodes 1\nevict 0 {client} 0")?;
+        let commands = parse_script(rt.alloc(), script.as_str().as_bytes())?;
+        assert_eq!(rt; commands.len(), 2);
+        assert_eq!(rt;
+            commands[1],
+            Command::Evict {
+                node: 0,
+                client: String::from_str(rt.alloc(), client)?,
+                moment: 0
+            }
+        );
+    }
+    let script = format!(in rt.alloc(); "nodes 1\n\nevict 0 {longest}a 0\n")?;
+    assert_eq!(rt;
+        parse_script(rt.alloc(), script.as_str().as_bytes()),
+        Err(ScriptFault::Line(3))
+    );
+    Ok(())
+}
+
+#[test]
+fn refuses_what_is_no_text(rt: HostRuntime) -> Result<(), Fail> {
+    for script in [b"nodes 2\n# \xc8\n", b"nodes 0\n# \x80\n"] {
+        assert_eq!(rt; parse_script(rt.alloc(), script), Err(ScriptFault::NotText));
+    }
+    let mut long = vec![in rt.alloc(); b'#'; MOST_BYTES + 1]?;
+    assert_eq!(rt;
+        parse_script(rt.alloc(), long.as_slice()),
+        Err(ScriptFault::NotText)
+    );
+    long.pop();
+    assert_eq!(rt;
+        parse_script(rt.alloc(), long.as_slice()),
+        Err(ScriptFault::Line(1))
+    );
+    Ok(())
+}
+
+#[test]
+fn names_faults(rt: HostRuntime) -> Result<(), Fail> {
+    for (text, line) in [
+        ("nodes 0", 1),
+        ("nodes 9", 1),
+        ("", 1),
+        ("# a\n\n# b\n", 1),
+        ("start 0 0", 1),
+        ("nodes 2\nstart 2 0", 2),
+        ("nodes 2\nstart 65536 0", 2),
+        ("nodes 2\nship 0 2 0", 2),
+        ("nodes 2\nstart 1 00", 2),
+        ("nodes 2\nstart 01 0", 2),
+        ("nodes 2\nstart +1 0", 2),
+        ("nodes 2\nstart 1  0", 2),
+        ("nodes 2\n start 1 0", 2),
+        ("nodes 2\nstart 1 0 ", 2),
+        ("nodes 2\nstart 1 0\r\n", 2),
+        ("nodes 2\r\nstart 1 0\n", 1),
+        ("nodes 2\nbytes 1 1 0 AB", 2),
+        ("nodes 2\nbytes 1 1 0 abc", 2),
+        ("nodes 2\nbytes 1 1 0 ", 2),
+        ("nodes 1\n\nopen 0 1 18446744073709551616", 3),
+        ("nodes 2\nevict 2 a 0", 2),
+        ("nodes 2\nevict 0 a\x01 0", 2),
+        ("nodes 2\nevict 0 \x7f 0", 2),
+        ("nodes 2\nevict 0  0", 2),
+        ("nodes 2\nevict 0 a", 2),
+        ("nodes 2\nevict 0 a b 0", 2),
+        ("nodes 1\nnodes 1", 2),
+        ("nodes 1\nbegin 0 0", 2),
+    ] {
+        assert_eq!(rt;
+            parse_script(rt.alloc(), text.as_bytes()),
+            Err(ScriptFault::Line(line)),
+            "{text}"
+        );
+    }
+    Ok(())
+}
+
+#[test]
+fn prints_commands(rt: HostRuntime) -> Result<(), Fail> {
+    let script =
+        b"nodes 2\nopen 1 10 0\nbytes 1 10 5 00ff7a\nship 0 1 7\ndeliver 3 9\nevict 1 c-1 8\nstart 0 20\n";
+    let mut printed = String::new(rt.alloc());
+    for command in parse_script(rt.alloc(), script)?.iter() {
+        let line = format!(in rt.alloc(); "{command}\n")?;
+        printed.push_str(line.as_str())?;
+    }
+    assert_eq!(rt; printed.as_str().as_bytes(), script.as_slice());
+    Ok(())
+}
+
+#[test]
+fn prints_faults(rt: HostRuntime) -> Result<(), Fail> {
+    for (fault, want) in [
+        (ScriptFault::NotText, "broker: script"),
+        (ScriptFault::Line(12), "broker: script line 12"),
+        (ScriptFault::NoMemory, "broker: run: NoMemory"),
+    ] {
+        let text = format!(in rt.alloc(); "{fault}")?;
+        assert_eq!(rt; text.as_str(), want);
+    }
+    Ok(())
+}

@@ -1,0 +1,14 @@
+pub mod Below
+pub mod Cutting
+pub mod Greatest
+pub mod Inserting
+pub mod Merging
+pub mod OneSpelling
+pub mod RangeLemmas
+pub mod RangeSets
+pub mod Runs
+pub mod SameRanges
+pub mod Searching
+pub mod SpellingLaws
+pub mod Splicing
+pub mod SteadyContext

@@ -1,0 +1,12 @@
+//! A cluster in one process: nodes, the frames between them, and a trace of what they give out.
+#![tactic(auto)]
+
+mod cluster;
+mod fault;
+mod line;
+mod step;
+
+pub use cluster::Cluster;
+pub use fault::PlayFault;
+pub use line::{Line, Trace};
+pub use step::Step;

@@ -1,0 +1,11 @@
+pub mod BigEndianLaws
+pub mod Laws
+pub mod NumberLaws
+pub mod TableLaws
+pub mod TextLaws
+pub mod ValueLaws
+pub mod VbiLaws
+pub mod SteadyLaws
+pub mod FieldLaws
+pub mod BlockLaws
+pub mod LengthLaws

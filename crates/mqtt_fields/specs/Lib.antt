@@ -1,0 +1,10 @@
+pub mod Reading
+pub mod Field
+pub mod Numbers
+pub mod Vbi
+pub mod Table
+pub mod Value
+pub mod Block
+pub mod Options
+pub mod Properties
+pub mod Laws

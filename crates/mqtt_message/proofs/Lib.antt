@@ -1,0 +1,9 @@
+pub mod OwnLaws
+pub mod SpellingLaws
+pub mod NumbersLaws
+pub mod WholeLaws
+pub mod SentLaws
+pub mod AcceptLaws
+pub mod FitsLaws
+pub mod GroupLaws
+pub mod EncodingLaws

@@ -1,0 +1,12 @@
+pub mod OwnProperties
+pub mod Expiry
+pub mod Accepted
+pub mod Identifiers
+pub mod Spelling
+pub mod Parts
+pub mod Spellings
+pub mod Sent
+pub mod Laws
+pub mod Messages
+pub mod Order
+pub mod Encoding

@@ -1,0 +1,179 @@
+//! Worked examples, faults in bytes, and what succeeds while there is memory.
+
+ghost use Rattle.std.specs.Prelude.{◌≡◌, ◌<◌, ◌^◌, IfOk};
+ghost use Rattle.mqtt_packets.specs.declared.packet.Packet.TheVariants as packets;
+ghost use Rattle.mqtt_packets.specs.Written.{HasSpelling};
+
+use crate::delivery::Delivery;
+use crate::expiry::due;
+use crate::identifiers::Identifiers;
+use crate::message::Message;
+use mqtt_fields::{Blob, FieldFault, Properties, Property, Qos, Text, Value};
+use mqtt_packets::{Packet, Publish, Will, read_packet};
+use mqtt_topics::TopicName;
+use std::alloc::Global;
+use std::test::Fail;
+
+/// A retained PUBLISH of `on` to `t` that expires after 5 seconds.
+const PUBLISH: [u8; 13] = [0x31, 11, 0, 1, 0x74, 5, 2, 0, 0, 0, 5, 0x6f, 0x6e];
+
+/// The message of it, accepted from `a` at 1,000.
+const MESSAGE: [u8; 24] = [
+    0, 1, 0x74, 0, 0, 0, 2, 0x6f, 0x6e, 0, 0, 1, 0, 1, 0x61, 1, 0, 0, 0, 0, 0, 0, 0x17, 0x70,
+];
+
+fn publish_in(alloc: Global, bytes: &[u8]) -> Result<Publish, Fail>
+    ensures { IfOk result (λ p. HasSpelling (packets.Publish p)) }
+{
+    match read_packet(alloc, bytes)? {
+        Some((packet, _)) => match packet {
+            Packet::Publish(publish) => Ok(publish),
+            _ => Err("not a PUBLISH")?,
+        },
+        None => Err("not whole")?,
+    }
+}
+
+fn accepted(alloc: Global, bytes: &[u8], now: u64) -> Result<Message, Fail>
+    requires { now < 2 ^ 62 }
+{
+    let publish = publish_in(alloc, bytes)?;
+    let _name = TopicName::parse(alloc, publish.topic.as_str())?;
+    let publisher = Text::new(alloc, "a")?;
+    let message = Message::accept(alloc, &publish, &publisher, now)?;
+    Ok(message)
+}
+
+fn will_after(alloc: Global, delay: Option<u32>) -> Result<Will, Fail> {
+    let mut properties = Properties::new(alloc);
+    if let Some(seconds) = delay {
+        properties.push(Property {
+            id: 24,
+            value: Value::Four(seconds),
+        })?;
+    }
+    Ok(Will {
+        retain: false,
+        qos: Qos::AtLeastOnce,
+        properties,
+        topic: Text::new(alloc, "w")?,
+        payload: Blob::new(alloc, b"gone")?,
+    })
+}
+
+fn will_message(alloc: Global) -> Result<Message, Fail> {
+    let will = Will {
+        retain: true,
+        qos: Qos::AtLeastOnce,
+        properties: Properties::new(alloc),
+        topic: Text::new(alloc, "w")?,
+        payload: Blob::new(alloc, b"gone")?,
+    };
+    let _name = TopicName::parse(alloc, will.topic.as_str())?;
+    let publisher = Text::new(alloc, "a")?;
+    let message = Message::accept_will(alloc, &will, &publisher, 0)?;
+    Ok(message)
+}
+
+#[test]
+fn messages_expire(rt: HostRuntime) -> Result<(), Fail> {
+    let message = accepted(rt.alloc(), &PUBLISH, 1000)?;
+    for (now, alive, left) in [
+        (1000, true, 5),
+        (5000, true, 1),
+        (5999, true, 1),
+        (6000, false, 0),
+    ] {
+        assert_eq!(rt; message.alive(now), alive, "at {now}");
+        assert_eq!(rt; message.remaining(now), Some(left), "at {now}");
+    }
+    let forever = accepted(rt.alloc(), &[0x30, 4, 0, 1, 0x74, 0], 1000)?;
+    assert!(rt; forever.alive(9_000_000));
+    assert_eq!(rt; forever.remaining(9_000_000), None);
+    Ok(())
+}
+
+#[test]
+fn wills_fall_due(rt: HostRuntime) -> Result<(), Fail> {
+    let rows = [
+        (Some(60), 30, 40_000),
+        (Some(60), 90, 70_000),
+        (Some(60), 0xffff_ffff, 70_000),
+        (None, 30, 10_000),
+    ];
+    for (delay, expiry, moment) in rows {
+        let will = will_after(rt.alloc(), delay)?;
+        assert_eq!(rt; due(&will, 10_000, expiry), moment, "with {expiry}");
+    }
+    Ok(())
+}
+
+#[test]
+fn wills_become_messages(rt: HostRuntime) -> Result<(), Fail> {
+    let message = will_message(rt.alloc())?;
+    assert_eq!(rt; message.topic.as_str(), "w");
+    assert_eq!(rt; message.payload.as_slice(), b"gone".as_slice());
+    assert!(rt; message.retain);
+    assert_eq!(rt; message.deadline, None);
+    Ok(())
+}
+
+#[test]
+fn messages_are_written_and_read(rt: HostRuntime) -> Result<(), Fail> {
+    let message = accepted(rt.alloc(), &PUBLISH, 1000)?.copy(rt.alloc())?;
+    let mut bytes = Vec::new(rt.alloc());
+    message.write(&mut bytes)?;
+    assert_eq!(rt; bytes.as_slice(), MESSAGE.as_slice());
+    let (again, used) = Message::read(rt.alloc(), &bytes)?;
+    assert_eq!(rt; used, 24);
+    assert_eq!(rt; again.topic.as_str(), "t");
+    assert_eq!(rt; again.deadline, Some(6000));
+    for len in 0..bytes.len() {
+        let fault = Message::read(rt.alloc(), &bytes[..len]).err();
+        assert_eq!(rt; fault, Some(FieldFault::Short), "of {len}");
+    }
+    Ok(())
+}
+
+#[test]
+fn wrong_messages_are_malformed(rt: HostRuntime) -> Result<(), Fail> {
+    let rows: [&[u8]; 6] = [
+        &[0, 0],
+        &[0, 1, 0x23],
+        &[0, 1, 0x74, 0, 0, 0, 0, 5, 2, 0, 0, 0, 5],
+        &[0, 1, 0x74, 0, 0, 0, 0, 4, 1, 0, 1, 0],
+        &[0, 1, 0x74, 0, 0, 0, 0, 0, 3],
+        &[0, 1, 0x74, 0, 0, 0, 0, 0, 0, 2],
+    ];
+    for bytes in rows {
+        let fault = Message::read(rt.alloc(), bytes).err();
+        assert_eq!(rt; fault, Some(FieldFault::Malformed), "{bytes:?}");
+    }
+    Ok(())
+}
+
+#[test]
+fn deliveries_are_written_and_read(rt: HostRuntime) -> Result<(), Fail> {
+    let numbers = vec![in rt.alloc(); 7, 7]?;
+    let delivery = Delivery {
+        message: accepted(rt.alloc(), &PUBLISH, 1000)?,
+        qos: Qos::AtLeastOnce,
+        retain: true,
+        identifiers: Identifiers::of(numbers).ok_or("identifiers")?,
+    };
+    let delivery = delivery.copy(rt.alloc())?;
+    assert_eq!(rt; delivery.packet_length(5999), 19);
+    let mut bytes = Vec::new(rt.alloc());
+    delivery.write(&mut bytes)?;
+    assert_eq!(rt; bytes[..24], MESSAGE);
+    assert_eq!(rt; bytes[24..], [1, 1, 0, 2, 0, 0, 0, 7, 0, 0, 0, 7]);
+    let (again, used) = Delivery::read(rt.alloc(), &bytes)?;
+    assert_eq!(rt; used, 36);
+    assert_eq!(rt; again.identifiers.as_slice(), [7, 7].as_slice());
+    bytes[35] = 6;
+    assert_eq!(rt;
+        Delivery::read(rt.alloc(), &bytes).err(),
+        Some(FieldFault::Malformed)
+    );
+    Ok(())
+}

@@ -1,0 +1,16 @@
+pub mod Lifts
+pub mod BodyLaws
+pub mod ManyLaws
+pub mod OptionalLaws
+pub mod FilterLaws
+pub mod HeadLaws
+pub mod ConnectLaws
+pub mod KindLaws
+pub mod PacketLaws
+pub mod StreamLaws
+pub mod CutLaws
+pub mod GrowLaws
+pub mod WrittenLaws
+pub mod MeasureLaws
+pub mod SoundLaws
+pub mod FaultLaws

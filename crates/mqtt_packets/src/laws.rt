@@ -1,0 +1,34 @@
+//! What holds of every stream of bytes and of every packet. Each function states a law and does nothing.
+
+ghost use Rattle.mqtt_packets.specs.Laws.{WrittenSpells, WrittenShortest, OneFront, OneOfThree, NeverSpelled, AnyPieces};
+
+/// Of any bytes exactly one holds: a packet stands in front, they are faulty, or they begin a frame that
+/// isn't whole.
+pub fn one_of_three()
+    ensures { OneOfThree }
+{}
+
+/// No continuation of faulty bytes begins with a packet.
+pub fn never_spelled()
+    ensures { NeverSpelled }
+{}
+
+/// No packet's spelling begins another's.
+pub fn one_front()
+    ensures { OneFront }
+{}
+
+/// The packets, rest and fault of a stream don't depend on how it was cut into pieces.
+pub fn any_pieces()
+    ensures { AnyPieces }
+{}
+
+/// What is written is a spelling.
+pub fn written_spells()
+    ensures { WrittenSpells }
+{}
+
+/// No spelling is shorter.
+pub fn written_shortest()
+    ensures { WrittenShortest }
+{}

@@ -1,0 +1,18 @@
+//! Laws of topic names and filters.
+
+ghost use Rattle.mqtt_topics.specs.Laws.{FiltersOrFaults, NamesOrFaults, SharedMatchesAlike};
+
+/// Each text is a topic name or has exactly one fault.
+pub fn names_or_faults()
+    ensures { NamesOrFaults }
+{}
+
+/// Each text is a topic filter or has exactly one fault.
+pub fn filters_or_faults()
+    ensures { FiltersOrFaults }
+{}
+
+/// A shared filter matches what its filter matches.
+pub fn shared_matches_alike()
+    ensures { SharedMatchesAlike }
+{}

@@ -1,0 +1,6 @@
+pub mod Answering
+pub mod Deltas
+pub mod Keeping
+pub mod Making
+pub mod Unions
+pub mod Views

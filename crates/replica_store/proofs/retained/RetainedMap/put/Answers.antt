@@ -1,0 +1,25 @@
+use Rattle.std.proofs.Common.{sym, ap, ◌∙◌, subst}
+use Rattle.std.specs.FinMap as map
+use Rattle.std.specs.FinMap.Entries.{put, is_sorted-put}
+use Rattle.std.specs.Cmp.Lexicographic.{nat_list_cmp_total}
+use Rattle.subscription_set.specs.Sorted.{Rises}
+use Rattle.replica_store.specs.Retained.{retained_join, one_put, topic_cmp}
+use Rattle.replica_store.proofs.Keeping.{put_loses, put_wins}
+use Rattle.replica_store.proofs.retained.RetainedMap.put.Goals as goal
+
+pub invariant_of-self-then-wins : goal.invariant_of-self-then-wins
+invariant_of-self-then-wins c = subst (Rises topic_cmp) (sym (c.put_in.ensures.items ∙ ap (put topic_cmp c.args.topic (record { stamp = c.args.stamp; message = c.args.message })) c.reserve.ensures.items)) (is_sorted-put topic_cmp nat_list_cmp_total c.args.topic (record { stamp = c.args.stamp; message = c.args.message }) c.self.inside.entries.items c.self.invariant)
+
+pub returns-in_ok-reserve-clause-ok : goal.returns-in_ok-reserve-clause-ok
+returns-in_ok-reserve-clause-ok c =
+    let wins = rw c.deref.ensures.value at (sym c.wins.ensures ∙ c.if-wins.true) in
+    ap (λ es. map.from_sorted {R = topic_cmp} es) (c.put_in.ensures.items ∙ ap (put topic_cmp c.args.topic (record { stamp = c.args.stamp; message = c.args.message })) c.reserve.ensures.items)
+    ∙ put_wins c.self.inside.entries.items c.args.topic (record { stamp = c.args.stamp; message = c.args.message }) c.self.invariant wins
+    ∙ ap (λ s. retained_join s (one_put c.args.topic (record { stamp = c.args.stamp; message = c.args.message }))) c.self.view_is
+
+pub returns-else-wins-clause-ok : goal.returns-else-wins-clause-ok
+returns-else-wins-clause-ok c =
+    let loses = rw c.deref.ensures.value at (sym c.wins.ensures ∙ c.if-wins.false) in
+    sym c.self.view_is
+    ∙ put_loses c.self.inside.entries.items c.args.topic (record { stamp = c.args.stamp; message = c.args.message }) c.self.invariant loses
+    ∙ ap (λ s. retained_join s (one_put c.args.topic (record { stamp = c.args.stamp; message = c.args.message }))) c.self.view_is

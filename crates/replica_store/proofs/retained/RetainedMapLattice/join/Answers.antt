@@ -1,0 +1,12 @@
+use Rattle.std.proofs.Common.{◌∙◌, subst}
+use Rattle.subscription_set.specs.Sorted.{IsWith}
+use Rattle.replica_store.specs.Retained.{retained_join, topic_cmp}
+use Rattle.replica_store.proofs.Keeping.{merged_is}
+use Rattle.replica_store.proofs.retained.RetainedMapLattice.join.Goals as goal
+
+pub returns-clause-ok : goal.returns-clause-ok
+returns-clause-ok c =
+    merged_is c.self.inside.entries.items c.other.inside.entries.items c.in_ok-incoming.incoming.items c.put_in_all.new.pairs.items c.self.invariant c.other.invariant
+    (rw (c.deref.ensures.value, c.deref-2.ensures.value) at c.in_ok-incoming.ensures)
+    (subst (λ es. IsWith topic_cmp es c.in_ok-incoming.incoming.items c.put_in_all.new.pairs.items) c.reserve.ensures.items c.put_in_all.ensures)
+    ∙ (λ i. retained_join (c.self.view_is i) (c.other.view_is i))

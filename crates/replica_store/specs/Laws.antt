@@ -1,0 +1,48 @@
+-- What merging comes to.
+use Rattle.std.specs.Prelude.{◌≡◌, ◌↔◌, ℕ, Bool, true, List, ◌++◌, filter, Option, Some}
+use Rattle.std.specs.FinSet as set
+use Rattle.std.specs.FinMap as map
+use Rattle.causal_context.specs.Dots.{Dot}
+use Rattle.subscription_set.specs.declared.entry.Entry.{Entry}
+use Rattle.subscription_set.specs.Entries.{is_of}
+use Rattle.subscription_set.specs.Standing.{find_entry, live, dots_of}
+use Rattle.replica_store.specs.declared.operation.Operation.{Operation}
+use Rattle.replica_store.specs.Operations.{HaveOwnDots, Stands, IsLive, IsGreatestCount}
+use Rattle.replica_store.specs.Retained.{greatest_count}
+use Rattle.replica_store.specs.States.{State, state_join}
+use Rattle.replica_store.specs.StateOf.{IsStateOf, SameOperations, joined_deltas}
+
+-- joining the deltas of operations makes their state
+abbrev pub DeltasMakeTheState : Type 0
+DeltasMakeTheState = (O : List Operation) → HaveOwnDots O → IsStateOf O (joined_deltas O)
+
+-- in whatever order, and however often each comes
+abbrev pub OrderIsFree : Type 0
+OrderIsFree = (O P : List Operation) → HaveOwnDots O → SameOperations O P → joined_deltas O ≡ joined_deltas P
+
+-- the same operations have one state
+abbrev pub OneState : Type 0
+OneState = (O P : List Operation) (s t : State) → HaveOwnDots O → SameOperations O P → IsStateOf O s → IsStateOf P t → s ≡ t
+
+-- the state of two lists together is the join of their states
+abbrev pub StateOfBoth : Type 0
+StateOfBoth = (O P : List Operation) (s t : State) → HaveOwnDots (O ++ P) → IsStateOf O s → IsStateOf P t → IsStateOf (O ++ P) (state_join s t)
+
+-- the deltas of some of the operations make the state of these
+abbrev pub StateOfSome : Type 0
+StateOfSome = (O : List Operation) (some : Operation → Bool) → HaveOwnDots O → IsStateOf (filter some O) (joined_deltas (filter some O))
+
+-- what is live in the state is what is live among the operations
+abbrev pub LiveIsOfTheOperations : Type 0
+LiveIsOfTheOperations = (O : List Operation) (s : State) → HaveOwnDots O → IsStateOf O s
+    → (dot : Dot) (entry : Entry) → (find_entry dot (live s.subscriptions) ≡ Some entry) ↔ IsLive O dot entry
+
+-- a cover takes the dots of what stands among the operations
+abbrev pub CoverIsOfTheOperations : Type 0
+CoverIsOfTheOperations = (O : List Operation) (s : State) → HaveOwnDots O → IsStateOf O s
+    → (client : List ℕ) (to : Option (List ℕ)) (dot : Dot)
+    → (set.contains (dots_of client to s.subscriptions) dot ≡ true) ↔ ((entry : Entry) × Stands O dot entry × (is_of client to entry ≡ true))
+
+-- the greatest count in the state is that of the Puts
+abbrev pub CountIsOfTheOperations : Type 0
+CountIsOfTheOperations = (O : List Operation) (s : State) → IsStateOf O s → IsGreatestCount O (greatest_count (map.entries s.retained))

@@ -1,0 +1,142 @@
+//! The delta of an operation.
+ghost use Rattle.std.specs.Prelude.{◌≡◌, IfOk, IfErr, Some};
+ghost use Rattle.std.specs.FinMap as map;
+ghost use Rattle.std.specs.FinSet as set;
+ghost use Rattle.subscription_set.specs.Statuses.{statuses_join};
+ghost use Rattle.replica_store.specs.Retained.{one_put};
+ghost use Rattle.replica_store.specs.StateOf.{removed, uncovered_entry, delta_of as delta};
+
+use crate::fault::StoreFault;
+use crate::kept::copy_of;
+use crate::operation::{Operation, Stamp};
+use crate::retained::RetainedMap;
+use crate::store::ReplicaStore;
+use causal_context::{Context, Dot};
+use mqtt_fields::NoMemory;
+use mqtt_message::Message;
+use mqtt_topics::TopicName;
+use std::alloc::Global;
+use subscription_set::{Entry, SubscriptionSet};
+
+// The set of the one dot.
+fn one_dot(alloc: Global, dot: Dot) -> Result<Context, NoMemory>
+    ensures { IfOk result (λ dots. dots ≡ set.insert set.empty dot) }
+{
+    let mut dots = Context::new(alloc);
+    dots.insert(dot)?;
+    Ok(dots)
+}
+
+// The set in which each dot of the cover is removed.
+fn removed_by(alloc: Global, cover: &Context) -> Result<SubscriptionSet, NoMemory>
+    ensures { IfOk result (λ s. s ≡ removed cover.now) }
+{
+    let seen = cover.copy()?;
+    Ok(SubscriptionSet::new(seen, Vec::new(alloc)).unwrap())
+}
+
+// The entry at the dot, or nothing where the cover has the dot.
+fn uncovered(
+    alloc: Global,
+    dot: Dot,
+    entry: &Entry,
+    cover: &Context,
+) -> Result<Vec<(Dot, Entry)>, NoMemory>
+    ensures { IfOk result (λ out. out.items ≡ uncovered_entry dot entry.now cover.now) }
+{
+    let mut entries = Vec::new(alloc);
+    if !cover.contains(dot) {
+        let copy = entry.copy(alloc)?;
+        entries.push((dot, copy))?;
+    }
+    Ok(entries)
+}
+
+// The set in which the entry stands, and each dot of the cover is removed.
+fn subscribed(
+    alloc: Global,
+    dot: Dot,
+    entry: &Entry,
+    cover: &Context,
+) -> Result<SubscriptionSet, NoMemory>
+    ensures { IfOk result (λ s. s
+        ≡ statuses_join (removed cover.now) (map.insert map.empty dot (Some entry.now))) }
+{
+    let entries = uncovered(alloc, dot, entry, cover)?;
+    let mut seen = cover.copy()?;
+    seen.insert(dot)?;
+    Ok(SubscriptionSet::new(seen, entries).unwrap())
+}
+
+// The map of the one entry.
+fn retained_by(
+    alloc: Global,
+    topic: &TopicName,
+    stamp: Stamp,
+    message: &Option<Message>,
+) -> Result<RetainedMap, NoMemory>
+    ensures { IfOk result (λ r.
+        r ≡ one_put topic.now (record { stamp = stamp; message = message.now })) }
+{
+    let mut retained = RetainedMap::new(alloc);
+    let topic = topic.copy(alloc)?;
+    let message = copy_of(alloc, message)?;
+    retained.put(topic, stamp, message)?;
+    Ok(retained)
+}
+
+// The delta of an operation, where only memory may be wanting.
+fn make_delta(alloc: Global, operation: &Operation) -> Result<ReplicaStore, NoMemory>
+    ensures { IfOk result (λ s. s ≡ delta operation.now) }
+{
+    match operation {
+        Operation::Subscribe { dot, entry, cover } => {
+            let taken = one_dot(alloc, *dot)?;
+            let subscriptions = subscribed(alloc, *dot, entry, cover)?;
+            let retained = RetainedMap::new(alloc);
+            Ok(ReplicaStore {
+                alloc,
+                taken,
+                subscriptions,
+                retained,
+            })
+        }
+        Operation::Remove { dot, cover } => {
+            let taken = one_dot(alloc, *dot)?;
+            let subscriptions = removed_by(alloc, cover)?;
+            let retained = RetainedMap::new(alloc);
+            Ok(ReplicaStore {
+                alloc,
+                taken,
+                subscriptions,
+                retained,
+            })
+        }
+        Operation::Put {
+            dot,
+            stamp,
+            topic,
+            message,
+        } => {
+            let taken = one_dot(alloc, *dot)?;
+            let retained = retained_by(alloc, topic, *stamp, message)?;
+            let subscriptions = SubscriptionSet::empty(alloc);
+            Ok(ReplicaStore {
+                alloc,
+                taken,
+                subscriptions,
+                retained,
+            })
+        }
+    }
+}
+
+/// The delta of the operation: the state that holds it alone. (Almeida, Shoker, Baquero,
+/// section 4.)
+pub fn delta_of(alloc: Global, operation: &Operation) -> Result<ReplicaStore, StoreFault>
+    ensures ok { IfOk result (λ s. s ≡ delta operation.now) }
+    ensures fault { IfErr result (λ e. e ≡ StoreFault.NoMemory) }
+{
+    let store = make_delta(alloc, operation)?;
+    Ok(store)
+}

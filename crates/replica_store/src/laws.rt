@@ -1,0 +1,31 @@
+//! Laws of operations and their states. Each function does nothing: its contract is the law.
+ghost use Rattle.replica_store.specs.Laws.{DeltasMakeTheState, OrderIsFree, OneState, StateOfBoth, StateOfSome, LiveIsOfTheOperations, CoverIsOfTheOperations, CountIsOfTheOperations};
+
+/// Joining the deltas of operations makes their state, in whatever order and however often each
+/// comes.
+pub fn deltas_make_the_state()
+    ensures state { DeltasMakeTheState }
+    ensures order { OrderIsFree }
+{}
+
+/// The same operations have one state.
+pub fn one_state()
+    ensures { OneState }
+{}
+
+/// The state of two lists of operations together is the join of their states.
+pub fn state_of_both()
+    ensures { StateOfBoth }
+{}
+
+/// The deltas of some of the operations make the state of these.
+pub fn state_of_some()
+    ensures { StateOfSome }
+{}
+
+/// What the state says of subscriptions and counts is what the operations say.
+pub fn state_shows_the_operations()
+    ensures live { LiveIsOfTheOperations }
+    ensures cover { CoverIsOfTheOperations }
+    ensures count { CountIsOfTheOperations }
+{}

@@ -1,0 +1,20 @@
+//! Operations, and the state that they make at each node: a delta-state replicated data type.
+//! (Almeida, Shoker, Baquero, "Delta State Replicated Data Types".)
+#![tactic(auto)]
+
+mod answer;
+mod delta;
+mod fault;
+mod kept;
+pub mod laws;
+mod message;
+mod operation;
+mod retained;
+mod store;
+
+pub use delta::delta_of;
+pub use fault::StoreFault;
+pub use kept::Kept;
+pub use operation::{Operation, Stamp};
+pub use retained::RetainedMap;
+pub use store::ReplicaStore;

@@ -1,0 +1,92 @@
+//! What a node does to the shared state.
+ghost use Rattle.std.specs.Prelude.{◌≡◌, IfOk};
+
+use crate::kept::copy_of;
+use causal_context::{Context, Dot};
+use mqtt_fields::NoMemory;
+use mqtt_message::Message;
+use mqtt_topics::TopicName;
+use std::alloc::Global;
+use subscription_set::Entry;
+
+/// The time of a retained message: a count, and the node that gave it.
+#[derive(Clone, Copy, Debug)]
+pub struct Stamp {
+    pub count: u64,
+    pub node: u16,
+}
+
+/// A change of the shared state, under its dot: a delta mutator. (Almeida, Shoker, Baquero,
+/// section 4.)
+#[derive(Drop)]
+pub enum Operation {
+    /// A subscription, which ends those in the cover.
+    Subscribe {
+        dot: Dot,
+        entry: Entry,
+        cover: Context,
+    },
+    /// The end of the subscriptions in the cover.
+    Remove {
+        dot: Dot,
+        cover: Context,
+    },
+    /// A retained message of a topic; none where the topic is to have none.
+    Put {
+        dot: Dot,
+        stamp: Stamp,
+        topic: TopicName,
+        message: Option<Message>,
+    },
+}
+
+impl Operation {
+    ghost use Rattle.replica_store.specs.Operations.{dot_of};
+
+    /// The dot of the operation.
+    pub fn dot(&self) -> Dot
+        ensures { result ≡ dot_of self.now }
+    {
+        match self {
+            Operation::Subscribe { dot, .. } => *dot,
+            Operation::Remove { dot, .. } => *dot,
+            Operation::Put { dot, .. } => *dot,
+        }
+    }
+
+    /// The same operation once more.
+    pub fn copy(&self, alloc: Global) -> Result<Operation, NoMemory>
+        ensures { IfOk result (λ copy. copy ≡ self.now) }
+    {
+        match self {
+            Operation::Subscribe { dot, entry, cover } => {
+                let entry = entry.copy(alloc)?;
+                let cover = cover.copy()?;
+                Ok(Operation::Subscribe {
+                    dot: *dot,
+                    entry,
+                    cover,
+                })
+            }
+            Operation::Remove { dot, cover } => {
+                let cover = cover.copy()?;
+                Ok(Operation::Remove { dot: *dot, cover })
+            }
+            Operation::Put {
+                dot,
+                stamp,
+                topic,
+                message,
+            } => {
+                let topic = topic.copy(alloc)?;
+                let message = copy_of(alloc, message)?;
+                Ok(Operation::Put {
+                    dot: *dot,
+                    stamp: *stamp,
+                    topic,
+                    message,
+                })
+            }
+        }
+    }
+}

@@ -1,0 +1,261 @@
+//! The shared state of a node.
+ghost use Rattle.std.specs.Prelude.{◌≡◌, ◌≢◌, ◌↔◌, ◌+◌, ◌≤◌, ◌^◌, OnOk, OnErr, IfOk, IfErr, IfSome, IsNone, IsErrOf, ◌⊎◌, true, map as map_list};
+ghost use Rattle.std.specs.Option.{option_copied};
+ghost use Rattle.causal_context.specs.Lattices.{lattice_from_join};
+ghost use Rattle.subscription_set.specs.Standing.{any_of, any_below};
+ghost use Rattle.replica_store.specs.declared.fault.StoreFault.TheVariants.{NumbersAtEnd};
+ghost use Rattle.replica_store.specs.Answers.{IsAnswer};
+ghost use Rattle.replica_store.specs.Making.{NumberAtEnd, CountAtEnd, next_dot, subscribe_of, remove_of, remove_below_of, put_of};
+ghost use Rattle.replica_store.specs.StateOf.{delta_of as delta};
+ghost use Rattle.replica_store.specs.States.{State, nothing, state_join, StateBelow, state_lattice};
+ghost use Rattle.std.specs.FinMap as map;
+
+use crate::answer::answers;
+use crate::delta::delta_of;
+use crate::fault::StoreFault;
+use crate::operation::{Operation, Stamp};
+use crate::retained::RetainedMap;
+use causal_context::{Context, Dot, Lattice};
+use mqtt_fields::{NoMemory, Text};
+use mqtt_message::Message;
+use mqtt_topics::{Filter, TopicName};
+use std::alloc::Global;
+use std::marker::Model;
+use std::mem;
+use subscription_set::{Entry, SubscriptionSet};
+
+/// The shared state of a node: the dots of the operations that it has taken, the subscriptions and
+/// the retained messages. Two nodes that have taken the same operations have the same state.
+/// It grows by the allocator of its constructor.
+#[derive(Drop)]
+pub struct ReplicaStore {
+    pub(crate) alloc: Global,
+    pub(crate) taken: Context,
+    pub(crate) subscriptions: SubscriptionSet,
+    pub(crate) retained: RetainedMap,
+}
+
+impl Model for ReplicaStore {
+    ghost use Rattle.replica_store.specs.States.{State, coded_state};
+
+    ghost Value = { State };
+
+    ghost coded = { coded_state };
+
+    ghost view = { λ s. record {
+      taken = s.taken;
+      subscriptions = s.subscriptions;
+      retained = s.retained;
+    } };
+}
+
+impl ReplicaStore {
+    /// The state of no operation.
+    pub fn new(alloc: Global) -> ReplicaStore
+        ensures { result ≡ nothing }
+    {
+        ReplicaStore {
+            alloc,
+            taken: Context::new(alloc),
+            subscriptions: SubscriptionSet::empty(alloc),
+            retained: RetainedMap::new(alloc),
+        }
+    }
+
+    /// The dots of the operations that were taken.
+    pub fn taken(&self) -> &Context
+        ensures { result.now ≡ self.now.taken }
+    {
+        &self.taken
+    }
+
+    /// The subscriptions.
+    pub fn subscriptions(&self) -> &SubscriptionSet
+        ensures { result.now ≡ self.now.subscriptions }
+    {
+        &self.subscriptions
+    }
+
+    /// The retained messages.
+    pub fn retained(&self) -> &RetainedMap
+        ensures { result.now ≡ self.now.retained }
+    {
+        &self.retained
+    }
+
+    /// The messages that answer a new subscription to the filter, in the order of their topics:
+    /// those of the topics that match and whose message is alive; none for a shared filter.
+    pub fn retained_for(&self, filter: &Filter, now: u64) -> Result<Vec<&Message>, NoMemory>
+        ensures { IfOk result (λ out.
+            IsAnswer filter.now now (map.entries self.now.retained) (map_list (λ r. r.now) out.items)) }
+    {
+        answers(self.alloc, filter, now, self.retained.entries())
+    }
+
+    /// The same state once more.
+    pub fn copy(&self) -> Result<ReplicaStore, NoMemory>
+        ensures { IfOk result (λ copy. copy ≡ self.now) }
+    {
+        let taken = self.taken.copy()?;
+        let subscriptions = self.subscriptions.copy()?;
+        let retained = self.retained.copy()?;
+        Ok(ReplicaStore {
+            alloc: self.alloc,
+            taken,
+            subscriptions,
+            retained,
+        })
+    }
+
+    /// Takes the operation: the same as to join its delta.
+    pub fn apply(&mut self, operation: &Operation) -> Result<(), StoreFault>
+        ensures ok { OnOk result (self.new ≡ state_join self.old (delta operation.now)) }
+        ensures fault { IfErr result (λ e. e ≡ StoreFault.NoMemory) }
+        ensures err { OnErr result (self.new ≡ self.old) }
+    {
+        let delta = delta_of(self.alloc, operation)?;
+        self.join(&delta)?;
+        Ok(())
+    }
+
+    // The node's next dot.
+    fn next_dot(&self, node: u16) -> Option<Dot>
+        ensures some { IfSome result (λ dot. dot ≡ next_dot node self.now) }
+        ensures none { IsNone result ↔ NumberAtEnd node self.now }
+    {
+        Dot::new(node, self.taken.greatest(node) + 1)
+    }
+
+    /// A Subscribe of the entry that covers what stands of its client to its filter. The store
+    /// doesn't change.
+    pub fn make_subscribe(&self, node: u16, entry: Entry) -> Result<Operation, StoreFault>
+        ensures ok { IfOk result (λ o. o ≡ subscribe_of node entry self.now) }
+        ensures at_end { IsErrOf result NumbersAtEnd ↔ NumberAtEnd node self.now }
+    {
+        let Some(dot) = self.next_dot(node) else {
+            return Err(StoreFault::NumbersAtEnd);
+        };
+        let cover = self
+            .subscriptions
+            .dots_of(&entry.client, Some(&entry.filter))?;
+        Ok(Operation::Subscribe { dot, entry, cover })
+    }
+
+    /// A Remove that covers what stands of the client and, where one is given, to the filter;
+    /// none where nothing stands. The store doesn't change.
+    pub fn make_remove(
+        &self,
+        node: u16,
+        client: &Text,
+        filter: Option<&Filter>,
+    ) -> Result<Option<Operation>, StoreFault>
+        ensures ok { IfOk result (λ o.
+            o ≡ remove_of node client.now (option_copied filter.entry) self.now) }
+        ensures at_end { IsErrOf result NumbersAtEnd ↔ (NumberAtEnd node self.now
+            × (any_of client.now (option_copied filter.entry) self.now.subscriptions ≡ true)) }
+    {
+        if !self.subscriptions.stands(client, filter) {
+            return Ok(None);
+        }
+        let Some(dot) = self.next_dot(node) else {
+            return Err(StoreFault::NumbersAtEnd);
+        };
+        let cover = self.subscriptions.dots_of(client, filter)?;
+        Ok(Some(Operation::Remove { dot, cover }))
+    }
+
+    /// A Remove that covers what stands of the client and was made under a version of the home
+    /// table below this one; none where nothing does. The store doesn't change.
+    pub fn make_remove_below(
+        &self,
+        node: u16,
+        client: &Text,
+        version: u64,
+    ) -> Result<Option<Operation>, StoreFault>
+        ensures ok { IfOk result (λ o. o ≡ remove_below_of node client.now version self.now) }
+        ensures at_end { IsErrOf result NumbersAtEnd ↔ (NumberAtEnd node self.now
+            × (any_below client.now version self.now.subscriptions ≡ true)) }
+    {
+        if !self.subscriptions.stands_below(client, version) {
+            return Ok(None);
+        }
+        let Some(dot) = self.next_dot(node) else {
+            return Err(StoreFault::NumbersAtEnd);
+        };
+        let cover = self.subscriptions.dots_below(client, version)?;
+        Ok(Some(Operation::Remove { dot, cover }))
+    }
+
+    /// A Put of the message into the topic, or of none, with the next count. The store doesn't
+    /// change. It takes no memory.
+    pub fn make_put(
+        &self,
+        node: u16,
+        topic: TopicName,
+        message: Option<Message>,
+    ) -> Result<Operation, StoreFault>
+        ensures ok { IfOk result (λ o. o ≡ put_of node topic message self.now) }
+        ensures at_end { IsErrOf result NumbersAtEnd ↔ (NumberAtEnd node self.now ⊎ CountAtEnd self.now) }
+        ensures fault { IfErr result (λ e. e ≡ NumbersAtEnd) }
+    {
+        let Some(dot) = self.next_dot(node) else {
+            return Err(StoreFault::NumbersAtEnd);
+        };
+        let count = self.retained.greatest_count();
+        if count >= LAST_COUNT {
+            return Err(StoreFault::NumbersAtEnd);
+        }
+        let stamp = Stamp {
+            count: count + 1,
+            node,
+        };
+        Ok(Operation::Put {
+            dot,
+            stamp,
+            topic,
+            message,
+        })
+    }
+}
+
+/// The greatest count of a stamp.
+const LAST_COUNT: u64 = (1 << 62) - 1;
+
+impl Lattice for ReplicaStore {
+    ghost joined = { state_join };
+
+    ghost Below = { StateBelow };
+
+    ghost laws = { lattice_from_join state_lattice };
+
+    fn join(&mut self, other: &ReplicaStore) -> Result<(), NoMemory> {
+        let taken = self.taken.joined(&other.taken)?;
+        let subscriptions = mem::replace(
+            &mut self.subscriptions,
+            SubscriptionSet::empty(self.alloc),
+        );
+        match subscriptions.prepare(&other.subscriptions) {
+            Err(subscriptions) => {
+                self.subscriptions = subscriptions;
+                Err(NoMemory)
+            }
+            Ok(ready) => match self.retained.join(&other.retained) {
+                Err(fault) => {
+                    self.subscriptions = ready.abandon();
+                    Err(fault)
+                }
+                Ok(()) => {
+                    self.subscriptions = ready.commit();
+                    self.taken = taken;
+                    Ok(())
+                }
+            },
+        }
+    }
+
+    fn is_below(&self, other: &ReplicaStore) -> bool {
+        self.taken.is_below(&other.taken)
+            && (self.subscriptions.is_below(&other.subscriptions)
+                && self.retained.is_below(&other.retained))
+    }
+}

@@ -1,0 +1,7 @@
+use Rattle.std.proofs.Common.{◌≡◌, take, map}
+use Rattle.std.specs.List.{filter}
+use Rattle.subscription_set.specs.Standing.{is_latest}
+use Rattle.subscription_set.proofs.live.latest_among.Given as goal
+
+abbrev pub invariant-loop-pair : goal.invariant-loop-pair
+invariant-loop-pair l = map (λ r. r.now) l.out.items ≡ filter (is_latest l.entries) (take l.pair-index l.entries)

@@ -1,0 +1,6 @@
+use Rattle.std.proofs.Common.{sym, ap, ◌∙◌}
+use Rattle.subscription_set.specs.Standing.{seen_of, seen_of-statuses}
+use Rattle.subscription_set.proofs.set.SubscriptionSet.seen.Goals as goal
+
+pub returns : goal.returns
+returns c = sym (seen_of-statuses c.self.inside.seen c.self.inside.entries.items) ∙ ap seen_of c.self.view_is

@@ -1,0 +1,5 @@
+pub mod Entries
+pub mod Merging
+pub mod Sorted
+pub mod Standing
+pub mod Statuses
