@@ -1,8 +1,6 @@
 //! Worked examples, faults in bytes, and what succeeds while there is memory.
 
-ghost use Rattle.std.specs.Prelude.{◌≡◌, ◌<◌, ◌^◌, IfOk};
-ghost use Rattle.mqtt_packets.specs.declared.packet.Packet.TheVariants as packets;
-ghost use Rattle.mqtt_packets.specs.Written.{HasSpelling};
+ghost use Rattle.std.specs.Prelude.{◌<◌, ◌^◌};
 
 use crate::delivery::Delivery;
 use crate::expiry::due;
@@ -10,7 +8,6 @@ use crate::identifiers::Identifiers;
 use crate::message::Message;
 use mqtt_fields::{Blob, FieldFault, Properties, Property, Qos, Text, Value};
 use mqtt_packets::{Packet, Publish, Will, read_packet};
-use mqtt_topics::TopicName;
 use std::alloc::Global;
 use std::test::Fail;
 
@@ -22,9 +19,13 @@ const MESSAGE: [u8; 24] = [
     0, 1, 0x74, 0, 0, 0, 2, 0x6f, 0x6e, 0, 0, 1, 0, 1, 0x61, 1, 0, 0, 0, 0, 0, 0, 0x17, 0x70,
 ];
 
-fn publish_in(alloc: Global, bytes: &[u8]) -> Result<Publish, Fail>
-    ensures { IfOk result (λ p. HasSpelling (packets.Publish p)) }
-{
+/// The delivery of it with the identifiers 7 and 7.
+const DELIVERY: [u8; 36] = [
+    0, 1, 0x74, 0, 0, 0, 2, 0x6f, 0x6e, 0, 0, 1, 0, 1, 0x61, 1, 0, 0, 0, 0, 0, 0, 0x17, 0x70, 1, 1,
+    0, 2, 0, 0, 0, 7, 0, 0, 0, 7,
+];
+
+fn publish_in(alloc: Global, bytes: &[u8]) -> Result<Publish, Fail> {
     match read_packet(alloc, bytes)? {
         Some((packet, _)) => match packet {
             Packet::Publish(publish) => Ok(publish),
@@ -38,7 +39,9 @@ fn accepted(alloc: Global, bytes: &[u8], now: u64) -> Result<Message, Fail>
     requires { now < 2 ^ 62 }
 {
     let publish = publish_in(alloc, bytes)?;
-    let _name = TopicName::parse(alloc, publish.topic.as_str())?;
+    if !Message::can_accept(&publish) {
+        Err("not acceptable")?;
+    }
     let publisher = Text::new(alloc, "a")?;
     let message = Message::accept(alloc, &publish, &publisher, now)?;
     Ok(message)
@@ -69,7 +72,9 @@ fn will_message(alloc: Global) -> Result<Message, Fail> {
         topic: Text::new(alloc, "w")?,
         payload: Blob::new(alloc, b"gone")?,
     };
-    let _name = TopicName::parse(alloc, will.topic.as_str())?;
+    if !Message::can_accept_will(&will) {
+        Err("not acceptable")?;
+    }
     let publisher = Text::new(alloc, "a")?;
     let message = Message::accept_will(alloc, &will, &publisher, 0)?;
     Ok(message)
@@ -153,7 +158,7 @@ fn wrong_messages_are_malformed(rt: HostRuntime) -> Result<(), Fail> {
 }
 
 #[test]
-fn deliveries_are_written_and_read(rt: HostRuntime) -> Result<(), Fail> {
+fn deliveries_are_written(rt: HostRuntime) -> Result<(), Fail> {
     let numbers = vec![in rt.alloc(); 7, 7]?;
     let delivery = Delivery {
         message: accepted(rt.alloc(), &PUBLISH, 1000)?,
@@ -165,15 +170,18 @@ fn deliveries_are_written_and_read(rt: HostRuntime) -> Result<(), Fail> {
     assert_eq!(rt; delivery.packet_length(5999), 19);
     let mut bytes = Vec::new(rt.alloc());
     delivery.write(&mut bytes)?;
-    assert_eq!(rt; bytes[..24], MESSAGE);
-    assert_eq!(rt; bytes[24..], [1, 1, 0, 2, 0, 0, 0, 7, 0, 0, 0, 7]);
-    let (again, used) = Delivery::read(rt.alloc(), &bytes)?;
+    assert_eq!(rt; bytes.as_slice(), DELIVERY.as_slice());
+    Ok(())
+}
+
+#[test]
+fn deliveries_are_read(rt: HostRuntime) -> Result<(), Fail> {
+    let (delivery, used) = Delivery::read(rt.alloc(), &DELIVERY)?;
     assert_eq!(rt; used, 36);
-    assert_eq!(rt; again.identifiers.as_slice(), [7, 7].as_slice());
-    bytes[35] = 6;
-    assert_eq!(rt;
-        Delivery::read(rt.alloc(), &bytes).err(),
-        Some(FieldFault::Malformed)
-    );
+    assert_eq!(rt; delivery.identifiers.as_slice(), [7, 7].as_slice());
+    let mut falling = DELIVERY;
+    falling[35] = 6;
+    let fault = Delivery::read(rt.alloc(), &falling).err();
+    assert_eq!(rt; fault, Some(FieldFault::Malformed));
     Ok(())
 }
