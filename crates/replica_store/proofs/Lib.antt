@@ -1,3 +1,4 @@
+pub mod Answered
 pub mod Answering
 pub mod Deltas
 pub mod Keeping

@@ -44,27 +44,27 @@ some_is O some own = joined_is (filter some O) (λ o p a b. own o p (among_some 
 
 -- ---- sorted lists
 
-by_test : (b : Bool) (P : Type 0) → (b ≡ true → P) → (b ≡ false → P) → P
+pub by_test : (b : Bool) (P : Type 0) → (b ≡ true → P) → (b ≡ false → P) → P
 by_test true P t f = t refl
 by_test false P t f = f refl
 
-tied_is : {K : Type 0} {R : K → K → Ordering} → IsAntisymmetric R → (q k : K) → eq_by_cmp R q k ≡ true → q ≡ k
+pub tied_is : {K : Type 0} {R : K → K → Ordering} → IsAntisymmetric R → (q k : K) → eq_by_cmp R q k ≡ true → q ≡ k
 tied_is {R = R} anti q k t = anti q k ((Equal-is (R q k)).0 t)
 
 own_tie : {K : Type 0} {R : K → K → Ordering} → IsTotalOrder R → (k : K) → eq_by_cmp R k k ≡ true
 own_tie o k = ap is_eq (tied_itself o k)
 
 module _ {K X : Type 0} {R : K → K → Ordering} (o : IsTotalOrder R) (anti : IsAntisymmetric R) where
-  none_after : (q : K) (x : K × X) (es : List (K × X)) → T (is_sorted R (x ∷ es)) → eq_by_cmp R q x.0 ≡ true → find R q es ≡ None
+  pub none_after : (q : K) (x : K × X) (es : List (K × X)) → T (is_sorted R (x ∷ es)) → eq_by_cmp R q x.0 ≡ true → find R q es ≡ None
   none_after q x es h t = found_none o es q (subst (λ y. T (below_all R y es)) (sym (tied_is {R = R} anti q x.0 t)) (first_part _ _ h))
 
-  at_head : (q : K) (x : K × X) (es : List (K × X)) (b : Bool) → eq_by_cmp R q x.0 ≡ b → find R q (x ∷ es) ≡ cond b (Some x.1) (find R q es)
+  pub at_head : (q : K) (x : K × X) (es : List (K × X)) (b : Bool) → eq_by_cmp R q x.0 ≡ b → find R q (x ∷ es) ≡ cond b (Some x.1) (find R q es)
   at_head q x es b t = ap (λ c. cond c (Some x.1) (find R q es)) t
 
-some_same : {X : Type 0} (a b : X) → Some a ≡ Some b → a ≡ b
+pub some_same : {X : Type 0} (a b : X) → Some a ≡ Some b → a ≡ b
 some_same a b e = cc
 
-no_some : {X : Type 0} (P : Type 0) (x : Option X) (a : X) → x ≡ None → x ≡ Some a → P
+pub no_some : {X : Type 0} (P : Type 0) (x : Option X) (a : X) → x ≡ None → x ≡ Some a → P
 no_some P x a none some = absurd (let e = sym none ∙ some in cc)
 
 drop_false : (a b : Bool) → a ≡ false → (a || b) ≡ true → b ≡ true

@@ -9,6 +9,8 @@ use Rattle.subscription_set.specs.Standing.{find_entry, live, dots_of}
 use Rattle.replica_store.specs.declared.operation.Operation.{Operation}
 use Rattle.replica_store.specs.Operations.{HaveOwnDots, Stands, IsLive, IsGreatestCount}
 use Rattle.replica_store.specs.Retained.{greatest_count}
+use Rattle.mqtt_message.specs.declared.message.Message.{Message}
+use Rattle.replica_store.specs.Answers.{IsAnswer, IsAnswerOf}
 use Rattle.replica_store.specs.States.{State, state_join}
 use Rattle.replica_store.specs.StateOf.{IsStateOf, SameOperations, joined_deltas}
 
@@ -46,3 +48,13 @@ CoverIsOfTheOperations = (O : List Operation) (s : State) → HaveOwnDots O → 
 -- the greatest count in the state is that of the Puts
 abbrev pub CountIsOfTheOperations : Type 0
 CountIsOfTheOperations = (O : List Operation) (s : State) → IsStateOf O s → IsGreatestCount O (greatest_count (map.entries s.retained))
+
+-- the answer of the state is the answer of the operations
+abbrev pub AnswerIsOfTheOperations : Type 0
+AnswerIsOfTheOperations = (O : List Operation) (s : State) → HaveOwnDots O → IsStateOf O s
+    → (to : List ℕ) (now : ℕ) (out : List Message) → IsAnswer to now (map.entries s.retained) out → IsAnswerOf O to now out
+
+-- and there is only one
+abbrev pub OneAnswer : Type 0
+OneAnswer = (to : List ℕ) (now : ℕ) (s : State) (out other : List Message)
+    → IsAnswer to now (map.entries s.retained) out → IsAnswer to now (map.entries s.retained) other → out ≡ other

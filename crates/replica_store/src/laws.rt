@@ -1,5 +1,5 @@
 //! Laws of operations and their states. Each function does nothing: its contract is the law.
-ghost use Rattle.replica_store.specs.Laws.{DeltasMakeTheState, OrderIsFree, OneState, StateOfBoth, StateOfSome, LiveIsOfTheOperations, CoverIsOfTheOperations, CountIsOfTheOperations};
+ghost use Rattle.replica_store.specs.Laws.{DeltasMakeTheState, OrderIsFree, OneState, StateOfBoth, StateOfSome, LiveIsOfTheOperations, CoverIsOfTheOperations, CountIsOfTheOperations, AnswerIsOfTheOperations, OneAnswer};
 
 /// Joining the deltas of operations makes their state, in whatever order and however often each
 /// comes.
@@ -28,4 +28,11 @@ pub fn state_shows_the_operations()
     ensures live { LiveIsOfTheOperations }
     ensures cover { CoverIsOfTheOperations }
     ensures count { CountIsOfTheOperations }
+{}
+
+/// The messages that answer a new subscription are those with which the operations answer, and
+/// there is one such list.
+pub fn state_answers_for_the_operations()
+    ensures answer { AnswerIsOfTheOperations }
+    ensures one { OneAnswer }
 {}
