@@ -270,6 +270,59 @@ fn a_part_of_a_packet_waits(rt: HostRuntime) {
     }
 }
 
+/// Whether the bytes begin a packet and don't end it.
+fn waits(alloc: Global, bytes: &[u8]) -> bool {
+    matches!(read_packet(alloc, bytes), Ok(None))
+}
+
+/// Whether each proper prefix of the bytes waits.
+fn prefixes_wait(alloc: Global, bytes: &[u8]) -> bool {
+    for len in 0..bytes.len() {
+        if !waits(alloc, &bytes[..len]) {
+            return false;
+        }
+    }
+    true
+}
+
+#[test]
+fn each_prefix_waits(rt: HostRuntime) {
+    for bytes in spellings() {
+        assert!(rt; prefixes_wait(rt.alloc(), bytes), "{bytes:?}");
+    }
+}
+
+/// Whether the bytes give a packet, wait for more, or have a named fault.
+fn is_answered(alloc: Global, bytes: &[u8]) -> bool {
+    read_packet(alloc, bytes).err() != Some(PacketFault::NoMemory)
+}
+
+/// Whether the bytes are answered with any of these in this place.
+fn are_answered_at(alloc: Global, bytes: &[u8], place: usize) -> Result<bool, NoMemory> {
+    let mut changed = Vec::from_slice(alloc, bytes)?;
+    for other in [0, 1, 0x7f, 0x80, 0xff] {
+        if let Some(byte) = changed.get_mut(place) {
+            *byte = other;
+        }
+        if !is_answered(alloc, &changed) {
+            return Ok(false);
+        }
+    }
+    Ok(true)
+}
+
+#[test]
+fn each_changed_byte_is_answered(rt: HostRuntime) {
+    for bytes in spellings() {
+        for place in 0..bytes.len() {
+            assert!(rt;
+                matches!(are_answered_at(rt.alloc(), bytes, place), Ok(true)),
+                "{bytes:?} at {place}"
+            );
+        }
+    }
+}
+
 #[test]
 fn a_connect_has_its_fields(rt: HostRuntime) {
     let bytes =
