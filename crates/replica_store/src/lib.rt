@@ -18,3 +18,6 @@ pub use kept::Kept;
 pub use operation::{Operation, Stamp};
 pub use retained::RetainedMap;
 pub use store::ReplicaStore;
+
+#[cfg(test)]
+mod tests;
