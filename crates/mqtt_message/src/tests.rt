@@ -7,7 +7,7 @@ use crate::expiry::due;
 use crate::identifiers::Identifiers;
 use crate::message::Message;
 use mqtt_fields::{Blob, FieldFault, Properties, Property, Qos, Text, Value};
-use mqtt_packets::{Packet, Publish, Will, read_packet};
+use mqtt_packets::{Packet, Publish, Will, read_packet, write_packet};
 use std::alloc::Global;
 use std::test::Fail;
 
@@ -23,6 +23,11 @@ const MESSAGE: [u8; 24] = [
 const DELIVERY: [u8; 36] = [
     0, 1, 0x74, 0, 0, 0, 2, 0x6f, 0x6e, 0, 0, 1, 0, 1, 0x61, 1, 0, 0, 0, 0, 0, 0, 0x17, 0x70, 1, 1,
     0, 2, 0, 0, 0, 7, 0, 0, 0, 7,
+];
+
+/// The PUBLISH that sends it at 5,999 with the Packet Identifier 9.
+const SENT: [u8; 19] = [
+    0x33, 17, 0, 1, 0x74, 0, 9, 9, 2, 0, 0, 0, 1, 11, 7, 11, 7, 0x6f, 0x6e,
 ];
 
 fn publish_in(alloc: Global, bytes: &[u8]) -> Result<Publish, Fail> {
@@ -183,5 +188,23 @@ fn deliveries_are_read(rt: HostRuntime) -> Result<(), Fail> {
     falling[35] = 6;
     let fault = Delivery::read(rt.alloc(), &falling).err();
     assert_eq!(rt; fault, Some(FieldFault::Malformed));
+    Ok(())
+}
+
+/// The PUBLISH that sends the delivery of these bytes at 5,999.
+fn sent_bytes(alloc: Global, bytes: &[u8]) -> Result<Vec<u8>, Fail> {
+    let (delivery, _) = Delivery::read(alloc, bytes)?;
+    let packet = Packet::Publish(delivery.publish(alloc, 5999, false, 9)?);
+    let mut out = Vec::new(alloc);
+    if packet.is_sound() {
+        write_packet(alloc, &packet, &mut out)?;
+    }
+    Ok(out)
+}
+
+#[test]
+fn deliveries_are_sent(rt: HostRuntime) -> Result<(), Fail> {
+    let sent = sent_bytes(rt.alloc(), &DELIVERY)?;
+    assert_eq!(rt; sent.as_slice(), SENT.as_slice());
     Ok(())
 }
