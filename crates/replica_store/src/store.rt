@@ -131,6 +131,7 @@ impl ReplicaStore {
     pub fn make_subscribe(&self, node: u16, entry: Entry) -> Result<Operation, StoreFault>
         ensures ok { IfOk result (λ o. o ≡ subscribe_of node entry self.now) }
         ensures at_end { IsErrOf result NumbersAtEnd ↔ NumberAtEnd node self.now }
+        ensures fault { IfErr result (λ e. (e ≡ NumbersAtEnd) ⊎ (e ≡ StoreFault.NoMemory)) }
     {
         let Some(dot) = self.next_dot(node) else {
             return Err(StoreFault::NumbersAtEnd);
@@ -153,6 +154,7 @@ impl ReplicaStore {
             o ≡ remove_of node client.now (option_copied filter.entry) self.now) }
         ensures at_end { IsErrOf result NumbersAtEnd ↔ (NumberAtEnd node self.now
             × (any_of client.now (option_copied filter.entry) self.now.subscriptions ≡ true)) }
+        ensures fault { IfErr result (λ e. (e ≡ NumbersAtEnd) ⊎ (e ≡ StoreFault.NoMemory)) }
     {
         if !self.subscriptions.stands(client, filter) {
             return Ok(None);
@@ -175,6 +177,7 @@ impl ReplicaStore {
         ensures ok { IfOk result (λ o. o ≡ remove_below_of node client.now version self.now) }
         ensures at_end { IsErrOf result NumbersAtEnd ↔ (NumberAtEnd node self.now
             × (any_below client.now version self.now.subscriptions ≡ true)) }
+        ensures fault { IfErr result (λ e. (e ≡ NumbersAtEnd) ⊎ (e ≡ StoreFault.NoMemory)) }
     {
         if !self.subscriptions.stands_below(client, version) {
             return Ok(None);
