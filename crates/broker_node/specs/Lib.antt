@@ -1,1 +1,11 @@
+pub mod Acts
+pub mod Connections
+pub mod Feeding
+pub mod Frames
 pub mod Names
+pub mod Sending
+pub mod Serving
+pub mod Step
+pub mod Turns
+pub mod View
+pub mod Worked

@@ -2,8 +2,12 @@
 use Rattle.std.specs.Prelude.{ℕ, List, codes}
 use Rattle.broker_node.specs.declared.fault.NodeFault.{NodeFault}
 use Rattle.broker_node.specs.declared.fault.NodeFault.TheVariants.{NoMemory, NumbersAtEnd, Stopped}
+use Rattle.replica_store.specs.declared.fault.StoreFault.{StoreFault}
+use Rattle.replica_store.specs.declared.fault.StoreFault.TheVariants as store_faults
 use Rattle.broker_node.specs.declared.frame.FrameKind.{FrameKind}
 use Rattle.broker_node.specs.declared.frame.FrameKind.TheVariants.{Delta, Know}
+use Rattle.broker_node.specs.declared.frame.FrameBody.{FrameBody}
+use Rattle.broker_node.specs.declared.frame.FrameBody.TheVariants as bodies
 
 abbrev pub fault_name : NodeFault → List ℕ
 fault_name NoMemory = codes "NoMemory"
@@ -13,3 +17,13 @@ fault_name Stopped = codes "Stopped"
 abbrev pub frame_name : FrameKind → List ℕ
 frame_name Delta = codes "delta"
 frame_name Know = codes "know"
+
+abbrev pub kind_of : FrameBody → FrameKind
+kind_of (bodies.Delta state) = Delta
+kind_of (bodies.Know dots) = Know
+
+-- a fault of the store as one of the node
+abbrev pub node_fault : StoreFault → NodeFault
+node_fault store_faults.NumbersAtEnd = NumbersAtEnd
+node_fault store_faults.NoMemory = NoMemory
+node_fault store_faults.BadRow = NoMemory

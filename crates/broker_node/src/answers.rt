@@ -1,13 +1,21 @@
 //! How a stream that can't go on is answered (MQTT 5.0, 4.13).
 
+ghost use Rattle.std.specs.Prelude.{◌≡◌, OnOk, IfErr};
+ghost use Rattle.broker_node.specs.Serving.{Serves};
+ghost use Rattle.broker_node.specs.declared.fault.NodeFault.TheVariants.{NoMemory};
+
+use crate::desk::Desk;
 use crate::fault::NodeFault;
+use crate::held::Held;
+use crate::outcome::Outcome;
+use crate::packets::{disconnect, refused};
 use mqtt_packets::{PacketFault, reason};
 
 /// The first byte's type of a CONNECT.
 const CONNECT: u8 = 1;
 
 /// Whether a packet with this first byte is a CONNECT.
-pub fn is_connect(first: Option<u8>) -> bool {
+fn is_connect(first: Option<u8>) -> bool {
     match first {
         Some(byte) => byte / 16 == CONNECT,
         None => false,
@@ -15,7 +23,9 @@ pub fn is_connect(first: Option<u8>) -> bool {
 }
 
 /// The reason in the CONNACK that answers a faulty CONNECT.
-pub fn connack_reason(fault: PacketFault) -> Result<u8, NodeFault> {
+fn connack_reason(fault: PacketFault) -> Result<u8, NodeFault>
+    ensures fault { IfErr result (λ e. e ≡ NoMemory) }
+{
     match fault {
         PacketFault::WrongVersion => Ok(reason::UNSUPPORTED_PROTOCOL_VERSION),
         other => disconnect_reason(other),
@@ -23,11 +33,34 @@ pub fn connack_reason(fault: PacketFault) -> Result<u8, NodeFault> {
 }
 
 /// The reason in the DISCONNECT that answers a fault of an accepted client.
-pub fn disconnect_reason(fault: PacketFault) -> Result<u8, NodeFault> {
+fn disconnect_reason(fault: PacketFault) -> Result<u8, NodeFault>
+    ensures fault { IfErr result (λ e. e ≡ NoMemory) }
+{
     match fault {
         PacketFault::Malformed => Ok(reason::MALFORMED_PACKET),
         PacketFault::ProtocolError | PacketFault::WrongVersion => Ok(reason::PROTOCOL_ERROR),
         PacketFault::TooLarge => Ok(reason::PACKET_TOO_LARGE),
         PacketFault::NoMemory => Err(NodeFault::NoMemory),
     }
+}
+
+/// Tells the client which fault its stream has.
+pub fn refuse(
+    desk: Desk,
+    held: &Held,
+    fault: PacketFault,
+    outcome: &mut Outcome,
+) -> Result<(), NodeFault>
+    ensures ok { OnOk result (Serves desk.node desk.connection held.now outcome.old.outputs.items held.now outcome.new.outputs.items) }
+    ensures fault { IfErr result (λ e. e ≡ NoMemory) }
+{
+    if held.client_of(desk.connection).is_some() {
+        let reason = disconnect_reason(fault)?;
+        return desk.send(&disconnect(desk.alloc, reason), outcome);
+    }
+    if is_connect(held.first(desk.connection)) {
+        let reason = connack_reason(fault)?;
+        return desk.send(&refused(desk.alloc, reason), outcome);
+    }
+    Ok(())
 }

@@ -1,8 +1,12 @@
 //! CONNECT (MQTT 5.0, 3.1).
 
-use crate::connection::Clients;
+ghost use Rattle.std.specs.Prelude.{◌≡◌, OnOk, IfErr};
+ghost use Rattle.broker_node.specs.Serving.{Serves, IsOpen};
+ghost use Rattle.broker_node.specs.declared.fault.NodeFault.TheVariants.{NoMemory};
+
 use crate::desk::{Desk, Flow};
 use crate::fault::NodeFault;
+use crate::held::Held;
 use crate::outcome::Outcome;
 use crate::packets::accepted;
 use mqtt_packets::{Connect, Packet};
@@ -11,26 +15,34 @@ use mqtt_packets::{Connect, Packet};
 /// and everything else ends the connection without a packet.
 pub fn first_packet(
     desk: Desk,
-    clients: &mut Clients,
+    held: &mut Held,
     packet: &Packet,
     outcome: &mut Outcome,
-) -> Result<Flow, NodeFault> {
+) -> Result<Flow, NodeFault>
+    requires { IsOpen desk.connection held.old }
+    ensures ok { OnOk result (Serves desk.node desk.connection held.old outcome.old.outputs.items held.new outcome.new.outputs.items) }
+    ensures fault { IfErr result (λ e. e ≡ NoMemory) }
+{
     match packet {
-        Packet::Connect(connect) => accept(desk, clients, connect, outcome),
+        Packet::Connect(connect) => accept(desk, held, connect, outcome),
         _ => Ok(Flow::Ended),
     }
 }
 
 fn accept(
     desk: Desk,
-    clients: &mut Clients,
+    held: &mut Held,
     connect: &Connect,
     outcome: &mut Outcome,
-) -> Result<Flow, NodeFault> {
-    if clients.has_session(&connect.client) {
+) -> Result<Flow, NodeFault>
+    requires { IsOpen desk.connection held.old }
+    ensures ok { OnOk result (Serves desk.node desk.connection held.old outcome.old.outputs.items held.new outcome.new.outputs.items) }
+    ensures fault { IfErr result (λ e. e ≡ NoMemory) }
+{
+    if held.has_session(&connect.client) {
         return Ok(Flow::Ended);
     }
-    clients.accept(desk.alloc, desk.connection, &connect.client)?;
+    held.accept(desk.alloc, desk.connection, &connect.client)?;
     let packet = accepted(desk.alloc)?;
     desk.send(&packet, outcome)?;
     Ok(Flow::Open)

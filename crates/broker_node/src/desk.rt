@@ -1,6 +1,8 @@
 //! Where a packet is answered.
 
-ghost use Rattle.std.specs.Prelude.{◌<◌, ◌^◌};
+ghost use Rattle.std.specs.Prelude.{◌≡◌, OnOk, IfErr};
+ghost use Rattle.broker_node.specs.Sending.{Sent};
+ghost use Rattle.broker_node.specs.declared.fault.NodeFault.TheVariants.{NoMemory};
 
 use crate::fault::NodeFault;
 use crate::outcome::Outcome;
@@ -8,14 +10,12 @@ use crate::packets::written;
 use mqtt_packets::Packet;
 use std::alloc::Global;
 
-/// A node at a moment, and the connection whose packet is answered.
+/// A node, and the connection whose packet is answered.
 #[derive(Clone, Copy)]
 pub struct Desk {
     pub alloc: Global,
     pub node: u16,
-    pub at: u64,
     pub connection: u64,
-    ghost before_the_end: { at < 2 ^ 62 },
 }
 
 /// Whether a connection goes on after a packet.
@@ -26,8 +26,11 @@ pub enum Flow {
 }
 
 impl Desk {
-    /// Sends a packet to the connection.
-    pub fn send(self, packet: &Packet, outcome: &mut Outcome) -> Result<(), NodeFault> {
+    /// Sends a packet to the connection, if it has a spelling.
+    pub fn send(self, packet: &Packet, outcome: &mut Outcome) -> Result<(), NodeFault>
+        ensures ok { OnOk result (Sent self.connection packet.now outcome.old.outputs.items outcome.new.outputs.items) }
+        ensures fault { IfErr result (λ e. e ≡ NoMemory) }
+    {
         match written(self.alloc, packet)? {
             Some(bytes) => outcome.send(self.connection, bytes),
             None => Ok(()),

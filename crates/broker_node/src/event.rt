@@ -2,6 +2,7 @@
 
 use crate::frame::Frame;
 use mqtt_fields::Text;
+use mqtt_packets::Bytes;
 
 /// Something that happens at a node, at a moment in milliseconds.
 #[derive(Drop)]
@@ -18,7 +19,7 @@ pub enum EventKind {
     /// A client's connection was opened.
     Opened { connection: u64 },
     /// Bytes came on a connection.
-    Piece { connection: u64, bytes: Vec<u8> },
+    Piece { connection: u64, bytes: Bytes },
     /// A frame came from another node.
     Frame { frame: Frame },
     /// The node is to send what it holds to another node.

@@ -1,7 +1,7 @@
 //! What nodes send to one another.
 
-ghost use Rattle.std.specs.Prelude.{Some};
-ghost use Rattle.broker_node.specs.Names.{frame_name};
+ghost use Rattle.std.specs.Prelude.{◌≡◌, Some, IfOk};
+ghost use Rattle.broker_node.specs.Names.{frame_name, kind_of};
 
 use causal_context::Context;
 use mqtt_fields::NoMemory;
@@ -44,7 +44,9 @@ impl fmt::Display for FrameKind {
 }
 
 impl Frame {
-    pub fn kind(&self) -> FrameKind {
+    pub fn kind(&self) -> FrameKind
+        ensures { result ≡ kind_of self.now.body }
+    {
         match &self.body {
             FrameBody::Delta(_) => FrameKind::Delta,
             FrameBody::Know(_) => FrameKind::Know,
@@ -52,7 +54,9 @@ impl Frame {
     }
 
     /// An equal frame.
-    pub fn copy(&self) -> Result<Frame, NoMemory> {
+    pub fn copy(&self) -> Result<Frame, NoMemory>
+        ensures { IfOk result (λ copy. copy ≡ self.now) }
+    {
         let body = match &self.body {
             FrameBody::Delta(state) => FrameBody::Delta(state.copy()?),
             FrameBody::Know(taken) => FrameBody::Know(taken.copy()?),

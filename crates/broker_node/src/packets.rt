@@ -1,6 +1,9 @@
 //! The packets that a node sends.
 
-use crate::desk::Desk;
+ghost use Rattle.std.specs.Prelude.{◌≡◌, IfOk, IfErr, option_map};
+ghost use Rattle.broker_node.specs.Sending.{IsWritten};
+ghost use Rattle.broker_node.specs.declared.fault.NodeFault.TheVariants.{NoMemory};
+
 use crate::fault::NodeFault;
 use mqtt_fields::{Properties, Property, Qos, SubscriptionOptions, Text, Value, identifier};
 use mqtt_message::Message;
@@ -14,7 +17,10 @@ pub const RECEIVE_MAXIMUM: u16 = 100;
 pub const MAXIMUM_PACKET_SIZE: u32 = 1048576;
 
 /// The bytes of a packet, or none where it has no spelling.
-pub fn written(alloc: Global, packet: &Packet) -> Result<Option<Vec<u8>>, NodeFault> {
+pub fn written(alloc: Global, packet: &Packet) -> Result<Option<Vec<u8>>, NodeFault>
+    ensures ok { IfOk result (λ o. IsWritten packet.now (option_map (λ v. v.items) o)) }
+    ensures fault { IfErr result (λ e. e ≡ NoMemory) }
+{
     if !packet.is_sound() {
         return Ok(None);
     }
@@ -24,7 +30,9 @@ pub fn written(alloc: Global, packet: &Packet) -> Result<Option<Vec<u8>>, NodeFa
 }
 
 /// CONNACK to a client that is accepted (MQTT 5.0, 3.2).
-pub fn accepted(alloc: Global) -> Result<Packet, NodeFault> {
+pub fn accepted(alloc: Global) -> Result<Packet, NodeFault>
+    ensures fault { IfErr result (λ e. e ≡ NoMemory) }
+{
     let mut properties = Properties::new(alloc);
     properties.push(Property {
         id: identifier::RECEIVE_MAXIMUM,
@@ -80,12 +88,15 @@ pub fn unsuback(alloc: Global, identifier: u16, reasons: Vec<u8>) -> Packet {
 /// of both QoS, the message's own properties, then what is left of its interval, then the subscription's
 /// identifier.
 pub fn retained_publish(
-    desk: Desk,
+    alloc: Global,
+    at: u64,
     message: &Message,
     options: SubscriptionOptions,
     subscription: u32,
-) -> Result<Packet, NodeFault> {
-    let Ok(topic) = Text::new(desk.alloc, message.topic.as_str()) else {
+) -> Result<Packet, NodeFault>
+    ensures fault { IfErr result (λ e. e ≡ NoMemory) }
+{
+    let Ok(topic) = Text::new(alloc, message.topic.as_str()) else {
         return Err(NodeFault::NoMemory);
     };
     let qos = match Qos::of(options.qos()) {
@@ -98,21 +109,24 @@ pub fn retained_publish(
         retain: true,
         topic,
         identifier: 0,
-        properties: sent_properties(desk, message, subscription)?,
-        payload: Bytes::from_slice(desk.alloc, message.payload.as_slice())?,
+        properties: sent_properties(alloc, at, message, subscription)?,
+        payload: Bytes::from_slice(alloc, message.payload.as_slice())?,
     }))
 }
 
 fn sent_properties(
-    desk: Desk,
+    alloc: Global,
+    at: u64,
     message: &Message,
     subscription: u32,
-) -> Result<Properties, NodeFault> {
-    let mut properties = Properties::new(desk.alloc);
+) -> Result<Properties, NodeFault>
+    ensures fault { IfErr result (λ e. e ≡ NoMemory) }
+{
+    let mut properties = Properties::new(alloc);
     for own in message.properties.as_slice() {
-        properties.push(own.copy(desk.alloc)?)?;
+        properties.push(own.copy(alloc)?)?;
     }
-    if let Some(left) = message.remaining(desk.at) {
+    if let Some(left) = message.remaining(at) {
         properties.push(Property {
             id: identifier::MESSAGE_EXPIRY_INTERVAL,
             value: Value::Four(left),

@@ -1,7 +1,14 @@
 //! PUBLISH from a client (MQTT 5.0, 3.3).
 
+ghost use Rattle.std.specs.Prelude.{◌≡◌, [], OnOk, IfErr, IsTrue};
+ghost use Rattle.mqtt_message.specs.Accepted.{IsAcceptable};
+ghost use Rattle.broker_node.specs.Serving.{Serves};
+ghost use Rattle.broker_node.specs.Worked.{IsCause};
+ghost use Rattle.broker_node.specs.declared.fault.NodeFault.TheVariants.{NoMemory};
+
 use crate::desk::{Desk, Flow};
 use crate::fault::NodeFault;
+use crate::held::Held;
 use crate::outcome::Outcome;
 use crate::packets::disconnect;
 use mqtt_fields::identifier::{SUBSCRIPTION_IDENTIFIER, TOPIC_ALIAS};
@@ -9,35 +16,39 @@ use mqtt_fields::{Properties, Qos, Text};
 use mqtt_message::Message;
 use mqtt_packets::{Publish, reason};
 use mqtt_topics::{TopicFault, TopicName};
-use replica_store::ReplicaStore;
 
 /// Takes a PUBLISH: a message with RETAIN is put into the store.
 pub fn publish(
     desk: Desk,
-    store: &mut ReplicaStore,
+    held: &mut Held,
     client: &Text,
     publish: &Publish,
     outcome: &mut Outcome,
-) -> Result<Flow, NodeFault> {
+) -> Result<Flow, NodeFault>
+    ensures ok { OnOk result (Serves desk.node desk.connection held.old outcome.old.outputs.items held.new outcome.new.outputs.items) }
+    ensures cause { IfErr result (IsCause desk.node held.old) }
+{
     if let Some(reason) = refusal(publish) {
-        return end(desk, reason, outcome);
+        return end(desk, held, reason, outcome);
     }
-    match TopicName::parse(desk.alloc, publish.topic.as_str()) {
-        Ok(topic) => {
-            if publish.retain {
-                return put(desk, store, client, topic, publish, outcome);
-            }
-            Ok(Flow::Open)
-        }
-        Err(fault) => match fault {
-            TopicFault::NoMemory => Err(NodeFault::NoMemory),
-            _ => end(desk, reason::TOPIC_NAME_INVALID, outcome),
-        },
+    let Some(topic) = topic_of(desk, &publish.topic)? else {
+        return end(desk, held, reason::TOPIC_NAME_INVALID, outcome);
+    };
+    if !publish.retain {
+        return Ok(Flow::Open);
     }
+    if !Message::can_accept(publish) {
+        return end(desk, held, reason::PROTOCOL_ERROR, outcome);
+    }
+    put(desk, held, client, topic, publish)?;
+    Ok(Flow::Open)
 }
 
 /// Ends the connection with a DISCONNECT.
-pub fn end(desk: Desk, reason: u8, outcome: &mut Outcome) -> Result<Flow, NodeFault> {
+pub fn end(desk: Desk, held: &Held, reason: u8, outcome: &mut Outcome) -> Result<Flow, NodeFault>
+    ensures ok { OnOk result (Serves desk.node desk.connection held.now outcome.old.outputs.items held.now outcome.new.outputs.items) }
+    ensures fault { IfErr result (λ e. e ≡ NoMemory) }
+{
     desk.send(&disconnect(desk.alloc, reason), outcome)?;
     Ok(Flow::Ended)
 }
@@ -57,24 +68,35 @@ fn refusal(publish: &Publish) -> Option<u8> {
     None
 }
 
+/// The topic name of a text, or none where it isn't one.
+fn topic_of(desk: Desk, text: &Text) -> Result<Option<TopicName>, NodeFault>
+    ensures fault { IfErr result (λ e. e ≡ NoMemory) }
+{
+    match TopicName::parse(desk.alloc, text.as_str()) {
+        Ok(topic) => Ok(Some(topic)),
+        Err(fault) => match fault {
+            TopicFault::NoMemory => Err(NodeFault::NoMemory),
+            _ => Ok(None),
+        },
+    }
+}
+
 /// Retains the message of a PUBLISH, or with an empty payload removes the topic's message.
 fn put(
     desk: Desk,
-    store: &mut ReplicaStore,
+    held: &mut Held,
     client: &Text,
     topic: TopicName,
     publish: &Publish,
-    outcome: &mut Outcome,
-) -> Result<Flow, NodeFault> {
-    if !Message::can_accept(publish) {
-        return end(desk, reason::PROTOCOL_ERROR, outcome);
-    }
+) -> Result<(), NodeFault>
+    requires { IsAcceptable publish.now }
+    ensures ok { OnOk result (Serves desk.node desk.connection held.old [] held.new []) }
+    ensures cause { IfErr result (IsCause desk.node held.old) }
+{
     let message = if publish.payload.as_slice().is_empty() {
         None
     } else {
-        Some(Message::accept(desk.alloc, publish, client, desk.at)?)
+        Some(Message::accept(desk.alloc, publish, client, held.at())?)
     };
-    let operation = store.make_put(desk.node, topic, message)?;
-    store.apply(&operation)?;
-    Ok(Flow::Open)
+    held.put(desk.node, topic, message)
 }

@@ -1,46 +1,64 @@
 //! UNSUBSCRIBE (MQTT 5.0, 3.10).
 
+ghost use Rattle.std.specs.Prelude.{[], OnOk, IfErr};
+ghost use Rattle.broker_node.specs.Serving.{Serves};
+ghost use Rattle.broker_node.specs.Worked.{IsCause};
+
 use crate::desk::{Desk, Flow};
 use crate::fault::NodeFault;
+use crate::held::Held;
 use crate::outcome::Outcome;
 use crate::packets::unsuback;
 use crate::subscribe::filter_of;
 use mqtt_fields::Text;
 use mqtt_packets::{Unsubscribe, reason};
-use replica_store::ReplicaStore;
 
 /// Answers an UNSUBSCRIBE: one reason for each filter.
 pub fn unsubscribe(
     desk: Desk,
-    store: &mut ReplicaStore,
+    held: &mut Held,
     client: &Text,
     request: &Unsubscribe,
     outcome: &mut Outcome,
-) -> Result<Flow, NodeFault> {
-    let mut reasons = Vec::new(desk.alloc);
-    for text in request.filters.as_slice() {
-        reasons.push(remove(desk, store, client, text)?)?;
-    }
+) -> Result<Flow, NodeFault>
+    ensures ok { OnOk result (Serves desk.node desk.connection held.old outcome.old.outputs.items held.new outcome.new.outputs.items) }
+    ensures cause { IfErr result (IsCause desk.node held.old) }
+{
+    let reasons = remove_each(desk, held, client, request.filters.as_slice())?;
     let answer = unsuback(desk.alloc, request.identifier, reasons);
     desk.send(&answer, outcome)?;
     Ok(Flow::Open)
 }
 
-/// Removes the client's subscriptions to a filter, and answers the reason.
-fn remove(
+/// Removes the client's subscriptions to each filter in turn, and answers the reasons.
+fn remove_each(
     desk: Desk,
-    store: &mut ReplicaStore,
+    held: &mut Held,
     client: &Text,
-    text: &Text,
-) -> Result<u8, NodeFault> {
+    filters: &[Text],
+) -> Result<Vec<u8>, NodeFault>
+    ensures ok { OnOk result (Serves desk.node desk.connection held.old [] held.new []) }
+    ensures cause { IfErr result (IsCause desk.node held.old) }
+{
+    let mut reasons = Vec::new(desk.alloc);
+    for text in filters {
+        let reason = remove(desk, held, client, text)?;
+        reasons.push(reason)?;
+    }
+    Ok(reasons)
+}
+
+/// Removes the client's subscriptions to a filter, and answers the reason.
+fn remove(desk: Desk, held: &mut Held, client: &Text, text: &Text) -> Result<u8, NodeFault>
+    ensures ok { OnOk result (Serves desk.node desk.connection held.old [] held.new []) }
+    ensures cause { IfErr result (IsCause desk.node held.old) }
+{
     let Some(filter) = filter_of(desk, text)? else {
         return Ok(reason::TOPIC_FILTER_INVALID);
     };
-    match store.make_remove(desk.node, client, Some(&filter))? {
-        Some(operation) => {
-            store.apply(&operation)?;
-            Ok(reason::SUCCESS)
-        }
-        None => Ok(reason::NO_SUBSCRIPTION_EXISTED),
+    if held.remove(desk.node, client, Some(&filter))? {
+        Ok(reason::SUCCESS)
+    } else {
+        Ok(reason::NO_SUBSCRIPTION_EXISTED)
     }
 }

@@ -6,6 +6,7 @@ use broker_node::{Event, EventKind};
 use broker_script::{Command, MOST_BYTES, ScriptFault, parse_script};
 use cluster_play::{Cluster, PlayFault, Step};
 use mqtt_fields::Text;
+use mqtt_packets::Bytes;
 use std::alloc::Global;
 use std::fmt::Display;
 use std::fs;
@@ -75,7 +76,10 @@ fn step_of(alloc: Global, command: Command) -> Result<Option<Step>, Fault> {
             connection,
             moment,
             bytes,
-        } => event(node, moment, EventKind::Piece { connection, bytes }),
+        } => {
+            let bytes = Bytes::new(bytes);
+            event(node, moment, EventKind::Piece { connection, bytes })
+        }
         Command::Ship { node, peer, moment } => event(node, moment, EventKind::Ship { peer }),
         Command::Evict {
             node,

@@ -8,7 +8,7 @@ use Rattle.cluster_play.specs.declared.line.Line.{Line}
 use Rattle.cluster_play.specs.declared.line.Line.TheVariants.{Sent, Closed, Frame, Fault, Crash, Down}
 
 abbrev pub line_text : Line → List ℕ
-line_text (Sent node connection bytes) = codes "sent " ++ decimal node ++ codes " " ++ decimal connection ++ codes " " ++ encode_lower bytes.items
+line_text (Sent node connection bytes) = codes "sent " ++ decimal node ++ codes " " ++ decimal connection ++ codes " " ++ encode_lower bytes
 line_text (Closed node connection) = codes "closed " ++ decimal node ++ codes " " ++ decimal connection
 line_text (Frame number from to kind) = codes "frame " ++ decimal number ++ codes " " ++ decimal from ++ codes " " ++ decimal to ++ codes " " ++ frame_name kind
 line_text (Fault node fault) = codes "fault " ++ decimal node ++ codes " " ++ fault_name fault

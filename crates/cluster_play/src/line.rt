@@ -5,6 +5,7 @@ ghost use Rattle.cluster_play.specs.Lines.{line_text};
 
 use broker_node::{FrameKind, NodeFault};
 use hex_text::HexText;
+use mqtt_packets::Bytes;
 use std::fmt;
 
 /// One thing that a node gave out, or that befell it.
@@ -14,7 +15,7 @@ pub enum Line {
     Sent {
         node: u16,
         connection: u64,
-        bytes: Vec<u8>,
+        bytes: Bytes,
     },
     /// A connection's end.
     Closed {
@@ -59,7 +60,7 @@ impl fmt::Display for Line {
                 connection,
                 bytes,
             } => {
-                let text = HexText(bytes);
+                let text = HexText(bytes.as_slice());
                 write!(f, "sent {node} {connection} {text}")
             }
             Line::Closed { node, connection } => write!(f, "closed {node} {connection}"),

@@ -1,0 +1,134 @@
+//! A piece of a client's stream.
+
+ghost use Rattle.std.specs.Prelude.{◌≡◌, ℕ, List, [], OnOk, IfErr};
+ghost use Rattle.broker_node.specs.Acts.{Act, gather, merge_in};
+ghost use Rattle.broker_node.specs.Sending.{closes};
+ghost use Rattle.broker_node.specs.Serving.{Serves, IsOpen};
+ghost use Rattle.broker_node.specs.Worked.{Worked, IsCause};
+ghost use Rattle.broker_node.specs.declared.fault.NodeFault.TheVariants.{NoMemory};
+
+use crate::answers::refuse;
+use crate::connect::first_packet;
+use crate::connections::Came;
+use crate::desk::{Desk, Flow};
+use crate::fault::NodeFault;
+use crate::held::Held;
+use crate::outcome::Outcome;
+use crate::publish::{end, publish};
+use crate::subscribe::subscribe;
+use crate::unsubscribe::unsubscribe;
+use mqtt_fields::Text;
+use mqtt_packets::{Fed, Packet, PacketFault, reason};
+
+/// Takes in a piece of a connection's stream, and answers its packets.
+pub fn take_piece(
+    desk: Desk,
+    held: &mut Held,
+    bytes: &[u8],
+    outcome: &mut Outcome,
+) -> Result<(), NodeFault>
+    ensures ok { OnOk result ((acts : List Act) × Worked desk.node held.old outcome.old.outputs.items acts held.new outcome.new.outputs.items × (gather merge_in acts ≡ [])) }
+    ensures cause { IfErr result (IsCause desk.node held.old) }
+{
+    match held.feed(desk.connection, bytes)? {
+        Came::Nothing => Ok(()),
+        Came::Failed => close(desk, held, outcome),
+        Came::Packets(Fed { packets, fault }) => take(desk, held, &packets, fault, outcome),
+    }
+}
+
+/// Answers packets until one ends the connection, and then the fault.
+fn take(
+    desk: Desk,
+    held: &mut Held,
+    packets: &[Packet],
+    fault: Option<PacketFault>,
+    outcome: &mut Outcome,
+) -> Result<(), NodeFault>
+    requires { IsOpen desk.connection held.old }
+    ensures ok { OnOk result ((acts : List Act) × Worked desk.node held.old outcome.old.outputs.items acts held.new outcome.new.outputs.items × (gather merge_in acts ≡ [])) }
+    ensures cause { IfErr result (IsCause desk.node held.old) }
+{
+    match answer_each(desk, held, packets, outcome)? {
+        Flow::Ended => close(desk, held, outcome),
+        Flow::Open => match fault {
+            None => Ok(()),
+            Some(fault) => {
+                refuse(desk, held, fault, outcome)?;
+                close(desk, held, outcome)
+            }
+        },
+    }
+}
+
+fn close(desk: Desk, held: &mut Held, outcome: &mut Outcome) -> Result<(), NodeFault>
+    ensures ok { OnOk result (Worked desk.node held.old outcome.old.outputs.items (closes desk.connection) held.new outcome.new.outputs.items) }
+    ensures fault { IfErr result (λ e. e ≡ NoMemory) }
+{
+    held.close(desk.connection);
+    outcome.close(desk.connection)
+}
+
+/// Answers the packets in turn, until one ends the connection.
+fn answer_each(
+    desk: Desk,
+    held: &mut Held,
+    packets: &[Packet],
+    outcome: &mut Outcome,
+) -> Result<Flow, NodeFault>
+    requires { IsOpen desk.connection held.old }
+    ensures ok { OnOk result (Serves desk.node desk.connection held.old outcome.old.outputs.items held.new outcome.new.outputs.items) }
+    ensures cause { IfErr result (IsCause desk.node held.old) }
+{
+    for packet in packets {
+        match answer_packet(desk, held, packet, outcome)? {
+            Flow::Open => {}
+            Flow::Ended => return Ok(Flow::Ended),
+        }
+    }
+    Ok(Flow::Open)
+}
+
+fn answer_packet(
+    desk: Desk,
+    held: &mut Held,
+    packet: &Packet,
+    outcome: &mut Outcome,
+) -> Result<Flow, NodeFault>
+    requires { IsOpen desk.connection held.old }
+    ensures ok { OnOk result (Serves desk.node desk.connection held.old outcome.old.outputs.items held.new outcome.new.outputs.items) }
+    ensures cause { IfErr result (IsCause desk.node held.old) }
+{
+    let client = match held.client_of(desk.connection) {
+        Some(client) => Some(client.copy(desk.alloc)?),
+        None => None,
+    };
+    match client {
+        Some(client) => answer(desk, held, &client, packet, outcome),
+        None => first_packet(desk, held, packet, outcome),
+    }
+}
+
+/// Answers a packet of an accepted client.
+fn answer(
+    desk: Desk,
+    held: &mut Held,
+    client: &Text,
+    packet: &Packet,
+    outcome: &mut Outcome,
+) -> Result<Flow, NodeFault>
+    ensures ok { OnOk result (Serves desk.node desk.connection held.old outcome.old.outputs.items held.new outcome.new.outputs.items) }
+    ensures cause { IfErr result (IsCause desk.node held.old) }
+{
+    match packet {
+        Packet::Publish(message) => publish(desk, held, client, message, outcome),
+        Packet::Subscribe(request) => subscribe(desk, held, client, request, outcome),
+        Packet::Unsubscribe(request) => unsubscribe(desk, held, client, request, outcome),
+        Packet::Pingreq => {
+            desk.send(&Packet::Pingresp, outcome)?;
+            Ok(Flow::Open)
+        }
+        Packet::Disconnect(_) => Ok(Flow::Ended),
+        _ => end(desk, held, reason::PROTOCOL_ERROR, outcome),
+    }
+}
