@@ -1,0 +1,15 @@
+pub mod Agreeing
+pub mod Amid
+pub mod Bools
+pub mod Catching
+pub mod Events
+pub mod Growing
+pub mod Invariant
+pub mod Kept
+pub mod Lined
+pub mod Next
+pub mod Operations
+pub mod Paths
+pub mod Played
+pub mod Sites
+pub mod Sound

@@ -1,1 +1,9 @@
+pub mod Clusters
+pub mod Histories
+pub mod Laws
 pub mod Lines
+pub mod Names
+pub mod NextOperations
+pub mod Playing
+pub mod Runs
+pub mod Worlds

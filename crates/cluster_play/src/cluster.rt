@@ -1,27 +1,44 @@
 //! Nodes, and the frames that they have released.
 
+ghost use Rattle.std.specs.Prelude.{◌≡◌, ◌<◌, ◌++◌, ℕ, true, false, length, Some, Err, IfOk, IfErr, OnOk, ◌⊎◌, slice_get, option_map, option_copied, vec_len};
+ghost use Rattle.broker_node.specs.View.{NodeView};
+ghost use Rattle.cluster_play.specs.Clusters.{world, is_spent, held_at, holdings_of, taken_of, IsSameTaken};
+ghost use Rattle.cluster_play.specs.Histories.{IsStart};
+ghost use Rattle.cluster_play.specs.Playing.{IsPlayed, IsRefused, IsDoneStep};
+ghost use Rattle.cluster_play.specs.Runs.{lines_of};
+ghost use Rattle.cluster_play.specs.Worlds.{Fate, EventAt, Lacks, numbered};
+ghost use Rattle.cluster_play.specs.declared.fault.PlayFault.TheVariants as faults;
+ghost use Rattle.cluster_play.specs.declared.step.Step.TheVariants as steps;
+
 use crate::fault::PlayFault;
 use crate::line::{Line, Trace};
+use crate::release::{note, release};
 use crate::step::Step;
-use broker_node::{Event, EventKind, Frame, Node, Outcome, Output};
+use broker_node::{Event, EventKind, Frame, Node, NodeFault};
 use causal_context::Context;
+use replica_store::ReplicaStore;
 use std::alloc::Global;
 
 /// A cluster of nodes. Frames are numbered from 1 as they are released.
 #[derive(Drop)]
 pub struct Cluster {
     alloc: Global,
-    nodes: Vec<Option<Node>>,
+    nodes: Vec<Node>,
     frames: Vec<Frame>,
     spent: bool,
 }
 
 impl Cluster {
     /// A cluster of so many new nodes, which are up and not started.
-    pub fn new(alloc: Global, nodes: u16) -> Result<Cluster, PlayFault> {
+    pub fn new(alloc: Global, nodes: u16) -> Result<Cluster, PlayFault>
+        ensures start { IfOk result (λ c. IsStart (world c)) }
+        ensures nodes { IfOk result (λ c. length (world c).sites ≡ nodes) }
+        ensures ready { IfOk result (λ c. is_spent c ≡ false) }
+        ensures err { IfErr result (λ f. f ≡ faults.NoMemory) }
+    {
         let mut opened = Vec::new(alloc);
         for id in 0..nodes {
-            opened.push(Some(Node::open(alloc, id, nodes)))?;
+            opened.push(Node::open(alloc, id, nodes))?;
         }
         Ok(Cluster {
             alloc,
@@ -31,16 +48,22 @@ impl Cluster {
         })
     }
 
-    /// Plays steps in order. Where one is refused, the steps before it have happened.
-    pub fn play(&mut self, steps: &[Step]) -> Result<Trace, PlayFault> {
+    /// Plays steps in order: what happens is a run of the nodes over exactly these steps, and the
+    /// trace has its lines. A step that names no node or no frame changes nothing, and the steps
+    /// before it have happened. Once memory has run out, the cluster is spent.
+    pub fn play(&mut self, steps: &[Step]) -> Result<Trace, PlayFault>
+        ensures ok { IfOk result (λ trace.
+            IsPlayed (world self.old) steps.now trace.lines.items (world self.new)) }
+        ensures ready { OnOk result (is_spent self.new ≡ false) }
+        ensures err { IfErr result (λ fault. IsRefused self.old steps.now fault self.new) }
+        ensures spent { is_spent self.old ≡ true → (result ≡ Err faults.Spent) × (self.new ≡ self.old) }
+    {
         if self.spent {
             return Err(PlayFault::Spent);
         }
-        let mut trace = Trace {
-            lines: Vec::new(self.alloc),
-        };
+        let mut lines = Vec::new(self.alloc);
         for step in steps {
-            match self.step(step, &mut trace) {
+            match self.step(step, &mut lines) {
                 Ok(()) => {}
                 Err(fault) => {
                     self.spent = fault == PlayFault::NoMemory;
@@ -48,117 +71,119 @@ impl Cluster {
                 }
             }
         }
-        Ok(trace)
+        Ok(Trace { lines })
     }
 
-    fn step(&mut self, step: &Step, trace: &mut Trace) -> Result<(), PlayFault> {
+    /// Plays one step.
+    fn step(&mut self, step: &Step, lines: &mut Vec<Line>) -> Result<(), PlayFault>
+        ensures ok { OnOk result
+            (IsDoneStep (world self.old) step.now lines.old.items lines.new.items (world self.new)) }
+        ensures err { IfErr result (λ f. (f ≡ faults.NoMemory)
+            ⊎ (Lacks (world self.old) step.now f × (self.new ≡ self.old))) }
+        ensures spent { is_spent self.new ≡ is_spent self.old }
+    {
         match step {
-            Step::Event { node, event } => self.event(*node, event, trace),
-            Step::Deliver { frame, at } => {
-                let Some(found) = self.frame(*frame) else {
-                    return Err(PlayFault::UnknownFrame);
-                };
-                let node = found.to;
-                let event = Event {
-                    at: *at,
-                    kind: EventKind::Frame {
-                        frame: found.copy()?,
-                    },
-                };
-                self.event(node, &event, trace)
+            Step::Event { node, event } => {
+                if *node as usize >= self.nodes.len() {
+                    return Err(PlayFault::UnknownNode);
+                }
+                self.event(*node, event, lines)
             }
+            Step::Deliver { frame, at } => self.deliver(*frame, *at, lines),
         }
     }
 
-    fn event(&mut self, id: u16, event: &Event, trace: &mut Trace) -> Result<(), PlayFault> {
-        let Some(seat) = self.nodes.get_mut(id as usize) else {
+    /// A frame reaches its receiver.
+    fn deliver(&mut self, number: u64, at: u64, lines: &mut Vec<Line>) -> Result<(), PlayFault>
+        ensures ok { OnOk result
+            (IsDoneStep (world self.old) (steps.Deliver number at) lines.old.items lines.new.items (world self.new)) }
+        ensures err { IfErr result (λ f. (f ≡ faults.NoMemory)
+            ⊎ (Lacks (world self.old) (steps.Deliver number at) f × (self.new ≡ self.old))) }
+        ensures spent { is_spent self.new ≡ is_spent self.old }
+    {
+        let Some(found) = self.frame(number) else {
+            return Err(PlayFault::UnknownFrame);
+        };
+        let frame = found.copy()?;
+        let node = frame.to;
+        if node as usize >= self.nodes.len() {
             return Err(PlayFault::UnknownNode);
-        };
-        let Some(node) = seat else {
-            trace.lines.push(Line::Down { node: id })?;
-            return Ok(());
-        };
-        match node.step(event) {
-            Ok(outcome) => self.release(id, outcome, trace),
-            Err(fault) => {
-                *seat = None;
-                trace.lines.push(Line::Fault { node: id, fault })?;
-                Ok(())
-            }
         }
+        let event = Event {
+            at,
+            kind: EventKind::Frame { frame },
+        };
+        self.event(node, &event, lines)
     }
 
-    /// The outputs of a step: what goes to clients first, and then the frames.
-    fn release(&mut self, node: u16, outcome: Outcome, trace: &mut Trace) -> Result<(), PlayFault> {
-        let mut frames = Vec::new(self.alloc);
-        for output in outcome.outputs {
-            match output {
-                Output::Send { connection, bytes } => trace.lines.push(Line::Sent {
-                    node,
-                    connection,
-                    bytes,
-                })?,
-                Output::Close { connection } => trace
-                    .lines
-                    .push(Line::Closed { node, connection })?,
-                Output::Frame { frame } => frames.push(frame)?,
-            }
+    /// An event at a node.
+    fn event(&mut self, node: u16, event: &Event, lines: &mut Vec<Line>) -> Result<(), PlayFault>
+        requires { node < vec_len self.old.nodes }
+        ensures ok { OnOk result ((fate : Fate) × (n : NodeView)
+            × (slice_get (world self.old).sites node ≡ Some n)
+            × EventAt (world self.old) node n event.now fate (world self.new)
+            × (lines.new.items ≡ lines.old.items ++ lines_of (length (world self.old).frames) fate)) }
+        ensures err { IfErr result (λ f. f ≡ faults.NoMemory) }
+        ensures spent { is_spent self.new ≡ is_spent self.old }
+    {
+        match self.nodes[node as usize].step(event) {
+            Ok(outcome) => release(self.alloc, node, outcome.outputs, &mut self.frames, lines),
+            Err(fault) => match fault {
+                NodeFault::Stopped => note(lines, Line::Down { node }),
+                other => note(lines, Line::Fault { node, fault: other }),
+            },
         }
-        for frame in frames {
-            self.number(frame, trace)?;
-        }
-        Ok(())
-    }
-
-    /// Gives a frame its number.
-    fn number(&mut self, frame: Frame, trace: &mut Trace) -> Result<(), PlayFault> {
-        let line = Line::Frame {
-            number: self.frames.len() as u64 + 1,
-            from: frame.from,
-            to: frame.to,
-            kind: frame.kind(),
-        };
-        self.frames.push(frame)?;
-        trace.lines.push(line)?;
-        Ok(())
     }
 
     /// How many subscriptions stand at a node, and how many topics have a message there. None: the
     /// node is down, or there is none of that number.
-    pub fn holdings(&self, node: u16) -> Option<(u64, u64)> {
-        let node = self.up(node)?;
-        let store = node.store();
+    pub fn holdings(&self, node: u16) -> Option<(u64, u64)>
+        ensures { result ≡ option_map holdings_of (held_at (world self.now) node) }
+    {
+        let store = self.store(node)?;
         Some((
             store.subscriptions().live_count() as u64,
             store.retained().messages() as u64,
         ))
     }
 
-    /// The dots that a node has taken.
-    pub fn taken(&self, node: u16) -> Option<&Context> {
-        let node = self.up(node)?;
-        Some(node.store().taken())
+    /// The dots that a node has taken. None: it is down, or there is none of that number.
+    pub fn taken(&self, node: u16) -> Option<&Context>
+        ensures { option_copied result ≡ option_map taken_of (held_at (world self.now) node) }
+    {
+        let store = self.store(node)?;
+        Some(store.taken())
     }
 
-    /// Whether two nodes have taken the same operations. None: one of them is down.
-    pub fn same_taken(&self, i: u16, j: u16) -> Option<bool> {
+    /// Whether two nodes have taken the same operations. None: one of them is down, or there is
+    /// none of that number.
+    pub fn same_taken(&self, i: u16, j: u16) -> Option<bool>
+        ensures { IsSameTaken (held_at (world self.now) i) (held_at (world self.now) j) result }
+    {
         let first = self.taken(i)?;
         let second = self.taken(j)?;
         Some(first.same(second))
     }
 
     /// A released frame, by its number.
-    pub fn frame(&self, number: u64) -> Option<&Frame> {
+    pub fn frame(&self, number: u64) -> Option<&Frame>
+        ensures { option_copied result ≡ numbered (world self.now).frames number }
+    {
         if number == 0 {
             return None;
         }
         self.frames.get((number - 1) as usize)
     }
 
-    fn up(&self, node: u16) -> Option<&Node> {
-        match self.nodes.get(node as usize) {
-            Some(Some(node)) => Some(node),
-            _ => None,
+    /// What a node that runs holds.
+    fn store(&self, node: u16) -> Option<&ReplicaStore>
+        ensures { option_copied result ≡ option_map (λ h. h.store) (held_at (world self.now) node) }
+    {
+        let node = self.nodes.get(node as usize)?;
+        if node.is_up() {
+            Some(node.store())
+        } else {
+            None
         }
     }
 }

@@ -3,7 +3,9 @@
 
 mod cluster;
 mod fault;
+pub mod laws;
 mod line;
+mod release;
 mod step;
 
 pub use cluster::Cluster;

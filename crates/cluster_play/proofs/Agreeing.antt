@@ -1,0 +1,70 @@
+-- What nodes hold, and where they agree.
+use Rattle.std.proofs.Common.{◌≡◌, ◌↔◌, ℕ, Bool, List, [], ◌∷◌, filter, Some, sym, ap, ◌∙◌, inl, inr, subst}
+use Rattle.std.specs.FinMap as map
+use Rattle.std.specs.FinSet as set
+use Rattle.causal_context.specs.Dots.{Dot, dot_cmp_total, dot_cmp_antisym}
+use Rattle.mqtt_message.specs.declared.message.Message.{Message}
+use Rattle.subscription_set.specs.Standing.{live}
+use Rattle.replica_store.specs.declared.kept.Kept.{Kept}
+use Rattle.replica_store.specs.Answers.{Answers, IsAnswer}
+use Rattle.replica_store.specs.Operations.{dot_of, HaveOwnDots}
+use Rattle.replica_store.specs.States.{State}
+use Rattle.replica_store.specs.StateOf.{IsStateOf}
+use Rattle.replica_store.proofs.Deltas.{one_state}
+use Rattle.broker_node.specs.declared.frame.Frame.{Frame}
+use Rattle.broker_node.specs.declared.frame.FrameBody.TheVariants.{Delta}
+use Rattle.broker_node.specs.View.{HeldView}
+use Rattle.cluster_play.specs.Worlds.{World, numbered}
+use Rattle.cluster_play.specs.Runs.{Moment}
+use Rattle.cluster_play.specs.Histories.{Reached, made, taken, operations}
+use Rattle.cluster_play.specs.Laws.{Holds, AreAlike}
+use Rattle.cluster_play.proofs.Bools.{some_is}
+use Rattle.cluster_play.proofs.Sites.{number_is}
+use Rattle.cluster_play.proofs.Operations.{own_some}
+use Rattle.cluster_play.proofs.Sound.{state_by}
+use Rattle.cluster_play.proofs.Invariant.{Explained}
+use Rattle.cluster_play.proofs.Kept.{explained}
+
+pub node_holds : (run : List Moment) (w : World) → Reached run w → (i : ℕ) (h : HeldView) → Holds w i h → IsStateOf (operations i run) h.store × ((d : Dot) → set.contains h.store.taken d ≡ taken i run d)
+node_holds run w r i h at =
+    let x : Explained (made run) (taken i run) i h = ((explained run w r).sites i at.node at.at).up h at.up in
+    (state_by (made run) h.store (taken i run) x.grown.sound x.listed, x.listed)
+
+pub own_dots : (run : List Moment) (w : World) → Reached run w → HaveOwnDots (made run)
+own_dots run w r = (explained run w r).own_dots
+
+pub delta_frames : (run : List Moment) (w : World) → Reached run w → (number : ℕ) (f : Frame) (s : State) → numbered w.frames number ≡ Some f → f.body ≡ Delta s → IsStateOf (filter (λ o. set.contains s.taken (dot_of o)) (made run)) s
+delta_frames run w r number f s at is = let k = number_is w.frames number f at in (explained run w r).deltas k.0 f s k.1 is
+
+pub same_taken : (run : List Moment) (w : World) → Reached run w → (i j : ℕ) (h g : HeldView) → Holds w i h → Holds w j g → (h.store.taken ≡ g.store.taken) ↔ ((d : Dot) → taken i run d ≡ taken j run d)
+same_taken run w r i j h g a b =
+    let x = (node_holds run w r i h a).1 in
+    let y = (node_holds run w r j g b).1 in
+    (λ e d. sym (x d) ∙ ap (λ s. set.contains s d) e ∙ y d, λ e. set.same_set dot_cmp_total dot_cmp_antisym h.store.taken g.store.taken (λ d. x d ∙ e d ∙ sym (y d)))
+
+pub states_agree : (run : List Moment) (w : World) → Reached run w → (i j : ℕ) (h g : HeldView) → Holds w i h → Holds w j g → ((d : Dot) → taken i run d ≡ taken j run d) → h.store ≡ g.store
+states_agree run w r i j h g a b same =
+    let O = operations i run in
+    let other : IsStateOf O g.store = subst (λ (p : Dot → Bool). IsStateOf (filter (λ o. p (dot_of o)) (made run)) g.store) (λ n d. sym (same d) n) (node_holds run w r j g b).0 in
+    one_state O O (record { there = λ o x. x; back = λ o x. x }) (own_some (made run) (λ o. taken i run (dot_of o)) (own_dots run w r)) h.store g.store (node_holds run w r i h a).0 other
+
+pub nodes_alike : (run : List Moment) (w : World) → Reached run w → (i j : ℕ) (h g : HeldView) → Holds w i h → Holds w j g → ((d : Dot) → taken i run d ≡ taken j run d) → AreAlike h.store g.store
+nodes_alike run w r i j h g a b same =
+    let one = states_agree run w r i j h g a b same in
+    record { same = one; live = ap (λ (s : State). live s.subscriptions) one; kept = λ topic. ap (λ (s : State). map.get s.retained topic) one }
+
+one_message : (filter : List ℕ) (now : ℕ) (topic : List ℕ) (entry : Kept) (m m' : Message) → Answers filter now topic entry m → Answers filter now topic entry m' → m ≡ m'
+one_message filter now topic entry m m' a b = some_is (sym a.kept.message ∙ b.kept.message)
+
+-- entries have one answer
+one_answer : (filter : List ℕ) (now : ℕ) (es : List (List ℕ × Kept)) (out out' : List Message) → IsAnswer filter now es out → IsAnswer filter now es out' → out ≡ out'
+one_answer filter now [] out out' a b = a ∙ sym b
+one_answer filter now (e ∷ es) out out' (inl a) (inl b) = a.3 ∙ (λ n. one_message filter now e.0 e.1 a.0 b.0 a.2 b.2 n ∷ one_answer filter now es a.1 b.1 a.4 b.4 n) ∙ sym b.3
+one_answer filter now (e ∷ es) out out' (inl a) (inr b) = absurd (b.0 a.0 a.2)
+one_answer filter now (e ∷ es) out out' (inr a) (inl b) = absurd (a.0 b.0 b.2)
+one_answer filter now (e ∷ es) out out' (inr a) (inr b) = one_answer filter now es out out' a.1 b.1
+
+pub answers_agree : (run : List Moment) (w : World) → Reached run w → (i j : ℕ) (h g : HeldView) → Holds w i h → Holds w j g → ((d : Dot) → taken i run d ≡ taken j run d)
+    → (filter : List ℕ) (now : ℕ) (out out' : List Message) → IsAnswer filter now (map.entries h.store.retained) out → IsAnswer filter now (map.entries g.store.retained) out' → out ≡ out'
+answers_agree run w r i j h g a b same filter now out out' x y =
+    one_answer filter now (map.entries h.store.retained) out out' x (subst (λ (s : State). IsAnswer filter now (map.entries s.retained) out') (sym (states_agree run w r i j h g a b same)) y)

@@ -1,0 +1,110 @@
+-- What the steps of a run make, and what a delivered frame brings.
+use Rattle.std.proofs.Common.{◌≡◌, ◌≢◌, ℕ, ◌<◌, Bool, true, false, not, cond, ◌||◌, ◌&&◌, nat_eq, nat_lt, List, [], ◌∷◌, ◌++◌, Some, refl, sym, ap, ◌∙◌, inl, inr, subst, eq-eqb, lt-ltb, length}
+use Rattle.std.specs.List.{slice_get}
+use Rattle.std.specs.FinSet as set
+use Rattle.causal_context.specs.Dots.{Dot}
+use Rattle.replica_store.specs.declared.operation.Operation.{Operation}
+use Rattle.replica_store.specs.Operations.{dot_of, HaveOwnDots}
+use Rattle.replica_store.specs.States.{State}
+use Rattle.broker_node.specs.declared.event.EventKind.TheVariants as kinds
+use Rattle.broker_node.specs.declared.frame.Frame.{Frame}
+use Rattle.broker_node.specs.declared.frame.FrameBody.TheVariants.{Delta}
+use Rattle.broker_node.specs.declared.outcome.Output.TheVariants.{Frame as Release}
+use Rattle.broker_node.specs.Acts.{Act, Moment as TakesMoment, Began, Store, Connection, Out, Made, Merged, gather, merge_in}
+use Rattle.broker_node.specs.Step.{brought, states_in}
+use Rattle.broker_node.specs.View.{NodeView}
+use Rattle.cluster_play.specs.Worlds.{World, Happens}
+use Rattle.cluster_play.specs.Runs.{Moment}
+use Rattle.cluster_play.specs.Histories.{Reached, site, acts_of, gained, gain_in, gains, taken, taken_amid, operations_amid, same_dot}
+use Rattle.cluster_play.specs.Laws.{Ships, Arrives}
+use Rattle.cluster_play.specs.NextOperations.{IsNext}
+use Rattle.cluster_play.proofs.Bools.{or_true, or_left, or_right, nat_cases, nat_other, some_is, dot_same}
+use Rattle.cluster_play.proofs.Operations.{own_some}
+use Rattle.cluster_play.proofs.Growing.{carried}
+use Rattle.cluster_play.proofs.Kept.{explained}
+use Rattle.cluster_play.proofs.Paths.{Committed, committed, released_event, taken_both}
+use Rattle.cluster_play.proofs.Amid.{amid_acts, amid_state, gained_both, taken_step}
+use Rattle.cluster_play.proofs.Next.{next_operation}
+
+gained_here : (before after : List Act) (a : Act) (d : Dot) → gain_in a d ≡ true → gained (before ++ a ∷ after) d ≡ true
+gained_here before after a d h = gained_both before (a ∷ after) d ∙ or_right (gained before d) (gain_in a d || gained after d) (or_left (gain_in a d) (gained after d) h)
+
+pub operations_of_a_step : (run later : List Moment) (m : Moment) (w : World) → Reached (run ++ m ∷ later) w
+    → (before after : List Act) (o : Operation) → acts_of m.fate ≡ before ++ Store (Made o) ∷ after
+    → IsNext (site m.fate) (operations_amid (site m.fate) run before) o × (taken (site m.fate) (run ++ m ∷ later) (dot_of o) ≡ true)
+operations_of_a_step run later m w r before after o h =
+    let i = site m.fate in
+    let a = amid_acts run later m w r before after (Store (Made o)) h in
+    let own : HaveOwnDots (operations_amid i run before) = own_some _ (λ p. taken_amid i run before (dot_of p)) a.grown.own_dots in
+    let gain : gained (acts_of m.fate) (dot_of o) ≡ true = ap (λ acts. gained acts (dot_of o)) h ∙ gained_here before after (Store (Made o)) (dot_of o) (dot_same (dot_of o) (dot_of o) refl) in (
+      next_operation i (operations_amid i run before) a.held.store own (amid_state run w i before (Store (Made o) ∷ after) a) o a.runs.1.1.0,
+      taken_step run later m (dot_of o) (or_right (taken i run (dot_of o)) _ gain),
+    )
+
+-- a frame lists what its node had taken when it went out
+sent_lists : (run later : List Moment) (m : Moment) (w : World) → Reached (run ++ m ∷ later) w → (before : List Act) (f : Frame) (s : Ships m before f)
+    → (f.from ≡ site m.fate) × (site m.fate < length w.sites) × ((d : Dot) → set.contains s.state.taken d ≡ taken_amid (site m.fate) run before d)
+sent_lists run later m w r before f s =
+    let a = amid_acts run later m w r before s.after (Out (Release f)) s.acts in
+    let is : s.state ≡ a.held.store = carried a.held.store s.state f.body a.runs.1.0.1 s.is_delta in
+    (a.runs.1.0.0, a.within, λ d. ap (λ (t : State). set.contains t.taken d) is ∙ a.listed d)
+
+-- some state lists the dot
+abbrev any_lists : List State → Dot → Bool
+any_lists [] d = false
+any_lists (t ∷ ts) d = set.contains t.taken d || any_lists ts d
+
+merges_gain : (acts : List Act) (d : Dot) → any_lists (gather merge_in acts) d ≡ true → gained acts d ≡ true
+merges_gain [] d h = h
+merges_gain (TakesMoment at ∷ acts) d h = merges_gain acts d h
+merges_gain (Began ∷ acts) d h = merges_gain acts d h
+merges_gain (Store (Made o) ∷ acts) d h = or_right (same_dot (dot_of o) d) (gained acts d) (merges_gain acts d h)
+merges_gain (Store (Merged t) ∷ acts) d h = elim (or_true (set.contains t.taken d) (any_lists (gather merge_in acts) d) h) [
+  | inl a ↦ or_left (set.contains t.taken d) (gained acts d) a
+  | inr b ↦ or_right (set.contains t.taken d) (gained acts d) (merges_gain acts d b)
+]
+merges_gain (Connection a ∷ acts) d h = merges_gain acts d h
+merges_gain (Out o ∷ acts) d h = merges_gain acts d h
+
+-- a frame for this node from another one brings its state
+frame_brings : (id nodes : ℕ) (f : Frame) (t : State) → f.to ≡ id → f.from ≢ id → f.from < nodes → f.body ≡ Delta t → brought id nodes (kinds.Frame f) ≡ t ∷ []
+frame_brings id nodes f t to from below is =
+    (λ n. cond (nat_eq f.to id && not (nat_eq f.from id) && nat_lt f.from nodes) (states_in (is n)) [])
+    ∙ (λ n. cond (eq-eqb f.to id to n && not (nat_other f.from id from n) && lt-ltb f.from nodes below n) (t ∷ []) [])
+
+-- the frame comes to another node than the one that sent it
+module _ (run : List Moment) (w w' : World) (r : Reached run w) (m : Moment) (f : Frame) (a : Arrives w f m w') (t : State) (is : f.body ≡ Delta t) where
+  here : Committed w (site m.fate) a.event (acts_of m.fate) (released_event m.fate a.event a.commits).0
+  here =
+      let fate = released_event m.fate a.event a.commits in
+      committed w m.step (site m.fate) a.event (acts_of m.fate) fate.0 w' (subst (λ x. Happens w m.step x w') fate.1 a.happens)
+
+  gains_all : f.from ≢ f.to → f.from < length w.sites → (d : Dot) → set.contains t.taken d ≡ true → gained (acts_of m.fate) d ≡ true
+  gains_all other below d listed =
+      let at : slice_get w.sites f.to ≡ Some here.node = subst (λ j. slice_get w.sites j ≡ Some here.node) a.at here.at in
+      let there = (explained run w r).sites f.to here.node at in
+      let same_node : here.node ≡ a.holds.node = some_is (sym at ∙ a.holds.at) in
+      let same_held : here.before ≡ a.held = some_is (sym here.up ∙ ap (λ (v : NodeView). v.up) same_node ∙ a.holds.up) in
+      let merges : gather merge_in (acts_of m.fate) ≡ t ∷ [] =
+      here.steps.merged ∙ (λ n. cond (same_held n).started (brought here.node.id here.node.nodes (a.brings n)) []) ∙ ap (λ b. cond b (brought here.node.id here.node.nodes (kinds.Frame f)) []) a.started
+      ∙ frame_brings here.node.id here.node.nodes f t (sym there.id) (λ e. other (e ∙ there.id)) (subst (λ n. f.from < n) (sym there.nodes) below) is in
+      merges_gain (acts_of m.fate) d (ap (λ ts. any_lists ts d) merges ∙ or_left (set.contains t.taken d) false listed)
+
+pub catch_up : (run amid later : List Moment) (m arrival : Moment) (w w' : World) → Reached (run ++ m ∷ amid) w
+    → (before : List Act) (f : Frame) → Ships m before f → Arrives w f arrival w'
+    → (d : Dot) → taken_amid (site m.fate) run before d ≡ true → taken f.to ((run ++ m ∷ amid) ++ arrival ∷ later) d ≡ true
+catch_up run between later m arrival w w' r before f s a d had =
+    let whole = run ++ m ∷ between in
+    let i = site m.fate in
+    let sent = sent_lists run between m w r before f s in
+    let all : taken_amid i run (acts_of m.fate) d ≡ true = elim (or_true (taken i run d) (gained before d) had) [
+      | inl x ↦ or_left (taken i run d) (gained (acts_of m.fate) d) x
+      | inr y ↦ or_right (taken i run d) (gained (acts_of m.fate) d) (ap (λ acts. gained acts d) s.acts ∙ gained_both before (Out (Release f) ∷ s.after) d ∙ or_left (gained before d) (gained s.after d) y)
+    ] in
+    taken_both f.to whole (arrival ∷ later) d ∙ elim (nat_cases f.from f.to) [
+      | inl e ↦ or_left (taken f.to whole d) (taken f.to (arrival ∷ later) d) (subst (λ j. taken j whole d ≡ true) (sym sent.0 ∙ e) (taken_step run between m d all))
+      | inr ne ↦ or_right (taken f.to whole d) (taken f.to (arrival ∷ later) d)
+          (or_left (gains f.to arrival.fate d) (taken f.to later d)
+          (ap (λ b. b && gained (acts_of arrival.fate) d) (eq-eqb (site arrival.fate) f.to a.at)
+          ∙ gains_all whole w w' r arrival f a s.state s.is_delta ne (subst (λ j. j < length w.sites) (sym sent.0) sent.1) d (sent.2 d ∙ had)))
+    ]

@@ -1,0 +1,66 @@
+-- What an event at a seat comes to.
+use Rattle.std.proofs.Common.{◌≡◌, ◌≢◌, ℕ, ◌<◌, ◌≤◌, List, [], ◌∷◌, ◌++◌, Option, Some, None, Result, Ok, Err, OnOk, refl, sym, ap, ◌∙◌, get_or, length, zero, suc, arith}
+use Rattle.std.specs.List.{slice_get}
+use Rattle.std.proofs.Math.ListN.{set}
+use Rattle.std.proofs.lemmas.List.{append-nil}
+use Rattle.broker_node.specs.declared.event.Event.{Event}
+use Rattle.broker_node.specs.declared.fault.NodeFault.{NodeFault}
+use Rattle.broker_node.specs.declared.fault.NodeFault.TheVariants.{Stopped}
+use Rattle.broker_node.specs.declared.frame.Frame.{Frame}
+use Rattle.broker_node.specs.declared.outcome.Output.{Output}
+use Rattle.broker_node.specs.Step.{IsDone, HasCauseAt}
+use Rattle.broker_node.specs.View.{HeldView, NodeView}
+use Rattle.cluster_play.specs.Worlds.{World, Released, Faulted, Was_down, EventAt, changed, running, stopped, frames_in}
+
+-- two things that hold at Ok
+pub both_ok : {A E P Q X : Type 0} (r : Result A E) → OnOk r P → OnOk r Q → (P → Q → X) → OnOk r X
+both_ok (Ok x) p q f = f p q
+both_ok (Err e) p q f = p
+
+pub get_there : {A : Type 0} (xs : List A) (i : ℕ) (x : A) → i < length xs → x ≡ get_or xs i x → slice_get xs i ≡ Some x
+get_there [] i x h e = absurd (omega arith)
+get_there (y ∷ xs) zero x h e = ap Some (sym e)
+get_there (y ∷ xs) (suc i) x h e = get_there xs i x (omega arith) e
+
+pub get_past : {A : Type 0} (xs : List A) (i : ℕ) → length xs ≤ i → slice_get xs i ≡ None
+get_past [] i h = refl
+get_past (y ∷ xs) zero h = absurd (omega arith)
+get_past (y ∷ xs) (suc i) h = get_past xs i (omega arith)
+
+set_own : {A : Type 0} (xs : List A) (i : ℕ) (x : A) → x ≡ get_or xs i x → set xs i x ≡ xs
+set_own [] i x e = refl
+set_own (y ∷ xs) zero x e = ap (λ z. z ∷ xs) e
+set_own (y ∷ xs) (suc i) x e = ap (λ zs. y ∷ zs) (set_own xs i x e)
+
+-- the world in which site i is another node
+abbrev pub with_site : World → ℕ → NodeView → List Frame → World
+with_site w i n frames = record { sites = set w.sites i n; frames = frames }
+
+same_node : (n m : NodeView) → n.id ≡ m.id → n.nodes ≡ m.nodes → n.up ≡ m.up → n ≡ m
+same_node n m id nodes up = λ k. record { id = id k; nodes = nodes k; up = up k }
+
+same_world : (w : World) (i : ℕ) (n m : NodeView) (frames fs : List Frame) → n ≡ m → frames ≡ w.frames ++ fs → with_site w i n frames ≡ changed w i m fs
+same_world w i n m frames fs same e = λ k. record { sites = set w.sites i (same k); frames = e k }
+
+module _ (w : World) (i : ℕ) (n n' : NodeView) (e : Event) where
+  pub event_done : (outputs : List Output) (frames : List Frame) (d : IsDone n e outputs n') → n'.id ≡ n.id → n'.nodes ≡ n.nodes → frames ≡ w.frames ++ frames_in outputs
+      → EventAt w i n e (Released i e d.acts outputs) (with_site w i n' frames)
+  event_done outputs frames d id nodes added =
+      (refl, refl, (d.before, d.after, d.was, d.steps, same_world w i n' (running n d.after) frames (frames_in outputs) (same_node n' (running n d.after) id nodes d.is) added))
+
+  was_down : (up : Option HeldView) (id : ℕ) → HasCauseAt up id e Stopped → up ≡ None
+  was_down None id h = refl
+  was_down (Some v) id h = absurd h
+
+  pub event_down : n ≡ get_or w.sites i n → HasCauseAt n.up n.id e Stopped → (n.up ≡ None → n' ≡ n) → EventAt w i n e (Was_down i) (with_site w i n' w.frames)
+  event_down there cause same =
+      let down = was_down n.up n.id cause in
+      (refl, down, λ k. record { sites = (ap (λ (x : NodeView). set w.sites i x) (same down) ∙ set_own w.sites i n there) k; frames = w.frames })
+
+  has_cause : (fault : NodeFault) (up : Option HeldView) → n.up ≡ up → fault ≢ Stopped → HasCauseAt up n.id e fault → n'.id ≡ n.id → n'.nodes ≡ n.nodes → n'.up ≡ None → EventAt w i n e (Faulted i fault) (with_site w i n' w.frames)
+  has_cause fault None is other cause id nodes down = absurd (other cause)
+  has_cause fault (Some h) is other cause id nodes down =
+      (refl, (h, is, cause, same_world w i n' (stopped n) w.frames [] (same_node n' (stopped n) id nodes down) (sym (append-nil w.frames))))
+
+  pub event_faulted : (fault : NodeFault) → fault ≢ Stopped → HasCauseAt n.up n.id e fault → n'.id ≡ n.id → n'.nodes ≡ n.nodes → n'.up ≡ None → EventAt w i n e (Faulted i fault) (with_site w i n' w.frames)
+  event_faulted fault other cause id nodes down = has_cause fault n.up refl other cause id nodes down

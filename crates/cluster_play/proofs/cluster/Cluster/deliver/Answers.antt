@@ -1,0 +1,17 @@
+use Rattle.std.proofs.Common.{◌≡◌, refl, sym, ap, ◌∙◌, Some, inr, arith}
+use Rattle.std.proofs.lemmas.Result.{on_ok_weaker}
+use Rattle.cluster_play.specs.Worlds.{numbered}
+use Rattle.cluster_play.proofs.Events.{get_past}
+use Rattle.cluster_play.proofs.cluster.Cluster.deliver.Goals as goal
+
+pub returns-then-node-len-clause-err : goal.returns-then-node-len-clause-err
+returns-then-node-len-clause-err c =
+    let f = c.in_ok-frame.frame in
+    let at : numbered c.args.self.now.frames.items c.args.number ≡ Some f = sym c.in-Some.ensures ∙ ap Some (sym c.in_ok-frame.ensures) in
+    inr (inr (refl, (f, at, get_past c.args.self.now.nodes.items f.to (omega (arith, c.args.self.now.nodes.ok.0)))), refl)
+
+pub returns-clause-ok : goal.returns-clause-ok
+returns-clause-ok c =
+    let f = c.in_ok-frame.frame in
+    let at : numbered c.args.self.now.frames.items c.args.number ≡ Some f = sym c.in-Some.ensures ∙ ap Some (sym c.in_ok-frame.ensures) in
+    on_ok_weaker c.event.result (λ e. (e.0, (f, e.1, at, e.2, e.3), e.4)) c.event.ensures.ok

@@ -1,0 +1,35 @@
+-- What is seen of a cluster.
+use Rattle.std.specs.Prelude.{◌≡◌, ◌↔◌, ℕ, Bool, IsTrue, Option, Some, None, length, option_and_then, slice_get}
+use Rattle.std.specs.FinMap as map
+use Rattle.causal_context.specs.Dots.{Dots}
+use Rattle.subscription_set.specs.Standing.{live}
+use Rattle.replica_store.specs.Retained.{with_message}
+use Rattle.broker_node.specs.View.{HeldView}
+use Rattle.cluster_play.specs.declared.cluster.Cluster.{Cluster}
+use Rattle.cluster_play.specs.Worlds.{World}
+
+-- the world that a cluster is
+abbrev pub world : Cluster → World
+world c = record { sites = c.nodes.items; frames = c.frames.items }
+
+-- memory has run out, and the cluster plays no more
+abbrev pub is_spent : Cluster → Bool
+is_spent c = c.spent
+
+-- what node i holds; none where it is down, and where there is none of that number
+abbrev pub held_at : World → ℕ → Option HeldView
+held_at w i = option_and_then (λ n. n.up) (slice_get w.sites i)
+
+-- how many subscriptions are live, and how many topics have a message
+abbrev pub holdings_of : HeldView → ℕ × ℕ
+holdings_of h = (length (live h.store.subscriptions), length (with_message (map.entries h.store.retained)))
+
+-- the dots that it has taken
+abbrev pub taken_of : HeldView → Dots
+taken_of h = h.store.taken
+
+-- whether both have taken the same, where both run
+abbrev pub IsSameTaken : Option HeldView → Option HeldView → Option Bool → Type 0
+IsSameTaken None g answer = answer ≡ None
+IsSameTaken (Some h) None answer = answer ≡ None
+IsSameTaken (Some h) (Some g) answer = (same : Bool) × (answer ≡ Some same) × (IsTrue same ↔ (taken_of h ≡ taken_of g))

@@ -1,0 +1,117 @@
+-- What holds in every run.
+use Rattle.std.specs.Prelude.{◌≡◌, ◌↔◌, ℕ, ◌++◌, List, ◌∷◌, Some, true, filter, slice_get}
+use Rattle.std.specs.FinMap as map
+use Rattle.std.specs.FinSet as set
+use Rattle.causal_context.specs.Dots.{Dot}
+use Rattle.mqtt_message.specs.declared.message.Message.{Message}
+use Rattle.subscription_set.specs.Standing.{live}
+use Rattle.replica_store.specs.declared.operation.Operation.{Operation}
+use Rattle.replica_store.specs.Answers.{IsAnswer}
+use Rattle.replica_store.specs.Operations.{dot_of, HaveOwnDots}
+use Rattle.replica_store.specs.StateOf.{IsStateOf}
+use Rattle.replica_store.specs.States.{State}
+use Rattle.broker_node.specs.declared.event.Event.{Event}
+use Rattle.broker_node.specs.declared.event.EventKind.TheVariants as kinds
+use Rattle.broker_node.specs.declared.frame.Frame.{Frame}
+use Rattle.broker_node.specs.declared.frame.FrameBody.TheVariants.{Delta}
+use Rattle.broker_node.specs.declared.outcome.Output.TheVariants.{Frame as Release}
+use Rattle.broker_node.specs.Acts.{Act, Store, Out, Made}
+use Rattle.broker_node.specs.View.{HeldView, NodeView}
+use Rattle.cluster_play.specs.declared.fault.PlayFault.{PlayFault}
+use Rattle.cluster_play.specs.declared.step.Step.{Step}
+use Rattle.cluster_play.specs.Worlds.{World, Fate, Happens, Lacks, numbered}
+use Rattle.cluster_play.specs.Runs.{Moment, Run}
+use Rattle.cluster_play.specs.Histories.{Reached, site, event_of, acts_of, made, taken, operations, taken_amid, operations_amid}
+use Rattle.cluster_play.specs.NextOperations.{IsNext}
+
+-- node i runs in the world, and holds h
+pub record Holds (w : World) (i : ℕ) (h : HeldView) : Type 0 where
+  pub node : NodeView
+  pub at : slice_get w.sites i ≡ Some node
+  pub up : node.up ≡ Some h
+
+-- a running node holds the state of the operations that it has taken, and lists their dots
+abbrev pub HoldsItsOperations : Type 0
+HoldsItsOperations =
+    (run : List Moment) (w : World) → Reached run w → (i : ℕ) (h : HeldView) → Holds w i h
+    → IsStateOf (operations i run) h.store × ((d : Dot) → set.contains h.store.taken d ≡ taken i run d)
+
+-- no dot has two operations
+abbrev pub OwnDots : Type 0
+OwnDots = (run : List Moment) (w : World) → Reached run w → HaveOwnDots (made run)
+
+-- the state of a Delta frame is that of the operations whose dots it lists as taken
+abbrev pub DeltaFrames : Type 0
+DeltaFrames =
+    (run : List Moment) (w : World) → Reached run w → (number : ℕ) (f : Frame) (s : State) → numbered w.frames number ≡ Some f → f.body ≡ Delta s
+    → IsStateOf (filter (λ o. set.contains s.taken (dot_of o)) (made run)) s
+
+-- the sets of taken dots of two running nodes are equal exactly where the nodes have taken the same in the run
+abbrev pub SameTaken : Type 0
+SameTaken =
+    (run : List Moment) (w : World) → Reached run w → (i j : ℕ) (h g : HeldView) → Holds w i h → Holds w j g
+    → (h.store.taken ≡ g.store.taken) ↔ ((d : Dot) → taken i run d ≡ taken j run d)
+
+-- two states are one, and so they show the same subscriptions and the same retained messages
+pub record AreAlike (s t : State) : Type 0 where
+  pub same : s ≡ t
+  pub live : live s.subscriptions ≡ live t.subscriptions
+  pub kept : (topic : List ℕ) → map.get s.retained topic ≡ map.get t.retained topic
+
+-- two running nodes that have taken the same hold the same
+abbrev pub AgreeWhereTheyTookTheSame : Type 0
+AgreeWhereTheyTookTheSame =
+    (run : List Moment) (w : World) → Reached run w → (i j : ℕ) (h g : HeldView) → Holds w i h → Holds w j g
+    → ((d : Dot) → taken i run d ≡ taken j run d) → AreAlike h.store g.store
+
+-- and they answer a filter at a moment with the same messages, in the same order
+abbrev pub AnswerAlike : Type 0
+AnswerAlike =
+    (run : List Moment) (w : World) → Reached run w → (i j : ℕ) (h g : HeldView) → Holds w i h → Holds w j g
+    → ((d : Dot) → taken i run d ≡ taken j run d)
+    → (filter : List ℕ) (now : ℕ) (out out' : List Message) → IsAnswer filter now (map.entries h.store.retained) out → IsAnswer filter now (map.entries g.store.retained) out'
+    → out ≡ out'
+
+-- an operation that a step makes is the next one by what its node had taken until then, and is taken from then on
+abbrev pub OperationsOfAStep : Type 0
+OperationsOfAStep =
+    (run later : List Moment) (m : Moment) (w : World) → Reached (run ++ m ∷ later) w
+    → (before after : List Act) (o : Operation) → acts_of m.fate ≡ before ++ Store (Made o) ∷ after
+    → IsNext (site m.fate) (operations_amid (site m.fate) run before) o × (taken (site m.fate) (run ++ m ∷ later) (dot_of o) ≡ true)
+
+-- a step gives out a Delta frame, after these of its acts
+pub record Ships (m : Moment) (before : List Act) (f : Frame) : Type 0 where
+  pub after : List Act
+  pub acts : acts_of m.fate ≡ before ++ Out (Release f) ∷ after
+  pub state : State
+  pub is_delta : f.body ≡ Delta state
+
+-- a frame comes to its receiver, which has started, in a step that commits
+pub record Arrives (w : World) (f : Frame) (m : Moment) (w' : World) : Type 0 where
+  pub held : HeldView
+  pub holds : Holds w f.to held
+  pub started : held.started ≡ true
+  pub happens : Happens w m.step m.fate w'
+  pub at : site m.fate ≡ f.to
+  pub event : Event
+  pub commits : event_of m.fate ≡ Some event
+  pub brings : event.kind ≡ kinds.Frame f
+
+-- once a Delta frame has come to its receiver, that has taken all that the sender had taken when the frame went out
+abbrev pub CatchUp : Type 0
+CatchUp =
+    (run amid later : List Moment) (m arrival : Moment) (w w' : World) → Reached (run ++ m ∷ amid) w
+    → (before : List Act) (f : Frame) → Ships m before f → Arrives w f arrival w'
+    → (d : Dot) → taken_amid (site m.fate) run before d ≡ true → taken f.to ((run ++ m ∷ amid) ++ arrival ∷ later) d ≡ true
+
+-- a frame keeps its number
+abbrev pub FramesStay : Type 0
+FramesStay = (run : List Moment) (w w' : World) → Run w run w' → (number : ℕ) (f : Frame) → numbered w.frames number ≡ Some f → numbered w'.frames number ≡ Some f
+
+-- a run goes on where another ends
+abbrev pub RunsCompose : Type 0
+RunsCompose = (ms ns : List Moment) (w mid w' : World) → Run w ms mid → Run mid ns w' → Run w (ms ++ ns) w'
+
+-- a step that happens lacks nothing
+abbrev pub LacksNothing : Type 0
+LacksNothing = (w w' : World) (step : Step) (fate : Fate) (fault : PlayFault) → Happens w step fate w' → ¬ Lacks w step fault

@@ -1,0 +1,29 @@
+-- What playing steps comes to.
+use Rattle.std.specs.Prelude.{◌≡◌, true, false, ◌++◌, List, ◌∷◌, length}
+use Rattle.cluster_play.specs.declared.cluster.Cluster.{Cluster}
+use Rattle.cluster_play.specs.declared.fault.PlayFault.{PlayFault}
+use Rattle.cluster_play.specs.declared.fault.PlayFault.TheVariants.{UnknownNode, UnknownFrame, NoMemory, Spent}
+use Rattle.cluster_play.specs.declared.line.Line.{Line}
+use Rattle.cluster_play.specs.declared.step.Step.{Step}
+use Rattle.cluster_play.specs.Clusters.{world, is_spent}
+use Rattle.cluster_play.specs.Worlds.{World, Fate, Happens, Lacks}
+use Rattle.cluster_play.specs.Runs.{Moment, Run, steps_of, lines_of, printed}
+
+-- there is a run over exactly these steps, and these are its lines
+abbrev pub IsPlayed : World → List Step → List Line → World → Type 0
+IsPlayed w steps lines w' = (run : List Moment) × (steps_of run ≡ steps) × Run w run w' × (lines ≡ printed (length w.frames) run)
+
+-- there is a run over the steps before one that the world lacks something for
+abbrev pub StopsAt : World → List Step → PlayFault → World → Type 0
+StopsAt w steps fault w' = (run : List Moment) × (step : Step) × (rest : List Step) × (steps ≡ steps_of run ++ step ∷ rest) × Run w run w' × Lacks w' step fault
+
+-- why steps aren't played, and what that leaves
+abbrev pub IsRefused : Cluster → List Step → PlayFault → Cluster → Type 0
+IsRefused c steps UnknownNode c' = StopsAt (world c) steps UnknownNode (world c') × (is_spent c' ≡ false)
+IsRefused c steps UnknownFrame c' = StopsAt (world c) steps UnknownFrame (world c') × (is_spent c' ≡ false)
+IsRefused c steps NoMemory c' = is_spent c' ≡ true
+IsRefused c steps Spent c' = (is_spent c ≡ true) × (c' ≡ c)
+
+-- one step happened, with its lines
+abbrev pub IsDoneStep : World → Step → List Line → List Line → World → Type 0
+IsDoneStep w step lines lines' w' = (fate : Fate) × Happens w step fate w' × (lines' ≡ lines ++ lines_of (length w.frames) fate)

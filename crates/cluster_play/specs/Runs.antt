@@ -1,0 +1,77 @@
+-- A run: the steps that were played, each with what it came to.
+use Rattle.std.specs.Prelude.{◌≡◌, ℕ, ◌+◌, ◌++◌, List, [], ◌∷◌, Some, flat_map, length, slice_get}
+use Rattle.broker_node.specs.Names.{kind_of}
+use Rattle.broker_node.specs.declared.event.EventKind.{EventKind}
+use Rattle.broker_node.specs.declared.event.EventKind.TheVariants as kinds
+use Rattle.broker_node.specs.declared.frame.Frame.{Frame}
+use Rattle.broker_node.specs.declared.outcome.Output.{Output}
+use Rattle.broker_node.specs.declared.outcome.Output.TheVariants.{Send, Close, Frame as Release}
+use Rattle.cluster_play.specs.declared.line.Line.{Line}
+use Rattle.cluster_play.specs.declared.line.Line.TheVariants as lines
+use Rattle.cluster_play.specs.declared.step.Step.{Step}
+use Rattle.cluster_play.specs.declared.step.Step.TheVariants as steps
+use Rattle.cluster_play.specs.Worlds.{World, Fate, Released, Faulted, Was_down, Happens, frames_in}
+
+-- a step, and what it came to
+pub record Moment : Type 0 where
+  pub step : Step
+  pub fate : Fate
+
+-- from one world to another, one step after the other
+abbrev pub Run : World → List Moment → World → Type 0
+Run w [] w' = w' ≡ w
+Run w (m ∷ ms) w' = (mid : World) × Happens w m.step m.fate mid × Run mid ms w'
+
+abbrev pub steps_of : List Moment → List Step
+steps_of [] = []
+steps_of (m ∷ ms) = m.step ∷ steps_of ms
+
+-- the frames that a step released
+abbrev pub released : Fate → List Frame
+released (Released i e acts outputs) = frames_in outputs
+released (Faulted i fault) = []
+released (Was_down i) = []
+
+-- the line of what goes to a client
+abbrev pub client_line : ℕ → Output → List Line
+client_line i (Send connection bytes) = lines.Sent i connection bytes ∷ []
+client_line i (Close connection) = lines.Closed i connection ∷ []
+client_line i (Release frame) = []
+
+-- what goes to clients, in order
+abbrev pub client_lines : ℕ → List Output → List Line
+client_lines i outputs = flat_map (client_line i) outputs
+
+-- frames under their numbers, of which so many are given
+abbrev pub frame_lines : ℕ → List Frame → List Line
+frame_lines given [] = []
+frame_lines given (f ∷ fs) = lines.Frame (given + 1) f.from f.to (kind_of f.body) ∷ frame_lines (given + 1) fs
+
+-- the lines of a step, where so many frames were released before it
+abbrev pub lines_of : ℕ → Fate → List Line
+lines_of given (Released i e acts outputs) = client_lines i outputs ++ frame_lines given (frames_in outputs)
+lines_of given (Faulted i fault) = lines.Fault i fault ∷ []
+lines_of given (Was_down i) = lines.Down i ∷ []
+
+-- the lines of a run
+abbrev pub printed : ℕ → List Moment → List Line
+printed given [] = []
+printed given (m ∷ ms) = lines_of given m.fate ++ printed (given + length (released m.fate)) ms
+
+-- a frame that an event brings was released before
+abbrev pub IsKnown : List Frame → EventKind → Type 0
+IsKnown sent kinds.Started = Unit {0}
+IsKnown sent (kinds.Opened connection) = Unit {0}
+IsKnown sent (kinds.Piece connection bytes) = Unit {0}
+IsKnown sent (kinds.Frame frame) = (n : ℕ) × (slice_get sent n ≡ Some frame)
+IsKnown sent (kinds.Ship peer) = Unit {0}
+IsKnown sent (kinds.Evict client) = Unit {0}
+
+abbrev pub IsHonestStep : List Frame → Step → Type 0
+IsHonestStep sent (steps.Event i e) = IsKnown sent e.kind
+IsHonestStep sent (steps.Deliver number at) = Unit {0}
+
+-- no frame is forged
+abbrev pub IsHonest : List Frame → List Moment → Type 0
+IsHonest sent [] = Unit {0}
+IsHonest sent (m ∷ ms) = IsHonestStep sent m.step × IsHonest (sent ++ released m.fate) ms

@@ -1,0 +1,36 @@
+//! What holds in every run of a cluster. Each function does nothing: its contract is the law.
+ghost use Rattle.cluster_play.specs.Laws.{HoldsItsOperations, OwnDots, DeltaFrames, SameTaken, AgreeWhereTheyTookTheSame, AnswerAlike, OperationsOfAStep, CatchUp, FramesStay, LacksNothing, RunsCompose};
+
+/// Each running node holds the state of the operations that it has taken, no dot has two
+/// operations, and what a Delta frame carries is the state of the operations that it lists.
+pub fn nodes_hold_their_operations()
+    ensures nodes { HoldsItsOperations }
+    ensures dots { OwnDots }
+    ensures frames { DeltaFrames }
+{}
+
+/// Two running nodes whose sets of taken dots are equal have taken the same operations in the run;
+/// they hold the same subscriptions and retained messages, and answer alike.
+pub fn nodes_agree()
+    ensures taken { SameTaken }
+    ensures states { AgreeWhereTheyTookTheSame }
+    ensures answers { AnswerAlike }
+{}
+
+/// The operations of a step are the next ones of its node.
+pub fn steps_make_the_next_operations()
+    ensures { OperationsOfAStep }
+{}
+
+/// A Delta frame that came brings its receiver all that its sender had taken.
+pub fn frames_catch_up()
+    ensures { CatchUp }
+{}
+
+/// A run goes on where another ends, each frame keeps its number, and a step that happens lacks
+/// nothing.
+pub fn runs_compose()
+    ensures runs { RunsCompose }
+    ensures frames { FramesStay }
+    ensures steps { LacksNothing }
+{}
