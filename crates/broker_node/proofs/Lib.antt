@@ -1,7 +1,9 @@
 pub mod Acts
+pub mod Clients
 pub mod Exits
 pub mod Feeding
 pub mod Making
+pub mod Pieces
 pub mod Serving
 pub mod Steps
 pub mod Tables

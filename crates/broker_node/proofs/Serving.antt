@@ -1,85 +1,119 @@
 -- Work on a connection, one part after the other.
-use Rattle.std.proofs.Common.{◌≡◌, ℕ, true, is_some, List, [], ◌∷◌, ◌++◌, Option, Some, None, refl, sym, ap, subst, ◌∙◌}
+use Rattle.std.proofs.Common.{◌≡◌, ℕ, Bool, true, false, cond, is_some, List, [], ◌∷◌, ◌++◌, Option, Some, None, refl, sym, ap, subst, ◌∙◌}
 use Rattle.std.proofs.lemmas.List.{append-nil}
 use Rattle.std.specs.FinMap as map
 use Rattle.std.specs.FinSet as set
 use Rattle.std.specs.Cmp.{nat_cmp_total}
+use Rattle.std.specs.Ordering.{nat_cmp, eq_by_cmp}
 use Rattle.mqtt_packets.specs.declared.packet.Packet.{Packet}
 use Rattle.replica_store.specs.declared.operation.Operation.{Operation}
 use Rattle.broker_node.specs.declared.outcome.Output.{Output}
 use Rattle.broker_node.specs.View.{HeldView, ConnectionView}
-use Rattle.broker_node.specs.Acts.{Act, Store, Made, Connection, Runs, gather, merge_in}
-use Rattle.broker_node.specs.Connections.{Accepted}
+use Rattle.broker_node.specs.Acts.{Act, Moment, Began, Store, Made, Merged, Connection, Out, Runs, gather, merge_in, output_in}
+use Rattle.broker_node.specs.Connections.{Opened, Fed, Accepted, Closed}
 use Rattle.broker_node.specs.Feeding.{Table, AcceptedAt, IsHeldAccepted}
-use Rattle.broker_node.specs.Sending.{Sent, SendsBytes, closes}
-use Rattle.broker_node.specs.Serving.{Serves, IsOpen}
+use Rattle.broker_node.specs.Sending.{Sent, Sends, SendsBytes}
+use Rattle.broker_node.specs.Serving.{Serves, Did, IsOpen, IsService, AreService}
 use Rattle.broker_node.specs.Worked.{Worked, makes}
-use Rattle.broker_node.proofs.Acts.{gather-append, worked_nothing, worked_more, worked_quiet}
-use Rattle.broker_node.proofs.Tables.{get_inserted}
+use Rattle.broker_node.proofs.Acts.{worked_nothing, worked_more, worked_quiet}
 
-pub no_merges : (xs ys : List Act) → gather merge_in xs ≡ [] → gather merge_in ys ≡ [] → gather merge_in (xs ++ ys) ≡ []
-no_merges xs ys a b = gather-append merge_in xs ys ∙ (λ i. a i ++ b i)
+-- ---- service
 
-pub serves_nothing : (id c : ℕ) (h : HeldView) (o : List Output) → Serves id c h o h o
-serves_nothing id c h o = record { acts = []; worked = worked_nothing id h o; quiet = refl; stays = λ s. s }
+pub service_append : (xs ys : List Act) → AreService xs → AreService ys → AreService (xs ++ ys)
+service_append [] ys a b = b
+service_append (x ∷ xs) ys a b = (a.0, service_append xs ys a.1 b)
 
-pub serves_then : (id c : ℕ) (a b d : HeldView) (o p q : List Output) → Serves id c a o b p → Serves id c b p d q → Serves id c a o d q
-serves_then id c a b d o p q v w = record {
-  acts = v.acts ++ w.acts;
-  worked = worked_more id v.acts w.acts a b d o p q v.worked w.worked;
-  quiet = no_merges v.acts w.acts v.quiet w.quiet;
-  stays = λ s. w.stays (v.stays s);
-}
+one_merges : (a : Act) → IsService a → merge_in a ≡ []
+one_merges (Moment at) s = absurd s
+one_merges Began s = absurd s
+one_merges (Store (Made o)) s = refl
+one_merges (Store (Merged t)) s = absurd s
+one_merges (Connection a) s = refl
+one_merges (Out o) s = refl
 
-pub serves_quiet : (id c : ℕ) (a b : HeldView) (o : List Output) → Serves id c a [] b [] → Serves id c a o b o
-serves_quiet id c a b o v = record { acts = v.acts; worked = worked_quiet id v.acts a b o v.worked; quiet = v.quiet; stays = v.stays }
+pub service_merges : (xs : List Act) → AreService xs → gather merge_in xs ≡ []
+service_merges [] a = refl
+service_merges (x ∷ xs) a = (λ i. one_merges x a.0 i ++ service_merges xs a.1 i)
+
+is_some_cond : {A : Type 0} (b : Bool) (x : A) (y : Option A) → is_some y ≡ true → is_some (cond b (Some x) y) ≡ true
+is_some_cond true x y e = refl
+is_some_cond false x y e = e
+
+pub put_open : (m : Table) (d c : ℕ) (v : ConnectionView) → is_some (map.get m c) ≡ true → is_some (map.get (map.insert m d v) c) ≡ true
+put_open m d c v e = ap is_some (map.get-insert nat_cmp_total m d v c) ∙ is_some_cond (eq_by_cmp nat_cmp c d) v (map.get m c) e
+
+abbrev open_at : ℕ → HeldView → Bool
+open_at c v = is_some (map.get v.connections c)
+
+-- service leaves a connection open
+pub service_open : (id c : ℕ) (xs : List Act) (h h' : HeldView) → AreService xs → Runs id h xs h' → IsOpen c h → IsOpen c h'
+service_open id c [] h h' a r o = ap (open_at c) r ∙ o
+service_open id c (Moment at ∷ xs) h h' a r o = absurd a.0
+service_open id c (Began ∷ xs) h h' a r o = absurd a.0
+service_open id c (Store (Made p) ∷ xs) h h' a r o = service_open id c xs r.0 h' a.1 r.2 (ap (open_at c) r.1.2 ∙ o)
+service_open id c (Store (Merged t) ∷ xs) h h' a r o = absurd a.0
+service_open id c (Connection (Opened d) ∷ xs) h h' a r o = absurd a.0
+service_open id c (Connection (Fed d piece) ∷ xs) h h' a r o = absurd a.0
+service_open id c (Connection (Accepted d client) ∷ xs) h h' a r o = service_open id c xs r.0 h' a.1 r.2 (ap (open_at c) r.1.2 ∙ put_open h.connections d c _ o)
+service_open id c (Connection (Closed d) ∷ xs) h h' a r o = absurd a.0
+service_open id c (Out p ∷ xs) h h' a r o = service_open id c xs r.0 h' a.1 r.2 (ap (open_at c) r.1.1 ∙ o)
+
+-- ---- what was done
+
+pub did_weaker : (id : ℕ) (h h' : HeldView) (o o' : List Output) (P Q : List Act → Type 0) → ((acts : List Act) → P acts → Q acts) → Did id h o h' o' P → Did id h o h' o' Q
+did_weaker id h h' o o' P Q f d = (d.0, d.1, f d.0 d.2)
 
 pub send_runs : (id c : ℕ) (h : HeldView) (b : Option (List ℕ)) (acts : List Act) → SendsBytes c b acts → Runs id h acts h
 send_runs id c h None acts e = subst (λ xs. Runs id h xs h) (sym e) refl
 send_runs id c h (Some bytes) acts e = subst (λ xs. Runs id h xs h) (sym e) (h, (tt, refl), refl)
 
-pub send_quiet : (c : ℕ) (b : Option (List ℕ)) (acts : List Act) → SendsBytes c b acts → gather merge_in acts ≡ []
-send_quiet c None acts e = ap (gather merge_in) e
-send_quiet c (Some bytes) acts e = ap (gather merge_in) e
+bytes_service : (c : ℕ) (b : Option (List ℕ)) (acts : List Act) → SendsBytes c b acts → AreService acts
+bytes_service c None acts e = subst AreService (sym e) tt
+bytes_service c (Some bytes) acts e = subst AreService (sym e) (tt, tt)
 
-pub serves_send : (id c : ℕ) (h : HeldView) (p : Packet) (o o' : List Output) → Sent c p o o' → Serves id c h o h o'
-serves_send id c h p o o' s = record {
-  acts = s.0;
-  worked = record { runs = send_runs id c h s.1.bytes s.0 s.1.sends; given = s.2 };
-  quiet = send_quiet c s.1.bytes s.0 s.1.sends;
-  stays = λ x. x;
+pub sends_service : (c : ℕ) (p : Packet) (acts : List Act) → Sends c p acts → AreService acts
+sends_service c p acts s = bytes_service c s.bytes acts s.sends
+
+pub worked_send : (id c : ℕ) (h : HeldView) (p : Packet) (acts : List Act) (o o' : List Output) → Sends c p acts → o' ≡ o ++ gather output_in acts → Worked id h o acts h o'
+worked_send id c h p acts o o' s e = record { runs = send_runs id c h s.bytes acts s.sends; given = e }
+
+-- ---- served, whatever it was
+
+pub serves_nothing : (id : ℕ) (h : HeldView) (o : List Output) → Serves id h o h o
+serves_nothing id h o = record { acts = []; worked = worked_nothing id h o; service = tt }
+
+pub serves_then : (id : ℕ) (a b d : HeldView) (o p q : List Output) → Serves id a o b p → Serves id b p d q → Serves id a o d q
+serves_then id a b d o p q v w = record {
+  acts = v.acts ++ w.acts;
+  worked = worked_more id v.acts w.acts a b d o p q v.worked w.worked;
+  service = service_append v.acts w.acts v.service w.service;
 }
+
+pub serves_quiet : (id : ℕ) (a b : HeldView) (o : List Output) → Serves id a [] b [] → Serves id a o b o
+serves_quiet id a b o v = record { acts = v.acts; worked = worked_quiet id v.acts a b o v.worked; service = v.service }
+
+pub serves_send : (id c : ℕ) (h : HeldView) (p : Packet) (o o' : List Output) → Sent c p o o' → Serves id h o h o'
+serves_send id c h p o o' s = record { acts = s.0; worked = worked_send id c h p s.0 o o' s.1 s.2; service = sends_service c p s.0 s.1 }
+
+pub makes_service : (x : Option Operation) → AreService (makes x)
+makes_service None = tt
+makes_service (Some o) = (tt, tt)
+
+pub serves_makes : (id : ℕ) (h h' : HeldView) (x : Option Operation) (o : List Output) → Worked id h o (makes x) h' o → Serves id h o h' o
+serves_makes id h h' x o w = record { acts = makes x; worked = w; service = makes_service x }
+
+pub serves_one : (id : ℕ) (h h' : HeldView) (x : Operation) (o : List Output) → Worked id h o (Store (Made x) ∷ []) h' o → Serves id h o h' o
+serves_one id h h' x o w = serves_makes id h h' (Some x) o w
+
+-- ---- a client is accepted
 
 accepted_at : (c : ℕ) (client : List ℕ) (m m' : Table) (x : Option ConnectionView) → map.get m c ≡ x → is_some x ≡ true → AcceptedAt m c client x m'
     → (found : ConnectionView) × (map.get m c ≡ Some found) × (m' ≡ map.insert m c (record found { client = Some client }))
 accepted_at c client m m' None e h a = cc
 accepted_at c client m m' (Some found) e h a = (found, e, a)
 
-pub serves_accept : (id c : ℕ) (h h' : HeldView) (client : List ℕ) (o : List Output) → IsOpen c h → IsHeldAccepted h c client h' → Serves id c h o h' o
-serves_accept id c h h' client o is_open a =
+pub worked_accept : (id c : ℕ) (h h' : HeldView) (client : List ℕ) (o : List Output) → IsOpen c h → IsHeldAccepted h c client h' → Worked id h o (Connection (Accepted c client) ∷ []) h' o
+worked_accept id c h h' client o is_open a =
     let f = accepted_at c client h.connections a.0 (map.get h.connections c) refl is_open a.1 in
     let e : h' ≡ record h { connections = map.insert h.connections c (record f.0 { client = Some client }); sessions = set.insert h.sessions client } = a.2 ∙ (λ i. record h { connections = f.2 i; sessions = set.insert h.sessions client }) in
-    record {
-      acts = Connection (Accepted c client) ∷ [];
-      worked = record { runs = (h', (f.0, f.1, e), refl); given = sym (append-nil o) };
-      quiet = refl;
-      stays = λ _. ap (λ (v : HeldView). is_some (map.get v.connections c)) e ∙ ap is_some (get_inserted nat_cmp_total h.connections c _);
-    }
-
-made_stays : (id c : ℕ) (h h' : HeldView) (x : Option Operation) → Runs id h (makes x) h' → IsOpen c h → IsOpen c h'
-made_stays id c h h' None r s = ap (λ (v : HeldView). is_some (map.get v.connections c)) r ∙ s
-made_stays id c h h' (Some o) r s = ap (λ (v : HeldView). is_some (map.get v.connections c)) (r.2 ∙ r.1.2) ∙ s
-
-made_quiet : (x : Option Operation) → gather merge_in (makes x) ≡ []
-made_quiet None = refl
-made_quiet (Some o) = refl
-
-pub serves_makes : (id c : ℕ) (h h' : HeldView) (x : Option Operation) (o : List Output) → Worked id h o (makes x) h' o → Serves id c h o h' o
-serves_makes id c h h' x o w = record { acts = makes x; worked = w; quiet = made_quiet x; stays = made_stays id c h h' x w.runs }
-
-pub serves_one : (id c : ℕ) (h h' : HeldView) (x : Operation) (o : List Output) → Worked id h o (Store (Made x) ∷ []) h' o → Serves id c h o h' o
-serves_one id c h h' x o w = serves_makes id c h h' (Some x) o w
-
--- what is served, and then the close
-pub served_close : (id c : ℕ) (a b d : HeldView) (o p q : List Output) → Serves id c a o b p → Worked id b p (closes c) d q → (acts : List Act) × Worked id a o acts d q × (gather merge_in acts ≡ [])
-served_close id c a b d o p q v w = (v.acts ++ closes c, worked_more id v.acts (closes c) a b d o p q v.worked w, no_merges v.acts (closes c) v.quiet refl)
+    record { runs = (h', (f.0, f.1, e), refl); given = sym (append-nil o) }

@@ -19,6 +19,7 @@ use Rattle.broker_node.specs.Frames.{is_for, states_in, is_other}
 use Rattle.broker_node.specs.Step.{Steps, IsDone, HasCause, HasCauseAt, brought}
 use Rattle.broker_node.specs.Turns.{Turn, Answers, first, merges}
 use Rattle.broker_node.specs.Worked.{Worked, IsCause, makes}
+use Rattle.broker_node.proofs.Pieces.{piece_merges}
 
 if_merges : (b : Bool) (xs ys : List Act) (zs : List State) → gather merge_in xs ≡ zs → gather merge_in ys ≡ [] → gather merge_in (cond b xs ys) ≡ cond b zs []
 if_merges true xs ys zs e f = e
@@ -40,7 +41,7 @@ module _ (id nodes : ℕ) (h : HeldView) (acts : List Act) (h' : HeldView) where
   answers_merge : (kind : EventKind) → Answers id nodes h kind acts h' → gather merge_in acts ≡ brought id nodes kind
   answers_merge kinds.Started a = ap (gather merge_in) a
   answers_merge (kinds.Opened connection) a = ap (gather merge_in) a ∙ if_merges (is_some (map.get h.connections connection)) _ _ [] refl refl ∙ cond_nil (is_some (map.get h.connections connection))
-  answers_merge (kinds.Piece connection bytes) a = a
+  answers_merge (kinds.Piece connection bytes) a = piece_merges id connection h bytes acts a
   answers_merge (kinds.Frame frame) a = ap (gather merge_in) a ∙ if_merges (is_for id nodes frame) _ [] _ (merges_in id h.store frame.from frame.body) refl
   answers_merge (kinds.Ship peer) a = ap (gather merge_in) a ∙ if_merges (is_other id nodes peer) _ _ [] refl refl ∙ cond_nil (is_other id nodes peer)
   answers_merge (kinds.Evict client) a = ap (gather merge_in) a ∙ makes_quiet _

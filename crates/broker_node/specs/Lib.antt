@@ -1,8 +1,12 @@
 pub mod Acts
+pub mod Clients
 pub mod Connections
+pub mod Ending
 pub mod Feeding
 pub mod Frames
 pub mod Names
+pub mod Packets
+pub mod Pieces
 pub mod Sending
 pub mod Serving
 pub mod Step

@@ -12,7 +12,8 @@ use Rattle.broker_node.specs.declared.outcome.Output.TheVariants.{Frame as Relea
 use Rattle.broker_node.specs.View.{HeldView}
 use Rattle.broker_node.specs.Connections.{Opened}
 use Rattle.broker_node.specs.Frames.{is_for, is_other}
-use Rattle.broker_node.specs.Acts.{Act, Began, Store, Connection, Out, Merged, gather, merge_in}
+use Rattle.broker_node.specs.Acts.{Act, Began, Store, Connection, Out, Merged}
+use Rattle.broker_node.specs.Pieces.{Piece}
 use Rattle.broker_node.specs.Worked.{makes}
 
 -- a connection is opened where it isn't open
@@ -49,7 +50,7 @@ first (kinds.Evict client) = []
 abbrev pub Answers : ℕ → ℕ → HeldView → EventKind → List Act → HeldView → Type 0
 Answers id nodes h kinds.Started acts h' = acts ≡ []
 Answers id nodes h (kinds.Opened connection) acts h' = acts ≡ opens h connection
-Answers id nodes h (kinds.Piece connection bytes) acts h' = gather merge_in acts ≡ []
+Answers id nodes h (kinds.Piece connection bytes) acts h' = Piece id connection h bytes acts
 Answers id nodes h (kinds.Frame frame) acts h' = acts ≡ hears id nodes h frame
 Answers id nodes h (kinds.Ship peer) acts h' = acts ≡ ships id nodes h peer
 Answers id nodes h (kinds.Evict client) acts h' = acts ≡ evicts id h client

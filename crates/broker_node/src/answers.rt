@@ -1,21 +1,23 @@
 //! How a stream that can't go on is answered (MQTT 5.0, 4.13).
 
-ghost use Rattle.std.specs.Prelude.{◌≡◌, OnOk, IfErr};
-ghost use Rattle.broker_node.specs.Serving.{Serves};
+ghost use Rattle.std.specs.Prelude.{◌≡◌, Some, OnOk, IfOk, IfErr};
+ghost use Rattle.broker_node.specs.Serving.{Did};
+ghost use Rattle.broker_node.specs.Pieces.{Refuses, is_connect, disconnect_code, connack_code};
 ghost use Rattle.broker_node.specs.declared.fault.NodeFault.TheVariants.{NoMemory};
 
 use crate::desk::Desk;
 use crate::fault::NodeFault;
 use crate::held::Held;
 use crate::outcome::Outcome;
-use crate::packets::{disconnect, refused};
 use mqtt_packets::{PacketFault, reason};
 
 /// The first byte's type of a CONNECT.
 const CONNECT: u8 = 1;
 
 /// Whether a packet with this first byte is a CONNECT.
-fn is_connect(first: Option<u8>) -> bool {
+fn is_connect(first: Option<u8>) -> bool
+    ensures { result ≡ is_connect first }
+{
     match first {
         Some(byte) => byte / 16 == CONNECT,
         None => false,
@@ -24,6 +26,7 @@ fn is_connect(first: Option<u8>) -> bool {
 
 /// The reason in the CONNACK that answers a faulty CONNECT.
 fn connack_reason(fault: PacketFault) -> Result<u8, NodeFault>
+    ensures ok { IfOk result (λ code. connack_code fault ≡ Some code) }
     ensures fault { IfErr result (λ e. e ≡ NoMemory) }
 {
     match fault {
@@ -34,6 +37,7 @@ fn connack_reason(fault: PacketFault) -> Result<u8, NodeFault>
 
 /// The reason in the DISCONNECT that answers a fault of an accepted client.
 fn disconnect_reason(fault: PacketFault) -> Result<u8, NodeFault>
+    ensures ok { IfOk result (λ code. disconnect_code fault ≡ Some code) }
     ensures fault { IfErr result (λ e. e ≡ NoMemory) }
 {
     match fault {
@@ -51,16 +55,16 @@ pub fn refuse(
     fault: PacketFault,
     outcome: &mut Outcome,
 ) -> Result<(), NodeFault>
-    ensures ok { OnOk result (Serves desk.node desk.connection held.now outcome.old.outputs.items held.now outcome.new.outputs.items) }
+    ensures ok { OnOk result (Did desk.node held.now outcome.old.outputs.items held.now outcome.new.outputs.items (Refuses desk.connection held.now fault)) }
     ensures fault { IfErr result (λ e. e ≡ NoMemory) }
 {
     if held.client_of(desk.connection).is_some() {
         let reason = disconnect_reason(fault)?;
-        return desk.send(&disconnect(desk.alloc, reason), outcome);
+        return desk.disconnect(reason, outcome);
     }
     if is_connect(held.first(desk.connection)) {
         let reason = connack_reason(fault)?;
-        return desk.send(&refused(desk.alloc, reason), outcome);
+        return desk.refuse(reason, outcome);
     }
     Ok(())
 }

@@ -1,12 +1,13 @@
 //! Where a packet is answered.
 
 ghost use Rattle.std.specs.Prelude.{◌≡◌, OnOk, IfErr};
+ghost use Rattle.broker_node.specs.Packets.{accepted_packet, disconnect_packet, refused_packet};
 ghost use Rattle.broker_node.specs.Sending.{Sent};
 ghost use Rattle.broker_node.specs.declared.fault.NodeFault.TheVariants.{NoMemory};
 
 use crate::fault::NodeFault;
 use crate::outcome::Outcome;
-use crate::packets::written;
+use crate::packets::{accepted, disconnect, refused, written};
 use mqtt_packets::Packet;
 use std::alloc::Global;
 
@@ -35,5 +36,32 @@ impl Desk {
             Some(bytes) => outcome.send(self.connection, bytes),
             None => Ok(()),
         }
+    }
+
+    /// Sends the server's DISCONNECT.
+    pub fn disconnect(self, reason: u8, outcome: &mut Outcome) -> Result<(), NodeFault>
+        ensures ok { OnOk result (Sent self.connection (disconnect_packet reason) outcome.old.outputs.items outcome.new.outputs.items) }
+        ensures fault { IfErr result (λ e. e ≡ NoMemory) }
+    {
+        let packet = disconnect(self.alloc, reason);
+        self.send(&packet, outcome)
+    }
+
+    /// Sends a CONNACK that refuses the client.
+    pub fn refuse(self, reason: u8, outcome: &mut Outcome) -> Result<(), NodeFault>
+        ensures ok { OnOk result (Sent self.connection (refused_packet reason) outcome.old.outputs.items outcome.new.outputs.items) }
+        ensures fault { IfErr result (λ e. e ≡ NoMemory) }
+    {
+        let packet = refused(self.alloc, reason);
+        self.send(&packet, outcome)
+    }
+
+    /// Sends a CONNACK that accepts the client.
+    pub fn accept(self, outcome: &mut Outcome) -> Result<(), NodeFault>
+        ensures ok { OnOk result (Sent self.connection accepted_packet outcome.old.outputs.items outcome.new.outputs.items) }
+        ensures fault { IfErr result (λ e. e ≡ NoMemory) }
+    {
+        let packet = accepted(self.alloc)?;
+        self.send(&packet, outcome)
     }
 }

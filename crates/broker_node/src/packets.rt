@@ -2,6 +2,7 @@
 
 ghost use Rattle.std.specs.Prelude.{◌≡◌, IfOk, IfErr, option_map};
 ghost use Rattle.broker_node.specs.Sending.{IsWritten};
+ghost use Rattle.broker_node.specs.Packets.{accepted_packet, refused_packet, disconnect_packet, suback_packet, unsuback_packet};
 ghost use Rattle.broker_node.specs.declared.fault.NodeFault.TheVariants.{NoMemory};
 
 use crate::fault::NodeFault;
@@ -31,6 +32,7 @@ pub fn written(alloc: Global, packet: &Packet) -> Result<Option<Vec<u8>>, NodeFa
 
 /// CONNACK to a client that is accepted (MQTT 5.0, 3.2).
 pub fn accepted(alloc: Global) -> Result<Packet, NodeFault>
+    ensures ok { IfOk result (λ p. p ≡ accepted_packet) }
     ensures fault { IfErr result (λ e. e ≡ NoMemory) }
 {
     let mut properties = Properties::new(alloc);
@@ -50,7 +52,9 @@ pub fn accepted(alloc: Global) -> Result<Packet, NodeFault>
 }
 
 /// CONNACK to a client that is refused.
-pub fn refused(alloc: Global, reason: u8) -> Packet {
+pub fn refused(alloc: Global, reason: u8) -> Packet
+    ensures { result ≡ refused_packet reason }
+{
     Packet::Connack(Connack {
         session_present: false,
         reason,
@@ -59,7 +63,9 @@ pub fn refused(alloc: Global, reason: u8) -> Packet {
 }
 
 /// The server's DISCONNECT (MQTT 5.0, 3.14).
-pub fn disconnect(alloc: Global, reason: u8) -> Packet {
+pub fn disconnect(alloc: Global, reason: u8) -> Packet
+    ensures { result ≡ disconnect_packet reason }
+{
     Packet::Disconnect(Ended {
         reason,
         properties: Properties::new(alloc),
@@ -67,7 +73,9 @@ pub fn disconnect(alloc: Global, reason: u8) -> Packet {
 }
 
 /// SUBACK, with one reason for each filter in order (MQTT 5.0, 3.9).
-pub fn suback(alloc: Global, identifier: u16, reasons: Vec<u8>) -> Packet {
+pub fn suback(alloc: Global, identifier: u16, reasons: Vec<u8>) -> Packet
+    ensures { result ≡ suback_packet identifier reasons.items }
+{
     Packet::Suback(Reasons {
         identifier,
         properties: Properties::new(alloc),
@@ -76,7 +84,9 @@ pub fn suback(alloc: Global, identifier: u16, reasons: Vec<u8>) -> Packet {
 }
 
 /// UNSUBACK, with one reason for each filter in order (MQTT 5.0, 3.11).
-pub fn unsuback(alloc: Global, identifier: u16, reasons: Vec<u8>) -> Packet {
+pub fn unsuback(alloc: Global, identifier: u16, reasons: Vec<u8>) -> Packet
+    ensures { result ≡ unsuback_packet identifier reasons.items }
+{
     Packet::Unsuback(Reasons {
         identifier,
         properties: Properties::new(alloc),

@@ -1,9 +1,10 @@
 //! A piece of a client's stream.
 
-ghost use Rattle.std.specs.Prelude.{◌≡◌, ℕ, List, [], OnOk, IfErr};
-ghost use Rattle.broker_node.specs.Acts.{Act, gather, merge_in};
+ghost use Rattle.std.specs.Prelude.{◌≡◌, OnOk, IfOk, IfErr};
 ghost use Rattle.broker_node.specs.Sending.{closes};
-ghost use Rattle.broker_node.specs.Serving.{Serves, IsOpen};
+ghost use Rattle.broker_node.specs.Serving.{Did, IsOpen};
+ghost use Rattle.broker_node.specs.Clients.{Answer, Answered};
+ghost use Rattle.broker_node.specs.Pieces.{Piece, Takes, AnsweredInTurn};
 ghost use Rattle.broker_node.specs.Worked.{Worked, IsCause};
 ghost use Rattle.broker_node.specs.declared.fault.NodeFault.TheVariants.{NoMemory};
 
@@ -27,7 +28,7 @@ pub fn take_piece(
     bytes: &[u8],
     outcome: &mut Outcome,
 ) -> Result<(), NodeFault>
-    ensures ok { OnOk result ((acts : List Act) × Worked desk.node held.old outcome.old.outputs.items acts held.new outcome.new.outputs.items × (gather merge_in acts ≡ [])) }
+    ensures ok { OnOk result (Did desk.node held.old outcome.old.outputs.items held.new outcome.new.outputs.items (Piece desk.node desk.connection held.old bytes.now)) }
     ensures cause { IfErr result (IsCause desk.node held.old) }
 {
     match held.feed(desk.connection, bytes)? {
@@ -46,7 +47,7 @@ fn take(
     outcome: &mut Outcome,
 ) -> Result<(), NodeFault>
     requires { IsOpen desk.connection held.old }
-    ensures ok { OnOk result ((acts : List Act) × Worked desk.node held.old outcome.old.outputs.items acts held.new outcome.new.outputs.items × (gather merge_in acts ≡ [])) }
+    ensures ok { OnOk result (Did desk.node held.old outcome.old.outputs.items held.new outcome.new.outputs.items (Takes desk.node desk.connection held.old packets.now fault)) }
     ensures cause { IfErr result (IsCause desk.node held.old) }
 {
     match answer_each(desk, held, packets, outcome)? {
@@ -77,7 +78,7 @@ fn answer_each(
     outcome: &mut Outcome,
 ) -> Result<Flow, NodeFault>
     requires { IsOpen desk.connection held.old }
-    ensures ok { OnOk result (Serves desk.node desk.connection held.old outcome.old.outputs.items held.new outcome.new.outputs.items) }
+    ensures ok { IfOk result (λ flow. Did desk.node held.old outcome.old.outputs.items held.new outcome.new.outputs.items (λ acts. AnsweredInTurn desk.node desk.connection held.old packets.now flow acts held.new)) }
     ensures cause { IfErr result (IsCause desk.node held.old) }
 {
     for packet in packets {
@@ -96,7 +97,7 @@ fn answer_packet(
     outcome: &mut Outcome,
 ) -> Result<Flow, NodeFault>
     requires { IsOpen desk.connection held.old }
-    ensures ok { OnOk result (Serves desk.node desk.connection held.old outcome.old.outputs.items held.new outcome.new.outputs.items) }
+    ensures ok { IfOk result (λ flow. Did desk.node held.old outcome.old.outputs.items held.new outcome.new.outputs.items (Answered desk.node desk.connection held.old packet.now flow)) }
     ensures cause { IfErr result (IsCause desk.node held.old) }
 {
     let client = match held.client_of(desk.connection) {
@@ -117,7 +118,7 @@ fn answer(
     packet: &Packet,
     outcome: &mut Outcome,
 ) -> Result<Flow, NodeFault>
-    ensures ok { OnOk result (Serves desk.node desk.connection held.old outcome.old.outputs.items held.new outcome.new.outputs.items) }
+    ensures ok { IfOk result (λ flow. Did desk.node held.old outcome.old.outputs.items held.new outcome.new.outputs.items (Answer desk.node desk.connection client.now held.old packet.now flow)) }
     ensures cause { IfErr result (IsCause desk.node held.old) }
 {
     match packet {
@@ -129,6 +130,6 @@ fn answer(
             Ok(Flow::Open)
         }
         Packet::Disconnect(_) => Ok(Flow::Ended),
-        _ => end(desk, held, reason::PROTOCOL_ERROR, outcome),
+        _ => end(desk, reason::PROTOCOL_ERROR, outcome),
     }
 }

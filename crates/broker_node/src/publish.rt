@@ -1,8 +1,9 @@
 //! PUBLISH from a client (MQTT 5.0, 3.3).
 
-ghost use Rattle.std.specs.Prelude.{◌≡◌, [], OnOk, IfErr, IsTrue};
+ghost use Rattle.std.specs.Prelude.{◌≡◌, [], OnOk, IfOk, IfErr, IsTrue};
 ghost use Rattle.mqtt_message.specs.Accepted.{IsAcceptable};
 ghost use Rattle.broker_node.specs.Serving.{Serves};
+ghost use Rattle.broker_node.specs.Ending.{Ends};
 ghost use Rattle.broker_node.specs.Worked.{IsCause};
 ghost use Rattle.broker_node.specs.declared.fault.NodeFault.TheVariants.{NoMemory};
 
@@ -10,7 +11,6 @@ use crate::desk::{Desk, Flow};
 use crate::fault::NodeFault;
 use crate::held::Held;
 use crate::outcome::Outcome;
-use crate::packets::disconnect;
 use mqtt_fields::identifier::{SUBSCRIPTION_IDENTIFIER, TOPIC_ALIAS};
 use mqtt_fields::{Properties, Qos, Text};
 use mqtt_message::Message;
@@ -25,31 +25,31 @@ pub fn publish(
     publish: &Publish,
     outcome: &mut Outcome,
 ) -> Result<Flow, NodeFault>
-    ensures ok { OnOk result (Serves desk.node desk.connection held.old outcome.old.outputs.items held.new outcome.new.outputs.items) }
+    ensures ok { OnOk result (Serves desk.node held.old outcome.old.outputs.items held.new outcome.new.outputs.items) }
     ensures cause { IfErr result (IsCause desk.node held.old) }
 {
     if let Some(reason) = refusal(publish) {
-        return end(desk, held, reason, outcome);
+        return end(desk, reason, outcome);
     }
     let Some(topic) = topic_of(desk, &publish.topic)? else {
-        return end(desk, held, reason::TOPIC_NAME_INVALID, outcome);
+        return end(desk, reason::TOPIC_NAME_INVALID, outcome);
     };
     if !publish.retain {
         return Ok(Flow::Open);
     }
     if !Message::can_accept(publish) {
-        return end(desk, held, reason::PROTOCOL_ERROR, outcome);
+        return end(desk, reason::PROTOCOL_ERROR, outcome);
     }
     put(desk, held, client, topic, publish)?;
     Ok(Flow::Open)
 }
 
 /// Ends the connection with a DISCONNECT.
-pub fn end(desk: Desk, held: &Held, reason: u8, outcome: &mut Outcome) -> Result<Flow, NodeFault>
-    ensures ok { OnOk result (Serves desk.node desk.connection held.now outcome.old.outputs.items held.now outcome.new.outputs.items) }
+pub fn end(desk: Desk, reason: u8, outcome: &mut Outcome) -> Result<Flow, NodeFault>
+    ensures ok { IfOk result (λ flow. Ends desk.connection reason flow outcome.old.outputs.items outcome.new.outputs.items) }
     ensures fault { IfErr result (λ e. e ≡ NoMemory) }
 {
-    desk.send(&disconnect(desk.alloc, reason), outcome)?;
+    desk.disconnect(reason, outcome)?;
     Ok(Flow::Ended)
 }
 
@@ -90,7 +90,7 @@ fn put(
     publish: &Publish,
 ) -> Result<(), NodeFault>
     requires { IsAcceptable publish.now }
-    ensures ok { OnOk result (Serves desk.node desk.connection held.old [] held.new []) }
+    ensures ok { OnOk result (Serves desk.node held.old [] held.new []) }
     ensures cause { IfErr result (IsCause desk.node held.old) }
 {
     let message = if publish.payload.as_slice().is_empty() {

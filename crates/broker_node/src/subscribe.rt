@@ -60,12 +60,12 @@ pub fn subscribe(
     request: &Subscribe,
     outcome: &mut Outcome,
 ) -> Result<Flow, NodeFault>
-    ensures ok { OnOk result (Serves desk.node desk.connection held.old outcome.old.outputs.items held.new outcome.new.outputs.items) }
+    ensures ok { OnOk result (Serves desk.node held.old outcome.old.outputs.items held.new outcome.new.outputs.items) }
     ensures cause { IfErr result (IsCause desk.node held.old) }
 {
     let filters = request.filters.as_slice();
     if asks_no_local_of_a_share(desk, filters)? {
-        return end(desk, held, reason::PROTOCOL_ERROR, outcome);
+        return end(desk, reason::PROTOCOL_ERROR, outcome);
     }
     let identifier = request.properties.vbi(SUBSCRIPTION_IDENTIFIER).unwrap_or(0);
     let Grants { reasons, asked } = grant_each(desk, held, client, filters, identifier)?;
@@ -118,7 +118,7 @@ fn grant_each(
     filters: &[SubscribeFilter],
     identifier: u32,
 ) -> Result<Grants, NodeFault>
-    ensures ok { OnOk result (Serves desk.node desk.connection held.old [] held.new []) }
+    ensures ok { OnOk result (Serves desk.node held.old [] held.new []) }
     ensures cause { IfErr result (IsCause desk.node held.old) }
 {
     let mut grants = Grants {
@@ -160,7 +160,7 @@ fn grant(
     asked: &SubscribeFilter,
     identifier: u32,
 ) -> Result<Granted, NodeFault>
-    ensures ok { OnOk result (Serves desk.node desk.connection held.old [] held.new []) }
+    ensures ok { OnOk result (Serves desk.node held.old [] held.new []) }
     ensures cause { IfErr result (IsCause desk.node held.old) }
 {
     let Some(filter) = filter_of(desk, &asked.filter)? else {
@@ -212,7 +212,7 @@ fn send_each(
     identifier: u32,
     outcome: &mut Outcome,
 ) -> Result<(), NodeFault>
-    ensures ok { OnOk result (Serves desk.node desk.connection held.now outcome.old.outputs.items held.now outcome.new.outputs.items) }
+    ensures ok { OnOk result (Serves desk.node held.now outcome.old.outputs.items held.now outcome.new.outputs.items) }
     ensures fault { IfErr result (λ e. e ≡ NoMemory) }
 {
     for each in asked {
@@ -229,7 +229,7 @@ fn send_retained(
     identifier: u32,
     outcome: &mut Outcome,
 ) -> Result<(), NodeFault>
-    ensures ok { OnOk result (Serves desk.node desk.connection held.now outcome.old.outputs.items held.now outcome.new.outputs.items) }
+    ensures ok { OnOk result (Serves desk.node held.now outcome.old.outputs.items held.now outcome.new.outputs.items) }
     ensures fault { IfErr result (λ e. e ≡ NoMemory) }
 {
     let found = held.store().retained_for(&asked.filter, held.at())?;

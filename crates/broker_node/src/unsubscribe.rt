@@ -21,7 +21,7 @@ pub fn unsubscribe(
     request: &Unsubscribe,
     outcome: &mut Outcome,
 ) -> Result<Flow, NodeFault>
-    ensures ok { OnOk result (Serves desk.node desk.connection held.old outcome.old.outputs.items held.new outcome.new.outputs.items) }
+    ensures ok { OnOk result (Serves desk.node held.old outcome.old.outputs.items held.new outcome.new.outputs.items) }
     ensures cause { IfErr result (IsCause desk.node held.old) }
 {
     let reasons = remove_each(desk, held, client, request.filters.as_slice())?;
@@ -37,7 +37,7 @@ fn remove_each(
     client: &Text,
     filters: &[Text],
 ) -> Result<Vec<u8>, NodeFault>
-    ensures ok { OnOk result (Serves desk.node desk.connection held.old [] held.new []) }
+    ensures ok { OnOk result (Serves desk.node held.old [] held.new []) }
     ensures cause { IfErr result (IsCause desk.node held.old) }
 {
     let mut reasons = Vec::new(desk.alloc);
@@ -50,7 +50,7 @@ fn remove_each(
 
 /// Removes the client's subscriptions to a filter, and answers the reason.
 fn remove(desk: Desk, held: &mut Held, client: &Text, text: &Text) -> Result<u8, NodeFault>
-    ensures ok { OnOk result (Serves desk.node desk.connection held.old [] held.new []) }
+    ensures ok { OnOk result (Serves desk.node held.old [] held.new []) }
     ensures cause { IfErr result (IsCause desk.node held.old) }
 {
     let Some(filter) = filter_of(desk, text)? else {

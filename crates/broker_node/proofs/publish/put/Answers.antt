@@ -4,4 +4,4 @@ use Rattle.broker_node.proofs.Serving.{serves_one}
 use Rattle.broker_node.proofs.publish.put.Goals as goal
 
 pub returns-clause-ok : goal.returns-clause-ok
-returns-clause-ok c = on_ok_weaker c.put.result (λ e. serves_one c.args.desk.node c.args.desk.connection c.args.held.now c.put.new.self _ [] (e [])) c.put.ensures.ok
+returns-clause-ok c = on_ok_weaker c.put.result (λ e. serves_one c.args.desk.node c.args.held.now c.put.new.self _ [] (e [])) c.put.ensures.ok

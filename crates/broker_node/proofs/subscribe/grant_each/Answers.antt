@@ -9,4 +9,4 @@ returns-in_err-granted-clause-cause c =
     later_exit c.args.desk.node w.acts c.args.held.now c.loop-each.held c.from_residual.result c.in_err-granted.field-0.0 c.from_residual.ensures.1 w.worked.runs c.in_err-granted.ensures.cause
 
 pub loop-each-preserved : goal.loop-each-preserved
-loop-each-preserved c = serves_then c.args.desk.node c.args.desk.connection c.args.held.now c.loop-each.held c.grant.new.held [] [] [] c.loop-each.invariant c.in_ok-granted.ensures.ok
+loop-each-preserved c = serves_then c.args.desk.node c.args.held.now c.loop-each.held c.grant.new.held [] [] [] c.loop-each.invariant c.in_ok-granted.ensures.ok

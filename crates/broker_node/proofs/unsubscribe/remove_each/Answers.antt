@@ -9,4 +9,4 @@ returns-in_err-reason-clause-cause c =
     later_exit c.args.desk.node w.acts c.args.held.now c.loop-text.held c.from_residual.result c.in_err-reason.field-0.0 c.from_residual.ensures.1 w.worked.runs c.in_err-reason.ensures.cause
 
 pub loop-text-preserved : goal.loop-text-preserved
-loop-text-preserved c = serves_then c.args.desk.node c.args.desk.connection c.args.held.now c.loop-text.held c.remove.new.held [] [] [] c.loop-text.invariant c.in_ok-reason.ensures.ok
+loop-text-preserved c = serves_then c.args.desk.node c.args.held.now c.loop-text.held c.remove.new.held [] [] [] c.loop-text.invariant c.in_ok-reason.ensures.ok

@@ -8,4 +8,4 @@ returns-clause-ok c =
     let o = c.args.outcome.now.outputs.items in
     let p = c.send.new.outcome.outputs.items in
     let h = c.remove_each.new.held in
-    serves_then id at c.args.held.now h h o o p (serves_quiet id at c.args.held.now h o c.in_ok-reasons.ensures.ok) (serves_send id at h _ o p c.in_ok-send.ensures.ok)
+    serves_then id c.args.held.now h h o o p (serves_quiet id c.args.held.now h o c.in_ok-reasons.ensures.ok) (serves_send id at h _ o p c.in_ok-send.ensures.ok)

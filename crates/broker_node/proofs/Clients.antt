@@ -1,0 +1,143 @@
+-- How packets are answered, as service.
+use Rattle.std.proofs.Common.{◌≡◌, ℕ, Bool, true, false, cond, is_some, List, [], ◌∷◌, Option, Some, None, refl, sym, subst, Bor}
+use Rattle.std.specs.FinSet as set
+use Rattle.std.specs.Option.{option_copied}
+use Rattle.mqtt_packets.specs.declared.packet.Packet.{Packet}
+use Rattle.mqtt_packets.specs.declared.packet.Packet.TheVariants as packets
+use Rattle.mqtt_packets.specs.declared.connect.Connect.{Connect as ConnectPacket}
+use Rattle.mqtt_packets.specs.declared.publish.Publish.{Publish as PublishPacket}
+use Rattle.mqtt_packets.specs.declared.subscribe.Subscribe.{Subscribe as SubscribePacket}
+use Rattle.mqtt_packets.specs.declared.unsubscribe.Unsubscribe.{Unsubscribe as UnsubscribePacket}
+use Rattle.mqtt_packets.specs.declared.ended.Ended.{Ended as EndedPacket}
+use Rattle.broker_node.specs.declared.outcome.Output.{Output}
+use Rattle.broker_node.specs.declared.desk.Flow.{Flow}
+use Rattle.broker_node.specs.declared.desk.Flow.TheVariants.{Open, Ended}
+use Rattle.broker_node.specs.View.{HeldView}
+use Rattle.broker_node.specs.Acts.{Act, Connection}
+use Rattle.broker_node.specs.Connections.{Accepted}
+use Rattle.broker_node.specs.Packets.{accepted_packet}
+use Rattle.broker_node.specs.Sending.{Sent, Sends}
+use Rattle.broker_node.specs.Ending.{Ends}
+use Rattle.broker_node.specs.Serving.{Did, Serves, EndsWith, AreService, client_at}
+use Rattle.broker_node.specs.Clients.{EndsAlone, Accepts, First, Answer, AnswerAt, Answered}
+use Rattle.broker_node.specs.Worked.{Worked}
+use Rattle.broker_node.proofs.Acts.{worked_nothing, worked_more}
+use Rattle.broker_node.proofs.Serving.{sends_service, worked_send}
+
+-- ---- all of it is service
+
+ends_service : (c code : ℕ) (flow : Flow) (acts : List Act) → EndsWith c code flow acts → AreService acts
+ends_service c code flow acts e = sends_service c _ acts e.sent
+
+alone_service : (flow : Flow) (acts : List Act) → EndsAlone flow acts → AreService acts
+alone_service flow acts e = subst AreService (sym e.nothing) tt
+
+accepts_service : (c : ℕ) (client : List ℕ) (flow : Flow) (acts : List Act) → Accepts c client flow acts → AreService acts
+accepts_service c client flow acts a = subst AreService (sym a.acts_are) (tt, sends_service c _ a.sent a.answer)
+
+connect_service : (b : Bool) (c : ℕ) (client : List ℕ) (flow : Flow) (acts : List Act) → cond b (EndsAlone flow acts) (Accepts c client flow acts) → AreService acts
+connect_service true c client flow acts e = alone_service flow acts e
+connect_service false c client flow acts e = accepts_service c client flow acts e
+
+first_service : (c : ℕ) (h : HeldView) (p : Packet) (flow : Flow) (acts : List Act) → First c h p flow acts → AreService acts
+first_service c h (packets.Connect p) flow acts e = connect_service (set.contains h.sessions p.client) c p.client flow acts e
+first_service c h (packets.Connack p) flow acts e = alone_service flow acts e
+first_service c h (packets.Publish p) flow acts e = alone_service flow acts e
+first_service c h (packets.Puback p) flow acts e = alone_service flow acts e
+first_service c h (packets.Pubrec p) flow acts e = alone_service flow acts e
+first_service c h (packets.Pubrel p) flow acts e = alone_service flow acts e
+first_service c h (packets.Pubcomp p) flow acts e = alone_service flow acts e
+first_service c h (packets.Subscribe p) flow acts e = alone_service flow acts e
+first_service c h (packets.Suback p) flow acts e = alone_service flow acts e
+first_service c h (packets.Unsubscribe p) flow acts e = alone_service flow acts e
+first_service c h (packets.Unsuback p) flow acts e = alone_service flow acts e
+first_service c h packets.Pingreq flow acts e = alone_service flow acts e
+first_service c h packets.Pingresp flow acts e = alone_service flow acts e
+first_service c h (packets.Disconnect p) flow acts e = alone_service flow acts e
+first_service c h (packets.Auth p) flow acts e = alone_service flow acts e
+
+answer_service : (id c : ℕ) (client : List ℕ) (h : HeldView) (p : Packet) (flow : Flow) (acts : List Act) → Answer id c client h p flow acts → AreService acts
+answer_service id c client h (packets.Connect p) flow acts e = ends_service c 130 flow acts e
+answer_service id c client h (packets.Connack p) flow acts e = ends_service c 130 flow acts e
+answer_service id c client h (packets.Publish p) flow acts e = e
+answer_service id c client h (packets.Puback p) flow acts e = ends_service c 130 flow acts e
+answer_service id c client h (packets.Pubrec p) flow acts e = ends_service c 130 flow acts e
+answer_service id c client h (packets.Pubrel p) flow acts e = ends_service c 130 flow acts e
+answer_service id c client h (packets.Pubcomp p) flow acts e = ends_service c 130 flow acts e
+answer_service id c client h (packets.Subscribe p) flow acts e = e
+answer_service id c client h (packets.Suback p) flow acts e = ends_service c 130 flow acts e
+answer_service id c client h (packets.Unsubscribe p) flow acts e = e
+answer_service id c client h (packets.Unsuback p) flow acts e = ends_service c 130 flow acts e
+answer_service id c client h packets.Pingreq flow acts e = sends_service c _ acts e.answer
+answer_service id c client h packets.Pingresp flow acts e = ends_service c 130 flow acts e
+answer_service id c client h (packets.Disconnect p) flow acts e = alone_service flow acts e
+answer_service id c client h (packets.Auth p) flow acts e = ends_service c 130 flow acts e
+
+answer_at_service : (client : Option (List ℕ)) (id c : ℕ) (h : HeldView) (p : Packet) (flow : Flow) (acts : List Act) → AnswerAt client id c h p flow acts → AreService acts
+answer_at_service None id c h p flow acts e = first_service c h p flow acts e
+answer_at_service (Some client) id c h p flow acts e = answer_service id c client h p flow acts e
+
+pub answered_service : (id c : ℕ) (h : HeldView) (p : Packet) (flow : Flow) (acts : List Act) → Answered id c h p flow acts → AreService acts
+answered_service id c h p flow acts e = answer_at_service (client_at h c) id c h p flow acts e
+
+-- ---- single answers
+
+module _ (id c : ℕ) (h : HeldView) (o : List Output) where
+  pub did_alone : Did id h o h o (EndsAlone Ended)
+  did_alone = ([], worked_nothing id h o, record { ended = refl; nothing = refl })
+
+  pub did_ends : (code : ℕ) (flow : Flow) (o' : List Output) → Ends c code flow o o' → Did id h o h o' (EndsWith c code flow)
+  did_ends code flow o' e = (e.0, worked_send id c h _ e.0 o o' e.1.sent e.2, e.1)
+
+  pub did_send : (p : Packet) (o' : List Output) → Sent c p o o' → Did id h o h o' (Sends c p)
+  did_send p o' s = (s.0, worked_send id c h p s.0 o o' s.1 s.2, s.1)
+
+  pub did_accept : (h' : HeldView) (client : List ℕ) (o' : List Output) → Worked id h o (Connection (Accepted c client) ∷ []) h' o → Sent c accepted_packet o o' → Did id h o h' o' (Accepts c client Open)
+  did_accept h' client o' w s = (
+    Connection (Accepted c client) ∷ s.0,
+    worked_more id (Connection (Accepted c client) ∷ []) s.0 h h' h' o o o' w (worked_send id c h' _ s.0 o o' s.1 s.2),
+    record { goes_on = refl; sent = s.0; answer = s.1; acts_are = refl },
+  )
+
+pub first_other : (c : ℕ) (h : HeldView) (p : Packet) → ((x : ConnectPacket) → p ≡ packets.Connect x → ⊥) → (flow : Flow) (acts : List Act) → EndsAlone flow acts → First c h p flow acts
+first_other c h (packets.Connect p) n flow acts e = absurd (n p refl)
+first_other c h (packets.Connack p) n flow acts e = e
+first_other c h (packets.Publish p) n flow acts e = e
+first_other c h (packets.Puback p) n flow acts e = e
+first_other c h (packets.Pubrec p) n flow acts e = e
+first_other c h (packets.Pubrel p) n flow acts e = e
+first_other c h (packets.Pubcomp p) n flow acts e = e
+first_other c h (packets.Subscribe p) n flow acts e = e
+first_other c h (packets.Suback p) n flow acts e = e
+first_other c h (packets.Unsubscribe p) n flow acts e = e
+first_other c h (packets.Unsuback p) n flow acts e = e
+first_other c h packets.Pingreq n flow acts e = e
+first_other c h packets.Pingresp n flow acts e = e
+first_other c h (packets.Disconnect p) n flow acts e = e
+first_other c h (packets.Auth p) n flow acts e = e
+
+pub answer_other : (id c : ℕ) (client : List ℕ) (h : HeldView) (p : Packet)
+    → ((x : PublishPacket) → p ≡ packets.Publish x → ⊥) → ((x : SubscribePacket) → p ≡ packets.Subscribe x → ⊥) → ((x : UnsubscribePacket) → p ≡ packets.Unsubscribe x → ⊥)
+    → (p ≡ packets.Pingreq → ⊥) → ((x : EndedPacket) → p ≡ packets.Disconnect x → ⊥) → (flow : Flow) (acts : List Act) → EndsWith c 130 flow acts → Answer id c client h p flow acts
+answer_other id c client h (packets.Connect p) n1 n2 n3 n4 n5 flow acts e = e
+answer_other id c client h (packets.Connack p) n1 n2 n3 n4 n5 flow acts e = e
+answer_other id c client h (packets.Publish p) n1 n2 n3 n4 n5 flow acts e = absurd (n1 p refl)
+answer_other id c client h (packets.Puback p) n1 n2 n3 n4 n5 flow acts e = e
+answer_other id c client h (packets.Pubrec p) n1 n2 n3 n4 n5 flow acts e = e
+answer_other id c client h (packets.Pubrel p) n1 n2 n3 n4 n5 flow acts e = e
+answer_other id c client h (packets.Pubcomp p) n1 n2 n3 n4 n5 flow acts e = e
+answer_other id c client h (packets.Subscribe p) n1 n2 n3 n4 n5 flow acts e = absurd (n2 p refl)
+answer_other id c client h (packets.Suback p) n1 n2 n3 n4 n5 flow acts e = e
+answer_other id c client h (packets.Unsubscribe p) n1 n2 n3 n4 n5 flow acts e = absurd (n3 p refl)
+answer_other id c client h (packets.Unsuback p) n1 n2 n3 n4 n5 flow acts e = e
+answer_other id c client h packets.Pingreq n1 n2 n3 n4 n5 flow acts e = absurd (n4 refl)
+answer_other id c client h packets.Pingresp n1 n2 n3 n4 n5 flow acts e = e
+answer_other id c client h (packets.Disconnect p) n1 n2 n3 n4 n5 flow acts e = absurd (n5 p refl)
+answer_other id c client h (packets.Auth p) n1 n2 n3 n4 n5 flow acts e = e
+
+pub copied_some : {A : Type 0} (r : Option (Bor A)) → is_some (option_copied r) ≡ is_some r
+copied_some None = refl
+copied_some (Some x) = refl
+
+pub serves_ends : (id c code : ℕ) (h : HeldView) (flow : Flow) (o o' : List Output) → Ends c code flow o o' → Serves id h o h o'
+serves_ends id c code h flow o o' e = record { acts = e.0; worked = worked_send id c h _ e.0 o o' e.1.sent e.2; service = ends_service c code flow e.0 e.1 }
