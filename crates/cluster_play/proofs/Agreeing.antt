@@ -1,15 +1,15 @@
 -- What nodes hold, and where they agree.
-use Rattle.std.proofs.Common.{◌≡◌, ◌↔◌, ℕ, Bool, List, [], ◌∷◌, filter, Some, sym, ap, ◌∙◌, inl, inr, subst}
+use Rattle.std.proofs.Common.{◌≡◌, ◌↔◌, ℕ, Bool, List, filter, Some, sym, ap, ◌∙◌, subst}
 use Rattle.std.specs.FinMap as map
 use Rattle.std.specs.FinSet as set
 use Rattle.causal_context.specs.Dots.{Dot, dot_cmp_total, dot_cmp_antisym}
 use Rattle.mqtt_message.specs.declared.message.Message.{Message}
 use Rattle.subscription_set.specs.Standing.{live}
-use Rattle.replica_store.specs.declared.kept.Kept.{Kept}
-use Rattle.replica_store.specs.Answers.{Answers, IsAnswer}
+use Rattle.replica_store.specs.Answers.{IsAnswer}
 use Rattle.replica_store.specs.Operations.{dot_of, HaveOwnDots}
 use Rattle.replica_store.specs.States.{State}
 use Rattle.replica_store.specs.StateOf.{IsStateOf}
+use Rattle.replica_store.proofs.Answered.{one_answer}
 use Rattle.replica_store.proofs.Deltas.{one_state}
 use Rattle.broker_node.specs.declared.frame.Frame.{Frame}
 use Rattle.broker_node.specs.declared.frame.FrameBody.TheVariants.{Delta}
@@ -18,7 +18,6 @@ use Rattle.cluster_play.specs.Worlds.{World, numbered}
 use Rattle.cluster_play.specs.Runs.{Moment}
 use Rattle.cluster_play.specs.Histories.{Reached, made, taken, operations}
 use Rattle.cluster_play.specs.Laws.{Holds, AreAlike}
-use Rattle.cluster_play.proofs.Bools.{some_is}
 use Rattle.cluster_play.proofs.Sites.{number_is}
 use Rattle.cluster_play.proofs.Operations.{own_some}
 use Rattle.cluster_play.proofs.Sound.{state_by}
@@ -52,17 +51,6 @@ pub nodes_alike : (run : List Moment) (w : World) → Reached run w → (i j : �
 nodes_alike run w r i j h g a b same =
     let one = states_agree run w r i j h g a b same in
     record { same = one; live = ap (λ (s : State). live s.subscriptions) one; kept = λ topic. ap (λ (s : State). map.get s.retained topic) one }
-
-one_message : (filter : List ℕ) (now : ℕ) (topic : List ℕ) (entry : Kept) (m m' : Message) → Answers filter now topic entry m → Answers filter now topic entry m' → m ≡ m'
-one_message filter now topic entry m m' a b = some_is (sym a.kept.message ∙ b.kept.message)
-
--- entries have one answer
-one_answer : (filter : List ℕ) (now : ℕ) (es : List (List ℕ × Kept)) (out out' : List Message) → IsAnswer filter now es out → IsAnswer filter now es out' → out ≡ out'
-one_answer filter now [] out out' a b = a ∙ sym b
-one_answer filter now (e ∷ es) out out' (inl a) (inl b) = a.3 ∙ (λ n. one_message filter now e.0 e.1 a.0 b.0 a.2 b.2 n ∷ one_answer filter now es a.1 b.1 a.4 b.4 n) ∙ sym b.3
-one_answer filter now (e ∷ es) out out' (inl a) (inr b) = absurd (b.0 a.0 a.2)
-one_answer filter now (e ∷ es) out out' (inr a) (inl b) = absurd (a.0 b.0 b.2)
-one_answer filter now (e ∷ es) out out' (inr a) (inr b) = one_answer filter now es out out' a.1 b.1
 
 pub answers_agree : (run : List Moment) (w : World) → Reached run w → (i j : ℕ) (h g : HeldView) → Holds w i h → Holds w j g → ((d : Dot) → taken i run d ≡ taken j run d)
     → (filter : List ℕ) (now : ℕ) (out out' : List Message) → IsAnswer filter now (map.entries h.store.retained) out → IsAnswer filter now (map.entries g.store.retained) out' → out ≡ out'

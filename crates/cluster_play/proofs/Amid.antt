@@ -20,7 +20,7 @@ use Rattle.cluster_play.proofs.Invariant.{all_merged, site_grows}
 use Rattle.cluster_play.proofs.Kept.{explained}
 use Rattle.cluster_play.proofs.Paths.{midway, committed, released_acts, known_event, run_sites, taken_both}
 
-gather_both : {A : Type 0} (f : Act → List A) (xs ys : List Act) → gather f (xs ++ ys) ≡ gather f xs ++ gather f ys
+pub gather_both : {A : Type 0} (f : Act → List A) (xs ys : List Act) → gather f (xs ++ ys) ≡ gather f xs ++ gather f ys
 gather_both f [] ys = refl
 gather_both f (x ∷ xs) ys = ap (λ zs. f x ++ zs) (gather_both f xs ys) ∙ sym (append_assoc (f x) (gather f xs) (gather f ys))
 
@@ -28,7 +28,7 @@ pub gained_both : (xs ys : List Act) (d : Dot) → gained (xs ++ ys) d ≡ (gain
 gained_both [] ys d = refl
 gained_both (x ∷ xs) ys d = ap (λ b. gain_in x d || b) (gained_both xs ys d) ∙ sym (or_assoc (gain_in x d) (gained xs d) (gained ys d))
 
-front : (ms : List Operation) (xs ys : List State) → AllSound ms (xs ++ ys) → AllSound ms xs
+pub front : (ms : List Operation) (xs ys : List State) → AllSound ms (xs ++ ys) → AllSound ms xs
 front ms [] ys a = tt
 front ms (x ∷ xs) ys a = (a.0, front ms xs ys a.1)
 

@@ -13,3 +13,4 @@ pub mod Paths
 pub mod Played
 pub mod Sites
 pub mod Sound
+pub mod Showing

@@ -4,23 +4,25 @@ use Rattle.std.specs.FinMap as map
 use Rattle.std.specs.FinSet as set
 use Rattle.causal_context.specs.Dots.{Dot}
 use Rattle.mqtt_message.specs.declared.message.Message.{Message}
-use Rattle.subscription_set.specs.Standing.{live}
+use Rattle.subscription_set.specs.declared.entry.Entry.{Entry}
+use Rattle.subscription_set.specs.Standing.{find_entry, live}
 use Rattle.replica_store.specs.declared.operation.Operation.{Operation}
-use Rattle.replica_store.specs.Answers.{IsAnswer}
-use Rattle.replica_store.specs.Operations.{dot_of, HaveOwnDots}
+use Rattle.replica_store.specs.Answers.{IsAnswer, IsAnswerOf}
+use Rattle.replica_store.specs.Operations.{dot_of, HaveOwnDots, IsLive}
 use Rattle.replica_store.specs.StateOf.{IsStateOf}
 use Rattle.replica_store.specs.States.{State}
 use Rattle.broker_node.specs.declared.event.Event.{Event}
 use Rattle.broker_node.specs.declared.event.EventKind.TheVariants as kinds
 use Rattle.broker_node.specs.declared.frame.Frame.{Frame}
 use Rattle.broker_node.specs.declared.frame.FrameBody.TheVariants.{Delta}
+use Rattle.broker_node.specs.declared.outcome.Output.{Output}
 use Rattle.broker_node.specs.declared.outcome.Output.TheVariants.{Frame as Release}
-use Rattle.broker_node.specs.Acts.{Act, Store, Out, Made}
+use Rattle.broker_node.specs.Acts.{Act, Store, Out, Made, Runs}
 use Rattle.broker_node.specs.View.{HeldView, NodeView}
 use Rattle.cluster_play.specs.declared.fault.PlayFault.{PlayFault}
 use Rattle.cluster_play.specs.declared.step.Step.{Step}
-use Rattle.cluster_play.specs.Worlds.{World, Fate, Happens, Lacks, numbered}
-use Rattle.cluster_play.specs.Runs.{Moment, Run}
+use Rattle.cluster_play.specs.Worlds.{World, Fate, Released, Happens, Lacks, numbered}
+use Rattle.cluster_play.specs.Runs.{Moment, Run, IsHonestStep}
 use Rattle.cluster_play.specs.Histories.{Reached, site, event_of, acts_of, made, taken, operations, taken_amid, operations_amid}
 use Rattle.cluster_play.specs.NextOperations.{IsNext}
 
@@ -35,6 +37,38 @@ abbrev pub HoldsItsOperations : Type 0
 HoldsItsOperations =
     (run : List Moment) (w : World) → Reached run w → (i : ℕ) (h : HeldView) → Holds w i h
     → IsStateOf (operations i run) h.store × ((d : Dot) → set.contains h.store.taken d ≡ taken i run d)
+
+-- so what is live there is what is live among its operations
+abbrev pub LiveIsOfItsOperations : Type 0
+LiveIsOfItsOperations =
+    (run : List Moment) (w : World) → Reached run w → (i : ℕ) (h : HeldView) → Holds w i h
+    → (dot : Dot) (entry : Entry) → (find_entry dot (live h.store.subscriptions) ≡ Some entry) ↔ IsLive (operations i run) dot entry
+
+-- and the messages that answer a filter are those with which its operations answer
+abbrev pub AnswerIsOfItsOperations : Type 0
+AnswerIsOfItsOperations =
+    (run : List Moment) (w : World) → Reached run w → (i : ℕ) (h : HeldView) → Holds w i h
+    → (filter : List ℕ) (now : ℕ) (out : List Message) → IsAnswer filter now (map.entries h.store.retained) out → IsAnswerOf (operations i run) filter now out
+
+-- node i holds this amid a step of its own, after these of its acts
+pub record HoldsAmid (w : World) (m : Moment) (i : ℕ) (before : List Act) (mid : HeldView) : Type 0 where
+  pub event : Event
+  pub rest : List Act
+  pub outputs : List Output
+  pub commits : m.fate ≡ Released i event (before ++ rest) outputs
+  pub held : HeldView
+  pub holds : Holds w i held
+  pub runs : Runs i held before mid
+
+-- amid a step a node holds the state of what it has taken until then, and answers by it
+pub record AnswersBy (O : List Operation) (h : HeldView) : Type 0 where
+  pub state : IsStateOf O h.store
+  pub answers : (filter : List ℕ) (now : ℕ) (out : List Message) → IsAnswer filter now (map.entries h.store.retained) out → IsAnswerOf O filter now out
+
+abbrev pub HoldsItsOperationsAmid : Type 0
+HoldsItsOperationsAmid =
+    (run : List Moment) (w w' : World) (m : Moment) → Reached run w → IsHonestStep w.frames m.step → Happens w m.step m.fate w'
+    → (i : ℕ) (before : List Act) (mid : HeldView) → HoldsAmid w m i before mid → AnswersBy (operations_amid i run before) mid
 
 -- no dot has two operations
 abbrev pub OwnDots : Type 0

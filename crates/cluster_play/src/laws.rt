@@ -1,5 +1,5 @@
 //! What holds in every run of a cluster. Each function does nothing: its contract is the law.
-ghost use Rattle.cluster_play.specs.Laws.{HoldsItsOperations, OwnDots, DeltaFrames, SameTaken, AgreeWhereTheyTookTheSame, AnswerAlike, OperationsOfAStep, CatchUp, FramesStay, LacksNothing, RunsCompose};
+ghost use Rattle.cluster_play.specs.Laws.{HoldsItsOperations, LiveIsOfItsOperations, AnswerIsOfItsOperations, HoldsItsOperationsAmid, OwnDots, DeltaFrames, SameTaken, AgreeWhereTheyTookTheSame, AnswerAlike, OperationsOfAStep, CatchUp, FramesStay, LacksNothing, RunsCompose};
 
 /// Each running node holds the state of the operations that it has taken, no dot has two
 /// operations, and what a Delta frame carries is the state of the operations that it lists.
@@ -7,6 +7,14 @@ pub fn nodes_hold_their_operations()
     ensures nodes { HoldsItsOperations }
     ensures dots { OwnDots }
     ensures frames { DeltaFrames }
+{}
+
+/// What a running node shows is what its operations say: which subscriptions are live, and with which
+/// messages it answers a filter, between steps and amid one.
+pub fn nodes_answer_for_their_operations()
+    ensures live { LiveIsOfItsOperations }
+    ensures answers { AnswerIsOfItsOperations }
+    ensures amid { HoldsItsOperationsAmid }
 {}
 
 /// Two running nodes whose sets of taken dots are equal have taken the same operations in the run;

@@ -1,5 +1,5 @@
-use Rattle.std.proofs.Common.{◌≡◌, ◌+◌, ◌++◌, ◌∷◌, [], Some, slice_get, length, length-append, refl, sym, ap, ◌∙◌, subst}
-use Rattle.broker_node.specs.View.{NodeView, opened}
+use Rattle.std.proofs.Common.{◌≡◌, ◌+◌, ◌∷◌, [], Some, slice_get, length, length-append, sym, ap, ◌∙◌, subst}
+use Rattle.broker_node.specs.View.{opened}
 use Rattle.cluster_play.proofs.Sites.{each_added}
 use Rattle.cluster_play.proofs.cluster.Cluster.new.Goals as goal
 

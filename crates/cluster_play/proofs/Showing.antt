@@ -1,0 +1,53 @@
+-- What a node shows is what its operations say.
+use Rattle.std.proofs.Common.{◌≡◌, ◌↔◌, ℕ, ◌||◌, List, ◌++◌, Some, sym, ap, ◌∙◌, subst}
+use Rattle.std.specs.FinMap as map
+use Rattle.causal_context.specs.Dots.{Dot}
+use Rattle.mqtt_message.specs.declared.message.Message.{Message}
+use Rattle.subscription_set.specs.declared.entry.Entry.{Entry}
+use Rattle.subscription_set.specs.Standing.{find_entry, live}
+use Rattle.replica_store.specs.Answers.{IsAnswer, IsAnswerOf}
+use Rattle.replica_store.specs.Operations.{dot_of, IsLive}
+use Rattle.replica_store.proofs.Answered.{answer_is}
+use Rattle.replica_store.proofs.Views.{live_is}
+use Rattle.broker_node.specs.Acts.{Act, Runs, gather, op_in, merge_in}
+use Rattle.broker_node.specs.View.{HeldView}
+use Rattle.cluster_play.specs.Worlds.{World, Released, Happens}
+use Rattle.cluster_play.specs.Runs.{Moment, IsHonestStep}
+use Rattle.cluster_play.specs.Histories.{Reached, made, taken, gained, operations, taken_amid, operations_amid}
+use Rattle.cluster_play.specs.Laws.{Holds, HoldsAmid, AnswersBy}
+use Rattle.cluster_play.proofs.Agreeing.{node_holds, own_dots}
+use Rattle.cluster_play.proofs.Amid.{gather_both, front}
+use Rattle.cluster_play.proofs.Growing.{AllSound}
+use Rattle.cluster_play.proofs.Invariant.{all_merged, site_grows}
+use Rattle.cluster_play.proofs.Kept.{explained}
+use Rattle.cluster_play.proofs.Operations.{own_some}
+use Rattle.cluster_play.proofs.Paths.{committed, known_event}
+use Rattle.cluster_play.proofs.Sound.{state_by}
+
+pub node_shows : (run : List Moment) (w : World) → Reached run w → (i : ℕ) (h : HeldView) → Holds w i h
+    → (dot : Dot) (entry : Entry) → (find_entry dot (live h.store.subscriptions) ≡ Some entry) ↔ IsLive (operations i run) dot entry
+node_shows run w r i h at dot entry =
+    live_is (operations i run) h.store (own_some (made run) (λ o. taken i run (dot_of o)) (own_dots run w r)) (node_holds run w r i h at).0 dot entry
+
+pub node_answers : (run : List Moment) (w : World) → Reached run w → (i : ℕ) (h : HeldView) → Holds w i h
+    → (filter : List ℕ) (now : ℕ) (out : List Message) → IsAnswer filter now (map.entries h.store.retained) out → IsAnswerOf (operations i run) filter now out
+node_answers run w r i h at filter now out a =
+    answer_is (operations i run) h.store (own_some (made run) (λ o. taken i run (dot_of o)) (own_dots run w r)) (node_holds run w r i h at).0 filter now out a
+
+pub node_holds_amid : (run : List Moment) (w w' : World) (m : Moment) → Reached run w → IsHonestStep w.frames m.step → Happens w m.step m.fate w'
+    → (i : ℕ) (before : List Act) (mid : HeldView) → HoldsAmid w m i before mid → AnswersBy (operations_amid i run before) mid
+node_holds_amid run w w' m r honest happens i before mid a =
+    let acts = before ++ a.rest in
+    let released : Happens w m.step (Released i a.event acts a.outputs) w' = subst (λ f. Happens w m.step f w') a.commits happens in
+    let c = committed w m.step i a.event acts a.outputs w' released in
+    let known = known_event w m.step i a.event acts a.outputs w' honest released in
+    let x = explained run w r in
+    let here = x.sites i a.holds.node a.holds.at in
+    let all = all_merged (made run) w.frames x.deltas c.node.id c.node.nodes c.before c.after a.event acts a.outputs known c.steps in
+    let own_acts = front (made run) (gather merge_in before) (gather merge_in a.rest) (subst (AllSound (made run)) (gather_both merge_in before a.rest) all) in
+    let g = site_grows (made run) (λ j d. taken j run d) w i a.holds.node x a.holds.at a.held mid before a.holds.up (subst (λ n. Runs n a.held before mid) (sym here.id) a.runs) own_acts in
+    let state = state_by (made run ++ gather op_in before) mid.store (taken_amid i run before) g.grown.sound (λ d. g.takes d ∙ ap (λ b. b || gained before d) ((here.up a.held a.holds.up).listed d)) in
+    record {
+      state = state;
+      answers = answer_is (operations_amid i run before) mid.store (own_some (made run ++ gather op_in before) (λ o. taken_amid i run before (dot_of o)) g.grown.own_dots) state;
+    }
