@@ -7,4 +7,5 @@ pub mod Pieces
 pub mod Serving
 pub mod Steps
 pub mod Tables
+pub mod Turning
 pub mod Turns

@@ -9,6 +9,8 @@ use Rattle.broker_node.specs.View.{HeldView}
 use Rattle.broker_node.specs.Acts.{Act, Connection}
 use Rattle.broker_node.specs.Connections.{Accepted}
 use Rattle.broker_node.specs.Packets.{accepted_packet}
+use Rattle.broker_node.specs.Publishing.{Publishes}
+use Rattle.broker_node.specs.Unsubscribing.{Unsubscribes}
 use Rattle.broker_node.specs.Sending.{Sends}
 use Rattle.broker_node.specs.Serving.{EndsWith, AreService, client_at}
 
@@ -51,14 +53,14 @@ pub record Pings (c : ℕ) (flow : Flow) (acts : List Act) : Type 0 where
 abbrev pub Answer : ℕ → ℕ → List ℕ → HeldView → Packet → Flow → List Act → Type 0
 Answer id c client h (packets.Connect p) flow acts = EndsWith c 130 flow acts
 Answer id c client h (packets.Connack p) flow acts = EndsWith c 130 flow acts
-Answer id c client h (packets.Publish p) flow acts = AreService acts
+Answer id c client h (packets.Publish p) flow acts = Publishes id c client h p flow acts
 Answer id c client h (packets.Puback p) flow acts = EndsWith c 130 flow acts
 Answer id c client h (packets.Pubrec p) flow acts = EndsWith c 130 flow acts
 Answer id c client h (packets.Pubrel p) flow acts = EndsWith c 130 flow acts
 Answer id c client h (packets.Pubcomp p) flow acts = EndsWith c 130 flow acts
 Answer id c client h (packets.Subscribe p) flow acts = AreService acts
 Answer id c client h (packets.Suback p) flow acts = EndsWith c 130 flow acts
-Answer id c client h (packets.Unsubscribe p) flow acts = AreService acts
+Answer id c client h (packets.Unsubscribe p) flow acts = Unsubscribes id c client h p flow acts
 Answer id c client h (packets.Unsuback p) flow acts = EndsWith c 130 flow acts
 Answer id c client h packets.Pingreq flow acts = Pings c flow acts
 Answer id c client h packets.Pingresp flow acts = EndsWith c 130 flow acts

@@ -6,10 +6,13 @@ pub mod Feeding
 pub mod Frames
 pub mod Names
 pub mod Packets
+pub mod Parsing
 pub mod Pieces
+pub mod Publishing
 pub mod Sending
 pub mod Serving
 pub mod Step
 pub mod Turns
+pub mod Unsubscribing
 pub mod View
 pub mod Worked

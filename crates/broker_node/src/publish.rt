@@ -1,10 +1,15 @@
 //! PUBLISH from a client (MQTT 5.0, 3.3).
 
-ghost use Rattle.std.specs.Prelude.{◌≡◌, [], OnOk, IfOk, IfErr, IsTrue};
+ghost use Rattle.std.specs.Prelude.{◌≡◌, ◌<◌, ◌^◌, List, [], ◌∷◌, OnOk, IfOk, IfErr};
 ghost use Rattle.mqtt_message.specs.Accepted.{IsAcceptable};
-ghost use Rattle.broker_node.specs.Serving.{Serves};
+ghost use Rattle.replica_store.specs.Making.{put_of};
+ghost use Rattle.broker_node.specs.declared.outcome.Output.{Output};
+ghost use Rattle.broker_node.specs.Acts.{Store, Made};
+ghost use Rattle.broker_node.specs.Parsing.{IsNameOf};
+ghost use Rattle.broker_node.specs.Publishing.{Publishes, PublishesTo, Retains, refusal, has_property, message_of};
+ghost use Rattle.broker_node.specs.Serving.{Did};
 ghost use Rattle.broker_node.specs.Ending.{Ends};
-ghost use Rattle.broker_node.specs.Worked.{IsCause};
+ghost use Rattle.broker_node.specs.Worked.{Worked, IsCause};
 ghost use Rattle.broker_node.specs.declared.fault.NodeFault.TheVariants.{NoMemory};
 
 use crate::desk::{Desk, Flow};
@@ -12,7 +17,7 @@ use crate::fault::NodeFault;
 use crate::held::Held;
 use crate::outcome::Outcome;
 use mqtt_fields::identifier::{SUBSCRIPTION_IDENTIFIER, TOPIC_ALIAS};
-use mqtt_fields::{Properties, Qos, Text};
+use mqtt_fields::{Properties, Text};
 use mqtt_message::Message;
 use mqtt_packets::{Publish, reason};
 use mqtt_topics::{TopicFault, TopicName};
@@ -25,18 +30,51 @@ pub fn publish(
     publish: &Publish,
     outcome: &mut Outcome,
 ) -> Result<Flow, NodeFault>
-    ensures ok { OnOk result (Serves desk.node held.old outcome.old.outputs.items held.new outcome.new.outputs.items) }
+    ensures ok { IfOk result (λ flow. Did desk.node held.old outcome.old.outputs.items held.new outcome.new.outputs.items (Publishes desk.node desk.connection client.now held.old publish.now flow)) }
     ensures cause { IfErr result (IsCause desk.node held.old) }
 {
-    if let Some(reason) = refusal(publish) {
-        return end(desk, reason, outcome);
+    match refusal(publish) {
+        Some(reason) => end(desk, reason, outcome),
+        None => publish_to(desk, held, client, publish, outcome),
     }
-    let Some(topic) = topic_of(desk, &publish.topic)? else {
-        return end(desk, reason::TOPIC_NAME_INVALID, outcome);
-    };
-    if !publish.retain {
-        return Ok(Flow::Open);
+}
+
+/// Takes a PUBLISH to a topic.
+fn publish_to(
+    desk: Desk,
+    held: &mut Held,
+    client: &Text,
+    publish: &Publish,
+    outcome: &mut Outcome,
+) -> Result<Flow, NodeFault>
+    ensures ok { IfOk result (λ flow. Did desk.node held.old outcome.old.outputs.items held.new outcome.new.outputs.items (PublishesTo desk.node desk.connection client.now held.old publish.now flow)) }
+    ensures cause { IfErr result (IsCause desk.node held.old) }
+{
+    match topic_of(desk, &publish.topic)? {
+        None => end(desk, reason::TOPIC_NAME_INVALID, outcome),
+        Some(topic) => {
+            if publish.retain {
+                retain(desk, held, client, topic, publish, outcome)
+            } else {
+                Ok(Flow::Open)
+            }
+        }
     }
+}
+
+/// Retains the message of a PUBLISH.
+fn retain(
+    desk: Desk,
+    held: &mut Held,
+    client: &Text,
+    topic: TopicName,
+    publish: &Publish,
+    outcome: &mut Outcome,
+) -> Result<Flow, NodeFault>
+    requires { topic ≡ publish.now.topic }
+    ensures ok { IfOk result (λ flow. Did desk.node held.old outcome.old.outputs.items held.new outcome.new.outputs.items (Retains desk.node desk.connection client.now held.old publish.now flow)) }
+    ensures cause { IfErr result (IsCause desk.node held.old) }
+{
     if !Message::can_accept(publish) {
         return end(desk, reason::PROTOCOL_ERROR, outcome);
     }
@@ -53,16 +91,20 @@ pub fn end(desk: Desk, reason: u8, outcome: &mut Outcome) -> Result<Flow, NodeFa
     Ok(Flow::Ended)
 }
 
-fn has(properties: &Properties, id: u8) -> bool {
+fn has(properties: &Properties, id: u8) -> bool
+    ensures { result ≡ has_property id properties.now }
+{
     properties.as_slice().iter().any(|p| p.id == id)
 }
 
 /// Why a PUBLISH ends its connection, before its topic is looked at.
-fn refusal(publish: &Publish) -> Option<u8> {
+fn refusal(publish: &Publish) -> Option<u8>
+    ensures { result ≡ refusal publish.now }
+{
     if has(&publish.properties, TOPIC_ALIAS) {
         return Some(reason::TOPIC_ALIAS_INVALID);
     }
-    if has(&publish.properties, SUBSCRIPTION_IDENTIFIER) || publish.qos != Qos::AtMostOnce {
+    if has(&publish.properties, SUBSCRIPTION_IDENTIFIER) || publish.qos.number() != 0 {
         return Some(reason::PROTOCOL_ERROR);
     }
     None
@@ -70,6 +112,7 @@ fn refusal(publish: &Publish) -> Option<u8> {
 
 /// The topic name of a text, or none where it isn't one.
 fn topic_of(desk: Desk, text: &Text) -> Result<Option<TopicName>, NodeFault>
+    ensures ok { IfOk result (λ name. IsNameOf text.now name) }
     ensures fault { IfErr result (λ e. e ≡ NoMemory) }
 {
     match TopicName::parse(desk.alloc, text.as_str()) {
@@ -81,7 +124,7 @@ fn topic_of(desk: Desk, text: &Text) -> Result<Option<TopicName>, NodeFault>
     }
 }
 
-/// Retains the message of a PUBLISH, or with an empty payload removes the topic's message.
+/// Puts the message of a PUBLISH, or with an empty payload none.
 fn put(
     desk: Desk,
     held: &mut Held,
@@ -90,13 +133,28 @@ fn put(
     publish: &Publish,
 ) -> Result<(), NodeFault>
     requires { IsAcceptable publish.now }
-    ensures ok { OnOk result (Serves desk.node held.old [] held.new []) }
+    ensures ok { OnOk result ((outputs : List Output) → Worked desk.node held.old outputs (Store (Made (put_of desk.node topic (message_of publish.now client.now held.old.at) held.old.store)) ∷ []) held.new outputs) }
     ensures cause { IfErr result (IsCause desk.node held.old) }
 {
-    let message = if publish.payload.as_slice().is_empty() {
-        None
-    } else {
-        Some(Message::accept(desk.alloc, publish, client, held.at())?)
-    };
+    let message = message_of(desk, publish, client, held.at())?;
     held.put(desk.node, topic, message)
+}
+
+/// The message of a PUBLISH, or none where its payload is empty.
+fn message_of(
+    desk: Desk,
+    publish: &Publish,
+    client: &Text,
+    at: u64,
+) -> Result<Option<Message>, NodeFault>
+    requires acceptable { IsAcceptable publish.now }
+    requires moment { at < 2 ^ 62 }
+    ensures ok { IfOk result (λ message. message ≡ message_of publish.now client.now at) }
+    ensures fault { IfErr result (λ e. e ≡ NoMemory) }
+{
+    if publish.payload.as_slice().is_empty() {
+        return Ok(None);
+    }
+    let message = Message::accept(desk.alloc, publish, client, at)?;
+    Ok(Some(message))
 }

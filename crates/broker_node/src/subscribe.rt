@@ -1,7 +1,8 @@
 //! SUBSCRIBE (MQTT 5.0, 3.8), and the retained messages that it is answered with.
 
-ghost use Rattle.std.specs.Prelude.{◌≡◌, [], OnOk, IfErr};
+ghost use Rattle.std.specs.Prelude.{◌≡◌, [], OnOk, IfOk, IfErr};
 ghost use Rattle.broker_node.specs.Serving.{Serves};
+ghost use Rattle.broker_node.specs.Parsing.{IsFilterOf};
 ghost use Rattle.broker_node.specs.Worked.{IsCause};
 ghost use Rattle.broker_node.specs.declared.fault.NodeFault.TheVariants.{NoMemory};
 
@@ -77,6 +78,7 @@ pub fn subscribe(
 
 /// The filter of a text, or none where it isn't one.
 pub fn filter_of(desk: Desk, text: &Text) -> Result<Option<Filter>, NodeFault>
+    ensures ok { IfOk result (λ filter. IsFilterOf text.now filter) }
     ensures fault { IfErr result (λ e. e ≡ NoMemory) }
 {
     match Filter::parse(desk.alloc, text.as_str()) {

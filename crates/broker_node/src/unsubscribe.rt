@@ -1,7 +1,8 @@
 //! UNSUBSCRIBE (MQTT 5.0, 3.10).
 
-ghost use Rattle.std.specs.Prelude.{[], OnOk, IfErr};
-ghost use Rattle.broker_node.specs.Serving.{Serves};
+ghost use Rattle.std.specs.Prelude.{[], IfOk, IfErr};
+ghost use Rattle.broker_node.specs.Serving.{Did, InTurn};
+ghost use Rattle.broker_node.specs.Unsubscribing.{Removes, Unsubscribes};
 ghost use Rattle.broker_node.specs.Worked.{IsCause};
 
 use crate::desk::{Desk, Flow};
@@ -21,7 +22,7 @@ pub fn unsubscribe(
     request: &Unsubscribe,
     outcome: &mut Outcome,
 ) -> Result<Flow, NodeFault>
-    ensures ok { OnOk result (Serves desk.node held.old outcome.old.outputs.items held.new outcome.new.outputs.items) }
+    ensures ok { IfOk result (λ flow. Did desk.node held.old outcome.old.outputs.items held.new outcome.new.outputs.items (Unsubscribes desk.node desk.connection client.now held.old request.now flow)) }
     ensures cause { IfErr result (IsCause desk.node held.old) }
 {
     let reasons = remove_each(desk, held, client, request.filters.as_slice())?;
@@ -37,7 +38,7 @@ fn remove_each(
     client: &Text,
     filters: &[Text],
 ) -> Result<Vec<u8>, NodeFault>
-    ensures ok { OnOk result (Serves desk.node held.old [] held.new []) }
+    ensures ok { IfOk result (λ reasons. Did desk.node held.old [] held.new [] (λ acts. InTurn (Removes desk.node client.now) desk.node held.old filters.now reasons.items acts held.new)) }
     ensures cause { IfErr result (IsCause desk.node held.old) }
 {
     let mut reasons = Vec::new(desk.alloc);
@@ -50,7 +51,7 @@ fn remove_each(
 
 /// Removes the client's subscriptions to a filter, and answers the reason.
 fn remove(desk: Desk, held: &mut Held, client: &Text, text: &Text) -> Result<u8, NodeFault>
-    ensures ok { OnOk result (Serves desk.node held.old [] held.new []) }
+    ensures ok { IfOk result (λ reason. Did desk.node held.old [] held.new [] (Removes desk.node client.now held.old text.now reason)) }
     ensures cause { IfErr result (IsCause desk.node held.old) }
 {
     let Some(filter) = filter_of(desk, text)? else {
