@@ -27,6 +27,7 @@ use Rattle.broker_node.specs.Parsing.{IsFilterOf}
 use Rattle.broker_node.specs.Worked.{Worked, makes}
 use Rattle.broker_node.proofs.Acts.{worked_nothing, worked_more, worked_quiet}
 use Rattle.broker_node.proofs.Serving.{sends_service, worked_send, service_append, makes_service}
+use Rattle.broker_node.proofs.Subscribing.{subscribes_service}
 use Rattle.broker_node.proofs.Turning.{in_turn_all}
 
 -- ---- all of it is service
@@ -94,7 +95,7 @@ answer_service id c client h (packets.Puback p) flow acts e = ends_service c 130
 answer_service id c client h (packets.Pubrec p) flow acts e = ends_service c 130 flow acts e
 answer_service id c client h (packets.Pubrel p) flow acts e = ends_service c 130 flow acts e
 answer_service id c client h (packets.Pubcomp p) flow acts e = ends_service c 130 flow acts e
-answer_service id c client h (packets.Subscribe p) flow acts e = e
+answer_service id c client h (packets.Subscribe p) flow acts e = subscribes_service id c client h p flow acts e
 answer_service id c client h (packets.Suback p) flow acts e = ends_service c 130 flow acts e
 answer_service id c client h (packets.Unsubscribe p) flow acts e = unsubscribes_service id c client h p flow acts e
 answer_service id c client h (packets.Unsuback p) flow acts e = ends_service c 130 flow acts e

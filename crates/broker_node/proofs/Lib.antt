@@ -2,10 +2,12 @@ pub mod Acts
 pub mod Clients
 pub mod Exits
 pub mod Feeding
+pub mod Idle
 pub mod Making
 pub mod Pieces
 pub mod Serving
 pub mod Steps
+pub mod Subscribing
 pub mod Tables
 pub mod Turning
 pub mod Turns

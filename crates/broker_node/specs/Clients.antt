@@ -10,9 +10,10 @@ use Rattle.broker_node.specs.Acts.{Act, Connection}
 use Rattle.broker_node.specs.Connections.{Accepted}
 use Rattle.broker_node.specs.Packets.{accepted_packet}
 use Rattle.broker_node.specs.Publishing.{Publishes}
+use Rattle.broker_node.specs.Subscribing.{SubscribesOrEnds}
 use Rattle.broker_node.specs.Unsubscribing.{Unsubscribes}
 use Rattle.broker_node.specs.Sending.{Sends}
-use Rattle.broker_node.specs.Serving.{EndsWith, AreService, client_at}
+use Rattle.broker_node.specs.Serving.{EndsWith, client_at}
 
 -- the connection ends without a packet
 pub record EndsAlone (flow : Flow) (acts : List Act) : Type 0 where
@@ -58,7 +59,7 @@ Answer id c client h (packets.Puback p) flow acts = EndsWith c 130 flow acts
 Answer id c client h (packets.Pubrec p) flow acts = EndsWith c 130 flow acts
 Answer id c client h (packets.Pubrel p) flow acts = EndsWith c 130 flow acts
 Answer id c client h (packets.Pubcomp p) flow acts = EndsWith c 130 flow acts
-Answer id c client h (packets.Subscribe p) flow acts = AreService acts
+Answer id c client h (packets.Subscribe p) flow acts = SubscribesOrEnds id c client h p flow acts
 Answer id c client h (packets.Suback p) flow acts = EndsWith c 130 flow acts
 Answer id c client h (packets.Unsubscribe p) flow acts = Unsubscribes id c client h p flow acts
 Answer id c client h (packets.Unsuback p) flow acts = EndsWith c 130 flow acts

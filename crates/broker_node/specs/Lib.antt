@@ -4,6 +4,7 @@ pub mod Connections
 pub mod Ending
 pub mod Feeding
 pub mod Frames
+pub mod Idle
 pub mod Names
 pub mod Packets
 pub mod Parsing
@@ -12,6 +13,7 @@ pub mod Publishing
 pub mod Sending
 pub mod Serving
 pub mod Step
+pub mod Subscribing
 pub mod Turns
 pub mod Unsubscribing
 pub mod View

@@ -1,6 +1,8 @@
 //! What nodes tell one another.
 
-ghost use Rattle.std.specs.Prelude.{◌≡◌, OnOk, IfErr};
+ghost use Rattle.broker_node.specs.Frames.{is_for, is_other};
+ghost use Rattle.broker_node.specs.Idle.{Keeps};
+ghost use Rattle.std.specs.Prelude.{◌≡◌, false, OnOk, IfErr};
 ghost use Rattle.broker_node.specs.Turns.{ships, hears, merges};
 ghost use Rattle.broker_node.specs.Worked.{Worked};
 ghost use Rattle.broker_node.specs.declared.fault.NodeFault.TheVariants.{NoMemory};
@@ -19,6 +21,7 @@ pub fn ship(
     peer: u16,
     outcome: &mut Outcome,
 ) -> Result<(), NodeFault>
+    ensures idle { is_other node nodes peer ≡ false → Keeps result outcome.old outcome.new }
     ensures ok { OnOk result (Worked node held.now outcome.old.outputs.items (ships node nodes held.now peer) held.now outcome.new.outputs.items) }
     ensures fault { IfErr result (λ e. e ≡ NoMemory) }
 {
@@ -42,6 +45,7 @@ pub fn hear(
     frame: &Frame,
     outcome: &mut Outcome,
 ) -> Result<(), NodeFault>
+    ensures idle { is_for node nodes frame.now ≡ false → Keeps result outcome.old outcome.new }
     ensures ok { OnOk result (Worked node held.old outcome.old.outputs.items (hears node nodes held.old frame.now) held.new outcome.new.outputs.items) }
     ensures fault { IfErr result (λ e. e ≡ NoMemory) }
 {

@@ -1,6 +1,6 @@
 //! The open connections of a node.
 
-ghost use Rattle.std.specs.Prelude.{◌≡◌, List, ℕ, is_some, IfOk, OnOk, IfErr, None, Some, slice_get, option_and_then};
+ghost use Rattle.std.specs.Prelude.{◌≡◌, List, ℕ, is_some, IfOk, OnOk, IfErr, None, Some, slice_get, option_and_then, Ok};
 ghost use Rattle.std.specs.Option.{option_copied};
 ghost use Rattle.std.specs.FinMap as map;
 ghost use Rattle.broker_node.specs.Connections.{new_connection};
@@ -117,6 +117,7 @@ impl Connections {
 
     /// Takes in a piece of a connection's stream.
     pub fn feed(&mut self, connection: u64, piece: &[u8]) -> Result<Came, NodeFault>
+        ensures idle { map.get self.old connection ≡ None → result ≡ Ok Came.Nothing }
         ensures fed { IfOk result (λ came. IsFed self.old connection piece.now came self.new) }
         ensures fault { IfErr result (λ e. e ≡ NoMemory) }
     {

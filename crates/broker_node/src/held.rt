@@ -1,6 +1,6 @@
 //! What a running node holds.
 
-ghost use Rattle.std.specs.Prelude.{◌≡◌, ◌<◌, ◌^◌, ℕ, List, [], ◌∷◌, max, true, is_some, None, Some, OnOk, IfOk, IfErr, slice_get, option_and_then};
+ghost use Rattle.std.specs.Prelude.{◌≡◌, ◌<◌, ◌^◌, ℕ, List, [], ◌∷◌, max, true, is_some, None, Some, OnOk, IfOk, IfErr, slice_get, option_and_then, Ok};
 ghost use Rattle.std.specs.Option.{option_copied};
 ghost use Rattle.std.specs.FinMap as map;
 ghost use Rattle.std.specs.FinSet as set;
@@ -208,6 +208,7 @@ impl Held {
 
     /// Takes in a piece of a connection's stream.
     pub fn feed(&mut self, connection: u64, piece: &[u8]) -> Result<Came, NodeFault>
+        ensures idle { map.get self.old.connections connection ≡ None → result ≡ Ok Came.Nothing }
         ensures fed { IfOk result (λ came. IsHeldFed self.old connection piece.now came self.new) }
         ensures fault { IfErr result (λ e. e ≡ NoMemory) }
     {

@@ -2,6 +2,7 @@
 
 ghost use Rattle.std.specs.Prelude.{◌≡◌, OnOk, IfOk, IfErr, OnErr, None, MatchOption, Err, is_some};
 ghost use Rattle.broker_node.specs.View.{opened};
+ghost use Rattle.broker_node.specs.Idle.{RestsWhereIdle};
 ghost use Rattle.broker_node.specs.Step.{IsDone, HasCauseAt};
 ghost use Rattle.broker_node.specs.declared.fault.NodeFault.TheVariants.{Stopped};
 
@@ -67,6 +68,7 @@ impl Node {
         ensures id { self.new.id ≡ self.old.id }
         ensures nodes { self.new.nodes ≡ self.old.nodes }
         ensures stopped { self.old.up ≡ None → (result ≡ Err Stopped) × (self.new ≡ self.old) }
+        ensures idle { RestsWhereIdle self.old event.now result }
         ensures ok { IfOk result (λ o. IsDone self.old event.now o.outputs.items self.new) }
         ensures err { OnErr result (self.new.up ≡ None) }
         ensures cause { IfErr result (HasCauseAt self.old.up self.old.id event.now) }

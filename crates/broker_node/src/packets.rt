@@ -1,12 +1,13 @@
 //! The packets that a node sends.
 
-ghost use Rattle.std.specs.Prelude.{◌≡◌, IfOk, IfErr, option_map};
+ghost use Rattle.std.specs.Prelude.{◌≡◌, ◌++◌, OnOk, IfOk, IfErr, option_map};
+ghost use Rattle.mqtt_message.specs.Expiry.{interval_left};
 ghost use Rattle.broker_node.specs.Sending.{IsWritten};
-ghost use Rattle.broker_node.specs.Packets.{accepted_packet, refused_packet, disconnect_packet, suback_packet, unsuback_packet};
+ghost use Rattle.broker_node.specs.Packets.{accepted_packet, refused_packet, disconnect_packet, suback_packet, unsuback_packet, retained_packet, least_qos, expiry_property, identifier_property};
 ghost use Rattle.broker_node.specs.declared.fault.NodeFault.TheVariants.{NoMemory};
 
 use crate::fault::NodeFault;
-use mqtt_fields::{Properties, Property, Qos, SubscriptionOptions, Text, Value, identifier};
+use mqtt_fields::{Properties, Property, Qos, SubscriptionOptions, Value, identifier};
 use mqtt_message::Message;
 use mqtt_packets::{Bytes, Connack, Ended, Packet, Publish, Reasons, reason, write_packet};
 use std::alloc::Global;
@@ -104,24 +105,32 @@ pub fn retained_publish(
     options: SubscriptionOptions,
     subscription: u32,
 ) -> Result<Packet, NodeFault>
+    ensures ok { IfOk result (λ p. p ≡ retained_packet at subscription options message.now) }
     ensures fault { IfErr result (λ e. e ≡ NoMemory) }
 {
-    let Ok(topic) = Text::new(alloc, message.topic.as_str()) else {
-        return Err(NodeFault::NoMemory);
-    };
-    let qos = match Qos::of(options.qos()) {
-        Some(granted) => granted.min(message.qos),
-        None => message.qos,
-    };
     Ok(Packet::Publish(Publish {
         dup: false,
-        qos,
+        qos: least_qos(options.qos(), message.qos),
         retain: true,
-        topic,
+        topic: message.topic.as_text().copy(alloc)?,
         identifier: 0,
         properties: sent_properties(alloc, at, message, subscription)?,
         payload: Bytes::from_slice(alloc, message.payload.as_slice())?,
     }))
+}
+
+/// The message's QoS, or the granted one where that is less.
+fn least_qos(granted: u8, qos: Qos) -> Qos
+    ensures { result ≡ least_qos granted qos }
+{
+    if granted >= qos.number() {
+        return qos;
+    }
+    if granted == 0 {
+        Qos::AtMostOnce
+    } else {
+        Qos::AtLeastOnce
+    }
 }
 
 fn sent_properties(
@@ -130,23 +139,48 @@ fn sent_properties(
     message: &Message,
     subscription: u32,
 ) -> Result<Properties, NodeFault>
+    ensures ok { IfOk result (λ ps. ps ≡ message.now.properties ++ expiry_property (interval_left at message.now.deadline) ++ identifier_property subscription) }
+    ensures fault { IfErr result (λ e. e ≡ NoMemory) }
+{
+    let mut properties = copied(alloc, message.properties.as_slice())?;
+    add_expiry(&mut properties, message.remaining(at))?;
+    add_identifier(&mut properties, subscription)?;
+    Ok(properties)
+}
+
+fn copied(alloc: Global, own: &[Property]) -> Result<Properties, NodeFault>
+    ensures ok { IfOk result (λ ps. ps ≡ own.now) }
     ensures fault { IfErr result (λ e. e ≡ NoMemory) }
 {
     let mut properties = Properties::new(alloc);
-    for own in message.properties.as_slice() {
-        properties.push(own.copy(alloc)?)?;
+    for each in own {
+        properties.push(each.copy(alloc)?)?;
     }
-    if let Some(left) = message.remaining(at) {
+    Ok(properties)
+}
+
+fn add_expiry(properties: &mut Properties, left: Option<u32>) -> Result<(), NodeFault>
+    ensures ok { OnOk result (properties.new ≡ properties.old ++ expiry_property left) }
+    ensures fault { IfErr result (λ e. e ≡ NoMemory) }
+{
+    if let Some(left) = left {
         properties.push(Property {
             id: identifier::MESSAGE_EXPIRY_INTERVAL,
             value: Value::Four(left),
         })?;
     }
+    Ok(())
+}
+
+fn add_identifier(properties: &mut Properties, subscription: u32) -> Result<(), NodeFault>
+    ensures ok { OnOk result (properties.new ≡ properties.old ++ identifier_property subscription) }
+    ensures fault { IfErr result (λ e. e ≡ NoMemory) }
+{
     if subscription != 0 {
         properties.push(Property {
             id: identifier::SUBSCRIPTION_IDENTIFIER,
             value: Value::Vbi(subscription),
         })?;
     }
-    Ok(properties)
+    Ok(())
 }

@@ -1,6 +1,8 @@
 //! A piece of a client's stream.
 
-ghost use Rattle.std.specs.Prelude.{◌≡◌, OnOk, IfOk, IfErr};
+ghost use Rattle.std.specs.FinMap as map;
+ghost use Rattle.broker_node.specs.Idle.{Keeps};
+ghost use Rattle.std.specs.Prelude.{◌≡◌, None, OnOk, IfOk, IfErr};
 ghost use Rattle.broker_node.specs.Sending.{closes};
 ghost use Rattle.broker_node.specs.Serving.{Did, IsOpen};
 ghost use Rattle.broker_node.specs.Clients.{Answer, Answered};
@@ -28,6 +30,7 @@ pub fn take_piece(
     bytes: &[u8],
     outcome: &mut Outcome,
 ) -> Result<(), NodeFault>
+    ensures idle { map.get held.old.connections desk.connection ≡ None → Keeps result outcome.old outcome.new }
     ensures ok { OnOk result (Did desk.node held.old outcome.old.outputs.items held.new outcome.new.outputs.items (Piece desk.node desk.connection held.old bytes.now)) }
     ensures cause { IfErr result (IsCause desk.node held.old) }
 {

@@ -1,6 +1,8 @@
 //! What a node does at each event.
 
-ghost use Rattle.std.specs.Prelude.{◌≡◌, ℕ, List, true, OnOk, IfOk, IfErr};
+ghost use Rattle.std.specs.FinMap as map;
+ghost use Rattle.broker_node.specs.Idle.{Keeps, Rests, is_idle, RestsWhereIdle};
+ghost use Rattle.std.specs.Prelude.{◌≡◌, ◌<◌, ◌^◌, Ok, is_some, ℕ, List, true, OnOk, IfOk, IfErr};
 ghost use Rattle.broker_node.specs.declared.outcome.Output.{Output};
 ghost use Rattle.broker_node.specs.Acts.{Act};
 ghost use Rattle.broker_node.specs.Step.{Steps, HasCause};
@@ -31,6 +33,7 @@ pub struct Place {
 
 /// Decides one event of a node that runs.
 pub fn decide(place: Place, held: &mut Held, event: &Event) -> Result<Outcome, NodeFault>
+    ensures idle { event.now.at < 2 ^ 62 → is_idle place.node place.nodes held.old event.now.kind ≡ true → Rests result }
     ensures ok { IfOk result (λ o. (acts : List Act) × Steps place.node place.nodes held.old event.now acts o.outputs.items held.new) }
     ensures cause { IfErr result (HasCause place.node held.old event.now) }
 {
@@ -49,6 +52,7 @@ fn turn(
     kind: &EventKind,
     outcome: &mut Outcome,
 ) -> Result<(), NodeFault>
+    ensures idle { is_idle place.node place.nodes held.old kind.now ≡ true → Keeps result outcome.old outcome.new }
     ensures ok { OnOk result ((own : List Act) × Worked place.node held.old outcome.old.outputs.items own held.new outcome.new.outputs.items × Turn place.node place.nodes held.old kind.now own held.new) }
     ensures cause { IfErr result (IsCause place.node held.old) }
 {
@@ -77,6 +81,7 @@ fn answer(
     kind: &EventKind,
     outcome: &mut Outcome,
 ) -> Result<(), NodeFault>
+    ensures idle { held.old.started ≡ true → is_idle place.node place.nodes held.old kind.now ≡ true → Keeps result outcome.old outcome.new }
     ensures ok { OnOk result ((own : List Act) × Worked place.node held.old outcome.old.outputs.items own held.new outcome.new.outputs.items × Answers place.node place.nodes held.old kind.now own held.new) }
     ensures cause { IfErr result (IsCause place.node held.old) }
 {
@@ -99,6 +104,7 @@ fn answer(
 
 /// Opens a connection that isn't open.
 fn open(place: Place, held: &mut Held, connection: u64) -> Result<(), NodeFault>
+    ensures idle { is_some (map.get held.old.connections connection) ≡ true → result ≡ Ok tt }
     ensures ok { OnOk result ((outputs : List Output) → Worked place.node held.old outputs (opens held.old connection) held.new outputs) }
     ensures fault { IfErr result (λ e. e ≡ NoMemory) }
 {

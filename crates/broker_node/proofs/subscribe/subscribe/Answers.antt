@@ -1,17 +1,20 @@
+use Rattle.std.proofs.Common.{subst, inl}
 use Rattle.std.proofs.lemmas.Result.{IfOk-weaker}
-use Rattle.broker_node.proofs.Clients.{serves_ends}
-use Rattle.broker_node.proofs.Serving.{serves_then, serves_quiet, serves_send}
+use Rattle.broker_node.specs.Ending.{Ends}
+use Rattle.broker_node.specs.Serving.{EndsWith}
+use Rattle.broker_node.specs.Subscribing.{AsksNoLocal, SubscribesOrEnds}
+use Rattle.broker_node.proofs.Clients.{did_ends}
+use Rattle.broker_node.proofs.Serving.{did_weaker}
 use Rattle.broker_node.proofs.subscribe.subscribe.Goals as goal
 
-pub returns-clause-ok : goal.returns-clause-ok
-returns-clause-ok c =
+pub returns-then-branch-clause-ok : goal.returns-then-branch-clause-ok
+returns-then-branch-clause-ok c =
     let id = c.args.desk.node in
     let at = c.args.desk.connection in
+    let h = c.args.held.now in
     let o = c.args.outcome.now.outputs.items in
-    let p = c.send.new.outcome.outputs.items in
-    let q = c.send_each.new.outcome.outputs.items in
-    let h = c.grant_each.new.held in
-    serves_then id c.args.held.now h h o o q (serves_quiet id c.args.held.now h o c.in_ok-reasons.ensures.ok) (serves_then id h h h o p q (serves_send id at h _ o p c.in_ok-send.ensures.ok) c.in_ok-send_each.ensures.ok)
-
-pub returns-then-branch-clause-ok : goal.returns-then-branch-clause-ok
-returns-then-branch-clause-ok c = IfOk-weaker c.end.result _ _ (λ flow e. serves_ends c.args.desk.node c.args.desk.connection _ c.args.held.now flow c.args.outcome.now.outputs.items c.end.new.outcome.outputs.items e) c.end.ensures.ok
+    let q = c.end.new.outcome.outputs.items in
+    let asks = subst AsksNoLocal c.as_slice.ensures (c.in_ok-asks_no_local_of_a_share.ensures.ok.0 c.if-branch.true) in
+    IfOk-weaker c.end.result (λ flow. Ends at 130 flow o q) _
+    (λ flow e. did_weaker id h h o q (EndsWith at 130 flow) (SubscribesOrEnds id at c.args.client.now h c.args.request.now flow) (λ acts x. inl (asks, x)) (did_ends id at h o 130 flow q e))
+    c.end.ensures.ok

@@ -1,3 +1,5 @@
+use Rattle.std.proofs.Common.{Ok}
+use Rattle.broker_node.proofs.Idle.{rests}
 use Rattle.broker_node.proofs.Steps.{done, caused}
 use Rattle.broker_node.proofs.node.Node.step.Goals as goal
 
@@ -8,3 +10,7 @@ returns-in-Ok-clause-ok c =
 pub returns-in-Err-clause-cause : goal.returns-in-Err-clause-cause
 returns-in-Err-clause-cause c =
     caused c.args.self.now c.self.inside.id c.self.inside.nodes c.self.inside.stopped c.self.inside.held c.args.event.now c.in-Err.fault c.self.view_is c.if-self.false c.in-Err.ensures.cause
+
+pub returns-in-Ok-clause-idle : goal.returns-in-Ok-clause-idle
+returns-in-Ok-clause-idle c =
+    rests c.args.self.now c.self.inside.id c.self.inside.nodes c.self.inside.stopped c.self.inside.held c.args.event.now (Ok c.in-Ok.outcome) c.self.view_is c.if-self.false c.in-Ok.ensures.idle
