@@ -1,20 +1,21 @@
 -- Retained maps that are made of sorted lists.
-use Rattle.std.proofs.Common.{◌≡◌, ℕ, ◌+◌, ◌<◌, max, Bool, true, false, cond, not, if◌then◌else◌, List, [], ◌∷◌, ◌++◌, length, get_or, take, Option, Some, None, refl, sym, ap, subst, ◌∙◌, arith}
+use Rattle.std.proofs.Common.{◌≡◌, ℕ, zero, suc, ◌+◌, ◌<◌, ◌≤◌, max, Bool, true, false, cond, not, if◌then◌else◌, List, [], ◌∷◌, ◌++◌, length, get_or, take, Option, Some, None, refl, sym, ap, subst, ◌∙◌, arith}
 use Rattle.std.specs.FinMap as map
 use Rattle.std.specs.FinMap.Entries.{find, put, find-put, is_sorted-put}
-use Rattle.std.specs.Ordering.{eq_by_cmp, is_lt, is_gt, ordering_reverse}
+use Rattle.std.specs.Ordering.{eq_by_cmp, is_lt, is_gt, ordering_reverse, ordering_then, nat_cmp}
 use Rattle.std.specs.declared.cmp.Ordering.{Ordering}
 use Rattle.std.specs.declared.cmp.Ordering.TheVariants.{Less, Equal, Greater}
 use Rattle.std.specs.Cmp.{Equal-is}
 use Rattle.std.specs.Cmp.Lexicographic.{nat_list_cmp_total}
-use Rattle.std.proofs.lemmas.List.{take_more}
+use Rattle.std.proofs.lemmas.List.{take_more, get_or_default}
+use Rattle.std.proofs.lemmas.Cmp.{ranked}
 use Rattle.causal_context.specs.MapLattice.{option_join, get-merge, OptionBelow}
 use Rattle.causal_context.specs.OrderLattice.{NotAbove, greater}
 use Rattle.subscription_set.specs.Sorted.{Rises, IsWith, first_of}
 use Rattle.subscription_set.proofs.Pairs.{find_both, PickedUpTo, pick_yes, pick_no}
 use Rattle.subscription_set.proofs.Places.{found_here}
 use Rattle.replica_store.specs.declared.kept.Kept.{Kept}
-use Rattle.replica_store.specs.Retained.{Retained, retained_join, RetainedBelow, one_put, kept_cmp, kept_cmp_total, kept_cmp_antisym, topic_cmp, topic_cmp_antisym, greatest_count}
+use Rattle.replica_store.specs.Retained.{Retained, retained_join, RetainedBelow, one_put, kept_cmp, kept_cmp_total, kept_cmp_antisym, content_cmp, topic_cmp, topic_cmp_antisym, greatest_count}
 use Rattle.replica_store.specs.Merging.{newer, is_newer, is_covered, AllBelow, AreNewer}
 
 abbrev Topics : Type 0
@@ -29,6 +30,60 @@ found_is es now q h view = sym (map.get-from_sorted topic_cmp es q h) ∙ ap (λ
 pub none_kept : (es : Topics) → es ≡ [] → map.from_sorted {R = topic_cmp} es ≡ map.empty
 none_kept es e = ap (map.from_sorted {R = topic_cmp}) e ∙ map.same_map nat_list_cmp_total topic_cmp_antisym (map.from_sorted {X = Kept} {R = topic_cmp} []) map.empty (λ q. map.get-from_sorted topic_cmp [] q tt ∙ sym (map.get-empty topic_cmp q))
 
+-- ---- the greatest count
+
+count_at : Option Kept → ℕ
+count_at None = 0
+count_at (Some k) = k.stamp.count
+
+count_found : (es : Topics) (q : List ℕ) → count_at (find topic_cmp q es) ≤ greatest_count es
+unfolding count_at
+count_found [] q = omega arith
+count_found (x ∷ es) q = elim (eq_by_cmp topic_cmp q x.0) as (λ b. count_at (cond b (Some x.1) (find topic_cmp q es)) ≤ max x.1.stamp.count (greatest_count es)) [
+  | true ↦ omega arith
+  | false ↦ (let rest = count_found es q in omega (arith, rest))
+]
+
+counts_up_to : (es : Topics) (b : ℕ) → ((i : ℕ) (d : List ℕ × Kept) → i < length es → (get_or es i d).1.stamp.count ≤ b) → greatest_count es ≤ b
+counts_up_to [] b all = omega arith
+counts_up_to (x ∷ es) b all = (let here = all zero x (omega arith) in let rest = counts_up_to es b (λ i d lt. all (suc i) d (omega (arith, lt))) in omega (arith, here, rest))
+
+found_up_to : (es : Topics) (b : ℕ) → Rises topic_cmp es → ((q : List ℕ) → count_at (find topic_cmp q es) ≤ b) → greatest_count es ≤ b
+unfolding count_at
+found_up_to es b h all = counts_up_to es b (λ i d lt. subst (λ y. count_at y ≤ b) (found_here nat_list_cmp_total es i (get_or es i d) h lt (get_or_default es i d (get_or es i d) lt)) (all (get_or es i d).0))
+
+count_greater : (x y : Kept) (r s : Ordering) → r ≡ nat_cmp x.stamp.count y.stamp.count → (if is_gt (ordering_then r s) then x else y).stamp.count ≡ max x.stamp.count y.stamp.count
+count_greater x y Less s e = (let less = ranked x.stamp.count y.stamp.count Less e in omega (arith, less))
+count_greater x y Equal s e = elim (is_gt s) as (λ b. (if b then x else y).stamp.count ≡ max x.stamp.count y.stamp.count) [
+  | true ↦ (let same = ranked x.stamp.count y.stamp.count Equal e in omega (arith, same))
+  | false ↦ (let same = ranked x.stamp.count y.stamp.count Equal e in omega (arith, same))
+]
+count_greater x y Greater s e = (let more = ranked x.stamp.count y.stamp.count Greater e in omega (arith, more))
+
+turned_then : (r s t : Ordering) → ordering_then (ordering_then r s) t ≡ ordering_then r (ordering_then s t)
+turned_then Less s t = refl
+turned_then Equal s t = refl
+turned_then Greater s t = refl
+
+count_joined : (x y : Option Kept) → count_at (option_join (greater kept_cmp) x y) ≡ max (count_at x) (count_at y)
+unfolding greater count_at
+count_joined None None = omega arith
+count_joined None (Some y) = omega arith
+count_joined (Some x) None = omega arith
+count_joined (Some x) (Some y) = (let rest = ordering_then (nat_cmp x.stamp.node y.stamp.node) (content_cmp x.message y.message) in
+    ap (λ r. (if is_gt r then x else y).stamp.count) (turned_then (nat_cmp x.stamp.count y.stamp.count) (nat_cmp x.stamp.node y.stamp.node) (content_cmp x.message y.message)) ∙ count_greater x y (nat_cmp x.stamp.count y.stamp.count) rest refl)
+
+-- the greatest count of a join is the greater of both
+joined_greatest : (es fs out : Topics) → Rises topic_cmp es → Rises topic_cmp fs → Rises topic_cmp out → ((q : List ℕ) → find topic_cmp q out ≡ option_join (greater kept_cmp) (find topic_cmp q es) (find topic_cmp q fs)) → greatest_count out ≡ max (greatest_count es) (greatest_count fs)
+joined_greatest es fs out h k l joined =
+    (let both = found_up_to out (max (greatest_count es) (greatest_count fs)) l (λ q. (let a = count_found es q in let b = count_found fs q in let c = at q in omega (arith, a, b, c))) in
+    let left = found_up_to es (greatest_count out) h (λ q. (let o = count_found out q in let c = at q in omega (arith, o, c))) in
+    let right = found_up_to fs (greatest_count out) k (λ q. (let o = count_found out q in let c = at q in omega (arith, o, c))) in
+    omega (arith, both, left, right))
+  where
+    at : (q : List ℕ) → count_at (find topic_cmp q out) ≡ max (count_at (find topic_cmp q es)) (count_at (find topic_cmp q fs))
+    at q = ap count_at (joined q) ∙ count_joined (find topic_cmp q es) (find topic_cmp q fs)
+
 -- ---- merging
 
 newer_or_own : (x y : Option Kept) → first_of (newer x y) x ≡ option_join (greater kept_cmp) x y
@@ -42,12 +97,20 @@ newer_or_own (Some x) (Some y) = elim (kept_cmp x y) as (λ r. kept_cmp x y ≡ 
   | Greater ↦ λ e. refl
 ] refl
 
+found_joined : (es fs incoming out : Topics) → AreNewer es fs incoming → IsWith topic_cmp es incoming out → (q : List ℕ) → find topic_cmp q out ≡ option_join (greater kept_cmp) (find topic_cmp q es) (find topic_cmp q fs)
+found_joined es fs incoming out n i q = i.finds q ∙ ap (λ x. first_of x (find topic_cmp q es)) (n q) ∙ newer_or_own (find topic_cmp q es) (find topic_cmp q fs)
+
 pub merged_is : (es fs incoming out : Topics) → Rises topic_cmp es → Rises topic_cmp fs → AreNewer es fs incoming → IsWith topic_cmp es incoming out → map.from_sorted out ≡ retained_join (map.from_sorted es) (map.from_sorted fs)
 unfolding retained_join
 merged_is es fs incoming out h k n i = map.same_map nat_list_cmp_total topic_cmp_antisym _ _ (λ q.
-    map.get-from_sorted topic_cmp out q i.rises ∙ i.finds q ∙ ap (λ x. first_of x (find topic_cmp q es)) (n q) ∙ newer_or_own (find topic_cmp q es) (find topic_cmp q fs)
+    map.get-from_sorted topic_cmp out q i.rises ∙ found_joined es fs incoming out n i q
     ∙ (λ j. option_join (greater kept_cmp) (sym (map.get-from_sorted topic_cmp es q h) j) (sym (map.get-from_sorted topic_cmp fs q k) j))
     ∙ sym (get-merge nat_list_cmp_total (greater kept_cmp) (map.from_sorted es) (map.from_sorted fs) q))
+
+pub merged_greatest : (es fs incoming out : Topics) → Rises topic_cmp es → Rises topic_cmp fs → AreNewer es fs incoming → IsWith topic_cmp es incoming out
+    → (own theirs new : ℕ) → own ≡ greatest_count es → theirs ≡ greatest_count fs → new ≡ max own theirs → Rises topic_cmp out × (new ≡ greatest_count out)
+merged_greatest es fs incoming out h k n i own theirs new a b c =
+    (let joined = joined_greatest es fs out h k i.rises (found_joined es fs incoming out n i) in (i.rises, omega (arith, a, b, c, joined)))
 
 pub newer_if : (x : Option Kept) (y : Kept) → newer x (Some y) ≡ (if is_newer x y then Some y else None)
 newer_if None y = refl
@@ -88,8 +151,8 @@ module _ (es : Topics) (topic : List ℕ) (kept : Kept) (h : Rises topic_cmp es)
       at q false t = join_none (find topic_cmp q es) ∙ ap (λ b. option_join (greater kept_cmp) (find topic_cmp q es) (cond b (Some kept) None)) (sym t)
 
   -- the entry wins, and takes its place
-  pub put_wins : is_newer (find topic_cmp topic es) kept ≡ true → map.from_sorted (put topic_cmp topic kept es) ≡ retained_join (map.from_sorted es) (one_put topic kept)
-  put_wins wins = map.same_map nat_list_cmp_total topic_cmp_antisym _ _ (λ q. map.get-from_sorted topic_cmp (put topic_cmp topic kept es) q (is_sorted-put topic_cmp nat_list_cmp_total topic kept es h) ∙ find-put topic_cmp nat_list_cmp_total q topic kept es ∙ at q (eq_by_cmp topic_cmp q topic) refl ∙ sym (get-joined q))
+  put_found : is_newer (find topic_cmp topic es) kept ≡ true → (q : List ℕ) → find topic_cmp q (put topic_cmp topic kept es) ≡ joined_at q
+  put_found wins q = find-put topic_cmp nat_list_cmp_total q topic kept es ∙ at q (eq_by_cmp topic_cmp q topic) refl
     where
       theirs : (x : Option Kept) → is_newer x kept ≡ true → Some kept ≡ option_join (greater kept_cmp) x (Some kept)
       theirs x e = ap (λ y. first_of y x) (sym (newer_if x kept ∙ ap (λ b. if b then Some kept else None) e)) ∙ newer_or_own x (Some kept)
@@ -97,6 +160,15 @@ module _ (es : Topics) (topic : List ℕ) (kept : Kept) (h : Rises topic_cmp es)
       at : (q : List ℕ) (b : Bool) → eq_by_cmp topic_cmp q topic ≡ b → cond (eq_by_cmp topic_cmp q topic) (Some kept) (find topic_cmp q es) ≡ joined_at q
       at q true t = ap (λ b. cond b (Some kept) (find topic_cmp q es)) t ∙ theirs (find topic_cmp q es) (ap (λ (u : List ℕ). is_newer (find topic_cmp u es) kept) (topic_cmp_antisym q topic ((Equal-is (topic_cmp q topic)).0 t)) ∙ wins) ∙ ap (λ b. option_join (greater kept_cmp) (find topic_cmp q es) (cond b (Some kept) None)) (sym t)
       at q false t = ap (λ b. cond b (Some kept) (find topic_cmp q es)) t ∙ join_none (find topic_cmp q es) ∙ ap (λ b. option_join (greater kept_cmp) (find topic_cmp q es) (cond b (Some kept) None)) (sym t)
+
+  pub put_wins : is_newer (find topic_cmp topic es) kept ≡ true → map.from_sorted (put topic_cmp topic kept es) ≡ retained_join (map.from_sorted es) (one_put topic kept)
+  put_wins wins = map.same_map nat_list_cmp_total topic_cmp_antisym _ _ (λ q. map.get-from_sorted topic_cmp (put topic_cmp topic kept es) q (is_sorted-put topic_cmp nat_list_cmp_total topic kept es h) ∙ put_found wins q ∙ sym (get-joined q))
+
+  pub put_greatest : is_newer (find topic_cmp topic es) kept ≡ true → (out : Topics) → out ≡ put topic_cmp topic kept es → (old new : ℕ) → old ≡ greatest_count es → new ≡ max old kept.stamp.count → Rises topic_cmp out × (new ≡ greatest_count out)
+  put_greatest wins out is old new was now =
+      (let rises = subst (Rises topic_cmp) (sym is) (is_sorted-put topic_cmp nat_list_cmp_total topic kept es h) in
+      let joined = joined_greatest es ((topic, kept) ∷ []) out h tt rises (λ q. ap (find topic_cmp q) is ∙ put_found wins q) in
+      (rises, omega (arith, was, now, joined)))
 
 -- a map joined into the empty one
 pub empty-join : (x : Retained) → retained_join map.empty x ≡ x
@@ -158,21 +230,6 @@ module _ (es fs : Topics) (i : ℕ) (x : List ℕ × Kept) (lt : i < length es) 
 
 pub none_to_cover : (fs : Topics) → AllBelow [] fs
 none_to_cover fs q k e = cc
-
--- ---- the greatest count
-
-max_more : (a b c : ℕ) → max a (max b c) ≡ max b (max a c)
-max_more a b c = omega arith
-
-max_zero : (a : ℕ) → max a 0 ≡ max 0 a
-max_zero a = omega arith
-
-greatest_push : (es : Topics) (x : List ℕ × Kept) → greatest_count (es ++ x ∷ []) ≡ max x.1.stamp.count (greatest_count es)
-greatest_push [] x = refl
-greatest_push (e ∷ es) x = ap (max e.1.stamp.count) (greatest_push es x) ∙ max_more e.1.stamp.count x.1.stamp.count (greatest_count es)
-
-pub greatest_more : (es : Topics) (i : ℕ) (x : List ℕ × Kept) → i < length es → x ≡ get_or es i x → greatest_count (take (i + 1) es) ≡ max x.1.stamp.count (greatest_count (take i es))
-greatest_more es i x lt is = ap greatest_count (take_more es i x lt ∙ ap (λ y. take i es ++ y ∷ []) (sym is)) ∙ greatest_push (take i es) x
 
 module _ (es fs : Topics) (h : Rises topic_cmp fs) (i : ℕ) (x : List ℕ × Kept) (lt : i < length fs) (is : x ≡ get_or fs i x) where
   abbrev brought : List ℕ → Option Kept

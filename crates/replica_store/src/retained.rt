@@ -88,17 +88,6 @@ fn messages_in(entries: &[(TopicName, Kept)]) -> usize
     count
 }
 
-// The greatest count of a stamp, or 0.
-fn greatest_of(entries: &[(TopicName, Kept)]) -> u64
-    ensures { result ≡ greatest_count entries.now }
-{
-    let mut greatest = 0u64;
-    for (_, kept) in entries {
-        greatest = kept.stamp.count.max(greatest);
-    }
-    greatest
-}
-
 // The same entries once more.
 fn copied(alloc: Global, entries: &[(TopicName, Kept)]) -> Result<Vec<(TopicName, Kept)>, NoMemory>
     ensures { IfOk result (λ copy. copy.items ≡ entries.now) }
@@ -117,12 +106,16 @@ fn copied(alloc: Global, entries: &[(TopicName, Kept)]) -> Result<Vec<(TopicName
 #[derive(Drop)]
 pub struct RetainedMap {
     entries: Vec<(TopicName, Kept)>,
+
+    // The greatest count of a stamp, or 0.
+    greatest: u64,
 }
 
 impl Model for RetainedMap {
+    ghost use Rattle.std.specs.Prelude.{◌≡◌};
     ghost use Rattle.std.specs.FinMap as map;
     ghost use Rattle.subscription_set.specs.Sorted.{Rises};
-    ghost use Rattle.replica_store.specs.Retained.{Retained, topic_cmp, coded_retained};
+    ghost use Rattle.replica_store.specs.Retained.{Retained, topic_cmp, coded_retained, greatest_count};
 
     ghost Value = { Retained };
 
@@ -130,7 +123,8 @@ impl Model for RetainedMap {
 
     ghost view = { λ r. map.from_sorted r.entries.items };
 
-    ghost invariant = { λ r. Rises topic_cmp r.entries.items };
+    ghost invariant = { λ r. Rises topic_cmp r.entries.items
+        × (r.greatest ≡ greatest_count r.entries.items) };
 }
 
 impl RetainedMap {
@@ -140,6 +134,7 @@ impl RetainedMap {
     {
         RetainedMap {
             entries: Vec::new(alloc),
+            greatest: 0,
         }
     }
 
@@ -166,6 +161,7 @@ impl RetainedMap {
         if wins(&self.entries, &topic, &kept) {
             self.entries.reserve(1)?;
             put_in(&mut self.entries, topic, kept);
+            self.greatest = self.greatest.max(stamp.count);
         }
         Ok(())
     }
@@ -210,7 +206,7 @@ impl RetainedMap {
     pub fn greatest_count(&self) -> u64
         ensures { result ≡ greatest_count (map.entries self.now) }
     {
-        greatest_of(self.entries())
+        self.greatest
     }
 
     /// The same map once more.
@@ -218,7 +214,10 @@ impl RetainedMap {
         ensures { IfOk result (λ copy. copy ≡ self.now) }
     {
         let entries = copied(*self.entries.allocator(), &self.entries)?;
-        Ok(RetainedMap { entries })
+        Ok(RetainedMap {
+            entries,
+            greatest: self.greatest,
+        })
     }
 }
 
@@ -233,6 +232,7 @@ impl Lattice for RetainedMap {
         let incoming = newer(*self.entries.allocator(), &self.entries, &other.entries)?;
         self.entries.reserve(incoming.len())?;
         put_in_all(&mut self.entries, incoming);
+        self.greatest = self.greatest.max(other.greatest);
         Ok(())
     }
 
