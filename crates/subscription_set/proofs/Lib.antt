@@ -1,3 +1,4 @@
+pub mod Going
 pub mod Lists
 pub mod Order
 pub mod Pairs

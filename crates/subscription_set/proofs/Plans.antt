@@ -12,7 +12,7 @@ use Rattle.subscription_set.specs.Standing.{Entries, find_entry, AreSeen, status
 use Rattle.subscription_set.specs.Merging.{IsJoinOf, kept_entry, same_entry, leaves_at, AreGone, AreNew, planned}
 use Rattle.subscription_set.specs.Sorted.{Rises, without_keys, has_key, first_of, IsWithout, IsWith}
 use Rattle.subscription_set.proofs.Places.{found_here}
-use Rattle.subscription_set.proofs.Pairs.{find_both, find_without, key_found, any_push, one_key}
+use Rattle.subscription_set.proofs.Pairs.{find_both, find_without, key_found, one_key}
 
 not_if : (b : Bool) (e : Entry) → cond (not b) None (Some e) ≡ (if b then Some e else None)
 not_if true e = refl
@@ -50,40 +50,12 @@ module _ (c : Dots) (es : Entries) (k : Dots) (fs : Entries) where
   pub join_seen : (out : Entries) → AreSeen c es → AreSeen k fs → IsJoinOf c es k fs out → AreSeen (set.union c k) out
   join_seen out p r is q h = set.contains-union dot_cmp_total c k q ∙ kept_seen (set.contains c q) (set.contains k q) (find_entry q es) (find_entry q fs) (p q) (r q) (ap is_some (sym (is q)) ∙ h)
 
-with_one : (a l t : Bool) → (t ≡ true → l ≡ true) → ((a && l) || t) ≡ ((a || t) && l)
-with_one true true t h = refl
-with_one true false true h = (let no = h refl in cc)
-with_one true false false h = refl
-with_one false l true h = sym (h refl)
-with_one false l false h = refl
-
-without_one : (a l t : Bool) → (t ≡ true → l ≡ false) → (a && l) ≡ ((a || t) && l)
-without_one true l t h = refl
-without_one false l true h = sym (h refl)
-without_one false l false h = refl
-
 pub tied_dot : (q d : Dot) → eq_by_cmp dot_cmp q d ≡ true → q ≡ d
 tied_dot q d e = dot_cmp_antisym q d ((Equal-is (dot_cmp q d)).0 e)
 
 module _ (es : Entries) (k : Dots) (fs : Entries) (i : ℕ) (x : Dot × Entry) (h : Rises dot_cmp es) (lt : i < length es) (is : x ≡ get_or es i x) where
-  leaves_here : (b : Bool) → b ≡ (set.contains k x.0 && not (same_entry (Some x.1) (find_entry x.0 fs))) → (q : Dot) → eq_by_cmp dot_cmp q x.0 ≡ true → leaves_at es k fs q ≡ b
+  pub leaves_here : (b : Bool) → b ≡ (set.contains k x.0 && not (same_entry (Some x.1) (find_entry x.0 fs))) → (q : Dot) → eq_by_cmp dot_cmp q x.0 ≡ true → leaves_at es k fs q ≡ b
   leaves_here b e q t = ap (leaves_at es k fs) (tied_dot q x.0 t) ∙ ap (λ z. set.contains k x.0 && not (same_entry z (find_entry x.0 fs))) (found_here dot_cmp_total es i x h lt is) ∙ sym e
-
-  pub gone_yes : (b : Bool) → b ≡ (set.contains k x.0 && not (same_entry (Some x.1) (find_entry x.0 fs))) → b ≡ true → (out new : List Dot) → new ≡ out ++ x.0 ∷ []
-      → ((q : Dot) → list_any (eq_by_cmp dot_cmp q) out ≡ (has_key dot_cmp q (take i es) && leaves_at es k fs q))
-      → (q : Dot) → list_any (eq_by_cmp dot_cmp q) new ≡ (has_key dot_cmp q (take (i + 1) es) && leaves_at es k fs q)
-  gone_yes b e holds out new added so q =
-      ap (list_any (eq_by_cmp dot_cmp q)) added ∙ any_push (eq_by_cmp dot_cmp q) out x.0 ∙ ap (λ a. a || eq_by_cmp dot_cmp q x.0) (so q)
-      ∙ with_one (has_key dot_cmp q (take i es)) (leaves_at es k fs q) (eq_by_cmp dot_cmp q x.0) (λ t. leaves_here b e q t ∙ holds)
-      ∙ ap (λ a. a && leaves_at es k fs q) (one_key dot_cmp es i x q lt is)
-
-  pub gone_no : (b : Bool) → b ≡ (set.contains k x.0 && not (same_entry (Some x.1) (find_entry x.0 fs))) → b ≡ false → (out new : List Dot) → new ≡ out
-      → ((q : Dot) → list_any (eq_by_cmp dot_cmp q) out ≡ (has_key dot_cmp q (take i es) && leaves_at es k fs q))
-      → (q : Dot) → list_any (eq_by_cmp dot_cmp q) new ≡ (has_key dot_cmp q (take (i + 1) es) && leaves_at es k fs q)
-  gone_no b e fails out new same so q =
-      ap (list_any (eq_by_cmp dot_cmp q)) same ∙ so q
-      ∙ without_one (has_key dot_cmp q (take i es)) (leaves_at es k fs q) (eq_by_cmp dot_cmp q x.0) (λ t. leaves_here b e q t ∙ fails)
-      ∙ ap (λ a. a && leaves_at es k fs q) (one_key dot_cmp es i x q lt is)
 
 push_case : (a t : Bool) (answer : Option Entry) (v : Entry) → (t ≡ true → answer ≡ Some v) → first_of (cond a answer None) (cond t (Some v) None) ≡ cond (a || t) answer None
 push_case true true answer v h = ap (λ x. first_of x (Some v)) (h refl) ∙ sym (h refl)

@@ -1,11 +1,13 @@
 -- How two sets merge.
-use Rattle.std.specs.Prelude.{◌≡◌, Bool, true, false, cond, not, ◌||◌, ◌&&◌, if◌then◌else◌, is_some, List, ◌++◌, Option, Some, None, refl}
+use Rattle.std.specs.Prelude.{◌≡◌, ℕ, take, Bool, true, false, cond, not, ◌||◌, ◌&&◌, if◌then◌else◌, is_some, List, ◌++◌, Option, Some, None, refl}
 use Rattle.std.proofs.Common.{ap, sym, ◌∙◌}
 use Rattle.std.specs.List.{list_any}
 use Rattle.std.specs.Ordering.{eq_by_cmp}
 use Rattle.std.specs.FinSet as set
 use Rattle.std.specs.FinMap as map
 use Rattle.causal_context.specs.Dots.{Dots, Dot, dot_cmp, dot_cmp_total, dot_cmp_antisym}
+use Rattle.causal_context.specs.declared.ranges.Range.{Range}
+use Rattle.causal_context.specs.Ranges.{covers, covered}
 use Rattle.causal_context.specs.MapLattice.{option_join, get-merge}
 use Rattle.subscription_set.specs.declared.entry.Entry.{Entry}
 use Rattle.subscription_set.specs.Entries.{entry_eq}
@@ -51,10 +53,22 @@ AreNew c fs out = (q : Dot) → find_entry q out ≡ cond (set.contains c q) Non
 abbrev pub planned : Entries → List Dot → Entries → Entries
 planned es gone incoming = incoming ++ without_keys dot_cmp gone es
 
--- the same as far as the first entries go
-abbrev pub GoneUpTo : Entries → Entries → Dots → Entries → List Dot → Type 0
-GoneUpTo part es k fs out = (q : Dot) → list_any (eq_by_cmp dot_cmp q) out ≡ (has_key dot_cmp q part && leaves_at es k fs q)
+-- no entry before the place is of the range
+abbrev pub NoneBefore : Range → Entries → ℕ → Type 0
+NoneBefore r es i = (q : Dot) → covers q r ≡ true → has_key dot_cmp q (take i es) ≡ false
 
+-- the old dots, and dots of entries that go: of the range, all whose entries the part has
+pub record IsGoneIn (r : Range) (part es : Entries) (k : Dots) (fs : Entries) (old out : List Dot) : Type 0 where
+  pub keeps : (q : Dot) → list_any (eq_by_cmp dot_cmp q) old ≡ true → list_any (eq_by_cmp dot_cmp q) out ≡ true
+  pub sound : (q : Dot) → list_any (eq_by_cmp dot_cmp q) out ≡ true → (list_any (eq_by_cmp dot_cmp q) old || (has_key dot_cmp q es && leaves_at es k fs q)) ≡ true
+  pub has : (q : Dot) → covers q r ≡ true → has_key dot_cmp q part ≡ true → leaves_at es k fs q ≡ true → list_any (eq_by_cmp dot_cmp q) out ≡ true
+
+-- dots of entries that go, and all of these that are in the ranges
+pub record AreGoneIn (rs : List Range) (es : Entries) (k : Dots) (fs : Entries) (out : List Dot) : Type 0 where
+  pub sound : (q : Dot) → list_any (eq_by_cmp dot_cmp q) out ≡ true → (has_key dot_cmp q es && leaves_at es k fs q) ≡ true
+  pub has : (q : Dot) → covered q rs ≡ true → has_key dot_cmp q es ≡ true → leaves_at es k fs q ≡ true → list_any (eq_by_cmp dot_cmp q) out ≡ true
+
+-- the new ones, as far as the first entries go
 abbrev pub NewUpTo : Entries → Dots → Entries → Entries → Type 0
 NewUpTo part c fs out = (q : Dot) → find_entry q out ≡ cond (has_key dot_cmp q part) (cond (set.contains c q) None (find_entry q fs)) None
 

@@ -1,14 +1,15 @@
 //! What a merge changes, found before it changes anything.
-ghost use Rattle.std.specs.Prelude.{◌≡◌, ◌≤◌, ◌+◌, ◌&&◌, not, Some, IfOk, vec_len, vec_capacity};
+ghost use Rattle.std.specs.Prelude.{◌≡◌, ◌≤◌, ◌+◌, ◌&&◌, ◌↔◌, not, Some, IfOk, IsTrue, length, vec_len, vec_capacity};
 ghost use Rattle.std.specs.FinSet as set;
 ghost use Rattle.causal_context.specs.Dots.{dot_cmp};
+ghost use Rattle.causal_context.specs.RangeSteps.{EndsBefore};
 ghost use Rattle.subscription_set.specs.Sorted.{Rises};
 ghost use Rattle.subscription_set.specs.Standing.{find_entry};
-ghost use Rattle.subscription_set.specs.Merging.{AreGone, AreNew, same_entry};
+ghost use Rattle.subscription_set.specs.Merging.{AreGone, AreNew, IsGoneIn, NoneBefore, same_entry};
 
 use crate::entry::Entry;
-use crate::sorted::value_of;
-use causal_context::{Context, Dot};
+use crate::sorted::{place, value_of};
+use causal_context::{Context, Dot, Range};
 use mqtt_fields::NoMemory;
 use std::alloc::Global;
 
@@ -27,7 +28,52 @@ fn leaves(entry: &Entry, other_seen: &Context, other_entries: &[(Dot, Entry)], d
     }
 }
 
-// The dots whose entries go.
+// Whether the dot is after those of the range.
+fn is_past(dot: Dot, range: Range) -> bool
+    ensures { IsTrue result ↔ EndsBefore dot range }
+{
+    range.node < dot.node() || range.node == dot.node() && range.last < dot.number()
+}
+
+// The place of the first entry that may be of the range.
+fn start_of(entries: &[(Dot, Entry)], range: Range) -> usize
+    requires { Rises dot_cmp entries.now }
+    ensures bound { result ≤ length entries.now }
+    ensures before { NoneBefore range entries.now result }
+{
+    match Dot::new(range.node, range.first) {
+        None => 0,
+        Some(first) => place(entries, &first),
+    }
+}
+
+// Adds the dots of the range whose entries go.
+fn add_gone(
+    out: &mut Vec<Dot>,
+    range: Range,
+    entries: &[(Dot, Entry)],
+    other_seen: &Context,
+    other_entries: &[(Dot, Entry)],
+) -> Result<(), NoMemory>
+    requires entries { Rises dot_cmp entries.now }
+    requires others { Rises dot_cmp other_entries.now }
+    ensures { IfOk result (λ _. IsGoneIn range entries.now entries.now
+        other_seen.now other_entries.now out.old.items out.new.items) }
+{
+    let from = start_of(entries, range);
+    for at in from..entries.len() {
+        let (dot, entry) = &entries[at];
+        if is_past(*dot, range) {
+            return Ok(());
+        }
+        if leaves(entry, other_seen, other_entries, *dot) {
+            out.push(*dot)?;
+        }
+    }
+    Ok(())
+}
+
+// The dots whose entries go, found by the ranges that the other has seen.
 fn gone(
     alloc: Global,
     entries: &[(Dot, Entry)],
@@ -40,10 +86,8 @@ fn gone(
         AreGone entries.now other_seen.now other_entries.now out.items) }
 {
     let mut out = Vec::new(alloc);
-    for (dot, entry) in entries {
-        if leaves(entry, other_seen, other_entries, *dot) {
-            out.push(*dot)?;
-        }
+    for range in other_seen.ranges() {
+        add_gone(&mut out, *range, entries, other_seen, other_entries)?;
     }
     Ok(out)
 }
