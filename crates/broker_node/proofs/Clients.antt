@@ -13,12 +13,12 @@ use Rattle.broker_node.specs.declared.outcome.Output.{Output}
 use Rattle.broker_node.specs.declared.desk.Flow.{Flow}
 use Rattle.broker_node.specs.declared.desk.Flow.TheVariants.{Open, Ended}
 use Rattle.broker_node.specs.View.{HeldView}
-use Rattle.broker_node.specs.Acts.{Act, Connection}
+use Rattle.broker_node.specs.Acts.{Act, Connection, gather, merge_in}
 use Rattle.broker_node.specs.Connections.{Accepted}
 use Rattle.broker_node.specs.Packets.{accepted_packet, unsuback_packet}
 use Rattle.broker_node.specs.Sending.{Sent, Sends}
 use Rattle.broker_node.specs.Ending.{Ends}
-use Rattle.broker_node.specs.Serving.{Did, Serves, EndsWith, InTurn, AreService, client_at}
+use Rattle.broker_node.specs.Serving.{Did, EndsWith, InTurn, client_at}
 use Rattle.broker_node.specs.Clients.{EndsAlone, Accepts, First, Answer, AnswerAt, Answered}
 use Rattle.broker_node.specs.Publishing.{Retains, PublishesTo, PublishesBy, refusal}
 use Rattle.broker_node.specs.Unsubscribing.{Removes, Unsubscribes}
@@ -26,7 +26,7 @@ use Rattle.replica_store.specs.Making.{remove_of}
 use Rattle.broker_node.specs.Parsing.{IsFilterOf}
 use Rattle.broker_node.specs.Worked.{Worked, makes}
 use Rattle.broker_node.proofs.Acts.{worked_nothing, worked_more, worked_quiet}
-use Rattle.broker_node.proofs.Serving.{sends_service, worked_send, service_append, makes_service}
+use Rattle.broker_node.proofs.Serving.{AreService, sends_service, service_merges, worked_send, service_append, makes_service}
 use Rattle.broker_node.proofs.Subscribing.{subscribes_service}
 use Rattle.broker_node.proofs.Turning.{in_turn_all}
 
@@ -65,6 +65,9 @@ first_service c h (packets.Auth p) flow acts e = alone_service flow acts e
 removes_service : (id : ℕ) (client : List ℕ) (h : HeldView) (text : List ℕ) (reason : ℕ) (acts : List Act) → Removes id client h text reason acts → AreService acts
 removes_service id client h text reason acts (inl r) = subst AreService (sym r.2) tt
 removes_service id client h text reason acts (inr r) = subst AreService (sym r.2) (makes_service _)
+
+pub removes_quiet : (id : ℕ) (client : List ℕ) (h : HeldView) (texts : List (List ℕ)) (reasons : List ℕ) (acts : List Act) (h' : HeldView) → InTurn (Removes id client) id h texts reasons acts h' → gather merge_in acts ≡ []
+removes_quiet id client h texts reasons acts h' w = service_merges acts (in_turn_all (Removes id client) id (λ v x y own r. removes_service id client v x y own r) h texts reasons acts h' w)
 
 unsubscribes_service : (id c : ℕ) (client : List ℕ) (h : HeldView) (p : UnsubscribePacket) (flow : Flow) (acts : List Act) → Unsubscribes id c client h p flow acts → AreService acts
 unsubscribes_service id c client h p flow acts u =
@@ -169,9 +172,6 @@ answer_other id c client h (packets.Auth p) n1 n2 n3 n4 n5 flow acts e = e
 pub copied_some : {A : Type 0} (r : Option (Bor A)) → is_some (option_copied r) ≡ is_some r
 copied_some None = refl
 copied_some (Some x) = refl
-
-pub serves_ends : (id c code : ℕ) (h : HeldView) (flow : Flow) (o o' : List Output) → Ends c code flow o o' → Serves id h o h o'
-serves_ends id c code h flow o o' e = record { acts = e.0; worked = worked_send id c h _ e.0 o o' e.1.sent e.2; service = ends_service c code flow e.0 e.1 }
 
 -- one filter of an UNSUBSCRIBE
 pub did_remove : (id : ℕ) (client : List ℕ) (h h' : HeldView) (text filter : List ℕ) (stood : Bool) → IsFilterOf text (Some filter) → Worked id h [] (makes (remove_of id client (Some filter) h.store)) h' []

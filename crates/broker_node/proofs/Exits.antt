@@ -1,5 +1,5 @@
 -- Why work stops, at the exit of a `?`.
-use Rattle.std.proofs.Common.{◌≡◌, ℕ, List, Result, refl, sym, subst, ◌⊎◌}
+use Rattle.std.proofs.Common.{◌≡◌, ℕ, List, [], Result, refl, sym, subst, ◌⊎◌}
 use Rattle.replica_store.specs.Making.{NumberAtEnd, CountAtEnd}
 use Rattle.replica_store.specs.States.{State}
 use Rattle.std.specs.Result.{IfErr, IsErrAnd}
@@ -11,7 +11,7 @@ use Rattle.broker_node.specs.View.{HeldView}
 use Rattle.broker_node.specs.Worked.{IsCause, AtEnd}
 use Rattle.broker_node.specs.declared.fault.NodeFault.{NodeFault}
 use Rattle.broker_node.specs.declared.fault.NodeFault.TheVariants.{NoMemory}
-use Rattle.broker_node.specs.Acts.{Act, Runs}
+use Rattle.broker_node.specs.Acts.{Act, Runs, gather, merge_in}
 use Rattle.broker_node.proofs.Acts.{cause_memory, cause_here, cause_later}
 
 by_fault : (id : ℕ) (h : HeldView) (e : StoreFault) → (e ≡ store_faults.NumbersAtEnd → AtEnd id h) → IsCause id h (node_fault e)
@@ -34,11 +34,11 @@ pub at_end : (id : ℕ) (h : HeldView) (s : State) → s ≡ h.store → NumberA
 at_end id h s at a = subst (λ t. NumberAtEnd id t ⊎ CountAtEnd t) at a
 
 -- a fault of later work
-pub later_exit : {T : Type 0} (id : ℕ) (acts : List Act) (h mid : HeldView) (r : Result T NodeFault) (e : NodeFault) → IsErrAnd r (λ f. f ≡ e) → Runs id h acts mid → IsCause id mid e → IfErr r (IsCause id h)
-later_exit id acts h mid r e is runs a =
+pub later_exit : {T : Type 0} (id : ℕ) (acts : List Act) (h mid : HeldView) (r : Result T NodeFault) (e : NodeFault) → IsErrAnd r (λ f. f ≡ e) → Runs id h acts mid → gather merge_in acts ≡ [] → IsCause id mid e → IfErr r (IsCause id h)
+later_exit id acts h mid r e is runs quiet a =
     let p = err_from_is_err_and r is in
-    subst (λ x. IfErr x (IsCause id h)) (sym p.1) (subst (IsCause id h) (sym p.2) (cause_later id acts h mid runs e a))
+    subst (λ x. IfErr x (IsCause id h)) (sym p.1) (subst (IsCause id h) (sym p.2) (cause_later id acts h mid runs quiet e a))
 
 -- the same, where the result is returned as it is
-pub later : {T : Type 0} (id : ℕ) (acts : List Act) (h mid : HeldView) (r : Result T NodeFault) → Runs id h acts mid → IfErr r (IsCause id mid) → IfErr r (IsCause id h)
-later id acts h mid r runs a = IfErr-weaker r (IsCause id mid) (IsCause id h) (λ f c. cause_later id acts h mid runs f c) a
+pub later : {T : Type 0} (id : ℕ) (acts : List Act) (h mid : HeldView) (r : Result T NodeFault) → Runs id h acts mid → gather merge_in acts ≡ [] → IfErr r (IsCause id mid) → IfErr r (IsCause id h)
+later id acts h mid r runs quiet a = IfErr-weaker r (IsCause id mid) (IsCause id h) (λ f c. cause_later id acts h mid runs quiet f c) a

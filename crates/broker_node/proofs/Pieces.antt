@@ -18,12 +18,12 @@ use Rattle.broker_node.specs.Clients.{Answered}
 use Rattle.broker_node.specs.Packets.{disconnect_packet, refused_packet}
 use Rattle.broker_node.specs.Pieces.{AnsweredInTurn, SendsCode, RefusesBy, Refuses, Closes, Takes, Feeds, PieceAt, Piece, is_connect, first_at, connack_code, disconnect_code}
 use Rattle.broker_node.specs.Sending.{Sent, closes}
-use Rattle.broker_node.specs.Serving.{Did, IsOpen, AreService, client_at}
+use Rattle.broker_node.specs.Serving.{Did, IsOpen, client_at}
 use Rattle.broker_node.specs.Worked.{Worked}
 use Rattle.broker_node.proofs.Acts.{gather-append, worked_nothing, worked_more}
 use Rattle.broker_node.proofs.Clients.{answered_service, did_send}
 use Rattle.broker_node.proofs.Feeding.{worked_fed}
-use Rattle.broker_node.proofs.Serving.{service_append, service_merges, service_open, sends_service}
+use Rattle.broker_node.proofs.Serving.{AreService, service_append, service_merges, service_open, sends_service}
 
 take_drop : {A : Type 0} (i : ℕ) (xs : List A) → take i xs ++ drop i xs ≡ xs
 take_drop zero xs = refl
@@ -47,6 +47,9 @@ module _ (id c : ℕ) where
   in_turn_service h [] flow xs h' a = subst AreService (sym a.1) tt
   in_turn_service h (p ∷ ps) flow xs h' (inl e) = answered_service id c h p Ended xs e.1
   in_turn_service h (p ∷ ps) flow xs h' (inr w) = subst AreService (sym w.6) (service_append w.0 w.2 (answered_service id c h p Open w.0 w.3) (in_turn_service w.1 ps flow w.2 h' w.5))
+
+  pub in_turn_quiet : (h : HeldView) (ps : List Packet) (flow : Flow) (xs : List Act) (h' : HeldView) → AnsweredInTurn id c h ps flow xs h' → gather merge_in xs ≡ []
+  in_turn_quiet h ps flow xs h' a = service_merges xs (in_turn_service h ps flow xs h' a)
 
   pub in_turn_open : (h : HeldView) (ps : List Packet) (flow : Flow) (xs : List Act) (h' : HeldView) → AnsweredInTurn id c h ps flow xs h' → Runs id h xs h' → IsOpen c h → IsOpen c h'
   in_turn_open h ps flow xs h' a r o = service_open id c xs h h' (in_turn_service h ps flow xs h' a) r o

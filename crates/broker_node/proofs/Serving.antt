@@ -12,12 +12,27 @@ use Rattle.broker_node.specs.View.{HeldView, ConnectionView}
 use Rattle.broker_node.specs.Acts.{Act, Moment, Began, Store, Made, Merged, Connection, Out, Runs, gather, merge_in, output_in}
 use Rattle.broker_node.specs.Connections.{Opened, Fed, Accepted, Closed}
 use Rattle.broker_node.specs.Feeding.{Table, AcceptedAt, IsHeldAccepted}
-use Rattle.broker_node.specs.Sending.{Sent, Sends, SendsBytes}
-use Rattle.broker_node.specs.Serving.{Serves, Did, IsOpen, IsService, AreService}
+use Rattle.broker_node.specs.Sending.{Sends, SendsBytes}
+use Rattle.broker_node.specs.Serving.{Did, IsOpen}
 use Rattle.broker_node.specs.Worked.{Worked, makes}
-use Rattle.broker_node.proofs.Acts.{worked_nothing, worked_more, worked_quiet}
 
 -- ---- service
+
+-- by operations, by a client that is accepted, and by what goes out
+abbrev pub IsService : Act → Type 0
+IsService (Moment at) = ⊥
+IsService Began = ⊥
+IsService (Store (Made o)) = Unit {0}
+IsService (Store (Merged s)) = ⊥
+IsService (Connection (Opened c)) = ⊥
+IsService (Connection (Fed c piece)) = ⊥
+IsService (Connection (Accepted c client)) = Unit {0}
+IsService (Connection (Closed c)) = ⊥
+IsService (Out o) = Unit {0}
+
+abbrev pub AreService : List Act → Type 0
+AreService [] = Unit {0}
+AreService (a ∷ rest) = IsService a × AreService rest
 
 pub service_append : (xs ys : List Act) → AreService xs → AreService ys → AreService (xs ++ ys)
 service_append [] ys a b = b
@@ -77,33 +92,9 @@ sends_service c p acts s = bytes_service c s.bytes acts s.sends
 pub worked_send : (id c : ℕ) (h : HeldView) (p : Packet) (acts : List Act) (o o' : List Output) → Sends c p acts → o' ≡ o ++ gather output_in acts → Worked id h o acts h o'
 worked_send id c h p acts o o' s e = record { runs = send_runs id c h s.bytes acts s.sends; given = e }
 
--- ---- served, whatever it was
-
-pub serves_nothing : (id : ℕ) (h : HeldView) (o : List Output) → Serves id h o h o
-serves_nothing id h o = record { acts = []; worked = worked_nothing id h o; service = tt }
-
-pub serves_then : (id : ℕ) (a b d : HeldView) (o p q : List Output) → Serves id a o b p → Serves id b p d q → Serves id a o d q
-serves_then id a b d o p q v w = record {
-  acts = v.acts ++ w.acts;
-  worked = worked_more id v.acts w.acts a b d o p q v.worked w.worked;
-  service = service_append v.acts w.acts v.service w.service;
-}
-
-pub serves_quiet : (id : ℕ) (a b : HeldView) (o : List Output) → Serves id a [] b [] → Serves id a o b o
-serves_quiet id a b o v = record { acts = v.acts; worked = worked_quiet id v.acts a b o v.worked; service = v.service }
-
-pub serves_send : (id c : ℕ) (h : HeldView) (p : Packet) (o o' : List Output) → Sent c p o o' → Serves id h o h o'
-serves_send id c h p o o' s = record { acts = s.0; worked = worked_send id c h p s.0 o o' s.1 s.2; service = sends_service c p s.0 s.1 }
-
 pub makes_service : (x : Option Operation) → AreService (makes x)
 makes_service None = tt
 makes_service (Some o) = (tt, tt)
-
-pub serves_makes : (id : ℕ) (h h' : HeldView) (x : Option Operation) (o : List Output) → Worked id h o (makes x) h' o → Serves id h o h' o
-serves_makes id h h' x o w = record { acts = makes x; worked = w; service = makes_service x }
-
-pub serves_one : (id : ℕ) (h h' : HeldView) (x : Operation) (o : List Output) → Worked id h o (Store (Made x) ∷ []) h' o → Serves id h o h' o
-serves_one id h h' x o w = serves_makes id h h' (Some x) o w
 
 -- ---- a client is accepted
 

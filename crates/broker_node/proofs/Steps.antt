@@ -74,7 +74,7 @@ module _ (id nodes : ℕ) (h mid h' : HeldView) (e : Event) (moment : mid ≡ re
 
   pub cause_stepped : (f : NodeFault) → IsCause id mid f → HasCause id h e f
   cause_stepped NoMemory c = tt
-  cause_stepped NumbersAtEnd c = inr (Moment e.at ∷ c.0, c.1, (mid, moment, c.2), c.3)
+  cause_stepped NumbersAtEnd c = inr (Moment e.at ∷ c.0, c.1, (mid, moment, c.2), c.3, c.4)
   cause_stepped Stopped c = c
 
   pub stepped_exit : {T : Type 0} (r : Result T NodeFault) (f : NodeFault) → IsErrAnd r (λ g. g ≡ f) → IsCause id mid f → IfErr r (HasCause id h e)

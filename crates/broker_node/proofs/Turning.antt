@@ -4,9 +4,9 @@ use Rattle.std.proofs.lemmas.List.{append-nil, take_more}
 use Rattle.broker_node.specs.declared.outcome.Output.{Output}
 use Rattle.broker_node.specs.View.{HeldView}
 use Rattle.broker_node.specs.Acts.{Act, Runs}
-use Rattle.broker_node.specs.Serving.{Did, InTurn, AreService}
+use Rattle.broker_node.specs.Serving.{Did, InTurn}
 use Rattle.broker_node.proofs.Acts.{worked_more, worked_quiet}
-use Rattle.broker_node.proofs.Serving.{service_append}
+use Rattle.broker_node.proofs.Serving.{AreService, service_append}
 
 -- what gives nothing out, after any outputs
 pub did_quiet : (id : ℕ) (h h' : HeldView) (o : List Output) (P : List Act → Type 0) → Did id h [] h' [] P → Did id h o h' o P

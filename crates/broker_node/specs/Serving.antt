@@ -5,8 +5,7 @@ use Rattle.broker_node.specs.declared.outcome.Output.{Output}
 use Rattle.broker_node.specs.declared.desk.Flow.{Flow}
 use Rattle.broker_node.specs.declared.desk.Flow.TheVariants.{Ended}
 use Rattle.broker_node.specs.View.{HeldView}
-use Rattle.broker_node.specs.Acts.{Act, Moment, Began, Store, Connection, Out, Made, Merged, Runs}
-use Rattle.broker_node.specs.Connections.{Opened, Fed, Accepted, Closed}
+use Rattle.broker_node.specs.Acts.{Act, Runs}
 use Rattle.broker_node.specs.Packets.{disconnect_packet}
 use Rattle.broker_node.specs.Sending.{Sends}
 use Rattle.broker_node.specs.Worked.{Worked}
@@ -18,23 +17,7 @@ IsOpen c h = is_some (map.get h.connections c) ≡ true
 abbrev pub client_at : HeldView → ℕ → Option (List ℕ)
 client_at h c = option_and_then (λ x. x.client) (map.get h.connections c)
 
--- a packet is answered by operations, by a client that is accepted, and by what goes out
-abbrev pub IsService : Act → Type 0
-IsService (Moment at) = ⊥
-IsService Began = ⊥
-IsService (Store (Made o)) = Unit {0}
-IsService (Store (Merged s)) = ⊥
-IsService (Connection (Opened c)) = ⊥
-IsService (Connection (Fed c piece)) = ⊥
-IsService (Connection (Accepted c client)) = Unit {0}
-IsService (Connection (Closed c)) = ⊥
-IsService (Out o) = Unit {0}
-
-abbrev pub AreService : List Act → Type 0
-AreService [] = Unit {0}
-AreService (a ∷ rest) = IsService a × AreService rest
-
--- acts of this kind, with the outputs that they add
+-- acts of a kind, with the outputs that they add
 abbrev pub Did : ℕ → HeldView → List Output → HeldView → List Output → (List Act → Type 0) → Type 0
 Did id h before h' after P = (acts : List Act) × Worked id h before acts h' after × P acts
 
@@ -54,9 +37,3 @@ InTurn One id h [] ys acts h' = (ys ≡ []) × (acts ≡ []) × (h' ≡ h)
 InTurn {B = B} One id h (x ∷ xs) ys acts h' =
     (y : B) × (own : List Act) × (mid : HeldView) × (later : List B) × (rest : List Act)
     × One h x y own × Runs id h own mid × InTurn One id mid xs later rest h' × (ys ≡ y ∷ later) × (acts ≡ own ++ rest)
-
--- acts of this kind alone
-pub record Serves (id : ℕ) (h : HeldView) (before : List Output) (h' : HeldView) (after : List Output) : Type 0 where
-  pub acts : List Act
-  pub worked : Worked id h before acts h' after
-  pub service : AreService acts

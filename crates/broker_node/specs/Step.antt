@@ -44,7 +44,7 @@ pub record IsDone (n : NodeView) (e : Event) (outputs : List Output) (n' : NodeV
 abbrev pub HasCause : ℕ → HeldView → Event → NodeFault → Type 0
 HasCause id h e NoMemory = Unit {0}
 HasCause id h e NumbersAtEnd =
-    (2 ^ 62 ≤ e.at) ⊎ ((acts : List Act) × (mid : HeldView) × Runs id h acts mid × (NumberAtEnd id mid.store ⊎ CountAtEnd mid.store))
+    (2 ^ 62 ≤ e.at) ⊎ ((acts : List Act) × (mid : HeldView) × Runs id h acts mid × (NumberAtEnd id mid.store ⊎ CountAtEnd mid.store) × (gather merge_in acts ≡ []))
 HasCause id h e Stopped = ⊥
 
 -- a node that has stopped answers so; another one has its cause

@@ -6,7 +6,7 @@ use Rattle.broker_node.specs.declared.fault.NodeFault.{NodeFault}
 use Rattle.broker_node.specs.declared.fault.NodeFault.TheVariants.{NoMemory, NumbersAtEnd, Stopped}
 use Rattle.broker_node.specs.declared.outcome.Output.{Output}
 use Rattle.broker_node.specs.View.{HeldView}
-use Rattle.broker_node.specs.Acts.{Act, Store, Made, Runs, gather, output_in}
+use Rattle.broker_node.specs.Acts.{Act, Store, Made, Runs, gather, merge_in, output_in}
 
 pub record Worked (id : ℕ) (h : HeldView) (before : List Output) (acts : List Act) (h' : HeldView) (after : List Output) : Type 0 where
   pub runs : Runs id h acts h'
@@ -16,10 +16,10 @@ pub record Worked (id : ℕ) (h : HeldView) (before : List Output) (acts : List 
 abbrev pub AtEnd : ℕ → HeldView → Type 0
 AtEnd id h = NumberAtEnd id h.store ⊎ CountAtEnd h.store
 
--- why work that began here stopped
+-- why work that began here stopped: a number or a count is at its end, where acts that merge nothing have led
 abbrev pub IsCause : ℕ → HeldView → NodeFault → Type 0
 IsCause id h NoMemory = Unit {0}
-IsCause id h NumbersAtEnd = (acts : List Act) × (mid : HeldView) × Runs id h acts mid × AtEnd id mid
+IsCause id h NumbersAtEnd = (acts : List Act) × (mid : HeldView) × Runs id h acts mid × AtEnd id mid × (gather merge_in acts ≡ [])
 IsCause id h Stopped = ⊥
 
 -- an operation is made, where there is one

@@ -1,4 +1,4 @@
-use Rattle.std.proofs.Common.{subst, [], ◌∷◌}
+use Rattle.std.proofs.Common.{refl, subst, [], ◌∷◌}
 use Rattle.std.proofs.lemmas.Result.{on_ok_weaker}
 use Rattle.broker_node.specs.Acts.{Connection}
 use Rattle.broker_node.specs.Connections.{Fed}
@@ -37,4 +37,4 @@ returns-in-Packets-clause-ok c =
 pub returns-in-Packets-clause-cause : goal.returns-in-Packets-clause-cause
 returns-in-Packets-clause-cause c =
     let fed = worked_fed c.args.held.now c.feed.new.self c.args.desk.connection c.args.bytes.now c.in_ok-feed.field-0 c.in-Packets.field-0 c.in-Packets.is c.in_ok-feed.ensures.fed c.args.desk.node [] in
-    later c.args.desk.node (Connection (Fed c.args.desk.connection c.args.bytes.now) ∷ []) c.args.held.now c.feed.new.self c.take.result fed.runs c.take.ensures.cause
+    later c.args.desk.node (Connection (Fed c.args.desk.connection c.args.bytes.now) ∷ []) c.args.held.now c.feed.new.self c.take.result fed.runs refl c.take.ensures.cause

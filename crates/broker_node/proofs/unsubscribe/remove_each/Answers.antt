@@ -2,13 +2,14 @@ use Rattle.std.proofs.Common.{sym, subst, [], take, ◌+◌}
 use Rattle.broker_node.specs.Serving.{Did, InTurn}
 use Rattle.broker_node.specs.Unsubscribing.{Removes}
 use Rattle.broker_node.proofs.Exits.{later_exit}
+use Rattle.broker_node.proofs.Clients.{removes_quiet}
 use Rattle.broker_node.proofs.Turning.{turn_next}
 use Rattle.broker_node.proofs.unsubscribe.remove_each.Goals as goal
 
 pub returns-in_err-reason-clause-cause : goal.returns-in_err-reason-clause-cause
 returns-in_err-reason-clause-cause c =
     let d = c.loop-text.invariant in
-    later_exit c.args.desk.node d.0 c.args.held.now c.loop-text.held c.from_residual.result c.in_err-reason.field-0.0 c.from_residual.ensures.1 d.1.runs c.in_err-reason.ensures.cause
+    later_exit c.args.desk.node d.0 c.args.held.now c.loop-text.held c.from_residual.result c.in_err-reason.field-0.0 c.from_residual.ensures.1 d.1.runs (removes_quiet c.args.desk.node c.args.client.now c.args.held.now _ c.loop-text.reasons.items d.0 c.loop-text.held d.2) c.in_err-reason.ensures.cause
 
 pub loop-text-preserved : goal.loop-text-preserved
 loop-text-preserved c =
