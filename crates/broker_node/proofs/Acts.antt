@@ -11,10 +11,8 @@ use Rattle.replica_store.specs.States.{State, state_join}
 use Rattle.replica_store.specs.StateOf.{delta_of}
 use Rattle.broker_node.specs.declared.outcome.Output.{Output}
 use Rattle.broker_node.specs.View.{HeldView}
-use Rattle.broker_node.specs.Acts.{Act, Store, Made, IsMade, Runs, gather, merge_in, output_in}
-use Rattle.broker_node.specs.Worked.{Worked, IsCause, AtEnd}
-use Rattle.broker_node.specs.declared.fault.NodeFault.{NodeFault}
-use Rattle.broker_node.specs.declared.fault.NodeFault.TheVariants.{NoMemory, NumbersAtEnd, Stopped}
+use Rattle.broker_node.specs.Acts.{Act, Store, Made, IsMade, Runs, gather, output_in}
+use Rattle.broker_node.specs.Worked.{Worked}
 
 pub gather-append : {A : Type 0} (f : Act → List A) (xs ys : List Act) → gather f (xs ++ ys) ≡ gather f xs ++ gather f ys
 gather-append f [] ys = refl
@@ -63,15 +61,3 @@ module _ (id : ℕ) (s : State) (client : List ℕ) (to : Option (List ℕ)) whe
   made_remove o n h =
       let is : o ≡ removal = (standing_by (any_of client to s.subscriptions) o refl h).1 in
       subst (IsMade id s) (sym is) (n, (client, to, ap Some (sym is) ∙ h))
-
--- causes
-pub cause_memory : (id : ℕ) (h : HeldView) (f : NodeFault) → f ≡ NoMemory → IsCause id h f
-cause_memory id h f e = subst (IsCause id h) (sym e) tt
-
-pub cause_here : (id : ℕ) (h : HeldView) (f : NodeFault) → f ≡ NumbersAtEnd → AtEnd id h → IsCause id h f
-cause_here id h f e a = subst (IsCause id h) (sym e) ([], h, refl, a, refl)
-
-pub cause_later : (id : ℕ) (acts : List Act) (h mid : HeldView) → Runs id h acts mid → gather merge_in acts ≡ [] → (f : NodeFault) → IsCause id mid f → IsCause id h f
-cause_later id acts h mid r q NoMemory c = tt
-cause_later id acts h mid r q NumbersAtEnd c = (acts ++ c.0, c.1, runs_join id acts c.0 h mid c.1 r c.2, c.3, gather-append merge_in acts c.0 ∙ (λ i. q i ++ c.4 i))
-cause_later id acts h mid r q Stopped c = c

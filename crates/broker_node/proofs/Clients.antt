@@ -13,7 +13,7 @@ use Rattle.broker_node.specs.declared.outcome.Output.{Output}
 use Rattle.broker_node.specs.declared.desk.Flow.{Flow}
 use Rattle.broker_node.specs.declared.desk.Flow.TheVariants.{Open, Ended}
 use Rattle.broker_node.specs.View.{HeldView}
-use Rattle.broker_node.specs.Acts.{Act, Connection, gather, merge_in}
+use Rattle.broker_node.specs.Acts.{Act, Connection}
 use Rattle.broker_node.specs.Connections.{Accepted}
 use Rattle.broker_node.specs.Packets.{accepted_packet, unsuback_packet}
 use Rattle.broker_node.specs.Sending.{Sent, Sends}
@@ -26,7 +26,7 @@ use Rattle.replica_store.specs.Making.{remove_of}
 use Rattle.broker_node.specs.Parsing.{IsFilterOf}
 use Rattle.broker_node.specs.Worked.{Worked, makes}
 use Rattle.broker_node.proofs.Acts.{worked_nothing, worked_more, worked_quiet}
-use Rattle.broker_node.proofs.Serving.{AreService, sends_service, service_merges, worked_send, service_append, makes_service}
+use Rattle.broker_node.proofs.Serving.{AreService, sends_service, worked_send, service_append, makes_service}
 use Rattle.broker_node.proofs.Subscribing.{subscribes_service}
 use Rattle.broker_node.proofs.Turning.{in_turn_all}
 
@@ -65,9 +65,6 @@ first_service c h (packets.Auth p) flow acts e = alone_service flow acts e
 removes_service : (id : ℕ) (client : List ℕ) (h : HeldView) (text : List ℕ) (reason : ℕ) (acts : List Act) → Removes id client h text reason acts → AreService acts
 removes_service id client h text reason acts (inl r) = subst AreService (sym r.2) tt
 removes_service id client h text reason acts (inr r) = subst AreService (sym r.2) (makes_service _)
-
-pub removes_quiet : (id : ℕ) (client : List ℕ) (h : HeldView) (texts : List (List ℕ)) (reasons : List ℕ) (acts : List Act) (h' : HeldView) → InTurn (Removes id client) id h texts reasons acts h' → gather merge_in acts ≡ []
-removes_quiet id client h texts reasons acts h' w = service_merges acts (in_turn_all (Removes id client) id (λ v x y own r. removes_service id client v x y own r) h texts reasons acts h' w)
 
 unsubscribes_service : (id c : ℕ) (client : List ℕ) (h : HeldView) (p : UnsubscribePacket) (flow : Flow) (acts : List Act) → Unsubscribes id c client h p flow acts → AreService acts
 unsubscribes_service id c client h p flow acts u =

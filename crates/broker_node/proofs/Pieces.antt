@@ -1,5 +1,5 @@
 -- Packets of a piece, one after the other, and its end.
-use Rattle.std.proofs.Common.{◌≡◌, ℕ, Bool, true, false, cond, is_some, List, [], ◌∷◌, ◌++◌, Option, Some, None, refl, sym, ap, subst, ◌∙◌, inl, inr, append_assoc, zero, suc, ◌+◌, ◌<◌, length, get_or, take, drop, drop-cons}
+use Rattle.std.proofs.Common.{◌≡◌, ℕ, Bool, true, false, cond, is_some, List, [], ◌∷◌, ◌++◌, Option, Some, None, refl, sym, ap, subst, ◌∙◌, inl, inr, append_assoc, suc, ◌+◌, ◌<◌, length, get_or, take, drop}
 use Rattle.std.proofs.lemmas.List.{append-nil, take_more}
 use Rattle.std.specs.FinMap as map
 use Rattle.mqtt_packets.specs.declared.packet.Packet.{Packet}
@@ -20,15 +20,12 @@ use Rattle.broker_node.specs.Pieces.{AnsweredInTurn, SendsCode, RefusesBy, Refus
 use Rattle.broker_node.specs.Sending.{Sent, closes}
 use Rattle.broker_node.specs.Serving.{Did, IsOpen, client_at}
 use Rattle.broker_node.specs.Worked.{Worked}
+use Rattle.broker_node.specs.Needs.{PacketNeeds, PacketsNeed, PieceNeedsAt, PieceNeeds}
 use Rattle.broker_node.proofs.Acts.{gather-append, worked_nothing, worked_more}
 use Rattle.broker_node.proofs.Clients.{answered_service, did_send}
 use Rattle.broker_node.proofs.Feeding.{worked_fed}
+use Rattle.broker_node.proofs.Turning.{split_at}
 use Rattle.broker_node.proofs.Serving.{AreService, service_append, service_merges, service_open, sends_service}
-
-take_drop : {A : Type 0} (i : ℕ) (xs : List A) → take i xs ++ drop i xs ≡ xs
-take_drop zero xs = refl
-take_drop (suc i) [] = refl
-take_drop (suc i) (x ∷ xs) = ap (λ ys. x ∷ ys) (take_drop i xs)
 
 module _ (id c : ℕ) where
   -- packets that were answered, and then more
@@ -47,9 +44,6 @@ module _ (id c : ℕ) where
   in_turn_service h [] flow xs h' a = subst AreService (sym a.1) tt
   in_turn_service h (p ∷ ps) flow xs h' (inl e) = answered_service id c h p Ended xs e.1
   in_turn_service h (p ∷ ps) flow xs h' (inr w) = subst AreService (sym w.6) (service_append w.0 w.2 (answered_service id c h p Open w.0 w.3) (in_turn_service w.1 ps flow w.2 h' w.5))
-
-  pub in_turn_quiet : (h : HeldView) (ps : List Packet) (flow : Flow) (xs : List Act) (h' : HeldView) → AnsweredInTurn id c h ps flow xs h' → gather merge_in xs ≡ []
-  in_turn_quiet h ps flow xs h' a = service_merges xs (in_turn_service h ps flow xs h' a)
 
   pub in_turn_open : (h : HeldView) (ps : List Packet) (flow : Flow) (xs : List Act) (h' : HeldView) → AnsweredInTurn id c h ps flow xs h' → Runs id h xs h' → IsOpen c h → IsOpen c h'
   in_turn_open h ps flow xs h' a r o = service_open id c xs h h' (in_turn_service h ps flow xs h' a) r o
@@ -151,6 +145,12 @@ module _ (id c : ℕ) (h h' : HeldView) (piece : List ℕ) (o : List Output) whe
             }),
       )
 
+  pub piece_needs : (came : Came) (f : FedPackets) → came ≡ Packets f → IsHeldFed h c piece came h' → PacketsNeed id c h' f.packets.items → PieceNeeds id c h piece
+  piece_needs came f e w n =
+      let v = subst (λ x. IsHeldFed h c piece x h') e w in
+      let fed = worked_fed h h' c piece came f e w id o in
+      subst (λ x. PieceNeedsAt x id c h piece) (sym v.1.1) record { sound = v.1.2; after = h'; fed = fed.runs; needs = subst (λ x. PacketsNeed id c h' x) v.1.3 n }
+
 -- ---- no piece merges
 
 closes_merge : (c : ℕ) (h : HeldView) (flow : Flow) (fault : Option PacketFault) (acts : List Act) → Closes c h flow fault acts → gather merge_in acts ≡ []
@@ -200,7 +200,12 @@ module _ (id c : ℕ) (h mid h' : HeldView) (ps : List Packet) (i : ℕ) (p : Pa
   answered_last d flow f e = (
     d.0 ++ e.0,
     worked_more id d.0 e.0 h mid h' o q r d.1 e.1,
-    subst (λ xs. AnsweredInTurn id c h xs Ended (d.0 ++ e.0) h') (ap (λ xs. take i ps ++ xs) (ap (λ x. x ∷ drop (suc i) ps) at ∙ sym (drop-cons ps i p below)) ∙ take_drop i ps)
+    subst (λ xs. AnsweredInTurn id c h xs Ended (d.0 ++ e.0) h') (split_at ps i p below at)
         (answered_more id c h mid h' (take i ps) (p ∷ drop (suc i) ps) Ended d.0 e.0 d.2
         (answered_one id c mid h' p Ended e.0 (subst (λ g. Answered id c mid p g e.0) f e.2) e.1.runs (drop (suc i) ps) (λ z. absurd (let y = z in cc)))),
   )
+
+-- a packet of a slice that needs an operation
+pub packet_needs : (id c : ℕ) (h mid : HeldView) (ps : List Packet) (i : ℕ) (p : Packet) → i < length ps → p ≡ get_or ps i p → (o q : List Output)
+    → Did id h o mid q (λ acts. AnsweredInTurn id c h (take i ps) Open acts mid) → PacketNeeds id c mid p → PacketsNeed id c h ps
+packet_needs id c h mid ps i p below at o q d n = record { before = take i ps; packet = p; rest = drop (suc i) ps; acts = d.0; after = mid; items_are = sym (split_at ps i p below at); answered = d.2; needs = n }

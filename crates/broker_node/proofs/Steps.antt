@@ -19,6 +19,7 @@ use Rattle.broker_node.specs.Frames.{is_for, states_in, is_other}
 use Rattle.broker_node.specs.Step.{Steps, IsDone, HasCause, HasCauseAt, brought}
 use Rattle.broker_node.specs.Turns.{Turn, Answers, first, merges}
 use Rattle.broker_node.specs.Worked.{Worked, IsCause, makes}
+use Rattle.broker_node.specs.Needs.{TurnNeeds}
 use Rattle.broker_node.proofs.Pieces.{piece_merges}
 
 if_merges : (b : Bool) (xs ys : List Act) (zs : List State) → gather merge_in xs ≡ zs → gather merge_in ys ≡ [] → gather merge_in (cond b xs ys) ≡ cond b zs []
@@ -72,12 +73,12 @@ module _ (id nodes : ℕ) (h mid h' : HeldView) (e : Event) (moment : mid ≡ re
     },
   )
 
-  pub cause_stepped : (f : NodeFault) → IsCause id mid f → HasCause id h e f
+  cause_stepped : (f : NodeFault) → IsCause (TurnNeeds id mid e.kind) f → HasCause id h e f
   cause_stepped NoMemory c = tt
-  cause_stepped NumbersAtEnd c = inr (Moment e.at ∷ c.0, c.1, (mid, moment, c.2), c.3, c.4)
+  cause_stepped NumbersAtEnd c = inr (subst (λ (v : HeldView). TurnNeeds id v e.kind) moment c)
   cause_stepped Stopped c = c
 
-  pub stepped_exit : {T : Type 0} (r : Result T NodeFault) (f : NodeFault) → IsErrAnd r (λ g. g ≡ f) → IsCause id mid f → IfErr r (HasCause id h e)
+  pub stepped_exit : {T : Type 0} (r : Result T NodeFault) (f : NodeFault) → IsErrAnd r (λ g. g ≡ f) → IsCause (TurnNeeds id mid e.kind) f → IfErr r (HasCause id h e)
   stepped_exit r f is a =
       let p = err_from_is_err_and r is in
       subst (λ x. IfErr x (HasCause id h e)) (sym p.1) (subst (HasCause id h e) (sym p.2) (cause_stepped f a))

@@ -23,14 +23,14 @@ use Rattle.broker_node.specs.declared.outcome.Output.{Output}
 use Rattle.broker_node.specs.declared.subscribe.Asked.{Asked}
 use Rattle.broker_node.specs.declared.subscribe.Granted.{Granted}
 use Rattle.broker_node.specs.View.{HeldView}
-use Rattle.broker_node.specs.Acts.{Act, Store, Made, gather, merge_in}
+use Rattle.broker_node.specs.Acts.{Act, Store, Made}
 use Rattle.broker_node.specs.Packets.{suback_packet, retained_packet}
 use Rattle.broker_node.specs.Sending.{Sends, Sent}
 use Rattle.broker_node.specs.Serving.{Did, Each, InTurn}
 use Rattle.broker_node.specs.Subscribing.{AsksNoLocal, has_most, refused, granted, entry_of, GrantsBy, Grants, SendsRetained, SendsAsked, identifier_of, Subscribes, SubscribesOrEnds}
 use Rattle.broker_node.specs.Worked.{Worked}
 use Rattle.broker_node.proofs.Acts.{worked_nothing, worked_more, worked_quiet}
-use Rattle.broker_node.proofs.Serving.{AreService, service_append, service_merges, sends_service, worked_send}
+use Rattle.broker_node.proofs.Serving.{AreService, service_append, sends_service, worked_send}
 use Rattle.broker_node.proofs.Turning.{in_turn_all}
 
 -- ---- each in order
@@ -145,9 +145,6 @@ grants_service id client identifier h f g acts (inr r) = by (not (any_of client 
     by : (b : Bool) → cond b ((g ≡ refused 151) × (acts ≡ [])) ((g ≡ granted f (any_of client (Some f.filter) h.store.subscriptions)) × (acts ≡ Store (Made (subscribe_of id (entry_of client f identifier) h.store)) ∷ [])) → AreService acts
     by true w = subst AreService (sym w.1) tt
     by false w = subst AreService (sym w.1) (tt, tt)
-
-pub grants_quiet : (id : ℕ) (client : List ℕ) (identifier : ℕ) (h : HeldView) (fs : List SubscribeFilter) (gs : List Granted) (acts : List Act) (h' : HeldView) → InTurn (Grants id client identifier) id h fs gs acts h' → gather merge_in acts ≡ []
-grants_quiet id client identifier h fs gs acts h' w = service_merges acts (in_turn_all (Grants id client identifier) id (λ v x y own r. grants_service id client identifier v x y own r) h fs gs acts h' w)
 
 asked_service : (c : ℕ) (h : HeldView) (identifier : ℕ) (x : Option Asked) (acts : List Act) → SendsAsked c h identifier x acts → AreService acts
 asked_service c h identifier None acts e = subst AreService (sym e) tt

@@ -1,12 +1,22 @@
 -- Items answered in turn.
-use Rattle.std.proofs.Common.{◌≡◌, ℕ, ◌+◌, ◌<◌, List, [], ◌∷◌, ◌++◌, length, get_or, take, refl, sym, ap, subst, ◌∙◌, append_assoc}
+use Rattle.std.proofs.Common.{◌≡◌, ℕ, ◌+◌, ◌<◌, List, [], ◌∷◌, ◌++◌, length, get_or, take, drop, drop-cons, zero, suc, refl, sym, ap, subst, ◌∙◌, append_assoc}
 use Rattle.std.proofs.lemmas.List.{append-nil, take_more}
 use Rattle.broker_node.specs.declared.outcome.Output.{Output}
 use Rattle.broker_node.specs.View.{HeldView}
 use Rattle.broker_node.specs.Acts.{Act, Runs}
 use Rattle.broker_node.specs.Serving.{Did, InTurn}
+use Rattle.broker_node.specs.Needs.{OneNeeds}
 use Rattle.broker_node.proofs.Acts.{worked_more, worked_quiet}
 use Rattle.broker_node.proofs.Serving.{AreService, service_append}
+
+take_drop : {A : Type 0} (i : ℕ) (xs : List A) → take i xs ++ drop i xs ≡ xs
+take_drop zero xs = refl
+take_drop (suc i) [] = refl
+take_drop (suc i) (x ∷ xs) = ap (λ ys. x ∷ ys) (take_drop i xs)
+
+-- a list, by one of its items
+pub split_at : {A : Type 0} (xs : List A) (i : ℕ) (x : A) → i < length xs → x ≡ get_or xs i x → take i xs ++ x ∷ drop (suc i) xs ≡ xs
+split_at xs i x below at = ap (λ ys. take i xs ++ ys) (ap (λ y. y ∷ drop (suc i) xs) at ∙ sym (drop-cons xs i x below)) ∙ take_drop i xs
 
 -- what gives nothing out, after any outputs
 pub did_quiet : (id : ℕ) (h h' : HeldView) (o : List Output) (P : List Act → Type 0) → Did id h [] h' [] P → Did id h o h' o P
@@ -51,3 +61,9 @@ module _ {A B : Type 0} (One : HeldView → A → B → List Act → Type 0) (id
     worked_more id d.0 e.0 h mid h' o p q d.1 e.1,
     subst (λ zs. InTurn One id h zs (ys ++ y ∷ []) (d.0 ++ e.0) h') (sym (take_more xs i x below ∙ ap (λ z. take i xs ++ z ∷ []) (sym at))) (in_turn_push h mid h' (take i xs) x ys y d.0 e.0 d.2 e.2 e.1.runs),
   )
+
+  -- an item of a slice that needs an operation
+  pub item_needs : (Needs : HeldView → A → Type 0) (h mid : HeldView) (xs : List A) (i : ℕ) (x : A) → i < length xs → x ≡ get_or xs i x → (ys : List B) (o p : List Output)
+      → Did id h o mid p (λ acts. InTurn One id h (take i xs) ys acts mid) → Needs mid x → OneNeeds One Needs id h xs
+  item_needs Needs h mid xs i x below at ys o p d n =
+      record { before = take i xs; item = x; rest = drop (suc i) xs; answers = ys; acts = d.0; after = mid; items_are = sym (split_at xs i x below at); answered = d.2; needs = n }

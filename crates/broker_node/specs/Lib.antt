@@ -6,6 +6,7 @@ pub mod Feeding
 pub mod Frames
 pub mod Idle
 pub mod Names
+pub mod Needs
 pub mod Packets
 pub mod Parsing
 pub mod Pieces

@@ -7,10 +7,10 @@ use Rattle.broker_node.specs.declared.event.EventKind.TheVariants as kinds
 use Rattle.broker_node.specs.declared.outcome.Output.{Output}
 use Rattle.broker_node.specs.declared.fault.NodeFault.{NodeFault}
 use Rattle.broker_node.specs.declared.fault.NodeFault.TheVariants.{NoMemory, NumbersAtEnd, Stopped}
-use Rattle.replica_store.specs.Making.{NumberAtEnd, CountAtEnd}
 use Rattle.broker_node.specs.View.{HeldView, NodeView}
 use Rattle.broker_node.specs.Acts.{Act, Moment, Runs, gather, merge_in, output_in}
 use Rattle.broker_node.specs.Turns.{Turn}
+use Rattle.broker_node.specs.Needs.{TurnNeeds}
 pub use Rattle.broker_node.specs.Frames.{is_for, states_in}
 
 -- the states that an event brings
@@ -40,11 +40,11 @@ pub record IsDone (n : NodeView) (e : Event) (outputs : List Output) (n' : NodeV
   pub is : n'.up ≡ Some after
   pub steps : Steps n.id n.nodes before e acts outputs after
 
--- why a running node stops
+-- why a running node stops: memory is wanting; or the event's moment is 2^62 or later, or the event needs an operation that
+-- can't be numbered
 abbrev pub HasCause : ℕ → HeldView → Event → NodeFault → Type 0
 HasCause id h e NoMemory = Unit {0}
-HasCause id h e NumbersAtEnd =
-    (2 ^ 62 ≤ e.at) ⊎ ((acts : List Act) × (mid : HeldView) × Runs id h acts mid × (NumberAtEnd id mid.store ⊎ CountAtEnd mid.store) × (gather merge_in acts ≡ []))
+HasCause id h e NumbersAtEnd = (2 ^ 62 ≤ e.at) ⊎ TurnNeeds id (record h { at = max h.at e.at }) e.kind
 HasCause id h e Stopped = ⊥
 
 -- a node that has stopped answers so; another one has its cause

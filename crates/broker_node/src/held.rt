@@ -6,11 +6,12 @@ ghost use Rattle.std.specs.FinMap as map;
 ghost use Rattle.std.specs.FinSet as set;
 ghost use Rattle.replica_store.specs.States.{state_join};
 ghost use Rattle.replica_store.specs.StateOf.{delta_of as delta};
-ghost use Rattle.replica_store.specs.Making.{subscribe_of, remove_of, put_of};
+ghost use Rattle.replica_store.specs.Making.{NumberAtEnd, subscribe_of, remove_of, put_of};
 ghost use Rattle.broker_node.specs.declared.outcome.Output.{Output};
 ghost use Rattle.broker_node.specs.View.{fresh};
 ghost use Rattle.broker_node.specs.Acts.{Store, Made};
 ghost use Rattle.broker_node.specs.Worked.{Worked, IsCause, makes};
+ghost use Rattle.broker_node.specs.Needs.{NeedsRemove, NeedsPut};
 ghost use Rattle.broker_node.specs.Connections.{new_connection};
 ghost use Rattle.broker_node.specs.Feeding.{IsHeldFed, IsHeldAccepted};
 ghost use Rattle.broker_node.specs.declared.fault.NodeFault.TheVariants.{NoMemory};
@@ -141,7 +142,7 @@ impl Held {
     pub fn subscribe(&mut self, node: u16, entry: Entry) -> Result<(), NodeFault>
         ensures ok { OnOk result ((outputs : List Output)
             → Worked node self.old outputs (Store (Made (subscribe_of node entry self.old.store)) ∷ []) self.new outputs) }
-        ensures cause { IfErr result (IsCause node self.old) }
+        ensures cause { IfErr result (IsCause (NumberAtEnd node self.old.store)) }
     {
         let operation = self.store.make_subscribe(node, entry)?;
         self.apply(&operation)
@@ -158,7 +159,7 @@ impl Held {
         ensures ok { OnOk result ((outputs : List Output)
             → Worked node self.old outputs (makes (remove_of node client.now (option_copied filter.entry) self.old.store)) self.new outputs) }
         ensures stood { IfOk result (λ stood. stood ≡ is_some (remove_of node client.now (option_copied filter.entry) self.old.store)) }
-        ensures cause { IfErr result (IsCause node self.old) }
+        ensures cause { IfErr result (IsCause (NeedsRemove node client.now (option_copied filter.entry) self.old)) }
     {
         match self.store.make_remove(node, client, filter)? {
             Some(operation) => {
@@ -178,7 +179,7 @@ impl Held {
     ) -> Result<(), NodeFault>
         ensures ok { OnOk result ((outputs : List Output)
             → Worked node self.old outputs (Store (Made (put_of node topic message self.old.store)) ∷ []) self.new outputs) }
-        ensures cause { IfErr result (IsCause node self.old) }
+        ensures cause { IfErr result (IsCause (NeedsPut node self.old)) }
     {
         let operation = self.store.make_put(node, topic, message)?;
         self.apply(&operation)

@@ -8,6 +8,7 @@ ghost use Rattle.broker_node.specs.Serving.{Did, IsOpen};
 ghost use Rattle.broker_node.specs.Clients.{Answer, Answered};
 ghost use Rattle.broker_node.specs.Pieces.{Piece, Takes, AnsweredInTurn};
 ghost use Rattle.broker_node.specs.Worked.{Worked, IsCause};
+ghost use Rattle.broker_node.specs.Needs.{AnswerNeeds, PacketNeeds, PacketsNeed, PieceNeeds};
 ghost use Rattle.broker_node.specs.declared.fault.NodeFault.TheVariants.{NoMemory};
 
 use crate::answers::refuse;
@@ -32,7 +33,7 @@ pub fn take_piece(
 ) -> Result<(), NodeFault>
     ensures idle { map.get held.old.connections desk.connection ≡ None → Keeps result outcome.old outcome.new }
     ensures ok { OnOk result (Did desk.node held.old outcome.old.outputs.items held.new outcome.new.outputs.items (Piece desk.node desk.connection held.old bytes.now)) }
-    ensures cause { IfErr result (IsCause desk.node held.old) }
+    ensures cause { IfErr result (IsCause (PieceNeeds desk.node desk.connection held.old bytes.now)) }
 {
     match held.feed(desk.connection, bytes)? {
         Came::Nothing => Ok(()),
@@ -51,7 +52,7 @@ fn take(
 ) -> Result<(), NodeFault>
     requires { IsOpen desk.connection held.old }
     ensures ok { OnOk result (Did desk.node held.old outcome.old.outputs.items held.new outcome.new.outputs.items (Takes desk.node desk.connection held.old packets.now fault)) }
-    ensures cause { IfErr result (IsCause desk.node held.old) }
+    ensures cause { IfErr result (IsCause (PacketsNeed desk.node desk.connection held.old packets.now)) }
 {
     match answer_each(desk, held, packets, outcome)? {
         Flow::Ended => close(desk, held, outcome),
@@ -82,7 +83,7 @@ fn answer_each(
 ) -> Result<Flow, NodeFault>
     requires { IsOpen desk.connection held.old }
     ensures ok { IfOk result (λ flow. Did desk.node held.old outcome.old.outputs.items held.new outcome.new.outputs.items (λ acts. AnsweredInTurn desk.node desk.connection held.old packets.now flow acts held.new)) }
-    ensures cause { IfErr result (IsCause desk.node held.old) }
+    ensures cause { IfErr result (IsCause (PacketsNeed desk.node desk.connection held.old packets.now)) }
 {
     for packet in packets {
         match answer_packet(desk, held, packet, outcome)? {
@@ -101,7 +102,7 @@ fn answer_packet(
 ) -> Result<Flow, NodeFault>
     requires { IsOpen desk.connection held.old }
     ensures ok { IfOk result (λ flow. Did desk.node held.old outcome.old.outputs.items held.new outcome.new.outputs.items (Answered desk.node desk.connection held.old packet.now flow)) }
-    ensures cause { IfErr result (IsCause desk.node held.old) }
+    ensures cause { IfErr result (IsCause (PacketNeeds desk.node desk.connection held.old packet.now)) }
 {
     let client = match held.client_of(desk.connection) {
         Some(client) => Some(client.copy(desk.alloc)?),
@@ -122,7 +123,7 @@ fn answer(
     outcome: &mut Outcome,
 ) -> Result<Flow, NodeFault>
     ensures ok { IfOk result (λ flow. Did desk.node held.old outcome.old.outputs.items held.new outcome.new.outputs.items (Answer desk.node desk.connection client.now held.old packet.now flow)) }
-    ensures cause { IfErr result (IsCause desk.node held.old) }
+    ensures cause { IfErr result (IsCause (AnswerNeeds desk.node client.now held.old packet.now)) }
 {
     match packet {
         Packet::Publish(message) => publish(desk, held, client, message, outcome),

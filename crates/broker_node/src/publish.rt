@@ -10,6 +10,7 @@ ghost use Rattle.broker_node.specs.Publishing.{Publishes, PublishesTo, Retains, 
 ghost use Rattle.broker_node.specs.Serving.{Did};
 ghost use Rattle.broker_node.specs.Ending.{Ends};
 ghost use Rattle.broker_node.specs.Worked.{Worked, IsCause};
+ghost use Rattle.broker_node.specs.Needs.{NeedsPut, TopicNeeds, PublishNeeds};
 ghost use Rattle.broker_node.specs.declared.fault.NodeFault.TheVariants.{NoMemory};
 
 use crate::desk::{Desk, Flow};
@@ -31,7 +32,7 @@ pub fn publish(
     outcome: &mut Outcome,
 ) -> Result<Flow, NodeFault>
     ensures ok { IfOk result (λ flow. Did desk.node held.old outcome.old.outputs.items held.new outcome.new.outputs.items (Publishes desk.node desk.connection client.now held.old publish.now flow)) }
-    ensures cause { IfErr result (IsCause desk.node held.old) }
+    ensures cause { IfErr result (IsCause (PublishNeeds desk.node held.old publish.now)) }
 {
     match refusal(publish) {
         Some(reason) => end(desk, reason, outcome),
@@ -48,7 +49,7 @@ fn publish_to(
     outcome: &mut Outcome,
 ) -> Result<Flow, NodeFault>
     ensures ok { IfOk result (λ flow. Did desk.node held.old outcome.old.outputs.items held.new outcome.new.outputs.items (PublishesTo desk.node desk.connection client.now held.old publish.now flow)) }
-    ensures cause { IfErr result (IsCause desk.node held.old) }
+    ensures cause { IfErr result (IsCause (TopicNeeds desk.node held.old publish.now)) }
 {
     match topic_of(desk, &publish.topic)? {
         None => end(desk, reason::TOPIC_NAME_INVALID, outcome),
@@ -73,7 +74,7 @@ fn retain(
 ) -> Result<Flow, NodeFault>
     requires { topic ≡ publish.now.topic }
     ensures ok { IfOk result (λ flow. Did desk.node held.old outcome.old.outputs.items held.new outcome.new.outputs.items (Retains desk.node desk.connection client.now held.old publish.now flow)) }
-    ensures cause { IfErr result (IsCause desk.node held.old) }
+    ensures cause { IfErr result (IsCause (IsAcceptable publish.now × NeedsPut desk.node held.old)) }
 {
     if !Message::can_accept(publish) {
         return end(desk, reason::PROTOCOL_ERROR, outcome);
@@ -134,7 +135,7 @@ fn put(
 ) -> Result<(), NodeFault>
     requires { IsAcceptable publish.now }
     ensures ok { OnOk result ((outputs : List Output) → Worked desk.node held.old outputs (Store (Made (put_of desk.node topic (message_of publish.now client.now held.old.at) held.old.store)) ∷ []) held.new outputs) }
-    ensures cause { IfErr result (IsCause desk.node held.old) }
+    ensures cause { IfErr result (IsCause (NeedsPut desk.node held.old)) }
 {
     let message = message_of(desk, publish, client, held.at())?;
     held.put(desk.node, topic, message)

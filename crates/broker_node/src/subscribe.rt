@@ -11,6 +11,8 @@ ghost use Rattle.broker_node.specs.Packets.{suback_packet, retained_packet};
 ghost use Rattle.broker_node.specs.Sending.{Sent};
 ghost use Rattle.broker_node.specs.Parsing.{IsFilterOf};
 ghost use Rattle.broker_node.specs.Worked.{IsCause};
+ghost use Rattle.broker_node.specs.Needs.{OneNeeds, GrantNeeds, HasRoom, SubscribeNeeds};
+ghost use Rattle.replica_store.specs.Making.{NumberAtEnd};
 ghost use Rattle.broker_node.specs.declared.fault.NodeFault.TheVariants.{NoMemory};
 
 use crate::desk::{Desk, Flow};
@@ -62,7 +64,7 @@ pub fn subscribe(
     outcome: &mut Outcome,
 ) -> Result<Flow, NodeFault>
     ensures ok { IfOk result (λ flow. Did desk.node held.old outcome.old.outputs.items held.new outcome.new.outputs.items (SubscribesOrEnds desk.node desk.connection client.now held.old request.now flow)) }
-    ensures cause { IfErr result (IsCause desk.node held.old) }
+    ensures cause { IfErr result (IsCause (SubscribeNeeds desk.node client.now held.old request.now)) }
 {
     if asks_no_local_of_a_share(desk, request.filters.as_slice())? {
         end(desk, reason::PROTOCOL_ERROR, outcome)
@@ -81,7 +83,7 @@ fn answer(
     outcome: &mut Outcome,
 ) -> Result<Flow, NodeFault>
     ensures ok { IfOk result (λ flow. Did desk.node held.old outcome.old.outputs.items held.new outcome.new.outputs.items (Subscribes desk.node desk.connection client.now held.old request.now flow)) }
-    ensures cause { IfErr result (IsCause desk.node held.old) }
+    ensures cause { IfErr result (IsCause (OneNeeds (Grants desk.node client.now (identifier_of request.now)) (GrantNeeds desk.node client.now) desk.node held.old request.now.filters)) }
 {
     let identifier = identifier_of(request);
     let grants = grant_each(desk, held, client, request.filters.as_slice(), identifier)?;
@@ -171,7 +173,7 @@ fn grant_each(
     identifier: u32,
 ) -> Result<Vec<Granted>, NodeFault>
     ensures ok { IfOk result (λ grants. Did desk.node held.old [] held.new [] (λ acts. InTurn (Grants desk.node client.now identifier) desk.node held.old filters.now grants.items acts held.new)) }
-    ensures cause { IfErr result (IsCause desk.node held.old) }
+    ensures cause { IfErr result (IsCause (OneNeeds (Grants desk.node client.now identifier) (GrantNeeds desk.node client.now) desk.node held.old filters.now)) }
 {
     let mut grants = Vec::new(desk.alloc);
     for each in filters {
@@ -190,7 +192,7 @@ fn grant(
     identifier: u32,
 ) -> Result<Granted, NodeFault>
     ensures ok { IfOk result (λ granted. Did desk.node held.old [] held.new [] (Grants desk.node client.now identifier held.old asked.now granted)) }
-    ensures cause { IfErr result (IsCause desk.node held.old) }
+    ensures cause { IfErr result (IsCause (GrantNeeds desk.node client.now held.old asked.now)) }
 {
     match filter_of(desk, &asked.filter)? {
         Some(filter) => grant_filter(desk, held, client, filter, asked, identifier),
@@ -212,7 +214,7 @@ fn grant_filter(
 ) -> Result<Granted, NodeFault>
     requires { filter ≡ asked.now.filter }
     ensures ok { IfOk result (λ granted. Did desk.node held.old [] held.new [] (GrantsBy (any_of client.now (Some asked.now.filter) held.old.store.subscriptions) desk.node client.now identifier held.old asked.now granted)) }
-    ensures cause { IfErr result (IsCause desk.node held.old) }
+    ensures cause { IfErr result (IsCause (HasRoom client.now asked.now.filter held.old × NumberAtEnd desk.node held.old.store)) }
 {
     let stood = held.store().subscriptions().stands(client, Some(&filter));
     if is_full(held.store(), client, stood)? {

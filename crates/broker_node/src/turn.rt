@@ -2,12 +2,13 @@
 
 ghost use Rattle.std.specs.FinMap as map;
 ghost use Rattle.broker_node.specs.Idle.{Keeps, Rests, is_idle, RestsWhereIdle};
-ghost use Rattle.std.specs.Prelude.{◌≡◌, ◌<◌, ◌^◌, Ok, is_some, ℕ, List, true, OnOk, IfOk, IfErr};
+ghost use Rattle.std.specs.Prelude.{◌≡◌, ◌<◌, ◌^◌, Ok, is_some, ℕ, List, true, None, OnOk, IfOk, IfErr};
 ghost use Rattle.broker_node.specs.declared.outcome.Output.{Output};
 ghost use Rattle.broker_node.specs.Acts.{Act};
 ghost use Rattle.broker_node.specs.Step.{Steps, HasCause};
 ghost use Rattle.broker_node.specs.Turns.{Turn, Answers, first, opens, evicts};
 ghost use Rattle.broker_node.specs.Worked.{Worked, IsCause};
+ghost use Rattle.broker_node.specs.Needs.{NeedsRemove, EventNeeds, TurnNeeds};
 ghost use Rattle.broker_node.specs.declared.fault.NodeFault.TheVariants.{NoMemory};
 
 use crate::bridge::{hear, ship};
@@ -54,7 +55,7 @@ fn turn(
 ) -> Result<(), NodeFault>
     ensures idle { is_idle place.node place.nodes held.old kind.now ≡ true → Keeps result outcome.old outcome.new }
     ensures ok { OnOk result ((own : List Act) × Worked place.node held.old outcome.old.outputs.items own held.new outcome.new.outputs.items × Turn place.node place.nodes held.old kind.now own held.new) }
-    ensures cause { IfErr result (IsCause place.node held.old) }
+    ensures cause { IfErr result (IsCause (TurnNeeds place.node held.old kind.now)) }
 {
     if held.is_started() {
         answer(place, held, kind, outcome)
@@ -83,7 +84,7 @@ fn answer(
 ) -> Result<(), NodeFault>
     ensures idle { held.old.started ≡ true → is_idle place.node place.nodes held.old kind.now ≡ true → Keeps result outcome.old outcome.new }
     ensures ok { OnOk result ((own : List Act) × Worked place.node held.old outcome.old.outputs.items own held.new outcome.new.outputs.items × Answers place.node place.nodes held.old kind.now own held.new) }
-    ensures cause { IfErr result (IsCause place.node held.old) }
+    ensures cause { IfErr result (IsCause (EventNeeds place.node held.old kind.now)) }
 {
     match kind {
         EventKind::Started => Ok(()),
@@ -117,7 +118,7 @@ fn open(place: Place, held: &mut Held, connection: u64) -> Result<(), NodeFault>
 /// Removes the client's subscriptions, if there are any.
 fn evict(place: Place, held: &mut Held, client: &Text) -> Result<(), NodeFault>
     ensures ok { OnOk result ((outputs : List Output) → Worked place.node held.old outputs (evicts place.node held.old client.now) held.new outputs) }
-    ensures cause { IfErr result (IsCause place.node held.old) }
+    ensures cause { IfErr result (IsCause (NeedsRemove place.node client.now None held.old)) }
 {
     held.remove(place.node, client, None)?;
     Ok(())

@@ -1,12 +1,13 @@
-use Rattle.std.proofs.Common.{refl, subst, [], ◌∷◌}
+use Rattle.std.proofs.Common.{subst}
 use Rattle.std.proofs.lemmas.Result.{on_ok_weaker}
-use Rattle.broker_node.specs.Acts.{Connection}
-use Rattle.broker_node.specs.Connections.{Fed}
+use Rattle.std.specs.Result.{IfErr}
+use Rattle.broker_node.specs.Needs.{PacketsNeed, PieceNeeds}
+use Rattle.broker_node.specs.Worked.{IsCause}
 use Rattle.broker_node.specs.Pieces.{Takes}
 use Rattle.broker_node.specs.Serving.{Did}
-use Rattle.broker_node.proofs.Exits.{later}
-use Rattle.broker_node.proofs.Feeding.{fed_open, worked_fed}
-use Rattle.broker_node.proofs.Pieces.{piece_nothing, piece_failed, piece_packets}
+use Rattle.broker_node.proofs.Exits.{part_result}
+use Rattle.broker_node.proofs.Feeding.{fed_open}
+use Rattle.broker_node.proofs.Pieces.{piece_nothing, piece_failed, piece_packets, piece_needs}
 use Rattle.broker_node.proofs.piece.take_piece.Goals as goal
 
 pub take-requires : goal.take-requires
@@ -36,5 +37,10 @@ returns-in-Packets-clause-ok c =
 
 pub returns-in-Packets-clause-cause : goal.returns-in-Packets-clause-cause
 returns-in-Packets-clause-cause c =
-    let fed = worked_fed c.args.held.now c.feed.new.self c.args.desk.connection c.args.bytes.now c.in_ok-feed.field-0 c.in-Packets.field-0 c.in-Packets.is c.in_ok-feed.ensures.fed c.args.desk.node [] in
-    later c.args.desk.node (Connection (Fed c.args.desk.connection c.args.bytes.now) ∷ []) c.args.held.now c.feed.new.self c.take.result fed.runs refl c.take.ensures.cause
+    let id = c.args.desk.node in
+    let at = c.args.desk.connection in
+    let fed = c.feed.new.self in
+    let f = c.in-Packets.field-0 in
+    part_result (PacketsNeed id at fed f.packets.items) (PieceNeeds id at c.args.held.now c.args.bytes.now) c.take.result
+    (piece_needs id at c.args.held.now fed c.args.bytes.now c.args.outcome.now.outputs.items c.in_ok-feed.field-0 f c.in-Packets.is c.in_ok-feed.ensures.fed)
+    (subst (λ ps. IfErr c.take.result (IsCause (PacketsNeed id at fed ps))) c.deref.ensures.value c.take.ensures.cause)

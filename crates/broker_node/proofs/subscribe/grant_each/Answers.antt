@@ -1,15 +1,19 @@
 use Rattle.std.proofs.Common.{sym, subst, [], take, ◌+◌}
 use Rattle.broker_node.specs.Serving.{Did, InTurn}
+use Rattle.broker_node.specs.Needs.{OneNeeds, GrantNeeds}
 use Rattle.broker_node.specs.Subscribing.{Grants}
-use Rattle.broker_node.proofs.Exits.{later_exit}
-use Rattle.broker_node.proofs.Subscribing.{grants_quiet}
-use Rattle.broker_node.proofs.Turning.{turn_next}
+use Rattle.broker_node.proofs.Exits.{part_exit}
+use Rattle.broker_node.proofs.Turning.{turn_next, item_needs}
 use Rattle.broker_node.proofs.subscribe.grant_each.Goals as goal
 
 pub returns-in_err-granted-clause-cause : goal.returns-in_err-granted-clause-cause
 returns-in_err-granted-clause-cause c =
-    let d = c.loop-each.invariant in
-    later_exit c.args.desk.node d.0 c.args.held.now c.loop-each.held c.from_residual.result c.in_err-granted.field-0.0 c.from_residual.ensures.1 d.1.runs (grants_quiet c.args.desk.node c.args.client.now c.args.identifier c.args.held.now _ c.loop-each.grants.items d.0 c.loop-each.held d.2) c.in_err-granted.ensures.cause
+    let id = c.args.desk.node in
+    let One = Grants id c.args.client.now c.args.identifier in
+    let Needs = GrantNeeds id c.args.client.now in
+    part_exit (Needs c.loop-each.held c.each-item.result) (OneNeeds One Needs id c.args.held.now c.args.filters.now) c.from_residual.result c.in_err-granted.field-0.0 c.from_residual.ensures.1
+    (λ n. item_needs One id Needs c.args.held.now c.loop-each.held c.args.filters.now c.loop-each.each-index c.each-item.result c.loop-each-test.true c.each-item.is c.loop-each.grants.items [] [] c.loop-each.invariant n)
+    c.in_err-granted.ensures.cause
 
 pub loop-each-preserved : goal.loop-each-preserved
 loop-each-preserved c =

@@ -1,15 +1,19 @@
 use Rattle.std.proofs.Common.{sym, subst, [], take, ◌+◌}
 use Rattle.broker_node.specs.Serving.{Did, InTurn}
+use Rattle.broker_node.specs.Needs.{OneNeeds, RemovalNeeds}
 use Rattle.broker_node.specs.Unsubscribing.{Removes}
-use Rattle.broker_node.proofs.Exits.{later_exit}
-use Rattle.broker_node.proofs.Clients.{removes_quiet}
-use Rattle.broker_node.proofs.Turning.{turn_next}
+use Rattle.broker_node.proofs.Exits.{part_exit}
+use Rattle.broker_node.proofs.Turning.{turn_next, item_needs}
 use Rattle.broker_node.proofs.unsubscribe.remove_each.Goals as goal
 
 pub returns-in_err-reason-clause-cause : goal.returns-in_err-reason-clause-cause
 returns-in_err-reason-clause-cause c =
-    let d = c.loop-text.invariant in
-    later_exit c.args.desk.node d.0 c.args.held.now c.loop-text.held c.from_residual.result c.in_err-reason.field-0.0 c.from_residual.ensures.1 d.1.runs (removes_quiet c.args.desk.node c.args.client.now c.args.held.now _ c.loop-text.reasons.items d.0 c.loop-text.held d.2) c.in_err-reason.ensures.cause
+    let id = c.args.desk.node in
+    let One = Removes id c.args.client.now in
+    let Needs = RemovalNeeds id c.args.client.now in
+    part_exit (Needs c.loop-text.held c.text-item.result) (OneNeeds One Needs id c.args.held.now c.args.filters.now) c.from_residual.result c.in_err-reason.field-0.0 c.from_residual.ensures.1
+    (λ n. item_needs One id Needs c.args.held.now c.loop-text.held c.args.filters.now c.loop-text.text-index c.text-item.result c.loop-text-test.true c.text-item.is c.loop-text.reasons.items [] [] c.loop-text.invariant n)
+    c.in_err-reason.ensures.cause
 
 pub loop-text-preserved : goal.loop-text-preserved
 loop-text-preserved c =

@@ -1,14 +1,16 @@
-use Rattle.std.proofs.Common.{ap, Err}
+use Rattle.std.proofs.Common.{ap, subst, Err, ◌⊎◌}
 use Rattle.std.proofs.lemmas.Result.{on_ok_weaker}
+use Rattle.replica_store.specs.Making.{NumberAtEnd, CountAtEnd}
 use Rattle.broker_node.specs.View.{HeldView}
-use Rattle.broker_node.proofs.Exits.{store_exit, at_end}
+use Rattle.broker_node.specs.Needs.{NeedsPut}
+use Rattle.broker_node.proofs.Exits.{store_exit}
 use Rattle.broker_node.proofs.Making.{worked_put}
 use Rattle.broker_node.proofs.held.Held.put.Goals as goal
 
 pub returns-in_err-operation-clause-cause : goal.returns-in_err-operation-clause-cause
 returns-in_err-operation-clause-cause c =
-    store_exit c.args.node c.args.self.now c.from_residual.result c.in_err-operation.field-0.0 c.from_residual.ensures.1
-    (λ e. at_end c.args.node c.args.self.now c.self.inside.store (ap (λ (h : HeldView). h.store) c.self.view_is) (c.in_err-operation.ensures.at_end.0 (ap Err e)))
+    store_exit (NeedsPut c.args.node c.args.self.now) c.from_residual.result c.in_err-operation.field-0.0 c.from_residual.ensures.1
+    (λ e. subst (λ t. NumberAtEnd c.args.node t ⊎ CountAtEnd t) (ap (λ (h : HeldView). h.store) c.self.view_is) (c.in_err-operation.ensures.at_end.0 (ap Err e)))
 
 pub returns-clause-ok : goal.returns-clause-ok
 returns-clause-ok c =
