@@ -1,6 +1,6 @@
 //! A node, and what it makes of each event.
 
-ghost use Rattle.std.specs.Prelude.{◌≡◌, OnOk, IfOk, IfErr, OnErr, None, MatchOption, Err, is_some};
+ghost use Rattle.std.specs.Prelude.{◌≡◌, ◌<◌, ◌^◌, OnOk, IfOk, IfErr, OnErr, None, MatchOption, Err, is_some};
 ghost use Rattle.broker_node.specs.View.{opened};
 ghost use Rattle.broker_node.specs.Idle.{RestsWhereIdle};
 ghost use Rattle.broker_node.specs.Step.{IsDone, HasCauseAt};
@@ -69,6 +69,7 @@ impl Node {
         ensures nodes { self.new.nodes ≡ self.old.nodes }
         ensures stopped { self.old.up ≡ None → (result ≡ Err Stopped) × (self.new ≡ self.old) }
         ensures idle { RestsWhereIdle self.old event.now result }
+        ensures moment { OnOk result (event.now.at < 2 ^ 62) }
         ensures ok { IfOk result (λ o. IsDone self.old event.now o.outputs.items self.new) }
         ensures err { OnErr result (self.new.up ≡ None) }
         ensures cause { IfErr result (HasCauseAt self.old.up self.old.id event.now) }

@@ -35,6 +35,7 @@ pub struct Place {
 /// Decides one event of a node that runs.
 pub fn decide(place: Place, held: &mut Held, event: &Event) -> Result<Outcome, NodeFault>
     ensures idle { event.now.at < 2 ^ 62 → is_idle place.node place.nodes held.old event.now.kind ≡ true → Rests result }
+    ensures moment { OnOk result (event.now.at < 2 ^ 62) }
     ensures ok { IfOk result (λ o. (acts : List Act) × Steps place.node place.nodes held.old event.now acts o.outputs.items held.new) }
     ensures cause { IfErr result (HasCause place.node held.old event.now) }
 {
