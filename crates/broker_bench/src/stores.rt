@@ -4,9 +4,9 @@ use crate::stopwatch::Stopwatch;
 use anyhow::{Context as _, Result, ensure};
 use causal_context::{Context, Dot, Lattice};
 use mqtt_fields::{SubscriptionOptions, Text};
-use mqtt_message::Message;
+use mqtt_message::{Message, SharedMessage};
 use mqtt_topics::{Filter, TopicName};
-use replica_store::{Operation, ReplicaStore, Stamp, delta_of};
+use replica_store::{Content, Operation, ReplicaStore, Stamp, delta_of};
 use std::alloc::Global;
 use subscription_set::Entry;
 
@@ -31,15 +31,11 @@ fn text(alloc: Global, word: &str, number: u64) -> Result<Text> {
 
 fn entry(alloc: Global, number: u64) -> Result<Entry> {
     let filter = text(alloc, "f", number)?;
-    Ok(Entry {
-        client: text(alloc, "c", number)?,
-        filter: Filter::parse(alloc, filter.as_str())
-            .ok()
-            .context("no filter")?,
-        options: SubscriptionOptions::of_byte(1),
-        identifier: 0,
-        version: 0,
-    })
+    let filter = Filter::parse(alloc, filter.as_str())
+        .ok()
+        .context("no filter")?;
+    let client = text(alloc, "c", number)?;
+    Entry::new(client, filter, SubscriptionOptions::of_byte(1), 0, 0).context("no entry")
 }
 
 fn topic(alloc: Global, number: u64) -> Result<TopicName> {
@@ -49,9 +45,14 @@ fn topic(alloc: Global, number: u64) -> Result<TopicName> {
         .context("no topic")
 }
 
-fn message(alloc: Global) -> Result<Message> {
-    let (message, _) = Message::read(alloc, &MESSAGE).ok().context("no message")?;
-    Ok(message)
+// The message, to the topic of this number.
+fn content(alloc: Global, number: u64) -> Result<Content> {
+    let (mut message, _) = Message::read(alloc, &MESSAGE).ok().context("no message")?;
+    message.topic = topic(alloc, number)?;
+    let shared = SharedMessage::new(alloc, message)
+        .ok()
+        .context("no memory")?;
+    Ok(Content::Set(shared))
 }
 
 // Of node 1.
@@ -71,8 +72,7 @@ fn put(alloc: Global, number: u64) -> Result<Operation> {
             count: number,
             node: 2,
         },
-        topic: topic(alloc, number)?,
-        message: Some(message(alloc)?),
+        content: content(alloc, number)?,
     })
 }
 
@@ -119,12 +119,8 @@ fn make_subscribes(rt: &HostRuntime, store: &ReplicaStore) -> Result<()> {
 fn make_puts(rt: &HostRuntime, store: &ReplicaStore) -> Result<()> {
     let watch = Stopwatch::start(rt)?;
     for number in 0..TIMES {
-        let topic = topic(rt.alloc(), number * 1000)?;
-        let message = message(rt.alloc())?;
-        let _made = store
-            .make_put(2, topic, Some(message))
-            .ok()
-            .context("not made")?;
+        let content = content(rt.alloc(), number * 1000)?;
+        let _made = store.make_put(2, content).ok().context("not made")?;
     }
     watch.print(rt, "store, make_put", TIMES)?;
     Ok(())
@@ -180,6 +176,34 @@ fn puts(alloc: Global, from: u64) -> Result<Vec<Operation>> {
     Ok(operations)
 }
 
+// A store of retained messages alone, put in falling order of their topics.
+fn falling(rt: &HostRuntime) -> Result<ReplicaStore> {
+    let mut store = ReplicaStore::new(rt.alloc());
+    let watch = Stopwatch::start(rt)?;
+    for number in (1..=MOST).rev() {
+        apply(&mut store, &put(rt.alloc(), number)?)?;
+    }
+    watch.print(rt, "store, apply of a Put in falling order of topics", MOST)?;
+    ensure!(store.retained().messages() == 100_000, "other topics");
+    Ok(store)
+}
+
+// What a whole state of 100,000 retained messages takes.
+fn wholes(rt: &HostRuntime, store: &ReplicaStore) -> Result<()> {
+    let watch = Stopwatch::start(rt)?;
+    let copy = store.copy().ok().context("not copied")?;
+    watch.print(rt, "store, copy of 100000 retained messages", 1)?;
+    let mut empty = ReplicaStore::new(rt.alloc());
+    let watch = Stopwatch::start(rt)?;
+    empty.join(&copy).ok().context("not joined")?;
+    watch.print(rt, "store, join of 100000 into an empty store", 1)?;
+    let watch = Stopwatch::start(rt)?;
+    empty.join(&copy).ok().context("not joined")?;
+    watch.print(rt, "store, join of 100000 that are there", 1)?;
+    ensure!(empty.retained().messages() == 100_000, "other topics");
+    Ok(())
+}
+
 /// The figures of a store.
 pub fn run(rt: &HostRuntime) -> Result<()> {
     let alloc = rt.alloc();
@@ -194,5 +218,7 @@ pub fn run(rt: &HostRuntime) -> Result<()> {
     applies(rt, &mut store, "store, apply of a Put", &more)?;
     let more = subscriptions(alloc, 2 * MOST)?;
     let deltas = deltas(rt, &more)?;
-    joins(rt, &mut store, &deltas)
+    joins(rt, &mut store, &deltas)?;
+    let store = falling(rt)?;
+    wholes(rt, &store)
 }

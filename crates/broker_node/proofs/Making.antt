@@ -1,36 +1,114 @@
--- Operations that a node makes and takes at once.
-use Rattle.std.proofs.Common.{◌≡◌, ℕ, List, [], ◌∷◌, Option, Some, None, sym, ap, subst, ◌∙◌, ◌⊎◌, inl, inr, true}
+-- Operations that a node makes and takes at once, and when it can't number them.
+use Rattle.std.proofs.Common.{◌≡◌, ℕ, ◌≤◌, ◌<◌, ◌^◌, ◌||◌, not, nat_lt, Bool, true, false, cond, List, Option, Some, None, Result, Ok, Err, inl, inr, ◌⊎◌, refl, sym, ap, subst, arith}
+use Rattle.std.specs.Result.{OnOk, IfErr, IsErrAnd}
+use Rattle.std.proofs.lemmas.Result.{err_from_is_err_and}
+use Rattle.std.proofs.lemmas.Bool.Decides.{nat_tests}
+use Rattle.std.proofs.lemmas.List.{append-nil}
 use Rattle.subscription_set.specs.declared.entry.Entry.{Entry}
 use Rattle.subscription_set.specs.Standing.{any_of}
-use Rattle.mqtt_message.specs.declared.message.Message.{Message}
+use Rattle.replica_store.specs.declared.content.Content.{Content}
+use Rattle.replica_store.specs.declared.fault.StoreFault.{StoreFault}
+use Rattle.replica_store.specs.declared.fault.StoreFault.TheVariants as store_faults
 use Rattle.replica_store.specs.declared.operation.Operation.{Operation}
 use Rattle.replica_store.specs.Making.{NumberAtEnd, CountAtEnd, subscribe_of, remove_of, put_of}
-use Rattle.replica_store.specs.States.{State, state_join}
-use Rattle.replica_store.specs.StateOf.{delta_of}
-use Rattle.broker_node.specs.declared.outcome.Output.{Output}
-use Rattle.broker_node.specs.View.{HeldView}
-use Rattle.broker_node.specs.Acts.{Store, Made}
-use Rattle.broker_node.specs.Worked.{Worked, makes}
-use Rattle.broker_node.proofs.Acts.{worked_nothing, worked_made, made_subscribe, made_remove, made_put, removal_stands}
+use Rattle.replica_store.specs.States.{State}
+use Rattle.broker_node.specs.declared.fault.NodeFault.{NodeFault}
+use Rattle.broker_node.specs.declared.fault.NodeFault.TheVariants.{NoMemory, NumbersAtEnd, Stopped}
+use Rattle.broker_node.specs.View.{HeldView, WorkView}
+use Rattle.broker_node.specs.Acts.{Store, Made, IsMade}
+use Rattle.broker_node.specs.Held.Making.{Makes, number_at_end, put_at_end, removal, with_operation}
+use Rattle.broker_node.specs.Names.{node_fault}
+use Rattle.broker_node.specs.Working.{Numbered, Comes}
+use Rattle.broker_node.proofs.Working.{did_act, did_numbered, did_at_end}
 
-module _ (id : ℕ) (h h' : HeldView) (s : State) (at : s ≡ h.store) (o : Operation) (e : h' ≡ record h { store = state_join h.store (delta_of o) }) where
-  pub worked_subscribe : (entry : Entry) → o ≡ subscribe_of id entry s → ¬ NumberAtEnd id s → (x : List Output) → Worked id h x (Store (Made (subscribe_of id entry h.store)) ∷ []) h' x
-  worked_subscribe entry is n x =
-      let here : o ≡ subscribe_of id entry h.store = is ∙ ap (subscribe_of id entry) at in
-      subst (λ p. Worked id h x (Store (Made p) ∷ []) h' x) here (worked_made id h h' x o (made_subscribe id h.store entry o (λ a. n (subst (NumberAtEnd id) (sym at) a)) here) e)
+-- ---- at the end of the numbers
 
-  pub worked_put : (topic : List ℕ) (message : Option Message) → o ≡ put_of id topic message s → ¬ (NumberAtEnd id s ⊎ CountAtEnd s) → (x : List Output) → Worked id h x (Store (Made (put_of id topic message h.store)) ∷ []) h' x
-  worked_put topic message is n x =
-      let here : o ≡ put_of id topic message h.store = is ∙ ap (put_of id topic message) at in
-      subst (λ p. Worked id h x (Store (Made p) ∷ []) h' x) here
-      (worked_made id h h' x o (made_put id h.store topic message o (λ a. n (inl (subst (NumberAtEnd id) (sym at) a))) (λ a. n (inr (subst CountAtEnd (sym at) a))) here) e)
+below_end : (n : ℕ) → ¬ (2 ^ 62 ≤ n) → not (nat_lt n (2 ^ 62)) ≡ false
+below_end n h = grind (arith, nat_tests)
 
-  pub worked_remove : (client : List ℕ) (to : Option (List ℕ)) → Some o ≡ remove_of id client to s → ¬ (NumberAtEnd id s × (any_of client to s.subscriptions ≡ true)) → (x : List Output)
-      → Worked id h x (makes (remove_of id client to h.store)) h' x
-  worked_remove client to is n x =
-      let here : Some o ≡ remove_of id client to h.store = is ∙ ap (remove_of id client to) at in
-      subst (λ p. Worked id h x (makes p) h' x) here
-      (worked_made id h h' x o (made_remove id h.store client to o (λ a. n (subst (NumberAtEnd id) (sym at) a, removal_stands id s client to o is)) here) e)
+pub below_moment : (at : ℕ) → at < 2 ^ 62 → not (nat_lt at (2 ^ 62)) ≡ false
+below_moment at h = grind (arith, nat_tests)
 
-pub worked_no_remove : (id : ℕ) (h : HeldView) (s : State) → s ≡ h.store → (client : List ℕ) (to : Option (List ℕ)) → None ≡ remove_of id client to s → (x : List Output) → Worked id h x (makes (remove_of id client to h.store)) h x
-worked_no_remove id h s at client to is x = subst (λ p. Worked id h x (makes p) h x) (is ∙ ap (remove_of id client to) at) (worked_nothing id h x)
+past_end : (n : ℕ) → 2 ^ 62 ≤ n → not (nat_lt n (2 ^ 62)) ≡ true
+past_end n h = grind (arith, nat_tests)
+
+is_below : (n : ℕ) → not (nat_lt n (2 ^ 62)) ≡ false → ¬ (2 ^ 62 ≤ n)
+is_below n h k = grind (arith, nat_tests)
+
+either : (a b : Bool) → a ≡ true → (a || b) ≡ true
+either true b e = refl
+either false b e = cc
+
+or_true : (a b : Bool) → b ≡ true → (a || b) ≡ true
+or_true true b e = refl
+or_true false b e = e
+
+or_false : (a b : Bool) → a ≡ false → b ≡ false → (a || b) ≡ false
+or_false a b e f = λ i. e i || f i
+
+pub neither : (a b : Bool) → (a || b) ≡ false → (a ≡ false) × (b ≡ false)
+neither true b e = cc
+neither false b e = (refl, e)
+
+module _ (id : ℕ) (h : HeldView) (s : State) (at : s ≡ h.store) where
+  pub at_end : NumberAtEnd id s → number_at_end id h ≡ true
+  at_end n = past_end _ (subst (NumberAtEnd id) at n)
+
+  pub not_at_end : ¬ NumberAtEnd id s → number_at_end id h ≡ false
+  not_at_end n = below_end _ (λ a. n (subst (NumberAtEnd id) (sym at) a))
+
+  pub put_end : NumberAtEnd id s ⊎ CountAtEnd s → put_at_end id h ≡ true
+  put_end (inl n) = either _ _ (at_end n)
+  put_end (inr n) = or_true _ _ (past_end _ (subst CountAtEnd at n))
+
+  pub not_put_end : ¬ (NumberAtEnd id s ⊎ CountAtEnd s) → put_at_end id h ≡ false
+  not_put_end n = or_false _ _ (not_at_end (λ a. n (inl a))) (below_end _ (λ a. n (inr (subst CountAtEnd (sym at) a))))
+
+-- ---- an operation is made
+
+makes_by : (T : Type 0) (b : Bool) (o : Operation) (h : HeldView) (e : StoreFault) → (e ≡ store_faults.NumbersAtEnd → b ≡ true) → Makes {T = T} b o h h (Err (node_fault e))
+makes_by T b o h store_faults.NumbersAtEnd a = (a refl, refl)
+makes_by T b o h store_faults.NoMemory a = tt
+makes_by T b o h store_faults.BadRow a = tt
+
+-- a fault of the store
+pub makes_fault : {T : Type 0} (b : Bool) (o : Operation) (h : HeldView) (r : Result T NodeFault) (e : StoreFault) → IsErrAnd r (λ f. f ≡ node_fault e) → (e ≡ store_faults.NumbersAtEnd → b ≡ true) → Makes b o h h r
+makes_fault {T} b o h r e is a =
+    let p = err_from_is_err_and r is in subst (Makes b o h h) (sym p.1) (subst (λ f. Makes {T = T} b o h h (Err f)) (sym p.2) (makes_by T b o h e a))
+
+pub makes_one : {T : Type 0} (b : Bool) (o : Operation) (h h' : HeldView) (r : Result T NodeFault) → b ≡ false → OnOk r (h' ≡ with_operation h o) → IfErr r (λ e. e ≡ NoMemory) → Makes b o h h' r
+makes_one b o h h' (Ok x) e is f = (e, is)
+makes_one b o h h' (Err NoMemory) e is f = tt
+makes_one b o h h' (Err NumbersAtEnd) e is f = absurd (let z : NumbersAtEnd ≡ NoMemory = f in cc)
+makes_one b o h h' (Err Stopped) e is f = absurd (let z : Stopped ≡ NoMemory = f in cc)
+
+-- ---- as an act
+
+made_put : (id : ℕ) (content : Content) (h : HeldView) → put_at_end id h ≡ false → IsMade id h.store (put_of id content h.store)
+made_put id content h e = let p = neither _ _ e in (is_below _ p.0, is_below _ p.1, refl)
+
+removal_is : (id : ℕ) (client : List ℕ) (to : Option (List ℕ)) (s : State) → any_of client to s.subscriptions ≡ true → Some (removal id client to s) ≡ remove_of id client to s
+removal_is id client to s e = ap (λ b. cond b (Some (removal id client to s)) None) (sym e)
+
+module _ (w : WorkView) (h' : HeldView) where
+  abbrev after : WorkView
+  after = record w { held = h' }
+
+  comes_made : (ends : ℕ → HeldView → Bool) (o : ℕ → HeldView → Operation) (r : Result (Unit {0}) NodeFault) → (ends w.id w.held ≡ false → IsMade w.id w.held.store (o w.id w.held))
+      → Makes (ends w.id w.held) (o w.id w.held) w.held h' r → Comes (λ x. x) r w after (Numbered ends (λ id h. Store (Made (o id h))))
+  comes_made ends o (Ok x) made m = did_numbered ends (λ id h. Store (Made (o id h))) w after m.0 (did_act (λ id h. Store (Made (o id h))) w after (made m.0) (λ i. record { id = w.id; nodes = w.nodes; held = m.1 i; outputs = sym (append-nil w.outputs) i }))
+  comes_made ends o (Err NumbersAtEnd) made m = did_at_end ends (λ id h. Store (Made (o id h))) w after m.0 (λ i. record w { held = m.1 i })
+  comes_made ends o (Err NoMemory) made m = tt
+  comes_made ends o (Err Stopped) made m = m
+
+  pub comes_subscribe : (entry : Entry) (r : Result (Unit {0}) NodeFault) → Makes (number_at_end w.id w.held) (subscribe_of w.id entry w.held.store) w.held h' r
+      → Comes (λ x. x) r w after (Numbered number_at_end (λ id h. Store (Made (subscribe_of id entry h.store))))
+  comes_subscribe entry r m = comes_made number_at_end (λ id h. subscribe_of id entry h.store) r (λ e. (is_below _ e, refl)) m
+
+  pub comes_remove : (client : List ℕ) (to : Option (List ℕ)) (r : Result (Unit {0}) NodeFault) → any_of client to w.held.store.subscriptions ≡ true → Makes (number_at_end w.id w.held) (removal w.id client to w.held.store) w.held h' r
+      → Comes (λ x. x) r w after (Numbered number_at_end (λ id h. Store (Made (removal id client to h.store))))
+  comes_remove client to r stands m = comes_made number_at_end (λ id h. removal id client to h.store) r (λ e. (is_below _ e, (client, to, removal_is w.id client to w.held.store stands))) m
+
+  pub comes_put : (content : Content) (r : Result (Unit {0}) NodeFault) → Makes (put_at_end w.id w.held) (put_of w.id content w.held.store) w.held h' r
+      → Comes (λ x. x) r w after (Numbered put_at_end (λ id h. Store (Made (put_of id content h.store))))
+  comes_put content r m = comes_made put_at_end (λ id h. put_of id content h.store) r (made_put w.id content w.held) m

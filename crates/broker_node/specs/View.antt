@@ -9,6 +9,7 @@ use Rattle.std.specs.FinSet.{FinSet}
 use Rattle.std.specs.FinSet as set
 use Rattle.mqtt_packets.specs.Stream.{Held}
 use Rattle.replica_store.specs.States.{State, nothing, coded_state}
+use Rattle.broker_node.specs.declared.outcome.Output.{Output}
 
 -- a connection: what its framer holds, and its client once that is accepted
 pub record ConnectionView : Type 0 where
@@ -23,6 +24,13 @@ pub record HeldView : Type 0 where
   pub store : State
   pub connections : FinMap nat_cmp ConnectionView
   pub sessions : FinSet (slice_cmp nat_cmp)
+
+-- a node at work on an event: its number, how many nodes the cluster has, what it holds, and what it has given out so far
+pub record WorkView : Type 0 where
+  pub id : ℕ
+  pub nodes : ℕ
+  pub held : HeldView
+  pub outputs : List Output
 
 -- a node: its number, how many nodes the cluster has, and what it holds while it runs
 pub record NodeView : Type 0 where

@@ -1,12 +1,7 @@
 //! One node of the cluster: an event comes in, and packets, closes and frames go out.
 #![tactic(auto)]
 
-mod answers;
-mod bridge;
-mod connect;
-mod connection;
-mod connections;
-mod desk;
+mod clients;
 mod event;
 mod fault;
 mod frame;
@@ -14,12 +9,7 @@ mod held;
 mod node;
 mod outcome;
 mod packets;
-mod piece;
-mod publish;
-mod sessions;
-mod subscribe;
 mod turn;
-mod unsubscribe;
 
 pub use event::{Event, EventKind};
 pub use fault::NodeFault;

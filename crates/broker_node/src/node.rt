@@ -1,16 +1,16 @@
 //! A node, and what it makes of each event.
 
-ghost use Rattle.std.specs.Prelude.{◌≡◌, ◌<◌, ◌^◌, OnOk, IfOk, IfErr, OnErr, None, MatchOption, Err, is_some};
+ghost use Rattle.std.specs.Prelude.{◌≡◌, ◌<◌, ◌≤◌, ◌^◌, OnOk, IfOk, IfErr, IsOk, OnErr, None, Some, MatchOption, Err, is_some, true};
 ghost use Rattle.broker_node.specs.View.{opened};
 ghost use Rattle.broker_node.specs.Idle.{RestsWhereIdle};
-ghost use Rattle.broker_node.specs.Step.{IsDone, HasCauseAt};
-ghost use Rattle.broker_node.specs.declared.fault.NodeFault.TheVariants.{Stopped};
+ghost use Rattle.broker_node.specs.Step.{IsDone, IsAtEnd, HasCauseAt};
+ghost use Rattle.broker_node.specs.declared.fault.NodeFault.TheVariants.{NumbersAtEnd, Stopped};
 
 use crate::event::Event;
 use crate::fault::NodeFault;
-use crate::held::Held;
 use crate::outcome::Outcome;
-use crate::turn::{Place, decide};
+use crate::turn::decide;
+use crate::turn::work::Work;
 use replica_store::ReplicaStore;
 use std::alloc::Global;
 use std::marker::Model;
@@ -18,11 +18,10 @@ use std::marker::Model;
 /// A node of the cluster.
 #[derive(Drop)]
 pub struct Node {
-    alloc: Global,
     id: u16,
     nodes: u16,
     stopped: bool,
-    held: Held,
+    work: Work,
 }
 
 impl Model for Node {
@@ -32,7 +31,7 @@ impl Model for Node {
 
     ghost coded = { coded_node };
 
-    ghost view = { λ n. record { id = n.id; nodes = n.nodes; up = up_of n.stopped n.held } };
+    ghost view = { λ n. record { id = n.id; nodes = n.nodes; up = up_of n.stopped n.work.held } };
 }
 
 impl Node {
@@ -41,11 +40,10 @@ impl Node {
         ensures { result ≡ opened id nodes }
     {
         Node {
-            alloc,
             id,
             nodes,
             stopped: false,
-            held: Held::new(alloc),
+            work: Work::new(alloc, id, nodes),
         }
     }
 
@@ -60,30 +58,31 @@ impl Node {
     pub fn store(&self) -> &ReplicaStore
         ensures { MatchOption self.now.up (Unit {0}) (λ h. result.now ≡ h.store) }
     {
-        self.held.store()
+        self.work.held().store()
     }
 
     /// Decides one event. After a fault the node has stopped.
+    ///
+    /// NumbersAtEnd at a moment of 2^62 or later, and only there or where the event needs an operation
+    /// that would be numbered 2^62 or more; and such an event never succeeds. An idle event asks for no
+    /// memory.
     pub fn step(&mut self, event: &Event) -> Result<Outcome, NodeFault>
         ensures id { self.new.id ≡ self.old.id }
         ensures nodes { self.new.nodes ≡ self.old.nodes }
         ensures stopped { self.old.up ≡ None → (result ≡ Err Stopped) × (self.new ≡ self.old) }
         ensures idle { RestsWhereIdle self.old event.now result }
-        ensures moment { OnOk result (event.now.at < 2 ^ 62) }
+        ensures end { is_some self.old.up ≡ true → 2 ^ 62 ≤ event.now.at → result ≡ Err NumbersAtEnd }
+        ensures exactly { IsAtEnd self.old event.now → ¬ IsOk result }
         ensures ok { IfOk result (λ o. IsDone self.old event.now o.outputs.items self.new) }
         ensures err { OnErr result (self.new.up ≡ None) }
-        ensures cause { IfErr result (HasCauseAt self.old.up self.old.id event.now) }
+        ensures cause { IfErr result (HasCauseAt self.old.up self.old.id self.old.nodes event.now) }
     {
         if self.stopped {
             return Err(NodeFault::Stopped);
         }
-        let place = Place {
-            alloc: self.alloc,
-            node: self.id,
-            nodes: self.nodes,
-        };
-        match decide(place, &mut self.held, event) {
-            Ok(outcome) => Ok(outcome),
+        self.work.start(self.id, self.nodes);
+        match decide(&mut self.work, event) {
+            Ok(()) => Ok(self.work.finish()),
             Err(fault) => {
                 self.stopped = true;
                 Err(fault)

@@ -33,7 +33,7 @@ pub enum Command {
         moment: u64,
         bytes: Vec<u8>,
     },
-    /// `ship NODE PEER MOMENT`: the node sends its peer what that lacks.
+    /// `ship NODE PEER MOMENT`: the node sends its peer all that it holds.
     Ship {
         node: u16,
         peer: u16,

@@ -1,5 +1,5 @@
 -- Where a dot is among sound ranges.
-use Rattle.std.proofs.Common.{◌≡◌, ℕ, ◌<◌, ◌≤◌, Bool, true, false, ◌||◌, ◌&&◌, ◌==◌, List, length, get_or, refl, sym, ap, subst, ◌∙◌, inl, inr, arith}
+use Rattle.std.proofs.Common.{◌≡◌, ℕ, ◌+◌, ◌-◌, ◌<◌, ◌≤◌, Bool, true, false, ◌||◌, ◌&&◌, ◌==◌, List, length, get_or, refl, sym, ap, subst, ◌∙◌, inl, inr, arith}
 use Rattle.std.specs.Prelude.{nat_le, nat_lt}
 use Rattle.std.specs.Cmp.{both_ways, first_so, second_so}
 use Rattle.std.specs.List.Sorted.{IsPartitionedBy, IsPartitionPoint}
@@ -10,7 +10,7 @@ use Rattle.std.proofs.lemmas.List.Folds.{list_any_at, list_any_none}
 use Rattle.causal_context.specs.Dots.{Dot}
 use Rattle.causal_context.specs.declared.ranges.Range.{Range}
 use Rattle.causal_context.specs.Ranges.{covers, covered, IsSound, IsApart}
-use Rattle.causal_context.specs.RangeSteps.{StartsBy, StartsAfter, IsStarted}
+use Rattle.causal_context.specs.RangeSteps.{StartsBy, StartsAfter, IsStarted, ReachesAt}
 use Rattle.causal_context.proofs.RangeLemmas.{in_from_covers, or_cases, or_left, or_right}
 
 -- the test that the code makes
@@ -85,3 +85,21 @@ covered_at rs d i r sound lt is by after = elim (covers d r) as (λ b. covers d 
   where
     get_fine : (k : ℕ) (x : Range) → k < length rs → (get_or rs k x).first ≤ (get_or rs k x).last
     get_fine k x h = (sound.fine k x h).not_empty
+
+-- a dot that is there is in the range before its place
+pub covered_reaches : (rs : List Range) (d : Dot) (i : ℕ) → IsSound rs → IsStarted rs d i → covered d rs ≡ true → ReachesAt rs i d
+covered_reaches rs d i sound s e = elim (cases_order i 0) [
+  | inl zero_is ↦ (let none = covered_none rs d (subst (IsStarted rs d) zero_is s) in cc)
+  | inr (inl less) ↦ absurd (omega (arith, less))
+  | inr (inr more) ↦ (let zero_range : Range = record { node = 0; first = 0; last = 0 } in
+      let r = get_or rs (i - 1) zero_range in
+      let there : i - 1 < length rs = omega (arith, s.in_range, more) in
+      let at : r ≡ get_or rs (i - 1) r = get_or_default rs (i - 1) zero_range r there in
+      let only = covered_at rs d (i - 1) r sound there at (s.by (i - 1) zero_range (omega (arith, more))) (λ k x above in_range. s.after k x (omega (arith, above)) in_range) in
+      let i_n = in_from_covers d r (sym only ∙ e) in
+      record {
+        positive = more;
+        node = λ x. ap (λ (y : Range). y.node) (get_or_default rs (i - 1) x r there ∙ sym at) ∙ i_n.node;
+        number = λ x. (let last = ap (λ (y : Range). y.last) (get_or_default rs (i - 1) x r there ∙ sym at) in let to = i_n.to in omega (arith, last, to));
+      })
+]

@@ -1,5 +1,5 @@
 //! Sets of dots.
-ghost use Rattle.std.specs.Prelude.{◌≡◌, ◌+◌, ◌<◌, ◌≤◌, ◌^◌, ◌↔◌, ◌++◌, List, ℕ, length, take, drop, OnOk, OnErr, IfOk, IsTrue, vec_len, vec_capacity};
+ghost use Rattle.std.specs.Prelude.{◌≡◌, ◌+◌, ◌<◌, ◌≤◌, ◌^◌, ◌↔◌, ◌++◌, List, ℕ, length, take, drop, OnOk, OnErr, IfOk, IsOk, IsTrue, true, vec_len, vec_capacity};
 ghost use Rattle.std.specs.FinSet as set;
 ghost use Rattle.causal_context.specs.Dots.{dot_cmp, dot_cmp_total, dot_cmp_antisym, Dots, greatest_of, IsGreatest};
 ghost use Rattle.causal_context.specs.Lattices.{lattice_from_join};
@@ -76,10 +76,12 @@ impl Context {
         has(&self.ranges, dot.node(), dot.number())
     }
 
-    /// Puts the dot into the set: in place, where it falls into a range or extends one. Where memory runs out the set stays as it was.
+    /// Puts the dot into the set: in place, where it falls into a range or extends one. Where memory
+    /// runs out the set stays as it was; a dot that is there takes none.
     pub fn insert(&mut self, dot: Dot) -> Result<(), NoMemory>
         ensures ok { OnOk result (self.new ≡ set.insert self.old dot) }
         ensures err { OnErr result (self.new ≡ self.old) }
+        ensures there { set.contains self.old dot ≡ true → IsOk result }
     {
         put(&mut self.ranges, dot.node(), dot.number())
     }
@@ -190,7 +192,13 @@ impl Lattice for Context {
 
     ghost laws = { lattice_from_join (set_lattice dot_cmp_total dot_cmp_antisym) };
 
-    fn join(&mut self, other: &Context) -> Result<(), NoMemory> {
+    /// Takes in the other set. Where memory runs out it stays as it was; with one that is below it
+    /// takes none.
+    fn join(&mut self, other: &Context) -> Result<(), NoMemory>
+        ensures ok { OnOk result (self.new ≡ set.union self.old other.now) }
+        ensures err { OnErr result (self.new ≡ self.old) }
+        ensures below { IsSubset other.now self.old → IsOk result }
+    {
         if other.is_below(self) {
             return Ok(());
         }

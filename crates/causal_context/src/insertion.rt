@@ -1,6 +1,6 @@
 //! One more dot among sorted ranges, in place.
-ghost use Rattle.std.specs.Prelude.{◌≡◌, ◌≤◌, ◌<◌, ◌^◌, ◌↔◌, OnOk, OnErr, IsTrue, [], ◌∷◌, length};
-ghost use Rattle.causal_context.specs.Ranges.{IsSound, IsContext};
+ghost use Rattle.std.specs.Prelude.{◌≡◌, ◌≤◌, ◌<◌, ◌^◌, ◌↔◌, OnOk, OnErr, IsOk, IsTrue, true, [], ◌∷◌, length};
+ghost use Rattle.causal_context.specs.Ranges.{covered, IsSound, IsContext};
 ghost use Rattle.causal_context.specs.RangeSteps.{one_number, IsUnion, ReachesAt, FollowsAt};
 
 use crate::ranges::{MOST_RANGES, Range, started};
@@ -39,6 +39,8 @@ pub fn put(ranges: &mut Vec<Range>, node: u16, number: u64) -> Result<(), NoMemo
     ensures ok { OnOk result
         (IsUnion ranges.old.items (one_number node number ∷ []) ranges.new.items) }
     ensures err { OnErr result (ranges.new.items ≡ ranges.old.items) }
+    ensures there { covered (record { node = node; number = number }) ranges.old.items ≡ true
+        → IsOk result }
     ensures few { length ranges.new.items < 2 ^ 32 }
 {
     let next = started(ranges, node, number);

@@ -1,5 +1,5 @@
 -- Amid a step.
-use Rattle.std.proofs.Common.{◌≡◌, ℕ, ◌<◌, length, true, ◌||◌, ◌&&◌, List, [], ◌∷◌, ◌++◌, refl, sym, ap, ◌∙◌, subst, append_assoc, eq-eqb}
+use Rattle.std.proofs.Common.{◌≡◌, ℕ, max, ◌<◌, length, true, ◌||◌, ◌&&◌, List, [], ◌∷◌, ◌++◌, refl, sym, ap, ◌∙◌, subst, append_assoc, eq-eqb}
 use Rattle.std.specs.FinSet as set
 use Rattle.causal_context.specs.Dots.{Dot}
 use Rattle.replica_store.specs.declared.operation.Operation.{Operation}
@@ -11,13 +11,14 @@ use Rattle.broker_node.specs.Acts.{Act, Runs, gather, op_in, merge_in}
 use Rattle.broker_node.specs.View.{HeldView}
 use Rattle.cluster_play.specs.Worlds.{World, Released, Happens}
 use Rattle.cluster_play.specs.Runs.{Moment}
-use Rattle.cluster_play.specs.Histories.{Reached, site, acts_of, made, gained, gain_in, gains, taken, taken_amid, operations_amid}
+use Rattle.cluster_play.specs.Histories.{Reached, site, acts_of, made, gained, gain_in, gains, taken, taken_amid, operations_amid, latest, moment_amid}
 use Rattle.cluster_play.proofs.Bools.{or_left, or_assoc}
 use Rattle.cluster_play.proofs.Sites.{get_within}
 use Rattle.cluster_play.proofs.Sound.{Grown, state_by}
 use Rattle.cluster_play.proofs.Growing.{AllSound}
 use Rattle.cluster_play.proofs.Invariant.{all_merged, site_grows}
 use Rattle.cluster_play.proofs.Kept.{explained}
+use Rattle.cluster_play.proofs.Moments.{runs_moment, at_moment}
 use Rattle.cluster_play.proofs.Paths.{midway, committed, released_acts, known_event, run_sites, taken_both}
 
 pub gather_both : {A : Type 0} (f : Act → List A) (xs ys : List Act) → gather f (xs ++ ys) ≡ gather f xs ++ gather f ys
@@ -44,6 +45,7 @@ pub record Amid (run : List Moment) (w : World) (i : ℕ) (before rest : List Ac
   pub grown : Grown i (made run ++ gather op_in before) held.store
   pub listed : (d : Dot) → set.contains held.store.taken d ≡ taken_amid i run before d
   pub runs : Runs i held rest last
+  pub moment : held.at ≡ moment_amid i run before
 
 amid : (run later : List Moment) (m : Moment) (w : World) → Reached (run ++ m ∷ later) w
     → (i : ℕ) (e : Event) (before rest : List Act) (outputs : List Output) → m.fate ≡ Released i e (before ++ rest) outputs → Amid run w i before rest
@@ -64,6 +66,7 @@ amid run later m w r i e before rest outputs fate =
       grown = g.grown;
       listed = λ d. g.takes d ∙ ap (λ b. b || gained before d) ((here.up c.before c.up).listed d);
       runs = subst (λ n. Runs n parts.0 rest c.after) here.id parts.2;
+      moment = runs_moment c.node.id before c.before parts.0 parts.1 ∙ ap (λ t. max t (latest before)) (at_moment run half.mid half.reached i c.node c.at c.before c.up);
     }
 
 pub amid_acts : (run later : List Moment) (m : Moment) (w : World) → Reached (run ++ m ∷ later) w → (before rest : List Act) (a : Act) → acts_of m.fate ≡ before ++ a ∷ rest → Amid run w (site m.fate) before (a ∷ rest)

@@ -10,7 +10,7 @@ use Rattle.broker_node.specs.declared.event.EventKind.TheVariants as kinds
 use Rattle.broker_node.specs.declared.frame.Frame.{Frame}
 use Rattle.broker_node.specs.declared.frame.FrameBody.TheVariants.{Delta}
 use Rattle.broker_node.specs.declared.outcome.Output.TheVariants.{Frame as Release}
-use Rattle.broker_node.specs.Acts.{Act, Moment as TakesMoment, Began, Store, Connection, Out, Made, Merged, gather, merge_in}
+use Rattle.broker_node.specs.Acts.{Act, Moment as TakesMoment, Began, Store, Connection, Out, Acknowledged, Made, Merged, gather, merge_in}
 use Rattle.broker_node.specs.Step.{brought, states_in}
 use Rattle.broker_node.specs.View.{NodeView}
 use Rattle.cluster_play.specs.Worlds.{World, Happens}
@@ -37,12 +37,12 @@ operations_of_a_step run later m w r before after o h =
     let a = amid_acts run later m w r before after (Store (Made o)) h in
     let own : HaveOwnDots (operations_amid i run before) = own_some _ (λ p. taken_amid i run before (dot_of p)) a.grown.own_dots in
     let gain : gained (acts_of m.fate) (dot_of o) ≡ true = ap (λ acts. gained acts (dot_of o)) h ∙ gained_here before after (Store (Made o)) (dot_of o) (dot_same (dot_of o) (dot_of o) refl) in (
-      next_operation i (operations_amid i run before) a.held.store own (amid_state run w i before (Store (Made o) ∷ after) a) o a.runs.1.1.0,
+      next_operation i (operations_amid i run before) a.held.store own (amid_state run w i before (Store (Made o) ∷ after) a) o a.runs.1.0,
       taken_step run later m (dot_of o) (or_right (taken i run (dot_of o)) _ gain),
     )
 
 -- a frame lists what its node had taken when it went out
-sent_lists : (run later : List Moment) (m : Moment) (w : World) → Reached (run ++ m ∷ later) w → (before : List Act) (f : Frame) (s : Ships m before f)
+pub sent_lists : (run later : List Moment) (m : Moment) (w : World) → Reached (run ++ m ∷ later) w → (before : List Act) (f : Frame) (s : Ships m before f)
     → (f.from ≡ site m.fate) × (site m.fate < length w.sites) × ((d : Dot) → set.contains s.state.taken d ≡ taken_amid (site m.fate) run before d)
 sent_lists run later m w r before f s =
     let a = amid_acts run later m w r before s.after (Out (Release f)) s.acts in
@@ -50,7 +50,7 @@ sent_lists run later m w r before f s =
     (a.runs.1.0.0, a.within, λ d. ap (λ (t : State). set.contains t.taken d) is ∙ a.listed d)
 
 -- some state lists the dot
-abbrev any_lists : List State → Dot → Bool
+abbrev pub any_lists : List State → Dot → Bool
 any_lists [] d = false
 any_lists (t ∷ ts) d = set.contains t.taken d || any_lists ts d
 
@@ -65,6 +65,7 @@ merges_gain (Store (Merged t) ∷ acts) d h = elim (or_true (set.contains t.take
 ]
 merges_gain (Connection a ∷ acts) d h = merges_gain acts d h
 merges_gain (Out o ∷ acts) d h = merges_gain acts d h
+merges_gain (Acknowledged c packet at grants offers ∷ acts) d h = merges_gain acts d h
 
 -- a frame for this node from another one brings its state
 frame_brings : (id nodes : ℕ) (f : Frame) (t : State) → f.to ≡ id → f.from ≢ id → f.from < nodes → f.body ≡ Delta t → brought id nodes (kinds.Frame f) ≡ t ∷ []

@@ -1,16 +1,21 @@
 -- What an event at a seat comes to.
-use Rattle.std.proofs.Common.{◌≡◌, ◌≢◌, ℕ, ◌<◌, ◌≤◌, List, [], ◌∷◌, ◌++◌, Option, Some, None, Result, Ok, Err, OnOk, refl, sym, ap, ◌∙◌, get_or, length, zero, suc, arith}
+use Rattle.std.proofs.Common.{◌≡◌, ◌≢◌, ℕ, ◌<◌, ◌≤◌, List, [], ◌∷◌, ◌++◌, Option, Some, None, Result, Ok, Err, OnOk, refl, sym, ap, ◌∙◌, get_or, inl, inr, length, zero, suc, arith}
 use Rattle.std.specs.List.{slice_get}
 use Rattle.std.proofs.Math.ListN.{set}
 use Rattle.std.proofs.lemmas.List.{append-nil}
 use Rattle.broker_node.specs.declared.event.Event.{Event}
 use Rattle.broker_node.specs.declared.fault.NodeFault.{NodeFault}
-use Rattle.broker_node.specs.declared.fault.NodeFault.TheVariants.{Stopped}
+use Rattle.broker_node.specs.declared.fault.NodeFault.TheVariants.{NoMemory, NumbersAtEnd, Stopped}
 use Rattle.broker_node.specs.declared.frame.Frame.{Frame}
 use Rattle.broker_node.specs.declared.outcome.Output.{Output}
 use Rattle.broker_node.specs.Step.{IsDone, HasCauseAt}
 use Rattle.broker_node.specs.View.{HeldView, NodeView}
-use Rattle.cluster_play.specs.Worlds.{World, Released, Faulted, Was_down, EventAt, changed, running, stopped, frames_in}
+use Rattle.cluster_play.specs.declared.line.Line.{Line}
+use Rattle.cluster_play.specs.declared.line.Line.TheVariants as lines
+use Rattle.cluster_play.specs.declared.step.Step.TheVariants as steps
+use Rattle.cluster_play.specs.Playing.{RunsOut}
+use Rattle.cluster_play.specs.Runs.{lines_of}
+use Rattle.cluster_play.specs.Worlds.{World, Fate, Released, Faulted, Was_down, EventAt, arrival, changed, numbered, running, stopped, frames_in}
 
 -- two things that hold at Ok
 pub both_ok : {A E P Q X : Type 0} (r : Result A E) → OnOk r P → OnOk r Q → (P → Q → X) → OnOk r X
@@ -48,19 +53,36 @@ module _ (w : World) (i : ℕ) (n n' : NodeView) (e : Event) where
   event_done outputs frames d id nodes added =
       (refl, refl, (d.before, d.after, d.was, d.steps, same_world w i n' (running n d.after) frames (frames_in outputs) (same_node n' (running n d.after) id nodes d.is) added))
 
-  was_down : (up : Option HeldView) (id : ℕ) → HasCauseAt up id e Stopped → up ≡ None
+  -- the sites then are those after the step
+  pub sites_done : (outputs : List Output) (d : IsDone n e outputs n') → n'.id ≡ n.id → n'.nodes ≡ n.nodes → set w.sites i n' ≡ set w.sites i (running n d.after)
+  sites_done outputs d id nodes = ap (λ (x : NodeView). set w.sites i x) (same_node n' (running n d.after) id nodes d.is)
+
+  was_down : (up : Option HeldView) (id : ℕ) → HasCauseAt up id n.nodes e Stopped → up ≡ None
   was_down None id h = refl
   was_down (Some v) id h = absurd h
 
-  pub event_down : n ≡ get_or w.sites i n → HasCauseAt n.up n.id e Stopped → (n.up ≡ None → n' ≡ n) → EventAt w i n e (Was_down i) (with_site w i n' w.frames)
+  event_down : n ≡ get_or w.sites i n → HasCauseAt n.up n.id n.nodes e Stopped → (n.up ≡ None → n' ≡ n) → EventAt w i n e (Was_down i) (with_site w i n' w.frames)
   event_down there cause same =
       let down = was_down n.up n.id cause in
       (refl, down, λ k. record { sites = (ap (λ (x : NodeView). set w.sites i x) (same down) ∙ set_own w.sites i n there) k; frames = w.frames })
 
-  has_cause : (fault : NodeFault) (up : Option HeldView) → n.up ≡ up → fault ≢ Stopped → HasCauseAt up n.id e fault → n'.id ≡ n.id → n'.nodes ≡ n.nodes → n'.up ≡ None → EventAt w i n e (Faulted i fault) (with_site w i n' w.frames)
+  has_cause : (fault : NodeFault) (up : Option HeldView) → n.up ≡ up → fault ≢ Stopped → HasCauseAt up n.id n.nodes e fault → n'.id ≡ n.id → n'.nodes ≡ n.nodes → n'.up ≡ None → EventAt w i n e (Faulted i fault) (with_site w i n' w.frames)
   has_cause fault None is other cause id nodes down = absurd (other cause)
   has_cause fault (Some h) is other cause id nodes down =
       (refl, (h, is, cause, same_world w i n' (stopped n) w.frames [] (same_node n' (stopped n) id nodes down) (sym (append-nil w.frames))))
 
-  pub event_faulted : (fault : NodeFault) → fault ≢ Stopped → HasCauseAt n.up n.id e fault → n'.id ≡ n.id → n'.nodes ≡ n.nodes → n'.up ≡ None → EventAt w i n e (Faulted i fault) (with_site w i n' w.frames)
+  event_faulted : (fault : NodeFault) → fault ≢ Stopped → HasCauseAt n.up n.id n.nodes e fault → n'.id ≡ n.id → n'.nodes ≡ n.nodes → n'.up ≡ None → EventAt w i n e (Faulted i fault) (with_site w i n' w.frames)
   event_faulted fault other cause id nodes down = has_cause fault n.up refl other cause id nodes down
+
+  -- the line of a fault
+  pub fault_told : (given : ℕ) (ls ls' : List Line) (fault : NodeFault) → HasCauseAt n.up n.id n.nodes e fault → n ≡ get_or w.sites i n → (n.up ≡ None → n' ≡ n) → n'.id ≡ n.id → n'.nodes ≡ n.nodes → n'.up ≡ None
+      → (fault ≡ Stopped → ls' ≡ ls ++ lines.Down i ∷ []) → (fault ≢ Stopped → ls' ≡ ls ++ lines.Fault i fault ∷ [])
+      → (fate : Fate) × EventAt w i n e fate (with_site w i n' w.frames) × (ls' ≡ ls ++ lines_of given fate)
+  fault_told given ls ls' NoMemory cause there same id nodes up down other = (Faulted i NoMemory, event_faulted NoMemory (λ x. cc) cause id nodes up, other (λ x. cc))
+  fault_told given ls ls' NumbersAtEnd cause there same id nodes up down other = (Faulted i NumbersAtEnd, event_faulted NumbersAtEnd (λ x. cc) cause id nodes up, other (λ x. cc))
+  fault_told given ls ls' Stopped cause there same id nodes up down other = (Was_down i, event_down there cause same, down refl)
+
+-- memory that is refused at the event of a delivery is refused at the delivery
+pub delivery_out : (w w' : World) (number at : ℕ) (f : Frame) → numbered w.frames number ≡ Some f → RunsOut w (steps.Event f.to (arrival f at)) w' → RunsOut w (steps.Deliver number at) w'
+delivery_out w w' number at f there (inl same) = inl same
+delivery_out w w' number at f there (inr x) = inr (x.0, x.1, x.2, x.3, x.4, (f, x.5.0, there, x.5.1, x.5.2), x.6)

@@ -1,9 +1,11 @@
 -- What the acts of a step do to the operations that there are, and to what its node has taken.
-use Rattle.std.proofs.Common.{◌≡◌, ℕ, zero, suc, false, ◌||◌, List, [], ◌∷◌, ◌++◌, Some, refl, sym, ap, ◌∙◌, inl, inr, subst, append_assoc}
+use Rattle.std.proofs.Common.{◌≡◌, ℕ, zero, suc, true, false, cond, flat_map, ◌||◌, List, [], ◌∷◌, ◌++◌, Some, refl, sym, ap, ◌∙◌, inl, inr, subst, append_assoc}
 use Rattle.std.proofs.lemmas.List.{append-nil}
 use Rattle.std.specs.List.{slice_get}
 use Rattle.std.specs.FinSet as set
 use Rattle.causal_context.specs.Dots.{Dot, dot_cmp_total}
+use Rattle.mqtt_packets.specs.Written.{written}
+use Rattle.mqtt_message.specs.declared.delivery.Delivery.{Delivery}
 use Rattle.replica_store.specs.declared.operation.Operation.{Operation}
 use Rattle.replica_store.specs.Operations.{dot_of, Among, HaveOwnDots}
 use Rattle.replica_store.specs.States.{State, state_join}
@@ -12,9 +14,11 @@ use Rattle.replica_store.specs.Making.{next_dot}
 use Rattle.broker_node.specs.declared.frame.Frame.{Frame}
 use Rattle.broker_node.specs.declared.frame.FrameBody.{FrameBody}
 use Rattle.broker_node.specs.declared.frame.FrameBody.TheVariants.{Delta}
+use Rattle.broker_node.specs.declared.outcome.Output.{Output}
 use Rattle.broker_node.specs.declared.outcome.Output.TheVariants.{Send, Close, Frame as Release}
-use Rattle.broker_node.specs.Acts.{Act, Moment, Began, Store, Connection, Out, Made, Merged, Carries, Runs, gather, op_in, merge_in, output_in}
-use Rattle.broker_node.specs.Connections.{ConnectionAct, Opened, Fed, Accepted, Closed, Connects}
+use Rattle.broker_node.specs.Acts.{Act, Moment, Began, Store, Connection, Out, Acknowledged, Made, Merged, offer_output, Carries, Runs, gather, op_in, merge_in, output_in}
+use Rattle.broker_node.specs.Held.Connections.{ConnectionAct, Opened, Fed, Accepted, Closed, connected}
+use Rattle.broker_node.specs.Offers.{is_sent, offer_packet}
 use Rattle.broker_node.specs.View.{HeldView}
 use Rattle.cluster_play.specs.Worlds.{frames_in}
 use Rattle.cluster_play.specs.Histories.{same_dot, gain_in, gained}
@@ -54,11 +58,19 @@ quiet i ms h m h' a acts none idle still same g =
       sent = λ n f t at b. subst (λ os. Sound (ms ++ os) t) e (g.sent n f t (subst (λ fs. slice_get fs n ≡ Some f) still at) b);
     }
 
-connected : (h h' : HeldView) (a : ConnectionAct) → Connects h a h' → h'.store ≡ h.store
-connected h h' (Opened c) r = ap (λ (v : HeldView). v.store) r
-connected h h' (Fed c piece) r = ap (λ (v : HeldView). v.store) r.2
-connected h h' (Accepted c client) r = ap (λ (v : HeldView). v.store) r.2
-connected h h' (Closed c) r = ap (λ (v : HeldView). v.store) r
+connection_leaves : (h h' : HeldView) (a : ConnectionAct) → h' ≡ connected h a → h'.store ≡ h.store
+connection_leaves h h' (Opened c) r = ap (λ (v : HeldView). v.store) r
+connection_leaves h h' (Fed c piece) r = ap (λ (v : HeldView). v.store) r
+connection_leaves h h' (Accepted c client) r = ap (λ (v : HeldView). v.store) r
+connection_leaves h h' (Closed c) r = ap (λ (v : HeldView). v.store) r
+
+-- SUBACK and offers are no frames
+pub no_offered_frame : (c at : ℕ) (offers : List Delivery) (more : List Output) → frames_in (flat_map (offer_output c at) offers ++ more) ≡ frames_in more
+no_offered_frame c at [] more = refl
+no_offered_frame c at (d ∷ ds) more = elim (is_sent at d) as (λ b. frames_in ((cond b (Send c (written (offer_packet at d)) ∷ []) [] ++ flat_map (offer_output c at) ds) ++ more) ≡ frames_in more) [
+  | true ↦ no_offered_frame c at ds more
+  | false ↦ no_offered_frame c at ds more
+]
 
 made_grows : (i : ℕ) (ms : List Operation) (h m h' : HeldView) (o : Operation) (acts : List Act)
     → HaveOwnDots ms → IsFresh ms o → dot_of o ≡ next_dot i h.store → m.store ≡ state_join h.store (delta_of o)
@@ -107,21 +119,21 @@ acts_grow i [] ms h h' g r a = record {
   sent = λ n f t at b. none-some at;
 }
 acts_grow i (Moment at ∷ acts) ms h h' g r a =
-    let st : r.0.store ≡ h.store = ap (λ (v : HeldView). v.store) r.1 in
+    let st : r.0.store ≡ h.store = ap (λ (v : HeldView). v.store) r.1.1 in
     quiet i ms h r.0 h' (Moment at) acts refl (λ d. refl) refl st (acts_grow i acts ms r.0 h' (subst (Grown i ms) (sym st) g) r.2 a)
 acts_grow i (Began ∷ acts) ms h h' g r a =
-    let st : r.0.store ≡ h.store = ap (λ (v : HeldView). v.store) r.1 in
+    let st : r.0.store ≡ h.store = ap (λ (v : HeldView). v.store) r.1.1 in
     quiet i ms h r.0 h' Began acts refl (λ d. refl) refl st (acts_grow i acts ms r.0 h' (subst (Grown i ms) (sym st) g) r.2 a)
 acts_grow i (Store (Made o) ∷ acts) ms h h' g r a =
-    let is : dot_of o ≡ next_dot i h.store = made_dot i h.store o r.1.1.0 in
+    let is : dot_of o ≡ next_dot i h.store = made_dot i h.store o r.1.0 in
     let fresh : IsFresh ms o = is_fresh i ms h.store o g is in
-    let st : r.0.store ≡ state_join h.store (delta_of o) = ap (λ (v : HeldView). v.store) r.1.2 ∙ r.1.1.1 in
+    let st : r.0.store ≡ state_join h.store (delta_of o) = ap (λ (v : HeldView). v.store) r.1.1 in
     made_grows i ms h r.0 h' o acts g.own_dots fresh is st (acts_grow i acts (ms ++ o ∷ []) r.0 h' (subst (Grown i (ms ++ o ∷ [])) (sym st) (grown_made i ms h.store o g fresh)) r.2 (all_fresh ms o (gather merge_in acts) g.own_dots fresh a))
 acts_grow i (Store (Merged t) ∷ acts) ms h h' g r a =
-    let st : r.0.store ≡ state_join h.store t = ap (λ (v : HeldView). v.store) r.1.2 ∙ r.1.1 in
+    let st : r.0.store ≡ state_join h.store t = ap (λ (v : HeldView). v.store) r.1.1 in
     merged_grows i ms h r.0 h' t acts st (acts_grow i acts ms r.0 h' (subst (Grown i ms) (sym st) (grown_merged i ms h.store t g a.0)) r.2 a.1)
 acts_grow i (Connection c ∷ acts) ms h h' g r a =
-    let st : r.0.store ≡ h.store = connected h r.0 c r.1 in
+    let st : r.0.store ≡ h.store = connection_leaves h r.0 c r.1.1 in
     quiet i ms h r.0 h' (Connection c) acts refl (λ d. refl) refl st (acts_grow i acts ms r.0 h' (subst (Grown i ms) (sym st) g) r.2 a)
 acts_grow i (Out (Send c bytes) ∷ acts) ms h h' g r a =
     let st : r.0.store ≡ h.store = ap (λ (v : HeldView). v.store) r.1.1 in
@@ -132,3 +144,6 @@ acts_grow i (Out (Close c) ∷ acts) ms h h' g r a =
 acts_grow i (Out (Release f) ∷ acts) ms h h' g r a =
     let st : r.0.store ≡ h.store = ap (λ (v : HeldView). v.store) r.1.1 in
     released_grows i ms h r.0 h' f acts g.sound r.1.0.1 st (acts_grow i acts ms r.0 h' (subst (Grown i ms) (sym st) g) r.2 a)
+acts_grow i (Acknowledged c packet at grants offers ∷ acts) ms h h' g r a =
+    let st : r.0.store ≡ h.store = ap (λ (v : HeldView). v.store) r.1.1 in
+    quiet i ms h r.0 h' (Acknowledged c packet at grants offers) acts refl (λ d. refl) (no_offered_frame c at offers (gather output_in acts)) st (acts_grow i acts ms r.0 h' (subst (Grown i ms) (sym st) g) r.2 a)

@@ -1,4 +1,5 @@
 pub mod Agreeing
+pub mod Alike
 pub mod Amid
 pub mod Bools
 pub mod Catching
@@ -7,10 +8,14 @@ pub mod Growing
 pub mod Invariant
 pub mod Kept
 pub mod Lined
+pub mod Moments
 pub mod Next
+pub mod Offering
+pub mod Onward
 pub mod Operations
 pub mod Paths
 pub mod Played
 pub mod Sites
 pub mod Sound
 pub mod Showing
+pub mod Taking

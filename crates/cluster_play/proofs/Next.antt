@@ -88,6 +88,6 @@ module _ (i : ℕ) (O : List Operation) (s : State) (own : HaveOwnDots O) (state
       let covers : cover ≡ dots_of client to s.subscriptions = cc same.1 in
       let some = covers_some client to s same.0 in
       (next_number dot h.0 (cc same.1), (client, to, next_cover client to cover covers, (some.0, subst (λ (c : Dots). set.contains c some.0 ≡ true) (sym covers) some.1)))
-  next_operation (Put dot stamp topic message) h =
+  next_operation (Put dot stamp content) h =
       let same = h.2 in
       (next_number dot h.0 cc, next_stamp stamp h.1 cc)

@@ -10,7 +10,7 @@ use Rattle.cluster_play.specs.declared.line.Line.{Line}
 use Rattle.cluster_play.specs.declared.step.Step.{Step}
 use Rattle.cluster_play.specs.declared.step.Step.TheVariants as steps
 use Rattle.cluster_play.specs.Clusters.{world, is_spent}
-use Rattle.cluster_play.specs.Playing.{IsPlayed, StopsAt, IsRefused, IsDoneStep}
+use Rattle.cluster_play.specs.Playing.{IsPlayed, StopsAt, StopsShort, RunsOut, IsRefused, IsDoneStep}
 use Rattle.cluster_play.specs.Runs.{Moment, Run, steps_of, released, lines_of, printed}
 use Rattle.cluster_play.specs.Worlds.{World, Lacks}
 use Rattle.cluster_play.proofs.Paths.{run_join, step_frames}
@@ -51,18 +51,29 @@ stops : (w mid : World) (steps : List Step) (k : ℕ) (step : Step) (lines : Lis
 stops w mid steps k step lines fault lt is before lacks =
     (before.0, step, drop (k + 1) steps, parts steps k step lt is ∙ ap (λ ss. ss ++ step ∷ drop (k + 1) steps) (sym before.1), before.2, lacks)
 
+-- memory is refused at the step
+short : (w mid w' : World) (steps : List Step) (k : ℕ) (step : Step) (lines : List Line) → k < length steps → step ≡ get_or steps k step
+    → IsPlayed w (take k steps) lines mid → RunsOut mid step w' → StopsShort w steps w'
+short w mid w' steps k step lines lt is before out =
+    (before.0, step, drop (k + 1) steps, mid, parts steps k step lt is ∙ ap (λ ss. ss ++ step ∷ drop (k + 1) steps) (sym before.1), before.2, out)
+
+lacks_memory : {P : Type 0} (w : World) (step : Step) → Lacks w step NoMemory → P
+lacks_memory w (steps.Event i e) h = let no = h.0 in cc
+lacks_memory w (steps.Deliver number at) (inl h) = let no = h.0 in cc
+lacks_memory w (steps.Deliver number at) (inr h) = let no = h.0 in cc
+
 lacks_spent : {P : Type 0} (w : World) (step : Step) → Lacks w step Spent → P
 lacks_spent w (steps.Event i e) h = let no = h.0 in cc
 lacks_spent w (steps.Deliver number at) (inl h) = let no = h.0 in cc
 lacks_spent w (steps.Deliver number at) (inr h) = let no = h.0 in cc
 
 pub refused : (c c' : Cluster) (mid : World) (steps : List Step) (k : ℕ) (step : Step) (lines : List Line) (fault : PlayFault) → k < length steps → step ≡ get_or steps k step
-    → IsPlayed (world c) (take k steps) lines mid → (fault ≡ NoMemory) ⊎ (Lacks mid step fault × (world c' ≡ mid)) → is_spent c' ≡ sameb the_type fault NoMemory → IsRefused c steps fault c'
-refused c c' mid steps k step lines UnknownNode lt is before (inl e) spent = cc
-refused c c' mid steps k step lines UnknownFrame lt is before (inl e) spent = cc
-refused c c' mid steps k step lines NoMemory lt is before (inl e) spent = spent
-refused c c' mid steps k step lines Spent lt is before (inl e) spent = cc
+    → IsPlayed (world c) (take k steps) lines mid → ((fault ≡ NoMemory) × RunsOut mid step (world c')) ⊎ (Lacks mid step fault × (world c' ≡ mid)) → is_spent c' ≡ sameb the_type fault NoMemory → IsRefused c steps fault c'
+refused c c' mid steps k step lines UnknownNode lt is before (inl e) spent = let no = e.0 in cc
+refused c c' mid steps k step lines UnknownFrame lt is before (inl e) spent = let no = e.0 in cc
+refused c c' mid steps k step lines NoMemory lt is before (inl e) spent = (short (world c) mid (world c') steps k step lines lt is before e.1, spent)
+refused c c' mid steps k step lines Spent lt is before (inl e) spent = let no = e.0 in cc
 refused c c' mid steps k step lines UnknownNode lt is before (inr h) spent = (subst (StopsAt (world c) steps UnknownNode) (sym h.1) (stops (world c) mid steps k step lines UnknownNode lt is before h.0), spent)
 refused c c' mid steps k step lines UnknownFrame lt is before (inr h) spent = (subst (StopsAt (world c) steps UnknownFrame) (sym h.1) (stops (world c) mid steps k step lines UnknownFrame lt is before h.0), spent)
-refused c c' mid steps k step lines NoMemory lt is before (inr h) spent = spent
+refused c c' mid steps k step lines NoMemory lt is before (inr h) spent = lacks_memory mid step h.0
 refused c c' mid steps k step lines Spent lt is before (inr h) spent = lacks_spent mid step h.0

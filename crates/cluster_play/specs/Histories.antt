@@ -1,9 +1,10 @@
 -- What was made and taken in a run, read off its moments.
-use Rattle.std.specs.Prelude.{◌≡◌, ℕ, ◌++◌, List, [], ◌∷◌, Option, Some, None, Bool, false, ◌&&◌, ◌||◌, nat_eq, filter, length, slice_get}
+use Rattle.std.specs.Prelude.{◌≡◌, ℕ, ◌++◌, List, [], ◌∷◌, Option, Some, None, Bool, false, cond, max, ◌&&◌, ◌||◌, nat_eq, filter, length, slice_get}
 use Rattle.std.specs.FinSet as set
 use Rattle.causal_context.specs.Dots.{Dot}
 use Rattle.broker_node.specs.declared.event.Event.{Event}
-use Rattle.broker_node.specs.Acts.{Act, Moment as TakesMoment, Began, Store, Connection, Out, Made, Merged, gather, op_in}
+use Rattle.broker_node.specs.declared.outcome.Output.{Output}
+use Rattle.broker_node.specs.Acts.{Act, Moment as TakesMoment, Began, Store, Connection, Out, Acknowledged, Made, Merged, gather, op_in}
 use Rattle.broker_node.specs.View.{NodeView, opened}
 use Rattle.replica_store.specs.declared.operation.Operation.{Operation}
 use Rattle.replica_store.specs.Operations.{dot_of}
@@ -28,6 +29,12 @@ acts_of (Released i e acts outputs) = acts
 acts_of (Faulted i fault) = []
 acts_of (Was_down i) = []
 
+-- what it gave out
+abbrev pub outputs_of : Fate → List Output
+outputs_of (Released i e acts outputs) = outputs
+outputs_of (Faulted i fault) = []
+outputs_of (Was_down i) = []
+
 -- the operations that it made
 abbrev pub ops_of : Fate → List Operation
 ops_of fate = gather op_in (acts_of fate)
@@ -48,6 +55,7 @@ gain_in (Store (Made o)) d = same_dot (dot_of o) d
 gain_in (Store (Merged s)) d = set.contains s.taken d
 gain_in (Connection a) d = false
 gain_in (Out o) d = false
+gain_in (Acknowledged c packet at grants offers) d = false
 
 abbrev pub gained : List Act → Dot → Bool
 gained [] d = false
@@ -72,6 +80,29 @@ taken_amid i run acts d = taken i run d || gained acts d
 
 abbrev pub operations_amid : ℕ → List Moment → List Act → List Operation
 operations_amid i run acts = filter (λ o. taken_amid i run acts (dot_of o)) (made run ++ gather op_in acts)
+
+-- the moment that an act takes
+abbrev pub moment_in : Act → ℕ
+moment_in (TakesMoment at) = at
+moment_in Began = 0
+moment_in (Store a) = 0
+moment_in (Connection a) = 0
+moment_in (Out o) = 0
+moment_in (Acknowledged c packet at grants offers) = 0
+
+-- the greatest one
+abbrev pub latest : List Act → ℕ
+latest [] = 0
+latest (a ∷ rest) = max (moment_in a) (latest rest)
+
+-- the greatest moment that node i was handed in the steps of a run that committed
+abbrev pub moment_of : ℕ → List Moment → ℕ
+moment_of i [] = 0
+moment_of i (m ∷ ms) = max (cond (nat_eq (site m.fate) i) (latest (acts_of m.fate)) 0) (moment_of i ms)
+
+-- the same amid a step of node i, after these of its acts
+abbrev pub moment_amid : ℕ → List Moment → List Act → ℕ
+moment_amid i run acts = max (moment_of i run) (latest acts)
 
 -- new nodes, and no frame
 pub record IsStart (w : World) : Type 0 where

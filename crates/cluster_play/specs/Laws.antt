@@ -1,5 +1,6 @@
 -- What holds in every run.
-use Rattle.std.specs.Prelude.{◌≡◌, ◌↔◌, ℕ, ◌++◌, List, ◌∷◌, Some, true, filter, slice_get}
+use Rattle.std.specs.Prelude.{◌≡◌, ◌↔◌, ◌⊎◌, ℕ, ◌++◌, List, [], ◌∷◌, Some, true, filter, length, slice_get}
+use Rattle.std.specs.List.{AllByRecursion}
 use Rattle.std.specs.FinMap as map
 use Rattle.std.specs.FinSet as set
 use Rattle.causal_context.specs.Dots.{Dot}
@@ -8,7 +9,7 @@ use Rattle.subscription_set.specs.declared.entry.Entry.{Entry}
 use Rattle.subscription_set.specs.Standing.{find_entry, live}
 use Rattle.replica_store.specs.declared.operation.Operation.{Operation}
 use Rattle.replica_store.specs.Answers.{IsAnswer, IsAnswerOf}
-use Rattle.replica_store.specs.Operations.{dot_of, HaveOwnDots, IsLive}
+use Rattle.replica_store.specs.Operations.{dot_of, Among, HaveOwnDots, IsLive}
 use Rattle.replica_store.specs.StateOf.{IsStateOf}
 use Rattle.replica_store.specs.States.{State}
 use Rattle.broker_node.specs.declared.event.Event.{Event}
@@ -20,11 +21,14 @@ use Rattle.broker_node.specs.declared.outcome.Output.TheVariants.{Frame as Relea
 use Rattle.broker_node.specs.Acts.{Act, Store, Out, Made, Runs}
 use Rattle.broker_node.specs.View.{HeldView, NodeView}
 use Rattle.cluster_play.specs.declared.fault.PlayFault.{PlayFault}
+use Rattle.cluster_play.specs.declared.line.Line.{Line}
 use Rattle.cluster_play.specs.declared.step.Step.{Step}
 use Rattle.cluster_play.specs.Worlds.{World, Fate, Released, Happens, Lacks, numbered}
-use Rattle.cluster_play.specs.Runs.{Moment, Run, IsHonestStep}
-use Rattle.cluster_play.specs.Histories.{Reached, site, event_of, acts_of, made, taken, operations, taken_amid, operations_amid}
+use Rattle.cluster_play.specs.Runs.{Moment, Run, BringsNoFrame, IsHonestStep, IsHonest, steps_of, printed}
+use Rattle.cluster_play.specs.Histories.{IsStart, Reached, site, event_of, acts_of, ops_of, made, taken, operations, taken_amid, operations_amid, moment_amid}
+use Rattle.cluster_play.specs.Answering.{Acknowledges, SendsAnswers, OffersAlike}
 use Rattle.cluster_play.specs.NextOperations.{IsNext}
+use Rattle.cluster_play.specs.Playing.{IsPlayed}
 
 -- node i runs in the world, and holds h
 pub record Holds (w : World) (i : ℕ) (h : HeldView) : Type 0 where
@@ -138,6 +142,54 @@ CatchUp =
     → (before : List Act) (f : Frame) → Ships m before f → Arrives w f arrival w'
     → (d : Dot) → taken_amid (site m.fate) run before d ≡ true → taken f.to ((run ++ m ∷ amid) ++ arrival ∷ later) d ≡ true
 
+-- a step of the run makes the operation of this dot at node i
+pub record MakesDot (i : ℕ) (run : List Moment) (d : Dot) : Type 0 where
+  pub before : List Moment
+  pub m : Moment
+  pub later : List Moment
+  pub run_is : run ≡ before ++ m ∷ later
+  pub at : site m.fate ≡ i
+  pub operation : Operation
+  pub among : Among operation (ops_of m.fate)
+  pub dot : dot_of operation ≡ d
+
+-- a Delta frame that lists the dot as taken comes to node i, which has started, in a step of the run that commits
+pub record BringsDot (i : ℕ) (run : List Moment) (d : Dot) : Type 0 where
+  pub before : List Moment
+  pub m : Moment
+  pub later : List Moment
+  pub run_is : run ≡ before ++ m ∷ later
+  pub mid : World
+  pub after : World
+  pub reached : Reached before mid
+  pub frame : Frame
+  pub to : frame.to ≡ i
+  pub arrives : Arrives mid frame m after
+  pub state : State
+  pub is_delta : frame.body ≡ Delta state
+  pub lists : set.contains state.taken d ≡ true
+
+-- a node takes the dots of the operations that it makes and those that the Delta frames list which come to it, and no other
+abbrev pub TakesWhatItMakesOrIsBrought : Type 0
+TakesWhatItMakesOrIsBrought =
+    (run : List Moment) (w : World) → Reached run w → (i : ℕ) (d : Dot) → (taken i run d ≡ true) ↔ (MakesDot i run d ⊎ BringsDot i run d)
+
+-- what goes out after SUBACK are, filter by filter, the answers of what the node has taken by then, at its moment
+abbrev pub AnswersAsSent : Type 0
+AnswersAsSent =
+    (run later : List Moment) (m : Moment) (w : World) → Reached (run ++ m ∷ later) w
+    → (before : List Act) (s : Acknowledges m before)
+    → SendsAnswers (operations_amid (site m.fate) run before) m before s × (s.at ≡ moment_amid (site m.fate) run before)
+
+-- so nodes that have taken the same by then, in two steps of a run, send the same to the same subscription at the same moment
+abbrev pub SendAlike : Type 0
+SendAlike =
+    (whole run later run' later' : List Moment) (m m' : Moment) (w : World) → Reached whole w → whole ≡ run ++ m ∷ later → whole ≡ run' ++ m' ∷ later'
+    → (before before' : List Act) (s : Acknowledges m before) (s' : Acknowledges m' before')
+    → moment_amid (site m.fate) run before ≡ moment_amid (site m'.fate) run' before'
+    → ((d : Dot) → taken_amid (site m.fate) run before d ≡ taken_amid (site m'.fate) run' before' d)
+    → OffersAlike (operations_amid (site m.fate) run before) (operations_amid (site m'.fate) run' before') s.at s.grants s'.grants s.offers s'.offers
+
 -- a frame keeps its number
 abbrev pub FramesStay : Type 0
 FramesStay = (run : List Moment) (w w' : World) → Run w run w' → (number : ℕ) (f : Frame) → numbered w.frames number ≡ Some f → numbered w'.frames number ≡ Some f
@@ -145,6 +197,24 @@ FramesStay = (run : List Moment) (w w' : World) → Run w run w' → (number : �
 -- a run goes on where another ends
 abbrev pub RunsCompose : Type 0
 RunsCompose = (ms ns : List Moment) (w mid w' : World) → Run w ms mid → Run mid ns w' → Run w (ms ++ ns) w'
+
+-- new nodes without a frame are reached
+abbrev pub StartIsReached : Type 0
+StartIsReached = (w : World) → IsStart w → Reached [] w
+
+-- a world that is reached stays so after an honest run
+abbrev pub RunsGoOn : Type 0
+RunsGoOn = (ms ns : List Moment) (w w' : World) → Reached ms w → Run w ns w' → IsHonest w.frames ns → Reached (ms ++ ns) w'
+
+-- steps that bring no frame of their own forge none
+abbrev pub FramelessStepsAreHonest : Type 0
+FramelessStepsAreHonest = (sent : List Frame) (run : List Moment) → AllByRecursion BringsNoFrame (steps_of run) → IsHonest sent run
+
+-- so a world that is reached stays so when such steps are played, one by one or several at a time
+abbrev pub PlayedIsReached : Type 0
+PlayedIsReached =
+    (run : List Moment) (w w' : World) (steps : List Step) (lines : List Line) → Reached run w → AllByRecursion BringsNoFrame steps → IsPlayed w steps lines w'
+    → (more : List Moment) × (steps_of more ≡ steps) × Reached (run ++ more) w' × (lines ≡ printed (length w.frames) more)
 
 -- a step that happens lacks nothing
 abbrev pub LacksNothing : Type 0

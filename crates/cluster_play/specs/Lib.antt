@@ -1,3 +1,4 @@
+pub mod Answering
 pub mod Clusters
 pub mod Histories
 pub mod Laws

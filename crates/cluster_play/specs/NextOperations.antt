@@ -32,4 +32,4 @@ abbrev pub IsNext : ℕ → List Operation → Operation → Type 0
 IsNext i O (Subscribe dot entry cover) = IsNextDot i O dot × CoversWhatStands O entry.client (Some entry.filter) cover
 IsNext i O (Remove dot cover) =
     IsNextDot i O dot × ((client : List ℕ) × (to : Option (List ℕ)) × CoversWhatStands O client to cover × ((covered : Dot) × (set.contains cover covered ≡ true)))
-IsNext i O (Put dot stamp topic message) = IsNextDot i O dot × IsNextStamp i O stamp
+IsNext i O (Put dot stamp content) = IsNextDot i O dot × IsNextStamp i O stamp

@@ -1,12 +1,15 @@
 -- What playing steps comes to.
-use Rattle.std.specs.Prelude.{◌≡◌, true, false, ◌++◌, List, ◌∷◌, length}
+use Rattle.std.specs.Prelude.{◌≡◌, ◌⊎◌, ℕ, true, false, ◌++◌, List, ◌∷◌, length}
+use Rattle.broker_node.specs.declared.event.Event.{Event}
+use Rattle.broker_node.specs.declared.outcome.Output.{Output}
+use Rattle.broker_node.specs.Acts.{Act}
 use Rattle.cluster_play.specs.declared.cluster.Cluster.{Cluster}
 use Rattle.cluster_play.specs.declared.fault.PlayFault.{PlayFault}
 use Rattle.cluster_play.specs.declared.fault.PlayFault.TheVariants.{UnknownNode, UnknownFrame, NoMemory, Spent}
 use Rattle.cluster_play.specs.declared.line.Line.{Line}
 use Rattle.cluster_play.specs.declared.step.Step.{Step}
 use Rattle.cluster_play.specs.Clusters.{world, is_spent}
-use Rattle.cluster_play.specs.Worlds.{World, Fate, Happens, Lacks}
+use Rattle.cluster_play.specs.Worlds.{World, Fate, Released, Happens, Lacks}
 use Rattle.cluster_play.specs.Runs.{Moment, Run, steps_of, lines_of, printed}
 
 -- there is a run over exactly these steps, and these are its lines
@@ -17,11 +20,22 @@ IsPlayed w steps lines w' = (run : List Moment) × (steps_of run ≡ steps) × R
 abbrev pub StopsAt : World → List Step → PlayFault → World → Type 0
 StopsAt w steps fault w' = (run : List Moment) × (step : Step) × (rest : List Step) × (steps ≡ steps_of run ++ step ∷ rest) × Run w run w' × Lacks w' step fault
 
+-- memory was refused at a step: before anything happened, or for what its node gave out, which goes on
+abbrev pub RunsOut : World → Step → World → Type 0
+RunsOut w step w' =
+    (w' ≡ w)
+    ⊎ ((i : ℕ) × (e : Event) × (acts : List Act) × (outputs : List Output) × (done : World) × Happens w step (Released i e acts outputs) done × (w'.sites ≡ done.sites))
+
+-- there is a run over the steps before one at which memory was refused
+abbrev pub StopsShort : World → List Step → World → Type 0
+StopsShort w steps w' =
+    (run : List Moment) × (step : Step) × (rest : List Step) × (mid : World) × (steps ≡ steps_of run ++ step ∷ rest) × Run w run mid × RunsOut mid step w'
+
 -- why steps aren't played, and what that leaves
 abbrev pub IsRefused : Cluster → List Step → PlayFault → Cluster → Type 0
 IsRefused c steps UnknownNode c' = StopsAt (world c) steps UnknownNode (world c') × (is_spent c' ≡ false)
 IsRefused c steps UnknownFrame c' = StopsAt (world c) steps UnknownFrame (world c') × (is_spent c' ≡ false)
-IsRefused c steps NoMemory c' = is_spent c' ≡ true
+IsRefused c steps NoMemory c' = StopsShort (world c) steps (world c') × (is_spent c' ≡ true)
 IsRefused c steps Spent c' = (is_spent c ≡ true) × (c' ≡ c)
 
 -- one step happened, with its lines

@@ -67,6 +67,20 @@ IsKnown sent (kinds.Frame frame) = (n : ℕ) × (slice_get sent n ≡ Some frame
 IsKnown sent (kinds.Ship peer) = Unit {0}
 IsKnown sent (kinds.Evict client) = Unit {0}
 
+-- an event that brings no frame
+abbrev pub BringsNone : EventKind → Type 0
+BringsNone kinds.Started = Unit {0}
+BringsNone (kinds.Opened connection) = Unit {0}
+BringsNone (kinds.Piece connection bytes) = Unit {0}
+BringsNone (kinds.Frame frame) = ⊥
+BringsNone (kinds.Ship peer) = Unit {0}
+BringsNone (kinds.Evict client) = Unit {0}
+
+-- a step that brings no frame of its own: a delivery brings one that was released
+abbrev pub BringsNoFrame : Step → Type 0
+BringsNoFrame (steps.Event i e) = BringsNone e.kind
+BringsNoFrame (steps.Deliver number at) = Unit {0}
+
 abbrev pub IsHonestStep : List Frame → Step → Type 0
 IsHonestStep sent (steps.Event i e) = IsKnown sent e.kind
 IsHonestStep sent (steps.Deliver number at) = Unit {0}

@@ -55,7 +55,7 @@ changed w i n frames = record { sites = slice_set w.sites i n; frames = w.frames
 abbrev pub EventAt : World → ℕ → NodeView → Event → Fate → World → Type 0
 EventAt w i n e (Released j e' acts outputs) w' =
     (j ≡ i) × (e' ≡ e) × ((h : HeldView) × (h' : HeldView) × (n.up ≡ Some h) × Steps n.id n.nodes h e acts outputs h' × (w' ≡ changed w i (running n h') (frames_in outputs)))
-EventAt w i n e (Faulted j fault) w' = (j ≡ i) × ((h : HeldView) × (n.up ≡ Some h) × HasCause n.id h e fault × (w' ≡ changed w i (stopped n) []))
+EventAt w i n e (Faulted j fault) w' = (j ≡ i) × ((h : HeldView) × (n.up ≡ Some h) × HasCause n.id n.nodes h e fault × (w' ≡ changed w i (stopped n) []))
 EventAt w i n e (Was_down j) w' = (j ≡ i) × (n.up ≡ None) × (w' ≡ w)
 
 -- the event that a frame is to its receiver

@@ -1,10 +1,10 @@
 //! Nodes, and the frames that they have released.
 
-ghost use Rattle.std.specs.Prelude.{◌≡◌, ◌<◌, ◌++◌, ℕ, true, false, length, Some, Err, IfOk, IfErr, OnOk, ◌⊎◌, slice_get, option_map, option_copied, vec_len};
+ghost use Rattle.std.specs.Prelude.{◌≡◌, ◌<◌, ◌++◌, [], ℕ, true, false, length, Some, Err, IfOk, IfErr, IsOk, OnOk, ◌⊎◌, slice_get, option_map, option_copied, vec_len};
 ghost use Rattle.broker_node.specs.View.{NodeView};
 ghost use Rattle.cluster_play.specs.Clusters.{world, is_spent, held_at, holdings_of, taken_of, IsSameTaken};
 ghost use Rattle.cluster_play.specs.Histories.{IsStart};
-ghost use Rattle.cluster_play.specs.Playing.{IsPlayed, IsRefused, IsDoneStep};
+ghost use Rattle.cluster_play.specs.Playing.{IsPlayed, IsRefused, IsDoneStep, RunsOut};
 ghost use Rattle.cluster_play.specs.Runs.{lines_of};
 ghost use Rattle.cluster_play.specs.Worlds.{Fate, EventAt, Lacks, numbered};
 ghost use Rattle.cluster_play.specs.declared.fault.PlayFault.TheVariants as faults;
@@ -12,9 +12,9 @@ ghost use Rattle.cluster_play.specs.declared.step.Step.TheVariants as steps;
 
 use crate::fault::PlayFault;
 use crate::line::{Line, Trace};
-use crate::release::{note, release};
+use crate::release::{release, tell};
 use crate::step::Step;
-use broker_node::{Event, EventKind, Frame, Node, NodeFault};
+use broker_node::{Event, EventKind, Frame, Node};
 use causal_context::Context;
 use replica_store::ReplicaStore;
 use std::alloc::Global;
@@ -50,12 +50,14 @@ impl Cluster {
 
     /// Plays steps in order: what happens is a run of the nodes over exactly these steps, and the
     /// trace has its lines. A step that names no node or no frame changes nothing, and the steps
-    /// before it have happened. Once memory has run out, the cluster is spent.
+    /// before it have happened. Memory runs out at a step before it happens, or where its node gives
+    /// out something, never in place of a fault; from then on the cluster is spent.
     pub fn play(&mut self, steps: &[Step]) -> Result<Trace, PlayFault>
         ensures ok { IfOk result (λ trace.
             IsPlayed (world self.old) steps.now trace.lines.items (world self.new)) }
         ensures ready { OnOk result (is_spent self.new ≡ false) }
         ensures err { IfErr result (λ fault. IsRefused self.old steps.now fault self.new) }
+        ensures idle { steps.now ≡ [] → is_spent self.old ≡ false → IsOk result }
         ensures spent { is_spent self.old ≡ true → (result ≡ Err faults.Spent) × (self.new ≡ self.old) }
     {
         if self.spent {
@@ -78,7 +80,8 @@ impl Cluster {
     fn step(&mut self, step: &Step, lines: &mut Vec<Line>) -> Result<(), PlayFault>
         ensures ok { OnOk result
             (IsDoneStep (world self.old) step.now lines.old.items lines.new.items (world self.new)) }
-        ensures err { IfErr result (λ f. (f ≡ faults.NoMemory)
+        ensures err { IfErr result (λ f.
+            ((f ≡ faults.NoMemory) × RunsOut (world self.old) step.now (world self.new))
             ⊎ (Lacks (world self.old) step.now f × (self.new ≡ self.old))) }
         ensures spent { is_spent self.new ≡ is_spent self.old }
     {
@@ -97,7 +100,8 @@ impl Cluster {
     fn deliver(&mut self, number: u64, at: u64, lines: &mut Vec<Line>) -> Result<(), PlayFault>
         ensures ok { OnOk result
             (IsDoneStep (world self.old) (steps.Deliver number at) lines.old.items lines.new.items (world self.new)) }
-        ensures err { IfErr result (λ f. (f ≡ faults.NoMemory)
+        ensures err { IfErr result (λ f.
+            ((f ≡ faults.NoMemory) × RunsOut (world self.old) (steps.Deliver number at) (world self.new))
             ⊎ (Lacks (world self.old) (steps.Deliver number at) f × (self.new ≡ self.old))) }
         ensures spent { is_spent self.new ≡ is_spent self.old }
     {
@@ -116,22 +120,24 @@ impl Cluster {
         self.event(node, &event, lines)
     }
 
-    /// An event at a node.
+    /// An event at a node. Room for one line is made before anything happens.
     fn event(&mut self, node: u16, event: &Event, lines: &mut Vec<Line>) -> Result<(), PlayFault>
         requires { node < vec_len self.old.nodes }
         ensures ok { OnOk result ((fate : Fate) × (n : NodeView)
             × (slice_get (world self.old).sites node ≡ Some n)
             × EventAt (world self.old) node n event.now fate (world self.new)
             × (lines.new.items ≡ lines.old.items ++ lines_of (length (world self.old).frames) fate)) }
-        ensures err { IfErr result (λ f. f ≡ faults.NoMemory) }
+        ensures err { IfErr result (λ f. (f ≡ faults.NoMemory)
+            × RunsOut (world self.old) (steps.Event node event.now) (world self.new)) }
         ensures spent { is_spent self.new ≡ is_spent self.old }
     {
+        lines.reserve(1)?;
         match self.nodes[node as usize].step(event) {
             Ok(outcome) => release(self.alloc, node, outcome.outputs, &mut self.frames, lines),
-            Err(fault) => match fault {
-                NodeFault::Stopped => note(lines, Line::Down { node }),
-                other => note(lines, Line::Fault { node, fault: other }),
-            },
+            Err(fault) => {
+                tell(lines, node, fault);
+                Ok(())
+            }
         }
     }
 

@@ -1,5 +1,5 @@
 //! What holds in every run of a cluster. Each function does nothing: its contract is the law.
-ghost use Rattle.cluster_play.specs.Laws.{HoldsItsOperations, LiveIsOfItsOperations, AnswerIsOfItsOperations, HoldsItsOperationsAmid, OwnDots, DeltaFrames, SameTaken, AgreeWhereTheyTookTheSame, AnswerAlike, OperationsOfAStep, CatchUp, FramesStay, LacksNothing, RunsCompose};
+ghost use Rattle.cluster_play.specs.Laws.{HoldsItsOperations, LiveIsOfItsOperations, AnswerIsOfItsOperations, HoldsItsOperationsAmid, OwnDots, DeltaFrames, SameTaken, AgreeWhereTheyTookTheSame, AnswerAlike, OperationsOfAStep, CatchUp, TakesWhatItMakesOrIsBrought, AnswersAsSent, SendAlike, FramesStay, LacksNothing, RunsCompose, StartIsReached, RunsGoOn, FramelessStepsAreHonest, PlayedIsReached};
 
 /// Each running node holds the state of the operations that it has taken, no dot has two
 /// operations, and what a Delta frame carries is the state of the operations that it lists.
@@ -15,6 +15,14 @@ pub fn nodes_answer_for_their_operations()
     ensures live { LiveIsOfItsOperations }
     ensures answers { AnswerIsOfItsOperations }
     ensures amid { HoldsItsOperationsAmid }
+{}
+
+/// What goes out after SUBACK are the retained messages with which the operations answer that the node
+/// has taken by then, filter by filter; so nodes that have taken the same send the same to the same
+/// subscription at the same moment.
+pub fn answers_go_out_as_taken()
+    ensures sent { AnswersAsSent }
+    ensures alike { SendAlike }
 {}
 
 /// Two running nodes whose sets of taken dots are equal have taken the same operations in the run;
@@ -33,6 +41,21 @@ pub fn steps_make_the_next_operations()
 /// A Delta frame that came brings its receiver all that its sender had taken.
 pub fn frames_catch_up()
     ensures { CatchUp }
+{}
+
+/// A node takes the dots of the operations that it makes and those that the Delta frames list which
+/// come to it once it has started, and no other.
+pub fn nodes_take_what_they_make_or_are_brought()
+    ensures { TakesWhatItMakesOrIsBrought }
+{}
+
+/// The laws hold however a run is played: new nodes are reached, an honest run goes on from what is
+/// reached, and steps that bring no frame of their own are honest, so what they play is reached.
+pub fn runs_go_on()
+    ensures start { StartIsReached }
+    ensures runs { RunsGoOn }
+    ensures steps { FramelessStepsAreHonest }
+    ensures played { PlayedIsReached }
 {}
 
 /// A run goes on where another ends, each frame keeps its number, and a step that happens lacks

@@ -1,17 +1,32 @@
 //! What a step gives out: its lines, and its frames under their numbers.
 
-ghost use Rattle.std.specs.Prelude.{◌≡◌, ◌++◌, ◌∷◌, [], length, IfErr, OnOk};
+ghost use Rattle.std.specs.Prelude.{◌≡◌, ◌≢◌, ◌++◌, ◌∷◌, ◌<◌, [], length, IfErr, OnOk, vec_len, vec_capacity};
+ghost use Rattle.broker_node.specs.declared.fault.NodeFault.TheVariants.{Stopped};
+ghost use Rattle.cluster_play.specs.declared.line.Line.TheVariants.{Down, Fault};
 ghost use Rattle.cluster_play.specs.Runs.{client_line, client_lines, frame_lines};
 ghost use Rattle.cluster_play.specs.Worlds.{frame_in, frames_in};
 ghost use Rattle.cluster_play.specs.declared.fault.PlayFault.TheVariants as faults;
 
 use crate::fault::PlayFault;
 use crate::line::Line;
-use broker_node::{Frame, Output};
+use broker_node::{Frame, NodeFault, Output};
 use std::alloc::Global;
 
+/// Adds the line of a node that stopped now, or that is down, where there is room for it.
+pub(crate) fn tell(lines: &mut Vec<Line>, node: u16, fault: NodeFault)
+    requires { vec_len lines.old < vec_capacity lines.old }
+    ensures down { fault ≡ Stopped → lines.new.items ≡ lines.old.items ++ Down node ∷ [] }
+    ensures fault { fault ≢ Stopped → lines.new.items ≡ lines.old.items ++ Fault node fault ∷ [] }
+{
+    let line = match fault {
+        NodeFault::Stopped => Line::Down { node },
+        other => Line::Fault { node, fault: other },
+    };
+    lines.push_reserved(line);
+}
+
 /// Adds a line.
-pub(crate) fn note(lines: &mut Vec<Line>, line: Line) -> Result<(), PlayFault>
+fn note(lines: &mut Vec<Line>, line: Line) -> Result<(), PlayFault>
     ensures ok { OnOk result (lines.new.items ≡ lines.old.items ++ line ∷ []) }
     ensures err { IfErr result (λ f. f ≡ faults.NoMemory) }
 {

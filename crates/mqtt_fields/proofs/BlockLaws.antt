@@ -1,6 +1,6 @@
 -- Property blocks are read as they are spelled.
-use Rattle.std.proofs.Common.{◌≡◌, ℕ, zero, suc, ◌+◌, ◌<◌, ◌≤◌, ◌^◌, List, [], ◌∷◌, ◌++◌, length, Result, Ok, Err, refl, sym, ap, subst, ◌∙◌, append_assoc, arith}
-use Rattle.std.specs.Prelude.{All, is_some}
+use Rattle.std.proofs.Common.{◌≡◌, ℕ, zero, suc, ◌+◌, ◌<◌, ◌≤◌, ◌^◌, List, [], ◌∷◌, ◌++◌, length, Some, Result, Ok, Err, ◌⊎◌, inl, inr, refl, sym, ap, subst, ◌∙◌, append_assoc, arith}
+use Rattle.std.specs.Prelude.{All, is_some, IsOk}
 use Rattle.std.specs.Int.{w8}
 use Rattle.std.specs.List.{AllByRecursion}
 use Rattle.std.proofs.lemmas.List.Elements.{All-from_recursion}
@@ -15,7 +15,7 @@ use Rattle.mqtt_fields.specs.Field.{after}
 use Rattle.mqtt_fields.specs.Numbers.{vbi, run_of}
 use Rattle.mqtt_fields.specs.Table.{entry_of}
 use Rattle.mqtt_fields.specs.Value.{value, value_bytes, VbiFits}
-use Rattle.mqtt_fields.specs.Block.{kind_in, is_here_in, is_new, identifier, property_of, parts_of, property, in_block_fault, in_block, properties_at, MayStand, property_bytes, properties_bytes, properties, HasSpelling}
+use Rattle.mqtt_fields.specs.Block.{kind_in, is_here_in, is_new, identifier, property_of, parts_of, property, in_block_fault, in_block, properties_at, MayStand, property_bytes, properties_bytes, properties, first_property, first_in, first_if_any, HasSpelling}
 use Rattle.mqtt_fields.proofs.Laws.{IsBytes, IsBytes-after, IsField, bind_ok, ok_is, after_is, tested_is, seen_is}
 use Rattle.mqtt_fields.proofs.NumberLaws.{mod_below, run_takes, run_again, wide8, number_is, vbi_is}
 use Rattle.mqtt_fields.proofs.ValueLaws.{value_is, same_bytes, vbi_fits}
@@ -99,6 +99,22 @@ unfolding properties_at
 ends place before [] e = refl
 ends place before (b ∷ bs) e = absurd (omega arith)
 
+-- nothing of a block has been read yet, or its first property has
+abbrev pub Began : Place → List Property → List ℕ → List ℕ → Type 0
+Began place items rest block = ((items ≡ []) × (rest ≡ block)) ⊎ IsOk ((property place []).at block)
+
+pub first_read : (place : Place) (items : List Property) (rest block : List ℕ) → Began place items rest block → IsOk ((property place items).at rest) → IsOk ((property place []).at block)
+first_read place items rest block (inl b) ok =
+    subst (λ (r : List ℕ). IsOk ((property place []).at r)) b.1 (subst (λ (qs : List Property). IsOk ((property place qs).at rest)) b.0 ok)
+first_read place items rest block (inr b) ok = b
+
+pub no_memory_in : (f : FieldFault) → in_block_fault f ≡ NoMemory → f ≡ NoMemory
+no_memory_in Short e = absurd cc
+no_memory_in Malformed e = e
+no_memory_in NotHere e = e
+no_memory_in Repeated e = e
+no_memory_in NoMemory e = e
+
 properties_take : (place : Place) (k : ℕ) (before : List Property) (bs : List ℕ) (ps : List Property) → IsBytes bs → properties_at place k before bs ≡ Ok ps
     → (more : List Property) × (ps ≡ before ++ more) × (bs ≡ properties_bytes more) × MayStand place before more
 unfolding properties_at
@@ -179,3 +195,40 @@ value_fits ps fits = All-from_recursion (λ p. VbiFits p.value) ps fits.1
 -- what is read has a spelling
 pub read_spelled : (place : Place) (bs : List ℕ) (x : List Property × List ℕ) → IsBytes bs → (properties place).at bs ≡ Ok x → HasSpelling x.0
 read_spelled place bs x fits e = has_spelling place x.0 ((properties_is place).takes bs x fits e).1
+
+-- a block begins with its first property, if it has one
+any_ok : (r : Result (Property × List ℕ) FieldFault) → IsOk r → IsOk (r >>= λ p. Ok (Some p.0))
+any_ok (Ok x) ok = refl
+any_ok (Err f) ok = absurd cc
+
+in_any : (place : Place) (bs : List ℕ) (r : Result (Property × List ℕ) FieldFault) (ps : List Property) → in_block r >>= (λ p. properties_at place (length bs) ([] ++ p.0 ∷ []) p.1) ≡ Ok ps → IsOk (r >>= λ p. Ok (Some p.0))
+in_any place bs (Ok x) ps e = refl
+in_any place bs (Err f) ps e = absurd cc
+
+whole_first : (place : Place) (bs : List ℕ) (ps : List Property) → properties_at place (length bs) [] bs ≡ Ok ps → IsOk (first_in place bs)
+unfolding properties_at
+whole_first place [] ps e = refl
+whole_first place (b ∷ bs) ps e = in_any place bs ((property place []).at (b ∷ bs)) ps e
+
+any_first : (place : Place) (bs : List ℕ) → IsOk ((property place []).at bs) → IsOk (first_in place bs)
+any_first place [] ok = refl
+any_first place (b ∷ bs) ok = any_ok ((property place []).at (b ∷ bs)) ok
+
+any_block : (place : Place) (r : Result (List ℕ × List ℕ) FieldFault) → IsOk (r >>= λ block. (property place []).at block.0) → IsOk (r >>= λ block. first_in place block.0)
+any_block place (Ok x) ok = any_first place x.0 ok
+any_block place (Err f) ok = absurd cc
+
+any_run : (place : Place) (r : Result (ℕ × List ℕ) FieldFault) → IsOk (r >>= λ n. (run_of n.0).at n.1 >>= λ block. (property place []).at block.0) → IsOk (r >>= λ n. (run_of n.0).at n.1 >>= λ block. first_in place block.0)
+any_run place (Ok n) ok = any_block place ((run_of n.0).at n.1) ok
+any_run place (Err f) ok = absurd cc
+
+pub first_any : (place : Place) (bs : List ℕ) → IsOk (first_property place bs) → IsOk (first_if_any place bs)
+first_any place bs ok = any_run place (vbi.at bs) ok
+
+pub read_any : (place : Place) (bs : List ℕ) (x : List Property × List ℕ) → (properties place).at bs ≡ Ok x → IsOk (first_if_any place bs)
+unfolding properties
+read_any place bs x e =
+    let n = bind_ok (vbi.at bs) (λ n. (run_of n.0).at n.1 >>= λ block. properties_at place (length block.0) [] block.0 >>= λ ps. Ok (ps, block.1)) x e in
+    let g = bind_ok ((run_of n.0.0).at n.0.1) (λ block. properties_at place (length block.0) [] block.0 >>= λ ps. Ok (ps, block.1)) x n.2 in
+    let ps = bind_ok (properties_at place (length g.0.0) [] g.0.0) (λ ps. Ok (ps, g.0.1)) x g.2 in
+    rw (n.1, g.1) (whole_first place g.0.0 ps.0 ps.1)

@@ -4,7 +4,6 @@ use Rattle.std.specs.Int.{w8}
 use Rattle.std.specs.List.{list_any, AllByRecursion}
 use Rattle.mqtt_fields.specs.declared.fault.FieldFault.{FieldFault}
 use Rattle.mqtt_fields.specs.declared.fault.FieldFault.TheVariants.{Short, Malformed, NotHere, Repeated}
-use Rattle.mqtt_fields.specs.declared.identifier.TheConstants.{USER_PROPERTY, SUBSCRIPTION_IDENTIFIER}
 use Rattle.mqtt_fields.specs.declared.table.Place.{Place}
 use Rattle.mqtt_fields.specs.declared.table.Place.TheVariants.{Publish}
 use Rattle.mqtt_fields.specs.declared.table.ValueKind.{ValueKind}
@@ -15,6 +14,7 @@ use Rattle.mqtt_fields.specs.declared.value.Value.{Value}
 use Rattle.mqtt_fields.specs.Reading.{◌>>=◌}
 use Rattle.mqtt_fields.specs.Field.{Field, after, tested, seen}
 use Rattle.mqtt_fields.specs.Numbers.{number, vbi, run_of}
+use Rattle.mqtt_fields.specs.Identifier.{subscription_identifier, user_property}
 use Rattle.mqtt_fields.specs.Table.{entry_of, is_here}
 use Rattle.mqtt_fields.specs.Value.{value, value_bytes, VbiFits}
 
@@ -31,8 +31,8 @@ is_here_in place (Some e) = is_here e place
 -- A property that may stand more than once: a User Property, and in a PUBLISH a Subscription Identifier (MQTT 5.0,
 -- 3.3.2.3.8).
 unfoldable pub is_multiple : Place → ℕ → Bool
-is_multiple Publish id = (id == USER_PROPERTY) || (id == SUBSCRIPTION_IDENTIFIER)
-is_multiple _ id = id == USER_PROPERTY
+is_multiple Publish id = (id == user_property) || (id == subscription_identifier)
+is_multiple _ id = id == user_property
 
 -- it doesn't repeat one of those before it, or may
 unfoldable pub is_new : Place → List Property → ℕ → Bool
@@ -93,6 +93,19 @@ properties place = record {
   bytes = λ ps. vbi.bytes (length (properties_bytes ps)) ++ properties_bytes ps;
   Fits = λ ps. (length (properties_bytes ps) < 2 ^ 28) × MayStand place [] ps;
 }
+
+-- the first property of a block
+abbrev pub first_property : Place → List ℕ → Result (Property × List ℕ) FieldFault
+first_property place bs = vbi.at bs >>= λ n. (run_of n.0).at n.1 >>= λ block. (property place []).at block.0
+
+-- the first property in some bytes, if there are any
+abbrev pub first_in : Place → List ℕ → Result (Option Property) FieldFault
+first_in place [] = Ok None
+first_in place (b ∷ bs) = (property place []).at (b ∷ bs) >>= λ p. Ok (Some p.0)
+
+-- the first property of a block, if it has one
+abbrev pub first_if_any : Place → List ℕ → Result (Option Property) FieldFault
+first_if_any place bs = vbi.at bs >>= λ n. (run_of n.0).at n.1 >>= λ block. first_in place block.0
 
 -- properties that have a spelling, though perhaps at no place
 abbrev pub HasSpelling : List Property → Type 0

@@ -1,10 +1,13 @@
 -- What holds of every kind of field.
+use Rattle.std.specs.Prelude.{◌≡◌}
 use Rattle.std.specs.Int.{w8, w16, w32, w64}
 use Rattle.mqtt_fields.specs.declared.table.Place.{Place}
 use Rattle.mqtt_fields.specs.declared.table.ValueKind.{ValueKind}
+use Rattle.mqtt_fields.specs.declared.table.TheConstants.{TABLE}
 use Rattle.mqtt_fields.specs.Field.{IsField, IsSteady}
 use Rattle.mqtt_fields.specs.Numbers.{number, vbi, text, blob, long}
 use Rattle.mqtt_fields.specs.Value.{value}
+use Rattle.mqtt_fields.specs.Table.{table}
 use Rattle.mqtt_fields.specs.Block.{properties}
 
 -- what is read is spelled so, and what is spelled so is read again, whatever follows
@@ -32,3 +35,7 @@ pub record ReadFromTheLeft : Type 0 where
   pub long_run : IsSteady long
   pub values : (kind : ValueKind) → IsSteady (value kind)
   pub blocks : (place : Place) → IsSteady (properties place)
+
+-- the table that the code looks properties up in is the standard's
+abbrev pub TableIsStandard : Type 0
+TableIsStandard = TABLE ≡ table

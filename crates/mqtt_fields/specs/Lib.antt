@@ -2,6 +2,7 @@ pub mod Reading
 pub mod Field
 pub mod Numbers
 pub mod Vbi
+pub mod Identifier
 pub mod Table
 pub mod Value
 pub mod Block

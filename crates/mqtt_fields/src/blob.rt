@@ -55,6 +55,15 @@ impl Blob {
         Ok(Blob { bytes })
     }
 
+    /// The bytes, which have a spelling.
+    pub(crate) fn of(alloc: Global, bytes: &[u8]) -> Result<Blob, NoMemory>
+        requires { IsBlob bytes.now }
+        ensures { IfOk result (λ b. b ≡ bytes.now) }
+    {
+        let bytes = Vec::from_slice(alloc, bytes)?;
+        Ok(Blob { bytes })
+    }
+
     /// The bytes.
     pub fn as_bytes(&self) -> &[u8]
         ensures same { result.now ≡ self.now }
@@ -70,8 +79,8 @@ impl Blob {
         ensures no_memory { IsErrOf result FieldFault.NoMemory → IsOk (blob.at bytes.now) }
     {
         let (run, rest) = blob_at(bytes)?;
-        let bytes = Vec::from_slice(alloc, run)?;
-        Ok((Blob { bytes }, rest))
+        let blob = Blob::of(alloc, run)?;
+        Ok((blob, rest))
     }
 
     /// The data at the front, and how many bytes it takes. Short where the bytes end inside it.

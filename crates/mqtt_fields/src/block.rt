@@ -1,13 +1,13 @@
 //! Property blocks (MQTT 5.0, 2.2.2).
 
-ghost use Rattle.std.specs.Prelude.{◌≡◌, ◌<◌, ◌≤◌, ◌+◌, ◌==◌, ◌++◌, [], length, drop, IfOk, OnOk, OnErr, vec_len, vec_capacity};
+ghost use Rattle.std.specs.Prelude.{◌≡◌, ◌<◌, ◌≤◌, ◌+◌, ◌==◌, ◌++◌, [], length, drop, IfOk, IsOk, IsErrOf, OnOk, OnErr, vec_len, vec_capacity};
 ghost use Rattle.std.specs.List.{list_any};
 ghost use Rattle.mqtt_fields.specs.declared.fault.FieldFault.TheVariants.{NoMemory, Malformed};
 ghost use Rattle.mqtt_fields.specs.Reading.{Gives, Fails};
 ghost use Rattle.mqtt_fields.specs.Table.{entry_of};
 ghost use Rattle.mqtt_fields.specs.Value.{value_bytes, VbiFits};
 ghost use Rattle.mqtt_fields.specs.declared.table.Place.{Place};
-ghost use Rattle.mqtt_fields.specs.Block.{property_bytes, properties_bytes, HasSpelling, kind_in, is_new, is_multiple, identifier, property, in_block_fault, in_block, properties_at, properties};
+ghost use Rattle.mqtt_fields.specs.Block.{property_bytes, properties_bytes, HasSpelling, kind_in, is_new, is_multiple, identifier, property, in_block_fault, in_block, properties_at, properties, first_property};
 
 use crate::fault::{FieldFault, NoMemory};
 use crate::identifier::{SUBSCRIPTION_IDENTIFIER, USER_PROPERTY};
@@ -53,6 +53,7 @@ fn identifier_at<'a>(
     ensures exact { Gives (λ x. (x.0.0, x.1.now)) result
         ((identifier place before.now).at bytes.now) }
     ensures kind { IfOk result (λ x. x.0.1 ≡ kind_in (entry_of x.0.0)) }
+    ensures no_memory { IsErrOf result FieldFault.NoMemory → ⊥ }
 {
     let (id, rest) = u8_at(bytes)?;
     match entry_of(id) {
@@ -69,7 +70,7 @@ fn identifier_at<'a>(
     }
 }
 
-/// The property at the front, which may follow these.
+/// The property at the front, which may follow these. Only one that is read wants memory.
 #[tactic(auto, unfolding(crate::specs::Block::property))]
 fn property_at<'a>(
     alloc: Global,
@@ -77,7 +78,9 @@ fn property_at<'a>(
     before: &[Property],
     bytes: &'a [u8],
 ) -> Result<(Property, &'a [u8]), FieldFault>
-    ensures { Gives (λ x. (x.0, x.1.now)) result ((property place before.now).at bytes.now) }
+    ensures exact { Gives (λ x. (x.0, x.1.now)) result ((property place before.now).at bytes.now) }
+    ensures no_memory { IsErrOf result FieldFault.NoMemory
+        → IsOk ((property place before.now).at bytes.now) }
 {
     let ((id, kind), rest) = identifier_at(place, before, bytes)?;
     let (value, rest) = value_at(alloc, kind, rest)?;
@@ -94,9 +97,11 @@ fn in_block(fault: FieldFault) -> FieldFault
     }
 }
 
-/// The properties that take all of a block.
+/// The properties that take all of a block. Only once one is read is memory wanted.
 fn properties_in(alloc: Global, place: Place, block: &[u8]) -> Result<Vec<Property>, FieldFault>
-    ensures { Gives (λ x. x.items) result (properties_at place (length block.now) [] block.now) }
+    ensures exact { Gives (λ x. x.items) result (properties_at place (length block.now) [] block.now) }
+    ensures no_memory { IsErrOf result FieldFault.NoMemory
+        → IsOk ((property place []).at block.now) }
 {
     let mut items = Vec::new(alloc);
     let mut rest = block;
@@ -120,7 +125,9 @@ pub fn properties_of(
     place: Place,
     bytes: &[u8],
 ) -> Result<(Properties, &[u8]), FieldFault>
-    ensures { Gives (λ x. (x.0, x.1.now)) result ((properties place).at bytes.now) }
+    ensures exact { Gives (λ x. (x.0, x.1.now)) result ((properties place).at bytes.now) }
+    ensures no_memory { IsErrOf result FieldFault.NoMemory
+        → IsOk (first_property place bytes.now) }
 {
     let (len, rest) = vbi_at(bytes)?;
     let (block, rest) = run_at(len as usize, rest)?;
@@ -133,7 +140,8 @@ pub fn properties_of(
 /// Short where the bytes end inside it; Malformed where its length or a value is, where an identifier
 /// isn't known, or where a property passes the block's end; NotHere where a property may not stand in
 /// this place; Repeated where one stands again that may stand once. The first from the left is
-/// answered, and the last two are found before the value is read.
+/// answered, and the last two are found before the value is read. Memory is wanted only once a
+/// property has been read.
 pub fn read_properties(
     alloc: Global,
     place: Place,
@@ -143,6 +151,8 @@ pub fn read_properties(
         ((properties place).at bytes.now) }
     ensures used { IfOk result (λ x. x.1 ≤ length bytes.now) }
     ensures spelled { IfOk result (λ x. HasSpelling x.0) }
+    ensures no_memory { IsErrOf result FieldFault.NoMemory
+        → IsOk (first_property place bytes.now) }
 {
     let (ps, rest) = properties_of(alloc, place, bytes)?;
     Ok((ps, bytes.len() - rest.len()))

@@ -1,7 +1,7 @@
 //! What holds of every field, whatever reads or writes it. The functions do nothing: their
 //! contracts are the laws.
 
-ghost use Rattle.mqtt_fields.specs.Laws.{ReadAsSpelled, ReadFromTheLeft};
+ghost use Rattle.mqtt_fields.specs.Laws.{ReadAsSpelled, ReadFromTheLeft, TableIsStandard};
 ghost use Rattle.mqtt_fields.specs.Vbi.{OneSpelling};
 
 /// What is read is spelled so, and what is spelled so is read again, whatever follows.
@@ -20,4 +20,10 @@ pub fn read_from_the_left()
 /// encoding (MQTT 5.0, 1.5.5).
 pub fn one_spelling()
     ensures { OneSpelling }
+{}
+
+/// Each property has the identifier, the type and the places of the standard's table (MQTT 5.0,
+/// 2.2.2.2).
+pub fn table_is_standard()
+    ensures { TableIsStandard }
 {}

@@ -25,7 +25,7 @@ mod vbi;
 pub use blob::Blob;
 pub use block::{properties_of, read_properties, write_properties};
 pub use fault::{FieldFault, NoMemory};
-pub use field_laws::{one_spelling, read_as_spelled, read_from_the_left};
+pub use field_laws::{one_spelling, read_as_spelled, read_from_the_left, table_is_standard};
 pub use length::properties_len;
 pub use number::{long_at, run_at, u8_at, u16_at, u32_at, u64_at};
 pub use options::{Qos, SubscriptionOptions};
@@ -36,6 +36,3 @@ pub use take::{take_long, take_u8, take_u16, take_u32, take_u64};
 pub use text::Text;
 pub use value::{Property, Value};
 pub use vbi::{Vbi, vbi_at, vbi_len};
-
-#[cfg(test)]
-mod tests;

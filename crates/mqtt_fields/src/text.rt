@@ -36,6 +36,19 @@ fn text_in(bytes: &[u8]) -> Option<&str>
     }
 }
 
+/// The string at the front, where it lies, and the bytes after it.
+pub(crate) fn str_at(bytes: &[u8]) -> Result<(&str, &[u8]), FieldFault>
+    ensures exact { Gives (λ x. (x.0.now, x.1.now)) result (text.at bytes.now) }
+    ensures fits { IfOk result (λ x. IsText x.0.now) }
+    ensures no_memory { IsErrOf result FieldFault.NoMemory → ⊥ }
+{
+    let (run, rest) = blob_at(bytes)?;
+    match text_in(run) {
+        None => Err(FieldFault::Malformed),
+        Some(s) => Ok((s, rest)),
+    }
+}
+
 /// A UTF-8 Encoded String: at most 65,535 bytes, without U+0000. Contracts see its bytes.
 #[derive(Debug, Drop)]
 pub struct Text {
@@ -69,6 +82,15 @@ impl Text {
         Ok(Text { string })
     }
 
+    /// The text, which has a spelling.
+    pub(crate) fn of(alloc: Global, s: &str) -> Result<Text, NoMemory>
+        requires { IsText s.now }
+        ensures { IfOk result (λ t. t ≡ s.now) }
+    {
+        let string = String::from_str(alloc, s)?;
+        Ok(Text { string })
+    }
+
     /// The text as a `&str`.
     pub fn as_str(&self) -> &str
         ensures same { result.now ≡ self.now }
@@ -85,14 +107,9 @@ impl Text {
         ensures exact { Gives (λ x. (x.0, x.1.now)) result (text.at bytes.now) }
         ensures no_memory { IsErrOf result FieldFault.NoMemory → IsOk (text.at bytes.now) }
     {
-        let (run, rest) = blob_at(bytes)?;
-        match text_in(run) {
-            None => Err(FieldFault::Malformed),
-            Some(s) => {
-                let string = String::from_str(alloc, s)?;
-                Ok((Text { string }, rest))
-            }
-        }
+        let (s, rest) = str_at(bytes)?;
+        let text = Text::of(alloc, s)?;
+        Ok((text, rest))
     }
 
     /// The string at the front, and how many bytes it takes.
@@ -138,8 +155,7 @@ impl Text {
     pub fn copy(&self, alloc: Global) -> Result<Text, NoMemory>
         ensures { IfOk result (λ t. t ≡ self.now) }
     {
-        let string = String::from_str(alloc, self.as_str())?;
-        Ok(Text { string })
+        Text::of(alloc, self.as_str())
     }
 }
 

@@ -1,14 +1,14 @@
 //! Properties and their values (MQTT 5.0, 2.2.2.2).
 
-ghost use Rattle.std.specs.Prelude.{◌≡◌, ◌+◌, ◌<◌, ◌≤◌, ◌^◌, ◌++◌, length, IfOk, MatchOption, IfSome, IsSome, vec_len, vec_capacity};
+ghost use Rattle.std.specs.Prelude.{◌≡◌, ◌+◌, ◌<◌, ◌≤◌, ◌^◌, ◌++◌, length, IfOk, IsOk, IsErrOf, MatchOption, IfSome, IsSome, vec_len, vec_capacity};
 ghost use Rattle.mqtt_fields.specs.Reading.{Gives};
 ghost use Rattle.mqtt_fields.specs.Value.{value, value_bytes, kind_of, VbiFits};
 
-use crate::blob::Blob;
+use crate::blob::{Blob, blob_at};
 use crate::fault::{FieldFault, NoMemory};
 use crate::number::{u8_at, u16_at, u32_at};
 use crate::table::ValueKind;
-use crate::text::Text;
+use crate::text::{Text, str_at};
 use crate::vbi::{Vbi, put_vbi, vbi_at, vbi_len};
 use std::alloc::Global;
 
@@ -80,13 +80,15 @@ impl Property {
     }
 }
 
-/// A value of this type at the front, and the bytes after it.
+/// A value of this type at the front, and the bytes after it. Only a value that is read wants
+/// memory.
 pub(crate) fn value_at(
     alloc: Global,
     kind: ValueKind,
     bytes: &[u8],
 ) -> Result<(Value, &[u8]), FieldFault>
-    ensures { Gives (λ x. (x.0, x.1.now)) result ((value kind).at bytes.now) }
+    ensures exact { Gives (λ x. (x.0, x.1.now)) result ((value kind).at bytes.now) }
+    ensures no_memory { IsErrOf result FieldFault.NoMemory → IsOk ((value kind).at bytes.now) }
 {
     match kind {
         ValueKind::Byte => {
@@ -106,16 +108,20 @@ pub(crate) fn value_at(
             Ok((Value::Vbi(n), rest))
         }
         ValueKind::Text => {
-            let (t, rest) = Text::at(alloc, bytes)?;
+            let (s, rest) = str_at(bytes)?;
+            let t = Text::of(alloc, s)?;
             Ok((Value::Text(t), rest))
         }
         ValueKind::Blob => {
-            let (b, rest) = Blob::at(alloc, bytes)?;
+            let (run, rest) = blob_at(bytes)?;
+            let b = Blob::of(alloc, run)?;
             Ok((Value::Blob(b), rest))
         }
         ValueKind::Pair => {
-            let (a, rest) = Text::at(alloc, bytes)?;
-            let (b, rest) = Text::at(alloc, rest)?;
+            let (name, rest) = str_at(bytes)?;
+            let (value, rest) = str_at(rest)?;
+            let a = Text::of(alloc, name)?;
+            let b = Text::of(alloc, value)?;
             Ok((Value::Pair(a, b), rest))
         }
     }

@@ -27,13 +27,14 @@ use Rattle.mqtt_fields.specs.Block.{kind_in, property, MayStand, property_bytes,
 use Rattle.mqtt_packets.specs.Values.{is_valid_property}
 use Rattle.mqtt_message.specs.declared.message.Message.{Message}
 use Rattle.mqtt_message.specs.OwnProperties.{is_own_id, is_own, is_allowed_own, AreOwn}
-use Rattle.mqtt_message.specs.Order.{bytes_cmp, value_cmp, property_cmp, property_cmp_antisym, properties_cmp, block_cmp, flag_rank, deadline_rank, message_cmp}
+use Rattle.mqtt_message.specs.Order.{bytes_cmp, value_cmp, property_cmp, properties_cmp, block_cmp, flag_rank, deadline_rank, message_cmp}
 use Rattle.mqtt_message.specs.Encoding.{OrderOfEncodings}
 use Rattle.mqtt_message.specs.Spelling.{OptionalFits, optional_bytes, bit_of}
 use Rattle.mqtt_message.specs.Parts.{own_properties, tail}
 use Rattle.mqtt_message.specs.Spellings.{message}
 use Rattle.mqtt_message.proofs.GroupLaws.{then_equal, groups_small, groups_large, small_first, small_second}
 use Rattle.mqtt_message.proofs.OwnLaws.{own_cases}
+use Rattle.mqtt_message.proofs.OrderLaws.{property_cmp_antisym}
 
 then_assoc : (p q r : Ordering) → ordering_then (ordering_then p q) r ≡ ordering_then p (ordering_then q r)
 then_assoc Less q r = refl

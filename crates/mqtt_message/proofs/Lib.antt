@@ -3,7 +3,11 @@ pub mod SpellingLaws
 pub mod NumbersLaws
 pub mod WholeLaws
 pub mod SentLaws
+pub mod SendableLaws
 pub mod AcceptLaws
 pub mod FitsLaws
+pub mod BeginLaws
+pub mod RoomLaws
 pub mod GroupLaws
+pub mod OrderLaws
 pub mod EncodingLaws

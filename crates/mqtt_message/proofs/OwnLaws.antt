@@ -1,6 +1,6 @@
 -- A message's own properties among those of a packet.
-use Rattle.std.proofs.Common.{◌≡◌, ◌⊎◌, ◌≤◌, ◌<◌, ◌+◌, ℕ, Bool, true, false, ◌||◌, ◌&&◌, eqb, List, [], ◌∷◌, ◌++◌, length, refl, sym, subst, ◌∙◌, inl, inr, append-nil, length-append, arith}
-use Rattle.std.specs.Prelude.{filter, IsTrue, not, ◌==◌}
+use Rattle.std.proofs.Common.{◌≡◌, ◌≤◌, ℕ, Bool, true, false, ◌||◌, eqb, List, [], ◌∷◌, ◌++◌, length, refl, sym, subst, ◌∙◌, inl, inr, append-nil, length-append, arith}
+use Rattle.std.specs.Prelude.{IsTrue, not, ◌==◌}
 use Rattle.std.specs.List.{list_any, list_all}
 use Rattle.std.proofs.lemmas.Bool.{cases_Bool, eqb-true, and_parts, or_cases, or_parts, or_left}
 use Rattle.std.proofs.lemmas.List.Elements.{filter-append}

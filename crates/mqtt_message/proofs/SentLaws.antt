@@ -1,6 +1,6 @@
 -- How long a PUBLISH and its parts are.
-use Rattle.std.proofs.Common.{◌≡◌, ℕ, suc, ◌+◌, ◌*◌, ◌<◌, ◌≤◌, ◌^◌, Bool, true, false, List, [], ◌∷◌, ◌++◌, length, get_or, take, Option, Some, None, refl, sym, ap, subst, zero-add, ◌∙◌, length-append, arith}
-use Rattle.std.specs.Prelude.{map, flat_map, not}
+use Rattle.std.proofs.Common.{◌≡◌, ℕ, suc, ◌+◌, List, ◌∷◌, ◌++◌, length, sym, ap, subst, zero-add, ◌∙◌, length-append, arith}
+use Rattle.std.specs.Prelude.{not}
 use Rattle.std.specs.Int.{w16, to_be_bytes}
 use Rattle.std.proofs.lemmas.Grind.{flat_map-append}
 use Rattle.mqtt_fields.specs.declared.value.Property.{Property}
@@ -14,10 +14,10 @@ use Rattle.mqtt_packets.specs.declared.publish.Publish.{Publish}
 use Rattle.mqtt_packets.specs.declared.packet.Packet.TheVariants as packets
 use Rattle.mqtt_packets.specs.Head.{is_at_most_once, first_byte}
 use Rattle.mqtt_packets.specs.Body.{payload, then_, where_}
-use Rattle.mqtt_packets.specs.Publish.{publish, flags_of}
+use Rattle.mqtt_packets.specs.Publish.{publish}
 use Rattle.mqtt_packets.specs.Packet.{head_of, body_bytes}
 use Rattle.mqtt_packets.specs.Written.{written}
-use Rattle.mqtt_message.specs.Sent.{interval_property, identifier_property, identifier_len}
+use Rattle.mqtt_message.specs.Sent.{identifier_len}
 
 abbrev pub block_len : List Property → ℕ
 block_len ps = length (vbi.bytes (length (properties_bytes ps))) + length (properties_bytes ps)
@@ -48,7 +48,7 @@ body_len p =
 one_more : (m n : ℕ) → suc m + n ≡ 1 + m + n
 one_more m n = omega arith
 
-written_len : (p : Publish) (n : ℕ) → length (body_bytes (packets.Publish p)) ≡ n → length (written (packets.Publish p)) ≡ 1 + length (vbi.bytes n) + n
+pub written_len : (p : Publish) (n : ℕ) → length (body_bytes (packets.Publish p)) ≡ n → length (written (packets.Publish p)) ≡ 1 + length (vbi.bytes n) + n
 unfolding written
 written_len p n e =
     let body = body_bytes (packets.Publish p) in

@@ -9,4 +9,5 @@ pub mod Sent
 pub mod Laws
 pub mod Messages
 pub mod Order
+pub mod Codes
 pub mod Encoding

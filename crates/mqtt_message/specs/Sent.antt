@@ -1,5 +1,5 @@
 -- The PUBLISH by which a delivery is sent.
-use Rattle.std.specs.Prelude.{ℕ, ◌≡◌, Bool, List, [], ◌∷◌, ◌++◌, length, map, Option, Some, None}
+use Rattle.std.specs.Prelude.{ℕ, ◌≡◌, ◌<◌, ◌≤◌, Bool, false, List, [], ◌∷◌, ◌++◌, length, map, Option, Some, None}
 use Rattle.mqtt_fields.specs.declared.options.Qos.{Qos}
 use Rattle.mqtt_fields.specs.declared.options.Qos.TheVariants.{AtMostOnce, AtLeastOnce, ExactlyOnce}
 use Rattle.mqtt_fields.specs.declared.value.Property.{Property}
@@ -44,3 +44,22 @@ identifier_len ExactlyOnce = 2
 -- how long that packet is, written, whatever its identifier and whether it was sent before
 abbrev pub IsSentLength : Delivery → ℕ → ℕ → Type 0
 IsSentLength d now n = (dup : Bool) (identifier : ℕ) → n ≡ length (written (packets.Publish (sent d now dup identifier)))
+
+-- a Packet Identifier isn't 0, which stands for none (2.2.1)
+abbrev pub IsIdentifierAt : Qos → ℕ → Type 0
+IsIdentifierAt AtMostOnce identifier = identifier ≡ 0
+IsIdentifierAt AtLeastOnce identifier = (0 < identifier) × (identifier < 65536)
+IsIdentifierAt ExactlyOnce identifier = (0 < identifier) × (identifier < 65536)
+
+-- nothing is sent again at QoS 0 (3.3.1.1)
+abbrev pub IsDupAt : Qos → Bool → Type 0
+IsDupAt AtMostOnce dup = dup ≡ false
+IsDupAt AtLeastOnce dup = Unit {0}
+IsDupAt ExactlyOnce dup = Unit {0}
+
+-- A PUBLISH may have this level, DUP flag, Packet Identifier and length. The longest packet has a first byte, four bytes of
+-- Remaining Length, and a body of 268,435,455 bytes (2.1.4).
+pub record IsSendable (level : Qos) (dup : Bool) (identifier len : ℕ) : Type 0 where
+  pub identified : IsIdentifierAt level identifier
+  pub again : IsDupAt level dup
+  pub short : len ≤ 268435460

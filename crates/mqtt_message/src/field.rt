@@ -1,9 +1,9 @@
 //! Readers and writers of the parts of messages and deliveries.
 
-ghost use Rattle.std.specs.Prelude.{◌≡◌, ◌++◌, length, take, OnOk, OnErr};
+ghost use Rattle.std.specs.Prelude.{◌≡◌, ◌+◌, ◌<◌, ◌≤◌, ◌++◌, length, take, vec_len, vec_capacity, OnOk, OnErr, IsOk, IsErrOf};
 ghost use Rattle.std.specs.Int.{w64};
 ghost use Rattle.mqtt_fields.specs.Reading.{Gives};
-ghost use Rattle.mqtt_fields.specs.Numbers.{number};
+ghost use Rattle.mqtt_fields.specs.Numbers.{number, text};
 ghost use Rattle.mqtt_message.specs.Spelling.{flag, optional, OptionalFits, plain_fault};
 ghost use Rattle.mqtt_message.specs.Parts.{name, name_in, payload, qos, tail, tail_parts};
 
@@ -33,8 +33,10 @@ fn name_of(alloc: Global, text: &Text) -> Result<TopicName, FieldFault>
     }
 }
 
+/// A topic name at the front, and the bytes after it. Only a string that is read wants memory.
 pub(crate) fn name_at(alloc: Global, bytes: &[u8]) -> Result<(TopicName, &[u8]), FieldFault>
-    ensures { Gives (λ x. (x.0, x.1.now)) result (name.at bytes.now) }
+    ensures exact { Gives (λ x. (x.0, x.1.now)) result (name.at bytes.now) }
+    ensures no_memory { IsErrOf result FieldFault.NoMemory → IsOk (text.at bytes.now) }
 {
     let (text, rest) = Text::at(alloc, bytes)?;
     let name = name_of(alloc, &text)?;
@@ -113,6 +115,8 @@ pub(crate) fn tail_at(alloc: Global, bytes: &[u8]) -> Result<(Tail, &[u8]), Fiel
 pub(crate) fn put_qos(level: Qos, out: &mut Vec<u8>) -> Result<(), NoMemory>
     ensures ok { OnOk result (out.new.items ≡ out.old.items ++ qos.bytes level) }
     ensures err { OnErr result (out.new.items ≡ out.old.items) }
+    ensures full { OnErr result (vec_capacity out.old < vec_len out.old + 1) }
+    ensures capacity { vec_capacity out.old ≤ vec_capacity out.new }
 {
     put_u8(level.number(), out)
 }
@@ -120,6 +124,8 @@ pub(crate) fn put_qos(level: Qos, out: &mut Vec<u8>) -> Result<(), NoMemory>
 pub(crate) fn put_flag(set: bool, out: &mut Vec<u8>) -> Result<(), NoMemory>
     ensures ok { OnOk result (out.new.items ≡ out.old.items ++ flag.bytes set) }
     ensures err { OnErr result (out.new.items ≡ out.old.items) }
+    ensures full { OnErr result (vec_capacity out.old < vec_len out.old + 1) }
+    ensures capacity { vec_capacity out.old ≤ vec_capacity out.new }
 {
     put_u8(if set { 1 } else { 0 }, out)
 }
@@ -128,6 +134,9 @@ pub(crate) fn put_flag(set: bool, out: &mut Vec<u8>) -> Result<(), NoMemory>
 pub(crate) fn put_deadline(deadline: Option<u64>, out: &mut Vec<u8>) -> Result<(), NoMemory>
     ensures ok { OnOk result (out.new.items ≡ out.old.items ++ (optional (number w64)).bytes deadline) }
     ensures begins { take (length out.old.items) out.new.items ≡ out.old.items }
+    ensures full { OnErr result (vec_capacity out.old
+        < vec_len out.old + length ((optional (number w64)).bytes deadline)) }
+    ensures capacity { vec_capacity out.old ≤ vec_capacity out.new }
 {
     put_flag(deadline.is_some(), out)?;
     match deadline {

@@ -1,12 +1,12 @@
 //! The Subscription Identifiers of a delivery.
 
-ghost use Rattle.std.specs.Prelude.{◌≡◌, ◌<◌, ◌^◌, ◌++◌, List, ℕ, length, take, OnOk, OnErr, IsTrue, IfOk, MatchOption};
+ghost use Rattle.std.specs.Prelude.{◌≡◌, ◌≢◌, ◌+◌, ◌<◌, ◌≤◌, ◌^◌, ◌++◌, List, [], ℕ, length, vec_len, vec_capacity, take, OnOk, OnErr, IsTrue, IfOk, MatchOption};
 ghost use Rattle.std.specs.Int.{w32};
 ghost use Rattle.mqtt_fields.specs.Reading.{Gives};
 ghost use Rattle.mqtt_fields.specs.Numbers.{number};
 ghost use Rattle.mqtt_message.specs.Spelling.{values_at};
 ghost use Rattle.mqtt_message.specs.Parts.{identifiers};
-ghost use Rattle.mqtt_message.specs.Identifiers.{are_identifiers};
+ghost use Rattle.mqtt_message.specs.Identifiers.{are_identifiers, identifiers_of};
 
 use mqtt_fields::{FieldFault, NoMemory, put_u16, put_u32, u16_at, u32_at};
 use std::alloc::Global;
@@ -70,6 +70,20 @@ impl Identifiers {
         Some(Identifiers { items: numbers })
     }
 
+    /// Those of one subscription, by its identifier; 0 stands for none, which takes no memory.
+    pub fn of_subscription(alloc: Global, identifier: u32) -> Result<Identifiers, NoMemory>
+        requires { identifier < 2 ^ 28 }
+        ensures ok { IfOk result (λ i. i ≡ identifiers_of identifier) }
+        ensures err { OnErr result (identifier ≢ 0) }
+    {
+        let mut items = Vec::new(alloc);
+        if identifier == 0 {
+            return Ok(Identifiers { items });
+        }
+        items.push(identifier)?;
+        Ok(Identifiers { items })
+    }
+
     /// The numbers.
     pub fn as_slice(&self) -> &[u32]
         ensures same { result.now ≡ self.now }
@@ -97,6 +111,9 @@ impl Identifiers {
     pub(crate) fn append(&self, out: &mut Vec<u8>) -> Result<(), NoMemory>
         ensures ok { OnOk result (out.new.items ≡ out.old.items ++ identifiers.bytes self.now) }
         ensures begins { take (length out.old.items) out.new.items ≡ out.old.items }
+        ensures full { OnErr result (vec_capacity out.old
+            < vec_len out.old + length (identifiers.bytes self.now)) }
+        ensures capacity { vec_capacity out.old ≤ vec_capacity out.new }
     {
         put_u16(self.items.len() as u16, out)?;
         for n in &self.items {
@@ -105,10 +122,15 @@ impl Identifiers {
         Ok(())
     }
 
-    /// Identifiers equal to these.
+    /// Identifiers equal to these. None take no memory.
     pub fn copy(&self, alloc: Global) -> Result<Identifiers, NoMemory>
-        ensures { IfOk result (λ i. i ≡ self.now) }
+        ensures ok { IfOk result (λ i. i ≡ self.now) }
+        ensures err { OnErr result (self.now ≢ []) }
     {
+        if self.items.is_empty() {
+            let items = Vec::new(alloc);
+            return Ok(Identifiers { items });
+        }
         let items = Vec::from_slice(alloc, self.items.as_slice())?;
         Ok(Identifiers { items })
     }

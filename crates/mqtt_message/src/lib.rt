@@ -12,16 +12,15 @@ mod order;
 mod payload;
 mod properties;
 mod sent;
+mod shared;
 
 pub use delivery::Delivery;
 pub use expiry::due;
 pub use identifiers::Identifiers;
-pub use laws::{read_as_spelled, spelled_is_acceptable};
+pub use laws::{read_as_spelled, sent_is_spelled, spelled_is_acceptable};
 pub use message::Message;
 pub use mqtt_packets::Will;
 pub use order::ordered_as_encoded;
 pub use payload::Payload;
 pub use properties::MessageProperties;
-
-#[cfg(test)]
-mod tests;
+pub use shared::SharedMessage;

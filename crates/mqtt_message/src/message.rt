@@ -1,7 +1,8 @@
 //! Application messages.
 
-ghost use Rattle.std.specs.Prelude.{◌≡◌, ◌<◌, ◌^◌, ◌↔◌, ◌≤◌, ◌++◌, length, take, drop, IfOk, OnOk, OnErr, IsTrue};
+ghost use Rattle.std.specs.Prelude.{◌≡◌, ◌+◌, ◌<◌, ◌≤◌, ◌^◌, ◌↔◌, ◌++◌, length, take, drop, vec_len, vec_capacity, IsOk, IsErrOf, IfOk, OnOk, OnErr, IsTrue};
 ghost use Rattle.mqtt_fields.specs.Reading.{Gives};
+ghost use Rattle.mqtt_fields.specs.Numbers.{text};
 ghost use Rattle.mqtt_message.specs.Parts.{tail};
 ghost use Rattle.mqtt_message.specs.Expiry.{IsBefore, interval_left};
 
@@ -102,7 +103,8 @@ impl Message {
     /// A message at the front, and the bytes after it.
     #[tactic(auto, unfolding(crate::specs::Spellings::message))]
     pub(crate) fn at(alloc: Global, bytes: &[u8]) -> Result<(Message, &[u8]), FieldFault>
-        ensures { Gives (λ x. (x.0, x.1.now)) result (message.at bytes.now) }
+        ensures exact { Gives (λ x. (x.0, x.1.now)) result (message.at bytes.now) }
+        ensures no_memory { IsErrOf result FieldFault.NoMemory → IsOk (text.at bytes.now) }
     {
         let (topic, rest) = name_at(alloc, bytes)?;
         let (payload, rest) = payload_at(alloc, rest)?;
@@ -122,10 +124,12 @@ impl Message {
 
     /// The message at the front, and how many bytes it takes.
     ///
-    /// Short where the bytes end inside it, Malformed where they spell none.
+    /// Short where the bytes end inside it, Malformed where they spell none. Only where a
+    /// string stands in front, as a topic does, is memory asked for.
     pub fn read(alloc: Global, bytes: &[u8]) -> Result<(Message, usize), FieldFault>
         ensures exact { Gives (λ x. (x.0, drop x.1 bytes.now)) result (message.at bytes.now) }
         ensures used { IfOk result (λ x. x.1 ≤ length bytes.now) }
+        ensures no_memory { IsErrOf result FieldFault.NoMemory → IsOk (text.at bytes.now) }
     {
         let (message, rest) = Message::at(alloc, bytes)?;
         Ok((message, bytes.len() - rest.len()))
@@ -135,6 +139,9 @@ impl Message {
     fn append_tail(&self, out: &mut Vec<u8>) -> Result<(), NoMemory>
         ensures ok { OnOk result (out.new.items ≡ out.old.items ++ tail.bytes (message_tail self.now)) }
         ensures begins { take (length out.old.items) out.new.items ≡ out.old.items }
+        ensures full { OnErr result (vec_capacity out.old
+            < vec_len out.old + length (tail.bytes (message_tail self.now))) }
+        ensures capacity { vec_capacity out.old ≤ vec_capacity out.new }
     {
         put_qos(self.qos, out)?;
         put_flag(self.retain, out)?;
@@ -147,6 +154,9 @@ impl Message {
     pub(crate) fn append(&self, out: &mut Vec<u8>) -> Result<(), NoMemory>
         ensures ok { OnOk result (out.new.items ≡ out.old.items ++ message.bytes self.now) }
         ensures begins { take (length out.old.items) out.new.items ≡ out.old.items }
+        ensures full { OnErr result (vec_capacity out.old
+            < vec_len out.old + length (message.bytes self.now)) }
+        ensures capacity { vec_capacity out.old ≤ vec_capacity out.new }
     {
         self.topic.as_text().write(out)?;
         put_long(self.payload.as_slice(), out)?;
@@ -158,6 +168,9 @@ impl Message {
     pub fn write(&self, out: &mut Vec<u8>) -> Result<(), NoMemory>
         ensures ok { OnOk result (out.new.items ≡ out.old.items ++ message.bytes self.now) }
         ensures err { OnErr result (out.new.items ≡ out.old.items) }
+        ensures full { OnErr result (vec_capacity out.old
+            < vec_len out.old + length (message.bytes self.now)) }
+        ensures capacity { vec_capacity out.old ≤ vec_capacity out.new }
     {
         let len = out.len();
         match self.append(out) {

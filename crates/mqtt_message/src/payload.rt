@@ -1,6 +1,6 @@
 //! The payload of a message.
 
-ghost use Rattle.std.specs.Prelude.{◌≡◌, ◌<◌, ◌^◌, List, ℕ, length, IfOk};
+ghost use Rattle.std.specs.Prelude.{◌≡◌, ◌≢◌, ◌<◌, ◌^◌, List, [], ℕ, length, IfOk, OnErr};
 
 use mqtt_fields::NoMemory;
 use mqtt_packets::Bytes;
@@ -22,11 +22,16 @@ impl Model for Payload {
 }
 
 impl Payload {
-    /// A copy of these bytes.
+    /// A copy of these bytes. None take no memory.
     pub fn from_slice(alloc: Global, bytes: &[u8]) -> Result<Payload, NoMemory>
         requires { length bytes.now < 2 ^ 28 }
-        ensures { IfOk result (λ p. p ≡ bytes.now) }
+        ensures ok { IfOk result (λ p. p ≡ bytes.now) }
+        ensures err { OnErr result (bytes.now ≢ []) }
     {
+        if bytes.is_empty() {
+            let bytes = Bytes::new(Vec::new(alloc));
+            return Ok(Payload { bytes });
+        }
         let bytes = Bytes::from_slice(alloc, bytes)?;
         Ok(Payload { bytes })
     }
@@ -39,11 +44,11 @@ impl Payload {
         self.bytes.as_slice()
     }
 
-    /// A payload equal to this one.
+    /// A payload equal to this one. An empty one takes no memory.
     pub fn copy(&self, alloc: Global) -> Result<Payload, NoMemory>
-        ensures { IfOk result (λ p. p ≡ self.now) }
+        ensures ok { IfOk result (λ p. p ≡ self.now) }
+        ensures err { OnErr result (self.now ≢ []) }
     {
-        let bytes = self.bytes.copy(alloc)?;
-        Ok(Payload { bytes })
+        Payload::from_slice(alloc, self.as_slice())
     }
 }

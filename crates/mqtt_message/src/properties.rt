@@ -1,6 +1,6 @@
 //! The properties that belong to a message.
 
-ghost use Rattle.std.specs.Prelude.{◌≡◌, ◌++◌, ◌&&◌, List, ℕ, IfOk, OnOk, OnErr};
+ghost use Rattle.std.specs.Prelude.{◌≡◌, ◌≢◌, ◌+◌, ◌<◌, ◌≤◌, ◌++◌, ◌&&◌, List, [], ℕ, length, vec_len, vec_capacity, IfOk, OnOk, OnErr};
 ghost use Rattle.std.specs.List.{list_all};
 ghost use Rattle.mqtt_fields.specs.declared.value.Property.{Property};
 ghost use Rattle.mqtt_fields.specs.declared.table.Place.TheVariants as places;
@@ -138,14 +138,22 @@ impl MessageProperties {
     pub(crate) fn write(&self, out: &mut Vec<u8>) -> Result<(), NoMemory>
         ensures ok { OnOk result (out.new.items ≡ out.old.items ++ own_properties.bytes self.now) }
         ensures err { OnErr result (out.new.items ≡ out.old.items) }
+        ensures full { OnErr result (vec_capacity out.old
+            < vec_len out.old + length (own_properties.bytes self.now)) }
+        ensures capacity { vec_capacity out.old ≤ vec_capacity out.new }
     {
         write_properties(&self.items, out)
     }
 
-    /// Properties equal to these.
+    /// Properties equal to these. None take no memory.
     pub fn copy(&self, alloc: Global) -> Result<MessageProperties, NoMemory>
-        ensures { IfOk result (λ ps. ps ≡ self.now) }
+        ensures ok { IfOk result (λ ps. ps ≡ self.now) }
+        ensures err { OnErr result (self.now ≢ []) }
     {
+        if self.items.is_empty() {
+            let items = Properties::new(alloc);
+            return Ok(MessageProperties { items });
+        }
         let items = self.items.copy(alloc)?;
         Ok(MessageProperties { items })
     }

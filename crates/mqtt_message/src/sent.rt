@@ -62,12 +62,14 @@ impl Delivery {
         ensures exact { result ≡ length (properties_bytes (sent_properties self.now now)) }
         ensures small { result < 2 ^ 28 + 2 ^ 19 }
     {
-        let interval = if self.message.remaining(now).is_some() {
+        let interval = if self.message.message().remaining(now).is_some() {
             5
         } else {
             0
         };
-        own_len(&self.message.properties) + interval + identifiers_len(self.identifiers.as_slice())
+        own_len(&self.message.message().properties)
+            + interval
+            + identifiers_len(self.identifiers.as_slice())
     }
 
     /// The properties of its PUBLISH: the message's own, then the Message Expiry Interval that is left, then
@@ -75,8 +77,8 @@ impl Delivery {
     fn sent_properties(&self, alloc: Global, now: u64) -> Result<Properties, NoMemory>
         ensures { IfOk result (λ ps. ps ≡ sent_properties self.now now) }
     {
-        let own = self.message.properties.to_properties(alloc)?;
-        let mut properties = with_interval(own, self.message.remaining(now))?;
+        let own = self.message.message().properties.to_properties(alloc)?;
+        let mut properties = with_interval(own, self.message.message().remaining(now))?;
         for n in self.identifiers.as_slice() {
             properties.push(Property {
                 id: SUBSCRIPTION_IDENTIFIER,
@@ -96,14 +98,15 @@ impl Delivery {
     ) -> Result<Publish, NoMemory>
         ensures { IfOk result (λ p. p ≡ sent self.now now dup identifier) }
     {
+        let message = self.message.message();
         Ok(Publish {
             dup,
             qos: self.qos,
             retain: self.retain,
-            topic: self.message.topic.as_text().copy(alloc)?,
+            topic: message.topic.as_text().copy(alloc)?,
             identifier,
             properties: self.sent_properties(alloc, now)?,
-            payload: Bytes::from_slice(alloc, self.message.payload.as_slice())?,
+            payload: Bytes::from_slice(alloc, message.payload.as_slice())?,
         })
     }
 
@@ -112,13 +115,14 @@ impl Delivery {
     pub fn packet_length(&self, now: u64) -> u64
         ensures { IsSentLength self.now now result }
     {
+        let message = self.message.message();
         let properties = self.properties_len(now);
         let body = 2
-            + self.message.topic.as_str().len()
+            + message.topic.as_str().len()
             + identifier_len(self.qos)
             + vbi_len(properties as u32)
             + properties
-            + self.message.payload.as_slice().len();
+            + message.payload.as_slice().len();
         (1 + vbi_len(body as u32) + body) as u64
     }
 }

@@ -25,10 +25,12 @@ use Rattle.mqtt_packets.specs.declared.connect.Connect.{Connect}
 use Rattle.mqtt_packets.specs.declared.connect.Will.{Will}
 use Rattle.mqtt_packets.specs.declared.connect.ConnectFlags.{ConnectFlags}
 use Rattle.mqtt_packets.specs.declared.connect.WillFlags.{WillFlags}
+use Rattle.mqtt_packets.specs.Reading.{field_at}
+use Rattle.mqtt_packets.specs.Body.{only}
 use Rattle.mqtt_packets.specs.Optional.{maybe}
 use Rattle.mqtt_packets.specs.Measure.{MeasuresField, Measures}
 use Rattle.mqtt_packets.specs.Head.{bit, level_of}
-use Rattle.mqtt_packets.specs.Connect.{will_bits, flags_byte, will_flags_at, flags_in, flags_at, flags_read, connect_flags, is_mqtt, WillParts, will, login, TailParts, tail, ConnectParts, will_of, will_parts, connect_from, connect_of, will_flags, flags_of, tail_parts, connect_parts, is_valid_connect, connect}
+use Rattle.mqtt_packets.specs.Connect.{will_bits, flags_byte, will_flags_at, flags_in, flags_at, flags_read, connect_flags, is_mqtt, WillParts, will, login, TailParts, tail, ConnectParts, will_of, will_parts, connect_from, connect_of, will_flags, flags_of, tail_parts, connect_parts, is_valid_connect, connect, connect_end}
 use Rattle.mqtt_packets.proofs.HeadLaws.{bit_is, bit_small, bit_back, qos_found, qos_again, qos_small}
 use Rattle.mqtt_packets.proofs.BodyLaws.{IsBody, only_is, then_is, given_is, valid_is, as_is}
 use Rattle.mqtt_packets.proofs.OptionalLaws.{maybe_is}
@@ -230,3 +232,16 @@ connect_unmeasured c h s = h (parts_fit c s.0).0
 
 pub tail_unmeasured : (c : Connect) → ((tail (flags_of c)).Fits (tail_parts c) → ⊥) → Measures connect c None
 tail_unmeasured c h s = h (parts_fit c s.0).1
+
+refused : (c made : Connect) → c ≡ made → is_valid_connect made ≡ false → cond (is_valid_connect c) (Ok c) (Err ProtocolError) ≡ Err ProtocolError
+refused c made e v = let w : is_valid_connect c ≡ false = ap is_valid_connect e ∙ v in rw w refl
+
+-- all is read, and a value isn't allowed
+pub invalid : (bs : List ℕ) (name : List ℕ × List ℕ) (version : ℕ × List ℕ) (flags : ConnectFlags × List ℕ) (keep_alive : ℕ × List ℕ) (ps : List Property × List ℕ) (made : Connect)
+    → field_at text bs ≡ Ok name → field_at (number w8) name.1 ≡ Ok version → is_mqtt name.0 version.0 ≡ true → field_at connect_flags version.1 ≡ Ok flags → field_at (number w16) flags.1 ≡ Ok keep_alive
+    → field_at (properties places.Connect) keep_alive.1 ≡ Ok ps → connect_end flags.0 keep_alive.0 ps.0 ps.1 ≡ Ok made → is_valid_connect made ≡ false → connect.of bs ≡ Err ProtocolError
+unfolding connect
+invalid bs name version flags keep_alive ps made a b m f k p e v =
+    let t = bind_ok ((only (tail flags.0)).of ps.1) (λ t. Ok (connect_from flags.0 keep_alive.0 ps.0 t)) made e in
+    let same : connect_from flags.0 keep_alive.0 ps.0 t.0 ≡ made = ok_is (connect_from flags.0 keep_alive.0 ps.0 t.0) made t.2 in
+    rw (a, b, m, f, k, p, t.1) (refused (connect_from flags.0 keep_alive.0 ps.0 t.0) made same v)

@@ -14,3 +14,6 @@ pub mod WrittenLaws
 pub mod MeasureLaws
 pub mod SoundLaws
 pub mod FaultLaws
+pub mod MemoryLaws
+pub mod NamedLaws
+pub mod SpelledLaws

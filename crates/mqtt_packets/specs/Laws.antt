@@ -3,10 +3,12 @@ use Rattle.std.specs.Prelude.{◌≡◌, ℕ, ◌≤◌, List, [], ◌∷◌, �
 use Rattle.std.specs.List.{concat}
 use Rattle.mqtt_fields.specs.Field.{IsBytes}
 use Rattle.mqtt_packets.specs.declared.fault.PacketFault.{PacketFault}
+use Rattle.mqtt_packets.specs.declared.fault.PacketFault.TheVariants.{TooLarge, NoMemory}
 use Rattle.mqtt_packets.specs.declared.packet.Packet.{Packet}
 use Rattle.mqtt_packets.specs.Stream.{Spells, Cut, before, cut}
 use Rattle.mqtt_packets.specs.Written.{written, HasSpelling}
 use Rattle.mqtt_packets.specs.Faults.{Faulty, IsOneOfThree}
+use Rattle.mqtt_packets.specs.Cut.{IsCut}
 
 -- what is written is a spelling, and there is no shorter one
 abbrev pub WrittenSpells : Type 0
@@ -43,3 +45,12 @@ more_pieces limit c (b ∷ bs) = more_pieces limit (more limit c b) bs
 -- it doesn't matter how a stream is cut into pieces
 abbrev pub AnyPieces : Type 0
 AnyPieces = (limit : ℕ) (pieces : List (List ℕ)) → IsBytes (concat pieces) → more_pieces limit (cut limit []) pieces ≡ cut limit (concat pieces)
+
+-- a stream is cut into spellings, one after the other, and a rest
+abbrev pub CutIsSpelled : Type 0
+CutIsSpelled = (limit : ℕ) (stream : List ℕ) → IsBytes stream → IsCut limit stream (cut limit stream)
+
+-- want of memory is no fault of bytes, and without a limit no packet is too large
+pub record NeverFaulty : Type 0 where
+  pub no_want_of_memory : (bs : List ℕ) → Faulty bs NoMemory → ⊥
+  pub no_limit : (bs : List ℕ) → Faulty bs TooLarge → ⊥

@@ -13,7 +13,9 @@ pub mod Unsubscribe
 pub mod Ended
 pub mod Packet
 pub mod Stream
+pub mod Memory
 pub mod Written
 pub mod Measure
 pub mod Faults
+pub mod Cut
 pub mod Laws

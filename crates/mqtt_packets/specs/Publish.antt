@@ -1,10 +1,10 @@
 -- PUBLISH (MQTT 5.0, 3.3).
 use Rattle.std.specs.Prelude.{ℕ, ◌==◌, not, ◌&&◌, ◌||◌, Bool, List, length}
 use Rattle.std.specs.Int.{w16}
-use Rattle.mqtt_fields.specs.declared.identifier.TheConstants.{TOPIC_ALIAS}
 use Rattle.mqtt_fields.specs.declared.value.Property.{Property}
 use Rattle.mqtt_fields.specs.declared.table.Place.TheVariants as places
 use Rattle.mqtt_fields.specs.Numbers.{number, text}
+use Rattle.mqtt_fields.specs.Identifier.{topic_alias}
 use Rattle.mqtt_fields.specs.Block.{properties}
 use Rattle.mqtt_packets.specs.declared.fault.PacketFault.TheVariants.{ProtocolError}
 use Rattle.mqtt_packets.specs.declared.head.PublishFlags.{PublishFlags}
@@ -24,7 +24,7 @@ publish_parts p = (p.topic, (p.identifier, (p.properties, p.payload)))
 
 -- an identifier that stands there isn't 0, and an empty topic needs a Topic Alias (MQTT 5.0, 3.3.2.1)
 abbrev pub is_valid_publish : Publish → Bool
-is_valid_publish p = (is_at_most_once p.qos || not (p.identifier == 0)) && (are_valid p.properties && (not (length p.topic == 0) || has TOPIC_ALIAS p.properties))
+is_valid_publish p = (is_at_most_once p.qos || not (p.identifier == 0)) && (are_valid p.properties && (not (length p.topic == 0) || has topic_alias p.properties))
 
 -- an identifier stands at QoS 1 and 2 alone
 unfoldable pub publish : PublishFlags → Body Publish

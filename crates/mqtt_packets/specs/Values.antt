@@ -1,7 +1,7 @@
 -- The values that the standard allows, beside what their fields can hold.
 use Rattle.std.specs.Prelude.{ℕ, ◌==◌, not, ◌&&◌, ◌||◌, nat_lt, Bool, true, List, length}
 use Rattle.std.specs.List.{list_any, list_all}
-use Rattle.mqtt_fields.specs.declared.identifier.TheConstants.{RESPONSE_TOPIC, SUBSCRIPTION_IDENTIFIER, AUTHENTICATION_METHOD, AUTHENTICATION_DATA, RECEIVE_MAXIMUM, MAXIMUM_PACKET_SIZE}
+use Rattle.mqtt_fields.specs.Identifier.{response_topic, subscription_identifier, authentication_method, authentication_data, receive_maximum, maximum_packet_size}
 use Rattle.mqtt_fields.specs.declared.value.Property.{Property}
 use Rattle.mqtt_fields.specs.declared.value.Value.{Value}
 use Rattle.mqtt_fields.specs.declared.value.Value.TheVariants as values
@@ -14,10 +14,10 @@ has_no_wildcard text = list_all (λ b. not (b == 43) && not (b == 35)) text
 -- has no wildcard (MQTT 5.0, 3.1.2.11, 3.2.2.3, 3.3.2.3).
 abbrev pub is_valid_value : ℕ → Value → Bool
 is_valid_value id (values.Byte n) = nat_lt n 2
-is_valid_value id (values.Two n) = not ((id == RECEIVE_MAXIMUM) && (n == 0))
-is_valid_value id (values.Four n) = not ((id == MAXIMUM_PACKET_SIZE) && (n == 0))
-is_valid_value id (values.Vbi n) = not ((id == SUBSCRIPTION_IDENTIFIER) && (n == 0))
-is_valid_value id (values.Text t) = not (id == RESPONSE_TOPIC) || has_no_wildcard t
+is_valid_value id (values.Two n) = not ((id == receive_maximum) && (n == 0))
+is_valid_value id (values.Four n) = not ((id == maximum_packet_size) && (n == 0))
+is_valid_value id (values.Vbi n) = not ((id == subscription_identifier) && (n == 0))
+is_valid_value id (values.Text t) = not (id == response_topic) || has_no_wildcard t
 is_valid_value id _ = true
 
 abbrev pub is_valid_property : Property → Bool
@@ -29,4 +29,4 @@ has id ps = list_any (λ p. p.id == id) ps
 
 -- each has a value that is allowed, and Authentication Data needs an Authentication Method (MQTT 5.0, 3.1.2.11.10)
 abbrev pub are_valid : List Property → Bool
-are_valid ps = list_all is_valid_property ps && (has AUTHENTICATION_METHOD ps || not (has AUTHENTICATION_DATA ps))
+are_valid ps = list_all is_valid_property ps && (has authentication_method ps || not (has authentication_data ps))

@@ -1,6 +1,7 @@
 //! PUBACK, PUBREC, PUBREL and PUBCOMP.
 
-ghost use Rattle.std.specs.Prelude.{◌≡◌, ◌++◌, IfOk, OnOk};
+ghost use Rattle.std.specs.Prelude.{◌≡◌, ◌++◌, IfOk, OnOk, IsErrOf, IsOk, OnErr, vec_len, vec_capacity, length, ◌+◌, ◌<◌, ◌≤◌};
+ghost use Rattle.mqtt_packets.specs.Memory.{reason_start, ack_start};
 ghost use Rattle.mqtt_packets.specs.Reading.{Gives};
 ghost use Rattle.mqtt_packets.specs.Measure.{Measures};
 ghost use Rattle.mqtt_packets.specs.Ack.{reason, is_valid_ack, ack};
@@ -27,7 +28,8 @@ pub(crate) fn reason_of(
     place: Place,
     bytes: &[u8],
 ) -> Result<(u8, Properties), PacketFault>
-    ensures { Gives (λ x. x) result ((reason place).of bytes.now) }
+    ensures exact { Gives (λ x. x) result ((reason place).of bytes.now) }
+    ensures no_memory { IsErrOf result PacketFault.NoMemory → IsOk (reason_start place bytes.now) }
 {
     if bytes.is_empty() {
         return Ok((0, Properties::new(alloc)));
@@ -52,7 +54,9 @@ pub(crate) fn put_reason(
     out: &mut Vec<u8>,
 ) -> Result<(), NoMemory>
     requires { (reason place).Fits (code, ps.now) }
-    ensures { OnOk result (out.new.items ≡ out.old.items ++ (reason place).bytes (code, ps.now)) }
+    ensures ok { OnOk result (out.new.items ≡ out.old.items ++ (reason place).bytes (code, ps.now)) }
+    ensures full { OnErr result (vec_capacity out.old < vec_len out.old + length ((reason place).bytes (code, ps.now))) }
+    ensures capacity { vec_capacity out.old ≤ vec_capacity out.new }
 {
     if ps.as_slice().is_empty() {
         if code != 0 {
@@ -88,7 +92,8 @@ impl Ack {
 
     #[tactic(auto, unfolding(crate::specs::Ack::ack))]
     pub(crate) fn of(alloc: Global, place: Place, bytes: &[u8]) -> Result<Ack, PacketFault>
-        ensures { Gives (λ x. x) result ((ack place).of bytes.now) }
+        ensures exact { Gives (λ x. x) result ((ack place).of bytes.now) }
+        ensures no_memory { IsErrOf result PacketFault.NoMemory → IsOk (ack_start place bytes.now) }
     {
         let (identifier, rest) = take_u16(bytes)?;
         let (reason, properties) = reason_of(alloc, place, rest)?;
@@ -106,7 +111,9 @@ impl Ack {
     #[tactic(auto, unfolding(crate::specs::Ack::ack))]
     pub(crate) fn write(&self, place: Place, out: &mut Vec<u8>) -> Result<(), NoMemory>
         requires { (ack place).Fits self.now }
-        ensures { OnOk result (out.new.items ≡ out.old.items ++ (ack place).bytes self.now) }
+        ensures ok { OnOk result (out.new.items ≡ out.old.items ++ (ack place).bytes self.now) }
+        ensures full { OnErr result (vec_capacity out.old < vec_len out.old + length ((ack place).bytes self.now)) }
+        ensures capacity { vec_capacity out.old ≤ vec_capacity out.new }
     {
         out.extend_from_slice(&self.identifier.to_be_bytes())?;
         put_reason(place, self.reason, &self.properties, out)

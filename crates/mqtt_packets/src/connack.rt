@@ -1,6 +1,7 @@
 //! CONNACK.
 
-ghost use Rattle.std.specs.Prelude.{◌≡◌, ◌++◌, IfOk, OnOk};
+ghost use Rattle.std.specs.Prelude.{◌≡◌, ◌++◌, IfOk, OnOk, IsErrOf, IsOk, OnErr, vec_len, vec_capacity, length, ◌+◌, ◌<◌, ◌≤◌};
+ghost use Rattle.mqtt_packets.specs.Memory.{connack_start};
 ghost use Rattle.mqtt_packets.specs.Reading.{Gives, field_at};
 ghost use Rattle.mqtt_packets.specs.Measure.{Measures};
 ghost use Rattle.mqtt_packets.specs.Connack.{session_flag, connack};
@@ -22,7 +23,8 @@ pub struct Connack {
 }
 
 fn take_session_flag(bytes: &[u8]) -> Result<(u8, &[u8]), PacketFault>
-    ensures { Gives (λ x. (x.0, x.1.now)) result (field_at session_flag bytes.now) }
+    ensures exact { Gives (λ x. (x.0, x.1.now)) result (field_at session_flag bytes.now) }
+    ensures no_memory { IsErrOf result PacketFault.NoMemory → ⊥ }
 {
     let (flags, rest) = take_u8(bytes)?;
     if flags >= 2 {
@@ -34,7 +36,8 @@ fn take_session_flag(bytes: &[u8]) -> Result<(u8, &[u8]), PacketFault>
 impl Connack {
     #[tactic(auto, unfolding(crate::specs::Connack::connack))]
     pub(crate) fn of(alloc: Global, bytes: &[u8]) -> Result<Connack, PacketFault>
-        ensures { Gives (λ x. x) result (connack.of bytes.now) }
+        ensures exact { Gives (λ x. x) result (connack.of bytes.now) }
+        ensures no_memory { IsErrOf result PacketFault.NoMemory → IsOk (connack_start bytes.now) }
     {
         let (flags, rest) = take_session_flag(bytes)?;
         let (reason, rest) = take_u8(rest)?;
@@ -55,7 +58,9 @@ impl Connack {
     #[tactic(auto, unfolding(crate::specs::Connack::connack))]
     pub(crate) fn write(&self, out: &mut Vec<u8>) -> Result<(), NoMemory>
         requires { connack.Fits self.now }
-        ensures { OnOk result (out.new.items ≡ out.old.items ++ connack.bytes self.now) }
+        ensures ok { OnOk result (out.new.items ≡ out.old.items ++ connack.bytes self.now) }
+        ensures full { OnErr result (vec_capacity out.old < vec_len out.old + length (connack.bytes self.now)) }
+        ensures capacity { vec_capacity out.old ≤ vec_capacity out.new }
     {
         out.push(bit(self.session_present))?;
         out.push(self.reason)?;

@@ -1,8 +1,9 @@
 //! CONNECT.
 
-ghost use Rattle.std.specs.Prelude.{◌≡◌, ◌+◌, ◌++◌, ◌<◌, ◌^◌, length, is_some, option_map, IfOk, IfSome, OnOk};
+ghost use Rattle.std.specs.Prelude.{◌≡◌, ◌+◌, ◌++◌, ◌<◌, ◌^◌, length, is_some, option_map, IfOk, IfSome, OnOk, IsErrOf, IsOk, OnErr, vec_len, vec_capacity, ◌≤◌};
 ghost use Rattle.std.specs.Int.{w16, to_be_bytes};
 ghost use Rattle.mqtt_fields.specs.Field.{variant_bytes};
+ghost use Rattle.mqtt_fields.specs.Numbers.{text};
 ghost use Rattle.mqtt_fields.specs.Block.{properties};
 ghost use Rattle.mqtt_packets.specs.Optional.{maybe};
 ghost use Rattle.mqtt_packets.specs.Measure.{MeasuresField, Measures};
@@ -115,7 +116,8 @@ impl ConnectFlags {
 
 #[tactic(auto, unfolding(crate::specs::Connect::connect_flags))]
 fn take_flags(bytes: &[u8]) -> Result<(ConnectFlags, &[u8]), PacketFault>
-    ensures { Gives (λ x. (x.0, x.1.now)) result (field_at connect_flags bytes.now) }
+    ensures exact { Gives (λ x. (x.0, x.1.now)) result (field_at connect_flags bytes.now) }
+    ensures no_memory { IsErrOf result PacketFault.NoMemory → ⊥ }
 {
     let (byte, rest) = take_u8(bytes)?;
     match ConnectFlags::of(byte) {
@@ -228,7 +230,9 @@ impl Will {
     #[tactic(auto, unfolding(crate::specs::Connect::will))]
     fn write(&self, out: &mut Vec<u8>) -> Result<(), NoMemory>
         requires { will.Fits (will_parts self.now) }
-        ensures { OnOk result (out.new.items ≡ out.old.items ++ will.bytes (will_parts self.now)) }
+        ensures ok { OnOk result (out.new.items ≡ out.old.items ++ will.bytes (will_parts self.now)) }
+        ensures full { OnErr result (vec_capacity out.old < vec_len out.old + length (will.bytes (will_parts self.now))) }
+        ensures capacity { vec_capacity out.old ≤ vec_capacity out.new }
     {
         put_properties(Place::Will, &self.properties, out)?;
         self.topic.write(out)?;
@@ -280,7 +284,9 @@ fn copy_will_if(alloc: Global, will: &Option<Will>) -> Result<Option<Will>, NoMe
 
 fn put_will_if(will: &Option<Will>, out: &mut Vec<u8>) -> Result<(), NoMemory>
     requires { (maybe (is_some will.now) will_field).Fits (option_map will_parts will.now) }
-    ensures { OnOk result (out.new.items ≡ out.old.items ++ variant_bytes will_field (option_map will_parts will.now)) }
+    ensures ok { OnOk result (out.new.items ≡ out.old.items ++ variant_bytes will_field (option_map will_parts will.now)) }
+    ensures full { OnErr result (vec_capacity out.old < vec_len out.old + length (variant_bytes will_field (option_map will_parts will.now))) }
+    ensures capacity { vec_capacity out.old ≤ vec_capacity out.new }
 {
     match will {
         None => Ok(()),
@@ -307,7 +313,8 @@ impl Connect {
 
     #[tactic(auto, unfolding(crate::specs::Connect::connect))]
     pub(crate) fn of(alloc: Global, bytes: &[u8]) -> Result<Connect, PacketFault>
-        ensures { Gives (λ x. x) result (connect.of bytes.now) }
+        ensures exact { Gives (λ x. x) result (connect.of bytes.now) }
+        ensures no_memory { IsErrOf result PacketFault.NoMemory → IsOk (field_at text bytes.now) }
     {
         let (name, rest) = take_text(alloc, bytes)?;
         let (version, rest) = take_u8(rest)?;
@@ -338,7 +345,9 @@ impl Connect {
     #[tactic(auto, unfolding(crate::specs::Connect::tail, crate::specs::Connect::login))]
     fn write_tail(&self, out: &mut Vec<u8>) -> Result<(), NoMemory>
         requires { (tail (flags_of self.now)).Fits (tail_parts self.now) }
-        ensures { OnOk result (out.new.items ≡ out.old.items ++ (tail (flags_of self.now)).bytes (tail_parts self.now)) }
+        ensures ok { OnOk result (out.new.items ≡ out.old.items ++ (tail (flags_of self.now)).bytes (tail_parts self.now)) }
+        ensures full { OnErr result (vec_capacity out.old < vec_len out.old + length ((tail (flags_of self.now)).bytes (tail_parts self.now))) }
+        ensures capacity { vec_capacity out.old ≤ vec_capacity out.new }
     {
         self.client.write(out)?;
         put_will_if(&self.will, out)?;
@@ -348,7 +357,9 @@ impl Connect {
 
     fn write_end(&self, out: &mut Vec<u8>) -> Result<(), NoMemory>
         requires { (properties Place.Connect).Fits self.now.properties × (tail (flags_of self.now)).Fits (tail_parts self.now) }
-        ensures { OnOk result (out.new.items ≡ out.old.items ++ (to_be_bytes w16 self.now.keep_alive ++ ((properties Place.Connect).bytes self.now.properties ++ (tail (flags_of self.now)).bytes (tail_parts self.now)))) }
+        ensures ok { OnOk result (out.new.items ≡ out.old.items ++ (to_be_bytes w16 self.now.keep_alive ++ ((properties Place.Connect).bytes self.now.properties ++ (tail (flags_of self.now)).bytes (tail_parts self.now)))) }
+        ensures full { OnErr result (vec_capacity out.old < vec_len out.old + length ((to_be_bytes w16 self.now.keep_alive ++ ((properties Place.Connect).bytes self.now.properties ++ (tail (flags_of self.now)).bytes (tail_parts self.now))))) }
+        ensures capacity { vec_capacity out.old ≤ vec_capacity out.new }
     {
         out.extend_from_slice(&self.keep_alive.to_be_bytes())?;
         put_properties(Place::Connect, &self.properties, out)?;
@@ -358,7 +369,9 @@ impl Connect {
     #[tactic(auto, using(crate::proofs::ConnectLaws::connect_bytes), unfolding(crate::specs::Connect::connect, crate::specs::Connect::connect_flags))]
     pub(crate) fn write(&self, out: &mut Vec<u8>) -> Result<(), NoMemory>
         requires { connect.Fits self.now }
-        ensures { OnOk result (out.new.items ≡ out.old.items ++ connect.bytes self.now) }
+        ensures ok { OnOk result (out.new.items ≡ out.old.items ++ connect.bytes self.now) }
+        ensures full { OnErr result (vec_capacity out.old < vec_len out.old + length (connect.bytes self.now)) }
+        ensures capacity { vec_capacity out.old ≤ vec_capacity out.new }
     {
         out.extend_from_slice(&[0, 4, b'M', b'Q', b'T', b'T', 5])?;
         out.push(self.flags().byte())?;

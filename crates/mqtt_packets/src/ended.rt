@@ -1,6 +1,7 @@
 //! DISCONNECT and AUTH.
 
-ghost use Rattle.std.specs.Prelude.{◌≡◌, ◌++◌, IfOk, OnOk};
+ghost use Rattle.std.specs.Prelude.{◌≡◌, ◌++◌, IfOk, OnOk, IsErrOf, IsOk, OnErr, vec_len, vec_capacity, length, ◌+◌, ◌<◌, ◌≤◌};
+ghost use Rattle.mqtt_packets.specs.Memory.{reason_start};
 ghost use Rattle.mqtt_packets.specs.Reading.{Gives};
 ghost use Rattle.mqtt_packets.specs.Measure.{Measures};
 ghost use Rattle.mqtt_packets.specs.Ended.{is_valid_ended, ended};
@@ -21,7 +22,8 @@ pub struct Ended {
 impl Ended {
     #[tactic(auto, unfolding(crate::specs::Ended::ended))]
     pub(crate) fn of(alloc: Global, place: Place, bytes: &[u8]) -> Result<Ended, PacketFault>
-        ensures { Gives (λ x. x) result ((ended place).of bytes.now) }
+        ensures exact { Gives (λ x. x) result ((ended place).of bytes.now) }
+        ensures no_memory { IsErrOf result PacketFault.NoMemory → IsOk (reason_start place bytes.now) }
     {
         let (reason, properties) = reason_of(alloc, place, bytes)?;
         if !are_valid(properties.as_slice()) {
@@ -33,7 +35,9 @@ impl Ended {
     #[tactic(auto, unfolding(crate::specs::Ended::ended))]
     pub(crate) fn write(&self, place: Place, out: &mut Vec<u8>) -> Result<(), NoMemory>
         requires { (ended place).Fits self.now }
-        ensures { OnOk result (out.new.items ≡ out.old.items ++ (ended place).bytes self.now) }
+        ensures ok { OnOk result (out.new.items ≡ out.old.items ++ (ended place).bytes self.now) }
+        ensures full { OnErr result (vec_capacity out.old < vec_len out.old + length ((ended place).bytes self.now)) }
+        ensures capacity { vec_capacity out.old ≤ vec_capacity out.new }
     {
         put_reason(place, self.reason, &self.properties, out)
     }

@@ -3,6 +3,7 @@
 ghost use Rattle.std.specs.Prelude.{◌≡◌, ◌≤◌, ◌↔◌, ◌++◌, [], false, true, length, take, drop, is_some, slice_get, IfOk, IfSome, IfErr, OnErr, IsErrOf, Ok, Some};
 ghost use Rattle.mqtt_packets.specs.declared.fault.PacketFault.TheVariants as packet_faults;
 ghost use Rattle.mqtt_packets.specs.declared.framer.FeedFault.TheVariants as faults;
+ghost use Rattle.mqtt_packets.specs.Memory.{HasWhole};
 ghost use Rattle.mqtt_packets.specs.Stream.{before, cut, step_at};
 
 use crate::fault::PacketFault;
@@ -44,6 +45,7 @@ pub struct Fed {
 }
 
 /// Cuts packets off the front of the bytes, and adds them to those that are there.
+#[tactic(auto, using(crate::proofs::MemoryLaws::whole_wants, crate::proofs::MemoryLaws::whole_read))]
 fn cut_after(
     alloc: Global,
     limit: usize,
@@ -54,6 +56,7 @@ fn cut_after(
         ≡ record { packets = x.0.items; rest = x.1.now; fault = x.2 }) }
     ensures named { IfOk result (λ x. x.2 ≡ Some packet_faults.NoMemory → ⊥) }
     ensures memory { IfErr result (λ e. e ≡ faults.NoMemory) }
+    ensures no_memory { OnErr result (HasWhole limit bytes.now) }
 {
     let mut rest = bytes;
     loop {
@@ -82,15 +85,18 @@ fn cut_used(
     ensures named { IfOk result (λ x. x.2 ≡ Some packet_faults.NoMemory → ⊥) }
     ensures used { IfOk result (λ x. x.1 ≤ length bytes.now) }
     ensures memory { IfErr result (λ e. e ≡ faults.NoMemory) }
+    ensures no_memory { OnErr result (HasWhole limit bytes.now) }
 {
     let (packets, rest, fault) = cut_after(alloc, limit, Vec::new(alloc), bytes)?;
     Ok((packets, bytes.len() - rest.len(), fault))
 }
 
 /// The packet that takes all of the bytes, if there is one.
+#[tactic(auto, using(crate::proofs::MemoryLaws::whole_wants))]
 fn whole_of(alloc: Global, limit: usize, bytes: &[u8]) -> Result<Option<Packet>, FeedFault>
     ensures whole { IfOk result (λ o. IfSome o (λ p. step_at limit bytes.now ≡ Ok (Some (p, [])))) }
     ensures memory { IfErr result (λ e. e ≡ faults.NoMemory) }
+    ensures no_memory { OnErr result (HasWhole limit bytes.now) }
 {
     match step_of(alloc, limit, bytes) {
         Ok(Some((packet, after))) => {

@@ -37,6 +37,3 @@ pub use subscribe::{Subscribe, SubscribeFilter, SubscribeFilters};
 pub use unsubscribe::{Unsubscribe, UnsubscribeFilters};
 pub use values::are_valid;
 pub use write::write_packet;
-
-#[cfg(test)]
-mod tests;

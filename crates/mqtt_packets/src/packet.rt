@@ -1,6 +1,7 @@
 //! Packets of each kind.
 
-ghost use Rattle.std.specs.Prelude.{◌≡◌, ◌↔◌, ◌++◌, IsTrue, IfOk, OnOk};
+ghost use Rattle.std.specs.Prelude.{◌≡◌, ◌↔◌, ◌++◌, IsTrue, IfOk, OnOk, IsErrOf, OnErr, vec_len, vec_capacity, length, ◌+◌, ◌<◌, ◌≤◌};
+ghost use Rattle.mqtt_packets.specs.Memory.{WantsMemory};
 ghost use Rattle.mqtt_packets.specs.Reading.{Gives};
 ghost use Rattle.mqtt_packets.specs.Packet.{head_of, body_bytes, BodyFits, nothing, body_of};
 ghost use Rattle.mqtt_packets.specs.Measure.{MeasuresBody};
@@ -41,7 +42,8 @@ pub enum Packet {
 
 /// A packet without a body.
 fn empty_of(packet: Packet, bytes: &[u8]) -> Result<Packet, PacketFault>
-    ensures { Gives (λ x. x) result (nothing packet bytes.now) }
+    ensures exact { Gives (λ x. x) result (nothing packet bytes.now) }
+    ensures no_memory { IsErrOf result PacketFault.NoMemory → ⊥ }
 {
     if bytes.is_empty() {
         Ok(packet)
@@ -52,9 +54,10 @@ fn empty_of(packet: Packet, bytes: &[u8]) -> Result<Packet, PacketFault>
 
 impl Packet {
     /// The packet with this first byte whose body is all of the bytes.
-    #[tactic(auto, unfolding(crate::specs::Packet::body_of))]
+    #[tactic(auto, unfolding(crate::specs::Packet::body_of, crate::specs::Memory::WantsMemory))]
     pub(crate) fn of(alloc: Global, head: Head, bytes: &[u8]) -> Result<Packet, PacketFault>
-        ensures { Gives (λ x. x) result (body_of head bytes.now) }
+        ensures exact { Gives (λ x. x) result (body_of head bytes.now) }
+        ensures no_memory { IsErrOf result PacketFault.NoMemory → WantsMemory head bytes.now }
     {
         match head {
             Head::Connect => Ok(Packet::Connect(Connect::of(alloc, bytes)?)),
@@ -103,7 +106,9 @@ impl Packet {
     #[tactic(auto, unfolding(crate::specs::Packet::body_bytes, crate::specs::Packet::BodyFits))]
     pub(crate) fn write_body(&self, out: &mut Vec<u8>) -> Result<(), NoMemory>
         requires { BodyFits self.now }
-        ensures { OnOk result (out.new.items ≡ out.old.items ++ body_bytes self.now) }
+        ensures ok { OnOk result (out.new.items ≡ out.old.items ++ body_bytes self.now) }
+        ensures full { OnErr result (vec_capacity out.old < vec_len out.old + length (body_bytes self.now)) }
+        ensures capacity { vec_capacity out.old ≤ vec_capacity out.new }
     {
         match self {
             Packet::Connect(c) => c.write(out),

@@ -1,7 +1,8 @@
 //! PUBLISH.
 
-ghost use Rattle.std.specs.Prelude.{◌≡◌, ◌++◌, IfOk, OnOk};
-ghost use Rattle.mqtt_packets.specs.Reading.{Gives};
+ghost use Rattle.std.specs.Prelude.{◌≡◌, ◌++◌, IfOk, OnOk, IsErrOf, IsOk, OnErr, vec_len, vec_capacity, length, ◌+◌, ◌<◌, ◌≤◌};
+ghost use Rattle.mqtt_fields.specs.Numbers.{text};
+ghost use Rattle.mqtt_packets.specs.Reading.{Gives, field_at};
 ghost use Rattle.mqtt_packets.specs.Measure.{Measures};
 ghost use Rattle.mqtt_packets.specs.Publish.{flags_of, is_valid_publish, publish};
 
@@ -44,7 +45,8 @@ impl Publish {
         flags: PublishFlags,
         bytes: &[u8],
     ) -> Result<Publish, PacketFault>
-        ensures { Gives (λ x. x) result ((publish flags).of bytes.now) }
+        ensures exact { Gives (λ x. x) result ((publish flags).of bytes.now) }
+        ensures no_memory { IsErrOf result PacketFault.NoMemory → IsOk (field_at text bytes.now) }
     {
         let (topic, rest) = take_text(alloc, bytes)?;
         let (identifier, rest) = if is_at_most_once(flags.qos) {
@@ -82,7 +84,9 @@ impl Publish {
     #[tactic(auto, unfolding(crate::specs::Publish::publish))]
     pub(crate) fn write(&self, out: &mut Vec<u8>) -> Result<(), NoMemory>
         requires { (publish (flags_of self.now)).Fits self.now }
-        ensures { OnOk result (out.new.items ≡ out.old.items ++ (publish (flags_of self.now)).bytes self.now) }
+        ensures ok { OnOk result (out.new.items ≡ out.old.items ++ (publish (flags_of self.now)).bytes self.now) }
+        ensures full { OnErr result (vec_capacity out.old < vec_len out.old + length ((publish (flags_of self.now)).bytes self.now)) }
+        ensures capacity { vec_capacity out.old ≤ vec_capacity out.new }
     {
         self.topic.write(out)?;
         if !is_at_most_once(self.qos) {

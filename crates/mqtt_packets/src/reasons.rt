@@ -1,6 +1,7 @@
 //! SUBACK and UNSUBACK.
 
-ghost use Rattle.std.specs.Prelude.{◌≡◌, ◌++◌, IfOk, OnOk};
+ghost use Rattle.std.specs.Prelude.{◌≡◌, ◌++◌, IfOk, OnOk, IsErrOf, IsOk, OnErr, vec_len, vec_capacity, length, ◌+◌, ◌<◌, ◌≤◌};
+ghost use Rattle.mqtt_packets.specs.Memory.{list_start};
 ghost use Rattle.mqtt_packets.specs.Reading.{Gives};
 ghost use Rattle.mqtt_packets.specs.Measure.{Measures};
 ghost use Rattle.mqtt_packets.specs.Reasons.{is_valid_reasons, reasons};
@@ -30,9 +31,10 @@ impl Reasons {
             && !self.reasons.as_slice().is_empty()
     }
 
-    #[tactic(auto, unfolding(crate::specs::Reasons::reasons))]
+    #[tactic(auto, using(crate::proofs::MemoryLaws::list_read), unfolding(crate::specs::Reasons::reasons))]
     pub(crate) fn of(alloc: Global, place: Place, bytes: &[u8]) -> Result<Reasons, PacketFault>
-        ensures { Gives (λ x. x) result ((reasons place).of bytes.now) }
+        ensures exact { Gives (λ x. x) result ((reasons place).of bytes.now) }
+        ensures no_memory { IsErrOf result PacketFault.NoMemory → IsOk (list_start place bytes.now) }
     {
         let (identifier, rest) = take_u16(bytes)?;
         let (properties, rest) = take_properties(alloc, place, rest)?;
@@ -50,7 +52,9 @@ impl Reasons {
     #[tactic(auto, unfolding(crate::specs::Reasons::reasons))]
     pub(crate) fn write(&self, place: Place, out: &mut Vec<u8>) -> Result<(), NoMemory>
         requires { (reasons place).Fits self.now }
-        ensures { OnOk result (out.new.items ≡ out.old.items ++ (reasons place).bytes self.now) }
+        ensures ok { OnOk result (out.new.items ≡ out.old.items ++ (reasons place).bytes self.now) }
+        ensures full { OnErr result (vec_capacity out.old < vec_len out.old + length ((reasons place).bytes self.now)) }
+        ensures capacity { vec_capacity out.old ≤ vec_capacity out.new }
     {
         out.extend_from_slice(&self.identifier.to_be_bytes())?;
         put_properties(place, &self.properties, out)?;

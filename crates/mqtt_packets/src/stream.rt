@@ -1,8 +1,9 @@
 //! The packet in front of some bytes.
 
-ghost use Rattle.std.specs.Prelude.{◌≡◌, ◌++◌, ◌<◌, ◌≤◌, ℕ, List, Option, Some, None, length, drop, take, option_map, IfOk, IfSome, IfNone, Ok, Err};
+ghost use Rattle.std.specs.Prelude.{◌≡◌, ◌++◌, ◌<◌, ◌≤◌, ℕ, List, Option, Some, None, length, drop, take, option_map, IfOk, IfSome, IfNone, Ok, Err, IsErrOf};
 ghost use Rattle.mqtt_packets.specs.declared.packet.Packet.{Packet};
 ghost use Rattle.mqtt_fields.specs.Numbers.{vbi};
+ghost use Rattle.mqtt_packets.specs.Memory.{BodyWants, PacketWants, StepWants};
 ghost use Rattle.mqtt_packets.specs.Reading.{Gives};
 ghost use Rattle.mqtt_packets.specs.Faults.{IsBeginning};
 ghost use Rattle.mqtt_packets.specs.Stream.{header_at, inside_at, body_at, rest_at, packet_at, step_at, Spells};
@@ -17,6 +18,7 @@ use std::alloc::Global;
 fn inside_of(bytes: &[u8]) -> Result<Option<(u32, &[u8])>, PacketFault>
     ensures exact { Gives (λ o. option_map (λ x. (x.0, x.1.now)) o) result (inside_at (vbi.at bytes.now)) }
     ensures used { IfOk result (λ o. IfSome o (λ x. length x.1.now ≤ length bytes.now)) }
+    ensures no_memory { IsErrOf result PacketFault.NoMemory → ⊥ }
 {
     match Vbi::read(bytes) {
         Ok((n, used)) => Ok(Some((n, &bytes[used..]))),
@@ -32,6 +34,7 @@ fn inside_of(bytes: &[u8]) -> Result<Option<(u32, &[u8])>, PacketFault>
 pub(crate) fn header_of(bytes: &[u8]) -> Result<Option<(Head, u32, &[u8])>, PacketFault>
     ensures exact { Gives (λ o. option_map (λ x. (x.0, x.1, x.2.now)) o) result (header_at bytes.now) }
     ensures used { IfOk result (λ o. IfSome o (λ x. length x.2.now ≤ length bytes.now)) }
+    ensures no_memory { IsErrOf result PacketFault.NoMemory → ⊥ }
 {
     match bytes {
         [] => Ok(None),
@@ -54,7 +57,8 @@ fn packet_after(
     len: u32,
     bytes: &[u8],
 ) -> Result<Option<(Packet, &[u8])>, PacketFault>
-    ensures { Gives (λ o. option_map (λ x. (x.0, x.1.now)) o) result (body_at (Some (head, len, bytes.now))) }
+    ensures exact { Gives (λ o. option_map (λ x. (x.0, x.1.now)) o) result (body_at (Some (head, len, bytes.now))) }
+    ensures no_memory { IsErrOf result PacketFault.NoMemory → BodyWants head len bytes.now }
 {
     let len = len as usize;
     if bytes.len() < len {
@@ -67,7 +71,8 @@ fn packet_after(
 
 #[tactic(auto, unfolding(crate::specs::Stream::packet_at))]
 fn packet_of(alloc: Global, bytes: &[u8]) -> Result<Option<(Packet, &[u8])>, PacketFault>
-    ensures { Gives (λ o. option_map (λ x. (x.0, x.1.now)) o) result (packet_at bytes.now) }
+    ensures exact { Gives (λ o. option_map (λ x. (x.0, x.1.now)) o) result (packet_at bytes.now) }
+    ensures no_memory { IsErrOf result PacketFault.NoMemory → PacketWants bytes.now }
 {
     match header_of(bytes)? {
         None => Ok(None),
@@ -78,6 +83,7 @@ fn packet_of(alloc: Global, bytes: &[u8]) -> Result<Option<(Packet, &[u8])>, Pac
 fn read_exactly(alloc: Global, bytes: &[u8]) -> Result<Option<(Packet, usize)>, PacketFault>
     ensures exact { Gives (rest_at bytes.now) result (packet_at bytes.now) }
     ensures used { IfOk result (λ o. IfSome o (λ x. x.1 ≤ length bytes.now)) }
+    ensures no_memory { IsErrOf result PacketFault.NoMemory → PacketWants bytes.now }
 {
     match packet_of(alloc, bytes)? {
         None => Ok(None),
@@ -97,6 +103,8 @@ pub fn read_packet(alloc: Global, bytes: &[u8]) -> Result<Option<(Packet, usize)
     ensures waits { IfOk result (λ o. IfNone o (IsBeginning bytes.now)) }
     // Which of the three it is, and which fault is the first.
     ensures exact { Gives (rest_at bytes.now) result (packet_at bytes.now) }
+    // A fault that stands before what wants memory is answered, whatever memory there is.
+    ensures no_memory { IsErrOf result PacketFault.NoMemory → PacketWants bytes.now }
 {
     read_exactly(alloc, bytes)
 }
@@ -108,7 +116,8 @@ pub(crate) fn step_of(
     limit: usize,
     bytes: &[u8],
 ) -> Result<Option<(Packet, &[u8])>, PacketFault>
-    ensures { Gives (λ o. option_map (λ x. (x.0, x.1.now)) o) result (step_at limit bytes.now) }
+    ensures exact { Gives (λ o. option_map (λ x. (x.0, x.1.now)) o) result (step_at limit bytes.now) }
+    ensures no_memory { IsErrOf result PacketFault.NoMemory → StepWants limit bytes.now }
 {
     match header_of(bytes)? {
         None => Ok(None),

@@ -1,7 +1,9 @@
 //! SUBSCRIBE.
 
-ghost use Rattle.std.specs.Prelude.{◌≡◌, ◌++◌, List, [], length, ◌<◌, ◌^◌, flat_map, IfOk, IfSome, OnOk};
+ghost use Rattle.std.specs.Prelude.{◌≡◌, ◌++◌, List, [], length, ◌<◌, ◌^◌, flat_map, IfOk, IfSome, OnOk, IsErrOf, IsOk, OnErr, vec_len, vec_capacity, ◌+◌, ◌≤◌};
 ghost use Rattle.std.specs.List.{list_all};
+ghost use Rattle.mqtt_fields.specs.Numbers.{text};
+ghost use Rattle.mqtt_packets.specs.Memory.{list_start};
 ghost use Rattle.mqtt_packets.specs.Reading.{Gives, field_at};
 ghost use Rattle.mqtt_packets.specs.Body.{many_at, many};
 ghost use Rattle.mqtt_packets.specs.Measure.{MeasuresField, Measures};
@@ -92,7 +94,8 @@ pub struct Subscribe {
 }
 
 fn take_options(bytes: &[u8]) -> Result<(u8, &[u8]), PacketFault>
-    ensures { Gives (λ x. (x.0, x.1.now)) result (field_at options bytes.now) }
+    ensures exact { Gives (λ x. (x.0, x.1.now)) result (field_at options bytes.now) }
+    ensures no_memory { IsErrOf result PacketFault.NoMemory → ⊥ }
 {
     let (byte, rest) = take_u8(bytes)?;
     if byte >= 64 {
@@ -102,7 +105,8 @@ fn take_options(bytes: &[u8]) -> Result<(u8, &[u8]), PacketFault>
 }
 
 fn take_filter(alloc: Global, bytes: &[u8]) -> Result<(SubscribeFilter, &[u8]), PacketFault>
-    ensures { Gives (λ x. (x.0, x.1.now)) result (field_at subscribe_filter bytes.now) }
+    ensures exact { Gives (λ x. (x.0, x.1.now)) result (field_at subscribe_filter bytes.now) }
+    ensures no_memory { IsErrOf result PacketFault.NoMemory → IsOk (field_at text bytes.now) }
 {
     let (filter, rest) = take_text(alloc, bytes)?;
     let (byte, rest) = take_options(rest)?;
@@ -111,7 +115,8 @@ fn take_filter(alloc: Global, bytes: &[u8]) -> Result<(SubscribeFilter, &[u8]), 
 }
 
 fn filters_of(alloc: Global, bytes: &[u8]) -> Result<SubscribeFilters, PacketFault>
-    ensures { Gives (λ x. x) result (many_at subscribe_filter (length bytes.now) [] bytes.now) }
+    ensures exact { Gives (λ x. x) result (many_at subscribe_filter (length bytes.now) [] bytes.now) }
+    ensures no_memory { IsErrOf result PacketFault.NoMemory → IsOk (field_at text bytes.now) }
 {
     let mut items = Vec::new(alloc);
     let mut rest = bytes;
@@ -136,7 +141,9 @@ fn is_each_valid(filters: &[SubscribeFilter]) -> bool
 }
 
 fn put_filter(f: &SubscribeFilter, out: &mut Vec<u8>) -> Result<(), NoMemory>
-    ensures { OnOk result (out.new.items ≡ out.old.items ++ subscribe_filter.bytes f.now) }
+    ensures ok { OnOk result (out.new.items ≡ out.old.items ++ subscribe_filter.bytes f.now) }
+    ensures full { OnErr result (vec_capacity out.old < vec_len out.old + length (subscribe_filter.bytes f.now)) }
+    ensures capacity { vec_capacity out.old ≤ vec_capacity out.new }
 {
     f.filter.write(out)?;
     let byte = f.options.byte();
@@ -146,7 +153,9 @@ fn put_filter(f: &SubscribeFilter, out: &mut Vec<u8>) -> Result<(), NoMemory>
 
 #[tactic(auto, using(crate::proofs::MeasureLaws::bytes_more))]
 fn put_filters(filters: &[SubscribeFilter], out: &mut Vec<u8>) -> Result<(), NoMemory>
-    ensures { OnOk result (out.new.items ≡ out.old.items ++ flat_map subscribe_filter.bytes filters.now) }
+    ensures ok { OnOk result (out.new.items ≡ out.old.items ++ flat_map subscribe_filter.bytes filters.now) }
+    ensures full { OnErr result (vec_capacity out.old < vec_len out.old + length (flat_map subscribe_filter.bytes filters.now)) }
+    ensures capacity { vec_capacity out.old ≤ vec_capacity out.new }
 {
     for f in filters {
         put_filter(f, out)?;
@@ -193,9 +202,10 @@ impl Subscribe {
             && is_each_valid(filters)
     }
 
-    #[tactic(auto, unfolding(crate::specs::Subscribe::subscribe))]
+    #[tactic(auto, using(crate::proofs::MemoryLaws::list_read), unfolding(crate::specs::Subscribe::subscribe))]
     pub(crate) fn of(alloc: Global, bytes: &[u8]) -> Result<Subscribe, PacketFault>
-        ensures { Gives (λ x. x) result (subscribe.of bytes.now) }
+        ensures exact { Gives (λ x. x) result (subscribe.of bytes.now) }
+        ensures no_memory { IsErrOf result PacketFault.NoMemory → IsOk (list_start Place.Subscribe bytes.now) }
     {
         let (identifier, rest) = take_u16(bytes)?;
         let (properties, rest) = take_properties(alloc, Place::Subscribe, rest)?;
@@ -213,7 +223,9 @@ impl Subscribe {
     #[tactic(auto, unfolding(crate::specs::Subscribe::subscribe))]
     pub(crate) fn write(&self, out: &mut Vec<u8>) -> Result<(), NoMemory>
         requires { subscribe.Fits self.now }
-        ensures { OnOk result (out.new.items ≡ out.old.items ++ subscribe.bytes self.now) }
+        ensures ok { OnOk result (out.new.items ≡ out.old.items ++ subscribe.bytes self.now) }
+        ensures full { OnErr result (vec_capacity out.old < vec_len out.old + length (subscribe.bytes self.now)) }
+        ensures capacity { vec_capacity out.old ≤ vec_capacity out.new }
     {
         out.extend_from_slice(&self.identifier.to_be_bytes())?;
         put_properties(Place::Subscribe, &self.properties, out)?;

@@ -1,8 +1,9 @@
 //! UNSUBSCRIBE.
 
-ghost use Rattle.std.specs.Prelude.{◌≡◌, ◌++◌, List, ℕ, [], length, flat_map, IfOk, OnOk};
+ghost use Rattle.std.specs.Prelude.{◌≡◌, ◌++◌, List, ℕ, [], length, flat_map, IfOk, OnOk, IsErrOf, IsOk, OnErr, vec_len, vec_capacity, ◌+◌, ◌<◌, ◌≤◌};
 ghost use Rattle.mqtt_fields.specs.Numbers.{text};
-ghost use Rattle.mqtt_packets.specs.Reading.{Gives};
+ghost use Rattle.mqtt_packets.specs.Memory.{list_start};
+ghost use Rattle.mqtt_packets.specs.Reading.{Gives, field_at};
 ghost use Rattle.mqtt_packets.specs.Body.{many_at, many};
 ghost use Rattle.mqtt_packets.specs.Measure.{Measures};
 ghost use Rattle.mqtt_packets.specs.Unsubscribe.{is_valid_unsubscribe, unsubscribe};
@@ -72,7 +73,8 @@ pub struct Unsubscribe {
 }
 
 fn filters_of(alloc: Global, bytes: &[u8]) -> Result<UnsubscribeFilters, PacketFault>
-    ensures { Gives (λ x. x) result (many_at text (length bytes.now) [] bytes.now) }
+    ensures exact { Gives (λ x. x) result (many_at text (length bytes.now) [] bytes.now) }
+    ensures no_memory { IsErrOf result PacketFault.NoMemory → IsOk (field_at text bytes.now) }
 {
     let mut items = Vec::new(alloc);
     let mut rest = bytes;
@@ -86,7 +88,9 @@ fn filters_of(alloc: Global, bytes: &[u8]) -> Result<UnsubscribeFilters, PacketF
 
 #[tactic(auto, using(crate::proofs::MeasureLaws::bytes_more))]
 fn put_filters(filters: &[Text], out: &mut Vec<u8>) -> Result<(), NoMemory>
-    ensures { OnOk result (out.new.items ≡ out.old.items ++ flat_map text.bytes filters.now) }
+    ensures ok { OnOk result (out.new.items ≡ out.old.items ++ flat_map text.bytes filters.now) }
+    ensures full { OnErr result (vec_capacity out.old < vec_len out.old + length (flat_map text.bytes filters.now)) }
+    ensures capacity { vec_capacity out.old ≤ vec_capacity out.new }
 {
     for filter in filters {
         filter.write(out)?;
@@ -118,9 +122,10 @@ impl Unsubscribe {
             && !self.filters.as_slice().is_empty()
     }
 
-    #[tactic(auto, unfolding(crate::specs::Unsubscribe::unsubscribe))]
+    #[tactic(auto, using(crate::proofs::MemoryLaws::list_read), unfolding(crate::specs::Unsubscribe::unsubscribe))]
     pub(crate) fn of(alloc: Global, bytes: &[u8]) -> Result<Unsubscribe, PacketFault>
-        ensures { Gives (λ x. x) result (unsubscribe.of bytes.now) }
+        ensures exact { Gives (λ x. x) result (unsubscribe.of bytes.now) }
+        ensures no_memory { IsErrOf result PacketFault.NoMemory → IsOk (list_start Place.Unsubscribe bytes.now) }
     {
         let (identifier, rest) = take_u16(bytes)?;
         let (properties, rest) = take_properties(alloc, Place::Unsubscribe, rest)?;
@@ -138,7 +143,9 @@ impl Unsubscribe {
     #[tactic(auto, unfolding(crate::specs::Unsubscribe::unsubscribe))]
     pub(crate) fn write(&self, out: &mut Vec<u8>) -> Result<(), NoMemory>
         requires { unsubscribe.Fits self.now }
-        ensures { OnOk result (out.new.items ≡ out.old.items ++ unsubscribe.bytes self.now) }
+        ensures ok { OnOk result (out.new.items ≡ out.old.items ++ unsubscribe.bytes self.now) }
+        ensures full { OnErr result (vec_capacity out.old < vec_len out.old + length (unsubscribe.bytes self.now)) }
+        ensures capacity { vec_capacity out.old ≤ vec_capacity out.new }
     {
         out.extend_from_slice(&self.identifier.to_be_bytes())?;
         put_properties(Place::Unsubscribe, &self.properties, out)?;

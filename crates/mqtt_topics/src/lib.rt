@@ -12,6 +12,3 @@ pub use filter::Filter;
 pub use laws::{filters_or_faults, names_or_faults, shared_matches_alike};
 pub use levels::Levels;
 pub use name::TopicName;
-
-#[cfg(test)]
-mod tests;

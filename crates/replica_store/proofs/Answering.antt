@@ -1,7 +1,6 @@
 -- The answer, from the front.
-use Rattle.std.proofs.Common.{◌≡◌, ℕ, ◌+◌, ◌<◌, ◌≤◌, MatchOption, add-one, List, [], ◌∷◌, ◌++◌, map, length, get_or, drop, Option, Some, None, inl, inr, refl, sym, ap, subst, ◌∙◌}
-use Rattle.std.proofs.lemmas.List.{append-nil, append_assoc, map-append, drop_all}
-use Rattle.std.proofs.Math.Seq.{drop-cons}
+use Rattle.std.proofs.Common.{◌≡◌, ℕ, MatchOption, List, [], ◌∷◌, ◌++◌, map, Option, Some, None, inl, inr, refl, sym, ap, subst, ◌∙◌}
+use Rattle.std.proofs.lemmas.List.{append_assoc, map-append}
 use denote.Ref.{Bor}
 use Rattle.mqtt_message.specs.declared.message.Message.{Message}
 use Rattle.replica_store.specs.declared.kept.Kept.{Kept}
@@ -10,33 +9,29 @@ use Rattle.mqtt_topics.specs.Topics.{IsShared}
 use Rattle.replica_store.specs.Retained.{HasAlive}
 use Rattle.replica_store.specs.Answers.{Answers, IsAnswer}
 
--- what was answered so far, and whatever answers the rest, make the answer
-abbrev pub IsAnswerUpTo : List ℕ → ℕ → List (List ℕ × Kept) → ℕ → List Message → Type 0
-IsAnswerUpTo filter now es i out = (rest : List Message) → IsAnswer filter now (drop i es) rest → IsAnswer filter now es (out ++ rest)
+-- ---- an entry, and those after it
 
-module _ (filter : List ℕ) (now : ℕ) (es : List (List ℕ × Kept)) (i : ℕ) (x : List ℕ × Kept) (lt : i < length es) (is : x ≡ get_or es i x) where
-  dropped : drop i es ≡ x ∷ drop (i + 1) es
-  dropped = drop-cons es i x lt ∙ (λ j. sym is j ∷ drop (sym (add-one i) j) es)
+module _ (filter : List ℕ) (now : ℕ) (s t : List (List ℕ × Kept)) (e : List ℕ × Kept) (is : s ≡ e ∷ t) where
+  -- where nothing answers, nothing does after it
+  pub silent_after : IsAnswer filter now s [] → IsAnswer filter now t []
+  silent_after a = elim (subst (λ l. IsAnswer filter now l []) is a) [ inl x ↦ absurd (let e = x.3 in cc) | inr x ↦ x.1 ]
 
-  -- the entry answers
-  pub answer_yes : (r : Bor Message) (out new : List (Bor Message)) → new ≡ out ++ r ∷ [] → Answers filter now x.0 x.1 r.now → IsAnswerUpTo filter now es i (map (λ r. r.now) out) → IsAnswerUpTo filter now es (i + 1) (map (λ r. r.now) new)
-  answer_yes r out new added answers so rest h =
-      subst (IsAnswer filter now es) (sym (append_assoc (map (λ r. r.now) out) (r.now ∷ []) rest) ∙ ap (λ l. l ++ rest) (sym (ap (map (λ r. r.now)) added ∙ map-append (λ (r : Bor Message). r.now) out (r ∷ []))))
-      (so (r.now ∷ rest) (subst (λ l. IsAnswer filter now l (r.now ∷ rest)) (sym dropped) (inl (r.now, rest, answers, refl, h))))
+  -- nor does the entry
+  pub silent_here : IsAnswer filter now s [] → (m : Message) → ¬ Answers filter now e.0 e.1 m
+  silent_here a = elim (subst (λ l. IsAnswer filter now l []) is a) [ inl x ↦ absurd (let e = x.3 in cc) | inr x ↦ x.0 ]
+
+  -- it answers
+  pub answer_yes : (all : List (List ℕ × Kept)) (r : Bor Message) (out new : List (Bor Message)) → new ≡ out ++ r ∷ [] → Answers filter now e.0 e.1 r.now
+      → ((rest : List Message) → IsAnswer filter now s rest → IsAnswer filter now all (map (λ r. r.now) out ++ rest)) → (rest : List Message) → IsAnswer filter now t rest → IsAnswer filter now all (map (λ r. r.now) new ++ rest)
+  answer_yes all r out new added answers so rest h =
+      subst (IsAnswer filter now all) (sym (append_assoc (map (λ r. r.now) out) (r.now ∷ []) rest) ∙ ap (λ l. l ++ rest) (sym (ap (map (λ r. r.now)) added ∙ map-append (λ (r : Bor Message). r.now) out (r ∷ []))))
+      (so (r.now ∷ rest) (subst (λ l. IsAnswer filter now l (r.now ∷ rest)) (sym is) (inl (r.now, rest, answers, refl, h))))
 
   -- it doesn't
-  pub answer_no : (out new : List (Bor Message)) → new ≡ out → ((m : Message) → Answers filter now x.0 x.1 m → ⊥) → IsAnswerUpTo filter now es i (map (λ r. r.now) out) → IsAnswerUpTo filter now es (i + 1) (map (λ r. r.now) new)
-  answer_no out new same silent so rest h =
-      subst (λ l. IsAnswer filter now es (map (λ r. r.now) l ++ rest)) (sym same) (so rest (subst (λ l. IsAnswer filter now l rest) (sym dropped) (inr (silent, h))))
-
-pub answer_start : (filter : List ℕ) (now : ℕ) (es : List (List ℕ × Kept)) → IsAnswerUpTo filter now es 0 []
-answer_start filter now es rest h = h
-
-drop_end : (es : List (List ℕ × Kept)) (n : ℕ) → length es ≤ n → drop n es ≡ []
-drop_end es n le = drop_all n es le
-
-pub answer_end : (filter : List ℕ) (now : ℕ) (es : List (List ℕ × Kept)) (n : ℕ) (out : List Message) → length es ≤ n → IsAnswerUpTo filter now es n out → IsAnswer filter now es out
-answer_end filter now es n out le so = subst (IsAnswer filter now es) (append-nil out) (so [] (subst (λ l. IsAnswer filter now l []) (sym (drop_end es n le)) refl))
+  pub answer_no : (all : List (List ℕ × Kept)) (out new : List (Bor Message)) → new ≡ out → ((m : Message) → Answers filter now e.0 e.1 m → ⊥)
+      → ((rest : List Message) → IsAnswer filter now s rest → IsAnswer filter now all (map (λ r. r.now) out ++ rest)) → (rest : List Message) → IsAnswer filter now t rest → IsAnswer filter now all (map (λ r. r.now) new ++ rest)
+  answer_no all out new same silent so rest h =
+      subst (λ l. IsAnswer filter now all (map (λ r. r.now) l ++ rest)) (sym same) (so rest (subst (λ l. IsAnswer filter now l rest) (sym is) (inr (silent, h))))
 
 -- ---- one entry
 

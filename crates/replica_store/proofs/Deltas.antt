@@ -15,7 +15,9 @@ use Rattle.subscription_set.specs.Statuses.{Status, status_join, statuses_join, 
 use Rattle.replica_store.specs.declared.operation.Operation.{Operation}
 use Rattle.replica_store.specs.declared.operation.Operation.TheVariants.{Subscribe, Remove, Put}
 use Rattle.replica_store.specs.Operations.{dot_of, cover_of, Among, HaveOwnDots, Covers, Sees, HasStatus, Puts, HasKept}
-use Rattle.mqtt_message.specs.declared.message.Message.{Message}
+use Rattle.replica_store.specs.declared.content.Content.{Content}
+use Rattle.replica_store.specs.declared.operation.Stamp.{Stamp}
+use Rattle.replica_store.specs.Contents.{topic_in, message_in}
 use Rattle.replica_store.specs.declared.kept.Kept.{Kept}
 use Rattle.replica_store.specs.Retained.{one_put, kept_cmp, kept_cmp_total, kept_cmp_antisym, topic_cmp, topic_cmp_antisym}
 use Rattle.replica_store.specs.States.{State}
@@ -72,9 +74,9 @@ remove_status d c q = by_bool (set.contains c q) _
       | inr w ↦ (let is = covers_only (Remove d c) q w in cc)
     ]))
 
-put_status : (d : Dot) (s : _) (t : List ℕ) (m : Option Message) (q : Dot) → HasStatus (Put d s t m ∷ []) q None
-put_status d s t m q (inl w) = (let is = only (Put d s t m) _ w.1.1 in cc)
-put_status d s t m q (inr w) = (let is = covers_only (Put d s t m) q w in let no = set.contains-empty dot_cmp q in cc)
+put_status : (d : Dot) (s : Stamp) (c : Content) (q : Dot) → HasStatus (Put d s c ∷ []) q None
+put_status d s c q (inl w) = (let is = only (Put d s c) _ w.1.1 in cc)
+put_status d s c q (inr w) = (let is = covers_only (Put d s c) q w in let no = set.contains-empty dot_cmp q in cc)
 
 empty_statuses : (q : Dot) → map.get (map.empty {X = Status} {R = dot_cmp}) q ≡ None
 empty_statuses q = map.get-empty dot_cmp q
@@ -106,8 +108,8 @@ subscribe_status d e c q =
       | inr w ↦ (let in_c = covers_only (Subscribe d e c) q w in cc)
     ])))
 
-no_puts : (o : Operation) (u : List ℕ) (k : Kept) → ((d : Dot) (s : _) (m : Option Message) → Put d s u m ≡ o → ⊥) → Puts (o ∷ []) u k → ⊥
-no_puts o u k not p = not p.0 k.stamp k.message (only o _ p.1)
+no_puts : (o : Operation) (u : List ℕ) (k : Kept) → ((d : Dot) (s : Stamp) (c : Content) → Put d s c ≡ o → ⊥) → Puts (o ∷ []) u k → ⊥
+no_puts o u k not p = not p.0 k.stamp p.1 (only o _ p.2)
 
 pub delta_is : (o : Operation) → IsStateOf (o ∷ []) (delta_of o)
 unfolding delta_of one_put
@@ -121,19 +123,20 @@ delta_is (Remove d c) = record {
   subscriptions = remove_status d c;
   retained = λ u. subst (HasKept (Remove d c ∷ []) u) (sym (empty_kept u)) (λ k p. no_puts (Remove d c) u k (λ d s m is. cc) p);
 }
-delta_is (Put d s t m) = record {
-  taken = one_taken (Put d s t m);
-  subscriptions = λ q. subst (HasStatus (Put d s t m ∷ []) q) (sym (empty_statuses q)) (put_status d s t m q);
+delta_is (Put d s c) = record {
+  taken = one_taken (Put d s c);
+  subscriptions = λ q. subst (HasStatus (Put d s c ∷ []) q) (sym (empty_statuses q)) (put_status d s c q);
   retained = λ u.
-      let value : Kept = record { stamp = s; message = m } in
+      let value : Kept = record { stamp = s; message = message_in c } in
+      let t = topic_in c in
       let is = λ (b : Bool) (h : eq_by_cmp topic_cmp u t ≡ b). map.get-insert nat_list_cmp_total (map.empty {X = Kept} {R = topic_cmp}) t value u ∙ (λ i. cond (h i) (Some value) (empty_kept u i)) in
       by_bool (eq_by_cmp topic_cmp u t) _
-      (λ h. subst (HasKept (Put d s t m ∷ []) u) (sym (is true h)) (record {
-        put = (d, inl (λ i. Put d s (topic_cmp_antisym u t ((Equal-is (topic_cmp u t)).0 h) i) m));
-        greatest = λ k p. (let one = only (Put d s t m) _ p.1 in let a : k.stamp ≡ s = cc in let b : k.message ≡ m = cc in
+      (λ h. subst (HasKept (Put d s c ∷ []) u) (sym (is true h)) (record {
+        put = (d, c, inl refl, sym (topic_cmp_antisym u t ((Equal-is (topic_cmp u t)).0 h)), refl);
+        greatest = λ k p. (let one = only (Put d s c) _ p.2 in let a : k.stamp ≡ s = cc in let same : p.1 ≡ c = cc in let b : k.message ≡ message_in c = sym p.4 ∙ ap message_in same in
             (λ i. is_gt (kept_cmp (record { stamp = a i; message = b i }) value)) ∙ ap is_gt (tied_itself kept_cmp_total value));
       }))
-      (λ h. subst (HasKept (Put d s t m ∷ []) u) (sym (is false h)) (λ k p. (let one = only (Put d s t m) _ p.1 in let e : u ≡ t = cc in let tied = ap (λ x. eq_by_cmp topic_cmp x t) e ∙ ap is_eq (tied_itself nat_list_cmp_total t) in cc)));
+      (λ h. subst (HasKept (Put d s c ∷ []) u) (sym (is false h)) (λ k p. (let one = only (Put d s c) _ p.2 in let same : p.1 ≡ c = cc in let e : u ≡ t = sym p.3 ∙ ap topic_in same in let tied = ap (λ x. eq_by_cmp topic_cmp x t) e ∙ ap is_eq (tied_itself nat_list_cmp_total t) in cc)));
 }
 
 -- ---- many operations
@@ -142,7 +145,7 @@ pub joined_is : (O : List Operation) → HaveOwnDots O → IsStateOf O (joined_d
 joined_is [] own = record {
   taken = λ d. (λ e. (let no = set.contains-empty dot_cmp d in cc), λ p. absurd p.1);
   subscriptions = λ d. subst (HasStatus [] d) (sym (empty_statuses d)) (λ s. elim s [ inl w ↦ w.1.1 | inr w ↦ w.1 ]);
-  retained = λ u. subst (HasKept [] u) (sym (empty_kept u)) (λ k p. p.1);
+  retained = λ u. subst (HasKept [] u) (sym (empty_kept u)) (λ k p. p.2);
 }
 joined_is (o ∷ O) own = state_union (o ∷ []) O _ _ own (delta_is o) (joined_is O (λ p q a b. own p q (inr a) (inr b)))
 
@@ -179,9 +182,9 @@ module _ (O P : List Operation) (same : SameOperations O P) (own : HaveOwnDots O
 
   one_kept : (u : List ℕ) (x y : Option Kept) → HasKept O u x → HasKept P u y → x ≡ y
   one_kept u None None h k = refl
-  one_kept u None (Some y) h k = absurd (h y (k.put.0, same.back _ k.put.1))
-  one_kept u (Some x) None h k = absurd (k x (h.put.0, same.there _ h.put.1))
-  one_kept u (Some x) (Some y) h k = ap Some (same_from_order kept_cmp_total kept_cmp_antisym x y (k.greatest x (h.put.0, same.there _ h.put.1)) (h.greatest y (k.put.0, same.back _ k.put.1)))
+  one_kept u None (Some y) h k = absurd (h y (k.put.0, k.put.1, same.back _ k.put.2, k.put.3, k.put.4))
+  one_kept u (Some x) None h k = absurd (k x (h.put.0, h.put.1, same.there _ h.put.2, h.put.3, h.put.4))
+  one_kept u (Some x) (Some y) h k = ap Some (same_from_order kept_cmp_total kept_cmp_antisym x y (k.greatest x (h.put.0, h.put.1, same.there _ h.put.2, h.put.3, h.put.4)) (h.greatest y (k.put.0, k.put.1, same.back _ k.put.2, k.put.3, k.put.4)))
 
   alike : (a b : Bool) → (a ≡ true → b ≡ true) → (b ≡ true → a ≡ true) → a ≡ b
   alike true b f g = sym (f refl)

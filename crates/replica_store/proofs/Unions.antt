@@ -67,13 +67,13 @@ module _ (O P : List Operation) where
       (record { subscribed = subscribes_left d e h.subscribed; uncovered = λ c. elim (covers_cases d c) [ inl a ↦ h.uncovered a | inr a ↦ k.uncovered a ] })
 
   puts_cases : (t : List ℕ) (k : Kept) → Puts (O ++ P) t k → Puts O t k ⊎ Puts P t k
-  puts_cases t k p = elim (among_cases _ O P p.1) [ inl a ↦ inl (p.0, a) | inr a ↦ inr (p.0, a) ]
+  puts_cases t k p = elim (among_cases _ O P p.2) [ inl a ↦ inl (p.0, p.1, a, p.3, p.4) | inr a ↦ inr (p.0, p.1, a, p.3, p.4) ]
 
   puts_left : (t : List ℕ) (k : Kept) → Puts O t k → Puts (O ++ P) t k
-  puts_left t k p = (p.0, among_left _ O P p.1)
+  puts_left t k p = (p.0, p.1, among_left _ O P p.2, p.3, p.4)
 
   puts_right : (t : List ℕ) (k : Kept) → Puts P t k → Puts (O ++ P) t k
-  puts_right t k p = (p.0, among_right _ O P p.1)
+  puts_right t k p = (p.0, p.1, among_right _ O P p.2, p.3, p.4)
 
   kept_union : (t : List ℕ) (x y : Option Kept) → HasKept O t x → HasKept P t y → HasKept (O ++ P) t (option_join (greater kept_cmp) x y)
   kept_union t None None h k = λ z p. elim (puts_cases t z p) [ inl a ↦ h z a | inr a ↦ k z a ]

@@ -8,7 +8,7 @@ use Rattle.subscription_set.specs.Entries.{is_of}
 use Rattle.subscription_set.specs.Standing.{find_entry, live, dots_of}
 use Rattle.replica_store.specs.declared.operation.Operation.{Operation}
 use Rattle.replica_store.specs.Operations.{HaveOwnDots, Stands, IsLive, IsGreatestCount}
-use Rattle.replica_store.specs.Retained.{greatest_count}
+use Rattle.replica_store.specs.Retained.{HaveOwnTopics, greatest_count}
 use Rattle.mqtt_message.specs.declared.message.Message.{Message}
 use Rattle.replica_store.specs.Answers.{IsAnswer, IsAnswerOf}
 use Rattle.replica_store.specs.States.{State, state_join}
@@ -48,6 +48,10 @@ CoverIsOfTheOperations = (O : List Operation) (s : State) → HaveOwnDots O → 
 -- the greatest count in the state is that of the Puts
 abbrev pub CountIsOfTheOperations : Type 0
 CountIsOfTheOperations = (O : List Operation) (s : State) → IsStateOf O s → IsGreatestCount O (greatest_count (map.entries s.retained))
+
+-- what is kept of a topic is a message of that topic
+abbrev pub TopicsAreTheMessages : Type 0
+TopicsAreTheMessages = (O : List Operation) (s : State) → IsStateOf O s → HaveOwnTopics s.retained
 
 -- the answer of the state is the answer of the operations
 abbrev pub AnswerIsOfTheOperations : Type 0

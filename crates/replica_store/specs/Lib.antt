@@ -1,4 +1,5 @@
 pub mod Answers
+pub mod Contents
 pub mod Laws
 pub mod Making
 pub mod Merging

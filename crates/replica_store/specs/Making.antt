@@ -2,9 +2,9 @@
 use Rattle.std.specs.Prelude.{ℕ, ◌+◌, ◌≤◌, ◌^◌, if◌then◌else◌, List, Option, Some, None}
 use Rattle.std.specs.FinMap as map
 use Rattle.causal_context.specs.Dots.{Dot, greatest_of}
-use Rattle.mqtt_message.specs.declared.message.Message.{Message}
 use Rattle.subscription_set.specs.declared.entry.Entry.{Entry}
 use Rattle.subscription_set.specs.Standing.{dots_of, dots_below, any_of, any_below}
+use Rattle.replica_store.specs.declared.content.Content.{Content}
 use Rattle.replica_store.specs.declared.operation.Operation.{Operation}
 use Rattle.replica_store.specs.declared.operation.Operation.TheVariants.{Subscribe, Remove, Put}
 use Rattle.replica_store.specs.Retained.{greatest_count}
@@ -39,5 +39,5 @@ abbrev pub remove_below_of : ℕ → List ℕ → ℕ → State → Option Opera
 remove_below_of node client version s = if any_below client version s.subscriptions then Some (Remove (next_dot node s) (dots_below client version s.subscriptions)) else None
 
 -- a Put with the next count
-abbrev pub put_of : ℕ → List ℕ → Option Message → State → Operation
-put_of node topic message s = Put (next_dot node s) (record { count = next_count s; node = node }) topic message
+abbrev pub put_of : ℕ → Content → State → Operation
+put_of node content s = Put (next_dot node s) (record { count = next_count s; node = node }) content

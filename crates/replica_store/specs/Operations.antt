@@ -10,19 +10,21 @@ use Rattle.subscription_set.specs.Entries.{same_subscription, recency_cmp}
 use Rattle.subscription_set.specs.Statuses.{Status}
 use Rattle.replica_store.specs.declared.operation.Operation.{Operation}
 use Rattle.replica_store.specs.declared.operation.Operation.TheVariants.{Subscribe, Remove, Put}
+use Rattle.replica_store.specs.declared.content.Content.{Content}
+use Rattle.replica_store.specs.Contents.{topic_in, message_in}
 use Rattle.replica_store.specs.declared.kept.Kept.{Kept}
 use Rattle.replica_store.specs.Retained.{kept_cmp}
 
 abbrev pub dot_of : Operation → Dot
 dot_of (Subscribe dot entry cover) = dot
 dot_of (Remove dot cover) = dot
-dot_of (Put dot stamp topic message) = dot
+dot_of (Put dot stamp content) = dot
 
 -- the dots whose subscriptions it ends
 abbrev pub cover_of : Operation → Dots
 cover_of (Subscribe dot entry cover) = cover
 cover_of (Remove dot cover) = cover
-cover_of (Put dot stamp topic message) = set.empty
+cover_of (Put dot stamp content) = set.empty
 
 -- the operation is in the list
 abbrev pub Among : Operation → List Operation → Type 0
@@ -63,7 +65,7 @@ HasStatus O dot (Some (Some entry)) = Stands O dot entry
 
 -- there is a Put of the topic with this stamp and message, or with this stamp and none
 abbrev pub Puts : List Operation → List ℕ → Kept → Type 0
-Puts O topic kept = (dot : Dot) × Among (Put dot kept.stamp topic kept.message) O
+Puts O topic kept = (dot : Dot) × (content : Content) × Among (Put dot kept.stamp content) O × (topic_in content ≡ topic) × (message_in content ≡ kept.message)
 
 -- the greatest Put of the topic
 pub record IsGreatestPut (O : List Operation) (topic : List ℕ) (kept : Kept) : Type 0 where

@@ -1,5 +1,5 @@
 -- Retained messages: of each topic the entry with the greatest stamp.
-use Rattle.std.specs.Prelude.{◌≡◌, ℕ, max, is_some, List, option_and_then, [], ◌∷◌, Option, Some, None, refl}
+use Rattle.std.specs.Prelude.{◌≡◌, ℕ, Bool, false, max, is_some, List, option_and_then, [], ◌∷◌, Option, Some, None, refl}
 use Rattle.std.proofs.Common.{ap}
 use Rattle.std.specs.List.{filter}
 use Rattle.std.specs.Option.{option_cmp}
@@ -15,7 +15,9 @@ use Rattle.causal_context.specs.MapLattice.{merge, MapBelow, map_lattice}
 use Rattle.causal_context.specs.OrderLattice.{NotAbove, greater, order_lattice}
 use Rattle.mqtt_message.specs.declared.message.Message.{Message}
 use Rattle.mqtt_message.specs.Expiry.{IsBefore}
-use Rattle.mqtt_message.specs.Order.{message_cmp, message_cmp_total, message_cmp_antisym, both_equal, coded_message}
+use Rattle.mqtt_message.specs.Order.{message_cmp}
+use Rattle.mqtt_message.specs.Codes.{coded_message}
+use Rattle.mqtt_message.proofs.OrderLaws.{message_cmp_total, message_cmp_antisym, both_equal}
 use Rattle.replica_store.specs.declared.operation.Stamp.{Stamp}
 use Rattle.replica_store.specs.declared.kept.Kept.{Kept}
 
@@ -59,6 +61,15 @@ IsAlive m now = IsBefore now m.deadline
 pub record HasAlive (kept : Option Kept) (now : ℕ) (m : Message) : Type 0 where
   pub message : option_and_then (λ k. k.message) kept ≡ Some m
   pub alive : IsAlive m now
+
+-- each message is under its own topic
+abbrev pub HaveOwnTopics : Retained → Type 0
+HaveOwnTopics r = (topic : List ℕ) (m : Message) → option_and_then (λ k. k.message) (map.get r topic) ≡ Some m → m.topic ≡ topic
+
+-- there is an entry with a message
+abbrev pub holds_message : Option Kept → Bool
+holds_message None = false
+holds_message (Some kept) = is_some kept.message
 
 -- the topics that have a message, alive or not
 abbrev pub with_message : List (List ℕ × Kept) → List (List ℕ × Kept)

@@ -7,6 +7,7 @@ use Rattle.subscription_set.specs.declared.entry.Entry.{Entry}
 use Rattle.subscription_set.specs.Statuses.{Statuses, statuses_join}
 use Rattle.replica_store.specs.declared.operation.Operation.{Operation}
 use Rattle.replica_store.specs.declared.operation.Operation.TheVariants.{Subscribe, Remove, Put}
+use Rattle.replica_store.specs.Contents.{topic_in, message_in}
 use Rattle.replica_store.specs.Operations.{dot_of, Among, HasStatus, HasKept}
 use Rattle.replica_store.specs.Retained.{one_put}
 use Rattle.replica_store.specs.States.{State, nothing, state_join}
@@ -29,7 +30,7 @@ uncovered_entry dot entry cover = if set.contains cover dot then [] else ((dot, 
 unfoldable pub delta_of : Operation → State
 delta_of (Subscribe dot entry cover) = record { taken = set.insert set.empty dot; subscriptions = statuses_join (removed cover) (map.insert map.empty dot (Some entry)); retained = map.empty }
 delta_of (Remove dot cover) = record { taken = set.insert set.empty dot; subscriptions = removed cover; retained = map.empty }
-delta_of (Put dot stamp topic message) = record { taken = set.insert set.empty dot; subscriptions = map.empty; retained = one_put topic (record { stamp = stamp; message = message }) }
+delta_of (Put dot stamp content) = record { taken = set.insert set.empty dot; subscriptions = map.empty; retained = one_put (topic_in content) (record { stamp = stamp; message = message_in content }) }
 
 -- the deltas of the operations, joined in turn
 abbrev pub joined_deltas : List Operation → State

@@ -3,18 +3,17 @@ ghost use Rattle.std.specs.Prelude.{◌≡◌, IfOk, IfErr, Some};
 ghost use Rattle.std.specs.FinMap as map;
 ghost use Rattle.std.specs.FinSet as set;
 ghost use Rattle.subscription_set.specs.Statuses.{statuses_join};
+ghost use Rattle.replica_store.specs.Contents.{topic_in, message_in};
 ghost use Rattle.replica_store.specs.Retained.{one_put};
 ghost use Rattle.replica_store.specs.StateOf.{removed, uncovered_entry, delta_of as delta};
 
+use crate::content::Content;
 use crate::fault::StoreFault;
-use crate::kept::copy_of;
 use crate::operation::{Operation, Stamp};
 use crate::retained::RetainedMap;
 use crate::store::ReplicaStore;
 use causal_context::{Context, Dot};
 use mqtt_fields::NoMemory;
-use mqtt_message::Message;
-use mqtt_topics::TopicName;
 use std::alloc::Global;
 use subscription_set::{Entry, SubscriptionSet};
 
@@ -32,7 +31,8 @@ fn removed_by(alloc: Global, cover: &Context) -> Result<SubscriptionSet, NoMemor
     ensures { IfOk result (λ s. s ≡ removed cover.now) }
 {
     let seen = cover.copy()?;
-    Ok(SubscriptionSet::new(seen, Vec::new(alloc)).unwrap())
+    let set = SubscriptionSet::new(seen, Vec::new(alloc))?;
+    Ok(set.unwrap())
 }
 
 // The entry at the dot, or nothing where the cover has the dot.
@@ -65,23 +65,18 @@ fn subscribed(
     let entries = uncovered(alloc, dot, entry, cover)?;
     let mut seen = cover.copy()?;
     seen.insert(dot)?;
-    Ok(SubscriptionSet::new(seen, entries).unwrap())
+    let set = SubscriptionSet::new(seen, entries)?;
+    Ok(set.unwrap())
 }
 
 // The map of the one entry.
-fn retained_by(
-    alloc: Global,
-    topic: &TopicName,
-    stamp: Stamp,
-    message: &Option<Message>,
-) -> Result<RetainedMap, NoMemory>
-    ensures { IfOk result (λ r.
-        r ≡ one_put topic.now (record { stamp = stamp; message = message.now })) }
+fn retained_by(alloc: Global, stamp: Stamp, content: &Content) -> Result<RetainedMap, NoMemory>
+    ensures { IfOk result (λ r. r ≡ one_put (topic_in content.now)
+        (record { stamp = stamp; message = message_in content.now })) }
 {
     let mut retained = RetainedMap::new(alloc);
-    let topic = topic.copy(alloc)?;
-    let message = copy_of(alloc, message)?;
-    retained.put(topic, stamp, message)?;
+    let content = content.copy(alloc)?;
+    retained.put(stamp, content)?;
     Ok(retained)
 }
 
@@ -115,11 +110,10 @@ fn make_delta(alloc: Global, operation: &Operation) -> Result<ReplicaStore, NoMe
         Operation::Put {
             dot,
             stamp,
-            topic,
-            message,
+            content,
         } => {
             let taken = one_dot(alloc, *dot)?;
-            let retained = retained_by(alloc, topic, *stamp, message)?;
+            let retained = retained_by(alloc, *stamp, content)?;
             let subscriptions = SubscriptionSet::empty(alloc);
             Ok(ReplicaStore {
                 alloc,

@@ -2,35 +2,69 @@
 ghost use Rattle.std.specs.Prelude.{◌≡◌, IfOk, MatchOption, Some};
 ghost use Rattle.std.specs.Ordering.{is_lt};
 ghost use Rattle.mqtt_message.specs.declared.message.Message.{Message as MessageValue};
+ghost use Rattle.replica_store.specs.Contents.{topic_in, message_in};
 ghost use Rattle.replica_store.specs.Retained.{kept_cmp, HasAlive};
 
+use crate::content::Content;
 use crate::message::{compare_contents, compare_stamps};
 use crate::operation::Stamp;
 use mqtt_fields::NoMemory;
-use mqtt_message::Message;
+use mqtt_message::SharedMessage;
+use mqtt_topics::TopicName;
 use std::alloc::Global;
 use std::cmp::Ordering;
-
-/// The message once more, if there is one.
-pub fn copy_of(alloc: Global, message: &Option<Message>) -> Result<Option<Message>, NoMemory>
-    ensures { IfOk result (λ copy. copy ≡ message.now) }
-{
-    match message {
-        None => Ok(None),
-        Some(message) => Ok(Some(message.copy(alloc)?)),
-    }
-}
 
 /// What is kept of a topic: the message of the greatest stamp, or a tombstone.
 #[derive(Drop)]
 pub struct Kept {
     pub stamp: Stamp,
-    pub message: Option<Message>,
+    pub message: Option<SharedMessage>,
+}
+
+// The message once more, if there is one.
+fn copy_of(message: &Option<SharedMessage>) -> Result<Option<SharedMessage>, NoMemory>
+    ensures { IfOk result (λ copy. copy ≡ message.now) }
+{
+    match message {
+        None => Ok(None),
+        Some(message) => Ok(Some(message.copy()?)),
+    }
+}
+
+/// The topic of a Put, and what it gives it.
+pub fn entry_of(
+    alloc: Global,
+    stamp: Stamp,
+    content: Content,
+) -> Result<(TopicName, Kept), NoMemory>
+    ensures topic { IfOk result (λ entry. entry.0 ≡ topic_in content) }
+    ensures kept { IfOk result (λ entry.
+        entry.1 ≡ record { stamp = stamp; message = message_in content }) }
+{
+    match content {
+        Content::Set(message) => {
+            let topic = message.message().topic.copy(alloc)?;
+            Ok((
+                topic,
+                Kept {
+                    stamp,
+                    message: Some(message),
+                },
+            ))
+        }
+        Content::Cleared(topic) => Ok((
+            topic,
+            Kept {
+                stamp,
+                message: None,
+            },
+        )),
+    }
 }
 
 impl Kept {
     /// Whether the other is greater: by the stamp, and for equal stamps by the content.
-    pub fn is_below(&self, other: &Kept) -> bool
+    pub(crate) fn is_below(&self, other: &Kept) -> bool
         ensures { result ≡ is_lt (kept_cmp self.now other.now) }
     {
         compare_stamps(self.stamp, other.stamp).then(compare_contents(
@@ -40,7 +74,7 @@ impl Kept {
     }
 
     /// The message, if there is one and it is alive.
-    pub fn alive(&self, now: u64) -> Option<&Message>
+    pub(crate) fn alive(&self, now: u64) -> Option<&SharedMessage>
         ensures { MatchOption result
             ((m : MessageValue) → HasAlive (Some self.now) now m → ⊥)
             (λ m. HasAlive (Some self.now) now m.now) }
@@ -48,7 +82,7 @@ impl Kept {
         match &self.message {
             None => None,
             Some(message) => {
-                if message.alive(now) {
+                if message.message().alive(now) {
                     Some(message)
                 } else {
                     None
@@ -57,11 +91,11 @@ impl Kept {
         }
     }
 
-    /// The same once more.
-    pub fn copy(&self, alloc: Global) -> Result<Kept, NoMemory>
+    /// The same once more. Its message is shared.
+    pub(crate) fn copy(&self) -> Result<Kept, NoMemory>
         ensures { IfOk result (λ copy. copy ≡ self.now) }
     {
-        let message = copy_of(alloc, &self.message)?;
+        let message = copy_of(&self.message)?;
         Ok(Kept {
             stamp: self.stamp,
             message,

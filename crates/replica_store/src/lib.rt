@@ -3,21 +3,22 @@
 #![tactic(auto)]
 
 mod answer;
+mod content;
 mod delta;
 mod fault;
 mod kept;
 pub mod laws;
+mod merge;
 mod message;
 mod operation;
 mod retained;
 mod store;
+mod topics;
 
+pub use content::Content;
 pub use delta::delta_of;
 pub use fault::StoreFault;
 pub use kept::Kept;
 pub use operation::{Operation, Stamp};
 pub use retained::RetainedMap;
 pub use store::ReplicaStore;
-
-#[cfg(test)]
-mod tests;

@@ -5,7 +5,7 @@ ghost use Rattle.mqtt_message.specs.Order.{message_cmp};
 ghost use Rattle.replica_store.specs.Retained.{stamp_cmp};
 
 use crate::operation::Stamp;
-use mqtt_message::Message;
+use mqtt_message::SharedMessage;
 use std::cmp::Ordering;
 
 pub fn compare_stamps(a: Stamp, b: Stamp) -> Ordering
@@ -14,13 +14,13 @@ pub fn compare_stamps(a: Stamp, b: Stamp) -> Ordering
     a.count.cmp(&b.count).then(a.node.cmp(&b.node))
 }
 
-pub fn compare_contents(a: &Option<Message>, b: &Option<Message>) -> Ordering
+pub fn compare_contents(a: &Option<SharedMessage>, b: &Option<SharedMessage>) -> Ordering
     ensures { result ≡ option_cmp message_cmp a.now b.now }
 {
     match (a, b) {
         (None, None) => Ordering::Equal,
         (None, Some(_)) => Ordering::Less,
         (Some(_), None) => Ordering::Greater,
-        (Some(a), Some(b)) => a.compare(b),
+        (Some(a), Some(b)) => a.message().compare(b.message()),
     }
 }

@@ -1,11 +1,9 @@
 //! What a node does to the shared state.
 ghost use Rattle.std.specs.Prelude.{◌≡◌, IfOk};
 
-use crate::kept::copy_of;
+use crate::content::Content;
 use causal_context::{Context, Dot};
 use mqtt_fields::NoMemory;
-use mqtt_message::Message;
-use mqtt_topics::TopicName;
 use std::alloc::Global;
 use subscription_set::Entry;
 
@@ -31,12 +29,11 @@ pub enum Operation {
         dot: Dot,
         cover: Context,
     },
-    /// A retained message of a topic; none where the topic is to have none.
+    /// A retained message, or a tombstone.
     Put {
         dot: Dot,
         stamp: Stamp,
-        topic: TopicName,
-        message: Option<Message>,
+        content: Content,
     },
 }
 
@@ -54,7 +51,7 @@ impl Operation {
         }
     }
 
-    /// The same operation once more.
+    /// The same operation once more. A message that it puts is shared.
     pub fn copy(&self, alloc: Global) -> Result<Operation, NoMemory>
         ensures { IfOk result (λ copy. copy ≡ self.now) }
     {
@@ -75,16 +72,13 @@ impl Operation {
             Operation::Put {
                 dot,
                 stamp,
-                topic,
-                message,
+                content,
             } => {
-                let topic = topic.copy(alloc)?;
-                let message = copy_of(alloc, message)?;
+                let content = content.copy(alloc)?;
                 Ok(Operation::Put {
                     dot: *dot,
                     stamp: *stamp,
-                    topic,
-                    message,
+                    content,
                 })
             }
         }

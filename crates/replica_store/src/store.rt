@@ -1,5 +1,5 @@
 //! The shared state of a node.
-ghost use Rattle.std.specs.Prelude.{◌≡◌, ◌≢◌, ◌↔◌, ◌+◌, ◌≤◌, ◌^◌, OnOk, OnErr, IfOk, IfErr, IfSome, IsNone, IsErrOf, ◌⊎◌, true, map as map_list};
+ghost use Rattle.std.specs.Prelude.{◌≡◌, ◌≢◌, ◌↔◌, ◌+◌, ◌≤◌, ◌^◌, OnOk, OnErr, IfOk, IfErr, IfSome, IsNone, IsOk, [], IsErrOf, ◌⊎◌, true, false, Ok, None, map as map_list};
 ghost use Rattle.std.specs.Option.{option_copied};
 ghost use Rattle.causal_context.specs.Lattices.{lattice_from_join};
 ghost use Rattle.subscription_set.specs.Standing.{any_of, any_below};
@@ -11,14 +11,15 @@ ghost use Rattle.replica_store.specs.States.{State, nothing, state_join, StateBe
 ghost use Rattle.std.specs.FinMap as map;
 
 use crate::answer::answers;
+use crate::content::Content;
 use crate::delta::delta_of;
 use crate::fault::StoreFault;
 use crate::operation::{Operation, Stamp};
 use crate::retained::RetainedMap;
 use causal_context::{Context, Dot, Lattice};
 use mqtt_fields::{NoMemory, Text};
-use mqtt_message::Message;
-use mqtt_topics::{Filter, TopicName};
+use mqtt_message::SharedMessage;
+use mqtt_topics::Filter;
 use std::alloc::Global;
 use std::marker::Model;
 use std::mem;
@@ -84,10 +85,12 @@ impl ReplicaStore {
     }
 
     /// The messages that answer a new subscription to the filter, in the order of their topics:
-    /// those of the topics that match and whose message is alive; none for a shared filter.
-    pub fn retained_for(&self, filter: &Filter, now: u64) -> Result<Vec<&Message>, NoMemory>
-        ensures { IfOk result (λ out.
+    /// those of the topics that match and whose message is alive; none for a shared filter. It takes
+    /// memory only where one answers.
+    pub fn retained_for(&self, filter: &Filter, now: u64) -> Result<Vec<&SharedMessage>, NoMemory>
+        ensures answer { IfOk result (λ out.
             IsAnswer filter.now now (map.entries self.now.retained) (map_list (λ r. r.now) out.items)) }
+        ensures nothing { IsAnswer filter.now now (map.entries self.now.retained) [] → IsOk result }
     {
         answers(self.alloc, filter, now, self.retained.entries())
     }
@@ -127,7 +130,7 @@ impl ReplicaStore {
     }
 
     /// A Subscribe of the entry that covers what stands of its client to its filter. The store
-    /// doesn't change.
+    /// doesn't change. At the end of the numbers it takes no memory.
     pub fn make_subscribe(&self, node: u16, entry: Entry) -> Result<Operation, StoreFault>
         ensures ok { IfOk result (λ o. o ≡ subscribe_of node entry self.now) }
         ensures at_end { IsErrOf result NumbersAtEnd ↔ NumberAtEnd node self.now }
@@ -138,12 +141,12 @@ impl ReplicaStore {
         };
         let cover = self
             .subscriptions
-            .dots_of(&entry.client, Some(&entry.filter))?;
+            .dots_of(entry.client(), Some(entry.filter()))?;
         Ok(Operation::Subscribe { dot, entry, cover })
     }
 
     /// A Remove that covers what stands of the client and, where one is given, to the filter;
-    /// none where nothing stands. The store doesn't change.
+    /// none where nothing stands, which takes no memory. The store doesn't change.
     pub fn make_remove(
         &self,
         node: u16,
@@ -154,6 +157,8 @@ impl ReplicaStore {
             o ≡ remove_of node client.now (option_copied filter.entry) self.now) }
         ensures at_end { IsErrOf result NumbersAtEnd ↔ (NumberAtEnd node self.now
             × (any_of client.now (option_copied filter.entry) self.now.subscriptions ≡ true)) }
+        ensures nothing { any_of client.now (option_copied filter.entry) self.now.subscriptions ≡ false
+            → result ≡ Ok None }
         ensures fault { IfErr result (λ e. (e ≡ NumbersAtEnd) ⊎ (e ≡ StoreFault.NoMemory)) }
     {
         if !self.subscriptions.stands(client, filter) {
@@ -167,7 +172,7 @@ impl ReplicaStore {
     }
 
     /// A Remove that covers what stands of the client and was made under a version of the home
-    /// table below this one; none where nothing does. The store doesn't change.
+    /// table below this one; none where nothing does, which takes no memory. The store doesn't change.
     pub fn make_remove_below(
         &self,
         node: u16,
@@ -177,6 +182,8 @@ impl ReplicaStore {
         ensures ok { IfOk result (λ o. o ≡ remove_below_of node client.now version self.now) }
         ensures at_end { IsErrOf result NumbersAtEnd ↔ (NumberAtEnd node self.now
             × (any_below client.now version self.now.subscriptions ≡ true)) }
+        ensures nothing { any_below client.now version self.now.subscriptions ≡ false
+            → result ≡ Ok None }
         ensures fault { IfErr result (λ e. (e ≡ NumbersAtEnd) ⊎ (e ≡ StoreFault.NoMemory)) }
     {
         if !self.subscriptions.stands_below(client, version) {
@@ -189,15 +196,9 @@ impl ReplicaStore {
         Ok(Some(Operation::Remove { dot, cover }))
     }
 
-    /// A Put of the message into the topic, or of none, with the next count. The store doesn't
-    /// change. It takes no memory.
-    pub fn make_put(
-        &self,
-        node: u16,
-        topic: TopicName,
-        message: Option<Message>,
-    ) -> Result<Operation, StoreFault>
-        ensures ok { IfOk result (λ o. o ≡ put_of node topic message self.now) }
+    /// A Put of the content with the next count. The store doesn't change. It takes no memory.
+    pub fn make_put(&self, node: u16, content: Content) -> Result<Operation, StoreFault>
+        ensures ok { IfOk result (λ o. o ≡ put_of node content self.now) }
         ensures at_end { IsErrOf result NumbersAtEnd ↔ (NumberAtEnd node self.now ⊎ CountAtEnd self.now) }
         ensures fault { IfErr result (λ e. e ≡ NumbersAtEnd) }
     {
@@ -215,8 +216,7 @@ impl ReplicaStore {
         Ok(Operation::Put {
             dot,
             stamp,
-            topic,
-            message,
+            content,
         })
     }
 }

@@ -1,8 +1,16 @@
-pub mod Going
+pub mod Counting
+pub mod Indexing
+pub mod Joins
+pub mod Latest
 pub mod Lists
+pub mod Merges
 pub mod Order
 pub mod Pairs
+pub mod Picking
 pub mod Places
 pub mod Plans
 pub mod Rising
+pub mod Spans
+pub mod Spreading
 pub mod Standings
+pub mod Tables

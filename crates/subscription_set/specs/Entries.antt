@@ -1,5 +1,5 @@
 -- Subscriptions: when two are the same, whose they are, and which of two is the later.
-use Rattle.std.specs.Prelude.{◌≡◌, ℕ, List, Bool, true, ◌&&◌, ◌==◌, nat_eq, nat_lt, Option, Some, None, refl}
+use Rattle.std.specs.Prelude.{◌≡◌, ℕ, List, Bool, true, ◌&&◌, ◌==◌, nat_eq, nat_le, nat_lt, Option, Some, None, refl}
 use Rattle.std.proofs.Common.{subst}
 use Rattle.std.specs.Bool.{Decides}
 use Rattle.std.specs.Coded.{Coded, code_by, coded×, coded_ℕ, coded_list}
@@ -8,7 +8,23 @@ use Rattle.std.specs.Cmp.Lexicographic.{pointwise, bytes_decides}
 use Rattle.std.specs.declared.cmp.Ordering.{Ordering}
 use Rattle.std.specs.Ordering.{nat_cmp, then_cmp, on}
 use Rattle.causal_context.specs.Dots.{Dot}
-use Rattle.subscription_set.specs.declared.entry.Entry.{Entry}
+use Rattle.mqtt_fields.specs.Options.{qos_of, retain_handling_of}
+
+-- a subscription of a client to a filter (MQTT 5.0, 3.8), made under a version of the home table; identifier 0: none
+pub record Entry : Type 0 where
+  pub client : List ℕ
+  pub filter : List ℕ
+  pub options : ℕ
+  pub identifier : ℕ
+  pub version : ℕ
+
+-- options that a SUBSCRIBE can have (3.8.3.1): QoS 0 to 2, Retain Handling 0 to 2, and no reserved bit
+abbrev pub are_options : ℕ → Bool
+are_options options = nat_lt options 64 && (nat_lt (qos_of options) 3 && nat_lt (retain_handling_of options) 3)
+
+-- options and an identifier that a SUBSCRIBE can have: at most 268,435,455 (3.8.2.1.2), or 0 where it has none
+abbrev pub can_be_asked : ℕ → ℕ → Bool
+can_be_asked options identifier = are_options options && nat_le identifier 268435455
 
 -- the same text
 abbrev pub same_text : List ℕ → List ℕ → Bool

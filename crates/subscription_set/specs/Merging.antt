@@ -1,18 +1,14 @@
 -- How two sets merge.
-use Rattle.std.specs.Prelude.{◌≡◌, ℕ, take, Bool, true, false, cond, not, ◌||◌, ◌&&◌, if◌then◌else◌, is_some, List, ◌++◌, Option, Some, None, refl}
+use Rattle.std.specs.Prelude.{◌≡◌, Bool, true, false, cond, ◌||◌, if◌then◌else◌, is_some, Option, Some, None, refl}
 use Rattle.std.proofs.Common.{ap, sym, ◌∙◌}
-use Rattle.std.specs.List.{list_any}
-use Rattle.std.specs.Ordering.{eq_by_cmp}
 use Rattle.std.specs.FinSet as set
 use Rattle.std.specs.FinMap as map
 use Rattle.causal_context.specs.Dots.{Dots, Dot, dot_cmp, dot_cmp_total, dot_cmp_antisym}
-use Rattle.causal_context.specs.declared.ranges.Range.{Range}
-use Rattle.causal_context.specs.Ranges.{covers, covered}
 use Rattle.causal_context.specs.MapLattice.{option_join, get-merge}
 use Rattle.subscription_set.specs.declared.entry.Entry.{Entry}
 use Rattle.subscription_set.specs.Entries.{entry_eq}
 use Rattle.subscription_set.specs.Statuses.{status_join, statuses_join}
-use Rattle.subscription_set.specs.Sorted.{Rises, has_key, without_keys}
+use Rattle.subscription_set.specs.Sorted.{Rises}
 use Rattle.subscription_set.specs.Standing.{Entries, find_entry, AreSeen, statuses, get-statuses}
 
 -- the entries are in order, and their dots were seen
@@ -36,41 +32,6 @@ abbrev pub same_entry : Option Entry → Option Entry → Bool
 same_entry (Some e) (Some f) = entry_eq e f
 same_entry (Some e) None = false
 same_entry None y = false
-
--- the other has seen the dot, and has not the same entry there
-abbrev pub leaves_at : Entries → Dots → Entries → Dot → Bool
-leaves_at es k fs q = set.contains k q && not (same_entry (find_entry q es) (find_entry q fs))
-
--- the dots whose entries a merge removes
-abbrev pub AreGone : Entries → Dots → Entries → List Dot → Type 0
-AreGone es k fs out = (q : Dot) → list_any (eq_by_cmp dot_cmp q) out ≡ (has_key dot_cmp q es && leaves_at es k fs q)
-
--- the other's entries whose dots were not seen here
-abbrev pub AreNew : Dots → Entries → Entries → Type 0
-AreNew c fs out = (q : Dot) → find_entry q out ≡ cond (set.contains c q) None (find_entry q fs)
-
--- the new ones, and those of the old that stay
-abbrev pub planned : Entries → List Dot → Entries → Entries
-planned es gone incoming = incoming ++ without_keys dot_cmp gone es
-
--- no entry before the place is of the range
-abbrev pub NoneBefore : Range → Entries → ℕ → Type 0
-NoneBefore r es i = (q : Dot) → covers q r ≡ true → has_key dot_cmp q (take i es) ≡ false
-
--- the old dots, and dots of entries that go: of the range, all whose entries the part has
-pub record IsGoneIn (r : Range) (part es : Entries) (k : Dots) (fs : Entries) (old out : List Dot) : Type 0 where
-  pub keeps : (q : Dot) → list_any (eq_by_cmp dot_cmp q) old ≡ true → list_any (eq_by_cmp dot_cmp q) out ≡ true
-  pub sound : (q : Dot) → list_any (eq_by_cmp dot_cmp q) out ≡ true → (list_any (eq_by_cmp dot_cmp q) old || (has_key dot_cmp q es && leaves_at es k fs q)) ≡ true
-  pub has : (q : Dot) → covers q r ≡ true → has_key dot_cmp q part ≡ true → leaves_at es k fs q ≡ true → list_any (eq_by_cmp dot_cmp q) out ≡ true
-
--- dots of entries that go, and all of these that are in the ranges
-pub record AreGoneIn (rs : List Range) (es : Entries) (k : Dots) (fs : Entries) (out : List Dot) : Type 0 where
-  pub sound : (q : Dot) → list_any (eq_by_cmp dot_cmp q) out ≡ true → (has_key dot_cmp q es && leaves_at es k fs q) ≡ true
-  pub has : (q : Dot) → covered q rs ≡ true → has_key dot_cmp q es ≡ true → leaves_at es k fs q ≡ true → list_any (eq_by_cmp dot_cmp q) out ≡ true
-
--- the new ones, as far as the first entries go
-abbrev pub NewUpTo : Entries → Dots → Entries → Entries → Type 0
-NewUpTo part c fs out = (q : Dot) → find_entry q out ≡ cond (has_key dot_cmp q part) (cond (set.contains c q) None (find_entry q fs)) None
 
 -- where the dot of one of the others' entries was seen, the same entry is present
 abbrev pub HaveSame : Dots → Entries → Entries → Type 0

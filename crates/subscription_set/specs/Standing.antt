@@ -48,10 +48,6 @@ standing m = present (map.entries m)
 unfoldable pub dots_in : (Entry → Bool) → Entries → Dots
 dots_in p es = set.from_list (map_list (λ x. x.0) (filter (λ x. p x.1) es))
 
--- a set has the dots of the first entries, as far as they pass the test
-abbrev pub HasDotsOf : (Entry → Bool) → Entries → Dots → Type 0
-HasDotsOf p es dots = (q : Dot) → set.contains dots q ≡ list_any (λ x. p x.1 && eq_by_cmp dot_cmp q x.0) es
-
 -- what a cover takes: the dots of what stands of the client and, where one is given, to the filter
 abbrev pub dots_of : List ℕ → Option (List ℕ) → Statuses → Dots
 dots_of client filter m = dots_in (is_of client filter) (standing m)

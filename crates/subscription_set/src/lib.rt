@@ -3,18 +3,18 @@
 //! Types", sections 7 and 8.)
 #![tactic(auto)]
 
+mod by_client;
+mod dots;
 mod entry;
-mod key;
+mod entry_map;
+mod groups;
 mod live;
 mod plan;
 mod ready;
 mod set;
-pub mod sorted;
-
-pub use entry::Entry;
-pub use key::Key;
-pub use ready::Ready;
-pub use set::SubscriptionSet;
-
 #[cfg(test)]
 mod tests;
+
+pub use entry::Entry;
+pub use ready::Ready;
+pub use set::SubscriptionSet;

@@ -1,152 +1,197 @@
-//! Which entries stand of a client, and which of them are live.
-ghost use Rattle.std.specs.Prelude.{◌≡◌, ◌&&◌, IfOk, length, map as map_list};
+//! What stands of a client, and what is live.
+ghost use Rattle.std.specs.Prelude.{◌≡◌, ◌&&◌, IfOk, OnErr, true, map as map_list};
 ghost use Rattle.std.specs.List.{filter, list_any};
+ghost use Rattle.std.specs.Map.Iter.{deref_pair};
 ghost use Rattle.std.specs.Option.{option_copied};
-ghost use Rattle.std.specs.Ordering.{is_lt};
-ghost use Rattle.subscription_set.specs.Entries.{is_of, is_of_below, same_text, same_subscription, recency_cmp};
+ghost use Rattle.std.specs.FinMap as map;
+ghost use Rattle.std.specs.FinSet as set;
+ghost use Rattle.causal_context.specs.Dots.{Dot as DotValue};
+ghost use Rattle.subscription_set.specs.Entries.{is_of, is_of_below, same_text};
 ghost use Rattle.subscription_set.specs.Standing.{is_latest, latest, dots_in};
+ghost use Rattle.subscription_set.specs.Indexing.{later_at, below_at};
 
+use crate::dots::DotSet;
 use crate::entry::Entry;
+use crate::entry_map::EntryMap;
 use causal_context::{Context, Dot};
 use mqtt_fields::{NoMemory, Text};
 use mqtt_topics::Filter;
 use std::alloc::Global;
 use std::cmp::Ordering;
 
-// Whether the entry is of the client and, where one is given, to the filter.
-fn stands_of(entry: &Entry, client: &Text, filter: Option<&Filter>) -> bool
-    ensures { result ≡ is_of client.now (option_copied filter.entry) entry.now }
+// Whether the entry at the other dot is later than this one, by the version, the number and the
+// node.
+fn is_later(entries: &EntryMap, dot: Dot, entry: &Entry, other_dot: Dot) -> bool
+    ensures { result ≡ later_at (dot, entry.now) other_dot (map.get entries.now other_dot) }
 {
-    match filter {
-        None => entry.has_client(client),
-        Some(filter) => entry.has_client(client) && entry.has_filter(filter),
+    match entries.get(other_dot) {
+        None => false,
+        Some(other) => entry.version().cmp(&other.version()).then(
+            dot.number()
+                .cmp(&other_dot.number())
+                .then(dot.node().cmp(&other_dot.node())),
+        ) == Ordering::Less,
     }
 }
 
-// Whether the entry is of the client, and made under a version below this one.
-fn stands_below(entry: &Entry, client: &Text, version: u64) -> bool
-    ensures { result ≡ is_of_below client.now version entry.now }
+// Whether the entry at one of the dots is later than this one.
+fn any_later(entries: &EntryMap, dots: &DotSet, dot: Dot, entry: &Entry) -> bool
+    ensures { result ≡ list_any
+        (λ d. later_at (dot, entry.now) d (map.get entries.now d)) (set.items dots.now) }
 {
-    entry.has_client(client) && u64::from(entry.version) < version
+    for other in dots.iter() {
+        if is_later(entries, dot, entry, *other) {
+            return true;
+        }
+    }
+    false
+}
+
+// Whether no other entry of the same client and filter is later.
+fn is_the_latest(entries: &EntryMap, dot: Dot, entry: &Entry) -> bool
+    ensures { result ≡ is_latest (map.entries entries.now) (dot, entry.now) }
+{
+    match entries.standing(entry.client(), Some(entry.filter())) {
+        None => true,
+        Some(dots) => !any_later(entries, dots, dot, entry),
+    }
+}
+
+// Whether the entry at the dot was made under a version below this one.
+fn is_below_at(entries: &EntryMap, dot: Dot, version: u64) -> bool
+    ensures { result ≡ below_at version (map.get entries.now dot) }
+{
+    match entries.get(dot) {
+        None => false,
+        Some(entry) => u64::from(entry.version()) < version,
+    }
+}
+
+// Whether the entry at one of the dots was made under a version below this one.
+fn any_below(entries: &EntryMap, dots: &DotSet, version: u64) -> bool
+    ensures { result ≡ list_any
+        (λ d. below_at version (map.get entries.now d)) (set.items dots.now) }
+{
+    for dot in dots.iter() {
+        if is_below_at(entries, *dot, version) {
+            return true;
+        }
+    }
+    false
+}
+
+// Those of the dots whose entries were made under a version below this one.
+fn those_below(
+    alloc: Global,
+    entries: &EntryMap,
+    dots: &DotSet,
+    version: u64,
+) -> Result<Context, NoMemory>
+    ensures dots { IfOk result (λ out. (q : DotValue) → set.contains out q
+        ≡ (set.contains dots.now q && below_at version (map.get entries.now q))) }
+    ensures memory { OnErr result (list_any
+        (λ d. below_at version (map.get entries.now d)) (set.items dots.now) ≡ true) }
+{
+    let mut out = Context::new(alloc);
+    for dot in dots.iter() {
+        if is_below_at(entries, *dot, version) {
+            out.insert(*dot)?;
+        }
+    }
+    Ok(out)
+}
+
+/// Whether there is an entry of the client and, where one is given, to the filter.
+pub fn any_among(entries: &EntryMap, client: &Text, filter: Option<&Filter>) -> bool
+    ensures { result ≡ list_any (λ x. is_of client.now (option_copied filter.entry) x.1)
+        (map.entries entries.now) }
+{
+    entries.standing(client, filter).is_some()
+}
+
+/// Whether there is an entry of the client that was made under a version below this one.
+pub fn any_among_below(entries: &EntryMap, client: &Text, version: u64) -> bool
+    ensures { result ≡ list_any (λ x. is_of_below client.now version x.1)
+        (map.entries entries.now) }
+{
+    match entries.standing(client, None) {
+        None => false,
+        Some(dots) => any_below(entries, dots, version),
+    }
 }
 
 /// The dots of the entries of the client and, where one is given, to the filter.
 pub fn dots_among(
     alloc: Global,
-    entries: &[(Dot, Entry)],
+    entries: &EntryMap,
     client: &Text,
     filter: Option<&Filter>,
 ) -> Result<Context, NoMemory>
-    ensures { IfOk result (λ dots.
-        dots ≡ dots_in (is_of client.now (option_copied filter.entry)) entries.now) }
+    ensures dots { IfOk result (λ dots.
+        dots ≡ dots_in (is_of client.now (option_copied filter.entry)) (map.entries entries.now)) }
+    ensures memory { OnErr result (list_any (λ x. is_of client.now (option_copied filter.entry) x.1)
+        (map.entries entries.now) ≡ true) }
 {
-    let mut dots = Context::new(alloc);
-    for (dot, entry) in entries {
-        if stands_of(entry, client, filter) {
-            dots.insert(*dot)?;
-        }
+    match entries.standing(client, filter) {
+        None => Ok(Context::new(alloc)),
+        Some(dots) => dots.context(alloc),
     }
-    Ok(dots)
 }
 
 /// The dots of the client's entries that were made under a version below this one.
 pub fn dots_among_below(
     alloc: Global,
-    entries: &[(Dot, Entry)],
+    entries: &EntryMap,
     client: &Text,
     version: u64,
 ) -> Result<Context, NoMemory>
-    ensures { IfOk result (λ dots. dots ≡ dots_in (is_of_below client.now version) entries.now) }
+    ensures dots { IfOk result (λ dots.
+        dots ≡ dots_in (is_of_below client.now version) (map.entries entries.now)) }
+    ensures memory { OnErr result (list_any (λ x. is_of_below client.now version x.1)
+        (map.entries entries.now) ≡ true) }
 {
-    let mut dots = Context::new(alloc);
-    for (dot, entry) in entries {
-        if stands_below(entry, client, version) {
-            dots.insert(*dot)?;
-        }
+    match entries.standing(client, None) {
+        None => Ok(Context::new(alloc)),
+        Some(dots) => those_below(alloc, entries, dots, version),
     }
-    Ok(dots)
-}
-
-/// Whether there is an entry of the client and, where one is given, to the filter.
-pub fn any_among(entries: &[(Dot, Entry)], client: &Text, filter: Option<&Filter>) -> bool
-    ensures { result
-        ≡ list_any (λ x. is_of client.now (option_copied filter.entry) x.1) entries.now }
-{
-    entries
-        .iter()
-        .any(|(_, entry)| stands_of(entry, client, filter))
-}
-
-/// Whether there is an entry of the client that was made under a version below this one.
-pub fn any_among_below(entries: &[(Dot, Entry)], client: &Text, version: u64) -> bool
-    ensures { result ≡ list_any (λ x. is_of_below client.now version x.1) entries.now }
-{
-    entries
-        .iter()
-        .any(|(_, entry)| stands_below(entry, client, version))
-}
-
-// Whether the second is of the same client and filter, and the later.
-fn is_later(dot: Dot, entry: &Entry, other_dot: Dot, other: &Entry) -> bool
-    ensures { result ≡ (same_subscription entry.now other.now
-        && is_lt (recency_cmp (dot, entry.now) (other_dot, other.now))) }
-{
-    entry.has_client(&other.client)
-        && entry.has_filter(&other.filter)
-        && entry.version.cmp(&other.version).then(
-            dot.number()
-                .cmp(&other_dot.number())
-                .then(dot.node().cmp(&other_dot.node())),
-        ) == Ordering::Less
-}
-
-// Whether no other entry of the same client and filter is later.
-fn is_the_latest(entries: &[(Dot, Entry)], dot: Dot, entry: &Entry) -> bool
-    ensures { result ≡ is_latest entries.now (dot, entry.now) }
-{
-    entries.iter().all(|(other_dot, other)| !is_later(dot, entry, *other_dot, other))
 }
 
 /// The latest entries of each client and filter.
-pub fn latest_among(alloc: Global, entries: &[(Dot, Entry)]) -> Result<Vec<&(Dot, Entry)>, NoMemory>
-    ensures { IfOk result (λ out. map_list (λ r. r.now) out.items ≡ latest entries.now) }
+pub fn latest_among(alloc: Global, entries: &EntryMap) -> Result<Vec<(&Dot, &Entry)>, NoMemory>
+    ensures { IfOk result (λ out.
+        map_list deref_pair out.items ≡ latest (map.entries entries.now)) }
 {
     let mut out = Vec::new(alloc);
-    for pair in entries {
-        if is_the_latest(entries, pair.0, &pair.1) {
-            out.push(pair)?;
+    for (dot, entry) in entries.iter() {
+        if is_the_latest(entries, *dot, entry) {
+            out.push((dot, entry))?;
         }
     }
     Ok(out)
+}
+
+// Whether the entry is the client's, and the latest of its filter.
+fn is_live_of(entries: &EntryMap, dot: Dot, entry: &Entry, client: &Text) -> bool
+    ensures { result ≡ (same_text client.now entry.now.client
+        && is_latest (map.entries entries.now) (dot, entry.now)) }
+{
+    entry.has_client(client) && is_the_latest(entries, dot, entry)
 }
 
 /// The latest entries of the client, one of each filter.
 pub fn latest_of<'a>(
     alloc: Global,
-    entries: &'a [(Dot, Entry)],
+    entries: &'a EntryMap,
     client: &Text,
-) -> Result<Vec<&'a (Dot, Entry)>, NoMemory>
-    ensures { IfOk result (λ out. map_list (λ r. r.now) out.items
-        ≡ filter (λ x. same_text client.now x.1.client) (latest entries.now)) }
+) -> Result<Vec<(&'a Dot, &'a Entry)>, NoMemory>
+    ensures { IfOk result (λ out. map_list deref_pair out.items
+        ≡ filter (λ x. same_text client.now x.1.client) (latest (map.entries entries.now))) }
 {
     let mut out = Vec::new(alloc);
-    for pair in entries {
-        if pair.1.has_client(client) && is_the_latest(entries, pair.0, &pair.1) {
-            out.push(pair)?;
+    for (dot, entry) in entries.iter() {
+        if is_live_of(entries, *dot, entry, client) {
+            out.push((dot, entry))?;
         }
     }
     Ok(out)
-}
-
-/// How many entries are the latest of their client and filter.
-pub fn latest_count(entries: &[(Dot, Entry)]) -> usize
-    ensures { result ≡ length (latest entries.now) }
-{
-    let mut count = 0;
-    for (dot, entry) in entries {
-        if is_the_latest(entries, *dot, entry) {
-            count += 1;
-        }
-    }
-    count
 }

@@ -1,152 +1,211 @@
 //! What a merge changes, found before it changes anything.
-ghost use Rattle.std.specs.Prelude.{◌≡◌, ◌≤◌, ◌+◌, ◌&&◌, ◌↔◌, not, Some, IfOk, IsTrue, length, vec_len, vec_capacity};
+ghost use Rattle.std.specs.Prelude.{◌≡◌, ◌&&◌, ◌||◌, not, is_some, IfOk, OnOk, OnErr, Some, None, cond, true, false};
+ghost use Rattle.std.specs.List.{list_any};
+ghost use Rattle.std.specs.Ordering.{eq_by_cmp};
+ghost use Rattle.std.specs.FinMap as map;
 ghost use Rattle.std.specs.FinSet as set;
-ghost use Rattle.causal_context.specs.Dots.{dot_cmp};
-ghost use Rattle.causal_context.specs.RangeSteps.{EndsBefore};
-ghost use Rattle.subscription_set.specs.Sorted.{Rises};
-ghost use Rattle.subscription_set.specs.Standing.{find_entry};
-ghost use Rattle.subscription_set.specs.Merging.{AreGone, AreNew, IsGoneIn, NoneBefore, same_entry};
+ghost use Rattle.causal_context.specs.Dots.{Dot as DotValue, dot_cmp};
+ghost use Rattle.causal_context.specs.Ranges.{IsFine};
+ghost use Rattle.subscription_set.specs.Joining.{leaves_with, AreUnseen, AreLeaving, leaving_in, IsBrought, IsCleared};
+ghost use Rattle.subscription_set.specs.Merging.{same_entry};
+ghost use Rattle.subscription_set.specs.Standing.{AreSeen};
 
 use crate::entry::Entry;
-use crate::sorted::{place, value_of};
+use crate::entry_map::EntryMap;
 use causal_context::{Context, Dot, Range};
 use mqtt_fields::NoMemory;
 use std::alloc::Global;
+use std::collections::btree_map;
+
+/// Whether there is this entry at the dot.
+pub fn is_at(entries: &EntryMap, dot: Dot, theirs: &Entry) -> bool
+    ensures { result ≡ same_entry (map.get entries.now dot) (Some theirs.now) }
+{
+    match entries.get(dot) {
+        None => false,
+        Some(own) => own.same(theirs),
+    }
+}
 
 // Whether the other has seen the dot and has not the same entry there.
-fn leaves(entry: &Entry, other_seen: &Context, other_entries: &[(Dot, Entry)], dot: Dot) -> bool
-    requires { Rises dot_cmp other_entries.now }
-    ensures { result ≡ (set.contains other_seen.now dot
-        && not (same_entry (Some entry.now) (find_entry dot other_entries.now))) }
+fn leaves(dot: Dot, entry: &Entry, other_seen: &Context, others: &EntryMap) -> bool
+    ensures { result ≡ leaves_with other_seen.now others.now (dot, entry.now) }
 {
     if !other_seen.contains(dot) {
         return false;
     }
-    match value_of(other_entries, &dot) {
+    match others.get(dot) {
         None => true,
         Some(theirs) => !entry.same(theirs),
     }
 }
 
-// Whether the dot is after those of the range.
-fn is_past(dot: Dot, range: Range) -> bool
-    ensures { IsTrue result ↔ EndsBefore dot range }
-{
-    range.node < dot.node() || range.node == dot.node() && range.last < dot.number()
-}
-
-// The place of the first entry that may be of the range.
-fn start_of(entries: &[(Dot, Entry)], range: Range) -> usize
-    requires { Rises dot_cmp entries.now }
-    ensures bound { result ≤ length entries.now }
-    ensures before { NoneBefore range entries.now result }
-{
-    match Dot::new(range.node, range.first) {
-        None => 0,
-        Some(first) => place(entries, &first),
-    }
-}
-
-// Adds the dots of the range whose entries go.
-fn add_gone(
+// Adds the dots of those of the entries that go.
+fn add_leaving(
     out: &mut Vec<Dot>,
-    range: Range,
-    entries: &[(Dot, Entry)],
+    found: btree_map::Range<'_, Dot, Entry>,
     other_seen: &Context,
-    other_entries: &[(Dot, Entry)],
+    others: &EntryMap,
 ) -> Result<(), NoMemory>
-    requires entries { Rises dot_cmp entries.now }
-    requires others { Rises dot_cmp other_entries.now }
-    ensures { IfOk result (λ _. IsGoneIn range entries.now entries.now
-        other_seen.now other_entries.now out.old.items out.new.items) }
+    ensures { OnOk result ((q : DotValue) → list_any (eq_by_cmp dot_cmp q) out.new.items
+        ≡ (list_any (eq_by_cmp dot_cmp q) out.old.items
+        || list_any (leaving_in other_seen.now others.now q) found.entry)) }
 {
-    let from = start_of(entries, range);
-    for at in from..entries.len() {
-        let (dot, entry) = &entries[at];
-        if is_past(*dot, range) {
-            return Ok(());
-        }
-        if leaves(entry, other_seen, other_entries, *dot) {
+    for (dot, entry) in found {
+        if leaves(*dot, entry, other_seen, others) {
             out.push(*dot)?;
         }
     }
     Ok(())
 }
 
-// The dots whose entries go, found by the ranges that the other has seen.
-fn gone(
+/// Whether an entry goes with what the other has seen.
+pub fn any_leaving(entries: &EntryMap, other_seen: &Context, others: &EntryMap) -> bool
+    ensures { result ≡ list_any (leaves_with other_seen.now others.now) (map.entries entries.now) }
+{
+    for (dot, entry) in entries.iter() {
+        if leaves(*dot, entry, other_seen, others) {
+            return true;
+        }
+    }
+    false
+}
+
+/// The dots whose entries go, found by the ranges that the other has seen.
+pub fn leaving(
     alloc: Global,
-    entries: &[(Dot, Entry)],
+    entries: &EntryMap,
     other_seen: &Context,
-    other_entries: &[(Dot, Entry)],
+    others: &EntryMap,
 ) -> Result<Vec<Dot>, NoMemory>
-    requires entries { Rises dot_cmp entries.now }
-    requires others { Rises dot_cmp other_entries.now }
-    ensures { IfOk result (λ out.
-        AreGone entries.now other_seen.now other_entries.now out.items) }
+    ensures { IfOk result (λ out. AreLeaving entries.now other_seen.now others.now out.items) }
 {
     let mut out = Vec::new(alloc);
     for range in other_seen.ranges() {
-        add_gone(&mut out, *range, entries, other_seen, other_entries)?;
+        add_leaving(&mut out, entries.within(*range), other_seen, others)?;
     }
     Ok(out)
 }
 
-// Copies of the entries that are new here.
-fn incoming(
-    alloc: Global,
-    seen: &Context,
-    other_entries: &[(Dot, Entry)],
-) -> Result<Vec<(Dot, Entry)>, NoMemory>
-    requires { Rises dot_cmp other_entries.now }
-    ensures { IfOk result (λ out. AreNew seen.now other_entries.now out.items) }
+/// The dots of the other's entries that are new here.
+pub fn unseen(alloc: Global, seen: &Context, others: &EntryMap) -> Result<Vec<Dot>, NoMemory>
+    ensures { IfOk result (λ out. AreUnseen seen.now others.now out.items) }
 {
     let mut out = Vec::new(alloc);
-    for (dot, entry) in other_entries {
+    for (dot, _theirs) in others.iter() {
         if !seen.contains(*dot) {
-            let copy = entry.copy(alloc)?;
-            out.push((*dot, copy))?;
+            out.push(*dot)?;
         }
     }
     Ok(out)
 }
 
-/// What a merge changes.
+/// A merge whose new entries are brought already.
 #[derive(Drop)]
 pub struct Plan {
-    /// The dots that are seen afterwards.
+    /// The dots that are seen after it.
     pub next: Context,
+    /// The dots of the entries that it has brought.
+    pub brought: Vec<Dot>,
     /// The dots whose entries go.
     pub gone: Vec<Dot>,
-    /// The entries that come.
-    pub incoming: Vec<(Dot, Entry)>,
 }
 
-// What a merge of these changes, with room made for it.
+/// Brings the other's entries whose dots are new here. Where memory runs out the entries stay as
+/// they were.
 pub fn make_plan(
+    alloc: Global,
     seen: &Context,
-    entries: &mut Vec<(Dot, Entry)>,
+    entries: &mut EntryMap,
     other_seen: &Context,
-    other_entries: &[(Dot, Entry)],
+    others: &EntryMap,
 ) -> Result<Plan, NoMemory>
-    requires entries { Rises dot_cmp entries.old.items }
-    requires others { Rises dot_cmp other_entries.now }
-    ensures items { entries.new.items ≡ entries.old.items }
-    ensures next { IfOk result (λ p. p.next ≡ set.union seen.now other_seen.now) }
-    ensures gone { IfOk result (λ p.
-        AreGone entries.old.items other_seen.now other_entries.now p.gone.items) }
-    ensures incoming { IfOk result (λ p. AreNew seen.now other_entries.now p.incoming.items) }
-    ensures room { IfOk result (λ p.
-        vec_len entries.new + vec_len p.incoming ≤ vec_capacity entries.new) }
+    requires { AreSeen seen.now (map.entries entries.old) }
+    ensures next { IfOk result (λ plan. plan.next ≡ set.union seen.now other_seen.now) }
+    ensures fresh { IfOk result (λ plan. AreUnseen seen.now others.now plan.brought.items) }
+    ensures brought { IfOk result (λ plan.
+        IsBrought entries.old others.now plan.brought.items entries.new) }
+    ensures gone { IfOk result (λ plan.
+        AreLeaving entries.old other_seen.now others.now plan.gone.items) }
+    ensures err { OnErr result (entries.new ≡ entries.old) }
 {
-    let alloc = *entries.allocator();
     let next = seen.joined(other_seen)?;
-    let gone = gone(alloc, entries, other_seen, other_entries)?;
-    let incoming = incoming(alloc, seen, other_entries)?;
-    entries.reserve(incoming.len())?;
+    let gone = leaving(alloc, entries, other_seen, others)?;
+    let brought = unseen(alloc, seen, others)?;
+    bring(alloc, entries, others, &brought)?;
     Ok(Plan {
         next,
+        brought,
         gone,
-        incoming,
     })
+}
+
+// Copies the other's entry at the dot, where there is none here.
+fn bring_one(
+    alloc: Global,
+    entries: &mut EntryMap,
+    others: &EntryMap,
+    dot: Dot,
+) -> Result<(), NoMemory>
+    ensures ok { OnOk result ((q : DotValue) → map.get entries.new q
+        ≡ cond (is_some (map.get entries.old q)) (map.get entries.old q)
+        (cond (eq_by_cmp dot_cmp q dot) (map.get others.now q) None)) }
+    ensures err { OnErr result (entries.new ≡ entries.old) }
+{
+    if entries.get(dot).is_some() {
+        return Ok(());
+    }
+    match others.get(dot) {
+        None => Ok(()),
+        Some(entry) => {
+            let copy = entry.copy(alloc)?;
+            entries.add(dot, copy)
+        }
+    }
+}
+
+// Copies the other's entries at the dots.
+fn bring_each(
+    alloc: Global,
+    entries: &mut EntryMap,
+    others: &EntryMap,
+    dots: &[Dot],
+) -> Result<(), NoMemory>
+    ensures ok { OnOk result (IsBrought entries.old others.now dots.now entries.new) }
+    ensures others { (q : DotValue) → list_any (eq_by_cmp dot_cmp q) dots.now ≡ false
+        → map.get entries.new q ≡ map.get entries.old q }
+{
+    for dot in dots {
+        bring_one(alloc, entries, others, *dot)?;
+    }
+    Ok(())
+}
+
+/// Takes the entries at the dots out.
+pub fn clear(entries: &mut EntryMap, dots: &[Dot])
+    ensures { IsCleared entries.old dots.now entries.new }
+{
+    for dot in dots {
+        entries.remove(*dot);
+    }
+}
+
+/// Copies the other's entries at the dots, where none stand here. Where memory runs out the
+/// entries stay as they were.
+pub fn bring(
+    alloc: Global,
+    entries: &mut EntryMap,
+    others: &EntryMap,
+    dots: &[Dot],
+) -> Result<(), NoMemory>
+    requires { (q : DotValue) → list_any (eq_by_cmp dot_cmp q) dots.now ≡ true
+        → map.get entries.old q ≡ None }
+    ensures ok { OnOk result (IsBrought entries.old others.now dots.now entries.new) }
+    ensures err { OnErr result (entries.new ≡ entries.old) }
+{
+    let brought = bring_each(alloc, entries, others, dots);
+    if brought.is_err() {
+        clear(entries, dots);
+    }
+    brought
 }

@@ -1,40 +1,43 @@
 //! A merge that needs no more memory.
 ghost use Rattle.std.specs.Prelude.{◌≡◌};
 
-use crate::entry::Entry;
-use crate::plan::Plan;
+use crate::entry_map::EntryMap;
+use crate::plan::clear;
 use crate::set::SubscriptionSet;
-use crate::sorted::{put_in_all, take_out_all};
 use causal_context::{Context, Dot};
+use std::alloc::Global;
 use std::marker::Model;
 
-/// A set and what it is to be: the memory for the change is there.
+/// A set and what it is to be: what comes is brought already.
 #[derive(Drop)]
 pub struct Ready {
+    pub(crate) alloc: Global,
     pub(crate) seen: Context,
-    pub(crate) entries: Vec<(Dot, Entry)>,
-    pub(crate) plan: Plan,
+    pub(crate) next: Context,
+    pub(crate) entries: EntryMap,
+    pub(crate) brought: Vec<Dot>,
+    pub(crate) gone: Vec<Dot>,
 }
 
 impl Model for Ready {
-    ghost use Rattle.std.specs.Prelude.{◌+◌, ◌≤◌, vec_len, vec_capacity};
     ghost use Rattle.std.specs.Coded.{coded×};
+    ghost use Rattle.std.specs.FinMap as map;
+    ghost use Rattle.causal_context.specs.Dots.{dot_cmp};
+    ghost use Rattle.subscription_set.specs.Sorted.{without_keys};
     ghost use Rattle.subscription_set.specs.Statuses.{Statuses, coded_statuses};
     ghost use Rattle.subscription_set.specs.Standing.{statuses, AreSeen};
-    ghost use Rattle.subscription_set.specs.Merging.{IsSet, planned};
 
     ghost Value = { Statuses × Statuses };
 
     ghost coded = { coded× coded_statuses coded_statuses };
 
     ghost view = { λ r. (
-      statuses r.seen r.entries.items,
-      statuses r.plan.next (planned r.entries.items r.plan.gone.items r.plan.incoming.items),
+      statuses r.seen (without_keys dot_cmp r.brought.items (map.entries r.entries)),
+      statuses r.next (without_keys dot_cmp r.gone.items (map.entries r.entries)),
     ) };
 
-    ghost invariant = { λ r. IsSet r.seen r.entries.items
-        × AreSeen r.plan.next (planned r.entries.items r.plan.gone.items r.plan.incoming.items)
-        × (vec_len r.entries + vec_len r.plan.incoming ≤ vec_capacity r.entries) };
+    ghost invariant = { λ r. AreSeen r.seen (without_keys dot_cmp r.brought.items (map.entries r.entries))
+        × AreSeen r.next (without_keys dot_cmp r.gone.items (map.entries r.entries)) };
 }
 
 impl Ready {
@@ -43,14 +46,17 @@ impl Ready {
         ensures { result ≡ self.1 }
     {
         let Ready {
+            alloc,
             seen: _,
+            next,
             mut entries,
-            plan,
+            brought: _,
+            gone,
         } = self;
-        take_out_all(&mut entries, &plan.gone);
-        put_in_all(&mut entries, plan.incoming);
+        clear(&mut entries, &gone);
         SubscriptionSet {
-            seen: plan.next,
+            alloc,
+            seen: next,
             entries,
         }
     }
@@ -60,10 +66,18 @@ impl Ready {
         ensures { result ≡ self.0 }
     {
         let Ready {
+            alloc,
+            seen,
+            next: _,
+            mut entries,
+            brought,
+            gone: _,
+        } = self;
+        clear(&mut entries, &brought);
+        SubscriptionSet {
+            alloc,
             seen,
             entries,
-            plan: _,
-        } = self;
-        SubscriptionSet { seen, entries }
+        }
     }
 }

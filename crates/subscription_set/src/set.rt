@@ -1,62 +1,44 @@
 //! The subscriptions that stand, among the dots that were seen.
-ghost use Rattle.std.specs.Prelude.{◌≡◌, ◌↔◌, OnOk, OnErr, IfOk, IfErr, IfSome, IsSome, IsTrue, Some, map as map_list, length};
+ghost use Rattle.std.specs.Prelude.{◌≡◌, ◌↔◌, ◌<◌, OnOk, OnErr, IfOk, IfErr, IfSome, IsOk, IsSome, IsTrue, map as map_list, length, true};
+ghost use Rattle.std.specs.Map.Iter.{deref_pair};
 ghost use Rattle.std.specs.Option.{option_copied};
 ghost use Rattle.std.specs.FinMap as map;
+ghost use Rattle.std.specs.Ordering.{is_lt};
+ghost use Rattle.causal_context.specs.Dots.{dot_cmp};
 ghost use Rattle.causal_context.specs.Lattices.{lattice_from_join};
 ghost use Rattle.subscription_set.specs.Statuses.{statuses_join, StatusesBelow, statuses_lattice};
-ghost use Rattle.subscription_set.specs.Standing.{AreSeen, statuses, seen_of, standing, find_entry, any_of, any_below, dots_of, dots_below, live, live_of};
-ghost use Rattle.subscription_set.specs.Merging.{HaveSame, IsSet, same_entry};
+ghost use Rattle.subscription_set.specs.Standing.{AreSeen, statuses, seen_of, standing, any_of, any_below, dots_of, dots_below, live, live_of};
+ghost use Rattle.subscription_set.specs.Merging.{IsSet};
 ghost use Rattle.subscription_set.specs.Sorted.{Rises};
-ghost use Rattle.causal_context.specs.Dots.{dot_cmp};
 
 use crate::entry::Entry;
+use crate::entry_map::EntryMap;
 use crate::live::{
-    any_among, any_among_below, dots_among, dots_among_below, latest_among, latest_count, latest_of,
+    any_among, any_among_below, dots_among, dots_among_below, latest_among, latest_of,
 };
-use crate::plan::make_plan;
+use crate::plan::{any_leaving, make_plan};
 use crate::ready::Ready;
-use crate::sorted::{is_rising, put_in_all, take_out_all, value_of};
 use causal_context::{Context, Dot, Lattice};
 use mqtt_fields::{NoMemory, Text};
 use mqtt_topics::Filter;
 use std::alloc::Global;
+use std::cmp::Ordering;
+use std::collections::btree_map::Iter;
 use std::marker::Model;
-
-// Whether each of the others' entries whose dot was seen here stands here too.
-fn has_same(seen: &Context, entries: &[(Dot, Entry)], others: &[(Dot, Entry)]) -> bool
-    requires entries { Rises dot_cmp entries.now }
-    requires others { Rises dot_cmp others.now }
-    ensures { IsTrue result ↔ HaveSame seen.now entries.now others.now }
-{
-    for (dot, theirs) in others {
-        if seen.contains(*dot) && !is_same_at(entries, *dot, theirs) {
-            return false;
-        }
-    }
-    true
-}
-
-// Whether the entry at the dot is this one.
-fn is_same_at(entries: &[(Dot, Entry)], dot: Dot, theirs: &Entry) -> bool
-    requires { Rises dot_cmp entries.now }
-    ensures { result ≡ same_entry (find_entry dot entries.now) (Some theirs.now) }
-{
-    match value_of(entries, &dot) {
-        None => false,
-        Some(own) => own.same(theirs),
-    }
-}
+use std::mem;
 
 /// Subscriptions under their dots, and the dots that were seen: the causal context. A dot that
 /// was seen and has no entry is removed. It grows by the allocator of the entries that it was
 /// made of.
 #[derive(Drop)]
 pub struct SubscriptionSet {
+    pub(crate) alloc: Global,
     pub(crate) seen: Context,
-    pub(crate) entries: Vec<(Dot, Entry)>,
+    pub(crate) entries: EntryMap,
 }
 
 impl Model for SubscriptionSet {
+    ghost use Rattle.std.specs.FinMap as map;
     ghost use Rattle.subscription_set.specs.Statuses.{Statuses, coded_statuses};
     ghost use Rattle.subscription_set.specs.Standing.{statuses};
     ghost use Rattle.subscription_set.specs.Merging.{IsSet};
@@ -65,9 +47,30 @@ impl Model for SubscriptionSet {
 
     ghost coded = { coded_statuses };
 
-    ghost view = { λ s. statuses s.seen s.entries.items };
+    ghost view = { λ s. statuses s.seen (map.entries s.entries) };
 
-    ghost invariant = { λ s. IsSet s.seen s.entries.items };
+    ghost invariant = { λ s. IsSet s.seen (map.entries s.entries) };
+}
+
+// Whether the first dot is before the second.
+fn is_before(a: Dot, b: Dot) -> bool
+    ensures { result ≡ is_lt (dot_cmp a b) }
+{
+    a.cmp(&b) == Ordering::Less
+}
+
+// Whether the dots strictly rise.
+fn are_rising(entries: &[(Dot, Entry)]) -> bool
+    ensures { IsTrue result ↔ Rises dot_cmp entries.now }
+{
+    for i in 1..entries.len() {
+        let (before, _) = &entries[i - 1];
+        let (after, _) = &entries[i];
+        if !is_before(*before, *after) {
+            return false;
+        }
+    }
+    true
 }
 
 // Whether each entry's dot is in the set.
@@ -83,29 +86,52 @@ fn are_seen(seen: &Context, entries: &[(Dot, Entry)]) -> bool
     true
 }
 
-// The same entries once more.
-fn copied(alloc: Global, entries: &[(Dot, Entry)]) -> Result<Vec<(Dot, Entry)>, NoMemory>
-    ensures { IfOk result (λ copy. copy.items ≡ entries.now) }
+// The entries under their dots.
+fn by_dot(alloc: Global, entries: Vec<(Dot, Entry)>) -> Result<EntryMap, NoMemory>
+    requires { Rises dot_cmp entries.items }
+    ensures made { IfOk result (λ made. map.entries made ≡ entries.items) }
+    ensures memory { OnErr result (0 < length entries.items) }
 {
-    let mut copy = Vec::with_capacity(alloc, entries.len())?;
+    let mut made = EntryMap::new(alloc);
     for (dot, entry) in entries {
+        made.add(dot, entry)?;
+    }
+    Ok(made)
+}
+
+// The same entries once more.
+fn copied(alloc: Global, entries: &EntryMap) -> Result<EntryMap, NoMemory>
+    ensures { IfOk result (λ copy. copy ≡ entries.now) }
+{
+    let mut copy = EntryMap::new(alloc);
+    for (dot, entry) in entries.iter() {
         let entry = entry.copy(alloc)?;
-        copy.push((*dot, entry))?;
+        copy.add(*dot, entry)?;
     }
     Ok(copy)
 }
 
 impl SubscriptionSet {
     /// The set of these entries, among the dots that were seen. None where the entries don't
-    /// strictly rise by their dots, or the dot of one was not seen. It takes no memory.
-    pub fn new(seen: Context, entries: Vec<(Dot, Entry)>) -> Option<SubscriptionSet>
-        ensures some { IfSome result (λ s. s ≡ statuses seen entries.items) }
-        ensures when { IsSome result ↔ IsSet seen entries.items }
+    /// strictly rise by their dots, or the dot of one was not seen. Only entries take memory.
+    pub fn new(
+        seen: Context,
+        entries: Vec<(Dot, Entry)>,
+    ) -> Result<Option<SubscriptionSet>, NoMemory>
+        ensures some { IfOk result (λ set. IfSome set (λ s. s ≡ statuses seen entries.items)) }
+        ensures when { IfOk result (λ set. IsSome set ↔ IsSet seen entries.items) }
+        ensures memory { OnErr result (0 < length entries.items) }
     {
-        if !is_rising(&entries) || !are_seen(&seen, &entries) {
-            return None;
+        if !are_rising(&entries) || !are_seen(&seen, &entries) {
+            return Ok(None);
         }
-        Some(SubscriptionSet { seen, entries })
+        let alloc = *entries.allocator();
+        let entries = by_dot(alloc, entries)?;
+        Ok(Some(SubscriptionSet {
+            alloc,
+            seen,
+            entries,
+        }))
     }
 
     /// The set of no dots.
@@ -113,8 +139,9 @@ impl SubscriptionSet {
         ensures { result ≡ map.empty }
     {
         SubscriptionSet {
+            alloc,
             seen: Context::new(alloc),
-            entries: Vec::new(alloc),
+            entries: EntryMap::new(alloc),
         }
     }
 
@@ -126,32 +153,39 @@ impl SubscriptionSet {
     }
 
     /// What stands, rising by the dots.
-    pub fn entries(&self) -> &[(Dot, Entry)]
-        ensures { result.now ≡ standing self.now }
+    pub fn entries(&self) -> Iter<'_, Dot, Entry>
+        ensures { result ≡ standing self.now }
     {
-        &self.entries
+        self.entries.iter()
     }
 
     /// How many subscriptions are live. It takes no memory.
     pub fn live_count(&self) -> usize
         ensures { result ≡ length (live self.now) }
     {
-        latest_count(&self.entries)
+        self.entries.live()
     }
 
     /// What is live: of what stands, the latest of each client and filter, rising by the dots.
-    pub fn live(&self) -> Result<Vec<&(Dot, Entry)>, NoMemory>
-        ensures { IfOk result (λ out. map_list (λ r. r.now) out.items ≡ live self.now) }
+    pub fn live(&self) -> Result<Vec<(&Dot, &Entry)>, NoMemory>
+        ensures { IfOk result (λ out. map_list deref_pair out.items ≡ live self.now) }
     {
-        latest_among(*self.entries.allocator(), &self.entries)
+        latest_among(self.alloc, &self.entries)
     }
 
     /// What is live of the client, rising by the dots.
-    pub fn live_of(&self, client: &Text) -> Result<Vec<&(Dot, Entry)>, NoMemory>
+    pub fn live_of(&self, client: &Text) -> Result<Vec<(&Dot, &Entry)>, NoMemory>
         ensures { IfOk result (λ out.
-            map_list (λ r. r.now) out.items ≡ live_of client.now self.now) }
+            map_list deref_pair out.items ≡ live_of client.now self.now) }
     {
-        latest_of(*self.entries.allocator(), &self.entries, client)
+        latest_of(self.alloc, &self.entries, client)
+    }
+
+    /// How many subscriptions of the client are live. It takes no memory.
+    pub fn live_count_of(&self, client: &Text) -> usize
+        ensures { result ≡ length (live_of client.now self.now) }
+    {
+        self.entries.live_of(client)
     }
 
     /// Whether something stands of the client and, where one is given, to the filter. It takes no
@@ -171,19 +205,23 @@ impl SubscriptionSet {
     }
 
     /// The dots of what stands of the client and, where one is given, to the filter: what a cover
-    /// takes.
+    /// takes. Only a dot that stands takes memory.
     pub fn dots_of(&self, client: &Text, filter: Option<&Filter>) -> Result<Context, NoMemory>
-        ensures { IfOk result (λ dots.
+        ensures dots { IfOk result (λ dots.
             dots ≡ dots_of client.now (option_copied filter.entry) self.now) }
+        ensures memory { OnErr result
+            (any_of client.now (option_copied filter.entry) self.now ≡ true) }
     {
-        dots_among(*self.entries.allocator(), &self.entries, client, filter)
+        dots_among(self.alloc, &self.entries, client, filter)
     }
 
     /// The dots of what stands of the client, made under a version of the home table below this.
+    /// Only a dot that stands takes memory.
     pub fn dots_below(&self, client: &Text, version: u64) -> Result<Context, NoMemory>
-        ensures { IfOk result (λ dots. dots ≡ dots_below client.now version self.now) }
+        ensures dots { IfOk result (λ dots. dots ≡ dots_below client.now version self.now) }
+        ensures memory { OnErr result (any_below client.now version self.now ≡ true) }
     {
-        dots_among_below(*self.entries.allocator(), &self.entries, client, version)
+        dots_among_below(self.alloc, &self.entries, client, version)
     }
 
     /// The same set once more.
@@ -191,8 +229,12 @@ impl SubscriptionSet {
         ensures { IfOk result (λ copy. copy ≡ self.now) }
     {
         let seen = self.seen.copy()?;
-        let entries = copied(*self.entries.allocator(), &self.entries)?;
-        Ok(SubscriptionSet { seen, entries })
+        let entries = copied(self.alloc, &self.entries)?;
+        Ok(SubscriptionSet {
+            alloc: self.alloc,
+            seen,
+            entries,
+        })
     }
 
     /// The join with the other, with memory for it; or the value as it was, where there is none.
@@ -201,14 +243,25 @@ impl SubscriptionSet {
             (ready.0 ≡ self) × (ready.1 ≡ statuses_join self other.now)) }
         ensures err { IfErr result (λ back. back ≡ self) }
     {
-        let SubscriptionSet { seen, mut entries } = self;
-        match make_plan(&seen, &mut entries, &other.seen, &other.entries) {
+        let SubscriptionSet {
+            alloc,
+            seen,
+            mut entries,
+        } = self;
+        match make_plan(alloc, &seen, &mut entries, &other.seen, &other.entries) {
             Ok(plan) => Ok(Ready {
+                alloc,
+                seen,
+                next: plan.next,
+                entries,
+                brought: plan.brought,
+                gone: plan.gone,
+            }),
+            Err(_) => Err(SubscriptionSet {
+                alloc,
                 seen,
                 entries,
-                plan,
             }),
-            Err(_) => Err(SubscriptionSet { seen, entries }),
         }
     }
 }
@@ -220,15 +273,30 @@ impl Lattice for SubscriptionSet {
 
     ghost laws = { lattice_from_join statuses_lattice };
 
-    fn join(&mut self, other: &SubscriptionSet) -> Result<(), NoMemory> {
-        let plan = make_plan(&self.seen, &mut self.entries, &other.seen, &other.entries)?;
-        take_out_all(&mut self.entries, &plan.gone);
-        put_in_all(&mut self.entries, plan.incoming);
-        self.seen = plan.next;
-        Ok(())
+    /// Takes in the other set. Where memory runs out it stays as it was; with one that is below it
+    /// takes none.
+    fn join(&mut self, other: &SubscriptionSet) -> Result<(), NoMemory>
+        ensures ok { OnOk result (self.new ≡ statuses_join self.old other.now) }
+        ensures err { OnErr result (self.new ≡ self.old) }
+        ensures below { StatusesBelow other.now self.old → IsOk result }
+    {
+        if other.is_below(self) {
+            return Ok(());
+        }
+        let own = mem::replace(self, SubscriptionSet::empty(self.alloc));
+        match own.prepare(other) {
+            Ok(ready) => {
+                *self = ready.commit();
+                Ok(())
+            }
+            Err(own) => {
+                *self = own;
+                Err(NoMemory)
+            }
+        }
     }
 
     fn is_below(&self, other: &SubscriptionSet) -> bool {
-        self.seen.is_below(&other.seen) && has_same(&self.seen, &self.entries, &other.entries)
+        self.seen.is_below(&other.seen) && !any_leaving(&other.entries, &self.seen, &self.entries)
     }
 }

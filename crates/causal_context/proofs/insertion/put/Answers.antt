@@ -1,5 +1,6 @@
 use Rattle.std.proofs.Common.{refl}
 use Rattle.causal_context.proofs.RangeLemmas.{not_so}
+use Rattle.causal_context.proofs.Searching.{covered_reaches}
 use Rattle.causal_context.proofs.Inserting.{put_alone, put_first, put_nothing, put_last, put_between}
 use Rattle.causal_context.proofs.insertion.put.Goals as goal
 
@@ -41,3 +42,15 @@ returns-clause-ok c =
     let reaches = rw c.deref-3.ensures.value at c.reaches_at.ensures in
     put_last c.args.ranges.now.items c.args.node c.args.number c.started-next.result c.requires.context.sound c.ranges.node.fits c.requires.from c.requires.below started
     c.index-before.result.now (reaches.0 c.if-not-reaches_at.false) c.index-before.ensures _ (not_so c.follows_at-follows.result follows c.if-follows-2.false) c.if-number-before.false refl
+
+pub returns-then-len-eq-MOST_RANGES-clause-there : goal.returns-then-len-eq-MOST_RANGES-clause-there
+returns-then-len-eq-MOST_RANGES-clause-there c =
+    let started = rw c.deref.ensures.value at c.started-next.ensures in
+    let reaches = rw c.deref-3.ensures.value at c.reaches_at.ensures in
+    λ there. absurd (not_so c.reaches_at.result reaches c.if-not-reaches_at.true (covered_reaches c.args.ranges.now.items _ c.started-next.result c.requires.context.sound started there))
+
+pub returns-in_err-insert-clause-there : goal.returns-in_err-insert-clause-there
+returns-in_err-insert-clause-there c =
+    let started = rw c.deref.ensures.value at c.started-next.ensures in
+    let reaches = rw c.deref-3.ensures.value at c.reaches_at.ensures in
+    λ there. absurd (not_so c.reaches_at.result reaches c.if-not-reaches_at.true (covered_reaches c.args.ranges.now.items _ c.started-next.result c.requires.context.sound started there))

@@ -1,22 +1,18 @@
-use Rattle.std.proofs.Common.{arith, sym, ◌∙◌, ap}
-use Rattle.std.proofs.lemmas.List.{take_all}
-use Rattle.std.specs.Option.{option_copied}
-use Rattle.std.specs.FinSet as set
-use Rattle.causal_context.specs.Dots.{dot_cmp}
+use Rattle.std.proofs.Common.{◌≡◌, true, option_copied, sym, ◌∙◌}
+use Rattle.causal_context.specs.Dots.{Dots}
 use Rattle.subscription_set.specs.Entries.{is_of}
-use Rattle.subscription_set.proofs.Lists.{dot_added, dot_skipped, dots_all}
+use Rattle.subscription_set.specs.Standing.{dots_in}
+use Rattle.std.specs.FinMap as map
+use Rattle.subscription_set.proofs.Joins.{on_err}
+use Rattle.subscription_set.proofs.Picking.{dots_none, dots_all_stand, and_true, some_stands, if_ok}
 use Rattle.subscription_set.proofs.live.dots_among.Goals as goal
-use Rattle.subscription_set.proofs.live.dots_among.Goals.{then-stands_of+in_ok-insert, else-stands_of}
 
-pub loop-dot-init : goal.loop-dot-init
-loop-dot-init c = λ q. ap (λ s. set.contains s q) c.new-dots.ensures ∙ set.contains-empty dot_cmp q
+pub returns-in-None-clause-dots : goal.returns-in-None-clause-dots
+returns-in-None-clause-dots c = dots_none c.args.entries.now c.args.client.now (option_copied c.args.filter) (λ _. true) (is_of c.args.client.now (option_copied c.args.filter)) (λ d e. sym (and_true (is_of c.args.client.now (option_copied c.args.filter) e))) c.new.result c.in-None.ensures c.new.ensures
 
-pub loop-dot-preserved : goal.loop-dot-preserved
-loop-dot-preserved c =
-    elim c.if-stands_of.branch [
-      | then-stands_of+in_ok-insert w ↦ dot_added (is_of c.args.client.now (option_copied c.args.filter)) c.args.entries.now c.loop-dot.dot-index c.loop-dot-item.result c.loop-dot-test.true c.loop-dot-item.is c.loop-dot.dots c.if-stands_of.dots (w.dots-is ∙ w.in_ok-insert.ensures.ok) (sym c.stands_of.ensures ∙ w.if-stands_of.true) c.loop-dot.invariant
-      | else-stands_of w ↦ dot_skipped (is_of c.args.client.now (option_copied c.args.filter)) c.args.entries.now c.loop-dot.dot-index c.loop-dot-item.result c.loop-dot-test.true c.loop-dot-item.is c.loop-dot.dots c.if-stands_of.dots w.dots-is (sym c.stands_of.ensures ∙ w.if-stands_of.false) c.loop-dot.invariant
-    ]
+pub returns-in-Some-clause-dots : goal.returns-in-Some-clause-dots
+returns-in-Some-clause-dots c = if_ok (λ (s : Dots). s ≡ c.in-Some.dots.now) (λ s. s ≡ dots_in (is_of c.args.client.now (option_copied c.args.filter)) (map.entries c.args.entries.now)) c.context.result
+    (λ s same. same ∙ dots_all_stand c.args.entries.now c.args.client.now (option_copied c.args.filter) c.in-Some.dots.now c.in-Some.ensures.same) c.context.ensures
 
-pub returns : goal.returns
-returns c = dots_all (is_of c.args.client.now (option_copied c.args.filter)) c.args.entries.now _ c.loop-dot.dots (take_all c.loop-dot.dot-index c.args.entries.now (let t = c.loop-dot-test.false in omega arith)) c.loop-dot.invariant
+pub returns-in-Some-clause-memory : goal.returns-in-Some-clause-memory
+returns-in-Some-clause-memory c = on_err c.context.result (some_stands c.args.entries.now c.args.client.now (option_copied c.args.filter) c.in-Some.ensures.some)

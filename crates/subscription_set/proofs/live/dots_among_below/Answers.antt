@@ -1,21 +1,21 @@
-use Rattle.std.proofs.Common.{arith, sym, ◌∙◌, ap}
-use Rattle.std.proofs.lemmas.List.{take_all}
+use Rattle.std.proofs.Common.{◌≡◌, ◌&&◌, None, refl, sym, ◌∙◌}
+use Rattle.std.specs.Prelude.{nat_lt}
+use Rattle.std.specs.FinMap as map
 use Rattle.std.specs.FinSet as set
-use Rattle.causal_context.specs.Dots.{dot_cmp}
+use Rattle.causal_context.specs.Dots.{Dots, Dot}
 use Rattle.subscription_set.specs.Entries.{is_of_below}
-use Rattle.subscription_set.proofs.Lists.{dot_added, dot_skipped, dots_all}
+use Rattle.subscription_set.specs.Standing.{dots_in}
+use Rattle.subscription_set.specs.Indexing.{below_at}
+use Rattle.subscription_set.proofs.Picking.{dots_none, dots_some, any_stands, on_err_weaker, if_ok}
 use Rattle.subscription_set.proofs.live.dots_among_below.Goals as goal
-use Rattle.subscription_set.proofs.live.dots_among_below.Goals.{then-stands_below+in_ok-insert, else-stands_below}
 
-pub loop-dot-init : goal.loop-dot-init
-loop-dot-init c = λ q. ap (λ s. set.contains s q) c.new-dots.ensures ∙ set.contains-empty dot_cmp q
+pub returns-in-None-clause-dots : goal.returns-in-None-clause-dots
+returns-in-None-clause-dots c = dots_none c.args.entries.now c.args.client.now None (λ y. nat_lt y.1.version c.args.version) (is_of_below c.args.client.now c.args.version) (λ d e. refl) c.new.result c.in-None.ensures c.new.ensures
 
-pub loop-dot-preserved : goal.loop-dot-preserved
-loop-dot-preserved c =
-    elim c.if-stands_below.branch [
-      | then-stands_below+in_ok-insert w ↦ dot_added (is_of_below c.args.client.now c.args.version) c.args.entries.now c.loop-dot.dot-index c.loop-dot-item.result c.loop-dot-test.true c.loop-dot-item.is c.loop-dot.dots c.if-stands_below.dots (w.dots-is ∙ w.in_ok-insert.ensures.ok) (sym c.stands_below.ensures ∙ w.if-stands_below.true) c.loop-dot.invariant
-      | else-stands_below w ↦ dot_skipped (is_of_below c.args.client.now c.args.version) c.args.entries.now c.loop-dot.dot-index c.loop-dot-item.result c.loop-dot-test.true c.loop-dot-item.is c.loop-dot.dots c.if-stands_below.dots w.dots-is (sym c.stands_below.ensures ∙ w.if-stands_below.false) c.loop-dot.invariant
-    ]
+pub returns-in-Some-clause-dots : goal.returns-in-Some-clause-dots
+returns-in-Some-clause-dots c = if_ok (λ (s : Dots). (q : Dot) → set.contains s q ≡ (set.contains c.in-Some.dots.now q && below_at c.args.version (map.get c.args.entries.now q))) (λ s. s ≡ dots_in (is_of_below c.args.client.now c.args.version) (map.entries c.args.entries.now)) c.those_below.result
+    (λ s picks. dots_some c.args.entries.now c.args.client.now None (λ y. nat_lt y.1.version c.args.version) (is_of_below c.args.client.now c.args.version) (λ d e. refl) s (λ _ g. below_at c.args.version g) (λ d. refl) (λ d e. refl) c.in-Some.dots.now c.in-Some.ensures.same picks) c.those_below.ensures.dots
 
-pub returns : goal.returns
-returns c = dots_all (is_of_below c.args.client.now c.args.version) c.args.entries.now _ c.loop-dot.dots (take_all c.loop-dot.dot-index c.args.entries.now (let t = c.loop-dot-test.false in omega arith)) c.loop-dot.invariant
+pub returns-in-Some-clause-memory : goal.returns-in-Some-clause-memory
+returns-in-Some-clause-memory c = on_err_weaker c.those_below.result
+    (λ yes. sym (any_stands c.args.entries.now c.args.client.now None (λ y. nat_lt y.1.version c.args.version) (λ _ g. below_at c.args.version g) (λ d. refl) (λ d e. refl) c.in-Some.dots.now c.in-Some.ensures.same) ∙ yes) c.those_below.ensures.memory

@@ -1,12 +1,16 @@
-use Rattle.std.proofs.Common.{◌&&◌, arith, sym, ◌∙◌, ap}
+use Rattle.std.proofs.Common.{◌++◌, ◌&&◌, map as map_list, sym, ap, ◌∙◌}
+use Rattle.std.specs.FinMap as map
 use Rattle.std.specs.List.{filter}
-use Rattle.std.proofs.lemmas.List.{take_all}
+use Rattle.std.specs.Map.Iter.{deref_pair}
+use Rattle.std.proofs.lemmas.List.{append-nil}
 use Rattle.subscription_set.specs.Entries.{same_text}
-use Rattle.subscription_set.specs.Standing.{is_latest}
+use Rattle.subscription_set.specs.Standing.{Entries, is_latest}
 use Rattle.subscription_set.proofs.Lists.{filter-filter}
 use Rattle.subscription_set.proofs.live.latest_of.Goals as goal
 
 pub returns : goal.returns
 returns c =
-    c.loop-pair.invariant ∙ ap (filter (λ x. same_text c.args.client.now x.1.client && is_latest c.args.entries.now x)) (take_all c.loop-pair.pair-index c.args.entries.now (let t = c.loop-pair-test.false in omega arith))
-    ∙ sym (filter-filter (λ x. same_text c.args.client.now x.1.client) (is_latest c.args.entries.now) c.args.entries.now)
+    sym (append-nil (map_list deref_pair c.loop-dot.out.items))
+    ∙ ap (λ (l : Entries). map_list deref_pair c.loop-dot.out.items ++ filter (λ x. same_text c.args.client.now x.1.client && is_latest (map.entries c.args.entries.now) x) l) (sym c.in-None.ensures.steps.0)
+    ∙ c.loop-dot.invariant
+    ∙ sym (filter-filter (λ x. same_text c.args.client.now x.1.client) (is_latest (map.entries c.args.entries.now)) (map.entries c.args.entries.now))

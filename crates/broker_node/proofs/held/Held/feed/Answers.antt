@@ -1,7 +1,7 @@
 use Rattle.std.proofs.Common.{subst, refl, IfOk}
 use Rattle.std.proofs.lemmas.Result.{IfOk-weaker}
 use Rattle.broker_node.specs.View.{HeldView}
-use Rattle.broker_node.specs.Feeding.{IsFed, IsHeldFed}
+use Rattle.broker_node.specs.Held.Feeding.{IsFed, IsHeldFed}
 use Rattle.broker_node.proofs.held.Held.feed.Goals as goal
 
 pub returns-clause-fed : goal.returns-clause-fed

@@ -1,10 +1,19 @@
-use Rattle.std.proofs.Common.{sym, subst}
-use Rattle.std.proofs.lemmas.Result.{on_ok_weaker}
+use Rattle.std.proofs.Common.{◌≡◌, ◌⊎◌, IfErr, inl, sym, subst}
+use Rattle.std.proofs.lemmas.Result.{on_ok_weaker, IfErr-weaker}
 use Rattle.cluster_play.specs.declared.step.Step.{Step}
 use Rattle.cluster_play.specs.Clusters.{world}
-use Rattle.cluster_play.specs.Playing.{IsDoneStep}
+use Rattle.cluster_play.specs.Playing.{IsDoneStep, RunsOut}
+use Rattle.cluster_play.specs.Worlds.{Lacks}
+use Rattle.cluster_play.specs.declared.fault.PlayFault.TheVariants.{NoMemory}
 use Rattle.cluster_play.proofs.cluster.Cluster.step.Goals as goal
 
 pub returns-in-Deliver-clause-ok : goal.returns-in-Deliver-clause-ok
 returns-in-Deliver-clause-ok c =
     on_ok_weaker c.deliver.result (λ e. subst (λ (s : Step). IsDoneStep (world c.args.self.now) s c.args.lines.now.items c.deliver.new.lines.items (world c.deliver.new.self)) (sym c.in-Deliver.is) e) c.deliver.ensures.ok
+
+pub returns-in-Deliver-clause-err : goal.returns-in-Deliver-clause-err
+returns-in-Deliver-clause-err c = subst (λ (s : Step). IfErr c.deliver.result (λ f.
+    ((f ≡ NoMemory) × RunsOut (world c.args.self.now) s (world c.deliver.new.self)) ⊎ (Lacks (world c.args.self.now) s f × (c.deliver.new.self ≡ c.args.self.now)))) (sym c.in-Deliver.is) c.deliver.ensures.err
+
+pub returns-else-node-len-clause-err : goal.returns-else-node-len-clause-err
+returns-else-node-len-clause-err c = IfErr-weaker c.event.result _ _ (λ f e. inl (e.0, subst (λ (s : Step). RunsOut (world c.args.self.now) s (world c.event.new.self)) (sym c.in-Event.is) e.1)) c.event.ensures.err

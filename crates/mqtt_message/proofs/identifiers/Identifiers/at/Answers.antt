@@ -1,4 +1,4 @@
-use Rattle.std.proofs.Common.{ℕ, ◌<◌, arith}
+use Rattle.std.proofs.Common.{◌<◌, arith}
 use Rattle.std.specs.Int.{w16, w32}
 use Rattle.mqtt_fields.specs.Field.{IsBytes}
 use Rattle.mqtt_fields.specs.Numbers.{number}

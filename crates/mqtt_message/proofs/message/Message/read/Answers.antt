@@ -8,9 +8,9 @@ use Rattle.mqtt_message.proofs.message.Message.read.Goals as goal
 pub overflow_sub-result : goal.overflow_sub-result
 overflow_sub-result c =
     let bytes : IsBytes c.args.bytes.now = λ i. omega (arith, c.type_inv.bytes i) in
-    (used message message_is c.args.bytes.now (c.in_ok-message.message, c.in_ok-message.rest.now) bytes c.in_ok-message.ensures).0
+    (used message message_is c.args.bytes.now (c.in_ok-message.message, c.in_ok-message.rest.now) bytes c.in_ok-message.ensures.exact).0
 
 pub returns-clause-exact : goal.returns-clause-exact
 returns-clause-exact c =
     let bytes : IsBytes c.args.bytes.now = λ i. omega (arith, c.type_inv.bytes i) in
-    rw (used message message_is c.args.bytes.now (c.in_ok-message.message, c.in_ok-message.rest.now) bytes c.in_ok-message.ensures).1 c.in_ok-message.ensures
+    rw (used message message_is c.args.bytes.now (c.in_ok-message.message, c.in_ok-message.rest.now) bytes c.in_ok-message.ensures.exact).1 c.in_ok-message.ensures.exact

@@ -1,5 +1,5 @@
-use Rattle.replica_store.proofs.Keeping.{none_kept}
+use Rattle.replica_store.proofs.Keeping.{empty_kept}
 use Rattle.replica_store.proofs.retained.RetainedMap.new.Goals as goal
 
-pub returns : goal.returns
-returns c = none_kept c.new.result.items c.new.ensures.items
+pub invariant_of-result : goal.invariant_of-result
+invariant_of-result c = empty_kept c.new.result c.new.ensures

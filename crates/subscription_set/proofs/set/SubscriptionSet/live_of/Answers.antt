@@ -1,4 +1,8 @@
-use Rattle.std.proofs.Common.{◌≡◌, IfOk, subst, map}
+use Rattle.std.proofs.Common.{map as map_list}
+use Rattle.std.specs.Map.Iter.{deref_pair}
+use Rattle.std.proofs.Common.{refl}
+use Rattle.std.specs.FinMap as map
+use Rattle.std.proofs.Common.{◌≡◌, IfOk, subst}
 use Rattle.std.specs.List.{filter}
 use Rattle.subscription_set.specs.Entries.{same_text}
 use Rattle.subscription_set.specs.Standing.{latest, live}
@@ -7,4 +11,4 @@ use Rattle.subscription_set.proofs.set.SubscriptionSet.live_of.Goals as goal
 
 pub returns : goal.returns
 unfolding live
-returns c = subst (λ es. IfOk c.latest_of.result (λ out. map (λ r. r.now) out.items ≡ filter (λ x. same_text c.args.client.now x.1.client) (latest es))) (entries_are c.self.inside.seen c.self.inside.entries.items c.args.self.now c.deref.result.now c.self.invariant c.self.view_is c.deref.ensures.value) c.latest_of.ensures
+returns c = subst (λ es. IfOk c.latest_of.result (λ out. map_list deref_pair out.items ≡ filter (λ x. same_text c.args.client.now x.1.client) (latest es))) (entries_are c.self.inside.seen (map.entries c.self.inside.entries) c.args.self.now (map.entries c.self.inside.entries) c.self.invariant c.self.view_is refl) c.latest_of.ensures

@@ -1,0 +1,11 @@
+use Rattle.std.proofs.Common.{subst, refl, IfOk, ◌≡◌}
+use Rattle.std.proofs.lemmas.Result.{IfOk-weaker}
+use Rattle.broker_node.specs.View.{HeldView, WorkView}
+use Rattle.broker_node.specs.Held.Feeding.{IsHeldFed}
+use Rattle.broker_node.proofs.turn.work.Work.feed.Goals as goal
+
+pub returns-clause-fed : goal.returns-clause-fed
+returns-clause-fed c =
+    let after : WorkView = record { id = c.self.inside.id; nodes = c.self.inside.nodes; held = c.feed.new.self; outputs = c.self.inside.outputs.items } in
+    subst (λ (v : WorkView). IfOk c.feed.result (λ came. (x : HeldView) × IsHeldFed v.held c.args.connection c.args.piece.now came x × (after ≡ record v { held = x }))) c.self.view_is
+    (IfOk-weaker c.feed.result (λ came. IsHeldFed c.self.inside.held c.args.connection c.args.piece.now came c.feed.new.self) _ (λ came w. (c.feed.new.self, w, refl)) c.feed.ensures.fed)

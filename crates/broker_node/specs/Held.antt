@@ -1,0 +1,4 @@
+-- What is done to what a node holds.
+pub mod Connections
+pub mod Feeding
+pub mod Making

@@ -1,0 +1,10 @@
+pub mod ArrivalLaws
+pub mod ChosenLaws
+pub mod QuotaLaws
+pub mod KeptLaws
+pub mod LaidLaws
+pub mod OrderLaws
+pub mod NumberLaws
+pub mod OpenLaws
+pub mod ReleaseLaws
+pub mod ResendLaws

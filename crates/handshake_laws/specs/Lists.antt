@@ -1,0 +1,16 @@
+-- Words on lists.
+use Rattle.std.specs.Prelude.{◌≡◌, ℕ, ◌==◌, ◌⊎◌, Bool, true, false, cond, List, [], ◌∷◌}
+
+-- ys is xs, in order, without some elements, of which P holds
+abbrev pub Without : {A : Type 0} → (A → Type 0) → List A → List A → Type 0
+Without P [] ys = ys ≡ []
+Without {A = A} P (x ∷ xs) ys = (P x × Without P xs ys) ⊎ ((zs : List A) × (ys ≡ x ∷ zs) × Without P xs zs)
+
+abbrev pub has : ℕ → List ℕ → Bool
+has id [] = false
+has id (k ∷ ks) = cond (k == id) true (has id ks)
+
+-- without the first that is the identifier
+abbrev pub without : ℕ → List ℕ → List ℕ
+without id [] = []
+without id (k ∷ ks) = cond (k == id) ks (k ∷ without id ks)

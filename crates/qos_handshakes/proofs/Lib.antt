@@ -1,0 +1,11 @@
+pub mod Advanced
+pub mod Arrivals
+pub mod Counted
+pub mod First
+pub mod Indexed
+pub mod Marking
+pub mod EntryLaws
+pub mod Ordered
+pub mod Owed
+pub mod RestoringLaws
+pub mod SpelledLaws

@@ -1,0 +1,230 @@
+-- Places that are touched.
+use Rattle.std.proofs.Common.{◌≡◌, ◌≢◌, ℕ, zero, suc, drop, get_or, add-one, ◌+◌, ◌*◌, ◌<◌, ◌≤◌, ◌||◌, true, false, List, [], ◌∷◌, ◌++◌, Option, Some, None, IsSome, length, refl, sym, ◌∙◌, ap, arith, inl, inr}
+use Rattle.std.proofs.lemmas.Bool.{cases_eq, cases_lt, cases_Bool, eq-eqb, or_right, false≢true}
+use Rattle.std.proofs.lemmas.Bool.Decides.{nat_tests}
+use Rattle.std.specs.BTreeSet.{insert_key}
+use Rattle.std.specs.declared.cmp.Ordering.TheVariants.{Less, Equal, Greater}
+use Rattle.std.specs.BTreeMap.{is_at}
+use Rattle.std.specs.Map.{remove_entry}
+use Rattle.std.specs.Ordering.{nat_cmp}
+use Rattle.std.specs.Prelude.{◌==◌, IsSomeAnd}
+use Rattle.qos_handshakes.specs.declared.copies.Entry.{Entry}
+use Rattle.qos_handshakes.specs.declared.copies.Stage.{Stage}
+use Rattle.qos_handshakes.specs.declared.copies.Stage.TheVariants.{Waiting, Published, Released}
+use Rattle.mqtt_fields.specs.declared.options.Qos.{Qos}
+use Rattle.mqtt_fields.specs.declared.options.Qos.TheVariants.{AtMostOnce, AtLeastOnce, ExactlyOnce}
+use Rattle.mqtt_message.specs.declared.delivery.Delivery.{Delivery}
+use Rattle.qos_handshakes.specs.Entries.{Entries, at_place, find_id, write_at, as_here, as_published, as_released, place_in, IsIndexed, AllPlacesBelow}
+use Rattle.qos_handshakes.specs.Outbox.{away, waits, waiting_entry, is_owed, takes_pubrec}
+use Rattle.qos_handshakes.specs.Touched.{is_in, HasAll, durable, Touches, Marked, Marks, stage_credits, credits, IsPlaceOf}
+use Rattle.qos_handshakes.proofs.Indexed.{is_at-here, is_at-apart, at-head, at-tail, at-removed, at-written, at-written_other, points-to, find-none, none-listed, drop-indexed, find-indexed, only-listed, write-at}
+
+in-last : (p : ℕ) (ts : List ℕ) → is_in p (ts ++ p ∷ []) ≡ true
+in-last p [] = rw (eq-eqb p p refl) refl
+in-last p (t ∷ ts) = elim (cases_Bool (t == p)) [ inl h ↦ rw h refl | inr h ↦ rw h (in-last p ts) ]
+
+in-more : (p q : ℕ) (ts : List ℕ) → is_in p ts ≡ true → is_in p (ts ++ q ∷ []) ≡ true
+in-more p q [] h = absurd (false≢true h)
+in-more p q (t ∷ ts) h = elim (cases_Bool (t == p)) [ inl g ↦ rw g refl | inr g ↦ rw g (in-more p q ts (rw g at h)) ]
+
+-- what changes at one place only, which is touched
+touched-at : (es ns : Entries) (l k : Marked) (place : ℕ) → k.places ≡ l.places ++ place ∷ [] → ((p : ℕ) → p ≢ place → at_place p ns ≡ at_place p es) → Touches es l.places ns k.places
+touched-at es ns l k place is same = record {
+  still = λ p h. rw is (in-more p place l.places h);
+  changed = λ p. elim (cases_eq p place) [
+    | inl here ↦ inr (rw (is, here) (in-last place l.places))
+    | inr apart ↦ inl (sym (ap durable (same p apart)))
+  ];
+}
+
+pub credits-removed : (place : ℕ) (x : Entry) (es : Entries) → at_place place es ≡ Some x → credits (remove_entry (is_at (nat_cmp place)) es) + stage_credits x.stage ≡ credits es
+credits-removed place x [] at = let bad : None ≡ Some x = at in (cc)
+credits-removed place x (e ∷ es) at = elim (cases_eq e.0 place) [
+  | inl same ↦ let is = ap (λ (y : Entry). stage_credits y.stage) (at-head place x e es at same) in rw (is_at-here place e.0 same) (omega (arith, is))
+  | inr apart ↦ rw (is_at-apart place e.0 apart) (omega (arith, credits-removed place x es (at-tail place x e es at apart)))
+]
+
+pub credits-written : (f : Entry → Entry) (place : ℕ) (x : Entry) (es : Entries) → at_place place es ≡ Some x → credits (write_at f place es) + stage_credits x.stage ≡ credits es + stage_credits (f x).stage
+credits-written f place x [] at = let bad : None ≡ Some x = at in (cc)
+credits-written f place x (e ∷ es) at = elim (cases_eq e.0 place) [
+  | inl same ↦
+      let is = ap (λ (y : Entry). stage_credits y.stage) (at-head place x e es at same) in
+      let more = ap (λ (y : Entry). stage_credits (f y).stage) (at-head place x e es at same) in
+      rw (is_at-here place e.0 same) (omega (arith, is, more))
+  | inr apart ↦ rw (is_at-apart place e.0 apart) (omega (arith, credits-written f place x es (at-tail place x e es at apart)))
+]
+
+some-credit : (s : Stage) → 1 ≤ stage_credits s
+some-credit Waiting = omega arith
+some-credit (Published id) = omega arith
+some-credit (Released id order) = omega arith
+
+pub credit-there : (place room : ℕ) (x : Entry) (es : Entries) → credits es ≤ room → at_place place es ≡ Some x → 1 ≤ room
+credit-there place room x es h at = omega (arith, h, credits-removed place x es at, some-credit x.stage)
+
+most-credits : (s : Stage) → stage_credits s ≤ 3
+most-credits Waiting = omega arith
+most-credits (Published id) = omega arith
+most-credits (Released id order) = omega arith
+
+pub credits-most : (es : Entries) → credits es ≤ 3 * length es
+credits-most [] = omega arith
+credits-most (e ∷ es) = omega (arith, most-credits e.1.stage, credits-most es)
+
+pub credits-pushed : (next : ℕ) (c : Delivery) (es : Entries) → credits (es ++ (next, waiting_entry c) ∷ []) ≡ credits es + 3
+credits-pushed next c [] = refl
+credits-pushed next c (e ∷ es) = omega (arith, credits-pushed next c es)
+
+at-pushed : (next p : ℕ) (x : Entry) (es : Entries) → p ≢ next → at_place p (es ++ (next, x) ∷ []) ≡ at_place p es
+at-pushed next p x [] apart = rw (is_at-apart p next (λ z. apart (sym z))) refl
+at-pushed next p x (e ∷ es) apart = elim (cases_eq e.0 p) [
+  | inl h ↦ rw (is_at-here p e.0 h) refl
+  | inr h ↦ rw (is_at-apart p e.0 h) (at-pushed next p x es apart)
+]
+
+pub touched-pushed : (next : ℕ) (c : Delivery) (es ns : Entries) (l k : Marked) → ns ≡ es ++ (next, waiting_entry c) ∷ [] → k.places ≡ l.places ++ next ∷ [] → Touches es l.places ns k.places
+touched-pushed next c es ns l k is marked = touched-at es ns l k next marked (λ p apart. rw is (at-pushed next p (waiting_entry c) es apart))
+
+pub marks-same : (es ns : Entries) (l : Marked) → ns ≡ es → Marks es l ns l
+marks-same es ns l is = record { touches = record { still = λ p h. h; changed = λ p. inl (rw is refl) }; room = λ h. rw is h }
+
+-- one after the other
+pub marks-then : (es fs gs : Entries) (l k m : Marked) → Marks es l fs k → Marks fs k gs m → Marks es l gs m
+marks-then es fs gs l k m a b = record {
+  touches = record {
+    still = λ p h. b.touches.still p (a.touches.still p h);
+    changed = λ p. elim (a.touches.changed p) [
+      | inl x ↦ elim (b.touches.changed p) [ inl y ↦ inl (x ∙ y) | inr y ↦ inr y ]
+      | inr x ↦ inr (b.touches.still p x)
+    ];
+  };
+  room = λ h. b.room (a.room h);
+}
+
+pub marks-removed : (es ns : Entries) (l k : Marked) (place : ℕ) (x : Entry) → at_place place es ≡ Some x → ns ≡ remove_entry (is_at (nat_cmp place)) es → k.places ≡ l.places ++ place ∷ [] → l.room ≤ k.room + 1 → Marks es l ns k
+marks-removed es ns l k place x at is marked room = record {
+  touches = touched-at es ns l k place marked (λ p apart. rw is (at-removed p place es apart));
+  room = λ h. rw is (omega (arith, h, room, credits-removed place x es at, some-credit x.stage));
+}
+
+pub marks-written : (f : Entry → Entry) (es ns : Entries) (l k : Marked) (place : ℕ) (x : Entry) → at_place place es ≡ Some x → stage_credits (f x).stage + 1 ≤ stage_credits x.stage → ns ≡ write_at f place es → k.places ≡ l.places ++ place ∷ [] → l.room ≤ k.room + 1 → Marks es l ns k
+marks-written f es ns l k place x at less is marked room = record {
+  touches = touched-at es ns l k place marked (λ p apart. rw is (at-written_other f p place es apart));
+  room = λ h. rw is (omega (arith, h, room, less, credits-written f place x es at));
+}
+
+durable-here : (p place : ℕ) (es : Entries) → durable (at_place p es) ≡ durable (at_place p (write_at as_here place es))
+durable-here p place [] = refl
+durable-here p place (e ∷ es) = elim (cases_eq e.0 place) [
+  | inl here ↦ elim (cases_eq e.0 p) [
+    | inl mine ↦ rw (is_at-here place e.0 here, is_at-here p e.0 mine) refl
+    | inr other ↦ rw (is_at-here place e.0 here, is_at-apart p e.0 other) refl
+  ]
+  | inr apart ↦ elim (cases_eq e.0 p) [
+    | inl mine ↦ rw (is_at-apart place e.0 apart, is_at-here p e.0 mine) refl
+    | inr other ↦ rw (is_at-apart place e.0 apart, is_at-apart p e.0 other) (durable-here p place es)
+  ]
+]
+
+credits-here : (place : ℕ) (es : Entries) → credits (write_at as_here place es) ≡ credits es
+credits-here place [] = refl
+credits-here place (e ∷ es) = elim (cases_Bool (is_at (nat_cmp place) e.0)) [
+  | inl t ↦ rw t refl
+  | inr f ↦ rw f (ap (λ (n : ℕ). stage_credits e.1.stage + n) (credits-here place es))
+]
+
+pub marks-here : (es ns : Entries) (l : Marked) (place : ℕ) → ns ≡ write_at as_here place es → Marks es l ns l
+marks-here es ns l place is = record {
+  touches = record { still = λ p h. h; changed = λ p. inl (rw is (durable-here p place es)) };
+  room = λ h. rw (is, credits-here place es) h;
+}
+
+pub credits-away : (es : Entries) → credits (away es) ≡ credits es
+credits-away [] = refl
+credits-away (e ∷ es) = ap (λ (n : ℕ). stage_credits e.1.stage + n) (credits-away es)
+
+durable-away : (p : ℕ) (es : Entries) → durable (at_place p es) ≡ durable (at_place p (away es))
+durable-away p [] = refl
+durable-away p (e ∷ es) = elim (cases_eq e.0 p) [
+  | inl mine ↦ rw (is_at-here p e.0 mine) refl
+  | inr other ↦ rw (is_at-apart p e.0 other) (durable-away p es)
+]
+
+pub touches-away : (es ns : Entries) (ts : List ℕ) → ns ≡ away es → Touches es ts ns ts
+touches-away es ns ts is = record { still = λ p h. h; changed = λ p. inl (rw is (durable-away p es)) }
+
+pub touches-same : (es ns : Entries) (ts us : List ℕ) → ns ≡ es → us ≡ ts → Touches es ts ns us
+touches-same es ns ts us is same = rw (is, same) (record { still = λ p h. h; changed = λ p. inl refl })
+
+-- ---- stages that take less
+pub less-sent : (id : ℕ) (s : Stage) → waits s ≡ true → 3 ≤ stage_credits s
+less-sent id Waiting w = omega arith
+less-sent id (Published i) w = absurd (false≢true w)
+less-sent id (Released i order) w = absurd (false≢true w)
+
+pub less-released : (q : Qos) (s : Stage) → takes_pubrec q s ≡ true → 2 ≤ stage_credits s
+less-released AtMostOnce s t = absurd (false≢true t)
+less-released AtLeastOnce s t = absurd (false≢true t)
+less-released ExactlyOnce Waiting t = absurd (false≢true t)
+less-released ExactlyOnce (Published id) t = omega arith
+less-released ExactlyOnce (Released id order) t = absurd (false≢true t)
+
+-- between equal entries
+pub marks-within : (es fs gs hs : Entries) (l k : Marked) → fs ≡ es → Marks fs l gs k → hs ≡ gs → Marks es l hs k
+marks-within es fs gs hs l k a m b = marks-then es fs hs l l k (marks-same es fs l a) (marks-then fs gs hs l k k m (marks-same gs hs k b))
+
+-- ---- the place of an identifier
+pub place-of : (es : Entries) (places : List ℕ) (from id : ℕ) → IsIndexed es places from → IsSome (find_id id es) → IsPlaceOf es id (place_in places id)
+place-of es places from id h some = elim (cases_eq (place_in places id) 0) [
+  | inl z ↦ absurd (false≢true (rw (find-none id es (none-listed places id es h.listed z)) at some))
+  | inr used ↦
+      let its = points-to es places from id h used in
+      record {
+        at = find-indexed es places from id h;
+        dropped = sym (drop-indexed es places from id h used);
+        written = λ f. sym (write-at f id (place_in places id) its.0 es (only-listed places id es h.listed) its.1 its.2);
+      }
+]
+
+-- ---- by rising order
+pub in-inserted : (p k : ℕ) (ks : List ℕ) → is_in p (insert_key nat_cmp ks k) ≡ ((k == p) || is_in p ks)
+in-inserted p k [] = refl
+in-inserted p k (x ∷ ks) = elim (cases_lt k x) [
+  | inl lt ↦ let o : nat_cmp k x ≡ Less = grind (arith, nat_tests) in rw o refl
+  | inr le ↦ elim (cases_eq k x) [
+    | inl same ↦ let o : nat_cmp k x ≡ Equal = grind (arith, nat_tests) in rw (o, same) (elim (cases_Bool (x == p)) [ inl t ↦ rw t refl | inr f ↦ rw f refl ])
+    | inr apart ↦ let o : nat_cmp k x ≡ Greater = grind (arith, nat_tests) in
+        rw (o, in-inserted p k ks) (elim (cases_Bool (x == p)) [ inl t ↦ rw t (sym (or_right (k == p) true refl)) | inr f ↦ rw f refl ])
+  ]
+]
+
+-- the set with the rest of the places has all of them
+abbrev pub IsMade : List ℕ → List ℕ → List ℕ → Type 0
+IsMade ks rest ts = (p : ℕ) → (is_in p ks || is_in p rest) ≡ is_in p ts
+
+pub made-one : (ks ns rest ts : List ℕ) (k : ℕ) → IsMade ks (k ∷ rest) ts → ns ≡ insert_key nat_cmp ks k → IsMade ns rest ts
+made-one ks ns rest ts k h is p = rw (is, in-inserted p k ks) (elim (cases_Bool (k == p)) [
+  | inl t ↦ let g = rw t at (h p) in rw t (sym (or_right (is_in p ks) true refl) ∙ g)
+  | inr f ↦ let g = rw f at (h p) in rw f g
+])
+
+pub made-all : (ks ts : List ℕ) → IsMade ks [] ts → HasAll ks ts
+made-all ks ts h p = elim (cases_Bool (is_in p ks)) [ inl t ↦ rw t (rw t at (h p)) | inr f ↦ rw f (rw f at (h p)) ]
+
+-- ---- the rest of the places
+pub rest-at : (i : ℕ) (ps : List ℕ) → i < length ps → drop i ps ≡ get_or ps i 0 ∷ drop (suc i) ps
+rest-at i [] lt = absurd (omega (arith, lt))
+rest-at zero (p ∷ ps) lt = refl
+rest-at (suc i) (p ∷ ps) lt = rest-at i ps (omega (arith, lt))
+
+pub rest-one : (ks ns ps : List ℕ) (i : ℕ) → i < length ps → IsMade ks (drop i ps) ps → ns ≡ insert_key nat_cmp ks (get_or ps i 0) → IsMade ns (drop (i + 1) ps) ps
+rest-one ks ns ps i lt h is = rw add-one (made-one ks ns (drop (suc i) ps) ps (get_or ps i 0) (rw (rest-at i ps lt) at h) is)
+
+pub rest-none : (i : ℕ) (ps : List ℕ) → length ps ≤ i → drop i ps ≡ []
+rest-none zero [] le = refl
+rest-none (suc i) [] le = refl
+rest-none zero (p ∷ ps) le = absurd (omega (arith, le))
+rest-none (suc i) (p ∷ ps) le = rest-none i ps (omega (arith, le))
+
+pub rest-made : (ks ps : List ℕ) (i : ℕ) → length ps ≤ i → IsMade ks (drop i ps) ps → HasAll ks ps
+rest-made ks ps i le h = made-all ks ps (rw (rest-none i ps le) at h)

@@ -1,0 +1,5 @@
+//! Tests of the stores of rows, in a crate of their own so that those are proved once.
+#![tactic(auto)]
+
+#[cfg(test)]
+mod tests;

@@ -1,0 +1,11 @@
+pub mod Neighbours
+pub mod Means
+pub mod Lists
+pub mod Effects
+pub mod Updates
+pub mod CellLemmas
+pub mod Sorted
+pub mod Loads
+pub mod Orders
+pub mod Adopts
+pub mod Ids

@@ -1,0 +1,217 @@
+//! The statements that a store of rows runs.
+ghost use Rattle.std.specs.Prelude.{◌≡◌, ◌≤◌, ◌↔◌, [], false, true, None, map, T, IsTrue, IfOk, OnOk, OnErr};
+ghost use Rattle.std.specs.FinMap.{empty, get, insert, remove, is_sorted};
+ghost use Rattle.std.specs.List.{All};
+ghost use Rattle.std.specs.List.Sorted.{IsPermutation};
+ghost use Rattle.sqlite.specs.Given.{IsPlain};
+ghost use Rattle.sqlite.specs.Held.{state};
+ghost use Rattle.sqlite.specs.Listing.{understood};
+ghost use Rattle.sqlite.specs.State.{HasCleanDisk, KeepsCommit, Shown, Survives};
+ghost use Rattle.sqlite.specs.View.{doubt};
+ghost use Rattle.session_records.specs.Connections.{Becomes, Commits, GoesOn, HasUpdated, IsBegun, IsSameAs, Stays};
+ghost use Rattle.session_records.specs.Rows.{after, after_all, key_cmp};
+ghost use Rattle.session_records.specs.Stored.{AreTyped, IsFormed, IsShown, entry_in, entry_shown, held};
+ghost use Rattle.session_records.specs.Table.{no_schema, rows_schema};
+
+use crate::found::are_rows;
+use crate::row::Change;
+use sqlite::{Alter, Connection, Error, Row as Found, Transaction, params};
+
+fn erase_row<S: Alter>(
+    tx: &mut Transaction<'_, S>,
+    kind: u8,
+    owner: &[u8],
+    place: &[u8],
+) -> Result<usize, Error>
+    ensures same_reference { tx.new.conn.ghost_name ≡ tx.old.conn.ghost_name }
+    ensures goes { HasCleanDisk (state S.Store tx.new.conn.now) → IsFormed (state S.Store tx.old.conn.now).now
+        → OnOk result (GoesOn (state S.Store tx.old.conn.now) (state S.Store tx.new.conn.now) (remove (held (state S.Store tx.old.conn.now).now) (kind, (owner.now, place.now)))) }
+    ensures kept { HasCleanDisk (state S.Store tx.new.conn.now) → KeepsCommit (state S.Store tx.old.conn.now) (state S.Store tx.new.conn.now) }
+    ensures survives { Survives (state S.Store tx.old.conn.now) (state S.Store tx.new.conn.now) (λ _. ⊥) }
+{
+    tx.execute(
+        "DELETE FROM rows WHERE kind = ?1 AND owner = ?2 AND place = ?3",
+        params![u32::from(kind), owner, place],
+    )
+}
+
+fn put_row<S: Alter>(
+    tx: &mut Transaction<'_, S>,
+    kind: u8,
+    owner: &[u8],
+    place: &[u8],
+    value: &[u8],
+) -> Result<usize, Error>
+    ensures same_reference { tx.new.conn.ghost_name ≡ tx.old.conn.ghost_name }
+    ensures goes { HasCleanDisk (state S.Store tx.new.conn.now) → IsFormed (state S.Store tx.old.conn.now).now
+        → get (held (state S.Store tx.old.conn.now).now) (kind, (owner.now, place.now)) ≡ None
+        → OnOk result (GoesOn (state S.Store tx.old.conn.now) (state S.Store tx.new.conn.now) (insert (held (state S.Store tx.old.conn.now).now) (kind, (owner.now, place.now)) value.now)) }
+    ensures kept { HasCleanDisk (state S.Store tx.new.conn.now) → KeepsCommit (state S.Store tx.old.conn.now) (state S.Store tx.new.conn.now) }
+    ensures survives { Survives (state S.Store tx.old.conn.now) (state S.Store tx.new.conn.now) (λ _. ⊥) }
+{
+    tx.execute(
+        "INSERT INTO rows (kind, owner, place, value) VALUES (?1, ?2, ?3, ?4)",
+        params![u32::from(kind), owner, place, value],
+    )
+}
+
+/// How many rows were at the key: one, which has the value now, or none.
+fn update_row<S: Alter>(
+    tx: &mut Transaction<'_, S>,
+    kind: u8,
+    owner: &[u8],
+    place: &[u8],
+    value: &[u8],
+) -> Result<usize, Error>
+    ensures same_reference { tx.new.conn.ghost_name ≡ tx.old.conn.ghost_name }
+    ensures goes { HasCleanDisk (state S.Store tx.new.conn.now) → IsFormed (state S.Store tx.old.conn.now).now
+        → IfOk result (HasUpdated (state S.Store tx.old.conn.now) (state S.Store tx.new.conn.now) (kind, (owner.now, place.now)) value.now) }
+    ensures kept { HasCleanDisk (state S.Store tx.new.conn.now) → KeepsCommit (state S.Store tx.old.conn.now) (state S.Store tx.new.conn.now) }
+    ensures survives { Survives (state S.Store tx.old.conn.now) (state S.Store tx.new.conn.now) (λ _. ⊥) }
+{
+    tx.execute(
+        "UPDATE rows SET value = ?4 WHERE kind = ?1 AND owner = ?2 AND place = ?3",
+        params![u32::from(kind), owner, place, value],
+    )
+}
+
+fn make_change<S: Alter>(tx: &mut Transaction<'_, S>, change: &Change) -> Result<(), Error>
+    ensures same_reference { tx.new.conn.ghost_name ≡ tx.old.conn.ghost_name }
+    ensures goes { HasCleanDisk (state S.Store tx.new.conn.now) → IsFormed (state S.Store tx.old.conn.now).now
+        → OnOk result (GoesOn (state S.Store tx.old.conn.now) (state S.Store tx.new.conn.now) (after (held (state S.Store tx.old.conn.now).now) change.now)) }
+    ensures kept { HasCleanDisk (state S.Store tx.new.conn.now) → KeepsCommit (state S.Store tx.old.conn.now) (state S.Store tx.new.conn.now) }
+    ensures survives { Survives (state S.Store tx.old.conn.now) (state S.Store tx.new.conn.now) (λ _. ⊥) }
+{
+    match change {
+        Change::Put(row) => {
+            let found = update_row(tx, row.kind, &row.owner, &row.place, &row.value)?;
+            if found == 0 {
+                put_row(tx, row.kind, &row.owner, &row.place, &row.value)?;
+            }
+        }
+        Change::Remove(kind, owner, place) => {
+            erase_row(tx, *kind, owner, place)?;
+        }
+    }
+    Ok(())
+}
+
+fn make_changes<S: Alter>(tx: &mut Transaction<'_, S>, changes: &[Change]) -> Result<(), Error>
+    ensures same_reference { tx.new.conn.ghost_name ≡ tx.old.conn.ghost_name }
+    ensures goes { HasCleanDisk (state S.Store tx.new.conn.now) → IsBegun (state S.Store tx.old.conn.now) → IsFormed (state S.Store tx.old.conn.now).now
+        → OnOk result (GoesOn (state S.Store tx.old.conn.now) (state S.Store tx.new.conn.now) (after_all (held (state S.Store tx.old.conn.now).now) changes.now)) }
+    ensures kept { HasCleanDisk (state S.Store tx.new.conn.now) → KeepsCommit (state S.Store tx.old.conn.now) (state S.Store tx.new.conn.now) }
+    ensures survives { Survives (state S.Store tx.old.conn.now) (state S.Store tx.new.conn.now) (λ _. ⊥) }
+{
+    for change in changes {
+        make_change(tx, change)?;
+    }
+    Ok(())
+}
+
+/// Makes all the changes in one transaction, or none.
+pub fn commit_changes<S: Alter>(conn: &mut Connection<S>, changes: &[Change]) -> Result<(), Error>
+    requires { conn.old.in_transaction ≡ false }
+    ensures ended { conn.new.in_transaction ≡ false }
+    ensures clean { doubt (state S.Store conn.old).is_clean ≤ doubt (state S.Store conn.new).is_clean }
+    ensures was_open { HasCleanDisk (state S.Store conn.new) → IsTrue (state S.Store conn.new).is_open → IsTrue (state S.Store conn.old).is_open }
+    ensures ok { HasCleanDisk (state S.Store conn.new) → IsTrue (state S.Store conn.old).is_open → IsFormed (state S.Store conn.old).now
+        → OnOk result (Becomes (state S.Store conn.new) (after_all (held (state S.Store conn.old).now) changes.now)) }
+    ensures err { HasCleanDisk (state S.Store conn.new) → IsTrue (state S.Store conn.new).is_open → IsTrue (state S.Store conn.old).is_open → IsFormed (state S.Store conn.old).now
+        → OnErr result (((state S.Store conn.new).now ≡ (state S.Store conn.old).committed) × ((state S.Store conn.new).committed ≡ (state S.Store conn.old).committed)) }
+    ensures survives { IsTrue (state S.Store conn.old).is_open → IsFormed (state S.Store conn.old).now
+        → Survives (state S.Store conn.old) (state S.Store conn.new) (Commits (after_all (held (state S.Store conn.old).now) changes.now)) }
+{
+    let mut tx = conn.transaction();
+    make_changes(&mut tx, changes)?;
+    tx.commit()
+}
+
+fn create_table<S: Alter>(tx: &mut Transaction<'_, S>) -> Result<usize, Error>
+    ensures same_reference { tx.new.conn.ghost_name ≡ tx.old.conn.ghost_name }
+    ensures goes { HasCleanDisk (state S.Store tx.new.conn.now) → (state S.Store tx.old.conn.now).now.schema ≡ no_schema
+        → OnOk result (GoesOn (state S.Store tx.old.conn.now) (state S.Store tx.new.conn.now) empty) }
+    ensures kept { HasCleanDisk (state S.Store tx.new.conn.now) → KeepsCommit (state S.Store tx.old.conn.now) (state S.Store tx.new.conn.now) }
+    ensures survives { Survives (state S.Store tx.old.conn.now) (state S.Store tx.new.conn.now) (λ _. ⊥) }
+{
+    tx.execute(
+        "CREATE TABLE rows (kind INTEGER NOT NULL, owner BLOB NOT NULL, place BLOB NOT NULL, value BLOB NOT NULL, PRIMARY KEY (kind, owner, place)) STRICT",
+        &[],
+    )
+}
+
+/// Makes the table in a database that has none.
+pub fn make_table<S: Alter>(conn: &mut Connection<S>) -> Result<(), Error>
+    requires { conn.old.in_transaction ≡ false }
+    ensures ended { conn.new.in_transaction ≡ false }
+    ensures clean { doubt (state S.Store conn.old).is_clean ≤ doubt (state S.Store conn.new).is_clean }
+    ensures was_open { HasCleanDisk (state S.Store conn.new) → IsTrue (state S.Store conn.new).is_open → IsTrue (state S.Store conn.old).is_open }
+    ensures ok { HasCleanDisk (state S.Store conn.new) → (state S.Store conn.old).now.schema ≡ no_schema
+        → OnOk result (Becomes (state S.Store conn.new) empty) }
+    ensures err { HasCleanDisk (state S.Store conn.new) → IsTrue (state S.Store conn.new).is_open → IsTrue (state S.Store conn.old).is_open → (state S.Store conn.old).now.schema ≡ no_schema
+        → OnErr result (((state S.Store conn.new).now ≡ (state S.Store conn.old).committed) × ((state S.Store conn.new).committed ≡ (state S.Store conn.old).committed)) }
+    ensures survives { (state S.Store conn.old).now.schema ≡ no_schema → Survives (state S.Store conn.old) (state S.Store conn.new) (Commits empty) }
+{
+    let mut tx = conn.transaction();
+    create_table(&mut tx)?;
+    tx.commit()
+}
+
+/// All rows that a text shows which only reads, and has no parameters.
+fn ask<S: Alter>(conn: &mut Connection<S>, sql: &str) -> Result<Vec<Found>, Error>
+    requires { conn.old.in_transaction ≡ false }
+    ensures mode { conn.new.in_transaction ≡ false }
+    ensures shown { HasCleanDisk (state S.Store conn.new) → IfOk result (λ rows. Shown sql.now [] (state S.Store conn.old) (state S.Store conn.new) rows.items) }
+    ensures same { HasCleanDisk (state S.Store conn.new) → IsPlain (understood (state S.Store conn.old).now.schema sql.now)
+        → OnOk result (IsSameAs (state S.Store conn.old) (state S.Store conn.new)) }
+    ensures stays { HasCleanDisk (state S.Store conn.new) → IsPlain (understood (state S.Store conn.old).now.schema sql.now)
+        → Stays (state S.Store conn.old) (state S.Store conn.new) }
+    ensures was_open { HasCleanDisk (state S.Store conn.new) → IsTrue (state S.Store conn.new).is_open → IsTrue (state S.Store conn.old).is_open }
+    ensures clean { doubt (state S.Store conn.old).is_clean ≤ doubt (state S.Store conn.new).is_clean }
+    ensures survives { IsPlain (understood (state S.Store conn.old).now.schema sql.now) → Survives (state S.Store conn.old) (state S.Store conn.new) (λ _. ⊥) }
+{
+    conn.query_all(sql, &[])
+}
+
+/// The rows of the table as the database has them, in the order of their keys.
+pub fn query_rows<S: Alter>(conn: &mut Connection<S>) -> Result<Vec<Found>, Error>
+    requires { conn.old.in_transaction ≡ false }
+    ensures mode { conn.new.in_transaction ≡ false }
+    ensures rows { HasCleanDisk (state S.Store conn.new) → (state S.Store conn.old).now.schema ≡ rows_schema
+        → IfOk result (λ rows. IsPermutation (map entry_in ((state S.Store conn.old).now.trees 0)) (map entry_shown rows.items)) }
+    ensures formed { HasCleanDisk (state S.Store conn.new) → IsFormed (state S.Store conn.old).now
+        → IfOk result (λ rows. All IsShown rows.items × T (is_sorted key_cmp (map entry_shown rows.items))) }
+    ensures same { HasCleanDisk (state S.Store conn.new) → (state S.Store conn.old).now.schema ≡ rows_schema
+        → OnOk result (IsSameAs (state S.Store conn.old) (state S.Store conn.new)) }
+    ensures stays { HasCleanDisk (state S.Store conn.new) → (state S.Store conn.old).now.schema ≡ rows_schema
+        → Stays (state S.Store conn.old) (state S.Store conn.new) }
+    ensures was_open { HasCleanDisk (state S.Store conn.new) → IsTrue (state S.Store conn.new).is_open → IsTrue (state S.Store conn.old).is_open }
+    ensures clean { doubt (state S.Store conn.old).is_clean ≤ doubt (state S.Store conn.new).is_clean }
+    ensures survives { (state S.Store conn.old).now.schema ≡ rows_schema → Survives (state S.Store conn.old) (state S.Store conn.new) (λ _. ⊥) }
+{
+    ask(
+        conn,
+        "SELECT kind, owner, place, value FROM rows ORDER BY kind, owner, place",
+    )
+}
+
+/// Whether each row of the table has the form, and no rowid comes twice.
+pub fn has_form<S: Alter>(conn: &mut Connection<S>) -> Result<bool, Error>
+    requires { conn.old.in_transaction ≡ false }
+    ensures mode { conn.new.in_transaction ≡ false }
+    ensures typed { HasCleanDisk (state S.Store conn.new) → (state S.Store conn.old).now.schema ≡ rows_schema
+        → IfOk result (λ has. IsTrue has ↔ AreTyped ((state S.Store conn.old).now.trees 0)) }
+    ensures same { HasCleanDisk (state S.Store conn.new) → (state S.Store conn.old).now.schema ≡ rows_schema
+        → OnOk result (IsSameAs (state S.Store conn.old) (state S.Store conn.new)) }
+    ensures stays { HasCleanDisk (state S.Store conn.new) → (state S.Store conn.old).now.schema ≡ rows_schema
+        → Stays (state S.Store conn.old) (state S.Store conn.new) }
+    ensures was_open { HasCleanDisk (state S.Store conn.new) → IsTrue (state S.Store conn.new).is_open → IsTrue (state S.Store conn.old).is_open }
+    ensures clean { doubt (state S.Store conn.old).is_clean ≤ doubt (state S.Store conn.new).is_clean }
+    ensures survives { (state S.Store conn.old).now.schema ≡ rows_schema → Survives (state S.Store conn.old) (state S.Store conn.new) (λ _. ⊥) }
+{
+    let found = ask(
+        conn,
+        "SELECT rowid, kind, owner, place, value FROM rows ORDER BY rowid",
+    )?;
+    Ok(are_rows(&found))
+}

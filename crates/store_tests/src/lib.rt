@@ -1,0 +1,5 @@
+//! Tests of the replicated types, by what their crates make public.
+#![tactic(auto)]
+
+#[cfg(test)]
+mod store;

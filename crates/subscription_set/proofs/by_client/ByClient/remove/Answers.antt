@@ -1,0 +1,57 @@
+use Rattle.std.proofs.Common.{subst, ◌≡◌, Some, None, rules, ap, sym, ◌∙◌}
+use Rattle.std.specs.FinMap as map
+use Rattle.std.specs.FinSet as set
+use Rattle.std.specs.Option.{option_copied_mut}
+use Rattle.subscription_set.specs.Filing.{Filed, IsFilled, spread, text_cmp}
+use Rattle.subscription_set.proofs.Tables.{get_table, insert_table, remove_table}
+use Rattle.subscription_set.proofs.Spreading.{text_total, text_anti, filed_total, filed_anti, take_written, take_last, filled_left, filled_last, spread_absent}
+use Rattle.subscription_set.proofs.by_client.ByClient.remove.Goals as goal
+use Rattle.subscription_set.proofs.by_client.ByClient.remove.Goals.{in-Some-1, in-None-1}
+
+pub invariant_of-self : goal.invariant_of-self
+invariant_of-self c =
+    let es = c.self.inside.by_client.entries in
+    let fs = (c.get_mut.follows.lender c.remove.new.self).entries in
+    let written = insert_table text_total text_anti es fs c.args.client.now c.remove.new.self ((c.get_mut.follows.holds c.remove.new.self).3 (search rules)).0 in
+    let gone = remove_table text_total text_anti fs c.remove-then-is_empty.new.self.entries c.args.client.now c.remove-then-is_empty.ensures.updates.0 in
+    filled_last text_total text_anti filed_total filed_anti (map.from_entries es) (map.from_entries fs) (map.from_entries c.remove-then-is_empty.new.self.entries) c.args.client.now c.remove.new.self written gone c.self.invariant
+
+pub invariant_of-self-else-is_empty : goal.invariant_of-self-else-is_empty
+invariant_of-self-else-is_empty c =
+    let es = c.self.inside.by_client.entries in
+    let fs = (c.get_mut.follows.lender c.remove.new.self).entries in
+    let written = insert_table text_total text_anti es fs c.args.client.now c.remove.new.self ((c.get_mut.follows.holds c.remove.new.self).3 (search rules)).0 in
+    filled_left text_total text_anti filed_total filed_anti (map.from_entries es) (map.from_entries fs) c.args.client.now c.remove.new.self written c.if-is_empty.ensures c.self.invariant
+
+pub returns-then-is_empty : goal.returns-then-is_empty
+returns-then-is_empty c =
+    let es = c.self.inside.by_client.entries in
+    let fs = (c.get_mut.follows.lender c.remove.new.self).entries in
+    let m : map.FinMap text_cmp Filed = map.from_entries es in
+    let is : map.get m c.args.client.now ≡ Some c.in-Some.filters.now = get_table text_total es c.args.client.now ∙ sym c.get_mut.ensures.value ∙ ap option_copied_mut c.in-Some.is in
+    let written = insert_table text_total text_anti es fs c.args.client.now c.remove.new.self ((c.get_mut.follows.holds c.remove.new.self).3 (search rules)).0 in
+    let gone = remove_table text_total text_anti fs c.remove-then-is_empty.new.self.entries c.args.client.now c.remove-then-is_empty.ensures.updates.0 in
+    let left = take_last text_total text_anti filed_total filed_anti m (map.from_entries fs) (map.from_entries c.remove-then-is_empty.new.self.entries) c.args.client.now c.in-Some.filters.now c.remove.new.self (c.as_text.result.now, c.args.dot) is written c.remove.ensures c.if-is_empty.ensures gone
+    ∙ (λ i. set.remove (c.self.view_is i) (c.args.client.now, (c.as_text.ensures.same i, c.args.dot))) in
+    elim c.match-remove.branch [ in-Some-1 w ↦ w.self-is ∙ left | in-None-1 w ↦ w.self-is ∙ left ]
+
+pub returns-else-is_empty : goal.returns-else-is_empty
+returns-else-is_empty c =
+    let es = c.self.inside.by_client.entries in
+    let fs = (c.get_mut.follows.lender c.remove.new.self).entries in
+    let m : map.FinMap text_cmp Filed = map.from_entries es in
+    let is : map.get m c.args.client.now ≡ Some c.in-Some.filters.now = get_table text_total es c.args.client.now ∙ sym c.get_mut.ensures.value ∙ ap option_copied_mut c.in-Some.is in
+    let written = insert_table text_total text_anti es fs c.args.client.now c.remove.new.self ((c.get_mut.follows.holds c.remove.new.self).3 (search rules)).0 in
+    take_written text_total text_anti filed_total filed_anti m (map.from_entries fs) c.args.client.now c.in-Some.filters.now c.remove.new.self (c.as_text.result.now, c.args.dot) is written c.remove.ensures
+    ∙ (λ i. set.remove (c.self.view_is i) (c.args.client.now, (c.as_text.ensures.same i, c.args.dot)))
+
+pub returns-in_default : goal.returns-in_default
+returns-in_default c =
+    let es = c.self.inside.by_client.entries in
+    let m : map.FinMap text_cmp Filed = map.from_entries es in
+    let none : map.get m c.args.client.now ≡ None = get_table text_total es c.args.client.now ∙ sym c.get_mut.ensures.value ∙ ap option_copied_mut c.in_default.is in
+    ap (λ t. spread (map.from_entries {R = text_cmp} t.entries)) c.get_mut.follows.holds-at-none ∙ spread_absent text_total text_anti filed_total filed_anti m c.args.client.now (c.args.filter.now, c.args.dot) none
+    ∙ ap (λ v. set.remove v (c.args.client.now, (c.args.filter.now, c.args.dot))) c.self.view_is
+
+pub invariant_of-self-in_default : goal.invariant_of-self-in_default
+invariant_of-self-in_default c = subst (λ t. IsFilled (map.from_entries {R = text_cmp} t.entries)) (sym c.get_mut.follows.holds-at-none) c.self.invariant
