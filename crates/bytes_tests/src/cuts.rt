@@ -5,7 +5,7 @@ use mqtt_packets::Framer;
 use std::alloc::{AllocError, Global};
 
 /// What a framer gives of the pieces, after its limit in bytes: for each piece the shortest spellings
-/// of its packets, `.` for none, and the name of its fault; then the first byte of what is held.
+/// of its packets, `.` for none, and the name of its fault; then what is held and its first byte.
 pub fn stream(alloc: Global, words: &str) -> Result<String, AllocError> {
     let (limit, pieces) = match words.split_once(' ') {
         Some(parts) => parts,
@@ -18,11 +18,11 @@ pub fn stream(alloc: Global, words: &str) -> Result<String, AllocError> {
         answer.push_str(told.as_str())?;
         answer.push(' ')?;
     }
+    let held = hex::encode(alloc, framer.rest())?;
     match framer.first() {
-        Some(byte) => answer.push_str(hex::encode(alloc, &[byte])?.as_str())?,
-        None => answer.push('.')?,
+        Some(byte) => format!(in alloc; "{answer}holds {held} from {byte}"),
+        None => format!(in alloc; "{answer}holds nothing"),
     }
-    Ok(answer)
 }
 
 /// What a framer gives of one piece.

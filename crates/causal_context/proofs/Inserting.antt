@@ -35,7 +35,7 @@ module _ (rs : List Range) (node number next : ℕ) (sound : IsSound rs) (node_f
       record { positive = omega arith; node = λ e. sym (ap (λ r. r.node) (at e)) ∙ same; number = λ e. subst (λ r. number ≤ r.last + 1) (at e) near }
 
   -- the ranges before the place end before x, which starts at the dot
-  before_apart : (ReachesAt rs next here → ⊥) → (x : Range) → x.node ≡ node → x.first ≡ number → (k : ℕ) (d : Range) → k < next → IsApart (get_or rs k d) x
+  pub before_apart : (ReachesAt rs next here → ⊥) → (x : Range) → x.node ≡ node → x.first ≡ number → (k : ℕ) (d : Range) → k < next → IsApart (get_or rs k d) x
   before_apart free x same first k d lt =
       let by = started.by k d lt in
       elim (cases_order (k + 1) next) [

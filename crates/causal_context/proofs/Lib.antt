@@ -2,6 +2,7 @@ pub mod Below
 pub mod Cutting
 pub mod Greatest
 pub mod Inserting
+pub mod Touching
 pub mod Merging
 pub mod OneSpelling
 pub mod RangeLemmas

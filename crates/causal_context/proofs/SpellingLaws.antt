@@ -1,5 +1,5 @@
 -- A set of dots is read as it is spelled, and each set has one spelling.
-use Rattle.std.proofs.Common.{◌≡◌, ℕ, zero, suc, ◌+◌, ◌-◌, ◌*◌, ◌<◌, ◌≤◌, ◌^◌, Bool, true, false, cond, ◌&&◌, ◌==◌, List, [], ◌∷◌, ◌++◌, length, get_or, take, drop, Option, Some, None, Result, Ok, Err, refl, sym, ap, subst, ◌∙◌, append_assoc, inl, inr, arith}
+use Rattle.std.proofs.Common.{◌≡◌, ℕ, zero, suc, ◌+◌, ◌-◌, ◌*◌, ◌<◌, ◌≤◌, ◌^◌, Bool, true, false, cond, ◌&&◌, ◌==◌, List, [], ◌∷◌, ◌++◌, length, get_or, take, drop, Option, Some, None, Result, Ok, Err, refl, sym, ap, subst, ◌∙◌, append_assoc, inl, inr, ◌⊎◌, arith}
 use Rattle.std.specs.Prelude.{nat_le, nat_lt, OnOk}
 use Rattle.std.proofs.lemmas.Result.{IfOk-at_ok}
 use Rattle.std.specs.Int.{to_be_bytes, w16, w32, w64}
@@ -17,7 +17,7 @@ use Rattle.mqtt_fields.proofs.NumberLaws.{wide16, wide32, wide64, number_is}
 use Rattle.causal_context.specs.Dots.{Dots}
 use Rattle.causal_context.specs.declared.ranges.Range.{Range}
 use Rattle.causal_context.specs.Ranges.{IsFine, IsSound, IsApart, IsContext, set_of}
-use Rattle.causal_context.specs.Spelling.{range, ranges, context, ranges_bytes, ranges_of, with_first, ranges_at, is_of_dots, stands_before, may_follow, Spells, HasSpelling, HasOneSpelling}
+use Rattle.causal_context.specs.Spelling.{range, ranges, context, ranges_bytes, ranges_of, with_first, ranges_at, is_of_dots, stands_before, may_follow, Spells, HasSpelling, HasOneSpelling, HasFirst}
 use Rattle.causal_context.proofs.RangeLemmas.{or_cases, or_left, or_right}
 use Rattle.causal_context.proofs.Runs.{sound_none, sound_cons, ranges_of-set_of}
 
@@ -175,6 +175,20 @@ module _ (n : ℕ) (bs : List ℕ) (i : ℕ) (done : List Range) (before : Optio
 pub all_read : (n : ℕ) (bs : List ℕ) (i : ℕ) (done : List Range) (before : Option Range) (rest : List ℕ) → n ≤ i → AreReadUpTo n bs i done before rest → ranges_at n None bs ≡ Ok (done, rest)
 all_read n bs i done before rest past so_far =
     so_far.so_far ∙ ap (λ k. after_done done (ranges_at k before rest)) {x = n - i} {y = 0} (omega arith) ∙ ap (λ (rs : List Range). Ok (rs, rest)) (append-nil done)
+
+-- nothing has been read yet, or a first range
+abbrev pub HasBegun : ℕ → List ℕ → Option Range → List ℕ → Type 0
+HasBegun n bs before rest = ((rest ≡ bs) × (before ≡ None)) ⊎ HasFirst n bs
+
+pub first_read : (n : ℕ) (bs : List ℕ) (before : Option Range) (rest : List ℕ) → HasBegun n bs before rest → 0 < n → (r : Range) (after : List ℕ) → range.at rest ≡ Ok (r, after) → may_follow before r ≡ true → HasFirst n bs
+first_read n bs before rest (inr h) some r after e test = h
+first_read n bs before rest (inl start) some r after e test = record {
+  some = some;
+  first = r;
+  rest = after;
+  read = ap range.at (sym start.0) ∙ e;
+  fine = ap (λ (b : Option Range). may_follow b r) (sym start.1) ∙ test;
+}
 
 -- the bytes of the first i ranges are written
 pub record AreWrittenUpTo (old : List ℕ) (rs : List Range) (i : ℕ) (new : List ℕ) : Type 0 where

@@ -3,6 +3,7 @@ pub mod Lattices
 pub mod MapLattice
 pub mod OrderLattice
 pub mod RangeSteps
+pub mod Joining
 pub mod Ranges
 pub mod SetLattice
 pub mod Spelling

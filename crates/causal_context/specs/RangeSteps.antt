@@ -2,7 +2,7 @@
 use Rattle.std.specs.Prelude.{◌≡◌, ◌⊎◌, ℕ, ◌+◌, ◌-◌, ◌<◌, ◌≤◌, ◌^◌, true, not, ◌||◌, ◌&&◌, List, length, slice_index_or}
 use Rattle.causal_context.specs.Dots.{Dot}
 use Rattle.causal_context.specs.declared.ranges.Range.{Range}
-use Rattle.causal_context.specs.Ranges.{covers, covered, IsSound}
+use Rattle.causal_context.specs.Ranges.{covers, covered, IsSound, IsApart}
 
 -- the range of one number
 abbrev pub one_number : ℕ → ℕ → Range
@@ -71,6 +71,20 @@ pub record IsJoined (old : List Range) (range : Range) (new : List Range) : Type
   pub sound : IsSound new
   pub starts : AllStartUpTo new range
   pub members : (q : Dot) → covered q new ≡ (covered q old || covers q range)
+
+-- a and b overlap, or one ends right before the other
+pub record Touches (a b : Range) : Type 0 where
+  pub node : a.node ≡ b.node
+  pub from : b.first ≤ a.last + 1
+  pub to : a.first ≤ b.last + 1
+
+-- the ranges from the place i to before j touch the range; those before and after stand apart from it
+pub record AreTouched (rs : List Range) (r : Range) (i j : ℕ) : Type 0 where
+  pub order : i ≤ j
+  pub in_range : j ≤ length rs
+  pub before : (k : ℕ) (e : Range) → k < i → IsApart (slice_index_or rs k e) r
+  pub touch : (k : ℕ) (e : Range) → i ≤ k → k < j → Touches (slice_index_or rs k e) r
+  pub after : (k : ℕ) (e : Range) → j ≤ k → k < length rs → IsApart r (slice_index_or rs k e)
 
 -- out has the dots of both
 pub record IsUnion (a b out : List Range) : Type 0 where

@@ -1,5 +1,5 @@
 -- How a set of dots is spelled in bytes.
-use Rattle.std.specs.Prelude.{◌≡◌, ℕ, suc, zero, ◌+◌, ◌^◌, Bool, ◌||◌, ◌&&◌, ◌==◌, nat_le, nat_lt, List, [], ◌∷◌, ◌++◌, map, length, Option, Some, None, Result, Ok, Err, if◌then◌else◌}
+use Rattle.std.specs.Prelude.{◌≡◌, ℕ, suc, zero, ◌+◌, ◌<◌, ◌^◌, Bool, true, ◌||◌, ◌&&◌, ◌==◌, nat_le, nat_lt, List, [], ◌∷◌, ◌++◌, map, length, Option, Some, None, Result, Ok, Err, if◌then◌else◌}
 use Rattle.std.specs.Int.{to_be_bytes, w16, w32, w64}
 use Rattle.std.specs.List.{flat_map}
 use Rattle.std.specs.FinSet as set
@@ -82,6 +82,21 @@ ranges = record {
   bytes = ranges_bytes;
   Fits = IsContext;
 }
+
+-- of so many ranges there is a first, and nothing is wrong with it
+pub record HasFirst (count : ℕ) (bs : List ℕ) : Type 0 where
+  pub some : 0 < count
+  pub first : Range
+  pub rest : List ℕ
+  pub read : range.at bs ≡ Ok (first, rest)
+  pub fine : is_of_dots first ≡ true
+
+-- Reading a set wants memory: its first range has been read. An empty set wants none, nor does a fault before that.
+pub record WantsMemory (bs : List ℕ) : Type 0 where
+  pub count : ℕ
+  pub more : List ℕ
+  pub counted : (number w32).at bs ≡ Ok (count, more)
+  pub first : HasFirst count more
 
 -- a set of dots, as a field
 unfoldable pub context : Field Dots

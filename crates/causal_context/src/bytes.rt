@@ -43,7 +43,8 @@ fn may_come_next(before: Option<Range>, range: Range) -> bool
 
 // So many ranges at the front, and the bytes after them.
 fn ranges_from(alloc: Global, count: u32, bytes: &[u8]) -> Result<(Vec<Range>, &[u8]), FieldFault>
-    ensures { Gives (λ x. (x.0.items, x.1.now)) result (spec.ranges_at count None bytes.now) }
+    ensures exact { Gives (λ x. (x.0.items, x.1.now)) result (spec.ranges_at count None bytes.now) }
+    ensures no_memory { IsErrOf result FieldFault.NoMemory → spec.HasFirst count bytes.now }
 {
     let mut rest = bytes;
     let mut ranges = Vec::new(alloc);
@@ -66,7 +67,8 @@ fn ranges_from(alloc: Global, count: u32, bytes: &[u8]) -> Result<(Vec<Range>, &
 /// dot has, or doesn't stand after the one before it with a gap between them.
 #[tactic(auto, unfolding(crate::specs::Spelling::ranges))]
 pub fn ranges_at(alloc: Global, bytes: &[u8]) -> Result<(Vec<Range>, &[u8]), FieldFault>
-    ensures { Gives (λ x. (x.0.items, x.1.now)) result (spec.ranges.at bytes.now) }
+    ensures exact { Gives (λ x. (x.0.items, x.1.now)) result (spec.ranges.at bytes.now) }
+    ensures no_memory { IsErrOf result FieldFault.NoMemory → spec.WantsMemory bytes.now }
 {
     let (count, rest) = u32_at(bytes)?;
     ranges_from(alloc, count, rest)

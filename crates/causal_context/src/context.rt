@@ -1,5 +1,5 @@
 //! Sets of dots.
-ghost use Rattle.std.specs.Prelude.{◌≡◌, ◌+◌, ◌<◌, ◌≤◌, ◌^◌, ◌↔◌, ◌++◌, List, ℕ, length, take, drop, OnOk, OnErr, IfOk, IsOk, IsTrue, true, vec_len, vec_capacity};
+ghost use Rattle.std.specs.Prelude.{◌≡◌, ◌+◌, ◌<◌, ◌≤◌, ◌^◌, ◌↔◌, ◌++◌, List, ℕ, length, take, drop, OnOk, OnErr, IfOk, IfErr, IsErrOf, IsOk, IsTrue, true, vec_len, vec_capacity};
 ghost use Rattle.std.specs.FinSet as set;
 ghost use Rattle.causal_context.specs.Dots.{dot_cmp, dot_cmp_total, dot_cmp_antisym, Dots, greatest_of, IsGreatest};
 ghost use Rattle.causal_context.specs.Lattices.{lattice_from_join};
@@ -13,18 +13,20 @@ use crate::difference::without;
 use crate::dot::Dot;
 use crate::inclusion::are_below;
 use crate::insertion::put;
+use crate::joining::{Joining, goes_in_place, more_of};
 use crate::lattice::Lattice;
 use crate::ranges::{MOST_RANGES, Range, has, last_of};
 use crate::union::merged;
 use mqtt_fields::{FieldFault, NoMemory};
 use std::alloc::Global;
 use std::marker::Model;
+use std::mem;
 
 /// A set of dots, kept as sorted ranges that neither overlap nor touch. It has at most
 /// 2^32 - 1 ranges, so that its bytes can count them: a change to more is refused as [NoMemory].
 #[derive(Drop)]
 pub struct Context {
-    ranges: Vec<Range>,
+    pub(crate) ranges: Vec<Range>,
 }
 
 impl Model for Context {
@@ -103,6 +105,25 @@ impl Context {
         context_of(ranges)
     }
 
+    /// The join with the other, with memory for it: a few ranges go in among those that are there,
+    /// others in one pass over both. Or the set as it was, where there is no memory.
+    pub fn prepare(self, other: &Context) -> Result<Joining, Context>
+        ensures ok { IfOk result (λ joining.
+            (joining.0 ≡ self) × (joining.1 ≡ set.union self other.now)) }
+        ensures err { IfErr result (λ back. back ≡ self) }
+    {
+        let Context { mut ranges } = self;
+        let in_place = goes_in_place(ranges.len(), other.ranges.len());
+        match more_of(&mut ranges, &other.ranges, in_place) {
+            Ok(more) => Ok(Joining {
+                ranges,
+                more,
+                in_place,
+            }),
+            Err(_) => Err(Context { ranges }),
+        }
+    }
+
     /// The dots that the other lacks, in one pass over both.
     pub fn minus(&self, other: &Context) -> Result<Context, NoMemory>
         ensures { IfOk result (λ left. left ≡ set.difference self.now other.now) }
@@ -132,7 +153,8 @@ impl Context {
     /// its ranges sorted, not empty, neither overlapping nor touching, of numbers that dots have.
     #[tactic(auto, unfolding(crate::specs::Spelling::context))]
     pub fn at(alloc: Global, bytes: &[u8]) -> Result<(Context, &[u8]), FieldFault>
-        ensures { Gives (λ x. (x.0, x.1.now)) result (spec.context.at bytes.now) }
+        ensures exact { Gives (λ x. (x.0, x.1.now)) result (spec.context.at bytes.now) }
+        ensures no_memory { IsErrOf result FieldFault.NoMemory → spec.WantsMemory bytes.now }
     {
         let (ranges, rest) = ranges_at(alloc, bytes)?;
         Ok((Context { ranges }, rest))
@@ -149,6 +171,9 @@ impl Context {
             → spec.Spells front s → bytes.now ≡ front ++ rest
             → Gives {Y = Dots × List ℕ} (λ x. (x.0, drop x.1 bytes.now)) result (Ok (s, rest)) }
         ensures exact { Gives (λ x. (x.0, drop x.1 bytes.now)) result (spec.context.at bytes.now) }
+
+        // An empty set takes none, nor does a fault before a range has been read.
+        ensures no_memory { IsErrOf result FieldFault.NoMemory → spec.WantsMemory bytes.now }
     {
         let (context, rest) = Context::at(alloc, bytes)?;
         Ok((context, bytes.len() - rest.len()))
@@ -202,9 +227,17 @@ impl Lattice for Context {
         if other.is_below(self) {
             return Ok(());
         }
-        let both = self.joined(other)?;
-        *self = both;
-        Ok(())
+        let none = Context::new(*self.ranges.allocator());
+        match mem::replace(self, none).prepare(other) {
+            Ok(joining) => {
+                *self = joining.commit();
+                Ok(())
+            }
+            Err(own) => {
+                *self = own;
+                Err(NoMemory)
+            }
+        }
     }
 
     fn is_below(&self, other: &Context) -> bool {

@@ -7,7 +7,7 @@ use crate::ranges::{MOST_RANGES, Range, started};
 use mqtt_fields::NoMemory;
 
 // Whether the range before the place has the number before this one, or a later one.
-fn reaches_at(ranges: &[Range], place: usize, node: u16, number: u64) -> bool
+pub fn reaches_at(ranges: &[Range], place: usize, node: u16, number: u64) -> bool
     requires sound { IsSound ranges.now }
     requires place { place ≤ length ranges.now }
     ensures { IsTrue result ↔ ReachesAt ranges.now place (record { node = node; number = number }) }

@@ -9,13 +9,16 @@ mod difference;
 mod dot;
 mod inclusion;
 mod insertion;
+mod joining;
 mod lattice;
 pub mod laws;
+mod placing;
 mod ranges;
 mod union;
 
 pub use context::Context;
 pub use dot::Dot;
+pub use joining::Joining;
 pub use lattice::Lattice;
 pub use ranges::Range;
 

@@ -79,6 +79,9 @@ fn a_falling_run(rt: HostRuntime) -> Result<(), Fail> {
     assert_eq!(rt; (spans[1].first, spans[1].last), (50_001, 100_000));
     assert!(rt; left.is_below(&run));
     assert!(rt; !run.is_below(&left));
+    let joining = prepared(&left, &middle)?;
+    assert!(rt; !joining.had(Dot::new(1, 50_000).ok_or("a dot")?));
+    assert!(rt; joining.had(Dot::new(1, 50_001).ok_or("a dot")?));
     left.join(&middle)?;
     assert!(rt; left.same(&run));
     assert!(rt; left.joined(&middle)?.same(&run));
@@ -161,10 +164,18 @@ fn dots_of(alloc: Global, context: &Context) -> Result<Vec<Dot>, Fail> {
     Ok(dots)
 }
 
+fn prepared(a: &Context, b: &Context) -> Result<Joining, Fail> {
+    let joining = a.copy()?.prepare(b).ok().ok_or("memory")?;
+    Ok(joining)
+}
+
 fn compare(alloc: Global, a: &Context, b: &Context) -> Result<bool, Fail> {
     let plain_a = dots_of(alloc, a)?;
     let plain_b = dots_of(alloc, b)?;
     let both = dots_of(alloc, &a.joined(b)?)?;
+    if !prepared(a, b)?.commit().same(&a.joined(b)?) || !prepared(a, b)?.abandon().same(a) {
+        return Ok(false);
+    }
     let left = dots_of(alloc, &a.minus(b)?)?;
     Ok(
         both == plain_union(alloc, &plain_a, &plain_b)?

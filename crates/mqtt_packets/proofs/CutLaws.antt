@@ -1,7 +1,5 @@
 -- How a stream is cut into packets.
-use Rattle.std.proofs.Common.{◌≡◌, ℕ, zero, suc, ◌+◌, ◌-◌, ◌/◌, ◌%◌, ◌<◌, ◌≤◌, ◌^◌, Bool, true, false, cond, ltb, List, [], ◌∷◌, ◌++◌, length, take, drop, Option, Some, None, Result, Ok, Err, refl, sym, ap, subst, ◌∙◌, append_assoc, arith}
-use Rattle.std.specs.Prelude.{nat_lt}
-use Rattle.std.proofs.lemmas.Bool.{ltb-false, le-ltb}
+use Rattle.std.proofs.Common.{◌≡◌, ℕ, zero, suc, ◌+◌, ◌-◌, ◌<◌, ◌≤◌, ltb, List, [], ◌∷◌, ◌++◌, length, drop, Option, Some, None, Result, Ok, Err, refl, sym, ap, ◌∙◌, append_assoc, arith}
 use Rattle.std.proofs.lemmas.List.{drop_at, append-nil, length-append}
 use Rattle.mqtt_fields.specs.Reading.{◌>>=◌}
 use Rattle.mqtt_fields.specs.Numbers.{vbi}
@@ -11,10 +9,10 @@ use Rattle.mqtt_packets.specs.declared.fault.PacketFault.TheVariants as faults
 use Rattle.mqtt_packets.specs.declared.head.Head.{Head}
 use Rattle.mqtt_packets.specs.declared.packet.Packet.{Packet}
 use Rattle.mqtt_packets.specs.Reading.{Fails}
-use Rattle.mqtt_packets.specs.Stream.{Spells, header_at, body_at, packet_at, limited, step_at, Cut, before, cut_after, cut_within, cut}
+use Rattle.mqtt_packets.specs.Stream.{header_at, body_at, packet_at, limited, step_at, Cut, before, cut_after, cut_within, cut}
 use Rattle.mqtt_packets.proofs.StreamLaws.{packet_take}
 
-limited_ok : (limit : ℕ) (bs : List ℕ) (o h : Option (Head × ℕ × List ℕ)) → limited limit bs o ≡ Ok h → o ≡ h
+pub limited_ok : (limit : ℕ) (bs : List ℕ) (o h : Option (Head × ℕ × List ℕ)) → limited limit bs o ≡ Ok h → o ≡ h
 limited_ok limit bs None h e = ok_is None h e
 limited_ok limit bs (Some n) h e = (guard_ok (ltb limit (length bs - length n.2 + n.1)) faults.TooLarge (Some n) h e).1
 

@@ -1,5 +1,5 @@
 -- What is read of a stream doesn't depend on where it is cut into pieces.
-use Rattle.std.proofs.Common.{◌≡◌, ℕ, zero, suc, ◌+◌, ◌-◌, ◌*◌, ◌<◌, ◌≤◌, Bool, true, false, cond, ltb, eqb, List, [], ◌∷◌, ◌++◌, length, get_or, take, drop, Option, Some, None, Result, Ok, Err, refl, sym, ap, subst, ◌∙◌, append_assoc, arith, ◌⊎◌, inl, inr}
+use Rattle.std.proofs.Common.{◌≡◌, ℕ, zero, suc, ◌+◌, ◌-◌, ◌<◌, ◌≤◌, Bool, true, false, cond, ltb, List, [], ◌∷◌, ◌++◌, length, take, drop, Option, Some, None, Result, Ok, Err, refl, sym, ap, subst, ◌∙◌, append_assoc, arith}
 use Rattle.std.proofs.lemmas.Bool.{ltb-false, le-ltb}
 use Rattle.std.specs.List.{concat}
 use Rattle.std.proofs.lemmas.List.{append-nil, length-append, take-append-le, drop-append-le}
@@ -18,12 +18,12 @@ use Rattle.mqtt_packets.specs.declared.head.Head.{Head}
 use Rattle.mqtt_packets.specs.declared.packet.Packet.{Packet}
 use Rattle.mqtt_packets.specs.Head.{head_at}
 use Rattle.mqtt_packets.specs.Packet.{body_of}
-use Rattle.mqtt_packets.specs.Stream.{Spells, inside_at, with_head, header_after, header_at, body_at, packet_at, limited, step_at, Cut, before, cut}
+use Rattle.mqtt_packets.specs.Stream.{inside_at, with_head, header_after, header_at, body_at, packet_at, limited, step_at, Cut, before, cut}
 use Rattle.mqtt_packets.specs.Laws.{more_at, more, more_pieces, AnyPieces, OneFront}
 use Rattle.mqtt_packets.proofs.StreamLaws.{inside_ok, packet_take, packet_again}
-use Rattle.mqtt_packets.proofs.CutLaws.{within_limit, shorter, rest_fits, cut_some, cut_none, cut_err}
+use Rattle.mqtt_packets.proofs.CutLaws.{within_limit, shorter, cut_some, cut_none, cut_err}
 
-IsBytes-front : (a b : List ℕ) → IsBytes (a ++ b) → IsBytes a
+pub IsBytes-front : (a b : List ℕ) → IsBytes (a ++ b) → IsBytes a
 IsBytes-front [] b h i = omega arith
 IsBytes-front (x ∷ a) b h zero = h 0
 IsBytes-front (x ∷ a) b h (suc i) = IsBytes-front a b (λ j. h (suc j)) i
@@ -45,7 +45,7 @@ on_header b h = (h.0, h.1, h.2 ++ b)
 abbrev pub on_packet : List ℕ → Packet × List ℕ → Packet × List ℕ
 on_packet b x = (x.0, x.1 ++ b)
 
-abbrev framed : Head → Option (ℕ × List ℕ) → Result (Option (Head × ℕ × List ℕ)) PacketFault
+abbrev pub framed : Head → Option (ℕ × List ℕ) → Result (Option (Head × ℕ × List ℕ)) PacketFault
 framed x o = Ok (with_head x o)
 
 grown_inside : (x : Head) (b : List ℕ) (r s : Result (ℕ × List ℕ) FieldFault) → IsGrown b r s → GrownOn on_header b (inside_at r >>= framed x) (inside_at s >>= framed x)
@@ -102,7 +102,7 @@ short_case (Some x) bs fits h e =
     let v : vbi.at bs ≡ Ok (h.1, h.2) = inside_ok (vbi.at bs) (h.1, h.2) (o.1 ∙ ap (λ (m : Option (ℕ × List ℕ)). Ok m) n) in
     (used vbi vbi_is bs (h.1, h.2) fits v).0
 
-header_short : (bs : List ℕ) → IsBytes bs → (h : Head × ℕ × List ℕ) → header_at bs ≡ Ok (Some h) → length h.2 ≤ length bs
+pub header_short : (bs : List ℕ) → IsBytes bs → (h : Head × ℕ × List ℕ) → header_at bs ≡ Ok (Some h) → length h.2 ≤ length bs
 unfolding header_at
 header_short [] fits h e = absurd cc
 header_short (x ∷ bs) fits h e = let le = short_case (head_at x) bs (λ i. fits (suc i)) h e in omega arith
@@ -117,7 +117,7 @@ limit_grows limit bs b (Ok (Some h)) s short g =
     let same : length (bs ++ b) - length (h.2 ++ b) + h.1 ≡ length bs - length h.2 + h.1 = omega (arith, length-append bs b, length-append h.2 b) in
     rw (g, same) (limit_case b h (ltb limit (length bs - length h.2 + h.1)))
 
-step_grows : (limit : ℕ) (bs b : List ℕ) → IsBytes bs → GrownOn on_packet b (step_at limit bs) (step_at limit (bs ++ b))
+pub step_grows : (limit : ℕ) (bs b : List ℕ) → IsBytes bs → GrownOn on_packet b (step_at limit bs) (step_at limit (bs ++ b))
 unfolding step_at
 step_grows limit bs b fits = limit_grows limit bs b (header_at bs) (header_at (bs ++ b)) (header_short bs fits) (header_grows bs b)
 

@@ -10,6 +10,7 @@ pub mod PacketLaws
 pub mod StreamLaws
 pub mod CutLaws
 pub mod GrowLaws
+pub mod FrontLaws
 pub mod WrittenLaws
 pub mod MeasureLaws
 pub mod SoundLaws

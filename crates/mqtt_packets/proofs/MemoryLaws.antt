@@ -1,23 +1,21 @@
 -- Where reading wants memory.
-use Rattle.std.proofs.Common.{◌≡◌, ℕ, Bool, true, false, cond, ltb, List, length, take, drop, Option, Some, None, Result, Ok, Err, ◌⊎◌, inl, inr, refl, subst, ap}
+use Rattle.std.proofs.Common.{◌≡◌, ℕ, ◌<◌, List, [], ◌∷◌, length, arith, ◌++◌, Option, Some, None, Result, Ok, Err, ◌⊎◌, inl, inr, refl, sym, subst, ap}
 use Rattle.std.specs.Prelude.{IsOk}
-use Rattle.std.proofs.lemmas.Bool.{ltb-false}
 use Rattle.mqtt_fields.specs.declared.fault.FieldFault.{FieldFault}
 use Rattle.mqtt_fields.specs.declared.table.Place.{Place}
 use Rattle.mqtt_fields.specs.declared.value.Property.{Property}
 use Rattle.mqtt_fields.specs.Reading.{◌>>=◌}
 use Rattle.mqtt_fields.specs.Numbers.{text}
 use Rattle.mqtt_fields.specs.Block.{properties, first_if_any}
-use Rattle.mqtt_fields.proofs.Laws.{bind_ok}
 use Rattle.mqtt_fields.proofs.BlockLaws.{read_any}
 use Rattle.mqtt_packets.specs.declared.fault.PacketFault.{PacketFault}
 use Rattle.mqtt_packets.specs.declared.head.Head.{Head}
 use Rattle.mqtt_packets.specs.declared.packet.Packet.{Packet}
 use Rattle.mqtt_packets.specs.declared.subscribe.SubscribeFilter.{SubscribeFilter}
 use Rattle.mqtt_packets.specs.Reading.{in_packet, field_at}
-use Rattle.mqtt_packets.specs.Packet.{body_of}
-use Rattle.mqtt_packets.specs.Stream.{header_at, limited, body_at, step_at}
-use Rattle.mqtt_packets.specs.Memory.{HeaderWants, StepWants, HeaderWhole, HasWhole}
+use Rattle.mqtt_packets.specs.Stream.{header_at, limited, body_at, step_at, Cut, cut}
+use Rattle.mqtt_packets.specs.Memory.{HeaderWants, StepWants, HasHeader, FaultWants, FeedWants}
+use Rattle.mqtt_packets.proofs.CutLaws.{cut_err}
 use Rattle.mqtt_packets.specs.Subscribe.{options, filter_of, subscribe_filter}
 
 in_packet_ok : {A : Type 0} (r : Result A FieldFault) (x : A) → in_packet r ≡ Ok x → r ≡ Ok x
@@ -51,33 +49,46 @@ filter_text bs x e =
     let made : (List ℕ × ℕ) × List ℕ → Result (SubscribeFilter × List ℕ) FieldFault = λ a. Ok (filter_of a.0, a.1) in
     filter_case (text.at bs) next made x e
 
--- a whole packet within the limit stands in front where one is read, or where reading it wants memory
-wants_whole : (r : Result (Option (Head × ℕ × List ℕ)) PacketFault) → HeaderWants r → HeaderWhole r
-wants_whole (Ok None) w = absurd w
-wants_whole (Ok (Some h)) w = w.0
-wants_whole (Err f) w = absurd w
+-- reading wanted memory
+pub wants_at : (limit : ℕ) (bs : List ℕ) → StepWants limit bs → FaultWants limit bs
+wants_at limit bs w f e = w
 
-pub whole_wants : (limit : ℕ) (bs : List ℕ) → StepWants limit bs → HasWhole limit bs
-whole_wants limit bs w = wants_whole (header_at bs >>= limited limit bs) w
+-- no packet in front is faulty where one is read, or where a cut has no fault
+pub read_wants : (limit : ℕ) (bs : List ℕ) (x : Packet × List ℕ) → step_at limit bs ≡ Ok (Some x) → FaultWants limit bs
+read_wants limit bs x e f g = absurd cc
 
-read_case : (t : Bool) (y : Result (Option (Packet × List ℕ)) PacketFault) (x : Packet × List ℕ) → cond t (Ok None) y ≡ Ok (Some x) → t ≡ false
-read_case true y x e = absurd cc
-read_case false y x e = refl
+pub quiet_wants : (limit : ℕ) (bs : List ℕ) → (cut limit bs).fault ≡ None → FaultWants limit bs
+quiet_wants limit bs quiet f e =
+    let found : (cut limit bs).fault ≡ Some f = ap (λ (c : Cut). c.fault) (cut_err limit bs f e) in
+    absurd cc
 
-read_whole : (o : Option (Head × ℕ × List ℕ)) (x : Packet × List ℕ) → body_at o ≡ Ok (Some x) → HeaderWhole (Ok o)
-read_whole None x e = absurd cc
-read_whole (Some h) x e = ltb-false (length h.2) h.1 (read_case (ltb (length h.2) h.1) (body_of h.0 (take h.1 h.2) >>= λ p. Ok (Some (p, drop h.1 h.2))) x e)
-
-pub whole_read : (limit : ℕ) (bs : List ℕ) (x : Packet × List ℕ) → step_at limit bs ≡ Ok (Some x) → HasWhole limit bs
-unfolding step_at
-whole_read limit bs x e =
-    let p = bind_ok (header_at bs >>= limited limit bs) body_at (Some x) e in
-    rw p.1 (read_whole p.0 x p.2)
-
--- nothing has been cut off yet, or a whole packet stood in front
+-- nothing has been cut off yet, or what is wrong in front has been looked at
 abbrev pub HasBegun : ℕ → List ℕ → List ℕ → Type 0
-HasBegun limit rest all = (rest ≡ all) ⊎ HasWhole limit all
+HasBegun limit rest all = (rest ≡ all) ⊎ FaultWants limit all
 
-pub first_whole : (limit : ℕ) (rest all : List ℕ) → HasBegun limit rest all → HasWhole limit rest → HasWhole limit all
-first_whole limit rest all (inl e) w = subst (HasWhole limit) e w
-first_whole limit rest all (inr b) w = b
+pub first_wants : (limit : ℕ) (rest all : List ℕ) → HasBegun limit rest all → FaultWants limit rest → FaultWants limit all
+first_wants limit rest all (inl e) w = subst (FaultWants limit) e w
+first_wants limit rest all (inr b) w = b
+
+header_case : (r : Result (Option (Head × ℕ × List ℕ)) PacketFault) → ((f : PacketFault) → (r >>= body_at) ≡ Err f → HeaderWants r) → IsOk r
+header_case (Ok o) h = refl
+header_case (Err f) h = absurd (h f refl)
+
+-- a header that can't be is a fault that wants no memory
+pub header_wants : (limit : ℕ) (bs : List ℕ) → FaultWants limit bs → HasHeader limit bs
+unfolding step_at
+header_wants limit bs w = header_case (header_at bs >>= limited limit bs) w
+
+-- so where nothing was held
+pub first_piece : (limit : ℕ) (held piece : List ℕ) → held ≡ [] → FaultWants limit piece → FeedWants limit held piece
+first_piece limit held piece none w = record { header = subst (λ (bs : List ℕ). HasHeader limit (bs ++ piece)) (sym none) (header_wants limit piece w); body = λ _. w }
+
+-- where something was, the header is what counts
+pub next_piece : (limit : ℕ) (held piece : List ℕ) → (held ≡ [] → ⊥) → HasHeader limit (held ++ piece) → FeedWants limit held piece
+next_piece limit held piece some h = record { header = h; body = λ none. absurd (some none) }
+
+-- nothing is wrong with no bytes
+pub fault_long : (limit : ℕ) (bs : List ℕ) (f : PacketFault) → step_at limit bs ≡ Err f → 0 < length bs
+unfolding step_at header_at
+fault_long limit [] f e = absurd cc
+fault_long limit (b ∷ bs) f e = omega arith

@@ -1,5 +1,5 @@
 -- What has been read of a packet once reading it wants memory. Whatever is wrong before that is answered as it is.
-use Rattle.std.specs.Prelude.{ℕ, ◌≤◌, List, length, take, Option, Some, Result, Ok, IsOk}
+use Rattle.std.specs.Prelude.{◌≡◌, ℕ, ◌≤◌, List, [], ◌++◌, length, take, Option, Some, Result, Ok, Err, IsOk}
 use Rattle.std.specs.Int.{w8, w16}
 use Rattle.mqtt_fields.specs.declared.table.Place.{Place}
 use Rattle.mqtt_fields.specs.declared.table.Place.TheVariants as places
@@ -12,7 +12,7 @@ use Rattle.mqtt_packets.specs.declared.head.Head.{Head}
 use Rattle.mqtt_packets.specs.declared.head.Head.TheVariants as heads
 use Rattle.mqtt_packets.specs.Reading.{in_packet, field_at}
 use Rattle.mqtt_packets.specs.Connack.{session_flag}
-use Rattle.mqtt_packets.specs.Stream.{header_at, limited}
+use Rattle.mqtt_packets.specs.Stream.{header_at, limited, step_at}
 
 -- a reason, and the first property after it
 abbrev pub reason_start : Place → List ℕ → Result (Property × List ℕ) PacketFault
@@ -64,10 +64,16 @@ PacketWants bs = HeaderWants (header_at bs)
 abbrev pub StepWants : ℕ → List ℕ → Type 0
 StepWants limit bs = HeaderWants (header_at bs >>= limited limit bs)
 
-abbrev pub HeaderWhole : Result (Option (Head × ℕ × List ℕ)) PacketFault → Type 0
-HeaderWhole (Ok (Some h)) = h.1 ≤ length h.2
-HeaderWhole _ = ⊥
+-- the packet in front has a first byte and a length that can be, as far as they have come, and is within the limit
+abbrev pub HasHeader : ℕ → List ℕ → Type 0
+HasHeader limit bs = IsOk (header_at bs >>= limited limit bs)
 
--- so many bytes stand in front as a packet within the limit has, whatever they spell
-abbrev pub HasWhole : ℕ → List ℕ → Type 0
-HasWhole limit bs = HeaderWhole (header_at bs >>= limited limit bs)
+-- where the packet in front is faulty, reading it has wanted memory before its fault
+abbrev pub FaultWants : ℕ → List ℕ → Type 0
+FaultWants limit bs = (f : PacketFault) → step_at limit bs ≡ Err f → StepWants limit bs
+
+-- A piece after what is held wants memory. A first byte or a length that can't be, and a packet above the limit, want
+-- none; nor does, where nothing is held, what else is wrong with the packet in front before reading it wants memory.
+pub record FeedWants (limit : ℕ) (held piece : List ℕ) : Type 0 where
+  pub header : HasHeader limit (held ++ piece)
+  pub body : held ≡ [] → FaultWants limit piece

@@ -81,8 +81,21 @@ cut_within limit (suc k) bs = cut_after bs (λ rest. cut_within limit k rest) (s
 abbrev pub cut : ℕ → List ℕ → Cut
 cut limit bs = cut_within limit (suc (length bs)) bs
 
+-- what is kept of the bytes that no packet took: all of them, or of a packet at fault the first byte alone
+abbrev pub kept_of : Option PacketFault → List ℕ → List ℕ
+kept_of None rest = rest
+kept_of (Some f) rest = take 1 rest
+
+abbrev pub kept : Cut → Cut
+kept c = record { packets = c.packets; rest = kept_of c.fault c.rest; fault = c.fault }
+
 -- what a framer holds
 pub record Held : Type 0 where
   pub limit : ℕ
   pub rest : List ℕ
   pub failed : Bool
+
+-- what is shown of bytes that are kept, or of a packet at fault
+abbrev pub held_rest : Option ℕ → List ℕ → List ℕ
+held_rest None bytes = bytes
+held_rest (Some first) bytes = first ∷ []

@@ -232,24 +232,34 @@ impl Lattice for ReplicaStore {
     ghost laws = { lattice_from_join state_lattice };
 
     fn join(&mut self, other: &ReplicaStore) -> Result<(), NoMemory> {
-        let taken = self.taken.joined(&other.taken)?;
+        let taken = match mem::replace(&mut self.taken, Context::new(self.alloc)).prepare(
+            &other.taken,
+        ) {
+            Ok(taken) => taken,
+            Err(taken) => {
+                self.taken = taken;
+                return Err(NoMemory);
+            }
+        };
         let subscriptions = mem::replace(
             &mut self.subscriptions,
             SubscriptionSet::empty(self.alloc),
         );
         match subscriptions.prepare(&other.subscriptions) {
             Err(subscriptions) => {
+                self.taken = taken.abandon();
                 self.subscriptions = subscriptions;
                 Err(NoMemory)
             }
             Ok(ready) => match self.retained.join(&other.retained) {
                 Err(fault) => {
+                    self.taken = taken.abandon();
                     self.subscriptions = ready.abandon();
                     Err(fault)
                 }
                 Ok(()) => {
+                    self.taken = taken.commit();
                     self.subscriptions = ready.commit();
-                    self.taken = taken;
                     Ok(())
                 }
             },

@@ -3,7 +3,6 @@ ghost use Rattle.std.specs.Prelude.{◌≡◌, ◌&&◌, ◌||◌, not, is_some,
 ghost use Rattle.std.specs.List.{list_any};
 ghost use Rattle.std.specs.Ordering.{eq_by_cmp};
 ghost use Rattle.std.specs.FinMap as map;
-ghost use Rattle.std.specs.FinSet as set;
 ghost use Rattle.causal_context.specs.Dots.{Dot as DotValue, dot_cmp};
 ghost use Rattle.causal_context.specs.Ranges.{IsFine};
 ghost use Rattle.subscription_set.specs.Joining.{leaves_with, AreUnseen, AreLeaving, leaving_in, IsBrought, IsCleared};
@@ -12,7 +11,7 @@ ghost use Rattle.subscription_set.specs.Standing.{AreSeen};
 
 use crate::entry::Entry;
 use crate::entry_map::EntryMap;
-use causal_context::{Context, Dot, Range};
+use causal_context::{Context, Dot, Joining, Range};
 use mqtt_fields::NoMemory;
 use std::alloc::Global;
 use std::collections::btree_map;
@@ -88,12 +87,12 @@ pub fn leaving(
 }
 
 /// The dots of the other's entries that are new here.
-pub fn unseen(alloc: Global, seen: &Context, others: &EntryMap) -> Result<Vec<Dot>, NoMemory>
-    ensures { IfOk result (λ out. AreUnseen seen.now others.now out.items) }
+pub fn unseen(alloc: Global, seen: &Joining, others: &EntryMap) -> Result<Vec<Dot>, NoMemory>
+    ensures { IfOk result (λ out. AreUnseen seen.now.0 others.now out.items) }
 {
     let mut out = Vec::new(alloc);
     for (dot, _theirs) in others.iter() {
-        if !seen.contains(*dot) {
+        if !seen.had(*dot) {
             out.push(*dot)?;
         }
     }
@@ -103,8 +102,6 @@ pub fn unseen(alloc: Global, seen: &Context, others: &EntryMap) -> Result<Vec<Do
 /// A merge whose new entries are brought already.
 #[derive(Drop)]
 pub struct Plan {
-    /// The dots that are seen after it.
-    pub next: Context,
     /// The dots of the entries that it has brought.
     pub brought: Vec<Dot>,
     /// The dots whose entries go.
@@ -115,29 +112,23 @@ pub struct Plan {
 /// they were.
 pub fn make_plan(
     alloc: Global,
-    seen: &Context,
+    seen: &Joining,
     entries: &mut EntryMap,
     other_seen: &Context,
     others: &EntryMap,
 ) -> Result<Plan, NoMemory>
-    requires { AreSeen seen.now (map.entries entries.old) }
-    ensures next { IfOk result (λ plan. plan.next ≡ set.union seen.now other_seen.now) }
-    ensures fresh { IfOk result (λ plan. AreUnseen seen.now others.now plan.brought.items) }
+    requires { AreSeen seen.now.0 (map.entries entries.old) }
+    ensures fresh { IfOk result (λ plan. AreUnseen seen.now.0 others.now plan.brought.items) }
     ensures brought { IfOk result (λ plan.
         IsBrought entries.old others.now plan.brought.items entries.new) }
     ensures gone { IfOk result (λ plan.
         AreLeaving entries.old other_seen.now others.now plan.gone.items) }
     ensures err { OnErr result (entries.new ≡ entries.old) }
 {
-    let next = seen.joined(other_seen)?;
     let gone = leaving(alloc, entries, other_seen, others)?;
     let brought = unseen(alloc, seen, others)?;
     bring(alloc, entries, others, &brought)?;
-    Ok(Plan {
-        next,
-        brought,
-        gone,
-    })
+    Ok(Plan { brought, gone })
 }
 
 // Copies the other's entry at the dot, where there is none here.

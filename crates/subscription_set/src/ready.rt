@@ -4,7 +4,7 @@ ghost use Rattle.std.specs.Prelude.{◌≡◌};
 use crate::entry_map::EntryMap;
 use crate::plan::clear;
 use crate::set::SubscriptionSet;
-use causal_context::{Context, Dot};
+use causal_context::{Dot, Joining};
 use std::alloc::Global;
 use std::marker::Model;
 
@@ -12,8 +12,7 @@ use std::marker::Model;
 #[derive(Drop)]
 pub struct Ready {
     pub(crate) alloc: Global,
-    pub(crate) seen: Context,
-    pub(crate) next: Context,
+    pub(crate) seen: Joining,
     pub(crate) entries: EntryMap,
     pub(crate) brought: Vec<Dot>,
     pub(crate) gone: Vec<Dot>,
@@ -32,12 +31,12 @@ impl Model for Ready {
     ghost coded = { coded× coded_statuses coded_statuses };
 
     ghost view = { λ r. (
-      statuses r.seen (without_keys dot_cmp r.brought.items (map.entries r.entries)),
-      statuses r.next (without_keys dot_cmp r.gone.items (map.entries r.entries)),
+      statuses r.seen.0 (without_keys dot_cmp r.brought.items (map.entries r.entries)),
+      statuses r.seen.1 (without_keys dot_cmp r.gone.items (map.entries r.entries)),
     ) };
 
-    ghost invariant = { λ r. AreSeen r.seen (without_keys dot_cmp r.brought.items (map.entries r.entries))
-        × AreSeen r.next (without_keys dot_cmp r.gone.items (map.entries r.entries)) };
+    ghost invariant = { λ r. AreSeen r.seen.0 (without_keys dot_cmp r.brought.items (map.entries r.entries))
+        × AreSeen r.seen.1 (without_keys dot_cmp r.gone.items (map.entries r.entries)) };
 }
 
 impl Ready {
@@ -47,8 +46,7 @@ impl Ready {
     {
         let Ready {
             alloc,
-            seen: _,
-            next,
+            seen,
             mut entries,
             brought: _,
             gone,
@@ -56,7 +54,7 @@ impl Ready {
         clear(&mut entries, &gone);
         SubscriptionSet {
             alloc,
-            seen: next,
+            seen: seen.commit(),
             entries,
         }
     }
@@ -68,7 +66,6 @@ impl Ready {
         let Ready {
             alloc,
             seen,
-            next: _,
             mut entries,
             brought,
             gone: _,
@@ -76,7 +73,7 @@ impl Ready {
         clear(&mut entries, &brought);
         SubscriptionSet {
             alloc,
-            seen,
+            seen: seen.abandon(),
             entries,
         }
     }

@@ -248,20 +248,26 @@ impl SubscriptionSet {
             seen,
             mut entries,
         } = self;
-        match make_plan(alloc, &seen, &mut entries, &other.seen, &other.entries) {
-            Ok(plan) => Ok(Ready {
-                alloc,
-                seen,
-                next: plan.next,
-                entries,
-                brought: plan.brought,
-                gone: plan.gone,
-            }),
-            Err(_) => Err(SubscriptionSet {
+        match seen.prepare(&other.seen) {
+            Err(seen) => Err(SubscriptionSet {
                 alloc,
                 seen,
                 entries,
             }),
+            Ok(seen) => match make_plan(alloc, &seen, &mut entries, &other.seen, &other.entries) {
+                Ok(plan) => Ok(Ready {
+                    alloc,
+                    seen,
+                    entries,
+                    brought: plan.brought,
+                    gone: plan.gone,
+                }),
+                Err(_) => Err(SubscriptionSet {
+                    alloc,
+                    seen: seen.abandon(),
+                    entries,
+                }),
+            },
         }
     }
 }

@@ -3,7 +3,7 @@ use Rattle.std.specs.Prelude.{◌≡◌, ℕ, true, false, Bool, is_some, List, 
 use Rattle.std.specs.Ordering.{nat_cmp}
 use Rattle.std.specs.FinMap as map
 use Rattle.std.specs.FinSet as set
-use Rattle.mqtt_packets.specs.Stream.{Held, cut}
+use Rattle.mqtt_packets.specs.Stream.{Held, kept, cut}
 use Rattle.broker_node.specs.View.{ConnectionView, HeldView}
 
 -- a connection is opened, takes a piece of its stream, is given its client, or is closed
@@ -24,10 +24,11 @@ longest_packet = 1048576
 abbrev pub new_connection : ConnectionView
 new_connection = record { stream = record { limit = longest_packet; rest = []; failed = false }; client = None }
 
--- the stream after a piece: what no packet took, and whether a fault came (MQTT 5.0, 2.1)
+-- the stream after a piece: what no packet took, of a packet at fault its first byte, and whether a fault came
+-- (MQTT 5.0, 2.1)
 abbrev pub fed : Held → List ℕ → Held
 fed stream piece =
-    let c = cut stream.limit (stream.rest ++ piece) in
+    let c = kept (cut stream.limit (stream.rest ++ piece)) in
     record { limit = stream.limit; rest = c.rest; failed = is_some c.fault }
 
 -- a connection that is open becomes another

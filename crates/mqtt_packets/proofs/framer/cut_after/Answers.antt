@@ -1,7 +1,7 @@
 use Rattle.std.proofs.Common.{sym, ◌∙◌, inr}
 use Rattle.std.proofs.lemmas.Option.{same_Some}
-use Rattle.mqtt_packets.proofs.CutLaws.{shorter, rest_fits, goes_on, stops, ends}
-use Rattle.mqtt_packets.proofs.MemoryLaws.{whole_read, first_whole}
+use Rattle.mqtt_packets.proofs.CutLaws.{shorter, rest_fits, goes_on, is_fault, stops, ends}
+use Rattle.mqtt_packets.proofs.MemoryLaws.{read_wants, first_wants, fault_long}
 use Rattle.mqtt_packets.proofs.framer.cut_after.Goals as goal
 
 pub loop-packet-smaller : goal.loop-packet-smaller
@@ -15,7 +15,7 @@ loop-packet-preserved c =
     record {
       bytes = rest_fits c.args.limit c.loop-packet.rest.now (c.in-Ok-Some.packet, c.in-Ok-Some.after.now) c.loop-packet.invariant.bytes e;
       so_far = rw c.in_ok-push-in-Ok-Some.ensures.items (sym (goes_on c.args.limit c.loop-packet.packets.items c.loop-packet.rest.now (c.in-Ok-Some.packet, c.in-Ok-Some.after.now) c.loop-packet.invariant.bytes e) ∙ c.loop-packet.invariant.so_far);
-      began = inr (first_whole c.args.limit c.loop-packet.rest.now c.args.bytes.now c.loop-packet.invariant.began (whole_read c.args.limit c.loop-packet.rest.now (c.in-Ok-Some.packet, c.in-Ok-Some.after.now) e));
+      began = inr (first_wants c.args.limit c.loop-packet.rest.now c.args.bytes.now c.loop-packet.invariant.began (read_wants c.args.limit c.loop-packet.rest.now (c.in-Ok-Some.packet, c.in-Ok-Some.after.now) e));
     }
 
 pub returns-in-Ok-None-clause-cut : goal.returns-in-Ok-None-clause-cut
@@ -27,6 +27,7 @@ pub returns-in_default : goal.returns-in_default
 returns-in_default c = record {
   cut = stops c.args.limit c.loop-packet.packets.items c.loop-packet.rest.now c.in-Err.fault _ c.in_default.not-NoMemory c.in-Err.ensures.exact c.loop-packet.invariant.so_far;
   named = λ e. c.in_default.not-NoMemory (same_Some _ _ e);
+  at_fault = fault_long c.args.limit c.loop-packet.rest.now c.in-Err.fault (is_fault c.in-Err.fault _ c.in_default.not-NoMemory c.in-Err.ensures.exact);
   memory = tt;
   no_memory = tt;
 }

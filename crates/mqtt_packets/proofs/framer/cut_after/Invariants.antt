@@ -1,4 +1,4 @@
-use Rattle.std.proofs.Common.{◌≡◌, ℕ, ◌<◌, suc, get_or, length}
+use Rattle.std.proofs.Common.{◌≡◌, length}
 use Rattle.mqtt_fields.proofs.Laws.{IsBytes}
 use Rattle.mqtt_packets.specs.Stream.{cut, before}
 use Rattle.mqtt_packets.proofs.MemoryLaws.{HasBegun}

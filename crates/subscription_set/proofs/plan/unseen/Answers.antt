@@ -8,10 +8,10 @@ use Rattle.subscription_set.proofs.Joins.{moved_no, moved_end, unseen_all, any_o
 use Rattle.subscription_set.proofs.plan.unseen.Goals as goal
 
 pub loop-dot-init : goal.loop-dot-init
-loop-dot-init c = λ q i. list_any (eq_by_cmp dot_cmp q) (c.new-out.ensures.items i) || any_of (λ y. not (set.contains c.args.seen.now y.0)) q ((c.into_iter-dot-iterator.ensures.into_iter_gives ∙ c.iter-dot-items.ensures) i)
+loop-dot-init c = λ q i. list_any (eq_by_cmp dot_cmp q) (c.new-out.ensures.items i) || any_of (λ y. not (set.contains c.args.seen.now.0 y.0)) q ((c.into_iter-dot-iterator.ensures.into_iter_gives ∙ c.iter-dot-items.ensures) i)
 
 pub loop-dot-preserved : goal.loop-dot-preserved
-loop-dot-preserved c = moved_no (λ y. not (set.contains c.args.seen.now y.0)) (c.in-Some.dot.now, c.in-Some._theirs.now) c.loop-dot.out.items c.loop-dot.out.items c.loop-dot.dot-iterator c.next.new.self [] (map.entries c.args.others.now) c.in-Some.ensures.steps (ap not (sym c.contains.ensures ∙ c.if-not-contains.false)) refl c.loop-dot.invariant
+loop-dot-preserved c = moved_no (λ y. not (set.contains c.args.seen.now.0 y.0)) (c.in-Some.dot.now, c.in-Some._theirs.now) c.loop-dot.out.items c.loop-dot.out.items c.loop-dot.dot-iterator c.next.new.self [] (map.entries c.args.others.now) c.in-Some.ensures.steps (ap not (sym c.had.ensures ∙ c.if-not-had.false)) refl c.loop-dot.invariant
 
 pub returns : goal.returns
-returns c = unseen_all c.args.seen.now c.args.others.now c.loop-dot.out.items (moved_end (λ y. not (set.contains c.args.seen.now y.0)) c.loop-dot.out.items c.loop-dot.dot-iterator [] (map.entries c.args.others.now) c.in-None.ensures.steps.0 c.loop-dot.invariant)
+returns c = unseen_all c.args.seen.now.0 c.args.others.now c.loop-dot.out.items (moved_end (λ y. not (set.contains c.args.seen.now.0 y.0)) c.loop-dot.out.items c.loop-dot.dot-iterator [] (map.entries c.args.others.now) c.in-None.ensures.steps.0 c.loop-dot.invariant)

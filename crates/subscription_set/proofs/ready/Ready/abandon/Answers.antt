@@ -6,9 +6,9 @@ use Rattle.subscription_set.proofs.ready.Ready.abandon.Goals as goal
 
 pub invariant_of-result : goal.invariant_of-result
 invariant_of-result c = record {
-  seen = seen_as c.self.inside.seen (map.entries c.clear.new.entries) _ (cleared_as c.self.inside.entries c.clear.new.entries c.deref.result.now c.self.inside.brought.items c.deref.ensures.value c.clear.ensures) c.self.invariant.0;
+  seen = rw c.abandon.ensures (seen_as c.self.inside.seen.0 (map.entries c.clear.new.entries) _ (cleared_as c.self.inside.entries c.clear.new.entries c.deref.result.now c.self.inside.brought.items c.deref.ensures.value c.clear.ensures) c.self.invariant.0);
   rises = map.entries_sorted c.clear.new.entries;
 }
 
 pub returns : goal.returns
-returns c = same_statuses c.self.inside.seen (map.entries c.clear.new.entries) _ (cleared_as c.self.inside.entries c.clear.new.entries c.deref.result.now c.self.inside.brought.items c.deref.ensures.value c.clear.ensures) ∙ ap (λ p. p.0) c.self.view_is
+returns c = rw c.abandon.ensures (same_statuses c.self.inside.seen.0 (map.entries c.clear.new.entries) _ (cleared_as c.self.inside.entries c.clear.new.entries c.deref.result.now c.self.inside.brought.items c.deref.ensures.value c.clear.ensures) ∙ ap (λ p. p.0) c.self.view_is)

@@ -6,9 +6,9 @@ use Rattle.subscription_set.proofs.ready.Ready.commit.Goals as goal
 
 pub invariant_of-result : goal.invariant_of-result
 invariant_of-result c = record {
-  seen = seen_as c.self.inside.next (map.entries c.clear.new.entries) _ (cleared_as c.self.inside.entries c.clear.new.entries c.deref.result.now c.self.inside.gone.items c.deref.ensures.value c.clear.ensures) c.self.invariant.1;
+  seen = rw c.commit.ensures (seen_as c.self.inside.seen.1 (map.entries c.clear.new.entries) _ (cleared_as c.self.inside.entries c.clear.new.entries c.deref.result.now c.self.inside.gone.items c.deref.ensures.value c.clear.ensures) c.self.invariant.1);
   rises = map.entries_sorted c.clear.new.entries;
 }
 
 pub returns : goal.returns
-returns c = same_statuses c.self.inside.next (map.entries c.clear.new.entries) _ (cleared_as c.self.inside.entries c.clear.new.entries c.deref.result.now c.self.inside.gone.items c.deref.ensures.value c.clear.ensures) ∙ ap (λ p. p.1) c.self.view_is
+returns c = rw c.commit.ensures (same_statuses c.self.inside.seen.1 (map.entries c.clear.new.entries) _ (cleared_as c.self.inside.entries c.clear.new.entries c.deref.result.now c.self.inside.gone.items c.deref.ensures.value c.clear.ensures) ∙ ap (λ p. p.1) c.self.view_is)
