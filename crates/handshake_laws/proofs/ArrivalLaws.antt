@@ -20,7 +20,7 @@ NoneTwice [] = Unit {0}
 NoneTwice (e ∷ es) = (opened e.0 es ≡ None) × NoneTwice es
 
 -- ---- a new exchange
-opened-new : (i : ℕ) (es : Received) → opened i es ≡ None → opened i (insert_entry nat_cmp es i true) ≡ Some true
+pub opened-new : (i : ℕ) (es : Received) → opened i es ≡ None → opened i (insert_entry nat_cmp es i true) ≡ Some true
 opened-new i [] none = rw (is_at-here i i refl) refl
 opened-new i (e ∷ es) none = elim (three (nat_cmp i e.0)) [
   | inl less ↦ rw less (rw (is_at-here i i refl) refl)
@@ -32,7 +32,7 @@ opened-new i (e ∷ es) none = elim (three (nat_cmp i e.0)) [
   ]
 ]
 
-opened-other : (i id : ℕ) (es : Received) → i ≢ id → opened id (insert_entry nat_cmp es i true) ≡ opened id es
+pub opened-other : (i id : ℕ) (es : Received) → i ≢ id → opened id (insert_entry nat_cmp es i true) ≡ opened id es
 opened-other i id [] ne = rw (is_at-apart id i ne) refl
 opened-other i id (e ∷ es) ne = elim (three (nat_cmp i e.0)) [
   | inl less ↦ rw less (rw (is_at-apart id i ne) refl)
@@ -42,7 +42,7 @@ opened-other i id (e ∷ es) ne = elim (three (nat_cmp i e.0)) [
   ]
 ]
 
-twice-new : (i : ℕ) (es : Received) → opened i es ≡ None → NoneTwice es → NoneTwice (insert_entry nat_cmp es i true)
+pub twice-new : (i : ℕ) (es : Received) → opened i es ≡ None → NoneTwice es → NoneTwice (insert_entry nat_cmp es i true)
 twice-new i [] none h = (refl, tt)
 twice-new i (e ∷ es) none h = elim (three (nat_cmp i e.0)) [
   | inl less ↦ rw less (none, (h.0, h.1))
@@ -55,14 +55,14 @@ twice-new i (e ∷ es) none h = elim (three (nat_cmp i e.0)) [
 ]
 
 -- ---- one that ends
-opened-ended : (i : ℕ) (es : Received) → NoneTwice es → opened i (remove_entry (is_at (nat_cmp i)) es) ≡ None
+pub opened-ended : (i : ℕ) (es : Received) → NoneTwice es → opened i (remove_entry (is_at (nat_cmp i)) es) ≡ None
 opened-ended i [] h = refl
 opened-ended i (e ∷ es) h = elim (cases_eq e.0 i) [
   | inl same ↦ rw (is_at-here i e.0 same) (ap (λ (k : ℕ). opened k es) (sym same) ∙ h.0)
   | inr apart ↦ rw (is_at-apart i e.0 apart) (rw (is_at-apart i e.0 apart) (opened-ended i es h.1))
 ]
 
-opened-stays : (i id : ℕ) (es : Received) → i ≢ id → opened id (remove_entry (is_at (nat_cmp i)) es) ≡ opened id es
+pub opened-stays : (i id : ℕ) (es : Received) → i ≢ id → opened id (remove_entry (is_at (nat_cmp i)) es) ≡ opened id es
 opened-stays i id [] ne = refl
 opened-stays i id (e ∷ es) ne = elim (cases_eq e.0 i) [
   | inl same ↦ rw (is_at-here i e.0 same, is_at-apart id e.0 (λ z. ne (sym same ∙ z))) refl
@@ -76,7 +76,7 @@ none-ended i k (e ∷ es) none = elim (cases_Bool (is_at (nat_cmp k) e.0)) [
   | inr f ↦ elim (cases_Bool (is_at (nat_cmp i) e.0)) [ inl t ↦ rw t (rw f at none) | inr g ↦ rw g (rw f (none-ended i k es (rw f at none))) ]
 ]
 
-twice-ended : (i : ℕ) (es : Received) → NoneTwice es → NoneTwice (remove_entry (is_at (nat_cmp i)) es)
+pub twice-ended : (i : ℕ) (es : Received) → NoneTwice es → NoneTwice (remove_entry (is_at (nat_cmp i)) es)
 twice-ended i [] h = tt
 twice-ended i (e ∷ es) h = elim (cases_Bool (is_at (nat_cmp i) e.0)) [
   | inl t ↦ rw t h.1
@@ -84,7 +84,7 @@ twice-ended i (e ∷ es) h = elim (cases_Bool (is_at (nat_cmp i) e.0)) [
 ]
 
 -- ---- a new connection
-opened-before : (id : ℕ) (es : Received) → is_some (opened id (of_before es)) ≡ is_some (opened id es)
+pub opened-before : (id : ℕ) (es : Received) → is_some (opened id (of_before es)) ≡ is_some (opened id es)
 opened-before id [] = refl
 opened-before id (e ∷ es) = elim (cases_Bool (is_at (nat_cmp id) e.0)) [ inl t ↦ rw t refl | inr f ↦ rw f (opened-before id es) ]
 
@@ -95,7 +95,7 @@ none-before k (e ∷ es) none = elim (cases_Bool (is_at (nat_cmp k) e.0)) [
   | inr f ↦ rw f (none-before k es (rw f at none))
 ]
 
-twice-before : (es : Received) → NoneTwice es → NoneTwice (of_before es)
+pub twice-before : (es : Received) → NoneTwice es → NoneTwice (of_before es)
 twice-before [] h = tt
 twice-before (e ∷ es) h = (none-before e.0 es h.0, twice-before es h.1)
 

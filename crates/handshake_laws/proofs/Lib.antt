@@ -1,3 +1,4 @@
+pub mod AgreeLaws
 pub mod ArrivalLaws
 pub mod ChosenLaws
 pub mod QuotaLaws

@@ -42,7 +42,7 @@ none-released k id order (e ∷ es) h = elim (cases_Bool (has_id id e.1)) [
   | inr f ↦ rw f (none-cons k e (write_id (as_released id order) id es) (none-head k e es h) (none-released k id order es (none-tail k e es h)))
 ]
 
-none-away : (k : ℕ) (es : Entries) → NoneHas k es → NoneHas k (away es)
+pub none-away : (k : ℕ) (es : Entries) → NoneHas k es → NoneHas k (away es)
 none-away k [] h = refl
 none-away k (e ∷ es) h = none-cons k (e.0, record e.1 { here = false }) (away es) (none-head k e es h) (none-away k es (none-tail k e es h))
 
@@ -186,7 +186,7 @@ pub keeps_numbers : KeepsNumbers
 keeps_numbers = λ steps end r. numbered-run empty_outbox steps end r tt
 
 -- ---- the least free identifier
-some-sent : (k now limit id : ℕ) (es : Entries) → IsSome (find_id k es) → IsSome (find_id k (after_send now limit id es))
+pub some-sent : (k now limit id : ℕ) (es : Entries) → IsSome (find_id k es) → IsSome (find_id k (after_send now limit id es))
 some-sent k now limit id [] h = h
 some-sent k now limit id (e ∷ es) h = elim (cases_Bool (waits e.1.stage)) [
   | inl t ↦
@@ -198,7 +198,7 @@ some-sent k now limit id (e ∷ es) h = elim (cases_Bool (waits e.1.stage)) [
   | inr t ↦ rw t (elim (cases_Bool (has_id k e.1)) [ inl i ↦ rw i refl | inr i ↦ rw i (some-sent k now limit id es (rw i at h)) ])
 ]
 
-least-next : (now limit k : ℕ) (old new : Outbox) (s : Sent) → NextStep now limit old (Some s) new → s.dup ≡ false → 1 ≤ k → k < s.id → IsSome (find_id k new.copies)
+pub least-next : (now limit k : ℕ) (old new : Outbox) (s : Sent) → NextStep now limit old (Some s) new → s.dup ≡ false → 1 ≤ k → k < s.id → IsSome (find_id k new.copies)
 least-next now limit k old new s (inl n) first low less = absurd (both_ways s.dup first (resent-dup now limit s old.copies n.sent))
 least-next now limit k old new s (inr n) first low less = rw n.left (some-sent k now limit s.id (after_resend now limit old.copies) (n.number.least k low less))
 

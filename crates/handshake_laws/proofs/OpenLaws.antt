@@ -59,7 +59,7 @@ all-other : (id : ℕ) (es : Entries) → NoneHas id es → AllByRecursion (Othe
 all-other id [] h = tt
 all-other id (e ∷ es) h = all-both (Other id) (published_part e.1) (published es) (part-other id e.1.stage e.1.here e.1.delivery (none-head id e es h)) (all-other id es (none-tail id e es h))
 
-none-dropped : (id : ℕ) (es : Entries) → AreNumbered es → NoneHas id (drop_id id es)
+pub none-dropped : (id : ℕ) (es : Entries) → AreNumbered es → NoneHas id (drop_id id es)
 none-dropped id [] n = refl
 none-dropped id (e ∷ es) n = elim (cases_Bool (has_id id e.1)) [
   | inl h ↦ rw h (numbered-later id e.1.stage es h n.0)

@@ -49,7 +49,7 @@ without-same id Waiting true ks h e = absurd (false≢true h)
 without-same id (Published i) true ks h e = rw h refl
 without-same id (Released i order) true ks h e = rw h refl
 
-without-none : (id : ℕ) (es : Entries) → NoneHas id es → without id (here_ids es) ≡ here_ids es
+pub without-none : (id : ℕ) (es : Entries) → NoneHas id es → without id (here_ids es) ≡ here_ids es
 without-none id [] h = refl
 without-none id (e ∷ es) h = without-other id e.1.stage e.1.here (here_ids es) (none-head id e es h) ∙ ap (λ (t : List ℕ). here_part e.1 ++ t) (without-none id es (none-tail id e es h))
 
@@ -155,7 +155,7 @@ flying-offer old new c Full s = rw s.1 refl
 flying-offer old new c AtEnd s = rw s.2 refl
 
 -- the calls tell which PUBLISHes are on their way
-flying-step : (old new : Outbox) (s : Step) → Takes old s new → AreLaid old.copies → AreNumbered old.copies → flying_after (here_ids old.copies) s ≡ here_ids new.copies
+pub flying-step : (old new : Outbox) (s : Step) → Takes old s new → AreLaid old.copies → AreNumbered old.copies → flying_after (here_ids old.copies) s ≡ here_ids new.copies
 flying-step old new (offered c a) s h n = flying-offer old new c a s
 flying-step old new (acknowledged id a) s h n = flying-acknowledge old new id a s n
 flying-step old new (completed id a) s h n = flying-complete old new id a s n
@@ -191,7 +191,7 @@ maximum-next now limit old new None s = elim s.step [
 maximum-next now limit old new (Some x) (inl s) = rw s.left refl
 maximum-next now limit old new (Some x) (inr s) = rw s.left refl
 
-maximum-step : (old new : Outbox) (s : Step) → Takes old s new → maximum_after old.maximum s ≡ new.maximum
+pub maximum-step : (old new : Outbox) (s : Step) → Takes old s new → maximum_after old.maximum s ≡ new.maximum
 maximum-step old new (offered c a) s = maximum-offer old new c a s
 maximum-step old new (acknowledged id a) s = maximum-end _ old new id a s
 maximum-step old new (completed id a) s = maximum-end _ old new id a s
@@ -212,7 +212,7 @@ length-both : (xs ys : List ℕ) → length (xs ++ ys) ≡ length xs + length ys
 length-both [] ys = omega arith
 length-both (x ∷ xs) ys = omega (arith, length-both xs ys)
 
-in_flight-here : (es : Entries) → AreLaid es → in_flight es ≡ length (here_ids es)
+pub in_flight-here : (es : Entries) → AreLaid es → in_flight es ≡ length (here_ids es)
 in_flight-here [] h = refl
 in_flight-here (e ∷ es) h = omega (arith, count-here e.1.stage e.1.here (λ w. (h.0 w).0), in_flight-here es h.2, length-both (here_part e.1) (here_ids es))
 

@@ -68,7 +68,7 @@ all-inserted Q k v (s ∷ S) h q = elim (compared k s.0) [
   ]
 ]
 
-all-sorted : (Q : Pair → Type 0) (xs : List Pair) → AllByRecursion Q xs → AllByRecursion Q (sorted xs)
+pub all-sorted : (Q : Pair → Type 0) (xs : List Pair) → AllByRecursion Q xs → AllByRecursion Q (sorted xs)
 all-sorted Q [] h = tt
 all-sorted Q (x ∷ xs) h = all-inserted Q x.0 x.1 (sorted xs) (all-sorted Q xs h.1) h.0
 
@@ -261,7 +261,7 @@ distinct-dropped id (e ∷ es) d = elim (cases_Bool (has_id id e.1)) [
 ]
 
 -- ---- which identifiers are released
-has-none : (id : ℕ) (S : List Pair) → AllByRecursion (λ y. y.1 ≢ id) S → has id (values_of S) ≡ false
+pub has-none : (id : ℕ) (S : List Pair) → AllByRecursion (λ y. y.1 ≢ id) S → has id (values_of S) ≡ false
 has-none id [] h = refl
 has-none id (s ∷ S) h = rw (ne_eqb s.1 id h.0) (has-none id S h.1)
 
@@ -295,7 +295,7 @@ tail-has id Waiting xs d h = h
 tail-has id (Published i) xs d h = h
 tail-has id (Released i order) xs d h = has-kept order i id (sorted xs) (all-sorted (λ s. s.0 ≢ order) xs (all-firsts order i xs d.0)) h
 
-has-released : (id : ℕ) (x : Entry) (es : Entries) → AreDistinct (pairs es) → find_id id es ≡ Some x → is_released x.stage ≡ true → has id (values_of (sorted (pairs es))) ≡ true
+pub has-released : (id : ℕ) (x : Entry) (es : Entries) → AreDistinct (pairs es) → find_id id es ≡ Some x → is_released x.stage ≡ true → has id (values_of (sorted (pairs es))) ≡ true
 has-released id x [] d is r = (cc is)
 has-released id x (e ∷ es) d is r = elim (cases_Bool (has_id id e.1)) [
   | inl h ↦ let f : Some e.1 ≡ Some x = rw h at is in let same : e.1 ≡ x = cc in head-has id e.1.stage (pairs es) h (rw same r)
@@ -311,7 +311,7 @@ none-released : (id : ℕ) (es : Entries) → NoneHas id es → AllByRecursion (
 none-released id [] h = tt
 none-released id (e ∷ es) h = all-both (λ y. y.1 ≢ id) (stage_pair e.1.stage) (pairs es) (pair-other id e.1.stage (none-head id e es h)) (none-released id es (none-tail id e es h))
 
-not-released : (id : ℕ) (x : Entry) (es : Entries) → AreNumbered es → find_id id es ≡ Some x → stage_pair x.stage ≡ [] → AllByRecursion (λ y. y.1 ≢ id) (pairs es)
+pub not-released : (id : ℕ) (x : Entry) (es : Entries) → AreNumbered es → find_id id es ≡ Some x → stage_pair x.stage ≡ [] → AllByRecursion (λ y. y.1 ≢ id) (pairs es)
 not-released id x [] n is p = tt
 not-released id x (e ∷ es) n is p = elim (cases_Bool (has_id id e.1)) [
   | inl h ↦
@@ -383,7 +383,7 @@ pair-received ExactlyOnce (Released id order) h = absurd (false≢true h)
 pairs-resent : (now limit : ℕ) (es : Entries) → pairs (after_resend now limit es) ≡ pairs es
 pairs-resent now limit es = chosen-resent released_pair now limit (λ x t. pair-published x.stage (and_parts (is_published x.stage) (not x.here) t).0) (λ x t. pair-published x.stage (and_parts (is_published x.stage) (not x.here) t).0) es
 
-known-next : (known : List ℕ) (now limit : ℕ) (old new : Outbox) (a : Option Sent) → NextStep now limit old a new → IsKnown known old → IsKnown known new
+pub known-next : (known : List ℕ) (now limit : ℕ) (old new : Outbox) (a : Option Sent) → NextStep now limit old a new → IsKnown known old → IsKnown known new
 known-next known now limit old new None s k = elim s.step [
   | inl t ↦ rw t.1 k
   | inr t ↦ elim t [
@@ -395,17 +395,17 @@ known-next known now limit old new (Some x) (inl s) k = rw s.left (known-same kn
 known-next known now limit old new (Some x) (inr s) k =
     rw s.left (known-same known old _ (chosen-sent released_pair now limit x.id (λ y w. pair-waits y.stage w) (λ y. refl) (after_resend now limit old.copies) ∙ pairs-resent now limit old.copies) refl k)
 
-known-offer : (known : List ℕ) (old new : Outbox) (c : Delivery) (a : Offer) → OfferStep old c a new → IsKnown known old → IsKnown known new
+pub known-offer : (known : List ℕ) (old new : Outbox) (c : Delivery) (a : Offer) → OfferStep old c a new → IsKnown known old → IsKnown known new
 known-offer known old new c Queued s k = rw s.2 (known-same known old _ (chosen-offered released_pair old.next_place c old.copies refl) refl k)
 known-offer known old new c Full s k = rw s.1 k
 known-offer known old new c AtEnd s k = rw s.2 k
 
-known-acknowledge : (known : List ℕ) (old new : Outbox) (id : ℕ) (a : Ack) → EndStep (is_acknowledged (find_id id old.copies)) old id a new → IsKnown known old → IsKnown known new
+pub known-acknowledge : (known : List ℕ) (old new : Outbox) (id : ℕ) (a : Ack) → EndStep (is_acknowledged (find_id id old.copies)) old id a new → IsKnown known old → IsKnown known new
 known-acknowledge known old new id Done s k =
     let f = found-acknowledged (find_id id old.copies) s.0 in rw s.1 (known-same known old _ (chosen-dropped released_pair id f.0 old.copies f.1 (pair-published f.0.stage f.2)) refl k)
 known-acknowledge known old new id Unknown s k = rw s.1 k
 
-known-complete : (known : List ℕ) (old new : Outbox) (id : ℕ) (a : Ack) → EndStep (is_completed (find_id id old.copies)) old id a new → IsKnown known old → IsKnown (pubrecs_after known (completed id a)) new
+pub known-complete : (known : List ℕ) (old new : Outbox) (id : ℕ) (a : Ack) → EndStep (is_completed (find_id id old.copies)) old id a new → IsKnown known old → IsKnown (pubrecs_after known (completed id a)) new
 known-complete known old new id Done s k =
     let f = found-completed (find_id id old.copies) s.0 in
     rw s.1 (record {
@@ -415,7 +415,7 @@ known-complete known old new id Done s k =
     })
 known-complete known old new id Unknown s k = rw s.1 k
 
-known-received : (known : List ℕ) (o : Option Entry) (old new : Outbox) (id reason : ℕ) (a : Rec) → find_id id old.copies ≡ o → ReceivedIf o old id reason a new → AreNumbered old.copies → IsKnown known old → ReleasesKnown known (received id reason a) × IsKnown (pubrecs_after known (received id reason a)) new
+pub known-received : (known : List ℕ) (o : Option Entry) (old new : Outbox) (id reason : ℕ) (a : Rec) → find_id id old.copies ≡ o → ReceivedIf o old id reason a new → AreNumbered old.copies → IsKnown known old → ReleasesKnown known (received id reason a) × IsKnown (pubrecs_after known (received id reason a)) new
 known-received known None old new id reason a is s n k = rw (s.0, s.1) (tt, k)
 known-received known (Some x) old new id reason rec.Release is (inl s) n k =
     let p = pair-received x.delivery.qos x.stage s.0 in
@@ -445,7 +445,7 @@ known-lost known old new s k =
       below = rw e (below-above old.copies);
     })
 
-known-step : (known : List ℕ) (old new : Outbox) (s : Step) → Takes old s new → AreNumbered old.copies → IsKnown known old → ReleasesKnown known s × IsKnown (pubrecs_after known s) new
+pub known-step : (known : List ℕ) (old new : Outbox) (s : Step) → Takes old s new → AreNumbered old.copies → IsKnown known old → ReleasesKnown known s × IsKnown (pubrecs_after known s) new
 known-step known old new (offered c a) s n k = (tt, known-offer known old new c a s k)
 known-step known old new (acknowledged id a) s n k = (tt, known-acknowledge known old new id a s k)
 known-step known old new (completed id a) s n k = (tt, known-complete known old new id a s k)

@@ -51,45 +51,76 @@ fn flush(alloc: Global, out: &mut Outgoing, now: u64) -> Result<Vec<(u16, bool)>
     Ok(sent)
 }
 
+/// Two deliveries at QoS 2 and three at QoS 1 are queued.
+fn offers(alloc: Global, out: &mut Outgoing) -> Result<bool, Fail> {
+    let mut right = true;
+    for qos in [
+        Qos::ExactlyOnce,
+        Qos::ExactlyOnce,
+        Qos::AtLeastOnce,
+        Qos::AtLeastOnce,
+        Qos::AtLeastOnce,
+    ] {
+        right &= matches!(offer(alloc, out, qos)?, Offer::Queued);
+    }
+    Ok(right && touches(alloc, out, &[1, 2, 3, 4, 5])?)
+}
+
+fn touches(alloc: Global, out: &mut Outgoing, places: &[u64]) -> Result<bool, Fail> {
+    Ok(out.touched(alloc)?.as_slice() == places)
+}
+
+fn sends(alloc: Global, out: &mut Outgoing, sent: &[(u16, bool)]) -> Result<bool, Fail> {
+    Ok(flush(alloc, out, 0)?.as_slice() == sent)
+}
+
+fn releases(alloc: Global, out: &Outgoing, ids: &[u16]) -> Result<bool, Fail> {
+    Ok(out.releases(alloc)?.as_slice() == ids)
+}
+
+/// Four are sent, and the client answers the first two.
+fn first_connection(alloc: Global, out: &mut Outgoing) -> Result<bool, Fail> {
+    out.resume(4);
+    let sent = sends(
+        alloc,
+        out,
+        &[(1, false), (2, false), (3, false), (4, false)],
+    )?;
+    let answered = matches!(out.received(2, 0), Rec::Release)
+        && matches!(out.received(1, 0x10), Rec::Release)
+        && matches!(out.received(3, 0), Rec::Unknown);
+    Ok(sent && answered && touches(alloc, out, &[1, 2, 3, 4])?)
+}
+
+/// The others are sent again, and then the last, under the identifier that is free.
+fn second_connection(alloc: Global, out: &mut Outgoing) -> Result<bool, Fail> {
+    out.resume(2);
+    let owed = releases(alloc, out, &[2, 1])?;
+    let again = sends(alloc, out, &[(3, true), (4, true)])?;
+    let ended = matches!(out.acknowledge(3), Ack::Done);
+    let touched = touches(alloc, out, &[3])?;
+    let last = sends(alloc, out, &[(3, false)])?;
+    Ok(owed && again && ended && touched && last)
+}
+
+/// One exchange is over; the other is released still, after a crash too.
+fn completed(alloc: Global, out: &mut Outgoing) -> Result<bool, Fail> {
+    let ended = matches!(out.complete(2), Ack::Done) && matches!(out.complete(2), Ack::Unknown);
+    let released = matches!(out.received(1, 0x80), Rec::Release);
+    out.lost();
+    let owed = releases(alloc, out, &[1])?;
+    let sent = sends(alloc, out, &[])?;
+    Ok(ended && released && owed && sent && touches(alloc, out, &[2, 5])?)
+}
+
 #[test]
 fn later_connections_send_again(rt: HostRuntime) -> Result<(), Fail> {
     let alloc = rt.alloc();
     let mut out = Outgoing::new(alloc);
-    for _ in 0..2 {
-        assert!(rt; matches!(offer(alloc, &mut out, Qos::ExactlyOnce)?, Offer::Queued));
-    }
-    for _ in 0..3 {
-        assert!(rt; matches!(offer(alloc, &mut out, Qos::AtLeastOnce)?, Offer::Queued));
-    }
-    assert_eq!(rt; out.touched(alloc)?.as_slice(), [1, 2, 3, 4, 5].as_slice());
-    out.resume(4);
-    let first = flush(alloc, &mut out, 0)?;
-    assert_eq!(rt;
-        first.as_slice(),
-        [(1, false), (2, false), (3, false), (4, false)].as_slice()
-    );
-    assert!(rt; matches!(out.received(2, 0), Rec::Release));
-    assert!(rt; matches!(out.received(1, 0x10), Rec::Release));
-    assert!(rt; matches!(out.received(3, 0), Rec::Unknown));
-
-    assert_eq!(rt; out.touched(alloc)?.as_slice(), [1, 2, 3, 4].as_slice());
-
-    out.resume(2);
-    assert_eq!(rt; out.releases(alloc)?.as_slice(), [2, 1].as_slice());
-    let again = flush(alloc, &mut out, 0)?;
-    assert_eq!(rt; again.as_slice(), [(3, true), (4, true)].as_slice());
-    assert!(rt; matches!(out.acknowledge(3), Ack::Done));
-    assert_eq!(rt; out.touched(alloc)?.as_slice(), [3].as_slice());
-    let next = flush(alloc, &mut out, 0)?;
-    assert_eq!(rt; next.as_slice(), [(3, false)].as_slice());
-    assert!(rt; matches!(out.complete(2), Ack::Done));
-    assert!(rt; matches!(out.complete(2), Ack::Unknown));
-    assert!(rt; matches!(out.received(1, 0x80), Rec::Release));
-
-    out.lost();
-    assert_eq!(rt; out.releases(alloc)?.as_slice(), [1].as_slice());
-    assert_eq!(rt; flush(alloc, &mut out, 0)?.len(), 0);
-    assert_eq!(rt; out.touched(alloc)?.as_slice(), [2, 5].as_slice());
+    assert!(rt; offers(alloc, &mut out)?);
+    assert!(rt; first_connection(alloc, &mut out)?);
+    assert!(rt; second_connection(alloc, &mut out)?);
+    assert!(rt; completed(alloc, &mut out)?);
     Ok(())
 }
 

@@ -260,3 +260,19 @@ pub chooses-idle : (now limit first flight next from : ℕ) (old : Outbox) → I
 chooses-idle now limit first flight next from old h sorted quota past owed =
     let none = within-end from first old.copies (counted-within old.copies old.copies first flight next from h refl sorted) owed in
     chooses-nothing now limit first next old old.copies old.copies quota (sym (nothing-large now limit old.copies none)) none (sym (skip-end now limit 0 first next old.copies h.queued past).0) h.queued past
+
+-- where no resend is owed, none is from any place on
+none-from : (k : ℕ) (es : Entries) → NoneOwed es → AreOwedFrom k es
+none-from k [] h = tt
+none-from k (e ∷ es) h = (λ o. absurd (both_ways (is_owed e.1) h.0 o), none-from k es h.1)
+
+pub counted-anew : (es : Entries) (first flight next from k : ℕ) → IsCounted es first flight next from → NoneOwed es → IsCounted es first flight next k
+counted-anew es first flight next from k h none = record {
+  flight_is = h.flight_is;
+  below = h.below;
+  queued = h.queued;
+  start = h.start;
+  owed = none-from k es none;
+  answered = h.answered;
+  orders = h.orders;
+}

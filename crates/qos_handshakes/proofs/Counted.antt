@@ -1,5 +1,5 @@
 -- The counts that the code keeps beside the copies.
-use Rattle.std.proofs.Common.{◌≡◌, ◌≢◌, ℕ, ◌+◌, ◌<◌, ◌≤◌, true, false, cond, [], ◌∷◌, ◌++◌, Option, Some, None, length, refl, sym, ◌∙◌, ap, arith, inl, inr}
+use Rattle.std.proofs.Common.{◌≡◌, ◌≢◌, ℕ, ◌+◌, ◌<◌, ◌≤◌, Bool, true, false, cond, [], ◌∷◌, ◌++◌, Option, Some, None, length, refl, sym, ◌∙◌, ap, arith, inl, inr}
 use Rattle.std.specs.Prelude.{IsSomeAnd, IsSome}
 use Rattle.std.proofs.lemmas.Bool.{cases_Bool, false≢true}
 use Rattle.std.specs.List.{AllByRecursion}
@@ -363,3 +363,7 @@ counted-sent id first flight next from cs ns h lt is =
       answered = rw is (answered-at (as_published id) (λ _. refl) first cs h.answered);
       orders = rw is (orders-at (as_published id) (λ x h. omega arith) first cs h.orders);
     }
+
+pub sent-here : (o : Option Entry) (here : Bool) → IsSomeAnd o (λ x. x.here ≡ here) → (x : Entry) × (o ≡ Some x) × (x.here ≡ here)
+sent-here None here h = absurd h
+sent-here (Some x) here h = (x, refl, h)

@@ -139,27 +139,27 @@ found None id some = absurd some
 found (Some x) id some = (x, refl, some)
 
 -- what the table points to
-pub points-to : (es : Entries) (places : List ℕ) (from id : ℕ) → IsIndexed es places from → place_in places id ≢ 0 → (x : Entry) × (at_place (place_in places id) es ≡ Some x) × (has_id id x ≡ true)
-points-to es places from id h some = found (at_place (place_in places id) es) id (h.points id some)
+pub points-to : (es : Entries) (places : List ℕ) (id : ℕ) → IsIndexed es places → place_in places id ≢ 0 → (x : Entry) × (at_place (place_in places id) es ≡ Some x) × (has_id id x ≡ true)
+points-to es places id h some = found (at_place (place_in places id) es) id (h.points id some)
 
 pub at-zero : (places : List ℕ) (es : Entries) → AllByRecursion (IsListed places) es → at_place 0 es ≡ None
 at-zero places [] h = refl
 at-zero places (e ∷ es) h = let apart : e.0 ≢ 0 = omega (arith, h.0.placed) in rw (is_at-apart 0 e.0 apart) (at-zero places es h.1)
 
 -- by the table or by a search
-pub find-indexed : (es : Entries) (places : List ℕ) (from id : ℕ) → IsIndexed es places from → at_place (place_in places id) es ≡ find_id id es
-find-indexed es places from id h =
+pub find-indexed : (es : Entries) (places : List ℕ) (id : ℕ) → IsIndexed es places → at_place (place_in places id) es ≡ find_id id es
+find-indexed es places id h =
     elim (cases_eq (place_in places id) 0) [
       | inl z ↦ rw z (at-zero places es h.listed ∙ sym (find-none id es (none-listed places id es h.listed z)))
-      | inr some ↦ let t = points-to es places from id h some in t.1 ∙ sym (find-at id (place_in places id) t.0 es (only-listed places id es h.listed) t.1 t.2)
+      | inr some ↦ let t = points-to es places id h some in t.1 ∙ sym (find-at id (place_in places id) t.0 es (only-listed places id es h.listed) t.1 t.2)
     ]
 
-pub drop-indexed : (es : Entries) (places : List ℕ) (from id : ℕ) → IsIndexed es places from → place_in places id ≢ 0 → remove_entry (is_at (nat_cmp (place_in places id))) es ≡ drop_id id es
-drop-indexed es places from id h some =
-    let t = points-to es places from id h some in drop-at id (place_in places id) t.0 es (only-listed places id es h.listed) t.1 t.2
+pub drop-indexed : (es : Entries) (places : List ℕ) (id : ℕ) → IsIndexed es places → place_in places id ≢ 0 → remove_entry (is_at (nat_cmp (place_in places id))) es ≡ drop_id id es
+drop-indexed es places id h some =
+    let t = points-to es places id h some in drop-at id (place_in places id) t.0 es (only-listed places id es h.listed) t.1 t.2
 
-pub drop-free : (es : Entries) (places : List ℕ) (from id : ℕ) → IsIndexed es places from → place_in places id ≡ 0 → drop_id id es ≡ es
-drop-free es places from id h z = drop-none id es (none-listed places id es h.listed z)
+pub drop-free : (es : Entries) (places : List ℕ) (id : ℕ) → IsIndexed es places → place_in places id ≡ 0 → drop_id id es ≡ es
+drop-free es places id h z = drop-none id es (none-listed places id es h.listed z)
 
 pub one-stage : (i j : ℕ) (s : Stage) → stage_has i s ≡ true → stage_has j s ≡ true → i ≡ j
 one-stage i j Waiting p q = absurd (false≢true p)
@@ -204,13 +204,13 @@ pub same-place : (id k place : ℕ) (es : Entries) → k ≡ place → OnlyAt id
 same-place id k place [] same only = tt
 same-place id k place (e ∷ es) same only = (λ is. only.0 is ∙ sym same, same-place id k place es same only.1)
 
-pub points-dropped : (es : Entries) (places : List ℕ) (from i id : ℕ) → IsIndexed es places from → place_in places (suc i) ≢ 0 → i < length places → place_in (set places i 0) id ≢ 0 → IsSomeAnd (at_place (place_in (set places i 0) id) (remove_entry (is_at (nat_cmp (place_in places (suc i)))) es)) (λ x. has_id id x ≡ true)
-points-dropped es places from i id h some lt used =
+pub points-dropped : (es : Entries) (places : List ℕ) (i id : ℕ) → IsIndexed es places → place_in places (suc i) ≢ 0 → i < length places → place_in (set places i 0) id ≢ 0 → IsSomeAnd (at_place (place_in (set places i 0) id) (remove_entry (is_at (nat_cmp (place_in places (suc i)))) es)) (λ x. has_id id x ≡ true)
+points-dropped es places i id h some lt used =
     let ne : id ≢ suc i = λ same. used (ap (place_in (set places i 0)) same ∙ place_in-set_same places i 0 lt) in
     let stay : place_in (set places i 0) id ≡ place_in places id = place_in-set_other places i id 0 ne in
     let used' : place_in places id ≢ 0 = λ z. used (stay ∙ z) in
-    let mine = points-to es places from id h used' in
-    let its = points-to es places from (suc i) h some in
+    let mine = points-to es places id h used' in
+    let its = points-to es places (suc i) h some in
     let apart : place_in places id ≢ place_in places (suc i) = λ same. ne (one-id id (suc i) mine.0 its.0 (same-entry (at_place (place_in places id) es) (at_place (place_in places (suc i)) es) mine.0 its.0 (ap (λ (p : ℕ). at_place p es) same) mine.1 its.1) mine.2 its.2) in
     rw (stay, at-removed (place_in places id) (place_in places (suc i)) es apart) (h.points id used')
 
@@ -239,14 +239,12 @@ listed-dropped places i place (e ∷ es) sorted only h =
       ))
     ]
 
-pub indexed-dropped : (es : Entries) (places : List ℕ) (from from' i : ℕ) → IsIndexed es places from → place_in places (suc i) ≢ 0 → i < length places → from' ≤ from → from' ≤ i → IsStrictlySortedBy nat_cmp (keys_of (remove_entry (is_at (nat_cmp (place_in places (suc i)))) es)) → IsIndexed (remove_entry (is_at (nat_cmp (place_in places (suc i)))) es) (set places i 0) from'
-indexed-dropped es places from from' i h some lt less least sorted = record {
+pub indexed-dropped : (es : Entries) (places : List ℕ) (i : ℕ) → IsIndexed es places → place_in places (suc i) ≢ 0 → i < length places → IsStrictlySortedBy nat_cmp (keys_of (remove_entry (is_at (nat_cmp (place_in places (suc i)))) es)) → IsIndexed (remove_entry (is_at (nat_cmp (place_in places (suc i)))) es) (set places i 0)
+indexed-dropped es places i h some lt sorted = record {
   ordered = sorted;
-  listed = rw (drop-indexed es places from (suc i) h some) (listed-dropped places i (place_in places (suc i)) es h.ordered (only-listed places (suc i) es h.listed) h.listed);
-  points = λ id used. points-dropped es places from i id h some lt used;
+  listed = rw (drop-indexed es places (suc i) h some) (listed-dropped places i (place_in places (suc i)) es h.ordered (only-listed places (suc i) es h.listed) h.listed);
+  points = λ id used. points-dropped es places i id h some lt used;
   small = rw length-set h.small;
-  start = rw length-set (omega (arith, h.start));
-  used = λ k below. let before : k < from = omega arith in let ne : k ≢ i = omega arith in rw get_or-set_other (h.used k before);
 }
 
 -- an identifier in the table is within it
@@ -254,15 +252,14 @@ pub within : (places : List ℕ) (i : ℕ) → place_in places (suc i) ≢ 0 →
 within places i h = elim (cases_lt i (length places)) [ inl lt ↦ lt | inr past ↦ absurd (h (get_or_past places i 0 past)) ]
 
 -- what `remove` leaves
-pub removed : (es ns : Entries) (places ps : List ℕ) (from from' id place : ℕ) → IsIndexed es places from → ps ≡ places → place ≡ place_in ps id → place ≢ 0 → ns ≡ remove_entry (is_at (nat_cmp place)) es → IsStrictlySortedBy nat_cmp (keys_of ns) → from' ≤ from → from' ≤ id - 1 → IsIndexed ns (set places (id - 1) 0) from' × (ns ≡ drop_id id es)
-removed es ns places ps from from' zero place h same is some gone sorted less least = absurd (some is)
-removed es ns places ps from from' (suc i) place h same is some gone sorted less least =
+pub removed : (es ns : Entries) (places ps : List ℕ) (id place : ℕ) → IsIndexed es places → ps ≡ places → place ≡ place_in ps id → place ≢ 0 → ns ≡ remove_entry (is_at (nat_cmp place)) es → IsStrictlySortedBy nat_cmp (keys_of ns) → IsIndexed ns (set places (id - 1) 0) × (ns ≡ drop_id id es)
+removed es ns places ps zero place h same is some gone sorted = absurd (some is)
+removed es ns places ps (suc i) place h same is some gone sorted =
     let e : place ≡ place_in places (suc i) = is ∙ ap (λ (q : List ℕ). place_in q (suc i)) same in
     let some' : place_in places (suc i) ≢ 0 = λ z. some (e ∙ z) in
     let gone' : ns ≡ remove_entry (is_at (nat_cmp (place_in places (suc i)))) es = gone ∙ ap (λ (p : ℕ). remove_entry (is_at (nat_cmp p)) es) e in
     let back : suc i - 1 ≡ i = omega arith in
-    let low : from' ≤ i = omega arith in
-    (rw (back, gone') (indexed-dropped es places from from' i h some' (within places i some') less low (rw gone' at sorted)), gone' ∙ drop-indexed es places from (suc i) h some')
+    (rw (back, gone') (indexed-dropped es places i h some' (within places i some') (rw gone' at sorted)), gone' ∙ drop-indexed es places (suc i) h some')
 
 pub at-appended : (p : ℕ) (es t : Entries) (P : Entry → Type 0) → IsSomeAnd (at_place p es) P → IsSomeAnd (at_place p (es ++ t)) P
 at-appended p [] t P h = absurd h
@@ -277,24 +274,22 @@ listed-appended places [] e h l = (l, tt)
 listed-appended places (x ∷ es) e h l = (h.0, listed-appended places es e h.1 l)
 
 -- what `insert` of a copy that waits leaves
-pub pushed : (es ns : Entries) (places : List ℕ) (from place : ℕ) (x : Entry) → IsIndexed es places from → AllPlacesBelow es place → 1 ≤ place → x.stage ≡ Waiting → ns ≡ insert_entry nat_cmp es place x → IsStrictlySortedBy nat_cmp (keys_of ns) → IsIndexed ns places from × (ns ≡ es ++ (place, x) ∷ [])
-pushed es ns places from place x h past counted waits is sorted =
+pub pushed : (es ns : Entries) (places : List ℕ) (place : ℕ) (x : Entry) → IsIndexed es places → AllPlacesBelow es place → 1 ≤ place → x.stage ≡ Waiting → ns ≡ insert_entry nat_cmp es place x → IsStrictlySortedBy nat_cmp (keys_of ns) → IsIndexed ns places × (ns ≡ es ++ (place, x) ∷ [])
+pushed es ns places place x h past counted waits is sorted =
     let e : ns ≡ es ++ (place, x) ∷ [] = is ∙ insert-last place x es past in (
       record {
         ordered = sorted;
         listed = rw e (listed-appended places es (place, x) h.listed (record { placed = counted; place = λ id has. absurd (false≢true (ap (stage_has id) (sym waits) ∙ has)) }));
         points = λ id some. rw e (at-appended (place_in places id) es ((place, x) ∷ []) (λ y. has_id id y ≡ true) (h.points id some));
         small = h.small;
-        start = h.start;
-        used = h.used;
       },
       e,
     )
 
 -- the same, or nothing for want of memory
-pub pushed-or-not : {T E : Type 0} (r : Result T E) (es ns : Entries) (places : List ℕ) (from place : ℕ) (x : Entry) → IsIndexed es places from → AllPlacesBelow es place → 1 ≤ place → x.stage ≡ Waiting → OnOk r (ns ≡ insert_entry nat_cmp es place x) → OnErr r (ns ≡ es) → IsStrictlySortedBy nat_cmp (keys_of ns) → IsIndexed ns places from
-pushed-or-not (Ok v) es ns places from place x h past counted waits is same sorted = (pushed es ns places from place x h past counted waits is sorted).0
-pushed-or-not (Err e) es ns places from place x h past counted waits is same sorted = rw same h
+pub pushed-or-not : {T E : Type 0} (r : Result T E) (es ns : Entries) (places : List ℕ) (place : ℕ) (x : Entry) → IsIndexed es places → AllPlacesBelow es place → 1 ≤ place → x.stage ≡ Waiting → OnOk r (ns ≡ insert_entry nat_cmp es place x) → OnErr r (ns ≡ es) → IsStrictlySortedBy nat_cmp (keys_of ns) → IsIndexed ns places
+pushed-or-not (Ok v) es ns places place x h past counted waits is same sorted = (pushed es ns places place x h past counted waits is sorted).0
+pushed-or-not (Err e) es ns places place x h past counted waits is same sorted = rw same h
 
 -- ---- the view
 abbrev pub held_of : Entries → ℕ → Held
@@ -345,9 +340,9 @@ pub some-and : (o : Option Entry) (x : Entry) (P : Entry → Type 0) → o ≡ S
 some-and o x P e p = rw e p
 
 -- the exchange of an identifier, changed under its identifier
-pub indexed-released : (es : Entries) (places : List ℕ) (from id order : ℕ) → IsIndexed es places from → place_in places id ≢ 0 → IsIndexed (write_at (as_released id order) (place_in places id) es) places from
-indexed-released es places from id order h some =
-    let its = points-to es places from id h some in
+pub indexed-released : (es : Entries) (places : List ℕ) (id order : ℕ) → IsIndexed es places → place_in places id ≢ 0 → IsIndexed (write_at (as_released id order) (place_in places id) es) places
+indexed-released es places id order h some =
+    let its = points-to es places id h some in
     let place = place_in places id in
     record {
       ordered = rw (keys-written (as_released id order) place es) h.ordered;
@@ -355,14 +350,12 @@ indexed-released es places from id order h some =
           (λ x j has. ap (place_in places) (sym (eqb-true id j has))) h.ordered (listed-elsewhere places place es h.listed);
       points = λ j used. elim (cases_eq (place_in places j) place) [
         | inl same ↦
-            let mine = points-to es places from j h used in
+            let mine = points-to es places j h used in
             let one : j ≡ id = one-id j id mine.0 its.0 (same-entry (at_place (place_in places j) es) (at_place place es) mine.0 its.0 (ap (λ (p : ℕ). at_place p es) same) mine.1 its.1) mine.2 its.2 in
             some-and _ (as_released id order its.0) (λ y. has_id j y ≡ true) (ap (λ (p : ℕ). at_place p (write_at (as_released id order) place es)) same ∙ at-written (as_released id order) place its.0 es its.1) (eq-eqb id j (sym one))
         | inr apart ↦ rw (at-written_other (as_released id order) (place_in places j) place es apart) (h.points j used)
       ];
       small = h.small;
-      start = h.start;
-      used = h.used;
     }
 
 pub waits-has : (id : ℕ) (s : Stage) → waits s ≡ true → stage_has id s ≡ false
@@ -383,8 +376,8 @@ listed-beside places i place (e ∷ es) free h = (
   listed-beside places i place es free h.1,
 )
 
-pub indexed-published : (es : Entries) (places : List ℕ) (from i place : ℕ) (x : Entry) → IsIndexed es places from → at_place place es ≡ Some x → waits x.stage ≡ true → place_in places (suc i) ≡ 0 → i < length places → IsIndexed (write_at (as_published (suc i)) place es) (set places i place) from
-indexed-published es places from i place x h at w free lt =
+pub indexed-published : (es : Entries) (places : List ℕ) (i place : ℕ) (x : Entry) → IsIndexed es places → at_place place es ≡ Some x → waits x.stage ≡ true → place_in places (suc i) ≡ 0 → i < length places → IsIndexed (write_at (as_published (suc i)) place es) (set places i place)
+indexed-published es places i place x h at w free lt =
     let counted : 1 ≤ place = placed-at places place x es h.listed at in
     record {
       ordered = rw (keys-written (as_published (suc i)) place es) h.ordered;
@@ -397,46 +390,30 @@ indexed-published es places from i place x h at w free lt =
         | inr ne ↦
             let stay : place_in (set places i place) j ≡ place_in places j = place_in-set_other places i j place ne in
             let used' : place_in places j ≢ 0 = λ z. used (stay ∙ z) in
-            let mine = points-to es places from j h used' in
+            let mine = points-to es places j h used' in
             let apart : place_in places j ≢ place = λ same. both_ways (has_id j x) (waits-has j x.stage w) (ap (has_id j) (same-entry (at_place place es) (at_place (place_in places j) es) x mine.0 (ap (λ (p : ℕ). at_place p es) (sym same)) at mine.1) ∙ mine.2) in
             rw (stay, at-written_other (as_published (suc i)) (place_in places j) place es apart) (h.points j used')
       ];
       small = rw length-set h.small;
-      start = rw length-set h.start;
-      used = λ k below. elim (cases_eq k i) [
-        | inl same ↦ let e : get_or (set places i place) k 0 ≡ place = rw same (place_in-set_same places i place lt) in λ z. let bad : place ≡ 0 = sym e ∙ z in omega arith
-        | inr ne ↦ rw get_or-set_other (h.used k below)
-      ];
     }
 
 -- ---- the least free identifier
-pub used-below : (es : Entries) (places : List ℕ) (from free k : ℕ) → IsIndexed es places from → ((j : ℕ) → from ≤ j → j < free → get_or places j 0 ≢ 0) → 1 ≤ k → k ≤ free → IsSome (find_id k es)
-used-below es places from free zero h scan first last = absurd (omega arith)
-used-below es places from free (suc j) h scan first last =
-    let below : j < free = omega arith in
-    let used : place_in places (suc j) ≢ 0 = elim (cases_lt j from) [ inl lt ↦ h.used j lt | inr past ↦ scan j past below ] in
-    let its = points-to es places from (suc j) h used in
-    rw (sym (find-indexed es places from (suc j) h) ∙ its.1) refl
+pub used-below : (es : Entries) (places : List ℕ) (free k : ℕ) → IsIndexed es places → ((j : ℕ) → j < free → get_or places j 0 ≢ 0) → 1 ≤ k → k ≤ free → IsSome (find_id k es)
+used-below es places free zero h scan first last = absurd (omega arith)
+used-below es places free (suc j) h scan first last =
+    let used : place_in places (suc j) ≢ 0 = scan j (omega arith) in
+    let its = points-to es places (suc j) h used in
+    rw (sym (find-indexed es places (suc j) h) ∙ its.1) refl
 
-pub ready-none : (es : Entries) (places : List ℕ) (from free : ℕ) → IsIndexed es places from → 65535 ≤ free → ((j : ℕ) → from ≤ j → j < free → get_or places j 0 ≢ 0) → NoneFree es
-ready-none es places from free h full scan = λ k first last. used-below es places from free k h scan first (omega arith)
+pub ready-none : (es : Entries) (places : List ℕ) (free : ℕ) → IsIndexed es places → 65535 ≤ free → ((j : ℕ) → j < free → get_or places j 0 ≢ 0) → NoneFree es
+ready-none es places free h full scan = λ k first last. used-below es places free k h scan first (omega arith)
 
-pub ready-least : (es : Entries) (places : List ℕ) (from free : ℕ) → IsIndexed es places from → free < 65535 → get_or places free 0 ≡ 0 → ((j : ℕ) → from ≤ j → j < free → get_or places j 0 ≢ 0) → IsLeastFree es (suc free)
-ready-least es places from free h room zero' scan = record {
+pub ready-least : (es : Entries) (places : List ℕ) (free : ℕ) → IsIndexed es places → free < 65535 → get_or places free 0 ≡ 0 → ((j : ℕ) → j < free → get_or places j 0 ≢ 0) → IsLeastFree es (suc free)
+ready-least es places free h room zero' scan = record {
   first = omega arith;
   last = omega arith;
   free = find-none (suc free) es (none-listed places (suc free) es h.listed zero');
-  least = λ k first below. used-below es places from free k h scan first (omega arith);
-}
-
-pub ready-indexed : (es : Entries) (places : List ℕ) (from free : ℕ) → IsIndexed es places from → free ≤ length places → ((j : ℕ) → from ≤ j → j < free → get_or places j 0 ≢ 0) → IsIndexed es places free
-ready-indexed es places from free h within' scan = record {
-  ordered = h.ordered;
-  listed = h.listed;
-  points = h.points;
-  small = h.small;
-  start = within';
-  used = λ j below. elim (cases_lt j from) [ inl lt ↦ h.used j lt | inr past ↦ scan j past below ];
+  least = λ k first below. used-below es places free k h scan first (omega arith);
 }
 
 pub more : (places : List ℕ) (i : ℕ) → get_or (places ++ 0 ∷ []) i 0 ≡ get_or places i 0
@@ -453,14 +430,12 @@ pub listed-more : (places : List ℕ) (es : Entries) → AllByRecursion (IsListe
 listed-more places [] h = tt
 listed-more places (e ∷ es) h = (record { placed = h.0.placed; place = λ j has. place_in-more places j ∙ h.0.place j has }, listed-more places es h.1)
 
-pub ready-more : (es : Entries) (places ns : List ℕ) (free : ℕ) → IsIndexed es places free → free ≡ length places → free < 65535 → ns ≡ places ++ 0 ∷ [] → IsIndexed es ns free
-ready-more es places ns free h all room is = rw is (record {
+pub ready-more : (es : Entries) (places ns : List ℕ) → IsIndexed es places → length places < 65535 → ns ≡ places ++ 0 ∷ [] → IsIndexed es ns
+ready-more es places ns h room is = rw is (record {
   ordered = h.ordered;
   listed = listed-more places es h.listed;
   points = λ id used. rw (place_in-more places id) (h.points id (λ z. used (place_in-more places id ∙ z)));
   small = rw length-append (omega arith);
-  start = rw length-append (omega arith);
-  used = λ j below. λ z. h.used j below (sym (place_in-more places (suc j)) ∙ z);
 })
 
 -- ---- a copy that is left out
@@ -475,61 +450,59 @@ listed-removed places place (e ∷ es) h = elim (cases_eq e.0 place) [
   | inr apart ↦ rw (is_at-apart place e.0 apart) (h.0, listed-removed places place es h.1)
 ]
 
-pub indexed-left : (es ns : Entries) (places : List ℕ) (from place : ℕ) → IsIndexed es places from → IsSomeAnd (at_place place es) (λ x. waits x.stage ≡ true) → ns ≡ remove_entry (is_at (nat_cmp place)) es → IsStrictlySortedBy nat_cmp (keys_of ns) → IsIndexed ns places from
-indexed-left es ns places from place h w is sorted =
+pub indexed-left : (es ns : Entries) (places : List ℕ) (place : ℕ) → IsIndexed es places → IsSomeAnd (at_place place es) (λ x. waits x.stage ≡ true) → ns ≡ remove_entry (is_at (nat_cmp place)) es → IsStrictlySortedBy nat_cmp (keys_of ns) → IsIndexed ns places
+indexed-left es ns places place h w is sorted =
     let its = waiting-at (at_place place es) w in
     record {
       ordered = sorted;
       listed = rw is (listed-removed places place es h.listed);
       points = λ id used.
-          let mine = points-to es places from id h used in
+          let mine = points-to es places id h used in
           let apart : place_in places id ≢ place = λ same. both_ways (has_id id its.0) (waits-has id its.0.stage its.2) (ap (has_id id) (same-entry (at_place place es) (at_place (place_in places id) es) its.0 mine.0 (ap (λ (p : ℕ). at_place p es) (sym same)) its.1 mine.1) ∙ mine.2) in
           rw (is, at-removed (place_in places id) place es apart) (h.points id used);
       small = h.small;
-      start = h.start;
-      used = h.used;
     }
 
 -- what `publish` leaves
-pub published : (es ns : Entries) (places : List ℕ) (from id place : ℕ) → IsIndexed es places from → IsSomeAnd (at_place place es) (λ x. waits x.stage ≡ true) → IsLeastFree es id → id ≤ length places → ns ≡ write_at (as_published id) place es → IsIndexed ns (set places (id - 1) place) from
-published es ns places from zero place h w free room is = absurd (omega (arith, free.first))
-published es ns places from (suc i) place h w free room is =
+pub published : (es ns : Entries) (places : List ℕ) (id place : ℕ) → IsIndexed es places → IsSomeAnd (at_place place es) (λ x. waits x.stage ≡ true) → IsLeastFree es id → id ≤ length places → ns ≡ write_at (as_published id) place es → IsIndexed ns (set places (id - 1) place)
+published es ns places zero place h w free room is = absurd (omega (arith, free.first))
+published es ns places (suc i) place h w free room is =
     let its = waiting-at (at_place place es) w in
     let back : suc i - 1 ≡ i = omega arith in
     let lt : i < length places = omega arith in
     let none : place_in places (suc i) ≡ 0 = elim (cases_eq (place_in places (suc i)) 0) [
       | inl z ↦ z
-      | inr some ↦ let its' = points-to es places from (suc i) h some in let bad : Some its'.0 ≡ None = sym its'.1 ∙ find-indexed es places from (suc i) h ∙ free.free in (cc)
+      | inr some ↦ let its' = points-to es places (suc i) h some in let bad : Some its'.0 ≡ None = sym its'.1 ∙ find-indexed es places (suc i) h ∙ free.free in (cc)
     ] in
-    rw (back, is) (indexed-published es places from i place its.0 h its.1 its.2 none lt)
+    rw (back, is) (indexed-published es places i place its.0 h its.1 its.2 none lt)
 
 -- what `release` leaves
-pub released : (es ns : Entries) (places ps : List ℕ) (from id place order : ℕ) → IsIndexed es places from → ps ≡ places → place ≡ place_in ps id → ns ≡ write_at (as_released id order) place es → IsIndexed ns places from × (ns ≡ write_id (as_released id order) id es)
-released es ns places ps from id place order h same at is =
+pub released : (es ns : Entries) (places ps : List ℕ) (id place order : ℕ) → IsIndexed es places → ps ≡ places → place ≡ place_in ps id → ns ≡ write_at (as_released id order) place es → IsIndexed ns places × (ns ≡ write_id (as_released id order) id es)
+released es ns places ps id place order h same at is =
     let e : place ≡ place_in places id = at ∙ ap (λ (q : List ℕ). place_in q id) same in
     elim (cases_eq (place_in places id) 0) [
       | inl z ↦
           let n : ns ≡ es = is ∙ ap (λ (p : ℕ). write_at (as_released id order) p es) (e ∙ z) ∙ none-written (as_released id order) 0 es (at-zero places es h.listed) in
           (rw n h, n ∙ sym (write-none (as_released id order) id es (none-listed places id es h.listed z)))
       | inr some ↦
-          let its = points-to es places from id h some in
+          let its = points-to es places id h some in
           let n : ns ≡ write_at (as_released id order) (place_in places id) es = is ∙ ap (λ (p : ℕ). write_at (as_released id order) p es) e in
-          (rw n (indexed-released es places from id order h some), n ∙ write-at (as_released id order) id (place_in places id) its.0 es (only-listed places id es h.listed) its.1 its.2)
+          (rw n (indexed-released es places id order h some), n ∙ write-at (as_released id order) id (place_in places id) its.0 es (only-listed places id es h.listed) its.1 its.2)
     ]
 
 -- ---- room for an identifier
-pub room-free : (es : Entries) (places : List ℕ) (from free : ℕ) → IsIndexed es places from → free < length places → get_or places free 0 ≡ 0 → HasRoom (held_of es (length places))
-room-free es places from free h lt zero' = inr (suc free, omega arith, omega (arith, lt), find-none (suc free) es (none-listed places (suc free) es h.listed zero'))
+pub room-free : (es : Entries) (places : List ℕ) (free : ℕ) → IsIndexed es places → free < length places → get_or places free 0 ≡ 0 → HasRoom (held_of es (length places))
+room-free es places free h lt zero' = inr (suc free, omega arith, omega (arith, lt), find-none (suc free) es (none-listed places (suc free) es h.listed zero'))
 
-pub room-more : (es : Entries) (places ns : List ℕ) (from free : ℕ) → IsIndexed es places from → free ≡ length places → ns ≡ places ++ 0 ∷ [] → HasRoom (held_of es (length ns))
-room-more es places ns from free h all is =
+pub room-more : (es : Entries) (places ns : List ℕ) (free : ℕ) → IsIndexed es places → free ≡ length places → ns ≡ places ++ 0 ∷ [] → HasRoom (held_of es (length ns))
+room-more es places ns free h all is =
     let past : length places ≤ free = omega (arith, all) in
     inr (suc free, omega arith, rw (is, length-append {A = ℕ}) (omega (arith, all)), find-none (suc free) es (none-listed places (suc free) es h.listed (get_or_past places free 0 past)))
 
-pub least-none : (es : Entries) (places : List ℕ) (from free : ℕ) → IsIndexed es places from → length places ≤ free → ((j : ℕ) → from ≤ j → j < free → get_or places j 0 ≢ 0) → HasRoom (held_of es (length places)) → NoneFree es
-least-none es places from free h all scan (inl full) = ready-none es places from free h (omega (arith, all, full)) scan
-least-none es places from free h all scan (inr room) =
-    let some : IsSome (find_id room.0 es) = used-below es places from free room.0 h scan room.1 (omega (arith, all, room.2)) in absurd (false≢true (rw (room.3) at some))
+pub least-none : (es : Entries) (places : List ℕ) (free : ℕ) → IsIndexed es places → length places ≤ free → ((j : ℕ) → j < free → get_or places j 0 ≢ 0) → HasRoom (held_of es (length places)) → NoneFree es
+least-none es places free h all scan (inl full) = ready-none es places free h (omega (arith, all, full)) scan
+least-none es places free h all scan (inr room) =
+    let some : IsSome (find_id room.0 es) = used-below es places free room.0 h scan room.1 (omega (arith, all, room.2)) in absurd (false≢true (rw (room.3) at some))
 
 -- ---- an exchange that ends where it stands
 listed-at : (places : List ℕ) (id place : ℕ) (x : Entry) (es : Entries) → AllByRecursion (IsListed places) es → at_place place es ≡ Some x → has_id id x ≡ true → place_in places id ≡ place
@@ -544,8 +517,8 @@ owed-id Waiting here o = absurd (false≢true o)
 owed-id (Published id) here o = eq-eqb id id refl
 owed-id (Released id order) here o = absurd (false≢true o)
 
-pub ended-at : (es : Entries) (places : List ℕ) (from place id : ℕ) (x : Entry) → IsIndexed es places from → at_place place es ≡ Some x → IsSomeAnd (at_place place es) (λ y. is_owed y ≡ true) → id ≡ stage_id x.stage → drop_id id es ≡ remove_entry (is_at (nat_cmp place)) es
-ended-at es places from place id x h at owed is =
+pub ended-at : (es : Entries) (places : List ℕ) (place id : ℕ) (x : Entry) → IsIndexed es places → at_place place es ≡ Some x → IsSomeAnd (at_place place es) (λ y. is_owed y ≡ true) → id ≡ stage_id x.stage → drop_id id es ≡ remove_entry (is_at (nat_cmp place)) es
+ended-at es places place id x h at owed is =
     let o : is_owed x ≡ true = rw at at owed in
     let has : has_id id x ≡ true = rw is (owed-id x.stage x.here o) in
     sym (drop-at id place x es (same-place id place (place_in places id) es (sym (listed-at places id place x es h.listed at has)) (only-listed places id es h.listed)) at has)
@@ -571,14 +544,12 @@ has-at Q place p (e ∷ es) k h = elim (cases_eq e.0 place) [
   ]
 ]
 
-pub indexed-here : (es ns : Entries) (places : List ℕ) (from place : ℕ) → IsIndexed es places from → ns ≡ write_at as_here place es → IsIndexed ns places from
-indexed-here es ns places from place h is = rw is (record {
+pub indexed-here : (es ns : Entries) (places : List ℕ) (place : ℕ) → IsIndexed es places → ns ≡ write_at as_here place es → IsIndexed ns places
+indexed-here es ns places place h is = rw is (record {
   ordered = rw (keys-written as_here place es) h.ordered;
   listed = listed-here places place es h.listed;
   points = λ id used. has-at (λ x. has_id id x ≡ true) place (place_in places id) es (λ x t. t) (h.points id used);
   small = h.small;
-  start = h.start;
-  used = h.used;
 })
 
 keys-away : (es : Entries) → keys_of (away es) ≡ keys_of es
@@ -596,14 +567,12 @@ at-away id p (e ∷ es) h = elim (cases_eq e.0 p) [
   | inr apart ↦ rw (is_at-apart p e.0 apart) (at-away id p es (rw (is_at-apart p e.0 apart) at h))
 ]
 
-pub indexed-away : (es ns : Entries) (places : List ℕ) (from : ℕ) → IsIndexed es places from → ns ≡ away es → IsIndexed ns places from
-indexed-away es ns places from h is = rw is (record {
+pub indexed-away : (es ns : Entries) (places : List ℕ) → IsIndexed es places → ns ≡ away es → IsIndexed ns places
+indexed-away es ns places h is = rw is (record {
   ordered = rw (keys-away es) h.ordered;
   listed = listed-away places es h.listed;
   points = λ id used. at-away id (place_in places id) es (h.points id used);
   small = h.small;
-  start = h.start;
-  used = h.used;
 })
 
 -- ---- identifiers are in range
@@ -618,5 +587,5 @@ listed-range places (e ∷ es) small h = (
   listed-range places es small h.1,
 )
 
-pub in-range : (es : Entries) (places : List ℕ) (from : ℕ) → IsIndexed es places from → AllByRecursion (λ e. HasRange e.1) es
-in-range es places from h = listed-range places es h.small h.listed
+pub in-range : (es : Entries) (places : List ℕ) → IsIndexed es places → AllByRecursion (λ e. HasRange e.1) es
+in-range es places h = listed-range places es h.small h.listed

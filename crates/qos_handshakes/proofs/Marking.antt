@@ -1,11 +1,15 @@
 -- Places that are touched.
-use Rattle.std.proofs.Common.{◌≡◌, ◌≢◌, ℕ, zero, suc, drop, get_or, add-one, ◌+◌, ◌*◌, ◌<◌, ◌≤◌, ◌||◌, true, false, List, [], ◌∷◌, ◌++◌, Option, Some, None, IsSome, length, refl, sym, ◌∙◌, ap, arith, inl, inr}
-use Rattle.std.proofs.lemmas.Bool.{cases_eq, cases_lt, cases_Bool, eq-eqb, or_right, false≢true}
+use Rattle.std.proofs.Common.{◌≡◌, ◌≢◌, ℕ, zero, suc, drop, get_or, add-one, ◌+◌, ◌*◌, ◌<◌, ◌≤◌, ◌||◌, ◌⊎◌, true, false, List, [], ◌∷◌, ◌++◌, Option, Some, None, IsSome, length, refl, sym, ◌∙◌, ap, arith, inl, inr}
+use Rattle.std.proofs.lemmas.Bool.{cases_eq, cases_lt, cases_Bool, eq-eqb, eqb-true, or_right, false≢true}
 use Rattle.std.proofs.lemmas.Bool.Decides.{nat_tests}
 use Rattle.std.specs.BTreeSet.{insert_key}
 use Rattle.std.specs.declared.cmp.Ordering.TheVariants.{Less, Equal, Greater}
 use Rattle.std.specs.BTreeMap.{is_at}
-use Rattle.std.specs.Map.{remove_entry}
+use Rattle.std.specs.Map.{remove_entry, keys_of}
+use Rattle.std.specs.List.{AllByRecursion}
+use Rattle.std.specs.List.Sorted.{IsStrictlySortedBy}
+use Rattle.std.proofs.lemmas.Cmp.{ranked}
+use Rattle.std.proofs.lemmas.Map.Keys.{sorted_head, sorted_tail}
 use Rattle.std.specs.Ordering.{nat_cmp}
 use Rattle.std.specs.Prelude.{◌==◌, IsSomeAnd}
 use Rattle.qos_handshakes.specs.declared.copies.Entry.{Entry}
@@ -16,7 +20,7 @@ use Rattle.mqtt_fields.specs.declared.options.Qos.TheVariants.{AtMostOnce, AtLea
 use Rattle.mqtt_message.specs.declared.delivery.Delivery.{Delivery}
 use Rattle.qos_handshakes.specs.Entries.{Entries, at_place, find_id, write_at, as_here, as_published, as_released, place_in, IsIndexed, AllPlacesBelow}
 use Rattle.qos_handshakes.specs.Outbox.{away, waits, waiting_entry, is_owed, takes_pubrec}
-use Rattle.qos_handshakes.specs.Touched.{is_in, HasAll, durable, Touches, Marked, Marks, stage_credits, credits, IsPlaceOf}
+use Rattle.qos_handshakes.specs.Touched.{is_in, HasAll, AreListed, durable, Touches, Marked, Marks, stage_credits, credits_of, credits, IsPlaceOf}
 use Rattle.qos_handshakes.proofs.Indexed.{is_at-here, is_at-apart, at-head, at-tail, at-removed, at-written, at-written_other, points-to, find-none, none-listed, drop-indexed, find-indexed, only-listed, write-at}
 
 in-last : (p : ℕ) (ts : List ℕ) → is_in p (ts ++ p ∷ []) ≡ true
@@ -27,15 +31,43 @@ in-more : (p q : ℕ) (ts : List ℕ) → is_in p ts ≡ true → is_in p (ts ++
 in-more p q [] h = absurd (false≢true h)
 in-more p q (t ∷ ts) h = elim (cases_Bool (t == p)) [ inl g ↦ rw g refl | inr g ↦ rw g (in-more p q ts (rw g at h)) ]
 
+in-or-last : (p q : ℕ) (ts : List ℕ) → is_in p (ts ++ q ∷ []) ≡ true → (is_in p ts ≡ true) ⊎ (p ≡ q)
+in-or-last p q [] h = elim (cases_Bool (q == p)) [ inl t ↦ inr (sym (eqb-true q p t)) | inr f ↦ absurd (false≢true (rw f at h)) ]
+in-or-last p q (t ∷ ts) h = elim (cases_Bool (t == p)) [ inl g ↦ rw g (inl refl) | inr g ↦ rw g (in-or-last p q ts (rw g at h)) ]
+
 -- what changes at one place only, which is touched
-touched-at : (es ns : Entries) (l k : Marked) (place : ℕ) → k.places ≡ l.places ++ place ∷ [] → ((p : ℕ) → p ≢ place → at_place p ns ≡ at_place p es) → Touches es l.places ns k.places
-touched-at es ns l k place is same = record {
+touched-at : (es ns : Entries) (l k : Marked) (place : ℕ) → k.places ≡ l.places ++ place ∷ [] → durable (at_place place es) ≢ durable (at_place place ns) → ((p : ℕ) → p ≢ place → at_place p ns ≡ at_place p es) → Touches es l.places ns k.places
+touched-at es ns l k place is differs same = record {
   still = λ p h. rw is (in-more p place l.places h);
   changed = λ p. elim (cases_eq p place) [
     | inl here ↦ inr (rw (is, here) (in-last place l.places))
     | inr apart ↦ inl (sym (ap durable (same p apart)))
   ];
+  only = λ p h. elim (in-or-last p place l.places (rw is at h)) [
+    | inl t ↦ inl t
+    | inr here ↦ inr (λ e. differs (ap (λ (q : ℕ). durable (at_place q es)) (sym here) ∙ e ∙ ap (λ (q : ℕ). durable (at_place q ns)) here))
+  ];
 }
+
+credits-durable : (o : Option Entry) → credits_of (durable o) ≡ credits_of o
+credits-durable None = refl
+credits-durable (Some x) = refl
+
+-- what may be touched less often has changed
+spent-differs : (o n : Option Entry) → credits_of n < credits_of o → durable o ≢ durable n
+spent-differs o n less e = let same : credits_of o ≡ credits_of n = sym (credits-durable o) ∙ ap credits_of e ∙ credits-durable n in omega (arith, less, same)
+
+spent-at : (es ns : Entries) (l k : Marked) (place : ℕ) → k.places ≡ l.places ++ place ∷ [] → credits_of (at_place place ns) < credits_of (at_place place es) → (p : ℕ) → is_in p k.places ≡ true → (is_in p l.places ≡ true) ⊎ (credits_of (at_place p ns) < credits_of (at_place p es))
+spent-at es ns l k place is less p h = elim (in-or-last p place l.places (rw is at h)) [
+  | inl t ↦ inl t
+  | inr here ↦ inr (rw here less)
+]
+
+less-at : (es ns : Entries) (place : ℕ) → credits_of (at_place place ns) < credits_of (at_place place es) → ((p : ℕ) → p ≢ place → at_place p ns ≡ at_place p es) → (p : ℕ) → credits_of (at_place p ns) ≤ credits_of (at_place p es)
+less-at es ns place less same p = elim (cases_eq p place) [
+  | inl here ↦ rw here (omega (arith, less))
+  | inr apart ↦ rw (same p apart) (omega arith)
+]
 
 pub credits-removed : (place : ℕ) (x : Entry) (es : Entries) → at_place place es ≡ Some x → credits (remove_entry (is_at (nat_cmp place)) es) + stage_credits x.stage ≡ credits es
 credits-removed place x [] at = let bad : None ≡ Some x = at in (cc)
@@ -82,11 +114,35 @@ at-pushed next p x (e ∷ es) apart = elim (cases_eq e.0 p) [
   | inr h ↦ rw (is_at-apart p e.0 h) (at-pushed next p x es apart)
 ]
 
-pub touched-pushed : (next : ℕ) (c : Delivery) (es ns : Entries) (l k : Marked) → ns ≡ es ++ (next, waiting_entry c) ∷ [] → k.places ≡ l.places ++ next ∷ [] → Touches es l.places ns k.places
-touched-pushed next c es ns l k is marked = touched-at es ns l k next marked (λ p apart. rw is (at-pushed next p (waiting_entry c) es apart))
+none-past : (p : ℕ) (es : Entries) → AllPlacesBelow es p → at_place p es ≡ None
+none-past p [] h = refl
+none-past p (e ∷ es) h = let apart : e.0 ≢ p = omega (arith, h.0) in rw (is_at-apart p e.0 apart) (none-past p es h.1)
+
+at-last : (p : ℕ) (x : Entry) (es : Entries) → AllPlacesBelow es p → at_place p (es ++ (p, x) ∷ []) ≡ Some x
+at-last p x [] h = rw (is_at-here p p refl) refl
+at-last p x (e ∷ es) h = let apart : e.0 ≢ p = omega (arith, h.0) in rw (is_at-apart p e.0 apart) (at-last p x es h.1)
+
+none-some : (o n : Option Entry) (x : Entry) → o ≡ None → n ≡ Some x → durable o ≢ durable n
+none-some o n x a b e = let bad : None ≡ Some (record x { here = false }) = sym (ap durable a) ∙ e ∙ ap durable b in (cc)
+
+pub touched-pushed : (next : ℕ) (c : Delivery) (es ns : Entries) (l k : Marked) → AllPlacesBelow es next → ns ≡ es ++ (next, waiting_entry c) ∷ [] → k.places ≡ l.places ++ next ∷ [] → Touches es l.places ns k.places
+touched-pushed next c es ns l k below is marked =
+    touched-at es ns l k next marked (rw is (none-some _ _ (waiting_entry c) (none-past next es below) (at-last next (waiting_entry c) es below))) (λ p apart. rw is (at-pushed next p (waiting_entry c) es apart))
+
+pub touches-same : (es ns : Entries) (ts us : List ℕ) → ns ≡ es → us ≡ ts → Touches es ts ns us
+touches-same es ns ts us is same = rw (is, same) (record { still = λ p h. h; changed = λ p. inl refl; only = λ p h. inl h })
 
 pub marks-same : (es ns : Entries) (l : Marked) → ns ≡ es → Marks es l ns l
-marks-same es ns l is = record { touches = record { still = λ p h. h; changed = λ p. inl (rw is refl) }; room = λ h. rw is h }
+marks-same es ns l is = record { touches = touches-same es ns l.places l.places is refl; less = λ p. rw is (omega arith); spent = λ p h. inl h; room = λ h. rw is h }
+
+spent-then : (es fs gs : Entries) (l k m : Marked) → Marks es l fs k → Marks fs k gs m → (p : ℕ) → is_in p m.places ≡ true → (is_in p l.places ≡ true) ⊎ (credits_of (at_place p gs) < credits_of (at_place p es))
+spent-then es fs gs l k m a b p h = elim (b.spent p h) [
+  | inl t ↦ elim (a.spent p t) [
+    | inl u ↦ inl u
+    | inr u ↦ inr (omega (arith, u, b.less p))
+  ]
+  | inr t ↦ inr (omega (arith, t, a.less p))
+]
 
 -- one after the other
 pub marks-then : (es fs gs : Entries) (l k m : Marked) → Marks es l fs k → Marks fs k gs m → Marks es l gs m
@@ -97,21 +153,53 @@ marks-then es fs gs l k m a b = record {
       | inl x ↦ elim (b.touches.changed p) [ inl y ↦ inl (x ∙ y) | inr y ↦ inr y ]
       | inr x ↦ inr (b.touches.still p x)
     ];
+    only = λ p h. elim (spent-then es fs gs l k m a b p h) [
+      | inl t ↦ inl t
+      | inr t ↦ inr (spent-differs (at_place p es) (at_place p gs) t)
+    ];
   };
+  less = λ p. omega (arith, a.less p, b.less p);
+  spent = spent-then es fs gs l k m a b;
   room = λ h. b.room (a.room h);
 }
 
-pub marks-removed : (es ns : Entries) (l k : Marked) (place : ℕ) (x : Entry) → at_place place es ≡ Some x → ns ≡ remove_entry (is_at (nat_cmp place)) es → k.places ≡ l.places ++ place ∷ [] → l.room ≤ k.room + 1 → Marks es l ns k
-marks-removed es ns l k place x at is marked room = record {
-  touches = touched-at es ns l k place marked (λ p apart. rw is (at-removed p place es apart));
-  room = λ h. rw is (omega (arith, h, room, credits-removed place x es at, some-credit x.stage));
+none-above : (p k : ℕ) (es : Entries) → AllByRecursion (λ q. nat_cmp k q ≡ Less) (keys_of es) → p ≤ k → at_place p es ≡ None
+none-above p k [] below le = refl
+none-above p k (e ∷ es) below le =
+    let lt : k < e.0 = ranked k e.0 Less (sym below.0) in let apart : e.0 ≢ p = omega arith in rw (is_at-apart p e.0 apart) (none-above p k es below.1 le)
+
+-- nothing is left at the place of an entry that was taken out
+gone : (place : ℕ) (es : Entries) → IsStrictlySortedBy nat_cmp (keys_of es) → at_place place (remove_entry (is_at (nat_cmp place)) es) ≡ None
+gone place [] sorted = refl
+gone place (e ∷ es) sorted = elim (cases_eq e.0 place) [
+  | inl here ↦ rw (is_at-here place e.0 here) (none-above place e.0 es (sorted_head nat_cmp e.0 (keys_of es) sorted) (omega (arith, here)))
+  | inr apart ↦ rw (is_at-apart place e.0 apart, is_at-apart place e.0 apart) (gone place es (sorted_tail nat_cmp e.0 (keys_of es) sorted))
+]
+
+credits-gone : (o n : Option Entry) (x : Entry) → o ≡ Some x → n ≡ None → credits_of n < credits_of o
+credits-gone o n x a b = rw (a, b) (omega (arith, some-credit x.stage))
+
+credits-less : (o n : Option Entry) (x y : Entry) → o ≡ Some x → n ≡ Some y → stage_credits y.stage + 1 ≤ stage_credits x.stage → credits_of n < credits_of o
+credits-less o n x y a b less = rw (a, b) (omega (arith, less))
+
+-- what stands at a place changes, and may be touched less often
+marks-at : (es ns : Entries) (l k : Marked) (place : ℕ) → credits_of (at_place place ns) < credits_of (at_place place es) → ((p : ℕ) → p ≢ place → at_place p ns ≡ at_place p es) → k.places ≡ l.places ++ place ∷ [] → (credits es ≤ l.room → credits ns ≤ k.room) → Marks es l ns k
+marks-at es ns l k place less same marked room = record {
+  touches = touched-at es ns l k place marked (spent-differs (at_place place es) (at_place place ns) less) same;
+  less = less-at es ns place less same;
+  spent = spent-at es ns l k place marked less;
+  room = room;
 }
 
+pub marks-removed : (es ns : Entries) (l k : Marked) (place : ℕ) (x : Entry) → IsStrictlySortedBy nat_cmp (keys_of es) → at_place place es ≡ Some x → ns ≡ remove_entry (is_at (nat_cmp place)) es → k.places ≡ l.places ++ place ∷ [] → l.room ≤ k.room + 1 → Marks es l ns k
+marks-removed es ns l k place x sorted at is marked room =
+    marks-at es ns l k place (credits-gone (at_place place es) (at_place place ns) x at (rw is (gone place es sorted))) (λ p apart. rw is (at-removed p place es apart)) marked
+    (λ h. rw is (omega (arith, h, room, credits-removed place x es at, some-credit x.stage)))
+
 pub marks-written : (f : Entry → Entry) (es ns : Entries) (l k : Marked) (place : ℕ) (x : Entry) → at_place place es ≡ Some x → stage_credits (f x).stage + 1 ≤ stage_credits x.stage → ns ≡ write_at f place es → k.places ≡ l.places ++ place ∷ [] → l.room ≤ k.room + 1 → Marks es l ns k
-marks-written f es ns l k place x at less is marked room = record {
-  touches = touched-at es ns l k place marked (λ p apart. rw is (at-written_other f p place es apart));
-  room = λ h. rw is (omega (arith, h, room, less, credits-written f place x es at));
-}
+marks-written f es ns l k place x at less is marked room =
+    marks-at es ns l k place (credits-less (at_place place es) (at_place place ns) x (f x) at (rw is (at-written f place x es at)) less) (λ p apart. rw is (at-written_other f p place es apart)) marked
+    (λ h. rw is (omega (arith, h, room, less, credits-written f place x es at)))
 
 durable-here : (p place : ℕ) (es : Entries) → durable (at_place p es) ≡ durable (at_place p (write_at as_here place es))
 durable-here p place [] = refl
@@ -133,9 +221,14 @@ credits-here place (e ∷ es) = elim (cases_Bool (is_at (nat_cmp place) e.0)) [
   | inr f ↦ rw f (ap (λ (n : ℕ). stage_credits e.1.stage + n) (credits-here place es))
 ]
 
+credits-same : (o n : Option Entry) → durable o ≡ durable n → credits_of o ≡ credits_of n
+credits-same o n e = sym (credits-durable o) ∙ ap credits_of e ∙ credits-durable n
+
 pub marks-here : (es ns : Entries) (l : Marked) (place : ℕ) → ns ≡ write_at as_here place es → Marks es l ns l
 marks-here es ns l place is = record {
-  touches = record { still = λ p h. h; changed = λ p. inl (rw is (durable-here p place es)) };
+  touches = record { still = λ p h. h; changed = λ p. inl (rw is (durable-here p place es)); only = λ p h. inl h };
+  less = λ p. rw is (omega (arith, credits-same _ _ (durable-here p place es)));
+  spent = λ p h. inl h;
   room = λ h. rw (is, credits-here place es) h;
 }
 
@@ -151,10 +244,7 @@ durable-away p (e ∷ es) = elim (cases_eq e.0 p) [
 ]
 
 pub touches-away : (es ns : Entries) (ts : List ℕ) → ns ≡ away es → Touches es ts ns ts
-touches-away es ns ts is = record { still = λ p h. h; changed = λ p. inl (rw is (durable-away p es)) }
-
-pub touches-same : (es ns : Entries) (ts us : List ℕ) → ns ≡ es → us ≡ ts → Touches es ts ns us
-touches-same es ns ts us is same = rw (is, same) (record { still = λ p h. h; changed = λ p. inl refl })
+touches-away es ns ts is = record { still = λ p h. h; changed = λ p. inl (rw is (durable-away p es)); only = λ p h. inl h }
 
 -- ---- stages that take less
 pub less-sent : (id : ℕ) (s : Stage) → waits s ≡ true → 3 ≤ stage_credits s
@@ -174,14 +264,14 @@ pub marks-within : (es fs gs hs : Entries) (l k : Marked) → fs ≡ es → Mark
 marks-within es fs gs hs l k a m b = marks-then es fs hs l l k (marks-same es fs l a) (marks-then fs gs hs l k k m (marks-same gs hs k b))
 
 -- ---- the place of an identifier
-pub place-of : (es : Entries) (places : List ℕ) (from id : ℕ) → IsIndexed es places from → IsSome (find_id id es) → IsPlaceOf es id (place_in places id)
-place-of es places from id h some = elim (cases_eq (place_in places id) 0) [
+pub place-of : (es : Entries) (places : List ℕ) (id : ℕ) → IsIndexed es places → IsSome (find_id id es) → IsPlaceOf es id (place_in places id)
+place-of es places id h some = elim (cases_eq (place_in places id) 0) [
   | inl z ↦ absurd (false≢true (rw (find-none id es (none-listed places id es h.listed z)) at some))
   | inr used ↦
-      let its = points-to es places from id h used in
+      let its = points-to es places id h used in
       record {
-        at = find-indexed es places from id h;
-        dropped = sym (drop-indexed es places from id h used);
+        at = find-indexed es places id h;
+        dropped = sym (drop-indexed es places id h used);
         written = λ f. sym (write-at f id (place_in places id) its.0 es (only-listed places id es h.listed) its.1 its.2);
       }
 ]
@@ -228,3 +318,8 @@ rest-none (suc i) (p ∷ ps) le = rest-none i ps (omega (arith, le))
 
 pub rest-made : (ks ps : List ℕ) (i : ℕ) → length ps ≤ i → IsMade ks (drop i ps) ps → HasAll ks ps
 rest-made ks ps i le h = made-all ks ps (rw (rest-none i ps le) at h)
+
+pub none-listed_at : (ts : List ℕ) → length ts ≡ 0 → AreListed ts [] × (ts ≡ [])
+unfolding IsStrictlySortedBy
+none-listed_at [] h = (record { rise = tt; same = λ p. refl }, refl)
+none-listed_at (t ∷ ts) h = absurd (omega (arith, h))

@@ -39,14 +39,12 @@ listed-padded : (ps qs : List ℕ) (es : Entries) → IsPadded ps qs → AllByRe
 listed-padded ps qs [] p h = tt
 listed-padded ps qs (e ∷ es) p h = (record { placed = h.0.placed; place = λ id has. padded-place ps qs id p ∙ h.0.place id has }, listed-padded ps qs es p h.1)
 
-pub padded-indexed : (es : Entries) (ps qs : List ℕ) (from : ℕ) → IsIndexed es ps from → IsPadded ps qs → length qs ≤ 65535 → IsIndexed es qs from
-padded-indexed es ps qs from h p small = record {
+pub padded-indexed : (es : Entries) (ps qs : List ℕ) → IsIndexed es ps → IsPadded ps qs → length qs ≤ 65535 → IsIndexed es qs
+padded-indexed es ps qs h p small = record {
   ordered = h.ordered;
   listed = listed-padded ps qs es p h.listed;
   points = λ id some. rw (padded-place ps qs id p) (h.points id (λ z. some (padded-place ps qs id p ∙ z)));
   small = small;
-  start = omega (arith, h.start, p.longer);
-  used = λ i below. λ z. h.used i below (sym (p.same i) ∙ z);
 }
 
 -- ---- an entry before all others
@@ -67,21 +65,19 @@ at-before p place x es Q below h = elim (cases_eq place p) [
 at-same : (p q : ℕ) (es : Entries) (Q : Entry → Type 0) → p ≡ q → IsSomeAnd (at_place q es) Q → IsSomeAnd (at_place p es) Q
 at-same p q es Q same h = rw same h
 
-put-waiting : (es ns : Entries) (ps : List ℕ) (from place : ℕ) (x : Entry) → IsIndexed es ps from → 1 ≤ place → waits x.stage ≡ true → ns ≡ (place, x) ∷ es → IsStrictlySortedBy nat_cmp (keys_of ns) → IsIndexed ns ps from
-put-waiting es ns ps from place x h counted w is sorted = record {
+put-waiting : (es ns : Entries) (ps : List ℕ) (place : ℕ) (x : Entry) → IsIndexed es ps → 1 ≤ place → waits x.stage ≡ true → ns ≡ (place, x) ∷ es → IsStrictlySortedBy nat_cmp (keys_of ns) → IsIndexed ns ps
+put-waiting es ns ps place x h counted w is sorted = record {
   ordered = sorted;
   listed = rw is (record { placed = counted; place = λ id has. absurd (both_ways (has_id id x) (waits-has id x.stage w) has) }, h.listed);
   points = λ id used. rw is (at-before (place_in ps id) place x es (λ y. has_id id y ≡ true) (sorted_head nat_cmp place (keys_of es) (rw is at sorted)) (h.points id used));
   small = h.small;
-  start = h.start;
-  used = h.used;
 }
 
 at-first : (place : ℕ) (x : Entry) (es : Entries) → at_place place ((place, x) ∷ es) ≡ Some x
 at-first place x es = rw (is_at-here place place refl) refl
 
-put-exchange : (es ns : Entries) (ps : List ℕ) (from i place : ℕ) (x : Entry) → IsIndexed es ps from → 1 ≤ place → has_id (suc i) x ≡ true → place_in ps (suc i) ≡ 0 → i < length ps → ns ≡ (place, x) ∷ es → IsStrictlySortedBy nat_cmp (keys_of ns) → IsIndexed ns (set ps i place) from
-put-exchange es ns ps from i place x h counted has free lt is sorted =
+put-exchange : (es ns : Entries) (ps : List ℕ) (i place : ℕ) (x : Entry) → IsIndexed es ps → 1 ≤ place → has_id (suc i) x ≡ true → place_in ps (suc i) ≡ 0 → i < length ps → ns ≡ (place, x) ∷ es → IsStrictlySortedBy nat_cmp (keys_of ns) → IsIndexed ns (set ps i place)
+put-exchange es ns ps i place x h counted has free lt is sorted =
     let below = sorted_head nat_cmp place (keys_of es) (rw is at sorted) in
     record {
       ordered = sorted;
@@ -98,11 +94,6 @@ put-exchange es ns ps from i place x h counted has free lt is sorted =
             at-same (place_in (set ps i place) j) (place_in ps j) ((place, x) ∷ es) (λ y. has_id j y ≡ true) stay (at-before (place_in ps j) place x es (λ y. has_id j y ≡ true) below (h.points j (λ z. used (stay ∙ z))))
       ]);
       small = rw length-set h.small;
-      start = rw length-set h.start;
-      used = λ k low. elim (cases_eq k i) [
-        | inl same ↦ let e : get_or (set ps i place) k 0 ≡ place = rw same (place_in-set_same ps i place lt) in λ z. let bad : place ≡ 0 = sym e ∙ z in omega arith
-        | inr ne ↦ rw get_or-set_other (h.used k low)
-      ];
     }
 
 none-of : (o : Option Entry) → not (is_some o) ≡ true → o ≡ None
@@ -114,10 +105,10 @@ free-parts id es f =
     let p = and_parts (not (id == 0)) (not (is_some (find_id id es))) f in
     (λ z. both_ways (id == 0) (not-true (id == 0) p.0) (eq-eqb id 0 z), none-of (find_id id es) p.1)
 
-free-slot : (es : Entries) (ps : List ℕ) (from id : ℕ) → IsIndexed es ps from → is_free id es ≡ true → place_in ps id ≡ 0
-free-slot es ps from id h f = elim (cases_eq (place_in ps id) 0) [
+free-slot : (es : Entries) (ps : List ℕ) (id : ℕ) → IsIndexed es ps → is_free id es ≡ true → place_in ps id ≡ 0
+free-slot es ps id h f = elim (cases_eq (place_in ps id) 0) [
   | inl z ↦ z
-  | inr some ↦ let its = points-to es ps from id h some in let bad : Some its.0 ≡ None = sym its.1 ∙ find-indexed es ps from id h ∙ (free-parts id es f).1 in (cc)
+  | inr some ↦ let its = points-to es ps id h some in let bad : Some its.0 ≡ None = sym its.1 ∙ find-indexed es ps id h ∙ (free-parts id es f).1 in (cc)
 ]
 
 stage-own : (s : Stage) → waits s ≡ false → stage_has (stage_id s) s ≡ true
@@ -131,19 +122,19 @@ waits-zero (Published id) w = absurd (false≢true w)
 waits-zero (Released id order) w = absurd (false≢true w)
 
 -- what `put_first` leaves, under an identifier or none
-pub put-first : (es ns : Entries) (ps : List ℕ) (from id place : ℕ) (x : Entry) → IsIndexed es ps from → 1 ≤ place → (waits x.stage ≡ true) ⊎ (is_free (stage_id x.stage) es ≡ true) → id ≡ stage_id x.stage → id ≢ 0 → id ≤ length ps → ns ≡ (place, x) ∷ es → IsStrictlySortedBy nat_cmp (keys_of ns) → IsIndexed ns (set ps (id - 1) place) from
-put-first es ns ps from zero place x h counted free same some room is sorted = absurd (some refl)
-put-first es ns ps from (suc i) place x h counted (inl w) same some room is sorted = absurd (some (same ∙ waits-zero x.stage w))
-put-first es ns ps from (suc i) place x h counted (inr free) same some room is sorted =
+pub put-first : (es ns : Entries) (ps : List ℕ) (id place : ℕ) (x : Entry) → IsIndexed es ps → 1 ≤ place → (waits x.stage ≡ true) ⊎ (is_free (stage_id x.stage) es ≡ true) → id ≡ stage_id x.stage → id ≢ 0 → id ≤ length ps → ns ≡ (place, x) ∷ es → IsStrictlySortedBy nat_cmp (keys_of ns) → IsIndexed ns (set ps (id - 1) place)
+put-first es ns ps zero place x h counted free same some room is sorted = absurd (some refl)
+put-first es ns ps (suc i) place x h counted (inl w) same some room is sorted = absurd (some (same ∙ waits-zero x.stage w))
+put-first es ns ps (suc i) place x h counted (inr free) same some room is sorted =
     let back : suc i - 1 ≡ i = omega arith in
     let f : is_free (suc i) es ≡ true = ap (λ (k : ℕ). is_free k es) same ∙ free in
     let w : waits x.stage ≡ false = elim (cases_Bool (waits x.stage)) [ inl t ↦ absurd (some (same ∙ waits-zero x.stage t)) | inr g ↦ g ] in
     let has : has_id (suc i) x ≡ true = ap (λ (k : ℕ). has_id k x) same ∙ stage-own x.stage w in
-    rw back (put-exchange es ns ps from i place x h counted has (free-slot es ps from (suc i) h f) (omega (arith, room)) is sorted)
+    rw back (put-exchange es ns ps i place x h counted has (free-slot es ps (suc i) h f) (omega (arith, room)) is sorted)
 
-pub put-none : (es ns : Entries) (ps : List ℕ) (from id place : ℕ) (x : Entry) → IsIndexed es ps from → 1 ≤ place → (waits x.stage ≡ true) ⊎ (is_free (stage_id x.stage) es ≡ true) → id ≡ stage_id x.stage → id ≡ 0 → ns ≡ (place, x) ∷ es → IsStrictlySortedBy nat_cmp (keys_of ns) → IsIndexed ns ps from
-put-none es ns ps from id place x h counted (inl w) same none is sorted = put-waiting es ns ps from place x h counted w is sorted
-put-none es ns ps from id place x h counted (inr free) same none is sorted = absurd ((free-parts (stage_id x.stage) es free).0 (sym same ∙ none))
+pub put-none : (es ns : Entries) (ps : List ℕ) (id place : ℕ) (x : Entry) → IsIndexed es ps → 1 ≤ place → (waits x.stage ≡ true) ⊎ (is_free (stage_id x.stage) es ≡ true) → id ≡ stage_id x.stage → id ≡ 0 → ns ≡ (place, x) ∷ es → IsStrictlySortedBy nat_cmp (keys_of ns) → IsIndexed ns ps
+put-none es ns ps id place x h counted (inl w) same none is sorted = put-waiting es ns ps place x h counted w is sorted
+put-none es ns ps id place x h counted (inr free) same none is sorted = absurd ((free-parts (stage_id x.stage) es free).0 (sym same ∙ none))
 
 -- ---- what is held while entries are put back
 first-below : (first next : ℕ) (es : Entries) → IsQueued first next es → first_place next es ≤ first

@@ -79,13 +79,11 @@ abbrev pub HasRange : Entry → Type 0
 HasRange x = (id : ℕ) → has_id id x ≡ true → (1 ≤ id) × (id ≤ 65535)
 
 -- the table of places by identifier tells the exchanges
-pub record IsIndexed (es : Entries) (places : List ℕ) (free_from : ℕ) : Type 0 where
+pub record IsIndexed (es : Entries) (places : List ℕ) : Type 0 where
   pub ordered : IsStrictlySortedBy nat_cmp (keys_of es)
   pub listed : AllByRecursion (IsListed places) es
   pub points : (id : ℕ) → place_in places id ≢ 0 → IsSomeAnd (at_place (place_in places id) es) (λ x. has_id id x ≡ true)
   pub small : length places ≤ 65535
-  pub start : free_from ≤ length places
-  pub used : (i : ℕ) → i < free_from → slice_index places i ≢ 0
 
 -- what a table of copies holds, and for how many identifiers it has room
 pub record Held : Type 0 where

@@ -1,5 +1,5 @@
 -- The places whose entries have changed since they were last asked for.
-use Rattle.std.specs.Prelude.{◌≡◌, ℕ, ◌+◌, ◌<◌, ◌≤◌, ◌*◌, ◌==◌, ◌||◌, ◌⊎◌, Bool, true, false, List, [], ◌∷◌, Option, Some, None}
+use Rattle.std.specs.Prelude.{◌≡◌, ◌≢◌, ℕ, ◌+◌, ◌<◌, ◌≤◌, ◌*◌, ◌==◌, ◌||◌, ◌⊎◌, Bool, true, false, List, [], ◌∷◌, Option, Some, None}
 use Rattle.std.specs.BTreeMap.{is_at}
 use Rattle.std.specs.Map.{remove_entry}
 use Rattle.std.specs.Ordering.{nat_cmp}
@@ -24,10 +24,11 @@ abbrev pub durable : Option Entry → Option Entry
 durable None = None
 durable (Some x) = Some (record x { here = false })
 
--- Each place where what is durable has changed is touched, and what was touched before is so still.
+-- Each place where what is durable has changed is touched, and no other; and what was touched before is so still.
 pub record Touches (es : Entries) (ts : List ℕ) (es' : Entries) (ts' : List ℕ) : Type 0 where
   pub still : (p : ℕ) → is_in p ts ≡ true → is_in p ts' ≡ true
   pub changed : (p : ℕ) → (durable (at_place p es) ≡ durable (at_place p es')) ⊎ (is_in p ts' ≡ true)
+  pub only : (p : ℕ) → is_in p ts' ≡ true → (is_in p ts ≡ true) ⊎ (durable (at_place p es) ≢ durable (at_place p es'))
 
 abbrev pub TouchesChanged : Watched → Watched → Type 0
 TouchesChanged old new = Touches old.box.copies old.touched new.box.copies new.touched
@@ -56,9 +57,15 @@ abbrev pub credits : Entries → ℕ
 credits [] = 0
 credits (e ∷ es) = stage_credits e.1.stage + credits es
 
--- there is room for it
+abbrev pub credits_of : Option Entry → ℕ
+credits_of None = 0
+credits_of (Some x) = stage_credits x.stage
+
+-- there is room for it, and it is done less often from then on
 pub record Marks (es : Entries) (l : Marked) (es' : Entries) (l' : Marked) : Type 0 where
   pub touches : Touches es l.places es' l'.places
+  pub less : (p : ℕ) → credits_of (at_place p es') ≤ credits_of (at_place p es)
+  pub spent : (p : ℕ) → is_in p l'.places ≡ true → (is_in p l.places ≡ true) ⊎ (credits_of (at_place p es') < credits_of (at_place p es))
   pub room : credits es ≤ l.room → credits es' ≤ l'.room
 
 pub record IsWatched (es : Entries) (first flight next from left : ℕ) : Type 0 where

@@ -1,5 +1,5 @@
 //! The entries of a session in the order of their places, with the exchanges by identifier.
-ghost use Rattle.std.specs.Prelude.{◌≡◌, ◌⊎◌, ◌≢◌, ◌+◌, ◌<◌, ◌≤◌, ◌++◌, ◌∷◌, [], ℕ, true, length, slice_index, OnOk, IfOk, IfErr, OnErr, IfSome, IsSome, IsSomeAnd, MatchOption};
+ghost use Rattle.std.specs.Prelude.{◌≡◌, ◌⊎◌, ◌≢◌, ◌+◌, ◌<◌, ◌≤◌, ◌++◌, ◌∷◌, [], ℕ, true, length, OnOk, IfOk, IfErr, OnErr, IfSome, IsSome, IsSomeAnd, MatchOption};
 ghost use Rattle.std.specs.Option.{option_copied};
 ghost use Rattle.std.specs.BTreeMap.{is_at, keys};
 ghost use Rattle.std.specs.Ordering.{nat_cmp};
@@ -14,6 +14,7 @@ ghost use Rattle.qos_handshakes.specs.Outbox.{waits, waiting_entry, away, is_owe
 
 use mqtt_fields::NoMemory;
 use mqtt_message::Delivery;
+use slot_table::Slots;
 use std::alloc::Global;
 use std::collections::BTreeMap;
 use std::marker::Model;
@@ -37,13 +38,11 @@ pub struct Entry {
     pub delivery: Delivery,
 }
 
-/// `places[id - 1]` is an exchange's place, or 0 where the identifier is free, and every identifier up to
-/// `free_from` is used.
+/// Slot `id - 1` has an exchange's place, or 0 where the identifier is free.
 #[derive(Drop)]
 pub struct Copies {
     entries: BTreeMap<u64, Entry>,
-    places: Vec<u64>,
-    free_from: usize,
+    places: Slots,
 }
 
 impl Model for Copies {
@@ -52,37 +51,18 @@ impl Model for Copies {
 
     ghost Value = { Held };
 
-    ghost view = { λ a. record { entries = a.entries.entries; slots = length a.places.items } };
+    ghost view = { λ a. record { entries = a.entries.entries; slots = length a.places } };
 
-    ghost invariant = { λ a. IsIndexed a.entries.entries a.places.items a.free_from };
+    ghost invariant = { λ a. IsIndexed a.entries.entries a.places };
 }
 
-fn place_of(places: &[u64], id: u16) -> u64
+fn place_of(places: &Slots, id: u16) -> u64
     ensures { result ≡ place_in places.now id }
 {
     if id == 0 {
         return 0;
     }
-    let index = (id - 1) as usize;
-    if index < places.len() {
-        places[index]
-    } else {
-        0
-    }
-}
-
-/// The first free slot from a place in the table on, or its length.
-fn first_free(places: &[u64], from: usize) -> usize
-    requires { from ≤ length places.now }
-    ensures bounds { (from ≤ result) × (result ≤ length places.now) }
-    ensures used { (k : ℕ) → from ≤ k → k < result → slice_index places.now k ≢ 0 }
-    ensures free { result < length places.now → slice_index places.now result ≡ 0 }
-{
-    let mut i = from;
-    while i < places.len() && places[i] != 0 {
-        i += 1;
-    }
-    i
+    places.get((id - 1) as usize)
 }
 
 fn mark_published(entries: &mut BTreeMap<u64, Entry>, place: u64, id: u16)
@@ -187,15 +167,15 @@ fn mark_away(entries: &mut BTreeMap<u64, Entry>)
 }
 
 /// Adds free slots up to a length.
-fn grow(places: &mut Vec<u64>, len: usize) -> Result<(), NoMemory>
+fn grow(places: &mut Slots, len: usize) -> Result<(), NoMemory>
     requires len { len ≤ 65535 }
-    requires small { length places.old.items ≤ 65535 }
-    ensures padded { IsPadded places.old.items places.new.items }
-    ensures small { length places.new.items ≤ 65535 }
-    ensures long { OnOk result (len ≤ length places.new.items) }
+    requires small { length places.old ≤ 65535 }
+    ensures padded { IsPadded places.old places.new }
+    ensures small { length places.new ≤ 65535 }
+    ensures long { OnOk result (len ≤ length places.new) }
 {
     while places.len() < len {
-        places.push(0)?;
+        places.add()?;
     }
     Ok(())
 }
@@ -206,8 +186,7 @@ impl Copies {
     {
         Copies {
             entries: BTreeMap::new(alloc),
-            places: Vec::new(alloc),
-            free_from: 0,
+            places: Slots::new(alloc),
         }
     }
 
@@ -247,12 +226,8 @@ impl Copies {
         if place == 0 {
             return;
         }
-        let index = (id - 1) as usize;
         let _ = self.entries.remove(&place);
-        self.places[index] = 0;
-        if index < self.free_from {
-            self.free_from = index;
-        }
+        self.places.set((id - 1) as usize, 0);
     }
 
     /// Adds a copy that waits, at a place past all others.
@@ -285,7 +260,7 @@ impl Copies {
         grow(&mut self.places, id as usize)?;
         self.entries.insert(place, entry)?;
         if id != 0 {
-            self.places[(id - 1) as usize] = place;
+            self.places.set((id - 1) as usize, place);
         }
         Ok(())
     }
@@ -295,26 +270,23 @@ impl Copies {
         ensures room { OnOk result (HasRoom self.new) }
         ensures same { self.new.entries ≡ self.old.entries }
     {
-        let free = first_free(&self.places, self.free_from);
-        self.free_from = free;
+        let free = self.places.first_free();
         if free < self.places.len() {
             return Ok(());
         }
         if free >= 65535 {
             return Ok(());
         }
-        self.places.push(0)?;
+        self.places.add()?;
         Ok(())
     }
 
     /// The least free identifier.
-    pub fn least_free(&mut self) -> Option<u16>
-        requires { HasRoom self.old }
-        ensures found { MatchOption result (NoneFree self.old.entries) (λ id. IsLeastFree self.old.entries id × (id ≤ self.old.slots)) }
-        ensures same { self.new ≡ self.old }
+    pub fn least_free(&self) -> Option<u16>
+        requires { HasRoom self.now }
+        ensures { MatchOption result (NoneFree self.now.entries) (λ id. IsLeastFree self.now.entries id × (id ≤ self.now.slots)) }
     {
-        let free = first_free(&self.places, self.free_from);
-        self.free_from = free;
+        let free = self.places.first_free();
         if free < self.places.len() {
             return Some(free as u16 + 1);
         }
@@ -404,7 +376,7 @@ impl Copies {
         ensures { self.new ≡ record self.old { entries = write_at (as_published id) place self.old.entries } }
     {
         mark_published(&mut self.entries, place, id);
-        self.places[(id - 1) as usize] = place;
+        self.places.set((id - 1) as usize, place);
     }
 
     /// Notes that the PUBREC of an exchange came.

@@ -1,5 +1,5 @@
 //! The places whose entries have changed since they were last asked for, in the order of the changes.
-ghost use Rattle.std.specs.Prelude.{◌≡◌, ◌+◌, ◌*◌, ◌≤◌, ◌++◌, ◌∷◌, [], OnOk, OnErr, IfOk};
+ghost use Rattle.std.specs.Prelude.{◌≡◌, ◌≢◌, ◌+◌, ◌*◌, ◌≤◌, ◌++◌, ◌∷◌, [], OnOk, OnErr, IfOk};
 ghost use Rattle.std.specs.Ordering.{nat_cmp};
 ghost use Rattle.std.specs.List.Sorted.{IsStrictlySortedBy};
 ghost use Rattle.qos_handshakes.specs.Touched.{AreListed, HasAll};
@@ -75,7 +75,11 @@ impl Log {
         ensures places { IfOk result (λ places. AreListed self.old.places places.items × (self.new.places ≡ [])) }
         ensures room { self.old.room ≤ self.new.room }
         ensures err { OnErr result (self.new ≡ self.old) }
+        ensures need { OnErr result (self.old.places ≢ []) }
     {
+        if self.places.is_empty() {
+            return Ok(Vec::new(alloc));
+        }
         let set = set_of(alloc, &self.places)?;
         let rising = rising_of(alloc, &set)?;
         self.places.clear();

@@ -5,7 +5,7 @@ ghost use Rattle.mqtt_packets.specs.declared.packet.Packet.TheVariants.{Publish}
 ghost use Rattle.mqtt_packets.specs.Written.{HasSpelling};
 ghost use Rattle.mqtt_message.specs.Sent.{sent};
 ghost use Rattle.mqtt_fields.specs.declared.options.Qos.TheVariants.{AtMostOnce};
-ghost use Rattle.qos_handshakes.specs.Entries.{at_place, drop_id, place_from};
+ghost use Rattle.qos_handshakes.specs.Entries.{at_place, drop_id, find_id, place_from};
 ghost use Rattle.qos_handshakes.specs.Restored.{agree, restored};
 ghost use Rattle.qos_handshakes.specs.Lending.{LeavesNext};
 ghost use Rattle.qos_handshakes.specs.Length.{length_of};
@@ -134,6 +134,7 @@ fn skip(copies: &mut Copies, log: &mut Log, first: u64, next: u64, now: u64, lim
 {
     let mut place = first;
     while place < next {
+        copies.are_ordered();
         match copies.at(place) {
             Some(entry) => {
                 if is_sendable_of(&entry.delivery, now, limit) {
@@ -262,10 +263,10 @@ impl Outgoing {
         self.next_place
     }
 
-    /// The places touched since this was last answered, by rising order, each once; from then on they are forgotten. Each
-    /// place where what is durable has changed is among them. The others are of entries that came and went meanwhile. For
-    /// want of memory nothing changes.
+    /// The places where a call has changed what is durable since this was last answered, by rising order, each once; from
+    /// then on they are forgotten. For want of memory, of which there is none where there are no places, nothing changes.
     pub fn touched(&mut self, alloc: Global) -> Result<Vec<u64>, NoMemory>
+        ensures need { OnErr result (self.old.touched ≢ []) }
         ensures places { IfOk result (λ places. AreListed self.old.touched places.items × (self.new ≡ record self.old { touched = [] })) }
         ensures err { OnErr result (self.new ≡ self.old) }
     {
@@ -373,6 +374,7 @@ impl Outgoing {
         self.log.mark(first);
         self.copies.publish(first, id);
         self.first_waiting += 1;
+        self.resend_from = self.first_waiting;
         self.in_flight += 1;
         Ok(Some(Chosen {
             place: first,
@@ -407,14 +409,13 @@ impl Outgoing {
         }
     }
 
-    fn end(&mut self, id: u16)
+    /// Ends an exchange. `here` is whether its PUBLISH was sent on this connection.
+    fn end(&mut self, id: u16, here: bool)
+        requires { IsSomeAnd (find_id id self.old.box.copies) (λ x. x.here ≡ here) }
         ensures step { self.new.box ≡ record self.old.box { copies = drop_id id self.old.box.copies } }
         ensures touched { TouchesChanged self.old self.new }
     {
-        let here = match self.copies.get(id) {
-            Some(entry) => entry.here,
-            None => return,
-        };
+        self.copies.are_ordered();
         self.log.mark(self.copies.place_of(id));
         self.copies.remove(id);
         if here {
@@ -427,14 +428,14 @@ impl Outgoing {
         ensures step { AcknowledgeStep self.old.box id result self.new.box }
         ensures touched { TouchesChanged self.old self.new }
     {
-        let ends = match self.copies.get(id) {
-            Some(entry) => takes_puback_of(entry),
-            None => false,
+        let Some(entry) = self.copies.get(id) else {
+            return Ack::Unknown;
         };
-        if !ends {
+        if !takes_puback_of(entry) {
             return Ack::Unknown;
         }
-        self.end(id);
+        let here = entry.here;
+        self.end(id, here);
         Ack::Done
     }
 
@@ -443,14 +444,14 @@ impl Outgoing {
         ensures step { CompleteStep self.old.box id result self.new.box }
         ensures touched { TouchesChanged self.old self.new }
     {
-        let ends = match self.copies.get(id) {
-            Some(entry) => is_released_of(entry),
-            None => false,
+        let Some(entry) = self.copies.get(id) else {
+            return Ack::Unknown;
         };
-        if !ends {
+        if !is_released_of(entry) {
             return Ack::Unknown;
         }
-        self.end(id);
+        let here = entry.here;
+        self.end(id, here);
         Ack::Done
     }
 
@@ -468,8 +469,9 @@ impl Outgoing {
         if !takes_pubrec_of(entry) {
             return Rec::Unknown;
         }
+        let here = entry.here;
         if reason >= FIRST_ERROR {
-            self.end(id);
+            self.end(id, here);
             return Rec::Ended;
         }
         let order = self.next_order;

@@ -6,4 +6,4 @@ pub loop-places-init : goal.loop-places-init
 loop-places-init c = record { padded = padded-none _; small = c.requires.small }
 
 pub loop-places-preserved : goal.loop-places-preserved
-loop-places-preserved c = rw c.in_ok-push.ensures.items (record { padded = padded-one _ _ c.loop-places.invariant.padded; small = rw length-append (omega arith) })
+loop-places-preserved c = rw c.in_ok-add.ensures.ok (record { padded = padded-one _ _ c.loop-places.invariant.padded; small = rw length-append (omega arith) })

@@ -59,7 +59,7 @@ loop-place-preserved c =
       same = rw is (found-large c.args.now c.args.limit c.in-Some.found c.args.until c.in-Some-at.entry.now _ c.are_ordered.ensures within (sym c.in-Some-at.ensures) (sym c.if-not-is_owed_of.ensures) (passes-limit c.args.now c.args.limit c.length_of.result c.in-Some-at.entry.now c.length_of.ensures c.if-length_of-limit.false) ∙ c.loop-place.invariant.same);
       within = rw is (within-removed c.in-Some.found c.args.until _ c.are_ordered.ensures within);
       room = ap (λ (h : Held). h.slots) c.end_at.ensures ∙ c.loop-place.invariant.room;
-      marks = marks-then _ _ _ _ _ _ c.loop-place.invariant.marks (marks-removed _ _ _ _ c.in-Some.found c.in-Some-at.entry.now (sym c.in-Some-at.ensures) is c.mark.ensures.places c.mark.ensures.room);
+      marks = marks-then _ _ _ _ _ _ c.loop-place.invariant.marks (marks-removed _ _ _ _ c.in-Some.found c.in-Some-at.entry.now c.are_ordered.ensures (sym c.in-Some-at.ensures) is c.mark.ensures.places c.mark.ensures.room);
     }
 
 pub mark-requires : goal.mark-requires

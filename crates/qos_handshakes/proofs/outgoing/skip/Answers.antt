@@ -31,7 +31,7 @@ loop-place-preserved c =
       same = rw (ap (λ (h : Held). h.entries) c.leave_out.ensures) (t.0 ∙ c.loop-place.invariant.same);
       queued = rw (ap (λ (h : Held). h.entries) c.leave_out.ensures) t.1;
       room = ap (λ (h : Held). h.slots) c.leave_out.ensures ∙ c.loop-place.invariant.room;
-      marks = marks-then _ _ _ _ _ _ c.loop-place.invariant.marks (marks-removed _ _ _ _ c.loop-place.place c.in-Some.entry.now (sym c.in-Some.ensures) (ap (λ (h : Held). h.entries) c.leave_out.ensures) c.mark.ensures.places c.mark.ensures.room);
+      marks = marks-then _ _ _ _ _ _ c.loop-place.invariant.marks (marks-removed _ _ _ _ c.loop-place.place c.in-Some.entry.now c.are_ordered.ensures (sym c.in-Some.ensures) (ap (λ (h : Held). h.entries) c.leave_out.ensures) c.mark.ensures.places c.mark.ensures.room);
     }
 
 pub mark-requires : goal.mark-requires

@@ -1,9 +1,9 @@
-use Rattle.std.proofs.Common.{◌<◌, ap, ◌∙◌, arith, refl}
+use Rattle.std.proofs.Common.{◌+◌, ◌<◌, ap, ◌∙◌, arith, refl}
 use Rattle.qos_handshakes.specs.Entries.{Held, at_place, as_published}
 use Rattle.qos_handshakes.specs.Outbox.{in_flight, without_left_out, without_large}
 use Rattle.qos_handshakes.proofs.Counted.{queue-length, skip-waits, counted-left, counted-sent, least-left}
 use Rattle.qos_handshakes.proofs.Owed.{within-end}
-use Rattle.qos_handshakes.proofs.Advanced.{resend-can, send-can, chooses-idle, counted-within, counted-large, counted-here, room-large, chooses-resend, chooses-none_free, chooses-nothing, chooses-first}
+use Rattle.qos_handshakes.proofs.Advanced.{resend-can, send-can, chooses-idle, counted-within, counted-anew, counted-large, counted-here, room-large, chooses-resend, chooses-none_free, chooses-nothing, chooses-first}
 use Rattle.qos_handshakes.proofs.Indexed.{waiting-at}
 use Rattle.qos_handshakes.proofs.Marking.{marks-then, marks-within, marks-here, marks-written, less-sent, credit-there}
 use Rattle.qos_handshakes.proofs.outgoing.Outgoing.advance.Goals as goal
@@ -39,46 +39,41 @@ least_free-requires c = room-large c.args.now c.args.limit _ _ c.in_ok-reserve.e
 pub invariant_of-self-in_default : goal.invariant_of-self-in_default
 invariant_of-self-in_default c =
     let is = ap (λ (h : Held). h.entries) c.next_owed-owed.ensures.entries ∙ ap (without_large c.args.now c.args.limit) c.reserve.ensures.same in
-    let least = ap (λ (h : Held). h.entries) c.least_free.ensures.same in
     record {
-      counted = rw least (counted-large c.args.now c.args.limit _ _ _ _ _ _ _ c.self.inside.first_waiting c.self.invariant.counted is c.next_owed-owed.ensures.owed);
-      room = (marks-within _ _ _ _ _ _ c.reserve.ensures.same c.next_owed-owed.ensures.marks least).room c.self.invariant.room;
+      counted = counted-large c.args.now c.args.limit _ _ _ _ _ _ _ c.self.inside.first_waiting c.self.invariant.counted is c.next_owed-owed.ensures.owed;
+      room = (marks-within _ _ _ _ _ _ c.reserve.ensures.same c.next_owed-owed.ensures.marks refl).room c.self.invariant.room;
     }
 
 pub returns-in_default-clause-step : goal.returns-in_default-clause-step
 returns-in_default-clause-step c =
     let is = ap (λ (h : Held). h.entries) c.next_owed-owed.ensures.entries ∙ ap (without_large c.args.now c.args.limit) c.reserve.ensures.same in
-    let least = ap (λ (h : Held). h.entries) c.least_free.ensures.same in
     let none = within-end c.next_owed-owed.result c.self.inside.first_waiting _ c.next_owed-owed.ensures.owed c.if-owed-self.false in
     let quota : in_flight c.self.inside.copies.entries < c.self.inside.maximum = omega (arith, c.self.invariant.counted.flight_is) in
-    rw (← c.self.view_is, least) (chooses-none_free c.args.now c.args.limit _ c.next_owed-owed.new.copies.entries quota is none c.in_default.ensures.found)
+    rw (← c.self.view_is) (chooses-none_free c.args.now c.args.limit _ c.next_owed-owed.new.copies.entries quota is none c.in_default.ensures)
 
 pub skip-first-requires-clause-room : goal.skip-first-requires-clause-room
-skip-first-requires-clause-room c = (marks-within _ _ _ _ _ _ c.reserve.ensures.same c.next_owed-owed.ensures.marks (ap (λ (h : Held). h.entries) c.least_free.ensures.same)).room c.self.invariant.room
+skip-first-requires-clause-room c = (marks-within _ _ _ _ _ _ c.reserve.ensures.same c.next_owed-owed.ensures.marks refl).room c.self.invariant.room
 
 pub skip-first-requires-clause-queued : goal.skip-first-requires-clause-queued
 skip-first-requires-clause-queued c =
     let is = ap (λ (h : Held). h.entries) c.next_owed-owed.ensures.entries ∙ ap (without_large c.args.now c.args.limit) c.reserve.ensures.same in
-    let least = ap (λ (h : Held). h.entries) c.least_free.ensures.same in
     let counted = counted-large c.args.now c.args.limit _ _ _ _ _ _ _ c.self.inside.first_waiting c.self.invariant.counted is c.next_owed-owed.ensures.owed in
-    rw least counted.queued
+    counted.queued
 
 pub invariant_of-self-then-first-self : goal.invariant_of-self-then-first-self
 invariant_of-self-then-first-self c =
     let is = ap (λ (h : Held). h.entries) c.next_owed-owed.ensures.entries ∙ ap (without_large c.args.now c.args.limit) c.reserve.ensures.same in
-    let least = ap (λ (h : Held). h.entries) c.least_free.ensures.same in
-    let left = ap (λ (h : Held). h.entries) c.skip-first.ensures.entries ∙ ap (without_left_out c.args.now c.args.limit) least in
+    let left = ap (λ (h : Held). h.entries) c.skip-first.ensures.entries in
     record {
       counted = counted-left c.args.now c.args.limit _ _ _ _ _ c.next_owed-owed.new.copies.entries _ (counted-large c.args.now c.args.limit _ _ _ _ _ _ _ c.self.inside.first_waiting c.self.invariant.counted is c.next_owed-owed.ensures.owed) left c.skip-first.ensures.queued;
-      room = (marks-then _ _ _ _ _ _ (marks-within _ _ _ _ _ _ c.reserve.ensures.same c.next_owed-owed.ensures.marks (ap (λ (h : Held). h.entries) c.least_free.ensures.same)) c.skip-first.ensures.marks).room c.self.invariant.room;
+      room = (marks-then _ _ _ _ _ _ (marks-within _ _ _ _ _ _ c.reserve.ensures.same c.next_owed-owed.ensures.marks refl) c.skip-first.ensures.marks).room c.self.invariant.room;
     }
 
 pub returns-then-first-self-clause-step : goal.returns-then-first-self-clause-step
 returns-then-first-self-clause-step c =
     let is = ap (λ (h : Held). h.entries) c.next_owed-owed.ensures.entries ∙ ap (without_large c.args.now c.args.limit) c.reserve.ensures.same in
-    let least = ap (λ (h : Held). h.entries) c.least_free.ensures.same in
     let none = within-end c.next_owed-owed.result c.self.inside.first_waiting _ c.next_owed-owed.ensures.owed c.if-owed-self.false in
-    let left = ap (λ (h : Held). h.entries) c.skip-first.ensures.entries ∙ ap (without_left_out c.args.now c.args.limit) least in
+    let left = ap (λ (h : Held). h.entries) c.skip-first.ensures.entries in
     let quota : in_flight c.self.inside.copies.entries < c.self.inside.maximum = omega (arith, c.self.invariant.counted.flight_is) in
     rw (← c.self.view_is) (chooses-nothing c.args.now c.args.limit c.skip-first.result c.self.inside.next_place _ c.next_owed-owed.new.copies.entries _ quota is none left c.skip-first.ensures.queued (omega arith))
 
@@ -88,9 +83,8 @@ publish-requires-clause-waiting c =
 
 pub publish-requires-clause-free : goal.publish-requires-clause-free
 publish-requires-clause-free c =
-    let least = ap (λ (h : Held). h.entries) c.least_free.ensures.same in
-    let left = ap (λ (h : Held). h.entries) c.skip-first.ensures.entries ∙ ap (without_left_out c.args.now c.args.limit) least in
-    rw left (least-left c.args.now c.args.limit c.in-Some.id c.next_owed-owed.new.copies.entries c.in-Some.ensures.found.0)
+    let left = ap (λ (h : Held). h.entries) c.skip-first.ensures.entries in
+    rw left (least-left c.args.now c.args.limit c.in-Some.id c.next_owed-owed.new.copies.entries c.in-Some.ensures.0)
 
 pub overflow_add-self-2 : goal.overflow_add-self-2
 overflow_add-self-2 c = omega (arith, queue-length _ _ _ c.skip-first.ensures.queued)
@@ -98,36 +92,35 @@ overflow_add-self-2 c = omega (arith, queue-length _ _ _ c.skip-first.ensures.qu
 pub mark-requires : goal.mark-requires
 mark-requires c =
     let its = waiting-at (at_place c.skip-first.result c.skip-first.new.copies.entries) (skip-waits _ c.self.inside.next_place _ c.skip-first.ensures.queued (omega (arith, queue-length _ _ _ c.skip-first.ensures.queued))) in
-    credit-there c.skip-first.result _ its.0 _ ((marks-then _ _ _ _ _ _ (marks-within _ _ _ _ _ _ c.reserve.ensures.same c.next_owed-owed.ensures.marks (ap (λ (h : Held). h.entries) c.least_free.ensures.same)) c.skip-first.ensures.marks).room c.self.invariant.room) its.1
+    credit-there c.skip-first.result _ its.0 _ ((marks-then _ _ _ _ _ _ (marks-within _ _ _ _ _ _ c.reserve.ensures.same c.next_owed-owed.ensures.marks refl) c.skip-first.ensures.marks).room c.self.invariant.room) its.1
 
 pub invariant_of-self-2 : goal.invariant_of-self-2
 invariant_of-self-2 c =
     let its = waiting-at (at_place c.skip-first.result c.skip-first.new.copies.entries) (skip-waits _ c.self.inside.next_place _ c.skip-first.ensures.queued (omega (arith, queue-length _ _ _ c.skip-first.ensures.queued))) in
     let is = ap (λ (h : Held). h.entries) c.next_owed-owed.ensures.entries ∙ ap (without_large c.args.now c.args.limit) c.reserve.ensures.same in
-    let least = ap (λ (h : Held). h.entries) c.least_free.ensures.same in
-    let left = ap (λ (h : Held). h.entries) c.skip-first.ensures.entries ∙ ap (without_left_out c.args.now c.args.limit) least in
+    let none = within-end c.next_owed-owed.result c.self.inside.first_waiting _ c.next_owed-owed.ensures.owed c.if-owed-self.false in
+    let left = ap (λ (h : Held). h.entries) c.skip-first.ensures.entries in
     record {
       counted = counted-sent c.in-Some.id c.skip-first.result _ _ _ c.skip-first.new.copies.entries _
-          (counted-left c.args.now c.args.limit _ _ _ _ _ c.next_owed-owed.new.copies.entries _ (counted-large c.args.now c.args.limit _ _ _ _ _ _ _ c.self.inside.first_waiting c.self.invariant.counted is c.next_owed-owed.ensures.owed) left c.skip-first.ensures.queued)
+          (counted-left c.args.now c.args.limit _ _ _ _ _ c.next_owed-owed.new.copies.entries _ (counted-anew _ _ _ _ _ (c.skip-first.result + 1) (counted-large c.args.now c.args.limit _ _ _ _ _ _ _ c.self.inside.first_waiting c.self.invariant.counted is c.next_owed-owed.ensures.owed) none) left c.skip-first.ensures.queued)
           (omega (arith, queue-length _ _ _ c.skip-first.ensures.queued)) (ap (λ (h : Held). h.entries) c.publish.ensures);
-      room = (marks-then _ _ _ _ _ _ (marks-then _ _ _ _ _ _ (marks-within _ _ _ _ _ _ c.reserve.ensures.same c.next_owed-owed.ensures.marks (ap (λ (h : Held). h.entries) c.least_free.ensures.same)) c.skip-first.ensures.marks) (marks-written (as_published c.in-Some.id) _ _ _ _ c.skip-first.result its.0 its.1 (omega (arith, less-sent c.in-Some.id its.0.stage its.2)) (ap (λ (h : Held). h.entries) c.publish.ensures) c.mark.ensures.places c.mark.ensures.room)).room c.self.invariant.room;
+      room = (marks-then _ _ _ _ _ _ (marks-then _ _ _ _ _ _ (marks-within _ _ _ _ _ _ c.reserve.ensures.same c.next_owed-owed.ensures.marks refl) c.skip-first.ensures.marks) (marks-written (as_published c.in-Some.id) _ _ _ _ c.skip-first.result its.0 its.1 (omega (arith, less-sent c.in-Some.id its.0.stage its.2)) (ap (λ (h : Held). h.entries) c.publish.ensures) c.mark.ensures.places c.mark.ensures.room)).room c.self.invariant.room;
     }
 
 pub returns-clause-touched : goal.returns-clause-touched
 returns-clause-touched c =
     let its = waiting-at (at_place c.skip-first.result c.skip-first.new.copies.entries) (skip-waits _ c.self.inside.next_place _ c.skip-first.ensures.queued (omega (arith, queue-length _ _ _ c.skip-first.ensures.queued))) in
-    rw (← c.self.view_is) (marks-then _ _ _ _ _ _ (marks-then _ _ _ _ _ _ (marks-within _ _ _ _ _ _ c.reserve.ensures.same c.next_owed-owed.ensures.marks (ap (λ (h : Held). h.entries) c.least_free.ensures.same)) c.skip-first.ensures.marks) (marks-written (as_published c.in-Some.id) _ _ _ _ c.skip-first.result its.0 its.1 (omega (arith, less-sent c.in-Some.id its.0.stage its.2)) (ap (λ (h : Held). h.entries) c.publish.ensures) c.mark.ensures.places c.mark.ensures.room)).touches
+    rw (← c.self.view_is) (marks-then _ _ _ _ _ _ (marks-then _ _ _ _ _ _ (marks-within _ _ _ _ _ _ c.reserve.ensures.same c.next_owed-owed.ensures.marks refl) c.skip-first.ensures.marks) (marks-written (as_published c.in-Some.id) _ _ _ _ c.skip-first.result its.0 its.1 (omega (arith, less-sent c.in-Some.id its.0.stage its.2)) (ap (λ (h : Held). h.entries) c.publish.ensures) c.mark.ensures.places c.mark.ensures.room)).touches
 
 pub returns-clause-step : goal.returns-clause-step
 returns-clause-step c =
     let is = ap (λ (h : Held). h.entries) c.next_owed-owed.ensures.entries ∙ ap (without_large c.args.now c.args.limit) c.reserve.ensures.same in
-    let least = ap (λ (h : Held). h.entries) c.least_free.ensures.same in
     let none = within-end c.next_owed-owed.result c.self.inside.first_waiting _ c.next_owed-owed.ensures.owed c.if-owed-self.false in
-    let left = ap (λ (h : Held). h.entries) c.skip-first.ensures.entries ∙ ap (without_left_out c.args.now c.args.limit) least in
+    let left = ap (λ (h : Held). h.entries) c.skip-first.ensures.entries in
     let quota : in_flight c.self.inside.copies.entries < c.self.inside.maximum = omega (arith, c.self.invariant.counted.flight_is) in
     let lt : c.skip-first.result < c.self.inside.next_place = omega (arith, queue-length _ _ _ c.skip-first.ensures.queued) in
     let head = c.skip-first.ensures.head lt in
-    rw (← c.self.view_is) (chooses-first c.args.now c.args.limit c.in-Some.id c.skip-first.result c.self.inside.next_place _ c.next_owed-owed.new.copies.entries c.skip-first.new.copies.entries _ quota is none c.in-Some.ensures.found.0 left c.skip-first.ensures.queued lt head.0 head.1 (ap (λ (h : Held). h.entries) c.publish.ensures))
+    rw (← c.self.view_is) (chooses-first c.args.now c.args.limit c.in-Some.id c.skip-first.result c.self.inside.next_place _ c.next_owed-owed.new.copies.entries c.skip-first.new.copies.entries _ quota is none c.in-Some.ensures.0 left c.skip-first.ensures.queued lt head.0 head.1 (ap (λ (h : Held). h.entries) c.publish.ensures))
 
 pub returns-then-self-3-clause-step : goal.returns-then-self-3-clause-step
 returns-then-self-3-clause-step c =
@@ -142,9 +135,8 @@ returns-then-owed-self-clause-sent c =
 pub returns-clause-sent : goal.returns-clause-sent
 returns-clause-sent c =
     let is = ap (λ (h : Held). h.entries) c.next_owed-owed.ensures.entries ∙ ap (without_large c.args.now c.args.limit) c.reserve.ensures.same in
-    let least = ap (λ (h : Held). h.entries) c.least_free.ensures.same in
-    let left = ap (λ (h : Held). h.entries) c.skip-first.ensures.entries ∙ ap (without_left_out c.args.now c.args.limit) least in
+    let left = ap (λ (h : Held). h.entries) c.skip-first.ensures.entries in
     let lt : c.skip-first.result < c.self.inside.next_place = omega (arith, queue-length _ _ _ c.skip-first.ensures.queued) in
     let head = c.skip-first.ensures.head lt in
     let counted = counted-left c.args.now c.args.limit _ _ _ _ _ c.next_owed-owed.new.copies.entries _ (counted-large c.args.now c.args.limit _ _ _ _ _ _ _ c.self.inside.first_waiting c.self.invariant.counted is c.next_owed-owed.ensures.owed) left c.skip-first.ensures.queued in
-    send-can c.args.now c.args.limit c.in-Some.id c.skip-first.result _ _ _ c.next_owed-owed.new.copies.entries c.skip-first.new.copies.entries _ counted c.in-Some.ensures.found.0 left lt head.0 head.1 (ap (λ (h : Held). h.entries) c.publish.ensures)
+    send-can c.args.now c.args.limit c.in-Some.id c.skip-first.result _ _ _ c.next_owed-owed.new.copies.entries c.skip-first.new.copies.entries _ counted c.in-Some.ensures.0 left lt head.0 head.1 (ap (λ (h : Held). h.entries) c.publish.ensures)

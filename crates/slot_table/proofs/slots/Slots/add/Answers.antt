@@ -1,0 +1,6 @@
+use Rattle.std.proofs.Common.{arith, sym}
+use Rattle.slot_table.proofs.Notes.{noted-added_at}
+use Rattle.slot_table.proofs.slots.Slots.add.Goals as goal
+
+pub invariant_of-self-2 : goal.invariant_of-self-2
+invariant_of-self-2 c = noted-added_at _ _ _ _ _ _ (sym c.self.view_is) c.self.invariant c.in_ok-push.ensures.items c.lengthen.ensures.same (omega (arith, c.in_ok-lengthen.ensures.room, c.len.ensures)) c.lengthen.ensures.words c.requires

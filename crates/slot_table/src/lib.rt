@@ -1,0 +1,9 @@
+//! A table of numbers by slot that finds its first free slot, one that has 0, in a few steps however long it is.
+#![tactic(auto)]
+
+mod bits;
+mod slots;
+#[cfg(test)]
+mod tests;
+
+pub use slots::Slots;
