@@ -1,0 +1,5 @@
+pub mod RowLaws
+pub mod TwiceLaws
+pub mod PrefixLaws
+pub mod AutomaticLaws
+pub mod HomeLaws
