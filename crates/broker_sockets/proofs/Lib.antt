@@ -1,0 +1,4 @@
+pub mod Buffering
+pub mod OrderLaws
+pub mod Telling
+pub mod Turning
