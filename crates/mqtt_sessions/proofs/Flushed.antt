@@ -1,0 +1,100 @@
+-- A run of sends, with the packets that they write.
+use Rattle.std.proofs.Common.{◌≡◌, ℕ, ◌+◌, ◌<◌, ◌≤◌, Bool, true, cond, List, [], ◌∷◌, ◌++◌, Some, None, refl, ap, sym, arith, inl, inr, append_assoc}
+use Rattle.std.proofs.lemmas.Bool.{cases_Bool, false≢true}
+use Rattle.mqtt_message.specs.declared.delivery.Delivery.{Delivery}
+use Rattle.qos_handshakes.specs.declared.copies.Entry.{Entry}
+use Rattle.qos_handshakes.specs.declared.copies.Stage.{Stage}
+use Rattle.qos_handshakes.specs.declared.copies.Stage.TheVariants.{Waiting, Published, Released}
+use Rattle.qos_handshakes.specs.Entries.{Entries}
+use Rattle.qos_handshakes.specs.Outbox.{Outbox, Sent, NextStep, is_owed, waits, fits, is_sendable, first_owed, after_resend, first_waiting, after_send}
+use Rattle.qos_handshakes.proofs.EntryLaws.{waits-owed}
+use Rattle.mqtt_sessions.specs.declared.reaction.Output.{Output}
+use Rattle.mqtt_sessions.specs.declared.reaction.Output.TheVariants.{Answer}
+use Rattle.mqtt_sessions.specs.Answers.{pubrel}
+use Rattle.mqtt_sessions.specs.Reaction.{publish_of, publishes_of, pubrels_of}
+use Rattle.mqtt_sessions.specs.Sending.{SendsAll, Flushes}
+
+-- ---- each send leaves less to be sent
+abbrev pub weight : Entry → ℕ
+weight x = cond (is_owed x) 1 (cond (waits x.stage) 1 0)
+
+abbrev pub to_send : Entries → ℕ
+to_send [] = 0
+to_send (e ∷ es) = weight e.1 + to_send es
+
+owed-here : (s : Stage) (h : Bool) (d : Delivery) → is_owed (record { stage = s; here = h; delivery = d }) ≡ true → weight (record { stage = s; here = true; delivery = d }) ≡ 0
+owed-here Waiting h d o = absurd (false≢true o)
+owed-here (Published id) h d o = refl
+owed-here (Released id order) h d o = absurd (false≢true o)
+
+resend-most : (now limit : ℕ) (es : Entries) → to_send (after_resend now limit es) ≤ to_send es
+resend-most now limit [] = omega arith
+resend-most now limit (e ∷ es) = elim (cases_Bool (is_owed e.1)) [
+  | inl o ↦ elim (cases_Bool (fits now limit e.1.delivery)) [
+    | inl g ↦ rw (o, g) (omega (arith, owed-here e.1.stage e.1.here e.1.delivery o))
+    | inr g ↦ rw (o, g) (omega (arith, resend-most now limit es))
+  ]
+  | inr o ↦ rw (o, o) (omega (arith, resend-most now limit es))
+]
+
+resend-less : (now limit : ℕ) (s : Sent) (es : Entries) → first_owed now limit es ≡ Some s → to_send (after_resend now limit es) < to_send es
+resend-less now limit s [] is = (cc is)
+resend-less now limit s (e ∷ es) is = elim (cases_Bool (is_owed e.1)) [
+  | inl o ↦ elim (cases_Bool (fits now limit e.1.delivery)) [
+    | inl g ↦ rw (o, g) (omega (arith, owed-here e.1.stage e.1.here e.1.delivery o))
+    | inr g ↦ rw (o, g) (omega (arith, resend-most now limit es))
+  ]
+  | inr o ↦ rw (o, o) (omega (arith, resend-less now limit s es (rw o at is)))
+]
+
+send-less : (now limit id : ℕ) (d : Delivery) (es : Entries) → first_waiting now limit es ≡ Some d → to_send (after_send now limit id es) < to_send es
+send-less now limit id d [] is = (cc is)
+send-less now limit id d (e ∷ es) is = elim (cases_Bool (waits e.1.stage)) [
+  | inl w ↦ let o = waits-owed e.1 w in elim (cases_Bool (is_sendable now limit e.1.delivery)) [
+    | inl g ↦ rw (w, g, o) (omega arith)
+    | inr g ↦ rw (w, g, o) (omega (arith, send-less now limit id d es (rw (w, g) at is)))
+  ]
+  | inr w ↦ rw (w, w) (omega (arith, send-less now limit id d es (rw w at is)))
+]
+
+pub sends-less : (now limit : ℕ) (old new : Outbox) (s : Sent) → NextStep now limit old (Some s) new → to_send new.copies < to_send old.copies
+sends-less now limit old new s (inl n) = rw n.left (resend-less now limit s old.copies n.sent)
+sends-less now limit old new s (inr n) =
+    rw n.left (omega (arith, send-less now limit s.id s.copy (after_resend now limit old.copies) n.sent, resend-most now limit old.copies))
+
+-- ---- what has been sent, and written
+pub record HasSent (now limit : ℕ) (start : Outbox) (before : List Output) (outbox : Outbox) (packets : List Output) : Type 0 where
+  pub sents : List Sent
+  pub sends : SendsAll now limit start sents outbox
+  pub written : packets ≡ before ++ publishes_of sents
+
+append-nil : {A : Type 0} (xs : List A) → xs ++ [] ≡ xs
+append-nil [] = refl
+append-nil (x ∷ xs) = ap (λ ys. x ∷ ys) (append-nil xs)
+
+pub sent-none : (now limit : ℕ) (start : Outbox) (before : List Output) → HasSent now limit start before start before
+sent-none now limit start before = record { sents = []; sends = refl; written = sym (append-nil before) }
+
+sends-more : (now limit : ℕ) (old mid new : Outbox) (sents : List Sent) (s : Sent) → SendsAll now limit old sents mid → NextStep now limit mid (Some s) new → SendsAll now limit old (sents ++ s ∷ []) new
+sends-more now limit old mid new [] s all n = (new, rw (← all) n, refl)
+sends-more now limit old mid new (t ∷ sents) s all n = (all.0, all.1, sends-more now limit all.0 mid new sents s all.2 n)
+
+publishes-more : (sents : List Sent) (s : Sent) → publishes_of (sents ++ s ∷ []) ≡ publishes_of sents ++ publish_of s ∷ []
+publishes-more [] s = refl
+publishes-more (t ∷ sents) s = ap (λ (ps : List Output). publish_of t ∷ ps) (publishes-more sents s)
+
+pub sent-more : (now limit : ℕ) (start : Outbox) (before : List Output) (mid new : Outbox) (packets : List Output) (s : Sent) → HasSent now limit start before mid packets → NextStep now limit mid (Some s) new
+    → HasSent now limit start before new (packets ++ publish_of s ∷ [])
+sent-more now limit start before mid new packets s h n = record {
+  sents = h.sents ++ s ∷ [];
+  sends = sends-more now limit start mid new h.sents s h.sends n;
+  written = rw (h.written, publishes-more h.sents s, append_assoc before (publishes_of h.sents) (publish_of s ∷ [])) refl;
+}
+
+pub sent-all : (now limit : ℕ) (start : Outbox) (before : List Output) (last new : Outbox) (packets : List Output) → HasSent now limit start before last packets → NextStep now limit last None new
+    → (sents : List Sent) × Flushes now limit start sents new × (packets ≡ before ++ publishes_of sents)
+sent-all now limit start before last new packets h stops = (h.sents, record { last = last; sends = h.sends; stops = stops }, h.written)
+
+pub pubrels-more : (ids : List ℕ) (id : ℕ) → pubrels_of (ids ++ id ∷ []) ≡ pubrels_of ids ++ Answer (pubrel id 0) ∷ []
+pubrels-more [] id = refl
+pubrels-more (k ∷ ids) id = ap (λ (ps : List Output). Answer (pubrel k 0) ∷ ps) (pubrels-more ids id)

@@ -1,0 +1,18 @@
+use Rattle.std.proofs.Common.{refl}
+use Rattle.mqtt_sessions.proofs.ReceivedLaws.{released, unknown, ignored}
+use Rattle.mqtt_sessions.proofs.running.Running.pubrec.Goals as goal
+
+pub returns-in-Release-clause-step : goal.returns-in-Release-clause-step
+returns-in-Release-clause-step c =
+    rw (← c.self.view_is)
+    (released c.args.id c.args.code c.args.now c.args.limit _ c.received.new.self.box c.answered.result c.answered.new.self c.in-Release.ensures.step (rw c.pubrel-answer.ensures.packet at c.answered.ensures.step))
+
+pub returns-then-code-ge-UNSPECIFIED_ERROR-clause-step : goal.returns-then-code-ge-UNSPECIFIED_ERROR-clause-step
+returns-then-code-ge-UNSPECIFIED_ERROR-clause-step c =
+    rw (← c.self.view_is)
+    (ignored c.args.id c.args.code c.args.now c.args.limit _ c.received.new.self.box c.nothing.result _ c.if-code-ge-UNSPECIFIED_ERROR.true c.in-Unknown.ensures.step c.nothing.ensures refl)
+
+pub returns-in-Unknown-clause-step : goal.returns-in-Unknown-clause-step
+returns-in-Unknown-clause-step c =
+    rw (← c.self.view_is)
+    (unknown c.args.id c.args.code c.args.now c.args.limit _ c.received.new.self.box c.answered-in-Unknown.result c.answered-in-Unknown.new.self c.if-code-ge-UNSPECIFIED_ERROR.false c.in-Unknown.ensures.step (rw c.pubrel-answer-in-Unknown.ensures.packet at c.answered-in-Unknown.ensures.step))

@@ -1,0 +1,13 @@
+use Rattle.mqtt_sessions.proofs.Flushed.{sent-more, sends-less}
+use Rattle.mqtt_sessions.proofs.sending.flush.Goals as goal
+
+pub loop-sending-smaller : goal.loop-sending-smaller
+loop-sending-smaller c =
+    let h = rw c.in-Some.is at (rw c.in_ok-sending.was at c.next.follows.holds-at-none) in
+    sends-less c.args.now c.args.limit _ _ _ h.0
+
+pub loop-sending-preserved : goal.loop-sending-preserved
+loop-sending-preserved c =
+    let h = rw c.in-Some.is at (rw c.in_ok-sending.was at c.next.follows.holds-at-none) in
+    rw (c.in_ok-push.ensures.items, c.in_ok-delivery.ensures)
+    (sent-more c.args.now c.args.limit c.args.outgoing.now.box c.args.packets.now.items _ _ _ _ c.loop-sending.invariant h.0)

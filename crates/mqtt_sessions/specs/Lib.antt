@@ -1,0 +1,11 @@
+pub mod State
+pub mod Answers
+pub mod Lengths
+pub mod Reaction
+pub mod Sending
+pub mod Connecting
+pub mod Arriving
+pub mod Asking
+pub mod Ending
+pub mod Packets
+pub mod Called

@@ -1,0 +1,111 @@
+-- What each packet of a client comes to.
+use Rattle.std.specs.Prelude.{◌≡◌, ℕ, ◌<◌, ◌≤◌, Bool, List, [], ◌⊎◌, Option, Some, None}
+use Rattle.mqtt_packets.specs.declared.packet.Packet.{Packet}
+use Rattle.mqtt_packets.specs.declared.packet.Packet.TheVariants as packets
+use Rattle.qos_handshakes.specs.declared.answers.Ack.{Ack as Ended}
+use Rattle.qos_handshakes.specs.declared.answers.Ack.TheVariants.{Done, Unknown}
+use Rattle.qos_handshakes.specs.declared.answers.Rec.{Rec}
+use Rattle.qos_handshakes.specs.declared.answers.Rec.TheVariants as rec
+use Rattle.qos_handshakes.specs.Outbox.{Outbox, Sent, AcknowledgeStep, CompleteStep, ReceivedStep}
+use Rattle.mqtt_sessions.specs.Answers.{pubrel}
+use Rattle.mqtt_sessions.specs.Arriving.{published, released}
+use Rattle.mqtt_sessions.specs.Asking.{SubscribeStep, unsubscribed}
+use Rattle.mqtt_sessions.specs.Ending.{disconnected}
+use Rattle.mqtt_sessions.specs.Reaction.{Reaction, Comes, nothing, says, publishes_of, answered, refused}
+use Rattle.mqtt_sessions.specs.Sending.{Flushes}
+use Rattle.mqtt_sessions.specs.State.{State, limit_of, heard, with_outbox}
+
+-- ---- PUBACK and PUBCOMP (MQTT 5.0, 3.4 and 3.7): an exchange that ends makes room, and nothing is answered
+abbrev pub GoesOnAfter : Ended → ℕ → ℕ → Outbox → List Sent → Outbox → Type 0
+GoesOnAfter Done now limit old sents new = Flushes now limit old sents new
+GoesOnAfter Unknown now limit old sents new = (sents ≡ []) × (new ≡ old)
+
+pub record PubackStep (id now limit : ℕ) (s : State) (r : Reaction) (new : State) : Type 0 where
+  pub answer : Ended
+  pub mid : Outbox
+  pub after : Outbox
+  pub sents : List Sent
+  pub takes : AcknowledgeStep s.outbox id answer mid
+  pub goes_on : GoesOnAfter answer now limit mid sents after
+  pub reacts : r ≡ says (publishes_of sents)
+  pub left : new ≡ with_outbox s after
+
+pub record PubcompStep (id now limit : ℕ) (s : State) (r : Reaction) (new : State) : Type 0 where
+  pub answer : Ended
+  pub mid : Outbox
+  pub after : Outbox
+  pub sents : List Sent
+  pub takes : CompleteStep s.outbox id answer mid
+  pub goes_on : GoesOnAfter answer now limit mid sents after
+  pub reacts : r ≡ says (publishes_of sents)
+  pub left : new ≡ with_outbox s after
+
+-- ---- PUBREC (3.5): PUBREL, or the exchange ends
+pub record EndsExchange (now limit : ℕ) (s : State) (mid : Outbox) (r : Reaction) (new : State) : Type 0 where
+  pub after : Outbox
+  pub sents : List Sent
+  pub flushes : Flushes now limit mid sents after
+  pub reacts : r ≡ says (publishes_of sents)
+  pub left : new ≡ with_outbox s after
+
+-- no exchange is known: PUBREL with Packet Identifier not found, or from 0x80 on nothing
+abbrev pub SaysUnknown : ℕ → ℕ → ℕ → State → Reaction → State → Type 0
+SaysUnknown id reason limit s r new =
+    ((reason < 128) × Comes (answered limit (pubrel id 146) None s) r new) ⊎ ((128 ≤ reason) × (r ≡ nothing) × (new ≡ s))
+
+abbrev pub PubrecBy : Rec → ℕ → ℕ → ℕ → ℕ → State → Outbox → Reaction → State → Type 0
+PubrecBy rec.Release id reason now limit s mid r new = Comes (answered limit (pubrel id 0) None (with_outbox s mid)) r new
+PubrecBy rec.Ended id reason now limit s mid r new = EndsExchange now limit s mid r new
+PubrecBy rec.Unknown id reason now limit s mid r new = SaysUnknown id reason limit (with_outbox s mid) r new
+PubrecBy rec.AtEnd id reason now limit s mid r new = ⊥
+
+pub record PubrecStep (id reason now limit : ℕ) (s : State) (r : Reaction) (new : State) : Type 0 where
+  pub answer : Rec
+  pub mid : Outbox
+  pub takes : ReceivedStep s.outbox id reason answer mid
+  pub goes_on : PubrecBy answer id reason now limit s mid r new
+
+-- ---- a packet of a connected client; `room` is whether a retained message would be taken
+abbrev pub KindStep : Packet → ℕ → Bool → ℕ → State → Reaction → State → Type 0
+KindStep (packets.Publish p) now room limit s r new = Comes (published p now room limit s) r new
+KindStep (packets.Puback a) now room limit s r new = PubackStep a.identifier now limit s r new
+KindStep (packets.Pubrec a) now room limit s r new = PubrecStep a.identifier a.reason now limit s r new
+KindStep (packets.Pubrel a) now room limit s r new = Comes (released a.identifier limit s) r new
+KindStep (packets.Pubcomp a) now room limit s r new = PubcompStep a.identifier now limit s r new
+KindStep (packets.Subscribe p) now room limit s r new = SubscribeStep p limit s r new
+KindStep (packets.Unsubscribe p) now room limit s r new = Comes (unsubscribed p limit s) r new
+KindStep packets.Pingreq now room limit s r new = Comes (answered limit packets.Pingresp None s) r new
+KindStep (packets.Disconnect p) now room limit s r new = Comes (disconnected p limit s) r new
+KindStep (packets.Connect p) now room limit s r new = Comes (refused limit 130 s) r new
+KindStep (packets.Connack p) now room limit s r new = Comes (refused limit 130 s) r new
+KindStep (packets.Suback p) now room limit s r new = Comes (refused limit 130 s) r new
+KindStep (packets.Unsuback p) now room limit s r new = Comes (refused limit 130 s) r new
+KindStep packets.Pingresp now room limit s r new = Comes (refused limit 130 s) r new
+KindStep (packets.Auth p) now room limit s r new = Comes (refused limit 130 s) r new
+
+-- without a connection nothing is answered
+abbrev pub PacketIf : Option ℕ → Packet → ℕ → Bool → State → Reaction → State → Type 0
+PacketIf None p now room s r new = (r ≡ nothing) × (new ≡ s)
+PacketIf (Some limit) p now room s r new = KindStep p now room limit (heard s now) r new
+
+abbrev pub PacketStep : Packet → ℕ → Bool → State → Reaction → State → Type 0
+PacketStep p now room s r new = PacketIf (limit_of s.link) p now room s r new
+
+-- a PUBREC needs an order of release, and none is left below 2^62
+abbrev pub KindEnds : Packet → State → Type 0
+KindEnds (packets.Pubrec a) s = ReceivedStep s.outbox a.identifier a.reason rec.AtEnd s.outbox
+KindEnds p s = ⊥
+
+abbrev pub PacketEnds : Packet → State → Type 0
+PacketEnds p s = KindEnds p s
+
+-- the end of a connection takes no memory
+abbrev pub WantsMemory : Packet → Type 0
+WantsMemory (packets.Disconnect p) = ⊥
+WantsMemory (packets.Connect p) = ⊥
+WantsMemory (packets.Connack p) = ⊥
+WantsMemory (packets.Suback p) = ⊥
+WantsMemory (packets.Unsuback p) = ⊥
+WantsMemory packets.Pingresp = ⊥
+WantsMemory (packets.Auth p) = ⊥
+WantsMemory p = Unit {0}

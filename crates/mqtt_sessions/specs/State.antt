@@ -1,0 +1,82 @@
+-- What a session is (MQTT 5.0, 4.1): what outlives its connections, and its connection.
+use Rattle.std.specs.Prelude.{ℕ, ◌<◌, ◌^◌, min, List, [], Option, Some, None, unwrap_or}
+use Rattle.mqtt_fields.specs.declared.value.Property.{Property}
+use Rattle.mqtt_fields.specs.Properties.{first_four}
+use Rattle.mqtt_packets.specs.declared.connect.Will.{Will}
+use Rattle.mqtt_message.specs.Accepted.{IsPublishable}
+use Rattle.qos_handshakes.specs.Incoming.{Received}
+use Rattle.qos_handshakes.specs.Outbox.{Outbox}
+use Rattle.mqtt_sessions.specs.declared.kept.Phase.{Phase}
+use Rattle.mqtt_sessions.specs.declared.kept.Phase.TheVariants.{Connected, Closed}
+use Rattle.mqtt_sessions.specs.declared.link.Asked.{Asked}
+
+-- the client, its Session Expiry Interval in seconds, whether it is connected, and its will
+pub record Kept : Type 0 where
+  pub client : List ℕ
+  pub expiry : ℕ
+  pub phase : Phase
+  pub will : Option Will
+
+-- an open connection: the longest packet that the client takes, its Keep Alive in seconds, the moment of its last packet,
+-- and what it waits for
+pub record Link : Type 0 where
+  pub limit : ℕ
+  pub keep_alive : ℕ
+  pub last : ℕ
+  pub asked : Option Asked
+
+-- of the outbox and the incoming exchanges, what was sent and opened on this connection, and its quota, go with it
+pub record State : Type 0 where
+  pub kept : Kept
+  pub outbox : Outbox
+  pub incoming : Received
+  pub link : Option Link
+
+abbrev pub empty_outbox : Outbox
+empty_outbox = record { copies = []; next_place = 1; next_order = 1; maximum = 0 }
+
+-- a session before its first connection
+abbrev pub new_session : List ℕ → State
+new_session client = record {
+  kept = record { client = client; expiry = 0; phase = Closed 0; will = None };
+  outbox = empty_outbox;
+  incoming = [];
+  link = None;
+}
+
+-- the connection is gone
+abbrev pub cut : State → State
+cut s = record s { link = None }
+
+abbrev pub with_outbox : State → Outbox → State
+with_outbox s o = record s { outbox = o }
+
+-- the longest packet that the client takes; none has more than 268,435,460 bytes (2.1.4, 3.1.2.11.4)
+abbrev pub limit_in : List Property → ℕ
+limit_in ps = min 268435460 (unwrap_or (first_four 39 ps) 268435460)
+
+abbrev pub limit_of : Option Link → Option ℕ
+limit_of None = None
+limit_of (Some l) = Some l.limit
+
+-- a packet came
+abbrev pub heard_by : Option Link → ℕ → Option Link
+heard_by None now = None
+heard_by (Some l) now = Some (record l { last = now })
+
+abbrev pub heard : State → ℕ → State
+heard s now = record s { link = heard_by s.link now }
+
+-- ---- how the code keeps it
+abbrev pub IsPublishableIf : Option Will → Type 0
+IsPublishableIf None = Unit {0}
+IsPublishableIf (Some w) = IsPublishable w
+
+abbrev pub IsMoment : Phase → Type 0
+IsMoment Connected = Unit {0}
+IsMoment (Closed at) = at < 2 ^ 62
+
+-- a will that can be published, and a moment below 2^62
+pub record IsKept (will : Option Will) (phase : Phase) : Type 0 where
+  pub publishable : IsPublishableIf will
+  pub moment : IsMoment phase

@@ -1,0 +1,243 @@
+//! Messages that a client publishes (MQTT 5.0, 3.3, 3.6, 4.3.2 and 4.3.3).
+
+ghost use Rattle.std.specs.Prelude.{◌≡◌, ◌<◌, ◌≤◌, ◌^◌, IfOk, IfErr, IfSome, None};
+ghost use Rattle.std.specs.List.{list_any};
+ghost use Rattle.mqtt_packets.specs.declared.packet.Packet.TheVariants as packets;
+ghost use Rattle.mqtt_packets.specs.Written.{HasSpelling};
+ghost use Rattle.mqtt_topics.specs.Levels.{is_wildcard};
+ghost use Rattle.mqtt_message.specs.Accepted.{IsAcceptable, accepted};
+ghost use Rattle.mqtt_sessions.specs.Arriving as arriving;
+ghost use Rattle.mqtt_sessions.specs.Reaction.{Comes};
+ghost use Rattle.mqtt_sessions.specs.declared.fault.SessionFault.TheVariants.{NoMemory as OutOfMemory};
+
+use crate::answers::{puback, pubcomp, pubrec};
+use crate::fault::SessionFault;
+use crate::reaction::{Ask, Reaction, asks};
+use crate::running::Running;
+use mqtt_fields::identifier::{SUBSCRIPTION_IDENTIFIER, TOPIC_ALIAS};
+use mqtt_fields::{NoMemory, Properties, Qos, Text};
+use mqtt_message::{Message, spelled_is_acceptable};
+use mqtt_packets::{Publish, reason};
+use qos_handshakes::{Ack, In, Incoming};
+
+fn has(properties: &Properties, id: u8) -> bool
+    ensures { result ≡ arriving.has_property id properties.now }
+{
+    properties.as_slice().iter().any(|p| p.id == id)
+}
+
+fn has_wildcard(topic: &Text) -> bool
+    ensures { result ≡ list_any is_wildcard topic.now }
+{
+    topic
+        .as_str()
+        .as_bytes()
+        .iter()
+        .any(|b| *b == b'#' || *b == b'+')
+}
+
+/// Why a PUBLISH ends its connection, whatever else it is.
+fn refusal(publish: &Publish) -> Option<u8>
+    ensures code { result ≡ arriving.refusal publish.now }
+    ensures told { IfSome result (λ code. 0 < code) }
+{
+    if has(&publish.properties, TOPIC_ALIAS) {
+        return Some(reason::TOPIC_ALIAS_INVALID);
+    }
+    if has(&publish.properties, SUBSCRIPTION_IDENTIFIER) {
+        return Some(reason::PROTOCOL_ERROR);
+    }
+    if has_wildcard(&publish.topic) {
+        return Some(reason::TOPIC_NAME_INVALID);
+    }
+    None
+}
+
+/// A message can be made of a PUBLISH that isn't refused. This does nothing; its contract is a law.
+fn is_acceptable(publish: &Publish)
+    requires spelled { HasSpelling (packets.Publish publish.now) }
+    requires taken { arriving.refusal publish.now ≡ None }
+    ensures { IsAcceptable publish.now }
+{
+    spelled_is_acceptable();
+    let _topic = publish.topic.as_str();
+}
+
+/// What a PUBLISH at QoS 1 is.
+fn arrive_once(incoming: &Incoming, id: u16) -> In
+    ensures { result ≡ arriving.arrival_once incoming.now id }
+{
+    incoming.publish1(id)
+}
+
+/// What a PUBLISH at QoS 2 is. It opens an exchange where it is new, but for an unwelcome one.
+fn arrive_twice(incoming: &mut Incoming, id: u16, unwelcome: bool) -> Result<In, NoMemory>
+    ensures answer { IfOk result (λ answer. answer ≡ arriving.arrival_twice incoming.old id) }
+    ensures left { IfOk result (λ answer. incoming.new ≡ arriving.after_twice answer unwelcome id incoming.old) }
+{
+    if unwelcome && matches!(incoming.publish1(id), In::New) {
+        return Ok(In::New);
+    }
+    incoming.publish2(id)
+}
+
+/// Ends an exchange, and says so.
+fn release(incoming: &mut Incoming, id: u16) -> u8
+    ensures code { result ≡ arriving.release_code incoming.old id }
+    ensures left { incoming.new ≡ arriving.after_release incoming.old id }
+{
+    match incoming.release(id) {
+        Ack::Done => reason::SUCCESS,
+        Ack::Unknown => reason::PACKET_IDENTIFIER_NOT_FOUND,
+    }
+}
+
+impl Running {
+    /// The message of a PUBLISH, to be passed on.
+    fn pass(&self, publish: &Publish, now: u64) -> Result<Option<Ask>, NoMemory>
+        requires acceptable { IsAcceptable publish.now }
+        requires moment { now < 2 ^ 62 }
+        ensures { IfOk result (λ ask. ask ≡ Some (Ask.Pass (accepted publish.now self.now.kept.client now))) }
+    {
+        let message = Message::accept(self.alloc, publish, self.kept.client(), now)?;
+        Ok(Some(Ask::Pass(message)))
+    }
+
+    /// A PUBLISH at QoS 0.
+    fn publish_at_most_once(
+        &mut self,
+        publish: &Publish,
+        unwelcome: bool,
+        now: u64,
+    ) -> Result<Reaction, SessionFault>
+        requires acceptable { IsAcceptable publish.now }
+        requires moment { now < 2 ^ 62 }
+        ensures step { IfOk result (λ r. Comes (arriving.passes_at_most_once unwelcome (accepted publish.now self.old.kept.client now) self.old) r self.new) }
+        ensures fault { IfErr result (λ e. e ≡ OutOfMemory) }
+    {
+        if unwelcome {
+            return Ok(asks(self.alloc, None, false));
+        }
+        let ask = self.pass(publish, now)?;
+        Ok(asks(self.alloc, ask, false))
+    }
+
+    /// A PUBLISH at QoS 1.
+    fn publish_once(
+        &mut self,
+        publish: &Publish,
+        unwelcome: bool,
+        limit: u64,
+        now: u64,
+    ) -> Result<Reaction, SessionFault>
+        requires acceptable { IsAcceptable publish.now }
+        requires moment { now < 2 ^ 62 }
+        requires limit { limit ≤ 268435460 }
+        ensures step { IfOk result (λ r. Comes (arriving.once_by (arriving.arrival_once self.old.incoming publish.now.identifier) unwelcome limit publish.now.identifier (accepted publish.now self.old.kept.client now) self.old) r self.new) }
+        ensures fault { IfErr result (λ e. e ≡ OutOfMemory) }
+    {
+        let id = publish.identifier;
+        match arrive_once(&self.incoming, id) {
+            In::OverMaximum => Ok(self.refused(limit, reason::RECEIVE_MAXIMUM_EXCEEDED)),
+            In::InUse | In::Repeat => {
+                let answer = puback(self.alloc, id, reason::PACKET_IDENTIFIER_IN_USE);
+                self.answered(limit, answer, None)
+            }
+            In::New => {
+                if unwelcome {
+                    let answer = puback(self.alloc, id, reason::QUOTA_EXCEEDED);
+                    return self.answered(limit, answer, None);
+                }
+                let ask = self.pass(publish, now)?;
+                self.answered(limit, puback(self.alloc, id, reason::SUCCESS), ask)
+            }
+        }
+    }
+
+    /// Answers a PUBLISH at QoS 2, whose exchange is opened.
+    fn answer_twice(
+        &mut self,
+        arrival: In,
+        publish: &Publish,
+        unwelcome: bool,
+        limit: u64,
+        now: u64,
+    ) -> Result<Reaction, SessionFault>
+        requires acceptable { IsAcceptable publish.now }
+        requires moment { now < 2 ^ 62 }
+        requires limit { limit ≤ 268435460 }
+        ensures step { IfOk result (λ r. Comes (arriving.twice_by arrival unwelcome limit publish.now.identifier (accepted publish.now self.old.kept.client now) self.old) r self.new) }
+        ensures fault { IfErr result (λ e. e ≡ OutOfMemory) }
+    {
+        let id = publish.identifier;
+        match arrival {
+            In::OverMaximum => Ok(self.refused(limit, reason::RECEIVE_MAXIMUM_EXCEEDED)),
+            In::InUse | In::Repeat => {
+                let answer = pubrec(self.alloc, id, reason::SUCCESS);
+                self.answered(limit, answer, None)
+            }
+            In::New => {
+                if unwelcome {
+                    let answer = pubrec(self.alloc, id, reason::QUOTA_EXCEEDED);
+                    return self.answered(limit, answer, None);
+                }
+                let ask = self.pass(publish, now)?;
+                self.answered(limit, pubrec(self.alloc, id, reason::SUCCESS), ask)
+            }
+        }
+    }
+
+    /// A PUBLISH at QoS 2.
+    fn publish_twice(
+        &mut self,
+        publish: &Publish,
+        unwelcome: bool,
+        limit: u64,
+        now: u64,
+    ) -> Result<Reaction, SessionFault>
+        requires acceptable { IsAcceptable publish.now }
+        requires moment { now < 2 ^ 62 }
+        requires limit { limit ≤ 268435460 }
+        ensures step { IfOk result (λ r. Comes (arriving.arrives_twice (arriving.arrival_twice self.old.incoming publish.now.identifier) unwelcome limit publish.now.identifier (accepted publish.now self.old.kept.client now) self.old) r self.new) }
+        ensures fault { IfErr result (λ e. e ≡ OutOfMemory) }
+    {
+        let arrival = arrive_twice(&mut self.incoming, publish.identifier, unwelcome)?;
+        self.answer_twice(arrival, publish, unwelcome, limit, now)
+    }
+
+    /// A PUBLISH. `room` is whether a retained message would be taken.
+    pub(crate) fn publish(
+        &mut self,
+        publish: &Publish,
+        room: bool,
+        limit: u64,
+        now: u64,
+    ) -> Result<Reaction, SessionFault>
+        requires spelled { HasSpelling (packets.Publish publish.now) }
+        requires moment { now < 2 ^ 62 }
+        requires limit { limit ≤ 268435460 }
+        ensures step { IfOk result (λ r. Comes (arriving.published publish.now now room limit self.old) r self.new) }
+        ensures fault { IfErr result (λ e. e ≡ OutOfMemory) }
+    {
+        if let Some(code) = refusal(publish) {
+            return Ok(self.refused(limit, code));
+        }
+        is_acceptable(publish);
+        let unwelcome = publish.retain && !room;
+        match publish.qos {
+            Qos::AtMostOnce => self.publish_at_most_once(publish, unwelcome, now),
+            Qos::AtLeastOnce => self.publish_once(publish, unwelcome, limit, now),
+            Qos::ExactlyOnce => self.publish_twice(publish, unwelcome, limit, now),
+        }
+    }
+
+    /// A PUBREL.
+    pub(crate) fn pubrel(&mut self, id: u16, limit: u64) -> Result<Reaction, SessionFault>
+        requires { limit ≤ 268435460 }
+        ensures step { IfOk result (λ r. Comes (arriving.released id limit self.old) r self.new) }
+        ensures fault { IfErr result (λ e. e ≡ OutOfMemory) }
+    {
+        let code = release(&mut self.incoming, id);
+        self.answered(limit, pubcomp(self.alloc, id, code), None)
+    }
+}

@@ -1,0 +1,45 @@
+//! The beginning of a connection (MQTT 5.0, 3.1, 3.2 and 4.4).
+
+ghost use Rattle.std.specs.Prelude.{◌≡◌, ◌≤◌, IfOk, IfErr};
+ghost use Rattle.mqtt_sessions.specs.Connecting.{ConnectStep};
+ghost use Rattle.mqtt_sessions.specs.State.{IsPublishableIf};
+ghost use Rattle.mqtt_sessions.specs.declared.fault.SessionFault.TheVariants.{NoMemory as OutOfMemory};
+
+use crate::answers::connack;
+use crate::fault::SessionFault;
+use crate::link::{begin, limit_in};
+use crate::reaction::{Output, Reaction, ends, one, says};
+use crate::running::Running;
+use crate::sending::{flush, release};
+use mqtt_fields::identifier::RECEIVE_MAXIMUM;
+use mqtt_packets::Connect;
+
+impl Running {
+    pub(crate) fn connect(
+        &mut self,
+        connect: &Connect,
+        continued: bool,
+        now: u64,
+    ) -> Result<Reaction, SessionFault>
+        requires { IsPublishableIf connect.now.will }
+        ensures step { IfOk result (λ r. ConnectStep connect.now continued now self.old r self.new) }
+        ensures fault { IfErr result (λ e. e ≡ OutOfMemory) }
+    {
+        let limit = limit_in(&connect.properties);
+        let answer = connack(self.alloc, continued, &connect.client, self.kept.client())?;
+        self.kept.begin(self.alloc, connect)?;
+        self.incoming.restart();
+        self.outgoing
+            .resume(connect.properties.two(RECEIVE_MAXIMUM).unwrap_or(65_535));
+        if answer.length > limit {
+            self.connection = None;
+            return Ok(ends(self.alloc, None, 0));
+        }
+        self.connection = Some(begin(connect, now));
+        let mut packets = one(self.alloc, Output::Answer(answer.packet))?;
+        let ids = self.outgoing.releases(self.alloc)?;
+        release(self.alloc, &mut packets, &ids)?;
+        flush(self.alloc, &mut self.outgoing, &mut packets, now, limit)?;
+        Ok(says(packets))
+    }
+}

@@ -1,0 +1,155 @@
+//! An open connection.
+
+ghost use Rattle.std.specs.Prelude.{◌≡◌, ◌≤◌, IfSome};
+ghost use Rattle.mqtt_sessions.specs.State as state;
+ghost use Rattle.mqtt_sessions.specs.Ending.{has_run_out};
+ghost use Rattle.mqtt_sessions.specs.Asking.{asked_of, waiting_by};
+ghost use Rattle.mqtt_sessions.specs.Connecting.{link_by};
+ghost use Rattle.mqtt_sessions.specs.State.{limit_in};
+
+use mqtt_fields::Properties;
+use mqtt_fields::identifier::MAXIMUM_PACKET_SIZE;
+use mqtt_packets::Connect;
+use std::marker::Model;
+
+/// The length of the longest packet there is (MQTT 5.0, 2.1.4).
+const LONGEST: u64 = 268_435_460;
+
+/// Which answer the connection waits for.
+#[derive(Clone, Copy, PartialEq, Eq)]
+pub enum Asked {
+    Subscribing,
+    Unsubscribing,
+}
+
+/// What an open connection has, and a table of topic aliases would stand here.
+#[derive(Drop)]
+pub(crate) struct Connection {
+    /// The longest packet that the client takes.
+    limit: u64,
+    /// In seconds.
+    keep_alive: u16,
+    /// The moment of the last packet.
+    last: u64,
+    asked: Option<Asked>,
+}
+
+impl Model for Connection {
+    ghost use Rattle.std.specs.Prelude.{◌≤◌};
+    ghost use Rattle.mqtt_sessions.specs.State.{Link};
+
+    ghost Value = { Link };
+
+    ghost view = { λ c. record { limit = c.limit; keep_alive = c.keep_alive; last = c.last; asked = c.asked } };
+
+    ghost invariant = { λ c. c.limit ≤ 268435460 };
+}
+
+/// The longest packet that a client with these properties in its CONNECT takes.
+pub(crate) fn limit_in(properties: &Properties) -> u64
+    ensures limit { result ≡ limit_in properties.now }
+    ensures most { result ≤ 268435460 }
+{
+    match properties.four(MAXIMUM_PACKET_SIZE) {
+        Some(size) => LONGEST.min(u64::from(size)),
+        None => LONGEST,
+    }
+}
+
+/// A connection that begins.
+pub(crate) fn begin(connect: &Connect, now: u64) -> Connection
+    ensures { result ≡ link_by connect.now now }
+{
+    Connection {
+        limit: limit_in(&connect.properties),
+        keep_alive: connect.keep_alive,
+        last: now,
+        asked: None,
+    }
+}
+
+impl Connection {
+    /// A packet came.
+    fn heard(self, now: u64) -> Connection
+        ensures { result ≡ record self { last = now } }
+    {
+        Connection {
+            limit: self.limit,
+            keep_alive: self.keep_alive,
+            last: now,
+            asked: self.asked,
+        }
+    }
+
+    fn waiting(self, asked: Option<Asked>) -> Connection
+        ensures { result ≡ record self { asked = asked } }
+    {
+        Connection {
+            limit: self.limit,
+            keep_alive: self.keep_alive,
+            last: self.last,
+            asked,
+        }
+    }
+
+    fn limit(&self) -> u64
+        ensures limit { result ≡ self.now.limit }
+        ensures most { result ≤ 268435460 }
+    {
+        self.limit
+    }
+}
+
+/// The longest packet that the client takes, where it is connected.
+pub(crate) fn limit_of(connection: &Option<Connection>) -> Option<u64>
+    ensures limit { result ≡ state.limit_of connection.now }
+    ensures most { IfSome result (λ n. n ≤ 268435460) }
+{
+    match connection {
+        Some(open) => Some(open.limit()),
+        None => None,
+    }
+}
+
+/// The connection once a packet came on it.
+pub(crate) fn heard_by(connection: Option<Connection>, now: u64) -> Option<Connection>
+    ensures { result ≡ state.heard_by connection now }
+{
+    match connection {
+        Some(open) => Some(open.heard(now)),
+        None => None,
+    }
+}
+
+/// The connection where it waits for these codes.
+pub(crate) fn waiting_by(connection: Option<Connection>, asked: Option<Asked>) -> Option<Connection>
+    ensures { result ≡ waiting_by connection asked }
+{
+    match connection {
+        Some(open) => Some(open.waiting(asked)),
+        None => None,
+    }
+}
+
+/// What the connection waits for.
+pub(crate) fn asked_of(connection: &Option<Connection>) -> Option<Asked>
+    ensures { result ≡ asked_of connection.now }
+{
+    match connection {
+        Some(open) => open.asked,
+        None => None,
+    }
+}
+
+/// Whether no packet came for one and a half times the Keep Alive (MQTT 5.0, 3.1.2.10).
+pub(crate) fn has_run_out(connection: &Option<Connection>, now: u64) -> bool
+    ensures { result ≡ has_run_out connection.now now }
+{
+    match connection {
+        Some(open) => {
+            open.keep_alive > 0
+                && now.saturating_sub(open.last) >= 1500 * u64::from(open.keep_alive)
+        }
+        None => false,
+    }
+}
