@@ -1,0 +1,150 @@
+-- Nothing is held back on a connection that goes on.
+use Rattle.std.proofs.Common.{◌≡◌, ℕ, ◌+◌, Bool, true, false, List, [], ◌∷◌, Option, Some, None, IsSome, refl, sym, ◌∙◌, inl, inr}
+use Rattle.std.specs.Prelude.{◌==◌}
+use Rattle.std.proofs.lemmas.Bool.{cases_Bool, eqb-true, eq-eqb, false≢true}
+use Rattle.mqtt_packets.specs.declared.connect.Connect.{Connect}
+use Rattle.mqtt_packets.specs.declared.packet.Packet.{Packet}
+use Rattle.mqtt_packets.specs.declared.packet.Packet.TheVariants as packets
+use Rattle.mqtt_message.specs.declared.delivery.Delivery.{Delivery}
+use Rattle.qos_handshakes.specs.declared.answers.Ack.{Ack}
+use Rattle.qos_handshakes.specs.declared.answers.Ack.TheVariants.{Done, Unknown}
+use Rattle.qos_handshakes.specs.declared.answers.Rec.{Rec}
+use Rattle.qos_handshakes.specs.declared.answers.Rec.TheVariants as rec
+use Rattle.qos_handshakes.specs.declared.copies.Entry.{Entry}
+use Rattle.qos_handshakes.specs.declared.copies.Stage.{Stage}
+use Rattle.qos_handshakes.specs.declared.copies.Stage.TheVariants.{Waiting, Published, Released}
+use Rattle.qos_handshakes.specs.Entries.{Entries, stage_has, has_id, find_id, write_id, as_released}
+use Rattle.qos_handshakes.specs.Outbox.{Outbox, Sent, is_owed, EndStep, ReceivedIf, ReceivedStep}
+use Rattle.qos_handshakes.proofs.EntryLaws.{in_flight-write_id}
+use Rattle.handshake_laws.specs.Quota.{CannotSend}
+use Rattle.handshake_laws.specs.Resends.{owed}
+use Rattle.handshake_laws.proofs.OrderLaws.{waiting-write_id}
+use Rattle.handshake_laws.proofs.QuotaLaws.{busy-next}
+use Rattle.mqtt_sessions.specs.Answers.{pubrel, connack, fits}
+use Rattle.mqtt_sessions.specs.Connecting.{OpensIf, resumed_by}
+use Rattle.mqtt_sessions.specs.Packets.{GoesOnAfter, PubrecBy, PacketIf}
+use Rattle.mqtt_sessions.specs.Reaction.{Reaction}
+use Rattle.mqtt_sessions.specs.Sending.{Flushes, GoesOn, is_once, QueueIf}
+use Rattle.mqtt_sessions.specs.State.{State, Link, heard, limit_in, limit_of, with_outbox, new_session}
+use Rattle.session_laws.specs.Runs.{Event, connects, queues, takes, answers, closes, ticks, finishes, loses, Step, Reacts, Run}
+use Rattle.session_laws.specs.Numbers.{KeepsBusy}
+use Rattle.session_laws.proofs.QuietLaws.{HasLimit, IsQuiet, IsHandshake, none-some, quiet-answer, quiet-tick, kinds}
+use Rattle.session_laws.proofs.SilenceLaws.{own}
+use Rattle.session_laws.proofs.ProjectLaws.{comes-quiet, unknown-quiet, heard-limit}
+
+-- after a flush nothing more can be sent
+flush-busy : (now limit : ℕ) (old new : Outbox) (sents : List Sent) → Flushes now limit old sents new → CannotSend new
+flush-busy now limit old new sents f = busy-next now limit f.last new f.stops
+
+same-busy : (old new : Outbox) → new ≡ old → CannotSend old → CannotSend new
+same-busy old new same h = rw same h
+
+-- ---- a PUBREC below 0x80 frees nothing
+owed-written : (id order : ℕ) (es : Entries) → owed es ≡ [] → owed (write_id (as_released id order) id es) ≡ []
+owed-written id order [] none = refl
+owed-written id order (e ∷ es) none = elim (cases_Bool (is_owed e.1)) [
+  | inl o ↦ (let bad = rw o at none in cc)
+  | inr o ↦ elim (cases_Bool (has_id id e.1)) [
+    | inl h ↦ rw h (rw o at none)
+    | inr h ↦ rw (h, o) (owed-written id order es (rw o at none))
+  ]
+]
+
+same-id : (k id : ℕ) (s : Stage) → stage_has id s ≡ true → stage_has k s ≡ true → (id == k) ≡ true
+same-id k id Waiting h g = absurd (false≢true h)
+same-id k id (Published i) h g = eq-eqb id k (sym (eqb-true i id h) ∙ eqb-true i k g)
+same-id k id (Released i order) h g = eq-eqb id k (sym (eqb-true i id h) ∙ eqb-true i k g)
+
+id-written : (k id order : ℕ) (es : Entries) → IsSome (find_id k es) → IsSome (find_id k (write_id (as_released id order) id es))
+id-written k id order [] some = some
+id-written k id order (e ∷ es) some = elim (cases_Bool (has_id id e.1)) [
+  | inl h ↦ elim (cases_Bool (has_id k e.1)) [
+    | inl g ↦ rw (h, same-id k id e.1.stage h g) refl
+    | inr g ↦ elim (cases_Bool (id == k)) [ inl n ↦ rw (h, n) refl | inr n ↦ rw (h, n) (rw g at some) ]
+  ]
+  | inr h ↦ elim (cases_Bool (has_id k e.1)) [
+    | inl g ↦ rw (h, g) refl
+    | inr g ↦ rw (h, g) (id-written k id order es (rw g at some))
+  ]
+]
+
+release-busy : (id order : ℕ) (old : Outbox) → CannotSend old → CannotSend (record old { copies = write_id (as_released id order) id old.copies; next_order = order + 1 })
+release-busy id order old (inl h) = inl (rw (in_flight-write_id (as_released id order) (λ _. refl) id old.copies) h)
+release-busy id order old (inr (none, inl h)) = inr (owed-written id order old.copies none, inl (λ k a b. id-written k id order old.copies (h k a b)))
+release-busy id order old (inr (none, inr h)) = inr (owed-written id order old.copies none, inr (waiting-write_id (as_released id order) (λ _. refl) id old.copies ∙ h))
+
+ack-busy : (a : Ack) (ends : Bool) (id now limit : ℕ) (old mid new : Outbox) (sents : List Sent) → EndStep ends old id a mid → GoesOnAfter a now limit mid sents new → CannotSend old → CannotSend new
+ack-busy Done ends id now limit old mid new sents s f h = flush-busy now limit mid new sents f
+ack-busy Unknown ends id now limit old mid new sents s f h = same-busy old new (f.1 ∙ s.1) h
+
+known-busy : (o : Option Entry) (id reason : ℕ) (old mid : Outbox) → ReceivedIf o old id reason rec.Release mid → CannotSend old → CannotSend mid
+known-busy None id reason old mid s h = same-busy old mid s.1 h
+known-busy (Some x) id reason old mid (inl s) h = rw s.3 (release-busy id old.next_order old h)
+known-busy (Some x) id reason old mid (inr s) h = same-busy old mid s.1 h
+
+unknown-busy : (o : Option Entry) (id reason : ℕ) (old mid : Outbox) → ReceivedIf o old id reason rec.Unknown mid → CannotSend old → CannotSend mid
+unknown-busy None id reason old mid s h = same-busy old mid s.1 h
+unknown-busy (Some x) id reason old mid s h = same-busy old mid s.2 h
+
+rec-busy : (a : Rec) (limit : ℕ) (s new : State) (id reason now : ℕ) (mid : Outbox) (r : Reaction) → HasLimit limit s.link → ReceivedStep s.outbox id reason a mid → PubrecBy a id reason now limit s mid r new → CannotSend s.outbox → CannotSend new.outbox
+rec-busy rec.Release limit s new id reason now mid r is t p h = same-busy mid new.outbox (comes-quiet limit (pubrel id 0) (with_outbox s mid) new r is p).same (known-busy (find_id id s.outbox.copies) id reason s.outbox mid t h)
+rec-busy rec.Unknown limit s new id reason now mid r is t p h = same-busy mid new.outbox (unknown-quiet id reason limit (with_outbox s mid) new r is p).same (unknown-busy (find_id id s.outbox.copies) id reason s.outbox mid t h)
+rec-busy rec.Ended limit s new id reason now mid r is t p h = rw p.left (flush-busy now limit mid p.after p.sents p.flushes)
+rec-busy rec.AtEnd limit s new id reason now mid r is t p h = absurd p
+
+-- ---- the events
+abbrev IsBusy : State → Type 0
+IsBusy s = IsSome s.link → CannotSend s.outbox
+
+cut-busy : (s : State) → s.link ≡ None → IsBusy s
+cut-busy s none = λ some. absurd (none-some s.link none some)
+
+quiet-busy : (limit : ℕ) (o : Option ℕ) (old new : State) (r : Reaction) → r.end ≡ o → IsQuiet limit old r new → IsBusy old → IsBusy new
+quiet-busy limit None old new r e q b = λ some. same-busy old.outbox new.outbox q.same (b (sym (q.stays e) ∙ some))
+quiet-busy limit (Some code) old new r e q b = cut-busy new (q.ends (rw e refl)).1
+
+goes-busy : (o : Option Link) (now : ℕ) (old new : Outbox) (sents : List Sent) → IsSome o → GoesOn (limit_of o) now old sents new → CannotSend new
+goes-busy None now old new sents some g = absurd (false≢true some)
+goes-busy (Some l) now old new sents some g = flush-busy now l.limit old new sents g
+
+queue-busy : (b : Bool) (old new : State) (d : Delivery) (now : ℕ) (r : Reaction) → QueueIf b old d now r new → IsBusy old → IsBusy new
+queue-busy true old new d now r q h = rw q.1 h
+queue-busy false old new d now r (inl q) h = rw q.left (λ some. goes-busy old.link now q.mid q.after q.sents some q.goes_on)
+queue-busy false old new d now r (inr q) h = rw q.left h
+
+handshake-busy : (limit : ℕ) (s new : State) (p : Packet) (now : ℕ) (r : Reaction) → HasLimit limit s.link → IsHandshake p now limit s r new → CannotSend s.outbox → CannotSend new.outbox
+handshake-busy limit s new (packets.Puback a) now r is p h = rw p.left (ack-busy p.answer _ a.identifier now limit s.outbox p.mid p.after p.sents p.takes p.goes_on h)
+handshake-busy limit s new (packets.Pubrec a) now r is p h = rec-busy p.answer limit s new a.identifier a.reason now p.mid r is p.takes p.goes_on h
+handshake-busy limit s new (packets.Pubcomp a) now r is p h = rw p.left (ack-busy p.answer _ a.identifier now limit s.outbox p.mid p.after p.sents p.takes p.goes_on h)
+handshake-busy limit s new p now r is t h = absurd t
+
+packet-busy : (o : Option Link) (old new : State) (p : Packet) (now : ℕ) (room : Bool) (r : Reaction) → old.link ≡ o → PacketIf (limit_of o) p now room old r new → IsBusy old → IsBusy new
+packet-busy None old new p now room r is h b = cut-busy new (rw h.1 is)
+packet-busy (Some l) old new p now room r is h b =
+    let before : CannotSend old.outbox = b (rw is refl) in
+    let limited = heard-limit l.limit now l old refl is in
+    elim (kinds p now room l.limit (heard old now) r new limited h) [
+      | inl q ↦ λ _. same-busy old.outbox new.outbox q.0.same before
+      | inr t ↦ λ _. handshake-busy l.limit (heard old now) new p now r limited t before
+    ]
+
+opens-busy : (b : Bool) (old new : State) (c : Connect) (p : Packet) (now : ℕ) (r : Reaction) → OpensIf b old c p now r new → IsBusy new
+opens-busy true old new c p now r h = rw h.left (λ some. flush-busy now (limit_in c.properties) (resumed_by old.outbox c) h.after h.sents h.flushes)
+opens-busy false old new c p now r h = cut-busy new (rw h.1 refl)
+
+busy-step : (old new : State) (e : Event) (r : Reaction) → Reacts old e r new → IsBusy old → IsBusy new
+busy-step old new (connects c continued now) r h b = opens-busy (fits (limit_in c.properties) (connack continued c.client old.kept.client)) old new c _ now r h.1
+busy-step old new (queues d now) r h b = queue-busy (is_once d.qos) old new d now r h b
+busy-step old new (takes p now room) r h b = packet-busy old.link old new p now room r refl h b
+busy-step old new (answers id codes) r h b = let w = own old.link in quiet-busy w.0 r.end old new r refl (quiet-answer old.link w.0 id codes old r new refl w.1 h) b
+busy-step old new (closes now) r h b = cut-busy new (rw h.1 refl)
+busy-step old new (ticks now) r h b = let w = own old.link in quiet-busy w.0 r.end old new r refl (quiet-tick w.0 now old r new w.1 h) b
+busy-step old new (finishes now) r h b = cut-busy new (rw h.1 refl)
+busy-step old new loses r h b = cut-busy new h.link
+
+busy-run : (old : State) (steps : List Step) (end : State) → Run old steps end → IsBusy old → IsBusy end
+busy-run old [] end r b = rw r b
+busy-run old (s ∷ ss) end r b = busy-run r.0 ss end r.2 (busy-step old r.0 s.event s.reaction r.1 b)
+
+pub keeps_busy : KeepsBusy
+keeps_busy = λ client steps end r. busy-run (new_session client) steps end r (λ some. absurd (false≢true some))

@@ -1,0 +1,69 @@
+-- What is sent first has the least identifier that is free.
+use Rattle.std.proofs.Common.{◌≡◌, ℕ, ◌<◌, ◌≤◌, false, List, [], ◌∷◌, Option, Some, None, IsSome, refl, ap, inl, inr}
+use Rattle.std.specs.List.{AllByRecursion}
+use Rattle.std.proofs.lemmas.Bool.{cases_Bool, both_ways}
+use Rattle.qos_handshakes.specs.Entries.{Entries, find_id}
+use Rattle.qos_handshakes.specs.Outbox.{Outbox, Sent, NextStep, waits, is_sendable, first_owed, after_resend, after_send}
+use Rattle.qos_handshakes.proofs.EntryLaws.{NoneOwed}
+use Rattle.handshake_laws.proofs.LaidLaws.{none-owed}
+use Rattle.handshake_laws.proofs.NumberLaws.{some-sent, least-next}
+use Rattle.handshake_laws.proofs.OrderLaws.{resent-dup}
+use Rattle.mqtt_sessions.specs.Sending.{SendsAll, Flushes}
+
+-- under a first send every lesser identifier is unfinished
+abbrev pub IsLeast : Entries → Sent → Type 0
+IsLeast es x = x.dup ≡ false → (k : ℕ) → 1 ≤ k → k < x.id → IsSome (find_id k es)
+
+-- ---- once no resend is owed, nothing ends while the queue goes on
+same-resent : (now limit : ℕ) (es : Entries) → NoneOwed es → after_resend now limit es ≡ es
+same-resent now limit [] h = refl
+same-resent now limit (e ∷ es) h = rw h.0 (ap (λ (t : Entries). e ∷ t) (same-resent now limit es h.1))
+
+owed-sent : (now limit id : ℕ) (es : Entries) → NoneOwed es → NoneOwed (after_send now limit id es)
+owed-sent now limit id [] h = tt
+owed-sent now limit id (e ∷ es) h = elim (cases_Bool (waits e.1.stage)) [
+  | inl t ↦ elim (cases_Bool (is_sendable now limit e.1.delivery)) [ inl g ↦ rw (t, g) (refl, h.1) | inr g ↦ rw (t, g) (owed-sent now limit id es h.1) ]
+  | inr t ↦ rw t (h.0, owed-sent now limit id es h.1)
+]
+
+none-first : (now limit : ℕ) (s : Sent) (es : Entries) → NoneOwed es → first_owed now limit es ≡ Some s → ⊥
+none-first now limit s [] h is = (cc is)
+none-first now limit s (e ∷ es) h is = none-first now limit s es h.1 (rw h.0 at is)
+
+abbrev Stays : ℕ → Outbox → Type 0
+Stays k o = NoneOwed o.copies × IsSome (find_id k o.copies)
+
+stays-sent : (k now limit id : ℕ) (es : Entries) → NoneOwed es → IsSome (find_id k es) → NoneOwed (after_send now limit id (after_resend now limit es)) × IsSome (find_id k (after_send now limit id (after_resend now limit es)))
+stays-sent k now limit id es h some = rw (same-resent now limit es h) (owed-sent now limit id es h, some-sent k now limit id es some)
+
+stays-next : (k now limit : ℕ) (a : Option Sent) (old new : Outbox) → NextStep now limit old a new → Stays k old → Stays k new
+stays-next k now limit None old new n h = elim n.step [
+  | inl t ↦ rw t.1 h
+  | inr t ↦ elim t [
+    | inl u ↦ rw (u.3, same-resent now limit old.copies h.0) h
+    | inr u ↦ rw u.3 (stays-sent k now limit 0 old.copies h.0 h.1)
+  ]
+]
+stays-next k now limit (Some s) old new (inl n) h = absurd (none-first now limit s old.copies h.0 n.sent)
+stays-next k now limit (Some s) old new (inr n) h = rw n.left (stays-sent k now limit s.id old.copies h.0 h.1)
+
+stays-all : (k now limit : ℕ) (old last : Outbox) (sents : List Sent) → SendsAll now limit old sents last → Stays k old → Stays k last
+stays-all k now limit old last [] all h = rw all h
+stays-all k now limit old last (s ∷ ss) all h = stays-all k now limit all.0 last ss all.2 (stays-next k now limit (Some s) old all.0 all.1 h)
+
+-- after a first send none is owed
+owed-first : (now limit : ℕ) (s : Sent) (old new : Outbox) → NextStep now limit old (Some s) new → s.dup ≡ false → NoneOwed new.copies
+owed-first now limit s old new (inl n) first = absurd (both_ways s.dup first (resent-dup now limit s old.copies n.sent))
+owed-first now limit s old new (inr n) first = rw n.left (owed-sent now limit s.id (after_resend now limit old.copies) (none-owed now limit old.copies n.none_owed))
+
+least-sends : (now limit : ℕ) (old last new : Outbox) (sents : List Sent) → SendsAll now limit old sents last → NextStep now limit last None new → AllByRecursion (IsLeast new.copies) sents
+least-sends now limit old last new [] all stops = tt
+least-sends now limit old last new (s ∷ ss) all stops = (
+  λ first k low less.
+      let there : Stays k all.0 = (owed-first now limit s old all.0 all.1 first, least-next now limit k old all.0 s all.1 first low less) in
+      (stays-next k now limit None last new stops (stays-all k now limit all.0 last ss all.2 there)).1,
+  least-sends now limit all.0 last new ss all.2 stops,
+)
+
+pub least-flushed : (now limit : ℕ) (old new : Outbox) (sents : List Sent) → Flushes now limit old sents new → AllByRecursion (IsLeast new.copies) sents
+least-flushed now limit old new sents f = least-sends now limit old f.last new sents f.sends f.stops

@@ -1,0 +1,16 @@
+pub mod QuietLaws
+pub mod SilenceLaws
+pub mod CallLaws
+pub mod ProjectLaws
+pub mod LiftLaws
+pub mod BusyLaws
+pub mod SizeLaws
+pub mod ReplyLaws
+pub mod ArrivalLaws
+pub mod LeastLaws
+pub mod ExchangeLaws
+pub mod ReleaseLaws
+pub mod ReleasedLaws
+pub mod FlyingLaws
+pub mod ElseLaws
+pub mod EventLaws

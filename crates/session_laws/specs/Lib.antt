@@ -1,0 +1,12 @@
+pub mod Runs
+pub mod Sends
+pub mod Silence
+pub mod Order
+pub mod Resends
+pub mod Numbers
+pub mod Sizes
+pub mod Replies
+pub mod Arrivals
+pub mod Exchanges
+pub mod Releases
+pub mod Quota
