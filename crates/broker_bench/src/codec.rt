@@ -1,7 +1,6 @@
 //! PUBLISH packets, read from a stream and written.
 
-use crate::stopwatch::Stopwatch;
-use anyhow::{Context as _, Result, ensure};
+use bench_clock::{Failure, Stopwatch, ensure};
 use mqtt_fields::identifier::{CONTENT_TYPE, MESSAGE_EXPIRY_INTERVAL};
 use mqtt_fields::{Properties, Property, Qos, Text, Value};
 use mqtt_packets::{Bytes, Framer, Packet, Publish, write_packet};
@@ -13,45 +12,65 @@ const PIECE: usize = 4096;
 /// The longest packet that is read.
 const LIMIT: usize = 1 << 20;
 
-fn text(alloc: Global, s: &str) -> Result<Text> {
-    Text::new(alloc, s).ok().context("no text")
+fn text(alloc: Global, s: &str) -> Result<Text, Failure> {
+    Text::new(alloc, s).ok().ok_or(Failure::Answer)
+}
+
+// A Message Expiry Interval.
+fn interval() -> Property {
+    Property {
+        id: MESSAGE_EXPIRY_INTERVAL,
+        value: Value::Four(60),
+    }
+}
+
+// A Content Type.
+fn content_type(alloc: Global) -> Result<Property, Failure> {
+    Ok(Property {
+        id: CONTENT_TYPE,
+        value: Value::Text(text(alloc, "text/plain")?),
+    })
+}
+
+fn push(properties: &mut Properties, property: Property) -> Result<(), Failure> {
+    Ok(properties.push(property)?)
 }
 
 // A Message Expiry Interval and a Content Type.
-fn two_properties(alloc: Global) -> Result<Properties> {
-    let mut properties = Properties::new(alloc);
-    let interval = Property {
-        id: MESSAGE_EXPIRY_INTERVAL,
-        value: Value::Four(60),
-    };
-    properties.push(interval).ok().context("no memory")?;
-    let kind = Property {
-        id: CONTENT_TYPE,
-        value: Value::Text(text(alloc, "text/plain")?),
-    };
-    properties.push(kind).ok().context("no memory")?;
-    Ok(properties)
+fn two_properties(alloc: Global, properties: &mut Properties) -> Result<(), Failure> {
+    push(properties, interval())?;
+    push(properties, content_type(alloc)?)
 }
 
-fn publish(alloc: Global, len: usize, properties: Properties) -> Result<Packet> {
+fn payload(alloc: Global, len: usize) -> Result<Bytes, Failure> {
+    Ok(Bytes::new(vec![in alloc; 0x61; len]?))
+}
+
+fn publish(alloc: Global, len: usize, properties: Properties) -> Result<Packet, Failure> {
+    let (Ok(topic), Ok(payload)) = (text(alloc, "sensors/12/temperature"), payload(alloc, len))
+    else {
+        return Err(Failure::Memory);
+    };
     Ok(Packet::Publish(Publish {
         dup: false,
         qos: Qos::AtLeastOnce,
         retain: false,
-        topic: text(alloc, "sensors/12/temperature")?,
+        topic,
         identifier: 7,
         properties,
-        payload: Bytes::new(vec![in alloc; 0x61; len]?),
+        payload,
     }))
 }
 
-fn write(alloc: Global, packet: &Packet, out: &mut Vec<u8>) -> Result<()> {
-    ensure!(packet.is_sound(), "not a packet");
-    write_packet(alloc, packet, out).ok().context("no memory")
+fn write(alloc: Global, packet: &Packet, out: &mut Vec<u8>) -> Result<(), Failure> {
+    if !packet.is_sound() {
+        return Err(Failure::Answer);
+    }
+    Ok(write_packet(alloc, packet, out)?)
 }
 
 // So many packets in a row.
-fn stream(alloc: Global, packet: &Packet, count: u64) -> Result<Vec<u8>> {
+fn stream(alloc: Global, packet: &Packet, count: u64) -> Result<Vec<u8>, Failure> {
     let mut stream = Vec::new(alloc);
     for _ in 0..count {
         write(alloc, packet, &mut stream)?;
@@ -59,72 +78,112 @@ fn stream(alloc: Global, packet: &Packet, count: u64) -> Result<Vec<u8>> {
     Ok(stream)
 }
 
+// How many packets the framer cuts off a piece.
+fn fed(framer: &mut Framer, piece: &[u8]) -> Result<u64, Failure> {
+    match framer.feed(piece) {
+        Ok(fed) if fed.fault.is_none() => Ok(fed.packets.len() as u64),
+        _ => Err(Failure::Answer),
+    }
+}
+
 // How many packets the framer cuts off the stream.
-fn feed(framer: &mut Framer, stream: &[u8]) -> Result<u64> {
+fn feed(framer: &mut Framer, stream: &[u8]) -> Result<u64, Failure> {
     let mut count = 0u64;
     for piece in stream.chunks(PIECE) {
-        let fed = framer.feed(piece).ok().context("not fed")?;
-        ensure!(fed.fault.is_none(), "not a packet");
-        count = count.saturating_add(fed.packets.len() as u64);
+        count = count.saturating_add(fed(framer, piece)?);
     }
     Ok(count)
 }
 
 // Reads the packets of a stream, so many times over.
-fn decode(rt: &HostRuntime, name: &str, packet: &Packet, count: u64, times: u64) -> Result<()> {
-    let stream = stream(rt.alloc(), packet, count)?;
+fn read(
+    rt: &HostRuntime,
+    name: &str,
+    stream: &[u8],
+    count: u64,
+    times: u64,
+) -> Result<(), Failure> {
     let mut framer = Framer::new(rt.alloc(), LIMIT);
     let watch = Stopwatch::start(rt)?;
     let mut packets = 0u64;
     let mut bytes = 0u64;
     for _ in 0..times {
-        packets = packets.saturating_add(feed(&mut framer, &stream)?);
+        packets = packets.saturating_add(feed(&mut framer, stream)?);
         bytes = bytes.saturating_add(stream.len() as u64);
     }
     watch.print_bytes(rt, name, packets, bytes)?;
-    ensure!(
-        packets == count.saturating_mul(times),
-        "not all of the packets"
-    );
-    Ok(())
+    ensure(packets == count.saturating_mul(times))
 }
 
-// Writes so many packets, of which the last ones stay.
-fn encode(rt: &HostRuntime, name: &str, packet: &Packet, count: u64) -> Result<()> {
-    ensure!(packet.is_sound(), "not a packet");
-    let mut out = Vec::with_capacity(rt.alloc(), 2 * LIMIT)?;
+fn decode(
+    rt: &HostRuntime,
+    name: &str,
+    packet: &Packet,
+    count: u64,
+    times: u64,
+) -> Result<(), Failure> {
+    let stream = stream(rt.alloc(), packet, count)?;
+    read(rt, name, stream.as_slice(), count, times)
+}
+
+// Writes so many packets, of which the last ones stay, and answers how many bytes there were.
+fn write_all(
+    alloc: Global,
+    packet: &Packet,
+    count: u64,
+    out: &mut Vec<u8>,
+) -> Result<u64, Failure> {
     let mut bytes = 0u64;
-    let watch = Stopwatch::start(rt)?;
     for _ in 0..count {
         if out.len() >= LIMIT {
             bytes = bytes.saturating_add(out.len() as u64);
             out.clear();
         }
-        write_packet(rt.alloc(), packet, &mut out)
-            .ok()
-            .context("no memory")?;
+        write(alloc, packet, out)?;
     }
-    bytes = bytes.saturating_add(out.len() as u64);
-    watch.print_bytes(rt, name, count, bytes)?;
-    Ok(())
+    Ok(bytes.saturating_add(out.len() as u64))
 }
 
-/// The figures of packets.
-pub fn run(rt: &HostRuntime) -> Result<()> {
-    let alloc = rt.alloc();
-    let plain = publish(alloc, 64, Properties::new(alloc))?;
-    let with_two = publish(alloc, 64, two_properties(alloc)?)?;
-    let long = publish(alloc, 65_536, Properties::new(alloc))?;
-    decode(rt, "decode of 64 bytes", &plain, 20_000, 10)?;
+fn encode(rt: &HostRuntime, name: &str, packet: &Packet, count: u64) -> Result<(), Failure> {
+    let mut out = Vec::with_capacity(rt.alloc(), 2 * LIMIT)?;
+    let watch = Stopwatch::start(rt)?;
+    let bytes = write_all(rt.alloc(), packet, count, &mut out)?;
+    Ok(watch.print_bytes(rt, name, count, bytes)?)
+}
+
+fn plain(rt: &HostRuntime) -> Result<(), Failure> {
+    let packet = publish(rt.alloc(), 64, Properties::new(rt.alloc()))?;
+    decode(rt, "decode of 64 bytes", &packet, 20_000, 10)?;
+    encode(rt, "encode of 64 bytes", &packet, 200_000)
+}
+
+fn with_properties(alloc: Global) -> Result<Packet, Failure> {
+    let mut properties = Properties::new(alloc);
+    two_properties(alloc, &mut properties)?;
+    publish(alloc, 64, properties)
+}
+
+fn with_two(rt: &HostRuntime) -> Result<(), Failure> {
+    let packet = with_properties(rt.alloc())?;
     decode(
         rt,
         "decode of 64 bytes, two properties",
-        &with_two,
+        &packet,
         20_000,
         10,
     )?;
-    decode(rt, "decode of 64 KiB", &long, 100, 20)?;
-    encode(rt, "encode of 64 bytes", &plain, 200_000)?;
-    encode(rt, "encode of 64 bytes, two properties", &with_two, 200_000)?;
-    encode(rt, "encode of 64 KiB", &long, 2000)
+    encode(rt, "encode of 64 bytes, two properties", &packet, 200_000)
+}
+
+fn long(rt: &HostRuntime) -> Result<(), Failure> {
+    let packet = publish(rt.alloc(), 65_536, Properties::new(rt.alloc()))?;
+    decode(rt, "decode of 64 KiB", &packet, 100, 20)?;
+    encode(rt, "encode of 64 KiB", &packet, 2000)
+}
+
+/// The figures of packets.
+pub fn run(rt: &HostRuntime) -> Result<(), Failure> {
+    plain(rt)?;
+    with_two(rt)?;
+    long(rt)
 }

@@ -4,23 +4,34 @@
 
 mod codec;
 mod contexts;
-mod stopwatch;
 mod stores;
 
-use anyhow::{Result, bail};
+use bench_clock::Failure;
+use std::io;
+use std::process::ExitCode;
 
-fn run(rt: &HostRuntime, part: &str) -> Result<()> {
+fn run(rt: &HostRuntime, part: &str) -> Result<(), Failure> {
     match part {
         "contexts" => contexts::run(rt),
         "store" => stores::run(rt),
         "codec" => codec::run(rt),
-        _ => bail!("the parts are contexts, store and codec"),
+        _ => Err(Failure::Part),
     }
 }
 
-fn main(rt: HostRuntime) -> Result<()> {
-    for part in std::env::args(&rt)?.skip(1) {
-        run(&rt, part.as_str())?;
+fn run_all(rt: &HostRuntime) -> Result<(), Failure> {
+    for part in std::env::args(rt)?.skip(1) {
+        run(rt, part.as_str())?;
     }
     Ok(())
+}
+
+fn main(rt: HostRuntime) -> io::Result<ExitCode> {
+    match run_all(&rt) {
+        Ok(()) => Ok(ExitCode::SUCCESS),
+        Err(failure) => {
+            rt.eprintln(failure.text())?;
+            Ok(ExitCode::from(1))
+        }
+    }
 }

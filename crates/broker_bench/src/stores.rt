@@ -1,7 +1,6 @@
 //! A store of many subscriptions and topics: what one change of it takes.
 
-use crate::stopwatch::Stopwatch;
-use anyhow::{Context as _, Result, ensure};
+use bench_clock::{Failure, Stopwatch, ensure};
 use causal_context::{Context, Dot, Lattice};
 use mqtt_fields::{SubscriptionOptions, Text};
 use mqtt_message::{Message, SharedMessage};
@@ -24,106 +23,154 @@ const MESSAGE: [u8; 24] = [
     0, 1, 0x74, 0, 0, 0, 2, 0x6f, 0x6e, 0, 0, 1, 0, 1, 0x61, 1, 0, 0, 0, 0, 0, 0, 0x17, 0x70,
 ];
 
-fn text(alloc: Global, word: &str, number: u64) -> Result<Text> {
+fn text(alloc: Global, word: &str, number: u64) -> Result<Text, Failure> {
     let spelled = format!(in alloc; "{word}/{number:07}")?;
-    Text::new(alloc, spelled.as_str()).ok().context("no text")
-}
-
-fn entry(alloc: Global, number: u64) -> Result<Entry> {
-    let filter = text(alloc, "f", number)?;
-    let filter = Filter::parse(alloc, filter.as_str())
+    Text::new(alloc, spelled.as_str())
         .ok()
-        .context("no filter")?;
-    let client = text(alloc, "c", number)?;
-    Entry::new(client, filter, SubscriptionOptions::of_byte(1), 0, 0).context("no entry")
+        .ok_or(Failure::Answer)
 }
 
-fn topic(alloc: Global, number: u64) -> Result<TopicName> {
+fn filter(alloc: Global, number: u64) -> Result<Filter, Failure> {
+    let text = text(alloc, "f", number)?;
+    Filter::parse(alloc, text.as_str())
+        .ok()
+        .ok_or(Failure::Answer)
+}
+
+fn entry(alloc: Global, number: u64) -> Result<Entry, Failure> {
+    let (Ok(client), Ok(filter)) = (text(alloc, "c", number), filter(alloc, number)) else {
+        return Err(Failure::Memory);
+    };
+    Entry::new(client, filter, SubscriptionOptions::of_byte(1), 0, 0).ok_or(Failure::Answer)
+}
+
+fn topic(alloc: Global, number: u64) -> Result<TopicName, Failure> {
     let name = text(alloc, "t", number)?;
     TopicName::parse(alloc, name.as_str())
         .ok()
-        .context("no topic")
+        .ok_or(Failure::Answer)
+}
+
+fn message(alloc: Global) -> Result<Message, Failure> {
+    match Message::read(alloc, &MESSAGE) {
+        Ok((message, _)) => Ok(message),
+        Err(_) => Err(Failure::Answer),
+    }
 }
 
 // The message, to the topic of this number.
-fn content(alloc: Global, number: u64) -> Result<Content> {
-    let (mut message, _) = Message::read(alloc, &MESSAGE).ok().context("no message")?;
-    message.topic = topic(alloc, number)?;
-    let shared = SharedMessage::new(alloc, message)
-        .ok()
-        .context("no memory")?;
-    Ok(Content::Set(shared))
+fn content(alloc: Global, number: u64) -> Result<Content, Failure> {
+    let topic = topic(alloc, number)?;
+    let mut message = message(alloc)?;
+    message.topic = topic;
+    Ok(Content::Set(SharedMessage::new(alloc, message)?))
+}
+
+fn dot(node: u16, number: u64) -> Result<Dot, Failure> {
+    Dot::new(node, number).ok_or(Failure::Answer)
 }
 
 // Of node 1.
-fn subscription(alloc: Global, number: u64) -> Result<Operation> {
+fn subscription(alloc: Global, number: u64) -> Result<Operation, Failure> {
+    let dot = dot(1, number)?;
+    let entry = entry(alloc, number)?;
     Ok(Operation::Subscribe {
-        dot: Dot::new(1, number).context("no such dot")?,
-        entry: entry(alloc, number)?,
+        dot,
+        entry,
         cover: Context::new(alloc),
     })
 }
 
 // Of node 2.
-fn put(alloc: Global, number: u64) -> Result<Operation> {
+fn put(alloc: Global, number: u64) -> Result<Operation, Failure> {
+    let dot = dot(2, number)?;
+    let content = content(alloc, number)?;
     Ok(Operation::Put {
-        dot: Dot::new(2, number).context("no such dot")?,
+        dot,
         stamp: Stamp {
             count: number,
             node: 2,
         },
-        content: content(alloc, number)?,
+        content,
     })
 }
 
-fn apply(store: &mut ReplicaStore, operation: &Operation) -> Result<()> {
-    store.apply(operation).ok().context("not applied")
+fn apply(store: &mut ReplicaStore, operation: &Operation) -> Result<(), Failure> {
+    store.apply(operation).ok().ok_or(Failure::Answer)
 }
 
-// The store of these numbers.
-fn part(alloc: Global, from: u64, to: u64) -> Result<ReplicaStore> {
-    let mut store = ReplicaStore::new(alloc);
+fn subscribe(alloc: Global, store: &mut ReplicaStore, number: u64) -> Result<(), Failure> {
+    let operation = subscription(alloc, number)?;
+    apply(store, &operation)
+}
+
+fn retain(alloc: Global, store: &mut ReplicaStore, number: u64) -> Result<(), Failure> {
+    let operation = put(alloc, number)?;
+    apply(store, &operation)
+}
+
+// Gives the store the operations of these numbers.
+fn fill(alloc: Global, store: &mut ReplicaStore, from: u64, to: u64) -> Result<(), Failure> {
     for number in from..to {
-        apply(&mut store, &subscription(alloc, number)?)?;
-        apply(&mut store, &put(alloc, number)?)?;
+        subscribe(alloc, store, number)?;
+        retain(alloc, store, number)?;
     }
-    Ok(store)
+    Ok(())
 }
 
-// The store of all, joined of parts.
-fn whole(alloc: Global) -> Result<ReplicaStore> {
-    let mut store = ReplicaStore::new(alloc);
+fn join(store: &mut ReplicaStore, other: &ReplicaStore) -> Result<(), Failure> {
+    store.join(other).ok().ok_or(Failure::Memory)
+}
+
+// Joins a store of these numbers.
+fn join_part(alloc: Global, store: &mut ReplicaStore, from: u64, to: u64) -> Result<(), Failure> {
+    let mut part = ReplicaStore::new(alloc);
+    fill(alloc, &mut part, from, to)?;
+    join(store, &part)
+}
+
+// Makes an empty store the one of all, joined of parts.
+fn fill_whole(rt: &HostRuntime, store: &mut ReplicaStore) -> Result<(), Failure> {
+    let watch = Stopwatch::start(rt)?;
     for place in 0..MOST / PART {
         let from = 1 + place * PART;
-        let part = part(alloc, from, from + PART)?;
-        store.join(&part).ok().context("not joined")?;
+        join_part(rt.alloc(), store, from, from + PART)?;
     }
-    ensure!(
-        store.subscriptions().entries().len() == 100_000,
-        "other subscriptions"
-    );
-    ensure!(store.retained().len() == 100_000, "other topics");
-    Ok(store)
+    watch.print(rt, "store, made of operations", 2 * MOST)?;
+    ensure(store.subscriptions().entries().len() == 100_000)?;
+    ensure(store.retained().len() == 100_000)
 }
 
-fn make_subscribes(rt: &HostRuntime, store: &ReplicaStore) -> Result<()> {
-    let watch = Stopwatch::start(rt)?;
-    for number in 0..TIMES {
-        let entry = entry(rt.alloc(), number * 1000)?;
-        let _made = store.make_subscribe(1, entry).ok().context("not made")?;
+fn make_subscribe(alloc: Global, store: &ReplicaStore, number: u64) -> Result<(), Failure> {
+    let entry = entry(alloc, number)?;
+    match store.make_subscribe(1, entry) {
+        Ok(_) => Ok(()),
+        Err(_) => Err(Failure::Memory),
     }
-    watch.print(rt, "store, make_subscribe", TIMES)?;
-    Ok(())
 }
 
-fn make_puts(rt: &HostRuntime, store: &ReplicaStore) -> Result<()> {
+fn make_put(alloc: Global, store: &ReplicaStore, number: u64) -> Result<(), Failure> {
+    let content = content(alloc, number)?;
+    match store.make_put(2, content) {
+        Ok(_) => Ok(()),
+        Err(_) => Err(Failure::Memory),
+    }
+}
+
+fn make_subscribes(rt: &HostRuntime, store: &ReplicaStore) -> Result<(), Failure> {
     let watch = Stopwatch::start(rt)?;
     for number in 0..TIMES {
-        let content = content(rt.alloc(), number * 1000)?;
-        let _made = store.make_put(2, content).ok().context("not made")?;
+        make_subscribe(rt.alloc(), store, number * 1000)?;
     }
-    watch.print(rt, "store, make_put", TIMES)?;
-    Ok(())
+    Ok(watch.print(rt, "store, make_subscribe", TIMES)?)
+}
+
+fn make_puts(rt: &HostRuntime, store: &ReplicaStore) -> Result<(), Failure> {
+    let watch = Stopwatch::start(rt)?;
+    for number in 0..TIMES {
+        make_put(rt.alloc(), store, number * 1000)?;
+    }
+    Ok(watch.print(rt, "store, make_put", TIMES)?)
 }
 
 fn applies(
@@ -131,94 +178,152 @@ fn applies(
     store: &mut ReplicaStore,
     name: &str,
     operations: &[Operation],
-) -> Result<()> {
+) -> Result<(), Failure> {
     let watch = Stopwatch::start(rt)?;
     for operation in operations {
         apply(store, operation)?;
     }
-    watch.print(rt, name, operations.len() as u64)?;
-    Ok(())
+    Ok(watch.print(rt, name, operations.len() as u64)?)
 }
 
-fn deltas(rt: &HostRuntime, operations: &[Operation]) -> Result<Vec<ReplicaStore>> {
+fn delta(alloc: Global, operation: &Operation) -> Result<ReplicaStore, Failure> {
+    delta_of(alloc, operation).ok().ok_or(Failure::Memory)
+}
+
+fn add_deltas(
+    rt: &HostRuntime,
+    operations: &[Operation],
+    deltas: &mut Vec<ReplicaStore>,
+) -> Result<(), Failure> {
     let watch = Stopwatch::start(rt)?;
-    let mut deltas = Vec::new(rt.alloc());
     for operation in operations {
-        let delta = delta_of(rt.alloc(), operation).ok().context("no delta")?;
-        deltas.push(delta)?;
+        deltas.push(delta(rt.alloc(), operation)?)?;
     }
-    watch.print(rt, "store, delta_of", operations.len() as u64)?;
-    Ok(deltas)
+    Ok(watch.print(rt, "store, delta_of", operations.len() as u64)?)
 }
 
-fn joins(rt: &HostRuntime, store: &mut ReplicaStore, deltas: &[ReplicaStore]) -> Result<()> {
+fn join_all(
+    rt: &HostRuntime,
+    store: &mut ReplicaStore,
+    deltas: &[ReplicaStore],
+) -> Result<(), Failure> {
     let watch = Stopwatch::start(rt)?;
     for delta in deltas {
-        store.join(delta).ok().context("not joined")?;
+        join(store, delta)?;
     }
-    watch.print(rt, "store, join of a delta", deltas.len() as u64)?;
-    Ok(())
+    Ok(watch.print(rt, "store, join of a delta", deltas.len() as u64)?)
 }
 
-fn subscriptions(alloc: Global, from: u64) -> Result<Vec<Operation>> {
-    let mut operations = Vec::new(alloc);
+fn add_subscriptions(
+    alloc: Global,
+    from: u64,
+    operations: &mut Vec<Operation>,
+) -> Result<(), Failure> {
     for number in from..from.saturating_add(TIMES) {
         operations.push(subscription(alloc, number)?)?;
     }
-    Ok(operations)
-}
-
-fn puts(alloc: Global, from: u64) -> Result<Vec<Operation>> {
-    let mut operations = Vec::new(alloc);
-    for number in from..from.saturating_add(TIMES) {
-        operations.push(put(alloc, number)?)?;
-    }
-    Ok(operations)
-}
-
-// A store of retained messages alone, put in falling order of their topics.
-fn falling(rt: &HostRuntime) -> Result<ReplicaStore> {
-    let mut store = ReplicaStore::new(rt.alloc());
-    let watch = Stopwatch::start(rt)?;
-    for number in (1..=MOST).rev() {
-        apply(&mut store, &put(rt.alloc(), number)?)?;
-    }
-    watch.print(rt, "store, apply of a Put in falling order of topics", MOST)?;
-    ensure!(store.retained().messages() == 100_000, "other topics");
-    Ok(store)
-}
-
-// What a whole state of 100,000 retained messages takes.
-fn wholes(rt: &HostRuntime, store: &ReplicaStore) -> Result<()> {
-    let watch = Stopwatch::start(rt)?;
-    let copy = store.copy().ok().context("not copied")?;
-    watch.print(rt, "store, copy of 100000 retained messages", 1)?;
-    let mut empty = ReplicaStore::new(rt.alloc());
-    let watch = Stopwatch::start(rt)?;
-    empty.join(&copy).ok().context("not joined")?;
-    watch.print(rt, "store, join of 100000 into an empty store", 1)?;
-    let watch = Stopwatch::start(rt)?;
-    empty.join(&copy).ok().context("not joined")?;
-    watch.print(rt, "store, join of 100000 that are there", 1)?;
-    ensure!(empty.retained().messages() == 100_000, "other topics");
     Ok(())
 }
 
-/// The figures of a store.
-pub fn run(rt: &HostRuntime) -> Result<()> {
-    let alloc = rt.alloc();
+fn add_puts(alloc: Global, from: u64, operations: &mut Vec<Operation>) -> Result<(), Failure> {
+    for number in from..from.saturating_add(TIMES) {
+        operations.push(put(alloc, number)?)?;
+    }
+    Ok(())
+}
+
+fn subscribes(rt: &HostRuntime, store: &mut ReplicaStore) -> Result<(), Failure> {
+    let mut more = Vec::new(rt.alloc());
+    add_subscriptions(rt.alloc(), MOST + 1, &mut more)?;
+    applies(rt, store, "store, apply of a Subscribe", &more)
+}
+
+fn puts(rt: &HostRuntime, store: &mut ReplicaStore) -> Result<(), Failure> {
+    let mut more = Vec::new(rt.alloc());
+    add_puts(rt.alloc(), MOST + 1, &mut more)?;
+    applies(rt, store, "store, apply of a Put", &more)
+}
+
+fn deltas(
+    rt: &HostRuntime,
+    operations: &[Operation],
+    store: &mut ReplicaStore,
+) -> Result<(), Failure> {
+    let mut deltas = Vec::new(rt.alloc());
+    add_deltas(rt, operations, &mut deltas)?;
+    join_all(rt, store, &deltas)
+}
+
+fn joins(rt: &HostRuntime, store: &mut ReplicaStore) -> Result<(), Failure> {
+    let mut more = Vec::new(rt.alloc());
+    add_subscriptions(rt.alloc(), 2 * MOST, &mut more)?;
+    deltas(rt, &more, store)
+}
+
+// Gives an empty store retained messages alone, put in falling order of their topics.
+fn fill_falling(rt: &HostRuntime, store: &mut ReplicaStore) -> Result<(), Failure> {
     let watch = Stopwatch::start(rt)?;
-    let mut store = whole(alloc)?;
-    watch.print(rt, "store, made of operations", 2 * MOST)?;
-    make_subscribes(rt, &store)?;
-    make_puts(rt, &store)?;
-    let more = subscriptions(alloc, MOST + 1)?;
-    applies(rt, &mut store, "store, apply of a Subscribe", &more)?;
-    let more = puts(alloc, MOST + 1)?;
-    applies(rt, &mut store, "store, apply of a Put", &more)?;
-    let more = subscriptions(alloc, 2 * MOST)?;
-    let deltas = deltas(rt, &more)?;
-    joins(rt, &mut store, &deltas)?;
-    let store = falling(rt)?;
-    wholes(rt, &store)
+    for number in (1..=MOST).rev() {
+        retain(rt.alloc(), store, number)?;
+    }
+    watch.print(rt, "store, apply of a Put in falling order of topics", MOST)?;
+    ensure(store.retained().messages() == 100_000)
+}
+
+fn copy(rt: &HostRuntime, store: &ReplicaStore) -> Result<ReplicaStore, Failure> {
+    let watch = Stopwatch::start(rt)?;
+    let Ok(copy) = store.copy() else {
+        return Err(Failure::Memory);
+    };
+    match watch.print(rt, "store, copy of 100000 retained messages", 1) {
+        Ok(()) => Ok(copy),
+        Err(_) => Err(Failure::Outside),
+    }
+}
+
+fn join_whole(
+    rt: &HostRuntime,
+    store: &mut ReplicaStore,
+    other: &ReplicaStore,
+    name: &str,
+) -> Result<(), Failure> {
+    let watch = Stopwatch::start(rt)?;
+    join(store, other)?;
+    Ok(watch.print(rt, name, 1)?)
+}
+
+// What a whole state of 100,000 retained messages takes.
+fn wholes(rt: &HostRuntime, store: &ReplicaStore, empty: &mut ReplicaStore) -> Result<(), Failure> {
+    let copy = copy(rt, store)?;
+    join_whole(
+        rt,
+        empty,
+        &copy,
+        "store, join of 100000 into an empty store",
+    )?;
+    join_whole(rt, empty, &copy, "store, join of 100000 that are there")?;
+    ensure(empty.retained().messages() == 100_000)
+}
+
+fn of_all(rt: &HostRuntime, store: &mut ReplicaStore) -> Result<(), Failure> {
+    fill_whole(rt, store)?;
+    make_subscribes(rt, store)?;
+    make_puts(rt, store)?;
+    subscribes(rt, store)?;
+    puts(rt, store)?;
+    joins(rt, store)
+}
+
+fn of_messages(rt: &HostRuntime, store: &mut ReplicaStore) -> Result<(), Failure> {
+    fill_falling(rt, store)?;
+    let mut empty = ReplicaStore::new(rt.alloc());
+    wholes(rt, store, &mut empty)
+}
+
+/// The figures of a store.
+pub fn run(rt: &HostRuntime) -> Result<(), Failure> {
+    let mut store = ReplicaStore::new(rt.alloc());
+    of_all(rt, &mut store)?;
+    let mut store = ReplicaStore::new(rt.alloc());
+    of_messages(rt, &mut store)
 }
