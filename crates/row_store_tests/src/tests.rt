@@ -1,6 +1,7 @@
 //! The example of docs/rows.md in memory and in a database, and the databases that aren't adopted.
 
-use session_records::{Change, MemoryRows, Row, RowFault, RowStore, SqlRows};
+use row_store::{Change, MemoryRows, Row, RowFault, RowStore};
+use session_records::SqlRows;
 use sqlite::{Alter, Connection, Error};
 use sqlite_trees::memory::MemStore;
 use std::alloc::{AllocError, Global};

@@ -12,8 +12,8 @@ use Rattle.sqlite_value.proofs.OrderLemmas.{value_cmp_total}
 use Rattle.sqlite_trees.specs.Tree.{Trees, rowid, IsAscending}
 use Rattle.sqlite_sql.specs.Query.{IsAnswer, Output, output, matches}
 use Rattle.session_records.proofs.Means.{numbered}
-use Rattle.session_records.proofs.CellLemmas.{one_later}
-use Rattle.session_records.proofs.Neighbours.{any_default}
+use Rattle.row_store.proofs.CellLemmas.{one_later}
+use Rattle.row_store.proofs.Neighbours.{any_default}
 use Rattle.session_records.specs.Stored.{AreTyped, IsFormedRow, HasForm, AreNumbered}
 
 -- a row as the query shows it

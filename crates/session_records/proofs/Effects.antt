@@ -22,7 +22,7 @@ use Rattle.sqlite.specs.Listing.{understood}
 use Rattle.sqlite.specs.Effect.{Database}
 use Rattle.sqlite.specs.State.{State, mode_of, Writes, Executes, ExecutesInside, KeepsCommit, IsUnchanged, IsRolledBack}
 use Rattle.std.specs.FinMap.{same_map, get-insert, get-remove}
-use Rattle.session_records.proofs.Lists.{keys_total, exact_keys}
+use Rattle.row_store.proofs.Keys.{keys_total, exact_keys}
 use Rattle.std.specs.Ordering.{eq_by_cmp}
 use Rattle.std.specs.Cmp.{eq_by_cmp_equiv}
 use Rattle.sqlite.specs.Held.{Held, state}
@@ -44,7 +44,7 @@ use Rattle.session_records.specs.Table.{rows_table, rows_schema}
 use Rattle.session_records.proofs.Means.{erase_text, erase_is, erase_plain, hits, tests, put_text, put_is, put_plain, terms}
 use Rattle.session_records.proofs.Lists.{given_key, hit, erased, taken_out, rows_left, rows_put, put_in}
 use Rattle.session_records.specs.Connections.{GoesOn}
-use Rattle.session_records.specs.Rows.{key_cmp, Key, Content}
+use Rattle.row_store.specs.Rows.{key_cmp, Key, Content}
 use Rattle.session_records.specs.Stored.{content_in, AreRows, IsFormed, held}
 
 -- a part that gave a value did not stop on the way

@@ -8,7 +8,7 @@ use Rattle.sqlite_value.specs.Order.{Row, column, value_cmp}
 use Rattle.sqlite_value.proofs.OrderLemmas.{value_cmp-Int}
 use Rattle.sqlite_trees.specs.Tree.{rowid}
 use Rattle.session_records.specs.Stored.{HasForm, HaveIds, IsInt}
-use Rattle.session_records.proofs.Neighbours.{here, side_by_side}
+use Rattle.row_store.proofs.Neighbours.{here, side_by_side}
 
 pub below : (a b : ℤ) (v w : Value) → v ≡ Int a → w ≡ Int b → int_cmp a b ≡ Less → value_cmp v w ≡ Less
 below a b v w is at low = subst₂ (λ x y. value_cmp x y ≡ Less) (sym is) (sym at) (value_cmp-Int a b ∙ low)

@@ -1,10 +1,7 @@
-pub mod Neighbours
 pub mod Means
 pub mod Lists
 pub mod Effects
 pub mod Updates
-pub mod CellLemmas
-pub mod Sorted
 pub mod Loads
 pub mod Orders
 pub mod Adopts

@@ -2,11 +2,10 @@
 use Rattle.std.proofs.Common.{◌≡◌, ◌≢◌, ◌⊎◌, inl, inr, ℕ, ℤ, pos, List, [], ◌∷◌, map, filter, Bool, true, false, not, ◌&&◌, ◌||◌, cond, Option, Some, None, Ordering, Less, Equal, Greater, refl, sym, ap, subst, ◌∙◌, true≢false}
 use Rattle.std.specs.List.{AllByRecursion, list_any, list_all}
 use Rattle.std.specs.Ordering.{is_eq, eq_by_cmp, nat_cmp, int_cmp, ordering_then, match_ordering}
-use Rattle.std.specs.Cmp.{IsTotalOrder, nat_cmp_total, then_total, on_total, eq_by_cmp_equiv}
-use Rattle.std.specs.Cmp.Lexicographic.{slice_cmp, nat_list_cmp_total}
-use Rattle.std.specs.FinMap.{IsAntisymmetric, find, get, insert, remove, get-from_entries, get-insert, get-remove, same_map}
+use Rattle.std.specs.Cmp.{eq_by_cmp_equiv}
+use Rattle.std.specs.Cmp.Lexicographic.{slice_cmp}
+use Rattle.std.specs.FinMap.{find, get, insert, remove, get-from_entries, get-insert, get-remove, same_map}
 use Rattle.std.specs.FinMap.Entries.{where_key, find-where_key}
-use Rattle.std.proofs.lemmas.Map.Lookups.{exact_unsigned, exact_bytes, exact_pairs}
 use Rattle.std.proofs.Common.{arith}
 use Rattle.std.proofs.lemmas.Int.{ints}
 use Rattle.std.proofs.lemmas.Bool.Decides.{nat_tests}
@@ -26,15 +25,10 @@ use Rattle.sqlite_rules.specs.Edit.{id_in, without_all, is_taken}
 use Rattle.sqlite_rules.specs.Probe.{AreFound}
 use Rattle.sqlite_rules.proofs.ProbeLemmas.{has_mapped, mapped_has}
 use Rattle.std.specs.Cmp.{tied_itself, tied_back}
+use Rattle.row_store.proofs.Keys.{keys_total, exact_keys, equal_is}
 use Rattle.session_records.proofs.Means.{tests}
-use Rattle.session_records.specs.Rows.{Key, key_cmp}
+use Rattle.row_store.specs.Rows.{Key, key_cmp}
 use Rattle.session_records.specs.Stored.{IsStored, IsFormedRow, key_in, entry_in, content_in, AreRows}
-
-pub keys_total : IsTotalOrder key_cmp
-keys_total = then_total (on_total (λ k. k.0) nat_cmp_total) (then_total (on_total (λ k. k.1.0) nat_list_cmp_total) (on_total (λ k. k.1.1) nat_list_cmp_total))
-
-pub exact_keys : IsAntisymmetric key_cmp
-exact_keys = exact_pairs nat_cmp _ exact_unsigned (exact_pairs (slice_cmp nat_cmp) (slice_cmp nat_cmp) exact_bytes exact_bytes)
 
 -- the row is at the key
 abbrev pub hit : Key → Row → Bool
@@ -155,11 +149,6 @@ one_row (r ∷ rows) a b up (inl h) (inl k) tie = h ∙ sym k
 one_row (r ∷ rows) a b up (inl h) (inr k) tie = absurd (each _ rows b up.0 k (subst (λ x. value_cmp (rowid x) (rowid b) ≡ Equal) h tie))
 one_row (r ∷ rows) a b up (inr h) (inl k) tie = absurd (each _ rows a up.0 h (tied_back value_cmp_total (rowid a) (rowid r) (subst (λ x. value_cmp (rowid a) (rowid x) ≡ Equal) k tie)))
 one_row (r ∷ rows) a b up (inr h) (inr k) tie = one_row rows a b up.1 h k tie
-
-pub equal_is : (o : Ordering) → is_eq o ≡ true → o ≡ Equal
-equal_is Less h = absurd (cc)
-equal_is Equal h = refl
-equal_is Greater h = absurd (cc)
 
 id_of : (r : Row) → IsFormedRow r → rowid r ≡ Int (id_in (rowid r))
 id_of r (id, k, v, is) = rw is.id_is refl

@@ -15,13 +15,13 @@ use Rattle.std.specs.FinMap.{entries, is_sorted}
 use Rattle.sqlite.specs.State.{Survives, CommitsShowing}
 use Rattle.sqlite.proofs.Callers.{IsPlain, reads_as, never_commits}
 use Rattle.session_records.specs.Table.{rows_schema}
-use Rattle.session_records.proofs.Sorted.{entries_moved}
+use Rattle.row_store.proofs.Sorted.{entries_moved}
 use Rattle.session_records.proofs.Adopts.{rows_of}
 use Rattle.session_records.proofs.Means.{all_text, all_is, all_plain, all, numbered_text, numbered_is, numbered_plain}
 use Rattle.session_records.specs.Connections.{IsKept, Stays, IsSameAs}
-use Rattle.session_records.specs.Rows.{Key, key_cmp, entry_of}
-use Rattle.session_records.specs.declared.row.Row.{Row as OwnRow}
-use Rattle.session_records.specs.declared.store.RowFault.{RowFault}
+use Rattle.row_store.specs.Rows.{Key, key_cmp, entry_of}
+use Rattle.row_store.specs.declared.row.Row.{Row as OwnRow}
+use Rattle.row_store.specs.declared.store.RowFault.{RowFault}
 use Rattle.session_records.specs.Stored.{content_in, entry_in, entry_shown, IsFormed, held, AreNumbered, AreTyped}
 
 -- ---- what the query shows

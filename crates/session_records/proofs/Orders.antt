@@ -23,13 +23,13 @@ use Rattle.sqlite.specs.State.{State, Shown}
 use Rattle.sqlite.proofs.Callers.{reads_as}
 use Rattle.std.specs.Map.{keys_of}
 use Rattle.session_records.specs.Connections.{Adopts, IsSameAs}
-use Rattle.session_records.specs.Rows.{Key, key_cmp}
+use Rattle.row_store.specs.Rows.{Key, key_cmp}
 use Rattle.session_records.specs.Table.{rows_schema}
 use Rattle.session_records.specs.Stored.{IsFormedRow, IsShown, HasForm, HaveIds, AreNumbered, AreRows, AreTyped, IsFormed, held, key_in, entry_in, entry_shown}
 use Rattle.session_records.proofs.Means.{all_text, all_is, all_plain, all, numbered_text, numbered_is, numbered_plain, numbered}
-use Rattle.session_records.proofs.Lists.{keys_total}
-use Rattle.session_records.proofs.CellLemmas.{one_later}
-use Rattle.session_records.proofs.Sorted.{rising_sorted, sorted_apart}
+use Rattle.row_store.proofs.Keys.{keys_total}
+use Rattle.row_store.proofs.CellLemmas.{one_later}
+use Rattle.row_store.proofs.Sorted.{rising_sorted, sorted_apart}
 use Rattle.session_records.proofs.Adopts.{shown, answer_shown, apart_distinct, all_numbered}
 use Rattle.session_records.proofs.Loads.{same_listed, all_kept}
 

@@ -34,11 +34,12 @@ use Rattle.sqlite_rules.specs.Lists.{Has}
 use Rattle.sqlite_rules.specs.Calls.{ids_of}
 use Rattle.sqlite_rules.specs.Probe.{AreFound}
 use Rattle.session_records.specs.Connections.{HasUpdated}
-use Rattle.session_records.specs.Rows.{Key, key_cmp}
+use Rattle.row_store.specs.Rows.{Key, key_cmp}
 use Rattle.session_records.specs.Stored.{IsStored, IsFormedRow, AreRows, IsFormed, content_in, held, key_in}
 use Rattle.session_records.specs.Table.{rows_table, rows_schema}
 use Rattle.session_records.proofs.Means.{tests, changed, update_text, update_is, update_plain}
-use Rattle.session_records.proofs.Lists.{keys_total, exact_keys, equal_is, given_key, hit, test_is, erased, taken_out, rows_left, rows_put, put_in, each, Found}
+use Rattle.row_store.proofs.Keys.{keys_total, exact_keys, equal_is}
+use Rattle.session_records.proofs.Lists.{given_key, hit, test_is, erased, taken_out, rows_left, rows_put, put_in, each, Found}
 use Rattle.session_records.proofs.Effects.{given_row, stored, went, same_value, either, insert_over, absent, Refused}
 
 -- ---- at most one row is at a key

@@ -4,7 +4,7 @@ use Rattle.std.specs.FinMap.{empty, get, insert}
 use Rattle.sqlite_trees.specs.Tree.{Trees}
 use Rattle.sqlite.specs.Effect.{Database}
 use Rattle.sqlite.specs.State.{State, HasCleanDisk, Shows}
-use Rattle.session_records.specs.Rows.{Content, Key}
+use Rattle.row_store.specs.Rows.{Content, Key}
 use Rattle.session_records.specs.Stored.{AreRows, IsFormed, content_in, held}
 use Rattle.session_records.specs.Table.{no_schema}
 

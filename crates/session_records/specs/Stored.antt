@@ -9,7 +9,7 @@ use Rattle.sqlite_value.specs.declared.value.Value.TheVariants.{Int, Blob}
 use Rattle.sqlite_value.specs.Order.{Row, column, bytes, value_cmp}
 use Rattle.sqlite_trees.specs.Tree.{rowid, IsAscending}
 use Rattle.sqlite.specs.Effect.{Database}
-use Rattle.session_records.specs.Rows.{Key, Content, key_cmp}
+use Rattle.row_store.specs.Rows.{Key, Content, key_cmp}
 use Rattle.session_records.specs.Table.{rows_schema}
 
 -- the columns of a row of the table: the rowid, the kind, which is a byte, the owner, the place, the value

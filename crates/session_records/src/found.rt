@@ -1,16 +1,14 @@
 //! Rows as a database gives them.
-ghost use Rattle.std.specs.Prelude.{◌≡◌, ◌≢◌, ◌↔◌, Err, map, pos, T, IfOk, IsTrue, MatchOption};
-ghost use Rattle.std.specs.FinMap.{is_sorted};
+ghost use Rattle.std.specs.Prelude.{◌≡◌, ◌≢◌, ◌↔◌, Err, map, pos, IfOk, IsTrue, MatchOption};
 ghost use Rattle.std.specs.List.{All};
 ghost use Rattle.std.specs.declared.cmp.Ordering.TheVariants.{Less};
 ghost use Rattle.sqlite_value.specs.declared.value.Value.TheVariants.{Int, Blob};
 ghost use Rattle.sqlite_value.specs.Order.{column, value_cmp};
 ghost use Rattle.sqlite_trees.specs.Tree.{rowid};
-ghost use Rattle.session_records.specs.Rows.{entry_of, key_cmp, key_of};
+ghost use Rattle.row_store.specs.Rows.{entry_of};
 ghost use Rattle.session_records.specs.Stored.{entry_shown, IsBlob, IsByte, IsInt, IsShown, HasForm, HaveIds, AreNumbered};
 
-use crate::row::Row;
-use crate::store::RowFault;
+use row_store::{Row, RowFault};
 use sqlite::Row as Found;
 use sqlite_value::value::ValueRef;
 use std::alloc::{AllocError, Global};
@@ -97,24 +95,6 @@ pub fn read_rows(alloc: Global, found: &[Found]) -> Result<Vec<Row>, RowFault>
         }
     }
     Ok(rows)
-}
-
-fn is_below(low: &Row, high: &Row) -> bool
-    ensures { IsTrue result ↔ (key_cmp (key_of low.now) (key_of high.now) ≡ Less) }
-{
-    low.compare_keys(high) == Ordering::Less
-}
-
-/// Whether each key is above the one before it.
-pub fn are_rising(rows: &[Row]) -> bool
-    ensures { IsTrue result ↔ T (is_sorted key_cmp (map entry_of rows.now)) }
-{
-    for i in 1..rows.len() {
-        if !is_below(&rows[i - 1], &rows[i]) {
-            return false;
-        }
-    }
-    true
 }
 
 fn is_above(low: &Found, high: &Found) -> bool

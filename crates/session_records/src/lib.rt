@@ -1,16 +1,10 @@
-//! Stores of rows: a map from keys to bytes that is changed whole, in memory or in a table of a SQL
-//! database.
+//! A store of rows in a table of a SQL database, beside the rows of `row_store`.
 #![tactic(auto)]
 
 mod found;
-pub mod memory;
-pub mod row;
 mod schema;
 pub mod sql;
 mod statements;
-pub mod store;
 
-pub use memory::MemoryRows;
-pub use row::{Change, Row};
+pub use row_store::{Change, MemoryRows, Row, RowFault, RowStore};
 pub use sql::SqlRows;
-pub use store::{RowFault, RowStore};

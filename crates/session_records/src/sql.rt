@@ -7,15 +7,14 @@ ghost use Rattle.sqlite.specs.Held.{state};
 ghost use Rattle.sqlite.specs.State.{HasCleanDisk, Survives};
 ghost use Rattle.sqlite.specs.View.{doubt};
 ghost use Rattle.session_records.specs.Connections.{Adopts, IsForeign, IsSameAs, Leaves, Stays};
-ghost use Rattle.session_records.specs.Rows.{Content, entry_of, key_cmp};
+ghost use Rattle.row_store.specs.Rows.{Content, entry_of, key_cmp};
 ghost use Rattle.session_records.specs.Stored.{IsFormed, content_in, entry_in, held};
 ghost use Rattle.session_records.specs.Table.{rows_schema};
 
-use crate::found::{are_rising, read_rows};
-use crate::row::{Change, Row};
+use crate::found::read_rows;
 use crate::schema::{is_blank, is_ours};
 use crate::statements::{commit_changes, has_form, make_table, query_rows};
-use crate::store::{RowFault, RowStore};
+use row_store::{Change, Row, RowFault, RowStore, are_rising};
 use sqlite::{Alter, Connection, Error, ErrorCode};
 use std::marker::Model;
 

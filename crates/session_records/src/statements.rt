@@ -9,12 +9,12 @@ ghost use Rattle.sqlite.specs.Listing.{understood};
 ghost use Rattle.sqlite.specs.State.{HasCleanDisk, KeepsCommit, Shown, Survives};
 ghost use Rattle.sqlite.specs.View.{doubt};
 ghost use Rattle.session_records.specs.Connections.{Becomes, Commits, GoesOn, HasUpdated, IsBegun, IsSameAs, Stays};
-ghost use Rattle.session_records.specs.Rows.{after, after_all, key_cmp};
+ghost use Rattle.row_store.specs.Rows.{after, after_all, key_cmp};
 ghost use Rattle.session_records.specs.Stored.{AreTyped, IsFormed, IsShown, entry_in, entry_shown, held};
 ghost use Rattle.session_records.specs.Table.{no_schema, rows_schema};
 
 use crate::found::are_rows;
-use crate::row::Change;
+use row_store::Change;
 use sqlite::{Alter, Connection, Error, Row as Found, Transaction, params};
 
 fn erase_row<S: Alter>(

@@ -1,7 +1,7 @@
 use Rattle.std.proofs.Common.{rules, true≢false, sym, ◌∙◌}
 use Rattle.session_records.specs.Stored.{HasForm}
 use Rattle.session_records.proofs.Adopts.{next_formed}
-use Rattle.session_records.proofs.Neighbours.{here}
+use Rattle.row_store.proofs.Neighbours.{here}
 use Rattle.session_records.proofs.found.have_form.Goals as goal
 
 pub loop-row-preserved : goal.loop-row-preserved

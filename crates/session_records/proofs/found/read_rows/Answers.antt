@@ -1,6 +1,6 @@
 use Rattle.std.proofs.Common.{rules}
 use Rattle.session_records.specs.Stored.{IsShown}
-use Rattle.session_records.proofs.Neighbours.{here}
+use Rattle.row_store.proofs.Neighbours.{here}
 use Rattle.session_records.proofs.found.read_rows.Goals as goal
 
 pub returns-in-Err-clause-formed : goal.returns-in-Err-clause-formed

@@ -1,6 +1,6 @@
 use Rattle.std.proofs.Common.{◌≡◌, map, take}
 use Rattle.session_records.proofs.found.read_rows.Given as goal
-use Rattle.session_records.specs.Rows.{entry_of}
+use Rattle.row_store.specs.Rows.{entry_of}
 use Rattle.session_records.specs.Stored.{entry_shown}
 
 abbrev pub invariant-loop-row : goal.invariant-loop-row

@@ -2,7 +2,7 @@ use Rattle.std.proofs.Common.{rules, arith, ◌≡◌, inr, map, refl, sym, ap, 
 use Rattle.sqlite.specs.Effect.{Database}
 use Rattle.sqlite.specs.Held.{state}
 use Rattle.sqlite.specs.State.{HasCleanDisk}
-use Rattle.session_records.specs.Rows.{entry_of}
+use Rattle.row_store.specs.Rows.{entry_of}
 use Rattle.session_records.specs.Table.{rows_schema}
 use Rattle.session_records.proofs.Orders.{found_formed}
 use Rattle.session_records.proofs.sql.take_table.Goals as goal

@@ -3,7 +3,7 @@ use Rattle.sqlite.specs.State.{HasCleanDisk, Survives, KeepsCommit}
 use Rattle.sqlite.specs.Held.{state}
 use Rattle.session_records.proofs.statements.make_changes.Given as goal
 use Rattle.session_records.specs.Connections.{GoesOn, IsBegun}
-use Rattle.session_records.specs.Rows.{after_all}
+use Rattle.row_store.specs.Rows.{after_all}
 use Rattle.session_records.specs.Stored.{IsFormed, held}
 
 abbrev pub invariant-loop-change : goal.invariant-loop-change

@@ -6,7 +6,7 @@ use Rattle.sqlite_value.specs.Order.{Row}
 use Rattle.sqlite.specs.declared.error.Error.{Error}
 use Rattle.sqlite.specs.State.{State, Shown}
 use Rattle.sqlite.specs.Held.{state}
-use Rattle.session_records.specs.Rows.{key_cmp}
+use Rattle.row_store.specs.Rows.{key_cmp}
 use Rattle.session_records.specs.Stored.{IsFormed, IsShown, entry_in, entry_shown}
 use Rattle.session_records.specs.Table.{rows_schema}
 use Rattle.session_records.proofs.Means.{all_text, all_plain}

@@ -1,0 +1,4 @@
+pub mod Keys
+pub mod Neighbours
+pub mod CellLemmas
+pub mod Sorted
