@@ -16,13 +16,13 @@ keeps = λ old new h. h ∙ ap (λ (n : ℕ). record { copies = away old.copies;
 -- one after the other
 between-then : (old mid new : Watched) (ws : List Watched) → TouchesChanged old mid → TouchedBetween mid new ws → TouchedBetween old new (mid ∷ ws)
 between-then old mid new ws a b = record {
-  still = λ p h. b.still p (a.still p h);
-  changed = λ p. elim (a.changed p) [
+  still = λ p h. b.still p (a.0.still p h);
+  changed = λ p. elim (a.0.changed p) [
     | inl x ↦ elim (b.changed p) [ inl y ↦ inl (x ∙ y) | inr y ↦ inr y ]
     | inr x ↦ inr (b.still p x)
   ];
   only = λ p h. elim (b.only p h) [
-    | inl x ↦ elim (a.only p x) [ inl y ↦ inl y | inr y ↦ inr (inl y) ]
+    | inl x ↦ elim (a.0.only p x) [ inl y ↦ inl y | inr y ↦ inr (inl y) ]
     | inr x ↦ inr (inr x)
   ];
 }

@@ -1,6 +1,7 @@
 -- A run of sends, with the packets that they write.
 use Rattle.std.proofs.Common.{◌≡◌, ℕ, ◌+◌, ◌<◌, ◌≤◌, Bool, true, cond, List, [], ◌∷◌, ◌++◌, Some, None, refl, ap, sym, arith, inl, inr, append_assoc}
 use Rattle.std.proofs.lemmas.Bool.{cases_Bool, false≢true}
+use Rattle.mqtt_packets.specs.Written.{HasSpelling}
 use Rattle.mqtt_message.specs.declared.delivery.Delivery.{Delivery}
 use Rattle.qos_handshakes.specs.declared.copies.Entry.{Entry}
 use Rattle.qos_handshakes.specs.declared.copies.Stage.{Stage}
@@ -11,7 +12,7 @@ use Rattle.qos_handshakes.proofs.EntryLaws.{waits-owed}
 use Rattle.mqtt_sessions.specs.declared.reaction.Output.{Output}
 use Rattle.mqtt_sessions.specs.declared.reaction.Output.TheVariants.{Answer}
 use Rattle.mqtt_sessions.specs.Answers.{pubrel}
-use Rattle.mqtt_sessions.specs.Reaction.{publish_of, publishes_of, pubrels_of}
+use Rattle.mqtt_sessions.specs.Reaction.{AreSpelled, packet_of, publish_of, publishes_of, pubrels_of}
 use Rattle.mqtt_sessions.specs.Sending.{SendsAll, Flushes}
 
 -- ---- each send leaves less to be sent
@@ -63,17 +64,22 @@ sends-less now limit old new s (inr n) =
     rw n.left (omega (arith, send-less now limit s.id s.copy (after_resend now limit old.copies) n.sent, resend-most now limit old.copies))
 
 -- ---- what has been sent, and written
+pub spelled-append : (now : ℕ) (ps qs : List Output) → AreSpelled now ps → AreSpelled now qs → AreSpelled now (ps ++ qs)
+spelled-append now [] qs all more = more
+spelled-append now (p ∷ ps) qs all more = (all.0, spelled-append now ps qs all.1 more)
+
 pub record HasSent (now limit : ℕ) (start : Outbox) (before : List Output) (outbox : Outbox) (packets : List Output) : Type 0 where
   pub sents : List Sent
   pub sends : SendsAll now limit start sents outbox
   pub written : packets ≡ before ++ publishes_of sents
+  pub spelled : AreSpelled now packets
 
 append-nil : {A : Type 0} (xs : List A) → xs ++ [] ≡ xs
 append-nil [] = refl
 append-nil (x ∷ xs) = ap (λ ys. x ∷ ys) (append-nil xs)
 
-pub sent-none : (now limit : ℕ) (start : Outbox) (before : List Output) → HasSent now limit start before start before
-sent-none now limit start before = record { sents = []; sends = refl; written = sym (append-nil before) }
+pub sent-none : (now limit : ℕ) (start : Outbox) (before : List Output) → AreSpelled now before → HasSent now limit start before start before
+sent-none now limit start before all = record { sents = []; sends = refl; written = sym (append-nil before); spelled = all }
 
 sends-more : (now limit : ℕ) (old mid new : Outbox) (sents : List Sent) (s : Sent) → SendsAll now limit old sents mid → NextStep now limit mid (Some s) new → SendsAll now limit old (sents ++ s ∷ []) new
 sends-more now limit old mid new [] s all n = (new, rw (← all) n, refl)
@@ -84,11 +90,12 @@ publishes-more [] s = refl
 publishes-more (t ∷ sents) s = ap (λ (ps : List Output). publish_of t ∷ ps) (publishes-more sents s)
 
 pub sent-more : (now limit : ℕ) (start : Outbox) (before : List Output) (mid new : Outbox) (packets : List Output) (s : Sent) → HasSent now limit start before mid packets → NextStep now limit mid (Some s) new
-    → HasSent now limit start before new (packets ++ publish_of s ∷ [])
-sent-more now limit start before mid new packets s h n = record {
+    → HasSpelling (packet_of now (publish_of s)) → HasSent now limit start before new (packets ++ publish_of s ∷ [])
+sent-more now limit start before mid new packets s h n is = record {
   sents = h.sents ++ s ∷ [];
   sends = sends-more now limit start mid new h.sents s h.sends n;
   written = rw (h.written, publishes-more h.sents s, append_assoc before (publishes_of h.sents) (publish_of s ∷ [])) refl;
+  spelled = spelled-append now packets (publish_of s ∷ []) h.spelled (is, tt);
 }
 
 pub sent-all : (now limit : ℕ) (start : Outbox) (before : List Output) (last new : Outbox) (packets : List Output) → HasSent now limit start before last packets → NextStep now limit last None new

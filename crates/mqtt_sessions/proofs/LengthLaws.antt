@@ -22,7 +22,7 @@ use Rattle.mqtt_sessions.specs.Answers.{ack, puback, pubrec, pubrel, pubcomp, su
 use Rattle.mqtt_sessions.specs.Lengths.{ack_length, list_length, assigned_length}
 
 -- a first byte, Remaining Length, and a body
-written_length : (p : Packet) → length (written p) ≡ 1 + length (vbi.bytes (length (body_bytes p))) + length (body_bytes p)
+pub written_length : (p : Packet) → length (written p) ≡ 1 + length (vbi.bytes (length (body_bytes p))) + length (body_bytes p)
 unfolding written
 written_length p = omega (arith, length-append (first_byte (head_of p) ∷ vbi.bytes (length (body_bytes p))) (body_bytes p))
 
@@ -108,11 +108,11 @@ pub unsuback_fit : (id limit : ℕ) (codes : List ℕ) → limit ≤ 268435460 �
 unsuback_fit id limit codes le = list_fit (unsuback id codes) (length codes) limit (unsuback_bytes id codes) le
 
 -- ---- CONNACK
-assigned_bytes : (given client : List ℕ) → length (properties_bytes (assigned given client ++ record { id = 33; value = Two 100 } ∷ record { id = 39; value = Four 1048576 } ∷ [])) ≡ 8 + assigned_length given client
+pub assigned_bytes : (given client : List ℕ) → length (properties_bytes (assigned given client ++ record { id = 33; value = Two 100 } ∷ record { id = 39; value = Four 1048576 } ∷ [])) ≡ 8 + assigned_length given client
 assigned_bytes [] client = omega (arith, length-append (text.bytes client) (properties_bytes (record { id = 33; value = Two 100 } ∷ record { id = 39; value = Four 1048576 } ∷ [])))
 assigned_bytes (b ∷ bs) client = refl
 
-connack_bytes : (present : Bool) (given client : List ℕ) → length (body_bytes (connack present given client)) ≡ 2 + length (vbi.bytes (8 + assigned_length given client)) + (8 + assigned_length given client)
+pub connack_bytes : (present : Bool) (given client : List ℕ) → length (body_bytes (connack present given client)) ≡ 2 + length (vbi.bytes (8 + assigned_length given client)) + (8 + assigned_length given client)
 unfolding body_bytes connack_body properties
 connack_bytes present given client =
     let ps = assigned given client ++ record { id = 33; value = Two 100 } ∷ record { id = 39; value = Four 1048576 } ∷ [] in

@@ -1,5 +1,5 @@
 -- How connections and sessions end, and wills are published (MQTT 5.0, 3.1.2.10, 3.1.2.11.2, 3.1.3.2.2 and 3.14).
-use Rattle.std.specs.Prelude.{◌≡◌, ℕ, ◌+◌, ◌*◌, ◌==◌, ◌&&◌, not, Bool, true, false, cond, nat_le, nat_lt, List, Option, Some, None, IsSome}
+use Rattle.std.specs.Prelude.{◌≡◌, ℕ, ◌+◌, ◌*◌, ◌^◌, ◌==◌, ◌&&◌, not, Bool, true, false, cond, nat_le, nat_lt, List, Option, Some, None, IsSome}
 use Rattle.mqtt_fields.specs.Properties.{first_four}
 use Rattle.mqtt_packets.specs.declared.connect.Will.{Will}
 use Rattle.mqtt_packets.specs.declared.ended.Ended.{Ended}
@@ -36,11 +36,25 @@ disconnected p limit s = disconnected_by (first_four 17 p.properties) p limit s
 abbrev pub ClosedStep : ℕ → State → Reaction → State → Type 0
 ClosedStep now s r new = (r ≡ nothing) × (new ≡ cut (record s { kept = record s.kept { phase = Closed now } }))
 
+abbrev pub is_connected : Phase → Bool
+is_connected Connected = true
+is_connected (Closed at) = false
+
 -- ---- what is due
 -- no packet came for one and a half times the Keep Alive (3.1.2.10)
 abbrev pub has_run_out : Option Link → ℕ → Bool
 has_run_out None now = false
 has_run_out (Some l) now = nat_lt 0 l.keep_alive && nat_le (l.last + 1500 * l.keep_alive) now
+
+-- the moment from which on it has
+abbrev pub runs_out_at : Option Link → Option ℕ
+runs_out_at None = None
+runs_out_at (Some l) = cond (nat_lt 0 l.keep_alive) (Some (l.last + 1500 * l.keep_alive)) None
+
+-- a moment that is below 2^64
+abbrev pub in_time : Option ℕ → Option ℕ
+in_time None = None
+in_time (Some at) = cond (nat_lt at (2 ^ 64)) (Some at) None
 
 -- the end of a closed session
 abbrev pub end_by : Phase → ℕ → Option ℕ

@@ -9,3 +9,4 @@ pub mod Asking
 pub mod Ending
 pub mod Packets
 pub mod Called
+pub mod Saved

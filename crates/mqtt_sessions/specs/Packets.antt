@@ -96,8 +96,12 @@ abbrev pub KindEnds : Packet → State → Type 0
 KindEnds (packets.Pubrec a) s = ReceivedStep s.outbox a.identifier a.reason rec.AtEnd s.outbox
 KindEnds p s = ⊥
 
+abbrev pub PacketEndsIf : Option ℕ → Packet → State → Type 0
+PacketEndsIf None p s = ⊥
+PacketEndsIf (Some limit) p s = KindEnds p s
+
 abbrev pub PacketEnds : Packet → State → Type 0
-PacketEnds p s = KindEnds p s
+PacketEnds p s = PacketEndsIf (limit_of s.link) p s
 
 -- the end of a connection takes no memory
 abbrev pub WantsMemory : Packet → Type 0

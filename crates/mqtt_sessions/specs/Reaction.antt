@@ -1,7 +1,9 @@
 -- What a call of a session answers.
 use Rattle.std.specs.Prelude.{◌≡◌, ℕ, Bool, false, cond, List, [], ◌∷◌, Option, Some, None}
+use Rattle.std.specs.List.{AllByRecursion}
 use Rattle.mqtt_packets.specs.declared.packet.Packet.{Packet}
 use Rattle.mqtt_packets.specs.declared.packet.Packet.TheVariants as packets
+use Rattle.mqtt_packets.specs.Written.{HasSpelling}
 use Rattle.mqtt_message.specs.Sent.{sent}
 use Rattle.qos_handshakes.specs.Outbox.{Sent}
 use Rattle.mqtt_sessions.specs.declared.reaction.Ask.{Ask}
@@ -31,6 +33,10 @@ closing limit code = record nothing { end = Some (cond (fits limit (disconnect c
 abbrev pub packet_of : ℕ → Output → Packet
 packet_of now (Publish p) = packets.Publish (sent p.delivery now p.dup p.id)
 packet_of now (Answer p) = p
+
+-- each packet has a spelling, where it is sent at this moment
+abbrev pub AreSpelled : ℕ → List Output → Type 0
+AreSpelled now os = AllByRecursion (λ o. HasSpelling (packet_of now o)) os
 
 -- ---- PUBLISHes at QoS 1 and 2, and PUBRELs
 abbrev pub publish_of : Sent → Output

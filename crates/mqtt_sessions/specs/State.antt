@@ -3,9 +3,10 @@ use Rattle.std.specs.Prelude.{ℕ, ◌<◌, ◌^◌, min, List, [], Option, Some
 use Rattle.mqtt_fields.specs.declared.value.Property.{Property}
 use Rattle.mqtt_fields.specs.Properties.{first_four}
 use Rattle.mqtt_packets.specs.declared.connect.Will.{Will}
-use Rattle.mqtt_message.specs.Accepted.{IsPublishable}
+pub use Rattle.session_rows.specs.Durable.{IsPublishableIf}
 use Rattle.qos_handshakes.specs.Incoming.{Received}
 use Rattle.qos_handshakes.specs.Outbox.{Outbox}
+use Rattle.qos_handshakes.specs.Touched.{Watched}
 use Rattle.mqtt_sessions.specs.declared.kept.Phase.{Phase}
 use Rattle.mqtt_sessions.specs.declared.kept.Phase.TheVariants.{Connected, Closed}
 use Rattle.mqtt_sessions.specs.declared.link.Asked.{Asked}
@@ -31,6 +32,14 @@ pub record State : Type 0 where
   pub outbox : Outbox
   pub incoming : Received
   pub link : Option Link
+
+-- a session, and the places of its copies that were touched since they were last asked for
+pub record Tracked : Type 0 where
+  pub state : State
+  pub touched : List ℕ
+
+abbrev pub watched : Tracked → Watched
+watched t = record { box = t.state.outbox; touched = t.touched }
 
 abbrev pub empty_outbox : Outbox
 empty_outbox = record { copies = []; next_place = 1; next_order = 1; maximum = 0 }
@@ -68,10 +77,6 @@ abbrev pub heard : State → ℕ → State
 heard s now = record s { link = heard_by s.link now }
 
 -- ---- how the code keeps it
-abbrev pub IsPublishableIf : Option Will → Type 0
-IsPublishableIf None = Unit {0}
-IsPublishableIf (Some w) = IsPublishable w
-
 abbrev pub IsMoment : Phase → Type 0
 IsMoment Connected = Unit {0}
 IsMoment (Closed at) = at < 2 ^ 62

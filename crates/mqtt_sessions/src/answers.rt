@@ -1,6 +1,8 @@
 //! The packets by which a server answers its client, and their lengths.
 
 ghost use Rattle.std.specs.Prelude.{◌≡◌, ◌<◌, ◌^◌, [], IfOk};
+ghost use Rattle.mqtt_fields.specs.Numbers.{IsText};
+ghost use Rattle.mqtt_packets.specs.Written.{HasSpelling};
 ghost use Rattle.mqtt_sessions.specs.Answers as specs;
 ghost use Rattle.mqtt_sessions.specs.Lengths.{IsMeasured, ack_length, assigned_length, list_length};
 
@@ -174,9 +176,11 @@ fn connack_properties(
 fn assigned_length(given: &Text, client: &Text) -> usize
     ensures exact { result ≡ assigned_length given.now client.now }
     ensures small { result < 2 ^ 17 }
+    ensures text { IsText client.now }
 {
+    let assigned = client.as_str();
     if given.as_str().is_empty() {
-        3 + client.as_str().len()
+        3 + assigned.len()
     } else {
         0
     }
@@ -191,6 +195,7 @@ pub(crate) fn connack(
 ) -> Result<Measured, NoMemory>
     ensures packet { IfOk result (λ m. m.packet ≡ specs.connack present given.now client.now) }
     ensures measured { IfOk result IsMeasured }
+    ensures spelled { IfOk result (λ m. HasSpelling m.packet) }
 {
     let properties = 8 + assigned_length(given, client);
     let body = 2 + vbi_len(properties as u32) + properties;

@@ -9,6 +9,7 @@ ghost use Rattle.mqtt_message.specs.Accepted.{IsAcceptable, accepted};
 ghost use Rattle.mqtt_sessions.specs.Arriving as arriving;
 ghost use Rattle.mqtt_sessions.specs.Reaction.{Comes};
 ghost use Rattle.mqtt_sessions.specs.declared.fault.SessionFault.TheVariants.{NoMemory as OutOfMemory};
+ghost use Rattle.mqtt_sessions.specs.State.{watched};
 
 use crate::answers::{puback, pubcomp, pubrec};
 use crate::fault::SessionFault;
@@ -97,7 +98,7 @@ impl Running {
     fn pass(&self, publish: &Publish, now: u64) -> Result<Option<Ask>, NoMemory>
         requires acceptable { IsAcceptable publish.now }
         requires moment { now < 2 ^ 62 }
-        ensures { IfOk result (λ ask. ask ≡ Some (Ask.Pass (accepted publish.now self.now.kept.client now))) }
+        ensures { IfOk result (λ ask. ask ≡ Some (Ask.Pass (accepted publish.now self.now.state.kept.client now))) }
     {
         let message = Message::accept(self.alloc, publish, self.kept.client(), now)?;
         Ok(Some(Ask::Pass(message)))
@@ -112,8 +113,9 @@ impl Running {
     ) -> Result<Reaction, SessionFault>
         requires acceptable { IsAcceptable publish.now }
         requires moment { now < 2 ^ 62 }
-        ensures step { IfOk result (λ r. Comes (arriving.passes_at_most_once unwelcome (accepted publish.now self.old.kept.client now) self.old) r self.new) }
+        ensures step { IfOk result (λ r. Comes (arriving.passes_at_most_once unwelcome (accepted publish.now self.old.state.kept.client now) self.old.state) r self.new.state) }
         ensures fault { IfErr result (λ e. e ≡ OutOfMemory) }
+        ensures outgoing { watched self.new ≡ watched self.old }
     {
         if unwelcome {
             return Ok(asks(self.alloc, None, false));
@@ -133,8 +135,9 @@ impl Running {
         requires acceptable { IsAcceptable publish.now }
         requires moment { now < 2 ^ 62 }
         requires limit { limit ≤ 268435460 }
-        ensures step { IfOk result (λ r. Comes (arriving.once_by (arriving.arrival_once self.old.incoming publish.now.identifier) unwelcome limit publish.now.identifier (accepted publish.now self.old.kept.client now) self.old) r self.new) }
+        ensures step { IfOk result (λ r. Comes (arriving.once_by (arriving.arrival_once self.old.state.incoming publish.now.identifier) unwelcome limit publish.now.identifier (accepted publish.now self.old.state.kept.client now) self.old.state) r self.new.state) }
         ensures fault { IfErr result (λ e. e ≡ OutOfMemory) }
+        ensures outgoing { watched self.new ≡ watched self.old }
     {
         let id = publish.identifier;
         match arrive_once(&self.incoming, id) {
@@ -166,8 +169,9 @@ impl Running {
         requires acceptable { IsAcceptable publish.now }
         requires moment { now < 2 ^ 62 }
         requires limit { limit ≤ 268435460 }
-        ensures step { IfOk result (λ r. Comes (arriving.twice_by arrival unwelcome limit publish.now.identifier (accepted publish.now self.old.kept.client now) self.old) r self.new) }
+        ensures step { IfOk result (λ r. Comes (arriving.twice_by arrival unwelcome limit publish.now.identifier (accepted publish.now self.old.state.kept.client now) self.old.state) r self.new.state) }
         ensures fault { IfErr result (λ e. e ≡ OutOfMemory) }
+        ensures outgoing { watched self.new ≡ watched self.old }
     {
         let id = publish.identifier;
         match arrival {
@@ -198,8 +202,9 @@ impl Running {
         requires acceptable { IsAcceptable publish.now }
         requires moment { now < 2 ^ 62 }
         requires limit { limit ≤ 268435460 }
-        ensures step { IfOk result (λ r. Comes (arriving.arrives_twice (arriving.arrival_twice self.old.incoming publish.now.identifier) unwelcome limit publish.now.identifier (accepted publish.now self.old.kept.client now) self.old) r self.new) }
+        ensures step { IfOk result (λ r. Comes (arriving.arrives_twice (arriving.arrival_twice self.old.state.incoming publish.now.identifier) unwelcome limit publish.now.identifier (accepted publish.now self.old.state.kept.client now) self.old.state) r self.new.state) }
         ensures fault { IfErr result (λ e. e ≡ OutOfMemory) }
+        ensures outgoing { watched self.new ≡ watched self.old }
     {
         let arrival = arrive_twice(&mut self.incoming, publish.identifier, unwelcome)?;
         self.answer_twice(arrival, publish, unwelcome, limit, now)
@@ -216,8 +221,9 @@ impl Running {
         requires spelled { HasSpelling (packets.Publish publish.now) }
         requires moment { now < 2 ^ 62 }
         requires limit { limit ≤ 268435460 }
-        ensures step { IfOk result (λ r. Comes (arriving.published publish.now now room limit self.old) r self.new) }
+        ensures step { IfOk result (λ r. Comes (arriving.published publish.now now room limit self.old.state) r self.new.state) }
         ensures fault { IfErr result (λ e. e ≡ OutOfMemory) }
+        ensures outgoing { watched self.new ≡ watched self.old }
     {
         if let Some(code) = refusal(publish) {
             return Ok(self.refused(limit, code));
@@ -234,8 +240,9 @@ impl Running {
     /// A PUBREL.
     pub(crate) fn pubrel(&mut self, id: u16, limit: u64) -> Result<Reaction, SessionFault>
         requires { limit ≤ 268435460 }
-        ensures step { IfOk result (λ r. Comes (arriving.released id limit self.old) r self.new) }
+        ensures step { IfOk result (λ r. Comes (arriving.released id limit self.old.state) r self.new.state) }
         ensures fault { IfErr result (λ e. e ≡ OutOfMemory) }
+        ensures outgoing { watched self.new ≡ watched self.old }
     {
         let code = release(&mut self.incoming, id);
         self.answered(limit, pubcomp(self.alloc, id, code), None)

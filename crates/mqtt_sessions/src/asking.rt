@@ -1,12 +1,13 @@
 //! SUBSCRIBE and UNSUBSCRIBE, and their answers (MQTT 5.0, 3.8 to 3.11).
 
-ghost use Rattle.std.specs.Prelude.{◌≡◌, ◌≤◌, ◌↔◌, replicate, IsTrue, None, IfOk, IfErr};
+ghost use Rattle.std.specs.Prelude.{◌≡◌, ◌≢◌, ◌≤◌, ◌↔◌, ℕ, [], replicate, IsTrue, None, IfOk, IfErr};
 ghost use Rattle.mqtt_topics.specs.Topics.{IsFilter, IsShared};
 ghost use Rattle.mqtt_sessions.specs.Asking as asking;
 ghost use Rattle.mqtt_sessions.specs.Asking.{AnswerStep, AsksNoLocalShare, IsNoLocalShare, SubscribeStep};
 ghost use Rattle.mqtt_sessions.specs.Lengths.{IsMeasured};
-ghost use Rattle.mqtt_sessions.specs.Reaction.{Comes};
+ghost use Rattle.mqtt_sessions.specs.Reaction.{AreSpelled, Comes};
 ghost use Rattle.mqtt_sessions.specs.declared.fault.SessionFault.TheVariants.{NoMemory as OutOfMemory};
+ghost use Rattle.mqtt_sessions.specs.State.{watched};
 
 use crate::answers::{Measured, suback, unsuback};
 use crate::fault::SessionFault;
@@ -71,7 +72,8 @@ fn answer_of(alloc: Global, asked: Asked, id: u16, codes: Vec<u8>) -> Measured
 
 impl Running {
     fn ask(&mut self, ask: Ask, asked: Asked) -> Reaction
-        ensures { Comes (asking.asking ask asked self.old) result self.new }
+        ensures step { Comes (asking.asking ask asked self.old.state) result self.new.state }
+        ensures outgoing { watched self.new ≡ watched self.old }
     {
         self.connection = waiting_by(self.connection.take(), Some(asked));
         asks(self.alloc, Some(ask), false)
@@ -84,8 +86,9 @@ impl Running {
         limit: u64,
     ) -> Result<Reaction, SessionFault>
         requires { limit ≤ 268435460 }
-        ensures step { IfOk result (λ r. Comes (asking.subscribed request.now limit self.old) r self.new) }
+        ensures step { IfOk result (λ r. Comes (asking.subscribed request.now limit self.old.state) r self.new.state) }
         ensures fault { IfErr result (λ e. e ≡ OutOfMemory) }
+        ensures outgoing { watched self.new ≡ watched self.old }
     {
         if self.incoming.in_use(request.identifier) {
             let codes = in_use_codes(self.alloc, request.filters.as_slice().len())?;
@@ -101,8 +104,9 @@ impl Running {
         limit: u64,
     ) -> Result<Reaction, SessionFault>
         requires { limit ≤ 268435460 }
-        ensures step { IfOk result (λ r. SubscribeStep request.now limit self.old r self.new) }
+        ensures step { IfOk result (λ r. SubscribeStep request.now limit self.old.state r self.new.state) }
         ensures fault { IfErr result (λ e. e ≡ OutOfMemory) }
+        ensures outgoing { watched self.new ≡ watched self.old }
     {
         if asks_no_local_share(self.alloc, request.filters.as_slice())? {
             return Ok(self.refused(limit, reason::PROTOCOL_ERROR));
@@ -117,8 +121,9 @@ impl Running {
         limit: u64,
     ) -> Result<Reaction, SessionFault>
         requires { limit ≤ 268435460 }
-        ensures step { IfOk result (λ r. Comes (asking.unsubscribed request.now limit self.old) r self.new) }
+        ensures step { IfOk result (λ r. Comes (asking.unsubscribed request.now limit self.old.state) r self.new.state) }
         ensures fault { IfErr result (λ e. e ≡ OutOfMemory) }
+        ensures outgoing { watched self.new ≡ watched self.old }
     {
         if self.incoming.in_use(request.identifier) {
             let codes = in_use_codes(self.alloc, request.filters.as_slice().len())?;
@@ -128,15 +133,20 @@ impl Running {
     }
 
     fn stop_waiting(&mut self)
-        ensures { self.new ≡ asking.waiting_for None self.old }
+        ensures step { self.new.state ≡ asking.waiting_for None self.old.state }
+        ensures outgoing { watched self.new ≡ watched self.old }
     {
         self.connection = waiting_by(self.connection.take(), None);
     }
 
     /// The codes of the last packet that asked for some.
     pub(crate) fn answer(&mut self, id: u16, codes: &[u8]) -> Result<Reaction, SessionFault>
-        ensures step { IfOk result (λ r. AnswerStep id codes.now self.old r self.new) }
+        requires identifier { 1 ≤ id }
+        requires codes { codes.now ≢ [] }
+        ensures step { IfOk result (λ r. AnswerStep id codes.now self.old.state r self.new.state) }
+        ensures spelled { IfOk result (λ r. (now : ℕ) → AreSpelled now r.packets) }
         ensures fault { IfErr result (λ e. e ≡ OutOfMemory) }
+        ensures outgoing { watched self.new ≡ watched self.old }
     {
         let Some(limit) = self.limit() else {
             return Ok(nothing(self.alloc));

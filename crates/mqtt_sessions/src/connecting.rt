@@ -1,9 +1,11 @@
 //! The beginning of a connection (MQTT 5.0, 3.1, 3.2 and 4.4).
 
-ghost use Rattle.std.specs.Prelude.{◌≡◌, ◌≤◌, IfOk, IfErr};
+ghost use Rattle.std.specs.Prelude.{◌≡◌, ◌≤◌, IfOk, OnOk, IfErr};
 ghost use Rattle.mqtt_sessions.specs.Connecting.{ConnectStep};
-ghost use Rattle.mqtt_sessions.specs.State.{IsPublishableIf};
+ghost use Rattle.mqtt_sessions.specs.Reaction.{AreSpelled};
+ghost use Rattle.mqtt_sessions.specs.State.{watched, IsPublishableIf};
 ghost use Rattle.mqtt_sessions.specs.declared.fault.SessionFault.TheVariants.{NoMemory as OutOfMemory};
+ghost use Rattle.session_rows.specs.Changes.{Follows};
 
 use crate::answers::connack;
 use crate::fault::SessionFault;
@@ -22,8 +24,10 @@ impl Running {
         now: u64,
     ) -> Result<Reaction, SessionFault>
         requires { IsPublishableIf connect.now.will }
-        ensures step { IfOk result (λ r. ConnectStep connect.now continued now self.old r self.new) }
+        ensures step { IfOk result (λ r. ConnectStep connect.now continued now self.old.state r self.new.state) }
+        ensures spelled { IfOk result (λ r. AreSpelled now r.packets) }
         ensures fault { IfErr result (λ e. e ≡ OutOfMemory) }
+        ensures follows { OnOk result (Follows (watched self.old) (watched self.new)) }
     {
         let limit = limit_in(&connect.properties);
         let answer = connack(self.alloc, continued, &connect.client, self.kept.client())?;

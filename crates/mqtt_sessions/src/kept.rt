@@ -4,6 +4,8 @@ ghost use Rattle.std.specs.Prelude.{◌≡◌, ◌<◌, ◌^◌, Some, None, IfO
 ghost use Rattle.mqtt_sessions.specs.Connecting.{kept_by};
 ghost use Rattle.mqtt_sessions.specs.Ending as ending;
 ghost use Rattle.mqtt_sessions.specs.State.{IsPublishableIf};
+ghost use Rattle.mqtt_sessions.specs.Saved.{closed_of, phase_of};
+ghost use Rattle.session_rows.specs.Durable.{IsMomentIf};
 ghost use Rattle.mqtt_sessions.specs.declared.kept.Phase.TheVariants.{Closed};
 
 use mqtt_fields::identifier::SESSION_EXPIRY_INTERVAL;
@@ -74,6 +76,50 @@ impl Kept {
         ensures { result ≡ self.now.expiry }
     {
         self.expiry
+    }
+
+    pub(crate) fn is_connected(&self) -> bool
+        ensures { result ≡ ending.is_connected self.now.phase }
+    {
+        match self.phase {
+            Phase::Connected => true,
+            Phase::Closed(_) => false,
+        }
+    }
+
+    pub(crate) fn will(&self) -> &Option<Will>
+        ensures same { result.now ≡ self.now.will }
+        ensures publishable { IsPublishableIf self.now.will }
+    {
+        &self.will
+    }
+
+    /// The moment since when it is closed.
+    pub(crate) fn closed(&self) -> Option<u64>
+        ensures { result ≡ closed_of self.now.phase }
+    {
+        match self.phase {
+            Phase::Connected => None,
+            Phase::Closed(at) => Some(at),
+        }
+    }
+
+    /// As it was kept.
+    pub(crate) fn open(client: Text, expiry: u32, closed: Option<u64>, will: Option<Will>) -> Kept
+        requires publishable { IsPublishableIf will }
+        requires moment { IsMomentIf closed }
+        ensures { result ≡ record { client = client; expiry = expiry; phase = phase_of closed; will = will } }
+    {
+        let phase = match closed {
+            None => Phase::Connected,
+            Some(at) => Phase::Closed(at),
+        };
+        Kept {
+            client,
+            expiry,
+            phase,
+            will,
+        }
     }
 
     /// A connection begins.

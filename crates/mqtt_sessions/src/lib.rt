@@ -12,6 +12,7 @@ mod link;
 mod packets;
 mod reaction;
 mod running;
+mod saved;
 mod sending;
 mod session;
 

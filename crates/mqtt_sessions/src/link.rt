@@ -2,7 +2,7 @@
 
 ghost use Rattle.std.specs.Prelude.{◌≡◌, ◌≤◌, IfSome};
 ghost use Rattle.mqtt_sessions.specs.State as state;
-ghost use Rattle.mqtt_sessions.specs.Ending.{has_run_out};
+ghost use Rattle.mqtt_sessions.specs.Ending.{has_run_out, in_time, runs_out_at};
 ghost use Rattle.mqtt_sessions.specs.Asking.{asked_of, waiting_by};
 ghost use Rattle.mqtt_sessions.specs.Connecting.{link_by};
 ghost use Rattle.mqtt_sessions.specs.State.{limit_in};
@@ -151,5 +151,20 @@ pub(crate) fn has_run_out(connection: &Option<Connection>, now: u64) -> bool
                 && now.saturating_sub(open.last) >= 1500 * u64::from(open.keep_alive)
         }
         None => false,
+    }
+}
+
+/// The moment from which on the Keep Alive has run out, where that is below 2^64.
+pub(crate) fn runs_out_at(connection: &Option<Connection>) -> Option<u64>
+    ensures { result ≡ in_time (runs_out_at connection.now) }
+{
+    match connection {
+        Some(open) => {
+            if open.keep_alive == 0 {
+                return None;
+            }
+            open.last.checked_add(1500 * u64::from(open.keep_alive))
+        }
+        None => None,
     }
 }

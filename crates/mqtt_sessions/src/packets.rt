@@ -1,14 +1,16 @@
 //! What each packet of a client comes to.
 
-ghost use Rattle.std.specs.Prelude.{◌≡◌, ◌<◌, ◌≤◌, ◌^◌, IfOk, IfErr};
+ghost use Rattle.std.specs.Prelude.{◌≡◌, ◌<◌, ◌≤◌, ◌^◌, IfOk, OnOk, IfErr};
 ghost use Rattle.mqtt_packets.specs.Written.{HasSpelling};
 ghost use Rattle.mqtt_sessions.specs.Called.{IsFault};
 ghost use Rattle.mqtt_sessions.specs.Ending as ending;
 ghost use Rattle.mqtt_sessions.specs.Packets.{KindEnds, KindStep, PacketEnds, PacketStep, PubackStep, PubcompStep, PubrecStep, WantsMemory};
-ghost use Rattle.mqtt_sessions.specs.Reaction.{Comes};
+ghost use Rattle.mqtt_sessions.specs.Reaction.{AreSpelled, Comes};
 ghost use Rattle.mqtt_sessions.specs.declared.fault.SessionFault.TheVariants.{NoMemory as OutOfMemory};
 ghost use Rattle.qos_handshakes.specs.Outbox.{ReceivedStep};
 ghost use Rattle.qos_handshakes.specs.declared.answers.Rec.TheVariants.{AtEnd};
+ghost use Rattle.session_rows.specs.Changes.{Follows};
+ghost use Rattle.mqtt_sessions.specs.State.{watched};
 
 use crate::answers::{pingresp, pubrel};
 use crate::fault::SessionFault;
@@ -23,8 +25,10 @@ impl Running {
     /// A PUBACK.
     fn puback(&mut self, id: u16, limit: u64, now: u64) -> Result<Reaction, SessionFault>
         requires { limit ≤ 268435460 }
-        ensures step { IfOk result (λ r. PubackStep id now limit self.old r self.new) }
+        ensures step { IfOk result (λ r. PubackStep id now limit self.old.state r self.new.state) }
+        ensures spelled { IfOk result (λ r. AreSpelled now r.packets) }
         ensures fault { IfErr result (λ e. e ≡ OutOfMemory) }
+        ensures follows { OnOk result (Follows (watched self.old) (watched self.new)) }
     {
         let mut packets = Vec::new(self.alloc);
         if matches!(self.outgoing.acknowledge(id), Ack::Unknown) {
@@ -37,8 +41,10 @@ impl Running {
     /// A PUBCOMP.
     fn pubcomp(&mut self, id: u16, limit: u64, now: u64) -> Result<Reaction, SessionFault>
         requires { limit ≤ 268435460 }
-        ensures step { IfOk result (λ r. PubcompStep id now limit self.old r self.new) }
+        ensures step { IfOk result (λ r. PubcompStep id now limit self.old.state r self.new.state) }
+        ensures spelled { IfOk result (λ r. AreSpelled now r.packets) }
         ensures fault { IfErr result (λ e. e ≡ OutOfMemory) }
+        ensures follows { OnOk result (Follows (watched self.old) (watched self.new)) }
     {
         let mut packets = Vec::new(self.alloc);
         if matches!(self.outgoing.complete(id), Ack::Unknown) {
@@ -50,9 +56,12 @@ impl Running {
 
     /// A PUBREC.
     fn pubrec(&mut self, id: u16, code: u8, limit: u64, now: u64) -> Result<Reaction, SessionFault>
-        requires { limit ≤ 268435460 }
-        ensures step { IfOk result (λ r. PubrecStep id code now limit self.old r self.new) }
-        ensures fault { IfErr result (λ e. IsFault (Unit {0}) (ReceivedStep self.old.outbox id code AtEnd self.old.outbox) e) }
+        requires id { 1 ≤ id }
+        requires limit { limit ≤ 268435460 }
+        ensures step { IfOk result (λ r. PubrecStep id code now limit self.old.state r self.new.state) }
+        ensures spelled { IfOk result (λ r. AreSpelled now r.packets) }
+        ensures fault { IfErr result (λ e. IsFault (Unit {0}) (ReceivedStep self.old.state.outbox id code AtEnd self.old.state.outbox) e) }
+        ensures follows { OnOk result (Follows (watched self.old) (watched self.new)) }
     {
         let mut packets = Vec::new(self.alloc);
         match self.outgoing.received(id, code) {
@@ -76,7 +85,8 @@ impl Running {
 
     /// A DISCONNECT.
     fn disconnect(&mut self, packet: &Ended, limit: u64) -> Reaction
-        ensures { Comes (ending.disconnected packet.now limit self.old) result self.new }
+        ensures step { Comes (ending.disconnected packet.now limit self.old.state) result self.new.state }
+        ensures outgoing { watched self.new ≡ watched self.old }
     {
         let old = self.kept.expiry();
         let expiry = packet
@@ -102,8 +112,10 @@ impl Running {
         requires spelled { HasSpelling packet.now }
         requires moment { now < 2 ^ 62 }
         requires limit { limit ≤ 268435460 }
-        ensures step { IfOk result (λ r. KindStep packet.now now room limit self.old r self.new) }
-        ensures fault { IfErr result (λ e. IsFault (WantsMemory packet.now) (KindEnds packet.now self.old) e) }
+        ensures step { IfOk result (λ r. KindStep packet.now now room limit self.old.state r self.new.state) }
+        ensures spelled { IfOk result (λ r. AreSpelled now r.packets) }
+        ensures fault { IfErr result (λ e. IsFault (WantsMemory packet.now) (KindEnds packet.now self.old.state) e) }
+        ensures follows { OnOk result (Follows (watched self.old) (watched self.new)) }
     {
         match packet {
             Packet::Publish(publish) => self.publish(publish, room, limit, now),
@@ -133,8 +145,10 @@ impl Running {
     ) -> Result<Reaction, SessionFault>
         requires spelled { HasSpelling packet.now }
         requires moment { now < 2 ^ 62 }
-        ensures step { IfOk result (λ r. PacketStep packet.now now room self.old r self.new) }
-        ensures fault { IfErr result (λ e. IsFault (WantsMemory packet.now) (PacketEnds packet.now self.old) e) }
+        ensures step { IfOk result (λ r. PacketStep packet.now now room self.old.state r self.new.state) }
+        ensures spelled { IfOk result (λ r. AreSpelled now r.packets) }
+        ensures fault { IfErr result (λ e. IsFault (WantsMemory packet.now) (PacketEnds packet.now self.old.state) e) }
+        ensures follows { OnOk result (Follows (watched self.old) (watched self.new)) }
     {
         let Some(limit) = self.hear(now) else {
             return Ok(nothing(self.alloc));

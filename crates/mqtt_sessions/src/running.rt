@@ -1,9 +1,9 @@
 //! A session that isn't spent.
 
-ghost use Rattle.std.specs.Prelude.{◌≡◌, ◌<◌, ◌≤◌, IfOk, IfErr, IfSome};
+ghost use Rattle.std.specs.Prelude.{◌≡◌, ◌<◌, ◌≤◌, [], IfOk, IfErr, IfSome};
 ghost use Rattle.mqtt_sessions.specs.Lengths.{IsMeasured};
 ghost use Rattle.mqtt_sessions.specs.Reaction.{Comes, answered, refused};
-ghost use Rattle.mqtt_sessions.specs.State.{new_session, limit_of, heard};
+ghost use Rattle.mqtt_sessions.specs.State.{new_session, limit_of, heard, watched};
 ghost use Rattle.mqtt_sessions.specs.declared.fault.SessionFault.TheVariants.{NoMemory as OutOfMemory};
 
 use crate::answers::{Measured, disconnect_fits};
@@ -26,16 +26,16 @@ pub(crate) struct Running {
 }
 
 impl Model for Running {
-    ghost use Rattle.mqtt_sessions.specs.State.{State};
+    ghost use Rattle.mqtt_sessions.specs.State.{Tracked};
 
-    ghost Value = { State };
+    ghost Value = { Tracked };
 
-    ghost view = { λ s. record { kept = s.kept; outbox = s.outgoing.box; incoming = s.incoming; link = s.connection } };
+    ghost view = { λ s. record { state = record { kept = s.kept; outbox = s.outgoing.box; incoming = s.incoming; link = s.connection }; touched = s.outgoing.touched } };
 }
 
 impl Running {
     pub(crate) fn new(alloc: Global, client: Text) -> Running
-        ensures { result ≡ new_session client }
+        ensures { result ≡ record { state = new_session client; touched = [] } }
     {
         Running {
             kept: Kept::new(client),
@@ -48,7 +48,7 @@ impl Running {
 
     /// The longest packet that the client takes, where it is connected.
     pub(crate) fn limit(&self) -> Option<u64>
-        ensures limit { result ≡ limit_of self.now.link }
+        ensures limit { result ≡ limit_of self.now.state.link }
         ensures most { IfSome result (λ n. n ≤ 268435460) }
     {
         limit_of(&self.connection)
@@ -56,9 +56,10 @@ impl Running {
 
     /// A packet came. The result is `limit`.
     pub(crate) fn hear(&mut self, now: u64) -> Option<u64>
-        ensures limit { result ≡ limit_of self.old.link }
+        ensures limit { result ≡ limit_of self.old.state.link }
         ensures most { IfSome result (λ n. n ≤ 268435460) }
-        ensures left { self.new ≡ heard self.old now }
+        ensures left { self.new.state ≡ heard self.old.state now }
+        ensures outgoing { watched self.new ≡ watched self.old }
     {
         let limit = limit_of(&self.connection);
         self.connection = heard_by(self.connection.take(), now);
@@ -74,8 +75,9 @@ impl Running {
     ) -> Result<Reaction, SessionFault>
         requires limit { limit ≤ 268435460 }
         requires measured { IsMeasured answer }
-        ensures step { IfOk result (λ r. Comes (answered limit answer.packet ask self.old) r self.new) }
+        ensures step { IfOk result (λ r. Comes (answered limit answer.packet ask self.old.state) r self.new.state) }
         ensures fault { IfErr result (λ e. e ≡ OutOfMemory) }
+        ensures outgoing { watched self.new ≡ watched self.old }
     {
         let Measured { packet, length } = answer;
         if length <= limit {
@@ -95,7 +97,8 @@ impl Running {
     /// Closes the connection of a client that breaks a rule, or is silent.
     pub(crate) fn refused(&mut self, limit: u64, code: u8) -> Reaction
         requires { 0 < code }
-        ensures { Comes (refused limit code self.old) result self.new }
+        ensures step { Comes (refused limit code self.old.state) result self.new.state }
+        ensures outgoing { watched self.new ≡ watched self.old }
     {
         self.connection = None;
         let told = if disconnect_fits(limit, code) {

@@ -1,22 +1,26 @@
 //! Copies for the client (MQTT 5.0, 4.3, 4.6 and 4.9).
 
-ghost use Rattle.std.specs.Prelude.{◌≡◌, ◌≤◌, ◌++◌, List, IfOk, IfErr};
+ghost use Rattle.std.specs.Prelude.{◌≡◌, ◌≤◌, ◌++◌, List, true, false, IfOk, OnOk, IfErr};
+ghost use Rattle.mqtt_packets.specs.declared.packet.Packet.TheVariants.{Publish};
+ghost use Rattle.mqtt_packets.specs.Written.{HasSpelling};
+ghost use Rattle.mqtt_message.specs.Sent.{sent};
 ghost use Rattle.qos_handshakes.specs.Outbox as outbox;
 ghost use Rattle.qos_handshakes.specs.Outbox.{Sent};
-ghost use Rattle.mqtt_sessions.specs.Reaction.{publishes_of, pubrels_of};
+ghost use Rattle.mqtt_sessions.specs.Reaction.{AreSpelled, publishes_of, pubrels_of};
 ghost use Rattle.mqtt_sessions.specs.Reaction as reactions;
 ghost use Rattle.mqtt_sessions.specs.Sending as sending;
 ghost use Rattle.mqtt_sessions.specs.Sending.{Flushes, QueueEnds, QueueStep};
-ghost use Rattle.mqtt_sessions.specs.State.{limit_of};
+ghost use Rattle.mqtt_sessions.specs.State.{watched, limit_of};
 ghost use Rattle.mqtt_sessions.specs.Called.{IsFault};
 ghost use Rattle.mqtt_sessions.specs.declared.fault.SessionFault.TheVariants.{NoMemory as OutOfMemory};
+ghost use Rattle.session_rows.specs.Changes.{Follows};
 
 use crate::answers::pubrel;
 use crate::fault::SessionFault;
 use crate::reaction::{Output, Publication, Reaction, nothing, one, overflows, says};
 use crate::running::Running;
 use mqtt_fields::{NoMemory, Qos};
-use mqtt_message::Delivery;
+use mqtt_message::{Delivery, sent_is_spelled};
 use qos_handshakes::{Offer, Outgoing};
 use std::alloc::Global;
 
@@ -28,8 +32,11 @@ pub(crate) fn flush(
     now: u64,
     limit: u64,
 ) -> Result<(), NoMemory>
-    requires { limit ≤ 268435460 }
-    ensures { IfOk result (λ _. (sents : List Sent) × Flushes now limit outgoing.old.box sents outgoing.new.box × (packets.new.items ≡ packets.old.items ++ publishes_of sents)) }
+    requires limit { limit ≤ 268435460 }
+    requires spelled { AreSpelled now packets.old.items }
+    ensures step { IfOk result (λ _. (sents : List Sent) × Flushes now limit outgoing.old.box sents outgoing.new.box × (packets.new.items ≡ packets.old.items ++ publishes_of sents)) }
+    ensures spelled { IfOk result (λ _. AreSpelled now packets.new.items) }
+    ensures follows { OnOk result (Follows outgoing.old outgoing.new) }
 {
     while let Some(sending) = outgoing.next(now, limit)? {
         let delivery = sending.delivery.copy(alloc)?;
@@ -69,11 +76,26 @@ fn is_taken(delivery: &Delivery, now: u64, limit: u64) -> bool
     delivery.packet_length(now) <= limit
 }
 
+/// The PUBLISH of a copy at QoS 0 that a client takes has a spelling. This does nothing; its contract is a law.
+fn is_spelled(delivery: &Delivery, now: u64, limit: u64)
+    requires once { sending.is_once delivery.now.qos ≡ true }
+    requires taken { outbox.fits now limit delivery.now ≡ true }
+    requires limit { limit ≤ 268435460 }
+    ensures { HasSpelling (Publish (sent delivery.now now false 0)) }
+{
+    delivery.has_spelling();
+    sent_is_spelled();
+    let _length = delivery.packet_length(now);
+}
+
 impl Running {
     /// Sends a copy at QoS 0, where the client is connected and takes it.
     fn send_once(&mut self, delivery: Delivery, now: u64) -> Result<Reaction, SessionFault>
-        ensures step { IfOk result (λ r. (r ≡ reactions.says (sending.once_of (limit_of self.old.link) now delivery)) × (self.new ≡ self.old)) }
+        requires { sending.is_once delivery.qos ≡ true }
+        ensures step { IfOk result (λ r. (r ≡ reactions.says (sending.once_of (limit_of self.old.state.link) now delivery)) × (self.new.state ≡ self.old.state)) }
+        ensures spelled { IfOk result (λ r. AreSpelled now r.packets) }
         ensures fault { IfErr result (λ e. e ≡ OutOfMemory) }
+        ensures outgoing { watched self.new ≡ watched self.old }
     {
         let Some(limit) = self.limit() else {
             return Ok(nothing(self.alloc));
@@ -81,6 +103,7 @@ impl Running {
         if !is_taken(&delivery, now, limit) {
             return Ok(nothing(self.alloc));
         }
+        is_spelled(&delivery, now, limit);
         let packets = one(
             self.alloc,
             Output::Publish(Publication {
@@ -94,8 +117,10 @@ impl Running {
 
     /// A copy for the client.
     pub(crate) fn queue(&mut self, delivery: Delivery, now: u64) -> Result<Reaction, SessionFault>
-        ensures step { IfOk result (λ r. QueueStep delivery now self.old r self.new) }
-        ensures fault { IfErr result (λ e. IsFault (Unit {0}) (QueueEnds delivery self.old) e) }
+        ensures step { IfOk result (λ r. QueueStep delivery now self.old.state r self.new.state) }
+        ensures spelled { IfOk result (λ r. AreSpelled now r.packets) }
+        ensures fault { IfErr result (λ e. IsFault (Unit {0}) (QueueEnds delivery self.old.state) e) }
+        ensures follows { OnOk result (Follows (watched self.old) (watched self.new)) }
     {
         if is_once(delivery.qos) {
             return self.send_once(delivery, now);

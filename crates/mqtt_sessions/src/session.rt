@@ -1,6 +1,6 @@
 //! A session over its connections.
 
-ghost use Rattle.std.specs.Prelude.{◌≡◌, ◌<◌, ◌^◌, Some, IfSome};
+ghost use Rattle.std.specs.Prelude.{◌≡◌, ◌≢◌, ◌<◌, ◌≤◌, ◌^◌, ℕ, [], Some, IfOk, IfErr, IfSome, MatchOption, false};
 ghost use Rattle.mqtt_packets.specs.Written.{HasSpelling};
 ghost use Rattle.mqtt_sessions.specs.Asking.{AnswerStep};
 ghost use Rattle.mqtt_sessions.specs.Called.{Called, always, never};
@@ -8,15 +8,22 @@ ghost use Rattle.mqtt_sessions.specs.Connecting.{ConnectStep, MayConnectIf};
 ghost use Rattle.mqtt_sessions.specs.Ending as ending;
 ghost use Rattle.mqtt_sessions.specs.Ending.{ClosedStep, FinishStep, TickStep, HasWill};
 ghost use Rattle.mqtt_sessions.specs.Packets.{PacketEnds, PacketStep, WantsMemory};
+ghost use Rattle.mqtt_sessions.specs.Reaction.{AreSpelled};
 ghost use Rattle.mqtt_sessions.specs.Sending.{QueueEnds, QueueStep};
-ghost use Rattle.mqtt_sessions.specs.State.{IsPublishableIf, limit_of, new_session};
+ghost use Rattle.mqtt_sessions.specs.Saved.{ListsIf, NotesIf, OpensFrom, TellsIf, begun_session, durable_of, state_of, told_of, tracked_in};
+ghost use Rattle.mqtt_sessions.specs.State.{IsPublishableIf, limit_of};
+ghost use Rattle.mqtt_sessions.specs.declared.fault.SessionFault.TheVariants.{NoMemory as OutOfMemory};
+ghost use Rattle.session_rows.specs.Durable.{IsMomentIf};
 
 use crate::fault::SessionFault;
+use crate::link::runs_out_at;
 use crate::reaction::Reaction;
-use crate::running::Running;
+use crate::saved::Live;
 use mqtt_fields::Text;
 use mqtt_message::Delivery;
 use mqtt_packets::{Connect, Packet};
+use row_store::{Change, Row, RowFault};
+use session_rows::{Opened, read_session};
 use std::alloc::Global;
 use std::marker::Model;
 
@@ -24,25 +31,36 @@ use std::marker::Model;
 /// is spent: it had a fault, and answers `Spent`.
 #[derive(Drop)]
 pub struct Session {
-    running: Option<Running>,
+    live: Option<Live>,
 }
 
 impl Model for Session {
     ghost use Rattle.std.specs.Prelude.{Option};
-    ghost use Rattle.mqtt_sessions.specs.State.{State};
+    ghost use Rattle.mqtt_sessions.specs.Saved.{Saved};
 
-    ghost Value = { Option State };
+    ghost Value = { Option Saved };
 
-    ghost view = { λ s. s.running };
+    ghost view = { λ s. s.live };
+}
+
+/// A session that goes on after what was kept.
+fn open(alloc: Global, kept: Opened) -> Result<Session, SessionFault>
+    requires publishable { IsPublishableIf kept.will }
+    requires moment { IsMomentIf kept.closed }
+    ensures ok { IfOk result (λ s. s ≡ Some (record { tracked = tracked_in kept; told = told_of (durable_of (tracked_in kept).state) })) }
+    ensures fault { IfErr result (λ e. e ≡ OutOfMemory) }
+{
+    let live = Live::open(alloc, kept)?;
+    Ok(Session { live: Some(live) })
 }
 
 impl Session {
     /// A client's session before its first connection.
     pub fn new(alloc: Global, client: Text) -> Session
-        ensures { result ≡ Some (new_session client) }
+        ensures { result ≡ Some (begun_session client) }
     {
         Session {
-            running: Some(Running::new(alloc, client)),
+            live: Some(Live::new(alloc, client)),
         }
     }
 
@@ -54,27 +72,33 @@ impl Session {
         continued: bool,
         now: u64,
     ) -> Result<Reaction, SessionFault>
-        requires continued { MayConnectIf continued self.old }
+        requires continued { MayConnectIf continued (state_of self.old) }
         requires will { IsPublishableIf connect.now.will }
-        ensures { Called (ConnectStep connect.now continued now) always never self.old result self.new }
+        ensures called { Called (ConnectStep connect.now continued now) always never (state_of self.old) result (state_of self.new) }
+        ensures spelled { IfOk result (λ r. AreSpelled now r.packets) }
+        ensures notes { NotesIf self.old self.new }
     {
-        let Some(mut running) = self.running.take() else {
+        let Some(mut live) = self.live.take() else {
             return Err(SessionFault::Spent);
         };
-        let reaction = running.connect(connect, continued, now)?;
-        self.running = Some(running);
+        live.stale = true;
+        let reaction = live.running.connect(connect, continued, now)?;
+        self.live = Some(live);
         Ok(reaction)
     }
 
     /// A copy of a message for the client.
     pub fn queue(&mut self, delivery: Delivery, now: u64) -> Result<Reaction, SessionFault>
-        ensures { Called (QueueStep delivery now) always (QueueEnds delivery) self.old result self.new }
+        ensures called { Called (QueueStep delivery now) always (QueueEnds delivery) (state_of self.old) result (state_of self.new) }
+        ensures spelled { IfOk result (λ r. AreSpelled now r.packets) }
+        ensures notes { NotesIf self.old self.new }
     {
-        let Some(mut running) = self.running.take() else {
+        let Some(mut live) = self.live.take() else {
             return Err(SessionFault::Spent);
         };
-        let reaction = running.queue(delivery, now)?;
-        self.running = Some(running);
+        live.stale = true;
+        let reaction = live.running.queue(delivery, now)?;
+        self.live = Some(live);
         Ok(reaction)
     }
 
@@ -87,26 +111,34 @@ impl Session {
     ) -> Result<Reaction, SessionFault>
         requires spelled { HasSpelling packet.now }
         requires moment { now < 2 ^ 62 }
-        ensures { Called (PacketStep packet.now now room) (λ _. WantsMemory packet.now) (PacketEnds packet.now) self.old result self.new }
+        ensures called { Called (PacketStep packet.now now room) (λ _. WantsMemory packet.now) (PacketEnds packet.now) (state_of self.old) result (state_of self.new) }
+        ensures spelled { IfOk result (λ r. AreSpelled now r.packets) }
+        ensures notes { NotesIf self.old self.new }
     {
-        let Some(mut running) = self.running.take() else {
+        let Some(mut live) = self.live.take() else {
             return Err(SessionFault::Spent);
         };
-        let reaction = running.packet(packet, room, now)?;
-        self.running = Some(running);
+        live.stale = true;
+        let reaction = live.running.packet(packet, room, now)?;
+        self.live = Some(live);
         Ok(reaction)
     }
 
     /// The codes of the SUBSCRIBE or UNSUBSCRIBE that was asked for last, one for each filter in order: SUBACK or
     /// UNSUBACK.
     pub fn answer(&mut self, id: u16, codes: &[u8]) -> Result<Reaction, SessionFault>
-        ensures { Called (AnswerStep id codes.now) always never self.old result self.new }
+        requires identifier { 1 ≤ id }
+        requires codes { codes.now ≢ [] }
+        ensures called { Called (AnswerStep id codes.now) always never (state_of self.old) result (state_of self.new) }
+        ensures spelled { IfOk result (λ r. (now : ℕ) → AreSpelled now r.packets) }
+        ensures notes { NotesIf self.old self.new }
     {
-        let Some(mut running) = self.running.take() else {
+        let Some(mut live) = self.live.take() else {
             return Err(SessionFault::Spent);
         };
-        let reaction = running.answer(id, codes)?;
-        self.running = Some(running);
+        live.stale = true;
+        let reaction = live.running.answer(id, codes)?;
+        self.live = Some(live);
         Ok(reaction)
     }
 
@@ -114,79 +146,143 @@ impl Session {
     /// memory.
     pub fn closed(&mut self, now: u64) -> Result<Reaction, SessionFault>
         requires { now < 2 ^ 62 }
-        ensures { Called (ClosedStep now) never never self.old result self.new }
+        ensures called { Called (ClosedStep now) never never (state_of self.old) result (state_of self.new) }
+        ensures spelled { IfOk result (λ r. AreSpelled now r.packets) }
+        ensures notes { NotesIf self.old self.new }
     {
-        let Some(mut running) = self.running.take() else {
+        let Some(mut live) = self.live.take() else {
             return Err(SessionFault::Spent);
         };
-        let reaction = running.closed(now);
-        self.running = Some(running);
+        live.stale = true;
+        let reaction = live.running.closed(now);
+        self.live = Some(live);
         Ok(reaction)
     }
 
     /// Does one thing that is due: the Keep Alive, else the will, else the end. Only a will wants memory.
     pub fn tick(&mut self, now: u64) -> Result<Reaction, SessionFault>
         requires { now < 2 ^ 62 }
-        ensures { Called (TickStep now) HasWill never self.old result self.new }
+        ensures called { Called (TickStep now) HasWill never (state_of self.old) result (state_of self.new) }
+        ensures spelled { IfOk result (λ r. AreSpelled now r.packets) }
+        ensures notes { NotesIf self.old self.new }
     {
-        let Some(mut running) = self.running.take() else {
+        let Some(mut live) = self.live.take() else {
             return Err(SessionFault::Spent);
         };
-        let reaction = running.tick(now)?;
-        self.running = Some(running);
+        live.stale = true;
+        let reaction = live.running.tick(now)?;
+        self.live = Some(live);
         Ok(reaction)
     }
 
     /// The session ends now; a will that waits is published first. Only a will wants memory.
     pub fn finish(&mut self, now: u64) -> Result<Reaction, SessionFault>
         requires { now < 2 ^ 62 }
-        ensures { Called (FinishStep now) HasWill never self.old result self.new }
+        ensures called { Called (FinishStep now) HasWill never (state_of self.old) result (state_of self.new) }
+        ensures spelled { IfOk result (λ r. AreSpelled now r.packets) }
+        ensures notes { NotesIf self.old self.new }
     {
-        let Some(mut running) = self.running.take() else {
+        let Some(mut live) = self.live.take() else {
             return Err(SessionFault::Spent);
         };
-        let reaction = running.finish(now)?;
-        self.running = Some(running);
+        live.stale = true;
+        let reaction = live.running.finish(now)?;
+        self.live = Some(live);
         Ok(reaction)
     }
 
     /// Whether no packet came for one and a half times the Keep Alive (MQTT 5.0, 3.1.2.10).
     pub fn run_out(&self, now: u64) -> bool
-        ensures { IfSome self.now (λ s. result ≡ ending.has_run_out s.link now) }
+        ensures { IfSome (state_of self.now) (λ s. result ≡ ending.has_run_out s.link now) }
     {
-        match &self.running {
-            Some(running) => running.has_run_out(now),
+        match &self.live {
+            Some(live) => live.running.has_run_out(now),
             None => false,
+        }
+    }
+
+    /// The moment from which on no packet came for one and a half times the Keep Alive (MQTT 5.0, 3.1.2.10), where that is
+    /// below 2^64.
+    pub fn runs_out_at(&self) -> Option<u64>
+        ensures { IfSome (state_of self.now) (λ s. result ≡ ending.in_time (ending.runs_out_at s.link)) }
+    {
+        match &self.live {
+            Some(live) => runs_out_at(&live.running.connection),
+            None => None,
         }
     }
 
     /// The moment when the will of a closed session is published (MQTT 5.0, 3.1.3.2.2).
     pub fn will_due(&self) -> Option<u64>
-        ensures { IfSome self.now (λ s. result ≡ ending.will_due s.kept) }
+        ensures { IfSome (state_of self.now) (λ s. result ≡ ending.will_due s.kept) }
     {
-        match &self.running {
-            Some(running) => running.kept.will_due(),
+        match &self.live {
+            Some(live) => live.running.kept.will_due(),
             None => None,
         }
     }
 
     /// The moment when a closed session ends (MQTT 5.0, 3.1.2.11.2).
     pub fn end_due(&self) -> Option<u64>
-        ensures { IfSome self.now (λ s. result ≡ ending.end_due s.kept) }
+        ensures { IfSome (state_of self.now) (λ s. result ≡ ending.end_due s.kept) }
     {
-        match &self.running {
-            Some(running) => running.kept.end_due(),
+        match &self.live {
+            Some(live) => live.running.kept.end_due(),
             None => None,
+        }
+    }
+
+    /// Whether no close was told since the last connection began.
+    pub fn is_connected(&self) -> bool
+        ensures { MatchOption (state_of self.now) (result ≡ false) (λ s. result ≡ ending.is_connected s.kept.phase) }
+    {
+        match &self.live {
+            Some(live) => live.running.kept.is_connected(),
+            None => false,
         }
     }
 
     /// The longest packet that the client takes, where it is connected.
     pub fn limit(&self) -> Option<u64>
-        ensures { IfSome self.now (λ s. result ≡ limit_of s.link) }
+        ensures { IfSome (state_of self.now) (λ s. result ≡ limit_of s.link) }
     {
-        match &self.running {
-            Some(running) => running.limit(),
+        match &self.live {
+            Some(live) => live.running.limit(),
             None => None,
         }
+    }
+
+    /// The rows of the session: its own, and one for each of its copies, by rising place.
+    pub fn rows(&self) -> Result<Vec<Row>, SessionFault>
+        ensures { ListsIf self.now result }
+    {
+        match &self.live {
+            Some(live) => Ok(live.rows()?),
+            None => Err(SessionFault::Spent),
+        }
+    }
+
+    /// The session whose rows these are, in that order, without a connection. BadRow where no session has just these.
+    pub fn from_rows(alloc: Global, rows: &[Row]) -> Result<Session, SessionFault>
+        ensures { OpensFrom rows.now result }
+    {
+        match read_session(alloc, rows) {
+            Ok(kept) => open(alloc, kept),
+            Err(RowFault::BadRow) => Err(SessionFault::BadRow),
+            Err(_) => Err(SessionFault::NoMemory),
+        }
+    }
+
+    /// The changes that lead from the rows that were told last, by this call or `from_rows`, to those of the session. A new
+    /// session has told none. Each row that differs is named once, and no other.
+    pub fn changes(&mut self) -> Result<Vec<Change>, SessionFault>
+        ensures { TellsIf self.old result self.new }
+    {
+        let Some(mut live) = self.live.take() else {
+            return Err(SessionFault::Spent);
+        };
+        let changes = live.changes()?;
+        self.live = Some(live);
+        Ok(changes)
     }
 }

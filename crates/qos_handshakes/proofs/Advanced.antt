@@ -1,5 +1,5 @@
 -- What `advance` chooses, and what it leaves.
-use Rattle.std.proofs.Common.{◌≡◌, ℕ, ◌+◌, ◌<◌, ◌≤◌, true, false, not, [], ◌∷◌, Some, None, IsSome, refl, sym, ◌∙◌, ap, arith, inl, inr}
+use Rattle.std.proofs.Common.{◌≡◌, ℕ, ◌+◌, ◌<◌, ◌≤◌, true, false, not, List, [], ◌∷◌, length, Some, None, IsSome, refl, sym, ◌∙◌, ap, arith, inl, inr}
 use Rattle.std.specs.List.{AllByRecursion}
 use Rattle.std.specs.BTreeMap.{is_at}
 use Rattle.std.specs.Map.{keys_of}
@@ -15,10 +15,10 @@ use Rattle.mqtt_message.specs.Messages.{is_alive}
 use Rattle.qos_handshakes.specs.Length.{length_of}
 use Rattle.qos_handshakes.specs.declared.copies.Entry.{Entry}
 use Rattle.qos_handshakes.specs.Entries.{Entries, Held, HasRange, find_id, write_at, at_place, as_here, as_published, HasRoom, NoneFree, IsLeastFree, AllPlacesBelow}
-use Rattle.qos_handshakes.specs.Outbox.{Outbox, Sent, CanBeSent, stage_id, resent, is_sendable, waits, in_flight, is_owed, is_published, fits, first_owed, after_resend, first_waiting, after_send, without_large, without_left_out, AreOwedFrom, AreOwedWithin, AreAnswered, HaveOrders, IsFirstOwed, IsQueued, IsCounted, NextStep, ChoosesAt}
+use Rattle.qos_handshakes.specs.Outbox.{Outbox, Sent, CanBeSent, stage_id, waiting, resent, is_sendable, waits, in_flight, is_owed, is_published, fits, first_owed, after_resend, first_waiting, after_send, without_large, without_left_out, AreOwedFrom, AreOwedWithin, AreAnswered, HaveOrders, IsFirstOwed, IsQueued, IsCounted, NextStep, ChoosesAt}
 use Rattle.qos_handshakes.proofs.Indexed.{owed-id, some-and, is_at-here, is_at-apart, at-head, at-tail, at-written}
 use Rattle.qos_handshakes.proofs.EntryLaws.{none-head, none-tail, none-cons, waits-owed, NoneOwed, not-true}
-use Rattle.qos_handshakes.proofs.Counted.{skip-end, answered-at, orders-at, below-at, some-first, none-first}
+use Rattle.qos_handshakes.proofs.Counted.{queue-length, skip-end, answered-at, orders-at, below-at, some-first, none-first}
 use Rattle.qos_handshakes.proofs.Owed.{AreSorted, none-within, within-end, nothing-large}
 
 -- ---- what is owed stands before what waits
@@ -187,11 +187,23 @@ chooses-none_free now limit old cs quota is none free =
     let t = none-left now limit old.copies cs is none in
     record { step = inr (inl (quota, t.0, rw (← t.1) free, ap (λ (es : Entries). record old { copies = es }) t.1)) }
 
-pub chooses-nothing : (now limit first next : ℕ) (old : Outbox) (cs ds : Entries) → in_flight old.copies < old.maximum → cs ≡ without_large now limit old.copies → NoneOwed cs → ds ≡ without_left_out now limit cs → IsQueued first next ds → next ≤ first → NextStep now limit old None (record old { copies = ds })
-chooses-nothing now limit first next old cs ds quota is none left queued past =
+-- an identifier is free, or none waits
+pub one-free : (es : Entries) (id : ℕ) → IsLeastFree es id → NoneFree es → waiting es ≡ []
+one-free es id least none = let some = none id least.first least.last in absurd (false≢true (rw least.free at some))
+
+nothing-waits : (first next : ℕ) (es : Entries) → IsQueued first next es → next ≤ first → waiting es ≡ []
+nothing-waits first next es queued past = no-length (waiting es) (omega (arith, queue-length first next es queued, past))
+  where
+    no-length : (ds : List Delivery) → length ds ≡ 0 → ds ≡ []
+    no-length [] is = refl
+    no-length (d ∷ ds) is = absurd (omega (arith, is))
+
+pub chooses-nothing : (now limit first next : ℕ) (old : Outbox) (cs ds : Entries) → in_flight old.copies < old.maximum → cs ≡ without_large now limit old.copies → NoneOwed cs → ds ≡ without_left_out now limit cs → IsQueued first next ds → next ≤ first
+    → (NoneFree cs → waiting cs ≡ []) → NextStep now limit old None (record old { copies = ds })
+chooses-nothing now limit first next old cs ds quota is none left queued past free =
     let t = none-left now limit old.copies cs is none in
     let n = none-first now limit first next cs ds left queued past in
-    record { step = inr (inr (quota, t.0, rw (← t.1) n.0, ap (λ (es : Entries). record old { copies = es }) (n.1 ∙ ap (after_send now limit 0) t.1))) }
+    record { step = inr (inr (quota, t.0, rw (← t.1) n.0, ap (λ (es : Entries). record old { copies = es }) (n.1 ∙ ap (after_send now limit 0) t.1), rw (← t.1) free)) }
 
 pub chooses-first : (now limit id first next : ℕ) (old : Outbox) (cs ds ns : Entries) → in_flight old.copies < old.maximum → cs ≡ without_large now limit old.copies → NoneOwed cs → IsLeastFree cs id → ds ≡ without_left_out now limit cs → IsQueued first next ds → first < next → IsSome (first_waiting now limit ds) → without_left_out now limit ds ≡ ds
     → ns ≡ write_at (as_published id) first ds → ChoosesAt now limit old first false (record old { copies = ns })
@@ -260,6 +272,7 @@ pub chooses-idle : (now limit first flight next from : ℕ) (old : Outbox) → I
 chooses-idle now limit first flight next from old h sorted quota past owed =
     let none = within-end from first old.copies (counted-within old.copies old.copies first flight next from h refl sorted) owed in
     chooses-nothing now limit first next old old.copies old.copies quota (sym (nothing-large now limit old.copies none)) none (sym (skip-end now limit 0 first next old.copies h.queued past).0) h.queued past
+    (λ _. nothing-waits first next old.copies h.queued past)
 
 -- where no resend is owed, none is from any place on
 none-from : (k : ℕ) (es : Entries) → NoneOwed es → AreOwedFrom k es

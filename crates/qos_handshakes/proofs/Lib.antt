@@ -7,5 +7,7 @@ pub mod Marking
 pub mod EntryLaws
 pub mod Ordered
 pub mod Owed
+pub mod RangeLaws
 pub mod RestoringLaws
+pub mod RiseLaws
 pub mod SpelledLaws

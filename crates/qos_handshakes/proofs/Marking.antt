@@ -1,6 +1,6 @@
 -- Places that are touched.
-use Rattle.std.proofs.Common.{◌≡◌, ◌≢◌, ℕ, zero, suc, drop, get_or, add-one, ◌+◌, ◌*◌, ◌<◌, ◌≤◌, ◌||◌, ◌⊎◌, true, false, List, [], ◌∷◌, ◌++◌, Option, Some, None, IsSome, length, refl, sym, ◌∙◌, ap, arith, inl, inr}
-use Rattle.std.proofs.lemmas.Bool.{cases_eq, cases_lt, cases_Bool, eq-eqb, eqb-true, or_right, false≢true}
+use Rattle.std.proofs.Common.{◌≡◌, ◌≢◌, ℕ, zero, suc, drop, get_or, add-one, ◌+◌, ◌*◌, ◌<◌, ◌≤◌, ◌||◌, ◌⊎◌, Bool, true, false, List, [], ◌∷◌, ◌++◌, Option, Some, None, IsSome, length, refl, sym, ◌∙◌, ap, arith, inl, inr}
+use Rattle.std.proofs.lemmas.Bool.{cases_eq, cases_lt, cases_Bool, eq-eqb, eqb-true, lt-ltb, le-ltb, or_right, false≢true}
 use Rattle.std.proofs.lemmas.Bool.Decides.{nat_tests}
 use Rattle.std.specs.BTreeSet.{insert_key}
 use Rattle.std.specs.declared.cmp.Ordering.TheVariants.{Less, Equal, Greater}
@@ -11,7 +11,7 @@ use Rattle.std.specs.List.Sorted.{IsStrictlySortedBy}
 use Rattle.std.proofs.lemmas.Cmp.{ranked}
 use Rattle.std.proofs.lemmas.Map.Keys.{sorted_head, sorted_tail}
 use Rattle.std.specs.Ordering.{nat_cmp}
-use Rattle.std.specs.Prelude.{◌==◌, IsSomeAnd}
+use Rattle.std.specs.Prelude.{◌==◌, nat_lt, IsSomeAnd}
 use Rattle.qos_handshakes.specs.declared.copies.Entry.{Entry}
 use Rattle.qos_handshakes.specs.declared.copies.Stage.{Stage}
 use Rattle.qos_handshakes.specs.declared.copies.Stage.TheVariants.{Waiting, Published, Released}
@@ -19,8 +19,8 @@ use Rattle.mqtt_fields.specs.declared.options.Qos.{Qos}
 use Rattle.mqtt_fields.specs.declared.options.Qos.TheVariants.{AtMostOnce, AtLeastOnce, ExactlyOnce}
 use Rattle.mqtt_message.specs.declared.delivery.Delivery.{Delivery}
 use Rattle.qos_handshakes.specs.Entries.{Entries, at_place, find_id, write_at, as_here, as_published, as_released, place_in, IsIndexed, AllPlacesBelow}
-use Rattle.qos_handshakes.specs.Outbox.{away, waits, waiting_entry, is_owed, takes_pubrec}
-use Rattle.qos_handshakes.specs.Touched.{is_in, HasAll, AreListed, durable, Touches, Marked, Marks, stage_credits, credits_of, credits, IsPlaceOf}
+use Rattle.qos_handshakes.specs.Outbox.{Outbox, away, waits, waiting_entry, is_owed, takes_pubrec}
+use Rattle.qos_handshakes.specs.Touched.{is_in, HasAll, AreListed, durable, Touches, Marked, Marks, stage_credits, credits_of, credits, IsPlaceOf, Watched, Advances, TouchesChanged, stage_progress, progress_of}
 use Rattle.qos_handshakes.proofs.Indexed.{is_at-here, is_at-apart, at-head, at-tail, at-removed, at-written, at-written_other, points-to, find-none, none-listed, drop-indexed, find-indexed, only-listed, write-at}
 
 in-last : (p : ℕ) (ts : List ℕ) → is_in p (ts ++ p ∷ []) ≡ true
@@ -133,7 +133,7 @@ pub touches-same : (es ns : Entries) (ts us : List ℕ) → ns ≡ es → us ≡
 touches-same es ns ts us is same = rw (is, same) (record { still = λ p h. h; changed = λ p. inl refl; only = λ p h. inl h })
 
 pub marks-same : (es ns : Entries) (l : Marked) → ns ≡ es → Marks es l ns l
-marks-same es ns l is = record { touches = touches-same es ns l.places l.places is refl; less = λ p. rw is (omega arith); spent = λ p h. inl h; room = λ h. rw is h }
+marks-same es ns l is = record { touches = touches-same es ns l.places l.places is refl; less = λ p. rw is (omega arith); moves = λ p. inl (rw is refl); spent = λ p h. inl h; room = λ h. rw is h }
 
 spent-then : (es fs gs : Entries) (l k m : Marked) → Marks es l fs k → Marks fs k gs m → (p : ℕ) → is_in p m.places ≡ true → (is_in p l.places ≡ true) ⊎ (credits_of (at_place p gs) < credits_of (at_place p es))
 spent-then es fs gs l k m a b p h = elim (b.spent p h) [
@@ -159,6 +159,13 @@ marks-then es fs gs l k m a b = record {
     ];
   };
   less = λ p. omega (arith, a.less p, b.less p);
+  moves = λ p. elim (a.moves p) [
+    | inl x ↦ elim (b.moves p) [
+      | inl y ↦ inl (x ∙ y)
+      | inr y ↦ inr (omega (arith, y, a.less p))
+    ]
+    | inr x ↦ inr (omega (arith, x, b.less p))
+  ];
   spent = spent-then es fs gs l k m a b;
   room = λ h. b.room (a.room h);
 }
@@ -187,6 +194,10 @@ marks-at : (es ns : Entries) (l k : Marked) (place : ℕ) → credits_of (at_pla
 marks-at es ns l k place less same marked room = record {
   touches = touched-at es ns l k place marked (spent-differs (at_place place es) (at_place place ns) less) same;
   less = less-at es ns place less same;
+  moves = λ p. elim (cases_eq p place) [
+    | inl here ↦ inr (rw here less)
+    | inr apart ↦ inl (sym (ap durable (same p apart)))
+  ];
   spent = spent-at es ns l k place marked less;
   room = room;
 }
@@ -228,6 +239,7 @@ pub marks-here : (es ns : Entries) (l : Marked) (place : ℕ) → ns ≡ write_a
 marks-here es ns l place is = record {
   touches = record { still = λ p h. h; changed = λ p. inl (rw is (durable-here p place es)); only = λ p h. inl h };
   less = λ p. rw is (omega (arith, credits-same _ _ (durable-here p place es)));
+  moves = λ p. inl (rw is (durable-here p place es));
   spent = λ p h. inl h;
   room = λ h. rw (is, credits-here place es) h;
 }
@@ -245,6 +257,69 @@ durable-away p (e ∷ es) = elim (cases_eq e.0 p) [
 
 pub touches-away : (es ns : Entries) (ts : List ℕ) → ns ≡ away es → Touches es ts ns ts
 touches-away es ns ts is = record { still = λ p h. h; changed = λ p. inl (rw is (durable-away p es)); only = λ p h. inl h }
+
+-- ---- how far what stands at a place has come
+progress-durable : (b : Bool) (o : Option Entry) → progress_of b (durable o) ≡ progress_of b o
+progress-durable b None = refl
+progress-durable b (Some x) = refl
+
+progress-same : (b : Bool) (o n : Option Entry) → durable o ≡ durable n → progress_of b o ≡ progress_of b n
+progress-same b o n e = sym (progress-durable b o) ∙ ap (progress_of b) e ∙ progress-durable b n
+
+stage-progress : (s : Stage) → stage_progress s + stage_credits s ≡ 4
+stage-progress Waiting = refl
+stage-progress (Published id) = refl
+stage-progress (Released id order) = refl
+
+-- what may be touched less often has come further
+further : (b : Bool) (o n : Option Entry) → (o ≢ None → b ≡ true) → credits_of n < credits_of o → progress_of b o < progress_of b n
+further b None n used less = absurd (omega (arith, less))
+further b (Some x) None used less = rw (used (λ e. absurd cc)) (omega (arith, stage-progress x.stage, some-credit x.stage))
+further b (Some x) (Some y) used less = omega (arith, less, stage-progress x.stage, stage-progress y.stage)
+
+used-below : (p next : ℕ) (es : Entries) → AllPlacesBelow es next → at_place p es ≢ None → nat_lt p next ≡ true
+used-below p next [] below some = absurd (some refl)
+used-below p next (e ∷ es) below some = elim (cases_eq e.0 p) [
+  | inl here ↦ lt-ltb p next (omega (arith, here, below.0))
+  | inr apart ↦ used-below p next es below.1 (rw (is_at-apart p e.0 apart) at some)
+]
+
+advances-by : (es ns : Entries) (next : ℕ) → AllPlacesBelow es next → ((p : ℕ) → (durable (at_place p es) ≡ durable (at_place p ns)) ⊎ (credits_of (at_place p ns) < credits_of (at_place p es))) → Advances next es next ns
+advances-by es ns next below moves p = elim (moves p) [
+  | inl same ↦ inl (same, progress-same (nat_lt p next) (at_place p es) (at_place p ns) same)
+  | inr less ↦ inr (further (nat_lt p next) (at_place p es) (at_place p ns) (used-below p next es below) less)
+]
+
+-- marked changes
+pub watched-marked : (es ns : Entries) (next : ℕ) (l k : Marked) → AllPlacesBelow es next → Marks es l ns k → Touches es l.places ns k.places × Advances next es next ns
+watched-marked es ns next l k below m = (m.touches, advances-by es ns next below m.moves)
+
+-- a new connection
+pub watched-away : (es ns : Entries) (next : ℕ) (ts : List ℕ) → AllPlacesBelow es next → ns ≡ away es → Touches es ts ns ts × Advances next es next ns
+watched-away es ns next ts below is = (touches-away es ns ts is, advances-by es ns next below (λ p. inl (rw is (durable-away p es))))
+
+lt-next : (p q : ℕ) → p ≢ q → nat_lt p (q + 1) ≡ nat_lt p q
+lt-next p q apart = elim (cases_lt p q) [
+  | inl lt ↦ lt-ltb p (q + 1) (omega arith) ∙ sym (lt-ltb p q lt)
+  | inr le ↦ le-ltb p (q + 1) (omega arith) ∙ sym (le-ltb p q le)
+]
+
+-- a copy that joins the queue
+pub watched-pushed : (next : ℕ) (c : Delivery) (es ns : Entries) (l k : Marked) → AllPlacesBelow es next → ns ≡ es ++ (next, waiting_entry c) ∷ [] → k.places ≡ l.places ++ next ∷ [] → Touches es l.places ns k.places × Advances next es (next + 1) ns
+watched-pushed next c es ns l k below is marked = (
+  touched-pushed next c es ns l k below is marked,
+  λ p. elim (cases_eq p next) [
+    | inl here ↦
+        let was : at_place p es ≡ None = rw here (none-past next es below) in
+        let comes : at_place p ns ≡ Some (waiting_entry c) = rw (is, here) (at-last next (waiting_entry c) es below) in
+        let unused : nat_lt p next ≡ false = rw here (le-ltb next next (omega arith)) in
+        inr (rw (was, comes, unused) (omega arith))
+    | inr apart ↦
+        let same : at_place p ns ≡ at_place p es = rw is (at-pushed next p (waiting_entry c) es apart) in
+        let used = lt-next p next apart in
+        inl (rw same refl, rw (same, used) refl)
+  ],
+)
 
 -- ---- stages that take less
 pub less-sent : (id : ℕ) (s : Stage) → waits s ≡ true → 3 ≤ stage_credits s

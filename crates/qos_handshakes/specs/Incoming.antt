@@ -60,6 +60,10 @@ abbrev pub of_identifiers : List ℕ → Received
 of_identifiers [] = []
 of_identifiers (i ∷ is) = (i, false) ∷ of_identifiers is
 
+abbrev pub identifiers_of : Received → List ℕ
+identifiers_of [] = []
+identifiers_of (e ∷ es) = e.0 ∷ identifiers_of es
+
 -- the first identifier from one on
 abbrev pub identifier_from : ℕ → Received → Option ℕ
 identifier_from id [] = None

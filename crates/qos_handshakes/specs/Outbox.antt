@@ -206,12 +206,14 @@ abbrev pub after_send : ℕ → ℕ → ℕ → Entries → Entries
 after_send now limit id [] = []
 after_send now limit id (e ∷ es) = cond (waits e.1.stage) (cond (is_sendable now limit e.1.delivery) ((e.0, record e.1 { stage = Published id; here = true }) ∷ es) (after_send now limit id es)) (e ∷ after_send now limit id es)
 
--- nothing is sent: no quota, no identifier, or nothing that is not left out
+-- nothing is sent: no quota, no identifier, or nothing that is not left out; and nothing is left out of the queue while no
+-- identifier is free
 pub record SendsNothing (now limit : ℕ) (old new : Outbox) : Type 0 where
   pub step : ((old.maximum ≤ in_flight old.copies) × (new ≡ old))
       ⊎ (((in_flight old.copies < old.maximum) × (first_owed now limit old.copies ≡ None) × NoneFree (after_resend now limit old.copies) × (new ≡ record old { copies = after_resend now limit old.copies }))
       ⊎ ((in_flight old.copies < old.maximum) × (first_owed now limit old.copies ≡ None) × (first_waiting now limit (after_resend now limit old.copies) ≡ None)
-      × (new ≡ record old { copies = after_send now limit 0 (after_resend now limit old.copies) })))
+      × (new ≡ record old { copies = after_send now limit 0 (after_resend now limit old.copies) })
+      × (NoneFree (after_resend now limit old.copies) → waiting (after_resend now limit old.copies) ≡ [])))
 
 -- an exchange of an earlier connection is sent again
 pub record Resends (now limit : ℕ) (old : Outbox) (s : Sent) (new : Outbox) : Type 0 where

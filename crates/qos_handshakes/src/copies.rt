@@ -211,6 +211,17 @@ impl Copies {
         place_of(&self.places, id)
     }
 
+    /// The places of the entries.
+    pub fn places(&self, alloc: Global) -> Result<Vec<u64>, NoMemory>
+        ensures { IfOk result (λ places. places.items ≡ keys_of self.now.entries) }
+    {
+        let mut places = Vec::new(alloc);
+        for place in self.entries.keys() {
+            places.push(*place)?;
+        }
+        Ok(places)
+    }
+
     /// How many entries there are.
     pub fn count(&self) -> usize
         ensures { result ≡ length self.now.entries }

@@ -1,6 +1,6 @@
 //! What came from one client at QoS 1 and QoS 2, over all connections of its session (MQTT 5.0, 4.3.2 and 4.3.3).
 ghost use Rattle.std.specs.Prelude.{◌≡◌, ◌<◌, [], true, false, IfOk, OnErr, MatchOption, is_some, None};
-ghost use Rattle.qos_handshakes.specs.Incoming.{Publish1Answer, Publish2Step, ReleaseStep, identifier_from, of_before, of_identifiers, opened, opened_here, rise};
+ghost use Rattle.qos_handshakes.specs.Incoming.{Publish1Answer, Publish2Step, ReleaseStep, identifier_from, identifiers_of, of_before, of_identifiers, opened, opened_here, rise};
 
 use crate::answers::{Ack, In};
 use mqtt_fields::NoMemory;
@@ -40,6 +40,17 @@ fn mark_of_before(exchanges: &mut BTreeMap<u16, bool>)
     });
 }
 
+fn identifiers_in(alloc: Global, exchanges: &BTreeMap<u16, bool>) -> Result<Vec<u16>, NoMemory>
+    ensures all { IfOk result (λ ids. ids.items ≡ identifiers_of exchanges.now.entries) }
+    ensures rise { IfOk result (λ ids. rise ids.items ≡ true) }
+{
+    let mut ids = Vec::new(alloc);
+    for id in exchanges.keys() {
+        ids.push(*id)?;
+    }
+    Ok(ids)
+}
+
 impl Incoming {
     /// Of a session that has just been made.
     pub fn new(alloc: Global) -> Self
@@ -69,6 +80,14 @@ impl Incoming {
             first = u32::from(id);
         }
         Ok(Some(Incoming { exchanges, here: 0 }))
+    }
+
+    /// The identifiers in use, which rise. They are all that is kept.
+    pub fn identifiers(&self, alloc: Global) -> Result<Vec<u16>, NoMemory>
+        ensures all { IfOk result (λ ids. ids.items ≡ identifiers_of self.now) }
+        ensures rise { IfOk result (λ ids. rise ids.items ≡ true) }
+    {
+        identifiers_in(alloc, &self.exchanges)
     }
 
     /// The first identifier in use from one on. By rising identifiers these are all that are kept.

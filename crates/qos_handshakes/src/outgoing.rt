@@ -1,6 +1,9 @@
 //! What is owed to one client at QoS 1 and QoS 2, over all connections of its session (MQTT 5.0, 4.3 and 4.4).
 ghost use Rattle.std.specs.Prelude.{◌≡◌, ◌≢◌, ◌+◌, ◌<◌, ◌≤◌, ◌^◌, ◌++◌, ◌∷◌, [], ℕ, true, false, Some, MatchResult, IfErr, OnErr, IfOk, OnOk, MatchOption, None, IsSome, IfSome, IsSomeAnd};
 ghost use Rattle.std.specs.Borrow.{sem};
+ghost use Rattle.std.specs.List.{AllByRecursion};
+ghost use Rattle.std.specs.Map.{keys_of};
+ghost use Rattle.std.specs.Option.{option_copied};
 ghost use Rattle.mqtt_packets.specs.declared.packet.Packet.TheVariants.{Publish};
 ghost use Rattle.mqtt_packets.specs.Written.{HasSpelling};
 ghost use Rattle.mqtt_message.specs.Sent.{sent};
@@ -9,7 +12,7 @@ ghost use Rattle.qos_handshakes.specs.Entries.{at_place, drop_id, find_id, place
 ghost use Rattle.qos_handshakes.specs.Restored.{agree, restored};
 ghost use Rattle.qos_handshakes.specs.Lending.{LeavesNext};
 ghost use Rattle.qos_handshakes.specs.Length.{length_of};
-ghost use Rattle.qos_handshakes.specs.Touched.{AreListed, Marks, TouchesChanged, credits};
+ghost use Rattle.qos_handshakes.specs.Touched.{ArePlaced, AreListed, Marks, TouchesChanged, credits};
 ghost use Rattle.qos_handshakes.specs.Outbox.{CanBeSent, in_flight, stage_id, ResumeStep, LostStep, ReleasesStep, NextStep, ChoosesAt, AreOwedWithin, IsFirstOwed, is_owed, without_large, OfferStep, AcknowledgeStep, CompleteStep, ReceivedStep, takes_puback, takes_pubrec, is_released, is_sendable, IsQueued, without_left_out, first_waiting};
 
 use crate::answers::{Ack, Offer, Rec};
@@ -256,6 +259,27 @@ impl Outgoing {
         Some((found, entry))
     }
 
+    /// The places of the copies, which rise.
+    pub fn places(&self, alloc: Global) -> Result<Vec<u64>, NoMemory>
+        ensures { IfOk result (λ places. places.items ≡ keys_of self.now.box.copies) }
+    {
+        self.copies.places(alloc)
+    }
+
+    /// What stands at a place.
+    pub fn entry_at(&self, place: u64) -> Option<&Entry>
+        ensures { option_copied result ≡ at_place place self.now.box.copies }
+    {
+        self.copies.at(place)
+    }
+
+    /// The places rise, and are below the next one. This does nothing; its contract is a law.
+    pub fn are_placed(&self)
+        ensures { ArePlaced self.now.box }
+    {
+        self.copies.are_ordered();
+    }
+
     /// The place that the next delivery offered gets.
     pub fn next_place(&self) -> u64
         ensures { result ≡ self.now.box.next_place }
@@ -316,10 +340,12 @@ impl Outgoing {
         self.resume(0);
     }
 
-    /// The identifiers of the exchanges whose PUBREC came, in the order of the first PUBRECs.
+    /// The identifiers of the exchanges whose PUBREC came, in the order of the first PUBRECs. They are from 1 to 65,535.
     pub fn releases(&self, alloc: Global) -> Result<Vec<u16>, NoMemory>
-        ensures { IfOk result (λ ids. ReleasesStep self.now.box ids.items self.now.box) }
+        ensures step { IfOk result (λ ids. ReleasesStep self.now.box ids.items self.now.box) }
+        ensures identifiers { IfOk result (λ ids. AllByRecursion (λ id. (1 ≤ id) × (id ≤ 65535)) ids.items) }
     {
+        self.copies.are_in_range();
         self.copies.releases(alloc)
     }
 

@@ -14,3 +14,6 @@ pub mod ReleasedLaws
 pub mod FlyingLaws
 pub mod ElseLaws
 pub mod EventLaws
+pub mod StepLaws
+pub mod OutcomeLaws
+pub mod ReopenedLaws

@@ -10,3 +10,5 @@ pub mod Arrivals
 pub mod Exchanges
 pub mod Releases
 pub mod Quota
+pub mod Outcomes
+pub mod Reopened

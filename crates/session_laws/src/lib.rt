@@ -9,5 +9,6 @@ pub mod order;
 pub mod quiet;
 pub mod quota;
 pub mod releases;
+pub mod reopened;
 pub mod replies;
 pub mod resends;

@@ -2,8 +2,10 @@
 
 ghost use Rattle.std.specs.Prelude.{◌≡◌, ◌<◌, ◌^◌, Some, IfOk, IsTrue};
 ghost use Rattle.mqtt_packets.specs.Written.{HasSpelling};
-ghost use Rattle.mqtt_sessions.specs.State.{IsPublishableIf, new_session};
+ghost use Rattle.mqtt_sessions.specs.Saved.{begun_session};
+ghost use Rattle.mqtt_sessions.specs.State.{IsPublishableIf};
 
+use crate::rows::{changes, reopened, rows};
 use crate::stop::Stop;
 use crate::told::{moment, told};
 use mqtt_fields::Text;
@@ -103,7 +105,7 @@ fn delivery(alloc: Global, payload: &str, qos: u64) -> Result<Delivery, Stop> {
 
 /// A session before its first connection.
 pub fn fresh(alloc: Global, client: &str) -> Result<Session, Stop>
-    ensures { IfOk result (λ s. s ≡ Some (new_session client.now)) }
+    ensures { IfOk result (λ s. s ≡ Some (begun_session client.now)) }
 {
     match Text::new(alloc, client) {
         Ok(client) => Ok(Session::new(alloc, client)),
@@ -145,7 +147,10 @@ fn answer(alloc: Global, session: &mut Session, id: u64, codes: &str) -> Result<
     let Ok(codes) = hex::decode(alloc, codes) else {
         return Err(Stop::Word);
     };
-    let result = session.answer((id % 65_536) as u16, &codes);
+    if id == 0 || id > 65_535 || codes.is_empty() {
+        return Err(Stop::Word);
+    }
+    let result = session.answer(id as u16, &codes);
     told(alloc, &result, 0)
 }
 
@@ -219,6 +224,12 @@ fn kinds(alloc: Global, digits: &str) -> Result<String, Stop> {
 /// What a call of one word about it comes to.
 fn of_word(alloc: Global, session: &mut Session, verb: &str, word: &str) -> Result<String, Stop> {
     match verb {
+        "changes" => changes(alloc, session),
+        "rows" => rows(alloc, session),
+        "reopen" => {
+            *session = reopened(alloc, session)?;
+            rows(alloc, session)
+        }
         "take" => take(alloc, session, word, true),
         "refuse" => take(alloc, session, word, false),
         "kinds" => kinds(alloc, word),
@@ -254,7 +265,8 @@ fn of_words(
 
 /// What a call comes to: a verb, and one word or two about it.
 pub fn answered(alloc: Global, session: &mut Session, call: &str) -> Result<String, Stop> {
-    let (verb, about) = call.trim().split_once(' ').unwrap_or((call, ""));
+    let call = call.trim();
+    let (verb, about) = call.split_once(' ').unwrap_or((call, ""));
     match about.split_once(' ') {
         Some((first, second)) => of_words(alloc, session, verb, first, second),
         None => of_word(alloc, session, verb, about),

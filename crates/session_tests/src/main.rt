@@ -4,6 +4,7 @@
 #![tactic(auto)]
 
 mod call;
+mod rows;
 mod stop;
 mod told;
 

@@ -1,3 +1,4 @@
+use Rattle.session_rows.proofs.FollowLaws.{follows_then, follows_touched}
 use Rattle.mqtt_sessions.proofs.Flushed.{sent-more, sends-less}
 use Rattle.mqtt_sessions.proofs.sending.flush.Goals as goal
 
@@ -9,5 +10,10 @@ loop-sending-smaller c =
 pub loop-sending-preserved : goal.loop-sending-preserved
 loop-sending-preserved c =
     let h = rw c.in-Some.is at (rw c.in_ok-sending.was at c.next.follows.holds-at-none) in
-    rw (c.in_ok-push.ensures.items, c.in_ok-delivery.ensures)
-    (sent-more c.args.now c.args.limit c.args.outgoing.now.box c.args.packets.now.items _ _ _ _ c.loop-sending.invariant h.0)
+    let is = rw c.in-Some.is at (rw c.in_ok-sending.was at c.next.ensures.spelled) in
+    record {
+      sent =
+          rw (c.in_ok-push.ensures.items, c.in_ok-delivery.ensures)
+          (sent-more c.args.now c.args.limit c.args.outgoing.now.box c.args.packets.now.items _ _ _ _ c.loop-sending.invariant.sent h.0 is);
+      follows = follows_then _ _ _ c.loop-sending.invariant.follows (follows_touched _ _ h.1);
+    }

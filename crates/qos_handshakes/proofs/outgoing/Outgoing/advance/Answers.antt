@@ -3,9 +3,9 @@ use Rattle.qos_handshakes.specs.Entries.{Held, at_place, as_published}
 use Rattle.qos_handshakes.specs.Outbox.{in_flight, without_left_out, without_large}
 use Rattle.qos_handshakes.proofs.Counted.{queue-length, skip-waits, counted-left, counted-sent, least-left}
 use Rattle.qos_handshakes.proofs.Owed.{within-end}
-use Rattle.qos_handshakes.proofs.Advanced.{resend-can, send-can, chooses-idle, counted-within, counted-anew, counted-large, counted-here, room-large, chooses-resend, chooses-none_free, chooses-nothing, chooses-first}
+use Rattle.qos_handshakes.proofs.Advanced.{one-free, resend-can, send-can, chooses-idle, counted-within, counted-anew, counted-large, counted-here, room-large, chooses-resend, chooses-none_free, chooses-nothing, chooses-first}
 use Rattle.qos_handshakes.proofs.Indexed.{waiting-at}
-use Rattle.qos_handshakes.proofs.Marking.{marks-then, marks-within, marks-here, marks-written, less-sent, credit-there}
+use Rattle.qos_handshakes.proofs.Marking.{marks-then, marks-within, marks-here, marks-written, less-sent, credit-there, watched-marked}
 use Rattle.qos_handshakes.proofs.outgoing.Outgoing.advance.Goals as goal
 
 pub next_owed-owed-requires-clause-room : goal.next_owed-owed-requires-clause-room
@@ -25,7 +25,7 @@ invariant_of-self-then-owed-self c =
 
 pub returns-then-owed-self-clause-touched : goal.returns-then-owed-self-clause-touched
 returns-then-owed-self-clause-touched c =
-    rw (← c.self.view_is) (marks-then _ _ _ _ _ _ (marks-within _ _ _ _ _ _ c.reserve.ensures.same c.next_owed-owed.ensures.marks refl) (marks-here _ _ _ _ (ap (λ (h : Held). h.entries) c.send_again.ensures))).touches
+    rw (← c.self.view_is) (watched-marked _ _ _ c.self.inside.log c.next_owed-owed.new.log c.self.invariant.counted.below (marks-then _ _ _ _ _ _ (marks-within _ _ _ _ _ _ c.reserve.ensures.same c.next_owed-owed.ensures.marks refl) (marks-here _ _ _ _ (ap (λ (h : Held). h.entries) c.send_again.ensures))))
 
 pub returns-then-owed-self-clause-step : goal.returns-then-owed-self-clause-step
 returns-then-owed-self-clause-step c =
@@ -75,7 +75,7 @@ returns-then-first-self-clause-step c =
     let none = within-end c.next_owed-owed.result c.self.inside.first_waiting _ c.next_owed-owed.ensures.owed c.if-owed-self.false in
     let left = ap (λ (h : Held). h.entries) c.skip-first.ensures.entries in
     let quota : in_flight c.self.inside.copies.entries < c.self.inside.maximum = omega (arith, c.self.invariant.counted.flight_is) in
-    rw (← c.self.view_is) (chooses-nothing c.args.now c.args.limit c.skip-first.result c.self.inside.next_place _ c.next_owed-owed.new.copies.entries _ quota is none left c.skip-first.ensures.queued (omega arith))
+    rw (← c.self.view_is) (chooses-nothing c.args.now c.args.limit c.skip-first.result c.self.inside.next_place _ c.next_owed-owed.new.copies.entries _ quota is none left c.skip-first.ensures.queued (omega arith) (one-free _ _ c.in-Some.ensures.0))
 
 pub publish-requires-clause-waiting : goal.publish-requires-clause-waiting
 publish-requires-clause-waiting c =
@@ -110,7 +110,7 @@ invariant_of-self-2 c =
 pub returns-clause-touched : goal.returns-clause-touched
 returns-clause-touched c =
     let its = waiting-at (at_place c.skip-first.result c.skip-first.new.copies.entries) (skip-waits _ c.self.inside.next_place _ c.skip-first.ensures.queued (omega (arith, queue-length _ _ _ c.skip-first.ensures.queued))) in
-    rw (← c.self.view_is) (marks-then _ _ _ _ _ _ (marks-then _ _ _ _ _ _ (marks-within _ _ _ _ _ _ c.reserve.ensures.same c.next_owed-owed.ensures.marks refl) c.skip-first.ensures.marks) (marks-written (as_published c.in-Some.id) _ _ _ _ c.skip-first.result its.0 its.1 (omega (arith, less-sent c.in-Some.id its.0.stage its.2)) (ap (λ (h : Held). h.entries) c.publish.ensures) c.mark.ensures.places c.mark.ensures.room)).touches
+    rw (← c.self.view_is) (watched-marked _ _ _ c.self.inside.log c.mark.new.self c.self.invariant.counted.below (marks-then _ _ _ _ _ _ (marks-then _ _ _ _ _ _ (marks-within _ _ _ _ _ _ c.reserve.ensures.same c.next_owed-owed.ensures.marks refl) c.skip-first.ensures.marks) (marks-written (as_published c.in-Some.id) _ _ _ _ c.skip-first.result its.0 its.1 (omega (arith, less-sent c.in-Some.id its.0.stage its.2)) (ap (λ (h : Held). h.entries) c.publish.ensures) c.mark.ensures.places c.mark.ensures.room)))
 
 pub returns-clause-step : goal.returns-clause-step
 returns-clause-step c =
@@ -140,3 +140,11 @@ returns-clause-sent c =
     let head = c.skip-first.ensures.head lt in
     let counted = counted-left c.args.now c.args.limit _ _ _ _ _ c.next_owed-owed.new.copies.entries _ (counted-large c.args.now c.args.limit _ _ _ _ _ _ _ c.self.inside.first_waiting c.self.invariant.counted is c.next_owed-owed.ensures.owed) left c.skip-first.ensures.queued in
     send-can c.args.now c.args.limit c.in-Some.id c.skip-first.result _ _ _ c.next_owed-owed.new.copies.entries c.skip-first.new.copies.entries _ counted c.in-Some.ensures.0 left lt head.0 head.1 (ap (λ (h : Held). h.entries) c.publish.ensures)
+
+pub returns-in_default-clause-touched : goal.returns-in_default-clause-touched
+returns-in_default-clause-touched c =
+    rw (← c.self.view_is) (watched-marked _ _ _ c.self.inside.log c.next_owed-owed.new.log c.self.invariant.counted.below (marks-within _ _ _ _ _ _ c.reserve.ensures.same c.next_owed-owed.ensures.marks refl))
+
+pub returns-then-first-self-clause-touched : goal.returns-then-first-self-clause-touched
+returns-then-first-self-clause-touched c =
+    rw (← c.self.view_is) (watched-marked _ _ _ c.self.inside.log c.skip-first.new.log c.self.invariant.counted.below (marks-then _ _ _ _ _ _ (marks-within _ _ _ _ _ _ c.reserve.ensures.same c.next_owed-owed.ensures.marks refl) c.skip-first.ensures.marks))

@@ -1,7 +1,7 @@
 use Rattle.std.proofs.Common.{◌-◌, ap, sym, ◌∙◌, refl, arith}
 use Rattle.qos_handshakes.specs.Entries.{Held}
 use Rattle.qos_handshakes.proofs.Counted.{counted-dropped, in_flight-dropped, sent-here}
-use Rattle.qos_handshakes.proofs.Marking.{marks-removed, credit-there}
+use Rattle.qos_handshakes.proofs.Marking.{marks-removed, credit-there, watched-marked}
 use Rattle.qos_handshakes.proofs.outgoing.Outgoing.end.Goals as goal
 
 pub place_of-requires : goal.place_of-requires
@@ -41,9 +41,9 @@ invariant_of-self-else-here c =
 pub returns-then-here-clause-touched : goal.returns-then-here-clause-touched
 returns-then-here-clause-touched c =
     let its = sent-here _ _ (rw (← c.self.view_is) at c.requires) in
-    rw (← c.self.view_is) (marks-removed _ _ _ _ c.place_of.result its.0 c.are_ordered.ensures (c.place_of.ensures.at ∙ its.1) (ap (λ (h : Held). h.entries) c.remove.ensures ∙ c.place_of.ensures.dropped) c.mark.ensures.places c.mark.ensures.room).touches
+    rw (← c.self.view_is) (watched-marked _ _ _ c.self.inside.log c.mark.new.self c.self.invariant.counted.below (marks-removed _ _ _ _ c.place_of.result its.0 c.are_ordered.ensures (c.place_of.ensures.at ∙ its.1) (ap (λ (h : Held). h.entries) c.remove.ensures ∙ c.place_of.ensures.dropped) c.mark.ensures.places c.mark.ensures.room))
 
 pub returns-else-here-clause-touched : goal.returns-else-here-clause-touched
 returns-else-here-clause-touched c =
     let its = sent-here _ _ (rw (← c.self.view_is) at c.requires) in
-    rw (← c.self.view_is) (marks-removed _ _ _ _ c.place_of.result its.0 c.are_ordered.ensures (c.place_of.ensures.at ∙ its.1) (ap (λ (h : Held). h.entries) c.remove.ensures ∙ c.place_of.ensures.dropped) c.mark.ensures.places c.mark.ensures.room).touches
+    rw (← c.self.view_is) (watched-marked _ _ _ c.self.inside.log c.mark.new.self c.self.invariant.counted.below (marks-removed _ _ _ _ c.place_of.result its.0 c.are_ordered.ensures (c.place_of.ensures.at ∙ its.1) (ap (λ (h : Held). h.entries) c.remove.ensures ∙ c.place_of.ensures.dropped) c.mark.ensures.places c.mark.ensures.room))

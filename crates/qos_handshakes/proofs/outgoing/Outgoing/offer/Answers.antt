@@ -1,7 +1,7 @@
 use Rattle.std.proofs.Common.{ℕ, List, [], ◌∷◌, ◌++◌, ap, refl, ◌∙◌, arith}
 use Rattle.qos_handshakes.specs.Entries.{Held}
 use Rattle.qos_handshakes.proofs.Counted.{counted-pushed, queue-length}
-use Rattle.qos_handshakes.proofs.Marking.{credits-pushed, credits-most, touched-pushed}
+use Rattle.qos_handshakes.proofs.Marking.{credits-pushed, credits-most, watched-pushed}
 use Rattle.qos_handshakes.proofs.outgoing.Outgoing.offer.Goals as goal
 
 pub overflow_sub-self-inside : goal.overflow_sub-self-inside
@@ -17,7 +17,7 @@ invariant_of-self-2 c =
 
 pub returns-clause-touched : goal.returns-clause-touched
 returns-clause-touched c =
-    rw (← c.self.view_is) (touched-pushed c.self.inside.next_place c.args.delivery _ _ c.self.inside.log c.mark.new.self c.self.invariant.counted.below (ap (λ (h : Held). h.entries) c.in_ok-push.ensures.ok) (c.mark.ensures.places ∙ ap (λ (ts : List ℕ). ts ++ c.self.inside.next_place ∷ []) c.reserve.ensures.same))
+    rw (← c.self.view_is) (watched-pushed c.self.inside.next_place c.args.delivery _ _ c.self.inside.log c.mark.new.self c.self.invariant.counted.below (ap (λ (h : Held). h.entries) c.in_ok-push.ensures.ok) (c.mark.ensures.places ∙ ap (λ (ts : List ℕ). ts ++ c.self.inside.next_place ∷ []) c.reserve.ensures.same))
 
 pub returns-then-self-ge-QUEUE-clause-offered : goal.returns-then-self-ge-QUEUE-clause-offered
 returns-then-self-ge-QUEUE-clause-offered c = (rw (← c.self.view_is) (omega (arith, queue-length _ _ _ c.self.invariant.counted.queued)), refl)

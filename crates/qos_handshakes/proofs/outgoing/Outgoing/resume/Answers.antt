@@ -1,7 +1,7 @@
-use Rattle.std.proofs.Common.{ap}
+use Rattle.std.proofs.Common.{ap, refl}
 use Rattle.qos_handshakes.specs.Entries.{Held}
 use Rattle.qos_handshakes.proofs.Owed.{counted-resumed}
-use Rattle.qos_handshakes.proofs.Marking.{credits-away, touches-away}
+use Rattle.qos_handshakes.proofs.Marking.{credits-away, watched-away}
 use Rattle.qos_handshakes.proofs.outgoing.Outgoing.resume.Goals as goal
 
 pub invariant_of-self : goal.invariant_of-self
@@ -11,4 +11,4 @@ invariant_of-self c = record {
 }
 
 pub returns-clause-touched : goal.returns-clause-touched
-returns-clause-touched c = rw (← c.self.view_is) (touches-away _ _ _ (ap (λ (h : Held). h.entries) c.resume.ensures))
+returns-clause-touched c = rw (← c.self.view_is) (watched-away _ _ _ _ c.self.invariant.counted.below (ap (λ (h : Held). h.entries) c.resume.ensures))

@@ -1,0 +1,12 @@
+use Rattle.std.proofs.Common.{[], ◌∷◌}
+use Rattle.mqtt_sessions.specs.declared.reaction.Output.TheVariants.{Answer}
+use Rattle.mqtt_sessions.specs.Reaction.{pubrels_of}
+use Rattle.mqtt_sessions.proofs.Flushed.{spelled-append}
+use Rattle.mqtt_sessions.proofs.ReactionLaws.{pubrels_spelled}
+use Rattle.mqtt_sessions.proofs.running.Running.connect.Goals as goal
+
+pub flush-requires-clause-spelled : goal.flush-requires-clause-spelled
+flush-requires-clause-spelled c =
+    let ids = c.in_ok-ids.ids.items in
+    rw (c.in_ok-release.ensures, c.in_ok-packets.ensures, c.deref.ensures.value)
+    (spelled-append c.args.now (Answer c.in_ok-answer.answer.packet ∷ []) (pubrels_of ids) (c.in_ok-answer.ensures.spelled, tt) (pubrels_spelled c.args.now ids c.in_ok-ids.ensures.identifiers))

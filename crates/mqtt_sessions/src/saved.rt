@@ -1,0 +1,173 @@
+//! A session, and what was told last of its rows.
+
+ghost use Rattle.std.specs.Prelude.{◌≡◌, ◌++◌, List, [], ℕ, map, Some, MatchOption, IfOk, OnOk};
+ghost use Rattle.row_store.specs.Rows as store;
+ghost use Rattle.qos_handshakes.specs.Touched.{AreListed};
+ghost use Rattle.session_rows.specs.Changes as changes;
+ghost use Rattle.session_rows.specs.Changes.{plain_of};
+ghost use Rattle.session_rows.specs.Durable.{IsMomentIf, IsPublishableIf};
+ghost use Rattle.session_rows.specs.Fields as fields;
+ghost use Rattle.session_rows.specs.Rows.{rows_of};
+ghost use Rattle.mqtt_sessions.specs.Saved.{Tells, begun_session, durable_of, main_of, told_of, tracked_in};
+
+use crate::kept::Kept;
+use crate::running::Running;
+use mqtt_fields::{NoMemory, Text};
+use row_store::{Change, Row};
+use session_rows::{Opened, Told, copy_changes, own_change, rows, write_main};
+use std::alloc::Global;
+use std::marker::Model;
+
+impl Running {
+    fn alloc(&self) -> Global {
+        self.alloc
+    }
+
+    /// The value of the session's own row.
+    fn main_value(&self) -> Result<Vec<u8>, NoMemory>
+        ensures { IfOk result (λ value. value.items ≡ fields.main.bytes (main_of self.now.state)) }
+    {
+        let ids = self.incoming.identifiers(self.alloc)?;
+        let mut value = Vec::new(self.alloc);
+        write_main(
+            self.kept.expiry(),
+            self.kept.closed(),
+            self.kept.will(),
+            &ids,
+            self.outgoing.next_place(),
+            &mut value,
+        )?;
+        Ok(value)
+    }
+
+    /// Of what was kept.
+    fn open(alloc: Global, kept: Opened) -> Running
+        requires publishable { IsPublishableIf kept.will }
+        requires moment { IsMomentIf kept.closed }
+        ensures { result ≡ tracked_in kept }
+    {
+        Running {
+            kept: Kept::open(kept.client, kept.expiry, kept.closed, kept.will),
+            incoming: kept.incoming,
+            outgoing: kept.outgoing,
+            connection: None,
+            alloc,
+        }
+    }
+
+    fn rows(&self) -> Result<Vec<Row>, NoMemory>
+        ensures { IfOk result (λ rows. map store.entry_of rows.items ≡ rows_of (durable_of self.now.state)) }
+    {
+        let value = self.main_value()?;
+        rows(self.alloc, self.kept.client(), &value, &self.outgoing)
+    }
+}
+
+/// A session that isn't spent.
+#[derive(Drop)]
+pub(crate) struct Live {
+    pub(crate) running: Running,
+    told: Told,
+    /// Whether the value of its own row may differ from what was told.
+    pub(crate) stale: bool,
+}
+
+impl Model for Live {
+    ghost use Rattle.mqtt_sessions.specs.Saved.{Saved, IsFresh};
+
+    ghost Value = { Saved };
+
+    ghost view = { λ l. record { tracked = l.running; told = l.told } };
+
+    ghost invariant = { λ l. IsFresh l.stale l.running l.told };
+}
+
+impl Live {
+    pub(crate) fn new(alloc: Global, client: Text) -> Live
+        ensures { result ≡ begun_session client }
+    {
+        Live {
+            running: Running::new(alloc, client),
+            told: Told::nothing(),
+            stale: true,
+        }
+    }
+
+    pub(crate) fn rows(&self) -> Result<Vec<Row>, NoMemory>
+        ensures { IfOk result (λ rows. map store.entry_of rows.items ≡ rows_of (durable_of self.now.tracked.state)) }
+    {
+        self.running.rows()
+    }
+
+    /// Of what was kept, which is what was told.
+    pub(crate) fn open(alloc: Global, kept: Opened) -> Result<Live, NoMemory>
+        requires publishable { IsPublishableIf kept.will }
+        requires moment { IsMomentIf kept.closed }
+        ensures { IfOk result (λ l. l ≡ record { tracked = tracked_in kept; told = told_of (durable_of (tracked_in kept).state) }) }
+    {
+        let running = Running::open(alloc, kept);
+        let value = running.main_value()?;
+        let told = Told::of(value, running.outgoing.next_place());
+        Ok(Live {
+            running,
+            told,
+            stale: false,
+        })
+    }
+
+    /// The value of its own row, unless it is known to be as it was told.
+    fn own_value(&self) -> Result<Option<Vec<u8>>, NoMemory>
+        ensures { IfOk result (λ o. MatchOption o (self.now.told.value ≡ Some (fields.main.bytes (main_of self.now.tracked.state))) (λ v. v.items ≡ fields.main.bytes (main_of self.now.tracked.state))) }
+    {
+        if !self.stale {
+            return Ok(None);
+        }
+        let value = self.running.main_value()?;
+        Ok(Some(value))
+    }
+
+    /// The change of its own row, if its value differs.
+    fn tell_own(&mut self) -> Result<Vec<Change>, NoMemory>
+        ensures changes { IfOk result (λ all. map plain_of all.items ≡ changes.own_change self.old.told.value self.old.tracked.state.kept.client (fields.main.bytes (main_of self.old.tracked.state))) }
+        ensures told { OnOk result (self.new ≡ record self.old { told = record self.old.told { value = Some (fields.main.bytes (main_of self.old.tracked.state)) } }) }
+    {
+        let value = self.own_value()?;
+        let alloc = self.running.alloc();
+        let Some(value) = value else {
+            return Ok(Vec::new(alloc));
+        };
+        let is_told = self.told.is_told(&value);
+        let mut all = Vec::new(alloc);
+        own_change(alloc, self.running.kept.client(), is_told, &value, &mut all)?;
+        self.told.tell(value);
+        self.stale = false;
+        Ok(all)
+    }
+
+    /// Appends the changes of its copies.
+    fn tell_copies(&mut self, all: &mut Vec<Change>) -> Result<(), NoMemory>
+        ensures changes { OnOk result ((places : List ℕ) × AreListed self.old.tracked.touched places × (map plain_of all.new.items ≡ map plain_of all.old.items ++ changes.copy_changes self.old.tracked.state.kept.client self.old.told.next_place self.old.tracked.state.outbox.copies places)) }
+        ensures told { OnOk result (self.new ≡ record { tracked = record self.old.tracked { touched = [] }; told = record self.old.told { next_place = self.old.tracked.state.outbox.next_place } }) }
+    {
+        let alloc = self.running.alloc();
+        let places = self.running.outgoing.touched(alloc)?;
+        copy_changes(
+            alloc,
+            self.running.kept.client(),
+            self.told.next_place(),
+            &self.running.outgoing,
+            &places,
+            all,
+        )?;
+        self.told.advance(self.running.outgoing.next_place());
+        Ok(())
+    }
+
+    pub(crate) fn changes(&mut self) -> Result<Vec<Change>, NoMemory>
+        ensures { IfOk result (λ changes. Tells self.old changes.items self.new) }
+    {
+        let mut all = self.tell_own()?;
+        self.tell_copies(&mut all)?;
+        Ok(all)
+    }
+}

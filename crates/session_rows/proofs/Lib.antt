@@ -1,0 +1,6 @@
+pub mod CopiesLaws
+pub mod DurableLaws
+pub mod FieldLaws
+pub mod FollowLaws
+pub mod RiseLaws
+pub mod ToldLaws

@@ -1,0 +1,5 @@
+pub mod Changes
+pub mod Durable
+pub mod Fields
+pub mod Reading
+pub mod Rows

@@ -1,0 +1,70 @@
+//! Wills in rows.
+
+ghost use Rattle.std.specs.Prelude.{◌≡◌, ◌++◌, OnOk};
+ghost use Rattle.mqtt_fields.specs.Reading.{Gives};
+ghost use Rattle.mqtt_message.specs.Spelling.{optional};
+ghost use Rattle.session_rows.specs.Durable.{IsPublishableIf};
+ghost use Rattle.mqtt_message.specs.Accepted.{IsPublishable};
+ghost use Rattle.session_rows.specs.Fields as fields;
+
+use crate::field::{flag_at, payload_at, put_flag, qos_at};
+use mqtt_fields::{
+    FieldFault, NoMemory, Place, Text, properties_of, put_long, put_u8, write_properties,
+};
+use mqtt_message::Will;
+use std::alloc::Global;
+
+#[tactic(auto, unfolding(crate::specs::Fields::will))]
+fn will_at(alloc: Global, bytes: &[u8]) -> Result<(Will, &[u8]), FieldFault>
+    ensures { Gives (λ x. (x.0, x.1.now)) result (fields.will.at bytes.now) }
+{
+    let (topic, rest) = Text::at(alloc, bytes)?;
+    let (payload, rest) = payload_at(alloc, rest)?;
+    let (properties, rest) = properties_of(alloc, Place::Will, rest)?;
+    let (qos, rest) = qos_at(rest)?;
+    let (retain, rest) = flag_at(rest)?;
+    let will = Will {
+        retain,
+        qos,
+        properties,
+        topic,
+        payload,
+    };
+    Ok((will, rest))
+}
+
+/// A will that may be missing.
+pub(crate) fn will_if_at(alloc: Global, bytes: &[u8]) -> Result<(Option<Will>, &[u8]), FieldFault>
+    ensures { Gives (λ x. (x.0, x.1.now)) result ((optional fields.will).at bytes.now) }
+{
+    let (present, rest) = flag_at(bytes)?;
+    if !present {
+        return Ok((None, rest));
+    }
+    let (will, rest) = will_at(alloc, rest)?;
+    Ok((Some(will), rest))
+}
+
+#[tactic(auto, unfolding(crate::specs::Fields::will))]
+fn put_will(will: &Will, out: &mut Vec<u8>) -> Result<(), NoMemory>
+    requires { IsPublishable will.now }
+    ensures { OnOk result (out.new.items ≡ out.old.items ++ fields.will.bytes will.now) }
+{
+    will.topic.write(out)?;
+    put_long(will.payload.as_bytes(), out)?;
+    write_properties(&will.properties, out)?;
+    put_u8(will.qos.number(), out)?;
+    put_flag(will.retain, out)
+}
+
+/// Appends a will that may be missing.
+pub(crate) fn put_will_if(will: &Option<Will>, out: &mut Vec<u8>) -> Result<(), NoMemory>
+    requires { IsPublishableIf will.now }
+    ensures { OnOk result (out.new.items ≡ out.old.items ++ (optional fields.will).bytes will.now) }
+{
+    put_flag(will.is_some(), out)?;
+    match will {
+        None => Ok(()),
+        Some(will) => put_will(will, out),
+    }
+}
