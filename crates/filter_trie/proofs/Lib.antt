@@ -1,2 +1,11 @@
 pub mod Tables
 pub mod Selecting
+pub mod Order
+pub mod LevelLaws
+pub mod StepLaws
+pub mod Walking
+pub mod FilterWalk
+pub mod TopicWalk
+pub mod ShareLaws
+pub mod OnwardLaws
+pub mod Jumping

@@ -1,2 +1,5 @@
 pub mod Selected
 pub mod Tries
+pub mod Seeking
+pub mod Steps
+pub mod Onward

@@ -5,6 +5,7 @@ ghost use Rattle.std.specs.Option.{option_copied};
 ghost use Rattle.std.specs.FinMap as map;
 ghost use Rattle.filter_trie.specs.Tries.{AreFiltersFor};
 
+use crate::seeks::{Onward, past_filter};
 use mqtt_fields::NoMemory;
 use mqtt_topics::{Filter, TopicName};
 use std::alloc::Global;
@@ -82,9 +83,16 @@ impl<V> FilterTrie<V> {
         ensures none { AreFiltersFor self.now name.now [] → IsOk result }
     {
         let mut out = Vec::new(self.alloc);
-        for (filter, value) in self.pairs.iter() {
+        let mut left = self.pairs.range(..);
+        while let Some((filter, value)) = left.next() {
             if filter.matches(name) {
                 out.push((filter, value))?;
+                continue;
+            }
+            match past_filter(self.alloc, filter, name) {
+                Onward::Next => {}
+                Onward::From(bound) => left = self.pairs.range(bound..),
+                Onward::End => return Ok(out),
             }
         }
         Ok(out)

@@ -2,9 +2,10 @@
 #![tactic(auto)]
 
 mod filters;
-#[cfg(test)]
-mod tests;
+mod seeks;
+mod steps;
 mod topics;
+mod walks;
 
 pub use filters::FilterTrie;
-pub use topics::TopicTrie;
+pub use topics::{TopicTrie, names_matching};

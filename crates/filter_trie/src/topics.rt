@@ -3,8 +3,14 @@
 ghost use Rattle.std.specs.Prelude.{◌≡◌, [], map as map_list, None, IfOk, OnOk, IfErr, OnErr, IsOk};
 ghost use Rattle.std.specs.Option.{option_copied};
 ghost use Rattle.std.specs.FinMap as map;
+ghost use Rattle.std.specs.BTreeMap.{IsOrdered};
+ghost use Rattle.std.specs.Ordering.{nat_cmp};
+ghost use Rattle.std.specs.Cmp.Lexicographic.{slice_cmp};
+ghost use Rattle.mqtt_topics.specs.Matching.{Matches};
+ghost use Rattle.filter_trie.specs.Selected.{IsSelected};
 ghost use Rattle.filter_trie.specs.Tries.{AreNamesFor};
 
+use crate::seeks::{Onward, past_name};
 use mqtt_fields::NoMemory;
 use mqtt_topics::{Filter, TopicName};
 use std::alloc::Global;
@@ -81,12 +87,34 @@ impl<V> TopicTrie<V> {
             AreNamesFor self.now filter.now (map_list (λ r. (r.0.now, r.1.now)) out.items)) }
         ensures none { AreNamesFor self.now filter.now [] → IsOk result }
     {
-        let mut out = Vec::new(self.alloc);
-        for (name, value) in self.pairs.iter() {
-            if filter.matches(name) {
-                out.push((name, value))?;
-            }
-        }
-        Ok(out)
+        names_matching(self.alloc, &self.pairs, filter)
     }
+}
+
+/// The pairs of a map by topic name whose name the filter matches, in the order of the names' bytes, by a walk that passes the
+/// others by. It takes memory only where one matches.
+pub fn names_matching<'a, V>(
+    alloc: Global,
+    pairs: &'a BTreeMap<TopicName, V>,
+    filter: &Filter,
+) -> Result<Vec<(&'a TopicName, &'a V)>, NoMemory>
+    ensures pairs { IfOk result (λ out. IsSelected (λ e. Matches filter.now e.0) pairs.now.entries
+        (map_list (λ r. (r.0.now, r.1.now)) out.items)) }
+    ensures none { IsSelected (λ e. Matches filter.now e.0) pairs.now.entries [] → IsOk result }
+    ensures ordered { IsOrdered (slice_cmp nat_cmp) pairs.now }
+{
+    let mut out = Vec::new(alloc);
+    let mut left = pairs.range(..);
+    while let Some((name, value)) = left.next() {
+        if filter.matches(name) {
+            out.push((name, value))?;
+            continue;
+        }
+        match past_name(alloc, filter, name) {
+            Onward::Next => {}
+            Onward::From(bound) => left = pairs.range(bound..),
+            Onward::End => return Ok(out),
+        }
+    }
+    Ok(out)
 }

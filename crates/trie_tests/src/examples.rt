@@ -1,4 +1,4 @@
-use crate::{FilterTrie, TopicTrie};
+use filter_trie::{FilterTrie, TopicTrie};
 use mqtt_fields::Text;
 use mqtt_topics::{Filter, TopicFault, TopicName};
 use std::alloc::Global;

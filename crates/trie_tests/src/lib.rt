@@ -1,0 +1,7 @@
+//! Tests of the maps by topic filter and by topic name.
+#![tactic(auto)]
+
+#[cfg(test)]
+mod examples;
+#[cfg(test)]
+mod pairs;
