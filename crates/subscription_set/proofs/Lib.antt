@@ -1,8 +1,10 @@
 pub mod Counting
+pub mod Filtered
 pub mod Indexing
 pub mod Joins
 pub mod Latest
 pub mod Lists
+pub mod Matched
 pub mod Merges
 pub mod Order
 pub mod Pairs
@@ -14,3 +16,5 @@ pub mod Spans
 pub mod Spreading
 pub mod Standings
 pub mod Tables
+pub mod Leaving
+pub mod Walking

@@ -3,7 +3,8 @@ use Rattle.std.specs.Prelude.{◌≡◌, ℕ, Bool, false, true, List, length, n
 use Rattle.std.specs.FinMap as map
 use Rattle.std.specs.FinSet as set
 use Rattle.causal_context.specs.Dots.{Dot, dot_cmp}
-use Rattle.subscription_set.specs.Entries.{Entry, is_of, recency_cmp}
+use Rattle.mqtt_topics.specs.Matching.{Matches}
+use Rattle.subscription_set.specs.Entries.{Entry, is_of, same_text, recency_cmp}
 use Rattle.std.specs.Ordering.{is_lt}
 use Rattle.subscription_set.specs.Filing.{Filed, Places}
 use Rattle.subscription_set.specs.Standing.{latest}
@@ -26,6 +27,16 @@ pub record IsIndexed (m : ByDot) (clients : Filed) (places : Places) (count : �
   pub of_filter : (c f : List ℕ) (d : Dot) → set.contains places (c, (f, d)) ≡ stands_as c (Some f) (map.get m d)
   pub live : count ≡ length (latest (map.entries m))
 
+-- whether there is an entry, and it is to the filter
+abbrev pub stands_to : List ℕ → Option Entry → Bool
+stands_to filter None = false
+stands_to filter (Some e) = same_text filter e.filter
+
+-- the same, and the dots of each filter
+pub record IsInStep (m : ByDot) (clients : Filed) (places : Places) (filters : Filed) (count : ℕ) : Type 0 where
+  pub indexed : IsIndexed m clients places count
+  pub matched : (f : List ℕ) (d : Dot) → set.contains filters (f, d) ≡ stands_to f (map.get m d)
+
 -- s has the dots that stand of the client and, where one is given, to the filter, and there is one
 pub record IsStanding (m : ByDot) (client : List ℕ) (filter : Option (List ℕ)) (s : set.FinSet dot_cmp) : Type 0 where
   pub same : (d : Dot) → set.contains s d ≡ stands_as client filter (map.get m d)
@@ -40,3 +51,8 @@ later_at x d (Some e) = is_lt (recency_cmp x (d, e))
 abbrev pub below_at : ℕ → Option Entry → Bool
 below_at version None = false
 below_at version (Some e) = nat_lt e.version version
+
+-- there is an entry, and its filter matches the name
+abbrev pub MatchesName : List ℕ → Option Entry → Type 0
+MatchesName name None = ⊥
+MatchesName name (Some e) = Matches e.filter name

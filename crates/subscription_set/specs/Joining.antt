@@ -1,5 +1,5 @@
 -- What a merge takes out and brings.
-use Rattle.std.specs.Prelude.{◌≡◌, Bool, not, ◌&&◌, cond, is_some, List, Some, None}
+use Rattle.std.specs.Prelude.{◌≡◌, Bool, false, not, ◌&&◌, cond, is_some, List, Option, Some, None}
 use Rattle.std.specs.List.{list_any}
 use Rattle.std.specs.Ordering.{eq_by_cmp}
 use Rattle.std.specs.FinMap as map
@@ -8,6 +8,7 @@ use Rattle.causal_context.specs.Dots.{Dots, Dot, dot_cmp}
 use Rattle.subscription_set.specs.Entries.{Entry}
 use Rattle.subscription_set.specs.Merging.{same_entry}
 use Rattle.subscription_set.specs.Indexing.{ByDot}
+use Rattle.subscription_set.specs.Statuses.{Status}
 
 -- the other has seen the entry's dot, and has not the same entry there
 abbrev pub leaves_with : Dots → ByDot → Dot × Entry → Bool
@@ -23,6 +24,13 @@ leaves_from m seen others q = is_some (map.get m q) && (set.contains seen q && n
 -- the dots whose entries a merge takes out
 abbrev pub AreLeaving : ByDot → Dots → ByDot → List Dot → Type 0
 AreLeaving m seen others out = (q : Dot) → list_any (eq_by_cmp dot_cmp q) out ≡ leaves_from m seen others q
+
+-- what stands here leaves by the join: the other has seen its dot, and has not the same entry there
+abbrev pub is_leaving : Option Status → Option Status → Bool
+is_leaving (Some (Some e)) (Some y) = not (same_entry (Some e) y)
+is_leaving (Some (Some e)) None = false
+is_leaving (Some None) y = false
+is_leaving None y = false
 
 -- the dots of the other's entries that were not seen here
 abbrev pub AreUnseen : Dots → ByDot → List Dot → Type 0

@@ -2,6 +2,7 @@ pub mod Entries
 pub mod Filing
 pub mod Indexing
 pub mod Joining
+pub mod Matching
 pub mod Merging
 pub mod Sorted
 pub mod Standing

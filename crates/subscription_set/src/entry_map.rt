@@ -1,5 +1,5 @@
 //! Entries under their dots, found by client and filter too.
-ghost use Rattle.std.specs.Prelude.{◌≡◌, ◌<◌, ◌^◌, ℕ, List, None, Some, false, true, MatchOption, OnOk, OnErr, length};
+ghost use Rattle.std.specs.Prelude.{◌≡◌, ◌<◌, ◌^◌, ℕ, List, None, Some, false, true, MatchOption, OnOk, OnErr, IfOk, IsOk, ◌↔◌, length};
 ghost use Rattle.std.specs.Option.{option_copied};
 ghost use Rattle.std.specs.FinMap as map;
 ghost use Rattle.std.specs.FinSet as set;
@@ -10,52 +10,65 @@ ghost use Rattle.std.specs.FinMap.Entries.{where_key};
 ghost use Rattle.subscription_set.specs.Entries.{same_text};
 ghost use Rattle.subscription_set.specs.Standing.{latest};
 ghost use Rattle.subscription_set.specs.Filing.{IsPlaced};
-ghost use Rattle.subscription_set.specs.Indexing.{IsStanding, stands_as};
+ghost use Rattle.subscription_set.specs.Indexing.{IsStanding, MatchesName, stands_as};
 
 use crate::by_client::ByClient;
+use crate::by_filter::ByFilter;
 use crate::dots::DotSet;
 use crate::entry::Entry;
 use crate::groups::Groups;
 use causal_context::{Dot, Range};
 use mqtt_fields::{NoMemory, Text};
-use mqtt_topics::Filter;
+use mqtt_topics::{Filter, TopicName};
 use std::alloc::Global;
 use std::collections::BTreeMap;
 use std::collections::btree_map::{self, Iter};
 use std::marker::Model;
 
-/// Where dots stand: the dots of each client, and of each client and filter.
+/// Where dots stand: the dots of each client, of each client and filter, and of each filter.
 #[derive(Drop)]
 pub struct Index {
     clients: Groups,
     filters: ByClient,
+    matches: ByFilter,
 }
 
 impl Index {
     fn new(alloc: Global) -> Index
         ensures clients { result.clients ≡ set.empty }
         ensures filters { result.filters ≡ set.empty }
+        ensures matches { result.matches ≡ set.empty }
     {
         Index {
             clients: Groups::new(alloc),
             filters: ByClient::new(alloc),
+            matches: ByFilter::new(alloc),
         }
     }
 
     // Puts the dot under the entry's client and filter, where it isn't.
     fn file(&mut self, dot: Dot, entry: &Entry) -> Result<(), NoMemory>
-        requires { set.contains self.old.clients (entry.now.client, dot) ≡ false }
+        requires clients { set.contains self.old.clients (entry.now.client, dot) ≡ false }
+        requires filters { set.contains self.old.filters (entry.now.client, (entry.now.filter, dot)) ≡ false }
         ensures clients { OnOk result
             (self.new.clients ≡ set.insert self.old.clients (entry.now.client, dot)) }
         ensures filters { OnOk result (self.new.filters
             ≡ set.insert self.old.filters (entry.now.client, (entry.now.filter, dot))) }
+        ensures matches { OnOk result
+            (self.new.matches ≡ set.insert self.old.matches (entry.now.filter, dot)) }
         ensures clients_stay { OnErr result (self.new.clients ≡ self.old.clients) }
         ensures filters_stay { OnErr result (self.new.filters ≡ self.old.filters) }
+        ensures matches_stay { OnErr result (self.new.matches ≡ self.old.matches) }
     {
         self.clients.add(entry.client(), dot)?;
-        match self.filters.add(entry.client(), entry.filter(), dot) {
+        if let Err(fault) = self.filters.add(entry.client(), entry.filter(), dot) {
+            self.clients.remove(entry.client(), dot);
+            return Err(fault);
+        }
+        match self.matches.add(entry.filter(), dot) {
             Ok(()) => Ok(()),
             Err(fault) => {
+                self.filters.remove(entry.client(), entry.filter(), dot);
                 self.clients.remove(entry.client(), dot);
                 Err(fault)
             }
@@ -80,9 +93,11 @@ impl Index {
             ≡ set.remove self.old.clients (entry.now.client, dot) }
         ensures filters { self.new.filters
             ≡ set.remove self.old.filters (entry.now.client, (entry.now.filter, dot)) }
+        ensures matches { self.new.matches ≡ set.remove self.old.matches (entry.now.filter, dot) }
     {
         self.clients.remove(entry.client(), dot);
         self.filters.remove(entry.client(), entry.filter(), dot);
+        self.matches.remove(entry.filter(), dot);
     }
 }
 
@@ -99,7 +114,7 @@ impl Model for EntryMap {
     ghost use Rattle.std.specs.FinMap as map;
     ghost use Rattle.causal_context.specs.Dots.{dot_cmp, coded_dot};
     ghost use Rattle.subscription_set.specs.Entries.{coded_entry};
-    ghost use Rattle.subscription_set.specs.Indexing.{ByDot, IsIndexed};
+    ghost use Rattle.subscription_set.specs.Indexing.{ByDot, IsInStep};
 
     ghost Value = { ByDot };
 
@@ -107,8 +122,8 @@ impl Model for EntryMap {
 
     ghost view = { λ e. map.from_entries {R = dot_cmp} e.entries.entries };
 
-    ghost invariant = { λ e. IsIndexed (map.from_entries {R = dot_cmp} e.entries.entries)
-        e.index.clients e.index.filters e.live };
+    ghost invariant = { λ e. IsInStep (map.from_entries {R = dot_cmp} e.entries.entries)
+        e.index.clients e.index.filters e.index.matches e.live };
 }
 
 impl EntryMap {
@@ -182,6 +197,14 @@ impl EntryMap {
             Some(filter) => self.index.under(client, filter),
             None => self.index.clients.under(client),
         }
+    }
+
+    /// The dots of the entries whose filter matches the name. Only such a dot takes memory.
+    pub fn matching(&self, name: &TopicName) -> Result<DotSet, NoMemory>
+        ensures dots { IfOk result (λ out. (d : DotValue) → (set.contains out d ≡ true) ↔ MatchesName name.now (map.get self.now d)) }
+        ensures none { ((d : DotValue) → MatchesName name.now (map.get self.now d) → ⊥) → IsOk result }
+    {
+        self.index.matches.matching(name)
     }
 
     /// Puts the entry in at the dot, where there is none.

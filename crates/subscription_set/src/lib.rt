@@ -4,6 +4,7 @@
 #![tactic(auto)]
 
 mod by_client;
+mod by_filter;
 mod dots;
 mod entry;
 mod entry_map;

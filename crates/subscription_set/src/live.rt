@@ -1,11 +1,13 @@
 //! What stands of a client, and what is live.
-ghost use Rattle.std.specs.Prelude.{◌≡◌, ◌&&◌, IfOk, OnErr, true, map as map_list};
+ghost use Rattle.std.specs.Prelude.{◌≡◌, ◌&&◌, [], IfOk, IsOk, OnErr, true, map as map_list};
 ghost use Rattle.std.specs.List.{filter, list_any};
 ghost use Rattle.std.specs.Map.Iter.{deref_pair};
 ghost use Rattle.std.specs.Option.{option_copied};
 ghost use Rattle.std.specs.FinMap as map;
 ghost use Rattle.std.specs.FinSet as set;
 ghost use Rattle.causal_context.specs.Dots.{Dot as DotValue};
+ghost use Rattle.mqtt_topics.specs.Matching.{Matches};
+ghost use Rattle.filter_trie.specs.Selected.{IsSelected};
 ghost use Rattle.subscription_set.specs.Entries.{is_of, is_of_below, same_text};
 ghost use Rattle.subscription_set.specs.Standing.{is_latest, latest, dots_in};
 ghost use Rattle.subscription_set.specs.Indexing.{later_at, below_at};
@@ -15,7 +17,7 @@ use crate::entry::Entry;
 use crate::entry_map::EntryMap;
 use causal_context::{Context, Dot};
 use mqtt_fields::{NoMemory, Text};
-use mqtt_topics::Filter;
+use mqtt_topics::{Filter, TopicName};
 use std::alloc::Global;
 use std::cmp::Ordering;
 
@@ -191,6 +193,30 @@ pub fn latest_of<'a>(
     for (dot, entry) in entries.iter() {
         if is_live_of(entries, *dot, entry, client) {
             out.push((dot, entry))?;
+        }
+    }
+    Ok(out)
+}
+
+/// The latest entries of each client and filter whose filter matches the name, rising by their dots. Only these take memory.
+pub fn latest_matching<'a>(
+    alloc: Global,
+    entries: &'a EntryMap,
+    name: &TopicName,
+) -> Result<Vec<&'a Entry>, NoMemory>
+    ensures selected { IfOk result (λ out. IsSelected (λ e. Matches e.filter name.now)
+        (map_list (λ x. x.1) (latest (map.entries entries.now))) (map_list (λ r. r.now) out.items)) }
+    ensures none { IsSelected (λ e. Matches e.filter name.now)
+        (map_list (λ x. x.1) (latest (map.entries entries.now))) [] → IsOk result }
+{
+    let dots = entries.matching(name)?;
+    let mut out = Vec::new(alloc);
+    for dot in dots.iter() {
+        let Some(entry) = entries.get(*dot) else {
+            continue;
+        };
+        if is_the_latest(entries, *dot, entry) {
+            out.push(entry)?;
         }
     }
     Ok(out)

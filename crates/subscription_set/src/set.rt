@@ -1,26 +1,31 @@
 //! The subscriptions that stand, among the dots that were seen.
-ghost use Rattle.std.specs.Prelude.{◌≡◌, ◌↔◌, ◌<◌, OnOk, OnErr, IfOk, IfErr, IfSome, IsOk, IsSome, IsTrue, map as map_list, length, true};
+ghost use Rattle.std.specs.Prelude.{◌≡◌, ◌↔◌, ◌<◌, [], OnOk, OnErr, IfOk, IfErr, IfSome, IsOk, IsSome, IsTrue, map as map_list, length, true};
 ghost use Rattle.std.specs.Map.Iter.{deref_pair};
 ghost use Rattle.std.specs.Option.{option_copied};
 ghost use Rattle.std.specs.FinMap as map;
-ghost use Rattle.std.specs.Ordering.{is_lt};
-ghost use Rattle.causal_context.specs.Dots.{dot_cmp};
+ghost use Rattle.std.specs.Ordering.{eq_by_cmp, is_lt};
+ghost use Rattle.std.specs.List.{list_any};
+ghost use Rattle.causal_context.specs.Dots.{Dot as DotValue, dot_cmp};
 ghost use Rattle.causal_context.specs.Lattices.{lattice_from_join};
+ghost use Rattle.mqtt_topics.specs.Matching.{Matches};
+ghost use Rattle.filter_trie.specs.Selected.{IsSelected};
 ghost use Rattle.subscription_set.specs.Statuses.{statuses_join, StatusesBelow, statuses_lattice};
-ghost use Rattle.subscription_set.specs.Standing.{AreSeen, statuses, seen_of, standing, any_of, any_below, dots_of, dots_below, live, live_of};
+ghost use Rattle.subscription_set.specs.Standing.{AreSeen, find_entry, statuses, seen_of, standing, any_of, any_below, dots_of, dots_below, live, live_of};
+ghost use Rattle.subscription_set.specs.Joining.{is_leaving};
 ghost use Rattle.subscription_set.specs.Merging.{IsSet};
 ghost use Rattle.subscription_set.specs.Sorted.{Rises};
 
 use crate::entry::Entry;
 use crate::entry_map::EntryMap;
 use crate::live::{
-    any_among, any_among_below, dots_among, dots_among_below, latest_among, latest_of,
+    any_among, any_among_below, dots_among, dots_among_below, latest_among, latest_matching,
+    latest_of,
 };
-use crate::plan::{any_leaving, make_plan};
+use crate::plan::{any_leaving, leaving, make_plan};
 use crate::ready::Ready;
 use causal_context::{Context, Dot, Lattice};
 use mqtt_fields::{NoMemory, Text};
-use mqtt_topics::Filter;
+use mqtt_topics::{Filter, TopicName};
 use std::alloc::Global;
 use std::cmp::Ordering;
 use std::collections::btree_map::Iter;
@@ -159,6 +164,22 @@ impl SubscriptionSet {
         self.entries.iter()
     }
 
+    /// What stands at the dot.
+    pub fn entry(&self, dot: Dot) -> Option<&Entry>
+        ensures { option_copied result ≡ find_entry dot (standing self.now) }
+    {
+        self.entries.get(dot)
+    }
+
+    /// The dots of what stands here and leaves by the join with the other, found by the ranges that the
+    /// other has seen.
+    pub fn leaving(&self, other: &SubscriptionSet) -> Result<Vec<Dot>, NoMemory>
+        ensures { IfOk result (λ out. (q : DotValue) → list_any (eq_by_cmp dot_cmp q) out.items
+            ≡ is_leaving (map.get self.now q) (map.get other.now q)) }
+    {
+        leaving(self.alloc, &self.entries, &other.seen, &other.entries)
+    }
+
     /// How many subscriptions are live. It takes no memory.
     pub fn live_count(&self) -> usize
         ensures { result ≡ length (live self.now) }
@@ -171,6 +192,17 @@ impl SubscriptionSet {
         ensures { IfOk result (λ out. map_list deref_pair out.items ≡ live self.now) }
     {
         latest_among(self.alloc, &self.entries)
+    }
+
+    /// What is live to filters that match the name, rising by the dots (MQTT 5.0, 4.7). Only this takes memory. It asks an
+    /// index of the filters, not all that is live.
+    pub fn matching(&self, name: &TopicName) -> Result<Vec<&Entry>, NoMemory>
+        ensures selected { IfOk result (λ out. IsSelected (λ e. Matches e.filter name.now)
+            (map_list (λ x. x.1) (live self.now)) (map_list (λ r. r.now) out.items)) }
+        ensures none { IsSelected (λ e. Matches e.filter name.now)
+            (map_list (λ x. x.1) (live self.now)) [] → IsOk result }
+    {
+        latest_matching(self.alloc, &self.entries, name)
     }
 
     /// What is live of the client, rising by the dots.

@@ -3,6 +3,7 @@ use Rattle.std.specs.FinMap as map
 use Rattle.causal_context.specs.Dots.{dot_cmp, dot_cmp_total, dot_cmp_antisym}
 use Rattle.subscription_set.specs.Standing.{latest}
 use Rattle.subscription_set.specs.Indexing.{ByDot, stands_as}
+use Rattle.subscription_set.proofs.Filtered.{matched_taken}
 use Rattle.subscription_set.proofs.Tables.{get_table, remove_table}
 use Rattle.subscription_set.proofs.Indexing.{live_less, live_left, stands_by, stands_not, taken}
 use Rattle.subscription_set.proofs.entry_map.EntryMap.remove.Goals as goal
@@ -13,10 +14,10 @@ overflow_sub-self c =
     let e = c.in-Some.entry in
     let here : map.get m c.args.dot ≡ Some e = get_table dot_cmp_total c.self.inside.entries.entries c.args.dot ∙ sym c.remove.ensures.value ∙ c.in-Some.is in
     let left : ByDot = map.remove m c.args.dot in
-    let filed = taken m left c.args.dot e c.self.inside.index.clients c.unfile.new.self.clients c.self.inside.index.filters c.unfile.new.self.filters c.self.inside.live (length (latest (map.entries left))) c.self.invariant here refl c.unfile.ensures.clients c.unfile.ensures.filters refl in
+    let filed = taken m left c.args.dot e c.self.inside.index.clients c.unfile.new.self.clients c.self.inside.index.filters c.unfile.new.self.filters c.self.inside.live (length (latest (map.entries left))) c.self.invariant.indexed here refl c.unfile.ensures.clients c.unfile.ensures.filters refl in
     let less = live_less m c.args.dot e here (λ s. stands_not left c.unfile.new.self.clients c.unfile.new.self.filters (length (latest (map.entries left))) filed c.client.result.now c.filter.result.now c.under.result c.under.ensures (c.is_none.ensures ∙ ap not c.if-is_none.true)
     (s.0, (λ i. stands_as (c.client.ensures i) (Some (c.filter.ensures i)) (map.get left s.0)) ∙ s.1)) in
-    let counted = c.self.invariant.live in omega (arith, less, counted)
+    let counted = c.self.invariant.indexed.live in omega (arith, less, counted)
 
 pub invariant_of-self : goal.invariant_of-self
 invariant_of-self c =
@@ -24,13 +25,16 @@ invariant_of-self c =
     let e = c.in-Some.entry in
     let here : map.get m c.args.dot ≡ Some e = get_table dot_cmp_total c.self.inside.entries.entries c.args.dot ∙ sym c.remove.ensures.value ∙ c.in-Some.is in
     let left : ByDot = map.remove m c.args.dot in
-    let filed = taken m left c.args.dot e c.self.inside.index.clients c.unfile.new.self.clients c.self.inside.index.filters c.unfile.new.self.filters c.self.inside.live (length (latest (map.entries left))) c.self.invariant here refl c.unfile.ensures.clients c.unfile.ensures.filters refl in
+    let filed = taken m left c.args.dot e c.self.inside.index.clients c.unfile.new.self.clients c.self.inside.index.filters c.unfile.new.self.filters c.self.inside.live (length (latest (map.entries left))) c.self.invariant.indexed here refl c.unfile.ensures.clients c.unfile.ensures.filters refl in
     let less = live_less m c.args.dot e here (λ s. stands_not left c.unfile.new.self.clients c.unfile.new.self.filters (length (latest (map.entries left))) filed c.client.result.now c.filter.result.now c.under.result c.under.ensures (c.is_none.ensures ∙ ap not c.if-is_none.true)
     (s.0, (λ i. stands_as (c.client.ensures i) (Some (c.filter.ensures i)) (map.get left s.0)) ∙ s.1)) in
     let gone : map.from_entries {R = dot_cmp} c.remove.new.self.entries ≡ left = remove_table dot_cmp_total dot_cmp_antisym c.self.inside.entries.entries c.remove.new.self.entries c.args.dot c.remove.ensures.updates.0 in
-    let counted = c.self.invariant.live in
-    taken m (map.from_entries c.remove.new.self.entries) c.args.dot e c.self.inside.index.clients c.unfile.new.self.clients c.self.inside.index.filters c.unfile.new.self.filters c.self.inside.live (c.self.inside.live - 1) c.self.invariant here gone c.unfile.ensures.clients c.unfile.ensures.filters
-    (omega (arith, less, counted))
+    let counted = c.self.invariant.indexed.live in
+    record {
+      indexed = taken m (map.from_entries c.remove.new.self.entries) c.args.dot e c.self.inside.index.clients c.unfile.new.self.clients c.self.inside.index.filters c.unfile.new.self.filters c.self.inside.live (c.self.inside.live - 1) c.self.invariant.indexed here gone c.unfile.ensures.clients c.unfile.ensures.filters
+          (omega (arith, less, counted));
+      matched = matched_taken m c.args.dot e c.self.inside.index.matches c.self.invariant.matched (map.from_entries c.remove.new.self.entries) c.unfile.new.self.matches here gone c.unfile.ensures.matches;
+    }
 
 pub returns-then-is_none : goal.returns-then-is_none
 returns-then-is_none c = remove_table dot_cmp_total dot_cmp_antisym c.self.inside.entries.entries c.remove.new.self.entries c.args.dot c.remove.ensures.updates.0 ∙ ap (λ x. map.remove x c.args.dot) c.self.view_is
@@ -41,12 +45,15 @@ invariant_of-self-else-is_none c =
     let e = c.in-Some.entry in
     let here : map.get m c.args.dot ≡ Some e = get_table dot_cmp_total c.self.inside.entries.entries c.args.dot ∙ sym c.remove.ensures.value ∙ c.in-Some.is in
     let left : ByDot = map.remove m c.args.dot in
-    let filed = taken m left c.args.dot e c.self.inside.index.clients c.unfile.new.self.clients c.self.inside.index.filters c.unfile.new.self.filters c.self.inside.live (length (latest (map.entries left))) c.self.invariant here refl c.unfile.ensures.clients c.unfile.ensures.filters refl in
+    let filed = taken m left c.args.dot e c.self.inside.index.clients c.unfile.new.self.clients c.self.inside.index.filters c.unfile.new.self.filters c.self.inside.live (length (latest (map.entries left))) c.self.invariant.indexed here refl c.unfile.ensures.clients c.unfile.ensures.filters refl in
     let gone : map.from_entries {R = dot_cmp} c.remove.new.self.entries ≡ left = remove_table dot_cmp_total dot_cmp_antisym c.self.inside.entries.entries c.remove.new.self.entries c.args.dot c.remove.ensures.updates.0 in
     let there = stands_by left c.unfile.new.self.clients c.unfile.new.self.filters (length (latest (map.entries left))) filed c.client.result.now c.filter.result.now c.under.result c.under.ensures (c.is_none.ensures ∙ ap not c.if-is_none.false) in
     let same = live_left m c.args.dot e here (there.0, (λ i. stands_as (sym c.client.ensures i) (Some (sym c.filter.ensures i)) (map.get left there.0)) ∙ there.1) in
-    taken m (map.from_entries c.remove.new.self.entries) c.args.dot e c.self.inside.index.clients c.unfile.new.self.clients c.self.inside.index.filters c.unfile.new.self.filters c.self.inside.live c.self.inside.live c.self.invariant here gone c.unfile.ensures.clients c.unfile.ensures.filters
-    (c.self.invariant.live ∙ same)
+    record {
+      indexed = taken m (map.from_entries c.remove.new.self.entries) c.args.dot e c.self.inside.index.clients c.unfile.new.self.clients c.self.inside.index.filters c.unfile.new.self.filters c.self.inside.live c.self.inside.live c.self.invariant.indexed here gone c.unfile.ensures.clients c.unfile.ensures.filters
+          (c.self.invariant.indexed.live ∙ same);
+      matched = matched_taken m c.args.dot e c.self.inside.index.matches c.self.invariant.matched (map.from_entries c.remove.new.self.entries) c.unfile.new.self.matches here gone c.unfile.ensures.matches;
+    }
 
 pub returns-in-Some : goal.returns-in-Some
 returns-in-Some c = remove_table dot_cmp_total dot_cmp_antisym c.self.inside.entries.entries c.remove.new.self.entries c.args.dot c.remove.ensures.updates.0 ∙ ap (λ x. map.remove x c.args.dot) c.self.view_is

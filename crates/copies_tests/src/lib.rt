@@ -1,0 +1,5 @@
+//! Tests of copies and picks, in a crate of their own so that each is proved once.
+#![tactic(auto)]
+
+#[cfg(test)]
+mod tests;

@@ -1,0 +1,23 @@
+-- Dots under filters, and what matches a name.
+use Rattle.std.specs.Prelude.{◌≡◌, ◌↔◌, ℕ, true, is_some, List}
+use Rattle.std.specs.FinMap as map
+use Rattle.std.specs.FinSet as set
+use Rattle.causal_context.specs.Dots.{Dot, Dots, dot_cmp}
+use Rattle.mqtt_topics.specs.Matching.{Matches}
+use Rattle.subscription_set.specs.Filing.{Filed, HasUnder, text_cmp}
+
+-- the filters under which there is a dot
+abbrev pub AreFiltersOf : Filed → set.FinSet text_cmp → Type 0
+AreFiltersOf v filters = (f : List ℕ) → (map.contains_key filters f ≡ true) ↔ HasUnder text_cmp dot_cmp v f
+
+-- a dot is under a filter that matches the name
+abbrev pub MatchesAt : Filed → List ℕ → Dot → Type 0
+MatchesAt v name d = (f : List ℕ) × (set.contains v (f, d) ≡ true) × Matches f name
+
+-- there is one
+abbrev pub HasMatch : Filed → List ℕ → Type 0
+HasMatch v name = (d : Dot) × MatchesAt v name d
+
+-- s has just the dots under filters that match the name
+abbrev pub IsMatched : Filed → List ℕ → Dots → Type 0
+IsMatched v name s = (d : Dot) → (set.contains s d ≡ true) ↔ MatchesAt v name d
