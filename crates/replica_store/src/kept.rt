@@ -64,7 +64,7 @@ pub fn entry_of(
 
 impl Kept {
     /// Whether the other is greater: by the stamp, and for equal stamps by the content.
-    pub(crate) fn is_below(&self, other: &Kept) -> bool
+    pub fn is_below(&self, other: &Kept) -> bool
         ensures { result ≡ is_lt (kept_cmp self.now other.now) }
     {
         compare_stamps(self.stamp, other.stamp).then(compare_contents(

@@ -1,6 +1,7 @@
 //! Retained messages.
 ghost use Rattle.std.specs.Prelude.{◌≡◌, IfOk, IfSome, MatchOption, OnOk, OnErr, length};
 ghost use Rattle.std.specs.FinMap as map;
+ghost use Rattle.std.specs.Option.{option_copied};
 ghost use Rattle.causal_context.specs.Lattices.{lattice_from_join};
 ghost use Rattle.mqtt_message.specs.declared.message.Message.{Message as MessageValue};
 ghost use Rattle.replica_store.specs.Contents.{topic_in, message_in};
@@ -92,6 +93,14 @@ impl RetainedMap {
             None => None,
             Some(kept) => kept.alive(now),
         }
+    }
+
+    /// What is kept of the topic, alive or not.
+    pub fn kept(&self, topic: &TopicName) -> Option<&Kept>
+        ensures kept { option_copied result ≡ map.get self.now topic.now }
+        ensures topics { HaveOwnTopics self.now }
+    {
+        self.topics.get(topic)
     }
 
     /// Whether the topic has a message, alive or not, or a tombstone.

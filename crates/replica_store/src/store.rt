@@ -63,6 +63,23 @@ impl ReplicaStore {
         }
     }
 
+    /// The state of these parts. It takes no memory.
+    pub fn of_parts(
+        alloc: Global,
+        taken: Context,
+        subscriptions: SubscriptionSet,
+        retained: RetainedMap,
+    ) -> ReplicaStore
+        ensures { result ≡ record { taken = taken; subscriptions = subscriptions; retained = retained } }
+    {
+        ReplicaStore {
+            alloc,
+            taken,
+            subscriptions,
+            retained,
+        }
+    }
+
     /// The dots of the operations that were taken.
     pub fn taken(&self) -> &Context
         ensures { result.now ≡ self.now.taken }

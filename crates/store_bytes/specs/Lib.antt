@@ -1,0 +1,6 @@
+pub mod Filters
+pub mod Spelling
+pub mod Values
+pub mod Stores
+pub mod Memory
+pub mod Laws
