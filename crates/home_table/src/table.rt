@@ -11,7 +11,7 @@ use crate::automatic::automatic_node;
 use crate::fault::TableFault;
 use crate::prefixes::Prefixes;
 use crate::rows::{HomeEntry, NodeEntry, read_document, read_rows};
-use mqtt_fields::NoMemory;
+use mqtt_fields::{NoMemory, Text};
 use std::alloc::Global;
 use std::marker::Model;
 use std::rc::Rc;
@@ -201,6 +201,14 @@ impl HomeTable {
         ensures { option_map (λ n. n.address) (slice_get self.now.nodes node) ≡ Some result.now }
     {
         self.shared.as_ref().nodes[node as usize].address.as_str()
+    }
+
+    /// The address at which clients reach a node, as a text of MQTT.
+    pub fn address(&self, node: u16) -> &Text
+        requires { node < length self.now.nodes }
+        ensures { option_map (λ n. n.address) (slice_get self.now.nodes node) ≡ Some result.now }
+    {
+        &self.shared.as_ref().nodes[node as usize].address
     }
 
     /// The address at which the other nodes reach a node.

@@ -1,0 +1,5 @@
+pub mod Tables
+pub mod Lists
+pub mod Calling
+pub mod Numbers
+pub mod Walking

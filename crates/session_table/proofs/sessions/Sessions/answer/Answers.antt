@@ -1,0 +1,8 @@
+use Rattle.session_table.proofs.Calling.{spelled_at}
+use Rattle.session_table.proofs.sessions.Sessions.answer.Goals as goal
+
+pub returns-clause-called : goal.returns-clause-called
+returns-clause-called c = c.call.ensures.called
+
+pub returns-clause-spelled : goal.returns-clause-spelled
+returns-clause-spelled c = spelled_at c.call.result c.call.ensures.spelled

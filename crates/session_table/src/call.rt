@@ -1,0 +1,76 @@
+//! Calls of a session.
+
+ghost use Rattle.std.specs.Prelude.{◌≡◌, IfOk, IfSome};
+ghost use Rattle.mqtt_sessions.specs.Saved.{state_of};
+ghost use Rattle.session_table.specs.Calls.{Asks, GivesSpelled, IsTurned, MayTurn, event_of, on_of};
+
+use mqtt_message::Delivery;
+use mqtt_packets::{Connect, Packet};
+use mqtt_sessions::{Reaction, Session, SessionFault};
+
+/// A call of a session.
+#[derive(Drop)]
+pub enum Call<'a> {
+    Connect {
+        connect: &'a Connect,
+        continued: bool,
+        now: u64,
+    },
+    Queue {
+        delivery: Delivery,
+        now: u64,
+    },
+    Packet {
+        packet: &'a Packet,
+        now: u64,
+        room: bool,
+    },
+    Answer {
+        id: u16,
+        codes: &'a [u8],
+    },
+    Closed(u64),
+    Tick(u64),
+    Finish(u64),
+}
+
+/// Which connection a client is on after a call.
+#[derive(Clone, Copy)]
+pub enum On {
+    Moves(u64),
+    Stays,
+    Leaves,
+}
+
+/// The connection that a client is on, by the one before.
+pub(crate) fn land(on: On, before: Option<u64>) -> Option<u64>
+    ensures { result ≡ on_of on before }
+{
+    match on {
+        On::Moves(connection) => Some(connection),
+        On::Stays => before,
+        On::Leaves => None,
+    }
+}
+
+/// One call of a session that isn't spent.
+pub(crate) fn turn(session: &mut Session, call: Call<'_>) -> Result<Reaction, SessionFault>
+    requires asks { Asks call }
+    requires may { MayTurn (event_of call) (state_of session.old) }
+    ensures turned { IfSome (state_of session.old) (λ s. IsTurned (event_of call.entry) s result (state_of session.new)) }
+    ensures spelled { IfOk result (GivesSpelled (event_of call.entry)) }
+{
+    match call {
+        Call::Connect {
+            connect,
+            continued,
+            now,
+        } => session.connect(connect, continued, now),
+        Call::Queue { delivery, now } => session.queue(delivery, now),
+        Call::Packet { packet, now, room } => session.packet(packet, now, room),
+        Call::Answer { id, codes } => session.answer(id, codes),
+        Call::Closed(now) => session.closed(now),
+        Call::Tick(now) => session.tick(now),
+        Call::Finish(now) => session.finish(now),
+    }
+}

@@ -1,0 +1,74 @@
+//! Sessions as a table keeps them.
+
+ghost use Rattle.std.specs.Prelude.{◌≡◌, IfOk, IfSome, None};
+ghost use Rattle.mqtt_sessions.specs.Saved.{state_of};
+ghost use Rattle.session_table.specs.Calls.{Asks, GivesSpelled, IsSeated, MayTurn, event_of, on_of};
+ghost use Rattle.session_table.specs.Listing.{IsListedAt, Relists, no_moments};
+
+use crate::call::{Call, On, land, turn};
+use crate::listing::{Listing, relist, unlist};
+use crate::moments::{Moments, moments_of, no_moments};
+use mqtt_fields::Text;
+use mqtt_sessions::{Reaction, Session, SessionFault};
+use std::alloc::Global;
+
+/// A session, the connection that its client is on, and the moments at which it is listed.
+#[derive(Drop)]
+pub struct Seated {
+    pub session: Session,
+    pub connection: Option<u64>,
+    pub listed: Moments,
+    /// The client, with a number that is written before a look-up in a list.
+    pub key: (u64, Text),
+}
+
+/// A session of a client that is on no connection, and isn't listed.
+pub(crate) fn seat(session: Session, name: Text) -> Seated
+    ensures session { result.session ≡ session }
+    ensures connection { result.connection ≡ None }
+    ensures listed { result.listed ≡ no_moments }
+    ensures key { result.key.1 ≡ name }
+{
+    Seated {
+        session,
+        connection: None,
+        listed: no_moments(),
+        key: (0, name),
+    }
+}
+
+/// Takes a client out of the lists.
+pub(crate) fn unlist_seated(listing: &mut Listing, seated: Seated)
+    requires { IsListedAt listing.old seated.key.1 seated.listed }
+    ensures at { IsListedAt listing.new seated.key.1 no_moments }
+    ensures others { Relists seated.key.1 listing.old listing.new }
+{
+    let mut seated = seated;
+    unlist(listing, &mut seated.key, &mut seated.listed);
+}
+
+/// One call of a session, which is listed at its moments then. After a fault it is listed as it says.
+pub(crate) fn call_seated(
+    seated: &mut Seated,
+    listing: &mut Listing,
+    alloc: Global,
+    call: Call<'_>,
+    on: On,
+) -> Result<Reaction, SessionFault>
+    requires listed { IsListedAt listing.old seated.old.key.1 seated.old.listed }
+    requires asks { Asks call }
+    requires may { MayTurn (event_of call) (state_of seated.old.session) }
+    ensures at { IsListedAt listing.new seated.old.key.1 seated.new.listed }
+    ensures others { Relists seated.old.key.1 listing.old listing.new }
+    ensures key { seated.new.key.1 ≡ seated.old.key.1 }
+    ensures turned { IfSome (state_of seated.old.session)
+        (λ s. IsSeated (event_of call.entry) (on_of on) s seated.old.connection result seated.new) }
+    ensures spelled { IfOk result (GivesSpelled (event_of call.entry)) }
+{
+    let reaction = turn(&mut seated.session, call)?;
+    let connection = land(on, seated.connection);
+    let moments = moments_of(&seated.session, connection);
+    seated.connection = connection;
+    relist(listing, alloc, &mut seated.key, &mut seated.listed, moments)?;
+    Ok(reaction)
+}

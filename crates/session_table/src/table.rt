@@ -1,0 +1,137 @@
+//! What is done to a table and its lists.
+
+ghost use Rattle.std.specs.Prelude.{◌≡◌, [], IfOk, IfSome, IsOk, IsSome, None, OnErr, OnOk, flat_map};
+ghost use Rattle.std.specs.FinMap as map;
+ghost use Rattle.due_times.specs.Dues.{in_order};
+ghost use Rattle.mqtt_sessions.specs.Saved.{state_of};
+ghost use Rattle.session_table.specs.Calls.{Asks, GivesSpelled, IsCalled, MayTurnAt, event_of, on_of};
+ghost use Rattle.session_table.specs.Seats.{connected};
+ghost use Rattle.session_table.specs.Listing.{IsBroken, IsKept, IsKeyed, IsListed, connection_in, on_connection, seats_in, table};
+
+use crate::call::{Call, On};
+use crate::listing::{Listing, relist};
+use crate::moments::moments_of;
+use crate::seated::{Seated, call_seated, seat, unlist_seated};
+use due_times::DueTimes;
+use mqtt_fields::{NoMemory, Text};
+use mqtt_sessions::{Reaction, Session, SessionFault};
+use std::alloc::Global;
+use std::collections::BTreeMap;
+
+/// One call of a client's session, if it has one.
+pub(crate) fn call_in(
+    seats: &mut BTreeMap<Text, Seated>,
+    listing: &mut Listing,
+    alloc: Global,
+    client: &Text,
+    call: Call<'_>,
+    on: On,
+) -> Result<Option<Reaction>, SessionFault>
+    requires kept { IsKept (table seats.old.entries) listing.old }
+    requires asks { Asks call }
+    requires may { MayTurnAt (event_of call) (map.get (seats_in (table seats.old.entries)) client.now) }
+    ensures called { IsCalled client.now (event_of call.entry) (on_of on) (seats_in (table seats.old.entries)) result (seats_in (table seats.new.entries)) }
+    ensures spelled { IfOk result (λ o. IfSome o (GivesSpelled (event_of call.entry))) }
+    ensures ok { OnOk result (IsKept (table seats.new.entries) listing.new) }
+    ensures err { OnErr result (IsBroken client.now (table seats.old.entries) (table seats.new.entries) listing.new) }
+{
+    let Some(seated) = seats.get_mut(client) else {
+        return Ok(None);
+    };
+    match call_seated(seated, listing, alloc, call, on) {
+        Ok(reaction) => Ok(Some(reaction)),
+        Err(fault) => Err(fault),
+    }
+}
+
+/// Takes a client out.
+pub(crate) fn take_out(seats: &mut BTreeMap<Text, Seated>, listing: &mut Listing, client: &Text)
+    requires listed { IsListed (table seats.old.entries) listing.old }
+    requires keyed { IsKeyed (table seats.old.entries) }
+    ensures gone { table seats.new.entries ≡ map.remove (table seats.old.entries) client.now }
+    ensures listed { IsListed (table seats.new.entries) listing.new }
+{
+    let Some(seated) = seats.remove(client) else {
+        return;
+    };
+    unlist_seated(listing, seated);
+}
+
+/// Puts in a client that isn't there.
+pub(crate) fn put_in(
+    seats: &mut BTreeMap<Text, Seated>,
+    listing: &mut Listing,
+    alloc: Global,
+    client: Text,
+    session: Session,
+) -> Result<(), NoMemory>
+    requires kept { IsKept (table seats.old.entries) listing.old }
+    requires absent { map.get (table seats.old.entries) client ≡ None }
+    requires runs { IsSome (state_of session) }
+    ensures kept { IsKept (table seats.new.entries) listing.new }
+    ensures ok { OnOk result (IfSome (state_of session)
+        (λ s. seats_in (table seats.new.entries) ≡ map.insert (seats_in (table seats.old.entries)) client (record { session = s; connection = None }))) }
+    ensures err { OnErr result (table seats.new.entries ≡ table seats.old.entries) }
+{
+    let name = client.copy(alloc)?;
+    let mut seated = seat(session, name);
+    let moments = moments_of(&seated.session, None);
+    if let Err(refused) = relist(listing, alloc, &mut seated.key, &mut seated.listed, moments) {
+        unlist_seated(listing, seated);
+        return Err(refused);
+    }
+    match seats.insert(client, seated) {
+        Ok(_) => Ok(()),
+        Err(refused) => {
+            let (_, back) = refused.value;
+            unlist_seated(listing, back);
+            Err(NoMemory)
+        }
+    }
+}
+
+/// Those of the clients that are on a connection, each with it, rising.
+pub(crate) fn by_connection(
+    seats: &BTreeMap<Text, Seated>,
+    alloc: Global,
+    dues: Vec<(u64, Text)>,
+) -> Result<Vec<(u64, Text)>, NoMemory>
+    ensures pairs { IfOk result (λ out. out.items ≡ in_order (flat_map (on_connection (table seats.now.entries)) dues.items)) }
+    ensures none { dues.items ≡ [] → IsOk result }
+{
+    let mut order = DueTimes::new(alloc);
+    for due in dues {
+        let (_, client) = due;
+        if let Some(connection) = connection_of(seats, &client) {
+            order.insert((connection, client))?;
+        }
+    }
+    order.into_pairs(alloc)
+}
+
+/// The connection that a client is on.
+pub(crate) fn connection_of(seats: &BTreeMap<Text, Seated>, client: &Text) -> Option<u64>
+    ensures { result ≡ connection_in (map.get (table seats.now.entries) client.now) }
+{
+    match seats.get(client) {
+        Some(seated) => seated.connection,
+        None => None,
+    }
+}
+
+/// The clients whose session was connected.
+pub(crate) fn connected_in(
+    seats: &BTreeMap<Text, Seated>,
+    alloc: Global,
+) -> Result<Vec<Text>, NoMemory>
+    ensures clients { IfOk result (λ out. out.items ≡ connected (seats_in (table seats.now.entries))) }
+    ensures none { connected (seats_in (table seats.now.entries)) ≡ [] → IsOk result }
+{
+    let mut out = Vec::new(alloc);
+    for (client, seated) in seats.iter() {
+        if seated.session.is_connected() {
+            out.push(client.copy(alloc)?)?;
+        }
+    }
+    Ok(out)
+}

@@ -1,0 +1,175 @@
+//! Calls of a table of sessions.
+
+ghost use Rattle.std.specs.Prelude.{◌≡◌, ◌<◌, ◌^◌, IfOk, IsTrue};
+ghost use Rattle.mqtt_packets.specs.Written.{HasSpelling};
+ghost use Rattle.mqtt_sessions.specs.State.{IsPublishableIf};
+
+use crate::stop::Stop;
+use crate::told::{clients, number, pairs, told};
+use mqtt_fields::Text;
+use mqtt_message::{Message, Will};
+use mqtt_packets::{Connect, Packet, read_packet};
+use session_table::Sessions;
+use std::alloc::Global;
+
+/// The packet that hexadecimal digits spell.
+fn packet_of(alloc: Global, digits: &str) -> Result<Packet, Stop>
+    ensures { IfOk result HasSpelling }
+{
+    let Ok(bytes) = hex::decode(alloc, digits) else {
+        return Err(Stop::Word);
+    };
+    match read_packet(alloc, &bytes) {
+        Ok(Some((packet, _))) => {
+            if packet.is_sound() {
+                Ok(packet)
+            } else {
+                Err(Stop::Word)
+            }
+        }
+        _ => Err(Stop::Word),
+    }
+}
+
+fn may_publish(will: &Option<Will>) -> bool
+    ensures { IsTrue result → IsPublishableIf will.now }
+{
+    match will {
+        Some(will) => Message::can_accept_will(will),
+        None => true,
+    }
+}
+
+/// A CONNECT whose will can be published.
+fn connect_of(alloc: Global, digits: &str) -> Result<Connect, Stop>
+    ensures { IfOk result (λ c. IsPublishableIf c.will) }
+{
+    match packet_of(alloc, digits)? {
+        Packet::Connect(connect) => {
+            if may_publish(&connect.will) {
+                Ok(connect)
+            } else {
+                Err(Stop::Word)
+            }
+        }
+        _ => Err(Stop::Word),
+    }
+}
+
+fn moment_of(word: &str) -> Result<u64, Stop>
+    ensures { IfOk result (λ n. n < 2 ^ 62) }
+{
+    match word.parse::<u64>() {
+        Ok(n) => { if n < 1 << 62 { Ok(n) } else { Err(Stop::Word) } }
+        Err(_) => Err(Stop::Word),
+    }
+}
+
+fn text_of(alloc: Global, word: &str) -> Result<Text, Stop> {
+    match Text::new(alloc, word) {
+        Ok(text) => Ok(text),
+        Err(_) => Err(Stop::Word),
+    }
+}
+
+/// What a client's CONNECT on a connection comes to.
+fn connect(
+    alloc: Global,
+    sessions: &mut Sessions,
+    client: &Text,
+    connection: u64,
+    digits: &str,
+    now: u64,
+) -> Result<String, Stop> {
+    let connect = connect_of(alloc, digits)?;
+    let result = sessions.connect(client, connection, &connect, true, now);
+    told(alloc, &result)
+}
+
+/// What a client's packet comes to.
+fn take(
+    alloc: Global,
+    sessions: &mut Sessions,
+    client: &Text,
+    digits: &str,
+    now: u64,
+) -> Result<String, Stop>
+    requires { now < 2 ^ 62 }
+{
+    let packet = packet_of(alloc, digits)?;
+    let result = sessions.packet(client, &packet, now, true);
+    told(alloc, &result)
+}
+
+/// What a moment comes to.
+fn at(
+    alloc: Global,
+    sessions: &mut Sessions,
+    verb: &str,
+    client: &Text,
+    now: u64,
+) -> Result<String, Stop>
+    requires { now < 2 ^ 62 }
+{
+    let result = match verb {
+        "closed" => sessions.closed(client, now),
+        "tick" => sessions.tick(client, now),
+        "finish" => sessions.finish(client, now),
+        _ => return Err(Stop::Word),
+    };
+    told(alloc, &result)
+}
+
+/// What is due at a moment.
+fn due(alloc: Global, sessions: &Sessions, verb: &str, now: u64) -> Result<String, Stop> {
+    match verb {
+        "run_out" => pairs(alloc, &sessions.run_out(alloc, now)?),
+        "wills" => pairs(alloc, &sessions.wills(alloc, now)?),
+        "ends" => pairs(alloc, &sessions.ends(alloc, now)?),
+        _ => Err(Stop::Word),
+    }
+}
+
+/// What is asked of a client, or of all.
+fn of_client(
+    alloc: Global,
+    sessions: &mut Sessions,
+    verb: &str,
+    word: &str,
+) -> Result<String, Stop> {
+    let client = text_of(alloc, word)?;
+    match verb {
+        "begin" => sessions.begin(client)?,
+        "remove" => sessions.remove(&client),
+        "connection" => return number(alloc, sessions.connection(&client)),
+        "limit" => return number(alloc, sessions.limit(&client)),
+        _ => return due(alloc, sessions, verb, moment_of(word)?),
+    }
+    number(alloc, Some(sessions.count() as u64))
+}
+
+/// What a call comes to: a verb, and words about it.
+pub fn answered(alloc: Global, sessions: &mut Sessions, call: &str) -> Result<String, Stop> {
+    let (verb, about) = call.trim().split_once(' ').unwrap_or((call, ""));
+    if verb == "connected" {
+        return clients(alloc, &sessions.were_connected(alloc)?);
+    }
+    let Some((word, rest)) = about.split_once(' ') else {
+        return of_client(alloc, sessions, verb, about);
+    };
+    let client = text_of(alloc, word)?;
+    match rest.split_once(' ') {
+        Some((digits, more)) => match more.split_once(' ') {
+            Some((connection, now)) => connect(
+                alloc,
+                sessions,
+                &client,
+                moment_of(connection)?,
+                digits,
+                moment_of(now)?,
+            ),
+            None => take(alloc, sessions, &client, digits, moment_of(more)?),
+        },
+        None => at(alloc, sessions, verb, &client, moment_of(rest)?),
+    }
+}
