@@ -1,0 +1,107 @@
+-- A call of a session is an act of the node.
+use Rattle.std.proofs.Common.{◌≡◌, ℕ, ◌+◌, ◌<◌, ◌++◌, length, get_or, take, append_assoc, List, [], ◌∷◌, Option, Some, None, Result, Ok, Err, inl, inr, refl, sym, ap, subst, ◌∙◌}
+use Rattle.std.specs.Prelude.{option_and_then, IfOk, map as map_list}
+use Rattle.std.specs.FinMap as map
+use Rattle.std.proofs.lemmas.List.{append-nil, take_more, map-append}
+use Rattle.mqtt_sessions.specs.declared.fault.SessionFault.{SessionFault}
+use Rattle.mqtt_sessions.specs.declared.fault.SessionFault.TheVariants as faults
+use Rattle.mqtt_sessions.specs.Reaction.{Reaction, nothing}
+use Rattle.session_laws.specs.Runs.{Event}
+use Rattle.session_table.specs.Calls.{IsSpelledIf, stays}
+use Rattle.session_table.specs.Seats.{Seat}
+use Rattle.node_work.specs.declared.fault.NodeFault.{NodeFault}
+use Rattle.node_work.specs.declared.fault.NodeFault.TheVariants.{NoMemory, NumbersAtEnd, Stopped}
+use Rattle.node_work.specs.declared.outcome.Output.{Output}
+use Rattle.node_work.specs.Acts.{Session}
+use Rattle.node_work.specs.Calling.{Calls, CallsAt}
+use Rattle.node_work.specs.Held.Calling.{IsHeldCall, Reacted, reacted, fault_of}
+use Rattle.node_work.specs.Held.Sessions.{SessionStep, Called, IsOn, HappensAt, counted, outputs_on}
+use Rattle.node_work.specs.View.{HeldView, WorkView}
+use Rattle.node_work.specs.Working.{Did, Comes}
+
+-- its packets go to the connection that the client is on afterwards
+abbrev pub GoesTo : Option ℕ → (Option ℕ → Option ℕ) → Option Seat → Type 0
+GoesTo to on found = (seat : Seat) → found ≡ Some seat → to ≡ on seat.connection
+
+pub goes_stays : (to : Option ℕ) (found : Option Seat) → to ≡ option_and_then (λ s. s.connection) found → GoesTo to stays found
+goes_stays to found e seat is = e ∙ ap (option_and_then (λ (s : Seat). s.connection)) is
+
+-- one more packet of a reaction
+pub sends_next : {A : Type 0} (f : ℕ → A → Output) (w m m' : WorkView) (xs : List A) (i : ℕ) (x : A) → i < length xs → x ≡ get_or xs i x → m ≡ record w { outputs = w.outputs ++ map_list (f w.held.at) (take i xs) }
+    → m' ≡ record m { outputs = m.outputs ++ f m.held.at x ∷ [] } → m' ≡ record w { outputs = w.outputs ++ map_list (f w.held.at) (take (i + 1) xs) }
+sends_next f w m m' xs i x below at is e =
+    let one = f w.held.at in
+    let more : map_list one (take (i + 1) xs) ≡ map_list one (take i xs) ++ one x ∷ [] = ap (map_list one) (take_more xs i x below) ∙ map-append one (take i xs) (get_or xs i x ∷ []) ∙ (λ j. map_list one (take i xs) ++ one (sym at j) ∷ []) in
+    e ∙ ap (λ (v : WorkView). record v { outputs = v.outputs ++ f v.held.at x ∷ [] }) is
+    ∙ ap (λ os. record w { outputs = os }) (append_assoc w.outputs (map_list one (take i xs)) (one x ∷ []) ∙ ap (λ os. w.outputs ++ os) (sym more))
+
+-- a call leaves the node's moment as it was
+pub spelled_after : (client : List ℕ) (e : Event) (on : Option ℕ → Option ℕ) (h h' : HeldView) (called : Result (Option Reaction) SessionFault) → IsHeldCall client e on h called h' → IfOk called (IsSpelledIf h.at) → IfOk called (IsSpelledIf h'.at)
+spelled_after client e on h h' called k = subst (λ n. IfOk called (IsSpelledIf n)) (sym (ap (λ (v : HeldView). v.at) k.2))
+
+module _ (client : List ℕ) (event : ℕ → Event) (on : Option ℕ → Option ℕ) (to : Option ℕ) (w w' : WorkView) (h' : HeldView) where
+  -- the client has no session
+  no_call : IsHeldCall client (event w.held.at) on w.held (Ok None) h' → w' ≡ record w { held = h' } → Did w w' (Calls client event on (Some nothing))
+  no_call k e =
+      let held : h' ≡ w.held = k.2 ∙ (λ i. record w.held { sessions = k.1.1 i }) in
+      record {
+        acts = [];
+        does = subst (λ o. CallsAt client event on o (Some nothing) w.place w.held []) (sym k.1.0) (refl, refl);
+        runs = ap (λ (v : WorkView). v.held) e ∙ held;
+        given = ap (λ (v : WorkView). v.outputs) e ∙ sym (append-nil w.outputs);
+        place = ap (λ (v : WorkView). v.place) e;
+      }
+
+  one_call : (r : Reaction) → IsHeldCall client (event w.held.at) on w.held (Ok (Some r)) h' → GoesTo to on (map.get w.held.sessions client) → ((before : Option ℕ) → IsOn (event w.held.at) before (on before)) → HappensAt w.held.at (event w.held.at)
+      → w' ≡ reacted to r (record w { held = h' }) → Did w w' (Calls client event on (Some r))
+  one_call r k goes is_on happens e =
+      let seat = k.1.0 in
+      let after = k.1.1 in
+      let found = k.1.2 in
+      let step : SessionStep = record { client = client; on = on seat.connection; at = w.held.at; event = event w.held.at; reaction = r; after = after } in
+      let there : to ≡ on seat.connection = goes seat found in
+      let held : h' ≡ record w.held { sessions = map.insert w.held.sessions client (record { session = after; connection = on seat.connection }) } = k.2 ∙ (λ i. record w.held { sessions = k.1.4 i }) in
+      record {
+        acts = Session (Called step) ∷ [];
+        does = subst (λ o. CallsAt client event on o (Some r) w.place w.held (Session (Called step) ∷ [])) (sym found) (inr (r, after, refl, k.1.3, refl));
+        runs = (
+          w'.held,
+          (
+            record { seat = seat; found = found; on = is_on seat.connection; at = refl; moment = happens; reacts = k.1.3 },
+            ap (λ (v : WorkView). v.held) e ∙ ap (λ (h : HeldView). record h { counts = counted r.full h.counts }) held,
+          ),
+          refl,
+        );
+        given = ap (λ (v : WorkView). v.outputs) e
+            ∙ (λ i. w.outputs ++ outputs_on (there i) (ap (λ (h : HeldView). h.at) held i) r)
+            ∙ ap (λ os. w.outputs ++ os) (sym (append-nil (outputs_on (on seat.connection) w.held.at r)));
+        place = ap (λ (v : WorkView). v.place) e;
+      }
+
+  -- a number can't be had
+  call_stops : IsHeldCall client (event w.held.at) on w.held (Err faults.NumbersAtEnd) h' → Did w w (Calls client event on None)
+  call_stops k = record {
+    acts = [];
+    does = subst (λ o. CallsAt client event on o None w.place w.held []) (sym k.1.1) (inl (refl, k.1.2, refl));
+    runs = refl;
+    given = sym (append-nil w.outputs);
+    place = refl;
+  }
+
+  call_fault : (f : SessionFault) → IsHeldCall client (event w.held.at) on w.held (Err f) h' → Comes (λ x. x) (Err (fault_of f)) w w' (Calls client event on)
+  call_fault faults.NoMemory k = tt
+  call_fault faults.NumbersAtEnd k = (w, call_stops k)
+  call_fault faults.Spent k = absurd k.1
+  call_fault faults.BadRow k = absurd k.1
+
+  pub comes_call : (called : Result (Option Reaction) SessionFault) (r : Result Reaction NodeFault) → IsHeldCall client (event w.held.at) on w.held called h' → GoesTo to on (map.get w.held.sessions client) → ((before : Option ℕ) → IsOn (event w.held.at) before (on before))
+      → HappensAt w.held.at (event w.held.at) → Reacted to called r (record w { held = h' }) w' → Comes (λ x. x) r w w' (Calls client event on)
+  comes_call (Ok None) (Ok x) k goes is_on happens d = subst (λ y. Did w w' (Calls client event on (Some y))) (sym d.0) (no_call k d.1)
+  comes_call (Ok (Some a)) (Ok x) k goes is_on happens d = subst (λ y. Did w w' (Calls client event on (Some y))) (sym d.0) (one_call a k goes is_on happens d.1)
+  comes_call (Ok None) (Err NoMemory) k goes is_on happens d = tt
+  comes_call (Ok (Some a)) (Err NoMemory) k goes is_on happens d = tt
+  comes_call (Ok None) (Err NumbersAtEnd) k goes is_on happens d = absurd (let z : NumbersAtEnd ≡ NoMemory = d in cc)
+  comes_call (Ok (Some a)) (Err NumbersAtEnd) k goes is_on happens d = absurd (let z : NumbersAtEnd ≡ NoMemory = d in cc)
+  comes_call (Ok None) (Err Stopped) k goes is_on happens d = absurd (let z : Stopped ≡ NoMemory = d in cc)
+  comes_call (Ok (Some a)) (Err Stopped) k goes is_on happens d = absurd (let z : Stopped ≡ NoMemory = d in cc)
+  comes_call (Err f) r k goes is_on happens d = subst (λ q. Comes (λ x. x) q w w' (Calls client event on)) (sym d.0) (call_fault f k)

@@ -1,0 +1,11 @@
+use Rattle.std.proofs.Common.{subst, refl}
+use Rattle.session_laws.specs.Runs.{closes}
+use Rattle.session_table.specs.Calls.{leaves}
+use Rattle.node_work.specs.View.{HeldView}
+use Rattle.node_work.specs.Held.Calling.{IsHeldCall}
+use Rattle.node_work.proofs.held.Held.part.Goals as goal
+
+pub returns-clause-called : goal.returns-clause-called
+returns-clause-called c =
+    let h : HeldView = record { at = c.self.inside.at; started = c.self.inside.started; store = c.self.inside.store; connections = c.self.inside.connections; sessions = c.closed.new.self; turn = c.self.inside.turn; named = c.self.inside.named; counts = c.self.inside.counts } in
+    subst (λ (v : HeldView). IsHeldCall c.args.client.now (closes v.at) leaves v c.closed.result h) c.self.view_is (c.closed.new.self, c.closed.ensures.called, refl)

@@ -1,0 +1,151 @@
+-- What a node does in a step: a list of acts, each of which is one small step of what the node holds. An act says where it
+-- may stand (Allowed), and what it leaves (next).
+use Rattle.std.specs.Prelude.{◌≡◌, ℕ, ◌+◌, ◌<◌, ◌^◌, max, cond, true, List, [], ◌∷◌, ◌++◌, map as map_list, flat_map, Option, Some}
+use Rattle.std.specs.FinMap as map
+use Rattle.mqtt_message.specs.declared.delivery.Delivery.{Delivery}
+use Rattle.mqtt_message.specs.declared.message.Message.{Message}
+use Rattle.replica_store.specs.declared.operation.Operation.{Operation}
+use Rattle.replica_store.specs.declared.operation.Operation.TheVariants.{Subscribe, Remove, Put}
+use Rattle.replica_store.specs.Making.{NumberAtEnd, CountAtEnd, subscribe_of, remove_of, put_of}
+use Rattle.replica_store.specs.States.{State, state_join}
+use Rattle.replica_store.specs.StateOf.{delta_of}
+use Rattle.node_work.specs.declared.granted.Granted.{Granted}
+use Rattle.node_work.specs.declared.frame.FrameBody.{FrameBody}
+use Rattle.node_work.specs.declared.frame.FrameBody.TheVariants.{Delta, Know}
+use Rattle.node_work.specs.declared.outcome.Output.{Output}
+use Rattle.node_work.specs.declared.outcome.Output.TheVariants.{Send, Close, Frame as Release}
+use Rattle.node_work.specs.Held.Connections.{ConnectionAct, MayConnect, connected}
+use Rattle.node_work.specs.Held.Sessions.{SessionAct, MayCall, called, session_outputs, more, one_more}
+use Rattle.node_work.specs.Offers.{AreOffered}
+use Rattle.message_copies.specs.declared.plain.PlainCopy.{PlainCopy as Copy}
+use Rattle.node_work.specs.Passing.{IsPassed}
+use Rattle.node_work.specs.View.{Place, HeldView}
+
+-- what is done to the replicated state
+pub data StoreAct : Type 0 where
+  Made : (o : Operation) → StoreAct
+  Merged : (s : State) → StoreAct
+
+-- one thing that a node does: it takes a moment, begins its work, changes the replicated state, its connections or its
+-- sessions, gives something out, or gives a client its identifier by a number; it begins to offer the retained messages that
+-- answer a SUBSCRIBE, or to make the copies of a message, each of which is a call of a session after it; or it drops a retained
+-- message for want of room
+pub data Act : Type 0 where
+  Moment : (at : ℕ) → Act
+  Began : Act
+  Store : (a : StoreAct) → Act
+  Connection : (a : ConnectionAct) → Act
+  Session : (a : SessionAct) → Act
+  Out : (o : Output) → Act
+  Named : (number : ℕ) → Act
+  Acknowledged : (client : List ℕ) (packet at : ℕ) (grants : List Granted) (offers : List Delivery) → Act
+  Passed : (m : Message) (copies : List Copy) (lost : ℕ) → Act
+  Dropped : Act
+
+-- the next operation of the node, looking at what was taken before it
+abbrev pub IsMade : ℕ → State → Operation → Type 0
+IsMade id s (Subscribe dot entry cover) = (¬ NumberAtEnd id s) × (Subscribe dot entry cover ≡ subscribe_of id entry s)
+IsMade id s (Remove dot cover) = (¬ NumberAtEnd id s) × ((client : List ℕ) × (to : Option (List ℕ)) × (Some (Remove dot cover) ≡ remove_of id client to s))
+IsMade id s (Put dot stamp content) = (¬ NumberAtEnd id s) × (¬ CountAtEnd s) × (Put dot stamp content ≡ put_of id content s)
+
+abbrev pub MayStore : ℕ → State → StoreAct → Type 0
+MayStore id s (Made o) = IsMade id s o
+MayStore id s (Merged t) = Unit {0}
+
+abbrev pub stored : State → StoreAct → State
+stored s (Made o) = state_join s (delta_of o)
+stored s (Merged t) = state_join s t
+
+-- a frame carries what the node holds, and names it as its sender
+abbrev pub Carries : State → FrameBody → Type 0
+Carries s (Delta t) = t ≡ s
+Carries s (Know dots) = dots ≡ s.taken
+
+abbrev pub Releases : ℕ → State → Output → Type 0
+Releases id s (Send connection bytes) = Unit {0}
+Releases id s (Close connection) = Unit {0}
+Releases id s (Release frame) = (frame.from ≡ id) × Carries s frame.body
+
+-- the offers of a SUBACK are the retained messages that answer, at the node's moment, each filter that asks for them
+abbrev pub AreAnswers : HeldView → ℕ → List Granted → List Delivery → Type 0
+AreAnswers h at grants offers = (at ≡ h.at) × AreOffered h.at (map.entries h.store.retained) grants offers
+
+-- where each act may stand
+abbrev pub Allowed : Place → HeldView → Act → Type 0
+Allowed p h (Moment at) = Unit {0}
+Allowed p h Began = Unit {0}
+Allowed p h (Store a) = MayStore p.id h.store a
+Allowed p h (Connection a) = MayConnect h a
+Allowed p h (Session a) = MayCall h a
+Allowed p h (Out o) = Releases p.id h.store o
+Allowed p h (Named number) = h.named < number
+Allowed p h (Acknowledged client packet at grants offers) = AreAnswers h at grants offers
+Allowed p h (Passed m copies lost) = (h.turn < 2 ^ 62) × IsPassed p h m copies lost
+Allowed p h Dropped = Unit {0}
+
+-- what it leaves
+abbrev pub next : HeldView → Act → HeldView
+next h (Moment at) = record h { at = max h.at at }
+next h Began = record h { started = true }
+next h (Store a) = record h { store = stored h.store a }
+next h (Connection a) = connected h a
+next h (Session a) = called h a
+next h (Out o) = h
+next h (Named number) = record h { named = number }
+next h (Acknowledged client packet at grants offers) = h
+next h (Passed m copies lost) = record h { turn = h.turn + 1; counts = record h.counts { picks_lost = more lost h.counts.picks_lost } }
+next h Dropped = record h { counts = record h.counts { retained_full = one_more h.counts.retained_full } }
+
+abbrev pub Does : Place → HeldView → Act → HeldView → Type 0
+Does p h a h' = Allowed p h a × (h' ≡ next h a)
+
+-- several, one after the other
+abbrev pub Runs : Place → HeldView → List Act → HeldView → Type 0
+Runs p h [] h' = h' ≡ h
+Runs p h (a ∷ rest) h' = (mid : HeldView) × Does p h a mid × Runs p mid rest h'
+
+-- the part of the acts that a law reads
+abbrev pub gather : {A : Type 0} → (Act → List A) → List Act → List A
+gather f [] = []
+gather f (a ∷ rest) = f a ++ gather f rest
+
+-- the operations that were made
+abbrev pub op_in : Act → List Operation
+op_in (Moment at) = []
+op_in Began = []
+op_in (Store (Made o)) = o ∷ []
+op_in (Store (Merged s)) = []
+op_in (Connection a) = []
+op_in (Session a) = []
+op_in (Out o) = []
+op_in (Named number) = []
+op_in (Acknowledged client packet at grants offers) = []
+op_in (Passed m copies lost) = []
+op_in Dropped = []
+
+-- the states that were merged
+abbrev pub merge_in : Act → List State
+merge_in (Moment at) = []
+merge_in Began = []
+merge_in (Store (Made o)) = []
+merge_in (Store (Merged s)) = s ∷ []
+merge_in (Connection a) = []
+merge_in (Session a) = []
+merge_in (Out o) = []
+merge_in (Named number) = []
+merge_in (Acknowledged client packet at grants offers) = []
+merge_in (Passed m copies lost) = []
+merge_in Dropped = []
+
+-- what was given out
+abbrev pub output_in : Act → List Output
+output_in (Moment at) = []
+output_in Began = []
+output_in (Store a) = []
+output_in (Connection a) = []
+output_in (Session a) = session_outputs a
+output_in (Out o) = o ∷ []
+output_in (Named number) = []
+output_in (Acknowledged client packet at grants offers) = []
+output_in (Passed m copies lost) = []
+output_in Dropped = []

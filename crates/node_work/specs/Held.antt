@@ -1,0 +1,6 @@
+-- What is done to what a node holds.
+pub mod Calling
+pub mod Connections
+pub mod Feeding
+pub mod Making
+pub mod Sessions

@@ -1,0 +1,73 @@
+-- What is done to a node's connections.
+use Rattle.std.specs.Prelude.{◌≡◌, ℕ, true, false, Bool, is_some, List, [], ◌++◌, Option, Some, None, option_and_then, slice_get}
+use Rattle.std.specs.Ordering.{nat_cmp}
+use Rattle.std.specs.FinMap as map
+use Rattle.mqtt_packets.specs.Stream.{Held, kept, cut}
+use Rattle.node_work.specs.View.{ConnectionView, HeldView}
+
+-- a connection is opened, takes a piece of its stream, is given its client, or is closed
+pub data ConnectionAct : Type 0 where
+  Opened : (c : ℕ) → ConnectionAct
+  Fed : (c : ℕ) (piece : List ℕ) → ConnectionAct
+  Accepted : (c : ℕ) (client : List ℕ) → ConnectionAct
+  Closed : (c : ℕ) → ConnectionAct
+
+abbrev pub Table : Type 0
+Table = map.FinMap nat_cmp ConnectionView
+
+-- the longest packet that a client may send, in bytes
+abbrev pub longest_packet : ℕ
+longest_packet = 1048576
+
+-- a connection on which nothing has come
+abbrev pub new_connection : ConnectionView
+new_connection = record { stream = record { limit = longest_packet; rest = []; failed = false }; client = None }
+
+-- the stream after a piece: what no packet took, of a packet at fault its first byte, and whether a fault came
+-- (MQTT 5.0, 2.1)
+abbrev pub fed : Held → List ℕ → Held
+fed stream piece =
+    let c = kept (cut stream.limit (stream.rest ++ piece)) in
+    record { limit = stream.limit; rest = c.rest; failed = is_some c.fault }
+
+-- a connection that is open becomes another
+abbrev pub changed_at : (ConnectionView → ConnectionView) → ℕ → Table → Option ConnectionView → Table
+changed_at f c m None = m
+changed_at f c m (Some found) = map.insert m c (f found)
+
+abbrev pub changed : (ConnectionView → ConnectionView) → ℕ → Table → Table
+changed f c m = changed_at f c m (map.get m c)
+
+-- with a piece taken in, and with a client
+abbrev pub with_piece : List ℕ → ConnectionView → ConnectionView
+with_piece piece x = record x { stream = fed x.stream piece }
+
+abbrev pub with_client : List ℕ → ConnectionView → ConnectionView
+with_client client x = record x { client = Some client }
+
+-- a piece comes on an open connection
+abbrev pub MayConnect : HeldView → ConnectionAct → Type 0
+MayConnect h (Opened c) = Unit {0}
+MayConnect h (Fed c piece) = is_some (map.get h.connections c) ≡ true
+MayConnect h (Accepted c client) = Unit {0}
+MayConnect h (Closed c) = Unit {0}
+
+-- what it leaves
+abbrev pub connected : HeldView → ConnectionAct → HeldView
+connected h (Opened c) = record h { connections = map.insert h.connections c new_connection }
+connected h (Fed c piece) = record h { connections = changed (with_piece piece) c h.connections }
+connected h (Accepted c client) = record h { connections = changed (with_client client) c h.connections }
+connected h (Closed c) = record h { connections = map.remove h.connections c }
+
+-- ---- what is seen of a connection
+
+abbrev pub is_open : ℕ → HeldView → Bool
+is_open c h = is_some (map.get h.connections c)
+
+-- its client, once that is accepted
+abbrev pub client_at : ℕ → HeldView → Option (List ℕ)
+client_at c h = option_and_then (λ x. x.client) (map.get h.connections c)
+
+-- the first byte of the packet that its stream is at
+abbrev pub first_at : ℕ → HeldView → Option ℕ
+first_at c h = option_and_then (λ x. slice_get x.stream.rest 0) (map.get h.connections c)

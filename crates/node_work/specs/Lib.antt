@@ -1,0 +1,11 @@
+pub mod Acts
+pub mod Calling
+pub mod Doings
+pub mod Frames
+pub mod Held
+pub mod Names
+pub mod Offers
+pub mod Packets
+pub mod Passing
+pub mod View
+pub mod Working

@@ -1,0 +1,29 @@
+-- How faults and kinds of frames are named in text.
+use Rattle.std.specs.Prelude.{ℕ, List, codes}
+use Rattle.node_work.specs.declared.fault.NodeFault.{NodeFault}
+use Rattle.node_work.specs.declared.fault.NodeFault.TheVariants.{NoMemory, NumbersAtEnd, Stopped}
+use Rattle.replica_store.specs.declared.fault.StoreFault.{StoreFault}
+use Rattle.replica_store.specs.declared.fault.StoreFault.TheVariants as store_faults
+use Rattle.node_work.specs.declared.frame.FrameKind.{FrameKind}
+use Rattle.node_work.specs.declared.frame.FrameKind.TheVariants.{Delta, Know}
+use Rattle.node_work.specs.declared.frame.FrameBody.{FrameBody}
+use Rattle.node_work.specs.declared.frame.FrameBody.TheVariants as bodies
+
+abbrev pub fault_name : NodeFault → List ℕ
+fault_name NoMemory = codes "NoMemory"
+fault_name NumbersAtEnd = codes "NumbersAtEnd"
+fault_name Stopped = codes "Stopped"
+
+abbrev pub frame_name : FrameKind → List ℕ
+frame_name Delta = codes "delta"
+frame_name Know = codes "know"
+
+abbrev pub kind_of : FrameBody → FrameKind
+kind_of (bodies.Delta state) = Delta
+kind_of (bodies.Know dots) = Know
+
+-- a fault of the store as one of the node
+abbrev pub node_fault : StoreFault → NodeFault
+node_fault store_faults.NumbersAtEnd = NumbersAtEnd
+node_fault store_faults.NoMemory = NoMemory
+node_fault store_faults.BadRow = NoMemory

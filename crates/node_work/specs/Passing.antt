@@ -1,0 +1,55 @@
+-- Which copies of a message a node makes (MQTT 5.0, 3.3.4 and 4.8.2).
+use Rattle.std.specs.Prelude.{◌≡◌, ℕ, ◌<◌, ◌^◌, ◌==◌, ◌&&◌, ◌||◌, not, nat_lt, Bool, cond, if◌then◌else◌, List, [], ◌∷◌, ◌++◌, length, map as map_list}
+use Rattle.std.specs.List.{filter}
+use Rattle.std.specs.FinMap as map
+use Rattle.filter_trie.specs.Selected.{IsSelected}
+use Rattle.home_table.specs.Homes.{IsHome}
+use Rattle.message_copies.specs.declared.plain.PlainCopy.{PlainCopy as Copy}
+use Rattle.message_copies.specs.declared.groups.GroupPick.{GroupPick}
+use Rattle.message_copies.specs.Copies.{AreCopies}
+use Rattle.message_copies.specs.Picks.{ArePicks}
+use Rattle.mqtt_message.specs.declared.message.Message.{Message}
+use Rattle.replica_store.specs.declared.content.Content.{Content}
+use Rattle.replica_store.specs.declared.content.Content.TheVariants.{Set, Cleared}
+use Rattle.replica_store.specs.States.{State}
+use Rattle.subscription_set.specs.Standing.{live}
+use Rattle.node_work.specs.Held.Sessions.{has_session}
+use Rattle.node_work.specs.View.{Place, HeldView}
+
+-- those for clients that have a session here, and the others
+abbrev pub seated : HeldView → List Copy → List Copy
+seated h copies = filter (λ x. has_session x.client h) copies
+
+abbrev pub unseated : HeldView → List Copy → List Copy
+unseated h copies = filter (λ x. not (has_session x.client h)) copies
+
+abbrev pub pick_copy : GroupPick → Copy
+pick_copy x = record { client = x.client; delivery = x.delivery }
+
+-- the picks whose clients have their home here, as copies
+abbrev pub IsHomed : Place → List GroupPick → List Copy → Type 0
+IsHomed p picks out = (homed : List GroupPick) × IsSelected (λ x. IsHome p.homes x.client p.id) picks homed × (out ≡ map_list pick_copy homed)
+
+-- what goes to sessions here: a copy for each client with plain subscriptions that match, in the order of the clients' bytes,
+-- and then one for each group that matches, where the member that is picked has its home here; picks without a session are lost
+pub record IsPassed (p : Place) (h : HeldView) (m : Message) (copies : List Copy) (lost : ℕ) : Type 0 where
+  pub plain : List Copy
+  pub picks : List GroupPick
+  pub homed : List Copy
+  pub are_copies : AreCopies (live h.store.subscriptions) m plain
+  pub are_picks : ArePicks h.turn (live h.store.subscriptions) m picks
+  pub are_here : IsHomed p picks homed
+  pub copies_are : copies ≡ seated h plain ++ seated h homed
+  pub lost_are : lost ≡ length (unseated h homed)
+
+-- the messages that were passed on before are 2^62
+abbrev pub turn_at_end : Place → HeldView → Bool
+turn_at_end p h = not (nat_lt h.turn (2 ^ 62))
+
+-- what a topic is given: the message, or with an empty payload none (3.3.1.3)
+abbrev pub content_of : Message → Content
+content_of m = if length m.payload == 0 then Cleared m.topic else Set m
+
+-- a topic that is held already, or one more: at most 100,000 are held
+abbrev pub has_room : List ℕ → State → Bool
+has_room topic s = map.contains_key s.retained topic || nat_lt (map.len s.retained) 100000

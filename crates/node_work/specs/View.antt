@@ -1,0 +1,87 @@
+-- What a node holds.
+use Rattle.std.specs.Prelude.{ℕ, Bool, false, cond, List, Option, Some, None, length, refl}
+use Rattle.std.specs.Coded.{Coded, code_by, coded×, coded_ℕ, coded_bool, coded_list, coded_option}
+use Rattle.std.specs.Ordering.{nat_cmp}
+use Rattle.std.specs.FinMap.{FinMap}
+use Rattle.std.specs.FinMap as map
+use Rattle.mqtt_packets.specs.Stream.{Held}
+use Rattle.home_table.specs.Table.{Table, coded_table}
+use Rattle.replica_store.specs.States.{State, nothing, coded_state}
+use Rattle.session_table.specs.Seats.{Seats, coded_seats}
+use Rattle.node_work.specs.declared.counts.Counts.{Counts}
+use Rattle.node_work.specs.declared.outcome.Output.{Output}
+
+-- where a node stands in its cluster: its number, and the table of homes
+pub record Place : Type 0 where
+  pub id : ℕ
+  pub homes : Table
+
+-- how many nodes the cluster has
+abbrev pub nodes_of : Place → ℕ
+nodes_of p = length p.homes.nodes
+
+-- a connection: what its framer holds, and its client once that is accepted
+pub record ConnectionView : Type 0 where
+  pub stream : Held
+  pub client : Option (List ℕ)
+
+-- what a running node holds: the greatest moment that it was handed, whether it has started, the replicated state, the open
+-- connections by their numbers, the sessions by their clients, how many messages it has passed on, the number of the last
+-- client identifier that it gave, and its counts
+pub record HeldView : Type 0 where
+  pub at : ℕ
+  pub started : Bool
+  pub store : State
+  pub connections : FinMap nat_cmp ConnectionView
+  pub sessions : Seats
+  pub turn : ℕ
+  pub named : ℕ
+  pub counts : Counts
+
+-- a node at work on an event: its place, what it holds, and what it has given out so far
+pub record WorkView : Type 0 where
+  pub place : Place
+  pub held : HeldView
+  pub outputs : List Output
+
+-- a node: its place, and what it holds while it runs
+pub record NodeView : Type 0 where
+  pub place : Place
+  pub up : Option HeldView
+
+abbrev pub no_counts : Counts
+no_counts = record { queue_full = 0; retained_full = 0; picks_lost = 0 }
+
+-- a node that was just opened
+abbrev pub fresh : HeldView
+fresh = record { at = 0; started = false; store = nothing; connections = map.empty; sessions = map.empty; turn = 0; named = 0; counts = no_counts }
+
+abbrev pub opened : Place → NodeView
+opened place = record { place = place; up = Some fresh }
+
+-- nothing is said of what a node holds once it has stopped
+abbrev pub up_of : Bool → HeldView → Option HeldView
+up_of stopped h = cond stopped None (Some h)
+
+-- each is stored as its parts
+abbrev pub coded_place : Coded Place
+coded_place = code_by (ℕ × Table) (coded× coded_ℕ coded_table) (λ p. (p.id, p.homes)) (λ p. record { id = p.0; homes = p.1 }) (λ _. refl)
+
+abbrev pub coded_stream : Coded Held
+coded_stream = code_by (ℕ × (List ℕ × Bool)) (coded× coded_ℕ (coded× (coded_list coded_ℕ) coded_bool)) (λ s. (s.limit, (s.rest, s.failed))) (λ p. record { limit = p.0; rest = p.1.0; failed = p.1.1 }) (λ _. refl)
+
+abbrev pub coded_connection : Coded ConnectionView
+coded_connection = code_by (Held × Option (List ℕ)) (coded× coded_stream (coded_option (coded_list coded_ℕ))) (λ c. (c.stream, c.client)) (λ p. record { stream = p.0; client = p.1 }) (λ _. refl)
+
+abbrev pub coded_counts : Coded Counts
+coded_counts = code_by (ℕ × (ℕ × ℕ)) (coded× coded_ℕ (coded× coded_ℕ coded_ℕ)) (λ c. (c.queue_full, (c.retained_full, c.picks_lost))) (λ p. record { queue_full = p.0; retained_full = p.1.0; picks_lost = p.1.1 }) (λ _. refl)
+
+abbrev pub coded_held : Coded HeldView
+coded_held =
+    code_by (ℕ × (Bool × (State × (FinMap nat_cmp ConnectionView × (Seats × (ℕ × (ℕ × Counts)))))))
+    (coded× coded_ℕ (coded× coded_bool (coded× coded_state (coded× (map.code coded_ℕ coded_connection) (coded× coded_seats (coded× coded_ℕ (coded× coded_ℕ coded_counts)))))))
+    (λ h. (h.at, (h.started, (h.store, (h.connections, (h.sessions, (h.turn, (h.named, h.counts))))))))
+    (λ p. record { at = p.0; started = p.1.0; store = p.1.1.0; connections = p.1.1.1.0; sessions = p.1.1.1.1.0; turn = p.1.1.1.1.1.0; named = p.1.1.1.1.1.1.0; counts = p.1.1.1.1.1.1.1 }) (λ _. refl)
+
+abbrev pub coded_node : Coded NodeView
+coded_node = code_by (Place × Option HeldView) (coded× coded_place (coded_option coded_held)) (λ n. (n.place, n.up)) (λ p. record { place = p.0; up = p.1 }) (λ _. refl)

@@ -1,0 +1,408 @@
+//! What a running node holds.
+
+pub mod connection;
+pub mod connections;
+
+ghost use Rattle.std.specs.Prelude.{◌≡◌, ◌<◌, ◌≤◌, ◌^◌, ◌+◌, max, true, is_some, None, Some, OnOk, IfOk, IfErr, slice_get, option_and_then, Ok};
+ghost use Rattle.std.specs.Option.{option_copied};
+ghost use Rattle.std.specs.FinMap as map;
+ghost use Rattle.replica_store.specs.States.{state_join};
+ghost use Rattle.replica_store.specs.Making.{subscribe_of, put_of};
+ghost use Rattle.subscription_set.specs.Standing.{any_of};
+ghost use Rattle.mqtt_packets.specs.Written.{HasSpelling};
+ghost use Rattle.mqtt_sessions.specs.State.{IsPublishableIf};
+ghost use Rattle.session_laws.specs.Runs.{connects, queues, takes, answers, closes, ticks, finishes};
+ghost use Rattle.node_work.specs.Acts.{next, Connection};
+ghost use Rattle.node_work.specs.Held.Calling.{IsHeldCall, MayConnectHere, MayAnswer};
+ghost use Rattle.session_table.specs.Calls.{IsSpelledIf, stays, leaves, moves};
+ghost use Rattle.node_work.specs.Held.Sessions.{Begun, Over, called, counted, more, one_more, will_is_due, end_is_due};
+ghost use Rattle.node_work.specs.Held.Connections.{Accepted, is_open, client_at, first_at, new_connection};
+ghost use Rattle.node_work.specs.Held.Feeding.{IsHeldFed};
+ghost use Rattle.node_work.specs.Held.Making.{Makes, number_at_end, put_at_end, removal, with_operation};
+ghost use Rattle.node_work.specs.Packets.{CameSpelled};
+ghost use Rattle.node_work.specs.View.{fresh};
+ghost use Rattle.node_work.specs.declared.fault.NodeFault.TheVariants.{NoMemory};
+
+use crate::counts::Counts;
+use crate::fault::NodeFault;
+use crate::held::connections::{Came, Connections};
+use causal_context::Lattice;
+use mqtt_fields::Text;
+use mqtt_message::Delivery;
+use mqtt_packets::{Connect, Packet};
+use mqtt_sessions::{Reaction, SessionFault};
+use mqtt_topics::Filter;
+use replica_store::{Content, Operation, ReplicaStore};
+use session_table::Sessions;
+use std::alloc::Global;
+use std::marker::Model;
+use subscription_set::Entry;
+
+/// What a running node holds.
+#[derive(Drop)]
+pub struct Held {
+    at: u64,
+    started: bool,
+    store: ReplicaStore,
+    connections: Connections,
+    sessions: Sessions,
+    turn: u64,
+    named: u64,
+    counts: Counts,
+}
+
+impl Model for Held {
+    ghost use Rattle.std.specs.Prelude.{◌<◌, ◌≤◌, ◌^◌};
+    ghost use Rattle.node_work.specs.View.{HeldView, coded_held};
+
+    ghost Value = { HeldView };
+
+    ghost coded = { coded_held };
+
+    ghost view = { λ h. record { at = h.at; started = h.started; store = h.store; connections = h.connections; sessions = h.sessions; turn = h.turn; named = h.named; counts = h.counts } };
+
+    ghost invariant = { λ h. (h.at < 2 ^ 62) × (h.turn ≤ 2 ^ 62) × (h.named < 2 ^ 62) };
+}
+
+impl Held {
+    pub fn new(alloc: Global) -> Held
+        ensures { result ≡ fresh }
+    {
+        Held {
+            at: 0,
+            started: false,
+            store: ReplicaStore::new(alloc),
+            connections: Connections::new(alloc),
+            sessions: Sessions::new(alloc),
+            turn: 0,
+            named: 0,
+            counts: Counts {
+                queue_full: 0,
+                retained_full: 0,
+                picks_lost: 0,
+            },
+        }
+    }
+
+    /// The greatest moment that was taken.
+    pub fn at(&self) -> u64
+        ensures at { result ≡ self.now.at }
+        ensures below { self.now.at < 2 ^ 62 }
+    {
+        self.at
+    }
+
+    pub fn is_started(&self) -> bool
+        ensures { result ≡ self.now.started }
+    {
+        self.started
+    }
+
+    pub fn store(&self) -> &ReplicaStore
+        ensures { result.now ≡ self.now.store }
+    {
+        &self.store
+    }
+
+    pub fn is_open(&self, connection: u64) -> bool
+        ensures { result ≡ is_open connection self.now }
+    {
+        self.connections.is_open(connection)
+    }
+
+    /// The client of a connection that was accepted.
+    pub fn client_of(&self, connection: u64) -> Option<&Text>
+        ensures { option_copied result ≡ client_at connection self.now }
+    {
+        self.connections.client_of(connection)
+    }
+
+    /// The first byte of the packet that a connection's stream is at.
+    pub fn first(&self, connection: u64) -> Option<u8>
+        ensures { result ≡ first_at connection self.now }
+    {
+        self.connections.first(connection)
+    }
+
+    /// Whether something stands of the client and, where one is given, to the filter.
+    pub fn stands(&self, client: &Text, filter: Option<&Filter>) -> bool
+        ensures { result ≡ any_of client.now (option_copied filter.entry) self.now.store.subscriptions }
+    {
+        self.store.subscriptions().stands(client, filter)
+    }
+
+    pub fn sessions(&self) -> &Sessions
+        ensures { result.now ≡ self.now.sessions }
+    {
+        &self.sessions
+    }
+
+    /// Whether the will of a client's session is due.
+    pub fn will_is_due(&self, client: &Text) -> bool
+        ensures { result ≡ will_is_due client.now self.now }
+    {
+        match self.sessions.will_due(client) {
+            Some(due) => due <= self.at,
+            None => false,
+        }
+    }
+
+    /// Whether the end of a client's session is due.
+    pub fn end_is_due(&self, client: &Text) -> bool
+        ensures { result ≡ end_is_due client.now self.now }
+    {
+        match self.sessions.end_due(client) {
+            Some(due) => due <= self.at,
+            None => false,
+        }
+    }
+
+    /// How many messages were passed on.
+    pub fn turn(&self) -> u64
+        ensures { result ≡ self.now.turn }
+    {
+        self.turn
+    }
+
+    /// The number of the last client identifier that was given.
+    pub fn named(&self) -> u64
+        ensures named { result ≡ self.now.named }
+        ensures below { self.now.named < 2 ^ 62 }
+    {
+        self.named
+    }
+
+    pub fn counts(&self) -> Counts
+        ensures { result ≡ self.now.counts }
+    {
+        self.counts
+    }
+
+    /// Takes a moment, unless a later one was taken.
+    pub fn take_moment(&mut self, at: u64)
+        requires { at < 2 ^ 62 }
+        ensures { self.new ≡ record self.old { at = max self.old.at at } }
+    {
+        self.at = self.at.max(at);
+    }
+
+    pub fn begin(&mut self)
+        ensures { self.new ≡ record self.old { started = true } }
+    {
+        self.started = true;
+    }
+
+    /// Takes an operation that the node made.
+    fn apply(&mut self, operation: &Operation) -> Result<(), NodeFault>
+        ensures ok { OnOk result (self.new ≡ with_operation self.old operation.now) }
+        ensures fault { IfErr result (λ e. e ≡ NoMemory) }
+    {
+        match self.store.apply(operation) {
+            Ok(()) => Ok(()),
+            Err(_) => Err(NodeFault::NoMemory),
+        }
+    }
+
+    /// Makes a Subscribe of the entry, and takes it.
+    pub fn subscribe(&mut self, node: u16, entry: Entry) -> Result<(), NodeFault>
+        ensures { Makes (number_at_end node self.old) (subscribe_of node entry self.old.store) self.old self.new result }
+    {
+        let operation = self.store.make_subscribe(node, entry)?;
+        self.apply(&operation)
+    }
+
+    /// Makes a Remove of what stands of the client and, where one is given, to the filter, and takes
+    /// it.
+    pub fn remove(
+        &mut self,
+        node: u16,
+        client: &Text,
+        filter: Option<&Filter>,
+    ) -> Result<(), NodeFault>
+        requires { any_of client.now (option_copied filter) self.old.store.subscriptions ≡ true }
+        ensures { Makes (number_at_end node self.old) (removal node client.now (option_copied filter.entry) self.old.store) self.old self.new result }
+    {
+        match self.store.make_remove(node, client, filter)? {
+            Some(operation) => self.apply(&operation),
+            None => Ok(()),
+        }
+    }
+
+    /// Makes a Put of the content, and takes it.
+    pub fn put(&mut self, node: u16, content: Content) -> Result<(), NodeFault>
+        ensures { Makes (put_at_end node self.old) (put_of node content self.old.store) self.old self.new result }
+    {
+        let operation = self.store.make_put(node, content)?;
+        self.apply(&operation)
+    }
+
+    pub fn merge(&mut self, state: &ReplicaStore) -> Result<(), NodeFault>
+        ensures ok { OnOk result (self.new ≡ record self.old { store = state_join self.old.store state.now }) }
+        ensures fault { IfErr result (λ e. e ≡ NoMemory) }
+    {
+        self.store.join(state)?;
+        Ok(())
+    }
+
+    pub fn open(&mut self, alloc: Global, connection: u64) -> Result<(), NodeFault>
+        ensures ok { OnOk result (self.new
+            ≡ record self.old { connections = map.insert self.old.connections connection new_connection }) }
+        ensures fault { IfErr result (λ e. e ≡ NoMemory) }
+    {
+        self.connections.open(alloc, connection)
+    }
+
+    pub fn close(&mut self, connection: u64)
+        ensures { self.new ≡ record self.old { connections = map.remove self.old.connections connection } }
+    {
+        self.connections.close(connection);
+    }
+
+    /// Takes in a piece of a connection's stream.
+    pub fn feed(&mut self, connection: u64, piece: &[u8]) -> Result<Came, NodeFault>
+        ensures idle { map.get self.old.connections connection ≡ None → (result ≡ Ok Came.Nothing) × (self.new ≡ self.old) }
+        ensures fed { IfOk result (λ came. IsHeldFed self.old connection piece.now came self.new) }
+        ensures spelled { IfOk result (λ came. CameSpelled came) }
+        ensures fault { IfErr result (λ e. e ≡ NoMemory) }
+    {
+        self.connections.feed(connection, piece)
+    }
+
+    /// Gives an open connection its client.
+    pub fn accept(&mut self, alloc: Global, connection: u64, client: &Text) -> Result<(), NodeFault>
+        ensures ok { OnOk result (self.new ≡ next self.old (Connection (Accepted connection client.now))) }
+        ensures fault { IfErr result (λ e. e ≡ NoMemory) }
+    {
+        let client = client.copy(alloc)?;
+        self.connections.accept(connection, client)
+    }
+
+    /// Remembers the number of the last client identifier that was given.
+    pub fn name(&mut self, number: u64)
+        requires { number < 2 ^ 62 }
+        ensures { self.new ≡ record self.old { named = number } }
+    {
+        self.named = number;
+    }
+
+    /// Counts a message that is passed on, and picks that are lost.
+    pub fn pass(&mut self, lost: u64)
+        requires { self.old.turn < 2 ^ 62 }
+        ensures { self.new ≡ record self.old { turn = self.old.turn + 1; counts = record self.old.counts { picks_lost = more lost self.old.counts.picks_lost } } }
+    {
+        self.turn += 1;
+        self.counts.picks_lost = self.counts.picks_lost.saturating_add(lost);
+    }
+
+    /// Counts a retained message that had no room.
+    pub fn drop_retained(&mut self)
+        ensures { self.new ≡ record self.old { counts = record self.old.counts { retained_full = one_more self.old.counts.retained_full } } }
+    {
+        self.counts.retained_full = self.counts.retained_full.saturating_add(1);
+    }
+
+    /// Counts a copy that a full queue left out.
+    pub fn count_full(&mut self, full: bool)
+        ensures { self.new ≡ record self.old { counts = counted full self.old.counts } }
+    {
+        if full {
+            self.counts.queue_full = self.counts.queue_full.saturating_add(1);
+        }
+    }
+
+    /// Gives a client a new session.
+    pub fn begin_session(&mut self, client: Text) -> Result<(), NodeFault>
+        ensures ok { OnOk result (self.new ≡ called self.old (Begun client)) }
+        ensures fault { IfErr result (λ e. e ≡ NoMemory) }
+    {
+        self.sessions.begin(client)?;
+        Ok(())
+    }
+
+    pub fn end_session(&mut self, client: &Text)
+        ensures { self.new ≡ called self.old (Over client.now) }
+    {
+        self.sessions.remove(client);
+    }
+
+    /// The beginning of a connection of the client's session.
+    pub fn connect(
+        &mut self,
+        client: &Text,
+        connection: u64,
+        connect: &Connect,
+        continued: bool,
+    ) -> Result<Option<Reaction>, SessionFault>
+        requires continued { MayConnectHere client.now continued self.old.sessions }
+        requires will { IsPublishableIf connect.now.will }
+        ensures called { IsHeldCall client.now (connects connect.now continued self.old.at) (moves connection) self.old result self.new }
+        ensures spelled { IfOk result (IsSpelledIf self.old.at) }
+    {
+        self.sessions
+            .connect(client, connection, connect, continued, self.at)
+    }
+
+    /// A copy of a message for the client.
+    pub fn queue(
+        &mut self,
+        client: &Text,
+        delivery: Delivery,
+    ) -> Result<Option<Reaction>, SessionFault>
+        ensures called { IsHeldCall client.now (queues delivery self.old.at) stays self.old result self.new }
+        ensures spelled { IfOk result (IsSpelledIf self.old.at) }
+    {
+        self.sessions.queue(client, delivery, self.at)
+    }
+
+    /// A packet of the client.
+    pub fn packet(
+        &mut self,
+        client: &Text,
+        packet: &Packet,
+        room: bool,
+    ) -> Result<Option<Reaction>, SessionFault>
+        requires { HasSpelling packet.now }
+        ensures called { IsHeldCall client.now (takes packet.now self.old.at room) stays self.old result self.new }
+        ensures spelled { IfOk result (IsSpelledIf self.old.at) }
+    {
+        self.sessions.packet(client, packet, self.at, room)
+    }
+
+    /// The codes of the SUBSCRIBE or UNSUBSCRIBE that was asked for.
+    pub fn answer(
+        &mut self,
+        client: &Text,
+        identifier: u16,
+        codes: &[u8],
+    ) -> Result<Option<Reaction>, SessionFault>
+        requires { MayAnswer identifier codes.now }
+        ensures called { IsHeldCall client.now (answers identifier codes.now) stays self.old result self.new }
+        ensures spelled { IfOk result (IsSpelledIf self.old.at) }
+    {
+        self.sessions.answer(client, identifier, codes)
+    }
+
+    /// The connection of the client's session is gone.
+    pub fn part(&mut self, client: &Text) -> Result<Option<Reaction>, SessionFault>
+        ensures called { IsHeldCall client.now (closes self.old.at) leaves self.old result self.new }
+        ensures spelled { IfOk result (IsSpelledIf self.old.at) }
+    {
+        self.sessions.closed(client, self.at)
+    }
+
+    /// One thing of the client's session that is due.
+    pub fn tick(&mut self, client: &Text) -> Result<Option<Reaction>, SessionFault>
+        ensures called { IsHeldCall client.now (ticks self.old.at) stays self.old result self.new }
+        ensures spelled { IfOk result (IsSpelledIf self.old.at) }
+    {
+        self.sessions.tick(client, self.at)
+    }
+
+    /// The client's session ends now.
+    pub fn finish(&mut self, client: &Text) -> Result<Option<Reaction>, SessionFault>
+        ensures called { IsHeldCall client.now (finishes self.old.at) stays self.old result self.new }
+        ensures spelled { IfOk result (IsSpelledIf self.old.at) }
+    {
+        self.sessions.finish(client, self.at)
+    }
+}

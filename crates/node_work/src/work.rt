@@ -1,0 +1,516 @@
+//! A node at work on an event.
+
+ghost use Rattle.std.specs.Prelude.{◌≡◌, ◌<◌, ◌≤◌, ◌^◌, ℕ, List, map, true, false, is_some, [], ◌∷◌, ◌++◌, OnOk, IfOk, IfErr, Ok, Err, Some, None};
+ghost use Rattle.std.specs.Option.{option_copied};
+ghost use Rattle.mqtt_packets.specs.Written.{HasSpelling, written};
+ghost use Rattle.mqtt_message.specs.declared.delivery.Delivery.{Delivery};
+ghost use Rattle.mqtt_message.specs.declared.message.Message.{Message};
+ghost use Rattle.mqtt_sessions.specs.State.{IsPublishableIf};
+ghost use Rattle.mqtt_sessions.specs.Reaction.{packet_of};
+ghost use Rattle.mqtt_sessions.specs.Reaction as reactions;
+ghost use Rattle.session_laws.specs.Runs.{connects, queues, takes, answers, closes, ticks, finishes};
+ghost use Rattle.subscription_set.specs.Standing.{any_of};
+ghost use Rattle.node_work.specs.Acts.{Began, Connection, Store, Merged, Session, Out, Named, Acknowledged, Passed, Dropped, AreAnswers};
+ghost use Rattle.node_work.specs.Calling.{Calls};
+ghost use Rattle.node_work.specs.Doings.{MakesPut};
+ghost use Rattle.node_work.specs.Doings.{Removes};
+ghost use Rattle.node_work.specs.Doings.{Sends, Disconnects};
+ghost use Rattle.mqtt_sessions.specs.Answers.{fits};
+ghost use Rattle.node_work.specs.Doings.{MakesSubscribe};
+ghost use Rattle.node_work.specs.Held.Calling.{MayConnectHere, MayAnswer, Reacted};
+ghost use Rattle.mqtt_sessions.specs.Reaction.{AreSpelled};
+ghost use Rattle.session_table.specs.Calls.{IsSpelledIf, stays, leaves, moves};
+ghost use Rattle.node_work.specs.Held.Connections.{Opened, Accepted, Closed, is_open};
+ghost use Rattle.node_work.specs.Held.Feeding.{IsHeldFed};
+ghost use Rattle.node_work.specs.Held.Sessions.{Begun, Over, has_session, packet_output, last_of, outputs_on};
+ghost use Rattle.node_work.specs.Packets.{CameSpelled};
+ghost use Rattle.message_copies.specs.declared.plain.PlainCopy.{PlainCopy as Copy};
+ghost use Rattle.node_work.specs.Passing.{IsPassed, turn_at_end};
+ghost use Rattle.node_work.specs.Doings.{TakesMoment};
+ghost use Rattle.node_work.specs.Doings.{Opens};
+ghost use Rattle.node_work.specs.View.{HeldView, Place, fresh};
+ghost use Rattle.node_work.specs.Working.{Comes, Acting, Numbered, Returns, If};
+ghost use Rattle.node_work.specs.declared.granted.Granted.{Granted};
+ghost use Rattle.node_work.specs.declared.fault.NodeFault.TheVariants.{NoMemory, NumbersAtEnd};
+
+use crate::fault::NodeFault;
+use crate::frame::{Frame, FrameBody};
+use crate::held::Held;
+use crate::held::connections::Came;
+use crate::outcome::{Outcome, Output};
+use crate::packets::{disconnect, written};
+use home_table::HomeTable;
+use mqtt_fields::Text;
+use mqtt_message::Delivery;
+use mqtt_packets::{Bytes, Connect, Packet};
+use mqtt_sessions::{Output as SessionOutput, Reaction, SessionFault};
+use mqtt_topics::Filter;
+use replica_store::{Content, ReplicaStore};
+use std::alloc::Global;
+use std::marker::Model;
+use subscription_set::Entry;
+
+/// Moments stay below this, in milliseconds.
+const MOMENTS_END: u64 = 1 << 62;
+
+/// Fewer messages than this are passed on.
+const TURNS_END: u64 = 1 << 62;
+
+/// A node at work: its place, what it holds, and what it has given out so far.
+#[derive(Drop)]
+pub struct Work {
+    alloc: Global,
+    id: u16,
+    homes: HomeTable,
+    held: Held,
+    outputs: Vec<Output>,
+}
+
+impl Model for Work {
+    ghost use Rattle.std.specs.Prelude.{ℕ, List, refl};
+    ghost use Rattle.std.specs.Coded.{code_by, coded×, coded_list};
+    ghost use Rattle.node_work.specs.declared.outcome.Output.{Output};
+    ghost use Rattle.node_work.specs.contracts.outcome.Output as output;
+    ghost use Rattle.node_work.specs.View.{HeldView, Place, WorkView, coded_held, coded_place};
+
+    ghost Value = { WorkView };
+
+    ghost coded = { code_by (Place × (HeldView × List Output)) (coded× coded_place (coded× coded_held (coded_list output.the_row.coded)))
+        (λ w. (w.place, (w.held, w.outputs))) (λ p. record { place = p.0; held = p.1.0; outputs = p.1.1 }) (λ _. refl) };
+
+    ghost view = { λ w. record { place = record { id = w.id; homes = w.homes }; held = w.held; outputs = w.outputs.items } };
+}
+
+/// A reaction that says nothing.
+fn nothing(alloc: Global) -> Reaction
+    ensures { result ≡ reactions.nothing }
+{
+    Reaction {
+        packets: Vec::new(alloc),
+        ask: None,
+        end: None,
+        over: false,
+        full: false,
+    }
+}
+
+impl Work {
+    pub fn new(alloc: Global, id: u16, homes: HomeTable) -> Work
+        ensures { result ≡ record { place = record { id = id; homes = homes }; held = fresh; outputs = [] } }
+    {
+        Work {
+            alloc,
+            id,
+            homes,
+            held: Held::new(alloc),
+            outputs: Vec::new(alloc),
+        }
+    }
+
+    pub fn alloc(&self) -> Global {
+        self.alloc
+    }
+
+    pub fn id(&self) -> u16
+        ensures { result ≡ self.now.place.id }
+    {
+        self.id
+    }
+
+    /// The table of homes.
+    pub fn homes(&self) -> &HomeTable
+        ensures { result.now ≡ self.now.place.homes }
+    {
+        &self.homes
+    }
+
+    pub fn held(&self) -> &Held
+        ensures { result.now ≡ self.now.held }
+    {
+        &self.held
+    }
+
+    /// Starts a step.
+    pub fn start(&mut self)
+        ensures { self.new ≡ record self.old { outputs = [] } }
+    {
+        self.outputs.clear();
+    }
+
+    /// Hands over what was given out.
+    pub fn finish(&mut self) -> Outcome
+        ensures given { result.outputs.items ≡ self.old.outputs }
+        ensures rest { self.new ≡ record self.old { outputs = [] } }
+    {
+        let alloc = self.alloc;
+        let outputs = std::mem::replace(&mut self.outputs, Vec::new(alloc));
+        Outcome { outputs }
+    }
+
+    /// Takes a moment, unless a later one was taken. It takes no memory.
+    pub fn take_moment(&mut self, at: u64) -> Result<(), NodeFault>
+        ensures comes { Comes (λ x. x) result self.old self.new (TakesMoment at) }
+        ensures below { at < 2 ^ 62 → result ≡ Ok tt }
+        ensures end { 2 ^ 62 ≤ at → result ≡ Err NumbersAtEnd }
+    {
+        if at >= MOMENTS_END {
+            return Err(NodeFault::NumbersAtEnd);
+        }
+        self.held.take_moment(at);
+        Ok(())
+    }
+
+    /// Begins the node's work.
+    pub fn begin(&mut self) -> Result<(), NodeFault>
+        ensures { Comes (λ x. x) result self.old self.new (Acting (λ p h. Began)) }
+    {
+        self.held.begin();
+        Ok(())
+    }
+
+    /// Makes a Subscribe of the entry, and takes it.
+    pub fn subscribe(&mut self, entry: Entry) -> Result<(), NodeFault>
+        ensures { Comes (λ x. x) result self.old self.new (MakesSubscribe entry) }
+    {
+        self.held.subscribe(self.id, entry)
+    }
+
+    /// Makes a Remove of what stands of the client and, where one is given, to the filter, and takes
+    /// it; or makes none where nothing stands, and then takes no memory. Answers whether something
+    /// stood.
+    pub fn remove(&mut self, client: &Text, filter: Option<&Filter>) -> Result<bool, NodeFault>
+        ensures comes { Comes (λ x. x) result self.old self.new (Removes client.now (option_copied filter.entry)) }
+        ensures none { any_of client.now (option_copied filter.entry) self.old.held.store.subscriptions ≡ false → (result ≡ Ok false) × (self.new ≡ self.old) }
+    {
+        if !self.held.stands(client, filter) {
+            return Ok(false);
+        }
+        self.held.remove(self.id, client, filter)?;
+        Ok(true)
+    }
+
+    /// Makes a Put of the content, and takes it.
+    pub fn put(&mut self, content: Content) -> Result<(), NodeFault>
+        ensures { Comes (λ x. x) result self.old self.new (MakesPut content) }
+    {
+        self.held.put(self.id, content)
+    }
+
+    pub fn merge(&mut self, state: &ReplicaStore) -> Result<(), NodeFault>
+        ensures { Comes (λ x. x) result self.old self.new (Acting (λ p h. Store (Merged state.now))) }
+    {
+        self.held.merge(state)
+    }
+
+    /// Opens a connection that isn't open.
+    pub fn open(&mut self, connection: u64) -> Result<(), NodeFault>
+        ensures comes { Comes (λ x. x) result self.old self.new (Opens connection) }
+        ensures idle { is_open connection self.old.held ≡ true → (result ≡ Ok tt) × (self.new ≡ self.old) }
+    {
+        if self.held.is_open(connection) {
+            return Ok(());
+        }
+        self.held.open(self.alloc, connection)
+    }
+
+    /// Takes in a piece of a connection's stream.
+    pub fn feed(&mut self, connection: u64, piece: &[u8]) -> Result<Came, NodeFault>
+        ensures idle { is_open connection self.old.held ≡ false → (result ≡ Ok Came.Nothing) × (self.new ≡ self.old) }
+        ensures fed { IfOk result (λ came. (h : HeldView) × IsHeldFed self.old.held connection piece.now came h × (self.new ≡ record self.old { held = h })) }
+        ensures spelled { IfOk result (λ came. CameSpelled came) }
+        ensures fault { IfErr result (λ e. e ≡ NoMemory) }
+    {
+        self.held.feed(connection, piece)
+    }
+
+    /// Gives an open connection its client.
+    pub fn accept(&mut self, connection: u64, client: &Text) -> Result<(), NodeFault>
+        ensures { Comes (λ x. x) result self.old self.new (Acting (λ p h. Connection (Accepted connection client.now))) }
+    {
+        self.held.accept(self.alloc, connection, client)
+    }
+
+    fn give(&mut self, output: Output) -> Result<(), NodeFault>
+        ensures ok { OnOk result (self.new ≡ record self.old { outputs = self.old.outputs ++ output ∷ [] }) }
+        ensures fault { IfErr result (λ e. e ≡ NoMemory) }
+    {
+        self.outputs.push(output)?;
+        Ok(())
+    }
+
+    /// Takes a connection out. It takes no memory.
+    pub fn close(&mut self, connection: u64) -> Result<(), NodeFault>
+        ensures comes { Comes (λ x. x) result self.old self.new (Acting (λ p h. Connection (Closed connection))) }
+        ensures done { result ≡ Ok tt }
+    {
+        self.held.close(connection);
+        Ok(())
+    }
+
+    /// Tells a client that its connection is closed.
+    pub fn tell_close(&mut self, connection: u64) -> Result<(), NodeFault>
+        ensures { Comes (λ x. x) result self.old self.new (Acting (λ p h. Out (Output.Close connection))) }
+    {
+        self.give(Output::Close { connection })
+    }
+
+    /// Sends a packet to a connection, unless it is longer than its client takes.
+    pub fn send(&mut self, connection: u64, packet: &Packet, limit: u64) -> Result<(), NodeFault>
+        requires { HasSpelling packet.now }
+        ensures { Comes (λ x. x) result self.old self.new (If (fits limit packet.now) (Sends connection packet.now) (Returns tt)) }
+    {
+        let bytes = written(self.alloc, packet)?;
+        if bytes.len() as u64 > limit {
+            return Ok(());
+        }
+        let bytes = Bytes::new(bytes);
+        self.give(Output::Send { connection, bytes })
+    }
+
+    /// Sends the server's DISCONNECT to a connection of the client, unless it is longer than the client takes.
+    pub fn disconnect(
+        &mut self,
+        connection: u64,
+        client: &Text,
+        reason: u8,
+    ) -> Result<(), NodeFault>
+        requires { 0 < reason }
+        ensures { Comes (λ x. x) result self.old self.new (Disconnects connection client.now reason) }
+    {
+        let Some(limit) = self.held.sessions().limit(client) else {
+            return Ok(());
+        };
+        let packet = disconnect(self.alloc, reason);
+        self.send(connection, &packet, limit)
+    }
+
+    /// Gives a frame of what the node holds to another node.
+    pub fn release(&mut self, frame: Frame) -> Result<(), NodeFault>
+        ensures ok { OnOk result (self.new ≡ record self.old { outputs = self.old.outputs ++ Output.Frame frame ∷ [] }) }
+        ensures fault { IfErr result (λ e. e ≡ NoMemory) }
+    {
+        self.give(Output::Frame { frame })
+    }
+
+    /// Gives a client the number of its identifier.
+    pub fn name(&mut self, number: u64) -> Result<(), NodeFault>
+        requires later { self.old.held.named < number }
+        requires below { number < 2 ^ 62 }
+        ensures { Comes (λ x. x) result self.old self.new (Acting (λ p h. Named number)) }
+    {
+        self.held.name(number);
+        Ok(())
+    }
+
+    /// Begins to make the copies of a message.
+    pub fn pass(&mut self, lost: u64) -> Result<(), NodeFault>
+        ensures { (m : Message) (copies : List Copy) → IsPassed self.old.place self.old.held m copies lost
+            → Comes (λ x. x) result self.old self.new (Numbered turn_at_end (λ p h. Passed m copies lost)) }
+    {
+        if self.held.turn() >= TURNS_END {
+            return Err(NodeFault::NumbersAtEnd);
+        }
+        self.held.pass(lost);
+        Ok(())
+    }
+
+    /// Begins to offer the retained messages that answer a SUBSCRIBE.
+    pub fn acknowledge(&mut self) -> Result<(), NodeFault>
+        ensures { (client : List ℕ) (packet : ℕ) (grants : List Granted) (offers : List Delivery) → AreAnswers self.old.held self.old.held.at grants offers
+            → Comes (λ x. x) result self.old self.new (Acting (λ p h. Acknowledged client packet h.at grants offers)) }
+    {
+        Ok(())
+    }
+
+    /// Drops a retained message for want of room.
+    pub fn drop_retained(&mut self) -> Result<(), NodeFault>
+        ensures { Comes (λ x. x) result self.old self.new (Acting (λ p h. Dropped)) }
+    {
+        self.held.drop_retained();
+        Ok(())
+    }
+
+    /// Gives a client a session, where it has none.
+    pub fn begin_session(&mut self, client: &Text) -> Result<(), NodeFault>
+        requires { has_session client.now self.old.held ≡ false }
+        ensures { Comes (λ x. x) result self.old self.new (Acting (λ p h. Session (Begun client.now))) }
+    {
+        let client = client.copy(self.alloc)?;
+        self.held.begin_session(client)
+    }
+
+    /// Takes a client's session out.
+    pub fn end_session(&mut self, client: &Text) -> Result<(), NodeFault>
+        ensures { Comes (λ x. x) result self.old self.new (Acting (λ p h. Session (Over client.now))) }
+    {
+        self.held.end_session(client);
+        Ok(())
+    }
+
+    /// Sends what a session gives to the connection that its client is on, and counts a copy that it left out.
+    fn react(
+        &mut self,
+        on: Option<u64>,
+        called: Result<Option<Reaction>, SessionFault>,
+    ) -> Result<Reaction, NodeFault>
+        requires { IfOk called (IsSpelledIf self.old.held.at) }
+        ensures { Reacted on called result self.old self.new }
+    {
+        let found = called?;
+        let Some(reaction) = found else {
+            return Ok(nothing(self.alloc));
+        };
+        self.held.count_full(reaction.full);
+        self.send_reaction(on, &reaction)?;
+        Ok(reaction)
+    }
+
+    /// Sends what a reaction has for the connection that its client is on.
+    fn send_reaction(&mut self, on: Option<u64>, reaction: &Reaction) -> Result<(), NodeFault>
+        requires { AreSpelled self.old.held.at reaction.now.packets }
+        ensures ok { OnOk result (self.new ≡ record self.old { outputs = self.old.outputs ++ outputs_on on self.old.held.at reaction.now }) }
+        ensures fault { IfErr result (λ e. e ≡ NoMemory) }
+    {
+        let Some(connection) = on else {
+            return Ok(());
+        };
+        self.send_each(connection, &reaction.packets)?;
+        self.send_last(connection, reaction.end)
+    }
+
+    /// Sends the packets of a reaction.
+    fn send_each(&mut self, connection: u64, packets: &[SessionOutput]) -> Result<(), NodeFault>
+        requires { AreSpelled self.old.held.at packets.now }
+        ensures ok { OnOk result (self.new ≡ record self.old { outputs = self.old.outputs ++ map (packet_output connection self.old.held.at) packets.now }) }
+        ensures fault { IfErr result (λ e. e ≡ NoMemory) }
+    {
+        for packet in packets {
+            self.send_one(connection, packet)?;
+        }
+        Ok(())
+    }
+
+    fn send_one(&mut self, connection: u64, packet: &SessionOutput) -> Result<(), NodeFault>
+        requires { HasSpelling (packet_of self.old.held.at packet.now) }
+        ensures ok { OnOk result (self.new ≡ record self.old { outputs = self.old.outputs ++ packet_output connection self.old.held.at packet.now ∷ [] }) }
+        ensures fault { IfErr result (λ e. e ≡ NoMemory) }
+    {
+        match packet {
+            SessionOutput::Answer(answer) => self.put_out(connection, answer),
+            SessionOutput::Publish(publication) => {
+                let at = self.held.at();
+                let publish = publication
+                    .delivery
+                    .publish(self.alloc, at, publication.dup, publication.id)?;
+                self.put_out(connection, &Packet::Publish(publish))
+            }
+        }
+    }
+
+    /// Sends a packet to a connection.
+    pub fn put_out(&mut self, connection: u64, packet: &Packet) -> Result<(), NodeFault>
+        requires { HasSpelling packet.now }
+        ensures ok { OnOk result (self.new ≡ record self.old { outputs = self.old.outputs ++ Output.Send connection (written packet.now) ∷ [] }) }
+        ensures fault { IfErr result (λ e. e ≡ NoMemory) }
+        ensures comes { Comes (λ x. x) result self.old self.new (Sends connection packet.now) }
+    {
+        let bytes = Bytes::new(written(self.alloc, packet)?);
+        self.give(Output::Send { connection, bytes })
+    }
+
+    /// Sends the DISCONNECT with which a connection ends, where its code isn't 0.
+    fn send_last(&mut self, connection: u64, end: Option<u8>) -> Result<(), NodeFault>
+        ensures ok { OnOk result (self.new ≡ record self.old { outputs = self.old.outputs ++ last_of connection end }) }
+        ensures fault { IfErr result (λ e. e ≡ NoMemory) }
+    {
+        let Some(code) = end else {
+            return Ok(());
+        };
+        if code == 0 {
+            return Ok(());
+        }
+        let packet = disconnect(self.alloc, code);
+        self.put_out(connection, &packet)
+    }
+
+    /// The beginning of a connection of a client's session.
+    pub fn connect(
+        &mut self,
+        client: &Text,
+        connection: u64,
+        connect: &Connect,
+        continued: bool,
+    ) -> Result<Reaction, NodeFault>
+        requires continued { MayConnectHere client.now continued self.old.held.sessions }
+        requires will { IsPublishableIf connect.now.will }
+        ensures { Comes (λ x. x) result self.old self.new (Calls client.now (connects connect.now continued) (moves connection)) }
+    {
+        let called = self.held.connect(client, connection, connect, continued);
+        self.react(Some(connection), called)
+    }
+
+    /// A copy of a message for a client.
+    pub fn queue(&mut self, client: &Text, delivery: Delivery) -> Result<Reaction, NodeFault>
+        ensures { Comes (λ x. x) result self.old self.new (Calls client.now (queues delivery) stays) }
+    {
+        let on = self.held.sessions().connection(client);
+        let called = self.held.queue(client, delivery);
+        self.react(on, called)
+    }
+
+    /// A packet of a client.
+    pub fn packet(
+        &mut self,
+        client: &Text,
+        packet: &Packet,
+        room: bool,
+    ) -> Result<Reaction, NodeFault>
+        requires { HasSpelling packet.now }
+        ensures { Comes (λ x. x) result self.old self.new (Calls client.now (λ at. takes packet.now at room) stays) }
+    {
+        let on = self.held.sessions().connection(client);
+        let called = self.held.packet(client, packet, room);
+        self.react(on, called)
+    }
+
+    /// The codes of the SUBSCRIBE or UNSUBSCRIBE that a client's session asked for.
+    pub fn answer(
+        &mut self,
+        client: &Text,
+        identifier: u16,
+        codes: &[u8],
+    ) -> Result<Reaction, NodeFault>
+        requires { MayAnswer identifier codes.now }
+        ensures { Comes (λ x. x) result self.old self.new (Calls client.now (λ at. answers identifier codes.now) stays) }
+    {
+        let on = self.held.sessions().connection(client);
+        let called = self.held.answer(client, identifier, codes);
+        self.react(on, called)
+    }
+
+    /// The connection of a client's session is gone.
+    pub fn part(&mut self, client: &Text) -> Result<Reaction, NodeFault>
+        ensures { Comes (λ x. x) result self.old self.new (Calls client.now closes leaves) }
+    {
+        let called = self.held.part(client);
+        self.react(None, called)
+    }
+
+    /// One thing of a client's session that is due.
+    pub fn tick(&mut self, client: &Text) -> Result<Reaction, NodeFault>
+        ensures { Comes (λ x. x) result self.old self.new (Calls client.now ticks stays) }
+    {
+        let on = self.held.sessions().connection(client);
+        let called = self.held.tick(client);
+        self.react(on, called)
+    }
+
+    /// A client's session ends now.
+    pub fn finish_session(&mut self, client: &Text) -> Result<Reaction, NodeFault>
+        ensures { Comes (λ x. x) result self.old self.new (Calls client.now finishes stays) }
+    {
+        let on = self.held.sessions().connection(client);
+        let called = self.held.finish(client);
+        self.react(on, called)
+    }
+}
