@@ -8,4 +8,5 @@ mod topics;
 mod walks;
 
 pub use filters::FilterTrie;
+pub use seeks::{Onward, past_name};
 pub use topics::{TopicTrie, names_matching};

@@ -15,7 +15,7 @@ use mqtt_topics::{Filter, TopicName};
 use std::alloc::Global;
 
 /// Where a walk over keys goes on.
-pub(crate) enum Onward<K> {
+pub enum Onward<K> {
     /// At the next key.
     Next,
     /// At the first key from this one on.
@@ -243,8 +243,8 @@ pub(crate) fn past_filter(alloc: Global, key: &Filter, name: &TopicName) -> Onwa
     }
 }
 
-/// Where a walk over names that asks what a filter matches goes on past a name.
-pub(crate) fn past_name(alloc: Global, filter: &Filter, key: &TopicName) -> Onward<TopicName>
+/// Where a walk over names, in the order of their bytes, that asks what a filter matches goes on past a name.
+pub fn past_name(alloc: Global, filter: &Filter, key: &TopicName) -> Onward<TopicName>
     ensures { Leads (λ n. n) (λ n. Matches filter.now n) key.now result }
 {
     match topic_onward(alloc, filter.as_str(), key.as_str()) {

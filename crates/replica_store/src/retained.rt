@@ -17,6 +17,7 @@ use mqtt_fields::NoMemory;
 use mqtt_message::SharedMessage;
 use mqtt_topics::TopicName;
 use std::alloc::Global;
+use std::collections::BTreeMap;
 use std::collections::btree_map::Iter;
 use std::marker::Model;
 
@@ -65,6 +66,13 @@ impl RetainedMap {
         ensures topics { HaveOwnTopics self.now }
     {
         self.topics.iter()
+    }
+
+    /// The same as an ordered map.
+    pub(crate) fn by_topic(&self) -> &BTreeMap<TopicName, Kept>
+        ensures { result.now.entries ≡ map.entries self.now }
+    {
+        self.topics.by_topic()
     }
 
     /// Puts a message, or a tombstone, into its topic, unless what is there is greater. Where

@@ -102,14 +102,14 @@ impl ReplicaStore {
     }
 
     /// The messages that answer a new subscription to the filter, in the order of their topics:
-    /// those of the topics that match and whose message is alive; none for a shared filter. It takes
-    /// memory only where one answers.
+    /// those of the topics that match and whose message is alive; none for a shared filter. Topics that
+    /// can't match are passed by. It takes memory only where one answers.
     pub fn retained_for(&self, filter: &Filter, now: u64) -> Result<Vec<&SharedMessage>, NoMemory>
         ensures answer { IfOk result (λ out.
             IsAnswer filter.now now (map.entries self.now.retained) (map_list (λ r. r.now) out.items)) }
         ensures nothing { IsAnswer filter.now now (map.entries self.now.retained) [] → IsOk result }
     {
-        answers(self.alloc, filter, now, self.retained.entries())
+        answers(self.alloc, filter, now, self.retained.by_topic())
     }
 
     /// The same state once more.

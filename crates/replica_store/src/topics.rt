@@ -73,6 +73,13 @@ impl Topics {
         self.entries.iter()
     }
 
+    /// The entries as an ordered map, for a walk that passes some of them by.
+    pub fn by_topic(&self) -> &BTreeMap<TopicName, Kept>
+        ensures { result.now.entries ≡ map.entries self.now }
+    {
+        &self.entries
+    }
+
     /// The entry of the topic.
     pub fn get(&self, topic: &TopicName) -> Option<&Kept>
         ensures { option_copied result ≡ map.get self.now topic.now }
