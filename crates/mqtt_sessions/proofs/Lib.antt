@@ -6,3 +6,4 @@ pub mod ReceivedLaws
 pub mod SpelledLaws
 pub mod ReactionLaws
 pub mod SavedLaws
+pub mod RemovedLaws

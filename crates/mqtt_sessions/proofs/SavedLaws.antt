@@ -5,10 +5,10 @@ use Rattle.qos_handshakes.specs.Entries.{Entries}
 use Rattle.qos_handshakes.specs.Incoming.{identifiers_of, of_identifiers}
 use Rattle.qos_handshakes.specs.Outbox.{away}
 use Rattle.row_store.specs.declared.row.Row.{Row}
-use Rattle.row_store.specs.Rows.{Key, entry_of}
+use Rattle.row_store.specs.Rows.{entry_of}
 use Rattle.session_rows.specs.declared.session.Opened.{Opened}
 use Rattle.session_rows.specs.Durable.{Durable, IsDurable, opened, IsPublishableIf, IsMomentIf}
-use Rattle.session_rows.specs.Fields.{Main, main}
+use Rattle.session_rows.specs.Fields.{main}
 use Rattle.session_rows.specs.Rows.{copy_row, copy_rows, rows_of, main_key}
 use Rattle.mqtt_sessions.specs.declared.fault.SessionFault.{SessionFault}
 use Rattle.mqtt_sessions.specs.declared.fault.SessionFault.TheVariants.{NoMemory, NumbersAtEnd, Spent, BadRow}

@@ -10,3 +10,4 @@ pub mod Ending
 pub mod Packets
 pub mod Called
 pub mod Saved
+pub mod Removed

@@ -1,5 +1,5 @@
 -- What outlives a session's connections as rows, and what was told of them.
-use Rattle.std.specs.Prelude.{◌≡◌, ℕ, Bool, true, false, map, List, [], ◌++◌, Option, Some, None, Result, Ok, Err, Vec}
+use Rattle.std.specs.Prelude.{◌≡◌, ℕ, Bool, true, false, map, List, [], Option, Some, None, is_some, Result, Ok, Err, Vec}
 use Rattle.qos_handshakes.specs.Incoming.{identifiers_of, of_identifiers}
 use Rattle.qos_handshakes.specs.Outbox.{away}
 use Rattle.qos_handshakes.specs.Restored.{restored}
@@ -116,3 +116,7 @@ OpensFrom rows (Err Spent) = ⊥
 abbrev pub IsFresh : Bool → Tracked → Told → Type 0
 IsFresh true t told = Unit {0}
 IsFresh false t told = told.value ≡ Some (main.bytes (main_of t.state))
+
+-- and whether it has one that was told
+abbrev pub HasRow : Bool → Told → Type 0
+HasRow has told = has ≡ is_some told.value

@@ -1,22 +1,29 @@
 //! A session, and what was told last of its rows.
 
-ghost use Rattle.std.specs.Prelude.{◌≡◌, ◌++◌, List, [], ℕ, map, Some, MatchOption, IfOk, OnOk};
+ghost use Rattle.std.specs.Prelude.{◌≡◌, ◌++◌, List, [], ℕ, map, None, Some, MatchOption, IfOk, OnOk};
 ghost use Rattle.row_store.specs.Rows as store;
 ghost use Rattle.qos_handshakes.specs.Touched.{AreListed};
 ghost use Rattle.session_rows.specs.Changes as changes;
 ghost use Rattle.session_rows.specs.Changes.{plain_of};
 ghost use Rattle.session_rows.specs.Durable.{IsMomentIf, IsPublishableIf};
 ghost use Rattle.session_rows.specs.Fields as fields;
-ghost use Rattle.session_rows.specs.Rows.{rows_of};
+ghost use Rattle.session_rows.specs.Rows.{main_key, rows_of};
+ghost use Rattle.qos_handshakes.specs.Entries.{at_place};
+ghost use Rattle.std.specs.Map.{keys_of};
+ghost use Rattle.mqtt_sessions.specs.Removed.{Removes, gone_at, gone_of, own_removal};
 ghost use Rattle.mqtt_sessions.specs.Saved.{Tells, begun_session, durable_of, main_of, told_of, tracked_in};
 
 use crate::kept::Kept;
 use crate::running::Running;
 use mqtt_fields::{NoMemory, Text};
+use qos_handshakes::Outgoing;
 use row_store::{Change, Row};
 use session_rows::{Opened, Told, copy_changes, own_change, rows, write_main};
 use std::alloc::Global;
 use std::marker::Model;
+
+/// The kind of a session's own row.
+const SESSION: u8 = 2;
 
 impl Running {
     fn alloc(&self) -> Global {
@@ -63,23 +70,57 @@ impl Running {
     }
 }
 
+/// Appends a place that was touched, if its copy is gone.
+fn push_gone(outgoing: &Outgoing, place: u64, all: &mut Vec<u64>) -> Result<(), NoMemory>
+    ensures { OnOk result (all.new.items ≡ all.old.items ++ gone_at place (at_place place outgoing.now.box.copies)) }
+{
+    if outgoing.entry_at(place).is_none() {
+        all.push(place)?;
+    }
+    Ok(())
+}
+
+/// The places of the copies, and then those touched whose copies are gone.
+fn all_places(alloc: Global, outgoing: &Outgoing, touched: &[u64]) -> Result<Vec<u64>, NoMemory>
+    ensures { IfOk result (λ all. all.items ≡ keys_of outgoing.now.box.copies ++ gone_of outgoing.now.box.copies touched.now) }
+{
+    let mut all = outgoing.places(alloc)?;
+    for place in touched {
+        push_gone(outgoing, *place, &mut all)?;
+    }
+    Ok(all)
+}
+
+/// That the session's own row goes.
+fn own_removed(alloc: Global, client: &Text) -> Result<Change, NoMemory>
+    ensures { IfOk result (λ change. plain_of change ≡ (main_key client.now, None)) }
+{
+    Ok(Change::Remove(
+        SESSION,
+        Vec::from_slice(alloc, client.as_str().as_bytes())?,
+        Vec::new(alloc),
+    ))
+}
+
 /// A session that isn't spent.
 #[derive(Drop)]
 pub(crate) struct Live {
     pub(crate) running: Running,
     told: Told,
+    /// Whether its own row was told.
+    has_row: bool,
     /// Whether the value of its own row may differ from what was told.
     pub(crate) stale: bool,
 }
 
 impl Model for Live {
-    ghost use Rattle.mqtt_sessions.specs.Saved.{Saved, IsFresh};
+    ghost use Rattle.mqtt_sessions.specs.Saved.{Saved, HasRow, IsFresh};
 
     ghost Value = { Saved };
 
     ghost view = { λ l. record { tracked = l.running; told = l.told } };
 
-    ghost invariant = { λ l. IsFresh l.stale l.running l.told };
+    ghost invariant = { λ l. IsFresh l.stale l.running l.told × HasRow l.has_row l.told };
 }
 
 impl Live {
@@ -89,6 +130,7 @@ impl Live {
         Live {
             running: Running::new(alloc, client),
             told: Told::nothing(),
+            has_row: false,
             stale: true,
         }
     }
@@ -111,6 +153,7 @@ impl Live {
         Ok(Live {
             running,
             told,
+            has_row: true,
             stale: false,
         })
     }
@@ -140,6 +183,7 @@ impl Live {
         let mut all = Vec::new(alloc);
         own_change(alloc, self.running.kept.client(), is_told, &value, &mut all)?;
         self.told.tell(value);
+        self.has_row = true;
         self.stale = false;
         Ok(all)
     }
@@ -168,6 +212,46 @@ impl Live {
     {
         let mut all = self.tell_own()?;
         self.tell_copies(&mut all)?;
+        Ok(all)
+    }
+
+    /// Appends that its own row goes, if one was told.
+    fn remove_own(&self, all: &mut Vec<Change>) -> Result<(), NoMemory>
+        ensures { OnOk result (map plain_of all.new.items ≡ map plain_of all.old.items ++ own_removal self.now.told.value self.now.tracked.state.kept.client) }
+    {
+        if !self.has_row {
+            return Ok(());
+        }
+        all.push(own_removed(self.running.alloc(), self.running.kept.client())?)?;
+        Ok(())
+    }
+
+    /// That the rows of its copies go.
+    fn remove_copies(&self, touched: &[u64]) -> Result<Vec<Change>, NoMemory>
+        ensures { IfOk result (λ all. map plain_of all.items ≡ changes.copy_changes self.now.tracked.state.kept.client self.now.told.next_place [] (keys_of self.now.tracked.state.outbox.copies ++ gone_of self.now.tracked.state.outbox.copies touched.now)) }
+    {
+        let alloc = self.running.alloc();
+        let places = all_places(alloc, &self.running.outgoing, touched)?;
+        let mut all = Vec::new(alloc);
+        copy_changes(
+            alloc,
+            self.running.kept.client(),
+            self.told.next_place(),
+            &Outgoing::new(alloc),
+            &places,
+            &mut all,
+        )?;
+        Ok(all)
+    }
+
+    /// The changes after which no row that was told is there.
+    pub(crate) fn removals(&mut self) -> Result<Vec<Change>, NoMemory>
+        ensures { IfOk result (λ changes. Removes self.old changes.items) }
+    {
+        let alloc = self.running.alloc();
+        let touched = self.running.outgoing.touched(alloc)?;
+        let mut all = self.remove_copies(&touched)?;
+        self.remove_own(&mut all)?;
         Ok(all)
     }
 }

@@ -10,6 +10,7 @@ ghost use Rattle.mqtt_sessions.specs.Ending.{ClosedStep, FinishStep, TickStep, H
 ghost use Rattle.mqtt_sessions.specs.Packets.{PacketEnds, PacketStep, WantsMemory};
 ghost use Rattle.mqtt_sessions.specs.Reaction.{AreSpelled};
 ghost use Rattle.mqtt_sessions.specs.Sending.{QueueEnds, QueueStep};
+ghost use Rattle.mqtt_sessions.specs.Removed.{RemovesIf};
 ghost use Rattle.mqtt_sessions.specs.Saved.{ListsIf, NotesIf, OpensFrom, TellsIf, begun_session, durable_of, state_of, told_of, tracked_in};
 ghost use Rattle.mqtt_sessions.specs.State.{IsPublishableIf, limit_of};
 ghost use Rattle.mqtt_sessions.specs.declared.fault.SessionFault.TheVariants.{NoMemory as OutOfMemory};
@@ -284,5 +285,16 @@ impl Session {
         let changes = live.changes()?;
         self.live = Some(live);
         Ok(changes)
+    }
+
+    /// The changes after which no row that was told last is there, for a session that is over: each of these rows goes, and no
+    /// other is named.
+    pub fn removals(self) -> Result<Vec<Change>, SessionFault>
+        ensures { RemovesIf self result }
+    {
+        let Some(mut live) = self.live else {
+            return Err(SessionFault::Spent);
+        };
+        Ok(live.removals()?)
     }
 }

@@ -1,0 +1,10 @@
+mod StandingLaws
+mod AgreedLaws
+mod TurnLaws
+mod SinceLaws
+mod ToldLaws
+mod SpelledLaws
+mod RestLaws
+mod DurableLaws
+mod MoveLaws
+mod RemovedLaws

@@ -1,0 +1,229 @@
+-- What is durable of a session beside its copies stays sound.
+use Rattle.std.proofs.Common.{◌≡◌, ℕ, ◌<◌, ◌≤◌, ◌^◌, Bool, true, false, List, [], ◌∷◌, length, Option, Some, None, refl, sym, ap, arith, inl, inr}
+use Rattle.std.specs.Prelude.{◌==◌, IfSome, nat_lt, unwrap_or}
+use Rattle.std.specs.BTreeMap.{is_at, insert_entry}
+use Rattle.std.specs.List.{AllByRecursion}
+use Rattle.std.specs.Map.{remove_entry}
+use Rattle.std.specs.Ordering.{nat_cmp}
+use Rattle.std.specs.declared.cmp.Ordering.{Ordering}
+use Rattle.std.specs.declared.cmp.Ordering.TheVariants.{Less, Equal, Greater}
+use Rattle.std.proofs.lemmas.Bool.{cases_Bool, and_from, and_parts, lt-ltb, ltb-true}
+use Rattle.std.proofs.lemmas.Cmp.{ranked}
+use Rattle.mqtt_fields.specs.declared.options.Qos.{Qos}
+use Rattle.mqtt_fields.specs.declared.options.Qos.TheVariants.{AtMostOnce, AtLeastOnce, ExactlyOnce}
+use Rattle.mqtt_fields.specs.Numbers.{IsText, IsBlob}
+use Rattle.mqtt_fields.specs.Properties.{first_four}
+use Rattle.mqtt_message.specs.Spelling.{OptionalFits, flag}
+use Rattle.mqtt_message.specs.Parts.{qos}
+use Rattle.mqtt_packets.specs.declared.connect.Will.{Will}
+use Rattle.mqtt_packets.specs.declared.packet.Packet.{Packet}
+use Rattle.mqtt_packets.specs.declared.packet.Packet.TheVariants as packets
+use Rattle.mqtt_packets.specs.Written.{HasSpelling}
+use Rattle.mqtt_message.specs.Accepted.{IsPublishable}
+use Rattle.qos_handshakes.specs.Incoming.{Received, first_identifier, identifiers_of, of_before, of_identifiers, rise}
+use Rattle.mqtt_sessions.specs.declared.kept.Phase.{Phase}
+use Rattle.mqtt_sessions.specs.declared.kept.Phase.TheVariants.{Connected, Closed}
+use Rattle.mqtt_sessions.specs.Ending.{will_after}
+use Rattle.mqtt_sessions.specs.Saved.{closed_of, phase_of, main_of}
+use Rattle.mqtt_sessions.specs.State.{IsMoment, Kept, State, IsPublishableIf}
+use Rattle.session_laws.specs.Runs.{Event, connects, queues, takes, answers, closes, ticks, finishes, loses, Reacts}
+use Rattle.session_rows.specs.Durable.{Durable, IsDurable, IsMomentIf, IsSound}
+use Rattle.session_rows.specs.Fields.{Main, main, will, closed}
+use Rattle.session_rows.proofs.RiseLaws.{rise-length}
+use Rattle.saved_laws.specs.Sound.{IsSoundEvent}
+use Rattle.saved_laws.proofs.SpelledLaws.{disconnect-four, publish-small}
+use Rattle.saved_laws.proofs.TurnLaws.{Turns, TurnsPacket, turned, expiry_by}
+
+-- a will that has rows, and can be published
+pub record HasRow (o : Option Will) : Type 0 where
+  pub publishable : IsPublishableIf o
+  pub fits : OptionalFits will o
+
+pub record Rest (k : Kept) (i : Received) : Type 0 where
+  pub client : IsText k.client
+  pub expiry : k.expiry < 2 ^ 32
+  pub moment : IsMoment k.phase
+  pub will : HasRow k.will
+  pub rises : rise (identifiers_of i) ≡ true
+
+-- ---- identifiers that rise
+put-first : (k id : ℕ) (is : Received) → k < id → k < first_identifier (identifiers_of is) → k < first_identifier (identifiers_of (insert_entry nat_cmp is id true))
+put-first k id [] lt below = lt
+put-first k id (e ∷ es) lt below = by (nat_cmp id e.0) refl
+  where
+    by : (o : Ordering) → nat_cmp id e.0 ≡ o → k < first_identifier (identifiers_of (insert_entry nat_cmp (e ∷ es) id true))
+    by Less c = rw c lt
+    by Equal c = rw c below
+    by Greater c = rw c below
+
+rise-put : (id : ℕ) (is : Received) → id < 65536 → rise (identifiers_of is) ≡ true → rise (identifiers_of (insert_entry nat_cmp is id true)) ≡ true
+rise-put id [] small r = and_from (nat_lt id 65536) true (lt-ltb id 65536 small) refl
+rise-put id (e ∷ es) small r =
+    let parts = and_parts (nat_lt e.0 (first_identifier (identifiers_of es))) (rise (identifiers_of es)) r in
+    by (nat_cmp id e.0) refl (ltb-true e.0 (first_identifier (identifiers_of es)) parts.0) (rise-put id es small parts.1)
+  where
+    by : (o : Ordering) → nat_cmp id e.0 ≡ o → e.0 < first_identifier (identifiers_of es) → rise (identifiers_of (insert_entry nat_cmp es id true)) ≡ true → rise (identifiers_of (insert_entry nat_cmp (e ∷ es) id true)) ≡ true
+    by Less c lt more = rw c (and_from (nat_lt id e.0) (rise (identifiers_of (e ∷ es))) (lt-ltb id e.0 (ranked id e.0 Less (sym c))) r)
+    by Equal c lt more = rw c r
+    by Greater c lt more =
+        let above : e.0 < id = ranked id e.0 Greater (sym c) in
+        let far = put-first e.0 id es above lt in
+        rw c (and_from (nat_lt e.0 (first_identifier (identifiers_of (insert_entry nat_cmp es id true)))) (rise (identifiers_of (insert_entry nat_cmp es id true))) (lt-ltb e.0 (first_identifier (identifiers_of (insert_entry nat_cmp es id true))) far) more)
+
+first-small : (is : Received) → rise (identifiers_of is) ≡ true → first_identifier (identifiers_of is) ≤ 65536
+first-small [] r = omega arith
+first-small (e ∷ es) r =
+    let p = and_parts (nat_lt e.0 (first_identifier (identifiers_of es))) (rise (identifiers_of es)) r in
+    let lt = ltb-true e.0 (first_identifier (identifiers_of es)) p.0 in
+    let le = first-small es p.1 in
+    omega (arith, lt, le)
+
+module _ (test : ℕ → Bool) where
+  first-left : (k : ℕ) (is : Received) → rise (identifiers_of is) ≡ true → k < first_identifier (identifiers_of is) → k < first_identifier (identifiers_of (remove_entry test is))
+  first-left k [] r lt = lt
+  first-left k (e ∷ es) r lt = elim (cases_Bool (test e.0)) [
+    | inl t ↦
+        let p = and_parts (nat_lt e.0 (first_identifier (identifiers_of es))) (rise (identifiers_of es)) r in
+        let more = ltb-true e.0 (first_identifier (identifiers_of es)) p.0 in
+        rw t (omega (arith, lt, more))
+    | inr f ↦ rw f lt
+  ]
+
+  rise-left : (is : Received) → rise (identifiers_of is) ≡ true → rise (identifiers_of (remove_entry test is)) ≡ true
+  rise-left [] r = refl
+  rise-left (e ∷ es) r =
+      let p = and_parts (nat_lt e.0 (first_identifier (identifiers_of es))) (rise (identifiers_of es)) r in
+      elim (cases_Bool (test e.0)) [
+        | inl t ↦ rw t p.1
+        | inr f ↦ rw f (and_from (nat_lt e.0 (first_identifier (identifiers_of (remove_entry test es)))) (rise (identifiers_of (remove_entry test es)))
+            (lt-ltb e.0 (first_identifier (identifiers_of (remove_entry test es))) (first-left e.0 es p.1 (ltb-true e.0 (first_identifier (identifiers_of es)) p.0)))
+            (rise-left es p.1))
+      ]
+
+before-same : (is : Received) → identifiers_of (of_before is) ≡ identifiers_of is
+before-same [] = refl
+before-same (e ∷ es) = ap (λ (r : List ℕ). e.0 ∷ r) (before-same es)
+
+-- ---- a will's row
+qos-fits : (q : Qos) → qos.Fits q
+qos-fits AtMostOnce = omega arith
+qos-fits AtLeastOnce = omega arith
+qos-fits ExactlyOnce = omega arith
+
+flag-fits : (b : Bool) → flag.Fits b
+flag-fits true = omega arith
+flag-fits false = omega arith
+
+will-fits : (w : Will) → IsPublishable w → IsBlob w.payload → will.Fits w
+unfolding will
+will-fits w p b = (p.name.fits, ((omega (arith, b), lt-ltb (length w.payload) 65536 b), (p.properties.fits, (qos-fits w.qos, flag-fits w.retain))))
+
+row-of : (o : Option Will) → IsPublishableIf o → IfSome o (λ w. IsBlob w.payload) → HasRow o
+row-of None p b = record { publishable = tt; fits = tt }
+row-of (Some w) p b = record { publishable = p; fits = will-fits w p b }
+
+no-row : HasRow None
+no-row = record { publishable = tt; fits = tt }
+
+row-after : (code : ℕ) (o : Option Will) → HasRow o → HasRow (will_after code o)
+row-after code o h = elim (cases_Bool (code == 0)) [ inl t ↦ rw t no-row | inr f ↦ rw f h ]
+
+-- ---- events
+expiry-or : (o : Option ℕ) → IfSome o (λ n. n < 2 ^ 32) → unwrap_or o 0 < 2 ^ 32
+expiry-or None h = omega arith
+expiry-or (Some n) h = h
+
+expiry-by : (o : Option ℕ) (before : ℕ) → IfSome o (λ n. n < 2 ^ 32) → before < 2 ^ 32 → expiry_by o before < 2 ^ 32
+expiry-by None before h b = b
+expiry-by (Some n) before h b = h
+
+packets-keep : (p : Packet) → HasSpelling p → TurnsPacket Rest p
+packets-keep (packets.Publish p) s = λ k i h. record { client = h.client; expiry = h.expiry; moment = h.moment; will = h.will; rises = rise-put p.identifier i (publish-small p s) h.rises }
+packets-keep (packets.Puback a) s = tt
+packets-keep (packets.Pubrec a) s = tt
+packets-keep (packets.Pubrel a) s = λ k i h. record { client = h.client; expiry = h.expiry; moment = h.moment; will = h.will; rises = rise-left (is_at (nat_cmp a.identifier)) i h.rises }
+packets-keep (packets.Pubcomp a) s = tt
+packets-keep (packets.Subscribe p) s = tt
+packets-keep (packets.Unsubscribe p) s = tt
+packets-keep packets.Pingreq s = tt
+packets-keep (packets.Disconnect p) s = λ k i h. record {
+  client = h.client;
+  expiry = expiry-by (first_four 17 p.properties) k.expiry (disconnect-four p s) h.expiry;
+  moment = h.moment;
+  will = row-after p.reason k.will h.will;
+  rises = h.rises;
+}
+packets-keep (packets.Connect p) s = tt
+packets-keep (packets.Connack p) s = tt
+packets-keep (packets.Suback p) s = tt
+packets-keep (packets.Unsuback p) s = tt
+packets-keep packets.Pingresp s = tt
+packets-keep (packets.Auth p) s = tt
+
+events-keep : (e : Event) → IsSoundEvent e → Turns Rest e
+events-keep (connects c continued now) s = λ k i h. record { client = h.client; expiry = expiry-or (first_four 17 c.properties) s.expiry; moment = tt; will = row-of c.will s.publishable s.payload; rises = rw (before-same i) h.rises }
+events-keep (queues d now) s = tt
+events-keep (takes p now room) s = packets-keep p s
+events-keep (answers id codes) s = tt
+events-keep (closes now) s = λ k i h. record { client = h.client; expiry = h.expiry; moment = s; will = h.will; rises = h.rises }
+events-keep (ticks now) s = λ k i h. record { client = h.client; expiry = h.expiry; moment = h.moment; will = no-row; rises = h.rises }
+events-keep (finishes now) s = λ k i h. record { client = h.client; expiry = h.expiry; moment = h.moment; will = no-row; rises = h.rises }
+events-keep loses s = λ k i h. record { client = h.client; expiry = h.expiry; moment = h.moment; will = h.will; rises = rw (before-same i) h.rises }
+
+pub rest-after : (e : Event) (old : State) (r : _) (new : State) → IsSoundEvent e → Reacts old e r new → Rest old.kept old.incoming → Rest new.kept new.incoming
+rest-after e old r new s h p = turned Rest e old r new (events-keep e s) h p
+
+-- ---- the session's own row
+closed-fits : (p : Phase) → IsMoment p → closed.Fits (closed_of p)
+closed-fits Connected m = (omega arith, omega arith)
+closed-fits (Closed at) m = (omega arith, omega (arith, m))
+
+rise-small : (l : List ℕ) → rise l ≡ true → first_identifier l ≤ 65536
+rise-small [] r = omega arith
+rise-small (i ∷ is) r =
+    let p = and_parts (nat_lt i (first_identifier is)) (rise is) r in
+    let lt = ltb-true i (first_identifier is) p.0 in
+    let le = rise-small is p.1 in
+    omega (arith, lt, le)
+
+ids-fit : (l : List ℕ) → rise l ≡ true → AllByRecursion (λ (n : ℕ). n < 2 ^ 16) l
+ids-fit [] r = tt
+ids-fit (i ∷ is) r =
+    let p = and_parts (nat_lt i (first_identifier is)) (rise is) r in
+    let lt = ltb-true i (first_identifier is) p.0 in
+    let le = rise-small is p.1 in
+    (omega (arith, lt, le), ids-fit is p.1)
+
+pub main-fits : (s : State) → Rest s.kept s.incoming → s.outbox.next_place < 2 ^ 64 → main.Fits (main_of s)
+unfolding main
+main-fits s r small =
+    let few = rise-length (identifiers_of s.incoming) r.rises in
+    (r.expiry, (closed-fits s.kept.phase r.moment, (r.will.fits, ((omega (arith, few), ids-fit (identifiers_of s.incoming) r.rises), small))))
+
+moment-if : (p : Phase) → IsMoment p → IsMomentIf (closed_of p)
+moment-if Connected m = tt
+moment-if (Closed at) m = m
+
+pub main-sound : (s : State) → Rest s.kept s.incoming → IsSound (main_of s)
+main-sound s r = record { publishable = r.will.publishable; moment = moment-if s.kept.phase r.moment }
+
+-- ---- where it begins
+pub rest-begun : (client : List ℕ) → IsText client → Rest (record { client = client; expiry = 0; phase = Closed 0; will = None }) []
+rest-begun client t = record { client = t; expiry = omega arith; moment = omega arith; will = no-row; rises = refl }
+
+if-moment : (o : Option ℕ) → IsMomentIf o → IsMoment (phase_of o)
+if-moment None m = tt
+if-moment (Some at) m = m
+
+identifiers-back : (l : List ℕ) → identifiers_of (of_identifiers l) ≡ l
+identifiers-back [] = refl
+identifiers-back (i ∷ is) = ap (λ (r : List ℕ). i ∷ r) (identifiers-back is)
+
+main-parts : (m : Main) → main.Fits m → (m.expiry < 2 ^ 32) × OptionalFits will m.will
+unfolding main
+main-parts m f = (f.0, f.1.1.0)
+
+pub rest-opened : (d : Durable) → IsDurable d → Rest (record { client = d.client; expiry = d.main.expiry; phase = phase_of d.main.closed; will = d.main.will }) (of_identifiers d.main.incoming)
+rest-opened d i =
+    let p = main-parts d.main i.form.main in
+    record { client = i.form.client; expiry = p.0; moment = if-moment d.main.closed i.sound.moment; will = record { publishable = i.sound.publishable; fits = p.1 }; rises = rw (identifiers-back d.main.incoming) i.rise }
