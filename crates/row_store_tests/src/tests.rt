@@ -1,5 +1,6 @@
-//! The example of docs/rows.md in memory and in a database, and the databases that aren't adopted.
+//! The example of docs/rows.md in memory and in a database, the databases that aren't adopted, and changes that are gathered.
 
+use row_changes::gather;
 use row_store::{Change, MemoryRows, Row, RowFault, RowStore};
 use session_records::SqlRows;
 use sqlite::{Alter, Connection, Error};
@@ -157,6 +158,43 @@ fn other_databases_are_left_as_they_were(rt: HostRuntime) -> Result<(), Fail> {
         };
         assert_eq!(rt; fault, RowFault::BadRow, "{first}");
         assert_eq!(rt; objects(&mut conn)?, before);
+    }
+    Ok(())
+}
+
+fn put(alloc: Global, kind: u8, owner: &str, value: u8) -> Result<Change, AllocError> {
+    Ok(Change::Put(row(alloc, kind, owner, value)?))
+}
+
+fn removal(alloc: Global, kind: u8, owner: &str) -> Result<Change, AllocError> {
+    Ok(Change::Remove(kind, bytes(alloc, owner)?, Vec::new(alloc)))
+}
+
+#[test]
+fn the_last_change_at_a_key_is_left(rt: HostRuntime) -> Result<(), Fail> {
+    let alloc = rt.alloc();
+    for (changes, want) in [
+        (vec![in alloc;]?, vec![in alloc;]?),
+        (
+            vec![in alloc;
+                put(alloc, 5, "t", 1)?,
+                put(alloc, 2, "a", 3)?,
+                removal(alloc, 5, "t")?,
+                put(alloc, 5, "t", 2)?,
+            ]?,
+            vec![in alloc; put(alloc, 2, "a", 3)?, put(alloc, 5, "t", 2)?]?,
+        ),
+        (
+            vec![in alloc;
+                put(alloc, 5, "t", 1)?,
+                put(alloc, 5, "t", 2)?,
+                removal(alloc, 5, "t")?,
+                put(alloc, 2, "a", 3)?,
+            ]?,
+            vec![in alloc; put(alloc, 2, "a", 3)?, removal(alloc, 5, "t")?]?,
+        ),
+    ] {
+        assert_eq!(rt; gather(alloc, changes)?, want);
     }
     Ok(())
 }

@@ -1,0 +1,6 @@
+use Rattle.std.proofs.Common.{◌≡◌, ◌++◌, map}
+use Rattle.row_changes.specs.Noted.{noted_pair, pair_of}
+use Rattle.row_changes.proofs.gathered.in_order.Given as goal
+
+abbrev pub invariant-loop-key : goal.invariant-loop-key
+invariant-loop-key l = map pair_of l.out.items ++ map noted_pair l.key-iterator ≡ map noted_pair l.fn.table.entries

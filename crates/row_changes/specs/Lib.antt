@@ -1,0 +1,4 @@
+pub mod Leading
+pub mod Gathered
+pub mod Laws
+pub mod Noted

@@ -1,0 +1,25 @@
+-- The last change at each key, noted under the key.
+use Rattle.std.specs.Prelude.{ℕ, List, Option, Some, None, option_map}
+use Rattle.row_store.specs.declared.memory.RowKey.{RowKey}
+use Rattle.row_store.specs.declared.row.Change.{Change}
+use Rattle.row_store.specs.Cells.{Cell, plain_key, cell_at}
+use Rattle.row_store.specs.Rows.{Key}
+use Rattle.row_changes.specs.Leading.{key_in, value_in}
+
+-- a key, and what is left there
+abbrev pub Pair : Type 0
+Pair = Key × Option (List ℕ)
+
+abbrev pub plain_value : Cell → Option (List ℕ)
+plain_value None = None
+plain_value (Some value) = Some value.items
+
+abbrev pub pair_of : Change → Pair
+pair_of change = (key_in change, value_in change)
+
+abbrev pub noted_pair : RowKey × Cell → Pair
+noted_pair e = (plain_key e.0, plain_value e.1)
+
+-- what is noted at the key, if anything is
+abbrev pub noted : List (RowKey × Cell) → Key → Option (Option (List ℕ))
+noted cells key = option_map plain_value (cell_at cells key)
