@@ -50,7 +50,7 @@ module _ {K X : Type 0} {R : K → K → Ordering} (o : IsTotalOrder R) (anti : 
         (λ apart. p q v (at_head o anti q x es false apart ∙ is))),
   )
 
-  front_or_later : (q : K) (v : X) (x : K × X) (rest : List (K × X)) → find R q (x ∷ rest) ≡ Some v → ((q ≡ x.0) × (v ≡ x.1)) ⊎ (find R q rest ≡ Some v)
+  pub front_or_later : (q : K) (v : X) (x : K × X) (rest : List (K × X)) → find R q (x ∷ rest) ≡ Some v → ((q ≡ x.0) × (v ≡ x.1)) ⊎ (find R q rest ≡ Some v)
   front_or_later q v x rest is = by_test (eq_by_cmp R q x.0) _
       (λ tie. inl (tied_is {R = R} anti q x.0 tie, some_is v x.1 (sym is ∙ at_head o anti q x rest true tie)))
       (λ apart. inr (sym (at_head o anti q x rest false apart) ∙ is))

@@ -5,3 +5,11 @@ pub mod Gathered
 pub mod Contexts
 pub mod Completed
 pub mod Empty
+pub mod Whole
+pub mod Taking
+pub mod Saying
+pub mod Refused
+pub mod Told
+pub mod OneStore
+pub mod Ordered
+pub mod Stores

@@ -2,6 +2,11 @@
 #![tactic(auto)]
 
 mod changes;
+pub mod laws;
+mod listing;
+mod reading;
 mod row;
 
 pub use changes::{changes_by, puts_of};
+pub use listing::rows;
+pub use reading::from_rows;
