@@ -4,7 +4,7 @@ ghost use Rattle.std.specs.Prelude.{ℕ, ◌≡◌, ◌≤◌, ◌<◌, ◌⊎�
 ghost use Rattle.std.specs.List.{list_any};
 ghost use Rattle.std.specs.Str.{bytes_eq};
 ghost use Rattle.std.specs.FinMap as finite;
-ghost use Rattle.home_table.specs.Table.{stands_twice, number_of, is_unknown, home_of_row, table_of, reading};
+ghost use Rattle.home_table.specs.Table.{IsTable, stands_twice, number_of, is_unknown, home_of_row, table_of, reading};
 ghost use Rattle.home_table.specs.Homes.{IsHome};
 
 use crate::automatic::automatic_node;
@@ -217,6 +217,13 @@ impl HomeTable {
         ensures { option_map (λ n. n.bridge) (slice_get self.now.nodes node) ≡ Some result.now }
     {
         self.shared.as_ref().nodes[node as usize].bridge.as_str()
+    }
+
+    /// A table has 1 to 64 nodes, and each of its prefixes is at one of them.
+    pub fn is_table(&self)
+        ensures { IsTable self.now }
+    {
+        let _shared = &self.shared;
     }
 
     /// The number of the node of a name.

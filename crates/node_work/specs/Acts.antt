@@ -15,7 +15,7 @@ use Rattle.node_work.specs.declared.frame.FrameBody.TheVariants.{Delta, Know}
 use Rattle.node_work.specs.declared.outcome.Output.{Output}
 use Rattle.node_work.specs.declared.outcome.Output.TheVariants.{Send, Close, Frame as Release}
 use Rattle.node_work.specs.Held.Connections.{ConnectionAct, MayConnect, connected}
-use Rattle.node_work.specs.Held.Sessions.{SessionAct, MayCall, called, session_outputs, more, one_more}
+use Rattle.node_work.specs.Held.Sessions.{SessionAct, MayCall, called, session_outputs, more}
 use Rattle.node_work.specs.Offers.{AreOffered}
 use Rattle.message_copies.specs.declared.plain.PlainCopy.{PlainCopy as Copy}
 use Rattle.node_work.specs.Passing.{IsPassed}
@@ -94,7 +94,7 @@ next h (Out o) = h
 next h (Named number) = record h { named = number }
 next h (Acknowledged client packet at grants offers) = h
 next h (Passed m copies lost) = record h { turn = h.turn + 1; counts = record h.counts { picks_lost = more lost h.counts.picks_lost } }
-next h Dropped = record h { counts = record h.counts { retained_full = one_more h.counts.retained_full } }
+next h Dropped = record h { counts = record h.counts { retained_full = more 1 h.counts.retained_full } }
 
 abbrev pub Does : Place → HeldView → Act → HeldView → Type 0
 Does p h a h' = Allowed p h a × (h' ≡ next h a)

@@ -1,8 +1,6 @@
 -- The retained messages that a SUBSCRIBE asks for, on their way to the client (MQTT 5.0, 3.3.1.3 and 3.8.4).
-use Rattle.std.specs.Prelude.{◌≡◌, ℕ, ◌==◌, ◌&&◌, nat_lt, nat_le, if◌then◌else◌, Bool, true, false, length, List, [], ◌∷◌, ◌++◌, map as map_list, Option, Some, None}
-use Rattle.mqtt_fields.specs.declared.options.Qos.{Qos}
-use Rattle.mqtt_fields.specs.declared.options.Qos.TheVariants.{AtMostOnce, AtLeastOnce}
-use Rattle.mqtt_fields.specs.Options.{qos_number, qos_of}
+use Rattle.std.specs.Prelude.{◌≡◌, ℕ, List, [], ◌∷◌, ◌++◌, map as map_list, Option, Some, None}
+use Rattle.message_copies.specs.Deliveries.{offer_of}
 use Rattle.mqtt_message.specs.declared.delivery.Delivery.{Delivery}
 use Rattle.mqtt_message.specs.declared.message.Message.{Message}
 use Rattle.replica_store.specs.declared.kept.Kept.{Kept}
@@ -10,18 +8,10 @@ use Rattle.replica_store.specs.Answers.{IsAnswer}
 use Rattle.node_work.specs.declared.granted.Asked.{Asked}
 use Rattle.node_work.specs.declared.granted.Granted.{Granted}
 
--- the message's QoS, or the granted one where that is less (3.8.4)
-abbrev pub least_qos : ℕ → Qos → Qos
-least_qos granted qos = if nat_lt granted (qos_number qos) then (if granted == 0 then AtMostOnce else AtLeastOnce) else qos
-
--- a retained message for a subscription: with RETAIN 1, and the subscription's identifier
-abbrev pub offer_of : Asked → Message → Delivery
-offer_of a m = record { message = m; qos = least_qos (qos_of a.options) m.qos; retain = true; identifiers = a.identifiers }
-
 -- a filter that asks for them: the messages that answer it at the moment, in the order of their topics
 abbrev pub IsOffered : ℕ → List (List ℕ × Kept) → Option Asked → List Delivery → Type 0
 IsOffered at kept None offers = offers ≡ []
-IsOffered at kept (Some a) offers = (messages : List Message) × IsAnswer a.filter at kept messages × (offers ≡ map_list (offer_of a) messages)
+IsOffered at kept (Some a) offers = (messages : List Message) × IsAnswer a.filter at kept messages × (offers ≡ map_list (offer_of a.options a.identifiers) messages)
 
 -- each filter in order
 abbrev pub AreOffered : ℕ → List (List ℕ × Kept) → List Granted → List Delivery → Type 0

@@ -12,11 +12,8 @@ ghost use Rattle.session_laws.specs.Runs.{connects, queues, takes, answers, clos
 ghost use Rattle.subscription_set.specs.Standing.{any_of};
 ghost use Rattle.node_work.specs.Acts.{Began, Connection, Store, Merged, Session, Out, Named, Acknowledged, Passed, Dropped, AreAnswers};
 ghost use Rattle.node_work.specs.Calling.{Calls};
-ghost use Rattle.node_work.specs.Doings.{MakesPut};
-ghost use Rattle.node_work.specs.Doings.{Removes};
-ghost use Rattle.node_work.specs.Doings.{Sends, Disconnects};
+ghost use Rattle.node_work.specs.Doings.{TakesMoment, Opens, MakesPut, MakesSubscribe, Removes, Sends, Disconnects};
 ghost use Rattle.mqtt_sessions.specs.Answers.{fits};
-ghost use Rattle.node_work.specs.Doings.{MakesSubscribe};
 ghost use Rattle.node_work.specs.Held.Calling.{MayConnectHere, MayAnswer, Reacted};
 ghost use Rattle.mqtt_sessions.specs.Reaction.{AreSpelled};
 ghost use Rattle.session_table.specs.Calls.{IsSpelledIf, stays, leaves, moves};
@@ -26,8 +23,6 @@ ghost use Rattle.node_work.specs.Held.Sessions.{Begun, Over, has_session, packet
 ghost use Rattle.node_work.specs.Packets.{CameSpelled};
 ghost use Rattle.message_copies.specs.declared.plain.PlainCopy.{PlainCopy as Copy};
 ghost use Rattle.node_work.specs.Passing.{IsPassed, turn_at_end};
-ghost use Rattle.node_work.specs.Doings.{TakesMoment};
-ghost use Rattle.node_work.specs.Doings.{Opens};
 ghost use Rattle.node_work.specs.View.{HeldView, Place, fresh};
 ghost use Rattle.node_work.specs.Working.{Comes, Acting, Numbered, Returns, If};
 ghost use Rattle.node_work.specs.declared.granted.Granted.{Granted};
@@ -162,7 +157,8 @@ impl Work {
 
     /// Begins the node's work.
     pub fn begin(&mut self) -> Result<(), NodeFault>
-        ensures { Comes (λ x. x) result self.old self.new (Acting (λ p h. Began)) }
+        ensures comes { Comes (λ x. x) result self.old self.new (Acting (λ p h. Began)) }
+        ensures done { result ≡ Ok tt }
     {
         self.held.begin();
         Ok(())
@@ -274,7 +270,6 @@ impl Work {
         client: &Text,
         reason: u8,
     ) -> Result<(), NodeFault>
-        requires { 0 < reason }
         ensures { Comes (λ x. x) result self.old self.new (Disconnects connection client.now reason) }
     {
         let Some(limit) = self.held.sessions().limit(client) else {
@@ -296,7 +291,8 @@ impl Work {
     pub fn name(&mut self, number: u64) -> Result<(), NodeFault>
         requires later { self.old.held.named < number }
         requires below { number < 2 ^ 62 }
-        ensures { Comes (λ x. x) result self.old self.new (Acting (λ p h. Named number)) }
+        ensures comes { Comes (λ x. x) result self.old self.new (Acting (λ p h. Named number)) }
+        ensures done { result ≡ Ok tt }
     {
         self.held.name(number);
         Ok(())
@@ -304,8 +300,9 @@ impl Work {
 
     /// Begins to make the copies of a message.
     pub fn pass(&mut self, lost: u64) -> Result<(), NodeFault>
-        ensures { (m : Message) (copies : List Copy) → IsPassed self.old.place self.old.held m copies lost
+        ensures comes { (m : Message) (copies : List Copy) → IsPassed self.old.place self.old.held m copies lost
             → Comes (λ x. x) result self.old self.new (Numbered turn_at_end (λ p h. Passed m copies lost)) }
+        ensures fault { IfErr result (λ e. e ≡ NumbersAtEnd) }
     {
         if self.held.turn() >= TURNS_END {
             return Err(NodeFault::NumbersAtEnd);
@@ -316,15 +313,17 @@ impl Work {
 
     /// Begins to offer the retained messages that answer a SUBSCRIBE.
     pub fn acknowledge(&mut self) -> Result<(), NodeFault>
-        ensures { (client : List ℕ) (packet : ℕ) (grants : List Granted) (offers : List Delivery) → AreAnswers self.old.held self.old.held.at grants offers
+        ensures comes { (client : List ℕ) (packet : ℕ) (grants : List Granted) (offers : List Delivery) → AreAnswers self.old.held self.old.held.at grants offers
             → Comes (λ x. x) result self.old self.new (Acting (λ p h. Acknowledged client packet h.at grants offers)) }
+        ensures done { result ≡ Ok tt }
     {
         Ok(())
     }
 
     /// Drops a retained message for want of room.
     pub fn drop_retained(&mut self) -> Result<(), NodeFault>
-        ensures { Comes (λ x. x) result self.old self.new (Acting (λ p h. Dropped)) }
+        ensures comes { Comes (λ x. x) result self.old self.new (Acting (λ p h. Dropped)) }
+        ensures done { result ≡ Ok tt }
     {
         self.held.drop_retained();
         Ok(())
@@ -341,7 +340,8 @@ impl Work {
 
     /// Takes a client's session out.
     pub fn end_session(&mut self, client: &Text) -> Result<(), NodeFault>
-        ensures { Comes (λ x. x) result self.old self.new (Acting (λ p h. Session (Over client.now))) }
+        ensures comes { Comes (λ x. x) result self.old self.new (Acting (λ p h. Session (Over client.now))) }
+        ensures done { result ≡ Ok tt }
     {
         self.held.end_session(client);
         Ok(())

@@ -31,14 +31,11 @@ pub data SessionAct : Type 0 where
   Over : (client : List ℕ) → SessionAct
 
 -- ---- counts, which stay at their greatest value
-abbrev pub one_more : ℕ → ℕ
-one_more n = min (n + 1) (2 ^ 64 - 1)
-
 abbrev pub more : ℕ → ℕ → ℕ
 more k n = min (n + k) (2 ^ 64 - 1)
 
 abbrev pub counted : Bool → Counts → Counts
-counted full counts = cond full (record counts { queue_full = one_more counts.queue_full }) counts
+counted full counts = cond full (record counts { queue_full = more 1 counts.queue_full }) counts
 
 -- ---- the connection that a session is on after an event
 abbrev pub IsOn : Event → Option ℕ → Option ℕ → Type 0

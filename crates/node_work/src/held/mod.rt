@@ -15,7 +15,7 @@ ghost use Rattle.session_laws.specs.Runs.{connects, queues, takes, answers, clos
 ghost use Rattle.node_work.specs.Acts.{next, Connection};
 ghost use Rattle.node_work.specs.Held.Calling.{IsHeldCall, MayConnectHere, MayAnswer};
 ghost use Rattle.session_table.specs.Calls.{IsSpelledIf, stays, leaves, moves};
-ghost use Rattle.node_work.specs.Held.Sessions.{Begun, Over, called, counted, more, one_more, will_is_due, end_is_due};
+ghost use Rattle.node_work.specs.Held.Sessions.{Begun, Over, called, counted, more, will_is_due, end_is_due};
 ghost use Rattle.node_work.specs.Held.Connections.{Accepted, is_open, client_at, first_at, new_connection};
 ghost use Rattle.node_work.specs.Held.Feeding.{IsHeldFed};
 ghost use Rattle.node_work.specs.Held.Making.{Makes, number_at_end, put_at_end, removal, with_operation};
@@ -296,7 +296,7 @@ impl Held {
 
     /// Counts a retained message that had no room.
     pub fn drop_retained(&mut self)
-        ensures { self.new ≡ record self.old { counts = record self.old.counts { retained_full = one_more self.old.counts.retained_full } } }
+        ensures { self.new ≡ record self.old { counts = record self.old.counts { retained_full = more 1 self.old.counts.retained_full } } }
     {
         self.counts.retained_full = self.counts.retained_full.saturating_add(1);
     }

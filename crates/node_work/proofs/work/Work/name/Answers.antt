@@ -5,8 +5,8 @@ use Rattle.node_work.specs.Working.{Acting, Did}
 use Rattle.node_work.proofs.Working.{did_silent}
 use Rattle.node_work.proofs.work.Work.name.Goals as goal
 
-pub returns : goal.returns
-returns c =
+pub returns-clause-comes : goal.returns-clause-comes
+returns-clause-comes c =
     let before : WorkView = record { place = record { id = c.self.inside.id; homes = c.self.inside.homes }; held = c.self.inside.held; outputs = c.self.inside.outputs.items } in
     let a = Named c.args.number in
     let later = subst (λ (v : WorkView). v.held.named < c.args.number) (sym c.self.view_is) c.requires.later in

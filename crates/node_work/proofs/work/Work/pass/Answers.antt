@@ -7,14 +7,14 @@ use Rattle.node_work.proofs.Making.{below_moment, past_end}
 use Rattle.node_work.proofs.Working.{did_numbered, did_at_end, did_silent}
 use Rattle.node_work.proofs.work.Work.pass.Goals as goal
 
-pub returns-then-turn-ge-TURNS_END : goal.returns-then-turn-ge-TURNS_END
-returns-then-turn-ge-TURNS_END c = λ m copies is.
+pub returns-then-turn-ge-TURNS_END-clause-comes : goal.returns-then-turn-ge-TURNS_END-clause-comes
+returns-then-turn-ge-TURNS_END-clause-comes c = λ m copies is.
     let w = c.args.self.now in
     let turns = c.turn.ensures ∙ ap (λ (v : WorkView). v.held.turn) c.self.view_is in
     (w, did_at_end turn_at_end (λ p h. Passed m copies c.args.lost) w w (past_end w.held.turn (subst (λ n. 2 ^ 62 ≤ n) turns c.if-turn-ge-TURNS_END.true)) refl)
 
-pub returns : goal.returns
-returns c = λ m copies is.
+pub returns-clause-comes : goal.returns-clause-comes
+returns-clause-comes c = λ m copies is.
     let before : WorkView = record { place = record { id = c.self.inside.id; homes = c.self.inside.homes }; held = c.self.inside.held; outputs = c.self.inside.outputs.items } in
     let after : WorkView = record before { held = c.pass.new.self } in
     let a = Passed m copies c.args.lost in
