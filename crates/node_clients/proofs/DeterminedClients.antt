@@ -1,0 +1,369 @@
+-- What a node does for its clients is determined.
+use Rattle.std.proofs.Common.{ℕ, Bool, true, false, cond, List, [], Option, Some, None, length, ◌==◌}
+use Rattle.mqtt_message.specs.Identifiers.{identifiers_of}
+use Rattle.mqtt_message.specs.declared.delivery.Delivery.{Delivery}
+use Rattle.mqtt_message.specs.declared.message.Message.{Message}
+use Rattle.mqtt_packets.specs.declared.connect.Connect.{Connect}
+use Rattle.mqtt_packets.specs.declared.fault.PacketFault.{PacketFault}
+use Rattle.mqtt_packets.specs.declared.packet.Packet.{Packet}
+use Rattle.mqtt_packets.specs.declared.packet.Packet.TheVariants as packets
+use Rattle.mqtt_packets.specs.declared.subscribe.Subscribe.{Subscribe}
+use Rattle.mqtt_packets.specs.declared.subscribe.SubscribeFilter.{SubscribeFilter}
+use Rattle.mqtt_packets.specs.declared.unsubscribe.Unsubscribe.{Unsubscribe}
+use Rattle.mqtt_packets.specs.Written.{written}
+use Rattle.mqtt_sessions.specs.declared.reaction.Ask.{Ask}
+use Rattle.mqtt_sessions.specs.declared.reaction.Ask.TheVariants as asks
+use Rattle.mqtt_sessions.specs.Answers.{disconnect, fits}
+use Rattle.mqtt_sessions.specs.Reaction.{Reaction}
+use Rattle.mqtt_sessions.specs.State.{limit_in}
+use Rattle.mqtt_topics.specs.Topics.{IsFilter}
+use Rattle.home_table.specs.Homes.{IsHome}
+use Rattle.message_copies.specs.declared.plain.PlainCopy.{PlainCopy as Copy}
+use Rattle.mqtt_message.specs.Expiry.{IsBefore}
+use Rattle.replica_store.specs.Making.{put_of, subscribe_of}
+use Rattle.session_laws.specs.Runs.{answers, closes, connects, finishes, queues, takes, ticks}
+use Rattle.session_table.specs.Calls.{leaves, moves, stays}
+use Rattle.node_work.specs.declared.granted.Granted.{Granted}
+use Rattle.node_work.specs.declared.outcome.Output.TheVariants.{Send, Close}
+use Rattle.node_work.specs.Acts.{Acknowledged, Connection, Dropped, Made, Named, Out, Passed, Session, Store}
+use Rattle.node_work.specs.Calling.{Calls, Queues, QueuesOne}
+use Rattle.node_work.specs.Doings.{Disconnects, MakesPut, MakesRemove, MakesSubscribe, Removes, Sends}
+use Rattle.node_work.specs.Held.Connections.{Accepted, Closed, Fed, client_at}
+use Rattle.node_work.specs.Held.Feeding.{cut_of}
+use Rattle.node_work.specs.Held.Making.{number_at_end, put_at_end, removal}
+use Rattle.node_work.specs.Held.Sessions.{Begun, Over}
+use Rattle.node_work.specs.Packets.{refused_packet}
+use Rattle.node_work.specs.Passing.{content_of, turn_at_end}
+use Rattle.node_work.specs.View.{ConnectionView}
+use Rattle.node_work.specs.Working.{Returns, Looks, Finds, Then}
+use Rattle.node_clients.specs.Connecting.{Accepts, AcceptsAs, Begins, Cleans, ComesHome, Connects, ConnectsAt, ConnectsBy, Joins, JoinsBy, Names, NamesBy, Refers, Refuses, SendsIf, TakesOver, TakesOverFrom, WillIsNamed, refusal}
+use Rattle.node_clients.specs.Ending.{Closes, ClosesAfter, ClosesBy, ClosesFor, DoesDueOf, EndsSession, Finishes, Follows, Parts, PassesAsked, Ticks, TicksIf}
+use Rattle.node_clients.specs.Naming.{IsNextNumber}
+use Rattle.node_clients.specs.Passing.{AreMade, Copies, CopiesAt, Drops, MakesCopies, Passes, PassesWill, Retains}
+use Rattle.node_clients.specs.Pieces.{Answers, AnswersBy, AnswersIfOpen, Breaks, BreaksBy, BreaksIfOpen, Feeds, First, Leaves, LeavesBy, PartsBy, Piece, PieceAt, SendsDisconnect, SendsRefusal, Shuts, Takes, TellsBy, connack_code, disconnect_code}
+use Rattle.node_clients.specs.Serving.{DoesAsked, DoesReaction, Serves, ServesIn, SubscribesBy, UnsubscribesBy, is_dropped}
+use Rattle.node_clients.specs.Subscribing.{AreOffers, Grants, GrantsBy, Offers, OffersAfter, OffersEach, OffersOne, Subscribes, entry_of, granted, identifier_of, reasons_of, refused}
+use Rattle.node_clients.specs.Subscribing as subscribing
+use Rattle.node_clients.specs.Unsubscribing.{Unsubscribed, Unsubscribes}
+use Rattle.node_clients.specs.Unsubscribing as unsubscribing
+use Rattle.node_clients.proofs.Determined.{Determined, returns_determined, stops_determined, acting_determined, numbered_determined, looks_determined, finds_determined, if_determined, where_determined, then_determined, in_turn_determined, each_determined, calls_determined, copies_alone, home_is_alone, number_alone, offers_alone}
+
+-- ---- of one act or two
+
+sends_determined : (c : ℕ) (packet : Packet) → Determined (Sends c packet)
+sends_determined c packet = acting_determined (λ p h. Out (Send c (written packet)))
+
+disconnects_determined : (c : ℕ) (client : List ℕ) (code : ℕ) → Determined (Disconnects c client code)
+disconnects_determined c client code =
+    looks_determined _ _ (λ taken. if_determined taken (Sends c (disconnect code)) (Returns tt) (sends_determined c (disconnect code)) (returns_determined tt))
+
+pub removes_determined : (client : List ℕ) (to : Option (List ℕ)) → Determined (Removes client to)
+removes_determined client to =
+    looks_determined _ _
+    (λ stands. if_determined stands (Then (MakesRemove client to) (λ _. Returns true)) (Returns false)
+    (then_determined (MakesRemove client to) (λ _. Returns true) (numbered_determined (λ p h. number_at_end p.id h) (λ p h. Store (Made (removal p.id client to h.store)))) (λ _. returns_determined true)) (returns_determined false))
+
+-- ---- messages
+
+retains_determined : (m : Message) → Determined (Retains m)
+retains_determined m =
+    if_determined m.retain (MakesPut (content_of m)) (Returns tt)
+    (numbered_determined (λ p h. put_at_end p.id h) (λ p h. Store (Made (put_of p.id (content_of m) h.store)))) (returns_determined tt)
+
+queues_one_determined : (x : Copy) → Determined (QueuesOne x)
+queues_one_determined x = then_determined _ _ (calls_determined x.client (queues x.delivery) stays) (λ _. returns_determined tt)
+
+makes_copies_determined : (m : Message) (x : List Copy × ℕ) → Determined (MakesCopies m x)
+makes_copies_determined m x =
+    then_determined _ (λ _. Queues x.0) (numbered_determined turn_at_end (λ p h. Passed m x.0 x.1)) (λ _. each_determined QueuesOne queues_one_determined x.0)
+
+copies_at_determined : (m : Message) (at : ℕ) → Determined (CopiesAt m at)
+copies_at_determined m at =
+    where_determined (IsBefore at m.deadline) (Copies m) (Returns tt) (finds_determined (AreMade m) (MakesCopies m) (copies_alone m) (makes_copies_determined m)) (returns_determined tt)
+
+passes_determined : (m : Message) → Determined (Passes m)
+passes_determined m = then_determined (Retains m) _ (retains_determined m) (λ _. looks_determined _ _ (copies_at_determined m))
+
+drops_determined : Determined Drops
+drops_determined = acting_determined (λ p h. Dropped)
+
+passes_will_determined : (m : Message) → Determined (PassesWill m)
+passes_will_determined m = looks_determined _ _ (λ lacks. if_determined lacks Drops (Passes m) drops_determined (passes_determined m))
+
+-- ---- how sessions and connections end
+
+passes_asked_determined : (ask : Option Ask) → Determined (PassesAsked ask)
+passes_asked_determined None = returns_determined tt
+passes_asked_determined (Some (asks.Pass m)) = passes_will_determined m
+passes_asked_determined (Some asks.Subscribe) = returns_determined tt
+passes_asked_determined (Some asks.Unsubscribe) = returns_determined tt
+
+ends_session_determined : (client : List ℕ) → Determined (EndsSession client)
+ends_session_determined client = then_determined (Removes client None) _ (removes_determined client None) (λ _. acting_determined (λ p h. Session (Over client)))
+
+follows_determined : (client : List ℕ) (r : Reaction) → Determined (Follows client r)
+follows_determined client r =
+    then_determined (PassesAsked r.ask) _ (passes_asked_determined r.ask) (λ _. if_determined r.over (EndsSession client) (Returns tt) (ends_session_determined client) (returns_determined tt))
+
+pub ticks_determined : (client : List ℕ) → Determined (Ticks client)
+ticks_determined client = then_determined _ (Follows client) (calls_determined client ticks stays) (follows_determined client)
+
+finishes_determined : (client : List ℕ) → Determined (Finishes client)
+finishes_determined client = then_determined _ (Follows client) (calls_determined client finishes stays) (follows_determined client)
+
+ticks_if_determined : (due : Bool) (client : List ℕ) → Determined (TicksIf due client)
+ticks_if_determined due client = if_determined due (Ticks client) (Returns tt) (ticks_determined client) (returns_determined tt)
+
+does_due_of_determined : (client : List ℕ) → Determined (DoesDueOf client)
+does_due_of_determined client =
+    then_determined _ _ (looks_determined _ (λ due. TicksIf due client) (λ due. ticks_if_determined due client)) (λ _. looks_determined _ (λ due. TicksIf due client) (λ due. ticks_if_determined due client))
+
+parts_determined : (client : List ℕ) → Determined (Parts client)
+parts_determined client = then_determined _ (λ _. DoesDueOf client) (calls_determined client closes leaves) (λ _. does_due_of_determined client)
+
+pub closes_determined : (c : ℕ) → Determined (Closes c)
+closes_determined c = then_determined _ _ (acting_determined (λ p h. Connection (Closed c))) (λ _. acting_determined (λ p h. Out (Close c)))
+
+closes_for_determined : (c : ℕ) (client : List ℕ) → Determined (ClosesFor c client)
+closes_for_determined c client = then_determined (Closes c) (λ _. Parts client) (closes_determined c) (λ _. parts_determined client)
+
+closes_by_determined : (c : ℕ) (client : Option (List ℕ)) → Determined (ClosesBy c client)
+closes_by_determined c None = closes_determined c
+closes_by_determined c (Some client) = closes_for_determined c client
+
+closes_after_determined : (end : Option ℕ) (c : ℕ) (client : List ℕ) → Determined (ClosesAfter end c client)
+closes_after_determined None c client = returns_determined tt
+closes_after_determined (Some code) c client = closes_for_determined c client
+
+-- ---- SUBSCRIBE and UNSUBSCRIBE
+
+grants_by_determined : (client : List ℕ) (identifier : ℕ) (f : SubscribeFilter) (stood : Bool) → Determined (GrantsBy client identifier f stood)
+grants_by_determined client identifier f stood =
+    let entry = entry_of client f identifier in
+    let g = granted f (identifiers_of identifier) stood in
+    looks_determined _ _
+    (λ full. if_determined full (Returns (refused 151)) (Then (MakesSubscribe entry) (λ _. Returns g)) (returns_determined (refused 151))
+    (then_determined (MakesSubscribe entry) (λ _. Returns g) (numbered_determined (λ p h. number_at_end p.id h) (λ p h. Store (Made (subscribe_of p.id entry h.store)))) (λ _. returns_determined g)))
+
+grants_determined : (client : List ℕ) (identifier : ℕ) (f : SubscribeFilter) → Determined (Grants client identifier f)
+grants_determined client identifier f =
+    where_determined (IsFilter f.filter) _ (Returns (refused 143)) (looks_determined _ (GrantsBy client identifier f) (grants_by_determined client identifier f)) (returns_determined (refused 143))
+
+offers_one_determined : (client : List ℕ) (offer : Delivery) → Determined (OffersOne client offer)
+offers_one_determined client offer = then_determined _ _ (calls_determined client (queues offer) stays) (λ _. returns_determined tt)
+
+offers_each_determined : (client : List ℕ) (packet : ℕ) (grants : List Granted) (offers : List Delivery) → Determined (OffersEach client packet grants offers)
+offers_each_determined client packet grants offers =
+    then_determined _ _ (acting_determined (λ p h. Acknowledged client packet h.at grants offers)) (λ _. each_determined (OffersOne client) (offers_one_determined client) offers)
+
+offers_after_determined : (end : Option ℕ) (c : ℕ) (client : List ℕ) (packet : ℕ) (grants : List Granted) → Determined (OffersAfter end c client packet grants)
+offers_after_determined None c client packet grants = finds_determined (AreOffers grants) (OffersEach client packet grants) (offers_alone grants) (offers_each_determined client packet grants)
+offers_after_determined (Some code) c client packet grants = closes_for_determined c client
+
+suback_determined : (c : ℕ) (client : List ℕ) (packet : ℕ) (grants : List Granted) → Determined (subscribing.Acknowledges c client packet grants)
+suback_determined c client packet grants =
+    then_determined _ (λ r. OffersAfter r.end c client packet grants) (calls_determined client (λ at. answers packet (reasons_of grants)) stays) (λ r. offers_after_determined r.end c client packet grants)
+
+subscribes_determined : (c : ℕ) (client : List ℕ) (p : Subscribe) → Determined (Subscribes c client p)
+subscribes_determined c client p =
+    then_determined _ (subscribing.Acknowledges c client p.identifier) (in_turn_determined (Grants client (identifier_of p)) (grants_determined client (identifier_of p)) p.filters []) (suback_determined c client p.identifier)
+
+unsubscribed_determined : (client text : List ℕ) → Determined (Unsubscribed client text)
+unsubscribed_determined client text =
+    where_determined (IsFilter text) _ (Returns 143) (then_determined (Removes client (Some text)) (λ stood. Returns (cond stood 0 17)) (removes_determined client (Some text)) (λ stood. returns_determined (cond stood 0 17))) (returns_determined 143)
+
+unsuback_determined : (c : ℕ) (client : List ℕ) (packet : ℕ) (codes : List ℕ) → Determined (unsubscribing.Acknowledges c client packet codes)
+unsuback_determined c client packet codes =
+    then_determined _ (λ r. ClosesAfter r.end c client) (calls_determined client (λ at. answers packet codes) stays) (λ r. closes_after_determined r.end c client)
+
+unsubscribes_determined : (c : ℕ) (client : List ℕ) (p : Unsubscribe) → Determined (Unsubscribes c client p)
+unsubscribes_determined c client p =
+    then_determined _ (unsubscribing.Acknowledges c client p.identifier) (in_turn_determined (Unsubscribed client) (unsubscribed_determined client) p.filters []) (unsuback_determined c client p.identifier)
+
+-- ---- the packets of an accepted client
+
+subscribes_by_determined : (c : ℕ) (client : List ℕ) (p : Packet) → Determined (SubscribesBy c client p)
+subscribes_by_determined c client (packets.Subscribe p) = subscribes_determined c client p
+subscribes_by_determined c client (packets.Connect p) = returns_determined tt
+subscribes_by_determined c client (packets.Connack p) = returns_determined tt
+subscribes_by_determined c client (packets.Publish p) = returns_determined tt
+subscribes_by_determined c client (packets.Puback p) = returns_determined tt
+subscribes_by_determined c client (packets.Pubrec p) = returns_determined tt
+subscribes_by_determined c client (packets.Pubrel p) = returns_determined tt
+subscribes_by_determined c client (packets.Pubcomp p) = returns_determined tt
+subscribes_by_determined c client (packets.Suback p) = returns_determined tt
+subscribes_by_determined c client (packets.Unsubscribe p) = returns_determined tt
+subscribes_by_determined c client (packets.Unsuback p) = returns_determined tt
+subscribes_by_determined c client packets.Pingreq = returns_determined tt
+subscribes_by_determined c client packets.Pingresp = returns_determined tt
+subscribes_by_determined c client (packets.Disconnect p) = returns_determined tt
+subscribes_by_determined c client (packets.Auth p) = returns_determined tt
+
+unsubscribes_by_determined : (c : ℕ) (client : List ℕ) (p : Packet) → Determined (UnsubscribesBy c client p)
+unsubscribes_by_determined c client (packets.Unsubscribe p) = unsubscribes_determined c client p
+unsubscribes_by_determined c client (packets.Connect p) = returns_determined tt
+unsubscribes_by_determined c client (packets.Connack p) = returns_determined tt
+unsubscribes_by_determined c client (packets.Publish p) = returns_determined tt
+unsubscribes_by_determined c client (packets.Puback p) = returns_determined tt
+unsubscribes_by_determined c client (packets.Pubrec p) = returns_determined tt
+unsubscribes_by_determined c client (packets.Pubrel p) = returns_determined tt
+unsubscribes_by_determined c client (packets.Pubcomp p) = returns_determined tt
+unsubscribes_by_determined c client (packets.Subscribe p) = returns_determined tt
+unsubscribes_by_determined c client (packets.Suback p) = returns_determined tt
+unsubscribes_by_determined c client (packets.Unsuback p) = returns_determined tt
+unsubscribes_by_determined c client packets.Pingreq = returns_determined tt
+unsubscribes_by_determined c client packets.Pingresp = returns_determined tt
+unsubscribes_by_determined c client (packets.Disconnect p) = returns_determined tt
+unsubscribes_by_determined c client (packets.Auth p) = returns_determined tt
+
+does_asked_determined : (ask : Option Ask) (dropped : Bool) (c : ℕ) (client : List ℕ) (p : Packet) → Determined (DoesAsked ask dropped c client p)
+does_asked_determined None dropped c client p = if_determined dropped Drops (Returns tt) drops_determined (returns_determined tt)
+does_asked_determined (Some (asks.Pass m)) dropped c client p = passes_determined m
+does_asked_determined (Some asks.Subscribe) dropped c client p = subscribes_by_determined c client p
+does_asked_determined (Some asks.Unsubscribe) dropped c client p = unsubscribes_by_determined c client p
+
+does_reaction_determined : (c : ℕ) (client : List ℕ) (p : Packet) (room : Bool) (r : Reaction) → Determined (DoesReaction c client p room r)
+does_reaction_determined c client p room r =
+    let dropped = is_dropped p room r.end in
+    then_determined (DoesAsked r.ask dropped c client p) (λ _. ClosesAfter r.end c client) (does_asked_determined r.ask dropped c client p) (λ _. closes_after_determined r.end c client)
+
+serves_in_determined : (c : ℕ) (client : List ℕ) (p : Packet) (room : Bool) → Determined (ServesIn c client p room)
+serves_in_determined c client p room = then_determined _ (DoesReaction c client p room) (calls_determined client (λ at. takes p at room) stays) (does_reaction_determined c client p room)
+
+serves_determined : (c : ℕ) (client : List ℕ) (p : Packet) → Determined (Serves c client p)
+serves_determined c client p = looks_determined _ (ServesIn c client p) (serves_in_determined c client p)
+
+-- ---- CONNECT
+
+refuses_determined : (c : ℕ) (p : Connect) (code : ℕ) (reference : Option (List ℕ)) → Determined (Refuses c p code reference)
+refuses_determined c p code reference =
+    let packet = refused_packet code reference in
+    let fitting = fits (limit_in p.properties) packet in
+    then_determined (SendsIf fitting c packet) (λ _. Closes c) (if_determined fitting (Sends c packet) (Returns tt) (sends_determined c packet) (returns_determined tt)) (λ _. closes_determined c)
+
+takes_over_from_determined : (client : List ℕ) (older : Option ℕ) → Determined (TakesOverFrom client older)
+takes_over_from_determined client None = returns_determined tt
+takes_over_from_determined client (Some older) = then_determined (Disconnects older client 142) (λ _. ClosesFor older client) (disconnects_determined older client 142) (λ _. closes_for_determined older client)
+
+cleans_determined : (clean : Bool) (client : List ℕ) → Determined (Cleans clean client)
+cleans_determined false client = returns_determined tt
+cleans_determined true client = looks_determined _ _ (λ has. if_determined has (Finishes client) (Returns tt) (finishes_determined client) (returns_determined tt))
+
+joins_by_determined : (has : Bool) (c : ℕ) (client : List ℕ) (p : Connect) → Determined (JoinsBy has c client p)
+joins_by_determined true c client p = calls_determined client (connects p true) (moves c)
+joins_by_determined false c client p =
+    then_determined _ (λ _. Calls client (connects p false) (moves c)) (acting_determined (λ place h. Session (Begun client))) (λ _. calls_determined client (connects p false) (moves c))
+
+begins_determined : (c : ℕ) (client : List ℕ) (p : Connect) → Determined (Begins c client p)
+begins_determined c client p =
+    then_determined _ (λ _. Then (Joins c client p) (λ r. ClosesAfter r.end c client)) (acting_determined (λ place h. Connection (Accepted c client)))
+    (λ _. then_determined (Joins c client p) (λ r. ClosesAfter r.end c client) (looks_determined _ (λ has. JoinsBy has c client p) (λ has. joins_by_determined has c client p)) (λ r. closes_after_determined r.end c client))
+
+accepts_determined : (c : ℕ) (p : Connect) (client : List ℕ) → Determined (Accepts c p client)
+accepts_determined c p client =
+    then_determined (TakesOver client) (λ _. Then (Cleans p.clean_start client) (λ _. Begins c client p)) (looks_determined _ (TakesOverFrom client) (takes_over_from_determined client))
+    (λ _. then_determined (Cleans p.clean_start client) (λ _. Begins c client p) (cleans_determined p.clean_start client) (λ _. begins_determined c client p))
+
+accepts_as_determined : (c : ℕ) (p : Connect) (client : List ℕ) → Determined (AcceptsAs c p client)
+accepts_as_determined c p client = where_determined (WillIsNamed p.will) (Accepts c p client) (Refuses c p 144 None) (accepts_determined c p client) (refuses_determined c p 144 None)
+
+names_by_determined : (c : ℕ) (p : Connect) (number : Option ℕ) → Determined (NamesBy c p number)
+names_by_determined c p None = stops_determined
+names_by_determined c p (Some number) = then_determined _ _ (acting_determined (λ place h. Named number)) (λ _. looks_determined _ (Accepts c p) (accepts_determined c p))
+
+names_determined : (c : ℕ) (p : Connect) → Determined (Names c p)
+names_determined c p =
+    where_determined (WillIsNamed p.will) (Finds IsNextNumber (NamesBy c p)) (Refuses c p 144 None) (finds_determined IsNextNumber (NamesBy c p) number_alone (names_by_determined c p)) (refuses_determined c p 144 None)
+
+comes_home_determined : (c : ℕ) (p : Connect) (node : ℕ) → Determined (ComesHome c p node)
+comes_home_determined c p node =
+    looks_determined _ _
+    (λ here. if_determined here (AcceptsAs c p p.client) (Refers c p node) (accepts_as_determined c p p.client) (looks_determined _ (λ reference. Refuses c p 156 reference) (refuses_determined c p 156)))
+
+connects_at_determined : (unnamed : Bool) (c : ℕ) (p : Connect) → Determined (ConnectsAt unnamed c p)
+connects_at_determined true c p = names_determined c p
+connects_at_determined false c p = finds_determined (λ place h node. IsHome place.homes p.client node) (ComesHome c p) (home_is_alone p.client) (comes_home_determined c p)
+
+connects_by_determined : (refused : Option ℕ) (c : ℕ) (p : Connect) → Determined (ConnectsBy refused c p)
+connects_by_determined (Some code) c p = refuses_determined c p code None
+connects_by_determined None c p = connects_at_determined (length p.client == 0) c p
+
+connects_determined : (c : ℕ) (p : Connect) → Determined (Connects c p)
+connects_determined c p = connects_by_determined (refusal p) c p
+
+-- ---- pieces
+
+first_determined : (c : ℕ) (p : Packet) → Determined (First c p)
+first_determined c (packets.Connect p) = connects_determined c p
+first_determined c (packets.Connack p) = closes_determined c
+first_determined c (packets.Publish p) = closes_determined c
+first_determined c (packets.Puback p) = closes_determined c
+first_determined c (packets.Pubrec p) = closes_determined c
+first_determined c (packets.Pubrel p) = closes_determined c
+first_determined c (packets.Pubcomp p) = closes_determined c
+first_determined c (packets.Subscribe p) = closes_determined c
+first_determined c (packets.Suback p) = closes_determined c
+first_determined c (packets.Unsubscribe p) = closes_determined c
+first_determined c (packets.Unsuback p) = closes_determined c
+first_determined c packets.Pingreq = closes_determined c
+first_determined c packets.Pingresp = closes_determined c
+first_determined c (packets.Disconnect p) = closes_determined c
+first_determined c (packets.Auth p) = closes_determined c
+
+answers_by_determined : (c : ℕ) (p : Packet) (client : Option (List ℕ)) → Determined (AnswersBy c p client)
+answers_by_determined c p None = first_determined c p
+answers_by_determined c p (Some client) = serves_determined c client p
+
+answers_if_open_determined : (c : ℕ) (p : Packet) → Determined (AnswersIfOpen c p)
+answers_if_open_determined c p =
+    looks_determined _ _ (λ is_there. if_determined is_there (Answers c p) (Returns tt) (looks_determined _ (AnswersBy c p) (answers_by_determined c p)) (returns_determined tt))
+
+sends_refusal_determined : (c : ℕ) (code : Option ℕ) → Determined (SendsRefusal c code)
+sends_refusal_determined c None x y p h xs ys sound a b = absurd a
+sends_refusal_determined c (Some code) x y p h xs ys sound a b = sends_determined c (refused_packet code None) x y p h xs ys sound a b
+
+sends_disconnect_determined : (c : ℕ) (client : List ℕ) (code : Option ℕ) → Determined (SendsDisconnect c client code)
+sends_disconnect_determined c client None x y p h xs ys sound a b = absurd a
+sends_disconnect_determined c client (Some code) x y p h xs ys sound a b = disconnects_determined c client code x y p h xs ys sound a b
+
+tells_by_determined : (c : ℕ) (fault : PacketFault) (client : Option (List ℕ)) → Determined (TellsBy c fault client)
+tells_by_determined c fault None =
+    let code = connack_code fault in
+    looks_determined _ _ (λ connects. if_determined connects (SendsRefusal c code) (Returns tt) (sends_refusal_determined c code) (returns_determined tt))
+tells_by_determined c fault (Some client) = sends_disconnect_determined c client (disconnect_code fault)
+
+breaks_by_determined : (c : ℕ) (fault : PacketFault) (client : Option (List ℕ)) → Determined (BreaksBy c fault client)
+breaks_by_determined c fault client = then_determined (TellsBy c fault client) (λ _. ClosesBy c client) (tells_by_determined c fault client) (λ _. closes_by_determined c client)
+
+breaks_if_open_determined : (c : ℕ) (fault : Option PacketFault) → Determined (BreaksIfOpen c fault)
+breaks_if_open_determined c None = returns_determined tt
+breaks_if_open_determined c (Some fault) =
+    looks_determined _ _ (λ is_there. if_determined is_there (Breaks c fault) (Returns tt) (looks_determined _ (BreaksBy c fault) (breaks_by_determined c fault)) (returns_determined tt))
+
+takes_determined : (c : ℕ) (ps : List Packet) (fault : Option PacketFault) → Determined (Takes c ps fault)
+takes_determined c ps fault = then_determined _ (λ _. BreaksIfOpen c fault) (each_determined (AnswersIfOpen c) (answers_if_open_determined c) ps) (λ _. breaks_if_open_determined c fault)
+
+feeds_determined : (c : ℕ) (piece : List ℕ) (found : ConnectionView) → Determined (Feeds c piece found)
+feeds_determined c piece found =
+    let cut = cut_of found.stream piece in
+    then_determined _ (λ _. Takes c cut.packets cut.fault) (acting_determined (λ p h. Connection (Fed c piece))) (λ _. takes_determined c cut.packets cut.fault)
+
+piece_at_determined : (c : ℕ) (piece : List ℕ) (found : Option ConnectionView) → Determined (PieceAt c piece found)
+piece_at_determined c piece None = returns_determined tt
+piece_at_determined c piece (Some found) =
+    if_determined found.stream.failed (Shuts c) (Feeds c piece found) (looks_determined _ (ClosesBy c) (closes_by_determined c)) (feeds_determined c piece found)
+
+pub piece_determined : (c : ℕ) (piece : List ℕ) → Determined (Piece c piece)
+piece_determined c piece = looks_determined _ (PieceAt c piece) (piece_at_determined c piece)
+
+parts_by_determined : (client : Option (List ℕ)) → Determined (PartsBy client)
+parts_by_determined None = returns_determined tt
+parts_by_determined (Some client) = parts_determined client
+
+leaves_by_determined : (c : ℕ) (client : Option (List ℕ)) → Determined (LeavesBy c client)
+leaves_by_determined c client = then_determined _ (λ _. PartsBy client) (acting_determined (λ p h. Connection (Closed c))) (λ _. parts_by_determined client)
+
+pub leaves_determined : (c : ℕ) → Determined (Leaves c)
+leaves_determined c =
+    looks_determined _ _
+    (λ is_there. if_determined is_there (Looks (λ p h. client_at c h) (LeavesBy c)) (Returns tt) (looks_determined _ (LeavesBy c) (leaves_by_determined c)) (returns_determined tt))

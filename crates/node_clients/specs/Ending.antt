@@ -1,0 +1,65 @@
+-- How connections and sessions end (MQTT 5.0, 3.1.2.5, 3.1.2.11.2 and 3.14).
+use Rattle.std.specs.Prelude.{ℕ, Bool, List, Option, Some, None}
+use Rattle.mqtt_sessions.specs.declared.reaction.Ask.{Ask}
+use Rattle.mqtt_sessions.specs.declared.reaction.Ask.TheVariants.{Pass, Subscribe, Unsubscribe}
+use Rattle.mqtt_sessions.specs.Reaction.{Reaction}
+use Rattle.session_laws.specs.Runs.{closes, ticks, finishes}
+use Rattle.session_table.specs.Calls.{stays, leaves}
+use Rattle.node_work.specs.declared.outcome.Output.TheVariants.{Close}
+use Rattle.node_work.specs.Acts.{Connection, Session, Out}
+use Rattle.node_work.specs.Calling.{Calls}
+use Rattle.node_work.specs.Doings.{Removes}
+use Rattle.node_work.specs.Held.Connections.{Closed}
+use Rattle.node_work.specs.Held.Sessions.{Over, will_is_due, end_is_due}
+use Rattle.node_work.specs.Working.{Doing, Returns, Acting, Looks, If, Then}
+use Rattle.node_clients.specs.Passing.{PassesWill}
+
+-- ---- a session
+-- of a session that ends, or whose will is due, a node is asked to publish the will
+abbrev pub PassesAsked : Option Ask → Option (Unit {0}) → Doing
+PassesAsked None = Returns tt
+PassesAsked (Some (Pass m)) = PassesWill m
+PassesAsked (Some Subscribe) = Returns tt
+PassesAsked (Some Unsubscribe) = Returns tt
+
+-- one Remove takes the client's subscriptions, and then its session is over
+abbrev pub EndsSession : List ℕ → Option (Unit {0}) → Doing
+EndsSession client = Then (Removes client None) (λ _. Acting (λ p h. Session (Over client)))
+
+abbrev pub Follows : List ℕ → Reaction → Option (Unit {0}) → Doing
+Follows client r = Then (PassesAsked r.ask) (λ _. If r.over (EndsSession client) (Returns tt))
+
+-- one thing that is due of a session: its will, else its end
+abbrev pub Ticks : List ℕ → Option (Unit {0}) → Doing
+Ticks client = Then (Calls client ticks stays) (Follows client)
+
+-- a session ends now: its will is published first
+abbrev pub Finishes : List ℕ → Option (Unit {0}) → Doing
+Finishes client = Then (Calls client finishes stays) (Follows client)
+
+-- ---- a close: what is due at this moment is done at once, the will and then the end
+abbrev pub TicksIf : Bool → List ℕ → Option (Unit {0}) → Doing
+TicksIf due client = If due (Ticks client) (Returns tt)
+
+abbrev pub DoesDueOf : List ℕ → Option (Unit {0}) → Doing
+DoesDueOf client = Then (Looks (λ p h. will_is_due client h) (λ due. TicksIf due client)) (λ _. Looks (λ p h. end_is_due client h) (λ due. TicksIf due client))
+
+abbrev pub Parts : List ℕ → Option (Unit {0}) → Doing
+Parts client = Then (Calls client closes leaves) (λ _. DoesDueOf client)
+
+-- the node closes a connection
+abbrev pub Closes : ℕ → Option (Unit {0}) → Doing
+Closes c = Then (Acting (λ p h. Connection (Closed c))) (λ _. Acting (λ p h. Out (Close c)))
+
+abbrev pub ClosesFor : ℕ → List ℕ → Option (Unit {0}) → Doing
+ClosesFor c client = Then (Closes c) (λ _. Parts client)
+
+-- before a client was accepted, or after
+abbrev pub ClosesBy : ℕ → Option (List ℕ) → Option (Unit {0}) → Doing
+ClosesBy c None = Closes c
+ClosesBy c (Some client) = ClosesFor c client
+
+-- where a reaction says so
+abbrev pub ClosesAfter : Option ℕ → ℕ → List ℕ → Option (Unit {0}) → Doing
+ClosesAfter None c client = Returns tt
+ClosesAfter (Some code) c client = ClosesFor c client

@@ -1,0 +1,16 @@
+//! How a node answers its clients: their streams and packets, and how connections and sessions end.
+#![tactic(auto)]
+
+mod connect;
+mod ending;
+mod naming;
+mod offer;
+mod passing;
+mod piece;
+mod serve;
+mod stream_fault;
+mod subscribe;
+mod unsubscribe;
+
+pub use ending::{close, tick};
+pub use piece::{leave, take_piece};

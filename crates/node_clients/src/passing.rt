@@ -1,0 +1,189 @@
+//! How a message is passed on.
+
+ghost use Rattle.std.specs.Prelude.{◌≡◌, ◌+◌, ◌++◌, ◌↔◌, length, IfOk, IfErr, IsTrue};
+ghost use Rattle.node_clients.specs.Passing.{Copies, CopiesAt, Passes, PassesWill, Retains, lacks_room};
+ghost use Rattle.node_work.specs.Calling.{Queues, QueuesOne};
+ghost use Rattle.node_work.specs.Passing.{IsHomed, IsPassed, content_of, pick_copy, seated, unseated};
+ghost use Rattle.node_work.specs.Working.{Comes, Looks};
+ghost use Rattle.node_work.specs.declared.fault.NodeFault.TheVariants.{NoMemory};
+ghost use Rattle.home_table.specs.Homes.{IsHome};
+
+use message_copies::{GroupPick, PlainCopy, copies, picks};
+use mqtt_fields::Text;
+use mqtt_message::{Message, SharedMessage};
+use node_work::{Held, NodeFault, Work};
+use replica_store::Content;
+use std::alloc::Global;
+
+/// At most as many topics are held.
+const TOPICS_HELD: usize = 100_000;
+
+/// The copies of a message for sessions here, and how many picks have none.
+#[derive(Drop)]
+struct Made {
+    copies: Vec<PlainCopy>,
+    lost: u64,
+}
+
+/// Passes a message on: with RETAIN it is put into the store, and until its deadline each session that it is for gets a copy.
+pub fn pass(work: &mut Work, message: Message) -> Result<(), NodeFault>
+    ensures { Comes (λ x. x) result work.old work.new (Passes message) }
+{
+    let message = SharedMessage::new(work.alloc(), message)?;
+    retain(work, &message)?;
+    pass_alive(work, &message)
+}
+
+/// Puts a message with RETAIN into the store.
+#[tactic(auto, using(crate::proofs::Copying::message_retained))]
+fn retain(work: &mut Work, message: &SharedMessage) -> Result<(), NodeFault>
+    ensures { Comes (λ x. x) result work.old work.new (Retains message.now) }
+{
+    if !message.message().retain {
+        return Ok(());
+    }
+    let content = content_of(work.alloc(), message)?;
+    work.put(content)
+}
+
+/// What the topic of a message is given: the message, or with an empty payload none.
+fn content_of(alloc: Global, message: &SharedMessage) -> Result<Content, NodeFault>
+    ensures ok { IfOk result (λ content. content ≡ content_of message.now) }
+    ensures fault { IfErr result (λ e. e ≡ NoMemory) }
+{
+    if message.message().payload.as_slice().is_empty() {
+        return Ok(Content::Cleared(message.message().topic.copy(alloc)?));
+    }
+    Ok(Content::Set(message.copy()?))
+}
+
+/// Makes a message's copies until its deadline.
+fn pass_alive(work: &mut Work, message: &SharedMessage) -> Result<(), NodeFault>
+    ensures { Comes (λ x. x) result work.old work.new (Looks (λ p h. h.at) (CopiesAt message.now)) }
+{
+    if message.message().alive(work.held().at()) {
+        pass_copies(work, message)
+    } else {
+        Ok(())
+    }
+}
+
+/// Makes a message's copies, which join their sessions one by one.
+fn pass_copies(work: &mut Work, message: &SharedMessage) -> Result<(), NodeFault>
+    ensures { Comes (λ x. x) result work.old work.new (Copies message.now) }
+{
+    let made = copies_for(work, message)?;
+    work.pass(made.lost)?;
+    queue_each(work, made.copies)
+}
+
+/// The copies join their sessions.
+fn queue_each(work: &mut Work, copies: Vec<PlainCopy>) -> Result<(), NodeFault>
+    ensures { Comes (λ x. x) result work.old work.new (Queues copies.items) }
+{
+    for copy in copies {
+        queue_one(work, copy)?;
+    }
+    Ok(())
+}
+
+/// A copy joins its session.
+fn queue_one(work: &mut Work, copy: PlainCopy) -> Result<(), NodeFault>
+    ensures { Comes (λ x. x) result work.old work.new (QueuesOne copy) }
+{
+    let PlainCopy { client, delivery } = copy;
+    let _reaction = work.queue(&client, delivery)?;
+    Ok(())
+}
+
+/// The copies of a message for sessions here.
+fn copies_for(work: &Work, message: &SharedMessage) -> Result<Made, NodeFault>
+    ensures ok { IfOk result (λ made. IsPassed work.now.place work.now.held message.now made.copies.items made.lost) }
+    ensures fault { IfErr result (λ e. e ≡ NoMemory) }
+{
+    let held = work.held();
+    let subscriptions = held.store().subscriptions();
+    let plain = copies(work.alloc(), subscriptions, message)?;
+    let picks = picks(work.alloc(), subscriptions, message, held.turn())?;
+    let homed = homed_of(work, picks)?;
+    let count = homed.len();
+    let homed = seated(held, homed);
+    let lost = (count - homed.len()) as u64;
+    let copies = joined(seated(held, plain), homed)?;
+    Ok(Made { copies, lost })
+}
+
+/// Those for clients that have a session here.
+fn seated(held: &Held, mut copies: Vec<PlainCopy>) -> Vec<PlainCopy>
+    ensures seated { result.items ≡ seated held.now copies.items }
+    ensures others { length result.items + length (unseated held.now copies.items) ≡ length copies.items }
+{
+    copies.retain(|copy| held.sessions().has(&copy.client));
+    copies
+}
+
+/// One list after the other.
+fn joined(first: Vec<PlainCopy>, then: Vec<PlainCopy>) -> Result<Vec<PlainCopy>, NodeFault>
+    ensures ok { IfOk result (λ both. both.items ≡ first.items ++ then.items) }
+    ensures fault { IfErr result (λ e. e ≡ NoMemory) }
+{
+    let mut both = first;
+    for copy in then {
+        both.push(copy)?;
+    }
+    Ok(both)
+}
+
+/// Whether a client has its home here.
+fn is_home(work: &Work, client: &Text) -> bool
+    ensures { IsTrue result ↔ IsHome work.now.place.homes client.now work.now.place.id }
+{
+    work.homes().home_of(client.as_str()) == work.id()
+}
+
+/// The picks whose clients have their home here, as copies.
+fn homed_of(work: &Work, picks: Vec<GroupPick>) -> Result<Vec<PlainCopy>, NodeFault>
+    ensures ok { IfOk result (λ out. IsHomed work.now.place picks.items out.items) }
+    ensures fault { IfErr result (λ e. e ≡ NoMemory) }
+{
+    let mut out = Vec::new(work.alloc());
+    for pick in picks {
+        if is_home(work, &pick.client) {
+            out.push(copy_of(pick))?;
+        }
+    }
+    Ok(out)
+}
+
+fn copy_of(pick: GroupPick) -> PlainCopy
+    ensures { result ≡ pick_copy pick }
+{
+    let GroupPick {
+        client,
+        delivery,
+        ..
+    } = pick;
+    PlainCopy { client, delivery }
+}
+
+/// Whether a message is retained and there is no room for its topic.
+fn lacks_room(work: &Work, message: &Message) -> bool
+    ensures { result ≡ lacks_room message.now work.now.held }
+{
+    if !message.retain {
+        return false;
+    }
+    let retained = work.held().store().retained();
+    !retained.holds(&message.topic) && retained.len() >= TOPICS_HELD
+}
+
+/// Passes a will on, unless it is retained and there is no room for its topic.
+pub fn pass_will(work: &mut Work, message: Message) -> Result<(), NodeFault>
+    ensures { Comes (λ x. x) result work.old work.new (PassesWill message) }
+{
+    if lacks_room(work, &message) {
+        work.drop_retained()
+    } else {
+        pass(work, message)
+    }
+}

@@ -1,0 +1,166 @@
+//! The packets of an accepted client.
+
+ghost use Rattle.std.specs.Prelude.{◌≡◌, Some, IfOk, IfErr};
+ghost use Rattle.mqtt_packets.specs.Written.{HasSpelling};
+ghost use Rattle.node_clients.specs.Passing.{Drops};
+ghost use Rattle.node_clients.specs.Serving.{Serves, SubscribesBy, UnsubscribesBy, DoesAsked, DoesReaction, IsNameOf, room_for, takes_topic, is_dropped};
+ghost use Rattle.node_work.specs.Working.{Comes, If, Returns};
+ghost use Rattle.node_work.specs.declared.fault.NodeFault.TheVariants.{NoMemory};
+
+use crate::ending::close_after;
+use crate::passing::pass;
+use crate::subscribe::subscribe;
+use crate::unsubscribe::unsubscribe;
+use mqtt_fields::{Qos, Text};
+use mqtt_packets::Packet;
+use mqtt_sessions::{Ask, Reaction};
+use mqtt_topics::{TopicFault, TopicName};
+use node_work::{NodeFault, Work};
+use replica_store::ReplicaStore;
+use std::alloc::Global;
+
+/// How many topics have a retained message, or had one, at most.
+const MOST_TOPICS: usize = 100_000;
+
+/// Hands a packet to its client's session, and does what that asks for.
+pub fn serve(
+    work: &mut Work,
+    connection: u64,
+    client: &Text,
+    packet: &Packet,
+) -> Result<(), NodeFault>
+    requires { HasSpelling packet.now }
+    ensures { Comes (λ x. x) result work.old work.new (Serves connection client.now packet.now) }
+{
+    let room = room_for(work.alloc(), packet, work.held().store())?;
+    let reaction = work.packet(client, packet, room)?;
+    react(work, connection, client, packet, room, reaction)
+}
+
+/// Does what a session asks for after a packet, and closes the connection where it says so.
+fn react(
+    work: &mut Work,
+    connection: u64,
+    client: &Text,
+    packet: &Packet,
+    room: bool,
+    reaction: Reaction,
+) -> Result<(), NodeFault>
+    requires { HasSpelling packet.now }
+    ensures { Comes (λ x. x) result work.old work.new (DoesReaction connection client.now packet.now room reaction) }
+{
+    let end = reaction.end;
+    let dropped = is_dropped(packet, room, end);
+    do_asked(work, reaction.ask, dropped, connection, client, packet)?;
+    close_after(work, end, connection, client)
+}
+
+/// Does what a session asks for. A packet of which it asks nothing may be a retained message that is dropped.
+fn do_asked(
+    work: &mut Work,
+    ask: Option<Ask>,
+    dropped: bool,
+    connection: u64,
+    client: &Text,
+    packet: &Packet,
+) -> Result<(), NodeFault>
+    requires { HasSpelling packet.now }
+    ensures { Comes (λ x. x) result work.old work.new (DoesAsked ask dropped connection client.now packet.now) }
+{
+    match ask {
+        None => drop_if(work, dropped),
+        Some(Ask::Pass(message)) => pass(work, message),
+        Some(Ask::Subscribe) => subscribe_by(work, connection, client, packet),
+        Some(Ask::Unsubscribe) => unsubscribe_by(work, connection, client, packet),
+    }
+}
+
+fn drop_if(work: &mut Work, dropped: bool) -> Result<(), NodeFault>
+    ensures { Comes (λ x. x) result work.old work.new (If dropped Drops (Returns tt)) }
+{
+    if dropped {
+        return work.drop_retained();
+    }
+    Ok(())
+}
+
+fn subscribe_by(
+    work: &mut Work,
+    connection: u64,
+    client: &Text,
+    packet: &Packet,
+) -> Result<(), NodeFault>
+    requires { HasSpelling packet.now }
+    ensures { Comes (λ x. x) result work.old work.new (SubscribesBy connection client.now packet.now) }
+{
+    match packet {
+        Packet::Subscribe(request) => subscribe(work, connection, client, request),
+        _ => Ok(()),
+    }
+}
+
+fn unsubscribe_by(
+    work: &mut Work,
+    connection: u64,
+    client: &Text,
+    packet: &Packet,
+) -> Result<(), NodeFault>
+    requires { HasSpelling packet.now }
+    ensures { Comes (λ x. x) result work.old work.new (UnsubscribesBy connection client.now packet.now) }
+{
+    match packet {
+        Packet::Unsubscribe(request) => unsubscribe(work, connection, client, request),
+        _ => Ok(()),
+    }
+}
+
+/// Whether a retained message of the packet at QoS 0 is dropped for want of room. `end` is how its connection ends.
+fn is_dropped(packet: &Packet, room: bool, end: Option<u8>) -> bool
+    ensures { result ≡ is_dropped packet.now room end }
+{
+    match packet {
+        Packet::Publish(publish) => {
+            publish.retain && !room && publish.qos.number() == 0 && end.is_none()
+        }
+        _ => false,
+    }
+}
+
+/// Whether a retained message of the packet would be taken.
+fn room_for(alloc: Global, packet: &Packet, store: &ReplicaStore) -> Result<bool, NodeFault>
+    ensures ok { IfOk result (λ room. room ≡ room_for packet.now store.now) }
+    ensures fault { IfErr result (λ e. e ≡ NoMemory) }
+{
+    match packet {
+        Packet::Publish(publish) => takes_topic(alloc, &publish.topic, store),
+        _ => Ok(true),
+    }
+}
+
+/// Whether a topic is held, or there is room for one more. A text that isn't a topic name isn't held.
+fn takes_topic(alloc: Global, topic: &Text, store: &ReplicaStore) -> Result<bool, NodeFault>
+    ensures ok { IfOk result (λ room. room ≡ takes_topic topic.now store.now) }
+    ensures fault { IfErr result (λ e. e ≡ NoMemory) }
+{
+    if store.retained().len() < MOST_TOPICS {
+        return Ok(true);
+    }
+    match name_of(alloc, topic)? {
+        Some(name) => Ok(store.retained().holds(&name)),
+        None => Ok(false),
+    }
+}
+
+/// The topic name of a text, or none where it isn't one.
+fn name_of(alloc: Global, text: &Text) -> Result<Option<TopicName>, NodeFault>
+    ensures ok { IfOk result (λ name. IsNameOf text.now name) }
+    ensures fault { IfErr result (λ e. e ≡ NoMemory) }
+{
+    match TopicName::parse(alloc, text.as_str()) {
+        Ok(name) => Ok(Some(name)),
+        Err(fault) => match fault {
+            TopicFault::NoMemory => Err(NodeFault::NoMemory),
+            _ => Ok(None),
+        },
+    }
+}
