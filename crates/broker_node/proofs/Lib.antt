@@ -1,14 +1,5 @@
-pub mod Answering
-pub mod Asking
 pub mod Determined
-pub mod Feeding
-pub mod Making
-pub mod Offering
-pub mod Publishing
+pub mod Going
 pub mod Quiet
-pub mod Sendable
-pub mod Spelled
 pub mod Stepping
-pub mod Subscribing
-pub mod Tables
-pub mod Working
+pub mod Turning

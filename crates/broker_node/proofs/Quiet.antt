@@ -1,242 +1,530 @@
 -- Work that merges nothing, and what a step merges.
-use Rattle.std.proofs.Common.{◌≡◌, ℕ, Bool, true, false, cond, not, ◌&&◌, List, [], ◌∷◌, ◌++◌, Option, Some, None, inl, inr, refl, ap, ◌∙◌}
+use Rattle.std.proofs.Common.{◌≡◌, ℕ, ◌==◌, ◌&&◌, not, Bool, true, false, cond, List, [], ◌∷◌, ◌++◌, length, Option, Some, None, inl, inr, refl, ap, ◌∙◌}
 use Rattle.std.specs.FinMap as map
+use Rattle.home_table.specs.Homes.{IsHome}
+use Rattle.mqtt_fields.specs.declared.value.Property.{Property}
+use Rattle.mqtt_message.specs.Identifiers.{identifiers_of}
+use Rattle.mqtt_message.specs.declared.delivery.Delivery.{Delivery}
+use Rattle.mqtt_message.specs.declared.message.Message.{Message}
+use Rattle.mqtt_packets.specs.Written.{written}
+use Rattle.mqtt_packets.specs.declared.connect.Connect.{Connect}
+use Rattle.mqtt_packets.specs.declared.fault.PacketFault.{PacketFault}
 use Rattle.mqtt_packets.specs.declared.packet.Packet.{Packet}
 use Rattle.mqtt_packets.specs.declared.packet.Packet.TheVariants as packets
-use Rattle.mqtt_packets.specs.declared.publish.Publish.{Publish}
 use Rattle.mqtt_packets.specs.declared.subscribe.Subscribe.{Subscribe}
 use Rattle.mqtt_packets.specs.declared.subscribe.SubscribeFilter.{SubscribeFilter}
 use Rattle.mqtt_packets.specs.declared.unsubscribe.Unsubscribe.{Unsubscribe}
-use Rattle.mqtt_packets.specs.declared.fault.PacketFault.{PacketFault}
+use Rattle.mqtt_sessions.specs.Answers.{disconnect, fits}
+use Rattle.mqtt_sessions.specs.Reaction.{Reaction}
+use Rattle.mqtt_sessions.specs.State.{limit_in}
+use Rattle.mqtt_sessions.specs.declared.reaction.Ask.{Ask}
+use Rattle.mqtt_sessions.specs.declared.reaction.Ask.TheVariants as asks
+use Rattle.mqtt_topics.specs.Topics.{IsFilter}
+use Rattle.replica_store.specs.Making.{subscribe_of, put_of}
 use Rattle.replica_store.specs.States.{State}
-use Rattle.broker_node.specs.declared.clients.flow.Flow.{Flow}
-use Rattle.broker_node.specs.declared.clients.flow.Flow.TheVariants.{Open, Ended}
+use Rattle.session_laws.specs.Runs.{Event, answers, closes, connects, finishes, queues, takes, ticks}
+use Rattle.session_table.specs.Calls.{leaves, moves, stays}
+use Rattle.session_table.specs.Seats.{Seat, connected, ends_due, run_outs, wills_due}
+use Rattle.subscription_set.specs.Standing.{any_of}
+use Rattle.node_work.specs.Acts.{Act, Acknowledged, Began, Connection, Dropped, Made, Moment, Named, Out, Passed, Session, Store, gather, merge_in}
+use Rattle.node_work.specs.Calling.{Calls, CallsAt, Queues, QueuesOne}
+use Rattle.node_work.specs.Doings.{Disconnects, MakesPut, MakesRemove, MakesSubscribe, Opens, Removes, Sends}
+use Rattle.node_work.specs.Frames.{is_for, is_other, states_in}
+use Rattle.node_work.specs.Held.Connections.{Accepted, Closed, Fed, Opened, client_at, first_at, is_open}
+use Rattle.node_work.specs.Held.Feeding.{cut_of}
+use Rattle.node_work.specs.Held.Making.{number_at_end, put_at_end, removal}
+use Rattle.node_work.specs.Held.Sessions.{Begun, Over, connection_at, end_is_due, has_session, seat_at, takes_disconnect, will_is_due}
+use Rattle.node_work.specs.Packets.{refused_packet}
+use Rattle.node_work.specs.Passing.{content_of, turn_at_end}
+use Rattle.node_work.specs.View.{ConnectionView, HeldView, Place}
+use Rattle.node_work.specs.Working.{Acting, Doing, Each, Finds, If, InTurn, Looks, Numbered, Returns, Stops, Then, Where}
+use Rattle.node_work.specs.declared.frame.FrameBody.{FrameBody}
+use Rattle.node_work.specs.declared.frame.FrameBody.TheVariants.{Delta, Know}
+use Rattle.node_work.specs.declared.granted.Granted.{Granted}
+use Rattle.node_work.specs.declared.outcome.Output.TheVariants.{Close, Frame as Release, Send}
+use Rattle.message_copies.specs.declared.plain.PlainCopy.{PlainCopy as Copy}
+use Rattle.node_work.proofs.Working.{gather-append}
+use Rattle.node_clients.specs.Connecting as connecting
+use Rattle.node_clients.specs.Ending as ending
+use Rattle.node_clients.specs.Naming.{IsNextNumber, automatic}
+use Rattle.node_clients.specs.Passing as passing
+use Rattle.node_clients.specs.Pieces as pieces
+use Rattle.node_clients.specs.Serving as serving
+use Rattle.node_clients.specs.Subscribing as subscribing
+use Rattle.node_clients.specs.Unsubscribing as unsubscribing
 use Rattle.broker_node.specs.declared.event.EventKind.{EventKind}
 use Rattle.broker_node.specs.declared.event.EventKind.TheVariants as kinds
-use Rattle.broker_node.specs.declared.frame.FrameBody.{FrameBody}
-use Rattle.broker_node.specs.declared.frame.FrameBody.TheVariants.{Delta, Know}
-use Rattle.broker_node.specs.View.{HeldView, ConnectionView}
-use Rattle.mqtt_packets.specs.Written.{written}
-use Rattle.mqtt_message.specs.Identifiers.{identifiers_of}
-use Rattle.replica_store.specs.Making.{subscribe_of, put_of}
-use Rattle.broker_node.specs.declared.outcome.Output.TheVariants.{Send, Frame as Release}
-use Rattle.broker_node.specs.Acts.{Act, Connection, Store, Out, Made, gather, merge_in}
-use Rattle.broker_node.specs.Held.Connections.{Opened, Fed, Accepted, is_open}
-use Rattle.broker_node.specs.Held.Feeding.{cut_of}
-use Rattle.broker_node.specs.Held.Making.{number_at_end, put_at_end, removal}
-use Rattle.broker_node.specs.Packets.{accepted_packet, disconnect_packet, refused_packet}
-use Rattle.broker_node.specs.Clients.Answering.{Accepts, First, Connects, Answer, AnswerBy}
-use Rattle.broker_node.specs.Clients.Pieces.{SendsCode, RefusesBy, GoesOn, AnsweredInTurn, EndsBy, Takes as TakesPackets, Feeds, Piece, PieceAt, connack_code, disconnect_code}
-use Rattle.broker_node.specs.Clients.Publishing.{PublishesBy, Retains, MakesPut, content_of, refusal}
-use Rattle.broker_node.specs.Clients.Sending.{Sends, EndsWith, Closes}
-use Rattle.broker_node.specs.Clients.Subscribing.{MakesSubscribe, entry_of, granted, refused, stands, has_most, Grants, GrantsBy, SubscribesOrEnds, identifier_of}
-use Rattle.broker_node.specs.Clients.Unsubscribing.{MakesRemove, Removes, Unsubscribed, Unsubscribes}
-use Rattle.broker_node.specs.Frames.{is_for, is_other, states_in}
+use Rattle.broker_node.specs.Bridge.{Gives, Hears, Ships, Takes}
+use Rattle.broker_node.specs.Due.{ClosesStored, DoesDue, EndsConnections, EndsSessions, PartsFrom, PublishesWills, RunsOut, Starts, TicksOf}
 use Rattle.broker_node.specs.Step.{brought}
-use Rattle.broker_node.specs.Turns.{First as FirstTurn, Opens, Evicts, Gives, Ships, Answers, Takes}
-use Rattle.broker_node.specs.Working.{Doing, Returns, Acting, ActingAs, Numbered, Looks, If, Where, Then, InTurn}
-use Rattle.broker_node.proofs.Working.{gather-append}
+use Rattle.broker_node.specs.Turns.{Answers, Evicts, First, GoesOn}
 
 abbrev pub Quiet : {A : Type 0} → (Option A → Doing) → Type 0
-Quiet {A} P = (x : Option A) (id : ℕ) (h : HeldView) (acts : List Act) → P x id h acts → gather merge_in acts ≡ []
+Quiet {A} P = (x : Option A) (p : Place) (h : HeldView) (acts : List Act) → P x p h acts → gather merge_in acts ≡ []
 
 returns_quiet : {A : Type 0} (x : A) → Quiet (Returns x)
-returns_quiet x y id h acts p = ap (gather merge_in) p.1
+returns_quiet x y p h acts d = ap (gather merge_in) d.1
+
+stops_quiet : {A : Type 0} → Quiet {A = A} (Stops {A = A})
+stops_quiet x p h acts d = ap (gather merge_in) d.1
 
 append_nothing : (xs ys : List State) → xs ≡ [] → ys ≡ [] → xs ++ ys ≡ []
 append_nothing xs ys e f = λ i. e i ++ f i
 
-acting_quiet : (a : ℕ → HeldView → Act) → ((id : ℕ) (h : HeldView) → merge_in (a id h) ≡ []) → Quiet (Acting a)
-acting_quiet a q x id h acts p = ap (gather merge_in) p.1 ∙ append_nothing (merge_in (a id h)) [] (q id h) refl
-
-acting_as_quiet : (Is : ℕ → HeldView → Act → Type 0) → ((id : ℕ) (h : HeldView) (a : Act) → Is id h a → merge_in a ≡ []) → Quiet (ActingAs Is)
-acting_as_quiet Is q x id h acts p = ap (gather merge_in) p.1.2 ∙ append_nothing (merge_in p.1.0) [] (q id h p.1.0 p.1.1) refl
+acting_quiet : (a : Place → HeldView → Act) → ((p : Place) (h : HeldView) → merge_in (a p h) ≡ []) → Quiet (Acting a)
+acting_quiet a q x p h acts d = ap (gather merge_in) d.1 ∙ append_nothing (merge_in (a p h)) [] (q p h) refl
 
 numbered_by : (b : Bool) (a : Act) (x : Option (Unit {0})) (xs : List Act) → merge_in a ≡ [] → cond b ((x ≡ None) × (xs ≡ [])) ((x ≡ Some tt) × (xs ≡ a ∷ [])) → gather merge_in xs ≡ []
-numbered_by true a x xs q p = ap (gather merge_in) p.1
-numbered_by false a x xs q p = ap (gather merge_in) p.1 ∙ append_nothing (merge_in a) [] q refl
+numbered_by true a x xs q d = ap (gather merge_in) d.1
+numbered_by false a x xs q d = ap (gather merge_in) d.1 ∙ append_nothing (merge_in a) [] q refl
 
-numbered_quiet : (at_end : ℕ → HeldView → Bool) (a : ℕ → HeldView → Act) → ((id : ℕ) (h : HeldView) → merge_in (a id h) ≡ []) → Quiet (Numbered at_end a)
-numbered_quiet at_end a q x id h acts p = numbered_by (at_end id h) (a id h) x acts (q id h) p
+numbered_quiet : (at_end : Place → HeldView → Bool) (a : Place → HeldView → Act) → ((p : Place) (h : HeldView) → merge_in (a p h) ≡ []) → Quiet (Numbered at_end a)
+numbered_quiet at_end a q x p h acts d = numbered_by (at_end p h) (a p h) x acts (q p h) d
 
 if_quiet : {A : Type 0} (b : Bool) (P Q : Option A → Doing) → Quiet P → Quiet Q → Quiet (If b P Q)
 if_quiet true P Q p q = p
 if_quiet false P Q p q = q
 
 where_quiet : {A : Type 0} (X : Type 0) (P Q : Option A → Doing) → Quiet P → Quiet Q → Quiet (Where X P Q)
-where_quiet X P Q p q x id h acts (inl a) = p x id h acts a.1
-where_quiet X P Q p q x id h acts (inr a) = q x id h acts a.1
+where_quiet X P Q p q x place h acts (inl a) = p x place h acts a.1
+where_quiet X P Q p q x place h acts (inr a) = q x place h acts a.1
 
-looks_quiet : {A B : Type 0} (see : ℕ → HeldView → A) (P : A → Option B → Doing) → ((x : A) → Quiet (P x)) → Quiet (Looks see P)
-looks_quiet see P q x id h acts p = q (see id h) x id h acts p
+looks_quiet : {A B : Type 0} (see : Place → HeldView → A) (P : A → Option B → Doing) → ((x : A) → Quiet (P x)) → Quiet (Looks see P)
+looks_quiet see P q x p h acts d = q (see p h) x p h acts d
+
+finds_quiet : {A B : Type 0} (Is : Place → HeldView → A → Type 0) (P : A → Option B → Doing) → ((x : A) → Quiet (P x)) → Quiet (Finds Is P)
+finds_quiet Is P q x p h acts d = q d.0 x p h acts d.2
 
 then_quiet : {A B : Type 0} (P : Option A → Doing) (Q : A → Option B → Doing) → Quiet P → ((x : A) → Quiet (Q x)) → Quiet (Then P Q)
-then_quiet P Q p q x id h acts (inl a) = p None id h acts a.1
-then_quiet P Q p q x id h acts (inr a) =
-    ap (gather merge_in) a.7 ∙ gather-append merge_in a.1 a.3 ∙ append_nothing (gather merge_in a.1) (gather merge_in a.3) (p (Some a.0) id h a.1 a.4) (q a.0 x id a.2 a.3 a.6)
+then_quiet P Q p q x place h acts (inl a) = p None place h acts a.1
+then_quiet P Q p q x place h acts (inr a) =
+    ap (gather merge_in) a.7 ∙ gather-append merge_in a.1 a.3 ∙ append_nothing (gather merge_in a.1) (gather merge_in a.3) (p (Some a.0) place h a.1 a.4) (q a.0 x place a.2 a.3 a.6)
 
 in_turn_quiet : {A B : Type 0} (One : A → Option B → Doing) → ((x : A) → Quiet (One x)) → (xs : List A) (given : List B) → Quiet (InTurn One xs given)
 in_turn_quiet One q [] given = returns_quiet given
 in_turn_quiet One q (x ∷ xs) given = then_quiet (One x) (λ y. InTurn One xs (given ++ y ∷ [])) (q x) (λ y. in_turn_quiet One q xs (given ++ y ∷ []))
 
--- ---- packets
+each_quiet : {A : Type 0} (One : A → Option (Unit {0}) → Doing) → ((x : A) → Quiet (One x)) → (xs : List A) → Quiet (Each One xs)
+each_quiet One q [] = returns_quiet tt
+each_quiet One q (x ∷ xs) = then_quiet (One x) (λ _. Each One xs) (q x) (λ _. each_quiet One q xs)
 
-ends_quiet : (c code : ℕ) → Quiet (EndsWith c code)
-ends_quiet c code = then_quiet _ _ (acting_quiet _ (λ id h. refl)) (λ _. returns_quiet Ended)
+-- ---- calls of sessions, and small things
 
-grants_by_quiet : (client : List ℕ) (identifier : ℕ) (f : SubscribeFilter) (stood : Bool) → Quiet (GrantsBy client identifier f stood)
-grants_by_quiet client identifier f stood =
-    let entry = entry_of client f identifier in
-    let g = granted f (identifiers_of identifier) stood in
-    looks_quiet (λ id h. not stood && has_most client h.store) (λ full. If full (Returns (refused 151)) (Then (MakesSubscribe entry) (λ _. Returns g)))
-    (λ full. if_quiet full (Returns (refused 151)) (Then (MakesSubscribe entry) (λ _. Returns g)) (returns_quiet (refused 151))
-    (then_quiet (MakesSubscribe entry) (λ _. Returns g) (numbered_quiet number_at_end (λ id h. Store (Made (subscribe_of id entry h.store))) (λ id h. refl)) (λ _. returns_quiet g)))
+calls_at_quiet : (client : List ℕ) (event : ℕ → Event) (on : Option ℕ → Option ℕ) (seat : Option Seat) → Quiet (CallsAt client event on seat)
+calls_at_quiet client event on None x p h acts d = ap (gather merge_in) d.1
+calls_at_quiet client event on (Some seat) x p h acts (inl d) = ap (gather merge_in) d.2
+calls_at_quiet client event on (Some seat) x p h acts (inr d) = ap (gather merge_in) d.4
 
-grants_quiet : (client : List ℕ) (identifier : ℕ) (f : SubscribeFilter) → Quiet (Grants client identifier f)
-grants_quiet client identifier f =
-    where_quiet _ _ _ (looks_quiet (λ id h. stands client f.filter h) (GrantsBy client identifier f) (grants_by_quiet client identifier f)) (returns_quiet (refused 143))
+calls_quiet : (client : List ℕ) (event : ℕ → Event) (on : Option ℕ → Option ℕ) → Quiet (Calls client event on)
+calls_quiet client event on = looks_quiet (λ p h. seat_at client h) (CallsAt client event on) (calls_at_quiet client event on)
 
-subscribes_quiet : (c : ℕ) (client : List ℕ) (p : Subscribe) → Quiet (SubscribesOrEnds c client p)
-subscribes_quiet c client p =
-    where_quiet _ _ _ (ends_quiet c 130)
-    (then_quiet _ _ (in_turn_quiet (Grants client (identifier_of p)) (grants_quiet client (identifier_of p)) p.filters [])
-    (λ gs. then_quiet _ _ (acting_as_quiet _ (λ id h a is. ap merge_in is.2)) (λ _. returns_quiet Open)))
+queues_quiet : (copies : List Copy) → Quiet (Queues copies)
+queues_quiet copies = each_quiet QueuesOne (λ x. then_quiet (Calls x.client (queues x.delivery) stays) (λ _. Returns tt) (calls_quiet x.client (queues x.delivery) stays) (λ _. returns_quiet tt)) copies
+
+sends_quiet : (c : ℕ) (packet : Packet) → Quiet (Sends c packet)
+sends_quiet c packet = acting_quiet (λ p h. Out (Send c (written packet))) (λ p h. refl)
+
+disconnects_quiet : (c : ℕ) (client : List ℕ) (code : ℕ) → Quiet (Disconnects c client code)
+disconnects_quiet c client code =
+    looks_quiet (λ p h. takes_disconnect client code h) (λ taken. If taken (Sends c (disconnect code)) (Returns tt))
+    (λ taken. if_quiet taken (Sends c (disconnect code)) (Returns tt) (sends_quiet c (disconnect code)) (returns_quiet tt))
 
 removes_quiet : (client : List ℕ) (to : Option (List ℕ)) → Quiet (Removes client to)
 removes_quiet client to =
-    looks_quiet _ _
+    looks_quiet (λ p h. any_of client to h.store.subscriptions) (λ stands. If stands (Then (MakesRemove client to) (λ _. Returns true)) (Returns false))
     (λ stands. if_quiet stands (Then (MakesRemove client to) (λ _. Returns true)) (Returns false)
-    (then_quiet (MakesRemove client to) (λ _. Returns true) (numbered_quiet number_at_end (λ id h. Store (Made (removal id client to h.store))) (λ id h. refl)) (λ _. returns_quiet true)) (returns_quiet false))
+    (then_quiet (MakesRemove client to) (λ _. Returns true) (numbered_quiet (λ p h. number_at_end p.id h) (λ p h. Store (Made (removal p.id client to h.store))) (λ p h. refl)) (λ _. returns_quiet true)) (returns_quiet false))
 
-unsubscribes_quiet : (c : ℕ) (client : List ℕ) (p : Unsubscribe) → Quiet (Unsubscribes c client p)
+opens_quiet : (c : ℕ) → Quiet (Opens c)
+opens_quiet c =
+    looks_quiet (λ p h. is_open c h) (λ is. If is (Returns tt) (Acting (λ p h. Connection (Opened c))))
+    (λ is. if_quiet is (Returns tt) (Acting (λ p h. Connection (Opened c))) (returns_quiet tt) (acting_quiet (λ p h. Connection (Opened c)) (λ p h. refl)))
+
+-- ---- messages
+
+copies_quiet : (m : Message) → Quiet (passing.Copies m)
+copies_quiet m =
+    finds_quiet (passing.AreMade m) (passing.MakesCopies m)
+    (λ x. then_quiet (Numbered turn_at_end (λ p h. Passed m x.0 x.1)) (λ _. Queues x.0) (numbered_quiet turn_at_end (λ p h. Passed m x.0 x.1) (λ p h. refl)) (λ _. queues_quiet x.0))
+
+retains_quiet : (m : Message) → Quiet (passing.Retains m)
+retains_quiet m =
+    if_quiet m.retain (MakesPut (content_of m)) (Returns tt)
+    (numbered_quiet (λ p h. put_at_end p.id h) (λ p h. Store (Made (put_of p.id (content_of m) h.store))) (λ p h. refl)) (returns_quiet tt)
+
+passes_quiet : (m : Message) → Quiet (passing.Passes m)
+passes_quiet m =
+    then_quiet (passing.Retains m) (λ _. Looks (λ p h. h.at) (passing.CopiesAt m)) (retains_quiet m)
+    (λ _. looks_quiet (λ p h. h.at) (passing.CopiesAt m) (λ at. where_quiet _ (passing.Copies m) (Returns tt) (copies_quiet m) (returns_quiet tt)))
+
+drops_quiet : Quiet passing.Drops
+drops_quiet = acting_quiet (λ p h. Dropped) (λ p h. refl)
+
+passes_will_quiet : (m : Message) → Quiet (passing.PassesWill m)
+passes_will_quiet m =
+    looks_quiet (λ p h. passing.lacks_room m h) (λ lacks. If lacks passing.Drops (passing.Passes m))
+    (λ lacks. if_quiet lacks passing.Drops (passing.Passes m) drops_quiet (passes_quiet m))
+
+-- ---- how connections and sessions end
+
+passes_asked_quiet : (ask : Option Ask) → Quiet (ending.PassesAsked ask)
+passes_asked_quiet None = returns_quiet tt
+passes_asked_quiet (Some (asks.Pass m)) = passes_will_quiet m
+passes_asked_quiet (Some asks.Subscribe) = returns_quiet tt
+passes_asked_quiet (Some asks.Unsubscribe) = returns_quiet tt
+
+ends_session_quiet : (client : List ℕ) → Quiet (ending.EndsSession client)
+ends_session_quiet client =
+    then_quiet (Removes client None) (λ _. Acting (λ p h. Session (Over client))) (removes_quiet client None) (λ _. acting_quiet (λ p h. Session (Over client)) (λ p h. refl))
+
+follows_quiet : (client : List ℕ) (r : Reaction) → Quiet (ending.Follows client r)
+follows_quiet client r =
+    then_quiet (ending.PassesAsked r.ask) (λ _. If r.over (ending.EndsSession client) (Returns tt)) (passes_asked_quiet r.ask)
+    (λ _. if_quiet r.over (ending.EndsSession client) (Returns tt) (ends_session_quiet client) (returns_quiet tt))
+
+ticks_quiet : (client : List ℕ) → Quiet (ending.Ticks client)
+ticks_quiet client = then_quiet (Calls client ticks stays) (ending.Follows client) (calls_quiet client ticks stays) (follows_quiet client)
+
+finishes_quiet : (client : List ℕ) → Quiet (ending.Finishes client)
+finishes_quiet client = then_quiet (Calls client finishes stays) (ending.Follows client) (calls_quiet client finishes stays) (follows_quiet client)
+
+ticks_if_quiet : (see : HeldView → Bool) (client : List ℕ) → Quiet (Looks (λ p h. see h) (λ due. ending.TicksIf due client))
+ticks_if_quiet see client =
+    looks_quiet (λ p h. see h) (λ due. ending.TicksIf due client) (λ due. if_quiet due (ending.Ticks client) (Returns tt) (ticks_quiet client) (returns_quiet tt))
+
+parts_quiet : (client : List ℕ) → Quiet (ending.Parts client)
+parts_quiet client =
+    then_quiet (Calls client closes leaves) (λ _. ending.DoesDueOf client) (calls_quiet client closes leaves)
+    (λ _. then_quiet (Looks (λ p h. will_is_due client h) (λ due. ending.TicksIf due client)) (λ _. Looks (λ p h. end_is_due client h) (λ due. ending.TicksIf due client))
+    (ticks_if_quiet (will_is_due client) client) (λ _. ticks_if_quiet (end_is_due client) client))
+
+closes_quiet : (c : ℕ) → Quiet (ending.Closes c)
+closes_quiet c =
+    then_quiet (Acting (λ p h. Connection (Closed c))) (λ _. Acting (λ p h. Out (Close c))) (acting_quiet (λ p h. Connection (Closed c)) (λ p h. refl)) (λ _. acting_quiet (λ p h. Out (Close c)) (λ p h. refl))
+
+closes_for_quiet : (c : ℕ) (client : List ℕ) → Quiet (ending.ClosesFor c client)
+closes_for_quiet c client = then_quiet (ending.Closes c) (λ _. ending.Parts client) (closes_quiet c) (λ _. parts_quiet client)
+
+closes_by_quiet : (c : ℕ) (client : Option (List ℕ)) → Quiet (ending.ClosesBy c client)
+closes_by_quiet c None = closes_quiet c
+closes_by_quiet c (Some client) = closes_for_quiet c client
+
+closes_after_quiet : (end : Option ℕ) (c : ℕ) (client : List ℕ) → Quiet (ending.ClosesAfter end c client)
+closes_after_quiet None c client = returns_quiet tt
+closes_after_quiet (Some code) c client = closes_for_quiet c client
+
+-- ---- subscriptions
+
+grants_by_quiet : (client : List ℕ) (identifier : ℕ) (f : SubscribeFilter) (stood : Bool) → Quiet (subscribing.GrantsBy client identifier f stood)
+grants_by_quiet client identifier f stood =
+    let entry = subscribing.entry_of client f identifier in
+    let g = subscribing.granted f (identifiers_of identifier) stood in
+    let no = subscribing.refused 151 in
+    looks_quiet (λ p h. not stood && subscribing.has_most client h.store) (λ full. If full (Returns no) (Then (MakesSubscribe entry) (λ _. Returns g)))
+    (λ full. if_quiet full (Returns no) (Then (MakesSubscribe entry) (λ _. Returns g)) (returns_quiet no)
+    (then_quiet (MakesSubscribe entry) (λ _. Returns g) (numbered_quiet (λ p h. number_at_end p.id h) (λ p h. Store (Made (subscribe_of p.id entry h.store))) (λ p h. refl)) (λ _. returns_quiet g)))
+
+grants_quiet : (client : List ℕ) (identifier : ℕ) (f : SubscribeFilter) → Quiet (subscribing.Grants client identifier f)
+grants_quiet client identifier f =
+    where_quiet _ (Looks (λ p h. subscribing.stands client f.filter h) (subscribing.GrantsBy client identifier f)) (Returns (subscribing.refused 143))
+    (looks_quiet (λ p h. subscribing.stands client f.filter h) (subscribing.GrantsBy client identifier f) (grants_by_quiet client identifier f)) (returns_quiet (subscribing.refused 143))
+
+offers_one_quiet : (client : List ℕ) (offer : Delivery) → Quiet (subscribing.OffersOne client offer)
+offers_one_quiet client offer = then_quiet (Calls client (queues offer) stays) (λ _. Returns tt) (calls_quiet client (queues offer) stays) (λ _. returns_quiet tt)
+
+offers_each_quiet : (client : List ℕ) (packet : ℕ) (grants : List Granted) (offers : List Delivery) → Quiet (subscribing.OffersEach client packet grants offers)
+offers_each_quiet client packet grants offers =
+    then_quiet (Acting (λ p h. Acknowledged client packet h.at grants offers)) (λ _. Each (subscribing.OffersOne client) offers)
+    (acting_quiet (λ p h. Acknowledged client packet h.at grants offers) (λ p h. refl)) (λ _. each_quiet (subscribing.OffersOne client) (offers_one_quiet client) offers)
+
+offers_after_quiet : (end : Option ℕ) (c : ℕ) (client : List ℕ) (packet : ℕ) (grants : List Granted) → Quiet (subscribing.OffersAfter end c client packet grants)
+offers_after_quiet None c client packet grants = finds_quiet (subscribing.AreOffers grants) (subscribing.OffersEach client packet grants) (offers_each_quiet client packet grants)
+offers_after_quiet (Some code) c client packet grants = closes_for_quiet c client
+
+acknowledges_quiet : (c : ℕ) (client : List ℕ) (packet : ℕ) (grants : List Granted) → Quiet (subscribing.Acknowledges c client packet grants)
+acknowledges_quiet c client packet grants =
+    then_quiet (Calls client (λ at. answers packet (subscribing.reasons_of grants)) stays) (λ r. subscribing.OffersAfter r.end c client packet grants)
+    (calls_quiet client (λ at. answers packet (subscribing.reasons_of grants)) stays) (λ r. offers_after_quiet r.end c client packet grants)
+
+subscribes_quiet : (c : ℕ) (client : List ℕ) (p : Subscribe) → Quiet (subscribing.Subscribes c client p)
+subscribes_quiet c client p =
+    let one = subscribing.Grants client (subscribing.identifier_of p) in
+    then_quiet (InTurn one p.filters []) (subscribing.Acknowledges c client p.identifier) (in_turn_quiet one (grants_quiet client (subscribing.identifier_of p)) p.filters []) (acknowledges_quiet c client p.identifier)
+
+unsubscribed_quiet : (client text : List ℕ) → Quiet (unsubscribing.Unsubscribed client text)
+unsubscribed_quiet client text =
+    where_quiet (IsFilter text) (Then (Removes client (Some text)) (λ stood. Returns (cond stood 0 17))) (Returns 143)
+    (then_quiet (Removes client (Some text)) (λ stood. Returns (cond stood 0 17)) (removes_quiet client (Some text)) (λ stood. returns_quiet (cond stood 0 17))) (returns_quiet 143)
+
+unsubscribes_quiet : (c : ℕ) (client : List ℕ) (p : Unsubscribe) → Quiet (unsubscribing.Unsubscribes c client p)
 unsubscribes_quiet c client p =
-    then_quiet _ _ (in_turn_quiet (Unsubscribed client) (λ text. where_quiet _ _ _ (then_quiet _ _ (removes_quiet client (Some text)) (λ stood. returns_quiet _)) (returns_quiet _)) p.filters [])
-    (λ rs. then_quiet _ _ (acting_quiet _ (λ id h. refl)) (λ _. returns_quiet Open))
+    then_quiet (InTurn (unsubscribing.Unsubscribed client) p.filters []) (unsubscribing.Acknowledges c client p.identifier) (in_turn_quiet (unsubscribing.Unsubscribed client) (unsubscribed_quiet client) p.filters [])
+    (λ codes. then_quiet (Calls client (λ at. answers p.identifier codes) stays) (λ r. ending.ClosesAfter r.end c client) (calls_quiet client (λ at. answers p.identifier codes) stays) (λ r. closes_after_quiet r.end c client))
 
-publishes_quiet : (x : Option ℕ) (c : ℕ) (client : List ℕ) (p : Publish) → Quiet (PublishesBy x c client p)
-publishes_quiet None c client p =
-    where_quiet _ _ _
-    (then_quiet (Retains client p) (λ _. Returns Open)
-    (if_quiet p.retain (MakesPut (content_of p client)) (Returns tt) (numbered_quiet put_at_end (λ id h. Store (Made (put_of id (content_of p client h.at) h.store))) (λ id h. refl)) (returns_quiet tt)) (λ _. returns_quiet Open))
-    (ends_quiet c 144)
-publishes_quiet (Some code) c client p = ends_quiet c code
+-- ---- packets
 
-connects_quiet : (c : ℕ) (client : List ℕ) → Quiet (Connects c client)
-connects_quiet c client =
-    looks_quiet _ _
-    (λ has. if_quiet has (Returns Ended) (Accepts c client) (returns_quiet Ended)
-    (then_quiet (Acting (λ id h. Connection (Accepted c client))) (λ _. Then (Sends c accepted_packet) (λ _. Returns Open)) (acting_quiet (λ id h. Connection (Accepted c client)) (λ id h. refl))
-    (λ _. then_quiet (Sends c accepted_packet) (λ _. Returns Open) (acting_quiet (λ id h. Out (Send c (written accepted_packet))) (λ id h. refl)) (λ _. returns_quiet Open))))
+subscribes_by_quiet : (c : ℕ) (client : List ℕ) (p : Packet) → Quiet (serving.SubscribesBy c client p)
+subscribes_by_quiet c client (packets.Subscribe p) = subscribes_quiet c client p
+subscribes_by_quiet c client (packets.Connect p) = returns_quiet tt
+subscribes_by_quiet c client (packets.Connack p) = returns_quiet tt
+subscribes_by_quiet c client (packets.Publish p) = returns_quiet tt
+subscribes_by_quiet c client (packets.Puback p) = returns_quiet tt
+subscribes_by_quiet c client (packets.Pubrec p) = returns_quiet tt
+subscribes_by_quiet c client (packets.Pubrel p) = returns_quiet tt
+subscribes_by_quiet c client (packets.Pubcomp p) = returns_quiet tt
+subscribes_by_quiet c client (packets.Suback p) = returns_quiet tt
+subscribes_by_quiet c client (packets.Unsubscribe p) = returns_quiet tt
+subscribes_by_quiet c client (packets.Unsuback p) = returns_quiet tt
+subscribes_by_quiet c client packets.Pingreq = returns_quiet tt
+subscribes_by_quiet c client packets.Pingresp = returns_quiet tt
+subscribes_by_quiet c client (packets.Disconnect p) = returns_quiet tt
+subscribes_by_quiet c client (packets.Auth p) = returns_quiet tt
 
-first_quiet : (c : ℕ) (p : Packet) → Quiet (First c p)
-first_quiet c (packets.Connect p) = connects_quiet c p.client
-first_quiet c (packets.Connack p) = returns_quiet Ended
-first_quiet c (packets.Publish p) = returns_quiet Ended
-first_quiet c (packets.Puback p) = returns_quiet Ended
-first_quiet c (packets.Pubrec p) = returns_quiet Ended
-first_quiet c (packets.Pubrel p) = returns_quiet Ended
-first_quiet c (packets.Pubcomp p) = returns_quiet Ended
-first_quiet c (packets.Subscribe p) = returns_quiet Ended
-first_quiet c (packets.Suback p) = returns_quiet Ended
-first_quiet c (packets.Unsubscribe p) = returns_quiet Ended
-first_quiet c (packets.Unsuback p) = returns_quiet Ended
-first_quiet c packets.Pingreq = returns_quiet Ended
-first_quiet c packets.Pingresp = returns_quiet Ended
-first_quiet c (packets.Disconnect p) = returns_quiet Ended
-first_quiet c (packets.Auth p) = returns_quiet Ended
+unsubscribes_by_quiet : (c : ℕ) (client : List ℕ) (p : Packet) → Quiet (serving.UnsubscribesBy c client p)
+unsubscribes_by_quiet c client (packets.Unsubscribe p) = unsubscribes_quiet c client p
+unsubscribes_by_quiet c client (packets.Connect p) = returns_quiet tt
+unsubscribes_by_quiet c client (packets.Connack p) = returns_quiet tt
+unsubscribes_by_quiet c client (packets.Publish p) = returns_quiet tt
+unsubscribes_by_quiet c client (packets.Puback p) = returns_quiet tt
+unsubscribes_by_quiet c client (packets.Pubrec p) = returns_quiet tt
+unsubscribes_by_quiet c client (packets.Pubrel p) = returns_quiet tt
+unsubscribes_by_quiet c client (packets.Pubcomp p) = returns_quiet tt
+unsubscribes_by_quiet c client (packets.Subscribe p) = returns_quiet tt
+unsubscribes_by_quiet c client (packets.Suback p) = returns_quiet tt
+unsubscribes_by_quiet c client (packets.Unsuback p) = returns_quiet tt
+unsubscribes_by_quiet c client packets.Pingreq = returns_quiet tt
+unsubscribes_by_quiet c client packets.Pingresp = returns_quiet tt
+unsubscribes_by_quiet c client (packets.Disconnect p) = returns_quiet tt
+unsubscribes_by_quiet c client (packets.Auth p) = returns_quiet tt
 
-answer_quiet : (c : ℕ) (client : List ℕ) (p : Packet) → Quiet (Answer c client p)
-answer_quiet c client (packets.Connect p) = ends_quiet c 130
-answer_quiet c client (packets.Connack p) = ends_quiet c 130
-answer_quiet c client (packets.Publish p) = publishes_quiet (refusal p) c client p
-answer_quiet c client (packets.Puback p) = ends_quiet c 130
-answer_quiet c client (packets.Pubrec p) = ends_quiet c 130
-answer_quiet c client (packets.Pubrel p) = ends_quiet c 130
-answer_quiet c client (packets.Pubcomp p) = ends_quiet c 130
-answer_quiet c client (packets.Subscribe p) = subscribes_quiet c client p
-answer_quiet c client (packets.Suback p) = ends_quiet c 130
-answer_quiet c client (packets.Unsubscribe p) = unsubscribes_quiet c client p
-answer_quiet c client (packets.Unsuback p) = ends_quiet c 130
-answer_quiet c client packets.Pingreq = then_quiet _ _ (acting_quiet _ (λ id h. refl)) (λ _. returns_quiet Open)
-answer_quiet c client packets.Pingresp = ends_quiet c 130
-answer_quiet c client (packets.Disconnect p) = returns_quiet Ended
-answer_quiet c client (packets.Auth p) = ends_quiet c 130
+does_asked_quiet : (ask : Option Ask) (dropped : Bool) (c : ℕ) (client : List ℕ) (p : Packet) → Quiet (serving.DoesAsked ask dropped c client p)
+does_asked_quiet None dropped c client p = if_quiet dropped passing.Drops (Returns tt) drops_quiet (returns_quiet tt)
+does_asked_quiet (Some (asks.Pass m)) dropped c client p = passes_quiet m
+does_asked_quiet (Some asks.Subscribe) dropped c client p = subscribes_by_quiet c client p
+does_asked_quiet (Some asks.Unsubscribe) dropped c client p = unsubscribes_by_quiet c client p
 
-answer_by_quiet : (c : ℕ) (p : Packet) (client : Option (List ℕ)) → Quiet (AnswerBy c p client)
-answer_by_quiet c p None = first_quiet c p
-answer_by_quiet c p (Some client) = answer_quiet c client p
+does_reaction_quiet : (c : ℕ) (client : List ℕ) (p : Packet) (room : Bool) (r : Reaction) → Quiet (serving.DoesReaction c client p room r)
+does_reaction_quiet c client p room r =
+    let dropped = serving.is_dropped p room r.end in
+    then_quiet (serving.DoesAsked r.ask dropped c client p) (λ _. ending.ClosesAfter r.end c client) (does_asked_quiet r.ask dropped c client p) (λ _. closes_after_quiet r.end c client)
+
+serves_quiet : (c : ℕ) (client : List ℕ) (p : Packet) → Quiet (serving.Serves c client p)
+serves_quiet c client p =
+    looks_quiet (λ place h. serving.room_for p h.store) (serving.ServesIn c client p)
+    (λ room. then_quiet (Calls client (λ at. takes p at room) stays) (serving.DoesReaction c client p room) (calls_quiet client (λ at. takes p at room) stays) (does_reaction_quiet c client p room))
+
+-- ---- CONNECT
+
+refuses_quiet : (c : ℕ) (p : Connect) (code : ℕ) (reference : Option (List ℕ)) → Quiet (connecting.Refuses c p code reference)
+refuses_quiet c p code reference =
+    let packet = refused_packet code reference in
+    let fitting = fits (limit_in p.properties) packet in
+    then_quiet (connecting.SendsIf fitting c packet) (λ _. ending.Closes c) (if_quiet fitting (Sends c packet) (Returns tt) (sends_quiet c packet) (returns_quiet tt)) (λ _. closes_quiet c)
+
+takes_over_from_quiet : (client : List ℕ) (older : Option ℕ) → Quiet (connecting.TakesOverFrom client older)
+takes_over_from_quiet client None = returns_quiet tt
+takes_over_from_quiet client (Some older) =
+    then_quiet (Disconnects older client 142) (λ _. ending.ClosesFor older client) (disconnects_quiet older client 142) (λ _. closes_for_quiet older client)
+
+cleans_quiet : (clean : Bool) (client : List ℕ) → Quiet (connecting.Cleans clean client)
+cleans_quiet false client = returns_quiet tt
+cleans_quiet true client =
+    looks_quiet (λ p h. has_session client h) (λ has. If has (ending.Finishes client) (Returns tt)) (λ has. if_quiet has (ending.Finishes client) (Returns tt) (finishes_quiet client) (returns_quiet tt))
+
+joins_by_quiet : (has : Bool) (c : ℕ) (client : List ℕ) (p : Connect) → Quiet (connecting.JoinsBy has c client p)
+joins_by_quiet true c client p = calls_quiet client (connects p true) (moves c)
+joins_by_quiet false c client p =
+    then_quiet (Acting (λ place h. Session (Begun client))) (λ _. Calls client (connects p false) (moves c)) (acting_quiet (λ place h. Session (Begun client)) (λ place h. refl)) (λ _. calls_quiet client (connects p false) (moves c))
+
+begins_quiet : (c : ℕ) (client : List ℕ) (p : Connect) → Quiet (connecting.Begins c client p)
+begins_quiet c client p =
+    then_quiet (Acting (λ place h. Connection (Accepted c client))) (λ _. Then (connecting.Joins c client p) (λ r. ending.ClosesAfter r.end c client)) (acting_quiet (λ place h. Connection (Accepted c client)) (λ place h. refl))
+    (λ _. then_quiet (connecting.Joins c client p) (λ r. ending.ClosesAfter r.end c client)
+    (looks_quiet (λ place h. has_session client h) (λ has. connecting.JoinsBy has c client p) (λ has. joins_by_quiet has c client p)) (λ r. closes_after_quiet r.end c client))
+
+accepts_quiet : (c : ℕ) (p : Connect) (client : List ℕ) → Quiet (connecting.Accepts c p client)
+accepts_quiet c p client =
+    then_quiet (connecting.TakesOver client) (λ _. Then (connecting.Cleans p.clean_start client) (λ _. connecting.Begins c client p))
+    (looks_quiet (λ place h. connection_at client h) (connecting.TakesOverFrom client) (takes_over_from_quiet client))
+    (λ _. then_quiet (connecting.Cleans p.clean_start client) (λ _. connecting.Begins c client p) (cleans_quiet p.clean_start client) (λ _. begins_quiet c client p))
+
+accepts_as_quiet : (c : ℕ) (p : Connect) (client : List ℕ) → Quiet (connecting.AcceptsAs c p client)
+accepts_as_quiet c p client = where_quiet _ (connecting.Accepts c p client) (connecting.Refuses c p 144 None) (accepts_quiet c p client) (refuses_quiet c p 144 None)
+
+names_by_quiet : (c : ℕ) (p : Connect) (number : Option ℕ) → Quiet (connecting.NamesBy c p number)
+names_by_quiet c p None = stops_quiet
+names_by_quiet c p (Some number) =
+    then_quiet (Acting (λ place h. Named number)) (λ _. Looks (λ place h. automatic place.id number) (connecting.Accepts c p)) (acting_quiet (λ place h. Named number) (λ place h. refl))
+    (λ _. looks_quiet (λ place h. automatic place.id number) (connecting.Accepts c p) (accepts_quiet c p))
+
+comes_home_quiet : (c : ℕ) (p : Connect) (node : ℕ) → Quiet (connecting.ComesHome c p node)
+comes_home_quiet c p node =
+    looks_quiet (λ place h. node == place.id) (λ here. If here (connecting.AcceptsAs c p p.client) (connecting.Refers c p node))
+    (λ here. if_quiet here (connecting.AcceptsAs c p p.client) (connecting.Refers c p node) (accepts_as_quiet c p p.client)
+    (looks_quiet (λ place h. connecting.address_of place node) (λ reference. connecting.Refuses c p 156 reference) (refuses_quiet c p 156)))
+
+connects_at_quiet : (unnamed : Bool) (c : ℕ) (p : Connect) → Quiet (connecting.ConnectsAt unnamed c p)
+connects_at_quiet true c p =
+    where_quiet _ (Finds IsNextNumber (connecting.NamesBy c p)) (connecting.Refuses c p 144 None) (finds_quiet IsNextNumber (connecting.NamesBy c p) (names_by_quiet c p)) (refuses_quiet c p 144 None)
+connects_at_quiet false c p = finds_quiet (λ place h node. IsHome place.homes p.client node) (connecting.ComesHome c p) (comes_home_quiet c p)
+
+connects_by_quiet : (code : Option ℕ) (c : ℕ) (p : Connect) → Quiet (connecting.ConnectsBy code c p)
+connects_by_quiet (Some code) c p = refuses_quiet c p code None
+connects_by_quiet None c p = connects_at_quiet (length p.client == 0) c p
 
 -- ---- pieces
 
-goes_on_quiet : (P : Option Flow → Doing) → Quiet P → (flow : Flow) → Quiet (GoesOn P flow)
-goes_on_quiet P q Open = q
-goes_on_quiet P q Ended = returns_quiet Ended
+first_quiet : (c : ℕ) (p : Packet) → Quiet (pieces.First c p)
+first_quiet c (packets.Connect p) = connects_by_quiet (connecting.refusal p) c p
+first_quiet c (packets.Connack p) = closes_quiet c
+first_quiet c (packets.Publish p) = closes_quiet c
+first_quiet c (packets.Puback p) = closes_quiet c
+first_quiet c (packets.Pubrec p) = closes_quiet c
+first_quiet c (packets.Pubrel p) = closes_quiet c
+first_quiet c (packets.Pubcomp p) = closes_quiet c
+first_quiet c (packets.Subscribe p) = closes_quiet c
+first_quiet c (packets.Suback p) = closes_quiet c
+first_quiet c (packets.Unsubscribe p) = closes_quiet c
+first_quiet c (packets.Unsuback p) = closes_quiet c
+first_quiet c packets.Pingreq = closes_quiet c
+first_quiet c packets.Pingresp = closes_quiet c
+first_quiet c (packets.Disconnect p) = closes_quiet c
+first_quiet c (packets.Auth p) = closes_quiet c
 
-packets_quiet : (c : ℕ) (ps : List Packet) → Quiet (AnsweredInTurn c ps)
-packets_quiet c [] = returns_quiet Open
-packets_quiet c (p ∷ ps) = then_quiet _ _ (looks_quiet _ _ (answer_by_quiet c p)) (goes_on_quiet _ (packets_quiet c ps))
+answers_by_quiet : (c : ℕ) (p : Packet) (client : Option (List ℕ)) → Quiet (pieces.AnswersBy c p client)
+answers_by_quiet c p None = first_quiet c p
+answers_by_quiet c p (Some client) = serves_quiet c client p
 
-closes_quiet : (c : ℕ) → Quiet (Closes c)
-closes_quiet c = then_quiet _ _ (acting_quiet _ (λ id h. refl)) (λ _. acting_quiet _ (λ id h. refl))
+answers_if_open_quiet : (c : ℕ) (p : Packet) → Quiet (pieces.AnswersIfOpen c p)
+answers_if_open_quiet c p =
+    looks_quiet (λ place h. is_open c h) (λ is_there. If is_there (pieces.Answers c p) (Returns tt))
+    (λ is_there. if_quiet is_there (pieces.Answers c p) (Returns tt) (looks_quiet (λ place h. client_at c h) (pieces.AnswersBy c p) (answers_by_quiet c p)) (returns_quiet tt))
 
-code_quiet : (c : ℕ) (packet : ℕ → Packet) (x : Option ℕ) → Quiet (SendsCode c packet x)
-code_quiet c packet None x id h acts p = absurd p
-code_quiet c packet (Some code) x id h acts p = acting_quiet (λ n v. Out (Send c (written (packet code)))) (λ n v. refl) x id h acts p
+sends_refusal_quiet : (c : ℕ) (code : Option ℕ) → Quiet (pieces.SendsRefusal c code)
+sends_refusal_quiet c None x p h acts d = absurd d
+sends_refusal_quiet c (Some code) x p h acts d = sends_quiet c (refused_packet code None) x p h acts d
 
-refuses_quiet : (c : ℕ) (fault : PacketFault) (client : Option (List ℕ)) → Quiet (RefusesBy c fault client)
-refuses_quiet c fault None = looks_quiet _ _ (λ connects. if_quiet connects (SendsCode c refused_packet (connack_code fault)) (Returns tt) (code_quiet c refused_packet (connack_code fault)) (returns_quiet tt))
-refuses_quiet c fault (Some client) = code_quiet c disconnect_packet (disconnect_code fault)
+sends_disconnect_quiet : (c : ℕ) (client : List ℕ) (code : Option ℕ) → Quiet (pieces.SendsDisconnect c client code)
+sends_disconnect_quiet c client None x p h acts d = absurd d
+sends_disconnect_quiet c client (Some code) x p h acts d = disconnects_quiet c client code x p h acts d
 
-ends_by_quiet : (c : ℕ) (fault : Option PacketFault) (flow : Flow) → Quiet (EndsBy c fault flow)
-ends_by_quiet c None Open = returns_quiet tt
-ends_by_quiet c (Some fault) Open = then_quiet _ _ (looks_quiet _ _ (refuses_quiet c fault)) (λ _. closes_quiet c)
-ends_by_quiet c None Ended = closes_quiet c
-ends_by_quiet c (Some fault) Ended = closes_quiet c
+tells_by_quiet : (c : ℕ) (fault : PacketFault) (client : Option (List ℕ)) → Quiet (pieces.TellsBy c fault client)
+tells_by_quiet c fault None =
+    looks_quiet (λ p h. pieces.is_connect (first_at c h)) (λ connects. If connects (pieces.SendsRefusal c (pieces.connack_code fault)) (Returns tt))
+    (λ connects. if_quiet connects (pieces.SendsRefusal c (pieces.connack_code fault)) (Returns tt) (sends_refusal_quiet c (pieces.connack_code fault)) (returns_quiet tt))
+tells_by_quiet c fault (Some client) = sends_disconnect_quiet c client (pieces.disconnect_code fault)
 
-piece_quiet : (c : ℕ) (piece : List ℕ) (x : Option ConnectionView) → Quiet (PieceAt c piece x)
-piece_quiet c piece None = returns_quiet tt
-piece_quiet c piece (Some found) =
+breaks_quiet : (c : ℕ) (fault : PacketFault) → Quiet (pieces.Breaks c fault)
+breaks_quiet c fault =
+    looks_quiet (λ p h. client_at c h) (pieces.BreaksBy c fault) (λ client. then_quiet (pieces.TellsBy c fault client) (λ _. ending.ClosesBy c client) (tells_by_quiet c fault client) (λ _. closes_by_quiet c client))
+
+breaks_if_open_quiet : (c : ℕ) (fault : Option PacketFault) → Quiet (pieces.BreaksIfOpen c fault)
+breaks_if_open_quiet c None = returns_quiet tt
+breaks_if_open_quiet c (Some fault) =
+    looks_quiet (λ p h. is_open c h) (λ is_there. If is_there (pieces.Breaks c fault) (Returns tt)) (λ is_there. if_quiet is_there (pieces.Breaks c fault) (Returns tt) (breaks_quiet c fault) (returns_quiet tt))
+
+piece_at_quiet : (c : ℕ) (piece : List ℕ) (x : Option ConnectionView) → Quiet (pieces.PieceAt c piece x)
+piece_at_quiet c piece None = returns_quiet tt
+piece_at_quiet c piece (Some found) =
     let ps = (cut_of found.stream piece).packets in
     let fault = (cut_of found.stream piece).fault in
-    if_quiet found.stream.failed (Closes c) (Feeds c piece found) (closes_quiet c)
-    (then_quiet (Acting (λ id h. Connection (Fed c piece))) (λ _. TakesPackets c ps fault) (acting_quiet (λ id h. Connection (Fed c piece)) (λ id h. refl))
-    (λ _. then_quiet (AnsweredInTurn c ps) (EndsBy c fault) (packets_quiet c ps) (ends_by_quiet c fault)))
+    if_quiet found.stream.failed (pieces.Shuts c) (pieces.Feeds c piece found) (looks_quiet (λ p h. client_at c h) (ending.ClosesBy c) (closes_by_quiet c))
+    (then_quiet (Acting (λ p h. Connection (Fed c piece))) (λ _. pieces.Takes c ps fault) (acting_quiet (λ p h. Connection (Fed c piece)) (λ p h. refl))
+    (λ _. then_quiet (Each (pieces.AnswersIfOpen c) ps) (λ _. pieces.BreaksIfOpen c fault) (each_quiet (pieces.AnswersIfOpen c) (answers_if_open_quiet c) ps) (λ _. breaks_if_open_quiet c fault)))
+
+parts_by_quiet : (client : Option (List ℕ)) → Quiet (pieces.PartsBy client)
+parts_by_quiet None = returns_quiet tt
+parts_by_quiet (Some client) = parts_quiet client
+
+leaves_by_quiet : (c : ℕ) (client : Option (List ℕ)) → Quiet (pieces.LeavesBy c client)
+leaves_by_quiet c client =
+    then_quiet (Acting (λ p h. Connection (Closed c))) (λ _. pieces.PartsBy client) (acting_quiet (λ p h. Connection (Closed c)) (λ p h. refl)) (λ _. parts_by_quiet client)
+
+leaves_quiet : (c : ℕ) → Quiet (pieces.Leaves c)
+leaves_quiet c =
+    looks_quiet (λ p h. is_open c h) (λ is_there. If is_there (Looks (λ p h. client_at c h) (pieces.LeavesBy c)) (Returns tt))
+    (λ is_there. if_quiet is_there (Looks (λ p h. client_at c h) (pieces.LeavesBy c)) (Returns tt) (looks_quiet (λ p h. client_at c h) (pieces.LeavesBy c) (leaves_by_quiet c)) (returns_quiet tt))
+
+-- ---- what is due
+
+parts_from_quiet : (client : List ℕ) → Quiet (PartsFrom client)
+parts_from_quiet client = then_quiet (Calls client closes leaves) (λ _. Returns tt) (calls_quiet client closes leaves) (λ _. returns_quiet tt)
+
+runs_out_quiet : (d : ℕ × List ℕ) → Quiet (RunsOut d)
+runs_out_quiet d =
+    then_quiet (Calls d.1 ticks stays) (λ _. Then (ending.Closes d.0) (λ _. PartsFrom d.1)) (calls_quiet d.1 ticks stays)
+    (λ _. then_quiet (ending.Closes d.0) (λ _. PartsFrom d.1) (closes_quiet d.0) (λ _. parts_from_quiet d.1))
+
+does_due_quiet : Quiet DoesDue
+does_due_quiet =
+    then_quiet EndsConnections (λ _. Then PublishesWills (λ _. EndsSessions)) (looks_quiet (λ p h. run_outs h.sessions h.at) (Each RunsOut) (each_quiet RunsOut runs_out_quiet))
+    (λ _. then_quiet PublishesWills (λ _. EndsSessions) (looks_quiet (λ p h. wills_due h.sessions h.at) (Each TicksOf) (each_quiet TicksOf (λ d. ticks_quiet d.1)))
+    (λ _. looks_quiet (λ p h. ends_due h.sessions h.at) (Each TicksOf) (each_quiet TicksOf (λ d. ticks_quiet d.1))))
+
+starts_quiet : Quiet Starts
+starts_quiet =
+    then_quiet (Acting (λ p h. Began)) (λ _. Then ClosesStored (λ _. DoesDue)) (acting_quiet (λ p h. Began) (λ p h. refl))
+    (λ _. then_quiet ClosesStored (λ _. DoesDue) (looks_quiet (λ p h. connected h.sessions) (Each PartsFrom) (each_quiet PartsFrom parts_from_quiet)) (λ _. does_due_quiet))
 
 -- ---- events: what one merges is what it brings
 
 -- work that comes to something merges these states
-abbrev Brings : (Option (Unit {0}) → Doing) → (ℕ → List State) → Type 0
-Brings P states = (id : ℕ) (h : HeldView) (acts : List Act) → P (Some tt) id h acts → gather merge_in acts ≡ states id
+abbrev Brings : (Option (Unit {0}) → Doing) → (Place → List State) → Type 0
+Brings P states = (p : Place) (h : HeldView) (acts : List Act) → P (Some tt) p h acts → gather merge_in acts ≡ states p
 
-quiet_brings : (P : Option (Unit {0}) → Doing) → Quiet P → Brings P (λ id. [])
-quiet_brings P q id h acts p = q (Some tt) id h acts p
+quiet_brings : (P : Option (Unit {0}) → Doing) → Quiet P → Brings P (λ p. [])
+quiet_brings P q p h acts d = q (Some tt) p h acts d
 
-takes_brings : (from : ℕ) (b : FrameBody) → Brings (Takes from b) (λ id. states_in b)
-takes_brings from (Delta s) id h acts (inl a) = let z : Some tt ≡ None = a.0 in cc
-takes_brings from (Delta s) id h acts (inr a) =
-    ap (gather merge_in) (a.7 ∙ (λ i. a.4.1 i ++ a.6.1 i))
-takes_brings from (Know dots) id h acts p = ap (gather merge_in) p.1
+takes_brings : (from : ℕ) (b : FrameBody) → Brings (Takes from b) (λ p. states_in b)
+takes_brings from (Delta s) p h acts (inl a) = let z : Some tt ≡ None = a.0 in cc
+takes_brings from (Delta s) p h acts (inr a) = ap (gather merge_in) (a.7 ∙ (λ i. a.4.1 i ++ a.6.1 i))
+takes_brings from (Know dots) p h acts d = ap (gather merge_in) d.1
 
-hears_by : (b : Bool) (from : ℕ) (body : FrameBody) (id : ℕ) (h : HeldView) (acts : List Act) → If b (Takes from body) (Returns tt) (Some tt) id h acts → gather merge_in acts ≡ cond b (states_in body) []
-hears_by true from body id h acts p = takes_brings from body id h acts p
-hears_by false from body id h acts p = ap (gather merge_in) p.1
+hears_by : (b : Bool) (from : ℕ) (body : FrameBody) (p : Place) (h : HeldView) (acts : List Act) → If b (Takes from body) (Returns tt) (Some tt) p h acts → gather merge_in acts ≡ cond b (states_in body) []
+hears_by true from body p h acts d = takes_brings from body p h acts d
+hears_by false from body p h acts d = ap (gather merge_in) d.1
 
-answers_bring : (nodes : ℕ) (kind : EventKind) → Brings (Answers nodes kind) (λ id. brought id nodes kind)
-answers_bring nodes kinds.Started id h acts p = ap (gather merge_in) p.1
-answers_bring nodes (kinds.Opened connection) id h acts p = quiet_brings (Opens connection) (looks_quiet (λ n v. is_open connection v) (λ is. If is (Returns tt) (Acting (λ n v. Connection (Opened connection)))) (λ is. if_quiet is (Returns tt) (Acting (λ id h. Connection (Opened connection))) (returns_quiet tt) (acting_quiet (λ id h. Connection (Opened connection)) (λ id h. refl)))) id h acts p
-answers_bring nodes (kinds.Piece connection bytes) id h acts p = quiet_brings (Piece connection bytes) (looks_quiet (λ n v. map.get v.connections connection) (PieceAt connection bytes) (piece_quiet connection bytes)) id h acts p
-answers_bring nodes (kinds.Frame frame) id h acts p = hears_by (is_for id nodes frame) frame.from frame.body id h acts p
-answers_bring nodes (kinds.Ship peer) id h acts p = quiet_brings (Ships nodes peer) (looks_quiet (λ n v. is_other n nodes peer) (λ other. If other (Gives peer (λ v. Delta v.store)) (Returns tt)) (λ other. if_quiet other (Gives peer (λ h. Delta h.store)) (Returns tt) (acting_quiet (λ id h. Out (Release (record { from = id; to = peer; body = Delta h.store }))) (λ id h. refl)) (returns_quiet tt))) id h acts p
-answers_bring nodes (kinds.Evict client) id h acts p = quiet_brings (Evicts client) (then_quiet (Removes client None) (λ _. Returns tt) (removes_quiet client None) (λ _. returns_quiet tt)) id h acts p
+ships_quiet : (peer : ℕ) → Quiet (Ships peer)
+ships_quiet peer =
+    looks_quiet (λ p h. is_other p peer) (λ other. If other (Gives peer (λ h. Delta h.store)) (Returns tt))
+    (λ other. if_quiet other (Gives peer (λ h. Delta h.store)) (Returns tt) (acting_quiet (λ p h. Out (Release (record { from = p.id; to = peer; body = Delta h.store }))) (λ p h. refl)) (returns_quiet tt))
 
-first_turn_quiet : (kind : EventKind) → Quiet (FirstTurn kind)
-first_turn_quiet kinds.Started = acting_quiet _ (λ id h. refl)
+answers_bring : (kind : EventKind) → Brings (Answers kind) (λ p. brought p kind)
+answers_bring kinds.Started p h acts d = ap (gather merge_in) d.1
+answers_bring (kinds.Opened connection) p h acts d = quiet_brings (Opens connection) (opens_quiet connection) p h acts d
+answers_bring (kinds.Piece connection bytes) p h acts d =
+    quiet_brings (pieces.Piece connection bytes) (looks_quiet (λ n v. map.get v.connections connection) (pieces.PieceAt connection bytes) (piece_at_quiet connection bytes)) p h acts d
+answers_bring (kinds.Closed connection) p h acts d = quiet_brings (pieces.Leaves connection) (leaves_quiet connection) p h acts d
+answers_bring (kinds.Frame frame) p h acts d = hears_by (is_for p frame) frame.from frame.body p h acts d
+answers_bring (kinds.Ship peer) p h acts d = quiet_brings (Ships peer) (ships_quiet peer) p h acts d
+answers_bring kinds.Tick p h acts d = ap (gather merge_in) d.1
+answers_bring (kinds.Evict client) p h acts d = quiet_brings (Evicts client) (then_quiet (Removes client None) (λ _. Returns tt) (removes_quiet client None) (λ _. returns_quiet tt)) p h acts d
+
+due_brings : (kind : EventKind) → Brings (Then DoesDue (λ _. Answers kind)) (λ p. brought p kind)
+due_brings kind p h acts (inl d) = let z : Some tt ≡ None = d.0 in cc
+due_brings kind p h acts (inr d) =
+    ap (gather merge_in) d.7 ∙ gather-append merge_in d.1 d.3 ∙ (λ i. does_due_quiet (Some d.0) p h d.1 d.4 i ++ answers_bring kind p d.2 d.3 d.6 i)
+
+goes_bring : (kind : EventKind) → Brings (GoesOn kind) (λ p. brought p kind)
+goes_bring kinds.Started p h acts d = ap (gather merge_in) d.1
+goes_bring (kinds.Opened connection) p h acts d = due_brings (kinds.Opened connection) p h acts d
+goes_bring (kinds.Piece connection bytes) p h acts d = due_brings (kinds.Piece connection bytes) p h acts d
+goes_bring (kinds.Closed connection) p h acts d = due_brings (kinds.Closed connection) p h acts d
+goes_bring (kinds.Frame frame) p h acts d = due_brings (kinds.Frame frame) p h acts d
+goes_bring (kinds.Ship peer) p h acts d = due_brings (kinds.Ship peer) p h acts d
+goes_bring kinds.Tick p h acts d = due_brings kinds.Tick p h acts d
+goes_bring (kinds.Evict client) p h acts d = due_brings (kinds.Evict client) p h acts d
+
+first_turn_quiet : (kind : EventKind) → Quiet (First kind)
+first_turn_quiet kinds.Started = starts_quiet
 first_turn_quiet (kinds.Opened connection) = returns_quiet tt
 first_turn_quiet (kinds.Piece connection bytes) = returns_quiet tt
+first_turn_quiet (kinds.Closed connection) = returns_quiet tt
 first_turn_quiet (kinds.Frame frame) = returns_quiet tt
 first_turn_quiet (kinds.Ship peer) = returns_quiet tt
+first_turn_quiet kinds.Tick = returns_quiet tt
 first_turn_quiet (kinds.Evict client) = returns_quiet tt
 
-pub turn_brings : (b : Bool) (nodes : ℕ) (kind : EventKind) (id : ℕ) (h : HeldView) (acts : List Act) → cond b (Answers nodes kind (Some tt) id h acts) (FirstTurn kind (Some tt) id h acts) → gather merge_in acts ≡ cond b (brought id nodes kind) []
-turn_brings true nodes kind id h acts p = answers_bring nodes kind id h acts p
-turn_brings false nodes kind id h acts p = first_turn_quiet kind (Some tt) id h acts p
+pub turn_brings : (b : Bool) (kind : EventKind) (p : Place) (h : HeldView) (acts : List Act) → cond b (GoesOn kind (Some tt) p h acts) (First kind (Some tt) p h acts) → gather merge_in acts ≡ cond b (brought p kind) []
+turn_brings true kind p h acts d = goes_bring kind p h acts d
+turn_brings false kind p h acts d = first_turn_quiet kind (Some tt) p h acts d

@@ -1,12 +1,6 @@
-pub mod Acts
-pub mod Clients
-pub mod Frames
-pub mod Held
-pub mod Idle
-pub mod Names
-pub mod Offers
-pub mod Packets
-pub mod Step
+-- What a node makes of each event.
+pub mod Due
+pub mod Bridge
 pub mod Turns
-pub mod View
-pub mod Working
+pub mod Idle
+pub mod Step

@@ -1,8 +1,8 @@
 //! What happens at a node.
 
-use crate::frame::Frame;
 use mqtt_fields::Text;
 use mqtt_packets::Bytes;
+use node_work::Frame;
 
 /// Something that happens at a node, at a moment in milliseconds.
 #[derive(Drop)]
@@ -20,10 +20,14 @@ pub enum EventKind {
     Opened { connection: u64 },
     /// Bytes came on a connection.
     Piece { connection: u64, bytes: Bytes },
+    /// A client has closed its connection.
+    Closed { connection: u64 },
     /// A frame came from another node.
     Frame { frame: Frame },
     /// The node is to send what it holds to another node.
     Ship { peer: u16 },
+    /// Time has passed: what is due is done.
+    Tick,
     /// A client's subscriptions are to be removed.
     Evict { client: Text },
 }

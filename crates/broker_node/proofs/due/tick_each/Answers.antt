@@ -1,0 +1,15 @@
+use Rattle.broker_node.specs.Due.{TicksOf}
+use Rattle.node_work.specs.Working.{Each}
+use Rattle.node_work.proofs.Working.{each_stops}
+use Rattle.broker_node.proofs.Turning.{stands_next}
+use Rattle.broker_node.proofs.due.tick_each.Goals as goal
+
+pub returns-in_err-tick-clause-comes : goal.returns-in_err-tick-clause-comes
+returns-in_err-tick-clause-comes c =
+    let x = c.due-item.result in
+    each_stops TicksOf (λ x. x) (λ x. x) c.args.work.now c.loop-due.work c.tick.new.work (Each TicksOf c.args.dues.now) c.args.dues.now c.loop-due.due-index x x c.loop-due-test.true c.due-item.is c.loop-due.invariant.1
+    c.from_residual.result c.in_err-tick.field-0.0 c.from_residual.ensures.1 c.in_err-tick.ensures
+
+pub loop-due-preserved : goal.loop-due-preserved
+loop-due-preserved c =
+    stands_next TicksOf c.args.dues.now c.loop-due.due-index c.due-item.result c.args.work.now c.loop-due.work c.tick.new.work c.loop-due-test.true c.due-item.is c.loop-due.invariant c.in_ok-tick.ensures

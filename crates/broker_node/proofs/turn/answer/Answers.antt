@@ -1,0 +1,12 @@
+use Rattle.std.proofs.Common.{sym, subst}
+use Rattle.node_clients.specs.Pieces.{Piece}
+use Rattle.node_work.specs.Working.{Comes}
+use Rattle.broker_node.specs.Turns.{Answers}
+use Rattle.broker_node.proofs.turn.answer.Goals as goal
+
+pub returns-in-Piece-clause-comes : goal.returns-in-Piece-clause-comes
+returns-in-Piece-clause-comes c =
+    let w = c.args.work.now in
+    let m = c.take_piece.new.work in
+    subst (λ k. Comes (λ x. x) c.take_piece.result w m (Answers k)) (sym c.in-Piece.is)
+    (subst (λ bytes. Comes (λ x. x) c.take_piece.result w m (Piece c.in-Piece.connection bytes)) c.as_slice.ensures c.take_piece.ensures.comes)

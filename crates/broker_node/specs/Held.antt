@@ -1,4 +1,0 @@
--- What is done to what a node holds.
-pub mod Connections
-pub mod Feeding
-pub mod Making
