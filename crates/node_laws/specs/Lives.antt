@@ -1,0 +1,57 @@
+-- The calls of each session of a node, read off the node's acts.
+use Rattle.std.specs.Prelude.{◌≡◌, ℕ, Bool, cond, List, [], ◌∷◌, ◌++◌, Some}
+use Rattle.std.specs.Cmp.Lexicographic.{slice_cmp}
+use Rattle.std.specs.FinMap as map
+use Rattle.std.specs.Ordering.{eq_by_cmp, nat_cmp}
+use Rattle.mqtt_sessions.specs.State.{new_session}
+use Rattle.session_laws.specs.Runs.{Step, Run}
+use Rattle.session_table.specs.Seats.{Seat}
+use Rattle.node_work.specs.Acts.{Act, Moment, Began, Store, Connection, Session, Out, Named, Acknowledged, Passed, Dropped, Runs}
+use Rattle.node_work.specs.Held.Sessions.{SessionAct, SessionStep, Begun, Called, Over}
+use Rattle.node_work.specs.View.{Place, HeldView, fresh}
+
+-- clients are told apart by the bytes of their identifiers
+abbrev pub is_client : List ℕ → List ℕ → Bool
+is_client client other = eq_by_cmp (slice_cmp nat_cmp) client other
+
+-- a call is an event of its session, with the reaction
+abbrev pub step_in : SessionStep → Step
+step_in s = record { event = s.event; reaction = s.reaction }
+
+-- the calls of a client's session after an act, which go on from those given; a session that begins or is over has none
+abbrev pub after_call : List ℕ → SessionAct → List Step → List Step
+after_call client (Begun other) given = cond (is_client client other) [] given
+after_call client (Called s) given = cond (is_client client s.client) (given ++ step_in s ∷ []) given
+after_call client (Over other) given = cond (is_client client other) [] given
+
+abbrev pub after_act : List ℕ → Act → List Step → List Step
+after_act client (Moment at) given = given
+after_act client Began given = given
+after_act client (Store a) given = given
+after_act client (Connection a) given = given
+after_act client (Session a) given = after_call client a given
+after_act client (Out o) given = given
+after_act client (Named number) given = given
+after_act client (Acknowledged other packet at grants offers) given = given
+after_act client (Passed m copies lost) given = given
+after_act client Dropped given = given
+
+-- the calls of the client's session since it last began, in order
+abbrev pub life : List ℕ → List Act → List Step → List Step
+life client [] given = given
+life client (a ∷ acts) given = life client acts (after_act client a given)
+
+-- each session is what its calls make of a new one
+abbrev pub IsLived : (List ℕ → List Step) → HeldView → Type 0
+IsLived lives h = (client : List ℕ) (seat : Seat) → map.get h.sessions client ≡ Some seat → Run (new_session client) (lives client) seat.session
+
+abbrev pub ActsAreLives : Type 0
+ActsAreLives = (p : Place) (h h' : HeldView) (acts : List Act) (lives : List ℕ → List Step) → Runs p h acts h' → IsLived lives h → IsLived (λ client. life client acts (lives client)) h'
+
+abbrev pub FreshIsLived : Type 0
+FreshIsLived = IsLived (λ client. []) fresh
+
+abbrev pub SessionsAreRuns : Type 0
+SessionsAreRuns =
+    (p : Place) (h : HeldView) (acts : List Act) → Runs p fresh acts h → (client : List ℕ) (seat : Seat) → map.get h.sessions client ≡ Some seat
+    → Run (new_session client) (life client acts []) seat.session
