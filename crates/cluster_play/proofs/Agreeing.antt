@@ -11,9 +11,9 @@ use Rattle.replica_store.specs.States.{State}
 use Rattle.replica_store.specs.StateOf.{IsStateOf}
 use Rattle.replica_store.proofs.Answered.{one_answer}
 use Rattle.replica_store.proofs.Deltas.{one_state}
-use Rattle.broker_node.specs.declared.frame.Frame.{Frame}
-use Rattle.broker_node.specs.declared.frame.FrameBody.TheVariants.{Delta}
-use Rattle.broker_node.specs.View.{HeldView}
+use Rattle.node_work.specs.declared.frame.Frame.{Frame}
+use Rattle.node_work.specs.declared.frame.FrameBody.TheVariants.{Delta}
+use Rattle.node_work.specs.View.{HeldView}
 use Rattle.cluster_play.specs.Worlds.{World, numbered}
 use Rattle.cluster_play.specs.Runs.{Moment}
 use Rattle.cluster_play.specs.Histories.{Reached, made, taken, operations}

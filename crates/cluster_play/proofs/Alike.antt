@@ -8,7 +8,7 @@ use Rattle.replica_store.specs.States.{State}
 use Rattle.replica_store.specs.StateOf.{IsStateOf}
 use Rattle.replica_store.proofs.Deltas.{one_state}
 use Rattle.replica_store.proofs.Unions.{among_left, among_right, among_cases}
-use Rattle.broker_node.specs.Acts.{Act, gather, op_in}
+use Rattle.node_work.specs.Acts.{Act, gather, op_in}
 use Rattle.cluster_play.specs.Worlds.{World}
 use Rattle.cluster_play.specs.Runs.{Moment}
 use Rattle.cluster_play.specs.Histories.{Reached, site, acts_of, ops_of, made, taken_amid, operations_amid}

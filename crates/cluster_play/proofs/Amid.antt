@@ -6,9 +6,9 @@ use Rattle.replica_store.specs.declared.operation.Operation.{Operation}
 use Rattle.replica_store.specs.States.{State}
 use Rattle.replica_store.specs.StateOf.{IsStateOf}
 use Rattle.broker_node.specs.declared.event.Event.{Event}
-use Rattle.broker_node.specs.declared.outcome.Output.{Output}
-use Rattle.broker_node.specs.Acts.{Act, Runs, gather, op_in, merge_in}
-use Rattle.broker_node.specs.View.{HeldView}
+use Rattle.node_work.specs.declared.outcome.Output.{Output}
+use Rattle.node_work.specs.Acts.{Act, Runs, gather, op_in, merge_in}
+use Rattle.node_work.specs.View.{Place, HeldView}
 use Rattle.cluster_play.specs.Worlds.{World, Released, Happens}
 use Rattle.cluster_play.specs.Runs.{Moment}
 use Rattle.cluster_play.specs.Histories.{Reached, site, acts_of, made, gained, gain_in, gains, taken, taken_amid, operations_amid, latest, moment_amid}
@@ -33,9 +33,9 @@ pub front : (ms : List Operation) (xs ys : List State) → AllSound ms (xs ++ ys
 front ms [] ys a = tt
 front ms (x ∷ xs) ys a = (a.0, front ms xs ys a.1)
 
-runs_split : (id : ℕ) (xs ys : List Act) (h h' : HeldView) → Runs id h (xs ++ ys) h' → (mid : HeldView) × Runs id h xs mid × Runs id mid ys h'
-runs_split id [] ys h h' r = (h, refl, r)
-runs_split id (x ∷ xs) ys h h' r = let s = runs_split id xs ys r.0 h' r.2 in (s.0, (r.0, r.1, s.1), s.2)
+pub runs_split : (p : Place) (xs ys : List Act) (h h' : HeldView) → Runs p h (xs ++ ys) h' → (mid : HeldView) × Runs p h xs mid × Runs p mid ys h'
+runs_split p [] ys h h' r = (h, refl, r)
+runs_split p (x ∷ xs) ys h h' r = let s = runs_split p xs ys r.0 h' r.2 in (s.0, (r.0, r.1, s.1), s.2)
 
 -- what node i holds after some acts of a step that comes after a run
 pub record Amid (run : List Moment) (w : World) (i : ℕ) (before rest : List Act) : Type 0 where
@@ -44,7 +44,9 @@ pub record Amid (run : List Moment) (w : World) (i : ℕ) (before rest : List Ac
   pub last : HeldView
   pub grown : Grown i (made run ++ gather op_in before) held.store
   pub listed : (d : Dot) → set.contains held.store.taken d ≡ taken_amid i run before d
-  pub runs : Runs i held rest last
+  pub place : Place
+  pub id : place.id ≡ i
+  pub runs : Runs place held rest last
   pub moment : held.at ≡ moment_amid i run before
 
 amid : (run later : List Moment) (m : Moment) (w : World) → Reached (run ++ m ∷ later) w
@@ -56,8 +58,8 @@ amid run later m w r i e before rest outputs fate =
     let known = known_event half.mid m.step i e (before ++ rest) outputs half.path.0 half.honest.0 happens in
     let x = explained run half.mid half.reached in
     let here = x.sites i c.node c.at in
-    let parts = runs_split c.node.id before rest c.before c.after c.steps.runs in
-    let all = all_merged (made run) half.mid.frames x.deltas c.node.id c.node.nodes c.before c.after e (before ++ rest) outputs known c.steps in
+    let parts = runs_split c.node.place before rest c.before c.after c.steps.runs in
+    let all = all_merged (made run) half.mid.frames x.deltas c.node.place c.before c.after e (before ++ rest) outputs known c.steps in
     let g = site_grows (made run) (λ j d. taken j run d) half.mid i c.node x c.at c.before parts.0 before c.up parts.1 (front (made run) (gather merge_in before) (gather merge_in rest) (subst (AllSound (made run)) (gather_both merge_in before rest) all)) in
     record {
       within = subst (λ n. i < n) (sym (run_sites (m ∷ later) half.mid w half.path)) (get_within half.mid.sites i c.node c.at);
@@ -65,8 +67,10 @@ amid run later m w r i e before rest outputs fate =
       last = c.after;
       grown = g.grown;
       listed = λ d. g.takes d ∙ ap (λ b. b || gained before d) ((here.up c.before c.up).listed d);
-      runs = subst (λ n. Runs n parts.0 rest c.after) here.id parts.2;
-      moment = runs_moment c.node.id before c.before parts.0 parts.1 ∙ ap (λ t. max t (latest before)) (at_moment run half.mid half.reached i c.node c.at c.before c.up);
+      place = c.node.place;
+      id = here.id;
+      runs = parts.2;
+      moment = runs_moment c.node.place before c.before parts.0 parts.1 ∙ ap (λ t. max t (latest before)) (at_moment run half.mid half.reached i c.node c.at c.before c.up);
     }
 
 pub amid_acts : (run later : List Moment) (m : Moment) (w : World) → Reached (run ++ m ∷ later) w → (before rest : List Act) (a : Act) → acts_of m.fate ≡ before ++ a ∷ rest → Amid run w (site m.fate) before (a ∷ rest)

@@ -1,5 +1,5 @@
 -- What the steps of a run make, and what a delivered frame brings.
-use Rattle.std.proofs.Common.{◌≡◌, ◌≢◌, ℕ, ◌<◌, Bool, true, false, not, cond, ◌||◌, ◌&&◌, nat_eq, nat_lt, List, [], ◌∷◌, ◌++◌, Some, refl, sym, ap, ◌∙◌, inl, inr, subst, eq-eqb, lt-ltb, length}
+use Rattle.std.proofs.Common.{◌≡◌, ◌≢◌, ◌<◌, Bool, true, false, not, cond, ◌||◌, ◌&&◌, nat_eq, nat_lt, List, [], ◌∷◌, ◌++◌, Some, refl, sym, ap, ◌∙◌, inl, inr, subst, eq-eqb, lt-ltb, length}
 use Rattle.std.specs.List.{slice_get}
 use Rattle.std.specs.FinSet as set
 use Rattle.causal_context.specs.Dots.{Dot}
@@ -7,12 +7,13 @@ use Rattle.replica_store.specs.declared.operation.Operation.{Operation}
 use Rattle.replica_store.specs.Operations.{dot_of, HaveOwnDots}
 use Rattle.replica_store.specs.States.{State}
 use Rattle.broker_node.specs.declared.event.EventKind.TheVariants as kinds
-use Rattle.broker_node.specs.declared.frame.Frame.{Frame}
-use Rattle.broker_node.specs.declared.frame.FrameBody.TheVariants.{Delta}
-use Rattle.broker_node.specs.declared.outcome.Output.TheVariants.{Frame as Release}
-use Rattle.broker_node.specs.Acts.{Act, Moment as TakesMoment, Began, Store, Connection, Out, Acknowledged, Made, Merged, gather, merge_in}
-use Rattle.broker_node.specs.Step.{brought, states_in}
-use Rattle.broker_node.specs.View.{NodeView}
+use Rattle.node_work.specs.declared.frame.Frame.{Frame}
+use Rattle.node_work.specs.declared.frame.FrameBody.TheVariants.{Delta}
+use Rattle.node_work.specs.declared.outcome.Output.TheVariants.{Frame as Release}
+use Rattle.node_work.specs.Acts.{Act, Moment as TakesMoment, Began, Store, Connection, Session, Out, Named, Acknowledged, Passed, Dropped, Made, Merged, IsMade, gather, merge_in}
+use Rattle.broker_node.specs.Step.{brought}
+use Rattle.node_work.specs.Frames.{states_in}
+use Rattle.node_work.specs.View.{Place, NodeView, nodes_of}
 use Rattle.cluster_play.specs.Worlds.{World, Happens}
 use Rattle.cluster_play.specs.Runs.{Moment}
 use Rattle.cluster_play.specs.Histories.{Reached, site, acts_of, gained, gain_in, gains, taken, taken_amid, operations_amid, same_dot}
@@ -37,7 +38,7 @@ operations_of_a_step run later m w r before after o h =
     let a = amid_acts run later m w r before after (Store (Made o)) h in
     let own : HaveOwnDots (operations_amid i run before) = own_some _ (λ p. taken_amid i run before (dot_of p)) a.grown.own_dots in
     let gain : gained (acts_of m.fate) (dot_of o) ≡ true = ap (λ acts. gained acts (dot_of o)) h ∙ gained_here before after (Store (Made o)) (dot_of o) (dot_same (dot_of o) (dot_of o) refl) in (
-      next_operation i (operations_amid i run before) a.held.store own (amid_state run w i before (Store (Made o) ∷ after) a) o a.runs.1.0,
+      next_operation i (operations_amid i run before) a.held.store own (amid_state run w i before (Store (Made o) ∷ after) a) o (subst (λ j. IsMade j a.held.store o) a.id a.runs.1.0),
       taken_step run later m (dot_of o) (or_right (taken i run (dot_of o)) _ gain),
     )
 
@@ -47,7 +48,7 @@ pub sent_lists : (run later : List Moment) (m : Moment) (w : World) → Reached 
 sent_lists run later m w r before f s =
     let a = amid_acts run later m w r before s.after (Out (Release f)) s.acts in
     let is : s.state ≡ a.held.store = carried a.held.store s.state f.body a.runs.1.0.1 s.is_delta in
-    (a.runs.1.0.0, a.within, λ d. ap (λ (t : State). set.contains t.taken d) is ∙ a.listed d)
+    (a.runs.1.0.0 ∙ a.id, a.within, λ d. ap (λ (t : State). set.contains t.taken d) is ∙ a.listed d)
 
 -- some state lists the dot
 abbrev pub any_lists : List State → Dot → Bool
@@ -64,14 +65,18 @@ merges_gain (Store (Merged t) ∷ acts) d h = elim (or_true (set.contains t.take
   | inr b ↦ or_right (set.contains t.taken d) (gained acts d) (merges_gain acts d b)
 ]
 merges_gain (Connection a ∷ acts) d h = merges_gain acts d h
+merges_gain (Session a ∷ acts) d h = merges_gain acts d h
 merges_gain (Out o ∷ acts) d h = merges_gain acts d h
-merges_gain (Acknowledged c packet at grants offers ∷ acts) d h = merges_gain acts d h
+merges_gain (Named number ∷ acts) d h = merges_gain acts d h
+merges_gain (Acknowledged client packet at grants offers ∷ acts) d h = merges_gain acts d h
+merges_gain (Passed m copies lost ∷ acts) d h = merges_gain acts d h
+merges_gain (Dropped ∷ acts) d h = merges_gain acts d h
 
 -- a frame for this node from another one brings its state
-frame_brings : (id nodes : ℕ) (f : Frame) (t : State) → f.to ≡ id → f.from ≢ id → f.from < nodes → f.body ≡ Delta t → brought id nodes (kinds.Frame f) ≡ t ∷ []
-frame_brings id nodes f t to from below is =
-    (λ n. cond (nat_eq f.to id && not (nat_eq f.from id) && nat_lt f.from nodes) (states_in (is n)) [])
-    ∙ (λ n. cond (eq-eqb f.to id to n && not (nat_other f.from id from n) && lt-ltb f.from nodes below n) (t ∷ []) [])
+frame_brings : (p : Place) (f : Frame) (t : State) → f.to ≡ p.id → f.from ≢ p.id → f.from < nodes_of p → f.body ≡ Delta t → brought p (kinds.Frame f) ≡ t ∷ []
+frame_brings p f t to from below is =
+    (λ n. cond (nat_eq f.to p.id && not (nat_eq f.from p.id) && nat_lt f.from (nodes_of p)) (states_in (is n)) [])
+    ∙ (λ n. cond (eq-eqb f.to p.id to n && not (nat_other f.from p.id from n) && lt-ltb f.from (nodes_of p) below n) (t ∷ []) [])
 
 -- the frame comes to another node than the one that sent it
 module _ (run : List Moment) (w w' : World) (r : Reached run w) (m : Moment) (f : Frame) (a : Arrives w f m w') (t : State) (is : f.body ≡ Delta t) where
@@ -87,8 +92,8 @@ module _ (run : List Moment) (w w' : World) (r : Reached run w) (m : Moment) (f 
       let same_node : here.node ≡ a.holds.node = some_is (sym at ∙ a.holds.at) in
       let same_held : here.before ≡ a.held = some_is (sym here.up ∙ ap (λ (v : NodeView). v.up) same_node ∙ a.holds.up) in
       let merges : gather merge_in (acts_of m.fate) ≡ t ∷ [] =
-      here.steps.merged ∙ (λ n. cond (same_held n).started (brought here.node.id here.node.nodes (a.brings n)) []) ∙ ap (λ b. cond b (brought here.node.id here.node.nodes (kinds.Frame f)) []) a.started
-      ∙ frame_brings here.node.id here.node.nodes f t (sym there.id) (λ e. other (e ∙ there.id)) (subst (λ n. f.from < n) (sym there.nodes) below) is in
+      here.steps.merged ∙ (λ n. cond (same_held n).started (brought here.node.place (a.brings n)) []) ∙ ap (λ b. cond b (brought here.node.place (kinds.Frame f)) []) a.started
+      ∙ frame_brings here.node.place f t (sym there.id) (λ e. other (e ∙ there.id)) (subst (λ n. f.from < n) (sym there.count) below) is in
       merges_gain (acts_of m.fate) d (ap (λ ts. any_lists ts d) merges ∙ or_left (set.contains t.taken d) false listed)
 
 pub catch_up : (run amid later : List Moment) (m arrival : Moment) (w w' : World) → Reached (run ++ m ∷ amid) w

@@ -1,25 +1,27 @@
 -- What the acts of a step do to the operations that there are, and to what its node has taken.
-use Rattle.std.proofs.Common.{◌≡◌, ℕ, zero, suc, true, false, cond, flat_map, ◌||◌, List, [], ◌∷◌, ◌++◌, Some, refl, sym, ap, ◌∙◌, inl, inr, subst, append_assoc}
+use Rattle.std.proofs.Common.{◌≡◌, ℕ, zero, suc, true, false, cond, ◌==◌, map, Option, None, ◌||◌, List, [], ◌∷◌, ◌++◌, Some, refl, sym, ap, ◌∙◌, inl, inr, subst, append_assoc}
 use Rattle.std.proofs.lemmas.List.{append-nil}
 use Rattle.std.specs.List.{slice_get}
 use Rattle.std.specs.FinSet as set
 use Rattle.causal_context.specs.Dots.{Dot, dot_cmp_total}
 use Rattle.mqtt_packets.specs.Written.{written}
-use Rattle.mqtt_message.specs.declared.delivery.Delivery.{Delivery}
+use Rattle.mqtt_sessions.specs.declared.reaction.Output.{Output as Packet}
+use Rattle.mqtt_sessions.specs.Answers.{disconnect}
+use Rattle.mqtt_sessions.specs.Reaction.{Reaction}
 use Rattle.replica_store.specs.declared.operation.Operation.{Operation}
 use Rattle.replica_store.specs.Operations.{dot_of, Among, HaveOwnDots}
 use Rattle.replica_store.specs.States.{State, state_join}
 use Rattle.replica_store.specs.StateOf.{delta_of}
 use Rattle.replica_store.specs.Making.{next_dot}
-use Rattle.broker_node.specs.declared.frame.Frame.{Frame}
-use Rattle.broker_node.specs.declared.frame.FrameBody.{FrameBody}
-use Rattle.broker_node.specs.declared.frame.FrameBody.TheVariants.{Delta}
-use Rattle.broker_node.specs.declared.outcome.Output.{Output}
-use Rattle.broker_node.specs.declared.outcome.Output.TheVariants.{Send, Close, Frame as Release}
-use Rattle.broker_node.specs.Acts.{Act, Moment, Began, Store, Connection, Out, Acknowledged, Made, Merged, offer_output, Carries, Runs, gather, op_in, merge_in, output_in}
-use Rattle.broker_node.specs.Held.Connections.{ConnectionAct, Opened, Fed, Accepted, Closed, connected}
-use Rattle.broker_node.specs.Offers.{is_sent, offer_packet}
-use Rattle.broker_node.specs.View.{HeldView}
+use Rattle.node_work.specs.declared.frame.Frame.{Frame}
+use Rattle.node_work.specs.declared.frame.FrameBody.{FrameBody}
+use Rattle.node_work.specs.declared.frame.FrameBody.TheVariants.{Delta}
+use Rattle.node_work.specs.declared.outcome.Output.{Output}
+use Rattle.node_work.specs.declared.outcome.Output.TheVariants.{Send, Close, Frame as Release}
+use Rattle.node_work.specs.Acts.{Act, Moment, Began, Store, Connection, Session, Out, Named, Acknowledged, Passed, Dropped, Made, Merged, Carries, Runs, gather, op_in, merge_in, output_in}
+use Rattle.node_work.specs.Held.Connections.{ConnectionAct, Opened, Fed, Accepted, Closed, connected}
+use Rattle.node_work.specs.Held.Sessions.{SessionAct, Begun, Called, Over, called, outputs_on, last_of, packet_output, session_outputs}
+use Rattle.node_work.specs.View.{Place, HeldView}
 use Rattle.cluster_play.specs.Worlds.{frames_in}
 use Rattle.cluster_play.specs.Histories.{same_dot, gain_in, gained}
 use Rattle.cluster_play.proofs.Bools.{or_false, or_assoc, some_is, none-some}
@@ -64,13 +66,29 @@ connection_leaves h h' (Fed c piece) r = ap (λ (v : HeldView). v.store) r
 connection_leaves h h' (Accepted c client) r = ap (λ (v : HeldView). v.store) r
 connection_leaves h h' (Closed c) r = ap (λ (v : HeldView). v.store) r
 
--- SUBACK and offers are no frames
-pub no_offered_frame : (c at : ℕ) (offers : List Delivery) (more : List Output) → frames_in (flat_map (offer_output c at) offers ++ more) ≡ frames_in more
-no_offered_frame c at [] more = refl
-no_offered_frame c at (d ∷ ds) more = elim (is_sent at d) as (λ b. frames_in ((cond b (Send c (written (offer_packet at d)) ∷ []) [] ++ flat_map (offer_output c at) ds) ++ more) ≡ frames_in more) [
-  | true ↦ no_offered_frame c at ds more
-  | false ↦ no_offered_frame c at ds more
-]
+session_leaves : (h h' : HeldView) (a : SessionAct) → h' ≡ called h a → h'.store ≡ h.store
+session_leaves h h' (Begun client) r = ap (λ (v : HeldView). v.store) r
+session_leaves h h' (Called step) r = ap (λ (v : HeldView). v.store) r
+session_leaves h h' (Over client) r = ap (λ (v : HeldView). v.store) r
+
+-- what a session gives out is no frame
+no_packet_frame : (c at : ℕ) (packets : List Packet) (more : List Output) → frames_in (map (packet_output c at) packets ++ more) ≡ frames_in more
+no_packet_frame c at [] more = refl
+no_packet_frame c at (p ∷ ps) more = no_packet_frame c at ps more
+
+no_last_frame : (c : ℕ) (end : Option ℕ) (more : List Output) → frames_in (last_of c end ++ more) ≡ frames_in more
+no_last_frame c None more = refl
+no_last_frame c (Some code) more = elim (code == 0) as (λ b. frames_in (cond b [] (Send c (written (disconnect code)) ∷ []) ++ more) ≡ frames_in more) [ true ↦ refl | false ↦ refl ]
+
+no_reaction_frame : (on : Option ℕ) (at : ℕ) (r : Reaction) (more : List Output) → frames_in (outputs_on on at r ++ more) ≡ frames_in more
+no_reaction_frame None at r more = refl
+no_reaction_frame (Some c) at r more =
+    ap frames_in (append_assoc (map (packet_output c at) r.packets) (last_of c r.end) more) ∙ no_packet_frame c at r.packets (last_of c r.end ++ more) ∙ no_last_frame c r.end more
+
+pub no_session_frame : (a : SessionAct) (more : List Output) → frames_in (session_outputs a ++ more) ≡ frames_in more
+no_session_frame (Begun client) more = refl
+no_session_frame (Called s) more = no_reaction_frame s.on s.at s.reaction more
+no_session_frame (Over client) more = refl
 
 made_grows : (i : ℕ) (ms : List Operation) (h m h' : HeldView) (o : Operation) (acts : List Act)
     → HaveOwnDots ms → IsFresh ms o → dot_of o ≡ next_dot i h.store → m.store ≡ state_join h.store (delta_of o)
@@ -110,40 +128,52 @@ released_grows i ms h m h' f acts sound carries same g = record {
   first zero x t at b = subst (Sound (ms ++ gather op_in acts)) (sym (carried h.store t f.body carries (ap (λ (y : Frame). y.body) (some_is at) ∙ b))) (g.stays h.store sound)
   first (suc n) x t at b = g.sent n x t at b
 
-pub acts_grow : (i : ℕ) (acts : List Act) (ms : List Operation) (h h' : HeldView) → Grown i ms h.store → Runs i h acts h' → AllSound ms (gather merge_in acts) → Grows i ms h acts h'
-acts_grow i [] ms h h' g r a = record {
-  grown = subst (λ xs. Grown i xs h'.store) (sym (append-nil ms)) (subst (λ (v : HeldView). Grown i ms v.store) (sym r) g);
+pub acts_grow : (p : Place) (acts : List Act) (ms : List Operation) (h h' : HeldView) → Grown p.id ms h.store → Runs p h acts h' → AllSound ms (gather merge_in acts) → Grows p.id ms h acts h'
+acts_grow p [] ms h h' g r a = record {
+  grown = subst (λ xs. Grown p.id xs h'.store) (sym (append-nil ms)) (subst (λ (v : HeldView). Grown p.id ms v.store) (sym r) g);
   stays = λ t s. subst (λ xs. Sound xs t) (sym (append-nil ms)) s;
   takes = λ d. ap (λ (v : HeldView). set.contains v.store.taken d) r ∙ sym (or_false _);
   own = λ o x. absurd x;
   sent = λ n f t at b. none-some at;
 }
-acts_grow i (Moment at ∷ acts) ms h h' g r a =
+acts_grow p (Moment at ∷ acts) ms h h' g r a =
     let st : r.0.store ≡ h.store = ap (λ (v : HeldView). v.store) r.1.1 in
-    quiet i ms h r.0 h' (Moment at) acts refl (λ d. refl) refl st (acts_grow i acts ms r.0 h' (subst (Grown i ms) (sym st) g) r.2 a)
-acts_grow i (Began ∷ acts) ms h h' g r a =
+    quiet p.id ms h r.0 h' (Moment at) acts refl (λ d. refl) refl st (acts_grow p acts ms r.0 h' (subst (Grown p.id ms) (sym st) g) r.2 a)
+acts_grow p (Began ∷ acts) ms h h' g r a =
     let st : r.0.store ≡ h.store = ap (λ (v : HeldView). v.store) r.1.1 in
-    quiet i ms h r.0 h' Began acts refl (λ d. refl) refl st (acts_grow i acts ms r.0 h' (subst (Grown i ms) (sym st) g) r.2 a)
-acts_grow i (Store (Made o) ∷ acts) ms h h' g r a =
-    let is : dot_of o ≡ next_dot i h.store = made_dot i h.store o r.1.0 in
-    let fresh : IsFresh ms o = is_fresh i ms h.store o g is in
+    quiet p.id ms h r.0 h' Began acts refl (λ d. refl) refl st (acts_grow p acts ms r.0 h' (subst (Grown p.id ms) (sym st) g) r.2 a)
+acts_grow p (Store (Made o) ∷ acts) ms h h' g r a =
+    let is : dot_of o ≡ next_dot p.id h.store = made_dot p.id h.store o r.1.0 in
+    let fresh : IsFresh ms o = is_fresh p.id ms h.store o g is in
     let st : r.0.store ≡ state_join h.store (delta_of o) = ap (λ (v : HeldView). v.store) r.1.1 in
-    made_grows i ms h r.0 h' o acts g.own_dots fresh is st (acts_grow i acts (ms ++ o ∷ []) r.0 h' (subst (Grown i (ms ++ o ∷ [])) (sym st) (grown_made i ms h.store o g fresh)) r.2 (all_fresh ms o (gather merge_in acts) g.own_dots fresh a))
-acts_grow i (Store (Merged t) ∷ acts) ms h h' g r a =
+    made_grows p.id ms h r.0 h' o acts g.own_dots fresh is st (acts_grow p acts (ms ++ o ∷ []) r.0 h' (subst (Grown p.id (ms ++ o ∷ [])) (sym st) (grown_made p.id ms h.store o g fresh)) r.2 (all_fresh ms o (gather merge_in acts) g.own_dots fresh a))
+acts_grow p (Store (Merged t) ∷ acts) ms h h' g r a =
     let st : r.0.store ≡ state_join h.store t = ap (λ (v : HeldView). v.store) r.1.1 in
-    merged_grows i ms h r.0 h' t acts st (acts_grow i acts ms r.0 h' (subst (Grown i ms) (sym st) (grown_merged i ms h.store t g a.0)) r.2 a.1)
-acts_grow i (Connection c ∷ acts) ms h h' g r a =
+    merged_grows p.id ms h r.0 h' t acts st (acts_grow p acts ms r.0 h' (subst (Grown p.id ms) (sym st) (grown_merged p.id ms h.store t g a.0)) r.2 a.1)
+acts_grow p (Connection c ∷ acts) ms h h' g r a =
     let st : r.0.store ≡ h.store = connection_leaves h r.0 c r.1.1 in
-    quiet i ms h r.0 h' (Connection c) acts refl (λ d. refl) refl st (acts_grow i acts ms r.0 h' (subst (Grown i ms) (sym st) g) r.2 a)
-acts_grow i (Out (Send c bytes) ∷ acts) ms h h' g r a =
+    quiet p.id ms h r.0 h' (Connection c) acts refl (λ d. refl) refl st (acts_grow p acts ms r.0 h' (subst (Grown p.id ms) (sym st) g) r.2 a)
+acts_grow p (Session c ∷ acts) ms h h' g r a =
+    let st : r.0.store ≡ h.store = session_leaves h r.0 c r.1.1 in
+    quiet p.id ms h r.0 h' (Session c) acts refl (λ d. refl) (no_session_frame c (gather output_in acts)) st (acts_grow p acts ms r.0 h' (subst (Grown p.id ms) (sym st) g) r.2 a)
+acts_grow p (Out (Send c bytes) ∷ acts) ms h h' g r a =
     let st : r.0.store ≡ h.store = ap (λ (v : HeldView). v.store) r.1.1 in
-    quiet i ms h r.0 h' (Out (Send c bytes)) acts refl (λ d. refl) refl st (acts_grow i acts ms r.0 h' (subst (Grown i ms) (sym st) g) r.2 a)
-acts_grow i (Out (Close c) ∷ acts) ms h h' g r a =
+    quiet p.id ms h r.0 h' (Out (Send c bytes)) acts refl (λ d. refl) refl st (acts_grow p acts ms r.0 h' (subst (Grown p.id ms) (sym st) g) r.2 a)
+acts_grow p (Out (Close c) ∷ acts) ms h h' g r a =
     let st : r.0.store ≡ h.store = ap (λ (v : HeldView). v.store) r.1.1 in
-    quiet i ms h r.0 h' (Out (Close c)) acts refl (λ d. refl) refl st (acts_grow i acts ms r.0 h' (subst (Grown i ms) (sym st) g) r.2 a)
-acts_grow i (Out (Release f) ∷ acts) ms h h' g r a =
+    quiet p.id ms h r.0 h' (Out (Close c)) acts refl (λ d. refl) refl st (acts_grow p acts ms r.0 h' (subst (Grown p.id ms) (sym st) g) r.2 a)
+acts_grow p (Out (Release f) ∷ acts) ms h h' g r a =
     let st : r.0.store ≡ h.store = ap (λ (v : HeldView). v.store) r.1.1 in
-    released_grows i ms h r.0 h' f acts g.sound r.1.0.1 st (acts_grow i acts ms r.0 h' (subst (Grown i ms) (sym st) g) r.2 a)
-acts_grow i (Acknowledged c packet at grants offers ∷ acts) ms h h' g r a =
+    released_grows p.id ms h r.0 h' f acts g.sound r.1.0.1 st (acts_grow p acts ms r.0 h' (subst (Grown p.id ms) (sym st) g) r.2 a)
+acts_grow p (Named number ∷ acts) ms h h' g r a =
     let st : r.0.store ≡ h.store = ap (λ (v : HeldView). v.store) r.1.1 in
-    quiet i ms h r.0 h' (Acknowledged c packet at grants offers) acts refl (λ d. refl) (no_offered_frame c at offers (gather output_in acts)) st (acts_grow i acts ms r.0 h' (subst (Grown i ms) (sym st) g) r.2 a)
+    quiet p.id ms h r.0 h' (Named number) acts refl (λ d. refl) refl st (acts_grow p acts ms r.0 h' (subst (Grown p.id ms) (sym st) g) r.2 a)
+acts_grow p (Acknowledged client packet at grants offers ∷ acts) ms h h' g r a =
+    let st : r.0.store ≡ h.store = ap (λ (v : HeldView). v.store) r.1.1 in
+    quiet p.id ms h r.0 h' (Acknowledged client packet at grants offers) acts refl (λ d. refl) refl st (acts_grow p acts ms r.0 h' (subst (Grown p.id ms) (sym st) g) r.2 a)
+acts_grow p (Passed m copies lost ∷ acts) ms h h' g r a =
+    let st : r.0.store ≡ h.store = ap (λ (v : HeldView). v.store) r.1.1 in
+    quiet p.id ms h r.0 h' (Passed m copies lost) acts refl (λ d. refl) refl st (acts_grow p acts ms r.0 h' (subst (Grown p.id ms) (sym st) g) r.2 a)
+acts_grow p (Dropped ∷ acts) ms h h' g r a =
+    let st : r.0.store ≡ h.store = ap (λ (v : HeldView). v.store) r.1.1 in
+    quiet p.id ms h r.0 h' Dropped acts refl (λ d. refl) refl st (acts_grow p acts ms r.0 h' (subst (Grown p.id ms) (sym st) g) r.2 a)

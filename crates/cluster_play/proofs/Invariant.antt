@@ -12,13 +12,14 @@ use Rattle.replica_store.proofs.Unions.{among_cases}
 use Rattle.broker_node.specs.declared.event.Event.{Event}
 use Rattle.broker_node.specs.declared.event.EventKind.{EventKind}
 use Rattle.broker_node.specs.declared.event.EventKind.TheVariants as kinds
-use Rattle.broker_node.specs.declared.frame.Frame.{Frame}
-use Rattle.broker_node.specs.declared.frame.FrameBody.{FrameBody}
-use Rattle.broker_node.specs.declared.frame.FrameBody.TheVariants.{Delta, Know}
-use Rattle.broker_node.specs.declared.outcome.Output.{Output}
-use Rattle.broker_node.specs.Acts.{Act, Runs, gather, op_in, merge_in}
-use Rattle.broker_node.specs.Step.{Steps, is_for, states_in, brought}
-use Rattle.broker_node.specs.View.{HeldView, NodeView}
+use Rattle.node_work.specs.declared.frame.Frame.{Frame}
+use Rattle.node_work.specs.declared.frame.FrameBody.{FrameBody}
+use Rattle.node_work.specs.declared.frame.FrameBody.TheVariants.{Delta, Know}
+use Rattle.node_work.specs.declared.outcome.Output.{Output}
+use Rattle.node_work.specs.Acts.{Act, Runs, gather, op_in, merge_in}
+use Rattle.broker_node.specs.Step.{Steps, brought}
+use Rattle.node_work.specs.Frames.{is_for, states_in}
+use Rattle.node_work.specs.View.{Place, HeldView, NodeView}
 use Rattle.cluster_play.specs.Worlds.{World, changed, running, stopped, frames_in}
 use Rattle.cluster_play.specs.Runs.{IsKnown}
 use Rattle.cluster_play.specs.Histories.{gained}
@@ -32,9 +33,9 @@ pub record Explained (ms : List Operation) (took : Dot → Bool) (i : ℕ) (h : 
   pub grown : Grown i ms h.store
   pub listed : (d : Dot) → set.contains h.store.taken d ≡ took d
 
-pub record Site (ms : List Operation) (took : Dot → Bool) (count i : ℕ) (n : NodeView) : Type 0 where
-  pub id : n.id ≡ i
-  pub nodes : n.nodes ≡ count
+pub record Site (ms : List Operation) (took : Dot → Bool) (nodes i : ℕ) (n : NodeView) : Type 0 where
+  pub id : n.place.id ≡ i
+  pub count : length n.place.homes.nodes ≡ nodes
   pub up : (h : HeldView) → n.up ≡ Some h → Explained ms took i h
 
 pub record Explains (ms : List Operation) (took : ℕ → Dot → Bool) (w : World) : Type 0 where
@@ -52,16 +53,18 @@ module _ (ms : List Operation) (sent : List Frame) (deltas : (n : ℕ) (f : Fram
   all_if true ts h = h
   all_if false ts h = tt
 
-  all_brought : (id nodes : ℕ) (e : EventKind) → IsKnown sent e → AllSound ms (brought id nodes e)
-  all_brought id nodes kinds.Started known = tt
-  all_brought id nodes (kinds.Opened c) known = tt
-  all_brought id nodes (kinds.Piece c bytes) known = tt
-  all_brought id nodes (kinds.Frame f) known = all_if (is_for id nodes f) (states_in f.body) (all_in f.body (λ t b. deltas known.0 f t known.1 b))
-  all_brought id nodes (kinds.Ship peer) known = tt
-  all_brought id nodes (kinds.Evict client) known = tt
+  all_brought : (p : Place) (e : EventKind) → IsKnown sent e → AllSound ms (brought p e)
+  all_brought p kinds.Started known = tt
+  all_brought p (kinds.Opened c) known = tt
+  all_brought p (kinds.Piece c bytes) known = tt
+  all_brought p (kinds.Closed c) known = tt
+  all_brought p (kinds.Frame f) known = all_if (is_for p f) (states_in f.body) (all_in f.body (λ t b. deltas known.0 f t known.1 b))
+  all_brought p (kinds.Ship peer) known = tt
+  all_brought p kinds.Tick known = tt
+  all_brought p (kinds.Evict client) known = tt
 
-  pub all_merged : (id nodes : ℕ) (h h' : HeldView) (e : Event) (acts : List Act) (outputs : List Output) → IsKnown sent e.kind → Steps id nodes h e acts outputs h' → AllSound ms (gather merge_in acts)
-  all_merged id nodes h h' e acts outputs known s = subst (AllSound ms) (sym s.merged) (all_if h.started (brought id nodes e.kind) (all_brought id nodes e.kind known))
+  pub all_merged : (p : Place) (h h' : HeldView) (e : Event) (acts : List Act) (outputs : List Output) → IsKnown sent e.kind → Steps p h e acts outputs h' → AllSound ms (gather merge_in acts)
+  all_merged p h h' e acts outputs known s = subst (AllSound ms) (sym s.merged) (all_if h.started (brought p e.kind) (all_brought p e.kind known))
 
 -- an operation of node i leaves what another node has of its own
 grown_other : (i j : ℕ) (ms : List Operation) (s : State) (h h' : HeldView) (acts : List Act) → i ≢ j → Grows i ms h acts h' → Grown j ms s → Grown j (ms ++ gather op_in acts) s
@@ -82,20 +85,22 @@ module _ (ms : List Operation) (took : ℕ → Dot → Bool) (w : World) (i : �
       record {
         own_dots = x.own_dots;
         sites = λ j k h. subst (λ c. Site ms (took j) c j k) (sym (length-set w.sites i (stopped n)))
-            (each_changed (λ j k. Site ms (took j) (length w.sites) j k) w.sites i n (stopped n) at (record { id = s.id; nodes = s.nodes; up = λ h u. none-some u }) (λ j k _ h. x.sites j k h) j k h);
+            (each_changed (λ j k. Site ms (took j) (length w.sites) j k) w.sites i n (stopped n) at (record { id = s.id; count = s.count; up = λ h u. none-some u }) (λ j k _ h. x.sites j k h) j k h);
         deltas = λ m f t h. x.deltas m f t (subst (λ fs. slice_get fs m ≡ Some f) (append-nil w.frames) h);
       }
 
   -- what the acts of a step do, or those at its front
-  pub site_grows : (h h' : HeldView) (acts : List Act) → n.up ≡ Some h → Runs n.id h acts h' → AllSound ms (gather merge_in acts) → Grows i ms h acts h'
-  site_grows h h' acts up runs all = acts_grow i acts ms h h' ((x.sites i n at).up h up).grown (subst (λ m. Runs m h acts h') (x.sites i n at).id runs) all
+  pub site_grows : (h h' : HeldView) (acts : List Act) → n.up ≡ Some h → Runs n.place h acts h' → AllSound ms (gather merge_in acts) → Grows i ms h acts h'
+  site_grows h h' acts up runs all =
+      let is = (x.sites i n at).id in
+      subst (λ j. Grows j ms h acts h') is (acts_grow n.place acts ms h h' (subst (λ j. Grown j ms h.store) (sym is) ((x.sites i n at).up h up).grown) runs all)
 
   -- the node does acts and releases their frames
-  pub explains_step : (e : Event) (acts : List Act) (outputs : List Output) (h h' : HeldView) → IsKnown w.frames e.kind → n.up ≡ Some h → Steps n.id n.nodes h e acts outputs h'
+  pub explains_step : (e : Event) (acts : List Act) (outputs : List Output) (h h' : HeldView) → IsKnown w.frames e.kind → n.up ≡ Some h → Steps n.place h e acts outputs h'
       → Explains (ms ++ gather op_in acts) (λ j d. took j d || (nat_eq i j && gained acts d)) (changed w i (running n h') (frames_in outputs))
   explains_step e acts outputs h h' known up steps =
       let s = x.sites i n at in
-      let g : Grows i ms h acts h' = site_grows h h' acts up steps.runs (all_merged ms w.frames x.deltas n.id n.nodes h h' e acts outputs known steps) in
+      let g : Grows i ms h acts h' = site_grows h h' acts up steps.runs (all_merged ms w.frames x.deltas n.place h h' e acts outputs known steps) in
       let ms' = ms ++ gather op_in acts in
       let took' = λ (j : ℕ) (d : Dot). took j d || (nat_eq i j && gained acts d) in
       let here : Explained ms' (took' i) i h' = record {
@@ -104,7 +109,7 @@ module _ (ms : List Operation) (took : ℕ → Dot → Bool) (w : World) (i : �
       } in
       let there : (j : ℕ) (k : NodeView) → i ≢ j → slice_get w.sites j ≡ Some k → Site ms' (took' j) (length w.sites) j k = λ j k ne a. (let y = x.sites j k a in record {
         id = y.id;
-        nodes = y.nodes;
+        count = y.count;
         up = λ v u. record {
           grown = grown_other i j ms v.store h h' acts ne g (y.up v u).grown;
           listed = λ d. (y.up v u).listed d ∙ sym (or_false (took j d)) ∙ ap (λ b. took j d || (b && gained acts d)) (sym (nat_other i j ne));
@@ -113,7 +118,7 @@ module _ (ms : List Operation) (took : ℕ → Dot → Bool) (w : World) (i : �
       record {
         own_dots = g.grown.own_dots;
         sites = λ j k a. subst (λ c. Site ms' (took' j) c j k) (sym (length-set w.sites i (running n h')))
-            (each_changed (λ j k. Site ms' (took' j) (length w.sites) j k) w.sites i n (running n h') at (record { id = s.id; nodes = s.nodes; up = λ v u. subst (Explained ms' (took' i) i) (some_is u) here }) there j k a);
+            (each_changed (λ j k. Site ms' (took' j) (length w.sites) j k) w.sites i n (running n h') at (record { id = s.id; count = s.count; up = λ v u. subst (Explained ms' (took' i) i) (some_is u) here }) there j k a);
         deltas = λ m f t a b. elim (get_append w.frames (frames_in outputs) m f a) [
           | inl c ↦ g.stays t (x.deltas m f t c b)
           | inr c ↦ g.sent c.0 f t (subst (λ os. slice_get (frames_in os) c.0 ≡ Some f) steps.given c.1) b

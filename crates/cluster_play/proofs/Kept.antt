@@ -1,5 +1,5 @@
 -- The invariant over whole runs.
-use Rattle.std.proofs.Common.{◌≡◌, ℕ, Bool, false, ◌&&◌, ◌||◌, nat_eq, List, [], ◌∷◌, ◌++◌, Some, sym, ap, ◌∙◌, subst, append_assoc}
+use Rattle.std.proofs.Common.{◌≡◌, ℕ, Bool, false, ◌&&◌, ◌||◌, nat_eq, List, [], ◌∷◌, ◌++◌, Some, sym, ap, ◌∙◌, subst, append_assoc, length}
 use Rattle.std.proofs.lemmas.List.{append-nil}
 use Rattle.std.specs.List.{slice_get}
 use Rattle.std.specs.FinSet as set
@@ -7,8 +7,8 @@ use Rattle.causal_context.specs.Dots.{Dot, dot_cmp}
 use Rattle.replica_store.specs.declared.operation.Operation.{Operation}
 use Rattle.replica_store.proofs.Deltas.{joined_is}
 use Rattle.broker_node.specs.declared.event.Event.{Event}
-use Rattle.broker_node.specs.Acts.{gather, op_in}
-use Rattle.broker_node.specs.View.{NodeView}
+use Rattle.node_work.specs.Acts.{gather, op_in}
+use Rattle.node_work.specs.View.{NodeView}
 use Rattle.cluster_play.specs.declared.step.Step.{Step}
 use Rattle.cluster_play.specs.declared.step.Step.TheVariants as steps
 use Rattle.cluster_play.specs.Worlds.{World, Fate, Released, Faulted, Was_down, EventAt, Happens, arrival, changed, running, frames_in}
@@ -53,9 +53,9 @@ run_keeps (m ∷ run) ms took w w' x honest r =
 pub start_explained : (w : World) → IsStart w → Explains [] (λ _ _. false) w
 start_explained w s = record {
   own_dots = λ o p a b e. absurd a;
-  sites = λ i n at. (let is = s.sites i n at in record {
-    id = ap (λ (v : NodeView). v.id) is;
-    nodes = ap (λ (v : NodeView). v.nodes) is;
+  sites = λ i n at. (let is = (s.sites i n at).is in record {
+    id = ap (λ (v : NodeView). v.place.id) is;
+    count = ap (λ (v : NodeView). length v.place.homes.nodes) is ∙ (s.sites i n at).fits;
     up = λ h u. subst (Explained [] (λ _. false) i) (some_is (sym (ap (λ (v : NodeView). v.up) is) ∙ u)) (record {
       grown = record { own_dots = λ o p a b e. absurd a; sound = joined_is [] (λ o p a b e. absurd a); own = λ o a e. absurd a };
       listed = λ d. set.contains-empty dot_cmp d;

@@ -1,7 +1,7 @@
 -- Lines of runs, one after the other.
 use Rattle.std.proofs.Common.{◌≡◌, ℕ, ◌+◌, List, [], ◌∷◌, ◌++◌, ap, arith, length}
-use Rattle.broker_node.specs.Names.{kind_of}
-use Rattle.broker_node.specs.declared.frame.Frame.{Frame}
+use Rattle.node_work.specs.Names.{kind_of}
+use Rattle.node_work.specs.declared.frame.Frame.{Frame}
 use Rattle.cluster_play.specs.declared.line.Line.TheVariants as lines
 use Rattle.cluster_play.specs.Runs.{frame_lines}
 

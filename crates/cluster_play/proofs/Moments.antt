@@ -2,9 +2,10 @@
 use Rattle.std.proofs.Common.{◌≡◌, ℕ, max, Bool, true, false, cond, nat_eq, List, [], ◌∷◌, Some, refl, sym, ap, ◌∙◌, arith, subst, eq-eqb}
 use Rattle.std.specs.List.{slice_get}
 use Rattle.broker_node.specs.declared.event.Event.{Event}
-use Rattle.broker_node.specs.Acts.{Act, Moment as TakesMoment, Began, Store, Connection, Out, Acknowledged, Runs, next}
-use Rattle.broker_node.specs.Held.Connections.{ConnectionAct, Opened, Fed, Accepted, Closed, connected}
-use Rattle.broker_node.specs.View.{HeldView, NodeView}
+use Rattle.node_work.specs.Acts.{Act, Moment as TakesMoment, Began, Store, Connection, Session, Out, Named, Acknowledged, Passed, Dropped, Runs, next}
+use Rattle.node_work.specs.Held.Connections.{ConnectionAct, Opened, Fed, Accepted, Closed, connected}
+use Rattle.node_work.specs.Held.Sessions.{SessionAct, Begun, Called, Over, called}
+use Rattle.node_work.specs.View.{Place, HeldView, NodeView}
 use Rattle.cluster_play.specs.declared.step.Step.{Step}
 use Rattle.cluster_play.specs.declared.step.Step.TheVariants as steps
 use Rattle.cluster_play.specs.Worlds.{World, Fate, Released, Faulted, Was_down, EventAt, Happens, arrival, running, stopped}
@@ -19,21 +20,30 @@ connection_moment h (Fed c piece) = refl
 connection_moment h (Accepted c client) = refl
 connection_moment h (Closed c) = refl
 
+session_moment : (h : HeldView) (a : SessionAct) → (called h a).at ≡ h.at
+session_moment h (Begun client) = refl
+session_moment h (Called step) = refl
+session_moment h (Over client) = refl
+
 next_moment : (h : HeldView) (a : Act) → (next h a).at ≡ max h.at (moment_in a)
 next_moment h (TakesMoment at) = refl
 next_moment h Began = omega arith
 next_moment h (Store a) = omega arith
 next_moment h (Connection a) = connection_moment h a ∙ omega arith
+next_moment h (Session a) = session_moment h a ∙ omega arith
 next_moment h (Out o) = omega arith
-next_moment h (Acknowledged c packet at grants offers) = omega arith
+next_moment h (Named number) = omega arith
+next_moment h (Acknowledged client packet at grants offers) = omega arith
+next_moment h (Passed m copies lost) = omega arith
+next_moment h Dropped = omega arith
 
 max_in : (a b c : ℕ) → max (max a b) c ≡ max a (max b c)
 max_in a b c = omega arith
 
-pub runs_moment : (id : ℕ) (acts : List Act) (h h' : HeldView) → Runs id h acts h' → h'.at ≡ max h.at (latest acts)
-runs_moment id [] h h' r = ap (λ (v : HeldView). v.at) r ∙ omega arith
-runs_moment id (a ∷ acts) h h' r =
-    runs_moment id acts r.0 h' r.2 ∙ ap (λ t. max t (latest acts)) (ap (λ (v : HeldView). v.at) r.1.1 ∙ next_moment h a) ∙ max_in h.at (moment_in a) (latest acts)
+pub runs_moment : (p : Place) (acts : List Act) (h h' : HeldView) → Runs p h acts h' → h'.at ≡ max h.at (latest acts)
+runs_moment p [] h h' r = ap (λ (v : HeldView). v.at) r ∙ omega arith
+runs_moment p (a ∷ acts) h h' r =
+    runs_moment p acts r.0 h' r.2 ∙ ap (λ t. max t (latest acts)) (ap (λ (v : HeldView). v.at) r.1.1 ∙ next_moment h a) ∙ max_in h.at (moment_in a) (latest acts)
 
 -- each running node is at this moment
 abbrev pub AtMoments : (ℕ → ℕ) → World → Type 0
@@ -56,7 +66,7 @@ module _ (at : ℕ → ℕ) (w : World) (i : ℕ) (n : NodeView) (x : AtMoments 
       let h' = r.2.1 in
       let fate = Released k e' acts outputs in
       let own : h'.at ≡ max (at i) (later_at i fate) =
-      runs_moment n.id acts h h' r.2.3.runs ∙ ap (λ t. max t (latest acts)) (x i n there h r.2.2) ∙ ap (λ b. max (at i) (cond b (latest acts) 0)) (sym (eq-eqb k i r.0)) in
+      runs_moment n.place acts h h' r.2.3.runs ∙ ap (λ t. max t (latest acts)) (x i n there h r.2.2) ∙ ap (λ b. max (at i) (cond b (latest acts) 0)) (sym (eq-eqb k i r.0)) in
       λ j z a v up. each_changed (λ j z. (v : HeldView) → z.up ≡ Some v → v.at ≡ max (at j) (later_at j fate)) w.sites i n (running n h') there
       (λ v up. ap (λ (t : HeldView). t.at) (sym (some_is up)) ∙ own)
       (λ j z ne a v up. x j z a v up ∙ with_zero (at j) (later_at j fate) (ap (λ b. cond b (latest acts) 0) (nat_other k j (λ s. ne (sym r.0 ∙ s)))))
@@ -80,4 +90,4 @@ run_moment (m ∷ run) at w w' x r = λ i n a h up.
 
 pub at_moment : (run : List Moment) (w : World) → Reached run w → AtMoments (λ i. moment_of i run) w
 at_moment run w r = λ i n a h up.
-    run_moment run (λ _. 0) r.start w (λ j z b v u. ap (λ (t : HeldView). t.at) (sym (some_is (sym (ap (λ (k : NodeView). k.up) (r.is_start.sites j z b)) ∙ u)))) r.path i n a h up ∙ omega arith
+    run_moment run (λ _. 0) r.start w (λ j z b v u. ap (λ (t : HeldView). t.at) (sym (some_is (sym (ap (λ (k : NodeView). k.up) (r.is_start.sites j z b).is) ∙ u)))) r.path i n a h up ∙ omega arith

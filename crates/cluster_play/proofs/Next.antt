@@ -21,7 +21,7 @@ use Rattle.replica_store.specs.Retained.{greatest_count}
 use Rattle.replica_store.specs.States.{State}
 use Rattle.replica_store.specs.StateOf.{IsStateOf}
 use Rattle.replica_store.proofs.Views.{cover_is, count_is}
-use Rattle.broker_node.specs.Acts.{IsMade}
+use Rattle.node_work.specs.Acts.{IsMade}
 use Rattle.cluster_play.specs.NextOperations.{IsNextDot, CoversWhatStands, IsNextStamp, IsNext}
 use Rattle.cluster_play.proofs.Bools.{or_true, or_left, or_right}
 

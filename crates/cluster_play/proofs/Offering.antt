@@ -10,19 +10,21 @@ use Rattle.replica_store.specs.Operations.{dot_of, HaveOwnDots}
 use Rattle.replica_store.specs.States.{State}
 use Rattle.replica_store.specs.StateOf.{IsStateOf}
 use Rattle.replica_store.proofs.Answered.{answer_is, one_answer}
-use Rattle.broker_node.specs.declared.clients.granted.Asked.{Asked}
-use Rattle.broker_node.specs.declared.clients.granted.Granted.{Granted}
-use Rattle.broker_node.specs.Acts.{Act, Acknowledged, gather, output_in}
-use Rattle.broker_node.specs.Offers.{IsOffered, AreOffered, offer_of}
+use Rattle.node_work.specs.declared.granted.Asked.{Asked}
+use Rattle.node_work.specs.declared.granted.Granted.{Granted}
+use Rattle.node_work.specs.Acts.{Act, Acknowledged}
+use Rattle.node_work.specs.Offers.{IsOffered, AreOffered}
+use Rattle.message_copies.specs.Deliveries.{offer_of}
 use Rattle.cluster_play.specs.declared.step.Step.{Step}
-use Rattle.cluster_play.specs.Worlds.{World, Fate, Released, Faulted, Was_down, Happens}
+use Rattle.cluster_play.specs.Worlds.{World, Fate, Happens}
 use Rattle.cluster_play.specs.Runs.{Moment}
-use Rattle.cluster_play.specs.Histories.{Reached, site, acts_of, outputs_of, taken_amid, operations_amid, moment_amid}
-use Rattle.cluster_play.specs.Answering.{IsOfferedBy, AreOfferedBy, Acknowledges, FallsInto, SendsAnswers, OffersAlike}
+use Rattle.cluster_play.specs.Histories.{Reached, site, acts_of, taken_amid, operations_amid, moment_amid}
+use Rattle.cluster_play.specs.Answering.{BeginsWithOffers, IsOfferedBy, AreOfferedBy, Acknowledges, FallsInto, SendsAnswers, OffersAlike}
 use Rattle.cluster_play.proofs.Bools.{some_is, none-some}
 use Rattle.cluster_play.proofs.Operations.{own_some}
-use Rattle.cluster_play.proofs.Paths.{committed, midway}
-use Rattle.cluster_play.proofs.Amid.{gather_both, Amid, amid_acts, amid_state}
+use Rattle.cluster_play.proofs.Paths.{committed, midway, released_acts}
+use Rattle.cluster_play.proofs.Queueing.{offers_follow}
+use Rattle.cluster_play.proofs.Amid.{Amid, amid_acts, amid_state}
 use Rattle.cluster_play.proofs.Alike.{states_agree_amid}
 
 -- a part for each filter, by what is kept
@@ -53,17 +55,19 @@ module _ (O : List Operation) (s : State) (own : HaveOwnDots O) (state : IsState
 
 one_offer : (at : ℕ) (kept : List (List ℕ × Kept)) (a : Option Asked) (own other : List Delivery) → IsOffered at kept a own → IsOffered at kept a other → own ≡ other
 one_offer at kept None own other h k = h ∙ sym k
-one_offer at kept (Some a) own other h k = h.2 ∙ ap (map (offer_of a)) (one_answer a.filter at kept h.0 k.0 h.1 k.1) ∙ sym k.2
+one_offer at kept (Some a) own other h k = h.2 ∙ ap (map (offer_of a.options a.identifiers)) (one_answer a.filter at kept h.0 k.0 h.1 k.1) ∙ sym k.2
 
--- what a step gives out is what its acts give out
-given_by : (w : World) (step : Step) (fate : Fate) (w' : World) → Happens w step fate w' → outputs_of fate ≡ gather output_in (acts_of fate)
-given_by w step (Released i e acts outputs) w' h = (committed w step i e acts outputs w' h).steps.given
-given_by w step (Faulted i fault) w' h = refl
-given_by w step (Was_down i) w' h = refl
+-- directly after an answer to a SUBSCRIBE the session is offered what is told
+followed : (w : World) (step : Step) (fate : Fate) (w' : World) → Happens w step fate w' → (before after : List Act) (client : List ℕ) (packet at : ℕ) (grants : List Granted) (offers : List Delivery)
+    → acts_of fate ≡ before ++ Acknowledged client packet at grants offers ∷ after → BeginsWithOffers client at offers after
+followed w step fate w' h before after client packet at grants offers is =
+    let f = released_acts fate before after (Acknowledged client packet at grants offers) is in
+    let c = committed w step (site fate) f.0 (acts_of fate) f.1 w' (subst (λ x. Happens w step x w') f.2 h) in
+    offers_follow f.0 c.node.place c.before (acts_of fate) c.steps.does before after client packet at grants offers is
 
 module _ (run later : List Moment) (m : Moment) (w : World) (r : Reached (run ++ m ∷ later) w) (before : List Act) (s : Acknowledges m before) where
-  here : Amid run w (site m.fate) before (Acknowledged s.connection s.packet s.at s.grants s.offers ∷ s.after)
-  here = amid_acts run later m w r before s.after (Acknowledged s.connection s.packet s.at s.grants s.offers) s.acts
+  here : Amid run w (site m.fate) before (Acknowledged s.client s.packet s.at s.grants s.offers ∷ s.after)
+  here = amid_acts run later m w r before s.after (Acknowledged s.client s.packet s.at s.grants s.offers) s.acts
 
   at_moment_there : s.at ≡ moment_amid (site m.fate) run before
   at_moment_there = here.runs.1.0.0 ∙ here.moment
@@ -77,7 +81,7 @@ module _ (run later : List Moment) (m : Moment) (w : World) (r : Reached (run ++
   falls_into parts order each =
       let O = operations_amid (site m.fate) run before in
       let own : HaveOwnDots O = own_some _ (λ p. taken_amid (site m.fate) run before (dot_of p)) here.grown.own_dots in
-      let state : IsStateOf O here.held.store = amid_state run w (site m.fate) before (Acknowledged s.connection s.packet s.at s.grants s.offers ∷ s.after) here in
+      let state : IsStateOf O here.held.store = amid_state run w (site m.fate) before (Acknowledged s.client s.packet s.at s.grants s.offers ∷ s.after) here in
       record { in_order = order; each = parts_by O here.held.store own state s.at s.grants parts each }
 
 pub answers_as_sent : (run later : List Moment) (m : Moment) (w : World) → Reached (run ++ m ∷ later) w
@@ -87,9 +91,7 @@ answers_as_sent run later m w r before s =
     let half = midway run (m ∷ later) w r in
     let p = parted s.at _ s.grants s.offers (offered run later m w r before s) in (
       record {
-        given =
-            given_by half.mid m.step m.fate half.path.0 half.path.1 ∙ ap (gather output_in) s.acts
-            ∙ gather_both output_in before (Acknowledged s.connection s.packet s.at s.grants s.offers ∷ s.after);
+        follow = followed half.mid m.step m.fate half.path.0 half.path.1 before s.after s.client s.packet s.at s.grants s.offers s.acts;
         parts = p.0;
         answers = falls_into run later m w r before s p.0 p.1 p.2;
       },
@@ -107,8 +109,8 @@ send_alike whole run later run' later' m m' w r is is' before before' s s' momen
     let a = here run later m w q before s in
     let b = here run' later' m' w q' before' s' in
     let at : s.at ≡ s'.at = at_moment_there run later m w q before s ∙ moment ∙ sym (at_moment_there run' later' m' w q' before' s') in
-    let stores : a.held.store ≡ b.held.store = states_agree_amid whole run later run' later' m m' w r is is' before (Acknowledged s.connection s.packet s.at s.grants s.offers ∷ s.after)
-    before' (Acknowledged s'.connection s'.packet s'.at s'.grants s'.offers ∷ s'.after) s.acts s'.acts a b same in
+    let stores : a.held.store ≡ b.held.store = states_agree_amid whole run later run' later' m m' w r is is' before (Acknowledged s.client s.packet s.at s.grants s.offers ∷ s.after)
+    before' (Acknowledged s'.client s'.packet s'.at s'.grants s'.offers ∷ s'.after) s.acts s'.acts a b same in
     let kept = map_of.entries a.held.store.retained in
     let p = parted s.at kept s.grants s.offers (offered run later m w q before s) in
     let p' = parted s'.at _ s'.grants s'.offers (offered run' later' m' w q' before' s') in

@@ -3,7 +3,7 @@ use Rattle.std.proofs.Common.{◌≡◌, List, [], ◌++◌, ◌∷◌, length, 
 use Rattle.std.specs.List.{AllByRecursion}
 use Rattle.broker_node.specs.declared.event.EventKind.{EventKind}
 use Rattle.broker_node.specs.declared.event.EventKind.TheVariants as kinds
-use Rattle.broker_node.specs.declared.frame.Frame.{Frame}
+use Rattle.node_work.specs.declared.frame.Frame.{Frame}
 use Rattle.cluster_play.specs.declared.line.Line.{Line}
 use Rattle.cluster_play.specs.declared.step.Step.{Step}
 use Rattle.cluster_play.specs.declared.step.Step.TheVariants as steps
@@ -34,8 +34,10 @@ known_free : (sent : List Frame) (e : EventKind) → BringsNone e → IsKnown se
 known_free sent kinds.Started h = tt
 known_free sent (kinds.Opened c) h = tt
 known_free sent (kinds.Piece c bytes) h = tt
+known_free sent (kinds.Closed c) h = tt
 known_free sent (kinds.Frame f) h = absurd h
 known_free sent (kinds.Ship peer) h = tt
+known_free sent kinds.Tick h = tt
 known_free sent (kinds.Evict client) h = tt
 
 honest_step : (sent : List Frame) (step : Step) → BringsNoFrame step → IsHonestStep sent step

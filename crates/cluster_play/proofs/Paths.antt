@@ -5,11 +5,11 @@ use Rattle.std.specs.List.{slice_get}
 use Rattle.std.proofs.Math.ListN.{length-set}
 use Rattle.causal_context.specs.Dots.{Dot}
 use Rattle.broker_node.specs.declared.event.Event.{Event}
-use Rattle.broker_node.specs.declared.frame.Frame.{Frame}
-use Rattle.broker_node.specs.declared.outcome.Output.{Output}
-use Rattle.broker_node.specs.Acts.{Act}
+use Rattle.node_work.specs.declared.frame.Frame.{Frame}
+use Rattle.node_work.specs.declared.outcome.Output.{Output}
+use Rattle.node_work.specs.Acts.{Act}
 use Rattle.broker_node.specs.Step.{Steps}
-use Rattle.broker_node.specs.View.{HeldView, NodeView}
+use Rattle.node_work.specs.View.{HeldView, NodeView}
 use Rattle.cluster_play.specs.declared.fault.PlayFault.{PlayFault}
 use Rattle.cluster_play.specs.declared.step.Step.{Step}
 use Rattle.cluster_play.specs.declared.step.Step.TheVariants as steps
@@ -97,7 +97,7 @@ pub record Committed (w : World) (i : ℕ) (e : Event) (acts : List Act) (output
   pub after : HeldView
   pub at : slice_get w.sites i ≡ Some node
   pub up : node.up ≡ Some before
-  pub steps : Steps node.id node.nodes before e acts outputs after
+  pub steps : Steps node.place before e acts outputs after
 
 committed_at : (w : World) (j i : ℕ) (n : NodeView) (d e : Event) (acts : List Act) (outputs : List Output) (w' : World) → slice_get w.sites j ≡ Some n → EventAt w j n d (Released i e acts outputs) w' → Committed w i e acts outputs
 committed_at w j i n d e acts outputs w' at h = record {
@@ -106,7 +106,7 @@ committed_at w j i n d e acts outputs w' at h = record {
   after = h.2.1;
   at = subst (λ k. slice_get w.sites k ≡ Some n) (sym h.0) at;
   up = h.2.2;
-  steps = subst (λ v. Steps n.id n.nodes h.2.0 v acts outputs h.2.1) (sym h.1) h.2.3;
+  steps = subst (λ v. Steps n.place h.2.0 v acts outputs h.2.1) (sym h.1) h.2.3;
 }
 
 pub committed : (w : World) (step : Step) (i : ℕ) (e : Event) (acts : List Act) (outputs : List Output) (w' : World) → Happens w step (Released i e acts outputs) w' → Committed w i e acts outputs

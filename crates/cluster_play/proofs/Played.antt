@@ -5,7 +5,7 @@ use denote.Enum.Bare.{sameb}
 use Rattle.cluster_play.specs.contracts.fault.PlayFault.{the_type}
 use Rattle.cluster_play.specs.declared.cluster.Cluster.{Cluster}
 use Rattle.cluster_play.specs.declared.fault.PlayFault.{PlayFault}
-use Rattle.cluster_play.specs.declared.fault.PlayFault.TheVariants.{UnknownNode, UnknownFrame, NoMemory, Spent}
+use Rattle.cluster_play.specs.declared.fault.PlayFault.TheVariants.{BadTables, UnknownNode, UnknownFrame, NoMemory, Spent}
 use Rattle.cluster_play.specs.declared.line.Line.{Line}
 use Rattle.cluster_play.specs.declared.step.Step.{Step}
 use Rattle.cluster_play.specs.declared.step.Step.TheVariants as steps
@@ -62,6 +62,11 @@ lacks_memory w (steps.Event i e) h = let no = h.0 in cc
 lacks_memory w (steps.Deliver number at) (inl h) = let no = h.0 in cc
 lacks_memory w (steps.Deliver number at) (inr h) = let no = h.0 in cc
 
+lacks_tables : {P : Type 0} (w : World) (step : Step) → Lacks w step BadTables → P
+lacks_tables w (steps.Event i e) h = let no = h.0 in cc
+lacks_tables w (steps.Deliver number at) (inl h) = let no = h.0 in cc
+lacks_tables w (steps.Deliver number at) (inr h) = let no = h.0 in cc
+
 lacks_spent : {P : Type 0} (w : World) (step : Step) → Lacks w step Spent → P
 lacks_spent w (steps.Event i e) h = let no = h.0 in cc
 lacks_spent w (steps.Deliver number at) (inl h) = let no = h.0 in cc
@@ -69,10 +74,12 @@ lacks_spent w (steps.Deliver number at) (inr h) = let no = h.0 in cc
 
 pub refused : (c c' : Cluster) (mid : World) (steps : List Step) (k : ℕ) (step : Step) (lines : List Line) (fault : PlayFault) → k < length steps → step ≡ get_or steps k step
     → IsPlayed (world c) (take k steps) lines mid → ((fault ≡ NoMemory) × RunsOut mid step (world c')) ⊎ (Lacks mid step fault × (world c' ≡ mid)) → is_spent c' ≡ sameb the_type fault NoMemory → IsRefused c steps fault c'
+refused c c' mid steps k step lines BadTables lt is before (inl e) spent = let no = e.0 in cc
 refused c c' mid steps k step lines UnknownNode lt is before (inl e) spent = let no = e.0 in cc
 refused c c' mid steps k step lines UnknownFrame lt is before (inl e) spent = let no = e.0 in cc
 refused c c' mid steps k step lines NoMemory lt is before (inl e) spent = (short (world c) mid (world c') steps k step lines lt is before e.1, spent)
 refused c c' mid steps k step lines Spent lt is before (inl e) spent = let no = e.0 in cc
+refused c c' mid steps k step lines BadTables lt is before (inr h) spent = lacks_tables mid step h.0
 refused c c' mid steps k step lines UnknownNode lt is before (inr h) spent = (subst (StopsAt (world c) steps UnknownNode) (sym h.1) (stops (world c) mid steps k step lines UnknownNode lt is before h.0), spent)
 refused c c' mid steps k step lines UnknownFrame lt is before (inr h) spent = (subst (StopsAt (world c) steps UnknownFrame) (sym h.1) (stops (world c) mid steps k step lines UnknownFrame lt is before h.0), spent)
 refused c c' mid steps k step lines NoMemory lt is before (inr h) spent = lacks_memory mid step h.0

@@ -1,5 +1,5 @@
 -- What a node shows is what its operations say.
-use Rattle.std.proofs.Common.{◌≡◌, ◌↔◌, ℕ, ◌||◌, List, ◌++◌, Some, sym, ap, ◌∙◌, subst}
+use Rattle.std.proofs.Common.{◌≡◌, ◌↔◌, ℕ, ◌||◌, List, ◌++◌, Some, ap, ◌∙◌, subst}
 use Rattle.std.specs.FinMap as map
 use Rattle.causal_context.specs.Dots.{Dot}
 use Rattle.mqtt_message.specs.declared.message.Message.{Message}
@@ -9,8 +9,8 @@ use Rattle.replica_store.specs.Answers.{IsAnswer, IsAnswerOf}
 use Rattle.replica_store.specs.Operations.{dot_of, IsLive}
 use Rattle.replica_store.proofs.Answered.{answer_is}
 use Rattle.replica_store.proofs.Views.{live_is}
-use Rattle.broker_node.specs.Acts.{Act, Runs, gather, op_in, merge_in}
-use Rattle.broker_node.specs.View.{HeldView}
+use Rattle.node_work.specs.Acts.{Act, gather, op_in, merge_in}
+use Rattle.node_work.specs.View.{HeldView}
 use Rattle.cluster_play.specs.Worlds.{World, Released, Happens}
 use Rattle.cluster_play.specs.Runs.{Moment, IsHonestStep}
 use Rattle.cluster_play.specs.Histories.{Reached, made, taken, gained, operations, taken_amid, operations_amid}
@@ -43,9 +43,9 @@ node_holds_amid run w w' m r honest happens i before mid a =
     let known = known_event w m.step i a.event acts a.outputs w' honest released in
     let x = explained run w r in
     let here = x.sites i a.holds.node a.holds.at in
-    let all = all_merged (made run) w.frames x.deltas c.node.id c.node.nodes c.before c.after a.event acts a.outputs known c.steps in
+    let all = all_merged (made run) w.frames x.deltas c.node.place c.before c.after a.event acts a.outputs known c.steps in
     let own_acts = front (made run) (gather merge_in before) (gather merge_in a.rest) (subst (AllSound (made run)) (gather_both merge_in before a.rest) all) in
-    let g = site_grows (made run) (λ j d. taken j run d) w i a.holds.node x a.holds.at a.held mid before a.holds.up (subst (λ n. Runs n a.held before mid) (sym here.id) a.runs) own_acts in
+    let g = site_grows (made run) (λ j d. taken j run d) w i a.holds.node x a.holds.at a.held mid before a.holds.up a.runs own_acts in
     let state = state_by (made run ++ gather op_in before) mid.store (taken_amid i run before) g.grown.sound (λ d. g.takes d ∙ ap (λ b. b || gained before d) ((here.up a.held a.holds.up).listed d)) in
     record {
       state = state;

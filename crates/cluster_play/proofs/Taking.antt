@@ -10,13 +10,15 @@ use Rattle.replica_store.specs.States.{State}
 use Rattle.broker_node.specs.declared.event.Event.{Event}
 use Rattle.broker_node.specs.declared.event.EventKind.{EventKind}
 use Rattle.broker_node.specs.declared.event.EventKind.TheVariants as kinds
-use Rattle.broker_node.specs.declared.frame.Frame.{Frame}
-use Rattle.broker_node.specs.declared.frame.FrameBody.{FrameBody}
-use Rattle.broker_node.specs.declared.frame.FrameBody.TheVariants.{Delta, Know}
-use Rattle.broker_node.specs.declared.outcome.Output.{Output}
-use Rattle.broker_node.specs.declared.outcome.Output.TheVariants.{Send, Close, Frame as Release}
-use Rattle.broker_node.specs.Acts.{Act, Moment as TakesMoment, Began, Store, Connection, Out, Acknowledged, Made, Merged, gather, op_in, merge_in, output_in}
-use Rattle.broker_node.specs.Step.{brought, is_for, states_in}
+use Rattle.node_work.specs.declared.frame.Frame.{Frame}
+use Rattle.node_work.specs.declared.frame.FrameBody.{FrameBody}
+use Rattle.node_work.specs.declared.frame.FrameBody.TheVariants.{Delta, Know}
+use Rattle.node_work.specs.declared.outcome.Output.{Output}
+use Rattle.node_work.specs.declared.outcome.Output.TheVariants.{Send, Close, Frame as Release}
+use Rattle.node_work.specs.Acts.{Act, Moment as TakesMoment, Began, Store, Connection, Session, Out, Named, Acknowledged, Passed, Dropped, Made, Merged, gather, op_in, merge_in, output_in}
+use Rattle.broker_node.specs.Step.{brought}
+use Rattle.node_work.specs.Frames.{is_for, states_in}
+use Rattle.node_work.specs.View.{Place, nodes_of}
 use Rattle.cluster_play.specs.declared.step.Step.{Step}
 use Rattle.cluster_play.specs.Worlds.{World, Fate, Released, Faulted, Was_down, Happens, frames_in}
 use Rattle.cluster_play.specs.Runs.{Moment, Run, released, IsKnown}
@@ -24,7 +26,7 @@ use Rattle.cluster_play.specs.Histories.{Reached, site, event_of, acts_of, gaine
 use Rattle.cluster_play.specs.Laws.{Ships, MakesDot, BringsDot}
 use Rattle.cluster_play.proofs.Bools.{or_true, or_left, or_right, and_true, nat_is, dot_is, dot_same, some_is, none-some}
 use Rattle.cluster_play.proofs.Sites.{get_append}
-use Rattle.cluster_play.proofs.Growing.{no_offered_frame}
+use Rattle.cluster_play.proofs.Growing.{no_session_frame}
 use Rattle.cluster_play.proofs.Kept.{explained}
 use Rattle.cluster_play.proofs.Paths.{committed, known_event, released_event, step_frames, taken_both, midway}
 use Rattle.cluster_play.proofs.Catching.{any_lists, sent_lists, catch_up}
@@ -43,8 +45,12 @@ gained_from (Store (Merged t) ∷ acts) d h = elim (or_true (set.contains t.take
   | inr b ↦ elim (gained_from acts d b) [ inl r ↦ inl r | inr r ↦ inr (or_right (set.contains t.taken d) (any_lists (gather merge_in acts) d) r) ]
 ]
 gained_from (Connection a ∷ acts) d h = gained_from acts d h
+gained_from (Session a ∷ acts) d h = gained_from acts d h
 gained_from (Out o ∷ acts) d h = gained_from acts d h
-gained_from (Acknowledged c packet at grants offers ∷ acts) d h = gained_from acts d h
+gained_from (Named number ∷ acts) d h = gained_from acts d h
+gained_from (Acknowledged client packet at grants offers ∷ acts) d h = gained_from acts d h
+gained_from (Passed m copies lost ∷ acts) d h = gained_from acts d h
+gained_from (Dropped ∷ acts) d h = gained_from acts d h
 
 made_gains : (acts : List Act) (o : Operation) (d : Dot) → Among o (gather op_in acts) → dot_of o ≡ d → gained acts d ≡ true
 made_gains [] o d a e = absurd a
@@ -54,8 +60,12 @@ made_gains (Store (Made p) ∷ acts) o d (inl s) e = or_left (same_dot (dot_of p
 made_gains (Store (Made p) ∷ acts) o d (inr b) e = or_right (same_dot (dot_of p) d) (gained acts d) (made_gains acts o d b e)
 made_gains (Store (Merged t) ∷ acts) o d a e = or_right (set.contains t.taken d) (gained acts d) (made_gains acts o d a e)
 made_gains (Connection c ∷ acts) o d a e = made_gains acts o d a e
+made_gains (Session c ∷ acts) o d a e = made_gains acts o d a e
 made_gains (Out x ∷ acts) o d a e = made_gains acts o d a e
-made_gains (Acknowledged c packet at grants offers ∷ acts) o d a e = made_gains acts o d a e
+made_gains (Named number ∷ acts) o d a e = made_gains acts o d a e
+made_gains (Acknowledged client packet at grants offers ∷ acts) o d a e = made_gains acts o d a e
+made_gains (Passed m copies lost ∷ acts) o d a e = made_gains acts o d a e
+made_gains (Dropped ∷ acts) o d a e = made_gains acts o d a e
 
 -- the step that takes a dot
 taken_at : (i : ℕ) (run : List Moment) (d : Dot) → taken i run d ≡ true
@@ -96,17 +106,19 @@ if_lists : (b : Bool) (ts : List State) (d : Dot) → any_lists (cond b ts []) d
 if_lists true ts d h = (refl, h)
 if_lists false ts d h = cc
 
-frame_lists : (id nodes : ℕ) (e : EventKind) (d : Dot) → any_lists (brought id nodes e) d ≡ true → FrameLists true id e d
-frame_lists id nodes kinds.Started d h = cc
-frame_lists id nodes (kinds.Opened c) d h = cc
-frame_lists id nodes (kinds.Piece c bytes) d h = cc
-frame_lists id nodes (kinds.Frame f) d h =
-    let taken = if_lists (is_for id nodes f) (states_in f.body) d h in
+frame_lists : (p : Place) (e : EventKind) (d : Dot) → any_lists (brought p e) d ≡ true → FrameLists true p.id e d
+frame_lists p kinds.Started d h = cc
+frame_lists p (kinds.Opened c) d h = cc
+frame_lists p (kinds.Piece c bytes) d h = cc
+frame_lists p (kinds.Closed c) d h = cc
+frame_lists p (kinds.Frame f) d h =
+    let taken = if_lists (is_for p f) (states_in f.body) d h in
     let t = body_lists f.body d taken.1 in
-    let parts = and_true (nat_eq f.to id && not (nat_eq f.from id)) (nat_lt f.from nodes) taken.0 in
-    record { begun = refl; frame = f; brings = refl; to = nat_is f.to id (and_true (nat_eq f.to id) (not (nat_eq f.from id)) parts.0).0; state = t.0; is_delta = t.1; lists = t.2 }
-frame_lists id nodes (kinds.Ship peer) d h = cc
-frame_lists id nodes (kinds.Evict client) d h = cc
+    let parts = and_true (nat_eq f.to p.id && not (nat_eq f.from p.id)) (nat_lt f.from (nodes_of p)) taken.0 in
+    record { begun = refl; frame = f; brings = refl; to = nat_is f.to p.id (and_true (nat_eq f.to p.id) (not (nat_eq f.from p.id)) parts.0).0; state = t.0; is_delta = t.1; lists = t.2 }
+frame_lists p (kinds.Ship peer) d h = cc
+frame_lists p kinds.Tick d h = cc
+frame_lists p (kinds.Evict client) d h = cc
 
 -- what a step merges came with its frame
 brings_dot : (run before later : List Moment) (m : Moment) (w : World) → run ≡ before ++ m ∷ later → Reached run w → (i : ℕ) (d : Dot) → site m.fate ≡ i
@@ -116,9 +128,9 @@ brings_dot run before later m w is r i d at gain merged =
     let j = site m.fate in
     let fate = gaining_released m.fate d gain in
     let c = committed half.mid m.step j fate.0 (acts_of m.fate) fate.1 half.path.0 (subst (λ f. Happens half.mid m.step f half.path.0) fate.2 half.path.1) in
-    let came = if_lists c.before.started (brought c.node.id c.node.nodes fate.0.kind) d (ap (λ ts. any_lists ts d) (sym c.steps.merged) ∙ merged) in
-    let f = frame_lists c.node.id c.node.nodes fate.0.kind d came.1 in
-    let here : c.node.id ≡ j = ((explained before half.mid half.reached).sites j c.node c.at).id in
+    let came = if_lists c.before.started (brought c.node.place fate.0.kind) d (ap (λ ts. any_lists ts d) (sym c.steps.merged) ∙ merged) in
+    let f = frame_lists c.node.place fate.0.kind d came.1 in
+    let here : c.node.place.id ≡ j = ((explained before half.mid half.reached).sites j c.node c.at).id in
     let to : f.frame.to ≡ j = f.to ∙ here in
     record {
       before = before;
@@ -169,12 +181,16 @@ act_of (TakesMoment at ∷ acts) k f h = later_out (TakesMoment at) acts f (act_
 act_of (Began ∷ acts) k f h = later_out Began acts f (act_of acts k f h)
 act_of (Store a ∷ acts) k f h = later_out (Store a) acts f (act_of acts k f h)
 act_of (Connection a ∷ acts) k f h = later_out (Connection a) acts f (act_of acts k f h)
+act_of (Session a ∷ acts) k f h =
+    later_out (Session a) acts f (act_of acts k f (subst (λ fs. slice_get fs k ≡ Some f) (no_session_frame a (gather output_in acts)) h))
 act_of (Out (Send c bytes) ∷ acts) k f h = later_out (Out (Send c bytes)) acts f (act_of acts k f h)
 act_of (Out (Close c) ∷ acts) k f h = later_out (Out (Close c)) acts f (act_of acts k f h)
 act_of (Out (Release g) ∷ acts) zero f h = ([], acts, ap (λ x. Out (Release x) ∷ acts) (some_is h))
 act_of (Out (Release g) ∷ acts) (suc k) f h = later_out (Out (Release g)) acts f (act_of acts k f h)
-act_of (Acknowledged c packet at grants offers ∷ acts) k f h =
-    later_out (Acknowledged c packet at grants offers) acts f (act_of acts k f (subst (λ fs. slice_get fs k ≡ Some f) (no_offered_frame c at offers (gather output_in acts)) h))
+act_of (Named number ∷ acts) k f h = later_out (Named number) acts f (act_of acts k f h)
+act_of (Acknowledged client packet at grants offers ∷ acts) k f h = later_out (Acknowledged client packet at grants offers) acts f (act_of acts k f h)
+act_of (Passed m copies lost ∷ acts) k f h = later_out (Passed m copies lost) acts f (act_of acts k f h)
+act_of (Dropped ∷ acts) k f h = later_out Dropped acts f (act_of acts k f h)
 
 released_by : (w : World) (step : Step) (fate : Fate) (w' : World) → Happens w step fate w' → (k : ℕ) (f : Frame) → slice_get (released fate) k ≡ Some f → Outs (acts_of fate) f
 released_by w step (Released i e acts outputs) w' h k f at =

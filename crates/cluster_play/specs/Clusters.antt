@@ -1,16 +1,26 @@
 -- What is seen of a cluster.
-use Rattle.std.specs.Prelude.{◌≡◌, ◌↔◌, ℕ, Bool, IsTrue, Option, Some, None, length, option_and_then, slice_get}
+use Rattle.std.specs.Prelude.{◌≡◌, ◌↔◌, ◌==◌, ◌&&◌, nat_le, List, map as map_list, ℕ, Bool, IsTrue, Option, Some, None, length, option_and_then, slice_get}
 use Rattle.std.specs.FinMap as map
+use Rattle.std.specs.List.{list_all}
+use Rattle.home_table.specs.Table.{Table}
 use Rattle.causal_context.specs.Dots.{Dots}
 use Rattle.subscription_set.specs.Standing.{live}
 use Rattle.replica_store.specs.Retained.{with_message}
-use Rattle.broker_node.specs.View.{HeldView}
+use Rattle.node_work.specs.View.{HeldView}
 use Rattle.cluster_play.specs.declared.cluster.Cluster.{Cluster}
 use Rattle.cluster_play.specs.Worlds.{World}
 
 -- the world that a cluster is
 abbrev pub world : Cluster → World
 world c = record { sites = c.nodes.items; frames = c.frames.items }
+
+-- the tables of homes of its nodes, in order
+abbrev pub homes_of : World → List Table
+homes_of w = map_list (λ n. n.place.homes) w.sites
+
+-- from 1 to 64 tables, each for so many nodes
+abbrev pub are_tables : List Table → Bool
+are_tables tables = nat_le 1 (length tables) && nat_le (length tables) 64 && list_all (λ t. length t.nodes == length tables) tables
 
 -- memory has run out, and the cluster plays no more
 abbrev pub is_spent : Cluster → Bool

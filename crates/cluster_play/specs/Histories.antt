@@ -3,11 +3,12 @@ use Rattle.std.specs.Prelude.{◌≡◌, ℕ, ◌++◌, List, [], ◌∷◌, Opt
 use Rattle.std.specs.FinSet as set
 use Rattle.causal_context.specs.Dots.{Dot}
 use Rattle.broker_node.specs.declared.event.Event.{Event}
-use Rattle.broker_node.specs.declared.outcome.Output.{Output}
-use Rattle.broker_node.specs.Acts.{Act, Moment as TakesMoment, Began, Store, Connection, Out, Acknowledged, Made, Merged, gather, op_in}
-use Rattle.broker_node.specs.View.{NodeView, opened}
+use Rattle.node_work.specs.declared.outcome.Output.{Output}
+use Rattle.node_work.specs.Acts.{Act, Moment as TakesMoment, Began, Store, Connection, Session, Out, Named, Acknowledged, Passed, Dropped, Made, Merged, gather, op_in}
+use Rattle.node_work.specs.View.{NodeView, opened}
 use Rattle.replica_store.specs.declared.operation.Operation.{Operation}
 use Rattle.replica_store.specs.Operations.{dot_of}
+use Rattle.home_table.specs.Table.{Table}
 use Rattle.cluster_play.specs.Worlds.{World, Fate, Released, Faulted, Was_down}
 use Rattle.cluster_play.specs.Runs.{Moment, Run, IsHonest}
 
@@ -54,8 +55,12 @@ gain_in Began d = false
 gain_in (Store (Made o)) d = same_dot (dot_of o) d
 gain_in (Store (Merged s)) d = set.contains s.taken d
 gain_in (Connection a) d = false
+gain_in (Session a) d = false
 gain_in (Out o) d = false
-gain_in (Acknowledged c packet at grants offers) d = false
+gain_in (Named number) d = false
+gain_in (Acknowledged client packet at grants offers) d = false
+gain_in (Passed m copies lost) d = false
+gain_in Dropped d = false
 
 abbrev pub gained : List Act → Dot → Bool
 gained [] d = false
@@ -87,8 +92,12 @@ moment_in (TakesMoment at) = at
 moment_in Began = 0
 moment_in (Store a) = 0
 moment_in (Connection a) = 0
+moment_in (Session a) = 0
 moment_in (Out o) = 0
-moment_in (Acknowledged c packet at grants offers) = 0
+moment_in (Named number) = 0
+moment_in (Acknowledged client packet at grants offers) = 0
+moment_in (Passed m copies lost) = 0
+moment_in Dropped = 0
 
 -- the greatest one
 abbrev pub latest : List Act → ℕ
@@ -104,9 +113,24 @@ moment_of i (m ∷ ms) = max (cond (nat_eq (site m.fate) i) (latest (acts_of m.f
 abbrev pub moment_amid : ℕ → List Moment → List Act → ℕ
 moment_amid i run acts = max (moment_of i run) (latest acts)
 
+-- the acts that a step committed at node i
+abbrev pub own_acts : ℕ → Fate → List Act
+own_acts i fate = cond (nat_eq (site fate) i) (acts_of fate) []
+
+-- those of a run, in order
+abbrev pub acts_at : ℕ → List Moment → List Act
+acts_at i [] = []
+acts_at i (m ∷ ms) = own_acts i m.fate ++ acts_at i ms
+
+-- the node of a seat was just opened, with a table of homes for so many nodes
+pub record IsNew (nodes i : ℕ) (n : NodeView) : Type 0 where
+  pub homes : Table
+  pub fits : length homes.nodes ≡ nodes
+  pub is : n ≡ opened (record { id = i; homes = homes })
+
 -- new nodes, and no frame
 pub record IsStart (w : World) : Type 0 where
-  pub sites : (i : ℕ) (n : NodeView) → slice_get w.sites i ≡ Some n → n ≡ opened i (length w.sites)
+  pub sites : (i : ℕ) (n : NodeView) → slice_get w.sites i ≡ Some n → IsNew (length w.sites) i n
   pub frames : w.frames ≡ []
 
 -- the world after a run from the start in which no frame is forged

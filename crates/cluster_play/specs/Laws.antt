@@ -5,6 +5,9 @@ use Rattle.std.specs.FinMap as map
 use Rattle.std.specs.FinSet as set
 use Rattle.causal_context.specs.Dots.{Dot}
 use Rattle.mqtt_message.specs.declared.message.Message.{Message}
+use Rattle.mqtt_sessions.specs.State.{new_session}
+use Rattle.session_laws.specs.Runs.{Run as SessionRun}
+use Rattle.session_table.specs.Seats.{Seat}
 use Rattle.subscription_set.specs.declared.entry.Entry.{Entry}
 use Rattle.subscription_set.specs.Standing.{find_entry, live}
 use Rattle.replica_store.specs.declared.operation.Operation.{Operation}
@@ -14,18 +17,21 @@ use Rattle.replica_store.specs.StateOf.{IsStateOf}
 use Rattle.replica_store.specs.States.{State}
 use Rattle.broker_node.specs.declared.event.Event.{Event}
 use Rattle.broker_node.specs.declared.event.EventKind.TheVariants as kinds
-use Rattle.broker_node.specs.declared.frame.Frame.{Frame}
-use Rattle.broker_node.specs.declared.frame.FrameBody.TheVariants.{Delta}
-use Rattle.broker_node.specs.declared.outcome.Output.{Output}
-use Rattle.broker_node.specs.declared.outcome.Output.TheVariants.{Frame as Release}
-use Rattle.broker_node.specs.Acts.{Act, Store, Out, Made, Runs}
-use Rattle.broker_node.specs.View.{HeldView, NodeView}
+use Rattle.node_work.specs.declared.frame.Frame.{Frame}
+use Rattle.node_work.specs.declared.frame.FrameBody.TheVariants.{Delta}
+use Rattle.node_work.specs.declared.outcome.Output.{Output}
+use Rattle.node_work.specs.declared.outcome.Output.TheVariants.{Frame as Release}
+use Rattle.node_work.specs.Acts.{Act, Store, Out, Made, Passed, Runs}
+use Rattle.node_work.specs.Passing.{IsPassed}
+use Rattle.message_copies.specs.declared.plain.PlainCopy.{PlainCopy as Copy}
+use Rattle.node_work.specs.View.{HeldView, NodeView, fresh}
+use Rattle.node_laws.specs.Lives.{life}
 use Rattle.cluster_play.specs.declared.fault.PlayFault.{PlayFault}
 use Rattle.cluster_play.specs.declared.line.Line.{Line}
 use Rattle.cluster_play.specs.declared.step.Step.{Step}
 use Rattle.cluster_play.specs.Worlds.{World, Fate, Released, Happens, Lacks, numbered}
 use Rattle.cluster_play.specs.Runs.{Moment, Run, BringsNoFrame, IsHonestStep, IsHonest, steps_of, printed}
-use Rattle.cluster_play.specs.Histories.{IsStart, Reached, site, event_of, acts_of, ops_of, made, taken, operations, taken_amid, operations_amid, moment_amid}
+use Rattle.cluster_play.specs.Histories.{IsStart, Reached, site, event_of, acts_of, ops_of, made, taken, operations, taken_amid, operations_amid, moment_amid, acts_at}
 use Rattle.cluster_play.specs.Answering.{Acknowledges, SendsAnswers, OffersAlike}
 use Rattle.cluster_play.specs.NextOperations.{IsNext}
 use Rattle.cluster_play.specs.Playing.{IsPlayed}
@@ -62,7 +68,7 @@ pub record HoldsAmid (w : World) (m : Moment) (i : ℕ) (before : List Act) (mid
   pub commits : m.fate ≡ Released i event (before ++ rest) outputs
   pub held : HeldView
   pub holds : Holds w i held
-  pub runs : Runs i held before mid
+  pub runs : Runs holds.node.place held before mid
 
 -- amid a step a node holds the state of what it has taken until then, and answers by it
 pub record AnswersBy (O : List Operation) (h : HeldView) : Type 0 where
@@ -174,14 +180,14 @@ abbrev pub TakesWhatItMakesOrIsBrought : Type 0
 TakesWhatItMakesOrIsBrought =
     (run : List Moment) (w : World) → Reached run w → (i : ℕ) (d : Dot) → (taken i run d ≡ true) ↔ (MakesDot i run d ⊎ BringsDot i run d)
 
--- what goes out after SUBACK are, filter by filter, the answers of what the node has taken by then, at its moment
+-- what is offered after SUBACK, one by one, are, filter by filter, the answers of what the node has taken by then, at its moment
 abbrev pub AnswersAsSent : Type 0
 AnswersAsSent =
     (run later : List Moment) (m : Moment) (w : World) → Reached (run ++ m ∷ later) w
     → (before : List Act) (s : Acknowledges m before)
     → SendsAnswers (operations_amid (site m.fate) run before) m before s × (s.at ≡ moment_amid (site m.fate) run before)
 
--- so nodes that have taken the same by then, in two steps of a run, send the same to the same subscription at the same moment
+-- so nodes that have taken the same by then, in two steps of a run, offer the same to the same subscription at the same moment
 abbrev pub SendAlike : Type 0
 SendAlike =
     (whole run later run' later' : List Moment) (m m' : Moment) (w : World) → Reached whole w → whole ≡ run ++ m ∷ later → whole ≡ run' ++ m' ∷ later'
@@ -189,6 +195,44 @@ SendAlike =
     → moment_amid (site m.fate) run before ≡ moment_amid (site m'.fate) run' before'
     → ((d : Dot) → taken_amid (site m.fate) run before d ≡ taken_amid (site m'.fate) run' before' d)
     → OffersAlike (operations_amid (site m.fate) run before) (operations_amid (site m'.fate) run' before') s.at s.grants s'.grants s.offers s'.offers
+
+-- a running node holds what its acts in the run lead to, from the opening on
+abbrev pub HoldsWhatItsActsLeave : Type 0
+HoldsWhatItsActsLeave = (run : List Moment) (w : World) → Reached run w → (i : ℕ) (h : HeldView) (at : Holds w i h) → Runs at.node.place fresh (acts_at i run) h
+
+-- so each of its sessions is what the calls since the session last began make of a new one
+abbrev pub SessionsAreRuns : Type 0
+SessionsAreRuns =
+    (run : List Moment) (w : World) → Reached run w → (i : ℕ) (h : HeldView) → Holds w i h
+    → (client : List ℕ) (seat : Seat) → map.get h.sessions client ≡ Some seat → SessionRun (new_session client) (life client (acts_at i run) []) seat.session
+
+-- amid a step too
+abbrev pub SessionsAreRunsAmid : Type 0
+SessionsAreRunsAmid =
+    (run : List Moment) (w : World) (m : Moment) → Reached run w → (i : ℕ) (before : List Act) (mid : HeldView) → HoldsAmid w m i before mid
+    → (client : List ℕ) (seat : Seat) → map.get mid.sessions client ≡ Some seat → SessionRun (new_session client) (life client (acts_at i run ++ before) []) seat.session
+
+-- a step passes a message on after these of its acts: it makes these copies, and so many picks are lost
+pub record PassesOn (m : Moment) (before : List Act) : Type 0 where
+  pub message : Message
+  pub copies : List Copy
+  pub lost : ℕ
+  pub after : List Act
+  pub acts : acts_of m.fate ≡ before ++ Passed message copies lost ∷ after
+
+-- the copies are those of the message for what the node holds there, at its place: its turn, its sessions, and the live
+-- subscriptions, which are those of the operations that it has taken until then
+pub record MakesCopies (run : List Moment) (m : Moment) (before : List Act) (s : PassesOn m before) : Type 0 where
+  pub world : World
+  pub reached : Reached run world
+  pub held : HeldView
+  pub there : HoldsAmid world m (site m.fate) before held
+  pub made : IsPassed there.holds.node.place held s.message s.copies s.lost
+  pub live : (dot : Dot) (entry : Entry) → (find_entry dot (live held.store.subscriptions) ≡ Some entry) ↔ IsLive (operations_amid (site m.fate) run before) dot entry
+
+-- a message that is passed on makes exactly these copies
+abbrev pub CopiesAsTaken : Type 0
+CopiesAsTaken = (run later : List Moment) (m : Moment) (w : World) → Reached (run ++ m ∷ later) w → (before : List Act) (s : PassesOn m before) → MakesCopies run m before s
 
 -- a frame keeps its number
 abbrev pub FramesStay : Type 0

@@ -3,7 +3,7 @@
 use Rattle.std.specs.Prelude.{ℕ, List, ◌++◌, codes}
 use Rattle.std.specs.Fmt.{decimal}
 use Rattle.hex.specs.Hex.{encode_lower}
-use Rattle.broker_node.specs.Names.{fault_name, frame_name}
+use Rattle.node_work.specs.Names.{fault_name, frame_name}
 use Rattle.cluster_play.specs.declared.line.Line.{Line}
 use Rattle.cluster_play.specs.declared.line.Line.TheVariants.{Sent, Closed, Frame, Fault, Crash, Down}
 

@@ -1,11 +1,11 @@
 -- What playing steps comes to.
 use Rattle.std.specs.Prelude.{◌≡◌, ◌⊎◌, ℕ, true, false, ◌++◌, List, ◌∷◌, length}
 use Rattle.broker_node.specs.declared.event.Event.{Event}
-use Rattle.broker_node.specs.declared.outcome.Output.{Output}
-use Rattle.broker_node.specs.Acts.{Act}
+use Rattle.node_work.specs.declared.outcome.Output.{Output}
+use Rattle.node_work.specs.Acts.{Act}
 use Rattle.cluster_play.specs.declared.cluster.Cluster.{Cluster}
 use Rattle.cluster_play.specs.declared.fault.PlayFault.{PlayFault}
-use Rattle.cluster_play.specs.declared.fault.PlayFault.TheVariants.{UnknownNode, UnknownFrame, NoMemory, Spent}
+use Rattle.cluster_play.specs.declared.fault.PlayFault.TheVariants.{BadTables, UnknownNode, UnknownFrame, NoMemory, Spent}
 use Rattle.cluster_play.specs.declared.line.Line.{Line}
 use Rattle.cluster_play.specs.declared.step.Step.{Step}
 use Rattle.cluster_play.specs.Clusters.{world, is_spent}
@@ -33,6 +33,7 @@ StopsShort w steps w' =
 
 -- why steps aren't played, and what that leaves
 abbrev pub IsRefused : Cluster → List Step → PlayFault → Cluster → Type 0
+IsRefused c steps BadTables c' = ⊥
 IsRefused c steps UnknownNode c' = StopsAt (world c) steps UnknownNode (world c') × (is_spent c' ≡ false)
 IsRefused c steps UnknownFrame c' = StopsAt (world c) steps UnknownFrame (world c') × (is_spent c' ≡ false)
 IsRefused c steps NoMemory c' = StopsShort (world c) steps (world c') × (is_spent c' ≡ true)

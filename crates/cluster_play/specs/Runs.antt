@@ -1,11 +1,11 @@
 -- A run: the steps that were played, each with what it came to.
 use Rattle.std.specs.Prelude.{◌≡◌, ℕ, ◌+◌, ◌++◌, List, [], ◌∷◌, Some, flat_map, length, slice_get}
-use Rattle.broker_node.specs.Names.{kind_of}
+use Rattle.node_work.specs.Names.{kind_of}
 use Rattle.broker_node.specs.declared.event.EventKind.{EventKind}
 use Rattle.broker_node.specs.declared.event.EventKind.TheVariants as kinds
-use Rattle.broker_node.specs.declared.frame.Frame.{Frame}
-use Rattle.broker_node.specs.declared.outcome.Output.{Output}
-use Rattle.broker_node.specs.declared.outcome.Output.TheVariants.{Send, Close, Frame as Release}
+use Rattle.node_work.specs.declared.frame.Frame.{Frame}
+use Rattle.node_work.specs.declared.outcome.Output.{Output}
+use Rattle.node_work.specs.declared.outcome.Output.TheVariants.{Send, Close, Frame as Release}
 use Rattle.cluster_play.specs.declared.line.Line.{Line}
 use Rattle.cluster_play.specs.declared.line.Line.TheVariants as lines
 use Rattle.cluster_play.specs.declared.step.Step.{Step}
@@ -63,8 +63,10 @@ abbrev pub IsKnown : List Frame → EventKind → Type 0
 IsKnown sent kinds.Started = Unit {0}
 IsKnown sent (kinds.Opened connection) = Unit {0}
 IsKnown sent (kinds.Piece connection bytes) = Unit {0}
+IsKnown sent (kinds.Closed connection) = Unit {0}
 IsKnown sent (kinds.Frame frame) = (n : ℕ) × (slice_get sent n ≡ Some frame)
 IsKnown sent (kinds.Ship peer) = Unit {0}
+IsKnown sent kinds.Tick = Unit {0}
 IsKnown sent (kinds.Evict client) = Unit {0}
 
 -- an event that brings no frame
@@ -72,8 +74,10 @@ abbrev pub BringsNone : EventKind → Type 0
 BringsNone kinds.Started = Unit {0}
 BringsNone (kinds.Opened connection) = Unit {0}
 BringsNone (kinds.Piece connection bytes) = Unit {0}
+BringsNone (kinds.Closed connection) = Unit {0}
 BringsNone (kinds.Frame frame) = ⊥
 BringsNone (kinds.Ship peer) = Unit {0}
+BringsNone kinds.Tick = Unit {0}
 BringsNone (kinds.Evict client) = Unit {0}
 
 -- a step that brings no frame of its own: a delivery brings one that was released

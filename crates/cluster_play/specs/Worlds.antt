@@ -2,13 +2,13 @@
 use Rattle.std.specs.Prelude.{◌≡◌, ℕ, zero, suc, ◌++◌, List, [], ◌∷◌, Option, Some, None, ◌⊎◌, flat_map, slice_get, slice_set}
 use Rattle.broker_node.specs.declared.event.Event.{Event}
 use Rattle.broker_node.specs.declared.event.EventKind.TheVariants as kinds
-use Rattle.broker_node.specs.declared.fault.NodeFault.{NodeFault}
-use Rattle.broker_node.specs.declared.frame.Frame.{Frame}
-use Rattle.broker_node.specs.declared.outcome.Output.{Output}
-use Rattle.broker_node.specs.declared.outcome.Output.TheVariants.{Send, Close, Frame as Release}
-use Rattle.broker_node.specs.Acts.{Act}
+use Rattle.node_work.specs.declared.fault.NodeFault.{NodeFault}
+use Rattle.node_work.specs.declared.frame.Frame.{Frame}
+use Rattle.node_work.specs.declared.outcome.Output.{Output}
+use Rattle.node_work.specs.declared.outcome.Output.TheVariants.{Send, Close, Frame as Release}
+use Rattle.node_work.specs.Acts.{Act}
 use Rattle.broker_node.specs.Step.{Steps, HasCause}
-use Rattle.broker_node.specs.View.{HeldView, NodeView}
+use Rattle.node_work.specs.View.{HeldView, NodeView}
 use Rattle.cluster_play.specs.declared.fault.PlayFault.{PlayFault}
 use Rattle.cluster_play.specs.declared.fault.PlayFault.TheVariants.{UnknownNode, UnknownFrame}
 use Rattle.cluster_play.specs.declared.step.Step.{Step}
@@ -41,11 +41,11 @@ frames_in outputs = flat_map frame_in outputs
 
 -- the node runs and holds this
 abbrev pub running : NodeView → HeldView → NodeView
-running n h = record { id = n.id; nodes = n.nodes; up = Some h }
+running n h = record { place = n.place; up = Some h }
 
 -- the node is down
 abbrev pub stopped : NodeView → NodeView
-stopped n = record { id = n.id; nodes = n.nodes; up = None }
+stopped n = record { place = n.place; up = None }
 
 -- one site is another, and frames are released
 abbrev pub changed : World → ℕ → NodeView → List Frame → World
@@ -54,8 +54,8 @@ changed w i n frames = record { sites = slice_set w.sites i n; frames = w.frames
 -- an event at the node n of site i
 abbrev pub EventAt : World → ℕ → NodeView → Event → Fate → World → Type 0
 EventAt w i n e (Released j e' acts outputs) w' =
-    (j ≡ i) × (e' ≡ e) × ((h : HeldView) × (h' : HeldView) × (n.up ≡ Some h) × Steps n.id n.nodes h e acts outputs h' × (w' ≡ changed w i (running n h') (frames_in outputs)))
-EventAt w i n e (Faulted j fault) w' = (j ≡ i) × ((h : HeldView) × (n.up ≡ Some h) × HasCause n.id n.nodes h e fault × (w' ≡ changed w i (stopped n) []))
+    (j ≡ i) × (e' ≡ e) × ((h : HeldView) × (h' : HeldView) × (n.up ≡ Some h) × Steps n.place h e acts outputs h' × (w' ≡ changed w i (running n h') (frames_in outputs)))
+EventAt w i n e (Faulted j fault) w' = (j ≡ i) × ((h : HeldView) × (n.up ≡ Some h) × HasCause n.place h e fault × (w' ≡ changed w i (stopped n) []))
 EventAt w i n e (Was_down j) w' = (j ≡ i) × (n.up ≡ None) × (w' ≡ w)
 
 -- the event that a frame is to its receiver

@@ -1,8 +1,9 @@
 //! Nodes, and the frames that they have released.
 
-ghost use Rattle.std.specs.Prelude.{◌≡◌, ◌<◌, ◌++◌, [], ℕ, true, false, length, Some, Err, IfOk, IfErr, IsOk, OnOk, ◌⊎◌, slice_get, option_map, option_copied, vec_len};
-ghost use Rattle.broker_node.specs.View.{NodeView};
-ghost use Rattle.cluster_play.specs.Clusters.{world, is_spent, held_at, holdings_of, taken_of, IsSameTaken};
+ghost use Rattle.std.specs.Prelude.{◌≡◌, ◌<◌, ◌==◌, ◌++◌, [], ℕ, true, false, length, Some, Err, IfOk, IfErr, IsOk, OnOk, ◌⊎◌, slice_get, option_map, option_copied, vec_len};
+ghost use Rattle.std.specs.List.{list_all};
+ghost use Rattle.node_work.specs.View.{NodeView};
+ghost use Rattle.cluster_play.specs.Clusters.{world, homes_of, are_tables, is_spent, held_at, holdings_of, taken_of, IsSameTaken};
 ghost use Rattle.cluster_play.specs.Histories.{IsStart};
 ghost use Rattle.cluster_play.specs.Playing.{IsPlayed, IsRefused, IsDoneStep, RunsOut};
 ghost use Rattle.cluster_play.specs.Runs.{lines_of};
@@ -16,6 +17,7 @@ use crate::release::{release, tell};
 use crate::step::Step;
 use broker_node::{Event, EventKind, Frame, Node};
 use causal_context::Context;
+use home_table::HomeTable;
 use replica_store::ReplicaStore;
 use std::alloc::Global;
 
@@ -28,17 +30,41 @@ pub struct Cluster {
     spent: bool,
 }
 
+/// Whether each table is for so many nodes.
+fn are_for(count: usize, tables: &[HomeTable]) -> bool
+    ensures { result ≡ list_all (λ t. length t.nodes == count) tables.now }
+{
+    tables.iter().all(|t| t.nodes() as usize == count)
+}
+
+/// Whether there are 1 to 64 tables, each for so many nodes.
+fn are_tables(tables: &[HomeTable]) -> bool
+    ensures { result ≡ are_tables tables.now }
+{
+    let count = tables.len();
+    1 <= count && count <= 64 && are_for(count, tables)
+}
+
 impl Cluster {
-    /// A cluster of so many new nodes, which are up and not started.
-    pub fn new(alloc: Global, nodes: u16) -> Result<Cluster, PlayFault>
+    /// A cluster of a new node for each of these tables of homes, which is up and not started.
+    /// `BadTables` exactly where there is no table or more than 64, or one has another number of nodes
+    /// than there are tables.
+    pub fn new(alloc: Global, tables: Vec<HomeTable>) -> Result<Cluster, PlayFault>
         ensures start { IfOk result (λ c. IsStart (world c)) }
-        ensures nodes { IfOk result (λ c. length (world c).sites ≡ nodes) }
+        ensures homes { IfOk result (λ c. homes_of (world c) ≡ tables.items) }
         ensures ready { IfOk result (λ c. is_spent c ≡ false) }
-        ensures err { IfErr result (λ f. f ≡ faults.NoMemory) }
+        ensures fit { are_tables tables.items ≡ true → IfErr result (λ f. f ≡ faults.NoMemory) }
+        ensures bad { are_tables tables.items ≡ false → result ≡ Err faults.BadTables }
     {
+        if !are_tables(tables.as_slice()) {
+            return Err(PlayFault::BadTables);
+        }
         let mut opened = Vec::new(alloc);
-        for id in 0..nodes {
-            opened.push(Node::open(alloc, id, nodes))?;
+        for (i, homes) in tables.iter().enumerate() {
+            let Ok(node) = Node::open(alloc, homes.copy()?, i as u16) else {
+                return Err(PlayFault::NoMemory);
+            };
+            opened.push(node)?;
         }
         Ok(Cluster {
             alloc,

@@ -11,6 +11,9 @@ use std::fmt;
 /// Why a step isn't played.
 #[derive(Clone, Copy, Debug, PartialEq, Eq)]
 pub enum PlayFault {
+    /// The tables of homes: there is none or more than 64, or one has another number of nodes than there
+    /// are tables.
+    BadTables,
     /// The cluster has no such node; the step changed nothing.
     UnknownNode,
     /// No frame has that number yet; the step changed nothing.
@@ -26,6 +29,7 @@ impl fmt::Display for PlayFault {
 
     fn fmt<W: fmt::Write>(&self, f: &mut fmt::Formatter<W>) -> fmt::Result {
         match self {
+            PlayFault::BadTables => write!(f, "BadTables"),
             PlayFault::UnknownNode => write!(f, "UnknownNode"),
             PlayFault::UnknownFrame => write!(f, "UnknownFrame"),
             PlayFault::NoMemory => write!(f, "NoMemory"),

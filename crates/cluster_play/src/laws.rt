@@ -1,5 +1,5 @@
 //! What holds in every run of a cluster. Each function does nothing: its contract is the law.
-ghost use Rattle.cluster_play.specs.Laws.{HoldsItsOperations, LiveIsOfItsOperations, AnswerIsOfItsOperations, HoldsItsOperationsAmid, OwnDots, DeltaFrames, SameTaken, AgreeWhereTheyTookTheSame, AnswerAlike, OperationsOfAStep, CatchUp, TakesWhatItMakesOrIsBrought, AnswersAsSent, SendAlike, FramesStay, LacksNothing, RunsCompose, StartIsReached, RunsGoOn, FramelessStepsAreHonest, PlayedIsReached};
+ghost use Rattle.cluster_play.specs.Laws.{HoldsItsOperations, LiveIsOfItsOperations, AnswerIsOfItsOperations, HoldsItsOperationsAmid, OwnDots, DeltaFrames, SameTaken, AgreeWhereTheyTookTheSame, AnswerAlike, OperationsOfAStep, CatchUp, TakesWhatItMakesOrIsBrought, AnswersAsSent, SendAlike, CopiesAsTaken, HoldsWhatItsActsLeave, SessionsAreRuns, SessionsAreRunsAmid, FramesStay, LacksNothing, RunsCompose, StartIsReached, RunsGoOn, FramelessStepsAreHonest, PlayedIsReached};
 
 /// Each running node holds the state of the operations that it has taken, no dot has two
 /// operations, and what a Delta frame carries is the state of the operations that it lists.
@@ -17,12 +17,18 @@ pub fn nodes_answer_for_their_operations()
     ensures amid { HoldsItsOperationsAmid }
 {}
 
-/// What goes out after SUBACK are the retained messages with which the operations answer that the node
-/// has taken by then, filter by filter; so nodes that have taken the same send the same to the same
-/// subscription at the same moment.
+/// What the client's session is offered after SUBACK, one by one, are the retained messages with which the
+/// operations answer that the node has taken by then, filter by filter; so nodes that have taken the same
+/// offer the same to the same subscription at the same moment.
 pub fn answers_go_out_as_taken()
     ensures sent { AnswersAsSent }
     ensures alike { SendAlike }
+{}
+
+/// A message that is passed on makes exactly the copies of its message for the live subscriptions of the
+/// operations that its node has taken by then, and for the turn and the sessions there.
+pub fn copies_are_made_as_taken()
+    ensures { CopiesAsTaken }
 {}
 
 /// Two running nodes whose sets of taken dots are equal have taken the same operations in the run;
@@ -47,6 +53,15 @@ pub fn frames_catch_up()
 /// come to it once it has started, and no other.
 pub fn nodes_take_what_they_make_or_are_brought()
     ensures { TakesWhatItMakesOrIsBrought }
+{}
+
+/// A running node holds what its acts in the run lead to since it was opened. So each of its sessions, between steps
+/// and amid one, comes of a run from a new session, by the calls since it last began; and what is proved of
+/// every such run holds of it.
+pub fn sessions_are_runs()
+    ensures acts { HoldsWhatItsActsLeave }
+    ensures sessions { SessionsAreRuns }
+    ensures amid { SessionsAreRunsAmid }
 {}
 
 /// The laws hold however a run is played: new nodes are reached, an honest run goes on from what is

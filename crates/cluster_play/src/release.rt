@@ -1,7 +1,7 @@
 //! What a step gives out: its lines, and its frames under their numbers.
 
 ghost use Rattle.std.specs.Prelude.{◌≡◌, ◌≢◌, ◌++◌, ◌∷◌, ◌<◌, [], length, IfErr, OnOk, vec_len, vec_capacity};
-ghost use Rattle.broker_node.specs.declared.fault.NodeFault.TheVariants.{Stopped};
+ghost use Rattle.node_work.specs.declared.fault.NodeFault.TheVariants.{Stopped};
 ghost use Rattle.cluster_play.specs.declared.line.Line.TheVariants.{Down, Fault};
 ghost use Rattle.cluster_play.specs.Runs.{client_line, client_lines, frame_lines};
 ghost use Rattle.cluster_play.specs.Worlds.{frame_in, frames_in};

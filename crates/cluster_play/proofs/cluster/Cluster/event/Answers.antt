@@ -17,7 +17,7 @@ returns-in-Ok-clause-ok c =
       Released c.args.node c.args.event.now done.acts c.in-Ok.outcome.outputs.items,
       n,
       get_there nodes.items c.args.node n (omega (arith, nodes.ok.0)) c.index_mut.ensures.value,
-      event_done (world c.args.self.now) c.args.node n n' c.args.event.now c.in-Ok.outcome.outputs.items c.release.new.frames.items done c.in-Ok.ensures.id c.in-Ok.ensures.nodes fs,
+      event_done (world c.args.self.now) c.args.node n n' c.args.event.now c.in-Ok.outcome.outputs.items c.release.new.frames.items done c.step.ensures.place fs,
       ls ∙ ap (λ xs. xs ++ (client_lines c.args.node c.in-Ok.outcome.outputs.items ++ frame_lines (length c.args.self.now.frames.items) (frames_in c.in-Ok.outcome.outputs.items))) c.reserve.ensures.items,
     ))
 
@@ -42,7 +42,7 @@ returns-in-Ok-clause-err c =
           get_there nodes.items c.args.node n (omega (arith, nodes.ok.0)) c.index_mut.ensures.value,
           (refl, refl, (done.before, done.after, done.was, done.steps, refl)),
         ),
-        sites_done (world c.args.self.now) c.args.node n c.step.new.self e outputs done c.in-Ok.ensures.id c.in-Ok.ensures.nodes,
+        sites_done (world c.args.self.now) c.args.node n c.step.new.self e outputs done c.step.ensures.place,
       ),
     )) c.release.ensures.err
 
@@ -53,7 +53,7 @@ returns-in-Err-clause-ok c =
     let e = c.in-Err.ensures in
     let lines = c.args.lines.now.items in
     let told = fault_told (world c.args.self.now) c.args.node n c.step.new.self c.args.event.now (length c.args.self.now.frames.items) lines c.tell.new.lines.items c.in-Err.fault e.cause
-    c.index_mut.ensures.value (λ d. (c.step.ensures.stopped d).1) e.id e.nodes e.err
+    c.index_mut.ensures.value (λ d. (c.step.ensures.stopped d).1) c.step.ensures.place e.err
     (λ is. c.tell.ensures.down is ∙ ap (λ xs. xs ++ Down c.args.node ∷ []) c.reserve.ensures.items)
     (λ is. c.tell.ensures.fault is ∙ ap (λ xs. xs ++ Fault c.args.node c.in-Err.fault ∷ []) c.reserve.ensures.items) in
     (told.0, n, get_there nodes.items c.args.node n (omega (arith, nodes.ok.0)) c.index_mut.ensures.value, told.1, told.2)

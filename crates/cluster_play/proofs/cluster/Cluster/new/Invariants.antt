@@ -1,6 +1,10 @@
-use Rattle.std.proofs.Common.{◌≡◌, ℕ, Some, slice_get, length}
-use Rattle.broker_node.specs.View.{NodeView, opened}
+use Rattle.std.proofs.Common.{◌≡◌, ℕ, Some, slice_get, length, map, take}
+use Rattle.node_work.specs.View.{NodeView}
+use Rattle.cluster_play.specs.Histories.{IsNew}
 use Rattle.cluster_play.proofs.cluster.Cluster.new.Given as goal
 
-abbrev pub invariant-loop-id : goal.invariant-loop-id
-invariant-loop-id l = record { each : (i : ℕ) (n : NodeView) → slice_get l.opened.items i ≡ Some n → n ≡ opened i l.nodes; count : length l.opened.items ≡ l.id }
+abbrev pub invariant-loop-i : goal.invariant-loop-i
+invariant-loop-i l = record {
+  each : (i : ℕ) (n : NodeView) → slice_get l.opened.items i ≡ Some n → IsNew (length l.fn.tables.items) i n;
+  homes : map (λ (n : NodeView). n.place.homes) l.opened.items ≡ take l.i l.fn.tables.items;
+}

@@ -17,3 +17,7 @@ returns-in-Deliver-clause-err c = subst (λ (s : Step). IfErr c.deliver.result (
 
 pub returns-else-node-len-clause-err : goal.returns-else-node-len-clause-err
 returns-else-node-len-clause-err c = IfErr-weaker c.event.result _ _ (λ f e. inl (e.0, subst (λ (s : Step). RunsOut (world c.args.self.now) s (world c.event.new.self)) (sym c.in-Event.is) e.1)) c.event.ensures.err
+
+pub returns-else-node-len-clause-ok : goal.returns-else-node-len-clause-ok
+returns-else-node-len-clause-ok c =
+    on_ok_weaker c.event.result (λ e. subst (λ (s : Step). IsDoneStep (world c.args.self.now) s c.args.lines.now.items c.event.new.lines.items (world c.event.new.self)) (sym c.in-Event.is) (e.0, (e.1, e.2, e.3), e.4)) c.event.ensures.ok
