@@ -1,5 +1,6 @@
 //! Scripts that are run.
 
+use crate::homes::tables_of;
 use crate::stop::Fault;
 use crate::task::Task;
 use broker_node::{Event, EventKind};
@@ -51,7 +52,8 @@ fn run_script<O: Write>(alloc: Global, script: &[u8], out: &mut O) -> Result<(),
         Some(Command::Nodes { nodes }) => *nodes,
         _ => 0,
     };
-    let mut cluster = Cluster::new(alloc, nodes)?;
+    let tables = tables_of(alloc, nodes, commands.as_slice())?;
+    let mut cluster = Cluster::new(alloc, tables)?;
     for command in commands {
         if let Some(step) = step_of(alloc, command)? {
             let trace = cluster.play(&[step])?;
@@ -61,10 +63,10 @@ fn run_script<O: Write>(alloc: Global, script: &[u8], out: &mut O) -> Result<(),
     write_end(alloc, &cluster, nodes, out)
 }
 
-/// The step that a command stands for; none for the number of nodes.
+/// The step that a command stands for; none for the number of nodes and for a home.
 fn step_of(alloc: Global, command: Command) -> Result<Option<Step>, Fault> {
     let step = match command {
-        Command::Nodes { nodes: _ } => return Ok(None),
+        Command::Nodes { nodes: _ } | Command::Home { prefix: _, node: _ } => return Ok(None),
         Command::Start { node, moment } => event(node, moment, EventKind::Started),
         Command::Open {
             node,
@@ -80,6 +82,12 @@ fn step_of(alloc: Global, command: Command) -> Result<Option<Step>, Fault> {
             let bytes = Bytes::new(bytes);
             event(node, moment, EventKind::Piece { connection, bytes })
         }
+        Command::Close {
+            node,
+            connection,
+            moment,
+        } => event(node, moment, EventKind::Closed { connection }),
+        Command::Tick { node, moment } => event(node, moment, EventKind::Tick),
         Command::Ship { node, peer, moment } => event(node, moment, EventKind::Ship { peer }),
         Command::Evict {
             node,

@@ -2,7 +2,9 @@
 
 use broker_script::ScriptFault;
 use cluster_play::PlayFault;
-use std::alloc::{AllocError, Global};
+use home_table::TableFault;
+use mqtt_fields::NoMemory;
+use std::alloc::{AllocError, AllocFailed, Global};
 use thiserror::Error;
 
 const USAGE: &str = "usage: broker play SCRIPT";
@@ -43,6 +45,27 @@ impl From<ScriptFault> for Fault {
 impl From<PlayFault> for Fault {
     fn from(fault: PlayFault) -> Self {
         Fault::Play(fault)
+    }
+}
+
+impl From<TableFault> for Fault {
+    fn from(fault: TableFault) -> Self {
+        match fault {
+            TableFault::NoMemory => Fault::Play(PlayFault::NoMemory),
+            _ => Fault::Play(PlayFault::BadTables),
+        }
+    }
+}
+
+impl From<NoMemory> for Fault {
+    fn from(_error: NoMemory) -> Self {
+        Fault::Play(PlayFault::NoMemory)
+    }
+}
+
+impl<T: Drop> From<AllocFailed<T>> for Fault {
+    fn from(_error: AllocFailed<T>) -> Self {
+        Fault::Play(PlayFault::NoMemory)
     }
 }
 

@@ -10,6 +10,7 @@ use std::test::Fail;
 mod faults;
 mod first_path;
 mod operations;
+mod sessions;
 mod streams;
 
 /// A script, and the status and the texts that it ends with.
@@ -67,6 +68,11 @@ fn answers_each_fault(rt: HostRuntime) -> Result<(), Fail> {
 #[test]
 fn runs_operations(rt: HostRuntime) -> Result<(), Fail> {
     check_all(&rt, rt.alloc(), &operations::EXAMPLES)
+}
+
+#[test]
+fn runs_sessions(rt: HostRuntime) -> Result<(), Fail> {
+    check_all(&rt, rt.alloc(), &sessions::EXAMPLES)
 }
 
 /// A writer that takes nothing.

@@ -6,19 +6,25 @@ use Rattle.std.proofs.lemmas.List.{same_from_push}
 use Rattle.hex.specs.Hex.{encode_lower, IsBytes}
 use Rattle.broker_script.specs.Line.{line_words, spelling, IsInRange}
 use Rattle.broker_script.specs.declared.command.Command.{Command}
-use Rattle.broker_script.specs.declared.command.Command.TheVariants.{Nodes, Start, Open, Bytes, Ship, Evict, Deliver}
+use Rattle.broker_script.specs.declared.command.Command.TheVariants.{Nodes, Home, Start, Open, Bytes, Close, Ship, Tick, Evict, Deliver}
 use Rattle.broker_script.proofs.Words.{apart, heads, tails, same_line, all_none, all_cons}
 
 -- a spelling tells what its command says
 pub same_words : (a b : Command) → IsInRange a → IsInRange b → spelling a ≡ spelling b → line_words a ≡ line_words b
 same_words (Nodes _) (Nodes _) h k e = same_line _ _ h k (refl, (refl, tt)) e
 same_words (Nodes _) _ h k e = absurd (apart _ _ _ _ refl e)
+same_words (Home _ _) (Home _ _) h k e = same_line _ _ h k (refl, (refl, (refl, tt))) e
+same_words (Home _ _) _ h k e = absurd (apart _ _ _ _ refl e)
 same_words (Start _ _) (Start _ _) h k e = same_line _ _ h k (refl, (refl, (refl, tt))) e
 same_words (Start _ _) _ h k e = absurd (apart _ _ _ _ refl e)
 same_words (Open _ _ _) (Open _ _ _) h k e = same_line _ _ h k (refl, (refl, (refl, (refl, tt)))) e
 same_words (Open _ _ _) _ h k e = absurd (apart _ _ _ _ refl e)
 same_words (Bytes _ _ _ _) (Bytes _ _ _ _) h k e = same_line _ _ h k (refl, (refl, (refl, (refl, (refl, tt))))) e
 same_words (Bytes _ _ _ _) _ h k e = absurd (apart _ _ _ _ refl e)
+same_words (Close _ _ _) (Close _ _ _) h k e = same_line _ _ h k (refl, (refl, (refl, (refl, tt)))) e
+same_words (Close _ _ _) _ h k e = absurd (apart _ _ _ _ refl e)
+same_words (Tick _ _) (Tick _ _) h k e = same_line _ _ h k (refl, (refl, (refl, tt))) e
+same_words (Tick _ _) _ h k e = absurd (apart _ _ _ _ refl e)
 same_words (Ship _ _ _) (Ship _ _ _) h k e = same_line _ _ h k (refl, (refl, (refl, (refl, tt)))) e
 same_words (Ship _ _ _) _ h k e = absurd (apart _ _ _ _ refl e)
 same_words (Evict _ _ _) (Evict _ _ _) h k e = same_line _ _ h k (refl, (refl, (refl, (refl, tt)))) e
@@ -70,6 +76,15 @@ no_open rest none (Open a b d) r h =
     none (a ∷ []) (b ∷ d ∷ []) refl (one_in _ a r.1.0) refl (two_in _ b d r.1.1.0 r.1.1.1.0) (tails _ _ _ _ h)
 no_open rest none _ r h = absurd (apart _ _ _ _ refl h)
 
+pub no_close : (rest : List (List ℕ)) → NoFields 1 2 rest → SpellsNone (codes "close") rest
+no_close rest none (Close a b d) r h =
+    none (a ∷ []) (b ∷ d ∷ []) refl (one_in _ a r.1.0) refl (two_in _ b d r.1.1.0 r.1.1.1.0) (tails _ _ _ _ h)
+no_close rest none _ r h = absurd (apart _ _ _ _ refl h)
+
+pub no_tick : (rest : List (List ℕ)) → NoFields 1 1 rest → SpellsNone (codes "tick") rest
+no_tick rest none (Tick a b) r h = none (a ∷ []) (b ∷ []) refl (one_in _ a r.1.0) refl (one_in _ b r.1.1.0) (tails _ _ _ _ h)
+no_tick rest none _ r h = absurd (apart _ _ _ _ refl h)
+
 pub no_ship : (rest : List (List ℕ)) → NoFields 2 1 rest → SpellsNone (codes "ship") rest
 no_ship rest none (Ship a b d) r h =
     none (a ∷ b ∷ []) (d ∷ []) refl (two_in _ a b r.1.0 r.1.1.0) refl (one_in _ d r.1.1.1.0) (tails _ _ _ _ h)
@@ -83,11 +98,14 @@ no_deliver rest none _ r h = absurd (apart _ _ _ _ refl h)
 -- another keyword spells nothing
 pub no_other : (word : List ℕ) (rest : List (List ℕ)) → (word ≡ codes "nodes" → ⊥) → (word ≡ codes "start" → ⊥)
     → (word ≡ codes "open" → ⊥) → (word ≡ codes "ship" → ⊥) → (word ≡ codes "deliver" → ⊥) → (word ≡ codes "bytes" → ⊥)
-    → (word ≡ codes "evict" → ⊥) → SpellsNone word rest
-no_other word rest n s o h d b v (Nodes _) r e = n (heads _ _ _ _ e)
-no_other word rest n s o h d b v (Start _ _) r e = s (heads _ _ _ _ e)
-no_other word rest n s o h d b v (Open _ _ _) r e = o (heads _ _ _ _ e)
-no_other word rest n s o h d b v (Ship _ _ _) r e = h (heads _ _ _ _ e)
-no_other word rest n s o h d b v (Deliver _ _) r e = d (heads _ _ _ _ e)
-no_other word rest n s o h d b v (Bytes _ _ _ _) r e = b (heads _ _ _ _ e)
-no_other word rest n s o h d b v (Evict _ _ _) r e = v (heads _ _ _ _ e)
+    → (word ≡ codes "evict" → ⊥) → (word ≡ codes "home" → ⊥) → (word ≡ codes "close" → ⊥) → (word ≡ codes "tick" → ⊥) → SpellsNone word rest
+no_other word rest n s o h d b v m q t (Nodes _) r e = n (heads _ _ _ _ e)
+no_other word rest n s o h d b v m q t (Start _ _) r e = s (heads _ _ _ _ e)
+no_other word rest n s o h d b v m q t (Open _ _ _) r e = o (heads _ _ _ _ e)
+no_other word rest n s o h d b v m q t (Ship _ _ _) r e = h (heads _ _ _ _ e)
+no_other word rest n s o h d b v m q t (Deliver _ _) r e = d (heads _ _ _ _ e)
+no_other word rest n s o h d b v m q t (Bytes _ _ _ _) r e = b (heads _ _ _ _ e)
+no_other word rest n s o h d b v m q t (Evict _ _ _) r e = v (heads _ _ _ _ e)
+no_other word rest n s o h d b v m q t (Home _ _) r e = m (heads _ _ _ _ e)
+no_other word rest n s o h d b v m q t (Close _ _ _) r e = q (heads _ _ _ _ e)
+no_other word rest n s o h d b v m q t (Tick _ _) r e = t (heads _ _ _ _ e)

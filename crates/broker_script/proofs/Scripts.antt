@@ -1,13 +1,14 @@
 -- A script's lines, one after another.
-use Rattle.std.proofs.Common.{◌≡◌, ◌<◌, ◌≤◌, ◌+◌, ℕ, Bool, List, [], ◌∷◌, ◌++◌, length, get_or, take, map, refl, sym, ◌∙◌, ap, subst, arith, inl, inr, true, false, rules, zero, suc, ◌⊎◌}
-use Rattle.std.specs.Prelude.{Result, Ok, Err, IfOk, IfErr, MatchResult, filter, slice_get, Some, IsTrue, ◌↔◌}
-use Rattle.std.specs.List.{AllByRecursion}
+use Rattle.std.proofs.Common.{◌≡◌, ◌<◌, ◌≤◌, ◌+◌, ℕ, Bool, List, [], ◌∷◌, ◌++◌, length, get_or, take, map, refl, sym, ◌∙◌, ap, subst, arith, inl, inr, true, false, ◌&&◌, rules, zero, suc, ◌⊎◌}
+use Rattle.std.specs.Prelude.{Result, Ok, Err, IfOk, IfErr, MatchResult, filter, None, IsTrue, ◌↔◌}
+use Rattle.std.specs.List.{AllByRecursion, list_all}
 use Rattle.std.proofs.lemmas.Bool.{false≢true, cases_lt}
 use Rattle.std.proofs.lemmas.List.{get_or-map, take_more, take_all, map_push, map-append}
 use Rattle.std.proofs.lemmas.List.Elements.{filter-append}
 use Rattle.broker_script.specs.Line.{Word, lines, words, line_words, spelling, is_kept, kept_words, IsInRange}
-use Rattle.broker_script.specs.Script.{IsText, count_in, FitsAll, IsOrdered, IsSound, IsScript, Begins, Reads, Refuses, StopsAt, FaultsAt}
+use Rattle.broker_script.specs.Script.{IsText, count_in, FitsAll, prefix_in, may_precede, AreInTurn, IsOrdered, IsSound, IsScript, Begins, Reads, Refuses, StopsAt, FaultsAt}
 use Rattle.broker_script.specs.declared.command.Command.{Command}
+use Rattle.broker_script.specs.declared.command.Command.TheVariants.{Nodes, Home, Start, Open, Bytes, Close, Ship, Tick, Evict, Deliver}
 use Rattle.broker_script.specs.declared.fault.ScriptFault.{ScriptFault}
 use Rattle.broker_script.specs.declared.fault.ScriptFault.TheVariants.{Line, NoMemory}
 use Rattle.broker_script.proofs.Words.{heads, tails}
@@ -45,25 +46,83 @@ pub all_front : {A : Type 0} (P : A → Type 0) (xs : List A) (y : A) (ys : List
 all_front P [] y ys h = (tt, h.0)
 all_front P (x ∷ xs) y ys h = let rest = all_front P xs y ys h.1 in ((h.0, rest.0), rest.1)
 
+abbrev pub MayPrecede : List Word → List Word → Type 0
+MayPrecede line later = may_precede (prefix_in line) (prefix_in later) ≡ true
+
+-- lines in turn: those at the front, and one more after each of them
+pub turn_front : (xs : List (List Word)) (y : List Word) (ys : List (List Word)) → AreInTurn (xs ++ y ∷ ys) → AreInTurn (xs ++ y ∷ [])
+turn_front [] y ys t = (tt, tt)
+turn_front (x ∷ xs) y ys t =
+    let parts = all_front (MayPrecede x) xs y ys t.0 in (all_push (MayPrecede x) xs y parts.0 parts.1, turn_front xs y ys t.1)
+
+turn_push : (xs : List (List Word)) (y : List Word) → AreInTurn xs → AllByRecursion (λ x. MayPrecede x y) xs → AreInTurn (xs ++ y ∷ [])
+turn_push [] y t a = (tt, tt)
+turn_push (x ∷ xs) y t a = (all_push (MayPrecede x) xs y t.0 a.0, turn_push xs y t.1 a.1)
+
+turn_last : (xs : List (List Word)) (y : List Word) → AreInTurn (xs ++ y ∷ []) → AllByRecursion (λ x. MayPrecede x y) xs
+turn_last [] y t = tt
+turn_last (x ∷ xs) y t = ((all_front (MayPrecede x) xs y [] t.0).1, turn_last xs y t.1)
+
+both_true : (a b : Bool) → a ≡ true → b ≡ true → (a && b) ≡ true
+both_true a b e f = λ n. e n && f n
+
+first_true : (a b : Bool) → (a && b) ≡ true → (a ≡ true) × (b ≡ true)
+first_true true b h = (refl, h)
+first_true false b h = absurd (false≢true h)
+
+-- each command may precede one that is tested against all of them
+all_may : (c : Command) (cs : List Command) → list_all (λ x. may_precede (prefix_in (line_words x)) (prefix_in (line_words c))) cs ≡ true
+    → AllByRecursion (λ x. MayPrecede x (line_words c)) (map line_words cs)
+all_may c [] h = tt
+all_may c (x ∷ cs) h = let both = first_true _ _ h in (both.0, all_may c cs both.1)
+
+may_all : (c : Command) (cs : List Command) → AllByRecursion (λ x. MayPrecede x (line_words c)) (map line_words cs)
+    → list_all (λ x. may_precede (prefix_in (line_words x)) (prefix_in (line_words c))) cs ≡ true
+may_all c [] h = refl
+may_all c (x ∷ cs) h = both_true _ _ h.0 (may_all c cs h.1)
+
+pub no_home : (c : Command) → ((prefix : _) (node : ℕ) → c ≡ Home prefix node → ⊥) → prefix_in (line_words c) ≡ None
+no_home (Nodes _) h = refl
+no_home (Home p n) h = absurd (h p n refl)
+no_home (Start _ _) h = refl
+no_home (Open _ _ _) h = refl
+no_home (Bytes _ _ _ _) h = refl
+no_home (Close _ _ _) h = refl
+no_home (Ship _ _ _) h = refl
+no_home (Tick _ _) h = refl
+no_home (Evict _ _ _) h = refl
+no_home (Deliver _ _) h = refl
+
+-- any line may stand before one that is no home
+pub precedes_none : (c : Command) (cs : List Command) → prefix_in (line_words c) ≡ None → true ≡ list_all (λ x. may_precede (prefix_in (line_words x)) (prefix_in (line_words c))) cs
+precedes_none c [] none = refl
+precedes_none c (x ∷ cs) none = λ n. may_precede (prefix_in (line_words x)) (sym none n) && precedes_none c cs none n
+
 -- the first of lines in order are in order
 pub ordered_front : (xs : List (List Word)) (y : List Word) (ys : List (List Word)) → IsOrdered (xs ++ y ∷ ys) → IsOrdered (xs ++ y ∷ [])
-ordered_front [] y ys s = (s.0, s.1, tt)
+ordered_front [] y ys s = (s.0, s.1, tt, tt)
 ordered_front (x ∷ xs) y ys s =
-    let parts = all_front _ xs y ys s.2 in (s.0, s.1, all_push _ xs y parts.0 parts.1)
+    let parts = all_front _ xs y ys s.2 in (s.0, s.1, all_push _ xs y parts.0 parts.1, turn_front xs y ys s.3)
 
--- whether one more command is in order, by the first
-pub follows : (cs : List Command) (x c : Command) (n : ℕ) (b : Bool) → Some x ≡ slice_get cs 0 → n ≡ count_in (line_words x)
-    → (IsTrue b ↔ FitsAll n (line_words c)) → IsSound cs → IsTrue b ↔ IsSound (cs ++ c ∷ [])
-follows [] x c n b e count fits sound = absurd (cc)
-follows (y ∷ ys) x c n b e count fits sound =
-    let first : x ≡ y = cc in
-    let number : n ≡ count_in (line_words y) = count ∙ ap (λ z. count_in (line_words z)) first in
-    let P : List Word → Type 0 = FitsAll (count_in (line_words y)) in
-    let tail = map_push line_words ys c in (
-      λ yes. let fit : P (line_words c) = subst (λ m. FitsAll m (line_words c)) number (fits.0 yes) in
-          (sound.0, sound.1, subst (AllByRecursion P) (sym tail) (all_push P (map line_words ys) (line_words c) sound.2 fit)),
-      λ s. fits.1 (subst (λ m. FitsAll m (line_words c)) (sym number)
-          (all_front P (map line_words ys) (line_words c) [] (subst (AllByRecursion P) tail s.2)).1),
+-- whether one more command is in order, by the first and the others
+pub follows : (cs rest : List Command) (x c : Command) (n : ℕ) (fits comes : Bool) → cs ≡ x ∷ rest → n ≡ count_in (line_words x)
+    → (IsTrue fits ↔ FitsAll n (line_words c)) → comes ≡ list_all (λ y. may_precede (prefix_in (line_words y)) (prefix_in (line_words c))) rest
+    → IsSound cs → IsTrue (fits && comes) ↔ IsSound (cs ++ c ∷ [])
+follows cs rest x c n fits comes e count fit after sound =
+    let P : List Word → Type 0 = FitsAll (count_in (line_words x)) in
+    let tail = map_push line_words rest c in
+    let here : IsSound (x ∷ rest) = subst IsSound e sound in
+    subst (λ xs. IsTrue (fits && comes) ↔ IsSound (xs ++ c ∷ [])) (sym e) (
+      λ yes. (let both = first_true fits comes yes in
+          let one : P (line_words c) = subst (λ m. FitsAll m (line_words c)) count (fit.0 both.0) in (
+            here.0,
+            here.1,
+            subst (AllByRecursion P) (sym tail) (all_push P (map line_words rest) (line_words c) here.2 one),
+            subst AreInTurn (sym tail) (turn_push (map line_words rest) (line_words c) here.3 (all_may c rest (sym after ∙ both.1))),
+          )),
+      λ s. (let one = (all_front P (map line_words rest) (line_words c) [] (subst (AllByRecursion P) tail s.2)).1 in
+          let turn = turn_last (map line_words rest) (line_words c) (subst AreInTurn tail s.3) in
+          both_true fits comes (fit.1 (subst (λ m. FitsAll m (line_words c)) (sym count) one)) (after ∙ may_all c rest turn)),
     )
 
 pub begins_skip : (text : List ℕ) (i : ℕ) (cs : List Command) → i < length (lines text) → Begins text i cs

@@ -4,7 +4,7 @@ use Rattle.std.specs.List.{slice_split, AllByRecursion}
 use Rattle.std.specs.Fmt.{decimal}
 use Rattle.hex.specs.Hex.{encode_lower, IsBytes}
 use Rattle.broker_script.specs.declared.command.Command.{Command}
-use Rattle.broker_script.specs.declared.command.Command.TheVariants.{Nodes, Start, Open, Bytes, Ship, Evict, Deliver}
+use Rattle.broker_script.specs.declared.command.Command.TheVariants.{Nodes, Home, Start, Open, Bytes, Close, Ship, Tick, Evict, Deliver}
 
 -- a word of a line, by what it says
 pub data Word : Type 0 where
@@ -14,21 +14,27 @@ pub data Word : Type 0 where
   whole_number : ℕ → Word
   hex_bytes : List ℕ → Word
   client_identifier : List ℕ → Word
+  home_prefix : List ℕ → Word
 
 -- the words of a command's line: a case for each line that a script may have
 abbrev pub line_words : Command → List Word
 line_words (Nodes nodes) = literal (codes "nodes") ∷ node_count nodes ∷ []
+line_words (Home prefix node) = literal (codes "home") ∷ home_prefix (string_bytes prefix) ∷ node_number node ∷ []
 line_words (Start node moment) = literal (codes "start") ∷ node_number node ∷ whole_number moment ∷ []
 line_words (Open node connection moment) =
     literal (codes "open") ∷ node_number node ∷ whole_number connection ∷ whole_number moment ∷ []
 line_words (Bytes node connection moment piece) =
     literal (codes "bytes") ∷ node_number node ∷ whole_number connection ∷ whole_number moment ∷ hex_bytes piece.items ∷ []
+line_words (Close node connection moment) =
+    literal (codes "close") ∷ node_number node ∷ whole_number connection ∷ whole_number moment ∷ []
 line_words (Ship node peer moment) = literal (codes "ship") ∷ node_number node ∷ node_number peer ∷ whole_number moment ∷ []
+line_words (Tick node moment) = literal (codes "tick") ∷ node_number node ∷ whole_number moment ∷ []
 line_words (Evict node client moment) =
     literal (codes "evict") ∷ node_number node ∷ client_identifier (string_bytes client) ∷ whole_number moment ∷ []
 line_words (Deliver frame moment) = literal (codes "deliver") ∷ whole_number frame ∷ whole_number moment ∷ []
 
--- the text of a word: numbers in decimal without leading zeros, bytes in lower case hexadecimal, identifiers as they are
+-- the text of a word: numbers in decimal without leading zeros, bytes in lower case hexadecimal, identifiers and prefixes as
+-- they are
 abbrev pub spelled : Word → List ℕ
 spelled (literal text) = text
 spelled (node_count n) = decimal n
@@ -36,23 +42,26 @@ spelled (node_number n) = decimal n
 spelled (whole_number n) = decimal n
 spelled (hex_bytes bytes) = encode_lower bytes
 spelled (client_identifier bytes) = bytes
+spelled (home_prefix bytes) = bytes
 
 -- the texts of a command's words
 abbrev pub spelling : Command → List (List ℕ)
 spelling command = map spelled (line_words command)
 
--- a client identifier that a line may have: from 1 to 256 bytes, each from 33 to 126
-abbrev pub IsClient : List ℕ → Type 0
-IsClient bytes = (0 < length bytes) × (length bytes ≤ 256) × All (λ b. (33 ≤ b) × (b ≤ 126)) bytes
+-- a word as it is: from 1 byte to so many, each from 33 to 126
+abbrev pub IsPlain : ℕ → List ℕ → Type 0
+IsPlain most bytes = (0 < length bytes) × (length bytes ≤ most) × All (λ b. (33 ≤ b) × (b ≤ 126)) bytes
 
--- what a word may say: nodes below 2^16, whole numbers below 2^64, one byte at least, a client identifier
+-- what a word may say: nodes below 2^16, whole numbers below 2^64, one byte at least, a client identifier of at most 256
+-- bytes, a prefix of at most 255
 abbrev pub IsWordInRange : Word → Type 0
 IsWordInRange (literal _) = Unit {0}
 IsWordInRange (node_count n) = n < 2 ^ 16
 IsWordInRange (node_number n) = n < 2 ^ 16
 IsWordInRange (whole_number n) = n < 2 ^ 64
 IsWordInRange (hex_bytes bytes) = (0 < length bytes) × IsBytes bytes
-IsWordInRange (client_identifier bytes) = IsClient bytes
+IsWordInRange (client_identifier bytes) = IsPlain 256 bytes
+IsWordInRange (home_prefix bytes) = IsPlain 255 bytes
 
 -- each word of a command's line may say what it does
 abbrev pub IsInRange : Command → Type 0

@@ -1,9 +1,9 @@
 -- Which texts are scripts, and where another text stops being one.
-use Rattle.std.specs.Prelude.{◌≡◌, ◌<◌, ◌≤◌, ℕ, true, false, List, [], ◌∷◌, map, length, take, slice_index_or, ◌++◌, ◌+◌, ◌⊎◌}
+use Rattle.std.specs.Prelude.{◌≡◌, ◌<◌, ◌≤◌, ℕ, Bool, true, false, not, Option, Some, None, List, [], ◌∷◌, map, length, take, slice_index_or, ◌++◌, ◌+◌, ◌⊎◌}
 use Rattle.std.specs.List.{AllByRecursion}
-use Rattle.std.specs.Str.{IsAscii}
+use Rattle.std.specs.Str.{IsAscii, bytes_eq}
 use Rattle.broker_script.specs.declared.command.Command.{Command}
-use Rattle.broker_script.specs.Line.{Word, literal, node_count, node_number, line_words, spelling, IsInRange, lines, words, is_kept, kept_words}
+use Rattle.broker_script.specs.Line.{Word, literal, node_count, node_number, home_prefix, line_words, spelling, IsInRange, lines, words, is_kept, kept_words}
 
 -- at most 16,777,216 bytes, each of them below 128
 abbrev pub IsText : List ℕ → Type 0
@@ -24,10 +24,26 @@ Fits n _ = Unit {0}
 abbrev pub FitsAll : ℕ → List Word → Type 0
 FitsAll n line = AllByRecursion (Fits n) line
 
--- lines in an order that a script may have: `nodes N` first and once, with N from 1 to 8
+-- the prefix of the words of `home PREFIX NODE`
+abbrev pub prefix_in : List Word → Option (List ℕ)
+prefix_in (literal _ ∷ home_prefix prefix ∷ _) = Some prefix
+prefix_in _ = None
+
+-- which lines may stand before another, by their prefixes: before a home, a home of another prefix
+abbrev pub may_precede : Option (List ℕ) → Option (List ℕ) → Bool
+may_precede before None = true
+may_precede None (Some prefix) = false
+may_precede (Some other) (Some prefix) = not (bytes_eq other prefix)
+
+-- homes come first, and no prefix twice
+abbrev pub AreInTurn : List (List Word) → Type 0
+AreInTurn [] = Unit {0}
+AreInTurn (line ∷ lines) = AllByRecursion (λ later. may_precede (prefix_in line) (prefix_in later) ≡ true) lines × AreInTurn lines
+
+-- lines in an order that a script may have: `nodes N` first and once, with N from 1 to 8; then the homes, and then the steps
 abbrev pub IsOrdered : List (List Word) → Type 0
 IsOrdered [] = Unit {0}
-IsOrdered (first ∷ rest) = (1 ≤ count_in first) × (count_in first ≤ 8) × AllByRecursion (FitsAll (count_in first)) rest
+IsOrdered (first ∷ rest) = (1 ≤ count_in first) × (count_in first ≤ 8) × AllByRecursion (FitsAll (count_in first)) rest × AreInTurn rest
 
 -- commands in an order that a script may have
 abbrev pub IsSound : List Command → Type 0

@@ -4,11 +4,15 @@ ghost use Rattle.std.specs.Prelude.{◌≡◌, ◌≢◌, ◌∷◌, map, codes,
 ghost use Rattle.broker_script.specs.Line.{words, spelling, IsInRange};
 
 use crate::command::Command;
-use crate::word::{parse_client, parse_fields, parse_hex, parse_node, parse_number, words_of};
+use crate::word::{
+    MOST_CLIENT_BYTES, MOST_PREFIX_BYTES, parse_fields, parse_hex, parse_name, parse_node,
+    parse_number, words_of,
+};
 use std::alloc::{AllocError, Global};
 
-/// The command that a keyword and the words after it spell, but for `bytes` and `evict`.
+/// The command that a keyword and the words after it spell, but for `home`, `bytes` and `evict`.
 fn parse_plain(keyword: &str, rest: &[&str]) -> Option<Command>
+    requires not_home { keyword.now ≢ codes "home" }
     requires not_bytes { keyword.now ≢ codes "bytes" }
     requires not_evict { keyword.now ≢ codes "evict" }
     ensures some { IfSome result (λ command. IsInRange command
@@ -32,6 +36,18 @@ fn parse_plain(keyword: &str, rest: &[&str]) -> Option<Command>
                 connection,
                 moment,
             })
+        }
+        "close" => {
+            let ([node], [connection, moment]) = parse_fields::<1, 2>(rest)?;
+            Some(Command::Close {
+                node,
+                connection,
+                moment,
+            })
+        }
+        "tick" => {
+            let ([node], [moment]) = parse_fields::<1, 1>(rest)?;
+            Some(Command::Tick { node, moment })
         }
         "ship" => {
             let ([node, peer], [moment]) = parse_fields::<2, 1>(rest)?;
@@ -86,12 +102,31 @@ fn parse_evict(alloc: Global, rest: &[&str]) -> Result<Option<Command>, AllocErr
     let Some(moment) = parse_number(moment) else {
         return Ok(None);
     };
-    match parse_client(alloc, client)? {
+    match parse_name(alloc, MOST_CLIENT_BYTES, client)? {
         Some(client) => Ok(Some(Command::Evict {
             node,
             client,
             moment,
         })),
+        None => Ok(None),
+    }
+}
+
+/// The command that `home` and the words after it spell.
+fn parse_home(alloc: Global, rest: &[&str]) -> Result<Option<Command>, AllocError>
+    ensures some { IfOk result (λ r. IfSome r (λ command. IsInRange command
+        × (codes "home" ∷ map (λ word. word.now) rest.now ≡ spelling command))) }
+    ensures none { IfOk result (λ r. IfNone r ((command : _) → IsInRange command →
+        codes "home" ∷ map (λ word. word.now) rest.now ≡ spelling command → ⊥)) }
+{
+    let [prefix, node] = rest else {
+        return Ok(None);
+    };
+    let Some(node) = parse_node(node) else {
+        return Ok(None);
+    };
+    match parse_name(alloc, MOST_PREFIX_BYTES, prefix)? {
+        Some(prefix) => Ok(Some(Command::Home { prefix, node })),
         None => Ok(None),
     }
 }
@@ -108,6 +143,7 @@ pub(crate) fn parse_line(alloc: Global, line: &str) -> Result<Option<Command>, A
         return Ok(None);
     };
     match *keyword {
+        "home" => parse_home(alloc, rest),
         "bytes" => parse_bytes(alloc, rest),
         "evict" => parse_evict(alloc, rest),
         _ => Ok(parse_plain(keyword, rest)),

@@ -29,9 +29,9 @@ fn may_follow(commands: &[Command], next: &Command) -> bool
     requires { IsSound commands.now }
     ensures { IsTrue result ↔ IsSound (commands.now ++ next.now ∷ []) }
 {
-    match commands.first() {
+    match commands.split_first() {
         None => 1 <= next.count() && next.count() <= 8,
-        Some(first) => next.fits(first.count()),
+        Some((first, rest)) => next.fits(first.count()) && next.comes_after(rest),
     }
 }
 

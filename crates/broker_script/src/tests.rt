@@ -82,6 +82,27 @@ fn reads_clients(rt: HostRuntime) -> Result<(), Fail> {
 }
 
 #[test]
+fn reads_homes(rt: HostRuntime) -> Result<(), Fail> {
+    let longest = "a".repeat(rt.alloc(), 255)?;
+    let script = format!(in rt.alloc(); "nodes 2\nhome {longest} 1\nhome \"\\ 0\n")?;
+    let commands = parse_script(rt.alloc(), script.as_str().as_bytes())?;
+    assert_eq!(rt; commands.len(), 3);
+    assert_eq!(rt;
+        commands[2],
+        Command::Home {
+            prefix: String::from_str(rt.alloc(), "\"\\")?,
+            node: 0
+        }
+    );
+    let script = format!(in rt.alloc(); "nodes 2\nhome {longest}a 1\n")?;
+    assert_eq!(rt;
+        parse_script(rt.alloc(), script.as_str().as_bytes()),
+        Err(ScriptFault::Line(2))
+    );
+    Ok(())
+}
+
+#[test]
 fn refuses_what_is_no_text(rt: HostRuntime) -> Result<(), Fail> {
     for script in [b"nodes 2\n# \xc8\n", b"nodes 0\n# \x80\n"] {
         assert_eq!(rt; parse_script(rt.alloc(), script), Err(ScriptFault::NotText));
@@ -128,6 +149,17 @@ fn names_faults(rt: HostRuntime) -> Result<(), Fail> {
         ("nodes 2\nevict 0  0", 2),
         ("nodes 2\nevict 0 a", 2),
         ("nodes 2\nevict 0 a b 0", 2),
+        ("nodes 2\nhome a 2", 2),
+        ("nodes 2\nhome a 0 0", 2),
+        ("nodes 2\nhome  0", 2),
+        ("nodes 2\nhome \x7f 0", 2),
+        ("nodes 2\nhome a 0\nhome b 1\nhome a 1", 4),
+        ("nodes 2\nhome a 0\nstart 0 0\nhome b 0", 4),
+        ("home a 0\nnodes 2", 1),
+        ("nodes 2\nclose 2 1 0", 2),
+        ("nodes 2\nclose 1 0", 2),
+        ("nodes 2\ntick 2 0", 2),
+        ("nodes 2\ntick 1 1 0", 2),
         ("nodes 1\nnodes 1", 2),
         ("nodes 1\nbegin 0 0", 2),
     ] {
@@ -143,7 +175,7 @@ fn names_faults(rt: HostRuntime) -> Result<(), Fail> {
 #[test]
 fn prints_commands(rt: HostRuntime) -> Result<(), Fail> {
     let script =
-        b"nodes 2\nopen 1 10 0\nbytes 1 10 5 00ff7a\nship 0 1 7\ndeliver 3 9\nevict 1 c-1 8\nstart 0 20\n";
+        b"nodes 2\nhome d 1\nopen 1 10 0\nbytes 1 10 5 00ff7a\nclose 1 10 6\ntick 0 7\nship 0 1 7\ndeliver 3 9\nevict 1 c-1 8\nstart 0 20\n";
     let mut printed = String::new(rt.alloc());
     for command in parse_script(rt.alloc(), script)?.iter() {
         let line = format!(in rt.alloc(); "{command}\n")?;

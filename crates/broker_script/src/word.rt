@@ -4,7 +4,7 @@ ghost use Rattle.std.specs.Prelude.{◌≡◌, ◌↔◌, ◌<◌, ◌^◌, ◌+
 ghost use Rattle.std.specs.List.{All};
 ghost use Rattle.std.specs.Fmt.{decimal};
 ghost use Rattle.hex.specs.Hex.{encode_lower, IsBytes};
-ghost use Rattle.broker_script.specs.Line.{lines, words, IsClient};
+ghost use Rattle.broker_script.specs.Line.{lines, words, IsPlain};
 
 use hex::FromHexError;
 use std::alloc::{AllocError, Global};
@@ -16,7 +16,10 @@ const PLUS: u8 = b'+';
 const ZERO: u8 = b'0';
 
 /// The length in bytes that a client identifier may have at most.
-const MOST_CLIENT_BYTES: usize = 256;
+pub(crate) const MOST_CLIENT_BYTES: usize = 256;
+
+/// The length in bytes that the prefix of a home may have at most.
+pub(crate) const MOST_PREFIX_BYTES: usize = 255;
 
 /// The parts of a text between line feeds.
 pub(crate) fn lines_of<'a>(alloc: Global, text: &'a str) -> Result<Vec<&'a str>, AllocError>
@@ -85,22 +88,24 @@ pub(crate) fn parse_hex(alloc: Global, word: &str) -> Result<Option<Vec<u8>>, Al
     Ok(Some(bytes))
 }
 
-/// Whether a word may be a client identifier.
-fn is_client(word: &str) -> bool
-    ensures { IsTrue result ↔ IsClient word.now }
+/// Whether a word may be a name of so many bytes at most.
+fn is_name(most: usize, word: &str) -> bool
+    ensures { IsTrue result ↔ IsPlain most word.now }
 {
-    !word.is_empty()
-        && word.len() <= MOST_CLIENT_BYTES
-        && word.bytes().all(|b| matches!(b, b'!'..=b'~'))
+    !word.is_empty() && word.len() <= most && word.bytes().all(|b| matches!(b, b'!'..=b'~'))
 }
 
-/// The client identifier that a word spells.
-pub(crate) fn parse_client(alloc: Global, word: &str) -> Result<Option<String>, AllocError>
-    ensures some { IfOk result (λ r. IfSome r (λ client.
-        IsClient (string_bytes client) × (word.now ≡ string_bytes client))) }
-    ensures none { IfOk result (λ r. IfNone r (¬ IsClient word.now)) }
+/// The client identifier, or the prefix of one, that a word spells in so many bytes at most.
+pub(crate) fn parse_name(
+    alloc: Global,
+    most: usize,
+    word: &str,
+) -> Result<Option<String>, AllocError>
+    ensures some { IfOk result (λ r. IfSome r (λ name.
+        IsPlain most (string_bytes name) × (word.now ≡ string_bytes name))) }
+    ensures none { IfOk result (λ r. IfNone r (¬ IsPlain most word.now)) }
 {
-    if is_client(word) {
+    if is_name(most, word) {
         Ok(Some(String::from_str(alloc, word)?))
     } else {
         Ok(None)

@@ -25,10 +25,10 @@ pub const EXAMPLES: [Example; 12] = [
         err: "",
     },
     Example {
-        name: "a client that is here already",
+        name: "a client that is here already: Session taken over",
         script: "nodes 1\nstart 0 0\nopen 0 1 0\nbytes 0 1 0 100e00044d5154540502003c00000161\nopen 0 2 0\nbytes 0 2 0 100e00044d5154540502003c00000161\n",
         status: 0,
-        out: "sent 0 1 200b0000082100642700100000\nclosed 0 2\nnode 0 subscriptions 0 retained 0\n",
+        out: "sent 0 1 200b0000082100642700100000\nsent 0 1 e0018e\nclosed 0 1\nsent 0 2 200b0000082100642700100000\nnode 0 subscriptions 0 retained 0\n",
         err: "",
     },
     Example {

@@ -1,4 +1,4 @@
-//! A stream in any pieces, and a packet of many filters.
+//! A stream in any pieces, a packet of many filters, and many exchanges at QoS 2.
 
 use super::check;
 use std::alloc::Global;
@@ -70,6 +70,33 @@ fn refuses_the_filter_after_a_thousand(rt: HostRuntime) -> Result<(), Fail> {
         &rt,
         alloc,
         "1,001 filters",
+        script.as_str(),
+        (0, out.as_str(), ""),
+    )
+}
+
+#[test]
+fn ends_a_connection_at_its_101st_exchange(rt: HostRuntime) -> Result<(), Fail> {
+    let alloc = rt.alloc();
+    let mut script = String::from_str(
+        alloc,
+        "nodes 1\nstart 0 0\nopen 0 1 0\nbytes 0 1 0 100e00044d5154540502003c00000161",
+    )?;
+    let mut out = String::from_str(alloc, "sent 0 1 200b0000082100642700100000\n")?;
+    for k in 0..100 {
+        let identifier = digits(alloc, k)?;
+        let Some((_, low)) = identifier.split_at_checked(4) else {
+            return Err("no such digits".into());
+        };
+        write!(&mut script, "3407000174{low}0078")?;
+        write!(&mut out, "sent 0 1 5002{low}\n")?;
+    }
+    script.push_str("340700017400010078\n")?;
+    out.push_str("sent 0 1 e00193\nclosed 0 1\nnode 0 subscriptions 0 retained 0\n")?;
+    check(
+        &rt,
+        alloc,
+        "101 exchanges",
         script.as_str(),
         (0, out.as_str(), ""),
     )

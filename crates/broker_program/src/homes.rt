@@ -1,0 +1,57 @@
+//! The table of homes that a script stands for.
+
+use crate::stop::Fault;
+use broker_script::Command;
+use home_table::HomeTable;
+use std::alloc::Global;
+
+/// The port on which the first node of a script has its clients.
+const CLIENTS: u32 = 1883;
+
+/// The port on which the first node of a script has the other nodes.
+const BRIDGES: u32 = 2883;
+
+/// A table for each of so many nodes, all with the homes of a script.
+pub fn tables_of(alloc: Global, nodes: u16, commands: &[Command]) -> Result<Vec<HomeTable>, Fault> {
+    let text = table_text(alloc, nodes, commands)?;
+    let table = HomeTable::parse(alloc, text.as_str())?;
+    let mut tables = Vec::new(alloc);
+    for _ in 0..nodes {
+        tables.push(table.copy()?)?;
+    }
+    Ok(tables)
+}
+
+/// The rows of the table: nodes `n0` and so on, each with a port of its own, and the homes.
+fn table_text(alloc: Global, nodes: u16, commands: &[Command]) -> Result<String, Fault> {
+    let mut text = String::new(alloc);
+    for node in 0..nodes {
+        let clients = CLIENTS + node as u32;
+        let bridge = BRIDGES + node as u32;
+        writeln!(&mut text, "[[node]]\nname = \"n{node}\"")?;
+        writeln!(&mut text, "address = \"127.0.0.1:{clients}\"")?;
+        writeln!(&mut text, "bridge = \"127.0.0.1:{bridge}\"")?;
+    }
+    for command in commands {
+        if let Command::Home { prefix, node } = command {
+            let prefix = escaped(alloc, prefix.as_str())?;
+            writeln!(
+                &mut text,
+                "[[home]]\nprefix = \"{prefix}\"\nnode = \"n{node}\""
+            )?;
+        }
+    }
+    Ok(text)
+}
+
+/// A text as it stands between the quotes of TOML.
+fn escaped(alloc: Global, text: &str) -> Result<String, Fault> {
+    let mut out = String::new(alloc);
+    for c in text.chars() {
+        if c == '"' || c == '\\' {
+            out.push('\\')?;
+        }
+        out.push(c)?;
+    }
+    Ok(out)
+}
