@@ -26,19 +26,19 @@ use Rattle.handshake_laws.specs.Kept.{IsAnswered, KeepsAgreed}
 use Rattle.handshake_laws.proofs.NumberLaws.{keeps_numbers, none-away}
 
 -- where the first of those that wait stands, after a stage
-abbrev past : Stage → ℕ → ℕ
+abbrev pub past : Stage → ℕ → ℕ
 past Waiting first = first + 1
 past (Published id) first = first
 past (Released id order) first = first
 
 -- those that wait stand at the places from the first on, past all others, and orders of release are distinct, and below a bound
-abbrev Faces : Stage → ℕ → ℕ → ℕ → Entries → Type 0
+abbrev pub Faces : Stage → ℕ → ℕ → ℕ → Entries → Type 0
 Faces Waiting place first bound later = place ≡ first
 Faces (Published id) place first bound later = place < first
 Faces (Released id order) place first bound later = (place < first) × (1 ≤ order) × (order < bound) × (has_order order later ≡ false)
 
 -- places rise from above one to below the next
-abbrev IsSound : ℕ → ℕ → ℕ → ℕ → Entries → Type 0
+abbrev pub IsSound : ℕ → ℕ → ℕ → ℕ → Entries → Type 0
 IsSound low first next bound [] = (low < next) × (first ≡ next)
 IsSound low first next bound (e ∷ es) = (low < e.0) × (e.1.delivery.qos ≢ AtMostOnce) × Faces e.1.stage e.0 first bound es × IsSound e.0 (past e.1.stage first) next bound es
 
@@ -141,7 +141,7 @@ faces-more Waiting place first bound more later le h = h
 faces-more (Published id) place first bound more later le h = h
 faces-more (Released id order) place first bound more later le h = (h.0, h.1, omega (arith, le, h.2), h.3)
 
-more : (low first next bound above : ℕ) (es : Entries) → bound ≤ above → IsSound low first next bound es → IsSound low first next above es
+pub more : (low first next bound above : ℕ) (es : Entries) → bound ≤ above → IsSound low first next bound es → IsSound low first next above es
 more low first next bound above [] le h = h
 more low first next bound above (e ∷ es) le h = (h.0, h.1, faces-more e.1.stage e.0 first bound above es le h.2, more e.0 (past e.1.stage first) next bound above es le h.3)
 
@@ -226,7 +226,7 @@ sent low first next bound now limit id (e ∷ es) h = elim (cases_Bool (waits e.
 ]
 
 -- ---- the order after a crash
-above-head : (o a : ℕ) → (a ≤ cond (nat_lt o a) a (o + 1)) × (o < cond (nat_lt o a) a (o + 1))
+pub above-head : (o a : ℕ) → (a ≤ cond (nat_lt o a) a (o + 1)) × (o < cond (nat_lt o a) a (o + 1))
 above-head o a = elim (cases_Bool (nat_lt o a)) [
   | inl t ↦ rw t (omega arith, ltb-true o a t)
   | inr f ↦ rw f (grind (arith, nat_tests), omega arith)
@@ -255,7 +255,7 @@ above-most low first next bound (e ∷ es) least h = elim (cases_Bool (nat_lt (s
   | inr f ↦ rw f (omega (arith, order-below e.1.stage e.0 first bound es least h.2))
 ]
 
-above-least : (es : Entries) → 1 ≤ order_above es
+pub above-least : (es : Entries) → 1 ≤ order_above es
 above-least [] = omega arith
 above-least (e ∷ es) = elim (cases_Bool (nat_lt (stage_order e.1.stage) (order_above es))) [
   | inl t ↦ rw t (above-least es)
@@ -263,12 +263,12 @@ above-least (e ∷ es) = elim (cases_Bool (nat_lt (stage_order e.1.stage) (order
 ]
 
 -- ---- over a run
-record Stands (o : Outbox) : Type 0 where
-  first : ℕ
-  sound : IsSound 0 first o.next_place o.next_order o.copies
-  end : o.next_place ≤ 2 ^ 62
-  least : 1 ≤ o.next_order
-  most : o.next_order ≤ 2 ^ 62
+pub record Stands (o : Outbox) : Type 0 where
+  pub first : ℕ
+  pub sound : IsSound 0 first o.next_place o.next_order o.copies
+  pub end : o.next_place ≤ 2 ^ 62
+  pub least : 1 ≤ o.next_order
+  pub most : o.next_order ≤ 2 ^ 62
 
 stands-offer : (old new : Outbox) (c : Delivery) (a : Offer) → c.qos ≢ AtMostOnce → OfferStep old c a new → Stands old → Stands new
 stands-offer old new c Queued q s h = rw s.2 (record { first = h.first; sound = pushed 0 h.first old.next_place old.next_order c old.copies q h.sound; end = omega (arith, s.1); least = h.least; most = h.most })
@@ -326,12 +326,12 @@ stands-step old new lost q s h = rw s (record {
   most = omega (arith, above-most 0 h.first old.next_place old.next_order old.copies h.least h.sound, h.most);
 })
 
-stands-run : (start : Outbox) (steps : List Step) (end : Outbox) → AllByRecursion IsAnswered steps → Run start steps end → Stands start → Stands end
+pub stands-run : (start : Outbox) (steps : List Step) (end : Outbox) → AllByRecursion IsAnswered steps → Run start steps end → Stands start → Stands end
 stands-run start [] end q r h = rw r h
 stands-run start (s ∷ ss) end q r h = stands-run r.0 ss end q.1 r.2 (stands-step start r.0 s q.0 r.1 h)
 
 -- ---- what agrees
-test-le : (a b : ℕ) → a ≤ b → nat_le a b ≡ true
+pub test-le : (a b : ℕ) → a ≤ b → nat_le a b ≡ true
 test-le a b le = grind (arith, nat_tests)
 
 test-lt : (a b : ℕ) → a < b → nat_lt a b ≡ true
@@ -376,7 +376,7 @@ stage-agrees (Published id) place first next bound es most n f h = free-id id es
 stage-agrees (Released id order) place first next bound es most n f h =
     both_true (free-id id es n.0 n.2) (both_true (test-le 1 order f.1) (both_true (test-lt order (2 ^ 62) (omega (arith, f.2, most))) (ap not (has-away order es f.3))))
 
-agrees : (low first next bound : ℕ) (es : Entries) → next ≤ 2 ^ 62 → bound ≤ 2 ^ 62 → AreNumbered es → IsSound low first next bound es → agree next (away es) ≡ true
+pub agrees : (low first next bound : ℕ) (es : Entries) → next ≤ 2 ^ 62 → bound ≤ 2 ^ 62 → AreNumbered es → IsSound low first next bound es → agree next (away es) ≡ true
 agrees low first next bound [] end most n h = both_true (test-le 1 next (omega (arith, h.0))) (test-le next (2 ^ 62) end)
 agrees low first next bound (e ∷ es) end most n h = both_true
     (both_true (test-le 1 e.0 (omega (arith, h.0))) (both_true (test-lt e.0 (first_place next (away es)) (first-past e.0 (past e.1.stage first) next bound es h.3)) (both_true (asked-qos e.1.delivery.qos h.1) (stage-agrees e.1.stage e.0 first next bound es most n.0 h.2 h.3))))

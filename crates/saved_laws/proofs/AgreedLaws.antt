@@ -12,7 +12,7 @@ use Rattle.qos_handshakes.specs.Entries.{Entries, AllPlacesBelow, find_id}
 use Rattle.qos_handshakes.specs.Outbox.{waits, stage_id, stage_order, order_above}
 use Rattle.qos_handshakes.specs.Restored.{agree, all_wait, first_place, has_order, is_asked, is_free, precedes, restored, stage_fits}
 use Rattle.handshake_laws.specs.Numbers.{AreNumbered, IsNumbered}
-use Rattle.saved_laws.proofs.StandingLaws.{past, Faces, IsSound, Stands, more, above-head, above-least}
+use Rattle.handshake_laws.proofs.AgreeLaws.{past, Faces, IsSound, Stands, more, above-head, above-least}
 
 -- ---- what agrees
 both : (next : ℕ) (e : ℕ × Entry) (es : Entries) → agree next (e ∷ es) ≡ true → (precedes next es e.0 e.1 ≡ true) × (agree next es ≡ true)

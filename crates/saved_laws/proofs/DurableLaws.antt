@@ -35,7 +35,7 @@ use Rattle.session_laws.specs.Runs.{Event, connects, queues, takes, answers, clo
 use Rattle.session_laws.proofs.CallLaws.{Call}
 use Rattle.saved_laws.specs.Histories.{Point, Move, calls, tells, Moves, History}
 use Rattle.saved_laws.specs.Sound.{IsSoundEvent, IsSoundMove, BeginsSound, StaysDurable, DurableOpens}
-use Rattle.saved_laws.proofs.StandingLaws.{past, Faces, IsSound, agrees}
+use Rattle.handshake_laws.proofs.AgreeLaws.{past, Faces, IsSound, agrees}
 use Rattle.saved_laws.proofs.AgreedLaws.{next-past}
 use Rattle.saved_laws.proofs.RestLaws.{Rest, rest-after, rest-begun, rest-opened, main-fits, main-sound}
 use Rattle.saved_laws.proofs.SinceLaws.{AreSound, calls-of, sound-after, sound-begun, sound-opened}

@@ -1,4 +1,3 @@
-mod StandingLaws
 mod AgreedLaws
 mod TurnLaws
 mod SinceLaws

@@ -33,7 +33,7 @@ use Rattle.session_row_laws.specs.Laws.{AreDifferent, AreExact, FollowsOn, IsSin
 use Rattle.mqtt_sessions.specs.Removed.{gone_at, gone_of, own_removal, removals_of}
 use Rattle.mqtt_sessions.specs.State.{watched}
 use Rattle.saved_laws.specs.Told.{RemovalsLeaveNone}
-use Rattle.saved_laws.proofs.StandingLaws.{past, IsSound}
+use Rattle.handshake_laws.proofs.AgreeLaws.{past, IsSound}
 use Rattle.saved_laws.proofs.SinceLaws.{goes-on}
 
 same : Key → Key → Bool

@@ -37,7 +37,7 @@ use Rattle.session_laws.proofs.ProjectLaws.{project, Projects}
 use Rattle.session_laws.proofs.QuietLaws.{HasLimit}
 use Rattle.saved_laws.specs.Histories.{Point, Move, calls, tells, Moves, History, Begins, begun, opened}
 use Rattle.saved_laws.specs.Told.{StaysSince}
-use Rattle.saved_laws.proofs.StandingLaws.{Stands, stands-run}
+use Rattle.handshake_laws.proofs.AgreeLaws.{Stands, stands-run}
 use Rattle.saved_laws.proofs.AgreedLaws.{stands-restored, numbered-agreed, sound-below}
 use Rattle.saved_laws.proofs.TurnLaws.{Turns, TurnsPacket, turned}
 
