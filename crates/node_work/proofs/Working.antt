@@ -84,6 +84,11 @@ module _ {A B : Type 0} (P : Option A → Doing) (Q : A → Option B → Doing) 
 pub comes_wanting : {T A : Type 0} (see : T → A) (r : Result T NodeFault) (w w' : WorkView) (P : Option A → Doing) → IsErrAnd r (λ e. e ≡ NoMemory) → Comes see r w w' P
 comes_wanting see r w w' P is = let p = err_from_is_err_and r is in subst (λ q. Comes see q w w' P) (sym p.1) (subst (λ e. Comes see (Err e) w w' P) (sym p.2) tt)
 
+-- what holds whatever the result
+pub on_ok_always : {T E X : Type 0} (r : Result T E) → X → OnOk r X
+on_ok_always (Ok y) x = x
+on_ok_always (Err e) x = tt
+
 -- where only memory may be wanting
 pub comes_fine : {T A : Type 0} (see : T → A) (r : Result T NodeFault) (w w' : WorkView) (P : Option A → Doing) → OnOk r ((x : T) → Did w w' (P (Some (see x)))) → IfErr r (λ e. e ≡ NoMemory) → Comes see r w w' P
 comes_fine see (Ok x) w w' P d e = d x

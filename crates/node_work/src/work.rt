@@ -41,6 +41,7 @@ use mqtt_packets::{Bytes, Connect, Packet};
 use mqtt_sessions::{Output as SessionOutput, Reaction, SessionFault};
 use mqtt_topics::Filter;
 use replica_store::{Content, ReplicaStore};
+use row_store::Change;
 use std::alloc::Global;
 use std::marker::Model;
 use subscription_set::Entry;
@@ -59,6 +60,9 @@ pub struct Work {
     homes: HomeTable,
     held: Held,
     outputs: Vec<Output>,
+
+    // The changes of the rows of the sessions, in the order in which they were made.
+    changes: Vec<Change>,
 }
 
 impl Model for Work {
@@ -99,6 +103,7 @@ impl Work {
             homes,
             held: Held::new(alloc),
             outputs: Vec::new(alloc),
+            changes: Vec::new(alloc),
         }
     }
 
@@ -130,6 +135,7 @@ impl Work {
         ensures { self.new ≡ record self.old { outputs = [] } }
     {
         self.outputs.clear();
+        self.changes.clear();
     }
 
     /// Hands over what was given out.
@@ -335,16 +341,14 @@ impl Work {
         ensures { Comes (λ x. x) result self.old self.new (Acting (λ p h. Session (Begun client.now))) }
     {
         let client = client.copy(self.alloc)?;
-        self.held.begin_session(client)
+        self.held.begin_session(client, &mut self.changes)
     }
 
     /// Takes a client's session out.
     pub fn end_session(&mut self, client: &Text) -> Result<(), NodeFault>
-        ensures comes { Comes (λ x. x) result self.old self.new (Acting (λ p h. Session (Over client.now))) }
-        ensures done { result ≡ Ok tt }
+        ensures { Comes (λ x. x) result self.old self.new (Acting (λ p h. Session (Over client.now))) }
     {
-        self.held.end_session(client);
-        Ok(())
+        self.held.end_session(client, &mut self.changes)
     }
 
     /// Sends what a session gives to the connection that its client is on, and counts a copy that it left out.
@@ -445,7 +449,9 @@ impl Work {
         requires will { IsPublishableIf connect.now.will }
         ensures { Comes (λ x. x) result self.old self.new (Calls client.now (connects connect.now continued) (moves connection)) }
     {
-        let called = self.held.connect(client, connection, connect, continued);
+        let called = self
+            .held
+            .connect(client, connection, connect, continued, &mut self.changes);
         self.react(Some(connection), called)
     }
 
@@ -454,7 +460,7 @@ impl Work {
         ensures { Comes (λ x. x) result self.old self.new (Calls client.now (queues delivery) stays) }
     {
         let on = self.held.sessions().connection(client);
-        let called = self.held.queue(client, delivery);
+        let called = self.held.queue(client, delivery, &mut self.changes);
         self.react(on, called)
     }
 
@@ -469,7 +475,7 @@ impl Work {
         ensures { Comes (λ x. x) result self.old self.new (Calls client.now (λ at. takes packet.now at room) stays) }
     {
         let on = self.held.sessions().connection(client);
-        let called = self.held.packet(client, packet, room);
+        let called = self.held.packet(client, packet, room, &mut self.changes);
         self.react(on, called)
     }
 
@@ -484,7 +490,9 @@ impl Work {
         ensures { Comes (λ x. x) result self.old self.new (Calls client.now (λ at. answers identifier codes.now) stays) }
     {
         let on = self.held.sessions().connection(client);
-        let called = self.held.answer(client, identifier, codes);
+        let called = self
+            .held
+            .answer(client, identifier, codes, &mut self.changes);
         self.react(on, called)
     }
 
@@ -492,7 +500,7 @@ impl Work {
     pub fn part(&mut self, client: &Text) -> Result<Reaction, NodeFault>
         ensures { Comes (λ x. x) result self.old self.new (Calls client.now closes leaves) }
     {
-        let called = self.held.part(client);
+        let called = self.held.part(client, &mut self.changes);
         self.react(None, called)
     }
 
@@ -501,7 +509,7 @@ impl Work {
         ensures { Comes (λ x. x) result self.old self.new (Calls client.now ticks stays) }
     {
         let on = self.held.sessions().connection(client);
-        let called = self.held.tick(client);
+        let called = self.held.tick(client, &mut self.changes);
         self.react(on, called)
     }
 
@@ -510,7 +518,7 @@ impl Work {
         ensures { Comes (λ x. x) result self.old self.new (Calls client.now finishes stays) }
     {
         let on = self.held.sessions().connection(client);
-        let called = self.held.finish(client);
+        let called = self.held.finish(client, &mut self.changes);
         self.react(on, called)
     }
 }

@@ -1,12 +1,12 @@
 -- What a call of a client's session comes to.
-use Rattle.std.proofs.Common.{◌≡◌, ℕ, Bool, true, false, List, [], Option, Some, None, Bor, IfOk, IfSome, is_some, Result, Ok, Err, unwrap_or, refl, sym, ap, subst, ◌∙◌}
+use Rattle.std.proofs.Common.{◌≡◌, ℕ, Bool, false, List, [], Option, Some, None, Bor, IfOk, IfSome, is_some, Result, Ok, Err, unwrap_or, refl, sym, ap, subst, ◌∙◌}
 use Rattle.std.specs.Ordering.{eq_by_cmp}
 use Rattle.std.specs.Option.{option_and_then, option_map}
 use Rattle.std.specs.FinMap as map
 use Rattle.mqtt_sessions.specs.Called.{Called}
 use Rattle.mqtt_sessions.specs.Ending.{will_due, end_due}
 use Rattle.mqtt_sessions.specs.Reaction.{Reaction, AreSpelled}
-use Rattle.mqtt_sessions.specs.Saved.{state_of}
+use Rattle.mqtt_sessions.specs.Saved.{Saved, state_of}
 use Rattle.mqtt_sessions.specs.State.{State, limit_of, new_session}
 use Rattle.mqtt_sessions.specs.declared.fault.SessionFault.{SessionFault}
 use Rattle.mqtt_sessions.specs.declared.fault.SessionFault.TheVariants.{NoMemory, NumbersAtEnd, Spent, BadRow}
@@ -18,6 +18,7 @@ use Rattle.session_table.specs.declared.call.Call.{Call}
 use Rattle.session_table.specs.declared.call.Call.TheVariants.{Connect}
 use Rattle.session_table.specs.Calls.{event_of, IsSpelledIf, IsCalled, IsTurned, IsSeated, MayTurn, MayTurnAt}
 use Rattle.session_table.specs.Listing.{Table, connection_in, text_cmp, seat_of, seats_in, moments_of, no_moments, listed_in, IsAt, IsListedAt, Relists, IsListed, IsKeyed, IsKept, IsBroken, Runs}
+use Rattle.session_table.specs.Rows.{IsAllTold}
 use Rattle.session_table.specs.declared.listing.Listing.{Listing}
 use Rattle.session_table.specs.declared.moments.Moments.{Moments}
 use Rattle.session_table.specs.declared.seated.Seated.{Seated}
@@ -95,6 +96,9 @@ listed_here client t l x h keyed is =
     let Q : List ℕ → Type 0 = λ c. IsListedAt l c x.listed in
     subst Q (sym (keyed client x is)) (subst P is (h client)))
 
+pub told_here : (client : List ℕ) (t : Table) (l : Listing) (x : Seated) → IsKept t l → map.get t client ≡ Some x → IsAllTold x.key.1 x.session
+told_here client t l x kept is = (let P : List ℕ → Type 0 = λ c. IsAllTold c x.session in subst P (sym (kept.keyed client x is)) (kept.told client x is))
+
 seat_here : (client : List ℕ) (t : Table) (x : Seated) → map.get t client ≡ Some x → map.get (seats_in t) client ≡ Some (seat_of x)
 seat_here client t x is = get_seat t client ∙ ap (option_map seat_of) is
 
@@ -135,8 +139,8 @@ module _ (e : Event) (on : Option ℕ → Option ℕ) (client : List ℕ) (t u :
       by BadRow d = d
 
   pub kept_ok : (r : Reaction) (k l : Listing) → IfSome (state_of x.session) (λ s. IsSeated e on s x.connection (Ok r) y) → y.key.1 ≡ x.key.1 → IsKept t k → IsListedAt l x.key.1 y.listed → Relists x.key.1 k l
-      → IsKept u l
-  kept_ok r k l h key kept at others =
+      → IsAllTold x.key.1 y.session → IsKept u l
+  kept_ok r k l h key kept at others told =
       (let d = at_state (λ s. IsSeated e on s x.connection (Ok r) y) h in
       let name = kept.keyed client x is in
       let P : List ℕ → Type 0 = λ c. IsListedAt l c y.listed in
@@ -145,6 +149,7 @@ module _ (e : Event) (on : Option ℕ → Option ℕ) (client : List ℕ) (t u :
         listed = listed_put client t u k l y kept.listed (subst Q name others) written (subst P name at);
         keyed = each_put (λ c z. z.key.1 ≡ c) client t u y kept.keyed written (key ∙ name);
         run = each_put (λ c z. Runs z) client t u y kept.run written (d.0, d.1, d.4 ∙ ap (moments_of d.0) (sym d.3));
+        told = each_put (λ c z. IsAllTold c z.session) client t u y kept.told written (subst (λ (c : List ℕ). IsAllTold c y.session) name told);
       })
 
   pub broken : (k l : Listing) → y.key.1 ≡ x.key.1 → IsKept t k → IsListedAt l x.key.1 y.listed → Relists x.key.1 k l → IsBroken client t u l
@@ -167,6 +172,7 @@ kept_out client t u k l kept gone listed = record {
   listed = listed;
   keyed = each_out (λ c z. z.key.1 ≡ c) client t u kept.keyed gone;
   run = each_out (λ c z. Runs z) client t u kept.run gone;
+  told = each_out (λ c z. IsAllTold c z.session) client t u kept.told gone;
 }
 
 -- after a fault
@@ -178,6 +184,7 @@ mended client t u v k l m kept b gone listed =
       listed = listed;
       keyed = each_but (λ c z. z.key.1 ≡ c) client t v kept.keyed none same;
       run = each_but (λ c z. Runs z) client t v kept.run none same;
+      told = each_but (λ c z. IsAllTold c z.session) client t v kept.told none same;
     })
 
 -- what is said after a fault doesn't speak of the table
@@ -207,19 +214,20 @@ absent_here client t l key m listed none name is =
     subst R (sym is) (subst Q (sym name) (subst P none (listed client))))
 
 pub put_kept : (client : List ℕ) (t u : Table) (k l : Listing) (key : List ℕ) (y : Seated) (m : Moments) → IsKept t k → u ≡ map.insert t client y → key ≡ client → y.key.1 ≡ key → IsListedAt l key y.listed
-    → Relists key k l → y.listed ≡ m → is_some (state_of y.session) ≡ true → y.connection ≡ None → IfSome (state_of y.session) (λ s. m ≡ moments_of s None) → IsKept u l
-put_kept client t u k l key y m kept written name same at others listed runs off are =
+    → Relists key k l → y.listed ≡ m → IsAllTold client y.session → y.connection ≡ None → IfSome (state_of y.session) (λ s. m ≡ moments_of s None) → IsKept u l
+put_kept client t u k l key y m kept written name same at others listed told off are =
     (let P : List ℕ → Type 0 = λ c. IsListedAt l c y.listed in
     let Q : List ℕ → Type 0 = λ c. Relists c k l in
     record {
       listed = listed_put client t u k l y kept.listed (subst Q name others) written (subst P name at);
       keyed = each_put (λ c z. z.key.1 ≡ c) client t u y kept.keyed written (same ∙ name);
-      run = each_put (λ c z. Runs z) client t u y kept.run written (by (state_of y.session) refl runs are);
+      run = each_put (λ c z. Runs z) client t u y kept.run written (by y.session refl told are);
+      told = each_put (λ c z. IsAllTold c z.session) client t u y kept.told written told;
     })
   where
-    by : (o : Option State) → state_of y.session ≡ o → is_some o ≡ true → IfSome o (λ s. m ≡ moments_of s None) → Runs y
-    by None e h a = absurd (let z : false ≡ true = h in cc)
-    by (Some s) e h a = (s, e, listed ∙ a ∙ ap (moments_of s) (sym off))
+    by : (o : Option Saved) → y.session ≡ o → IsAllTold client o → IfSome (state_of o) (λ s. m ≡ moments_of s None) → Runs y
+    by None e h a = absurd h
+    by (Some x) e h a = (x.tracked.state, ap state_of e, listed ∙ a ∙ ap (moments_of x.tracked.state) (sym off))
 
 pub put_seats : (client : List ℕ) (t u : Table) (y : Seated) → u ≡ map.insert t client y → y.connection ≡ None
     → IfSome (state_of y.session) (λ s. seats_in u ≡ map.insert (seats_in t) client (record { session = s; connection = None }))
@@ -242,6 +250,7 @@ put_undone client t k l key kept none name others at =
       listed = listed_again client t t k l kept.listed (subst R name others) (λ q apart. refl) (subst P (sym none) (subst Q name at));
       keyed = kept.keyed;
       run = kept.run;
+      told = kept.told;
     })
 
 -- ---- no client
@@ -252,6 +261,7 @@ kept_empty t l none a b c = record {
       subst P (sym (absent client)) (record { run_out = empty_at l.run_outs client a; will = empty_at l.wills client b; end = empty_at l.ends client c }));
   keyed = λ client x is. absurd (let no : None ≡ Some x = sym (absent client) ∙ is in cc);
   run = λ client x is. absurd (let no : None ≡ Some x = sym (absent client) ∙ is in cc);
+  told = λ client x is. absurd (let no : None ≡ Some x = sym (absent client) ∙ is in cc);
 }
   where
     absent : (client : List ℕ) → map.get t client ≡ None

@@ -1,4 +1,5 @@
 pub mod Tables
+pub mod RowLaws
 pub mod Lists
 pub mod Calling
 pub mod Numbers

@@ -1,3 +1,4 @@
 pub mod Seats
+pub mod Rows
 pub mod Listing
 pub mod Calls

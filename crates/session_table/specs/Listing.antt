@@ -8,8 +8,9 @@ use Rattle.std.specs.Ordering.{nat_cmp, eq_by_cmp}
 use Rattle.std.specs.declared.cmp.Ordering.{Ordering}
 use Rattle.due_times.specs.Dues.{Due, Dues}
 use Rattle.mqtt_sessions.specs.Ending.{end_due, in_time, is_connected, runs_out_at, will_due}
-use Rattle.mqtt_sessions.specs.Saved.{state_of}
+use Rattle.mqtt_sessions.specs.Saved.{Saved, state_of}
 use Rattle.mqtt_sessions.specs.State.{State, new_session}
+use Rattle.session_table.specs.Rows.{IsAllTold}
 use Rattle.session_table.specs.Seats.{Seat, Seats, at_number}
 use Rattle.session_table.specs.declared.moments.Moments.{Moments}
 use Rattle.session_table.specs.declared.seated.Seated.{Seated}
@@ -87,10 +88,15 @@ Runs x = (s : State) × (state_of x.session ≡ Some s) × (x.listed ≡ moments
 abbrev pub AllRun : Table → Type 0
 AllRun t = (client : List ℕ) (x : Seated) → map.get t client ≡ Some x → Runs x
 
+-- its rows were told as they are
+abbrev pub AllTold : Table → Type 0
+AllTold t = (client : List ℕ) (x : Seated) → map.get t client ≡ Some x → IsAllTold client x.session
+
 pub record IsKept (t : Table) (l : Listing) : Type 0 where
   pub listed : IsListed t l
   pub keyed : IsKeyed t
   pub run : AllRun t
+  pub told : AllTold t
 
 -- what is left after a fault: the client's session may be spent, and it is listed as its seat says
 pub record IsBroken (client : List ℕ) (old new : Table) (l : Listing) : Type 0 where
@@ -99,6 +105,10 @@ pub record IsBroken (client : List ℕ) (old new : Table) (l : Listing) : Type 0
   pub others : (q : List ℕ) → eq_by_cmp text_cmp q client ≡ false → map.get new q ≡ map.get old q
 
 -- ---- answers
+abbrev pub session_in : Option Seated → Option (Option Saved)
+session_in None = None
+session_in (Some x) = Some x.session
+
 abbrev pub connection_in : Option Seated → Option ℕ
 connection_in None = None
 connection_in (Some x) = x.connection

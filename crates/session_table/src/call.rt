@@ -1,7 +1,7 @@
 //! Calls of a session.
 
 ghost use Rattle.std.specs.Prelude.{◌≡◌, IfOk, IfSome};
-ghost use Rattle.mqtt_sessions.specs.Saved.{state_of};
+ghost use Rattle.mqtt_sessions.specs.Saved.{NotesIf, state_of};
 ghost use Rattle.session_table.specs.Calls.{Asks, GivesSpelled, IsTurned, MayTurn, event_of, on_of};
 
 use mqtt_message::Delivery;
@@ -59,6 +59,7 @@ pub(crate) fn turn(session: &mut Session, call: Call<'_>) -> Result<Reaction, Se
     requires may { MayTurn (event_of call) (state_of session.old) }
     ensures turned { IfSome (state_of session.old) (λ s. IsTurned (event_of call.entry) s result (state_of session.new)) }
     ensures spelled { IfOk result (GivesSpelled (event_of call.entry)) }
+    ensures notes { NotesIf session.old session.new }
 {
     match call {
         Call::Connect {

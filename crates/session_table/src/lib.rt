@@ -2,10 +2,12 @@
 #![tactic(auto)]
 
 mod call;
+mod laws;
 mod listing;
 mod moments;
 mod seated;
 mod sessions;
 mod table;
+mod telling;
 
 pub use sessions::Sessions;

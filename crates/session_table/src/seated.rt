@@ -1,15 +1,18 @@
 //! Sessions as a table keeps them.
 
-ghost use Rattle.std.specs.Prelude.{◌≡◌, IfOk, IfSome, None};
+ghost use Rattle.std.specs.Prelude.{◌≡◌, IfOk, IfSome, None, OnOk};
 ghost use Rattle.mqtt_sessions.specs.Saved.{state_of};
 ghost use Rattle.session_table.specs.Calls.{Asks, GivesSpelled, IsSeated, MayTurn, event_of, on_of};
 ghost use Rattle.session_table.specs.Listing.{IsListedAt, Relists, no_moments};
+ghost use Rattle.session_table.specs.Rows.{IsAllTold, TellsAgain};
 
-use crate::call::{Call, On, land, turn};
+use crate::call::{Call, On, land};
 use crate::listing::{Listing, relist, unlist};
 use crate::moments::{Moments, moments_of, no_moments};
+use crate::telling::turn_and_tell;
 use mqtt_fields::Text;
 use mqtt_sessions::{Reaction, Session, SessionFault};
+use row_store::Change;
 use std::alloc::Global;
 
 /// A session, the connection that its client is on, and the moments at which it is listed.
@@ -37,35 +40,50 @@ pub(crate) fn seat(session: Session, name: Text) -> Seated
     }
 }
 
+/// Takes a client out of the lists, and gives its session.
+pub(crate) fn unseat(listing: &mut Listing, seated: Seated) -> Session
+    requires { IsListedAt listing.old seated.key.1 seated.listed }
+    ensures at { IsListedAt listing.new seated.key.1 no_moments }
+    ensures others { Relists seated.key.1 listing.old listing.new }
+    ensures session { result ≡ seated.session }
+{
+    let mut seated = seated;
+    unlist(listing, &mut seated.key, &mut seated.listed);
+    seated.session
+}
+
 /// Takes a client out of the lists.
 pub(crate) fn unlist_seated(listing: &mut Listing, seated: Seated)
     requires { IsListedAt listing.old seated.key.1 seated.listed }
     ensures at { IsListedAt listing.new seated.key.1 no_moments }
     ensures others { Relists seated.key.1 listing.old listing.new }
 {
-    let mut seated = seated;
-    unlist(listing, &mut seated.key, &mut seated.listed);
+    unseat(listing, seated);
 }
 
-/// One call of a session, which is listed at its moments then. After a fault it is listed as it says.
+/// One call of a session, whose changes of rows are appended, and which is listed at its moments then. After a fault it is
+/// listed as it says.
 pub(crate) fn call_seated(
     seated: &mut Seated,
     listing: &mut Listing,
     alloc: Global,
     call: Call<'_>,
     on: On,
+    changes: &mut Vec<Change>,
 ) -> Result<Reaction, SessionFault>
     requires listed { IsListedAt listing.old seated.old.key.1 seated.old.listed }
     requires asks { Asks call }
     requires may { MayTurn (event_of call) (state_of seated.old.session) }
+    requires told { IsAllTold seated.old.key.1 seated.old.session }
     ensures at { IsListedAt listing.new seated.old.key.1 seated.new.listed }
     ensures others { Relists seated.old.key.1 listing.old listing.new }
     ensures key { seated.new.key.1 ≡ seated.old.key.1 }
     ensures turned { IfSome (state_of seated.old.session)
         (λ s. IsSeated (event_of call.entry) (on_of on) s seated.old.connection result seated.new) }
     ensures spelled { IfOk result (GivesSpelled (event_of call.entry)) }
+    ensures tells { OnOk result (TellsAgain seated.old.key.1 seated.old.session changes.old.items changes.new.items seated.new.session) }
 {
-    let reaction = turn(&mut seated.session, call)?;
+    let reaction = turn_and_tell(&mut seated.session, call, changes)?;
     let connection = land(on, seated.connection);
     let moments = moments_of(&seated.session, connection);
     seated.connection = connection;

@@ -8,17 +8,20 @@ ghost use Rattle.mqtt_sessions.specs.Saved.{state_of};
 ghost use Rattle.mqtt_sessions.specs.State.{IsPublishableIf, limit_of};
 ghost use Rattle.session_laws.specs.Runs.{connects, queues, takes, answers, closes, ticks, finishes};
 ghost use Rattle.session_table.specs.Calls.{GivesSpelled, IsSpelledIf, Asks, IsCalled, MayConnectAt, MayTurnAt, event_of, leaves, moves, on_of, stays};
+ghost use Rattle.session_table.specs.Rows.{IsAllTold, LeadsOn};
 ghost use Rattle.session_table.specs.Seats.{begun, connected, ends_due, run_outs, wills_due};
 
 use crate::call::{Call, On};
 use crate::listing::Listing;
 use crate::seated::Seated;
 use crate::table::{by_connection, call_in, connected_in, connection_of, put_in, take_out};
+use crate::telling::{begin_told, leave};
 use due_times::DueTimes;
 use mqtt_fields::{NoMemory, Text};
 use mqtt_message::Delivery;
 use mqtt_packets::{Connect, Packet};
 use mqtt_sessions::{Reaction, Session, SessionFault};
+use row_store::Change;
 use std::alloc::Global;
 use std::collections::BTreeMap;
 use std::marker::Model;
@@ -116,10 +119,11 @@ impl Sessions {
         self.seats.len()
     }
 
-    /// Puts in a client's session that isn't spent, for a client that is on no connection; where the client has one, in its
-    /// place. Where memory is refused the client has none.
+    /// Puts in a client's session whose rows were told, as one that was opened from them, for a client that is on no
+    /// connection; where the client has one, in its place. No change of rows comes of it: they are taken to be there, and
+    /// those of the session before it gone. Where memory is refused the client has none.
     pub fn insert(&mut self, client: Text, session: Session) -> Result<(), NoMemory>
-        requires { IsSome (state_of session) }
+        requires { IsAllTold client session }
         ensures ok { OnOk result (IfSome (state_of session)
             (λ s. self.new ≡ map.insert self.old client (record { session = s; connection = None }))) }
         ensures err { OnErr result (self.new ≡ map.remove self.old client) }
@@ -134,35 +138,44 @@ impl Sessions {
         )
     }
 
-    /// A session for the client before its first connection; where the client has one, in its place. Where memory is refused
-    /// the client has none.
-    pub fn begin(&mut self, client: Text) -> Result<(), NoMemory>
+    /// A session for the client before its first connection; where the client has one, in its place. The changes of rows are
+    /// appended. Where memory is refused the client has none.
+    pub fn begin(&mut self, client: Text, changes: &mut Vec<Change>) -> Result<(), NoMemory>
         ensures ok { OnOk result (self.new ≡ map.insert self.old client (begun client)) }
         ensures err { OnErr result (self.new ≡ map.remove self.old client) }
+        ensures leads { OnOk result (LeadsOn self.old changes.old.items changes.new.items self.new) }
     {
-        self.remove(&client);
-        let name = client.copy(self.alloc)?;
-        self.insert(client, Session::new(self.alloc, name))
+        self.remove(&client, changes)?;
+        let session = begin_told(self.alloc, &client, changes)?;
+        self.insert(client, session)
     }
 
-    /// Takes the client's session out. This takes no memory.
-    pub fn remove(&mut self, client: &Text)
-        ensures { self.new ≡ map.remove self.old client.now }
+    /// Takes the client's session out, and appends that its rows go. Where memory is refused for that, the session is out all
+    /// the same. It takes none where there is no session.
+    pub fn remove(&mut self, client: &Text, changes: &mut Vec<Change>) -> Result<(), NoMemory>
+        ensures gone { self.new ≡ map.remove self.old client.now }
+        ensures leads { OnOk result (LeadsOn self.old changes.old.items changes.new.items self.new) }
+        ensures none { map.get self.old client.now ≡ None → IsOk result × (changes.new.items ≡ changes.old.items) }
     {
-        take_out(&mut self.seats, &mut self.listing, client);
+        let Some(session) = take_out(&mut self.seats, &mut self.listing, client) else {
+            return Ok(());
+        };
+        leave(session, changes)
     }
 
-    /// One call of the client's session.
+    /// One call of the client's session, whose changes of rows are appended.
     fn call(
         &mut self,
         client: &Text,
         call: Call<'_>,
         on: On,
+        changes: &mut Vec<Change>,
     ) -> Result<Option<Reaction>, SessionFault>
         requires asks { Asks call }
         requires may { MayTurnAt (event_of call) (map.get self.old client.now) }
         ensures called { IsCalled client.now (event_of call.entry) (on_of on) self.old result self.new }
         ensures spelled { IfOk result (λ o. IfSome o (GivesSpelled (event_of call.entry))) }
+        ensures leads { OnOk result (LeadsOn self.old changes.old.items changes.new.items self.new) }
     {
         match call_in(
             &mut self.seats,
@@ -171,6 +184,7 @@ impl Sessions {
             client,
             call,
             on,
+            changes,
         ) {
             Ok(answer) => Ok(answer),
             Err(fault) => {
@@ -180,8 +194,8 @@ impl Sessions {
         }
     }
 
-    /// The client is on a new connection: `Session::connect`. After a fault the client has no session, here and in the calls
-    /// below.
+    /// The client is on a new connection: `Session::connect`. Here and in the calls below the changes of rows are appended, and
+    /// after a fault the client has no session, and nothing is said of the changes.
     pub fn connect(
         &mut self,
         client: &Text,
@@ -189,18 +203,20 @@ impl Sessions {
         connect: &Connect,
         continued: bool,
         now: u64,
+        changes: &mut Vec<Change>,
     ) -> Result<Option<Reaction>, SessionFault>
         requires continued { MayConnectAt continued (map.get self.old client.now) }
         requires will { IsPublishableIf connect.now.will }
         ensures called { IsCalled client.now (connects connect.now continued now) (moves connection) self.old result self.new }
         ensures spelled { IfOk result (IsSpelledIf now) }
+        ensures leads { OnOk result (LeadsOn self.old changes.old.items changes.new.items self.new) }
     {
         let call = Call::Connect {
             connect,
             continued,
             now,
         };
-        self.call(client, call, On::Moves(connection))
+        self.call(client, call, On::Moves(connection), changes)
     }
 
     /// A copy of a message for the client: `Session::queue`.
@@ -209,11 +225,13 @@ impl Sessions {
         client: &Text,
         delivery: Delivery,
         now: u64,
+        changes: &mut Vec<Change>,
     ) -> Result<Option<Reaction>, SessionFault>
         ensures called { IsCalled client.now (queues delivery now) stays self.old result self.new }
         ensures spelled { IfOk result (IsSpelledIf now) }
+        ensures leads { OnOk result (LeadsOn self.old changes.old.items changes.new.items self.new) }
     {
-        self.call(client, Call::Queue { delivery, now }, On::Stays)
+        self.call(client, Call::Queue { delivery, now }, On::Stays, changes)
     }
 
     /// A packet that came from the client: `Session::packet`.
@@ -223,13 +241,20 @@ impl Sessions {
         packet: &Packet,
         now: u64,
         room: bool,
+        changes: &mut Vec<Change>,
     ) -> Result<Option<Reaction>, SessionFault>
         requires spelled { HasSpelling packet.now }
         requires moment { now < 2 ^ 62 }
         ensures called { IsCalled client.now (takes packet.now now room) stays self.old result self.new }
         ensures spelled { IfOk result (IsSpelledIf now) }
+        ensures leads { OnOk result (LeadsOn self.old changes.old.items changes.new.items self.new) }
     {
-        self.call(client, Call::Packet { packet, now, room }, On::Stays)
+        self.call(
+            client,
+            Call::Packet { packet, now, room },
+            On::Stays,
+            changes,
+        )
     }
 
     /// The codes that the client's session waits for: `Session::answer`.
@@ -238,40 +263,60 @@ impl Sessions {
         client: &Text,
         id: u16,
         codes: &[u8],
+        changes: &mut Vec<Change>,
     ) -> Result<Option<Reaction>, SessionFault>
         requires identifier { 1 ≤ id }
         requires codes { codes.now ≢ [] }
         ensures called { IsCalled client.now (answers id codes.now) stays self.old result self.new }
         ensures spelled { (now : ℕ) → IfOk result (IsSpelledIf now) }
+        ensures leads { OnOk result (LeadsOn self.old changes.old.items changes.new.items self.new) }
     {
-        self.call(client, Call::Answer { id, codes }, On::Stays)
+        self.call(client, Call::Answer { id, codes }, On::Stays, changes)
     }
 
     /// The client's connection is gone: `Session::closed`.
-    pub fn closed(&mut self, client: &Text, now: u64) -> Result<Option<Reaction>, SessionFault>
+    pub fn closed(
+        &mut self,
+        client: &Text,
+        now: u64,
+        changes: &mut Vec<Change>,
+    ) -> Result<Option<Reaction>, SessionFault>
         requires { now < 2 ^ 62 }
         ensures called { IsCalled client.now (closes now) leaves self.old result self.new }
         ensures spelled { IfOk result (IsSpelledIf now) }
+        ensures leads { OnOk result (LeadsOn self.old changes.old.items changes.new.items self.new) }
     {
-        self.call(client, Call::Closed(now), On::Leaves)
+        self.call(client, Call::Closed(now), On::Leaves, changes)
     }
 
     /// Does one thing that is due of the client's session: `Session::tick`.
-    pub fn tick(&mut self, client: &Text, now: u64) -> Result<Option<Reaction>, SessionFault>
+    pub fn tick(
+        &mut self,
+        client: &Text,
+        now: u64,
+        changes: &mut Vec<Change>,
+    ) -> Result<Option<Reaction>, SessionFault>
         requires { now < 2 ^ 62 }
         ensures called { IsCalled client.now (ticks now) stays self.old result self.new }
         ensures spelled { IfOk result (IsSpelledIf now) }
+        ensures leads { OnOk result (LeadsOn self.old changes.old.items changes.new.items self.new) }
     {
-        self.call(client, Call::Tick(now), On::Stays)
+        self.call(client, Call::Tick(now), On::Stays, changes)
     }
 
     /// The client's session ends now: `Session::finish`. It stays in the table, for `remove`.
-    pub fn finish(&mut self, client: &Text, now: u64) -> Result<Option<Reaction>, SessionFault>
+    pub fn finish(
+        &mut self,
+        client: &Text,
+        now: u64,
+        changes: &mut Vec<Change>,
+    ) -> Result<Option<Reaction>, SessionFault>
         requires { now < 2 ^ 62 }
         ensures called { IsCalled client.now (finishes now) stays self.old result self.new }
         ensures spelled { IfOk result (IsSpelledIf now) }
+        ensures leads { OnOk result (LeadsOn self.old changes.old.items changes.new.items self.new) }
     {
-        self.call(client, Call::Finish(now), On::Stays)
+        self.call(client, Call::Finish(now), On::Stays, changes)
     }
 
     /// The connections whose Keep Alive has run out, rising, each with its client. It takes memory only where there are some.

@@ -6,15 +6,17 @@ ghost use Rattle.due_times.specs.Dues.{in_order};
 ghost use Rattle.mqtt_sessions.specs.Saved.{state_of};
 ghost use Rattle.session_table.specs.Calls.{Asks, GivesSpelled, IsCalled, MayTurnAt, event_of, on_of};
 ghost use Rattle.session_table.specs.Seats.{connected};
-ghost use Rattle.session_table.specs.Listing.{IsBroken, IsKept, IsKeyed, IsListed, connection_in, on_connection, seats_in, table};
+ghost use Rattle.session_table.specs.Rows.{IsAllTold, LeadsOn};
+ghost use Rattle.session_table.specs.Listing.{IsBroken, IsKept, IsKeyed, IsListed, connection_in, on_connection, seats_in, session_in, table};
 
 use crate::call::{Call, On};
 use crate::listing::{Listing, relist};
 use crate::moments::moments_of;
-use crate::seated::{Seated, call_seated, seat, unlist_seated};
+use crate::seated::{Seated, call_seated, seat, unlist_seated, unseat};
 use due_times::DueTimes;
 use mqtt_fields::{NoMemory, Text};
 use mqtt_sessions::{Reaction, Session, SessionFault};
+use row_store::Change;
 use std::alloc::Global;
 use std::collections::BTreeMap;
 
@@ -26,35 +28,42 @@ pub(crate) fn call_in(
     client: &Text,
     call: Call<'_>,
     on: On,
+    changes: &mut Vec<Change>,
 ) -> Result<Option<Reaction>, SessionFault>
     requires kept { IsKept (table seats.old.entries) listing.old }
     requires asks { Asks call }
     requires may { MayTurnAt (event_of call) (map.get (seats_in (table seats.old.entries)) client.now) }
     ensures called { IsCalled client.now (event_of call.entry) (on_of on) (seats_in (table seats.old.entries)) result (seats_in (table seats.new.entries)) }
     ensures spelled { IfOk result (λ o. IfSome o (GivesSpelled (event_of call.entry))) }
+    ensures leads { OnOk result (LeadsOn (seats_in (table seats.old.entries)) changes.old.items changes.new.items (seats_in (table seats.new.entries))) }
     ensures ok { OnOk result (IsKept (table seats.new.entries) listing.new) }
     ensures err { OnErr result (IsBroken client.now (table seats.old.entries) (table seats.new.entries) listing.new) }
 {
     let Some(seated) = seats.get_mut(client) else {
         return Ok(None);
     };
-    match call_seated(seated, listing, alloc, call, on) {
+    match call_seated(seated, listing, alloc, call, on, changes) {
         Ok(reaction) => Ok(Some(reaction)),
         Err(fault) => Err(fault),
     }
 }
 
-/// Takes a client out.
-pub(crate) fn take_out(seats: &mut BTreeMap<Text, Seated>, listing: &mut Listing, client: &Text)
+/// Takes a client out, and gives its session.
+pub(crate) fn take_out(
+    seats: &mut BTreeMap<Text, Seated>,
+    listing: &mut Listing,
+    client: &Text,
+) -> Option<Session>
     requires listed { IsListed (table seats.old.entries) listing.old }
     requires keyed { IsKeyed (table seats.old.entries) }
     ensures gone { table seats.new.entries ≡ map.remove (table seats.old.entries) client.now }
     ensures listed { IsListed (table seats.new.entries) listing.new }
+    ensures session { result ≡ session_in (map.get (table seats.old.entries) client.now) }
 {
     let Some(seated) = seats.remove(client) else {
-        return;
+        return None;
     };
-    unlist_seated(listing, seated);
+    Some(unseat(listing, seated))
 }
 
 /// Puts in a client that isn't there.
@@ -67,7 +76,7 @@ pub(crate) fn put_in(
 ) -> Result<(), NoMemory>
     requires kept { IsKept (table seats.old.entries) listing.old }
     requires absent { map.get (table seats.old.entries) client ≡ None }
-    requires runs { IsSome (state_of session) }
+    requires told { IsAllTold client session }
     ensures kept { IsKept (table seats.new.entries) listing.new }
     ensures ok { OnOk result (IfSome (state_of session)
         (λ s. seats_in (table seats.new.entries) ≡ map.insert (seats_in (table seats.old.entries)) client (record { session = s; connection = None }))) }

@@ -81,8 +81,9 @@ fn connect(
     digits: &str,
     now: u64,
 ) -> Result<String, Stop> {
+    let mut changes = Vec::new(alloc);
     let connect = connect_of(alloc, digits)?;
-    let result = sessions.connect(client, connection, &connect, true, now);
+    let result = sessions.connect(client, connection, &connect, true, now, &mut changes);
     told(alloc, &result)
 }
 
@@ -96,8 +97,9 @@ fn take(
 ) -> Result<String, Stop>
     requires { now < 2 ^ 62 }
 {
+    let mut changes = Vec::new(alloc);
     let packet = packet_of(alloc, digits)?;
-    let result = sessions.packet(client, &packet, now, true);
+    let result = sessions.packet(client, &packet, now, true, &mut changes);
     told(alloc, &result)
 }
 
@@ -111,10 +113,11 @@ fn at(
 ) -> Result<String, Stop>
     requires { now < 2 ^ 62 }
 {
+    let mut changes = Vec::new(alloc);
     let result = match verb {
-        "closed" => sessions.closed(client, now),
-        "tick" => sessions.tick(client, now),
-        "finish" => sessions.finish(client, now),
+        "closed" => sessions.closed(client, now, &mut changes),
+        "tick" => sessions.tick(client, now, &mut changes),
+        "finish" => sessions.finish(client, now, &mut changes),
         _ => return Err(Stop::Word),
     };
     told(alloc, &result)
@@ -138,9 +141,10 @@ fn of_client(
     word: &str,
 ) -> Result<String, Stop> {
     let client = text_of(alloc, word)?;
+    let mut changes = Vec::new(alloc);
     match verb {
-        "begin" => sessions.begin(client)?,
-        "remove" => sessions.remove(&client),
+        "begin" => sessions.begin(client, &mut changes)?,
+        "remove" => sessions.remove(&client, &mut changes)?,
         "connection" => return number(alloc, sessions.connection(&client)),
         "limit" => return number(alloc, sessions.limit(&client)),
         _ => return due(alloc, sessions, verb, moment_of(word)?),

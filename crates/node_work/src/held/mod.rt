@@ -15,6 +15,7 @@ ghost use Rattle.session_laws.specs.Runs.{connects, queues, takes, answers, clos
 ghost use Rattle.node_work.specs.Acts.{next, Connection};
 ghost use Rattle.node_work.specs.Held.Calling.{IsHeldCall, MayConnectHere, MayAnswer};
 ghost use Rattle.session_table.specs.Calls.{IsSpelledIf, stays, leaves, moves};
+ghost use Rattle.session_table.specs.Rows.{LeadsOn};
 ghost use Rattle.node_work.specs.Held.Sessions.{Begun, Over, called, counted, more, will_is_due, end_is_due};
 ghost use Rattle.node_work.specs.Held.Connections.{Accepted, is_open, client_at, first_at, new_connection};
 ghost use Rattle.node_work.specs.Held.Feeding.{IsHeldFed};
@@ -33,6 +34,7 @@ use mqtt_packets::{Connect, Packet};
 use mqtt_sessions::{Reaction, SessionFault};
 use mqtt_topics::Filter;
 use replica_store::{Content, Operation, ReplicaStore};
+use row_store::Change;
 use session_table::Sessions;
 use std::alloc::Global;
 use std::marker::Model;
@@ -310,19 +312,27 @@ impl Held {
         }
     }
 
-    /// Gives a client a new session.
-    pub fn begin_session(&mut self, client: Text) -> Result<(), NodeFault>
+    /// Gives a client a new session. Here and in the calls below, the changes of the sessions' rows that this makes come
+    /// after those that are there.
+    pub fn begin_session(
+        &mut self,
+        client: Text,
+        changes: &mut Vec<Change>,
+    ) -> Result<(), NodeFault>
         ensures ok { OnOk result (self.new ≡ called self.old (Begun client)) }
         ensures fault { IfErr result (λ e. e ≡ NoMemory) }
     {
-        self.sessions.begin(client)?;
+        self.sessions.begin(client, changes)?;
         Ok(())
     }
 
-    pub fn end_session(&mut self, client: &Text)
-        ensures { self.new ≡ called self.old (Over client.now) }
+    /// Takes a client's session out.
+    pub fn end_session(&mut self, client: &Text, changes: &mut Vec<Change>) -> Result<(), NodeFault>
+        ensures gone { self.new ≡ called self.old (Over client.now) }
+        ensures fault { IfErr result (λ e. e ≡ NoMemory) }
     {
-        self.sessions.remove(client);
+        self.sessions.remove(client, changes)?;
+        Ok(())
     }
 
     /// The beginning of a connection of the client's session.
@@ -332,14 +342,16 @@ impl Held {
         connection: u64,
         connect: &Connect,
         continued: bool,
+        changes: &mut Vec<Change>,
     ) -> Result<Option<Reaction>, SessionFault>
         requires continued { MayConnectHere client.now continued self.old.sessions }
         requires will { IsPublishableIf connect.now.will }
         ensures called { IsHeldCall client.now (connects connect.now continued self.old.at) (moves connection) self.old result self.new }
         ensures spelled { IfOk result (IsSpelledIf self.old.at) }
+        ensures leads { OnOk result (LeadsOn self.old.sessions changes.old.items changes.new.items self.new.sessions) }
     {
         self.sessions
-            .connect(client, connection, connect, continued, self.at)
+            .connect(client, connection, connect, continued, self.at, changes)
     }
 
     /// A copy of a message for the client.
@@ -347,11 +359,13 @@ impl Held {
         &mut self,
         client: &Text,
         delivery: Delivery,
+        changes: &mut Vec<Change>,
     ) -> Result<Option<Reaction>, SessionFault>
         ensures called { IsHeldCall client.now (queues delivery self.old.at) stays self.old result self.new }
         ensures spelled { IfOk result (IsSpelledIf self.old.at) }
+        ensures leads { OnOk result (LeadsOn self.old.sessions changes.old.items changes.new.items self.new.sessions) }
     {
-        self.sessions.queue(client, delivery, self.at)
+        self.sessions.queue(client, delivery, self.at, changes)
     }
 
     /// A packet of the client.
@@ -360,12 +374,14 @@ impl Held {
         client: &Text,
         packet: &Packet,
         room: bool,
+        changes: &mut Vec<Change>,
     ) -> Result<Option<Reaction>, SessionFault>
         requires { HasSpelling packet.now }
         ensures called { IsHeldCall client.now (takes packet.now self.old.at room) stays self.old result self.new }
         ensures spelled { IfOk result (IsSpelledIf self.old.at) }
+        ensures leads { OnOk result (LeadsOn self.old.sessions changes.old.items changes.new.items self.new.sessions) }
     {
-        self.sessions.packet(client, packet, self.at, room)
+        self.sessions.packet(client, packet, self.at, room, changes)
     }
 
     /// The codes of the SUBSCRIBE or UNSUBSCRIBE that was asked for.
@@ -374,35 +390,52 @@ impl Held {
         client: &Text,
         identifier: u16,
         codes: &[u8],
+        changes: &mut Vec<Change>,
     ) -> Result<Option<Reaction>, SessionFault>
         requires { MayAnswer identifier codes.now }
         ensures called { IsHeldCall client.now (answers identifier codes.now) stays self.old result self.new }
         ensures spelled { IfOk result (IsSpelledIf self.old.at) }
+        ensures leads { OnOk result (LeadsOn self.old.sessions changes.old.items changes.new.items self.new.sessions) }
     {
-        self.sessions.answer(client, identifier, codes)
+        self.sessions.answer(client, identifier, codes, changes)
     }
 
     /// The connection of the client's session is gone.
-    pub fn part(&mut self, client: &Text) -> Result<Option<Reaction>, SessionFault>
+    pub fn part(
+        &mut self,
+        client: &Text,
+        changes: &mut Vec<Change>,
+    ) -> Result<Option<Reaction>, SessionFault>
         ensures called { IsHeldCall client.now (closes self.old.at) leaves self.old result self.new }
         ensures spelled { IfOk result (IsSpelledIf self.old.at) }
+        ensures leads { OnOk result (LeadsOn self.old.sessions changes.old.items changes.new.items self.new.sessions) }
     {
-        self.sessions.closed(client, self.at)
+        self.sessions.closed(client, self.at, changes)
     }
 
     /// One thing of the client's session that is due.
-    pub fn tick(&mut self, client: &Text) -> Result<Option<Reaction>, SessionFault>
+    pub fn tick(
+        &mut self,
+        client: &Text,
+        changes: &mut Vec<Change>,
+    ) -> Result<Option<Reaction>, SessionFault>
         ensures called { IsHeldCall client.now (ticks self.old.at) stays self.old result self.new }
         ensures spelled { IfOk result (IsSpelledIf self.old.at) }
+        ensures leads { OnOk result (LeadsOn self.old.sessions changes.old.items changes.new.items self.new.sessions) }
     {
-        self.sessions.tick(client, self.at)
+        self.sessions.tick(client, self.at, changes)
     }
 
     /// The client's session ends now.
-    pub fn finish(&mut self, client: &Text) -> Result<Option<Reaction>, SessionFault>
+    pub fn finish(
+        &mut self,
+        client: &Text,
+        changes: &mut Vec<Change>,
+    ) -> Result<Option<Reaction>, SessionFault>
         ensures called { IsHeldCall client.now (finishes self.old.at) stays self.old result self.new }
         ensures spelled { IfOk result (IsSpelledIf self.old.at) }
+        ensures leads { OnOk result (LeadsOn self.old.sessions changes.old.items changes.new.items self.new.sessions) }
     {
-        self.sessions.finish(client, self.at)
+        self.sessions.finish(client, self.at, changes)
     }
 }

@@ -1,7 +1,8 @@
-use Rattle.std.proofs.Common.{◌≡◌, None, Option, IfSome, is_some, sym, ap, subst, ◌∙◌}
+use Rattle.std.proofs.Common.{◌≡◌, None, Option, IfSome, sym, ap, subst, ◌∙◌}
 use Rattle.std.specs.FinMap as map
 use Rattle.mqtt_sessions.specs.Saved.{Saved, state_of}
 use Rattle.mqtt_sessions.specs.State.{State}
+use Rattle.session_table.specs.Rows.{IsAllTold}
 use Rattle.session_table.specs.Listing.{Table, IsKept, seats_in, table}
 use Rattle.session_table.specs.declared.seated.Seated.{Seated}
 use Rattle.session_table.proofs.Tables.{insert_table}
@@ -23,7 +24,7 @@ returns-in-Ok-clause-kept c =
     let y : Seated = record { session = c.seat-seated.result.session; connection = c.seat-seated.result.connection; listed = c.relist.new.listed; key = c.relist.new.key } in
     put_kept c.args.client (table c.args.seats.now.entries) (table c.insert.new.self.entries) c.args.listing.now c.relist.new.listing c.seat-seated.result.key.1 y c.moments_of-moments.result c.requires.kept
     (insert_table c.args.seats.now.entries c.insert.new.self.entries c.args.client y c.in-Ok.ensures.updates.0) (c.seat-seated.ensures.key ∙ c.in_ok-name.ensures) c.relist.ensures.key c.relist.ensures.at
-    c.relist.ensures.others c.in_default.ensures.ok (ap (λ o. is_some (state_of o)) c.seat-seated.ensures.session ∙ c.requires.runs) c.seat-seated.ensures.connection c.moments_of-moments.ensures
+    c.relist.ensures.others c.in_default.ensures.ok (subst (λ (o : Option Saved). IsAllTold c.args.client o) (sym c.seat-seated.ensures.session) c.requires.told) c.seat-seated.ensures.connection c.moments_of-moments.ensures
 
 pub returns-in-Ok-clause-ok : goal.returns-in-Ok-clause-ok
 returns-in-Ok-clause-ok c =

@@ -1,5 +1,5 @@
-use Rattle.std.proofs.Common.{sym, ◌∙◌}
-use Rattle.session_table.specs.Listing.{table}
+use Rattle.std.proofs.Common.{Some, sym, ap, ◌∙◌}
+use Rattle.session_table.specs.Listing.{session_in, table}
 use Rattle.session_table.proofs.Tables.{get_table, remove_table}
 use Rattle.session_table.proofs.Calling.{listed_here, out_listed, still_listed}
 use Rattle.session_table.proofs.table.take_out.Goals as goal
@@ -13,8 +13,8 @@ returns-in_default-clause-listed c =
     (get_table c.args.seats.now.entries c.args.client.now ∙ sym c.remove.ensures.value ∙ c.in_default.is)
     (remove_table c.args.seats.now.entries c.remove.new.self.entries c.args.client.now c.remove.ensures.updates.0) c.requires.listed
 
-pub unlist_seated-requires : goal.unlist_seated-requires
-unlist_seated-requires c =
+pub unseat-requires : goal.unseat-requires
+unseat-requires c =
     listed_here c.args.client.now (table c.args.seats.now.entries) c.args.listing.now c.in-Some.seated c.requires.listed c.requires.keyed
     (get_table c.args.seats.now.entries c.args.client.now ∙ sym c.remove.ensures.value ∙ c.in-Some.is)
 
@@ -23,6 +23,12 @@ returns-clause-gone c = remove_table c.args.seats.now.entries c.remove.new.self.
 
 pub returns-clause-listed : goal.returns-clause-listed
 returns-clause-listed c =
-    out_listed c.args.client.now (table c.args.seats.now.entries) (table c.remove.new.self.entries) c.args.listing.now c.unlist_seated.new.listing c.in-Some.seated c.requires.listed c.requires.keyed
+    out_listed c.args.client.now (table c.args.seats.now.entries) (table c.remove.new.self.entries) c.args.listing.now c.unseat.new.listing c.in-Some.seated c.requires.listed c.requires.keyed
     (get_table c.args.seats.now.entries c.args.client.now ∙ sym c.remove.ensures.value ∙ c.in-Some.is)
-    (remove_table c.args.seats.now.entries c.remove.new.self.entries c.args.client.now c.remove.ensures.updates.0) c.unlist_seated.ensures.at c.unlist_seated.ensures.others
+    (remove_table c.args.seats.now.entries c.remove.new.self.entries c.args.client.now c.remove.ensures.updates.0) c.unseat.ensures.at c.unseat.ensures.others
+
+pub returns-in_default-clause-session : goal.returns-in_default-clause-session
+returns-in_default-clause-session c = sym (ap session_in (get_table c.args.seats.now.entries c.args.client.now ∙ sym c.remove.ensures.value ∙ c.in_default.is))
+
+pub returns-clause-session : goal.returns-clause-session
+returns-clause-session c = ap Some c.unseat.ensures.session ∙ sym (ap session_in (get_table c.args.seats.now.entries c.args.client.now ∙ sym c.remove.ensures.value ∙ c.in-Some.is))

@@ -1,0 +1,322 @@
+-- What a telling leads to.
+use Rattle.std.proofs.Common.{◌≡◌, ◌<◌, ◌^◌, ℕ, Vec, Bool, true, false, List, [], ◌∷◌, ◌++◌, map as map_list, Option, Some, None, Ok, IfSome, unwrap_or, refl, sym, ap, subst, ◌∙◌, inl, inr}
+use Rattle.std.specs.Prelude.{nat_lt}
+use Rattle.std.specs.FinMap as map
+use Rattle.std.specs.List.{AllByRecursion}
+use Rattle.std.specs.Map.{keys_of}
+use Rattle.std.specs.Option.{option_map}
+use Rattle.std.specs.Ordering.{eq_by_cmp}
+use Rattle.std.proofs.lemmas.Bool.{cases_Bool, false≢true}
+use Rattle.std.proofs.lemmas.List.{append-nil, append_assoc}
+use Rattle.qos_handshakes.specs.declared.copies.Entry.{Entry}
+use Rattle.qos_handshakes.specs.Entries.{Entries, at_place}
+use Rattle.qos_handshakes.specs.Outbox.{away}
+use Rattle.row_store.specs.declared.row.Change.{Change}
+use Rattle.row_store.specs.declared.row.Change.TheVariants.{Put, Remove}
+use Rattle.row_store.specs.Rows.{Key, Content, key_cmp}
+use Rattle.row_store.proofs.Keys.{keys_total, exact_keys, equal_is}
+use Rattle.row_changes.specs.Leading.{Rows, Lead, LeadWithin, key_in, left_by, left_by_one, left_or, or_else}
+use Rattle.row_changes.proofs.Leaving.{changes_leave, lead_on_within}
+use Rattle.session_rows.specs.Changes.{Plain, Told, plain_of, own_change, own_change_by, is_told, copy_change, copy_changes, changes_of}
+use Rattle.session_rows.specs.Durable.{Durable, IsDurable}
+use Rattle.session_rows.specs.Fields.{Main, main, copy, copy_of}
+use Rattle.session_rows.specs.Rows.{rows_of}
+use Rattle.session_row_laws.specs.Laws.{ChangesAreMade, after_plains, told_rows}
+use Rattle.mqtt_sessions.specs.Reaction.{Reaction}
+use Rattle.mqtt_sessions.specs.Removed.{Removes, RemovesIf, gone_of, own_removal, removals_of}
+use Rattle.mqtt_sessions.specs.Saved.{Saved, NotesIf, Tells, begun_session, durable_of, main_of, reopened, state_in, state_of}
+use Rattle.mqtt_sessions.specs.State.{State, new_session}
+use Rattle.mqtt_sessions.proofs.SavedLaws.{main-back}
+use Rattle.session_laws.specs.Runs.{Event, Reacts}
+use Rattle.saved_laws.specs.Histories.{Point, Move, calls, tells, Moves, TellsAt, History, Begins, begun, opened, durable_at}
+use Rattle.saved_laws.specs.Told.{StaysSince, ToldChangesLead, RemovalsLeaveNone, Empties}
+use Rattle.session_table.specs.Seats.{Seats, begun as begun_seat}
+use Rattle.session_table.specs.Calls.{IsTurned}
+use Rattle.session_table.specs.Listing.{AllTold, Table, seat_of, seats_in, session_in, text_cmp}
+use Rattle.session_table.specs.declared.seated.Seated.{Seated}
+use Rattle.session_table.specs.Rows.{IsAllTold, IsOf, IsTold, LeadsOn, OwnLead, OwnLeadsOn, BeginTells, CallTells, RemovalLeaves, TellsAgain, TellsOn, is_session_kind, no_row, row_in, rows_for, saved_row, seat_row, told_point}
+use Rattle.session_table.proofs.Tables.{get_apart, get_inserted, get_left, get_removed, get_seat, itself, remove_absent, same_text, seats_insert, seats_remove}
+
+-- ---- histories
+history-then : (a : Point) (ms : List Move) (b : Point) (m : Move) (c : Point) → History a ms b → Moves b m c → History a (ms ++ m ∷ []) c
+history-then a [] b m c h n = (c, subst (λ (x : Point). Moves x m c) h n, refl)
+history-then a (x ∷ ms) b m c h n = (h.0, h.1, history-then h.0 ms b m c h.2 n)
+
+-- ---- whose rows the changes are
+abbrev IsMine : List ℕ → Plain → Type 0
+IsMine client p = (is_session_kind p.0.0 ≡ true) × (p.0.1.0 ≡ client)
+
+mine-both : (client : List ℕ) (ps qs : List Plain) → AllByRecursion (IsMine client) ps → AllByRecursion (IsMine client) qs → AllByRecursion (IsMine client) (ps ++ qs)
+mine-both client [] qs h k = k
+mine-both client (p ∷ ps) qs h k = (h.0, mine-both client ps qs h.1 k)
+
+mine-own : (client value : List ℕ) (b : Bool) → AllByRecursion (IsMine client) (own_change_by b client value)
+mine-own client value true = tt
+mine-own client value false = ((refl, refl), tt)
+
+mine-copy : (client : List ℕ) (next place : ℕ) (o : Option Entry) → AllByRecursion (IsMine client) (copy_change client next place o)
+mine-copy client next place (Some x) = ((refl, refl), tt)
+mine-copy client next place None = elim (cases_Bool (nat_lt place next)) [
+  | inl t ↦ rw t ((refl, refl), tt)
+  | inr f ↦ rw f tt
+]
+
+mine-copies : (client : List ℕ) (next : ℕ) (es : Entries) (ps : List ℕ) → AllByRecursion (IsMine client) (copy_changes client next es ps)
+mine-copies client next es [] = tt
+mine-copies client next es (p ∷ ps) = mine-both client (copy_change client next p (at_place p es)) (copy_changes client next es ps) (mine-copy client next p (at_place p es)) (mine-copies client next es ps)
+
+mine-changes : (told : Told) (client : List ℕ) (m : Main) (es : Entries) (ps : List ℕ) → AllByRecursion (IsMine client) (changes_of told client m es ps)
+mine-changes told client m es ps =
+    mine-both client (own_change told.value client (main.bytes m)) (copy_changes client told.next_place es ps) (mine-own client (main.bytes m) (is_told told.value (main.bytes m)))
+    (mine-copies client told.next_place es ps)
+
+mine-removal : (client : List ℕ) (o : Option (List ℕ)) → AllByRecursion (IsMine client) (own_removal o client)
+mine-removal client None = tt
+mine-removal client (Some value) = ((refl, refl), tt)
+
+mine-removals : (told : Told) (client : List ℕ) (es : Entries) (ps : List ℕ) → AllByRecursion (IsMine client) (removals_of told client es ps)
+mine-removals told client es ps =
+    mine-both client (copy_changes client told.next_place [] (keys_of es ++ gone_of es ps)) (own_removal told.value client) (mine-copies client told.next_place [] (keys_of es ++ gone_of es ps))
+    (mine-removal client told.value)
+
+is-of : (client : List ℕ) (change : Change) → IsMine client (plain_of change) → IsOf client change
+is-of client (Put row) h = record { kind = h.0; owner = h.1 }
+is-of client (Remove kind owner place) h = record { kind = h.0; owner = h.1 }
+
+are-of : (client : List ℕ) (changes : List Change) → AllByRecursion (IsMine client) (map_list plain_of changes) → AllByRecursion (IsOf client) changes
+are-of client [] h = tt
+are-of client (c ∷ cs) h = (is-of client c h.0, are-of client cs h.1)
+
+-- ---- rows
+rows-before : Option Durable → Rows
+rows-before last key = map.get {R = key_cmp} (map.from_entries (told_rows last)) key
+
+none-before : (key : Key) → rows-before None key ≡ None
+unfolding rows-before
+none-before key = map.get-from_entries keys_total [] key
+
+-- ---- a session that is told
+same-tracked : (old : Saved) (own : List Change) (new : Saved) → Tells old own new → new.tracked.state ≡ old.tracked.state
+same-tracked old own new t = ap (λ x. x.state) t.state
+
+told-next : (start : Point) (moves : List Move) (old : Point) (own : List Change) (new : Saved) → Begins start → History start moves old → Tells old.session own new → IsTold old.session.tracked.state.kept.client new
+told-next start moves old own new b h t =
+    let at : TellsAt old own (told_point new) = record { tells = t; last = ap (λ s. Some (durable_of s)) (same-tracked old.session own new t) } in
+    record { start = start; moves = moves ++ tells own ∷ []; begins = b; history = history-then start moves old (tells own) (told_point new) h at; owner = ap (λ s. s.kept.client) (same-tracked old.session own new t) }
+
+own-next : (old : Saved) (own : List Change) (new : Saved) → Tells old own new → AllByRecursion (IsOf old.tracked.state.kept.client) own
+own-next old own new t =
+    let s = old.tracked.state in
+    are-of s.kept.client own (subst (λ (ps : List Plain). AllByRecursion (IsMine s.kept.client) ps) (sym t.named) (mine-changes old.told s.kept.client (main_of s) s.outbox.copies t.places))
+
+-- ---- by the laws
+made : ChangesAreMade
+made c [] = refl
+made c (Put row ∷ more) = made (map.insert c (key_in (Put row)) row.value.items) more
+made c (Remove kind owner place ∷ more) = made (map.remove c (key_in (Remove kind owner place))) more
+
+-- a store that has the rows makes the changes
+made-lead : (last : Option Durable) (own : List Change) (rows : List (Key × List ℕ)) → after_plains (map.from_entries (told_rows last)) (map_list plain_of own) ≡ map.from_entries rows
+    → Lead (rows-before last) (λ key. map.get {R = key_cmp} (map.from_entries rows) key) own
+unfolding rows-before
+made-lead last own rows h key =
+    ap (λ (c : Content). map.get c key) (sym (made (map.from_entries (told_rows last)) own ∙ h)) ∙ changes_leave (map.from_entries (told_rows last)) own key
+
+module _ (lead : ToldChangesLead) where
+  lead-next : (start : Point) (moves : List Move) (old : Point) (own : List Change) (new : Saved) → Begins start → History start moves old → Tells old.session own new → Lead (rows-before old.last) (rows_for new.tracked.state) own
+  lead-next start moves old own new b h t =
+      let at : TellsAt old own (told_point new) = record { tells = t; last = ap (λ s. Some (durable_of s)) (same-tracked old.session own new t) } in
+      let led = (lead start moves old own (told_point new) b h at).lead in
+      subst (λ (s : State). Lead (rows-before old.last) (rows_for s) own) (sym (same-tracked old.session own new t)) (made-lead old.last own (rows_of (durable_at old)) led)
+
+  -- after a call
+  pub call-tells : StaysSince → CallTells
+  unfolding rows-before
+  call-tells since client e r old mid own new told reacts notes t =
+      let p : Point = record { session = mid; last = Some (durable_of old.tracked.state) } in
+      let h = history-then told.start told.moves (told_point old) (calls e r) p told.history (record { reacts = reacts; notes = notes; last = refl }) in
+      let ms = told.moves ++ calls e r ∷ [] in
+      let is : mid.tracked.state.kept.client ≡ client = sym (since told.start ms p told.begins h).owner ∙ told.owner in (
+        subst (λ (c : List ℕ). IsTold c new) is (told-next told.start ms p own new told.begins h t),
+        record { own = subst (λ (c : List ℕ). AllByRecursion (IsOf c) own) is (own-next mid own new t); lead = lead-next told.start ms p own new told.begins h t },
+      )
+
+  -- its making
+  pub begin-tells : BeginTells
+  begin-tells client own new t = (
+    told-next (begun client) [] (begun client) own new (inl (client, refl)) refl t,
+    record {
+      own = own-next (begun_session client) own new t;
+      lead = λ key. lead-next (begun client) [] (begun client) own new (inl (client, refl)) refl t key ∙ ap (left_or (left_by own key)) (none-before key);
+    },
+  )
+
+-- its end
+pub removal-leaves : RemovalsLeaveNone → RemovalLeaves
+unfolding rows-before
+removal-leaves removal client s own told r =
+    let k = s.tracked.state.kept.client in
+    let e : Empties (Some (durable_of s.tracked.state)) own = removal told.start told.moves (told_point s) own told.begins told.history r in
+    let named = mine-removals s.told k s.tracked.state.outbox.copies r.places in
+    record {
+      own = subst (λ (c : List ℕ). AllByRecursion (IsOf c) own) told.owner (are-of k own (subst (λ (ps : List Plain). AllByRecursion (IsMine k) ps) (sym r.named) named));
+      lead = λ key. sym (none-before key) ∙ made-lead (Some (durable_of s.tracked.state)) own [] e.none key;
+    }
+
+-- ---- rows of all sessions
+unnamed : (client : List ℕ) (key : Key) (cs : List Change) → AllByRecursion (IsOf client) cs → ((c : Change) → IsOf client c → key ≡ key_in c → ⊥) → left_by cs key ≡ None
+unnamed client key [] h apart = refl
+unnamed client key (c ∷ cs) h apart = ap (λ l. or_else l (left_by_one c key)) (unnamed client key cs h.1 apart) ∙ elim (cases_Bool (eq_by_cmp key_cmp key (key_in c))) [
+  | inl t ↦ absurd (apart c h.0 (exact_keys key (key_in c) (equal_is (key_cmp key (key_in c)) t)))
+  | inr f ↦ rw f refl
+]
+
+-- a client's changes lead from all rows to all rows, where each other client has what it had
+within : (client : List ℕ) (old new : Seats) (a b : Rows) (own : List Change) → OwnLead client a b own → ((key : Key) → row_in (map.get old client) key ≡ a key) → ((key : Key) → row_in (map.get new client) key ≡ b key)
+    → ((q : List ℕ) → eq_by_cmp text_cmp q client ≡ false → map.get new q ≡ map.get old q) → LeadWithin is_session_kind (seat_row old) (seat_row new) own
+within client old new a b own lead was is others = record {
+  own = λ key kind. by key (eq_by_cmp text_cmp key.1.0 client) refl;
+  others = λ key not. unnamed client key own lead.own (λ c of e. false≢true (sym not ∙ ap (λ (k : Key). is_session_kind k.0) e ∙ of.kind));
+}
+  where
+    by : (key : Key) (same : Bool) → eq_by_cmp text_cmp key.1.0 client ≡ same → seat_row new key ≡ left_or (left_by own key) (seat_row old key)
+    by key true t =
+        (let P : List ℕ → Type 0 = λ q. row_in (map.get new q) key ≡ left_or (left_by own key) (row_in (map.get old q) key) in
+        subst P (sym (same_text key.1.0 client t)) (is key ∙ lead.lead key ∙ ap (left_or (left_by own key)) (sym (was key))))
+    by key false f =
+        (let apart : (c : Change) → IsOf client c → key ≡ key_in c → ⊥ = λ c of e. false≢true (sym f ∙ ap (λ (q : List ℕ). eq_by_cmp text_cmp q client) (ap (λ (k : Key). k.1.0) e ∙ of.owner) ∙ itself client) in
+        ap (λ g. row_in g key) (others key.1.0 f) ∙ ap (λ l. left_or l (seat_row old key)) (sym (unnamed client key own lead.own apart)))
+
+within-on : (client : List ℕ) (old new : Seats) (a b : Rows) (before after : List Change) → OwnLeadsOn client a before after b → ((key : Key) → row_in (map.get old client) key ≡ a key) → ((key : Key) → row_in (map.get new client) key ≡ b key)
+    → ((q : List ℕ) → eq_by_cmp text_cmp q client ≡ false → map.get new q ≡ map.get old q) → LeadsOn old before after new
+within-on client old new a b before after l was is others = (l.0, l.1, within client old new a b l.0 l.2 was is others)
+
+-- where nothing changes
+pub still : (old new : Seats) (xs : List Change) → new ≡ old → LeadsOn old xs xs new
+still old new xs same = ([], sym (append-nil xs), record { own = λ key kind. ap (λ s. seat_row s key) same; others = λ key not. refl })
+
+-- one after the other
+pub leads-then : (a b c : Seats) (xs ys zs : List Change) → LeadsOn a xs ys b → LeadsOn b ys zs c → LeadsOn a xs zs c
+leads-then a b c xs ys zs first second = (
+  first.0 ++ second.0,
+  second.1 ∙ ap (λ l. l ++ second.0) first.1 ∙ append_assoc xs first.0 second.0,
+  lead_on_within is_session_kind (seat_row a) (seat_row b) (seat_row c) first.0 second.0 first.2 second.2,
+)
+
+row-state : (o : Option Saved) (s : State) → state_of o ≡ Some s → (key : Key) → saved_row o key ≡ rows_for s key
+row-state None s e key = absurd (cc e)
+row-state (Some x) s e key = (let same : x.tracked.state ≡ s = cc in ap (λ (z : State). rows_for z key) same)
+
+row-seat : (client : List ℕ) (x : Seated) → IsAllTold client x.session → (key : Key) → row_in (Some (seat_of x)) key ≡ saved_row x.session key
+row-seat client x told key = by x.session told
+  where
+    by : (o : Option Saved) → IsAllTold client o → rows_for (unwrap_or (state_of o) (new_session [])) key ≡ saved_row o key
+    by None h = absurd h
+    by (Some s) h = refl
+
+row-here : (client : List ℕ) (t : Table) (x : Seated) → map.get t client ≡ Some x → IsAllTold client x.session → (key : Key) → row_in (map.get (seats_in t) client) key ≡ saved_row x.session key
+row-here client t x is told key = ap (λ g. row_in g key) (get_seat t client ∙ ap (option_map seat_of) is) ∙ row-seat client x told key
+
+-- ---- calls of the table
+pub called-leads : (client : List ℕ) (t u : Table) (x y : Seated) (before after : List Change) → map.get t client ≡ Some x → u ≡ map.insert t client y → x.key.1 ≡ client → AllTold t
+    → TellsAgain x.key.1 x.session before after y.session → LeadsOn (seats_in t) before after (seats_in u)
+called-leads client t u x y before after is written name all again =
+    let mine : TellsAgain client x.session before after y.session = subst (λ (c : List ℕ). TellsAgain c x.session before after y.session) name again in
+    within-on client (seats_in t) (seats_in u) (saved_row x.session) (saved_row y.session) before after mine.leads (row-here client t x is (all client x is))
+    (row-here client u y (ap (λ m. map.get m client) written ∙ get_inserted t client y) mine.told)
+    (λ q apart. ap (λ m. map.get (seats_in m) q) written ∙ ap (λ m. map.get m q) (seats_insert t client y) ∙ get_apart (seats_in t) client (seat_of y) q apart)
+
+-- ---- a client that is taken out
+pub session-told : (client : List ℕ) (t : Table) (session : Option Saved) → Some session ≡ session_in (map.get t client) → AllTold t → IsAllTold client session
+session-told client t session is all = by (map.get t client) refl is
+  where
+    by : (g : Option Seated) → map.get t client ≡ g → Some session ≡ session_in g → IsAllTold client session
+    by None here e = absurd (cc e)
+    by (Some x) here e = (let same : session ≡ x.session = cc in subst (λ (s : Option Saved). IsAllTold client s) (sym same) (all client x here))
+
+pub no-session : (client : List ℕ) (t : Table) (session : Option Saved) → Some session ≡ session_in (map.get t client) → map.get (seats_in t) client ≡ None → ⊥
+no-session client t session is none = by (map.get t client) is (sym (get_seat t client) ∙ none)
+  where
+    by : (g : Option Seated) → Some session ≡ session_in g → option_map seat_of g ≡ None → ⊥
+    by None e n = cc e
+    by (Some x) e n = cc n
+
+pub none-leads : (client : List ℕ) (t u : Table) (xs : List Change) → None ≡ session_in (map.get t client) → u ≡ map.remove t client → LeadsOn (seats_in t) xs xs (seats_in u)
+none-leads client t u xs is gone = still (seats_in t) (seats_in u) xs (ap seats_in (gone ∙ remove_absent t client (by (map.get t client) is)))
+  where
+    by : (g : Option Seated) → None ≡ session_in g → g ≡ None
+    by None e = refl
+    by (Some x) e = absurd (cc e)
+
+pub gone-leads : (client : List ℕ) (t u : Table) (session : Option Saved) (before after : List Change) → Some session ≡ session_in (map.get t client) → u ≡ map.remove t client → AllTold t
+    → OwnLeadsOn client (saved_row session) before after no_row → LeadsOn (seats_in t) before after (seats_in u)
+gone-leads client t u session before after is gone all leads = by (map.get t client) refl is
+  where
+    none : (key : Key) → row_in (map.get (seats_in u) client) key ≡ no_row key
+    none key = ap (λ m. row_in (map.get (seats_in m) client) key) gone ∙ ap (λ m. row_in (map.get m client) key) (seats_remove t client) ∙ ap (λ g. row_in g key) (get_removed (seats_in t) client)
+
+    by : (g : Option Seated) → map.get t client ≡ g → Some session ≡ session_in g → LeadsOn (seats_in t) before after (seats_in u)
+    by None here e = absurd (cc e)
+    by (Some x) here e =
+        (let same : session ≡ x.session = cc in
+        let led : OwnLeadsOn client (saved_row x.session) before after no_row = subst (λ (s : Option Saved). OwnLeadsOn client (saved_row s) before after no_row) same leads in
+        within-on client (seats_in t) (seats_in u) (saved_row x.session) no_row before after led (row-here client t x here (all client x here)) none
+        (λ q apart. ap (λ m. map.get (seats_in m) q) gone ∙ ap (λ m. map.get m q) (seats_remove t client) ∙ get_left (seats_in t) client q apart))
+
+-- a session is put in after the one before it is taken out
+pub begun-leads : (client : List ℕ) (old mid new : Seats) (session : Option Saved) (a b c : List Change) → mid ≡ map.remove old client → LeadsOn old a b mid → OwnLeadsOn client no_row b c (saved_row session)
+    → state_of session ≡ Some (new_session client) → new ≡ map.insert mid client (begun_seat client) → LeadsOn old a c new
+begun-leads client old mid new session a b c gone first own is put =
+    leads-then old mid new a b c first
+    (within-on client mid new no_row (saved_row session) b c own (λ key. ap (λ m. row_in (map.get m client) key) gone ∙ ap (λ g. row_in g key) (get_removed old client))
+    (λ key. ap (λ m. row_in (map.get m client) key) put ∙ ap (λ g. row_in g key) (get_inserted mid client (begun_seat client)) ∙ sym (row-state session (new_session client) is key))
+    (λ q apart. ap (λ m. map.get m q) put ∙ get_apart mid client (begun_seat client) q apart))
+
+-- ---- one session's calls
+module _ (call : CallTells) where
+  pub turn-tells : (e : Event) (r : Reaction) (old mid new : Option Saved) (before after : List Change) (client : List ℕ) → IfSome (state_of old) (λ s. IsTurned e s (Ok r) (state_of mid)) → NotesIf old mid → TellsOn mid before after new
+      → IsAllTold client old → TellsAgain client old before after new
+  turn-tells e r None mid new before after client h n t told = absurd told
+  turn-tells e r (Some s) None new before after client h n t told = absurd t
+  turn-tells e r (Some s) (Some m) None before after client h n t told = absurd t
+  turn-tells e r (Some s) (Some m) (Some x) before after client h n t told =
+      let is : h.0 ≡ m.tracked.state = (let same : Some m.tracked.state ≡ Some h.0 = h.1 in cc) in
+      let reacts : Reacts s.tracked.state e r m.tracked.state = subst (λ (z : State). Reacts s.tracked.state e r z) is h.2 in
+      let done = call client e r s m t.0 x told reacts n t.2 in
+      record { told = done.0; leads = (t.0, t.1, done.1) }
+
+pub told-begun : BeginTells → (client : List ℕ) (before after : List Change) (old new : Option Saved) → old ≡ Some (begun_session client) → TellsOn old before after new → IsAllTold client new × OwnLeadsOn client no_row before after (saved_row new)
+told-begun begin client before after old new is t = by new (subst (λ (o : Option Saved). TellsOn o before after new) is t)
+  where
+    by : (o : Option Saved) → TellsOn (Some (begun_session client)) before after o → IsAllTold client o × OwnLeadsOn client no_row before after (saved_row o)
+    by None t = absurd t
+    by (Some x) t = (let done = begin client t.0 x t.2 in (done.0, (t.0, t.1, done.1)))
+
+abbrev pub RemovesOf : Option Saved → List Change → Type 0
+RemovesOf None own = ⊥
+RemovesOf (Some s) own = Removes s own
+
+pub removes-of : {A : Type 0} (old : Option Saved) (own : Vec Change A) → RemovesIf old (Ok own) → RemovesOf old own.items
+removes-of None own r = r
+removes-of (Some s) own r = r
+
+pub left-on : RemovalLeaves → (client : List ℕ) (old : Option Saved) (own before after : List Change) → RemovesOf old own → IsAllTold client old → after ≡ before ++ own → OwnLeadsOn client (saved_row old) before after no_row
+left-on leave client None own before after r told is = absurd told
+left-on leave client (Some s) own before after r told is = (own, is, leave client s own told r)
+
+-- ---- a session that was opened from its rows
+copies-again : (es : Entries) → AllByRecursion (λ (e : ℕ × Entry). (e.0 < 2 ^ 64) × (e.1.here ≡ false) × copy.Fits (copy_of e.1)) es → away es ≡ es
+copies-again [] h = refl
+copies-again (e ∷ es) h = λ i. (e.0, record e.1 { here = sym h.0.1 i }) ∷ copies-again es h.1 i
+
+-- its rows are those
+pub durable-again : (d : Durable) → IsDurable d → durable_of (state_in d) ≡ d
+durable-again d is = λ i. record {
+  client = d.client;
+  main = main-back d i;
+  copies = copies-again d.copies is.form.copies i;
+}
+
+-- and they were told
+pub opened-told : (d : Durable) → IsDurable d → IsAllTold d.client (Some (reopened d))
+opened-told d is = record { start = opened d; moves = []; begins = inr (d, is, refl); history = λ i. record { session = reopened d; last = Some (durable-again d is i) }; owner = refl }

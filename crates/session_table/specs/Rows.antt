@@ -1,0 +1,95 @@
+-- The rows of the sessions of a node, and changes that lead from those before a call to those after it.
+use Rattle.std.specs.Prelude.{◌≡◌, ℕ, ◌==◌, ◌||◌, Bool, true, List, ◌++◌, Option, Some, None}
+use Rattle.std.specs.FinMap as map
+use Rattle.std.specs.List.{AllByRecursion}
+use Rattle.mqtt_sessions.specs.Reaction.{Reaction}
+use Rattle.mqtt_sessions.specs.Removed.{Removes}
+use Rattle.mqtt_sessions.specs.Saved.{Saved, Notes, Tells, begun_session, durable_of}
+use Rattle.mqtt_sessions.specs.State.{State}
+use Rattle.row_changes.specs.Leading.{Rows, Lead, LeadWithin, key_in}
+use Rattle.row_store.specs.declared.row.Change.{Change}
+use Rattle.row_store.specs.Rows.{key_cmp}
+use Rattle.saved_laws.specs.Histories.{Point, Move, Begins, History}
+use Rattle.session_laws.specs.Runs.{Event, Reacts}
+use Rattle.session_rows.specs.Rows.{rows_of}
+use Rattle.session_table.specs.Seats.{Seat, Seats}
+
+-- ---- rows of all sessions
+abbrev pub rows_for : State → Rows
+rows_for s key = map.get {R = key_cmp} (map.from_entries (rows_of (durable_of s))) key
+
+-- of a client, if it has a session
+abbrev pub row_in : Option Seat → Rows
+row_in None key = None
+row_in (Some seat) key = rows_for seat.session key
+
+-- each key names its client
+abbrev pub seat_row : Seats → Rows
+seat_row seats key = row_in (map.get seats key.1.0) key
+
+-- a session's own row, and those of its copies
+abbrev pub is_session_kind : ℕ → Bool
+is_session_kind n = n == 2 || n == 3
+
+-- changes are appended that lead from the rows before to those after
+abbrev pub LeadsOn : Seats → List Change → List Change → Seats → Type 0
+LeadsOn old before after new = (own : List Change) × (after ≡ before ++ own) × LeadWithin is_session_kind (seat_row old) (seat_row new) own
+
+-- ---- one session
+-- all its rows were told
+abbrev pub told_point : Saved → Point
+told_point s = record { session = s; last = Some (durable_of s.tracked.state) }
+
+-- as calls and tellings have led to it, from its making on or from its rows on
+pub record IsTold (client : List ℕ) (s : Saved) : Type 0 where
+  pub start : Point
+  pub moves : List Move
+  pub begins : Begins start
+  pub history : History start moves (told_point s)
+  pub owner : s.tracked.state.kept.client ≡ client
+
+abbrev pub IsAllTold : List ℕ → Option Saved → Type 0
+IsAllTold client None = ⊥
+IsAllTold client (Some s) = IsTold client s
+
+-- its rows, if it isn't spent
+abbrev pub saved_row : Option Saved → Rows
+saved_row None key = None
+saved_row (Some s) key = rows_for s.tracked.state key
+
+abbrev pub no_row : Rows
+no_row key = None
+
+-- the changes since they were told last are appended
+abbrev pub TellsOn : Option Saved → List Change → List Change → Option Saved → Type 0
+TellsOn (Some old) before after (Some new) = (own : List Change) × (after ≡ before ++ own) × Tells old own new
+TellsOn old before after new = ⊥
+
+-- the change is of a row of the client's session
+pub record IsOf (client : List ℕ) (change : Change) : Type 0 where
+  pub kind : is_session_kind (key_in change).0 ≡ true
+  pub owner : (key_in change).1.0 ≡ client
+
+pub record OwnLead (client : List ℕ) (old new : Rows) (changes : List Change) : Type 0 where
+  pub own : AllByRecursion (IsOf client) changes
+  pub lead : Lead old new changes
+
+-- the same of changes that are appended
+abbrev pub OwnLeadsOn : List ℕ → Rows → List Change → List Change → Rows → Type 0
+OwnLeadsOn client old before after new = (own : List Change) × (after ≡ before ++ own) × OwnLead client old new own
+
+-- after which all is told again
+pub record TellsAgain (client : List ℕ) (old : Option Saved) (before after : List Change) (new : Option Saved) : Type 0 where
+  pub told : IsAllTold client new
+  pub leads : OwnLeadsOn client (saved_row old) before after (saved_row new)
+
+-- ---- laws of one session: a call and then a telling, the first telling of a new one, and the removals
+abbrev pub CallTells : Type 0
+CallTells = (client : List ℕ) (e : Event) (r : Reaction) (old mid : Saved) (own : List Change) (new : Saved) → IsTold client old → Reacts old.tracked.state e r mid.tracked.state → Notes old mid → Tells mid own new
+    → IsTold client new × OwnLead client (rows_for old.tracked.state) (rows_for new.tracked.state) own
+
+abbrev pub BeginTells : Type 0
+BeginTells = (client : List ℕ) (own : List Change) (new : Saved) → Tells (begun_session client) own new → IsTold client new × OwnLead client no_row (rows_for new.tracked.state) own
+
+abbrev pub RemovalLeaves : Type 0
+RemovalLeaves = (client : List ℕ) (s : Saved) (own : List Change) → IsTold client s → Removes s own → OwnLead client (rows_for s.tracked.state) no_row own
