@@ -1,0 +1,85 @@
+//! What it takes to pass on a message where there are 100,000 subscriptions.
+
+use crate::bytes::{no_filters, publish, push_filter};
+use crate::server::Server;
+use bench_clock::{Failure, Stopwatch};
+use std::alloc::Global;
+
+/// How many clients subscribe.
+const CLIENTS: u64 = 100;
+
+/// How many of them have the same filters.
+const ALIKE: u64 = 10;
+
+/// How many SUBSCRIBE packets each sends.
+const PACKETS: u64 = 10;
+
+/// How many filters each of those has.
+const FILTERS: u64 = 100;
+
+/// How many messages are passed on.
+const MESSAGES: u64 = 10_000;
+
+// Adds a filter that ten clients have.
+fn add_filter(
+    alloc: Global,
+    rest: &mut Vec<u8>,
+    client: u64,
+    packet: u64,
+    number: u64,
+) -> Result<(), Failure> {
+    let group = client / ALIKE;
+    let filter = format!(in alloc; "f/{group}/{packet}/{number}")?;
+    push_filter(rest, filter.as_str(), 0)
+}
+
+fn filters(alloc: Global, client: u64, packet: u64) -> Result<Vec<u8>, Failure> {
+    let mut rest = no_filters(alloc)?;
+    for number in 0..FILTERS {
+        add_filter(alloc, &mut rest, client, packet, number)?;
+    }
+    Ok(rest)
+}
+
+fn subscribe(alloc: Global, server: &mut Server, client: u64, packet: u64) -> Result<(), Failure> {
+    let rest = filters(alloc, client, packet)?;
+    server.subscribe_all(client, &rest)
+}
+
+fn join(alloc: Global, server: &mut Server, client: u64) -> Result<(), Failure> {
+    server.connect(client)?;
+    for packet in 0..PACKETS {
+        subscribe(alloc, server, client, packet)?;
+    }
+    Ok(())
+}
+
+fn joins(rt: &HostRuntime, server: &mut Server) -> Result<(), Failure> {
+    let watch = Stopwatch::start(rt)?;
+    for client in 0..CLIENTS {
+        join(rt.alloc(), server, client)?;
+    }
+    Ok(watch.print(rt, "subscriptions, made", CLIENTS * PACKETS * FILTERS)?)
+}
+
+// Each message goes out to ten clients.
+fn messages(rt: &HostRuntime, server: &mut Server, packet: &[u8]) -> Result<(), Failure> {
+    let watch = Stopwatch::start(rt)?;
+    for _ in 0..MESSAGES {
+        server.give(CLIENTS, packet, 10)?;
+    }
+    Ok(watch.print(rt, "subscriptions, PUBLISH to 10 of 100000", MESSAGES)?)
+}
+
+fn figures(rt: &HostRuntime, server: &mut Server) -> Result<(), Failure> {
+    joins(rt, server)?;
+    server.connect(CLIENTS)?;
+    let packet = publish(rt.alloc(), "f/3/4/56")?;
+    messages(rt, server, &packet)
+}
+
+/// The figures of a node with 100,000 subscriptions.
+pub fn run(rt: &HostRuntime) -> Result<(), Failure> {
+    let mut server = Server::start(rt.alloc())?;
+    figures(rt, &mut server)
+}
