@@ -84,12 +84,19 @@ fn take(session: &mut Session, packet: &Packet, packets: usize) -> Result<(), Fa
     ensure(reaction.packets.len() == packets)
 }
 
+fn take_all(session: &mut Session, publish: &Packet) -> Result<(), Failure>
+    requires { HasSpelling publish.now }
+{
+    for _ in 0..MESSAGES {
+        take(session, publish, 1)?;
+    }
+    Ok(())
+}
+
 fn takes(rt: &HostRuntime, session: &mut Session) -> Result<(), Failure> {
     let publish = packet(rt.alloc(), &PUBLISH_1)?;
     let watch = Stopwatch::start(rt)?;
-    for _ in 0..MESSAGES {
-        take(session, &publish, 1)?;
-    }
+    take_all(session, &publish)?;
     Ok(watch.print(rt, "session, PUBLISH in to PUBACK", MESSAGES)?)
 }
 
