@@ -1,0 +1,168 @@
+-- Frames are read as they are spelled.
+use Rattle.std.proofs.Common.{◌≡◌, ℕ, zero, suc, ◌≤◌, List, [], ◌∷◌, ◌++◌, length, Some, Ok, Err, refl, sym, ap, subst, ◌∙◌, append-nil, arith}
+use Rattle.std.specs.Int.{w8, w16, w64}
+use Rattle.mqtt_fields.specs.declared.fault.FieldFault.{FieldFault}
+use Rattle.mqtt_fields.specs.declared.fault.FieldFault.TheVariants as faults
+use Rattle.mqtt_fields.specs.Reading.{Fails}
+use Rattle.mqtt_fields.specs.Field.{Field, IsBytes, IsField, after, seen}
+use Rattle.mqtt_fields.specs.Numbers.{number, long}
+use Rattle.mqtt_fields.proofs.Laws.{bind_ok, ok_is, after_is, variant_is}
+use Rattle.mqtt_fields.proofs.NumberLaws.{number_is, wide8, wide16, wide64, long_is}
+use Rattle.mqtt_message.proofs.SpellingLaws.{coded_is}
+use Rattle.causal_context.specs.Dots.{Dots}
+use Rattle.causal_context.specs.Spelling.{context}
+use Rattle.causal_context.specs.Spelling as contexts
+use Rattle.causal_context.proofs.SpellingLaws.{context_is}
+use Rattle.replica_store.specs.States.{State}
+use Rattle.store_bytes.specs.Stores.{state}
+use Rattle.store_bytes.proofs.Wholes.{state_is}
+use Rattle.bridge_frames.specs.declared.body.FrameBody.{FrameBody}
+use Rattle.bridge_frames.specs.declared.body.FrameBody.TheVariants.{Hello, Delta, Know, Got}
+use Rattle.bridge_frames.specs.declared.kind.Kind.{Kind}
+use Rattle.bridge_frames.specs.declared.kind.Kind.TheVariants as kinds
+use Rattle.bridge_frames.specs.Kinds.{kind, kind_in, kind_number}
+use Rattle.bridge_frames.specs.Frames.{Frame, limit, as_delta, as_know, as_got, kind_of, hello, body, Parts, frame_of, frame_parts, content, Spells}
+
+kind_back : (n : ℕ) (k : Kind) → kind_in n ≡ Some k → kind_number k ≡ n
+kind_back zero k e = absurd cc
+kind_back (suc zero) k e = (let is : k ≡ kinds.Hello = sym cc in rw is refl)
+kind_back (suc (suc zero)) k e = (let is : k ≡ kinds.Delta = sym cc in rw is refl)
+kind_back (suc (suc (suc zero))) k e = (let is : k ≡ kinds.Know = sym cc in rw is refl)
+kind_back (suc (suc (suc (suc zero)))) k e = absurd cc
+kind_back (suc (suc (suc (suc (suc zero))))) k e = (let is : k ≡ kinds.Got = sym cc in rw is refl)
+kind_back (suc (suc (suc (suc (suc (suc n)))))) k e = absurd cc
+
+kind_forth : (k : Kind) → kind_in (kind_number k) ≡ Some k
+kind_forth kinds.Hello = refl
+kind_forth kinds.Delta = refl
+kind_forth kinds.Know = refl
+kind_forth kinds.Got = refl
+
+kind_is : IsField kind
+kind_is = coded_is kind_in kind_number (number w8) kind_back kind_forth (number_is w8 wide8)
+
+hello_is : IsField hello
+hello_is = record {
+  takes = λ bs x bytes e. let made : FrameBody × List ℕ = (Hello, bs) in subst (λ (y : FrameBody × List ℕ). (bs ≡ y.1) × (y.0 ≡ Hello)) (ok_is made x e) (refl, refl);
+  again = λ b rest fits. ap (λ k. Ok (k, rest)) (sym fits);
+}
+
+delta_forth : (b : FrameBody) (s : State) → as_delta b ≡ Some s → Delta s ≡ b
+delta_forth Hello s e = absurd cc
+delta_forth (Delta x) s e = (let same : x ≡ s = cc in rw same refl)
+delta_forth (Know x) s e = absurd cc
+delta_forth (Got x) s e = absurd cc
+
+know_forth : (b : FrameBody) (s : Dots) → as_know b ≡ Some s → Know s ≡ b
+know_forth Hello s e = absurd cc
+know_forth (Delta x) s e = absurd cc
+know_forth (Know x) s e = (let same : x ≡ s = cc in rw same refl)
+know_forth (Got x) s e = absurd cc
+
+got_forth : (b : FrameBody) (n : ℕ) → as_got b ≡ Some n → Got n ≡ b
+got_forth Hello s e = absurd cc
+got_forth (Delta x) s e = absurd cc
+got_forth (Know x) s e = absurd cc
+got_forth (Got x) s e = (let same : x ≡ s = cc in rw same refl)
+
+body_is : (k : Kind) → IsField (body k)
+body_is kinds.Hello = hello_is
+body_is kinds.Delta = variant_is Delta as_delta state (λ _. refl) delta_forth state_is
+body_is kinds.Know = variant_is Know as_know context (λ _. refl) know_forth context_is
+body_is kinds.Got = variant_is Got as_got (number w64) (λ _. refl) got_forth (number_is w64 wide64)
+
+-- a body of this kind fits no other
+kind_same : (k : Kind) (b : FrameBody) → (body k).Fits b → kind_of b ≡ k
+kind_same kinds.Hello b fits = ap kind_of fits
+kind_same kinds.Delta Hello fits = absurd fits
+kind_same kinds.Delta (Delta _) fits = refl
+kind_same kinds.Delta (Know _) fits = absurd fits
+kind_same kinds.Delta (Got _) fits = absurd fits
+kind_same kinds.Know Hello fits = absurd fits
+kind_same kinds.Know (Delta _) fits = absurd fits
+kind_same kinds.Know (Know _) fits = refl
+kind_same kinds.Know (Got _) fits = absurd fits
+kind_same kinds.Got Hello fits = absurd fits
+kind_same kinds.Got (Delta _) fits = absurd fits
+kind_same kinds.Got (Know _) fits = absurd fits
+kind_same kinds.Got (Got _) fits = refl
+
+-- the same bytes, for values of another type, of which some that fit are those that are read
+seen_fits : {A B : Type 0} (to : A → B) (from : B → A) (f : Field A) → ((a : A) → f.Fits a → from (to a) ≡ a) → ((b : B) → to (from b) ≡ b) → IsField f → IsField (seen to from f)
+seen_fits {A} {B} to from f back forth F = record {
+  takes = λ bs x fits e.
+      let a = bind_ok (f.at bs) (λ a. Ok (to a.0, a.1)) x e in
+      let s = F.takes bs a.0 fits a.1 in
+      let made : B × List ℕ = (to a.0.0, a.0.1) in
+      subst (λ (y : B × List ℕ). (bs ≡ f.bytes (from y.0) ++ y.1) × f.Fits (from y.0)) (ok_is made x a.2) (rw (back a.0.0 s.1) s);
+  again = λ b rest fits. rw (F.again (from b) rest fits, forth b) refl;
+}
+
+abbrev parts : Field Parts
+parts = after kind (λ k. after (number w16) (λ _. after (number w16) (λ _. body k)))
+
+parts_is : IsField parts
+parts_is = after_is kind _ kind_is (λ k. after_is (number w16) _ (number_is w16 wide16) (λ _. after_is (number w16) _ (number_is w16 wide16) (λ _. body_is k)))
+
+parts_back : (x : Parts) → parts.Fits x → frame_parts (frame_of x) ≡ x
+parts_back x fits = ap (λ k. (k, x.1)) (kind_same x.0 x.1.1.1 fits.1.1.1)
+
+pub content_is : IsField content
+unfolding content
+content_is = seen_fits frame_of frame_parts parts parts_back (λ _. refl) parts_is
+
+-- ---- a field that takes all of some bytes
+pub all_read : {A : Type 0} (f : Field A) → IsField f → (bs : List ℕ) (a : A) → IsBytes bs → f.at bs ≡ Ok (a, []) → (bs ≡ f.bytes a) × f.Fits a
+all_read f F bs a bytes e = (let s = F.takes bs (a, []) bytes e in (s.0 ∙ append-nil (f.bytes a), s.1))
+
+pub all_again : {A : Type 0} (f : Field A) → IsField f → (bs : List ℕ) (a : A) → f.Fits a → bs ≡ f.bytes a → f.at bs ≡ Ok (a, [])
+all_again f F bs a fits is = ap (λ (xs : List ℕ). f.at xs) (is ∙ sym (append-nil (f.bytes a))) ∙ F.again a [] fits
+
+pub few : (run : List ℕ) → length run ≤ limit → long.Fits run
+few run small = omega (arith, small)
+
+pub long_same : (a b : List ℕ) → length a ≤ limit → length b ≤ limit → long.bytes a ≡ long.bytes b → a ≡ b
+long_same a b x y e =
+    let one = all_again long long_is (long.bytes a) a (few a x) refl in
+    let two = all_again long long_is (long.bytes a) b (few b y) e in
+    let both = sym one ∙ two in
+    cc
+
+-- ---- what a reader returned, and the spelling of any value
+pub rest_left : {A : Type 0} (f : Field A) → IsField f → (bs rest : List ℕ) (x : A) → f.at bs ≡ Ok (x, rest) → (length rest ≡ 0 → ⊥) → (a : A) → f.Fits a → bs ≡ f.bytes a → ⊥
+rest_left {A} f F bs rest x e some a fits is =
+    let again = sym (all_again f F bs a fits is) ∙ e in
+    let one : A × List ℕ = (a, []) in
+    let two : A × List ℕ = (x, rest) in
+    let none : [] ≡ rest = ap (λ (p : A × List ℕ). p.1) (ok_is one two again) in
+    some (ap length (sym none))
+
+none_left : (rest : List ℕ) → length rest ≡ 0 → rest ≡ []
+none_left [] e = refl
+none_left (b ∷ bs) e = absurd (omega (arith, e))
+
+pub none_after : {A : Type 0} (f : Field A) → IsField f → (bs rest : List ℕ) (a : A) → IsBytes bs → f.at bs ≡ Ok (a, rest) → length rest ≡ 0 → (bs ≡ f.bytes a) × f.Fits a
+none_after f F bs rest a bytes e none = all_read f F bs a bytes (e ∙ ap (λ (xs : List ℕ). Ok (a, xs)) (none_left rest none))
+
+failed_with : {A : Type 0} (f : Field A) → IsField f → (bs : List ℕ) (fault : FieldFault) → f.at bs ≡ Err fault → (a : A) → f.Fits a → bs ≡ f.bytes a → ⊥
+failed_with f F bs fault e a fits is = (let again = sym (all_again f F bs a fits is) ∙ e in absurd cc)
+
+pub not_read : {A : Type 0} (f : Field A) → IsField f → (bs : List ℕ) (fault : FieldFault) → (fault ≡ faults.NoMemory → ⊥) → Fails fault (f.at bs) → (a : A) → f.Fits a → bs ≡ f.bytes a → ⊥
+not_read f F bs faults.Short other e = failed_with f F bs faults.Short e
+not_read f F bs faults.Malformed other e = failed_with f F bs faults.Malformed e
+not_read f F bs faults.Repeated other e = failed_with f F bs faults.Repeated e
+not_read f F bs faults.NotHere other e = failed_with f F bs faults.NotHere e
+not_read f F bs faults.NoMemory other e = absurd (other refl)
+
+pub context_fits : (s : Dots) → contexts.HasSpelling s → context.Fits s
+unfolding context
+context_fits s has = has
+
+pub spells : (bs run : List ℕ) (f : Frame) → bs ≡ long.bytes run → length run ≤ limit → run ≡ content.bytes f → content.Fits f → Spells bs f
+spells bs run f is small same fits = record {
+  is = is ∙ ap (λ (xs : List ℕ). long.bytes xs) same;
+  has = record { fits = fits; small = subst (λ (xs : List ℕ). length xs ≤ limit) same small };
+}
+
+pub not_content : (bs run : List ℕ) (f : Frame) → bs ≡ long.bytes run → length run ≤ limit → Spells bs f → run ≡ content.bytes f
+not_content bs run f is small spelled = long_same run (content.bytes f) small spelled.has.small (sym is ∙ spelled.is)

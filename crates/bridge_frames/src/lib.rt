@@ -1,0 +1,15 @@
+//! The frames that nodes send each other, as bytes: how long one is, and both ways.
+#![tactic(auto)]
+
+mod body;
+mod fault;
+mod frame;
+mod kind;
+mod length;
+#[cfg(test)]
+mod tests;
+
+pub use body::FrameBody;
+pub use fault::LinkFault;
+pub use frame::BridgeFrame;
+pub use length::frame_length;
