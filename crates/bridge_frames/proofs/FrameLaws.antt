@@ -17,18 +17,20 @@ use Rattle.replica_store.specs.States.{State}
 use Rattle.store_bytes.specs.Stores.{state}
 use Rattle.store_bytes.proofs.Wholes.{state_is}
 use Rattle.bridge_frames.specs.declared.body.FrameBody.{FrameBody}
-use Rattle.bridge_frames.specs.declared.body.FrameBody.TheVariants.{Hello, Delta, Know, Got}
+use Rattle.bridge_frames.specs.declared.body.FrameBody.TheVariants.{Hello, Delta, Know, Forward, Got}
 use Rattle.bridge_frames.specs.declared.kind.Kind.{Kind}
 use Rattle.bridge_frames.specs.declared.kind.Kind.TheVariants as kinds
 use Rattle.bridge_frames.specs.Kinds.{kind, kind_in, kind_number}
-use Rattle.bridge_frames.specs.Frames.{Frame, limit, as_delta, as_know, as_got, kind_of, hello, body, Parts, frame_of, frame_parts, content, Spells}
+use Rattle.bridge_frames.specs.Forwards.{Numbered, numbered}
+use Rattle.bridge_frames.proofs.ForwardLaws.{numbered_is}
+use Rattle.bridge_frames.specs.Frames.{Frame, limit, as_delta, as_know, as_forward, as_got, kind_of, hello, body, Parts, frame_of, frame_parts, content, Spells}
 
 kind_back : (n : ℕ) (k : Kind) → kind_in n ≡ Some k → kind_number k ≡ n
 kind_back zero k e = absurd cc
 kind_back (suc zero) k e = (let is : k ≡ kinds.Hello = sym cc in rw is refl)
 kind_back (suc (suc zero)) k e = (let is : k ≡ kinds.Delta = sym cc in rw is refl)
 kind_back (suc (suc (suc zero))) k e = (let is : k ≡ kinds.Know = sym cc in rw is refl)
-kind_back (suc (suc (suc (suc zero)))) k e = absurd cc
+kind_back (suc (suc (suc (suc zero)))) k e = (let is : k ≡ kinds.Forward = sym cc in rw is refl)
 kind_back (suc (suc (suc (suc (suc zero))))) k e = (let is : k ≡ kinds.Got = sym cc in rw is refl)
 kind_back (suc (suc (suc (suc (suc (suc n)))))) k e = absurd cc
 
@@ -36,6 +38,7 @@ kind_forth : (k : Kind) → kind_in (kind_number k) ≡ Some k
 kind_forth kinds.Hello = refl
 kind_forth kinds.Delta = refl
 kind_forth kinds.Know = refl
+kind_forth kinds.Forward = refl
 kind_forth kinds.Got = refl
 
 kind_is : IsField kind
@@ -51,24 +54,35 @@ delta_forth : (b : FrameBody) (s : State) → as_delta b ≡ Some s → Delta s 
 delta_forth Hello s e = absurd cc
 delta_forth (Delta x) s e = (let same : x ≡ s = cc in rw same refl)
 delta_forth (Know x) s e = absurd cc
+delta_forth (Forward x y) s e = absurd cc
 delta_forth (Got x) s e = absurd cc
 
 know_forth : (b : FrameBody) (s : Dots) → as_know b ≡ Some s → Know s ≡ b
 know_forth Hello s e = absurd cc
 know_forth (Delta x) s e = absurd cc
 know_forth (Know x) s e = (let same : x ≡ s = cc in rw same refl)
+know_forth (Forward x y) s e = absurd cc
 know_forth (Got x) s e = absurd cc
+
+forward_forth : (b : FrameBody) (x : Numbered) → as_forward b ≡ Some x → Forward x.0 x.1 ≡ b
+forward_forth Hello s e = absurd cc
+forward_forth (Delta x) s e = absurd cc
+forward_forth (Know x) s e = absurd cc
+forward_forth (Forward n f) s e = (let made : Numbered = (n, f) in let same : made ≡ s = cc in ap (λ (y : Numbered). Forward y.0 y.1) (sym same))
+forward_forth (Got x) s e = absurd cc
 
 got_forth : (b : FrameBody) (n : ℕ) → as_got b ≡ Some n → Got n ≡ b
 got_forth Hello s e = absurd cc
 got_forth (Delta x) s e = absurd cc
 got_forth (Know x) s e = absurd cc
+got_forth (Forward x y) s e = absurd cc
 got_forth (Got x) s e = (let same : x ≡ s = cc in rw same refl)
 
 body_is : (k : Kind) → IsField (body k)
 body_is kinds.Hello = hello_is
 body_is kinds.Delta = variant_is Delta as_delta state (λ _. refl) delta_forth state_is
 body_is kinds.Know = variant_is Know as_know context (λ _. refl) know_forth context_is
+body_is kinds.Forward = variant_is (λ x. Forward x.0 x.1) as_forward numbered (λ _. refl) forward_forth numbered_is
 body_is kinds.Got = variant_is Got as_got (number w64) (λ _. refl) got_forth (number_is w64 wide64)
 
 -- a body of this kind fits no other
@@ -77,14 +91,22 @@ kind_same kinds.Hello b fits = ap kind_of fits
 kind_same kinds.Delta Hello fits = absurd fits
 kind_same kinds.Delta (Delta _) fits = refl
 kind_same kinds.Delta (Know _) fits = absurd fits
+kind_same kinds.Delta (Forward _ _) fits = absurd fits
 kind_same kinds.Delta (Got _) fits = absurd fits
 kind_same kinds.Know Hello fits = absurd fits
 kind_same kinds.Know (Delta _) fits = absurd fits
 kind_same kinds.Know (Know _) fits = refl
+kind_same kinds.Know (Forward _ _) fits = absurd fits
 kind_same kinds.Know (Got _) fits = absurd fits
+kind_same kinds.Forward Hello fits = absurd fits
+kind_same kinds.Forward (Delta _) fits = absurd fits
+kind_same kinds.Forward (Know _) fits = absurd fits
+kind_same kinds.Forward (Forward _ _) fits = refl
+kind_same kinds.Forward (Got _) fits = absurd fits
 kind_same kinds.Got Hello fits = absurd fits
 kind_same kinds.Got (Delta _) fits = absurd fits
 kind_same kinds.Got (Know _) fits = absurd fits
+kind_same kinds.Got (Forward _ _) fits = absurd fits
 kind_same kinds.Got (Got _) fits = refl
 
 -- the same bytes, for values of another type, of which some that fit are those that are read

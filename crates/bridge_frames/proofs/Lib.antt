@@ -1,1 +1,2 @@
+pub mod ForwardLaws
 pub mod FrameLaws

@@ -1,5 +1,5 @@
 -- The bytes of frames. Numbers have their highest byte first.
-use Rattle.std.specs.Prelude.{◌≡◌, ◌+◌, ◌≤◌, ℕ, nat_lt, List, [], length, Option, Some, None, Result, Ok, Err, if◌then◌else◌}
+use Rattle.std.specs.Prelude.{◌≡◌, ◌+◌, ◌<◌, ◌≤◌, ◌^◌, ℕ, nat_lt, List, [], length, Option, Some, None, Result, Ok, Err, if◌then◌else◌}
 use Rattle.std.specs.Int.{w16, w32, w64}
 use Rattle.mqtt_fields.specs.declared.fault.FieldFault.{FieldFault}
 use Rattle.mqtt_fields.specs.Field.{Field, after, seen, variant}
@@ -9,13 +9,14 @@ use Rattle.causal_context.specs.Spelling.{context}
 use Rattle.replica_store.specs.States.{State}
 use Rattle.store_bytes.specs.Stores.{state, HasNoVersions}
 use Rattle.bridge_frames.specs.declared.body.FrameBody.{FrameBody}
-use Rattle.bridge_frames.specs.declared.body.FrameBody.TheVariants.{Hello, Delta, Know, Got}
+use Rattle.bridge_frames.specs.declared.body.FrameBody.TheVariants.{Hello, Delta, Know, Forward, Got}
 use Rattle.bridge_frames.specs.declared.fault.LinkFault.{LinkFault}
 use Rattle.bridge_frames.specs.declared.fault.LinkFault.TheVariants.{TooLarge}
 use Rattle.bridge_frames.specs.declared.frame.BridgeFrame.{BridgeFrame}
 use Rattle.bridge_frames.specs.declared.kind.Kind.{Kind}
 use Rattle.bridge_frames.specs.declared.kind.Kind.TheVariants as kinds
 use Rattle.bridge_frames.specs.Kinds.{kind}
+use Rattle.bridge_frames.specs.Forwards.{Numbered, numbered}
 
 abbrev pub Frame : Type 0
 Frame = BridgeFrame
@@ -42,6 +43,10 @@ abbrev pub as_know : FrameBody → Option Dots
 as_know (Know c) = Some c
 as_know _ = None
 
+abbrev pub as_forward : FrameBody → Option Numbered
+as_forward (Forward n f) = Some (n, f)
+as_forward _ = None
+
 abbrev pub as_got : FrameBody → Option ℕ
 as_got (Got n) = Some n
 as_got _ = None
@@ -50,6 +55,7 @@ abbrev pub kind_of : FrameBody → Kind
 kind_of Hello = kinds.Hello
 kind_of (Delta _) = kinds.Delta
 kind_of (Know _) = kinds.Know
+kind_of (Forward _ _) = kinds.Forward
 kind_of (Got _) = kinds.Got
 
 -- no bytes
@@ -64,6 +70,10 @@ delta = variant Delta as_delta state
 abbrev pub know : Field FrameBody
 know = variant Know as_know context
 
+-- a message under its number
+abbrev pub forward : Field FrameBody
+forward = variant (λ x. Forward x.0 x.1) as_forward numbered
+
 -- a number in eight bytes
 abbrev pub got : Field FrameBody
 got = variant Got as_got (number w64)
@@ -73,11 +83,13 @@ abbrev pub body : Kind → Field FrameBody
 body kinds.Hello = hello
 body kinds.Delta = delta
 body kinds.Know = know
+body kinds.Forward = forward
 body kinds.Got = got
 
--- no subscription has a version other than 0, which isn't spelled
+-- no subscription has a version other than 0, which isn't spelled, and a message has a number that lanes give
 abbrev pub IsPlain : FrameBody → Type 0
 IsPlain (Delta s) = HasNoVersions s
+IsPlain (Forward n f) = (1 ≤ n) × (n < 2 ^ 62)
 IsPlain _ = Unit {0}
 
 -- ---- frames

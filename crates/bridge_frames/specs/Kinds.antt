@@ -11,6 +11,7 @@ abbrev pub kind_number : Kind → ℕ
 kind_number kinds.Hello = 1
 kind_number kinds.Delta = 2
 kind_number kinds.Know = 3
+kind_number kinds.Forward = 4
 kind_number kinds.Got = 5
 
 abbrev pub kind_in : ℕ → Option Kind
@@ -18,7 +19,7 @@ kind_in zero = None
 kind_in (suc zero) = Some kinds.Hello
 kind_in (suc (suc zero)) = Some kinds.Delta
 kind_in (suc (suc (suc zero))) = Some kinds.Know
-kind_in (suc (suc (suc (suc zero)))) = None
+kind_in (suc (suc (suc (suc zero)))) = Some kinds.Forward
 kind_in (suc (suc (suc (suc (suc zero))))) = Some kinds.Got
 kind_in (suc (suc (suc (suc (suc (suc n)))))) = None
 

@@ -1,8 +1,10 @@
 //! What a frame says.
 ghost use Rattle.std.specs.Prelude.{◌≡◌, ◌++◌, OnOk};
 ghost use Rattle.mqtt_fields.specs.Reading.{Gives};
+ghost use Rattle.bridge_frames.specs.Forwards.{lane_number, numbered};
 ghost use Rattle.bridge_frames.specs.Frames as spec;
 
+use crate::forward::Forward;
 use crate::kind::Kind;
 use causal_context::Context;
 use mqtt_fields::{FieldFault, NoMemory, put_u64, u64_at};
@@ -19,8 +21,30 @@ pub enum FrameBody {
     Delta(ReplicaStore),
     /// The dots that its sender has taken.
     Know(Context),
+    /// A message of the lane from its sender, under its number there.
+    Forward(u64, Forward),
     /// What has come, up to this number.
     Got(u64),
+}
+
+// The number of a message in a lane, from 1 to 2^62 - 1.
+fn lane_number_at(bytes: &[u8]) -> Result<(u64, &[u8]), FieldFault>
+    ensures { Gives (λ x. (x.0, x.1.now)) result (lane_number.at bytes.now) }
+{
+    let (number, rest) = u64_at(bytes)?;
+    if number == 0 || number >= 1 << 62 {
+        return Err(FieldFault::Malformed);
+    }
+    Ok((number, rest))
+}
+
+fn append_forward(number: u64, forward: &Forward, out: &mut Vec<u8>) -> Result<(), NoMemory>
+    ensures ok { OnOk result (out.new.items ≡ out.old.items ++ numbered.bytes (number, forward.now)) }
+    ensures spelling { lane_number.Fits number → numbered.Fits (number, forward.now) }
+{
+    forward.has_spelling();
+    put_u64(number, out)?;
+    forward.append(out)
 }
 
 impl FrameBody {
@@ -31,6 +55,7 @@ impl FrameBody {
             FrameBody::Hello => Kind::Hello,
             FrameBody::Delta(_) => Kind::Delta,
             FrameBody::Know(_) => Kind::Know,
+            FrameBody::Forward(_, _) => Kind::Forward,
             FrameBody::Got(_) => Kind::Got,
         }
     }
@@ -47,6 +72,7 @@ impl FrameBody {
             FrameBody::Hello => Ok(()),
             FrameBody::Delta(state) => write_store(state, out),
             FrameBody::Know(dots) => dots.write(out),
+            FrameBody::Forward(number, forward) => append_forward(*number, forward, out),
             FrameBody::Got(number) => put_u64(*number, out),
         }
     }
@@ -64,6 +90,14 @@ fn know_at(alloc: Global, bytes: &[u8]) -> Result<(FrameBody, &[u8]), FieldFault
 {
     let (dots, rest) = Context::at(alloc, bytes)?;
     Ok((FrameBody::Know(dots), rest))
+}
+
+fn forward_at(alloc: Global, bytes: &[u8]) -> Result<(FrameBody, &[u8]), FieldFault>
+    ensures { Gives (λ x. (x.0, x.1.now)) result (spec.forward.at bytes.now) }
+{
+    let (number, rest) = lane_number_at(bytes)?;
+    let (forward, rest) = Forward::at(alloc, rest)?;
+    Ok((FrameBody::Forward(number, forward), rest))
 }
 
 fn got_at(bytes: &[u8]) -> Result<(FrameBody, &[u8]), FieldFault>
@@ -85,6 +119,7 @@ pub(crate) fn body_at(
         Kind::Hello => Ok((FrameBody::Hello, bytes)),
         Kind::Delta => delta_at(alloc, bytes),
         Kind::Know => know_at(alloc, bytes),
+        Kind::Forward => forward_at(alloc, bytes),
         Kind::Got => got_at(bytes),
     }
 }

@@ -110,7 +110,7 @@ impl BridgeFrame {
     pub fn write(&self, alloc: Global, out: &mut Vec<u8>) -> Result<(), LinkFault>
         ensures ok { OnOk result (out.new.items ≡ out.old.items ++ spec.spelling self.now) }
 
-        // With versions of 0 it is the frame's one spelling, so what is written is read again.
+        // With versions of 0, and a number that lanes give, it is the frame's one spelling, so what is written is read again.
         ensures spelling { OnOk result (spec.IsPlain self.now.body → spec.HasSpelling self.now) }
         ensures small { OnOk result (length (spec.content.bytes self.now) ≤ spec.limit) }
         ensures large { IsErrOf result LinkFault.TooLarge

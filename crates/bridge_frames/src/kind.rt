@@ -11,6 +11,7 @@ pub(crate) enum Kind {
     Hello = 1,
     Delta,
     Know,
+    Forward,
     Got,
 }
 
@@ -22,6 +23,7 @@ impl Kind {
             Kind::Hello => 1,
             Kind::Delta => 2,
             Kind::Know => 3,
+            Kind::Forward => 4,
             Kind::Got => 5,
         }
     }
@@ -34,6 +36,7 @@ fn kind_of(number: u8) -> Option<Kind>
         1 => Some(Kind::Hello),
         2 => Some(Kind::Delta),
         3 => Some(Kind::Know),
+        4 => Some(Kind::Forward),
         5 => Some(Kind::Got),
         _ => None,
     }

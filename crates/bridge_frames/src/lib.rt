@@ -3,13 +3,17 @@
 
 mod body;
 mod fault;
+mod forward;
 mod frame;
 mod kind;
 mod length;
+mod pick;
 #[cfg(test)]
 mod tests;
 
 pub use body::FrameBody;
 pub use fault::LinkFault;
+pub use forward::Forward;
 pub use frame::BridgeFrame;
 pub use length::frame_length;
+pub use pick::{Pick, Picks};

@@ -6,6 +6,13 @@ use std::test::Fail;
 /// Hello from node 0 to node 1.
 const HELLO: [u8; 9] = [0, 0, 0, 5, 1, 0, 0, 0, 1];
 
+/// A message under number 1 from node 1 to node 0, for plain subscriptions and for `a` in `$share/g/t`: `x` under `t`, by `a`,
+/// at QoS 1.
+const FORWARD: [u8; 50] = [
+    0, 0, 0, 46, 4, 0, 1, 0, 0, 0, 0, 0, 0, 0, 0, 0, 1, 1, 0, 1, 0, 1, 97, 0, 10, 36, 115, 104, 97,
+    114, 101, 47, 103, 47, 116, 0, 1, 116, 0, 0, 0, 1, 120, 0, 1, 0, 0, 1, 97, 0,
+];
+
 #[test]
 fn lengths(rt: HostRuntime) {
     assert_eq!(rt; frame_length(&[0, 0, 0, 5]), Ok(Some(9)));
@@ -30,6 +37,37 @@ fn hello_both_ways(rt: HostRuntime) -> Result<(), Fail> {
     let short = BridgeFrame::read(alloc, &HELLO[..8]);
     assert!(rt; matches!(short, Err(LinkFault::BadFrame)));
     Ok(())
+}
+
+#[test]
+fn forward_both_ways(rt: HostRuntime) -> Result<(), Fail> {
+    let alloc = rt.alloc();
+    let frame = BridgeFrame::read(alloc, &FORWARD)?;
+    let mut out = Vec::new(alloc);
+    frame.write(alloc, &mut out)?;
+    assert!(rt; out.as_slice() == FORWARD.as_slice());
+    match &frame.body {
+        FrameBody::Forward(number, forward) => {
+            let copy = forward.copy(alloc)?;
+            assert!(rt; *number == 1 && copy.plain && copy.message.message().topic.as_str() == "t");
+            let picks = copy.picks.as_slice();
+            assert!(rt; picks.len() == 1 && picks[0].client.as_str() == "a");
+            assert!(rt; picks[0].filter.as_str() == "$share/g/t");
+        }
+        _ => assert!(rt; false),
+    }
+    Ok(())
+}
+
+#[test]
+fn numbers_are_from_one_below_the_end(rt: HostRuntime) {
+    let alloc = rt.alloc();
+    let mut none = FORWARD;
+    none[16] = 0;
+    assert!(rt; matches!(BridgeFrame::read(alloc, &none), Err(LinkFault::BadFrame)));
+    let mut end = FORWARD;
+    end[9] = 64;
+    assert!(rt; matches!(BridgeFrame::read(alloc, &end), Err(LinkFault::BadFrame)));
 }
 
 #[test]

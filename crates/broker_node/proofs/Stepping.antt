@@ -1,5 +1,6 @@
 -- A step of a node, from its work.
 use Rattle.std.proofs.Common.{◌≡◌, ℕ, ◌<◌, ◌≤◌, ◌^◌, max, not, nat_lt, Bool, true, false, cond, List, [], ◌∷◌, ◌++◌, Option, Some, None, Result, Ok, Err, inl, inr, refl, sym, ap, subst, ◌∙◌, arith}
+use Rattle.std.specs.Result.{IfErr, IfOk, IsErrAnd, IsOk}
 use Rattle.std.proofs.lemmas.Bool.Decides.{nat_tests}
 use Rattle.home_table.specs.Table.{IsTable}
 use Rattle.node_work.specs.declared.fault.NodeFault.{NodeFault}
@@ -8,10 +9,15 @@ use Rattle.node_work.specs.declared.outcome.Outcome.{Outcome}
 use Rattle.node_work.specs.declared.outcome.Output.{Output}
 use Rattle.node_work.specs.Acts.{Act, Moment, Runs, gather, merge_in, output_in}
 use Rattle.node_work.specs.View.{Place, HeldView, WorkView, NodeView, up_of}
-use Rattle.node_work.specs.Working.{Did, Comes}
+use Rattle.node_work.specs.Lasting.{CanLast, held_row}
+use Rattle.node_work.specs.Working.{Did, Comes, Doing}
+use Rattle.row_changes.specs.Gathered.{AreOnce, LeaveAlike}
+use Rattle.row_changes.specs.Leading.{Lead}
+use Rattle.row_changes.proofs.Leaving.{alike_lead_alike}
+use Rattle.row_store.specs.declared.row.Change.{Change}
 use Rattle.broker_node.specs.declared.event.Event.{Event}
-use Rattle.broker_node.specs.Idle.{IsIdle, Keeps, RestsWhereIdle}
-use Rattle.broker_node.specs.Step.{IsDone, IsAtEnd, HasCause, HasCauseAt, brought}
+use Rattle.broker_node.specs.Idle.{IsIdle, Keeps, Rests, RestsWhereIdle}
+use Rattle.broker_node.specs.Step.{IsDone, IsAtEnd, HasCause, HasCauseAt, Settles, begun, brought}
 use Rattle.broker_node.specs.Turns.{Decides}
 use Rattle.broker_node.proofs.Determined.{decides_determined}
 use Rattle.broker_node.proofs.Quiet.{turn_brings}
@@ -40,48 +46,104 @@ follows e p h acts (inr d) =
       merged = ap (gather merge_in) (d.7 ∙ ap (λ xs. xs ++ d.3) t.1) ∙ turn_brings d.2.started e.kind p d.2 d.3 d.6 ∙ ap (λ (v : HeldView). cond v.started (brought p e.kind) []) mid;
     }
 
+-- ---- what the work comes to
 abbrev failed : NodeFault → Result (Unit {0}) NodeFault
 failed f = Err f
 
-module _ (n : NodeView) (place : Place) (w start : WorkView) (stopped : Bool) (e : Event) (view : record { place = place; up = up_of stopped w.held } ≡ n) (kept : stopped ≡ false → w.place ≡ place) (runs : stopped ≡ false) (starts : start ≡ record w { outputs = [] }) where
+begun_idle : (w start : WorkView) (e : Event) → start ≡ begun w → IsIdle w.place w.held e → IsIdle start.place start.held e
+begun_idle w start e is i = subst (λ (v : WorkView). IsIdle v.place v.held e) (sym is) i
+
+pub settles : (e : Event) (r : Result Outcome NodeFault) (w start last w' : WorkView) → start ≡ begun w → Did start last (Decides e (Some tt)) → IfOk r (λ o. o.outputs.items ≡ last.outputs) → IfOk r (λ o. AreOnce o.changes.items)
+    → IfOk r (λ o. LeaveAlike o.changes.items last.changes) → CanLast last.held → w' ≡ begun last → IfOk r (λ o. Settles w e o w')
+settles e (Ok o) w start last w' is d given once alike lasts rest = record { last = last; did = subst (λ (v : WorkView). Did v last (Decides e (Some tt))) is d; given = given; once = once; alike = alike; lasts = lasts; rest = rest }
+settles e (Err f) w start last w' is d given once alike lasts rest = tt
+
+pub settled_idle : (e : Event) (r : Result Outcome NodeFault) (w start last : WorkView) → start ≡ begun w → (e.at < 2 ^ 62 → IsIdle start.place start.held e → Keeps (Ok tt) start last) → IfOk r (λ o. o.outputs.items ≡ last.outputs)
+    → (last.changes ≡ [] → IfOk r (λ o. o.changes.items ≡ []) × IsOk r) → e.at < 2 ^ 62 → IsIdle w.place w.held e → Rests r
+settled_idle e r w start last is idle given none below i =
+    let k = idle below (begun_idle w start e is i) in
+    let told = none (k.2 ∙ ap (λ (v : WorkView). v.changes) is) in
+    by r given told.0 told.1 (k.1 ∙ ap (λ (v : WorkView). v.outputs) is)
+  where
+    by : (q : Result Outcome NodeFault) → IfOk q (λ o. o.outputs.items ≡ last.outputs) → IfOk q (λ o. o.changes.items ≡ []) → IsOk q → last.outputs ≡ [] → Rests q
+    by (Ok o) g c y out = (o, refl, g ∙ out, c)
+    by (Err f) g c y out = absurd (let z : false ≡ true = y in cc)
+
+pub failed_idle : (e : Event) (r : Result Outcome NodeFault) (f : NodeFault) (w start last : WorkView) → start ≡ begun w → (e.at < 2 ^ 62 → IsIdle start.place start.held e → Keeps (Err f) start last) → e.at < 2 ^ 62 → IsIdle w.place w.held e → Rests r
+failed_idle e r f w start last is idle below i = absurd (let z : failed f ≡ Ok tt = (idle below (begun_idle w start e is i)).0 in cc)
+
+wanting_comes : (r : Result Outcome NodeFault) (w w' : WorkView) (P : Option (Unit {0}) → Doing) → IfErr r (λ f. f ≡ NoMemory) → IfErr r (λ f. Comes {T = Unit {0}} (λ x. x) (Err f) w w' P)
+wanting_comes (Ok o) w w' P e = tt
+wanting_comes (Err NoMemory) w w' P e = tt
+wanting_comes (Err NumbersAtEnd) w w' P e = absurd (let z : NumbersAtEnd ≡ NoMemory = e in cc)
+wanting_comes (Err Stopped) w w' P e = absurd (let z : Stopped ≡ NoMemory = e in cc)
+
+pub settled_wanting : (r : Result Outcome NodeFault) (w w' : WorkView) (P : Option (Unit {0}) → Doing) → IfErr r (λ f. f ≡ NoMemory) → IfErr r (λ f. Comes {T = Unit {0}} (λ x. x) (Err f) w w' P)
+settled_wanting = wanting_comes
+
+comes_elsewhere : (f : NodeFault) (w a b : WorkView) (P : Option (Unit {0}) → Doing) → Comes {T = Unit {0}} (λ x. x) (Err f) w a P → Comes {T = Unit {0}} (λ x. x) (Err f) w b P
+comes_elsewhere NoMemory w a b P d = tt
+comes_elsewhere NumbersAtEnd w a b P d = d
+comes_elsewhere Stopped w a b P d = d
+
+pub failed_comes : (r : Result Outcome NodeFault) (f : NodeFault) (w start a b : WorkView) (P : Option (Unit {0}) → Doing) → IsErrAnd r (λ e. e ≡ f) → start ≡ begun w → Comes {T = Unit {0}} (λ x. x) (Err f) start a P
+    → IfErr r (λ g. Comes {T = Unit {0}} (λ x. x) (Err g) (begun w) b P)
+failed_comes (Ok o) f w start a b P is at d = tt
+failed_comes (Err g) f w start a b P is at d = subst (λ h. Comes {T = Unit {0}} (λ x. x) (Err h) (begun w) b P) (sym is) (comes_elsewhere f (begun w) a b P (subst (λ (v : WorkView). Comes {T = Unit {0}} (λ x. x) (Err f) v a P) at d))
+
+-- ---- a step
+module _ (n : NodeView) (place : Place) (w : WorkView) (stopped : Bool) (e : Event) (view : record { place = place; up = up_of stopped w.held } ≡ n) (kept : stopped ≡ false → w.place ≡ place) (runs : stopped ≡ false) where
   up : n.up ≡ Some w.held
   up = sym (ap (λ (m : NodeView). m.up) view) ∙ ap (λ b. up_of b w.held) runs
 
   places : n.place ≡ w.place
   places = sym (ap (λ (m : NodeView). m.place) view) ∙ sym (kept runs)
 
-  -- what is said at the start is said of the node
-  here : (P : Place → HeldView → Type 0) → P start.place start.held → P n.place w.held
-  here P d = subst (λ (v : WorkView). P v.place v.held) (starts ∙ (λ j. record { place = sym places j; held = w.held; outputs = [] })) d
+  -- what is said of the work is said of the node
+  here : (P : Place → HeldView → Type 0) → P w.place w.held → P n.place w.held
+  here P d = subst (λ (p : Place). P p w.held) (sym places) d
 
-  pub done : (w' last : WorkView) (outputs : List Output) → Did start w' (Decides e (Some tt)) → outputs ≡ w'.outputs → last ≡ record w' { outputs = [] } → IsDone n e outputs (record { place = place; up = up_of stopped last.held })
-  done w' last outputs d f rest =
+  pub done : (o : Outcome) (w' : WorkView) → Settles w e o w' → IsDone n e o.outputs.items o.changes.items (record { place = place; up = up_of stopped w'.held })
+  done o w' s =
+      let d = s.did in
+      let last = s.last in
       let does = here (λ p h. Decides e (Some tt) p h d.acts) d.does in
       let after = follows e n.place w.held d.acts does in
+      let t = d.tells in
+      let told : Lead (held_row w.place.id w.held) (held_row last.place.id last.held) last.changes = subst (λ (xs : List Change). Lead (held_row w.place.id w.held) (held_row last.place.id last.held) xs) (sym t.1) t.2 in
+      let lead : Lead (held_row n.place.id w.held) (held_row n.place.id last.held) last.changes =
+      here (λ p h. Lead (held_row p.id h) (held_row p.id last.held) last.changes) (subst (λ (p : Place). Lead (held_row w.place.id w.held) (held_row p.id last.held) last.changes) d.place told) in
       record {
         before = w.held;
-        after = w'.held;
+        after = last.held;
         acts = d.acts;
         was = up;
-        is = ap (λ b. up_of b last.held) runs ∙ ap (λ (v : WorkView). Some v.held) rest;
+        is = ap (λ b. up_of b w'.held) runs ∙ ap (λ (v : WorkView). Some v.held) s.rest;
         steps = record {
           does = does;
-          runs = here (λ p h. Runs p h d.acts w'.held) d.runs;
-          given = f ∙ d.given ∙ ap (λ (v : WorkView). v.outputs ++ gather output_in d.acts) starts;
+          runs = here (λ p h. Runs p h d.acts last.held) d.runs;
+          given = s.given ∙ d.given;
           moment = after.moment;
           merged = after.merged;
         };
+        once = s.once;
+        lasts = s.lasts;
+        leads = alike_lead_alike (held_row n.place.id w.held) (held_row n.place.id last.held) o.changes.items last.changes s.alike lead;
       }
 
-  pub not_at_end : IsTable place.homes → (w' : WorkView) → Did start w' (Decides e (Some tt)) → IsAtEnd n e → ⊥
-  not_at_end table w' d a =
+  pub not_at_end : IsTable place.homes → (o : Outcome) (w' : WorkView) → Settles w e o w' → IsAtEnd n e → ⊥
+  not_at_end table o w' s a =
+      let d = s.did in
       let same : Some a.0 ≡ Some w.held = sym a.1 ∙ up in
       let held : a.0 ≡ w.held = cc in
       let z : None ≡ Some tt = (decides_determined e None (Some tt) n.place w.held a.2.0 d.acts (subst (λ (p : Place). IsTable p.homes) (ap (λ (m : NodeView). m.place) view) table) (subst (λ h. Decides e None n.place h a.2.0) held a.2.1) (here (λ p h. Decides e (Some tt) p h d.acts) d.does)).0 in
       cc
 
-  cause_of : (f : NodeFault) (w' : WorkView) → (e.at < 2 ^ 62 → IsIdle start.place start.held e → Keeps (Err f) start w') → (2 ^ 62 ≤ e.at → failed f ≡ failed NumbersAtEnd)
-      → Comes {T = Unit {0}} (λ x. x) (Err f) start w' (Decides e) → HasCause n.place w.held e f
+  abbrev faulted : NodeFault → Result Outcome NodeFault
+  faulted f = Err f
+
+  cause_of : (f : NodeFault) (w' : WorkView) → (e.at < 2 ^ 62 → IsIdle w.place w.held e → Rests (Err f)) → (2 ^ 62 ≤ e.at → faulted f ≡ faulted NumbersAtEnd)
+      → Comes {T = Unit {0}} (λ x. x) (Err f) (begun w) w' (Decides e) → HasCause n.place w.held e f
   cause_of NoMemory w' idle end k = (below, busy)
     where
       below : e.at < 2 ^ 62
@@ -89,26 +151,20 @@ module _ (n : NodeView) (place : Place) (w start : WorkView) (stopped : Bool) (e
         where
           by_end : (b : Bool) → nat_lt e.at (2 ^ 62) ≡ b → e.at < 2 ^ 62
           by_end true t = grind (arith, nat_tests)
-          by_end false t = absurd (let q : 2 ^ 62 ≤ e.at = grind (arith, nat_tests) in let z : failed NoMemory ≡ failed NumbersAtEnd = end q in cc)
+          by_end false t = absurd (let q : 2 ^ 62 ≤ e.at = grind (arith, nat_tests) in let z : faulted NoMemory ≡ faulted NumbersAtEnd = end q in cc)
 
       busy : ¬ IsIdle n.place w.held e
-      busy t = let z : failed NoMemory ≡ Ok tt = here (λ p h. IsIdle p h e → failed NoMemory ≡ Ok tt) (λ q. (idle below q).0) t in cc
+      busy t = let r = here (λ p h. IsIdle p h e → Rests (Err NoMemory)) (λ q. idle below q) t in let z : faulted NoMemory ≡ Ok r.0 = r.1 in cc
   cause_of NumbersAtEnd w' idle end k = (k.1.acts, here (λ p h. Decides e None p h k.1.acts) k.1.does)
   cause_of Stopped w' idle end k = k
 
-  pub cause : (f : NodeFault) (w' : WorkView) → (e.at < 2 ^ 62 → IsIdle start.place start.held e → Keeps (Err f) start w') → (2 ^ 62 ≤ e.at → failed f ≡ failed NumbersAtEnd)
-      → Comes {T = Unit {0}} (λ x. x) (Err f) start w' (Decides e) → HasCauseAt n.up n.place e f
+  pub cause : (f : NodeFault) (w' : WorkView) → (e.at < 2 ^ 62 → IsIdle w.place w.held e → Rests (Err f)) → (2 ^ 62 ≤ e.at → faulted f ≡ faulted NumbersAtEnd)
+      → Comes {T = Unit {0}} (λ x. x) (Err f) (begun w) w' (Decides e) → HasCauseAt n.up n.place e f
   cause f w' idle end k = subst (λ u. HasCauseAt u n.place e f) (sym up) (cause_of f w' idle end k)
 
   -- an event that brings nothing to do
-  pub rests : (o : Outcome) (w' : WorkView) → o.outputs.items ≡ w'.outputs → (e.at < 2 ^ 62 → IsIdle start.place start.held e → Keeps (Ok tt) start w') → RestsWhereIdle n e (Ok o)
-  rests o w' given idle h is below rest =
+  pub rests : (r : Result Outcome NodeFault) → (e.at < 2 ^ 62 → IsIdle w.place w.held e → Rests r) → RestsWhereIdle n e r
+  rests r idle h is below rest =
       let same : Some h ≡ Some w.held = sym is ∙ up in
       let held : h ≡ w.held = cc in
-      (o, refl, given ∙ here (λ p v. IsIdle p v e → w'.outputs ≡ start.outputs) (λ q. (idle below q).1) (subst (λ v. IsIdle n.place v e) held rest) ∙ ap (λ (v : WorkView). v.outputs) starts)
-
-  pub wanting : (f : NodeFault) (w' : WorkView) → (e.at < 2 ^ 62 → IsIdle start.place start.held e → Keeps (Err f) start w') → RestsWhereIdle n e (Err f)
-  wanting f w' idle h is below rest =
-      let same : Some h ≡ Some w.held = sym is ∙ up in
-      let held : h ≡ w.held = cc in
-      absurd (let z : failed f ≡ Ok tt = here (λ p v. IsIdle p v e → failed f ≡ Ok tt) (λ q. (idle below q).0) (subst (λ v. IsIdle n.place v e) held rest) in cc)
+      here (λ p v. IsIdle p v e → Rests r) (λ q. idle below q) (subst (λ v. IsIdle n.place v e) held rest)

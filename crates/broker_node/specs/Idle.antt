@@ -52,9 +52,9 @@ IsIdleAt p h kind = ((h.started ≡ false) × WaitsFor h kind) ⊎ ((h.started �
 abbrev pub IsIdle : Place → HeldView → Event → Type 0
 IsIdle p h e = IsIdleAt p (record h { at = max h.at e.at }) e.kind
 
--- nothing is given out, and nothing fails
+-- nothing is given out, no row changes, and nothing fails
 abbrev pub Rests : Result Outcome NodeFault → Type 0
-Rests result = (o : Outcome) × (result ≡ Ok o) × (o.outputs.items ≡ [])
+Rests result = (o : Outcome) × (result ≡ Ok o) × (o.outputs.items ≡ []) × (o.changes.items ≡ [])
 
 -- at a moment below the end
 abbrev pub RestsWhereIdle : NodeView → Event → Result Outcome NodeFault → Type 0
@@ -62,4 +62,4 @@ RestsWhereIdle n e result = (h : HeldView) → n.up ≡ Some h → e.at < 2 ^ 62
 
 -- the same of the work on an event
 abbrev pub Keeps : Result (Unit {0}) NodeFault → WorkView → WorkView → Type 0
-Keeps result w w' = (result ≡ Ok tt) × (w'.outputs ≡ w.outputs)
+Keeps result w w' = (result ≡ Ok tt) × (w'.outputs ≡ w.outputs) × (w'.changes ≡ w.changes)

@@ -4,3 +4,4 @@ pub mod Bridge
 pub mod Turns
 pub mod Idle
 pub mod Step
+pub mod Opening

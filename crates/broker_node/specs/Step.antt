@@ -6,7 +6,13 @@ use Rattle.node_work.specs.declared.fault.NodeFault.TheVariants.{NoMemory, Numbe
 use Rattle.node_work.specs.declared.outcome.Output.{Output}
 use Rattle.node_work.specs.Acts.{Act, Runs, gather, merge_in, output_in}
 use Rattle.node_work.specs.Frames.{is_for, states_in}
-use Rattle.node_work.specs.View.{Place, HeldView, NodeView}
+use Rattle.node_work.specs.Lasting.{CanLast, held_row}
+use Rattle.node_work.specs.View.{Place, HeldView, NodeView, WorkView}
+use Rattle.node_work.specs.Working.{Did}
+use Rattle.node_work.specs.declared.outcome.Outcome.{Outcome}
+use Rattle.row_changes.specs.Gathered.{AreOnce, LeaveAlike}
+use Rattle.row_changes.specs.Leading.{Lead}
+use Rattle.row_store.specs.declared.row.Change.{Change}
 use Rattle.broker_node.specs.declared.event.Event.{Event}
 use Rattle.broker_node.specs.declared.event.EventKind.{EventKind}
 use Rattle.broker_node.specs.declared.event.EventKind.TheVariants as kinds
@@ -27,14 +33,31 @@ pub record Steps (p : Place) (h : HeldView) (e : Event) (acts : List Act) (outpu
   pub moment : e.at < 2 ^ 62
   pub merged : gather merge_in acts ≡ cond h.started (brought p e.kind) []
 
--- a step of a node that runs, after which it runs
-pub record IsDone (n : NodeView) (e : Event) (outputs : List Output) (n' : NodeView) : Type 0 where
+-- a step of a node that runs, after which it runs; the changes lead from its rows before to those after, and name each once
+pub record IsDone (n : NodeView) (e : Event) (outputs : List Output) (changes : List Change) (n' : NodeView) : Type 0 where
   pub before : HeldView
   pub after : HeldView
   pub acts : List Act
   pub was : n.up ≡ Some before
   pub is : n'.up ≡ Some after
   pub steps : Steps n.place before e acts outputs after
+  pub once : AreOnce changes
+  pub leads : Lead (held_row n.place.id before) (held_row n.place.id after) changes
+  pub lasts : CanLast after
+
+-- at the start of a step nothing was given out, and nothing told
+abbrev pub begun : WorkView → WorkView
+begun w = record w { outputs = []; changes = [] }
+
+-- what the work on an event comes to
+pub record Settles (w : WorkView) (e : Event) (o : Outcome) (w' : WorkView) : Type 0 where
+  pub last : WorkView
+  pub did : Did (begun w) last (Decides e (Some tt))
+  pub given : o.outputs.items ≡ last.outputs
+  pub once : AreOnce o.changes.items
+  pub alike : LeaveAlike o.changes.items last.changes
+  pub lasts : CanLast last.held
+  pub rest : w' ≡ begun last
 
 -- the event needs a number that can't be had
 abbrev pub StopsAtEnd : Place → HeldView → Event → Type 0

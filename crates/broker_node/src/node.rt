@@ -1,16 +1,20 @@
 //! A node, and what it makes of each event.
 
-ghost use Rattle.std.specs.Prelude.{◌≡◌, ◌<◌, ◌≤◌, ◌^◌, length, OnOk, IfOk, IfErr, IsOk, OnErr, None, Some, MatchOption, Err, is_some, true};
-ghost use Rattle.node_work.specs.View.{opened};
-ghost use Rattle.broker_node.specs.Idle.{RestsWhereIdle};
-ghost use Rattle.broker_node.specs.Step.{IsDone, IsAtEnd, HasCauseAt};
-ghost use Rattle.node_work.specs.declared.fault.NodeFault.TheVariants.{NoMemory, NumbersAtEnd, Stopped};
+ghost use Rattle.std.specs.Prelude.{◌≡◌, ◌<◌, ◌≤◌, ◌^◌, ◌⊎◌, length, OnOk, IfOk, IfErr, IsErrOf, IsOk, OnErr, None, Some, MatchOption, Err, is_some, true};
+ghost use Rattle.broker_node.specs.Idle.{IsIdle, Rests, RestsWhereIdle};
+ghost use Rattle.broker_node.specs.Opening.{IsOpenedFrom};
+ghost use Rattle.broker_node.specs.Step.{IsDone, IsAtEnd, HasCauseAt, Settles, begun};
+ghost use Rattle.broker_node.specs.Turns.{Decides};
+ghost use Rattle.node_rows.specs.Reading.{SayNothing};
+ghost use Rattle.node_work.specs.Working.{Comes};
+ghost use Rattle.node_work.specs.declared.fault.NodeFault.TheVariants.{NumbersAtEnd, Stopped};
 
 use crate::event::Event;
 use crate::turn::decide;
 use home_table::HomeTable;
 use node_work::{Counts, NodeFault, Outcome, Work};
 use replica_store::ReplicaStore;
+use row_store::{Row, RowFault};
 use std::alloc::Global;
 use std::marker::Model;
 
@@ -36,20 +40,60 @@ impl Model for Node {
     ghost invariant = { λ n. n.stopped ≡ false → n.work.place ≡ record { id = n.id; homes = n.homes } };
 }
 
+/// Decides an event of a node that runs, and hands over what comes of it.
+fn settle(work: &mut Work, event: &Event) -> Result<Outcome, NodeFault>
+    ensures idle { event.now.at < 2 ^ 62 → IsIdle work.old.place work.old.held event.now → Rests result }
+    ensures end { 2 ^ 62 ≤ event.now.at → result ≡ Err NumbersAtEnd }
+    ensures ok { IfOk result (λ o. Settles work.old event.now o work.new) }
+    ensures err { IfErr result (λ f. Comes {T = Unit {0}} (λ x. x) (Err f) (begun work.old) work.new (Decides event.now)) }
+{
+    work.start();
+    decide(work, event)?;
+    work.can_last();
+    work.finish()
+}
+
 impl Node {
-    /// A new node: its number, and the table of homes.
-    pub fn open(alloc: Global, homes: HomeTable, id: u16) -> Result<Node, NodeFault>
+    /// A node by its rows, in the order of their keys, the table of homes, and its number. One without rows is new.
+    ///
+    /// BadRow exactly where no such node has just these rows.
+    pub fn open(alloc: Global, rows: &[Row], homes: HomeTable, id: u16) -> Result<Node, RowFault>
         requires { id < length homes.nodes }
-        ensures ok { IfOk result (λ n. n ≡ opened (record { id = id; homes = homes })) }
-        ensures fault { IfErr result (λ e. e ≡ NoMemory) }
+        ensures ok { IfOk result (IsOpenedFrom rows.now (record { id = id; homes = homes })) }
+        ensures bad { IsErrOf result RowFault.BadRow → SayNothing rows.now id (length homes.nodes) }
+        ensures fault { IfErr result (λ e. (e ≡ RowFault.NoMemory) ⊎ (e ≡ RowFault.BadRow)) }
     {
-        let shared = homes.copy()?;
+        let Ok(shared) = homes.copy() else {
+            return Err(RowFault::NoMemory);
+        };
+        let opened = node_rows::open(alloc, rows, id, homes.nodes())?;
         Ok(Node {
             id,
             homes,
             stopped: false,
-            work: Work::new(alloc, id, shared),
+            work: Work::wake(alloc, id, shared, opened),
         })
+    }
+
+    /// The table of homes.
+    pub fn homes(&self) -> &HomeTable
+        ensures { result.now ≡ self.now.place.homes }
+    {
+        &self.homes
+    }
+
+    /// Its number.
+    pub fn id(&self) -> u16
+        ensures { result ≡ self.now.place.id }
+    {
+        self.id
+    }
+
+    /// Stops the node.
+    pub fn stop(&mut self)
+        ensures { self.new ≡ record self.old { up = None } }
+    {
+        self.stopped = true;
     }
 
     /// Whether the node runs: it hasn't stopped.
@@ -83,7 +127,7 @@ impl Node {
         ensures idle { RestsWhereIdle self.old event.now result }
         ensures end { is_some self.old.up ≡ true → 2 ^ 62 ≤ event.now.at → result ≡ Err NumbersAtEnd }
         ensures exactly { IsAtEnd self.old event.now → ¬ IsOk result }
-        ensures ok { IfOk result (λ o. IsDone self.old event.now o.outputs.items self.new) }
+        ensures ok { IfOk result (λ o. IsDone self.old event.now o.outputs.items o.changes.items self.new) }
         ensures err { OnErr result (self.new.up ≡ None) }
         ensures cause { IfErr result (HasCauseAt self.old.up self.old.place event.now) }
     {
@@ -91,9 +135,8 @@ impl Node {
             return Err(NodeFault::Stopped);
         }
         self.homes.is_table();
-        self.work.start();
-        match decide(&mut self.work, event) {
-            Ok(()) => Ok(self.work.finish()),
+        match settle(&mut self.work, event) {
+            Ok(outcome) => Ok(outcome),
             Err(fault) => {
                 self.stopped = true;
                 Err(fault)

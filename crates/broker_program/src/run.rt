@@ -4,7 +4,7 @@ use crate::homes::tables_of;
 use crate::stop::Fault;
 use crate::task::Task;
 use broker_node::{Event, EventKind};
-use broker_script::{Command, MOST_BYTES, ScriptFault, parse_script};
+use broker_script::{Command, MOST_BYTES, NodeEvent, ScriptFault, parse_script};
 use cluster_play::{Cluster, PlayFault, Step};
 use mqtt_fields::Text;
 use mqtt_packets::Bytes;
@@ -67,39 +67,59 @@ fn run_script<O: Write>(alloc: Global, script: &[u8], out: &mut O) -> Result<(),
 fn step_of(alloc: Global, command: Command) -> Result<Option<Step>, Fault> {
     let step = match command {
         Command::Nodes { nodes: _ } | Command::Home { prefix: _, node: _ } => return Ok(None),
-        Command::Start { node, moment } => event(node, moment, EventKind::Started),
-        Command::Open {
+        Command::Event(event) => {
+            let (node, event) = event_of(alloc, event)?;
+            Step::Event { node, event }
+        }
+        Command::CrashBefore(event) => {
+            let (node, event) = event_of(alloc, event)?;
+            Step::CrashBefore { node, event }
+        }
+        Command::CrashAfter(event) => {
+            let (node, event) = event_of(alloc, event)?;
+            Step::CrashAfter { node, event }
+        }
+        Command::Restart { node } => Step::Restart { node },
+        Command::Deliver { frame, moment } => Step::Deliver { frame, at: moment },
+    };
+    Ok(Some(step))
+}
+
+/// The node of an event, and what it is handed.
+fn event_of(alloc: Global, event: NodeEvent) -> Result<(u16, Event), Fault> {
+    let (node, at, kind) = match event {
+        NodeEvent::Start { node, moment } => (node, moment, EventKind::Started),
+        NodeEvent::Open {
             node,
             connection,
             moment,
-        } => event(node, moment, EventKind::Opened { connection }),
-        Command::Bytes {
+        } => (node, moment, EventKind::Opened { connection }),
+        NodeEvent::Bytes {
             node,
             connection,
             moment,
             bytes,
         } => {
             let bytes = Bytes::new(bytes);
-            event(node, moment, EventKind::Piece { connection, bytes })
+            (node, moment, EventKind::Piece { connection, bytes })
         }
-        Command::Close {
+        NodeEvent::Close {
             node,
             connection,
             moment,
-        } => event(node, moment, EventKind::Closed { connection }),
-        Command::Tick { node, moment } => event(node, moment, EventKind::Tick),
-        Command::Ship { node, peer, moment } => event(node, moment, EventKind::Ship { peer }),
-        Command::Evict {
+        } => (node, moment, EventKind::Closed { connection }),
+        NodeEvent::Tick { node, moment } => (node, moment, EventKind::Tick),
+        NodeEvent::Ship { node, peer, moment } => (node, moment, EventKind::Ship { peer }),
+        NodeEvent::Evict {
             node,
             client,
             moment,
         } => {
             let client = client_of(alloc, client.as_str())?;
-            event(node, moment, EventKind::Evict { client })
+            (node, moment, EventKind::Evict { client })
         }
-        Command::Deliver { frame, moment } => Step::Deliver { frame, at: moment },
     };
-    Ok(Some(step))
+    Ok((node, Event { at, kind }))
 }
 
 /// A client that a script names; such a word is always a text.
@@ -107,13 +127,6 @@ fn client_of(alloc: Global, word: &str) -> Result<Text, Fault> {
     match Text::new(alloc, word) {
         Ok(client) => Ok(client),
         Err(_) => Err(Fault::Play(PlayFault::NoMemory)),
-    }
-}
-
-fn event(node: u16, at: u64, kind: EventKind) -> Step {
-    Step::Event {
-        node,
-        event: Event { at, kind },
     }
 }
 

@@ -7,6 +7,7 @@ use std::io::{self, ErrorKind, Write};
 use std::process::Abort;
 use std::test::Fail;
 
+mod crashes;
 mod faults;
 mod first_path;
 mod operations;
@@ -68,6 +69,11 @@ fn answers_each_fault(rt: HostRuntime) -> Result<(), Fail> {
 #[test]
 fn runs_operations(rt: HostRuntime) -> Result<(), Fail> {
     check_all(&rt, rt.alloc(), &operations::EXAMPLES)
+}
+
+#[test]
+fn runs_crashes(rt: HostRuntime) -> Result<(), Fail> {
+    check_all(&rt, rt.alloc(), &crashes::EXAMPLES)
 }
 
 #[test]

@@ -5,10 +5,12 @@ use Rattle.std.specs.List.{AllByRecursion, list_all}
 use Rattle.std.proofs.lemmas.Bool.{false≢true, cases_lt}
 use Rattle.std.proofs.lemmas.List.{get_or-map, take_more, take_all, map_push, map-append}
 use Rattle.std.proofs.lemmas.List.Elements.{filter-append}
-use Rattle.broker_script.specs.Line.{Word, lines, words, line_words, spelling, is_kept, kept_words, IsInRange}
+use Rattle.broker_script.specs.Line.{Word, lines, words, event_words, line_words, spelling, is_kept, kept_words, IsInRange}
 use Rattle.broker_script.specs.Script.{IsText, count_in, FitsAll, prefix_in, may_precede, AreInTurn, IsOrdered, IsSound, IsScript, Begins, Reads, Refuses, StopsAt, FaultsAt}
 use Rattle.broker_script.specs.declared.command.Command.{Command}
-use Rattle.broker_script.specs.declared.command.Command.TheVariants.{Nodes, Home, Start, Open, Bytes, Close, Ship, Tick, Evict, Deliver}
+use Rattle.broker_script.specs.declared.command.Command.TheVariants.{Nodes, Home, Event, CrashBefore, CrashAfter, Restart, Deliver}
+use Rattle.broker_script.specs.declared.event.NodeEvent.{NodeEvent}
+use Rattle.broker_script.specs.declared.event.NodeEvent.TheVariants.{Start, Open, Bytes, Close, Ship, Tick, Evict}
 use Rattle.broker_script.specs.declared.fault.ScriptFault.{ScriptFault}
 use Rattle.broker_script.specs.declared.fault.ScriptFault.TheVariants.{Line, NoMemory}
 use Rattle.broker_script.proofs.Words.{heads, tails}
@@ -81,16 +83,23 @@ may_all : (c : Command) (cs : List Command) → AllByRecursion (λ x. MayPrecede
 may_all c [] h = refl
 may_all c (x ∷ cs) h = both_true _ _ h.0 (may_all c cs h.1)
 
+-- an event has no prefix, and no other line than a home has one
+event_has_no_prefix : (e : NodeEvent) → prefix_in (event_words e) ≡ None
+event_has_no_prefix (Start _ _) = refl
+event_has_no_prefix (Open _ _ _) = refl
+event_has_no_prefix (Bytes _ _ _ _) = refl
+event_has_no_prefix (Close _ _ _) = refl
+event_has_no_prefix (Ship _ _ _) = refl
+event_has_no_prefix (Tick _ _) = refl
+event_has_no_prefix (Evict _ _ _) = refl
+
 pub no_home : (c : Command) → ((prefix : _) (node : ℕ) → c ≡ Home prefix node → ⊥) → prefix_in (line_words c) ≡ None
 no_home (Nodes _) h = refl
 no_home (Home p n) h = absurd (h p n refl)
-no_home (Start _ _) h = refl
-no_home (Open _ _ _) h = refl
-no_home (Bytes _ _ _ _) h = refl
-no_home (Close _ _ _) h = refl
-no_home (Ship _ _ _) h = refl
-no_home (Tick _ _) h = refl
-no_home (Evict _ _ _) h = refl
+no_home (Event e) h = event_has_no_prefix e
+no_home (CrashBefore _) h = refl
+no_home (CrashAfter _) h = refl
+no_home (Restart _) h = refl
 no_home (Deliver _ _) h = refl
 
 -- any line may stand before one that is no home

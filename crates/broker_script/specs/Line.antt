@@ -4,7 +4,9 @@ use Rattle.std.specs.List.{slice_split, AllByRecursion}
 use Rattle.std.specs.Fmt.{decimal}
 use Rattle.hex.specs.Hex.{encode_lower, IsBytes}
 use Rattle.broker_script.specs.declared.command.Command.{Command}
-use Rattle.broker_script.specs.declared.command.Command.TheVariants.{Nodes, Home, Start, Open, Bytes, Close, Ship, Tick, Evict, Deliver}
+use Rattle.broker_script.specs.declared.command.Command.TheVariants.{Nodes, Home, Event, CrashBefore, CrashAfter, Restart, Deliver}
+use Rattle.broker_script.specs.declared.event.NodeEvent.{NodeEvent}
+use Rattle.broker_script.specs.declared.event.NodeEvent.TheVariants.{Start, Open, Bytes, Close, Ship, Tick, Evict}
 
 -- a word of a line, by what it says
 pub data Word : Type 0 where
@@ -16,21 +18,28 @@ pub data Word : Type 0 where
   client_identifier : List ℕ → Word
   home_prefix : List ℕ → Word
 
+-- the words of an event's line: a case for each event that a script may have
+abbrev pub event_words : NodeEvent → List Word
+event_words (Start node moment) = literal (codes "start") ∷ node_number node ∷ whole_number moment ∷ []
+event_words (Open node connection moment) =
+    literal (codes "open") ∷ node_number node ∷ whole_number connection ∷ whole_number moment ∷ []
+event_words (Bytes node connection moment piece) =
+    literal (codes "bytes") ∷ node_number node ∷ whole_number connection ∷ whole_number moment ∷ hex_bytes piece.items ∷ []
+event_words (Close node connection moment) =
+    literal (codes "close") ∷ node_number node ∷ whole_number connection ∷ whole_number moment ∷ []
+event_words (Ship node peer moment) = literal (codes "ship") ∷ node_number node ∷ node_number peer ∷ whole_number moment ∷ []
+event_words (Tick node moment) = literal (codes "tick") ∷ node_number node ∷ whole_number moment ∷ []
+event_words (Evict node client moment) =
+    literal (codes "evict") ∷ node_number node ∷ client_identifier (string_bytes client) ∷ whole_number moment ∷ []
+
 -- the words of a command's line: a case for each line that a script may have
 abbrev pub line_words : Command → List Word
 line_words (Nodes nodes) = literal (codes "nodes") ∷ node_count nodes ∷ []
 line_words (Home prefix node) = literal (codes "home") ∷ home_prefix (string_bytes prefix) ∷ node_number node ∷ []
-line_words (Start node moment) = literal (codes "start") ∷ node_number node ∷ whole_number moment ∷ []
-line_words (Open node connection moment) =
-    literal (codes "open") ∷ node_number node ∷ whole_number connection ∷ whole_number moment ∷ []
-line_words (Bytes node connection moment piece) =
-    literal (codes "bytes") ∷ node_number node ∷ whole_number connection ∷ whole_number moment ∷ hex_bytes piece.items ∷ []
-line_words (Close node connection moment) =
-    literal (codes "close") ∷ node_number node ∷ whole_number connection ∷ whole_number moment ∷ []
-line_words (Ship node peer moment) = literal (codes "ship") ∷ node_number node ∷ node_number peer ∷ whole_number moment ∷ []
-line_words (Tick node moment) = literal (codes "tick") ∷ node_number node ∷ whole_number moment ∷ []
-line_words (Evict node client moment) =
-    literal (codes "evict") ∷ node_number node ∷ client_identifier (string_bytes client) ∷ whole_number moment ∷ []
+line_words (Event event) = event_words event
+line_words (CrashBefore event) = literal (codes "crash") ∷ literal (codes "before") ∷ event_words event
+line_words (CrashAfter event) = literal (codes "crash") ∷ literal (codes "after") ∷ event_words event
+line_words (Restart node) = literal (codes "restart") ∷ node_number node ∷ []
 line_words (Deliver frame moment) = literal (codes "deliver") ∷ whole_number frame ∷ whole_number moment ∷ []
 
 -- the text of a word: numbers in decimal without leading zeros, bytes in lower case hexadecimal, identifiers and prefixes as
@@ -43,6 +52,10 @@ spelled (whole_number n) = decimal n
 spelled (hex_bytes bytes) = encode_lower bytes
 spelled (client_identifier bytes) = bytes
 spelled (home_prefix bytes) = bytes
+
+-- the texts of an event's words
+abbrev pub event_spelling : NodeEvent → List (List ℕ)
+event_spelling event = map spelled (event_words event)
 
 -- the texts of a command's words
 abbrev pub spelling : Command → List (List ℕ)
@@ -62,6 +75,10 @@ IsWordInRange (whole_number n) = n < 2 ^ 64
 IsWordInRange (hex_bytes bytes) = (0 < length bytes) × IsBytes bytes
 IsWordInRange (client_identifier bytes) = IsPlain 256 bytes
 IsWordInRange (home_prefix bytes) = IsPlain 255 bytes
+
+-- each word of an event's line may say what it does
+abbrev pub IsEventInRange : NodeEvent → Type 0
+IsEventInRange event = AllByRecursion IsWordInRange (event_words event)
 
 -- each word of a command's line may say what it does
 abbrev pub IsInRange : Command → Type 0

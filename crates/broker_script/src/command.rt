@@ -5,70 +5,29 @@ ghost use Rattle.std.specs.List.{join_with_byte, list_all};
 ghost use Rattle.broker_script.specs.Line.{line_words, spelling};
 ghost use Rattle.broker_script.specs.Script.{count_in, FitsAll, prefix_in, may_precede};
 
-use hex_text::HexText;
+use crate::event::NodeEvent;
 use std::fmt;
 
 /// A line of a script that isn't skipped. Moments are whole milliseconds.
 #[derive(Debug, PartialEq, Eq, Drop)]
 pub enum Command {
     /// `nodes N`: the cluster has the nodes 0 to N - 1. First, and once.
-    Nodes {
-        nodes: u16,
-    },
+    Nodes { nodes: u16 },
     /// `home PREFIX NODE`: the home of the client identifiers that begin with the prefix is the node.
     /// After `nodes` and before any step; each prefix once. PREFIX has 1 to 255 bytes, each from 33 to
     /// 126.
-    Home {
-        prefix: String,
-        node: u16,
-    },
-    /// `start NODE MOMENT`: the node starts.
-    Start {
-        node: u16,
-        moment: u64,
-    },
-    /// `open NODE CONN MOMENT`: a client opens a connection to the node.
-    Open {
-        node: u16,
-        connection: u64,
-        moment: u64,
-    },
-    /// `bytes NODE CONN MOMENT HEX`: bytes arrive at the node on a connection.
-    Bytes {
-        node: u16,
-        connection: u64,
-        moment: u64,
-        bytes: Vec<u8>,
-    },
-    /// `close NODE CONN MOMENT`: the client has closed its connection.
-    Close {
-        node: u16,
-        connection: u64,
-        moment: u64,
-    },
-    /// `ship NODE PEER MOMENT`: the node sends its peer all that it holds.
-    Ship {
-        node: u16,
-        peer: u16,
-        moment: u64,
-    },
-    /// `tick NODE MOMENT`: the node does what is due.
-    Tick {
-        node: u16,
-        moment: u64,
-    },
-    /// `evict NODE CLIENT MOMENT`: the node removes the subscriptions of a client. CLIENT is its
-    /// client identifier, of 1 to 256 bytes, each from 33 to 126.
-    Evict {
-        node: u16,
-        client: String,
-        moment: u64,
-    },
+    Home { prefix: String, node: u16 },
+    /// The line of an event: its node takes it.
+    Event(NodeEvent),
+    /// `crash before EVENT`: the event's node goes down, and doesn't take the event.
+    CrashBefore(NodeEvent),
+    /// `crash after EVENT`: the event's node takes it and keeps what lasts, and goes down before anything
+    /// is given out.
+    CrashAfter(NodeEvent),
+    /// `restart NODE`: the node is opened from what it kept.
+    Restart { node: u16 },
     /// `deliver FRAME MOMENT`: a frame that was sent arrives.
-    Deliver {
-        frame: u64,
-        moment: u64,
-    },
+    Deliver { frame: u64, moment: u64 },
 }
 
 impl Command {
@@ -89,13 +48,10 @@ impl Command {
         match self {
             Command::Nodes { .. } => false,
             Command::Home { node, .. } => *node < nodes,
-            Command::Start { node, .. } => *node < nodes,
-            Command::Open { node, .. } => *node < nodes,
-            Command::Bytes { node, .. } => *node < nodes,
-            Command::Close { node, .. } => *node < nodes,
-            Command::Tick { node, .. } => *node < nodes,
-            Command::Ship { node, peer, .. } => *node < nodes && *peer < nodes,
-            Command::Evict { node, .. } => *node < nodes,
+            Command::Event(event) => event.fits(nodes),
+            Command::CrashBefore(event) => event.fits(nodes),
+            Command::CrashAfter(event) => event.fits(nodes),
+            Command::Restart { node } => *node < nodes,
             Command::Deliver { .. } => true,
         }
     }
@@ -128,33 +84,10 @@ impl fmt::Display for Command {
         match self {
             Command::Nodes { nodes } => write!(f, "nodes {nodes}"),
             Command::Home { prefix, node } => write!(f, "home {prefix} {node}"),
-            Command::Start { node, moment } => write!(f, "start {node} {moment}"),
-            Command::Open {
-                node,
-                connection,
-                moment,
-            } => { write!(f, "open {node} {connection} {moment}") }
-            Command::Bytes {
-                node,
-                connection,
-                moment,
-                bytes,
-            } => {
-                let bytes = HexText(bytes.as_slice());
-                write!(f, "bytes {node} {connection} {moment} {bytes}")
-            }
-            Command::Close {
-                node,
-                connection,
-                moment,
-            } => { write!(f, "close {node} {connection} {moment}") }
-            Command::Tick { node, moment } => write!(f, "tick {node} {moment}"),
-            Command::Ship { node, peer, moment } => write!(f, "ship {node} {peer} {moment}"),
-            Command::Evict {
-                node,
-                client,
-                moment,
-            } => { write!(f, "evict {node} {client} {moment}") }
+            Command::Event(event) => write!(f, "{event}"),
+            Command::CrashBefore(event) => write!(f, "crash before {event}"),
+            Command::CrashAfter(event) => write!(f, "crash after {event}"),
+            Command::Restart { node } => write!(f, "restart {node}"),
             Command::Deliver { frame, moment } => write!(f, "deliver {frame} {moment}"),
         }
     }

@@ -1,37 +1,33 @@
 //! One line: the command that it spells.
 
 ghost use Rattle.std.specs.Prelude.{◌≡◌, ◌≢◌, ◌∷◌, map, codes, IfOk, IfSome, IfNone};
-ghost use Rattle.broker_script.specs.Line.{words, spelling, IsInRange};
+ghost use Rattle.broker_script.specs.Line.{words, spelling, IsInRange, event_spelling, IsEventInRange};
 
 use crate::command::Command;
+use crate::event::NodeEvent;
 use crate::word::{
     MOST_CLIENT_BYTES, MOST_PREFIX_BYTES, parse_fields, parse_hex, parse_name, parse_node,
     parse_number, words_of,
 };
 use std::alloc::{AllocError, Global};
 
-/// The command that a keyword and the words after it spell, but for `home`, `bytes` and `evict`.
-fn parse_plain(keyword: &str, rest: &[&str]) -> Option<Command>
-    requires not_home { keyword.now ≢ codes "home" }
+/// The event that a keyword and the words after it spell, but for `bytes` and `evict`.
+fn parse_plain(keyword: &str, rest: &[&str]) -> Option<NodeEvent>
     requires not_bytes { keyword.now ≢ codes "bytes" }
     requires not_evict { keyword.now ≢ codes "evict" }
-    ensures some { IfSome result (λ command. IsInRange command
-        × (keyword.now ∷ map (λ word. word.now) rest.now ≡ spelling command)) }
-    ensures none { IfNone result ((command : _) → IsInRange command →
-        keyword.now ∷ map (λ word. word.now) rest.now ≡ spelling command → ⊥) }
+    ensures some { IfSome result (λ event. IsEventInRange event
+        × (keyword.now ∷ map (λ word. word.now) rest.now ≡ event_spelling event)) }
+    ensures none { IfNone result ((event : _) → IsEventInRange event →
+        keyword.now ∷ map (λ word. word.now) rest.now ≡ event_spelling event → ⊥) }
 {
     match keyword {
-        "nodes" => {
-            let ([nodes], []) = parse_fields::<1, 0>(rest)?;
-            Some(Command::Nodes { nodes })
-        }
         "start" => {
             let ([node], [moment]) = parse_fields::<1, 1>(rest)?;
-            Some(Command::Start { node, moment })
+            Some(NodeEvent::Start { node, moment })
         }
         "open" => {
             let ([node], [connection, moment]) = parse_fields::<1, 2>(rest)?;
-            Some(Command::Open {
+            Some(NodeEvent::Open {
                 node,
                 connection,
                 moment,
@@ -39,7 +35,7 @@ fn parse_plain(keyword: &str, rest: &[&str]) -> Option<Command>
         }
         "close" => {
             let ([node], [connection, moment]) = parse_fields::<1, 2>(rest)?;
-            Some(Command::Close {
+            Some(NodeEvent::Close {
                 node,
                 connection,
                 moment,
@@ -47,26 +43,22 @@ fn parse_plain(keyword: &str, rest: &[&str]) -> Option<Command>
         }
         "tick" => {
             let ([node], [moment]) = parse_fields::<1, 1>(rest)?;
-            Some(Command::Tick { node, moment })
+            Some(NodeEvent::Tick { node, moment })
         }
         "ship" => {
             let ([node, peer], [moment]) = parse_fields::<2, 1>(rest)?;
-            Some(Command::Ship { node, peer, moment })
-        }
-        "deliver" => {
-            let ([], [frame, moment]) = parse_fields::<0, 2>(rest)?;
-            Some(Command::Deliver { frame, moment })
+            Some(NodeEvent::Ship { node, peer, moment })
         }
         _ => None,
     }
 }
 
-/// The command that `bytes` and the words after it spell.
-fn parse_bytes(alloc: Global, rest: &[&str]) -> Result<Option<Command>, AllocError>
-    ensures some { IfOk result (λ r. IfSome r (λ command. IsInRange command
-        × (codes "bytes" ∷ map (λ word. word.now) rest.now ≡ spelling command))) }
-    ensures none { IfOk result (λ r. IfNone r ((command : _) → IsInRange command →
-        codes "bytes" ∷ map (λ word. word.now) rest.now ≡ spelling command → ⊥)) }
+/// The event that `bytes` and the words after it spell.
+fn parse_bytes(alloc: Global, rest: &[&str]) -> Result<Option<NodeEvent>, AllocError>
+    ensures some { IfOk result (λ r. IfSome r (λ event. IsEventInRange event
+        × (codes "bytes" ∷ map (λ word. word.now) rest.now ≡ event_spelling event))) }
+    ensures none { IfOk result (λ r. IfNone r ((event : _) → IsEventInRange event →
+        codes "bytes" ∷ map (λ word. word.now) rest.now ≡ event_spelling event → ⊥)) }
 {
     let Some((last, front)) = rest.split_last() else {
         return Ok(None);
@@ -76,7 +68,7 @@ fn parse_bytes(alloc: Global, rest: &[&str]) -> Result<Option<Command>, AllocErr
     };
     let ([node], [connection, moment]) = found;
     match parse_hex(alloc, last)? {
-        Some(bytes) => Ok(Some(Command::Bytes {
+        Some(bytes) => Ok(Some(NodeEvent::Bytes {
             node,
             connection,
             moment,
@@ -86,12 +78,12 @@ fn parse_bytes(alloc: Global, rest: &[&str]) -> Result<Option<Command>, AllocErr
     }
 }
 
-/// The command that `evict` and the words after it spell.
-fn parse_evict(alloc: Global, rest: &[&str]) -> Result<Option<Command>, AllocError>
-    ensures some { IfOk result (λ r. IfSome r (λ command. IsInRange command
-        × (codes "evict" ∷ map (λ word. word.now) rest.now ≡ spelling command))) }
-    ensures none { IfOk result (λ r. IfNone r ((command : _) → IsInRange command →
-        codes "evict" ∷ map (λ word. word.now) rest.now ≡ spelling command → ⊥)) }
+/// The event that `evict` and the words after it spell.
+fn parse_evict(alloc: Global, rest: &[&str]) -> Result<Option<NodeEvent>, AllocError>
+    ensures some { IfOk result (λ r. IfSome r (λ event. IsEventInRange event
+        × (codes "evict" ∷ map (λ word. word.now) rest.now ≡ event_spelling event))) }
+    ensures none { IfOk result (λ r. IfNone r ((event : _) → IsEventInRange event →
+        codes "evict" ∷ map (λ word. word.now) rest.now ≡ event_spelling event → ⊥)) }
 {
     let [node, client, moment] = rest else {
         return Ok(None);
@@ -103,13 +95,38 @@ fn parse_evict(alloc: Global, rest: &[&str]) -> Result<Option<Command>, AllocErr
         return Ok(None);
     };
     match parse_name(alloc, MOST_CLIENT_BYTES, client)? {
-        Some(client) => Ok(Some(Command::Evict {
+        Some(client) => Ok(Some(NodeEvent::Evict {
             node,
             client,
             moment,
         })),
         None => Ok(None),
     }
+}
+
+/// The event that a keyword and the words after it spell.
+fn parse_event(alloc: Global, keyword: &str, rest: &[&str]) -> Result<Option<NodeEvent>, AllocError>
+    ensures some { IfOk result (λ r. IfSome r (λ event. IsEventInRange event
+        × (keyword.now ∷ map (λ word. word.now) rest.now ≡ event_spelling event))) }
+    ensures none { IfOk result (λ r. IfNone r ((event : _) → IsEventInRange event →
+        keyword.now ∷ map (λ word. word.now) rest.now ≡ event_spelling event → ⊥)) }
+{
+    match keyword {
+        "bytes" => parse_bytes(alloc, rest),
+        "evict" => parse_evict(alloc, rest),
+        _ => Ok(parse_plain(keyword, rest)),
+    }
+}
+
+/// The command that `nodes` and the words after it spell.
+fn parse_count(rest: &[&str]) -> Option<Command>
+    ensures some { IfSome result (λ command. IsInRange command
+        × (codes "nodes" ∷ map (λ word. word.now) rest.now ≡ spelling command)) }
+    ensures none { IfNone result ((command : _) → IsInRange command →
+        codes "nodes" ∷ map (λ word. word.now) rest.now ≡ spelling command → ⊥) }
+{
+    let ([nodes], []) = parse_fields::<1, 0>(rest)?;
+    Some(Command::Nodes { nodes })
 }
 
 /// The command that `home` and the words after it spell.
@@ -131,6 +148,48 @@ fn parse_home(alloc: Global, rest: &[&str]) -> Result<Option<Command>, AllocErro
     }
 }
 
+/// The command that `crash` and the words after it spell.
+fn parse_crash(alloc: Global, rest: &[&str]) -> Result<Option<Command>, AllocError>
+    ensures some { IfOk result (λ r. IfSome r (λ command. IsInRange command
+        × (codes "crash" ∷ map (λ word. word.now) rest.now ≡ spelling command))) }
+    ensures none { IfOk result (λ r. IfNone r ((command : _) → IsInRange command →
+        codes "crash" ∷ map (λ word. word.now) rest.now ≡ spelling command → ⊥)) }
+{
+    let [side, keyword, rest @ ..] = rest else {
+        return Ok(None);
+    };
+    let Some(event) = parse_event(alloc, keyword, rest)? else {
+        return Ok(None);
+    };
+    match *side {
+        "before" => Ok(Some(Command::CrashBefore(event))),
+        "after" => Ok(Some(Command::CrashAfter(event))),
+        _ => Ok(None),
+    }
+}
+
+/// The command that `restart` and the words after it spell.
+fn parse_restart(rest: &[&str]) -> Option<Command>
+    ensures some { IfSome result (λ command. IsInRange command
+        × (codes "restart" ∷ map (λ word. word.now) rest.now ≡ spelling command)) }
+    ensures none { IfNone result ((command : _) → IsInRange command →
+        codes "restart" ∷ map (λ word. word.now) rest.now ≡ spelling command → ⊥) }
+{
+    let ([node], []) = parse_fields::<1, 0>(rest)?;
+    Some(Command::Restart { node })
+}
+
+/// The command that `deliver` and the words after it spell.
+fn parse_deliver(rest: &[&str]) -> Option<Command>
+    ensures some { IfSome result (λ command. IsInRange command
+        × (codes "deliver" ∷ map (λ word. word.now) rest.now ≡ spelling command)) }
+    ensures none { IfNone result ((command : _) → IsInRange command →
+        codes "deliver" ∷ map (λ word. word.now) rest.now ≡ spelling command → ⊥) }
+{
+    let ([], [frame, moment]) = parse_fields::<0, 2>(rest)?;
+    Some(Command::Deliver { frame, moment })
+}
+
 /// The command that a line spells, or none.
 pub(crate) fn parse_line(alloc: Global, line: &str) -> Result<Option<Command>, AllocError>
     ensures some { IfOk result (λ r. IfSome r (λ command.
@@ -143,9 +202,14 @@ pub(crate) fn parse_line(alloc: Global, line: &str) -> Result<Option<Command>, A
         return Ok(None);
     };
     match *keyword {
+        "nodes" => Ok(parse_count(rest)),
         "home" => parse_home(alloc, rest),
-        "bytes" => parse_bytes(alloc, rest),
-        "evict" => parse_evict(alloc, rest),
-        _ => Ok(parse_plain(keyword, rest)),
+        "crash" => parse_crash(alloc, rest),
+        "restart" => Ok(parse_restart(rest)),
+        "deliver" => Ok(parse_deliver(rest)),
+        _ => match parse_event(alloc, keyword, rest)? {
+            Some(event) => Ok(Some(Command::Event(event))),
+            None => Ok(None),
+        },
     }
 }

@@ -1,6 +1,6 @@
 //! Scripts that are read, and the faults of those that aren't.
 
-use crate::{Command, MOST_BYTES, ScriptFault, parse_script};
+use crate::{Command, MOST_BYTES, NodeEvent, ScriptFault, parse_script};
 use std::test::Fail;
 
 const CONNECT: &str = "nodes 2\n# c\n\nstart 0 0\nstart 1 0\nopen 1 1 0\n\
@@ -12,31 +12,34 @@ fn reads_commands(rt: HostRuntime) -> Result<(), Fail> {
     let commands = parse_script(rt.alloc(), CONNECT.as_bytes())?;
     assert_eq!(rt; commands.len(), 7);
     assert_eq!(rt; commands[0], Command::Nodes { nodes: 2 });
-    assert_eq!(rt; commands[2], Command::Start { node: 1, moment: 0 });
+    assert_eq!(rt;
+        commands[2],
+        Command::Event(NodeEvent::Start { node: 1, moment: 0 })
+    );
     assert_eq!(rt;
         commands[3],
-        Command::Open {
+        Command::Event(NodeEvent::Open {
             node: 1,
             connection: 1,
             moment: 0
-        }
+        })
     );
     assert_eq!(rt;
         commands[4],
-        Command::Bytes {
+        Command::Event(NodeEvent::Bytes {
             node: 1,
             connection: 1,
             moment: 0,
             bytes: connect
-        }
+        })
     );
     assert_eq!(rt;
         commands[5],
-        Command::Ship {
+        Command::Event(NodeEvent::Ship {
             node: 1,
             peer: 0,
             moment: 0
-        }
+        })
     );
     assert_eq!(rt;
         commands[6],
@@ -49,10 +52,10 @@ fn reads_commands(rt: HostRuntime) -> Result<(), Fail> {
     assert_eq!(rt; last.len(), 2);
     assert_eq!(rt;
         last[1],
-        Command::Start {
+        Command::Event(NodeEvent::Start {
             node: 7,
             moment: u64::MAX
-        }
+        })
     );
     Ok(())
 }
@@ -66,11 +69,11 @@ fn reads_clients(rt: HostRuntime) -> Result<(), Fail> {
         assert_eq!(rt; commands.len(), 2);
         assert_eq!(rt;
             commands[1],
-            Command::Evict {
+            Command::Event(NodeEvent::Evict {
                 node: 0,
                 client: String::from_str(rt.alloc(), client)?,
                 moment: 0
-            }
+            })
         );
     }
     let script = format!(in rt.alloc(); "nodes 1\n\nevict 0 {longest}a 0\n")?;
@@ -99,6 +102,44 @@ fn reads_homes(rt: HostRuntime) -> Result<(), Fail> {
         parse_script(rt.alloc(), script.as_str().as_bytes()),
         Err(ScriptFault::Line(2))
     );
+    Ok(())
+}
+
+/// Each event, also in a crash line: the same event before and after it.
+#[test]
+fn reads_crashes(rt: HostRuntime) -> Result<(), Fail> {
+    for event in [
+        "start 0 0",
+        "open 0 1 0",
+        "bytes 0 1 0 c000",
+        "close 0 1 0",
+        "ship 0 1 0",
+        "tick 0 0",
+        "evict 0 a 0",
+    ] {
+        let script = format!(in rt.alloc();
+            "nodes 2\n{event}\ncrash before {event}\ncrash after {event}\n"
+        )?;
+        let commands = parse_script(rt.alloc(), script.as_str().as_bytes())?;
+        assert_eq!(rt; commands.len(), 4);
+        match (&commands[1], &commands[2], &commands[3]) {
+            (Command::Event(own), Command::CrashBefore(before), Command::CrashAfter(after)) => {
+                assert!(rt; own == before && own == after, "{event}");
+            }
+            _ => assert!(rt; false, "{event}"),
+        }
+    }
+    let commands = parse_script(
+        rt.alloc(),
+        b"nodes 2\ncrash after tick 1 5\nrestart 1\nrestart 0",
+    )?;
+    assert_eq!(rt; commands.len(), 4);
+    assert_eq!(rt;
+        commands[1],
+        Command::CrashAfter(NodeEvent::Tick { node: 1, moment: 5 })
+    );
+    assert_eq!(rt; commands[2], Command::Restart { node: 1 });
+    assert_eq!(rt; commands[3], Command::Restart { node: 0 });
     Ok(())
 }
 
@@ -162,6 +203,30 @@ fn names_faults(rt: HostRuntime) -> Result<(), Fail> {
         ("nodes 2\ntick 1 1 0", 2),
         ("nodes 1\nnodes 1", 2),
         ("nodes 1\nbegin 0 0", 2),
+        ("nodes 1\ncrash", 2),
+        ("nodes 1\ncrash before", 2),
+        ("nodes 1\ncrash before ", 2),
+        ("nodes 1\ncrash start 0 0", 2),
+        ("nodes 1\ncrash during start 0 0", 2),
+        ("nodes 1\ncrash before  start 0 0", 2),
+        ("nodes 1\ncrash before start 0", 2),
+        ("nodes 1\nbefore start 0 0", 2),
+        ("nodes 1\ncrash before deliver 1 0", 2),
+        ("nodes 1\ncrash after deliver 1 0", 2),
+        ("nodes 1\ncrash after crash after start 0 0", 2),
+        ("nodes 1\ncrash before restart 0", 2),
+        ("nodes 1\ncrash before nodes 1", 2),
+        ("nodes 1\ncrash before home a 0", 2),
+        ("nodes 2\ncrash before start 2 0", 2),
+        ("nodes 2\ncrash after ship 0 2 0", 2),
+        ("crash before start 0 0", 1),
+        ("nodes 2\ncrash before start 0 0\nhome a 0", 3),
+        ("nodes 2\nrestart 1\nrestart 2", 3),
+        ("nodes 2\nrestart 1 0", 2),
+        ("nodes 2\nrestart", 2),
+        ("nodes 2\nrestart 01", 2),
+        ("restart 0", 1),
+        ("nodes 2\nrestart 1\nhome a 0", 3),
     ] {
         assert_eq!(rt;
             parse_script(rt.alloc(), text.as_bytes()),
@@ -175,7 +240,8 @@ fn names_faults(rt: HostRuntime) -> Result<(), Fail> {
 #[test]
 fn prints_commands(rt: HostRuntime) -> Result<(), Fail> {
     let script =
-        b"nodes 2\nhome d 1\nopen 1 10 0\nbytes 1 10 5 00ff7a\nclose 1 10 6\ntick 0 7\nship 0 1 7\ndeliver 3 9\nevict 1 c-1 8\nstart 0 20\n";
+        b"nodes 2\nhome d 1\nopen 1 10 0\nbytes 1 10 5 00ff7a\nclose 1 10 6\ntick 0 7\nship 0 1 7\ndeliver 3 9\nevict 1 c-1 8\nstart 0 20\n\
+        crash before bytes 1 10 5 00ff7a\ncrash after ship 0 1 7\nrestart 1\n";
     let mut printed = String::new(rt.alloc());
     for command in parse_script(rt.alloc(), script)?.iter() {
         let line = format!(in rt.alloc(); "{command}\n")?;

@@ -20,14 +20,15 @@ use Rattle.cluster_play.specs.Histories.{Reached, made, taken, operations}
 use Rattle.cluster_play.specs.Laws.{Holds, AreAlike}
 use Rattle.cluster_play.proofs.Sites.{number_is}
 use Rattle.cluster_play.proofs.Operations.{own_some}
-use Rattle.cluster_play.proofs.Sound.{state_by}
-use Rattle.cluster_play.proofs.Invariant.{Explained}
+use Rattle.cluster_play.proofs.Sound.{Sound, state_by}
 use Rattle.cluster_play.proofs.Kept.{explained}
 
 pub node_holds : (run : List Moment) (w : World) → Reached run w → (i : ℕ) (h : HeldView) → Holds w i h → IsStateOf (operations i run) h.store × ((d : Dot) → set.contains h.store.taken d ≡ taken i run d)
 node_holds run w r i h at =
-    let x : Explained (made run) (taken i run) i h = ((explained run w r).sites i at.node at.at).up h at.up in
-    (state_by (made run) h.store (taken i run) x.grown.sound x.listed, x.listed)
+    let x = (explained run w r).sites i at.site at.at in
+    let same : x.held ≡ h = sym (x.up h at.up) in
+    let listed : (d : Dot) → set.contains h.store.taken d ≡ taken i run d = subst (λ (v : HeldView). (d : Dot) → set.contains v.store.taken d ≡ taken i run d) same x.listed in
+    (state_by (made run) h.store (taken i run) (subst (λ (v : HeldView). Sound (made run) v.store) same x.grown.sound) listed, listed)
 
 pub own_dots : (run : List Moment) (w : World) → Reached run w → HaveOwnDots (made run)
 own_dots run w r = (explained run w r).own_dots

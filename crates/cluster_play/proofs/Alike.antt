@@ -1,5 +1,5 @@
 -- Two steps of one run, amid which their nodes have taken the same.
-use Rattle.std.proofs.Common.{◌≡◌, List, [], ◌∷◌, ◌++◌, refl, sym, ap, ◌∙◌, inl, inr, subst, append_assoc}
+use Rattle.std.proofs.Common.{◌≡◌, List, ◌∷◌, ◌++◌, refl, sym, ap, ◌∙◌, inl, inr, subst}
 use Rattle.std.specs.FinSet as set
 use Rattle.causal_context.specs.Dots.{Dot}
 use Rattle.replica_store.specs.declared.operation.Operation.{Operation}
@@ -15,6 +15,7 @@ use Rattle.cluster_play.specs.Histories.{Reached, site, acts_of, ops_of, made, t
 use Rattle.cluster_play.proofs.Operations.{among_some, own_part}
 use Rattle.cluster_play.proofs.Agreeing.{own_dots}
 use Rattle.cluster_play.proofs.Amid.{gather_both, Amid, amid_state}
+use Rattle.cluster_play.proofs.Paths.{made_both}
 
 -- states of some of the operations, each with its own dot, that list the same dots are one
 same_from : (ms O P : List Operation) (s t : State) → HaveOwnDots ms → ((o : Operation) → Among o O → Among o ms) → ((o : Operation) → Among o P → Among o ms)
@@ -26,10 +27,6 @@ same_from ms O P s t own first second x y same =
       back = λ o a. (let p = (x.taken (dot_of o)).0 (same (dot_of o) ∙ (y.taken (dot_of o)).1 (o, a, refl)) in
           subst (λ q. Among q O) (own p.0 o (first p.0 p.1) (second o a) p.2) p.1);
     }) (own_part ms O own first) s t x y
-
-made_both : (ms ns : List Moment) → made (ms ++ ns) ≡ made ms ++ made ns
-made_both [] ns = refl
-made_both (m ∷ ms) ns = ap (λ os. ops_of m.fate ++ os) (made_both ms ns) ∙ sym (append_assoc (ops_of m.fate) (made ms) (made ns))
 
 -- what was made until amid a step was made in the run
 made_amid : (run later : List Moment) (m : Moment) (before rest : List Act) → acts_of m.fate ≡ before ++ rest → (o : Operation) → Among o (made run ++ gather op_in before) → Among o (made (run ++ m ∷ later))

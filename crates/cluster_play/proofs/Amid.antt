@@ -1,25 +1,26 @@
 -- Amid a step.
-use Rattle.std.proofs.Common.{◌≡◌, ℕ, max, ◌<◌, length, true, ◌||◌, ◌&&◌, List, [], ◌∷◌, ◌++◌, refl, sym, ap, ◌∙◌, subst, append_assoc, eq-eqb}
+use Rattle.std.proofs.Common.{◌≡◌, ℕ, ◌<◌, length, true, ◌||◌, ◌&&◌, List, [], ◌∷◌, ◌++◌, refl, sym, ap, ◌∙◌, subst, append_assoc, eq-eqb}
 use Rattle.std.specs.FinSet as set
 use Rattle.causal_context.specs.Dots.{Dot}
 use Rattle.replica_store.specs.declared.operation.Operation.{Operation}
 use Rattle.replica_store.specs.States.{State}
 use Rattle.replica_store.specs.StateOf.{IsStateOf}
-use Rattle.broker_node.specs.declared.event.Event.{Event}
-use Rattle.node_work.specs.declared.outcome.Output.{Output}
 use Rattle.node_work.specs.Acts.{Act, Runs, gather, op_in, merge_in}
-use Rattle.node_work.specs.View.{Place, HeldView}
-use Rattle.cluster_play.specs.Worlds.{World, Released, Happens}
+use Rattle.node_work.specs.View.{Place, HeldView, fresh}
+use Rattle.node_laws.specs.Moves.{Moves, did}
+use Rattle.node_laws.proofs.MoveLaws.{moves_join, acts_are_moves}
+use Rattle.cluster_play.specs.Worlds.{World}
 use Rattle.cluster_play.specs.Runs.{Moment}
-use Rattle.cluster_play.specs.Histories.{Reached, site, acts_of, made, gained, gain_in, gains, taken, taken_amid, operations_amid, latest, moment_amid}
+use Rattle.cluster_play.specs.Histories.{Reached, site, acts_of, made, gained, gain_in, gains, taken, taken_amid, operations_amid, moves_at, moves_amid, moment_amid}
 use Rattle.cluster_play.proofs.Bools.{or_left, or_assoc}
 use Rattle.cluster_play.proofs.Sites.{get_within}
 use Rattle.cluster_play.proofs.Sound.{Grown, state_by}
 use Rattle.cluster_play.proofs.Growing.{AllSound}
-use Rattle.cluster_play.proofs.Invariant.{all_merged, site_grows}
+use Rattle.cluster_play.proofs.Invariant.{all_merged, past, site_grows}
 use Rattle.cluster_play.proofs.Kept.{explained}
-use Rattle.cluster_play.proofs.Moments.{runs_moment, at_moment}
-use Rattle.cluster_play.proofs.Paths.{midway, committed, released_acts, known_event, run_sites, taken_both}
+use Rattle.cluster_play.proofs.Moments.{moves_moment}
+use Rattle.cluster_play.proofs.Paths.{midway, commits_acts, known_event, run_sites, taken_both}
+use Rattle.cluster_play.proofs.Rows.{committed}
 
 pub gather_both : {A : Type 0} (f : Act → List A) (xs ys : List Act) → gather f (xs ++ ys) ≡ gather f xs ++ gather f ys
 gather_both f [] ys = refl
@@ -49,34 +50,33 @@ pub record Amid (run : List Moment) (w : World) (i : ℕ) (before rest : List Ac
   pub runs : Runs place held rest last
   pub moment : held.at ≡ moment_amid i run before
 
-amid : (run later : List Moment) (m : Moment) (w : World) → Reached (run ++ m ∷ later) w
-    → (i : ℕ) (e : Event) (before rest : List Act) (outputs : List Output) → m.fate ≡ Released i e (before ++ rest) outputs → Amid run w i before rest
-amid run later m w r i e before rest outputs fate =
+pub amid_acts : (run later : List Moment) (m : Moment) (w : World) → Reached (run ++ m ∷ later) w → (before rest : List Act) (a : Act) → acts_of m.fate ≡ before ++ a ∷ rest → Amid run w (site m.fate) before (a ∷ rest)
+amid_acts run later m w r before rest a is =
+    let i = site m.fate in
     let half = midway run (m ∷ later) w r in
-    let happens : Happens half.mid m.step (Released i e (before ++ rest) outputs) half.path.0 = subst (λ f. Happens half.mid m.step f half.path.0) fate half.path.1 in
-    let c = committed half.mid m.step i e (before ++ rest) outputs half.path.0 happens in
-    let known = known_event half.mid m.step i e (before ++ rest) outputs half.path.0 half.honest.0 happens in
+    let e = commits_acts m.fate before rest a is in
+    let c = committed half.mid m.step m.fate half.path.0 e.0 half.path.1 e.1 in
+    let known = known_event half.mid m.step m.fate half.path.0 e.0 half.honest.0 half.path.1 e.1 in
     let x = explained run half.mid half.reached in
-    let here = x.sites i c.node c.at in
-    let parts = runs_split c.node.place before rest c.before c.after c.steps.runs in
-    let all = all_merged (made run) half.mid.frames x.deltas c.node.place c.before c.after e (before ++ rest) outputs known c.steps in
-    let g = site_grows (made run) (λ j d. taken j run d) half.mid i c.node x c.at c.before parts.0 before c.up parts.1 (front (made run) (gather merge_in before) (gather merge_in rest) (subst (AllSound (made run)) (gather_both merge_in before rest) all)) in
+    let here = x.sites i c.was c.at in
+    let place = c.was.node.place in
+    let same : here.held ≡ c.before = sym (here.up c.before c.up) in
+    let parts = runs_split place before (a ∷ rest) c.before c.after (subst (λ acts. Runs place c.before acts c.after) is c.steps.runs) in
+    let all = all_merged (made run) half.mid.frames x.deltas place c.before c.after e.0 (acts_of m.fate) c.outputs known c.steps in
+    let first = front (made run) (gather merge_in before) (gather merge_in (a ∷ rest)) (subst (AllSound (made run)) (ap (gather merge_in) is ∙ gather_both merge_in before (a ∷ rest)) all) in
+    let g = site_grows (past run) half.mid x i c.was c.at c.before parts.0 before c.up parts.1 first in
+    let moves : Moves place fresh (moves_at i run) c.before = subst (Moves place fresh (moves_at i run)) same here.moves in
     record {
-      within = subst (λ n. i < n) (sym (run_sites (m ∷ later) half.mid w half.path)) (get_within half.mid.sites i c.node c.at);
+      within = subst (λ n. i < n) (sym (run_sites (m ∷ later) half.mid w half.path)) (get_within half.mid.sites i c.was c.at);
       held = parts.0;
       last = c.after;
       grown = g.grown;
-      listed = λ d. g.takes d ∙ ap (λ b. b || gained before d) ((here.up c.before c.up).listed d);
-      place = c.node.place;
+      listed = λ d. g.takes d ∙ ap (λ (v : HeldView). set.contains v.store.taken d || gained before d) (sym same) ∙ ap (λ b. b || gained before d) (here.listed d);
+      place = place;
       id = here.id;
       runs = parts.2;
-      moment = runs_moment c.node.place before c.before parts.0 parts.1 ∙ ap (λ t. max t (latest before)) (at_moment run half.mid half.reached i c.node c.at c.before c.up);
+      moment = moves_moment place (moves_amid i run before) fresh parts.0 (moves_join place (moves_at i run) (did before) fresh c.before parts.0 moves (acts_are_moves place c.before parts.0 before parts.1));
     }
-
-pub amid_acts : (run later : List Moment) (m : Moment) (w : World) → Reached (run ++ m ∷ later) w → (before rest : List Act) (a : Act) → acts_of m.fate ≡ before ++ a ∷ rest → Amid run w (site m.fate) before (a ∷ rest)
-amid_acts run later m w r before rest a h =
-    let f = released_acts m.fate before rest a h in
-    amid run later m w r (site m.fate) f.0 before (a ∷ rest) f.1 (f.2 ∙ ap (λ acts. Released (site m.fate) f.0 acts f.1) h)
 
 -- what it holds there is the state of what it had taken there
 pub amid_state : (run : List Moment) (w : World) (i : ℕ) (before rest : List Act) (a : Amid run w i before rest) → IsStateOf (operations_amid i run before) a.held.store

@@ -13,8 +13,8 @@ use Rattle.node_work.specs.declared.outcome.Output.TheVariants.{Frame as Release
 use Rattle.node_work.specs.Acts.{Act, Moment as TakesMoment, Began, Store, Connection, Session, Out, Named, Acknowledged, Passed, Dropped, Made, Merged, IsMade, gather, merge_in}
 use Rattle.broker_node.specs.Step.{brought}
 use Rattle.node_work.specs.Frames.{states_in}
-use Rattle.node_work.specs.View.{Place, NodeView, nodes_of}
-use Rattle.cluster_play.specs.Worlds.{World, Happens}
+use Rattle.node_work.specs.View.{Place, nodes_of}
+use Rattle.cluster_play.specs.Worlds.{Site, World}
 use Rattle.cluster_play.specs.Runs.{Moment}
 use Rattle.cluster_play.specs.Histories.{Reached, site, acts_of, gained, gain_in, gains, taken, taken_amid, operations_amid, same_dot}
 use Rattle.cluster_play.specs.Laws.{Ships, Arrives}
@@ -23,7 +23,8 @@ use Rattle.cluster_play.proofs.Bools.{or_true, or_left, or_right, nat_cases, nat
 use Rattle.cluster_play.proofs.Operations.{own_some}
 use Rattle.cluster_play.proofs.Growing.{carried}
 use Rattle.cluster_play.proofs.Kept.{explained}
-use Rattle.cluster_play.proofs.Paths.{Committed, committed, released_event, taken_both}
+use Rattle.cluster_play.proofs.Paths.{taken_both}
+use Rattle.cluster_play.proofs.Rows.{Committed, committed}
 use Rattle.cluster_play.proofs.Amid.{amid_acts, amid_state, gained_both, taken_step}
 use Rattle.cluster_play.proofs.Next.{next_operation}
 
@@ -80,20 +81,19 @@ frame_brings p f t to from below is =
 
 -- the frame comes to another node than the one that sent it
 module _ (run : List Moment) (w w' : World) (r : Reached run w) (m : Moment) (f : Frame) (a : Arrives w f m w') (t : State) (is : f.body ≡ Delta t) where
-  here : Committed w (site m.fate) a.event (acts_of m.fate) (released_event m.fate a.event a.commits).0
-  here =
-      let fate = released_event m.fate a.event a.commits in
-      committed w m.step (site m.fate) a.event (acts_of m.fate) fate.0 w' (subst (λ x. Happens w m.step x w') fate.1 a.happens)
+  here : Committed w (site m.fate) a.event (acts_of m.fate) w'
+  here = committed w m.step m.fate w' a.event a.happens a.commits
 
   gains_all : f.from ≢ f.to → f.from < length w.sites → (d : Dot) → set.contains t.taken d ≡ true → gained (acts_of m.fate) d ≡ true
   gains_all other below d listed =
-      let at : slice_get w.sites f.to ≡ Some here.node = subst (λ j. slice_get w.sites j ≡ Some here.node) a.at here.at in
-      let there = (explained run w r).sites f.to here.node at in
-      let same_node : here.node ≡ a.holds.node = some_is (sym at ∙ a.holds.at) in
-      let same_held : here.before ≡ a.held = some_is (sym here.up ∙ ap (λ (v : NodeView). v.up) same_node ∙ a.holds.up) in
+      let at : slice_get w.sites f.to ≡ Some here.was = subst (λ j. slice_get w.sites j ≡ Some here.was) a.at here.at in
+      let there = (explained run w r).sites f.to here.was at in
+      let place = here.was.node.place in
+      let same_site : here.was ≡ a.holds.site = some_is (sym at ∙ a.holds.at) in
+      let same_held : here.before ≡ a.held = some_is (sym here.up ∙ ap (λ (v : Site). v.node.up) same_site ∙ a.holds.up) in
       let merges : gather merge_in (acts_of m.fate) ≡ t ∷ [] =
-      here.steps.merged ∙ (λ n. cond (same_held n).started (brought here.node.place (a.brings n)) []) ∙ ap (λ b. cond b (brought here.node.place (kinds.Frame f)) []) a.started
-      ∙ frame_brings here.node.place f t (sym there.id) (λ e. other (e ∙ there.id)) (subst (λ n. f.from < n) (sym there.count) below) is in
+      here.steps.merged ∙ (λ n. cond (same_held n).started (brought place (a.brings n)) []) ∙ ap (λ b. cond b (brought place (kinds.Frame f)) []) a.started
+      ∙ frame_brings place f t (sym there.id) (λ e. other (e ∙ there.id)) (subst (λ n. f.from < n) (sym there.homes) below) is in
       merges_gain (acts_of m.fate) d (ap (λ ts. any_lists ts d) merges ∙ or_left (set.contains t.taken d) false listed)
 
 pub catch_up : (run amid later : List Moment) (m arrival : Moment) (w w' : World) → Reached (run ++ m ∷ amid) w

@@ -1,21 +1,31 @@
--- What an event at a seat comes to.
-use Rattle.std.proofs.Common.{◌≡◌, ◌≢◌, ℕ, ◌<◌, ◌≤◌, List, [], ◌∷◌, ◌++◌, Option, Some, None, Result, Ok, Err, OnOk, refl, sym, ap, ◌∙◌, get_or, inl, inr, length, zero, suc, arith}
+-- What befalls a node in its seat.
+use Rattle.std.proofs.Common.{◌≡◌, ◌≢◌, ℕ, ◌<◌, ◌≤◌, List, [], ◌∷◌, ◌++◌, Option, Some, None, Result, Ok, Err, OnOk, refl, sym, ap, ◌∙◌, get_or, inl, inr, length, map, subst, zero, suc, arith}
+use Rattle.std.specs.Prelude.{is_some, true, false}
+use Rattle.std.specs.FinMap as fin
 use Rattle.std.specs.List.{slice_get}
 use Rattle.std.proofs.Math.ListN.{set}
 use Rattle.std.proofs.lemmas.List.{append-nil}
 use Rattle.broker_node.specs.declared.event.Event.{Event}
-use Rattle.node_work.specs.declared.fault.NodeFault.{NodeFault}
-use Rattle.node_work.specs.declared.fault.NodeFault.TheVariants.{NoMemory, NumbersAtEnd, Stopped}
+use Rattle.node_keeper.specs.declared.fault.KeeperFault.{KeeperFault}
+use Rattle.node_keeper.specs.declared.fault.KeeperFault.TheVariants.{NoMemory, Rows, NumbersAtEnd, Stopped}
+use Rattle.node_keeper.specs.declared.keeper.Keeper.{Keeper}
+use Rattle.node_keeper.specs.Keeping.{AreOfNone, CannotOpen, Commits, HasCauseAt, IsCounted, Opens, may_be_marked}
+use Rattle.node_keeper.specs.Views.{node_of, rows_of}
 use Rattle.node_work.specs.declared.frame.Frame.{Frame}
 use Rattle.node_work.specs.declared.outcome.Output.{Output}
-use Rattle.broker_node.specs.Step.{IsDone, HasCauseAt}
-use Rattle.node_work.specs.View.{HeldView, NodeView}
+use Rattle.node_rows.specs.Rows.{new_node}
+use Rattle.node_work.specs.View.{HeldView, NodeView, Place, nodes_of}
+use Rattle.row_store.specs.declared.store.RowFault.TheVariants as row_faults
+use Rattle.row_store.specs.Rows.{Content}
+use Rattle.row_store.specs.declared.memory.MemoryRows.{MemoryRows}
 use Rattle.cluster_play.specs.declared.line.Line.{Line}
 use Rattle.cluster_play.specs.declared.line.Line.TheVariants as lines
 use Rattle.cluster_play.specs.declared.step.Step.TheVariants as steps
-use Rattle.cluster_play.specs.Playing.{RunsOut}
-use Rattle.cluster_play.specs.Runs.{lines_of}
-use Rattle.cluster_play.specs.Worlds.{World, Fate, Released, Faulted, Was_down, EventAt, arrival, changed, numbered, running, stopped, frames_in}
+use Rattle.cluster_play.specs.Clusters.{site_of}
+use Rattle.cluster_play.specs.Playing.{IsDoneAt, RunsOut}
+use Rattle.cluster_play.specs.Worlds.{Site, World, Fate, Released, Lost, Cut, Faulted, Was_down, Restarted, Befalls, IsInMemory, MayStop, MayStayDown, OfEvent, OfCrashBefore, OfCrashAfter, OfRestart, arrival, changed, numbered, stopped, frames_in}
+use Rattle.cluster_play.proofs.Fresh.{marked_row, new_is_lasting}
+use Rattle.cluster_play.proofs.Sites.{get_map, map_set, set_own}
 
 -- two things that hold at Ok
 pub both_ok : {A E P Q X : Type 0} (r : Result A E) → OnOk r P → OnOk r Q → (P → Q → X) → OnOk r X
@@ -32,57 +42,142 @@ get_past [] i h = refl
 get_past (y ∷ xs) zero h = absurd (omega arith)
 get_past (y ∷ xs) (suc i) h = get_past xs i (omega arith)
 
-set_own : {A : Type 0} (xs : List A) (i : ℕ) (x : A) → x ≡ get_or xs i x → set xs i x ≡ xs
-set_own [] i x e = refl
-set_own (y ∷ xs) zero x e = ap (λ z. z ∷ xs) e
-set_own (y ∷ xs) (suc i) x e = ap (λ zs. y ∷ zs) (set_own xs i x e)
+pub map_past : {A B : Type 0} (f : A → B) (xs : List A) (i : ℕ) → length xs ≤ i → slice_get (map f xs) i ≡ None
+map_past f [] i h = refl
+map_past f (y ∷ xs) zero h = absurd (omega arith)
+map_past f (y ∷ xs) (suc i) h = map_past f xs i (omega arith)
 
--- the world in which site i is another node
-abbrev pub with_site : World → ℕ → NodeView → List Frame → World
-with_site w i n frames = record { sites = set w.sites i n; frames = frames }
+-- the world of keepers and frames
+abbrev pub world_of : List (Keeper MemoryRows) → List Frame → World
+world_of nodes frames = record { sites = map site_of nodes; frames = frames }
 
-same_node : (n m : NodeView) → n.place ≡ m.place → n.up ≡ m.up → n ≡ m
-same_node n m place up = λ k. record { place = place k; up = up k }
+pub same_site : (k k' : Keeper MemoryRows) → node_of k' ≡ node_of k → rows_of k' ≡ rows_of k → site_of k' ≡ site_of k
+same_site k k' node rows = λ n. record { node = node n; rows = rows n }
 
-same_world : (w : World) (i : ℕ) (n m : NodeView) (frames fs : List Frame) → n ≡ m → frames ≡ w.frames ++ fs → with_site w i n frames ≡ changed w i m fs
-same_world w i n m frames fs same e = λ k. record { sites = set w.sites i (same k); frames = e k }
+was_down : (up : Option HeldView) (p : Place) (e : Event) → HasCauseAt up p e Stopped → up ≡ None
+was_down None p e h = refl
+was_down (Some v) p e h = absurd h
 
-module _ (w : World) (i : ℕ) (n n' : NodeView) (e : Event) where
-  pub event_done : (outputs : List Output) (frames : List Frame) (d : IsDone n e outputs n') → n'.place ≡ n.place → frames ≡ w.frames ++ frames_in outputs
-      → EventAt w i n e (Released i e d.acts outputs) (with_site w i n' frames)
-  event_done outputs frames d place added =
-      (refl, refl, (d.before, d.after, d.was, d.steps, same_world w i n' (running n d.after) frames (frames_in outputs) (same_node n' (running n d.after) place d.is) added))
+has_cause : (up : Option HeldView) (n : NodeView) (e : Event) (fault : KeeperFault) → n.up ≡ up → fault ≢ Stopped → HasCauseAt up n.place e fault → IsInMemory fault → MayStop n e fault
+has_cause None n e fault is other cause memory = absurd (other cause)
+has_cause (Some h) n e fault is other cause memory = record { held = h; up = is; cause = cause; in_memory = memory }
+
+-- a store of rows in memory counts no failure, and finds no bad row when it is changed
+no_count : {P : Type 0} → IsCounted 0 0 → P
+no_count (inl h) = absurd (omega arith)
+no_count (inr h) = absurd (omega arith)
+
+pub in_memory : (fault : KeeperFault) → (fault ≡ Rows row_faults.BadRow → ⊥) → (fault ≡ Rows row_faults.Device → IsCounted 0 0) → IsInMemory fault
+in_memory NoMemory bad device = tt
+in_memory (Rows row_faults.NoMemory) bad device = refl
+in_memory (Rows row_faults.Device) bad device = no_count (device refl)
+in_memory (Rows row_faults.BadRow) bad device = absurd (bad refl)
+in_memory NumbersAtEnd bad device = tt
+in_memory Stopped bad device = tt
+
+-- rows that are those of none after an opening were so before
+none_before : (p : Place) (rows rows' : Content) → may_be_marked p.id rows rows' → AreOfNone p rows' → AreOfNone p rows
+none_before p rows rows' (inl e) none = subst (AreOfNone p) e none
+none_before p rows rows' (inr e) none = absurd (none new_node (new_is_lasting (nodes_of p), λ key. ap (λ (c : Content). fin.get c key) e.1 ∙ marked_row p.id key))
+
+pub stays_down : (s : Site) (rows' : Content) (fault : KeeperFault) → CannotOpen fault → may_be_marked s.node.place.id s.rows rows' → (fault ≡ Rows row_faults.BadRow → AreOfNone s.node.place rows') → (fault ≡ Rows row_faults.Device → IsCounted 0 0)
+    → MayStayDown s fault
+stays_down s rows' NoMemory cannot m bad device = tt
+stays_down s rows' (Rows row_faults.NoMemory) cannot m bad device = inl refl
+stays_down s rows' (Rows row_faults.Device) cannot m bad device = no_count (device refl)
+stays_down s rows' (Rows row_faults.BadRow) cannot m bad device = inr (refl, none_before s.node.place s.rows rows' m (bad refl))
+stays_down s rows' NumbersAtEnd (inl e) m bad device = cc
+stays_down s rows' NumbersAtEnd (inr e) m bad device = absurd (let no = e.1 in cc)
+stays_down s rows' Stopped (inl e) m bad device = cc
+stays_down s rows' Stopped (inr e) m bad device = absurd (let no = e.1 in cc)
+
+pub never_stopped : (fault : KeeperFault) → CannotOpen fault → fault ≢ Stopped
+never_stopped fault (inl e) is = (let no : NoMemory ≡ Stopped = sym e ∙ is in cc)
+never_stopped fault (inr e) is = (let no : Rows e.0 ≡ Stopped = sym e.1 ∙ is in cc)
+
+module _ (nodes : List (Keeper MemoryRows)) (frames : List Frame) (i : ℕ) (k : Keeper MemoryRows) (below : i < length nodes) (there : k ≡ get_or nodes i k) where
+  abbrev before : World
+  before = world_of nodes frames
+
+  pub at : slice_get (map site_of nodes) i ≡ Some (site_of k)
+  at = get_map site_of nodes i k (get_there nodes i k below there)
+
+  same : (k' : Keeper MemoryRows) (s : Site) (fs more : List Frame) → site_of k' ≡ s → fs ≡ frames ++ more → world_of (set nodes i k') fs ≡ changed before i s more
+  same k' s fs more e added = λ n. record { sites = (map_set site_of nodes i k' ∙ ap (set (map site_of nodes) i) e) n; frames = added n }
+
+  alone : (k' : Keeper MemoryRows) (s : Site) → site_of k' ≡ s → world_of (set nodes i k') frames ≡ changed before i s []
+  alone k' s e = same k' s frames [] e (sym (append-nil frames))
+
+  still : (k' : Keeper MemoryRows) → site_of k' ≡ site_of k → world_of (set nodes i k') frames ≡ before
+  still k' e = λ n. record { sites = (map_set site_of nodes i k' ∙ ap (set (map site_of nodes) i) e ∙ set_own (map site_of nodes) i (site_of k) at) n; frames = frames }
+
+  -- ---- an event that a node takes
+  pub event_done : (e : Event) (outputs : List Output) (k' : Keeper MemoryRows) (fs : List Frame) (c : Commits (node_of k) (rows_of k) e outputs (node_of k') (rows_of k')) → (node_of k').place ≡ (node_of k).place → fs ≡ frames ++ frames_in outputs
+      → Befalls before i (OfEvent e) (Released i e c.done.acts outputs) (world_of (set nodes i k') fs)
+  event_done e outputs k' fs c place added =
+      (site_of k, at, refl, (refl, (site_of k', record { commits = c; does = refl; place = place }, same k' (site_of k') fs (frames_in outputs) refl added)))
 
   -- the sites then are those after the step
-  pub sites_done : (outputs : List Output) (d : IsDone n e outputs n') → n'.place ≡ n.place → set w.sites i n' ≡ set w.sites i (running n d.after)
-  sites_done outputs d place = ap (λ (x : NodeView). set w.sites i x) (same_node n' (running n d.after) place d.is)
+  pub sites_done : (outputs : List Output) (k' : Keeper MemoryRows) (fs : List Frame) → (world_of (set nodes i k') fs).sites ≡ (changed before i (site_of k') (frames_in outputs)).sites
+  sites_done outputs k' fs = map_set site_of nodes i k'
 
-  was_down : (up : Option HeldView) → HasCauseAt up n.place e Stopped → up ≡ None
-  was_down None h = refl
-  was_down (Some v) h = absurd h
+  -- and a crash before anything is given out
+  pub lost_done : (e : Event) (outputs : List Output) (mid k' : Keeper MemoryRows) (c : Commits (node_of k) (rows_of k) e outputs (node_of mid) (rows_of mid)) → (node_of mid).place ≡ (node_of k).place → (node_of k') ≡ record (node_of mid) { up = None } → (rows_of k') ≡ (rows_of mid)
+      → Befalls before i (OfCrashAfter e) (Lost i e c.done.acts) (world_of (set nodes i k') frames)
+  lost_done e outputs mid k' c place node rows =
+      (site_of k, at, refl, (refl, (outputs, site_of mid, record { commits = c; does = refl; place = place }, alone k' (stopped (site_of mid)) (λ n. record { node = node n; rows = rows n }))))
 
-  event_down : n ≡ get_or w.sites i n → HasCauseAt n.up n.place e Stopped → (n.up ≡ None → n' ≡ n) → EventAt w i n e (Was_down i) (with_site w i n' w.frames)
-  event_down there cause same =
-      let down = was_down n.up cause in
-      (refl, down, λ k. record { sites = (ap (λ (x : NodeView). set w.sites i x) (same down) ∙ set_own w.sites i n there) k; frames = w.frames })
+  -- ---- an event that it doesn't take
+  module _ (Of : Site → Fate → Type 0) (e : Event) (may : (fault : KeeperFault) → MayStop (node_of k) e fault → Of (site_of k) (Faulted i fault)) (down : Of (site_of k) (Was_down i)) where
+    faulted : (fault : KeeperFault) (k' : Keeper MemoryRows) → fault ≢ Stopped → HasCauseAt (node_of k).up (node_of k).place e fault → IsInMemory fault → (node_of k').place ≡ (node_of k).place → (node_of k').up ≡ None → (rows_of k') ≡ (rows_of k)
+        → Befalls before i Of (Faulted i fault) (world_of (set nodes i k') frames)
+    faulted fault k' other cause memory place up rows =
+        (site_of k, at, may fault (has_cause (node_of k).up (node_of k) e fault refl other cause memory), (refl, (site_of k', record { place = place; up = up; rows = inl rows }, alone k' (site_of k') refl)))
 
-  has_cause : (fault : NodeFault) (up : Option HeldView) → n.up ≡ up → fault ≢ Stopped → HasCauseAt up n.place e fault → n'.place ≡ n.place → n'.up ≡ None → EventAt w i n e (Faulted i fault) (with_site w i n' w.frames)
-  has_cause fault None is other cause place down = absurd (other cause)
-  has_cause fault (Some h) is other cause place down =
-      (refl, (h, is, cause, same_world w i n' (stopped n) w.frames [] (same_node n' (stopped n) place down) (sym (append-nil w.frames))))
+    stayed_down : (k' : Keeper MemoryRows) → HasCauseAt (node_of k).up (node_of k).place e Stopped → ((node_of k).up ≡ None → site_of k' ≡ site_of k) → Befalls before i Of (Was_down i) (world_of (set nodes i k') frames)
+    stayed_down k' cause same_keeper =
+        let none = was_down (node_of k).up (node_of k).place e cause in
+        (site_of k, at, down, (refl, none, still k' (same_keeper none)))
 
-  event_faulted : (fault : NodeFault) → fault ≢ Stopped → HasCauseAt n.up n.place e fault → n'.place ≡ n.place → n'.up ≡ None → EventAt w i n e (Faulted i fault) (with_site w i n' w.frames)
-  event_faulted fault other cause place down = has_cause fault n.up refl other cause place down
+    -- with its line
+    pub refused : (ls ls' : List Line) (fault : KeeperFault) (k' : Keeper MemoryRows) → HasCauseAt (node_of k).up (node_of k).place e fault → IsInMemory fault → ((node_of k).up ≡ None → site_of k' ≡ site_of k) → (node_of k').place ≡ (node_of k).place → (node_of k').up ≡ None
+        → (rows_of k') ≡ (rows_of k) → (fault ≡ Stopped → ls' ≡ ls ++ lines.Down i ∷ []) → (fault ≢ Stopped → ls' ≡ ls ++ lines.Fault i fault ∷ []) → IsDoneAt before i Of ls ls' (world_of (set nodes i k') frames)
+    refused ls ls' NoMemory k' cause memory stays place up rows told other = (Faulted i NoMemory, faulted NoMemory k' (λ x. cc) cause memory place up rows, other (λ x. cc))
+    refused ls ls' (Rows f) k' cause memory stays place up rows told other = (Faulted i (Rows f), faulted (Rows f) k' (λ x. cc) cause memory place up rows, other (λ x. cc))
+    refused ls ls' NumbersAtEnd k' cause memory stays place up rows told other = (Faulted i NumbersAtEnd, faulted NumbersAtEnd k' (λ x. cc) cause memory place up rows, other (λ x. cc))
+    refused ls ls' Stopped k' cause memory stays place up rows told other = (Was_down i, stayed_down k' cause stays, told refl)
 
-  -- the line of a fault
-  pub fault_told : (given : ℕ) (ls ls' : List Line) (fault : NodeFault) → HasCauseAt n.up n.place e fault → n ≡ get_or w.sites i n → (n.up ≡ None → n' ≡ n) → n'.place ≡ n.place → n'.up ≡ None
-      → (fault ≡ Stopped → ls' ≡ ls ++ lines.Down i ∷ []) → (fault ≢ Stopped → ls' ≡ ls ++ lines.Fault i fault ∷ [])
-      → (fate : Fate) × EventAt w i n e fate (with_site w i n' w.frames) × (ls' ≡ ls ++ lines_of given fate)
-  fault_told given ls ls' NoMemory cause there same place up down other = (Faulted i NoMemory, event_faulted NoMemory (λ x. cc) cause place up, other (λ x. cc))
-  fault_told given ls ls' NumbersAtEnd cause there same place up down other = (Faulted i NumbersAtEnd, event_faulted NumbersAtEnd (λ x. cc) cause place up, other (λ x. cc))
-  fault_told given ls ls' Stopped cause there same place up down other = (Was_down i, event_down there cause same, down refl)
+  pub event_refused : (e : Event) (ls ls' : List Line) (fault : KeeperFault) (k' : Keeper MemoryRows) → HasCauseAt (node_of k).up (node_of k).place e fault → IsInMemory fault → ((node_of k).up ≡ None → site_of k' ≡ site_of k) → (node_of k').place ≡ (node_of k).place
+      → (node_of k').up ≡ None → (rows_of k') ≡ (rows_of k) → (fault ≡ Stopped → ls' ≡ ls ++ lines.Down i ∷ []) → (fault ≢ Stopped → ls' ≡ ls ++ lines.Fault i fault ∷ []) → IsDoneAt before i (OfEvent e) ls ls' (world_of (set nodes i k') frames)
+  event_refused e = refused (OfEvent e) e (λ fault m. m) tt
+
+  pub crash_refused : (e : Event) (ls ls' : List Line) (fault : KeeperFault) (k' : Keeper MemoryRows) → HasCauseAt (node_of k).up (node_of k).place e fault → IsInMemory fault → ((node_of k).up ≡ None → site_of k' ≡ site_of k) → (node_of k').place ≡ (node_of k).place
+      → (node_of k').up ≡ None → (rows_of k') ≡ (rows_of k) → (fault ≡ Stopped → ls' ≡ ls ++ lines.Down i ∷ []) → (fault ≢ Stopped → ls' ≡ ls ++ lines.Fault i fault ∷ []) → IsDoneAt before i (OfCrashAfter e) ls ls' (world_of (set nodes i k') frames)
+  crash_refused e = refused (OfCrashAfter e) e (λ fault m. m) tt
+
+  -- ---- a crash before an event
+  some_held : (o : Option HeldView) → is_some o ≡ true → (h : HeldView) × (o ≡ Some h)
+  some_held None e = cc
+  some_held (Some h) e = (h, refl)
+
+  none_held : (o : Option HeldView) → is_some o ≡ false → o ≡ None
+  none_held None e = refl
+  none_held (Some h) e = cc
+
+  pub cut_done : (k' : Keeper MemoryRows) → is_some (node_of k).up ≡ true → (node_of k') ≡ record (node_of k) { up = None } → (rows_of k') ≡ (rows_of k) → Befalls before i OfCrashBefore (Cut i) (world_of (set nodes i k') frames)
+  cut_done k' runs node rows = (site_of k, at, tt, (refl, some_held (node_of k).up runs, alone k' (stopped (site_of k)) (λ n. record { node = node n; rows = rows n })))
+
+  pub cut_down : is_some (node_of k).up ≡ false → Befalls before i OfCrashBefore (Was_down i) (world_of (set nodes i k) frames)
+  cut_down down = (site_of k, at, tt, (refl, none_held (node_of k).up down, still k refl))
+
+  -- ---- a restart
+  pub restarted : (k' : Keeper MemoryRows) → Opens (node_of k).place (rows_of k) (rows_of k') (node_of k') → Befalls before i OfRestart (Restarted i) (world_of (set nodes i k') frames)
+  restarted k' o = (site_of k, at, tt, (refl, (site_of k', record { rows = o.mark; node = o.reopened }, alone k' (site_of k') refl)))
+
+  pub not_restarted : (fault : KeeperFault) (k' : Keeper MemoryRows) → MayStayDown (site_of k) fault → (node_of k').place ≡ (node_of k).place → (node_of k').up ≡ None → may_be_marked (node_of k).place.id (rows_of k) (rows_of k') → Befalls before i OfRestart (Faulted i fault) (world_of (set nodes i k') frames)
+  not_restarted fault k' may place up rows = (site_of k, at, may, (refl, (site_of k', record { place = place; up = up; rows = rows }, alone k' (site_of k') refl)))
 
 -- memory that is refused at the event of a delivery is refused at the delivery
 pub delivery_out : (w w' : World) (number at : ℕ) (f : Frame) → numbered w.frames number ≡ Some f → RunsOut w (steps.Event f.to (arrival f at)) w' → RunsOut w (steps.Deliver number at) w'
 delivery_out w w' number at f there (inl same) = inl same
-delivery_out w w' number at f there (inr x) = inr (x.0, x.1, x.2, x.3, x.4, (f, x.5.0, there, x.5.1, x.5.2), x.6)
+delivery_out w w' number at f there (inr x) = inr (x.0, x.1, x.2, x.3, x.4, (f, there, x.5), x.6)

@@ -4,9 +4,12 @@ pub mod Amid
 pub mod Bools
 pub mod Catching
 pub mod Events
+pub mod Fresh
 pub mod Growing
 pub mod Invariant
+pub mod Keeping
 pub mod Kept
+pub mod Lasts
 pub mod Lined
 pub mod Lives
 pub mod Moments
@@ -16,10 +19,12 @@ pub mod Onward
 pub mod Operations
 pub mod Paths
 pub mod Passing
+pub mod Plain
 pub mod Played
+pub mod Queueing
+pub mod Rows
+pub mod Showing
 pub mod Sites
 pub mod Sound
-pub mod Showing
-pub mod Queueing
 pub mod Tables
 pub mod Taking

@@ -22,7 +22,8 @@ use Rattle.cluster_play.specs.Histories.{Reached, site, acts_of, taken_amid, ope
 use Rattle.cluster_play.specs.Answering.{BeginsWithOffers, IsOfferedBy, AreOfferedBy, Acknowledges, FallsInto, SendsAnswers, OffersAlike}
 use Rattle.cluster_play.proofs.Bools.{some_is, none-some}
 use Rattle.cluster_play.proofs.Operations.{own_some}
-use Rattle.cluster_play.proofs.Paths.{committed, midway, released_acts}
+use Rattle.cluster_play.proofs.Paths.{commits_acts, midway}
+use Rattle.cluster_play.proofs.Rows.{committed}
 use Rattle.cluster_play.proofs.Queueing.{offers_follow}
 use Rattle.cluster_play.proofs.Amid.{Amid, amid_acts, amid_state}
 use Rattle.cluster_play.proofs.Alike.{states_agree_amid}
@@ -61,9 +62,9 @@ one_offer at kept (Some a) own other h k = h.2 ∙ ap (map (offer_of a.options a
 followed : (w : World) (step : Step) (fate : Fate) (w' : World) → Happens w step fate w' → (before after : List Act) (client : List ℕ) (packet at : ℕ) (grants : List Granted) (offers : List Delivery)
     → acts_of fate ≡ before ++ Acknowledged client packet at grants offers ∷ after → BeginsWithOffers client at offers after
 followed w step fate w' h before after client packet at grants offers is =
-    let f = released_acts fate before after (Acknowledged client packet at grants offers) is in
-    let c = committed w step (site fate) f.0 (acts_of fate) f.1 w' (subst (λ x. Happens w step x w') f.2 h) in
-    offers_follow f.0 c.node.place c.before (acts_of fate) c.steps.does before after client packet at grants offers is
+    let e = commits_acts fate before after (Acknowledged client packet at grants offers) is in
+    let c = committed w step fate w' e.0 h e.1 in
+    offers_follow e.0 c.was.node.place c.before (acts_of fate) c.steps.does before after client packet at grants offers is
 
 module _ (run later : List Moment) (m : Moment) (w : World) (r : Reached (run ++ m ∷ later) w) (before : List Act) (s : Acknowledges m before) where
   here : Amid run w (site m.fate) before (Acknowledged s.client s.packet s.at s.grants s.offers ∷ s.after)

@@ -43,6 +43,9 @@ known_free sent (kinds.Evict client) h = tt
 honest_step : (sent : List Frame) (step : Step) → BringsNoFrame step → IsHonestStep sent step
 honest_step sent (steps.Event i e) h = known_free sent e.kind h
 honest_step sent (steps.Deliver number at) h = tt
+honest_step sent (steps.CrashBefore i e) h = tt
+honest_step sent (steps.CrashAfter i e) h = known_free sent e.kind h
+honest_step sent (steps.Restart i) h = tt
 
 pub honest_free : (sent : List Frame) (run : List Moment) → AllByRecursion BringsNoFrame (steps_of run) → IsHonest sent run
 honest_free sent [] h = tt

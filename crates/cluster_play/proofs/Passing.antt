@@ -1,14 +1,15 @@
 -- The copies of a message that is passed on.
-use Rattle.std.proofs.Common.{◌≡◌, List, ◌∷◌, ◌++◌, ap, ◌∙◌, subst}
+use Rattle.std.proofs.Common.{List, ◌∷◌, ◌++◌, refl, subst}
 use Rattle.replica_store.specs.Operations.{dot_of}
 use Rattle.replica_store.proofs.Views.{live_is}
-use Rattle.node_work.specs.Acts.{Act, Passed}
-use Rattle.cluster_play.specs.Worlds.{World, Released, Happens}
+use Rattle.node_work.specs.Acts.{Act, Passed, Runs}
+use Rattle.cluster_play.specs.Worlds.{World}
 use Rattle.cluster_play.specs.Runs.{Moment}
 use Rattle.cluster_play.specs.Histories.{Reached, site, taken_amid, operations_amid}
 use Rattle.cluster_play.specs.Laws.{HoldsAmid, AnswersBy, PassesOn, MakesCopies}
 use Rattle.cluster_play.proofs.Operations.{own_some}
-use Rattle.cluster_play.proofs.Paths.{committed, midway, released_acts}
+use Rattle.cluster_play.proofs.Paths.{commits_acts, midway}
+use Rattle.cluster_play.proofs.Rows.{committed}
 use Rattle.cluster_play.proofs.Amid.{amid_acts, runs_split}
 use Rattle.cluster_play.proofs.Showing.{node_holds_amid}
 
@@ -18,18 +19,18 @@ copies_as_taken run later m w r before s =
     let a = Passed s.message s.copies s.lost in
     let rest = a ∷ s.after in
     let half = midway run (m ∷ later) w r in
-    let f = released_acts m.fate before s.after a s.acts in
-    let fate : m.fate ≡ Released i f.0 (before ++ rest) f.1 = f.2 ∙ ap (λ acts. Released i f.0 acts f.1) s.acts in
-    let happens : Happens half.mid m.step (Released i f.0 (before ++ rest) f.1) half.path.0 = subst (λ x. Happens half.mid m.step x half.path.0) fate half.path.1 in
-    let c = committed half.mid m.step i f.0 (before ++ rest) f.1 half.path.0 happens in
-    let parts = runs_split c.node.place before rest c.before c.after c.steps.runs in
+    let e = commits_acts m.fate before s.after a s.acts in
+    let c = committed half.mid m.step m.fate half.path.0 e.0 half.path.1 e.1 in
+    let place = c.was.node.place in
+    let parts = runs_split place before rest c.before c.after (subst (λ acts. Runs place c.before acts c.after) s.acts c.steps.runs) in
     let there : HoldsAmid half.mid m i before parts.0 = record {
-      event = f.0;
+      event = e.0;
+      commits = e.1;
+      at = refl;
       rest = rest;
-      outputs = f.1;
-      commits = fate;
+      acts = s.acts;
       held = c.before;
-      holds = record { node = c.node; at = c.at; up = c.up };
+      holds = record { site = c.was; at = c.at; up = c.up };
       runs = parts.1;
     } in
     let by : AnswersBy (operations_amid i run before) parts.0 = node_holds_amid run half.mid half.path.0 m half.reached half.honest.0 half.path.1 i before parts.0 there in

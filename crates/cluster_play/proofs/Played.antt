@@ -60,17 +60,26 @@ short w mid w' steps k step lines lt is before out =
 lacks_memory : {P : Type 0} (w : World) (step : Step) → Lacks w step NoMemory → P
 lacks_memory w (steps.Event i e) h = let no = h.0 in cc
 lacks_memory w (steps.Deliver number at) (inl h) = let no = h.0 in cc
-lacks_memory w (steps.Deliver number at) (inr h) = let no = h.0 in cc
+lacks_memory w (steps.Deliver number at) (inr h) = let no = h.2.0 in cc
+lacks_memory w (steps.CrashBefore i e) h = let no = h.0 in cc
+lacks_memory w (steps.CrashAfter i e) h = let no = h.0 in cc
+lacks_memory w (steps.Restart i) h = let no = h.0 in cc
 
 lacks_tables : {P : Type 0} (w : World) (step : Step) → Lacks w step BadTables → P
 lacks_tables w (steps.Event i e) h = let no = h.0 in cc
 lacks_tables w (steps.Deliver number at) (inl h) = let no = h.0 in cc
-lacks_tables w (steps.Deliver number at) (inr h) = let no = h.0 in cc
+lacks_tables w (steps.Deliver number at) (inr h) = let no = h.2.0 in cc
+lacks_tables w (steps.CrashBefore i e) h = let no = h.0 in cc
+lacks_tables w (steps.CrashAfter i e) h = let no = h.0 in cc
+lacks_tables w (steps.Restart i) h = let no = h.0 in cc
 
 lacks_spent : {P : Type 0} (w : World) (step : Step) → Lacks w step Spent → P
 lacks_spent w (steps.Event i e) h = let no = h.0 in cc
 lacks_spent w (steps.Deliver number at) (inl h) = let no = h.0 in cc
-lacks_spent w (steps.Deliver number at) (inr h) = let no = h.0 in cc
+lacks_spent w (steps.Deliver number at) (inr h) = let no = h.2.0 in cc
+lacks_spent w (steps.CrashBefore i e) h = let no = h.0 in cc
+lacks_spent w (steps.CrashAfter i e) h = let no = h.0 in cc
+lacks_spent w (steps.Restart i) h = let no = h.0 in cc
 
 pub refused : (c c' : Cluster) (mid : World) (steps : List Step) (k : ℕ) (step : Step) (lines : List Line) (fault : PlayFault) → k < length steps → step ≡ get_or steps k step
     → IsPlayed (world c) (take k steps) lines mid → ((fault ≡ NoMemory) × RunsOut mid step (world c')) ⊎ (Lacks mid step fault × (world c' ≡ mid)) → is_spent c' ≡ sameb the_type fault NoMemory → IsRefused c steps fault c'

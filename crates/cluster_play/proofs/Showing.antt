@@ -1,6 +1,7 @@
 -- What a node shows is what its operations say.
-use Rattle.std.proofs.Common.{◌≡◌, ◌↔◌, ℕ, ◌||◌, List, ◌++◌, Some, ap, ◌∙◌, subst}
+use Rattle.std.proofs.Common.{◌≡◌, ◌↔◌, ℕ, ◌||◌, List, ◌++◌, Some, sym, ap, ◌∙◌, subst}
 use Rattle.std.specs.FinMap as map
+use Rattle.std.specs.FinSet as set
 use Rattle.causal_context.specs.Dots.{Dot}
 use Rattle.mqtt_message.specs.declared.message.Message.{Message}
 use Rattle.subscription_set.specs.declared.entry.Entry.{Entry}
@@ -11,17 +12,18 @@ use Rattle.replica_store.proofs.Answered.{answer_is}
 use Rattle.replica_store.proofs.Views.{live_is}
 use Rattle.node_work.specs.Acts.{Act, gather, op_in, merge_in}
 use Rattle.node_work.specs.View.{HeldView}
-use Rattle.cluster_play.specs.Worlds.{World, Released, Happens}
+use Rattle.cluster_play.specs.Worlds.{World, Happens}
 use Rattle.cluster_play.specs.Runs.{Moment, IsHonestStep}
-use Rattle.cluster_play.specs.Histories.{Reached, made, taken, gained, operations, taken_amid, operations_amid}
+use Rattle.cluster_play.specs.Histories.{Reached, acts_of, made, taken, gained, operations, taken_amid, operations_amid}
 use Rattle.cluster_play.specs.Laws.{Holds, HoldsAmid, AnswersBy}
 use Rattle.cluster_play.proofs.Agreeing.{node_holds, own_dots}
 use Rattle.cluster_play.proofs.Amid.{gather_both, front}
 use Rattle.cluster_play.proofs.Growing.{AllSound}
-use Rattle.cluster_play.proofs.Invariant.{all_merged, site_grows}
+use Rattle.cluster_play.proofs.Invariant.{all_merged, past, site_grows}
 use Rattle.cluster_play.proofs.Kept.{explained}
 use Rattle.cluster_play.proofs.Operations.{own_some}
-use Rattle.cluster_play.proofs.Paths.{committed, known_event}
+use Rattle.cluster_play.proofs.Paths.{known_event}
+use Rattle.cluster_play.proofs.Rows.{committed}
 use Rattle.cluster_play.proofs.Sound.{state_by}
 
 pub node_shows : (run : List Moment) (w : World) → Reached run w → (i : ℕ) (h : HeldView) → Holds w i h
@@ -37,16 +39,17 @@ node_answers run w r i h at filter now out a =
 pub node_holds_amid : (run : List Moment) (w w' : World) (m : Moment) → Reached run w → IsHonestStep w.frames m.step → Happens w m.step m.fate w'
     → (i : ℕ) (before : List Act) (mid : HeldView) → HoldsAmid w m i before mid → AnswersBy (operations_amid i run before) mid
 node_holds_amid run w w' m r honest happens i before mid a =
-    let acts = before ++ a.rest in
-    let released : Happens w m.step (Released i a.event acts a.outputs) w' = subst (λ f. Happens w m.step f w') a.commits happens in
-    let c = committed w m.step i a.event acts a.outputs w' released in
-    let known = known_event w m.step i a.event acts a.outputs w' honest released in
+    let c = committed w m.step m.fate w' a.event happens a.commits in
+    let known = known_event w m.step m.fate w' a.event honest happens a.commits in
     let x = explained run w r in
-    let here = x.sites i a.holds.node a.holds.at in
-    let all = all_merged (made run) w.frames x.deltas c.node.place c.before c.after a.event acts a.outputs known c.steps in
-    let own_acts = front (made run) (gather merge_in before) (gather merge_in a.rest) (subst (AllSound (made run)) (gather_both merge_in before a.rest) all) in
-    let g = site_grows (made run) (λ j d. taken j run d) w i a.holds.node x a.holds.at a.held mid before a.holds.up a.runs own_acts in
-    let state = state_by (made run ++ gather op_in before) mid.store (taken_amid i run before) g.grown.sound (λ d. g.takes d ∙ ap (λ b. b || gained before d) ((here.up a.held a.holds.up).listed d)) in
+    let here = x.sites i a.holds.site a.holds.at in
+    let same : here.held ≡ a.held = sym (here.up a.held a.holds.up) in
+    let all = all_merged (made run) w.frames x.deltas c.was.node.place c.before c.after a.event (acts_of m.fate) c.outputs known c.steps in
+    let own_acts = front (made run) (gather merge_in before) (gather merge_in a.rest) (subst (AllSound (made run)) (ap (gather merge_in) a.acts ∙ gather_both merge_in before a.rest) all) in
+    let g = site_grows (past run) w x i a.holds.site a.holds.at a.held mid before a.holds.up a.runs own_acts in
+    let listed : (d : Dot) → set.contains mid.store.taken d ≡ taken_amid i run before d =
+    λ d. g.takes d ∙ ap (λ (v : HeldView). set.contains v.store.taken d || gained before d) (sym same) ∙ ap (λ b. b || gained before d) (here.listed d) in
+    let state = state_by (made run ++ gather op_in before) mid.store (taken_amid i run before) g.grown.sound listed in
     record {
       state = state;
       answers = answer_is (operations_amid i run before) mid.store (own_some (made run ++ gather op_in before) (λ o. taken_amid i run before (dot_of o)) g.grown.own_dots) state;

@@ -4,8 +4,8 @@ use Rattle.std.specs.List.{list_all}
 use Rattle.std.specs.Prelude.{nat_le}
 use Rattle.std.proofs.lemmas.List.{take_more, map_push}
 use Rattle.home_table.specs.Table.{Table}
-use Rattle.node_work.specs.View.{NodeView}
 use Rattle.cluster_play.specs.Clusters.{are_tables}
+use Rattle.cluster_play.specs.Worlds.{Site}
 use Rattle.cluster_play.proofs.Bools.{and_true, nat_is}
 
 all_at : {A : Type 0} (p : A → Bool) (xs : List A) (i : ℕ) (d : A) → list_all p xs ≡ true → i < length xs → p (get_or xs i d) ≡ true
@@ -21,7 +21,10 @@ fits_at tables i x all h is =
     ap (λ (t : Table). length t.nodes) is ∙ nat_is (length (get_or tables i x).nodes) (length tables) here
 
 -- the tables of the first nodes, and one more
-pub homes_more : (nodes : List NodeView) (tables : List Table) (i : ℕ) (n : NodeView) (x : Table) → i < length tables → x ≡ get_or tables i x → n.place.homes ≡ x
-    → map (λ (n : NodeView). n.place.homes) nodes ≡ take i tables → map (λ (n : NodeView). n.place.homes) (nodes ++ n ∷ []) ≡ take (i + 1) tables
-homes_more nodes tables i n x h is homes first =
-    map_push (λ (n : NodeView). n.place.homes) nodes n ∙ (λ k. first k ++ (homes ∙ is) k ∷ []) ∙ sym (take_more tables i x h)
+abbrev pub table_of : Site → Table
+table_of s = s.node.place.homes
+
+pub homes_more : (sites : List Site) (tables : List Table) (i : ℕ) (s : Site) (x : Table) → i < length tables → x ≡ get_or tables i x → table_of s ≡ x
+    → map table_of sites ≡ take i tables → map table_of (sites ++ s ∷ []) ≡ take (i + 1) tables
+homes_more sites tables i s x h is homes first =
+    map_push table_of sites s ∙ (λ k. first k ++ (homes ∙ is) k ∷ []) ∙ sym (take_more tables i x h)

@@ -20,7 +20,7 @@ use Rattle.broker_node.specs.Step.{brought}
 use Rattle.node_work.specs.Frames.{is_for, states_in}
 use Rattle.node_work.specs.View.{Place, nodes_of}
 use Rattle.cluster_play.specs.declared.step.Step.{Step}
-use Rattle.cluster_play.specs.Worlds.{World, Fate, Released, Faulted, Was_down, Happens, frames_in}
+use Rattle.cluster_play.specs.Worlds.{World, Fate, Released, Lost, Cut, Faulted, Was_down, Restarted, Happens, frames_in}
 use Rattle.cluster_play.specs.Runs.{Moment, Run, released, IsKnown}
 use Rattle.cluster_play.specs.Histories.{Reached, site, event_of, acts_of, gained, gains, taken, taken_amid, same_dot}
 use Rattle.cluster_play.specs.Laws.{Ships, MakesDot, BringsDot}
@@ -28,7 +28,8 @@ use Rattle.cluster_play.proofs.Bools.{or_true, or_left, or_right, and_true, nat_
 use Rattle.cluster_play.proofs.Sites.{get_append}
 use Rattle.cluster_play.proofs.Growing.{no_session_frame}
 use Rattle.cluster_play.proofs.Kept.{explained}
-use Rattle.cluster_play.proofs.Paths.{committed, known_event, released_event, step_frames, taken_both, midway}
+use Rattle.cluster_play.proofs.Paths.{befell, known_event, step_frames, taken_both, midway}
+use Rattle.cluster_play.proofs.Rows.{committed}
 use Rattle.cluster_play.proofs.Catching.{any_lists, sent_lists, catch_up}
 
 -- what acts take is made or merged by them
@@ -83,10 +84,13 @@ taken_there : (i : ℕ) (before later : List Moment) (m : Moment) (d : Dot) → 
 taken_there i before later m d at h =
     taken_both i before (m ∷ later) d ∙ or_right (taken i before d) (gains i m.fate d || taken i later d) (or_left (gains i m.fate d) (taken i later d) (λ k. eq-eqb (site m.fate) i at k && h k))
 
-gaining_released : (fate : Fate) (d : Dot) → gained (acts_of fate) d ≡ true → (e : Event) × (outputs : List Output) × (fate ≡ Released (site fate) e (acts_of fate) outputs)
-gaining_released (Released i e acts outputs) d h = (e, outputs, refl)
-gaining_released (Faulted i fault) d h = cc
-gaining_released (Was_down i) d h = cc
+gaining_commits : (fate : Fate) (d : Dot) → gained (acts_of fate) d ≡ true → (e : Event) × (event_of fate ≡ Some e)
+gaining_commits (Released i e acts outputs) d h = (e, refl)
+gaining_commits (Lost i e acts) d h = (e, refl)
+gaining_commits (Cut i) d h = cc
+gaining_commits (Faulted i fault) d h = cc
+gaining_commits (Was_down i) d h = cc
+gaining_commits (Restarted i) d h = cc
 
 -- the frame that an event brings lists the dot
 pub record FrameLists (started : Bool) (id : ℕ) (e : EventKind) (d : Dot) : Type 0 where
@@ -126,11 +130,12 @@ brings_dot : (run before later : List Moment) (m : Moment) (w : World) → run �
 brings_dot run before later m w is r i d at gain merged =
     let half = midway before (m ∷ later) w (subst (λ ms. Reached ms w) is r) in
     let j = site m.fate in
-    let fate = gaining_released m.fate d gain in
-    let c = committed half.mid m.step j fate.0 (acts_of m.fate) fate.1 half.path.0 (subst (λ f. Happens half.mid m.step f half.path.0) fate.2 half.path.1) in
-    let came = if_lists c.before.started (brought c.node.place fate.0.kind) d (ap (λ ts. any_lists ts d) (sym c.steps.merged) ∙ merged) in
-    let f = frame_lists c.node.place fate.0.kind d came.1 in
-    let here : c.node.place.id ≡ j = ((explained before half.mid half.reached).sites j c.node c.at).id in
+    let e = gaining_commits m.fate d gain in
+    let c = committed half.mid m.step m.fate half.path.0 e.0 half.path.1 e.1 in
+    let place = c.was.node.place in
+    let came = if_lists c.before.started (brought place e.0.kind) d (ap (λ ts. any_lists ts d) (sym c.steps.merged) ∙ merged) in
+    let f = frame_lists place e.0.kind d came.1 in
+    let here : place.id ≡ j = ((explained before half.mid half.reached).sites j c.was c.at).id in
     let to : f.frame.to ≡ j = f.to ∙ here in
     record {
       before = before;
@@ -144,12 +149,12 @@ brings_dot run before later m w is r i d at gain merged =
       to = to ∙ at;
       arrives = record {
         held = c.before;
-        holds = record { node = c.node; at = subst (λ k. slice_get half.mid.sites k ≡ Some c.node) (sym to) c.at; up = c.up };
+        holds = record { site = c.was; at = subst (λ k. slice_get half.mid.sites k ≡ Some c.was) (sym to) c.at; up = c.up };
         started = came.0;
         happens = half.path.1;
         at = sym to;
-        event = fate.0;
-        commits = ap event_of fate.2;
+        event = e.0;
+        commits = e.1;
         brings = f.brings;
       };
       state = f.state;
@@ -192,12 +197,19 @@ act_of (Acknowledged client packet at grants offers ∷ acts) k f h = later_out 
 act_of (Passed m copies lost ∷ acts) k f h = later_out (Passed m copies lost) acts f (act_of acts k f h)
 act_of (Dropped ∷ acts) k f h = later_out Dropped acts f (act_of acts k f h)
 
+given_by : (w : World) (step : Step) (i : ℕ) (e : Event) (acts : List Act) (outputs : List Output) (w' : World) → Happens w step (Released i e acts outputs) w' → outputs ≡ gather output_in acts
+given_by w step i e acts outputs w' h =
+    let t = (befell w step (Released i e acts outputs) w' h).becomes.1.1 in
+    t.commits.done.steps.given ∙ ap (gather output_in) t.does
+
 released_by : (w : World) (step : Step) (fate : Fate) (w' : World) → Happens w step fate w' → (k : ℕ) (f : Frame) → slice_get (released fate) k ≡ Some f → Outs (acts_of fate) f
 released_by w step (Released i e acts outputs) w' h k f at =
-    let c = committed w step i e acts outputs w' h in
-    act_of acts k f (subst (λ os. slice_get (frames_in os) k ≡ Some f) c.steps.given at)
+    act_of acts k f (subst (λ os. slice_get (frames_in os) k ≡ Some f) (given_by w step i e acts outputs w' h) at)
+released_by w step (Lost i e acts) w' h k f at = none-some at
+released_by w step (Cut i) w' h k f at = none-some at
 released_by w step (Faulted i fault) w' h k f at = none-some at
 released_by w step (Was_down i) w' h k f at = none-some at
+released_by w step (Restarted i) w' h k f at = none-some at
 
 shipped_in : (run : List Moment) (w w' : World) → Run w run w' → (n : ℕ) (f : Frame) → slice_get w'.frames n ≡ Some f → ((k : ℕ) × (slice_get w.frames k ≡ Some f)) ⊎ Shipped run f
 unfolding Outs
@@ -236,11 +248,7 @@ dot_brought : (run : List Moment) (w : World) → Reached run w → (i : ℕ) (d
 dot_brought run w r i d b =
     let half = midway b.before (b.m ∷ b.later) w (subst (λ ms. Reached ms w) b.run_is r) in
     let a = b.arrives in
-    let j = site b.m.fate in
-    let acts = acts_of b.m.fate in
-    let fate = released_event b.m.fate a.event a.commits in
-    let known : IsKnown half.mid.frames a.event.kind =
-    known_event half.mid b.m.step j a.event acts fate.0 half.path.0 half.honest.0 (subst (λ f. Happens half.mid b.m.step f half.path.0) fate.1 half.path.1) in
+    let known : IsKnown half.mid.frames a.event.kind = known_event half.mid b.m.step b.m.fate half.path.0 a.event half.honest.0 half.path.1 a.commits in
     let sent : (n : ℕ) × (slice_get half.mid.frames n ≡ Some b.frame) = subst (IsKnown half.mid.frames) a.brings known in
     let s = shipped b.before b.mid b.reached sent.0 b.frame (subst (λ fs. slice_get fs sent.0 ≡ Some b.frame) (same_frames b.before half.mid b.mid half.reached b.reached) sent.1) in
     let reached : Reached (s.before ++ s.m ∷ s.later) b.mid = subst (λ ms. Reached ms b.mid) s.run_is b.reached in

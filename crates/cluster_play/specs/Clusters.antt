@@ -6,17 +6,24 @@ use Rattle.home_table.specs.Table.{Table}
 use Rattle.causal_context.specs.Dots.{Dots}
 use Rattle.subscription_set.specs.Standing.{live}
 use Rattle.replica_store.specs.Retained.{with_message}
+use Rattle.node_keeper.specs.declared.keeper.Keeper.{Keeper}
+use Rattle.node_keeper.specs.Views.{node_of, rows_of}
 use Rattle.node_work.specs.View.{HeldView}
+use Rattle.row_store.specs.declared.memory.MemoryRows.{MemoryRows}
 use Rattle.cluster_play.specs.declared.cluster.Cluster.{Cluster}
-use Rattle.cluster_play.specs.Worlds.{World}
+use Rattle.cluster_play.specs.Worlds.{Site, World}
+
+-- a node with its rows, as its keeper has them
+abbrev pub site_of : Keeper MemoryRows → Site
+site_of k = record { node = node_of k; rows = rows_of k }
 
 -- the world that a cluster is
 abbrev pub world : Cluster → World
-world c = record { sites = c.nodes.items; frames = c.frames.items }
+world c = record { sites = map_list site_of c.nodes.items; frames = c.frames.items }
 
 -- the tables of homes of its nodes, in order
 abbrev pub homes_of : World → List Table
-homes_of w = map_list (λ n. n.place.homes) w.sites
+homes_of w = map_list (λ s. s.node.place.homes) w.sites
 
 -- from 1 to 64 tables, each for so many nodes
 abbrev pub are_tables : List Table → Bool
@@ -28,7 +35,7 @@ is_spent c = c.spent
 
 -- what node i holds; none where it is down, and where there is none of that number
 abbrev pub held_at : World → ℕ → Option HeldView
-held_at w i = option_and_then (λ n. n.up) (slice_get w.sites i)
+held_at w i = option_and_then (λ s. s.node.up) (slice_get w.sites i)
 
 -- how many subscriptions are live, and how many topics have a message
 abbrev pub holdings_of : HeldView → ℕ × ℕ

@@ -1,40 +1,55 @@
 -- What was made and taken in a run, read off its moments.
 use Rattle.std.specs.Prelude.{◌≡◌, ℕ, ◌++◌, List, [], ◌∷◌, Option, Some, None, Bool, false, cond, max, ◌&&◌, ◌||◌, nat_eq, filter, length, slice_get}
+use Rattle.std.specs.FinMap as map
 use Rattle.std.specs.FinSet as set
 use Rattle.causal_context.specs.Dots.{Dot}
 use Rattle.broker_node.specs.declared.event.Event.{Event}
 use Rattle.node_work.specs.declared.outcome.Output.{Output}
 use Rattle.node_work.specs.Acts.{Act, Moment as TakesMoment, Began, Store, Connection, Session, Out, Named, Acknowledged, Passed, Dropped, Made, Merged, gather, op_in}
-use Rattle.node_work.specs.View.{NodeView, opened}
+use Rattle.node_work.specs.View.{opened}
+use Rattle.node_laws.specs.Moves.{Move, Did, Lost as Loses, did}
+use Rattle.node_rows.specs.Rows.{mark, mark_key}
 use Rattle.replica_store.specs.declared.operation.Operation.{Operation}
 use Rattle.replica_store.specs.Operations.{dot_of}
 use Rattle.home_table.specs.Table.{Table}
-use Rattle.cluster_play.specs.Worlds.{World, Fate, Released, Faulted, Was_down}
+use Rattle.cluster_play.specs.Worlds.{Site, World, Fate, Released, Lost, Cut, Faulted, Was_down, Restarted}
 use Rattle.cluster_play.specs.Runs.{Moment, Run, IsHonest}
 
 -- the node where a step came to something
 abbrev pub site : Fate → ℕ
 site (Released i e acts outputs) = i
+site (Lost i e acts) = i
+site (Cut i) = i
 site (Faulted i fault) = i
 site (Was_down i) = i
+site (Restarted i) = i
 
 -- the event that a step committed, if it did
 abbrev pub event_of : Fate → Option Event
 event_of (Released i e acts outputs) = Some e
+event_of (Lost i e acts) = Some e
+event_of (Cut i) = None
 event_of (Faulted i fault) = None
 event_of (Was_down i) = None
+event_of (Restarted i) = None
 
 -- the acts that a step committed
 abbrev pub acts_of : Fate → List Act
 acts_of (Released i e acts outputs) = acts
+acts_of (Lost i e acts) = acts
+acts_of (Cut i) = []
 acts_of (Faulted i fault) = []
 acts_of (Was_down i) = []
+acts_of (Restarted i) = []
 
 -- what it gave out
 abbrev pub outputs_of : Fate → List Output
 outputs_of (Released i e acts outputs) = outputs
+outputs_of (Lost i e acts) = []
+outputs_of (Cut i) = []
 outputs_of (Faulted i fault) = []
 outputs_of (Was_down i) = []
+outputs_of (Restarted i) = []
 
 -- the operations that it made
 abbrev pub ops_of : Fate → List Operation
@@ -99,38 +114,46 @@ moment_in (Acknowledged client packet at grants offers) = 0
 moment_in (Passed m copies lost) = 0
 moment_in Dropped = 0
 
--- the greatest one
-abbrev pub latest : List Act → ℕ
-latest [] = 0
-latest (a ∷ rest) = max (moment_in a) (latest rest)
+-- what a step made of what its node holds: the acts that it committed, and at a restart the loss of what doesn't last
+abbrev pub moves_of : Fate → List Move
+moves_of (Released i e acts outputs) = did acts
+moves_of (Lost i e acts) = did acts
+moves_of (Cut i) = []
+moves_of (Faulted i fault) = []
+moves_of (Was_down i) = []
+moves_of (Restarted i) = Loses ∷ []
 
--- the greatest moment that node i was handed in the steps of a run that committed
-abbrev pub moment_of : ℕ → List Moment → ℕ
-moment_of i [] = 0
-moment_of i (m ∷ ms) = max (cond (nat_eq (site m.fate) i) (latest (acts_of m.fate)) 0) (moment_of i ms)
+abbrev pub own_moves : ℕ → Fate → List Move
+own_moves i fate = cond (nat_eq (site fate) i) (moves_of fate) []
+
+-- what a run made of what node i holds, in order
+abbrev pub moves_at : ℕ → List Moment → List Move
+moves_at i [] = []
+moves_at i (m ∷ ms) = own_moves i m.fate ++ moves_at i ms
 
 -- the same amid a step of node i, after these of its acts
+abbrev pub moves_amid : ℕ → List Moment → List Act → List Move
+moves_amid i run acts = moves_at i run ++ did acts
+
+-- the moment that a node is at after moves, from one on: the greatest that it was handed since it was last opened
+abbrev pub moment_after : ℕ → List Move → ℕ
+moment_after at [] = at
+moment_after at (Did a ∷ moves) = moment_after (max at (moment_in a)) moves
+moment_after at (Loses ∷ moves) = moment_after 0 moves
+
 abbrev pub moment_amid : ℕ → List Moment → List Act → ℕ
-moment_amid i run acts = max (moment_of i run) (latest acts)
+moment_amid i run acts = moment_after 0 (moves_amid i run acts)
 
--- the acts that a step committed at node i
-abbrev pub own_acts : ℕ → Fate → List Act
-own_acts i fate = cond (nat_eq (site fate) i) (acts_of fate) []
-
--- those of a run, in order
-abbrev pub acts_at : ℕ → List Moment → List Act
-acts_at i [] = []
-acts_at i (m ∷ ms) = own_acts i m.fate ++ acts_at i ms
-
--- the node of a seat was just opened, with a table of homes for so many nodes
-pub record IsNew (nodes i : ℕ) (n : NodeView) : Type 0 where
+-- the node of a seat is new, with a table of homes for so many nodes, and its rows are its mark
+pub record IsNew (nodes i : ℕ) (s : Site) : Type 0 where
   pub homes : Table
   pub fits : length homes.nodes ≡ nodes
-  pub is : n ≡ opened (record { id = i; homes = homes })
+  pub node : s.node ≡ opened (record { id = i; homes = homes })
+  pub rows : s.rows ≡ map.insert map.empty mark_key (mark i 0)
 
 -- new nodes, and no frame
 pub record IsStart (w : World) : Type 0 where
-  pub sites : (i : ℕ) (n : NodeView) → slice_get w.sites i ≡ Some n → IsNew (length w.sites) i n
+  pub sites : (i : ℕ) (s : Site) → slice_get w.sites i ≡ Some s → IsNew (length w.sites) i s
   pub frames : w.frames ≡ []
 
 -- the world after a run from the start in which no frame is forged

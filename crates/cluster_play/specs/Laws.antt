@@ -3,7 +3,7 @@ use Rattle.std.specs.Prelude.{◌≡◌, ◌↔◌, ◌⊎◌, ℕ, ◌++◌, Li
 use Rattle.std.specs.List.{AllByRecursion}
 use Rattle.std.specs.FinMap as map
 use Rattle.std.specs.FinSet as set
-use Rattle.causal_context.specs.Dots.{Dot}
+use Rattle.causal_context.specs.Dots.{Dot, Dots}
 use Rattle.mqtt_message.specs.declared.message.Message.{Message}
 use Rattle.mqtt_sessions.specs.State.{new_session}
 use Rattle.session_laws.specs.Runs.{Run as SessionRun}
@@ -18,29 +18,34 @@ use Rattle.replica_store.specs.States.{State}
 use Rattle.broker_node.specs.declared.event.Event.{Event}
 use Rattle.broker_node.specs.declared.event.EventKind.TheVariants as kinds
 use Rattle.node_work.specs.declared.frame.Frame.{Frame}
-use Rattle.node_work.specs.declared.frame.FrameBody.TheVariants.{Delta}
-use Rattle.node_work.specs.declared.outcome.Output.{Output}
+use Rattle.node_work.specs.declared.frame.FrameBody.TheVariants.{Delta, Know}
 use Rattle.node_work.specs.declared.outcome.Output.TheVariants.{Frame as Release}
+use Rattle.node_keeper.specs.declared.fault.KeeperFault.{KeeperFault}
+use Rattle.node_keeper.specs.Keeping.{AreLasting, AreOf, AreOfNone}
+use Rattle.node_rows.specs.Reading.{IsLasting}
+use Rattle.node_rows.specs.Rows.{Lasting}
 use Rattle.node_work.specs.Acts.{Act, Store, Out, Made, Passed, Runs}
 use Rattle.node_work.specs.Passing.{IsPassed}
 use Rattle.message_copies.specs.declared.plain.PlainCopy.{PlainCopy as Copy}
-use Rattle.node_work.specs.View.{HeldView, NodeView, fresh}
+use Rattle.node_work.specs.Lasting.{lasting, IsWoken}
+use Rattle.node_work.specs.View.{HeldView, fresh}
 use Rattle.node_laws.specs.Lives.{life}
+use Rattle.node_laws.specs.Moves.{Moves}
 use Rattle.cluster_play.specs.declared.fault.PlayFault.{PlayFault}
 use Rattle.cluster_play.specs.declared.line.Line.{Line}
 use Rattle.cluster_play.specs.declared.step.Step.{Step}
-use Rattle.cluster_play.specs.Worlds.{World, Fate, Released, Happens, Lacks, numbered}
+use Rattle.cluster_play.specs.Worlds.{Site, World, Fate, Faulted, Restarted, Happens, Lacks, numbered, stopped}
 use Rattle.cluster_play.specs.Runs.{Moment, Run, BringsNoFrame, IsHonestStep, IsHonest, steps_of, printed}
-use Rattle.cluster_play.specs.Histories.{IsStart, Reached, site, event_of, acts_of, ops_of, made, taken, operations, taken_amid, operations_amid, moment_amid, acts_at}
+use Rattle.cluster_play.specs.Histories.{IsStart, Reached, site, event_of, acts_of, ops_of, made, taken, operations, taken_amid, operations_amid, moment_amid, moves_at, moves_amid}
 use Rattle.cluster_play.specs.Answering.{Acknowledges, SendsAnswers, OffersAlike}
 use Rattle.cluster_play.specs.NextOperations.{IsNext}
 use Rattle.cluster_play.specs.Playing.{IsPlayed}
 
 -- node i runs in the world, and holds h
 pub record Holds (w : World) (i : ℕ) (h : HeldView) : Type 0 where
-  pub node : NodeView
-  pub at : slice_get w.sites i ≡ Some node
-  pub up : node.up ≡ Some h
+  pub site : Site
+  pub at : slice_get w.sites i ≡ Some site
+  pub up : site.node.up ≡ Some h
 
 -- a running node holds the state of the operations that it has taken, and lists their dots
 abbrev pub HoldsItsOperations : Type 0
@@ -63,12 +68,13 @@ AnswerIsOfItsOperations =
 -- node i holds this amid a step of its own, after these of its acts
 pub record HoldsAmid (w : World) (m : Moment) (i : ℕ) (before : List Act) (mid : HeldView) : Type 0 where
   pub event : Event
+  pub commits : event_of m.fate ≡ Some event
+  pub at : site m.fate ≡ i
   pub rest : List Act
-  pub outputs : List Output
-  pub commits : m.fate ≡ Released i event (before ++ rest) outputs
+  pub acts : acts_of m.fate ≡ before ++ rest
   pub held : HeldView
   pub holds : Holds w i held
-  pub runs : Runs holds.node.place held before mid
+  pub runs : Runs holds.site.node.place held before mid
 
 -- amid a step a node holds the state of what it has taken until then, and answers by it
 pub record AnswersBy (O : List Operation) (h : HeldView) : Type 0 where
@@ -196,21 +202,75 @@ SendAlike =
     → ((d : Dot) → taken_amid (site m.fate) run before d ≡ taken_amid (site m'.fate) run' before' d)
     → OffersAlike (operations_amid (site m.fate) run before) (operations_amid (site m'.fate) run' before') s.at s.grants s'.grants s.offers s'.offers
 
--- a running node holds what its acts in the run lead to, from the opening on
-abbrev pub HoldsWhatItsActsLeave : Type 0
-HoldsWhatItsActsLeave = (run : List Moment) (w : World) → Reached run w → (i : ℕ) (h : HeldView) (at : Holds w i h) → Runs at.node.place fresh (acts_at i run) h
+-- a running node holds what the run's acts and losses lead to, from its first opening on
+abbrev pub HoldsWhatItsMovesLeave : Type 0
+HoldsWhatItsMovesLeave = (run : List Moment) (w : World) → Reached run w → (i : ℕ) (h : HeldView) (at : Holds w i h) → Moves at.site.node.place fresh (moves_at i run) h
 
--- so each of its sessions is what the calls since the session last began make of a new one
+-- so each of its sessions is what the calls and losses since the session last began make of a new one
 abbrev pub SessionsAreRuns : Type 0
 SessionsAreRuns =
     (run : List Moment) (w : World) → Reached run w → (i : ℕ) (h : HeldView) → Holds w i h
-    → (client : List ℕ) (seat : Seat) → map.get h.sessions client ≡ Some seat → SessionRun (new_session client) (life client (acts_at i run) []) seat.session
+    → (client : List ℕ) (seat : Seat) → map.get h.sessions client ≡ Some seat → SessionRun (new_session client) (life client (moves_at i run) []) seat.session
 
 -- amid a step too
 abbrev pub SessionsAreRunsAmid : Type 0
 SessionsAreRunsAmid =
     (run : List Moment) (w : World) (m : Moment) → Reached run w → (i : ℕ) (before : List Act) (mid : HeldView) → HoldsAmid w m i before mid
-    → (client : List ℕ) (seat : Seat) → map.get mid.sessions client ≡ Some seat → SessionRun (new_session client) (life client (acts_at i run ++ before) []) seat.session
+    → (client : List ℕ) (seat : Seat) → map.get mid.sessions client ≡ Some seat → SessionRun (new_session client) (life client (moves_amid i run before) []) seat.session
+
+-- ---- rows
+
+-- the rows of a running node are those of what it holds, which can be read from them again
+abbrev pub RowsAreOfWhatIsHeld : Type 0
+RowsAreOfWhatIsHeld =
+    (run : List Moment) (w : World) → Reached run w → (i : ℕ) (h : HeldView) (at : Holds w i h)
+    → AreOf at.site.node.place at.site.rows h × IsLasting (length w.sites) (lasting h)
+
+-- the rows of a node, also of one that is down, say that it has the state of the operations that it has taken, and lists their dots
+pub record KeepsIts (run : List Moment) (i : ℕ) (s : Site) : Type 0 where
+  pub said : Lasting
+  pub are : AreLasting s.node.place s.rows said
+  pub state : IsStateOf (operations i run) said.store
+  pub listed : (d : Dot) → set.contains said.store.taken d ≡ taken i run d
+
+abbrev pub RowsKeepItsOperations : Type 0
+RowsKeepItsOperations = (run : List Moment) (w : World) → Reached run w → (i : ℕ) (s : Site) → slice_get w.sites i ≡ Some s → KeepsIts run i s
+
+-- so no restart ever finds rows that aren't those of its node
+abbrev pub RowsAreOfTheirNode : Type 0
+RowsAreOfTheirNode = (run : List Moment) (w : World) → Reached run w → (i : ℕ) (s : Site) → slice_get w.sites i ≡ Some s → ¬ AreOfNone s.node.place s.rows
+
+-- a node holds this, or held it last: the run's acts and losses lead to it, and the rows are its
+pub record HeldLast (run : List Moment) (i : ℕ) (s : Site) (h : HeldView) : Type 0 where
+  pub moves : Moves s.node.place fresh (moves_at i run) h
+  pub rows : AreOf s.node.place s.rows h
+  pub up : (g : HeldView) → s.node.up ≡ Some g → g ≡ h
+
+-- a node that is restarted holds what lasts of what it held last
+pub record WakesFrom (run : List Moment) (w : World) (i : ℕ) (h' : HeldView) : Type 0 where
+  pub site : Site
+  pub at : slice_get w.sites i ≡ Some site
+  pub held : HeldView
+  pub last : HeldLast run i site held
+  pub woken : IsWoken (lasting held) h'
+
+abbrev pub RestartsWithWhatLasts : Type 0
+RestartsWithWhatLasts =
+    (run : List Moment) (w w' : World) (m : Moment) → Reached run w → Happens w m.step m.fate w' → (i : ℕ) → m.fate ≡ Restarted i
+    → (h' : HeldView) → Holds w' i h' → WakesFrom run w i h'
+
+-- a fault leaves the rows of its node as they were
+abbrev pub FaultsLeaveRows : Type 0
+FaultsLeaveRows =
+    (run : List Moment) (w w' : World) (m : Moment) → Reached run w → Happens w m.step m.fate w' → (i : ℕ) (fault : KeeperFault) → m.fate ≡ Faulted i fault
+    → (s s' : Site) → slice_get w.sites i ≡ Some s → slice_get w'.sites i ≡ Some s' → s' ≡ stopped s
+
+-- the dots of a Know that a step gives out are taken, then and in every later world
+abbrev pub KnowsWhatIsTaken : Type 0
+KnowsWhatIsTaken =
+    (run later : List Moment) (m : Moment) (w : World) → Reached (run ++ m ∷ later) w
+    → (before after : List Act) (f : Frame) (dots : Dots) → acts_of m.fate ≡ before ++ Out (Release f) ∷ after → f.body ≡ Know dots
+    → (d : Dot) → set.contains dots d ≡ true → taken (site m.fate) (run ++ m ∷ later) d ≡ true
 
 -- a step passes a message on after these of its acts: it makes these copies, and so many picks are lost
 pub record PassesOn (m : Moment) (before : List Act) : Type 0 where
@@ -227,7 +287,7 @@ pub record MakesCopies (run : List Moment) (m : Moment) (before : List Act) (s :
   pub reached : Reached run world
   pub held : HeldView
   pub there : HoldsAmid world m (site m.fate) before held
-  pub made : IsPassed there.holds.node.place held s.message s.copies s.lost
+  pub made : IsPassed there.holds.site.node.place held s.message s.copies s.lost
   pub live : (dot : Dot) (entry : Entry) → (find_entry dot (live held.store.subscriptions) ≡ Some entry) ↔ IsLive (operations_amid (site m.fate) run before) dot entry
 
 -- a message that is passed on makes exactly these copies

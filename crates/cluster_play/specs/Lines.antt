@@ -3,7 +3,8 @@
 use Rattle.std.specs.Prelude.{ℕ, List, ◌++◌, codes}
 use Rattle.std.specs.Fmt.{decimal}
 use Rattle.hex.specs.Hex.{encode_lower}
-use Rattle.node_work.specs.Names.{fault_name, frame_name}
+use Rattle.node_keeper.specs.Names.{fault_name}
+use Rattle.node_work.specs.Names.{frame_name}
 use Rattle.cluster_play.specs.declared.line.Line.{Line}
 use Rattle.cluster_play.specs.declared.line.Line.TheVariants.{Sent, Closed, Frame, Fault, Crash, Down}
 

@@ -9,7 +9,7 @@ use Rattle.cluster_play.specs.declared.fault.PlayFault.TheVariants.{BadTables, U
 use Rattle.cluster_play.specs.declared.line.Line.{Line}
 use Rattle.cluster_play.specs.declared.step.Step.{Step}
 use Rattle.cluster_play.specs.Clusters.{world, is_spent}
-use Rattle.cluster_play.specs.Worlds.{World, Fate, Released, Happens, Lacks}
+use Rattle.cluster_play.specs.Worlds.{Site, World, Fate, Released, Befalls, Happens, Lacks}
 use Rattle.cluster_play.specs.Runs.{Moment, Run, steps_of, lines_of, printed}
 
 -- there is a run over exactly these steps, and these are its lines
@@ -39,6 +39,12 @@ IsRefused c steps UnknownFrame c' = StopsAt (world c) steps UnknownFrame (world 
 IsRefused c steps NoMemory c' = StopsShort (world c) steps (world c') × (is_spent c' ≡ true)
 IsRefused c steps Spent c' = (is_spent c ≡ true) × (c' ≡ c)
 
--- one step happened, with its lines
+-- something that may come to these fates happened, with its lines
+abbrev pub IsDoneAs : World → (Fate → World → Type 0) → List Line → List Line → World → Type 0
+IsDoneAs w May lines lines' w' = (fate : Fate) × May fate w' × (lines' ≡ lines ++ lines_of (length w.frames) fate)
+
+abbrev pub IsDoneAt : World → ℕ → (Site → Fate → Type 0) → List Line → List Line → World → Type 0
+IsDoneAt w i Of = IsDoneAs w (Befalls w i Of)
+
 abbrev pub IsDoneStep : World → Step → List Line → List Line → World → Type 0
-IsDoneStep w step lines lines' w' = (fate : Fate) × Happens w step fate w' × (lines' ≡ lines ++ lines_of (length w.frames) fate)
+IsDoneStep w step = IsDoneAs w (Happens w step)

@@ -10,7 +10,7 @@ use Rattle.cluster_play.specs.declared.line.Line.{Line}
 use Rattle.cluster_play.specs.declared.line.Line.TheVariants as lines
 use Rattle.cluster_play.specs.declared.step.Step.{Step}
 use Rattle.cluster_play.specs.declared.step.Step.TheVariants as steps
-use Rattle.cluster_play.specs.Worlds.{World, Fate, Released, Faulted, Was_down, Happens, frames_in}
+use Rattle.cluster_play.specs.Worlds.{World, Fate, Released, Lost, Cut, Faulted, Was_down, Restarted, Happens, frames_in}
 
 -- a step, and what it came to
 pub record Moment : Type 0 where
@@ -29,8 +29,11 @@ steps_of (m ∷ ms) = m.step ∷ steps_of ms
 -- the frames that a step released
 abbrev pub released : Fate → List Frame
 released (Released i e acts outputs) = frames_in outputs
+released (Lost i e acts) = []
+released (Cut i) = []
 released (Faulted i fault) = []
 released (Was_down i) = []
+released (Restarted i) = []
 
 -- the line of what goes to a client
 abbrev pub client_line : ℕ → Output → List Line
@@ -50,8 +53,11 @@ frame_lines given (f ∷ fs) = lines.Frame (given + 1) f.from f.to (kind_of f.bo
 -- the lines of a step, where so many frames were released before it
 abbrev pub lines_of : ℕ → Fate → List Line
 lines_of given (Released i e acts outputs) = client_lines i outputs ++ frame_lines given (frames_in outputs)
+lines_of given (Lost i e acts) = lines.Crash i ∷ []
+lines_of given (Cut i) = lines.Crash i ∷ []
 lines_of given (Faulted i fault) = lines.Fault i fault ∷ []
 lines_of given (Was_down i) = lines.Down i ∷ []
+lines_of given (Restarted i) = []
 
 -- the lines of a run
 abbrev pub printed : ℕ → List Moment → List Line
@@ -80,14 +86,20 @@ BringsNone (kinds.Ship peer) = Unit {0}
 BringsNone kinds.Tick = Unit {0}
 BringsNone (kinds.Evict client) = Unit {0}
 
--- a step that brings no frame of its own: a delivery brings one that was released
+-- a step that brings no frame of its own: a delivery brings one that was released, and a crash before an event none
 abbrev pub BringsNoFrame : Step → Type 0
 BringsNoFrame (steps.Event i e) = BringsNone e.kind
 BringsNoFrame (steps.Deliver number at) = Unit {0}
+BringsNoFrame (steps.CrashBefore i e) = Unit {0}
+BringsNoFrame (steps.CrashAfter i e) = BringsNone e.kind
+BringsNoFrame (steps.Restart i) = Unit {0}
 
 abbrev pub IsHonestStep : List Frame → Step → Type 0
 IsHonestStep sent (steps.Event i e) = IsKnown sent e.kind
 IsHonestStep sent (steps.Deliver number at) = Unit {0}
+IsHonestStep sent (steps.CrashBefore i e) = Unit {0}
+IsHonestStep sent (steps.CrashAfter i e) = IsKnown sent e.kind
+IsHonestStep sent (steps.Restart i) = Unit {0}
 
 -- no frame is forged
 abbrev pub IsHonest : List Frame → List Moment → Type 0

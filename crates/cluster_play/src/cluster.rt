@@ -1,13 +1,11 @@
-//! Nodes, and the frames that they have released.
+//! Nodes with their rows, and the frames that they have released.
 
-ghost use Rattle.std.specs.Prelude.{◌≡◌, ◌<◌, ◌==◌, ◌++◌, [], ℕ, true, false, length, Some, Err, IfOk, IfErr, IsOk, OnOk, ◌⊎◌, slice_get, option_map, option_copied, vec_len};
+ghost use Rattle.std.specs.Prelude.{◌≡◌, ◌<◌, ◌==◌, [], true, false, length, Some, Err, IfOk, IfErr, IsOk, OnOk, ◌⊎◌, option_map, option_copied, vec_len};
 ghost use Rattle.std.specs.List.{list_all};
-ghost use Rattle.node_work.specs.View.{NodeView};
 ghost use Rattle.cluster_play.specs.Clusters.{world, homes_of, are_tables, is_spent, held_at, holdings_of, taken_of, IsSameTaken};
 ghost use Rattle.cluster_play.specs.Histories.{IsStart};
-ghost use Rattle.cluster_play.specs.Playing.{IsPlayed, IsRefused, IsDoneStep, RunsOut};
-ghost use Rattle.cluster_play.specs.Runs.{lines_of};
-ghost use Rattle.cluster_play.specs.Worlds.{Fate, EventAt, Lacks, numbered};
+ghost use Rattle.cluster_play.specs.Playing.{IsPlayed, IsRefused, IsDoneAt, IsDoneStep, RunsOut};
+ghost use Rattle.cluster_play.specs.Worlds.{Lacks, LacksNode, OfCrashAfter, OfCrashBefore, OfEvent, OfRestart, numbered};
 ghost use Rattle.cluster_play.specs.declared.fault.PlayFault.TheVariants as faults;
 ghost use Rattle.cluster_play.specs.declared.step.Step.TheVariants as steps;
 
@@ -15,17 +13,19 @@ use crate::fault::PlayFault;
 use crate::line::{Line, Trace};
 use crate::release::{release, tell};
 use crate::step::Step;
-use broker_node::{Event, EventKind, Frame, Node};
+use broker_node::{Event, EventKind, Frame};
 use causal_context::Context;
 use home_table::HomeTable;
+use node_keeper::Keeper;
 use replica_store::ReplicaStore;
+use row_store::MemoryRows;
 use std::alloc::Global;
 
 /// A cluster of nodes. Frames are numbered from 1 as they are released.
 #[derive(Drop)]
 pub struct Cluster {
     alloc: Global,
-    nodes: Vec<Node>,
+    nodes: Vec<Keeper<MemoryRows>>,
     frames: Vec<Frame>,
     spent: bool,
 }
@@ -46,7 +46,7 @@ fn are_tables(tables: &[HomeTable]) -> bool
 }
 
 impl Cluster {
-    /// A cluster of a new node for each of these tables of homes, which is up and not started.
+    /// A cluster of a new node for each of these tables of homes, which is up and not started, with its rows in memory.
     /// `BadTables` exactly where there is no table or more than 64, or one has another number of nodes
     /// than there are tables.
     pub fn new(alloc: Global, tables: Vec<HomeTable>) -> Result<Cluster, PlayFault>
@@ -61,10 +61,11 @@ impl Cluster {
         }
         let mut opened = Vec::new(alloc);
         for (i, homes) in tables.iter().enumerate() {
-            let Ok(node) = Node::open(alloc, homes.copy()?, i as u16) else {
+            let Ok(keeper) = Keeper::open(alloc, MemoryRows::new(alloc), homes.copy()?, i as u16)
+            else {
                 return Err(PlayFault::NoMemory);
             };
-            opened.push(node)?;
+            opened.push(keeper)?;
         }
         Ok(Cluster {
             alloc,
@@ -113,12 +114,34 @@ impl Cluster {
     {
         match step {
             Step::Event { node, event } => {
-                if *node as usize >= self.nodes.len() {
-                    return Err(PlayFault::UnknownNode);
-                }
+                self.find_node(*node)?;
                 self.event(*node, event, lines)
             }
             Step::Deliver { frame, at } => self.deliver(*frame, *at, lines),
+            Step::CrashBefore { node, event: _ } => {
+                self.find_node(*node)?;
+                self.crash_before(*node, lines)
+            }
+            Step::CrashAfter { node, event } => {
+                self.find_node(*node)?;
+                self.crash_after(*node, event, lines)
+            }
+            Step::Restart { node } => {
+                self.find_node(*node)?;
+                self.restart(*node, lines)
+            }
+        }
+    }
+
+    /// Whether there is a node of this number.
+    fn find_node(&self, node: u16) -> Result<(), PlayFault>
+        ensures ok { OnOk result (node < vec_len self.now.nodes) }
+        ensures err { IfErr result (λ f. LacksNode (world self.now) node f) }
+    {
+        if (node as usize) < self.nodes.len() {
+            Ok(())
+        } else {
+            Err(PlayFault::UnknownNode)
         }
     }
 
@@ -149,22 +172,80 @@ impl Cluster {
     /// An event at a node. Room for one line is made before anything happens.
     fn event(&mut self, node: u16, event: &Event, lines: &mut Vec<Line>) -> Result<(), PlayFault>
         requires { node < vec_len self.old.nodes }
-        ensures ok { OnOk result ((fate : Fate) × (n : NodeView)
-            × (slice_get (world self.old).sites node ≡ Some n)
-            × EventAt (world self.old) node n event.now fate (world self.new)
-            × (lines.new.items ≡ lines.old.items ++ lines_of (length (world self.old).frames) fate)) }
+        ensures ok { OnOk result
+            (IsDoneAt (world self.old) node (OfEvent event.now) lines.old.items lines.new.items (world self.new)) }
         ensures err { IfErr result (λ f. (f ≡ faults.NoMemory)
             × RunsOut (world self.old) (steps.Event node event.now) (world self.new)) }
         ensures spent { is_spent self.new ≡ is_spent self.old }
     {
         lines.reserve(1)?;
-        match self.nodes[node as usize].step(event) {
-            Ok(outcome) => release(self.alloc, node, outcome.outputs, &mut self.frames, lines),
+        match self.nodes[node as usize].handle(event) {
+            Ok(outputs) => release(self.alloc, node, outputs, &mut self.frames, lines),
             Err(fault) => {
                 tell(lines, node, fault);
                 Ok(())
             }
         }
+    }
+
+    /// A crash takes a node, which leaves its rows.
+    fn crash_before(&mut self, node: u16, lines: &mut Vec<Line>) -> Result<(), PlayFault>
+        requires { node < vec_len self.old.nodes }
+        ensures ok { OnOk result
+            (IsDoneAt (world self.old) node OfCrashBefore lines.old.items lines.new.items (world self.new)) }
+        ensures err { IfErr result (λ f. (f ≡ faults.NoMemory) × (self.new ≡ self.old)) }
+        ensures spent { is_spent self.new ≡ is_spent self.old }
+    {
+        lines.reserve(1)?;
+        let keeper = &mut self.nodes[node as usize];
+        if keeper.is_up() {
+            keeper.crash();
+            lines.push_reserved(Line::Crash { node });
+        } else {
+            lines.push_reserved(Line::Down { node });
+        }
+        Ok(())
+    }
+
+    /// An event at a node, and a crash before anything is given out.
+    fn crash_after(
+        &mut self,
+        node: u16,
+        event: &Event,
+        lines: &mut Vec<Line>,
+    ) -> Result<(), PlayFault>
+        requires { node < vec_len self.old.nodes }
+        ensures ok { OnOk result
+            (IsDoneAt (world self.old) node (OfCrashAfter event.now) lines.old.items lines.new.items (world self.new)) }
+        ensures err { IfErr result (λ f. (f ≡ faults.NoMemory) × (self.new ≡ self.old)) }
+        ensures spent { is_spent self.new ≡ is_spent self.old }
+    {
+        lines.reserve(1)?;
+        let keeper = &mut self.nodes[node as usize];
+        match keeper.handle(event) {
+            Ok(_lost) => {
+                keeper.crash();
+                lines.push_reserved(Line::Crash { node });
+            }
+            Err(fault) => tell(lines, node, fault),
+        }
+        Ok(())
+    }
+
+    /// A node is opened from its rows. Where that faults it is down.
+    fn restart(&mut self, node: u16, lines: &mut Vec<Line>) -> Result<(), PlayFault>
+        requires { node < vec_len self.old.nodes }
+        ensures ok { OnOk result
+            (IsDoneAt (world self.old) node OfRestart lines.old.items lines.new.items (world self.new)) }
+        ensures err { IfErr result (λ f. (f ≡ faults.NoMemory) × (self.new ≡ self.old)) }
+        ensures spent { is_spent self.new ≡ is_spent self.old }
+    {
+        lines.reserve(1)?;
+        match self.nodes[node as usize].reopen() {
+            Ok(()) => {}
+            Err(fault) => tell(lines, node, fault),
+        }
+        Ok(())
     }
 
     /// How many subscriptions stand at a node, and how many topics have a message there. None: the
@@ -211,7 +292,7 @@ impl Cluster {
     fn store(&self, node: u16) -> Option<&ReplicaStore>
         ensures { option_copied result ≡ option_map (λ h. h.store) (held_at (world self.now) node) }
     {
-        let node = self.nodes.get(node as usize)?;
+        let node = self.nodes.get(node as usize)?.node();
         if node.is_up() {
             Some(node.store())
         } else {

@@ -1,5 +1,5 @@
 //! What holds in every run of a cluster. Each function does nothing: its contract is the law.
-ghost use Rattle.cluster_play.specs.Laws.{HoldsItsOperations, LiveIsOfItsOperations, AnswerIsOfItsOperations, HoldsItsOperationsAmid, OwnDots, DeltaFrames, SameTaken, AgreeWhereTheyTookTheSame, AnswerAlike, OperationsOfAStep, CatchUp, TakesWhatItMakesOrIsBrought, AnswersAsSent, SendAlike, CopiesAsTaken, HoldsWhatItsActsLeave, SessionsAreRuns, SessionsAreRunsAmid, FramesStay, LacksNothing, RunsCompose, StartIsReached, RunsGoOn, FramelessStepsAreHonest, PlayedIsReached};
+ghost use Rattle.cluster_play.specs.Laws.{HoldsItsOperations, LiveIsOfItsOperations, AnswerIsOfItsOperations, HoldsItsOperationsAmid, OwnDots, DeltaFrames, SameTaken, AgreeWhereTheyTookTheSame, AnswerAlike, OperationsOfAStep, CatchUp, TakesWhatItMakesOrIsBrought, AnswersAsSent, SendAlike, CopiesAsTaken, HoldsWhatItsMovesLeave, SessionsAreRuns, SessionsAreRunsAmid, RowsAreOfWhatIsHeld, RowsKeepItsOperations, RowsAreOfTheirNode, RestartsWithWhatLasts, FaultsLeaveRows, KnowsWhatIsTaken, FramesStay, LacksNothing, RunsCompose, StartIsReached, RunsGoOn, FramelessStepsAreHonest, PlayedIsReached};
 
 /// Each running node holds the state of the operations that it has taken, no dot has two
 /// operations, and what a Delta frame carries is the state of the operations that it lists.
@@ -55,13 +55,29 @@ pub fn nodes_take_what_they_make_or_are_brought()
     ensures { TakesWhatItMakesOrIsBrought }
 {}
 
-/// A running node holds what its acts in the run lead to since it was opened. So each of its sessions, between steps
-/// and amid one, comes of a run from a new session, by the calls since it last began; and what is proved of
-/// every such run holds of it.
+/// A running node holds what its acts in the run, and its losses at restarts, lead to since it was first opened. So each
+/// of its sessions, between steps and amid one, comes of a run from a new session, by the calls and losses since it last
+/// began; and what is proved of every such run holds of it.
 pub fn sessions_are_runs()
-    ensures acts { HoldsWhatItsActsLeave }
+    ensures moves { HoldsWhatItsMovesLeave }
     ensures sessions { SessionsAreRuns }
     ensures amid { SessionsAreRunsAmid }
+{}
+
+/// The rows of a running node are those of what it holds. The rows of each node, also of one that is down, say that it has
+/// the state of the operations that it has taken; so a restart never finds rows that aren't those of its node, and the node
+/// then holds what lasts of what it held last. A fault leaves the rows of its node.
+pub fn rows_keep_what_lasts()
+    ensures held { RowsAreOfWhatIsHeld }
+    ensures operations { RowsKeepItsOperations }
+    ensures node { RowsAreOfTheirNode }
+    ensures restarts { RestartsWithWhatLasts }
+    ensures faults { FaultsLeaveRows }
+{}
+
+/// What a Know tells is taken at its sender, then and in every later world.
+pub fn knows_stay_true()
+    ensures { KnowsWhatIsTaken }
 {}
 
 /// The laws hold however a run is played: new nodes are reached, an honest run goes on from what is

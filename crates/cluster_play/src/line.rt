@@ -3,9 +3,10 @@
 ghost use Rattle.std.specs.Prelude.{Some};
 ghost use Rattle.cluster_play.specs.Lines.{line_text};
 
-use broker_node::{FrameKind, NodeFault};
+use broker_node::FrameKind;
 use hex_text::HexText;
 use mqtt_packets::Bytes;
+use node_keeper::KeeperFault;
 use std::fmt;
 
 /// One thing that a node gave out, or that befell it.
@@ -32,7 +33,7 @@ pub enum Line {
     /// A node that stopped, and why.
     Fault {
         node: u16,
-        fault: NodeFault,
+        fault: KeeperFault,
     },
     /// A node that a crash took down.
     Crash {

@@ -1,7 +1,7 @@
 //! What a step gives out: its lines, and its frames under their numbers.
 
 ghost use Rattle.std.specs.Prelude.{◌≡◌, ◌≢◌, ◌++◌, ◌∷◌, ◌<◌, [], length, IfErr, OnOk, vec_len, vec_capacity};
-ghost use Rattle.node_work.specs.declared.fault.NodeFault.TheVariants.{Stopped};
+ghost use Rattle.node_keeper.specs.declared.fault.KeeperFault.TheVariants.{Stopped};
 ghost use Rattle.cluster_play.specs.declared.line.Line.TheVariants.{Down, Fault};
 ghost use Rattle.cluster_play.specs.Runs.{client_line, client_lines, frame_lines};
 ghost use Rattle.cluster_play.specs.Worlds.{frame_in, frames_in};
@@ -9,17 +9,18 @@ ghost use Rattle.cluster_play.specs.declared.fault.PlayFault.TheVariants as faul
 
 use crate::fault::PlayFault;
 use crate::line::Line;
-use broker_node::{Frame, NodeFault, Output};
+use broker_node::{Frame, Output};
+use node_keeper::KeeperFault;
 use std::alloc::Global;
 
 /// Adds the line of a node that stopped now, or that is down, where there is room for it.
-pub(crate) fn tell(lines: &mut Vec<Line>, node: u16, fault: NodeFault)
+pub(crate) fn tell(lines: &mut Vec<Line>, node: u16, fault: KeeperFault)
     requires { vec_len lines.old < vec_capacity lines.old }
     ensures down { fault ≡ Stopped → lines.new.items ≡ lines.old.items ++ Down node ∷ [] }
     ensures fault { fault ≢ Stopped → lines.new.items ≡ lines.old.items ++ Fault node fault ∷ [] }
 {
     let line = match fault {
-        NodeFault::Stopped => Line::Down { node },
+        KeeperFault::Stopped => Line::Down { node },
         other => Line::Fault { node, fault: other },
     };
     lines.push_reserved(line);

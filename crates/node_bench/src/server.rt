@@ -31,7 +31,7 @@ fn homes(alloc: Global) -> Result<HomeTable, Failure> {
 fn open(alloc: Global) -> Result<Node, Failure> {
     let homes = homes(alloc)?;
     let _nodes = homes.nodes();
-    match Node::open(alloc, homes, 0) {
+    match Node::open(alloc, &[], homes, 0) {
         Ok(node) => Ok(node),
         Err(_) => Err(Failure::Memory),
     }

@@ -1,5 +1,5 @@
 -- A piece of a stream.
-use Rattle.std.proofs.Common.{◌≡◌, ℕ, is_some, List, Some, None, Result, Ok, sym, ap, subst, ◌∙◌}
+use Rattle.std.proofs.Common.{◌≡◌, ℕ, is_some, List, Some, None, Result, Ok, sym, ap, subst, ◌∙◌, refl}
 use Rattle.std.proofs.lemmas.List.{append-nil}
 use Rattle.std.specs.FinMap as map
 use Rattle.mqtt_packets.specs.declared.framer.Fed.{Fed as FedPackets}
@@ -42,7 +42,7 @@ module _ (c : ℕ) (piece : List ℕ) (w m w' : WorkView) (r : Result (Unit {0})
       let a = Connection (Fed c piece) in
       let table = k.1.5 ∙ ap (changed_at (with_piece piece) c w.held.connections) (sym k.1.1) in
       let held = k.2 ∙ (λ i. record w.held { connections = table i }) in
-      let fed : Did w m (Acting (λ p h. a) (Some tt)) = did_act (λ p h. a) w m (ap is_some k.1.1) (t.2 ∙ (λ i. record w { held = held i; outputs = sym (append-nil w.outputs) i })) in
+      let fed : Did w m (Acting (λ p h. a) (Some tt)) = did_act (λ p h. a) w m (ap is_some k.1.1) refl (t.2 ∙ (λ i. record w { held = held i; outputs = sym (append-nil w.outputs) i })) in
       let cut = cut_of found.stream piece in
       let takes = subst (λ x. Comes (λ y. y) r m w' (Takes c cut.packets x)) k.1.4 (subst (λ ps. Comes (λ y. y) r m w' (Takes c ps f.fault)) k.1.3 d) in
       comes_looks (λ x. x) r w w' (λ p h. map.get h.connections c) (PieceAt c piece) (Some found) k.1.1

@@ -1,2 +1,3 @@
 pub mod LifeLaws
 pub mod AmidLaws
+pub mod MoveLaws

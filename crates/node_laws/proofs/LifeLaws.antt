@@ -1,17 +1,22 @@
 -- Each session is what its calls make of a new one.
-use Rattle.std.proofs.Common.{◌≡◌, ℕ, Bool, true, false, cond, List, [], ◌∷◌, ◌++◌, Some, None, refl, sym, ap, subst, ◌∙◌}
+use Rattle.std.proofs.Common.{◌≡◌, ℕ, Bool, true, false, cond, List, [], ◌∷◌, ◌++◌, Option, Some, None, option_map, refl, sym, ap, subst, ◌∙◌}
 use Rattle.std.specs.FinMap as map
 use Rattle.std.specs.Cmp.Lexicographic.{slice_cmp}
 use Rattle.std.specs.Ordering.{nat_cmp}
 use Rattle.mqtt_sessions.specs.State.{State, new_session}
+use Rattle.mqtt_sessions.specs.Saved.{durable_of, state_in}
 use Rattle.session_laws.specs.Runs.{Step, Reacts, Run}
+use Rattle.session_laws.proofs.ReopenedLaws.{reopens}
 use Rattle.session_table.specs.Seats.{Seat, Seats, begun}
 use Rattle.session_table.proofs.Tables.{same_text, get_inserted, get_apart, get_removed, get_left}
-use Rattle.node_work.specs.Acts.{Act, Moment, Began, Store, Connection, Session, Out, Named, Acknowledged, Passed, Dropped, Allowed, Runs, next}
+use Rattle.node_work.specs.Acts.{Act, Moment, Began, Store, Connection, Session, Out, Named, Acknowledged, Passed, Dropped, Allowed, next}
 use Rattle.node_work.specs.Held.Connections.{ConnectionAct, Opened, Fed, Accepted, Closed}
 use Rattle.node_work.specs.Held.Sessions.{SessionAct, SessionStep, Begun, Called, Over, MayCall, called}
+use Rattle.node_work.specs.Lasting.{lasting, IsWoken}
+use Rattle.node_rows.specs.Sessions.{opened_seat}
 use Rattle.node_work.specs.View.{Place, HeldView, fresh}
-use Rattle.node_laws.specs.Lives.{is_client, step_in, after_call, after_act, life, IsLived, ActsAreLives, FreshIsLived, SessionsAreRuns}
+use Rattle.node_laws.specs.Moves.{Move, Did, Lost, Becomes, Moves}
+use Rattle.node_laws.specs.Lives.{is_client, step_in, after_call, after_act, lost_step, after_move, life, IsLived, MovesAreLives, FreshIsLived, SessionsAreRuns}
 
 -- one more step of a run
 pub run_more : (a m b : State) (xs : List Step) (s : Step) → Run a xs m → Reacts m s.event s.reaction b → Run a (xs ++ s ∷ []) b
@@ -71,16 +76,32 @@ lived_act p h (Acknowledged client packet at grants offers) lives may lived = li
 lived_act p h (Passed m copies lost) lives may lived = lived
 lived_act p h Dropped lives may lived = lived
 
-pub acts_are_lives : ActsAreLives
-acts_are_lives = λ p h h' acts lives runs lived. go p acts h h' lives runs lived
+-- each session that is there after a loss was there before
+lived_lost : (h h' : HeldView) (lives : List ℕ → List Step) → IsWoken (lasting h) h' → IsLived lives h → IsLived (λ client. lives client ++ lost_step ∷ []) h'
+lived_lost h h' lives woken lived client seat is =
+    again (map.get h.sessions client) refl (sym (woken.1 client) ∙ subst (λ (v : HeldView). map.get v.sessions client ≡ Some seat) woken.2 is)
   where
-    go : (p : Place) (acts : List Act) (h h' : HeldView) (lives : List ℕ → List Step) → Runs p h acts h' → IsLived lives h → IsLived (λ client. life client acts (lives client)) h'
-    go p [] h h' lives runs lived = subst (IsLived lives) (sym runs) lived
-    go p (a ∷ acts) h h' lives runs lived =
-        go p acts runs.0 h' (λ client. after_act client a (lives client)) runs.2 (subst (IsLived (λ client. after_act client a (lives client))) (sym runs.1.1) (lived_act p h a lives runs.1.0 lived))
+    again : (o : Option Seat) → map.get h.sessions client ≡ o → option_map opened_seat (option_map (λ (s : Seat). durable_of s.session) o) ≡ Some seat → Run (new_session client) (lives client ++ lost_step ∷ []) seat.session
+    again None none e = absurd (no_seat seat e)
+    again (Some old) found e =
+        let there : opened_seat (durable_of old.session) ≡ seat = some_same (opened_seat (durable_of old.session)) seat e in
+        subst (λ (v : Seat). Run (new_session client) (lives client ++ lost_step ∷ []) v.session) there
+        (run_more (new_session client) old.session (state_in (durable_of old.session)) (lives client) lost_step (lived client old found) (reopens old.session))
+
+lived_move : (p : Place) (h : HeldView) (m : Move) (h' : HeldView) (lives : List ℕ → List Step) → Becomes p h m h' → IsLived lives h → IsLived (λ client. after_move client m (lives client)) h'
+lived_move p h (Did a) h' lives does lived = subst (IsLived (λ client. after_act client a (lives client))) (sym does.1) (lived_act p h a lives does.0 lived)
+lived_move p h Lost h' lives woken lived = lived_lost h h' lives woken lived
+
+pub moves_are_lives : MovesAreLives
+moves_are_lives = λ p h h' moves lives all lived. go p moves h h' lives all lived
+  where
+    go : (p : Place) (moves : List Move) (h h' : HeldView) (lives : List ℕ → List Step) → Moves p h moves h' → IsLived lives h → IsLived (λ client. life client moves (lives client)) h'
+    go p [] h h' lives all lived = subst (IsLived lives) (sym all) lived
+    go p (m ∷ moves) h h' lives all lived =
+        go p moves all.0 h' (λ client. after_move client m (lives client)) all.2 (lived_move p h m all.0 lives all.1 lived)
 
 pub fresh_is_lived : FreshIsLived
 fresh_is_lived = λ client seat is. absurd (no_seat seat (sym (map.get-empty {X = Seat} (slice_cmp nat_cmp) client) ∙ is))
 
 pub sessions_are_runs : SessionsAreRuns
-sessions_are_runs = λ p h acts runs. acts_are_lives p fresh h acts (λ client. []) runs fresh_is_lived
+sessions_are_runs = λ p h moves all. moves_are_lives p fresh h moves (λ client. []) all fresh_is_lived

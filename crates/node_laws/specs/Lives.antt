@@ -1,14 +1,16 @@
--- The calls of each session of a node, read off the node's acts.
+-- The calls of each session of a node, and its losses, read off the node's moves.
 use Rattle.std.specs.Prelude.{◌≡◌, ℕ, Bool, cond, List, [], ◌∷◌, ◌++◌, Some}
 use Rattle.std.specs.Cmp.Lexicographic.{slice_cmp}
 use Rattle.std.specs.FinMap as map
 use Rattle.std.specs.Ordering.{eq_by_cmp, nat_cmp}
+use Rattle.mqtt_sessions.specs.Reaction.{nothing}
 use Rattle.mqtt_sessions.specs.State.{new_session}
-use Rattle.session_laws.specs.Runs.{Step, Run}
+use Rattle.session_laws.specs.Runs.{Step, Run, loses}
 use Rattle.session_table.specs.Seats.{Seat}
-use Rattle.node_work.specs.Acts.{Act, Moment, Began, Store, Connection, Session, Out, Named, Acknowledged, Passed, Dropped, Runs}
+use Rattle.node_work.specs.Acts.{Act, Moment, Began, Store, Connection, Session, Out, Named, Acknowledged, Passed, Dropped}
 use Rattle.node_work.specs.Held.Sessions.{SessionAct, SessionStep, Begun, Called, Over}
 use Rattle.node_work.specs.View.{Place, HeldView, fresh}
+use Rattle.node_laws.specs.Moves.{Move, Did, Lost, Moves}
 
 -- clients are told apart by the bytes of their identifiers
 abbrev pub is_client : List ℕ → List ℕ → Bool
@@ -36,22 +38,30 @@ after_act client (Acknowledged other packet at grants offers) given = given
 after_act client (Passed m copies lost) given = given
 after_act client Dropped given = given
 
--- the calls of the client's session since it last began, in order
-abbrev pub life : List ℕ → List Act → List Step → List Step
+-- a session that a node holds again after a loss is made of what was kept: it did nothing (MQTT 5.0, 4.1)
+abbrev pub lost_step : Step
+lost_step = record { event = loses; reaction = nothing }
+
+abbrev pub after_move : List ℕ → Move → List Step → List Step
+after_move client (Did a) given = after_act client a given
+after_move client Lost given = given ++ lost_step ∷ []
+
+-- the calls and losses of the client's session since it last began, in order
+abbrev pub life : List ℕ → List Move → List Step → List Step
 life client [] given = given
-life client (a ∷ acts) given = life client acts (after_act client a given)
+life client (m ∷ moves) given = life client moves (after_move client m given)
 
 -- each session is what its calls make of a new one
 abbrev pub IsLived : (List ℕ → List Step) → HeldView → Type 0
 IsLived lives h = (client : List ℕ) (seat : Seat) → map.get h.sessions client ≡ Some seat → Run (new_session client) (lives client) seat.session
 
-abbrev pub ActsAreLives : Type 0
-ActsAreLives = (p : Place) (h h' : HeldView) (acts : List Act) (lives : List ℕ → List Step) → Runs p h acts h' → IsLived lives h → IsLived (λ client. life client acts (lives client)) h'
+abbrev pub MovesAreLives : Type 0
+MovesAreLives = (p : Place) (h h' : HeldView) (moves : List Move) (lives : List ℕ → List Step) → Moves p h moves h' → IsLived lives h → IsLived (λ client. life client moves (lives client)) h'
 
 abbrev pub FreshIsLived : Type 0
 FreshIsLived = IsLived (λ client. []) fresh
 
 abbrev pub SessionsAreRuns : Type 0
 SessionsAreRuns =
-    (p : Place) (h : HeldView) (acts : List Act) → Runs p fresh acts h → (client : List ℕ) (seat : Seat) → map.get h.sessions client ≡ Some seat
-    → Run (new_session client) (life client acts []) seat.session
+    (p : Place) (h : HeldView) (moves : List Move) → Moves p fresh moves h → (client : List ℕ) (seat : Seat) → map.get h.sessions client ≡ Some seat
+    → Run (new_session client) (life client moves []) seat.session

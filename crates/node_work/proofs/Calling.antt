@@ -2,13 +2,15 @@
 use Rattle.std.proofs.Common.{◌≡◌, ℕ, ◌+◌, ◌<◌, ◌++◌, length, get_or, take, append_assoc, List, [], ◌∷◌, Option, Some, None, Result, Ok, Err, inl, inr, refl, sym, ap, subst, ◌∙◌}
 use Rattle.std.specs.Prelude.{option_and_then, IfOk, map as map_list}
 use Rattle.std.specs.FinMap as map
+use Rattle.std.specs.Result.{OnOk}
 use Rattle.std.proofs.lemmas.List.{append-nil, take_more, map-append}
 use Rattle.mqtt_sessions.specs.declared.fault.SessionFault.{SessionFault}
 use Rattle.mqtt_sessions.specs.declared.fault.SessionFault.TheVariants as faults
 use Rattle.mqtt_sessions.specs.Reaction.{Reaction, nothing}
 use Rattle.session_laws.specs.Runs.{Event}
 use Rattle.session_table.specs.Calls.{IsSpelledIf, stays}
-use Rattle.session_table.specs.Seats.{Seat}
+use Rattle.session_table.specs.Seats.{Seat, Seats}
+use Rattle.row_changes.specs.Leading.{Rows}
 use Rattle.node_work.specs.declared.fault.NodeFault.{NodeFault}
 use Rattle.node_work.specs.declared.fault.NodeFault.TheVariants.{NoMemory, NumbersAtEnd, Stopped}
 use Rattle.node_work.specs.declared.outcome.Output.{Output}
@@ -17,7 +19,11 @@ use Rattle.node_work.specs.Calling.{Calls, CallsAt}
 use Rattle.node_work.specs.Held.Calling.{IsHeldCall, Reacted, reacted, fault_of}
 use Rattle.node_work.specs.Held.Sessions.{SessionStep, Called, IsOn, HappensAt, counted, outputs_on}
 use Rattle.node_work.specs.View.{HeldView, WorkView}
+use Rattle.row_store.specs.declared.row.Change.{Change}
+use Rattle.session_table.specs.Rows.{LeadsOn}
+use Rattle.node_work.specs.Lasting.{Tells, TellsOn, held_row, work_row}
 use Rattle.node_work.specs.Working.{Did, Comes}
+use Rattle.node_work.proofs.Telling.{sessions_tell, tells_none}
 
 -- its packets go to the connection that the client is on afterwards
 abbrev pub GoesTo : Option ℕ → (Option ℕ → Option ℕ) → Option Seat → Type 0
@@ -35,26 +41,37 @@ sends_next f w m m' xs i x below at is e =
     e ∙ ap (λ (v : WorkView). record v { outputs = v.outputs ++ f v.held.at x ∷ [] }) is
     ∙ ap (λ os. record w { outputs = os }) (append_assoc w.outputs (map_list one (take i xs)) (one x ∷ []) ∙ ap (λ os. w.outputs ++ os) (sym more))
 
+-- a session begins or is over
+pub both_tell : {T E : Type 0} (id : ℕ) (h h' : HeldView) (before after : List Change) (r : Result T E) (s : Seats) → OnOk r (h' ≡ record h { sessions = s }) → OnOk r (LeadsOn h.sessions before after h'.sessions) → OnOk r (TellsOn (held_row id h) before after (held_row id h'))
+both_tell id h h' before after (Ok x) s is l = sessions_tell id h h' s before after is l
+both_tell id h h' before after (Err e) s is l = tt
+
 -- a call leaves the node's moment as it was
 pub spelled_after : (client : List ℕ) (e : Event) (on : Option ℕ → Option ℕ) (h h' : HeldView) (called : Result (Option Reaction) SessionFault) → IsHeldCall client e on h called h' → IfOk called (IsSpelledIf h.at) → IfOk called (IsSpelledIf h'.at)
 spelled_after client e on h h' called k = subst (λ n. IfOk called (IsSpelledIf n)) (sym (ap (λ (v : HeldView). v.at) k.2))
 
-module _ (client : List ℕ) (event : ℕ → Event) (on : Option ℕ → Option ℕ) (to : Option ℕ) (w w' : WorkView) (h' : HeldView) where
+module _ (client : List ℕ) (event : ℕ → Event) (on : Option ℕ → Option ℕ) (to : Option ℕ) (w w' : WorkView) (h' : HeldView) (cs : List Change) where
+  call_tells : (s : Seats) → h' ≡ record w.held { sessions = s } → LeadsOn w.held.sessions w.changes cs h'.sessions → w'.changes ≡ cs → work_row w' ≡ held_row w.place.id h' → Tells w w'
+  call_tells s is l changes rows =
+      let t = sessions_tell w.place.id w.held h' s w.changes cs is l in
+      subst (λ (r : Rows). TellsOn (work_row w) w.changes w'.changes r) (sym rows) (subst (λ (xs : List Change). TellsOn (work_row w) w.changes xs (held_row w.place.id h')) (sym changes) t)
+
   -- the client has no session
-  no_call : IsHeldCall client (event w.held.at) on w.held (Ok None) h' → w' ≡ record w { held = h' } → Did w w' (Calls client event on (Some nothing))
-  no_call k e =
+  no_call : IsHeldCall client (event w.held.at) on w.held (Ok None) h' → LeadsOn w.held.sessions w.changes cs h'.sessions → w' ≡ record w { held = h'; changes = cs } → Did w w' (Calls client event on (Some nothing))
+  no_call k l e =
       let held : h' ≡ w.held = k.2 ∙ (λ i. record w.held { sessions = k.1.1 i }) in
       record {
         acts = [];
         does = subst (λ o. CallsAt client event on o (Some nothing) w.place w.held []) (sym k.1.0) (refl, refl);
         runs = ap (λ (v : WorkView). v.held) e ∙ held;
         given = ap (λ (v : WorkView). v.outputs) e ∙ sym (append-nil w.outputs);
+        tells = call_tells k.0 k.2 l (ap (λ (v : WorkView). v.changes) e) (ap work_row e);
         place = ap (λ (v : WorkView). v.place) e;
       }
 
   one_call : (r : Reaction) → IsHeldCall client (event w.held.at) on w.held (Ok (Some r)) h' → GoesTo to on (map.get w.held.sessions client) → ((before : Option ℕ) → IsOn (event w.held.at) before (on before)) → HappensAt w.held.at (event w.held.at)
-      → w' ≡ reacted to r (record w { held = h' }) → Did w w' (Calls client event on (Some r))
-  one_call r k goes is_on happens e =
+      → LeadsOn w.held.sessions w.changes cs h'.sessions → w' ≡ reacted to r (record w { held = h'; changes = cs }) → Did w w' (Calls client event on (Some r))
+  one_call r k goes is_on happens l e =
       let seat = k.1.0 in
       let after = k.1.1 in
       let found = k.1.2 in
@@ -75,6 +92,7 @@ module _ (client : List ℕ) (event : ℕ → Event) (on : Option ℕ → Option
         given = ap (λ (v : WorkView). v.outputs) e
             ∙ (λ i. w.outputs ++ outputs_on (there i) (ap (λ (h : HeldView). h.at) held i) r)
             ∙ ap (λ os. w.outputs ++ os) (sym (append-nil (outputs_on (on seat.connection) w.held.at r)));
+        tells = call_tells k.0 k.2 l (ap (λ (v : WorkView). v.changes) e) (ap work_row e);
         place = ap (λ (v : WorkView). v.place) e;
       }
 
@@ -85,6 +103,7 @@ module _ (client : List ℕ) (event : ℕ → Event) (on : Option ℕ → Option
     does = subst (λ o. CallsAt client event on o None w.place w.held []) (sym k.1.1) (inl (refl, k.1.2, refl));
     runs = refl;
     given = sym (append-nil w.outputs);
+    tells = tells_none w w refl refl;
     place = refl;
   }
 
@@ -94,14 +113,14 @@ module _ (client : List ℕ) (event : ℕ → Event) (on : Option ℕ → Option
   call_fault faults.Spent k = absurd k.1
   call_fault faults.BadRow k = absurd k.1
 
-  pub comes_call : (called : Result (Option Reaction) SessionFault) (r : Result Reaction NodeFault) → IsHeldCall client (event w.held.at) on w.held called h' → GoesTo to on (map.get w.held.sessions client) → ((before : Option ℕ) → IsOn (event w.held.at) before (on before))
-      → HappensAt w.held.at (event w.held.at) → Reacted to called r (record w { held = h' }) w' → Comes (λ x. x) r w w' (Calls client event on)
-  comes_call (Ok None) (Ok x) k goes is_on happens d = subst (λ y. Did w w' (Calls client event on (Some y))) (sym d.0) (no_call k d.1)
-  comes_call (Ok (Some a)) (Ok x) k goes is_on happens d = subst (λ y. Did w w' (Calls client event on (Some y))) (sym d.0) (one_call a k goes is_on happens d.1)
-  comes_call (Ok None) (Err NoMemory) k goes is_on happens d = tt
-  comes_call (Ok (Some a)) (Err NoMemory) k goes is_on happens d = tt
-  comes_call (Ok None) (Err NumbersAtEnd) k goes is_on happens d = absurd (let z : NumbersAtEnd ≡ NoMemory = d in cc)
-  comes_call (Ok (Some a)) (Err NumbersAtEnd) k goes is_on happens d = absurd (let z : NumbersAtEnd ≡ NoMemory = d in cc)
-  comes_call (Ok None) (Err Stopped) k goes is_on happens d = absurd (let z : Stopped ≡ NoMemory = d in cc)
-  comes_call (Ok (Some a)) (Err Stopped) k goes is_on happens d = absurd (let z : Stopped ≡ NoMemory = d in cc)
-  comes_call (Err f) r k goes is_on happens d = subst (λ q. Comes (λ x. x) q w w' (Calls client event on)) (sym d.0) (call_fault f k)
+  pub comes_call : (called : Result (Option Reaction) SessionFault) (r : Result Reaction NodeFault) → IsHeldCall client (event w.held.at) on w.held called h' → OnOk called (LeadsOn w.held.sessions w.changes cs h'.sessions) → GoesTo to on (map.get w.held.sessions client) → ((before : Option ℕ) → IsOn (event w.held.at) before (on before))
+      → HappensAt w.held.at (event w.held.at) → Reacted to called r (record w { held = h'; changes = cs }) w' → Comes (λ x. x) r w w' (Calls client event on)
+  comes_call (Ok None) (Ok x) k l goes is_on happens d = subst (λ y. Did w w' (Calls client event on (Some y))) (sym d.0) (no_call k l d.1)
+  comes_call (Ok (Some a)) (Ok x) k l goes is_on happens d = subst (λ y. Did w w' (Calls client event on (Some y))) (sym d.0) (one_call a k goes is_on happens l d.1)
+  comes_call (Ok None) (Err NoMemory) k l goes is_on happens d = tt
+  comes_call (Ok (Some a)) (Err NoMemory) k l goes is_on happens d = tt
+  comes_call (Ok None) (Err NumbersAtEnd) k l goes is_on happens d = absurd (let z : NumbersAtEnd ≡ NoMemory = d in cc)
+  comes_call (Ok (Some a)) (Err NumbersAtEnd) k l goes is_on happens d = absurd (let z : NumbersAtEnd ≡ NoMemory = d in cc)
+  comes_call (Ok None) (Err Stopped) k l goes is_on happens d = absurd (let z : Stopped ≡ NoMemory = d in cc)
+  comes_call (Ok (Some a)) (Err Stopped) k l goes is_on happens d = absurd (let z : Stopped ≡ NoMemory = d in cc)
+  comes_call (Err f) r k l goes is_on happens d = subst (λ q. Comes (λ x. x) q w w' (Calls client event on)) (sym d.0) (call_fault f k)

@@ -3,7 +3,6 @@ use Rattle.std.proofs.Common.{◌≡◌, ℕ, ◌≤◌, ◌<◌, ◌^◌, ◌||
 use Rattle.std.specs.Result.{OnOk, IfErr, IsErrAnd}
 use Rattle.std.proofs.lemmas.Result.{err_from_is_err_and}
 use Rattle.std.proofs.lemmas.Bool.Decides.{nat_tests}
-use Rattle.std.proofs.lemmas.List.{append-nil}
 use Rattle.subscription_set.specs.declared.entry.Entry.{Entry}
 use Rattle.subscription_set.specs.Standing.{any_of}
 use Rattle.replica_store.specs.declared.content.Content.{Content}
@@ -11,15 +10,18 @@ use Rattle.replica_store.specs.declared.fault.StoreFault.{StoreFault}
 use Rattle.replica_store.specs.declared.fault.StoreFault.TheVariants as store_faults
 use Rattle.replica_store.specs.declared.operation.Operation.{Operation}
 use Rattle.replica_store.specs.Making.{NumberAtEnd, CountAtEnd, subscribe_of, remove_of, put_of}
-use Rattle.replica_store.specs.States.{State}
+use Rattle.replica_store.specs.States.{State, state_join}
 use Rattle.node_work.specs.declared.fault.NodeFault.{NodeFault}
 use Rattle.node_work.specs.declared.fault.NodeFault.TheVariants.{NoMemory, NumbersAtEnd, Stopped}
 use Rattle.node_work.specs.View.{Place, HeldView, WorkView}
 use Rattle.node_work.specs.Acts.{Store, Made, IsMade}
+use Rattle.node_work.specs.Lasting.{StoreTells, TellsOn, held_row}
+use Rattle.row_store.specs.declared.row.Change.{Change}
 use Rattle.node_work.specs.Held.Making.{Makes, number_at_end, put_at_end, removal, with_operation}
 use Rattle.node_work.specs.Names.{node_fault}
 use Rattle.node_work.specs.Working.{Numbered, Comes}
-use Rattle.node_work.proofs.Working.{did_act, did_numbered, did_at_end}
+use Rattle.node_work.proofs.Telling.{store_tells}
+use Rattle.node_work.proofs.Working.{did_told, did_numbered, did_at_end}
 
 -- ---- at the end of the numbers
 
@@ -90,25 +92,31 @@ made_put id content h e = let p = neither _ _ e in (is_below _ p.0, is_below _ p
 removal_is : (id : ℕ) (client : List ℕ) (to : Option (List ℕ)) (s : State) → any_of client to s.subscriptions ≡ true → Some (removal id client to s) ≡ remove_of id client to s
 removal_is id client to s e = ap (λ b. cond b (Some (removal id client to s)) None) (sym e)
 
-module _ (w : WorkView) (h' : HeldView) where
+pub merge_tells : {T E : Type 0} (id : ℕ) (h h' : HeldView) (s : State) (before after : List Change) (r : Result T E) → OnOk r (h' ≡ record h { store = state_join h.store s }) → OnOk r (StoreTells h.store before after h'.store) → OnOk r (TellsOn (held_row id h) before after (held_row id h'))
+merge_tells id h h' s before after (Ok x) is t = store_tells id h h' before after (ap (λ (v : HeldView). v.named) is) (ap (λ (v : HeldView). v.sessions) is) t
+merge_tells id h h' s before after (Err e) is t = tt
+
+module _ (w : WorkView) (h' : HeldView) (cs : List Change) where
   abbrev after : WorkView
-  after = record w { held = h' }
+  after = record w { held = h'; changes = cs }
 
   comes_made : (ends : Place → HeldView → Bool) (o : Place → HeldView → Operation) (r : Result (Unit {0}) NodeFault) → (ends w.place w.held ≡ false → IsMade w.place.id w.held.store (o w.place w.held))
-      → Makes (ends w.place w.held) (o w.place w.held) w.held h' r → Comes (λ x. x) r w after (Numbered ends (λ p h. Store (Made (o p h))))
-  comes_made ends o (Ok x) made m = did_numbered ends (λ p h. Store (Made (o p h))) w after m.0 (did_act (λ p h. Store (Made (o p h))) w after (made m.0) (λ i. record { place = w.place; held = m.1 i; outputs = sym (append-nil w.outputs) i }))
-  comes_made ends o (Err NumbersAtEnd) made m = (after, did_at_end ends (λ p h. Store (Made (o p h))) w after m.0 (λ i. record w { held = m.1 i }))
-  comes_made ends o (Err NoMemory) made m = tt
-  comes_made ends o (Err Stopped) made m = m
+      → Makes (ends w.place w.held) (o w.place w.held) w.held h' r → OnOk r (StoreTells w.held.store w.changes cs h'.store) → Comes (λ x. x) r w after (Numbered ends (λ p h. Store (Made (o p h))))
+  comes_made ends o (Ok x) made m t =
+      did_numbered ends (λ p h. Store (Made (o p h))) w after m.0
+      (did_told (λ p h. Store (Made (o p h))) w h' cs (made m.0) refl m.1 (store_tells w.place.id w.held h' w.changes cs (ap (λ (v : HeldView). v.named) m.1) (ap (λ (v : HeldView). v.sessions) m.1) t))
+  comes_made ends o (Err NumbersAtEnd) made m t = (w, did_at_end ends (λ p h. Store (Made (o p h))) w w m.0 refl)
+  comes_made ends o (Err NoMemory) made m t = tt
+  comes_made ends o (Err Stopped) made m t = m
 
-  pub comes_subscribe : (entry : Entry) (r : Result (Unit {0}) NodeFault) → Makes (number_at_end w.place.id w.held) (subscribe_of w.place.id entry w.held.store) w.held h' r
+  pub comes_subscribe : (entry : Entry) (r : Result (Unit {0}) NodeFault) → entry.version ≡ 0 → Makes (number_at_end w.place.id w.held) (subscribe_of w.place.id entry w.held.store) w.held h' r → OnOk r (StoreTells w.held.store w.changes cs h'.store)
       → Comes (λ x. x) r w after (Numbered (λ p h. number_at_end p.id h) (λ p h. Store (Made (subscribe_of p.id entry h.store))))
-  comes_subscribe entry r m = comes_made (λ p h. number_at_end p.id h) (λ p h. subscribe_of p.id entry h.store) r (λ e. (is_below _ e, refl)) m
+  comes_subscribe entry r version m t = comes_made (λ p h. number_at_end p.id h) (λ p h. subscribe_of p.id entry h.store) r (λ e. (is_below _ e, refl, version)) m t
 
-  pub comes_remove : (client : List ℕ) (to : Option (List ℕ)) (r : Result (Unit {0}) NodeFault) → any_of client to w.held.store.subscriptions ≡ true → Makes (number_at_end w.place.id w.held) (removal w.place.id client to w.held.store) w.held h' r
+  pub comes_remove : (client : List ℕ) (to : Option (List ℕ)) (r : Result (Unit {0}) NodeFault) → any_of client to w.held.store.subscriptions ≡ true → Makes (number_at_end w.place.id w.held) (removal w.place.id client to w.held.store) w.held h' r → OnOk r (StoreTells w.held.store w.changes cs h'.store)
       → Comes (λ x. x) r w after (Numbered (λ p h. number_at_end p.id h) (λ p h. Store (Made (removal p.id client to h.store))))
-  comes_remove client to r stands m = comes_made (λ p h. number_at_end p.id h) (λ p h. removal p.id client to h.store) r (λ e. (is_below _ e, (client, to, removal_is w.place.id client to w.held.store stands))) m
+  comes_remove client to r stands m t = comes_made (λ p h. number_at_end p.id h) (λ p h. removal p.id client to h.store) r (λ e. (is_below _ e, (client, to, removal_is w.place.id client to w.held.store stands))) m t
 
-  pub comes_put : (content : Content) (r : Result (Unit {0}) NodeFault) → Makes (put_at_end w.place.id w.held) (put_of w.place.id content w.held.store) w.held h' r
+  pub comes_put : (content : Content) (r : Result (Unit {0}) NodeFault) → Makes (put_at_end w.place.id w.held) (put_of w.place.id content w.held.store) w.held h' r → OnOk r (StoreTells w.held.store w.changes cs h'.store)
       → Comes (λ x. x) r w after (Numbered (λ p h. put_at_end p.id h) (λ p h. Store (Made (put_of p.id content h.store))))
-  comes_put content r m = comes_made (λ p h. put_at_end p.id h) (λ p h. put_of p.id content h.store) r (made_put w.place.id content w.held) m
+  comes_put content r m t = comes_made (λ p h. put_at_end p.id h) (λ p h. put_of p.id content h.store) r (made_put w.place.id content w.held) m t

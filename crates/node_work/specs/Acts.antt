@@ -42,9 +42,9 @@ pub data Act : Type 0 where
   Passed : (m : Message) (copies : List Copy) (lost : ℕ) → Act
   Dropped : Act
 
--- the next operation of the node, looking at what was taken before it
+-- the next operation of the node, looking at what was taken before it; a subscription is made under version 0 of the table
 abbrev pub IsMade : ℕ → State → Operation → Type 0
-IsMade id s (Subscribe dot entry cover) = (¬ NumberAtEnd id s) × (Subscribe dot entry cover ≡ subscribe_of id entry s)
+IsMade id s (Subscribe dot entry cover) = (¬ NumberAtEnd id s) × (Subscribe dot entry cover ≡ subscribe_of id entry s) × (entry.version ≡ 0)
 IsMade id s (Remove dot cover) = (¬ NumberAtEnd id s) × ((client : List ℕ) × (to : Option (List ℕ)) × (Some (Remove dot cover) ≡ remove_of id client to s))
 IsMade id s (Put dot stamp content) = (¬ NumberAtEnd id s) × (¬ CountAtEnd s) × (Put dot stamp content ≡ put_of id content s)
 

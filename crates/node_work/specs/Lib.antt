@@ -3,6 +3,7 @@ pub mod Calling
 pub mod Doings
 pub mod Frames
 pub mod Held
+pub mod Lasting
 pub mod Names
 pub mod Offers
 pub mod Packets

@@ -9,6 +9,7 @@ use Rattle.home_table.specs.Table.{Table, coded_table}
 use Rattle.replica_store.specs.States.{State, nothing, coded_state}
 use Rattle.session_table.specs.Seats.{Seats, coded_seats}
 use Rattle.node_work.specs.declared.counts.Counts.{Counts}
+use Rattle.row_store.specs.declared.row.Change.{Change}
 use Rattle.node_work.specs.declared.outcome.Output.{Output}
 
 -- where a node stands in its cluster: its number, and the table of homes
@@ -38,11 +39,12 @@ pub record HeldView : Type 0 where
   pub named : ℕ
   pub counts : Counts
 
--- a node at work on an event: its place, what it holds, and what it has given out so far
+-- a node at work on an event: its place, what it holds, and what it has given out so far, and the changes of its rows
 pub record WorkView : Type 0 where
   pub place : Place
   pub held : HeldView
   pub outputs : List Output
+  pub changes : List Change
 
 -- a node: its place, and what it holds while it runs
 pub record NodeView : Type 0 where
@@ -52,9 +54,13 @@ pub record NodeView : Type 0 where
 abbrev pub no_counts : Counts
 no_counts = record { queue_full = 0; retained_full = 0; picks_lost = 0 }
 
--- a node that was just opened
+-- a node that was just opened, with what lasts of it
+abbrev pub woken : ℕ → Seats → State → HeldView
+woken named sessions store = record { at = 0; started = false; store = store; connections = map.empty; sessions = sessions; turn = 0; named = named; counts = no_counts }
+
+-- a new one
 abbrev pub fresh : HeldView
-fresh = record { at = 0; started = false; store = nothing; connections = map.empty; sessions = map.empty; turn = 0; named = 0; counts = no_counts }
+fresh = woken 0 map.empty nothing
 
 abbrev pub opened : Place → NodeView
 opened place = record { place = place; up = Some fresh }

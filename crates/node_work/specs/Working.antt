@@ -3,6 +3,7 @@
 use Rattle.std.specs.Prelude.{◌≡◌, ℕ, Bool, cond, List, [], ◌∷◌, ◌++◌, Option, Some, None, Result, Ok, Err, ◌⊎◌}
 use Rattle.node_work.specs.declared.fault.NodeFault.{NodeFault}
 use Rattle.node_work.specs.declared.fault.NodeFault.TheVariants.{NoMemory, NumbersAtEnd, Stopped}
+use Rattle.node_work.specs.Lasting.{Tells}
 use Rattle.node_work.specs.View.{Place, HeldView, WorkView}
 use Rattle.node_work.specs.Acts.{Act, Runs, gather, output_in}
 
@@ -63,12 +64,13 @@ Each One (x ∷ xs) = Then (One x) (λ _. Each One xs)
 
 -- ---- contracts
 
--- acts of a kind, with the outputs that they add
+-- acts of a kind, with the outputs and the changes of rows that they add
 pub record Did (w w' : WorkView) (P : Doing) : Type 0 where
   pub acts : List Act
   pub does : P w.place w.held acts
   pub runs : Runs w.place w.held acts w'.held
   pub given : w'.outputs ≡ w.outputs ++ gather output_in acts
+  pub tells : Tells w w'
   pub place : w'.place ≡ w.place
 
 -- work of a kind with its result; where a number can't be had nothing is said of what is left, and where memory is wanting

@@ -2,6 +2,7 @@
 
 use crate::frame::Frame;
 use mqtt_packets::Bytes;
+use row_store::Change;
 
 /// One thing that a node gives out.
 #[derive(Drop)]
@@ -14,8 +15,10 @@ pub enum Output {
     Frame { frame: Frame },
 }
 
-/// What comes of an event, in order.
+/// What comes of an event: what is given out, in order, and the changes of the node's rows that go before it, in the order of
+/// their keys, each of which is named once.
 #[derive(Drop)]
 pub struct Outcome {
     pub outputs: Vec<Output>,
+    pub changes: Vec<Change>,
 }

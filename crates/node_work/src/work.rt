@@ -1,6 +1,6 @@
 //! A node at work on an event.
 
-ghost use Rattle.std.specs.Prelude.{◌≡◌, ◌<◌, ◌≤◌, ◌^◌, ℕ, List, map, true, false, is_some, [], ◌∷◌, ◌++◌, OnOk, IfOk, IfErr, Ok, Err, Some, None};
+ghost use Rattle.std.specs.Prelude.{◌≡◌, ◌<◌, ◌≤◌, ◌^◌, ℕ, List, map, true, false, is_some, [], ◌∷◌, ◌++◌, OnOk, IfOk, IfErr, IsOk, Ok, Err, Some, None};
 ghost use Rattle.std.specs.Option.{option_copied};
 ghost use Rattle.mqtt_packets.specs.Written.{HasSpelling, written};
 ghost use Rattle.mqtt_message.specs.declared.delivery.Delivery.{Delivery};
@@ -21,9 +21,12 @@ ghost use Rattle.node_work.specs.Held.Connections.{Opened, Accepted, Closed, is_
 ghost use Rattle.node_work.specs.Held.Feeding.{IsHeldFed};
 ghost use Rattle.node_work.specs.Held.Sessions.{Begun, Over, has_session, packet_output, last_of, outputs_on};
 ghost use Rattle.node_work.specs.Packets.{CameSpelled};
+ghost use Rattle.store_rows.specs.Reading.{IsStore};
+ghost use Rattle.row_changes.specs.Gathered.{AreOnce, LeaveAlike};
 ghost use Rattle.message_copies.specs.declared.plain.PlainCopy.{PlainCopy as Copy};
 ghost use Rattle.node_work.specs.Passing.{IsPassed, turn_at_end};
-ghost use Rattle.node_work.specs.View.{HeldView, Place, fresh};
+ghost use Rattle.node_work.specs.Lasting.{CanLast};
+ghost use Rattle.node_work.specs.View.{HeldView, Place, woken};
 ghost use Rattle.node_work.specs.Working.{Comes, Acting, Numbered, Returns, If};
 ghost use Rattle.node_work.specs.declared.granted.Granted.{Granted};
 ghost use Rattle.node_work.specs.declared.fault.NodeFault.TheVariants.{NoMemory, NumbersAtEnd};
@@ -40,7 +43,9 @@ use mqtt_message::Delivery;
 use mqtt_packets::{Bytes, Connect, Packet};
 use mqtt_sessions::{Output as SessionOutput, Reaction, SessionFault};
 use mqtt_topics::Filter;
+use node_rows::{Opened, mark_row};
 use replica_store::{Content, ReplicaStore};
+use row_changes::gather;
 use row_store::Change;
 use std::alloc::Global;
 use std::marker::Model;
@@ -61,7 +66,7 @@ pub struct Work {
     held: Held,
     outputs: Vec<Output>,
 
-    // The changes of the rows of the sessions, in the order in which they were made.
+    // The changes of the node's rows, in the order in which they were made.
     changes: Vec<Change>,
 }
 
@@ -70,14 +75,16 @@ impl Model for Work {
     ghost use Rattle.std.specs.Coded.{code_by, coded×, coded_list};
     ghost use Rattle.node_work.specs.declared.outcome.Output.{Output};
     ghost use Rattle.node_work.specs.contracts.outcome.Output as output;
+    ghost use Rattle.row_store.specs.declared.row.Change.{Change};
+    ghost use Rattle.row_store.specs.contracts.row.Change as change;
     ghost use Rattle.node_work.specs.View.{HeldView, Place, WorkView, coded_held, coded_place};
 
     ghost Value = { WorkView };
 
-    ghost coded = { code_by (Place × (HeldView × List Output)) (coded× coded_place (coded× coded_held (coded_list output.the_row.coded)))
-        (λ w. (w.place, (w.held, w.outputs))) (λ p. record { place = p.0; held = p.1.0; outputs = p.1.1 }) (λ _. refl) };
+    ghost coded = { code_by (Place × (HeldView × (List Output × List Change))) (coded× coded_place (coded× coded_held (coded× (coded_list output.the_row.coded) (coded_list change.the_row.coded))))
+        (λ w. (w.place, (w.held, (w.outputs, w.changes)))) (λ p. record { place = p.0; held = p.1.0; outputs = p.1.1.0; changes = p.1.1.1 }) (λ _. refl) };
 
-    ghost view = { λ w. record { place = record { id = w.id; homes = w.homes }; held = w.held; outputs = w.outputs.items } };
+    ghost view = { λ w. record { place = record { id = w.id; homes = w.homes }; held = w.held; outputs = w.outputs.items; changes = w.changes.items } };
 }
 
 /// A reaction that says nothing.
@@ -94,14 +101,17 @@ fn nothing(alloc: Global) -> Reaction
 }
 
 impl Work {
-    pub fn new(alloc: Global, id: u16, homes: HomeTable) -> Work
-        ensures { result ≡ record { place = record { id = id; homes = homes }; held = fresh; outputs = [] } }
+    /// A node, as it is opened with what lasts of it.
+    pub fn wake(alloc: Global, id: u16, homes: HomeTable, opened: Opened) -> Work
+        requires named { opened.named < 2 ^ 62 }
+        requires store { IsStore opened.store }
+        ensures { result ≡ record { place = record { id = id; homes = homes }; held = woken opened.named opened.sessions opened.store; outputs = []; changes = [] } }
     {
         Work {
             alloc,
             id,
             homes,
-            held: Held::new(alloc),
+            held: Held::wake(alloc, opened),
             outputs: Vec::new(alloc),
             changes: Vec::new(alloc),
         }
@@ -132,25 +142,40 @@ impl Work {
 
     /// Starts a step.
     pub fn start(&mut self)
-        ensures { self.new ≡ record self.old { outputs = [] } }
+        ensures { self.new ≡ record self.old { outputs = []; changes = [] } }
     {
         self.outputs.clear();
         self.changes.clear();
     }
 
-    /// Hands over what was given out.
-    pub fn finish(&mut self) -> Outcome
-        ensures given { result.outputs.items ≡ self.old.outputs }
-        ensures rest { self.new ≡ record self.old { outputs = [] } }
+    /// What lasts can be read from its rows again. This does nothing; its contract is the law.
+    pub fn can_last(&self)
+        ensures { CanLast self.now.held }
+    {
+        self.held.can_last();
+    }
+
+    /// Hands over what was given out, and the changes of the rows, of those at one row the last. It takes no memory where
+    /// there are no changes.
+    pub fn finish(&mut self) -> Result<Outcome, NodeFault>
+        ensures given { IfOk result (λ o. o.outputs.items ≡ self.old.outputs) }
+        ensures once { IfOk result (λ o. AreOnce o.changes.items) }
+        ensures alike { IfOk result (λ o. LeaveAlike o.changes.items self.old.changes) }
+        ensures rest { self.new ≡ record self.old { outputs = []; changes = [] } }
+        ensures none { self.old.changes ≡ [] → IfOk result (λ o. o.changes.items ≡ []) × IsOk result }
+        ensures fault { IfErr result (λ e. e ≡ NoMemory) }
     {
         let alloc = self.alloc;
         let outputs = std::mem::replace(&mut self.outputs, Vec::new(alloc));
-        Outcome { outputs }
+        let told = std::mem::replace(&mut self.changes, Vec::new(alloc));
+        let changes = gather(alloc, told)?;
+        Ok(Outcome { outputs, changes })
     }
 
     /// Takes a moment, unless a later one was taken. It takes no memory.
     pub fn take_moment(&mut self, at: u64) -> Result<(), NodeFault>
         ensures comes { Comes (λ x. x) result self.old self.new (TakesMoment at) }
+        ensures same { self.new.changes ≡ self.old.changes }
         ensures below { at < 2 ^ 62 → result ≡ Ok tt }
         ensures end { 2 ^ 62 ≤ at → result ≡ Err NumbersAtEnd }
     {
@@ -164,6 +189,7 @@ impl Work {
     /// Begins the node's work.
     pub fn begin(&mut self) -> Result<(), NodeFault>
         ensures comes { Comes (λ x. x) result self.old self.new (Acting (λ p h. Began)) }
+        ensures same { self.new.changes ≡ self.old.changes }
         ensures done { result ≡ Ok tt }
     {
         self.held.begin();
@@ -172,9 +198,11 @@ impl Work {
 
     /// Makes a Subscribe of the entry, and takes it.
     pub fn subscribe(&mut self, entry: Entry) -> Result<(), NodeFault>
+        requires { entry.version ≡ 0 }
         ensures { Comes (λ x. x) result self.old self.new (MakesSubscribe entry) }
     {
-        self.held.subscribe(self.id, entry)
+        self.held
+            .subscribe(self.alloc, self.id, entry, &mut self.changes)
     }
 
     /// Makes a Remove of what stands of the client and, where one is given, to the filter, and takes
@@ -187,7 +215,8 @@ impl Work {
         if !self.held.stands(client, filter) {
             return Ok(false);
         }
-        self.held.remove(self.id, client, filter)?;
+        self.held
+            .remove(self.alloc, self.id, client, filter, &mut self.changes)?;
         Ok(true)
     }
 
@@ -195,13 +224,14 @@ impl Work {
     pub fn put(&mut self, content: Content) -> Result<(), NodeFault>
         ensures { Comes (λ x. x) result self.old self.new (MakesPut content) }
     {
-        self.held.put(self.id, content)
+        self.held
+            .put(self.alloc, self.id, content, &mut self.changes)
     }
 
     pub fn merge(&mut self, state: &ReplicaStore) -> Result<(), NodeFault>
         ensures { Comes (λ x. x) result self.old self.new (Acting (λ p h. Store (Merged state.now))) }
     {
-        self.held.merge(state)
+        self.held.merge(self.alloc, state, &mut self.changes)
     }
 
     /// Opens a connection that isn't open.
@@ -297,9 +327,10 @@ impl Work {
     pub fn name(&mut self, number: u64) -> Result<(), NodeFault>
         requires later { self.old.held.named < number }
         requires below { number < 2 ^ 62 }
-        ensures comes { Comes (λ x. x) result self.old self.new (Acting (λ p h. Named number)) }
-        ensures done { result ≡ Ok tt }
+        ensures { Comes (λ x. x) result self.old self.new (Acting (λ p h. Named number)) }
     {
+        let row = mark_row(self.alloc, self.id, number)?;
+        self.changes.push(Change::Put(row))?;
         self.held.name(number);
         Ok(())
     }

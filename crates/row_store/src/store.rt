@@ -63,7 +63,10 @@ pub trait RowStore {
         ensures device { result ≡ Err RowFault.Device
             → (failed self.old < failed self.new) ⊎ (failed self.new ≡ 2 ^ 64 - 1) }
         ensures counts { result ≢ Err RowFault.Device → failed self.new ≡ failed self.old }
-        ensures rows { result ≢ Err RowFault.BadRow };
+        ensures rows { result ≢ Err RowFault.BadRow }
+        // What is clean was so before, and what is open was.
+        ensures was_clean { is_clean self.new → is_clean self.old }
+        ensures was_open { is_clean self.new → is_open self.new → is_open self.old };
 
     /// The rows, in the order of their keys.
     fn load(&mut self) -> Result<Vec<Row>, RowFault>
@@ -75,7 +78,10 @@ pub trait RowStore {
             → (failed self.old < failed self.new) ⊎ (failed self.new ≡ 2 ^ 64 - 1) }
         ensures counts { result ≢ Err RowFault.Device → failed self.new ≡ failed self.old }
         // Only a disk that returns what wasn't written has other rows.
-        ensures rows { is_clean self.new → is_open self.old → result ≢ Err RowFault.BadRow };
+        ensures rows { is_clean self.new → is_open self.old → result ≢ Err RowFault.BadRow }
+        ensures stays_open { is_clean self.new → is_open self.old → OnOk result (is_open self.new) }
+        ensures was_clean { is_clean self.new → is_clean self.old }
+        ensures was_open { is_clean self.new → is_open self.new → is_open self.old };
 
     /// While it is open, a crash leaves what it holds.
     ghost settled: { (s : Self) (c : Content) → is_open s → may_leave s c → c ≡ content s };

@@ -2,4 +2,12 @@
 #![tactic(auto)]
 
 #[cfg(test)]
+mod database;
+#[cfg(test)]
+mod disk;
+#[cfg(test)]
+mod samples;
+#[cfg(test)]
+mod stops;
+#[cfg(test)]
 mod tests;

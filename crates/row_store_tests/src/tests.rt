@@ -1,25 +1,14 @@
 //! The example of docs/rows.md in memory and in a database, the databases that aren't adopted, and changes that are gathered.
 
+use crate::database::adopted;
+use crate::samples::{apply, bytes, load, put, removal, row};
 use row_changes::gather;
-use row_store::{Change, MemoryRows, Row, RowFault, RowStore};
+use row_store::{Change, MemoryRows, RowFault, RowStore};
 use session_records::SqlRows;
 use sqlite::{Alter, Connection, Error};
 use sqlite_trees::memory::MemStore;
-use std::alloc::{AllocError, Global};
+use std::alloc::Global;
 use std::test::Fail;
-
-fn bytes(alloc: Global, text: &str) -> Result<Vec<u8>, AllocError> {
-    Vec::from_slice(alloc, text.as_bytes())
-}
-
-fn row(alloc: Global, kind: u8, owner: &str, value: u8) -> Result<Row, AllocError> {
-    Ok(Row {
-        kind,
-        owner: bytes(alloc, owner)?,
-        place: Vec::new(alloc),
-        value: Vec::from_slice(alloc, &[value])?,
-    })
-}
 
 // Put (5, `t`, empty) with 01 and then with 02, and remove (2, `a`, empty).
 fn changes(alloc: Global) -> Result<Vec<Change>, Fail> {
@@ -28,15 +17,6 @@ fn changes(alloc: Global) -> Result<Vec<Change>, Fail> {
     changes.push(Change::Put(row(alloc, 5, "t", 2)?))?;
     changes.push(Change::Remove(2, bytes(alloc, "a")?, Vec::new(alloc)))?;
     Ok(changes)
-}
-
-// These have no clause, so that the proof of a test doesn't carry the content after each call.
-fn apply<R: RowStore>(rows: &mut R, changes: &[Change]) -> Result<(), RowFault> {
-    rows.apply(changes)
-}
-
-fn load<R: RowStore>(rows: &mut R) -> Result<Vec<Row>, RowFault> {
-    rows.load()
 }
 
 // Whether the example leaves its one row, and the row goes by a removal.
@@ -72,16 +52,6 @@ fn database(alloc: Global, texts: &[&str]) -> Result<Connection<MemStore>, Fail>
         conn.execute_batch(text)?;
     }
     Ok(conn)
-}
-
-fn adopted(
-    conn: Connection<MemStore>,
-) -> Result<SqlRows<MemStore>, (RowFault, Connection<MemStore>)> {
-    if conn.is_autocommit() {
-        SqlRows::adopt(conn)
-    } else {
-        Err((RowFault::Device, conn))
-    }
 }
 
 fn objects<S: Alter>(conn: &mut Connection<S>) -> Result<i64, Error> {
@@ -160,14 +130,6 @@ fn other_databases_are_left_as_they_were(rt: HostRuntime) -> Result<(), Fail> {
         assert_eq!(rt; objects(&mut conn)?, before);
     }
     Ok(())
-}
-
-fn put(alloc: Global, kind: u8, owner: &str, value: u8) -> Result<Change, AllocError> {
-    Ok(Change::Put(row(alloc, kind, owner, value)?))
-}
-
-fn removal(alloc: Global, kind: u8, owner: &str) -> Result<Change, AllocError> {
-    Ok(Change::Remove(kind, bytes(alloc, owner)?, Vec::new(alloc)))
 }
 
 #[test]

@@ -8,6 +8,7 @@ use Rattle.std.specs.Option.{option_map}
 use Rattle.std.specs.Ordering.{eq_by_cmp}
 use Rattle.std.proofs.lemmas.Bool.{cases_Bool, false≢true}
 use Rattle.std.proofs.lemmas.List.{append-nil, append_assoc}
+use Rattle.mqtt_fields.specs.Numbers.{IsText}
 use Rattle.qos_handshakes.specs.declared.copies.Entry.{Entry}
 use Rattle.qos_handshakes.specs.Entries.{Entries, at_place}
 use Rattle.qos_handshakes.specs.Outbox.{away}
@@ -29,18 +30,27 @@ use Rattle.mqtt_sessions.specs.State.{State, new_session}
 use Rattle.mqtt_sessions.proofs.SavedLaws.{main-back}
 use Rattle.session_laws.specs.Runs.{Event, Reacts}
 use Rattle.saved_laws.specs.Histories.{Point, Move, calls, tells, Moves, TellsAt, History, Begins, begun, opened, durable_at}
+use Rattle.saved_laws.specs.Sound.{BeginsSound, IsSoundEvent, IsSoundMove, StaysDurable}
 use Rattle.saved_laws.specs.Told.{StaysSince, ToldChangesLead, RemovalsLeaveNone, Empties}
-use Rattle.session_table.specs.Seats.{Seats, begun as begun_seat}
+use Rattle.session_table.specs.Seats.{Seat, Seats, begun as begun_seat}
 use Rattle.session_table.specs.Calls.{IsTurned}
 use Rattle.session_table.specs.Listing.{AllTold, Table, seat_of, seats_in, session_in, text_cmp}
 use Rattle.session_table.specs.declared.seated.Seated.{Seated}
-use Rattle.session_table.specs.Rows.{IsAllTold, IsOf, IsTold, LeadsOn, OwnLead, OwnLeadsOn, BeginTells, CallTells, RemovalLeaves, TellsAgain, TellsOn, is_session_kind, no_row, row_in, rows_for, saved_row, seat_row, told_point}
+use Rattle.session_table.specs.Rows.{AllDurable, IsAllTold, IsOf, IsTold, LeadsOn, OwnLead, OwnLeadsOn, BeginTells, CallTells, RemovalLeaves, TellsAgain, TellsOn, is_session_kind, no_row, row_in, rows_for, saved_row, seat_row, told_point}
 use Rattle.session_table.proofs.Tables.{get_apart, get_inserted, get_left, get_removed, get_seat, itself, remove_absent, same_text, seats_insert, seats_remove}
 
 -- ---- histories
 history-then : (a : Point) (ms : List Move) (b : Point) (m : Move) (c : Point) → History a ms b → Moves b m c → History a (ms ++ m ∷ []) c
 history-then a [] b m c h n = (c, subst (λ (x : Point). Moves x m c) h n, refl)
 history-then a (x ∷ ms) b m c h n = (h.0, h.1, history-then h.0 ms b m c h.2 n)
+
+sound-then : (ms : List Move) (m : Move) → AllByRecursion IsSoundMove ms → IsSoundMove m → AllByRecursion IsSoundMove (ms ++ m ∷ [])
+sound-then [] m h s = (s, tt)
+sound-then (x ∷ ms) m h s = (h.0, sound-then ms m h.1 s)
+
+begins-of : (p : Point) → BeginsSound p → Begins p
+begins-of p (inl b) = inl (b.0, b.2)
+begins-of p (inr b) = inr b
 
 -- ---- whose rows the changes are
 abbrev IsMine : List ℕ → Plain → Type 0
@@ -99,10 +109,17 @@ none-before key = map.get-from_entries keys_total [] key
 same-tracked : (old : Saved) (own : List Change) (new : Saved) → Tells old own new → new.tracked.state ≡ old.tracked.state
 same-tracked old own new t = ap (λ x. x.state) t.state
 
-told-next : (start : Point) (moves : List Move) (old : Point) (own : List Change) (new : Saved) → Begins start → History start moves old → Tells old.session own new → IsTold old.session.tracked.state.kept.client new
-told-next start moves old own new b h t =
+told-next : (start : Point) (moves : List Move) (old : Point) (own : List Change) (new : Saved) → BeginsSound start → AllByRecursion IsSoundMove moves → History start moves old → Tells old.session own new → IsTold old.session.tracked.state.kept.client new
+told-next start moves old own new b s h t =
     let at : TellsAt old own (told_point new) = record { tells = t; last = ap (λ s. Some (durable_of s)) (same-tracked old.session own new t) } in
-    record { start = start; moves = moves ++ tells own ∷ []; begins = b; history = history-then start moves old (tells own) (told_point new) h at; owner = ap (λ s. s.kept.client) (same-tracked old.session own new t) }
+    record {
+      start = start;
+      moves = moves ++ tells own ∷ [];
+      begins = b;
+      sound = sound-then moves (tells own) s tt;
+      history = history-then start moves old (tells own) (told_point new) h at;
+      owner = ap (λ s. s.kept.client) (same-tracked old.session own new t);
+    }
 
 own-next : (old : Saved) (own : List Change) (new : Saved) → Tells old own new → AllByRecursion (IsOf old.tracked.state.kept.client) own
 own-next old own new t =
@@ -132,19 +149,20 @@ module _ (lead : ToldChangesLead) where
   -- after a call
   pub call-tells : StaysSince → CallTells
   unfolding rows-before
-  call-tells since client e r old mid own new told reacts notes t =
+  call-tells since client e r old mid own new sound told reacts notes t =
       let p : Point = record { session = mid; last = Some (durable_of old.tracked.state) } in
       let h = history-then told.start told.moves (told_point old) (calls e r) p told.history (record { reacts = reacts; notes = notes; last = refl }) in
       let ms = told.moves ++ calls e r ∷ [] in
-      let is : mid.tracked.state.kept.client ≡ client = sym (since told.start ms p told.begins h).owner ∙ told.owner in (
-        subst (λ (c : List ℕ). IsTold c new) is (told-next told.start ms p own new told.begins h t),
-        record { own = subst (λ (c : List ℕ). AllByRecursion (IsOf c) own) is (own-next mid own new t); lead = lead-next told.start ms p own new told.begins h t },
+      let begins = begins-of told.start told.begins in
+      let is : mid.tracked.state.kept.client ≡ client = sym (since told.start ms p begins h).owner ∙ told.owner in (
+        subst (λ (c : List ℕ). IsTold c new) is (told-next told.start ms p own new told.begins (sound-then told.moves (calls e r) told.sound sound) h t),
+        record { own = subst (λ (c : List ℕ). AllByRecursion (IsOf c) own) is (own-next mid own new t); lead = lead-next told.start ms p own new begins h t },
       )
 
   -- its making
   pub begin-tells : BeginTells
-  begin-tells client own new t = (
-    told-next (begun client) [] (begun client) own new (inl (client, refl)) refl t,
+  begin-tells client own new text t = (
+    told-next (begun client) [] (begun client) own new (inl (client, text, refl)) tt refl t,
     record {
       own = own-next (begun_session client) own new t;
       lead = λ key. lead-next (begun client) [] (begun client) own new (inl (client, refl)) refl t key ∙ ap (left_or (left_by own key)) (none-before key);
@@ -156,7 +174,7 @@ pub removal-leaves : RemovalsLeaveNone → RemovalLeaves
 unfolding rows-before
 removal-leaves removal client s own told r =
     let k = s.tracked.state.kept.client in
-    let e : Empties (Some (durable_of s.tracked.state)) own = removal told.start told.moves (told_point s) own told.begins told.history r in
+    let e : Empties (Some (durable_of s.tracked.state)) own = removal told.start told.moves (told_point s) own (begins-of told.start told.begins) told.history r in
     let named = mine-removals s.told k s.tracked.state.outbox.copies r.places in
     record {
       own = subst (λ (c : List ℕ). AllByRecursion (IsOf c) own) told.owner (are-of k own (subst (λ (ps : List Plain). AllByRecursion (IsMine k) ps) (sym r.named) named));
@@ -274,23 +292,23 @@ begun-leads client old mid new session a b c gone first own is put =
 
 -- ---- one session's calls
 module _ (call : CallTells) where
-  pub turn-tells : (e : Event) (r : Reaction) (old mid new : Option Saved) (before after : List Change) (client : List ℕ) → IfSome (state_of old) (λ s. IsTurned e s (Ok r) (state_of mid)) → NotesIf old mid → TellsOn mid before after new
+  pub turn-tells : (e : Event) (r : Reaction) (old mid new : Option Saved) (before after : List Change) (client : List ℕ) → IsSoundEvent e → IfSome (state_of old) (λ s. IsTurned e s (Ok r) (state_of mid)) → NotesIf old mid → TellsOn mid before after new
       → IsAllTold client old → TellsAgain client old before after new
-  turn-tells e r None mid new before after client h n t told = absurd told
-  turn-tells e r (Some s) None new before after client h n t told = absurd t
-  turn-tells e r (Some s) (Some m) None before after client h n t told = absurd t
-  turn-tells e r (Some s) (Some m) (Some x) before after client h n t told =
+  turn-tells e r None mid new before after client sound h n t told = absurd told
+  turn-tells e r (Some s) None new before after client sound h n t told = absurd t
+  turn-tells e r (Some s) (Some m) None before after client sound h n t told = absurd t
+  turn-tells e r (Some s) (Some m) (Some x) before after client sound h n t told =
       let is : h.0 ≡ m.tracked.state = (let same : Some m.tracked.state ≡ Some h.0 = h.1 in cc) in
       let reacts : Reacts s.tracked.state e r m.tracked.state = subst (λ (z : State). Reacts s.tracked.state e r z) is h.2 in
-      let done = call client e r s m t.0 x told reacts n t.2 in
+      let done = call client e r s m t.0 x sound told reacts n t.2 in
       record { told = done.0; leads = (t.0, t.1, done.1) }
 
-pub told-begun : BeginTells → (client : List ℕ) (before after : List Change) (old new : Option Saved) → old ≡ Some (begun_session client) → TellsOn old before after new → IsAllTold client new × OwnLeadsOn client no_row before after (saved_row new)
-told-begun begin client before after old new is t = by new (subst (λ (o : Option Saved). TellsOn o before after new) is t)
+pub told-begun : BeginTells → (client : List ℕ) (before after : List Change) (old new : Option Saved) → IsText client → old ≡ Some (begun_session client) → TellsOn old before after new → IsAllTold client new × OwnLeadsOn client no_row before after (saved_row new)
+told-begun begin client before after old new text is t = by new (subst (λ (o : Option Saved). TellsOn o before after new) is t)
   where
     by : (o : Option Saved) → TellsOn (Some (begun_session client)) before after o → IsAllTold client o × OwnLeadsOn client no_row before after (saved_row o)
     by None t = absurd t
-    by (Some x) t = (let done = begin client t.0 x t.2 in (done.0, (t.0, t.1, done.1)))
+    by (Some x) t = (let done = begin client t.0 x text t.2 in (done.0, (t.0, t.1, done.1)))
 
 abbrev pub RemovesOf : Option Saved → List Change → Type 0
 RemovesOf None own = ⊥
@@ -319,4 +337,21 @@ durable-again d is = λ i. record {
 
 -- and they were told
 pub opened-told : (d : Durable) → IsDurable d → IsAllTold d.client (Some (reopened d))
-opened-told d is = record { start = opened d; moves = []; begins = inr (d, is, refl); history = λ i. record { session = reopened d; last = Some (durable-again d is i) }; owner = refl }
+opened-told d is = record { start = opened d; moves = []; begins = inr (d, is, refl); sound = tt; history = λ i. record { session = reopened d; last = Some (durable-again d is i) }; owner = refl }
+
+-- ---- rows that open each session again
+abbrev IsDurableOf : List ℕ → State → Type 0
+IsDurableOf client s = IsDurable (durable_of s) × ((durable_of s).client ≡ client)
+
+durable-told : StaysDurable → (client : List ℕ) (o : Option Saved) → IsAllTold client o → IsDurableOf client (unwrap_or (state_of o) (new_session []))
+durable-told stays client None told = absurd told
+durable-told stays client (Some s) told = ((stays told.start told.moves (told_point s) told.begins told.sound told.history).now, told.owner)
+
+pub all-durable : StaysDurable → (t : Table) (seats : Seats) → seats_in t ≡ seats → AllTold t → AllDurable seats
+all-durable stays t seats is all client seat here = by (map.get t client) refl (sym (get_seat t client) ∙ ap (λ m. map.get m client) is ∙ here)
+  where
+    by : (g : Option Seated) → map.get t client ≡ g → option_map seat_of g ≡ Some seat → IsDurableOf client seat.session
+    by None found e = absurd (cc e)
+    by (Some x) found e =
+        (let same : seat_of x ≡ seat = cc in
+        subst (λ (y : Seat). IsDurableOf client y.session) same (durable-told stays client x.session (all client x found)))

@@ -2,6 +2,7 @@
 use Rattle.std.specs.Prelude.{◌≡◌, ℕ, ◌==◌, ◌||◌, Bool, true, List, ◌++◌, Option, Some, None}
 use Rattle.std.specs.FinMap as map
 use Rattle.std.specs.List.{AllByRecursion}
+use Rattle.mqtt_fields.specs.Numbers.{IsText}
 use Rattle.mqtt_sessions.specs.Reaction.{Reaction}
 use Rattle.mqtt_sessions.specs.Removed.{Removes}
 use Rattle.mqtt_sessions.specs.Saved.{Saved, Notes, Tells, begun_session, durable_of}
@@ -9,8 +10,10 @@ use Rattle.mqtt_sessions.specs.State.{State}
 use Rattle.row_changes.specs.Leading.{Rows, Lead, LeadWithin, key_in}
 use Rattle.row_store.specs.declared.row.Change.{Change}
 use Rattle.row_store.specs.Rows.{key_cmp}
-use Rattle.saved_laws.specs.Histories.{Point, Move, Begins, History}
+use Rattle.saved_laws.specs.Histories.{Point, Move, History}
+use Rattle.saved_laws.specs.Sound.{BeginsSound, IsSoundEvent, IsSoundMove}
 use Rattle.session_laws.specs.Runs.{Event, Reacts}
+use Rattle.session_rows.specs.Durable.{IsDurable}
 use Rattle.session_rows.specs.Rows.{rows_of}
 use Rattle.session_table.specs.Seats.{Seat, Seats}
 
@@ -40,11 +43,12 @@ LeadsOn old before after new = (own : List Change) × (after ≡ before ++ own) 
 abbrev pub told_point : Saved → Point
 told_point s = record { session = s; last = Some (durable_of s.tracked.state) }
 
--- as calls and tellings have led to it, from its making on or from its rows on
+-- as calls and tellings have led to it, from its making on or from its rows on; each call came with what is demanded of it
 pub record IsTold (client : List ℕ) (s : Saved) : Type 0 where
   pub start : Point
   pub moves : List Move
-  pub begins : Begins start
+  pub begins : BeginsSound start
+  pub sound : AllByRecursion IsSoundMove moves
   pub history : History start moves (told_point s)
   pub owner : s.tracked.state.kept.client ≡ client
 
@@ -85,11 +89,16 @@ pub record TellsAgain (client : List ℕ) (old : Option Saved) (before after : L
 
 -- ---- laws of one session: a call and then a telling, the first telling of a new one, and the removals
 abbrev pub CallTells : Type 0
-CallTells = (client : List ℕ) (e : Event) (r : Reaction) (old mid : Saved) (own : List Change) (new : Saved) → IsTold client old → Reacts old.tracked.state e r mid.tracked.state → Notes old mid → Tells mid own new
+CallTells = (client : List ℕ) (e : Event) (r : Reaction) (old mid : Saved) (own : List Change) (new : Saved) → IsSoundEvent e → IsTold client old → Reacts old.tracked.state e r mid.tracked.state → Notes old mid → Tells mid own new
     → IsTold client new × OwnLead client (rows_for old.tracked.state) (rows_for new.tracked.state) own
 
 abbrev pub BeginTells : Type 0
-BeginTells = (client : List ℕ) (own : List Change) (new : Saved) → Tells (begun_session client) own new → IsTold client new × OwnLead client no_row (rows_for new.tracked.state) own
+BeginTells = (client : List ℕ) (own : List Change) (new : Saved) → IsText client → Tells (begun_session client) own new → IsTold client new × OwnLead client no_row (rows_for new.tracked.state) own
 
 abbrev pub RemovalLeaves : Type 0
 RemovalLeaves = (client : List ℕ) (s : Saved) (own : List Change) → IsTold client s → Removes s own → OwnLead client (rows_for s.tracked.state) no_row own
+
+-- ---- all sessions
+-- what outlives the connections of each has rows that open it again, under its client
+abbrev pub AllDurable : Seats → Type 0
+AllDurable seats = (client : List ℕ) (seat : Seat) → map.get seats client ≡ Some seat → IsDurable (durable_of seat.session) × ((durable_of seat.session).client ≡ client)

@@ -2,11 +2,13 @@
 
 ghost use Rattle.std.specs.Prelude.{◌≡◌, IfOk, IfSome};
 ghost use Rattle.mqtt_sessions.specs.Saved.{NotesIf, state_of};
+ghost use Rattle.saved_laws.specs.Sound.{IsSoundEvent};
 ghost use Rattle.session_table.specs.Calls.{Asks, GivesSpelled, IsTurned, MayTurn, event_of, on_of};
 
 use mqtt_message::Delivery;
 use mqtt_packets::{Connect, Packet};
 use mqtt_sessions::{Reaction, Session, SessionFault};
+use saved_laws::connect_is_sound;
 
 /// A call of a session.
 #[derive(Drop)]
@@ -50,6 +52,23 @@ pub(crate) fn land(on: On, before: Option<u64>) -> Option<u64>
         On::Moves(connection) => Some(connection),
         On::Stays => before,
         On::Leaves => None,
+    }
+}
+
+/// A call comes as the law of rows that open a session again asks for it (`saved_laws::stays_durable`). This does nothing; its
+/// contract is a law.
+pub(crate) fn is_sound(call: &Call<'_>)
+    requires { Asks call.now }
+    ensures { IsSoundEvent (event_of call.now) }
+{
+    match call {
+        Call::Connect { connect, .. } => connect_is_sound(connect),
+        Call::Queue { delivery, .. } => delivery.has_spelling(),
+        Call::Packet { .. }
+        | Call::Answer { .. }
+        | Call::Closed(_)
+        | Call::Tick(_)
+        | Call::Finish(_) => {}
     }
 }
 

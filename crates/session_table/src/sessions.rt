@@ -8,7 +8,7 @@ ghost use Rattle.mqtt_sessions.specs.Saved.{state_of};
 ghost use Rattle.mqtt_sessions.specs.State.{IsPublishableIf, limit_of};
 ghost use Rattle.session_laws.specs.Runs.{connects, queues, takes, answers, closes, ticks, finishes};
 ghost use Rattle.session_table.specs.Calls.{GivesSpelled, IsSpelledIf, Asks, IsCalled, MayConnectAt, MayTurnAt, event_of, leaves, moves, on_of, stays};
-ghost use Rattle.session_table.specs.Rows.{IsAllTold, LeadsOn};
+ghost use Rattle.session_table.specs.Rows.{AllDurable, IsAllTold, LeadsOn};
 ghost use Rattle.session_table.specs.Seats.{begun, connected, ends_due, run_outs, wills_due};
 
 use crate::call::{Call, On};
@@ -22,6 +22,7 @@ use mqtt_message::Delivery;
 use mqtt_packets::{Connect, Packet};
 use mqtt_sessions::{Reaction, Session, SessionFault};
 use row_store::Change;
+use saved_laws::stays_durable;
 use std::alloc::Global;
 use std::collections::BTreeMap;
 use std::marker::Model;
@@ -117,6 +118,15 @@ impl Sessions {
         ensures { result ≡ map.len self.now }
     {
         self.seats.len()
+    }
+
+    /// What outlives the connections of each session has rows that `Session::from_rows` opens again (`durable_rows_open` in
+    /// `saved_laws`), under its client. This does nothing; its contract is a law.
+    pub fn are_durable(&self)
+        ensures { AllDurable self.now }
+    {
+        let _count = self.seats.len();
+        stays_durable();
     }
 
     /// Puts in a client's session whose rows were told, as one that was opened from them, for a client that is on no

@@ -6,7 +6,7 @@ ghost use Rattle.mqtt_sessions.specs.State.{new_session};
 ghost use Rattle.session_table.specs.Calls.{Asks, GivesSpelled, IsTurned, MayTurn, event_of};
 ghost use Rattle.session_table.specs.Rows.{IsAllTold, OwnLeadsOn, TellsAgain, TellsOn, no_row, saved_row};
 
-use crate::call::{Call, turn};
+use crate::call::{Call, is_sound, turn};
 use crate::laws::tellings_lead;
 use mqtt_fields::{NoMemory, Text};
 use mqtt_sessions::{Reaction, Session, SessionFault};
@@ -37,6 +37,7 @@ pub(crate) fn turn_and_tell(
     ensures tells { (client : List ℕ) → IsAllTold client session.old → OnOk result (TellsAgain client session.old changes.old.items changes.new.items session.new) }
 {
     tellings_lead();
+    is_sound(&call);
     let reaction = turn(session, call)?;
     tell(session, changes)?;
     Ok(reaction)
@@ -53,6 +54,7 @@ pub(crate) fn begin_told(
     ensures leads { IfOk result (λ s. OwnLeadsOn client.now no_row changes.old.items changes.new.items (saved_row s)) }
 {
     tellings_lead();
+    let _text = client.as_str();
     let mut session = Session::new(alloc, client.copy(alloc)?);
     tell(&mut session, changes)?;
     Ok(session)

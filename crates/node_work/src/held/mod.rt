@@ -9,19 +9,23 @@ ghost use Rattle.std.specs.FinMap as map;
 ghost use Rattle.replica_store.specs.States.{state_join};
 ghost use Rattle.replica_store.specs.Making.{subscribe_of, put_of};
 ghost use Rattle.subscription_set.specs.Standing.{any_of};
-ghost use Rattle.mqtt_packets.specs.Written.{HasSpelling};
+ghost use Rattle.causal_context.specs.Spelling.{HasSpelling};
+ghost use Rattle.mqtt_packets.specs.Written as written;
+ghost use Rattle.subscription_set.specs.Standing.{seen_of};
 ghost use Rattle.mqtt_sessions.specs.State.{IsPublishableIf};
 ghost use Rattle.session_laws.specs.Runs.{connects, queues, takes, answers, closes, ticks, finishes};
 ghost use Rattle.node_work.specs.Acts.{next, Connection};
 ghost use Rattle.node_work.specs.Held.Calling.{IsHeldCall, MayConnectHere, MayAnswer};
 ghost use Rattle.session_table.specs.Calls.{IsSpelledIf, stays, leaves, moves};
 ghost use Rattle.session_table.specs.Rows.{LeadsOn};
+ghost use Rattle.node_work.specs.Lasting.{CanLast, StoreTells};
 ghost use Rattle.node_work.specs.Held.Sessions.{Begun, Over, called, counted, more, will_is_due, end_is_due};
 ghost use Rattle.node_work.specs.Held.Connections.{Accepted, is_open, client_at, first_at, new_connection};
 ghost use Rattle.node_work.specs.Held.Feeding.{IsHeldFed};
 ghost use Rattle.node_work.specs.Held.Making.{Makes, number_at_end, put_at_end, removal, with_operation};
 ghost use Rattle.node_work.specs.Packets.{CameSpelled};
-ghost use Rattle.node_work.specs.View.{fresh};
+ghost use Rattle.node_work.specs.View.{woken};
+ghost use Rattle.store_rows.specs.Reading.{IsStore};
 ghost use Rattle.node_work.specs.declared.fault.NodeFault.TheVariants.{NoMemory};
 
 use crate::counts::Counts;
@@ -33,11 +37,14 @@ use mqtt_message::Delivery;
 use mqtt_packets::{Connect, Packet};
 use mqtt_sessions::{Reaction, SessionFault};
 use mqtt_topics::Filter;
-use replica_store::{Content, Operation, ReplicaStore};
+use node_rows::Opened;
+use replica_store::{Content, Operation, ReplicaStore, delta_of};
 use row_store::Change;
 use session_table::Sessions;
 use std::alloc::Global;
 use std::marker::Model;
+use store_rows::changes_by;
+use store_rows::laws::is_store;
 use subscription_set::Entry;
 
 /// What a running node holds.
@@ -56,6 +63,7 @@ pub struct Held {
 impl Model for Held {
     ghost use Rattle.std.specs.Prelude.{◌<◌, ◌≤◌, ◌^◌};
     ghost use Rattle.node_work.specs.View.{HeldView, coded_held};
+    ghost use Rattle.store_rows.specs.Reading.{IsStore};
 
     ghost Value = { HeldView };
 
@@ -63,27 +71,51 @@ impl Model for Held {
 
     ghost view = { λ h. record { at = h.at; started = h.started; store = h.store; connections = h.connections; sessions = h.sessions; turn = h.turn; named = h.named; counts = h.counts } };
 
-    ghost invariant = { λ h. (h.at < 2 ^ 62) × (h.turn ≤ 2 ^ 62) × (h.named < 2 ^ 62) };
+    ghost invariant = { λ h. (h.at < 2 ^ 62) × (h.turn ≤ 2 ^ 62) × (h.named < 2 ^ 62) × IsStore h.store };
+}
+
+// The dots that a store has taken, and those that it has seen, have spellings. This does nothing; its contract is the law.
+fn are_spelled(store: &ReplicaStore)
+    ensures taken { HasSpelling store.now.taken }
+    ensures seen { HasSpelling (seen_of store.now.subscriptions) }
+{
+    let _taken = store.taken().ranges();
+    let _seen = store.subscriptions().seen().ranges();
 }
 
 impl Held {
-    pub fn new(alloc: Global) -> Held
-        ensures { result ≡ fresh }
+    /// What a node holds that is opened with what lasts of it.
+    pub fn wake(alloc: Global, opened: Opened) -> Held
+        requires named { opened.named < 2 ^ 62 }
+        requires store { IsStore opened.store }
+        ensures { result ≡ woken opened.named opened.sessions opened.store }
     {
+        let Opened {
+            named,
+            sessions,
+            store,
+        } = opened;
         Held {
             at: 0,
             started: false,
-            store: ReplicaStore::new(alloc),
+            store,
             connections: Connections::new(alloc),
-            sessions: Sessions::new(alloc),
+            sessions,
             turn: 0,
-            named: 0,
+            named,
             counts: Counts {
                 queue_full: 0,
                 retained_full: 0,
                 picks_lost: 0,
             },
         }
+    }
+
+    /// What lasts can be read from its rows again. This does nothing; its contract is the law.
+    pub fn can_last(&self)
+        ensures { CanLast self.now }
+    {
+        self.sessions.are_durable();
     }
 
     /// The greatest moment that was taken.
@@ -195,54 +227,88 @@ impl Held {
     }
 
     /// Takes an operation that the node made.
-    fn apply(&mut self, operation: &Operation) -> Result<(), NodeFault>
+    fn apply(
+        &mut self,
+        alloc: Global,
+        operation: &Operation,
+        changes: &mut Vec<Change>,
+    ) -> Result<(), NodeFault>
         ensures ok { OnOk result (self.new ≡ with_operation self.old operation.now) }
+        ensures tells { OnOk result (StoreTells self.old.store changes.old.items changes.new.items self.new.store) }
         ensures fault { IfErr result (λ e. e ≡ NoMemory) }
     {
-        match self.store.apply(operation) {
-            Ok(()) => Ok(()),
-            Err(_) => Err(NodeFault::NoMemory),
-        }
+        let Ok(delta) = delta_of(alloc, operation) else {
+            return Err(NodeFault::NoMemory);
+        };
+        self.merge(alloc, &delta, changes)
     }
 
-    /// Makes a Subscribe of the entry, and takes it.
-    pub fn subscribe(&mut self, node: u16, entry: Entry) -> Result<(), NodeFault>
-        ensures { Makes (number_at_end node self.old) (subscribe_of node entry self.old.store) self.old self.new result }
+    /// Makes a Subscribe of the entry, and takes it. Here and in the calls below, the changes of the rows of the replicated
+    /// state that this makes come after those that are there.
+    pub fn subscribe(
+        &mut self,
+        alloc: Global,
+        node: u16,
+        entry: Entry,
+        changes: &mut Vec<Change>,
+    ) -> Result<(), NodeFault>
+        ensures makes { Makes (number_at_end node self.old) (subscribe_of node entry self.old.store) self.old self.new result }
+        ensures tells { OnOk result (StoreTells self.old.store changes.old.items changes.new.items self.new.store) }
     {
         let operation = self.store.make_subscribe(node, entry)?;
-        self.apply(&operation)
+        self.apply(alloc, &operation, changes)
     }
 
     /// Makes a Remove of what stands of the client and, where one is given, to the filter, and takes
     /// it.
     pub fn remove(
         &mut self,
+        alloc: Global,
         node: u16,
         client: &Text,
         filter: Option<&Filter>,
+        changes: &mut Vec<Change>,
     ) -> Result<(), NodeFault>
         requires { any_of client.now (option_copied filter) self.old.store.subscriptions ≡ true }
-        ensures { Makes (number_at_end node self.old) (removal node client.now (option_copied filter.entry) self.old.store) self.old self.new result }
+        ensures makes { Makes (number_at_end node self.old) (removal node client.now (option_copied filter.entry) self.old.store) self.old self.new result }
+        ensures tells { OnOk result (StoreTells self.old.store changes.old.items changes.new.items self.new.store) }
     {
         match self.store.make_remove(node, client, filter)? {
-            Some(operation) => self.apply(&operation),
+            Some(operation) => self.apply(alloc, &operation, changes),
             None => Ok(()),
         }
     }
 
     /// Makes a Put of the content, and takes it.
-    pub fn put(&mut self, node: u16, content: Content) -> Result<(), NodeFault>
-        ensures { Makes (put_at_end node self.old) (put_of node content self.old.store) self.old self.new result }
+    pub fn put(
+        &mut self,
+        alloc: Global,
+        node: u16,
+        content: Content,
+        changes: &mut Vec<Change>,
+    ) -> Result<(), NodeFault>
+        ensures makes { Makes (put_at_end node self.old) (put_of node content self.old.store) self.old self.new result }
+        ensures tells { OnOk result (StoreTells self.old.store changes.old.items changes.new.items self.new.store) }
     {
         let operation = self.store.make_put(node, content)?;
-        self.apply(&operation)
+        self.apply(alloc, &operation, changes)
     }
 
-    pub fn merge(&mut self, state: &ReplicaStore) -> Result<(), NodeFault>
+    pub fn merge(
+        &mut self,
+        alloc: Global,
+        state: &ReplicaStore,
+        changes: &mut Vec<Change>,
+    ) -> Result<(), NodeFault>
         ensures ok { OnOk result (self.new ≡ record self.old { store = state_join self.old.store state.now }) }
+        ensures tells { OnOk result (StoreTells self.old.store changes.old.items changes.new.items self.new.store) }
         ensures fault { IfErr result (λ e. e ≡ NoMemory) }
     {
+        is_store(state);
+        let mut own = changes_by(alloc, &self.store, state)?;
+        changes.append(&mut own)?;
         self.store.join(state)?;
+        are_spelled(&self.store);
         Ok(())
     }
 
@@ -320,6 +386,7 @@ impl Held {
         changes: &mut Vec<Change>,
     ) -> Result<(), NodeFault>
         ensures ok { OnOk result (self.new ≡ called self.old (Begun client)) }
+        ensures leads { OnOk result (LeadsOn self.old.sessions changes.old.items changes.new.items self.new.sessions) }
         ensures fault { IfErr result (λ e. e ≡ NoMemory) }
     {
         self.sessions.begin(client, changes)?;
@@ -329,6 +396,7 @@ impl Held {
     /// Takes a client's session out.
     pub fn end_session(&mut self, client: &Text, changes: &mut Vec<Change>) -> Result<(), NodeFault>
         ensures gone { self.new ≡ called self.old (Over client.now) }
+        ensures leads { OnOk result (LeadsOn self.old.sessions changes.old.items changes.new.items self.new.sessions) }
         ensures fault { IfErr result (λ e. e ≡ NoMemory) }
     {
         self.sessions.remove(client, changes)?;
@@ -376,7 +444,7 @@ impl Held {
         room: bool,
         changes: &mut Vec<Change>,
     ) -> Result<Option<Reaction>, SessionFault>
-        requires { HasSpelling packet.now }
+        requires { written.HasSpelling packet.now }
         ensures called { IsHeldCall client.now (takes packet.now self.old.at room) stays self.old result self.new }
         ensures spelled { IfOk result (IsSpelledIf self.old.at) }
         ensures leads { OnOk result (LeadsOn self.old.sessions changes.old.items changes.new.items self.new.sessions) }

@@ -12,5 +12,5 @@ pub returns : goal.returns
 returns c =
     let w = c.args.work.now in
     let copied = c.in_ok-copy.ensures ∙ c.taken.ensures ∙ ap (λ (s : State). s.taken) (c.store.ensures ∙ ap (λ (h : HeldView). h.store) c.held.ensures) in
-    comes_act c.release.result (λ p h. Out (Release (record { from = p.id; to = c.args.peer; body = Know h.store.taken }))) w c.release.new.self (refl, refl)
+    comes_act c.release.result (λ p h. Out (Release (record { from = p.id; to = c.args.peer; body = Know h.store.taken }))) w c.release.new.self (refl, refl) refl
     (on_ok_weaker c.release.result (λ e. e ∙ (λ i. record w { outputs = w.outputs ++ Release (record { from = c.id.ensures i; to = c.args.peer; body = Know (copied i) }) ∷ [] })) c.release.ensures.ok) c.release.ensures.fault

@@ -33,7 +33,7 @@ returns c =
           let both = goes_idle kind other w.place w.held i in
           let same = (c.in_ok-do_due.ensures.idle both.0).1 in
           let kept = c.answer.ensures.idle (subst (λ (v : WorkView). AsksNothing v.place v.held kind) (sym same) both.1) in
-          (kept.0, kept.1 ∙ ap (λ (v : WorkView). v.outputs) same);
+          (kept.0, kept.1 ∙ ap (λ (v : WorkView). v.outputs) same, kept.2 ∙ ap (λ (v : WorkView). v.changes) same);
       comes = comes_as (λ x. x) r w c.answer.new.work (Then DoesDue (λ _. Answers kind)) (GoesOn kind) (λ out acts. goes kind other out w.place w.held acts)
           (then_goes DoesDue (λ _. Answers kind) (λ x. x) r w m c.answer.new.work tt c.in_ok-do_due.ensures.comes c.answer.ensures.comes);
     }

@@ -1,13 +1,9 @@
 use Rattle.std.proofs.Common.{◌∷◌, ◌∙◌, sym, ap, map}
-use Rattle.broker_script.proofs.Commands.{no_nodes, no_start, no_open, no_close, no_tick, no_ship, no_deliver, no_other}
+use Rattle.broker_script.proofs.Commands.{no_start, no_open, no_close, no_tick, no_ship, no_event}
 use Rattle.broker_script.proofs.line.parse_plain.Goals as goal
 
-pub returns-in_err-nodes-in-nodes-clause-none : goal.returns-in_err-nodes-in-nodes-clause-none
-returns-in_err-nodes-in-nodes-clause-none c = rw c.from_residual.ensures (λ command r e.
-    no_nodes _ c.in_err-nodes-in-nodes.ensures.none command r (sym (ap (λ w. w ∷ map (λ v. v.now) c.args.rest.now) c.in-nodes.is) ∙ e))
-
 pub returns-in_err-node-in-start-clause-none : goal.returns-in_err-node-in-start-clause-none
-returns-in_err-node-in-start-clause-none c = rw c.from_residual-in_err-node-in-start.ensures (λ command r e.
+returns-in_err-node-in-start-clause-none c = rw c.from_residual.ensures (λ command r e.
     no_start _ c.in_err-node-in-start.ensures.none command r (sym (ap (λ w. w ∷ map (λ v. v.now) c.args.rest.now) c.in-start.is) ∙ e))
 
 pub returns-in_err-node-in-open-clause-none : goal.returns-in_err-node-in-open-clause-none
@@ -26,11 +22,7 @@ pub returns-in_err-node-in-ship-clause-none : goal.returns-in_err-node-in-ship-c
 returns-in_err-node-in-ship-clause-none c = rw c.from_residual-in_err-node-in-ship.ensures (λ command r e.
     no_ship _ c.in_err-node-in-ship.ensures.none command r (sym (ap (λ w. w ∷ map (λ v. v.now) c.args.rest.now) c.in-ship.is) ∙ e))
 
-pub returns-in_err-frame-in-deliver-clause-none : goal.returns-in_err-frame-in-deliver-clause-none
-returns-in_err-frame-in-deliver-clause-none c = rw c.from_residual-in_err-frame-in-deliver.ensures (λ command r e.
-    no_deliver _ c.in_err-frame-in-deliver.ensures.none command r (sym (ap (λ w. w ∷ map (λ v. v.now) c.args.rest.now) c.in-deliver.is) ∙ e))
-
 pub returns-in_default-clause-none : goal.returns-in_default-clause-none
 returns-in_default-clause-none c =
     let n = c.in_default in
-    no_other _ _ n.not-nodes n.not-start n.not-open n.not-ship n.not-deliver c.requires.not_bytes c.requires.not_evict c.requires.not_home n.not-close n.not-tick
+    no_event _ _ n.not-start n.not-open n.not-ship c.requires.not_bytes c.requires.not_evict n.not-close n.not-tick

@@ -4,13 +4,14 @@ use Rattle.node_work.specs.View.{WorkView}
 use Rattle.node_work.specs.Working.{Did, Finds, Stops}
 use Rattle.node_work.specs.declared.fault.NodeFault.{NodeFault}
 use Rattle.node_work.specs.declared.fault.NodeFault.TheVariants.{NumbersAtEnd}
+use Rattle.node_work.proofs.Telling.{tells_none}
 use Rattle.node_work.proofs.Working.{comes_finds, comes_where}
 use Rattle.node_clients.specs.Connecting.{NamesBy, Refuses, WillIsNamed}
 use Rattle.node_clients.specs.Naming.{IsNextNumber}
 use Rattle.node_clients.proofs.connect.name.Goals as goal
 
 did_stop : (w : WorkView) → Did w w (Stops {A = Unit {0}} None)
-did_stop w = record { acts = []; does = (refl, refl); runs = refl; given = sym (append-nil w.outputs); place = refl }
+did_stop w = record { acts = []; does = (refl, refl); runs = refl; given = sym (append-nil w.outputs); tells = tells_none w w refl refl; place = refl }
 
 pub returns-in_default : goal.returns-in_default
 returns-in_default c =

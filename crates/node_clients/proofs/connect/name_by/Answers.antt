@@ -16,5 +16,5 @@ returns c =
     let r = c.accept.result in
     let client = c.in_ok-client.client in
     let is = ap (λ id. automatic id number) (sym c.id.ensures) ∙ sym c.in_ok-client.ensures.ok in
-    then_goes (Acting (λ place h. Named number)) (λ _. Looks (λ place h. automatic place.id number) (Accepts at p)) (λ x. x) r c.args.work.now m new tt c.in_ok-name.ensures.comes
+    then_goes (Acting (λ place h. Named number)) (λ _. Looks (λ place h. automatic place.id number) (Accepts at p)) (λ x. x) r c.args.work.now m new tt c.in_ok-name.ensures
     (comes_looks (λ x. x) r m new (λ place h. automatic place.id number) (Accepts at p) client is c.accept.ensures)

@@ -8,7 +8,7 @@ use Rattle.node_work.proofs.work.Work.accept.Goals as goal
 
 pub returns : goal.returns
 returns c =
-    let before : WorkView = record { place = record { id = c.self.inside.id; homes = c.self.inside.homes }; held = c.self.inside.held; outputs = c.self.inside.outputs.items } in
+    let before : WorkView = record { place = record { id = c.self.inside.id; homes = c.self.inside.homes }; held = c.self.inside.held; outputs = c.self.inside.outputs.items; changes = c.self.inside.changes.items } in
     let after : WorkView = record before { held = c.accept.new.self } in
     let a = Connection (Accepted c.args.connection c.args.client.now) in
-    subst (λ w. Comes (λ x. x) c.accept.result w after (Acting (λ p h. a))) c.self.view_is (comes_silent (λ p h. a) before c.accept.new.self tt refl c.accept.result c.accept.ensures.ok c.accept.ensures.fault)
+    subst (λ w. Comes (λ x. x) c.accept.result w after (Acting (λ p h. a))) c.self.view_is (comes_silent (λ p h. a) before c.accept.new.self tt refl refl c.accept.result c.accept.ensures.ok c.accept.ensures.fault)

@@ -7,6 +7,6 @@ use Rattle.node_work.proofs.work.Work.begin.Goals as goal
 
 pub returns-clause-comes : goal.returns-clause-comes
 returns-clause-comes c =
-    let before : WorkView = record { place = record { id = c.self.inside.id; homes = c.self.inside.homes }; held = c.self.inside.held; outputs = c.self.inside.outputs.items } in
+    let before : WorkView = record { place = record { id = c.self.inside.id; homes = c.self.inside.homes }; held = c.self.inside.held; outputs = c.self.inside.outputs.items; changes = c.self.inside.changes.items } in
     let a = Began in
-    subst (λ w. Did w (record before { held = c.begin.new.self }) (Acting (λ p h. a) (Some tt))) c.self.view_is (did_silent (λ p h. a) before c.begin.new.self tt refl c.begin.ensures)
+    subst (λ w. Did w (record before { held = c.begin.new.self }) (Acting (λ p h. a) (Some tt))) c.self.view_is (did_silent (λ p h. a) before c.begin.new.self tt refl refl c.begin.ensures)

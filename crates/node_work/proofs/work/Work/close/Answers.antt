@@ -8,6 +8,6 @@ use Rattle.node_work.proofs.work.Work.close.Goals as goal
 
 pub returns-clause-comes : goal.returns-clause-comes
 returns-clause-comes c =
-    let before : WorkView = record { place = record { id = c.self.inside.id; homes = c.self.inside.homes }; held = c.self.inside.held; outputs = c.self.inside.outputs.items } in
+    let before : WorkView = record { place = record { id = c.self.inside.id; homes = c.self.inside.homes }; held = c.self.inside.held; outputs = c.self.inside.outputs.items; changes = c.self.inside.changes.items } in
     let a = Connection (Closed c.args.connection) in
-    subst (λ w. Did w (record before { held = c.close.new.self }) (Acting (λ p h. a) (Some tt))) c.self.view_is (did_silent (λ p h. a) before c.close.new.self tt refl c.close.ensures)
+    subst (λ w. Did w (record before { held = c.close.new.self }) (Acting (λ p h. a) (Some tt))) c.self.view_is (did_silent (λ p h. a) before c.close.new.self tt refl refl c.close.ensures)

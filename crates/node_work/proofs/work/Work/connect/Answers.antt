@@ -12,8 +12,8 @@ react-requires c = spelled_after c.args.client.now (connects c.args.connect.now 
 
 pub returns : goal.returns
 returns c =
-    let before : WorkView = record { place = record { id = c.self.inside.id; homes = c.self.inside.homes }; held = c.self.inside.held; outputs = c.self.inside.outputs.items } in
+    let before : WorkView = record { place = record { id = c.self.inside.id; homes = c.self.inside.homes }; held = c.self.inside.held; outputs = c.self.inside.outputs.items; changes = c.self.inside.changes.items } in
     subst (λ w. Comes (λ x. x) c.react.result w c.react.new.self (Calls c.args.client.now (connects c.args.connect.now c.args.continued) (moves c.args.connection))) c.self.view_is
-    (comes_call c.args.client.now (connects c.args.connect.now c.args.continued) (moves c.args.connection) (Some c.args.connection) before c.react.new.self c.connect-called.new.self c.connect-called.result c.react.result c.connect-called.ensures.called
+    (comes_call c.args.client.now (connects c.args.connect.now c.args.continued) (moves c.args.connection) (Some c.args.connection) before c.react.new.self c.connect-called.new.self c.connect-called.new.changes.items c.connect-called.result c.react.result c.connect-called.ensures.called c.connect-called.ensures.leads
     (λ seat e. refl)
     (λ b. refl) refl c.react.ensures)

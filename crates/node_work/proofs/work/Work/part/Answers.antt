@@ -12,8 +12,8 @@ react-requires c = spelled_after c.args.client.now (closes c.self.inside.held.at
 
 pub returns : goal.returns
 returns c =
-    let before : WorkView = record { place = record { id = c.self.inside.id; homes = c.self.inside.homes }; held = c.self.inside.held; outputs = c.self.inside.outputs.items } in
+    let before : WorkView = record { place = record { id = c.self.inside.id; homes = c.self.inside.homes }; held = c.self.inside.held; outputs = c.self.inside.outputs.items; changes = c.self.inside.changes.items } in
     subst (λ w. Comes (λ x. x) c.react.result w c.react.new.self (Calls c.args.client.now closes leaves)) c.self.view_is
-    (comes_call c.args.client.now closes leaves None before c.react.new.self c.part-called.new.self c.part-called.result c.react.result c.part-called.ensures.called
+    (comes_call c.args.client.now closes leaves None before c.react.new.self c.part-called.new.self c.part-called.new.changes.items c.part-called.result c.react.result c.part-called.ensures.called c.part-called.ensures.leads
     (λ seat e. refl)
     (λ b. refl) refl c.react.ensures)

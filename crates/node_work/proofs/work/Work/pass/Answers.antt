@@ -15,10 +15,10 @@ returns-then-turn-ge-TURNS_END-clause-comes c = λ m copies is.
 
 pub returns-clause-comes : goal.returns-clause-comes
 returns-clause-comes c = λ m copies is.
-    let before : WorkView = record { place = record { id = c.self.inside.id; homes = c.self.inside.homes }; held = c.self.inside.held; outputs = c.self.inside.outputs.items } in
+    let before : WorkView = record { place = record { id = c.self.inside.id; homes = c.self.inside.homes }; held = c.self.inside.held; outputs = c.self.inside.outputs.items; changes = c.self.inside.changes.items } in
     let after : WorkView = record before { held = c.pass.new.self } in
     let a = Passed m copies c.args.lost in
     let below = subst (λ n. n < 2 ^ 62) c.turn.ensures c.if-turn-ge-TURNS_END.false in
     let passed = subst (λ (v : WorkView). IsPassed v.place v.held m copies c.args.lost) (sym c.self.view_is) is in
     subst (λ w. Did w after (Numbered turn_at_end (λ p h. a) (Some tt))) c.self.view_is
-    (did_numbered turn_at_end (λ p h. a) before after (below_moment before.held.turn below) (did_silent (λ p h. a) before c.pass.new.self (below, passed) refl c.pass.ensures))
+    (did_numbered turn_at_end (λ p h. a) before after (below_moment before.held.turn below) (did_silent (λ p h. a) before c.pass.new.self (below, passed) refl refl c.pass.ensures))

@@ -1,0 +1,5 @@
+pub mod Codes
+pub mod Lane
+pub mod Buffer
+pub mod Shipped
+pub mod Links

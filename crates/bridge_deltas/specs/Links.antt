@@ -1,0 +1,46 @@
+-- What a node keeps for its peers.
+use Rattle.std.specs.Prelude.{◌≡◌, ℕ, ◌≤◌, List, [], length, get_or, slice_set, map, replicate, refl}
+use Rattle.std.specs.Coded.{Coded, code_by, coded×, coded_ℕ, coded_list}
+use Rattle.std.specs.FinSet as set
+use Rattle.causal_context.specs.Dots.{Dots, coded_dot}
+use Rattle.replica_store.specs.States.{State, coded_state}
+use Rattle.bridge_deltas.specs.Lane.{KeptLane, new_kept, told_now, coded_kept}
+
+-- the node's number and how many nodes there are; by the numbers of the peers, the dots that each is known to have taken;
+-- the last deltas that were made or merged here, the oldest first; and, by the numbers of the peers, the lanes to and from each
+pub record LinksView : Type 0 where
+  pub node : ℕ
+  pub nodes : ℕ
+  pub beliefs : List Dots
+  pub deltas : List State
+  pub lanes : List KeptLane
+
+abbrev pub new_links : ℕ → ℕ → LinksView
+new_links node nodes = record { node = node; nodes = nodes; beliefs = replicate nodes set.empty; deltas = []; lanes = replicate nodes new_kept }
+
+-- what is known of a peer
+abbrev pub belief_of : LinksView → ℕ → Dots
+belief_of l peer = get_or l.beliefs peer set.empty
+
+-- the lanes to and from a peer
+abbrev pub kept_of : LinksView → ℕ → KeptLane
+kept_of l peer = get_or l.lanes peer new_kept
+
+abbrev pub with_kept : ℕ → KeptLane → LinksView → LinksView
+with_kept peer k l = record l { lanes = slice_set l.lanes peer k }
+
+-- a belief and lanes for each node, and no more deltas than are kept
+pub record IsSound (l : LinksView) : Type 0 where
+  pub beliefs : length l.beliefs ≡ l.nodes
+  pub lanes : length l.lanes ≡ l.nodes
+  pub few : length l.deltas ≤ 4096
+
+-- with the rows of all lanes told as they are
+abbrev pub all_told : LinksView → LinksView
+all_told l = record l { lanes = map told_now l.lanes }
+
+-- they are stored as their parts
+abbrev pub coded_links : Coded LinksView
+coded_links =
+    code_by (ℕ × (ℕ × (List Dots × (List State × List KeptLane)))) (coded× coded_ℕ (coded× coded_ℕ (coded× (coded_list (set.code coded_dot)) (coded× (coded_list coded_state) (coded_list coded_kept)))))
+    (λ l. (l.node, (l.nodes, (l.beliefs, (l.deltas, l.lanes))))) (λ p. record { node = p.0; nodes = p.1.0; beliefs = p.1.1.0; deltas = p.1.1.1.0; lanes = p.1.1.1.1 }) (λ _. refl)

@@ -1,0 +1,13 @@
+//! What a node keeps for the other nodes of its cluster: what each is known to have taken, the last deltas, and numbered
+//! messages that wait until they have been taken there.
+#![tactic(auto)]
+
+mod buffer;
+mod lane;
+mod links;
+mod offer;
+#[cfg(test)]
+mod tests;
+
+pub use links::Links;
+pub use offer::Offer;

@@ -1,0 +1,7 @@
+use Rattle.std.proofs.Common.{◌≡◌, ◌++◌, take}
+use Rattle.std.specs.Prelude.{flat_map}
+use Rattle.bridge_frames.specs.Forwards.{pick}
+use Rattle.bridge_frames.proofs.pick.append_list.Given as goal
+
+abbrev pub invariant-loop-pick : goal.invariant-loop-pick
+invariant-loop-pick l = l.out.items ≡ l.fn.out.items ++ flat_map pick.bytes (take l.pick-index l.list)

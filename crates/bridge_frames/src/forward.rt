@@ -1,0 +1,96 @@
+//! Messages for clients of another node.
+ghost use Rattle.std.specs.Prelude.{◌≡◌, ◌++◌, IfOk, OnOk};
+ghost use Rattle.mqtt_fields.specs.Reading.{Gives};
+ghost use Rattle.mqtt_message.specs.Spelling.{flag};
+ghost use Rattle.mqtt_message.specs.Spellings.{message};
+ghost use Rattle.bridge_frames.specs.Forwards as spec;
+
+use crate::pick::Picks;
+use mqtt_fields::{FieldFault, NoMemory, put_u8, u8_at};
+use mqtt_message::{Message, SharedMessage};
+use std::alloc::Global;
+
+/// A message for clients of another node.
+#[derive(Drop)]
+pub struct Forward {
+    /// Whether it is for the clients there with plain subscriptions that match.
+    pub plain: bool,
+    /// The clients there that get it for a shared group.
+    pub picks: Picks,
+    pub message: SharedMessage,
+}
+
+fn flag_at(bytes: &[u8]) -> Result<(bool, &[u8]), FieldFault>
+    ensures { Gives (λ x. (x.0, x.1.now)) result (flag.at bytes.now) }
+{
+    let (n, rest) = u8_at(bytes)?;
+    match n {
+        0 => Ok((false, rest)),
+        1 => Ok((true, rest)),
+        _ => Err(FieldFault::Malformed),
+    }
+}
+
+fn put_flag(set: bool, out: &mut Vec<u8>) -> Result<(), NoMemory>
+    ensures { OnOk result (out.new.items ≡ out.old.items ++ flag.bytes set) }
+{
+    put_u8(if set { 1 } else { 0 }, out)
+}
+
+fn message_at(alloc: Global, bytes: &[u8]) -> Result<(SharedMessage, &[u8]), FieldFault>
+    ensures { Gives (λ x. (x.0, x.1.now)) result (message.at bytes.now) }
+{
+    let (message, used) = Message::read(alloc, bytes)?;
+    let message = SharedMessage::new(alloc, message)?;
+    Ok((message, &bytes[used..]))
+}
+
+impl Forward {
+    /// The spelling at the front, and the bytes after it.
+    ///
+    /// Short where the bytes end inside it, Malformed where they spell none.
+    #[tactic(auto, unfolding(crate::specs::Forwards::forward))]
+    pub fn at(alloc: Global, bytes: &[u8]) -> Result<(Forward, &[u8]), FieldFault>
+        ensures { Gives (λ x. (x.0, x.1.now)) result (spec.forward.at bytes.now) }
+    {
+        let (plain, rest) = flag_at(bytes)?;
+        let (picks, rest) = Picks::at(alloc, rest)?;
+        let (message, rest) = message_at(alloc, rest)?;
+        let forward = Forward {
+            plain,
+            picks,
+            message,
+        };
+        Ok((forward, rest))
+    }
+
+    /// Appends the spelling, or its beginning where memory runs out.
+    #[tactic(auto, unfolding(crate::specs::Forwards::forward))]
+    pub fn append(&self, out: &mut Vec<u8>) -> Result<(), NoMemory>
+        ensures { OnOk result (out.new.items ≡ out.old.items ++ spec.forward.bytes self.now) }
+    {
+        put_flag(self.plain, out)?;
+        self.picks.append(out)?;
+        self.message.message().write(out)
+    }
+
+    /// What is written is read again. This does nothing; its contract is a law.
+    #[tactic(auto, unfolding(crate::specs::Forwards::forward))]
+    pub fn has_spelling(&self)
+        ensures { spec.forward.Fits self.now }
+    {
+        self.picks.has_spelling();
+        self.message.message().has_spelling();
+    }
+
+    /// An equal value, which shares the message.
+    pub fn copy(&self, alloc: Global) -> Result<Forward, NoMemory>
+        ensures { IfOk result (λ f. f ≡ self.now) }
+    {
+        Ok(Forward {
+            plain: self.plain,
+            picks: self.picks.copy(alloc)?,
+            message: self.message.copy()?,
+        })
+    }
+}

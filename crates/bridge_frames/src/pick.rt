@@ -1,0 +1,186 @@
+//! Members of shared groups.
+ghost use Rattle.std.specs.Prelude.{◌≡◌, ◌↔◌, ◌<◌, ◌^◌, ◌++◌, length, flat_map, IfOk, MatchOption, OnOk};
+ghost use Rattle.std.specs.List.{AllByRecursion};
+ghost use Rattle.mqtt_fields.specs.Reading.{Gives};
+ghost use Rattle.mqtt_message.specs.Spelling.{listed, values_at};
+ghost use Rattle.store_bytes.specs.Values.{filter, filter_in};
+ghost use Rattle.bridge_frames.specs.Forwards as spec;
+
+use mqtt_fields::{FieldFault, NoMemory, Text, put_u16, u16_at};
+use mqtt_topics::{Filter, TopicFault};
+use std::alloc::Global;
+use std::marker::Model;
+
+/// The member of a shared group that is to get a message: its client, and the whole filter of the shared
+/// subscription (MQTT 5.0, 4.8.2).
+#[derive(Drop)]
+pub struct Pick {
+    pub client: Text,
+    pub filter: Filter,
+}
+
+fn filter_of(alloc: Global, text: &Text) -> Result<Filter, FieldFault>
+    ensures { Gives (λ f. f) result (filter_in text.now) }
+{
+    match Filter::parse(alloc, text.as_str()) {
+        Ok(filter) => Ok(filter),
+        Err(fault) => match fault {
+            TopicFault::NoMemory => Err(FieldFault::NoMemory),
+            _ => Err(FieldFault::Malformed),
+        },
+    }
+}
+
+fn filter_at(alloc: Global, bytes: &[u8]) -> Result<(Filter, &[u8]), FieldFault>
+    ensures { Gives (λ x. (x.0, x.1.now)) result (filter.at bytes.now) }
+{
+    let (text, rest) = Text::at(alloc, bytes)?;
+    let filter = filter_of(alloc, &text)?;
+    Ok((filter, rest))
+}
+
+impl Pick {
+    fn at(alloc: Global, bytes: &[u8]) -> Result<(Pick, &[u8]), FieldFault>
+        ensures { Gives (λ x. (x.0, x.1.now)) result (spec.pick.at bytes.now) }
+    {
+        let (client, rest) = Text::at(alloc, bytes)?;
+        let (filter, rest) = filter_at(alloc, rest)?;
+        Ok((Pick { client, filter }, rest))
+    }
+
+    fn append(&self, out: &mut Vec<u8>) -> Result<(), NoMemory>
+        ensures { OnOk result (out.new.items ≡ out.old.items ++ spec.pick.bytes self.now) }
+    {
+        self.client.write(out)?;
+        self.filter.as_text().write(out)
+    }
+
+    // Each pick has a spelling. This does nothing; its contract is a law.
+    #[tactic(auto, using(store_bytes::proofs::Fits::fits))]
+    fn has_spelling(&self)
+        ensures { spec.pick.Fits self.now }
+    {
+        let _client = self.client.as_str();
+        let _filter = self.filter.as_str();
+    }
+
+    /// An equal pick.
+    pub fn copy(&self, alloc: Global) -> Result<Pick, NoMemory>
+        ensures { IfOk result (λ p. p ≡ self.now) }
+    {
+        Ok(Pick {
+            client: self.client.copy(alloc)?,
+            filter: self.filter.copy(alloc)?,
+        })
+    }
+}
+
+/// Fewer than 65,536 picks, so that two bytes can count them. Contracts see the list.
+#[derive(Drop)]
+pub struct Picks {
+    list: Vec<Pick>,
+}
+
+impl Model for Picks {
+    ghost use Rattle.std.specs.Prelude.{List, ◌<◌, ◌^◌, length};
+    ghost use Rattle.bridge_frames.specs.declared.pick.Pick.{Pick};
+
+    ghost Value = { List Pick };
+
+    ghost view = { λ p. p.list.items };
+
+    ghost invariant = { λ p. length p.list.items < 2 ^ 16 };
+}
+
+fn list_at(alloc: Global, count: u16, bytes: &[u8]) -> Result<(Vec<Pick>, &[u8]), FieldFault>
+    ensures { Gives (λ x. (x.0.items, x.1.now)) result (values_at spec.pick count bytes.now) }
+{
+    let mut list = Vec::new(alloc);
+    let mut rest = bytes;
+    for i in 0..count {
+        let (pick, after) = Pick::at(alloc, rest)?;
+        list.push(pick)?;
+        rest = after;
+    }
+    Ok((list, rest))
+}
+
+fn append_list(list: &[Pick], out: &mut Vec<u8>) -> Result<(), NoMemory>
+    ensures { OnOk result (out.new.items ≡ out.old.items ++ flat_map spec.pick.bytes list.now) }
+{
+    for pick in list {
+        pick.append(out)?;
+    }
+    Ok(())
+}
+
+fn all_have_spellings(list: &[Pick])
+    ensures { AllByRecursion spec.pick.Fits list.now }
+{
+    for pick in list {
+        pick.has_spelling();
+    }
+}
+
+fn copied(alloc: Global, list: &[Pick]) -> Result<Vec<Pick>, NoMemory>
+    ensures { IfOk result (λ out. out.items ≡ list.now) }
+{
+    let mut out = Vec::new(alloc);
+    for pick in list {
+        out.push(pick.copy(alloc)?)?;
+    }
+    Ok(out)
+}
+
+impl Picks {
+    /// These picks. None where there are more than 65,535.
+    pub fn of(list: Vec<Pick>) -> Option<Picks>
+        ensures { MatchOption result (length list.items < 2 ^ 16 → ⊥)
+            (λ p. (p ≡ list.items) × (length list.items < 2 ^ 16)) }
+    {
+        if list.len() > 65535 {
+            return None;
+        }
+        Some(Picks { list })
+    }
+
+    /// The picks.
+    pub fn as_slice(&self) -> &[Pick]
+        ensures same { result.now ≡ self.now }
+        ensures few { length self.now < 2 ^ 16 }
+    {
+        self.list.as_slice()
+    }
+
+    /// Picks at the front, and the bytes after them.
+    pub(crate) fn at(alloc: Global, bytes: &[u8]) -> Result<(Picks, &[u8]), FieldFault>
+        ensures { Gives (λ x. (x.0, x.1.now)) result ((listed spec.pick).at bytes.now) }
+    {
+        let (count, rest) = u16_at(bytes)?;
+        let (list, rest) = list_at(alloc, count, rest)?;
+        Ok((Picks { list }, rest))
+    }
+
+    /// Appends the picks, or their beginning where memory runs out.
+    pub(crate) fn append(&self, out: &mut Vec<u8>) -> Result<(), NoMemory>
+        ensures { OnOk result (out.new.items ≡ out.old.items ++ (listed spec.pick).bytes self.now) }
+    {
+        put_u16(self.list.len() as u16, out)?;
+        append_list(&self.list, out)
+    }
+
+    /// Picks have a spelling. This does nothing; its contract is a law.
+    pub(crate) fn has_spelling(&self)
+        ensures { (listed spec.pick).Fits self.now }
+    {
+        all_have_spellings(&self.list);
+    }
+
+    /// Equal picks.
+    pub fn copy(&self, alloc: Global) -> Result<Picks, NoMemory>
+        ensures { IfOk result (λ p. p ≡ self.now) }
+    {
+        let list = copied(alloc, &self.list)?;
+        Ok(Picks { list })
+    }
+}

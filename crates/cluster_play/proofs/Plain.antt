@@ -1,0 +1,136 @@
+-- Operations of a cluster of so many nodes, and what states of them name.
+use Rattle.std.proofs.Common.{◌≡◌, ℕ, ◌<◌, true, false, List, [], ◌∷◌, ◌++◌, Option, Some, None, filter, refl, sym, ap, ◌∙◌, inl, inr, subst, append_assoc}
+use Rattle.std.proofs.lemmas.List.{append-nil}
+use Rattle.std.specs.Prelude.{is_some}
+use Rattle.std.specs.FinMap as map
+use Rattle.std.specs.FinSet as set
+use Rattle.causal_context.specs.Dots.{Dot, Dots, dot_cmp}
+use Rattle.subscription_set.specs.declared.entry.Entry.{Entry}
+use Rattle.subscription_set.specs.Standing.{contains-seen_of}
+use Rattle.subscription_set.specs.Statuses.{Status}
+use Rattle.replica_store.specs.declared.operation.Operation.{Operation}
+use Rattle.replica_store.specs.declared.operation.Operation.TheVariants.{Subscribe, Remove, Put}
+use Rattle.replica_store.specs.Operations.{dot_of, cover_of, Among, HasStatus, HasKept}
+use Rattle.replica_store.specs.States.{State}
+use Rattle.replica_store.specs.StateOf.{IsStateOf}
+use Rattle.replica_store.proofs.Unions.{among_cases}
+use Rattle.store_rows.specs.Reading.{IsUnversioned}
+use Rattle.node_rows.specs.Reading.{IsAmong}
+use Rattle.node_work.specs.Acts.{Act, Moment, Began, Store, Connection, Session, Out, Named, Acknowledged, Passed, Dropped, Made, Merged, Allowed, IsMade, Runs, gather, op_in, merge_in}
+use Rattle.node_work.specs.View.{Place, HeldView}
+use Rattle.cluster_play.specs.NextOperations.{CoversWhatStands, IsNext}
+use Rattle.cluster_play.proofs.Operations.{among_some, own_some}
+use Rattle.cluster_play.proofs.Sound.{Sound, Grown, lists}
+use Rattle.cluster_play.proofs.Growing.{AllSound, acts_grow}
+use Rattle.cluster_play.proofs.Next.{next_operation}
+
+-- a Subscribe is under version 0, and the stamp of a Put is a node's
+abbrev pub IsPlainly : ℕ → Operation → Type 0
+IsPlainly count (Subscribe dot entry cover) = entry.version ≡ 0
+IsPlainly count (Remove dot cover) = Unit {0}
+IsPlainly count (Put dot stamp content) = stamp.node < count
+
+pub record IsPlain (count : ℕ) (o : Operation) : Type 0 where
+  pub dot : (dot_of o).node < count
+  pub cover : (d : Dot) → set.contains (cover_of o) d ≡ true → d.node < count
+  pub rest : IsPlainly count o
+
+abbrev pub AllPlain : ℕ → List Operation → Type 0
+AllPlain count ms = (o : Operation) → Among o ms → IsPlain count o
+
+-- ---- what a node makes is plain
+covers_plain : (count : ℕ) (ms : List Operation) (s : State) (client : List ℕ) (to : Option (List ℕ)) (cover : Dots) → AllPlain count ms → CoversWhatStands (filter (lists s) ms) client to cover
+    → (d : Dot) → set.contains cover d ≡ true → d.node < count
+covers_plain count ms s client to cover plain covers d h =
+    let there = (covers d).0 h in
+    let by = there.1.subscribed in
+    (plain (Subscribe d there.0 by.0) (among_some (lists s) (Subscribe d there.0 by.0) ms by.1).0).dot
+
+module _ (i count : ℕ) (ms : List Operation) (s : State) (g : Grown i ms s) (low : i < count) (plain : AllPlain count ms) where
+  next : (o : Operation) → IsMade i s o → IsNext i (filter (lists s) ms) o
+  next o may = next_operation i (filter (lists s) ms) s (own_some ms (lists s) g.own_dots) g.sound o may
+
+  made_plain : (o : Operation) → IsMade i s o → IsPlain count o
+  made_plain (Subscribe dot entry cover) may =
+      let n = next (Subscribe dot entry cover) may in
+      record { dot = subst (λ j. j < count) (sym n.0.node) low; cover = covers_plain count ms s entry.client (Some entry.filter) cover plain n.1; rest = may.2 }
+  made_plain (Remove dot cover) may =
+      let n = next (Remove dot cover) may in
+      record { dot = subst (λ j. j < count) (sym n.0.node) low; cover = covers_plain count ms s n.1.0 n.1.1 cover plain n.1.2; rest = tt }
+  made_plain (Put dot stamp content) may =
+      let n = next (Put dot stamp content) may in
+      record {
+        dot = subst (λ j. j < count) (sym n.0.node) low;
+        cover = λ d h. absurd (let no : false ≡ true = sym (set.contains-empty dot_cmp d) ∙ h in cc);
+        rest = subst (λ j. j < count) (sym n.1.node) low;
+      }
+
+-- the act that makes an operation
+op_of_act : (a : Act) (o : Operation) → Among o (op_in a) → a ≡ Store (Made o)
+op_of_act (Moment at) o x = absurd x
+op_of_act Began o x = absurd x
+op_of_act (Store (Made p)) o (inl e) = ap (λ q. Store (Made q)) (sym e)
+op_of_act (Store (Made p)) o (inr x) = absurd x
+op_of_act (Store (Merged s)) o x = absurd x
+op_of_act (Connection c) o x = absurd x
+op_of_act (Session c) o x = absurd x
+op_of_act (Out e) o x = absurd x
+op_of_act (Named number) o x = absurd x
+op_of_act (Acknowledged client packet at grants offers) o x = absurd x
+op_of_act (Passed m copies lost) o x = absurd x
+op_of_act Dropped o x = absurd x
+
+all_stay : (ms ns : List Operation) (ts : List State) → ((t : State) → Sound ms t → Sound ns t) → AllSound ms ts → AllSound ns ts
+all_stay ms ns [] f a = tt
+all_stay ms ns (t ∷ ts) f a = (f t a.0, all_stay ms ns ts f a.1)
+
+front : (ms : List Operation) (xs ys : List State) → AllSound ms (xs ++ ys) → AllSound ms xs × AllSound ms ys
+front ms [] ys a = (tt, a)
+front ms (x ∷ xs) ys a = (let r = front ms xs ys a.1 in ((a.0, r.0), r.1))
+
+pub acts_plain : (p : Place) (count : ℕ) (acts : List Act) (ms : List Operation) (h h' : HeldView) → p.id < count → Grown p.id ms h.store → Runs p h acts h' → AllSound ms (gather merge_in acts)
+    → AllPlain count ms → AllPlain count (ms ++ gather op_in acts)
+acts_plain p count [] ms h h' low g r all plain = subst (AllPlain count) (sym (append-nil ms)) plain
+acts_plain p count (a ∷ acts) ms h h' low g r all plain =
+    let parts = front ms (merge_in a) (gather merge_in acts) all in
+    let alone : AllSound ms (gather merge_in (a ∷ [])) = subst (AllSound ms) (sym (append-nil (merge_in a))) parts.0 in
+    let grows = acts_grow p (a ∷ []) ms h r.0 g (r.0, r.1, refl) alone in
+    let ms' = ms ++ (op_in a ++ []) in
+    let here : AllPlain count ms' = λ o x. elim (among_cases o ms (op_in a ++ []) x) [
+      | inl old ↦ plain o old
+      | inr new ↦ (let is = op_of_act a o (subst (Among o) (append-nil (op_in a)) new) in
+          made_plain p.id count ms h.store g low plain o (subst (Allowed p h) is r.1.0))
+    ] in
+    let rest = acts_plain p count acts ms' r.0 h' low grows.grown r.2 (all_stay ms ms' (gather merge_in acts) grows.stays parts.1) here in
+    subst (AllPlain count) (ap (λ os. (ms ++ os) ++ gather op_in acts) (append-nil (op_in a)) ∙ append_assoc ms (op_in a) (gather op_in acts)) rest
+
+-- ---- a state of plain operations names none but nodes of the cluster, and is under version 0
+module _ (count : ℕ) (O : List Operation) (s : State) (state : IsStateOf O s) (plain : AllPlain count O) where
+  unversioned : (q : Dot) (e : Entry) (o : Option Status) → HasStatus O q o → o ≡ Some (Some e) → e.version ≡ 0
+  unversioned q e None h is = none-is is
+    where
+      none-is : ◌≡◌ {A = Option Status} None (Some (Some e)) → e.version ≡ 0
+      none-is x = cc
+  unversioned q e (Some None) h is = bare is
+    where
+      bare : ◌≡◌ {A = Option Status} (Some None) (Some (Some e)) → e.version ≡ 0
+      bare x = cc
+  unversioned q e (Some (Some f)) h is =
+      let same : f ≡ e = cc is in
+      let by = h.subscribed in
+      subst (λ (x : Entry). x.version ≡ 0) same (plain (Subscribe q f by.0) by.1).rest
+
+  pub are_unversioned : IsUnversioned s
+  are_unversioned q e is = unversioned q e (map.get s.subscriptions q) (state.subscriptions q) is
+
+  seen_plain : (d : Dot) (o : Option Status) → HasStatus O d o → is_some o ≡ true → d.node < count
+  seen_plain d None h is = absurd (let no : false ≡ true = is in cc)
+  seen_plain d (Some None) h is = (plain h.0 h.1).cover d h.2
+  seen_plain d (Some (Some f)) h is = let by = h.subscribed in (plain (Subscribe d f by.0) by.1).dot
+
+  pub is_among : IsAmong count s
+  is_among = record {
+    taken = λ d h. (let o = (state.taken d).0 h in subst (λ (q : Dot). q.node < count) o.2 (plain o.0 o.1).dot);
+    seen = λ d h. seen_plain d (map.get s.subscriptions d) (state.subscriptions d) (sym (contains-seen_of s.subscriptions d) ∙ h);
+    stamps = λ topic k h. (let p = (subst (HasKept O topic) h (state.retained topic)).put in (plain (Put p.0 k.stamp p.1) p.2).rest);
+  }

@@ -1,0 +1,96 @@
+-- What a node is that is opened from its rows.
+use Rattle.std.proofs.Common.{◌≡◌, ℕ, T, List, [], ◌∷◌, map as map_list, Option, Some, None, Result, Ok, Err, IfOk, OnOk, OnErr, length, arith, refl, sym, ap, subst, ◌∙◌, inl, inr}
+use Rattle.std.proofs.lemmas.List.{length-map}
+use Rattle.std.specs.Option.{option_map}
+use Rattle.std.specs.FinMap as map
+use Rattle.std.specs.FinMap.{get-insert, get-empty, get-entries, get-from_entries, entries_sorted, empty_of_len, len-entries}
+use Rattle.broker_node.specs.Opening.{IsOpenedFrom}
+use Rattle.mqtt_sessions.specs.Saved.{durable_of}
+use Rattle.node_keeper.specs.Keeping.{AreKept, AreLasting, AreOfNone, IsReopened, Opens, marked, may_be_marked, only_mark}
+use Rattle.node_rows.specs.Reading.{IsLasting, Say, SayNothing}
+use Rattle.node_rows.specs.Sessions.{opened_seat}
+use Rattle.node_rows.specs.Rows.{Lasting, mark, mark_key, node_row}
+use Rattle.node_work.specs.Lasting.{IsWoken, held_row, lasting}
+use Rattle.node_work.specs.View.{HeldView, NodeView, Place, nodes_of, woken}
+use Rattle.row_store.specs.declared.row.Row.{Row}
+use Rattle.row_store.specs.Rows.{Content, Key, content_of, entry_of, key_cmp}
+use Rattle.row_store.proofs.Keys.{keys_total}
+use Rattle.session_rows.specs.Durable.{Durable, IsDurable}
+use Rattle.session_table.specs.Seats.{Seat}
+use Rattle.session_table.proofs.RowLaws.{durable-again}
+
+-- ---- what a node that was opened holds
+
+again : (o : Option Durable) → ((d : Durable) → o ≡ Some d → IsDurable d) → option_map (λ (s : Seat). durable_of s.session) (option_map opened_seat o) ≡ o
+again None can = refl
+again (Some d) can = ap Some (durable-again d (can d refl))
+
+-- lasts as it did
+lasts_again : (nodes : ℕ) (x : Lasting) (h : HeldView) → IsLasting nodes x → IsWoken x h → lasting h ≡ x
+lasts_again nodes x h can is =
+    let same : (client : List ℕ) → option_map (λ (s : Seat). durable_of s.session) (map.get is.0 client) ≡ x.sessions client =
+    λ client. ap (option_map (λ (s : Seat). durable_of s.session)) (is.1 client) ∙ again (x.sessions client) (λ d at. (can.sessions client d at).0)
+    in
+    ap lasting is.2 ∙ (λ i. record { named = x.named; sessions = λ client. same client i; store = x.store })
+
+pub kept_again : (p : Place) (c : Content) (n : NodeView) → IsReopened p c n → AreKept n c
+kept_again p c n r h up key =
+    let same : r.held ≡ h = cc (ap (λ (x : NodeView). x.up) r.is, up) in
+    r.are.1 key
+    ∙ ap (λ (x : Lasting). node_row p.id x key) (sym (lasts_again (nodes_of p) r.lasting r.held r.are.0 r.woken))
+    ∙ ap (λ (x : HeldView). held_row p.id x key) same
+    ∙ ap (λ (x : NodeView). held_row x.place.id h key) (sym r.is)
+
+-- ---- the rows that were loaded
+
+get_loaded : (rows : List Row) (c : Content) → map_list entry_of rows ≡ map.entries c → (key : Key) → map.get (content_of rows) key ≡ map.get c key
+get_loaded rows c is key = get-from_entries keys_total (map_list entry_of rows) key ∙ ap (map.find key_cmp key) is ∙ sym (get-entries c key)
+
+pub none_loaded : (rows : List Row) (c : Content) → rows ≡ [] → map_list entry_of rows ≡ map.entries c → c ≡ map.empty
+none_loaded rows c none is = empty_of_len c (len-entries c ∙ ap length (sym is ∙ ap (map_list entry_of) none))
+
+pub left_rows : (rows : List Row) (c : Content) → (length rows ≡ 0 → ⊥) → map_list entry_of rows ≡ map.entries c → ¬ (c ≡ map.empty)
+left_rows rows c some is none = some (sym (length-map rows entry_of) ∙ ap length is ∙ sym (len-entries c) ∙ ap map.len none ∙ map.len-empty key_cmp (List ℕ))
+
+pub no_rows : (rows : List Row) → length rows ≡ 0 → rows ≡ []
+no_rows [] is = refl
+no_rows (r ∷ rows) is = absurd (omega arith)
+
+-- ---- the mark
+
+pub marks : (id : ℕ) (old mid put new : Content) → old ≡ map.empty → mid ≡ old → put ≡ map.insert mid mark_key (mark id 0) → new ≡ put → (old ≡ map.empty) × (new ≡ only_mark id)
+marks id old mid put new none same made kept = (none, kept ∙ made ∙ ap (λ (m : Content). map.insert m mark_key (mark id 0)) (same ∙ none))
+
+-- what holds of a good answer, where something else holds of each
+pub with_ok : {A E P : Type 0} {Q S : A → Type 0} (r : Result A E) → OnOk r P → IfOk r Q → (P → (a : A) → Q a → S a) → IfOk r S
+with_ok (Ok a) p q f = f p a q
+with_ok (Err e) p q f = tt
+
+pub marked_may : (id : ℕ) (old new : Content) → marked id old new → may_be_marked id old new
+marked_may id old new (inl m) = inr m
+marked_may id old new (inr m) = inl m.1
+
+pub on_err : {A E P : Type 0} (r : Result A E) → P → OnErr r P
+on_err (Ok x) p = tt
+on_err (Err e) p = p
+
+-- it is a row
+some_row : (id : ℕ) (old c : Content) → marked id old c → ¬ (c ≡ map.empty)
+some_row id old c (inl m) none =
+    let here : map.get c mark_key ≡ Some (mark id 0) = ap (λ (x : Content). map.get x mark_key) m.1 ∙ get-insert keys_total map.empty mark_key (mark id 0) mark_key in
+    let gone : map.get c mark_key ≡ None = ap (λ (x : Content). map.get x mark_key) none ∙ get-empty key_cmp mark_key in
+    cc (here, gone)
+some_row id old c (inr m) none = m.0 (sym m.1 ∙ none)
+
+say_lasting : (p : Place) (rows : List Row) (c : Content) (x : Lasting) → ¬ (c ≡ map.empty) → map_list entry_of rows ≡ map.entries c → IsLasting (nodes_of p) x → Say rows p.id x → AreLasting p c x
+say_lasting p rows c x some is can (inl new) = absurd (some (none_loaded rows c new.0 is))
+say_lasting p rows c x some is can (inr are) = (can, λ key. sym (get_loaded rows c is key) ∙ are.are key)
+
+pub opens : (p : Place) (rows : List Row) (old c : Content) (n : NodeView) → marked p.id old c → map_list entry_of rows ≡ map.entries c → IsOpenedFrom rows p n → Opens p old c n
+opens p rows old c n m is o =
+    let r : IsReopened p c n = record { lasting = o.lasting; held = o.held; are = say_lasting p rows c o.lasting (some_row p.id old c m) is o.can_last o.say; woken = o.woken; is = o.is } in
+    record { mark = m; reopened = r; kept = kept_again p c n r }
+
+pub none_have : (p : Place) (rows : List Row) (c : Content) → map_list entry_of rows ≡ map.entries c → SayNothing rows p.id (nodes_of p) → AreOfNone p c
+none_have p rows c is nothing x are =
+    nothing x are.0 (inr (record { rise = subst (λ es. T (map.is_sorted key_cmp es)) (sym is) (entries_sorted c); are = λ key. get_loaded rows c is key ∙ are.1 key }))

@@ -1,0 +1,122 @@
+-- A node and its rows.
+use Rattle.std.specs.Prelude.{◌≡◌, ℕ, ◌<◌, ◌^◌, ◌-◌, ◌⊎◌, List, [], Option, Some, None, Result, Ok, Vec}
+use Rattle.std.specs.FinMap as map
+use Rattle.std.specs.declared.alloc.Global.{Global}
+use Rattle.broker_node.specs.declared.event.Event.{Event}
+use Rattle.broker_node.specs.Idle.{IsIdle}
+use Rattle.broker_node.specs.Step.{IsDone, StopsAtEnd}
+use Rattle.node_keeper.specs.declared.fault.KeeperFault.{KeeperFault}
+use Rattle.node_keeper.specs.declared.fault.KeeperFault.TheVariants.{NoMemory, Rows, NumbersAtEnd, Stopped}
+use Rattle.node_rows.specs.Reading.{IsLasting}
+use Rattle.node_rows.specs.Rows.{Lasting, mark, mark_key, node_row}
+use Rattle.node_work.specs.Lasting.{IsWoken, held_row}
+use Rattle.node_work.specs.View.{HeldView, NodeView, Place, nodes_of}
+use Rattle.node_work.specs.declared.outcome.Output.{Output}
+use Rattle.row_store.specs.declared.row.Change.{Change}
+use Rattle.row_store.specs.declared.store.RowFault.{RowFault}
+use Rattle.row_store.specs.Rows.{Content, Key, after_all}
+
+-- ---- rows and what a node holds
+
+-- the rows are those of what the node holds
+abbrev pub AreOf : Place → Content → HeldView → Type 0
+AreOf p c h = (key : Key) → map.get c key ≡ held_row p.id h key
+
+-- while it runs
+abbrev pub AreKept : NodeView → Content → Type 0
+AreKept n c = (h : HeldView) → n.up ≡ Some h → AreOf n.place c h
+
+-- the rows are those of what lasts of a node
+abbrev pub AreLasting : Place → Content → Lasting → Type 0
+AreLasting p c x = IsLasting (nodes_of p) x × ((key : Key) → map.get c key ≡ node_row p.id x key)
+
+-- no such node has these rows
+abbrev pub AreOfNone : Place → Content → Type 0
+AreOfNone p rows = (x : Lasting) → AreLasting p rows x → ⊥
+
+-- ---- an event
+
+-- an event is taken: the rows are changed as the step tells, and its outputs are given out
+pub record Commits (n : NodeView) (rows : Content) (e : Event) (outputs : List Output) (n' : NodeView) (rows' : Content) : Type 0 where
+  pub changes : List Change
+  pub done : IsDone n e outputs changes n'
+  pub written : rows' ≡ after_all rows changes
+  pub kept : AreKept n rows → AreKept n' rows'
+
+-- the outputs are those of a step
+abbrev pub GivesOut : NodeView → Event → List Output → NodeView → Type 0
+GivesOut n e outputs n' = (changes : List Change) × IsDone n e outputs changes n'
+
+-- the rows after the changes of a step
+pub record AreStepped (n : NodeView) (rows : Content) (e : Event) (rows' : Content) : Type 0 where
+  pub outputs : List Output
+  pub changes : List Change
+  pub after : NodeView
+  pub done : IsDone n e outputs changes after
+  pub written : rows' ≡ after_all rows changes
+
+-- what a crash leaves of the rows: those before the event, or those after a step of it
+abbrev pub MayBeLeft : NodeView → Content → Event → Content → Type 0
+MayBeLeft n rows e c = (c ≡ rows) ⊎ AreStepped n rows e c
+
+-- an event comes to nothing: nothing is given out, and nothing fails
+abbrev pub Rests : Result (Vec Output Global) KeeperFault → Type 0
+Rests result = (outputs : Vec Output Global) × (result ≡ Ok outputs) × (outputs.items ≡ [])
+
+-- ---- faults
+
+-- why a node that runs stops: memory is wanting or the rows can't be written, at an event below 2^62 that isn't idle; or a
+-- number can't be had
+abbrev pub HasCause : Place → HeldView → Event → KeeperFault → Type 0
+HasCause p h e NoMemory = (e.at < 2 ^ 62) × (¬ IsIdle p h e)
+HasCause p h e (Rows fault) = (e.at < 2 ^ 62) × (¬ IsIdle p h e)
+HasCause p h e NumbersAtEnd = StopsAtEnd p h e
+HasCause p h e Stopped = ⊥
+
+-- a node that has stopped answers so; another one has its cause
+abbrev pub HasCauseAt : Option HeldView → Place → Event → KeeperFault → Type 0
+HasCauseAt None p e fault = fault ≡ Stopped
+HasCauseAt (Some h) p e fault = HasCause p h e fault
+
+-- only a fault of the rows leaves them in doubt
+abbrev pub KeepsRows : {R : Type 0} → R → R → KeeperFault → Type 0
+KeepsRows rows rows' (Rows fault) = Unit {0}
+KeepsRows rows rows' NoMemory = rows' ≡ rows
+KeepsRows rows rows' NumbersAtEnd = rows' ≡ rows
+KeepsRows rows rows' Stopped = rows' ≡ rows
+
+-- one more failure of a device is counted, up to 2^64 - 1
+abbrev pub IsCounted : ℕ → ℕ → Type 0
+IsCounted before after = (before < after) ⊎ (after ≡ 2 ^ 64 - 1)
+
+-- an opening fails by want of memory or by its rows
+abbrev pub CannotOpen : KeeperFault → Type 0
+CannotOpen fault = (fault ≡ NoMemory) ⊎ ((cause : RowFault) × (fault ≡ Rows cause))
+
+-- ---- opening
+
+-- a node that is opened from its rows: it runs, and holds what lasts
+pub record IsReopened (p : Place) (rows : Content) (n : NodeView) : Type 0 where
+  pub lasting : Lasting
+  pub held : HeldView
+  pub are : AreLasting p rows lasting
+  pub woken : IsWoken lasting held
+  pub is : n ≡ record { place = p; up = Some held }
+
+-- the mark of a new node alone
+abbrev pub only_mark : ℕ → Content
+only_mark id = map.insert map.empty mark_key (mark id 0)
+
+-- the rows with which a node is opened: where there are none, its mark
+abbrev pub marked : ℕ → Content → Content → Type 0
+marked id rows rows' = ((rows ≡ map.empty) × (rows' ≡ only_mark id)) ⊎ ((¬ (rows ≡ map.empty)) × (rows' ≡ rows))
+
+-- the same where the mark may be wanting
+abbrev pub may_be_marked : ℕ → Content → Content → Type 0
+may_be_marked id rows rows' = (rows' ≡ rows) ⊎ ((rows ≡ map.empty) × (rows' ≡ only_mark id))
+
+-- the node is opened: it has the rows, and its mark where there were none
+pub record Opens (p : Place) (rows rows' : Content) (n : NodeView) : Type 0 where
+  pub mark : marked p.id rows rows'
+  pub reopened : IsReopened p rows' n
+  pub kept : AreKept n rows'

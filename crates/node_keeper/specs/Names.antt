@@ -1,0 +1,18 @@
+-- How faults are named in text.
+use Rattle.std.specs.Prelude.{ℕ, List, codes}
+use Rattle.node_keeper.specs.declared.fault.KeeperFault.{KeeperFault}
+use Rattle.node_keeper.specs.declared.fault.KeeperFault.TheVariants.{NoMemory, Rows, NumbersAtEnd, Stopped}
+use Rattle.node_work.specs.declared.fault.NodeFault.{NodeFault}
+use Rattle.node_work.specs.declared.fault.NodeFault.TheVariants as node_faults
+
+abbrev pub fault_name : KeeperFault → List ℕ
+fault_name NoMemory = codes "NoMemory"
+fault_name (Rows fault) = codes "Rows"
+fault_name NumbersAtEnd = codes "NumbersAtEnd"
+fault_name Stopped = codes "Stopped"
+
+-- a fault of the node's own step
+abbrev pub keeper_fault : NodeFault → KeeperFault
+keeper_fault node_faults.NoMemory = NoMemory
+keeper_fault node_faults.NumbersAtEnd = NumbersAtEnd
+keeper_fault node_faults.Stopped = Stopped

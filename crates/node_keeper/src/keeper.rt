@@ -1,0 +1,154 @@
+//! A node and its rows.
+
+ghost use Rattle.std.specs.Prelude.{◌≡◌, ◌≢◌, ◌<◌, ◌≤◌, ◌^◌, length, OnOk, IfOk, IfErr, OnErr, IsOk, IsErrOf, is_some, Err, None, Some, true};
+ghost use Rattle.broker_node.specs.Idle.{IsIdle};
+ghost use Rattle.broker_node.specs.Step.{IsAtEnd};
+ghost use Rattle.node_keeper.specs.Keeping.{AreOfNone, CannotOpen, Commits, GivesOut, HasCauseAt, IsCounted, KeepsRows, MayBeLeft, Opens, Rests, may_be_marked};
+ghost use Rattle.node_keeper.specs.declared.fault.KeeperFault.TheVariants as faults;
+ghost use Rattle.node_work.specs.View.{HeldView};
+ghost use Rattle.row_store.specs.Rows.{Content};
+
+use crate::fault::KeeperFault;
+use crate::waking::wake;
+use broker_node::{Event, Node};
+use home_table::HomeTable;
+use node_work::{Outcome, Output};
+use row_store::{RowFault, RowStore};
+use std::alloc::Global;
+
+/// A node and its rows, which hold what of it lasts.
+#[derive(Drop)]
+pub struct Keeper<R> {
+    alloc: Global,
+    rows: R,
+    node: Node,
+    ghost among: { node.place.id < length node.place.homes.nodes },
+}
+
+impl<R: RowStore> Keeper<R> {
+    ghost use Rattle.node_keeper.specs.Views.{node_of, rows_of};
+
+    /// Opens a node from its rows: its table of homes, and its number. Where there are no rows it first writes the mark. A
+    /// fault gives the rows back; they are what they were, but for the mark.
+    pub fn open(
+        alloc: Global,
+        mut rows: R,
+        homes: HomeTable,
+        id: u16,
+    ) -> Result<Keeper<R>, (KeeperFault, R)>
+        requires { id < length homes.nodes }
+        ensures place { IfOk result (λ k. (node_of k).place ≡ record { id = id; homes = homes }) }
+        ensures ok { IfOk result (λ k. R.is_clean (rows_of k) → R.is_open rows
+            → R.is_open (rows_of k) × Opens (record { id = id; homes = homes }) (R.content rows) (R.content (rows_of k)) (node_of k)) }
+        ensures err { IfErr result (λ e. R.is_clean e.1 → R.is_open e.1 → may_be_marked id (R.content rows) (R.content e.1)) }
+        ensures bad { IfErr result (λ e. R.is_clean e.1 → R.is_open rows → e.0 ≡ faults.Rows RowFault.BadRow
+            → AreOfNone (record { id = id; homes = homes }) (R.content e.1)) }
+        ensures crash { IfErr result (λ e. R.is_clean e.1 → R.is_open rows → (c : Content) → R.may_leave e.1 c → may_be_marked id (R.content rows) c) }
+        ensures device { IfErr result (λ e. e.0 ≡ faults.Rows RowFault.Device → IsCounted (R.failed rows) (R.failed e.1)) }
+        ensures fault { IfErr result (λ e. CannotOpen e.0) }
+    {
+        match wake(alloc, &mut rows, homes, id) {
+            Ok(node) => Ok(Keeper { alloc, rows, node }),
+            Err(fault) => Err((KeeperFault::Rows(fault), rows)),
+        }
+    }
+
+    /// Opens the node again from its rows: a restart, also of a node that runs. After a fault it is down.
+    pub fn reopen(&mut self) -> Result<(), KeeperFault>
+        ensures place { (node_of self.new).place ≡ (node_of self.old).place }
+        ensures ok { R.is_clean (rows_of self.new) → R.is_open (rows_of self.old)
+            → OnOk result (R.is_open (rows_of self.new) × Opens (node_of self.old).place (R.content (rows_of self.old)) (R.content (rows_of self.new)) (node_of self.new)) }
+        ensures down { OnErr result ((node_of self.new).up ≡ None) }
+        ensures err { R.is_clean (rows_of self.new) → R.is_open (rows_of self.new)
+            → OnErr result (may_be_marked (node_of self.old).place.id (R.content (rows_of self.old)) (R.content (rows_of self.new))) }
+        ensures bad { R.is_clean (rows_of self.new) → R.is_open (rows_of self.old) → IsErrOf result (faults.Rows RowFault.BadRow)
+            → AreOfNone (node_of self.old).place (R.content (rows_of self.new)) }
+        ensures crash { R.is_clean (rows_of self.new) → R.is_open (rows_of self.old) → (c : Content) → R.may_leave (rows_of self.new) c
+            → may_be_marked (node_of self.old).place.id (R.content (rows_of self.old)) c }
+        ensures device { IsErrOf result (faults.Rows RowFault.Device) → IsCounted (R.failed (rows_of self.old)) (R.failed (rows_of self.new)) }
+        ensures fault { IfErr result CannotOpen }
+    {
+        self.node.stop();
+        let Ok(homes) = self.node.homes().copy() else {
+            return Err(KeeperFault::NoMemory);
+        };
+        match wake(self.alloc, &mut self.rows, homes, self.node.id()) {
+            Ok(node) => {
+                self.node = node;
+                Ok(())
+            }
+            Err(fault) => Err(KeeperFault::Rows(fault)),
+        }
+    }
+
+    /// Takes one event: the node decides it, its rows are changed as it tells, and only then is anything given out. Where
+    /// the rows can't be changed nothing is, and the node has stopped.
+    pub fn handle(&mut self, event: &Event) -> Result<Vec<Output>, KeeperFault>
+        ensures place { (node_of self.new).place ≡ (node_of self.old).place }
+        ensures stopped { (node_of self.old).up ≡ None → (result ≡ Err faults.Stopped) × ((node_of self.new) ≡ (node_of self.old)) × ((rows_of self.new) ≡ (rows_of self.old)) }
+        ensures ok { R.is_clean (rows_of self.new) → R.is_open (rows_of self.old)
+            → IfOk result (λ outputs. R.is_open (rows_of self.new) × Commits (node_of self.old) (R.content (rows_of self.old)) event.now outputs.items (node_of self.new) (R.content (rows_of self.new))) }
+        ensures given { IfOk result (λ outputs. GivesOut (node_of self.old) event.now outputs.items (node_of self.new)) }
+        ensures idle { (h : HeldView) → (node_of self.old).up ≡ Some h → event.now.at < 2 ^ 62 → IsIdle (node_of self.old).place h event.now → Rests result × ((rows_of self.new) ≡ (rows_of self.old)) }
+        ensures end { is_some (node_of self.old).up ≡ true → 2 ^ 62 ≤ event.now.at → result ≡ Err faults.NumbersAtEnd }
+        ensures exactly { IsAtEnd (node_of self.old) event.now → ¬ IsOk result }
+        ensures down { OnErr result ((node_of self.new).up ≡ None) }
+        ensures err { R.is_clean (rows_of self.new) → R.is_open (rows_of self.new) → OnErr result (R.content (rows_of self.new) ≡ R.content (rows_of self.old)) }
+        ensures kept { IfErr result (KeepsRows (rows_of self.old) (rows_of self.new)) }
+        ensures crash { R.is_clean (rows_of self.new) → R.is_open (rows_of self.old) → (c : Content) → R.may_leave (rows_of self.new) c → MayBeLeft (node_of self.old) (R.content (rows_of self.old)) event.now c }
+        ensures cause { IfErr result (HasCauseAt (node_of self.old).up (node_of self.old).place event.now) }
+        ensures bad { result ≢ Err (faults.Rows RowFault.BadRow) }
+        ensures device { IsErrOf result (faults.Rows RowFault.Device) → IsCounted (R.failed (rows_of self.old)) (R.failed (rows_of self.new)) }
+        ensures counts { result ≢ Err (faults.Rows RowFault.Device) → R.failed (rows_of self.new) ≡ R.failed (rows_of self.old) }
+    {
+        let Outcome { outputs, changes } = match self.node.step(event) {
+            Ok(outcome) => outcome,
+            Err(fault) => return Err(KeeperFault::from(fault)),
+        };
+        match self.rows.apply(&changes) {
+            Ok(()) => Ok(outputs),
+            Err(fault) => {
+                self.node.stop();
+                Err(KeeperFault::Rows(fault))
+            }
+        }
+    }
+
+    /// The node.
+    pub fn node(&self) -> &Node
+        ensures { result.now ≡ (node_of self.now) }
+    {
+        &self.node
+    }
+
+    /// The rows.
+    pub fn rows(&self) -> &R
+        ensures { result.now ≡ (rows_of self.now) }
+    {
+        &self.rows
+    }
+
+    /// Whether the node runs: it hasn't stopped.
+    pub fn is_up(&self) -> bool
+        ensures { result ≡ is_some (node_of self.now).up }
+    {
+        self.node.is_up()
+    }
+
+    /// Gives the rows back.
+    pub fn into_rows(self) -> R
+        ensures { result ≡ rows_of self }
+    {
+        let Keeper { rows, .. } = self;
+        rows
+    }
+
+    /// A crash: the node is down, and the rows stay.
+    pub fn crash(&mut self)
+        ensures node { (node_of self.new) ≡ record (node_of self.old) { up = None } }
+        ensures rows { (rows_of self.new) ≡ (rows_of self.old) }
+    {
+        let Keeper { node, .. } = self;
+        node.stop();
+    }
+}

@@ -1,0 +1,73 @@
+//! A node that is opened from its rows.
+
+ghost use Rattle.std.specs.Prelude.{◌≡◌, ◌≢◌, ◌<◌, ◌⊎◌, length, map, OnOk, IfOk, OnErr, IsErrOf, Err};
+ghost use Rattle.std.specs.FinMap.{entries, insert};
+ghost use Rattle.node_keeper.specs.Keeping.{AreOfNone, IsCounted, Opens, marked, may_be_marked};
+ghost use Rattle.node_rows.specs.Rows.{mark, mark_key};
+ghost use Rattle.row_store.specs.Rows.{Content, entry_of};
+
+use broker_node::Node;
+use home_table::HomeTable;
+use node_rows::mark_row;
+use row_store::{Change, Row, RowFault, RowStore};
+use std::alloc::Global;
+
+/// Writes the mark of a new node.
+fn put_mark<R: RowStore>(alloc: Global, rows: &mut R, id: u16) -> Result<(), RowFault>
+    ensures ok { R.is_clean rows.new → R.is_open rows.old → OnOk result (R.is_open rows.new × (R.content rows.new ≡ insert (R.content rows.old) mark_key (mark id 0))) }
+    ensures err { R.is_clean rows.new → R.is_open rows.new → OnErr result (R.content rows.new ≡ R.content rows.old) }
+    ensures device { IsErrOf result RowFault.Device → IsCounted (R.failed rows.old) (R.failed rows.new) }
+    ensures counts { result ≢ Err RowFault.Device → R.failed rows.new ≡ R.failed rows.old }
+    ensures bad { result ≢ Err RowFault.BadRow }
+    ensures crash { R.is_clean rows.new → R.is_open rows.old → (c : Content) → R.may_leave rows.new c
+        → (c ≡ R.content rows.old) ⊎ (c ≡ insert (R.content rows.old) mark_key (mark id 0)) }
+    ensures was_clean { R.is_clean rows.new → R.is_clean rows.old }
+    ensures was_open { R.is_clean rows.new → R.is_open rows.new → R.is_open rows.old }
+{
+    let Ok(row) = mark_row(alloc, id, 0) else {
+        return Err(RowFault::NoMemory);
+    };
+    let Ok(changes) = vec![in alloc; Change::Put(row)] else {
+        return Err(RowFault::NoMemory);
+    };
+    rows.apply(&changes)
+}
+
+/// The rows, in the order of their keys. Where there are none it first writes the mark.
+fn load_marked<R: RowStore>(alloc: Global, rows: &mut R, id: u16) -> Result<Vec<Row>, RowFault>
+    ensures ok { R.is_clean rows.new → R.is_open rows.old
+        → IfOk result (λ loaded. R.is_open rows.new × marked id (R.content rows.old) (R.content rows.new) × (map entry_of loaded.items ≡ entries (R.content rows.new))) }
+    ensures err { R.is_clean rows.new → R.is_open rows.new → OnErr result (may_be_marked id (R.content rows.old) (R.content rows.new)) }
+    ensures bad { R.is_clean rows.new → R.is_open rows.old → result ≢ Err RowFault.BadRow }
+    ensures crash { R.is_clean rows.new → R.is_open rows.old → (c : Content) → R.may_leave rows.new c → may_be_marked id (R.content rows.old) c }
+    ensures was_open { R.is_clean rows.new → R.is_open rows.new → R.is_open rows.old }
+    ensures device { IsErrOf result RowFault.Device → IsCounted (R.failed rows.old) (R.failed rows.new) }
+    ensures counts { result ≢ Err RowFault.Device → R.failed rows.new ≡ R.failed rows.old }
+{
+    let loaded = rows.load()?;
+    if !loaded.is_empty() {
+        return Ok(loaded);
+    }
+    put_mark(alloc, rows, id)?;
+    rows.load()
+}
+
+/// Opens a node from its rows, as `Keeper::open` does.
+pub fn wake<R: RowStore>(
+    alloc: Global,
+    rows: &mut R,
+    homes: HomeTable,
+    id: u16,
+) -> Result<Node, RowFault>
+    requires { id < length homes.nodes }
+    ensures place { IfOk result (λ n. n.place ≡ record { id = id; homes = homes }) }
+    ensures ok { R.is_clean rows.new → R.is_open rows.old
+        → IfOk result (λ n. R.is_open rows.new × Opens (record { id = id; homes = homes }) (R.content rows.old) (R.content rows.new) n) }
+    ensures err { R.is_clean rows.new → R.is_open rows.new → OnErr result (may_be_marked id (R.content rows.old) (R.content rows.new)) }
+    ensures bad { R.is_clean rows.new → R.is_open rows.old → IsErrOf result RowFault.BadRow → AreOfNone (record { id = id; homes = homes }) (R.content rows.new) }
+    ensures crash { R.is_clean rows.new → R.is_open rows.old → (c : Content) → R.may_leave rows.new c → may_be_marked id (R.content rows.old) c }
+    ensures device { IsErrOf result RowFault.Device → IsCounted (R.failed rows.old) (R.failed rows.new) }
+{
+    let loaded = load_marked(alloc, rows, id)?;
+    Node::open(alloc, &loaded, homes, id)
+}

@@ -1,0 +1,12 @@
+mod Lists
+mod Numbers
+mod Clients
+mod Cuts
+mod Said
+mod Walked
+mod Marks
+mod Counted
+mod Kept
+mod Opening
+pub mod OneNode
+mod Reached

@@ -1,0 +1,111 @@
+-- What is read of the rows of a node.
+use Rattle.std.specs.Prelude.{◌≡◌, ℕ, ◌<◌, ◌^◌, ◌⊎◌, true, T, List, [], map as map_list, Some, option_map, Result, Ok, Err}
+use Rattle.std.specs.Int.{w16, w64}
+use Rattle.std.specs.FinMap as map
+use Rattle.std.specs.FinSet as set
+use Rattle.causal_context.specs.Dots.{Dot, Dots}
+use Rattle.mqtt_fields.specs.Field.{Field, after}
+use Rattle.mqtt_fields.specs.Numbers.{number}
+use Rattle.replica_store.specs.declared.kept.Kept.{Kept}
+use Rattle.replica_store.specs.States.{State}
+use Rattle.row_store.specs.declared.row.Row.{Row}
+use Rattle.row_store.specs.declared.store.RowFault.{RowFault}
+use Rattle.row_store.specs.declared.store.RowFault.TheVariants.{NoMemory, Device, BadRow}
+use Rattle.row_store.specs.Rows.{Key, key_cmp, entry_of, content_of}
+use Rattle.session_rows.specs.Durable.{Durable, IsDurable}
+use Rattle.session_table.specs.Seats.{Seats}
+use Rattle.store_rows.specs.Reading.{AreAllRowsOf, IsStore, IsUnversioned}
+use Rattle.subscription_set.specs.Standing.{seen_of}
+use Rattle.node_rows.specs.declared.reading.Opened.{Opened}
+use Rattle.node_rows.specs.Rows.{Lasting, mark, mark_key, new_node, node_row}
+use Rattle.node_rows.specs.Sessions.{Plain, opened_seat}
+
+-- ---- what can last
+
+-- dots of none but nodes of the cluster
+abbrev pub AreAmong : ℕ → Dots → Type 0
+AreAmong nodes dots = (d : Dot) → set.contains dots d ≡ true → d.node < nodes
+
+-- a state that names none but nodes of the cluster
+pub record IsAmong (nodes : ℕ) (s : State) : Type 0 where
+  pub taken : AreAmong nodes s.taken
+  pub seen : AreAmong nodes (seen_of s.subscriptions)
+  pub stamps : (topic : List ℕ) (k : Kept) → map.get s.retained topic ≡ Some k → k.stamp.node < nodes
+
+pub record IsLasting (nodes : ℕ) (x : Lasting) : Type 0 where
+  pub named : x.named < 2 ^ 62
+  pub sessions : (client : List ℕ) (d : Durable) → x.sessions client ≡ Some d → IsDurable d × (d.client ≡ client)
+  pub store : IsStore x.store
+  pub unversioned : IsUnversioned x.store
+  pub among : IsAmong nodes x.store
+
+-- ---- rows
+
+-- the rows of node `id`, in the order of their keys, each once
+pub record AreNodeRows (rows : List Row) (id : ℕ) (x : Lasting) : Type 0 where
+  pub rise : T (map.is_sorted key_cmp (map_list entry_of rows))
+  pub are : (key : Key) → map.get (content_of rows) key ≡ node_row id x key
+
+-- they say this of node `id`; a node without rows is new
+abbrev pub Say : List Row → ℕ → Lasting → Type 0
+Say rows id x = ((rows ≡ []) × (x ≡ new_node)) ⊎ AreNodeRows rows id x
+
+-- no node `id` of a cluster of so many has these rows
+abbrev pub SayNothing : List Row → ℕ → ℕ → Type 0
+SayNothing rows id nodes = (x : Lasting) → IsLasting nodes x → Say rows id x → ⊥
+
+-- ---- what is opened
+
+abbrev pub AreOpened : Lasting → Seats → Type 0
+AreOpened x seats = (client : List ℕ) → map.get seats client ≡ option_map opened_seat (x.sessions client)
+
+pub record IsOpened (x : Lasting) (o : Opened) : Type 0 where
+  pub named : o.named ≡ x.named
+  pub sessions : AreOpened x o.sessions
+  pub store : o.store ≡ x.store
+
+-- ---- parts of it
+-- what a fault tells: a bad row that this holds, and want of memory nothing
+abbrev pub Tells : Type 0 → RowFault → Type 0
+Tells Bad BadRow = Bad
+Tells Bad NoMemory = Unit {0}
+Tells Bad Device = ⊥
+
+-- what a function found is such a value
+abbrev pub Finds : {X : Type 0} → (X → Type 0) → Type 0 → Result X RowFault → Type 0
+Finds Is Bad (Ok x) = Is x
+Finds Is Bad (Err e) = Tells Bad e
+
+-- the version, the node and the number in a mark
+abbrev pub marked : Field (ℕ × (ℕ × ℕ))
+marked = after (number w16) (λ _. after (number w16) (λ _. number w64))
+
+-- the mark of the node with this number
+abbrev pub IsMark : ℕ → Plain → ℕ → Type 0
+IsMark id row named = (named < 2 ^ 62) × (row ≡ (mark_key, mark id named))
+
+abbrev pub NoMark : ℕ → Plain → Type 0
+NoMark id row = (named : ℕ) → IsMark id row named → ⊥
+
+-- a state that can last
+pub record IsKept (nodes : ℕ) (s : State) : Type 0 where
+  pub store : IsStore s
+  pub unversioned : IsUnversioned s
+  pub among : IsAmong nodes s
+
+pub record IsStateOf (rows : List Row) (nodes : ℕ) (s : State) : Type 0 where
+  pub rows_are : AreAllRowsOf rows s
+  pub kept : IsKept nodes s
+
+abbrev pub NoState : List Row → ℕ → Type 0
+NoState rows nodes = (s : State) → IsStateOf rows nodes s → ⊥
+
+-- ---- laws
+
+-- rows say one thing at most of a node
+abbrev pub SayOneThing : Type 0
+SayOneThing = (nodes id : ℕ) (rows : List Row) (x y : Lasting) → IsLasting nodes x → IsLasting nodes y → Say rows id x → Say rows id y → x ≡ y
+
+-- nodes with the same rows are the same in what lasts
+abbrev pub RowsTellAll : Type 0
+RowsTellAll = (nodes id : ℕ) (x y : Lasting) → IsLasting nodes x → IsLasting nodes y → ((key : Key) → node_row id x key ≡ node_row id y key) → x ≡ y

@@ -1,0 +1,47 @@
+-- The rows of a node: its mark, those of its sessions, and those of its replicated state.
+use Rattle.std.specs.Prelude.{◌==◌, ℕ, List, [], ◌∷◌, ◌++◌, Option, Some, None, if◌then◌else◌}
+use Rattle.std.specs.FinMap as map
+use Rattle.std.specs.Int.{w16, w64}
+use Rattle.mqtt_fields.specs.Numbers.{number}
+use Rattle.replica_store.specs.States.{State, nothing}
+use Rattle.row_changes.specs.Leading.{Rows}
+use Rattle.row_store.specs.Rows.{Key, key_cmp}
+use Rattle.session_rows.specs.Durable.{Durable}
+use Rattle.session_rows.specs.Rows.{rows_of}
+use Rattle.session_table.specs.Rows.{is_session_kind}
+use Rattle.store_rows.specs.Rows.{row_at}
+
+-- what of a node outlives its run: the number of the last client identifier that it gave, what lasts of the session of each
+-- client that has one, and the replicated state
+pub record Lasting : Type 0 where
+  pub named : ℕ
+  pub sessions : List ℕ → Option Durable
+  pub store : State
+
+-- a node that has done nothing yet
+abbrev pub new_node : Lasting
+new_node = record { named = 0; sessions = λ _. None; store = nothing }
+
+-- kind 1, without owner and place: the version of the rows, which is 1, the node, and the last identifier's number
+abbrev pub mark : ℕ → ℕ → List ℕ
+mark id named = (number w16).bytes 1 ++ (number w16).bytes id ++ (number w64).bytes named
+
+abbrev pub mark_key : Key
+mark_key = (1, ([], []))
+
+abbrev pub mark_at : List ℕ → List ℕ → List ℕ → Option (List ℕ)
+mark_at value [] [] = Some value
+mark_at value [] (b ∷ place) = None
+mark_at value (b ∷ owner) place = None
+
+-- kinds 2 and 3: the session of the owner
+abbrev pub session_row : Option Durable → Rows
+session_row None key = None
+session_row (Some d) key = map.get {R = key_cmp} (map.from_entries (rows_of d)) key
+
+-- the row at a key, if there is one; kinds 4 to 6 are those of the state
+abbrev pub node_row : ℕ → Lasting → Rows
+node_row id x key =
+    if key.0 == 1 then mark_at (mark id x.named) key.1.0 key.1.1
+    else if is_session_kind key.0 then session_row (x.sessions key.1.0) key
+    else row_at x.store key

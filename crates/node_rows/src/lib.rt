@@ -1,0 +1,11 @@
+//! The rows of a node, and a node's parts read from them.
+#![tactic(auto)]
+
+mod among;
+pub mod laws;
+pub mod mark;
+pub mod reading;
+mod sessions;
+
+pub use mark::mark_row;
+pub use reading::{Opened, open};

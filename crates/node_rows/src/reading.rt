@@ -1,0 +1,96 @@
+//! A node's parts, read from its rows.
+ghost use Rattle.std.specs.Prelude.{◌≡◌, ◌⊎◌, T, map as map_list, IfOk, IfErr, IsErrOf};
+ghost use Rattle.std.specs.FinMap as map;
+ghost use Rattle.row_store.specs.declared.store.RowFault.TheVariants as faults;
+ghost use Rattle.row_store.specs.Rows.{entry_of, key_cmp};
+ghost use Rattle.replica_store.specs.States.{nothing};
+ghost use Rattle.store_rows.specs.Reading.{IsStore};
+ghost use Rattle.node_rows.specs.Rows.{Lasting, new_node};
+ghost use Rattle.node_rows.specs.Reading.{Finds, IsLasting, IsOpened, IsStateOf, NoState, Say, SayNothing};
+
+use crate::among::is_among;
+use crate::mark::named_in;
+use crate::sessions::{COPY, SESSION, read_sessions, up_to};
+use replica_store::{ReplicaStore, StoreFault};
+use row_store::{Row, RowFault, are_rising};
+use session_table::Sessions;
+use std::alloc::Global;
+use store_rows::laws::is_store;
+
+/// What lasts of a node: the number of the last client identifier that it gave, its sessions, each on no connection, and the
+/// replicated state.
+#[derive(Drop)]
+pub struct Opened {
+    pub named: u64,
+    pub sessions: Sessions,
+    pub store: ReplicaStore,
+}
+
+// The replicated state whose rows these are.
+fn read_state(alloc: Global, rows: &[Row], nodes: u16) -> Result<ReplicaStore, RowFault>
+    ensures { Finds (IsStateOf rows.now nodes) (NoState rows.now nodes) result }
+{
+    match store_rows::from_rows(alloc, rows) {
+        Ok(store) => {
+            if is_among(nodes, &store) {
+                Ok(store)
+            } else {
+                Err(RowFault::BadRow)
+            }
+        }
+        Err(StoreFault::NoMemory) => Err(RowFault::NoMemory),
+        Err(_) => Err(RowFault::BadRow),
+    }
+}
+
+// A node that has done nothing yet.
+fn opened_new(alloc: Global) -> Opened
+    ensures opened { IsOpened new_node result }
+    ensures store { IsStore nothing }
+{
+    let store = ReplicaStore::new(alloc);
+    is_store(&store);
+    Opened {
+        named: 0,
+        sessions: Sessions::new(alloc),
+        store,
+    }
+}
+
+// Reads rows that rise, cut by their kinds.
+fn read(alloc: Global, rows: &[Row], id: u16, nodes: u16) -> Result<Opened, RowFault>
+    requires { T (map.is_sorted key_cmp (map_list entry_of rows.now)) }
+    ensures { Finds (λ o. (x : Lasting) × IsLasting nodes x × Say rows.now id x × IsOpened x o) (SayNothing rows.now id nodes) result }
+{
+    let [first, others @ ..] = rows else {
+        return Ok(opened_new(alloc));
+    };
+    let (own, later) = others.split_at(up_to(others, SESSION));
+    let (copies, last) = later.split_at(up_to(later, COPY));
+    let Some(named) = named_in(first, id) else {
+        return Err(RowFault::BadRow);
+    };
+    let store = read_state(alloc, last, nodes)?;
+    let sessions = read_sessions(alloc, own, copies)?;
+    Ok(Opened {
+        named,
+        sessions,
+        store,
+    })
+}
+
+/// Reads the rows of node `id` of a cluster of `nodes` nodes, in the order of their keys. A node without rows is new.
+///
+/// BadRow exactly where no such node has just these rows: there is no mark or one of another version or node, a key or value
+/// can't be read, rows contradict each other, or a row names a node that the cluster lacks.
+pub fn open(alloc: Global, rows: &[Row], id: u16, nodes: u16) -> Result<Opened, RowFault>
+    ensures ok { IfOk result (λ o. (x : Lasting) × IsLasting nodes x × Say rows.now id x × IsOpened x o) }
+    ensures bad { IsErrOf result RowFault.BadRow → SayNothing rows.now id nodes }
+    ensures fault { IfErr result (λ e. (e ≡ RowFault.NoMemory) ⊎ (e ≡ RowFault.BadRow)) }
+{
+    if are_rising(rows) {
+        read(alloc, rows, id, nodes)
+    } else {
+        Err(RowFault::BadRow)
+    }
+}

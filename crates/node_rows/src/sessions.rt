@@ -1,0 +1,129 @@
+//! The sessions of a node, read from their rows.
+ghost use Rattle.std.specs.Prelude.{◌≡◌, ◌≤◌, ◌<◌, ◌∷◌, T, length, take, drop, map as map_list, IfOk};
+ghost use Rattle.std.specs.FinMap as map;
+ghost use Rattle.std.specs.List.{AllByRecursion};
+ghost use Rattle.row_store.specs.Rows.{entry_of, key_cmp};
+ghost use Rattle.session_rows.specs.Reading.{Opens, text_in};
+ghost use Rattle.node_rows.specs.Reading.{Finds};
+ghost use Rattle.node_rows.specs.Sessions.{AreRead, IsOf, IsReopened, NoSession, NoSessions, StartsApart};
+
+use mqtt_fields::{FieldFault, NoMemory, Text};
+use mqtt_sessions::{Session, SessionFault};
+use row_store::{Row, RowFault};
+use session_table::Sessions;
+use std::alloc::Global;
+
+/// The kind of a session's own row.
+pub(crate) const SESSION: u8 = 2;
+
+/// The kind of a copy's row.
+pub(crate) const COPY: u8 = 3;
+
+/// How many rows at the front are of kinds up to this one.
+pub(crate) fn up_to(rows: &[Row], kind: u8) -> usize
+    requires { T (map.is_sorted key_cmp (map_list entry_of rows.now)) }
+    ensures within { result ≤ length rows.now }
+    ensures low { AllByRecursion (λ e. e.0.0 ≤ kind) (map_list entry_of (take result rows.now)) }
+    ensures high { AllByRecursion (λ e. kind < e.0.0) (map_list entry_of (drop result rows.now)) }
+{
+    for i in 0..rows.len() {
+        if rows[i].kind > kind {
+            return i;
+        }
+    }
+    rows.len()
+}
+
+// How many rows at the front are of the owner.
+fn count_of(rows: &[Row], owner: &[u8]) -> usize
+    ensures within { result ≤ length rows.now }
+    ensures own { AllByRecursion (IsOf owner.now) (map_list entry_of (take result rows.now)) }
+    ensures others { StartsApart owner.now (map_list entry_of (drop result rows.now)) }
+{
+    for i in 0..rows.len() {
+        if rows[i].owner.as_slice() != owner {
+            return i;
+        }
+    }
+    rows.len()
+}
+
+// The row once more.
+fn copy_of(row: &Row) -> Result<Row, NoMemory>
+    ensures { IfOk result (λ copy. entry_of copy ≡ entry_of row.now) }
+{
+    Ok(Row {
+        kind: row.kind,
+        owner: row.owner.clone()?,
+        place: row.place.clone()?,
+        value: row.value.clone()?,
+    })
+}
+
+// A session's own row, and then those of its copies.
+fn rows_of(alloc: Global, own: &Row, copies: &[Row]) -> Result<Vec<Row>, NoMemory>
+    ensures { IfOk result (λ rows. map_list entry_of rows.items ≡ entry_of own.now ∷ map_list entry_of copies.now) }
+{
+    let mut rows = Vec::new(alloc);
+    rows.push(copy_of(own)?)?;
+    for row in copies {
+        rows.push(copy_of(row)?)?;
+    }
+    Ok(rows)
+}
+
+#[tactic(auto, using(mqtt_fields::proofs::TextLaws::texts))]
+fn text_of(alloc: Global, bytes: &[u8]) -> Result<Text, RowFault>
+    ensures { Opens (λ t. t) result (text_in bytes.now) }
+{
+    let Ok(text) = str::from_utf8(bytes) else {
+        return Err(RowFault::BadRow);
+    };
+    match Text::new(alloc, text) {
+        Ok(text) => Ok(text),
+        Err(FieldFault::NoMemory) => Err(RowFault::NoMemory),
+        Err(_) => Err(RowFault::BadRow),
+    }
+}
+
+// The client and the session of which these are the rows.
+fn read_one(alloc: Global, own: &Row, copies: &[Row]) -> Result<(Text, Session), RowFault>
+    ensures { Finds (λ x. IsReopened (entry_of own.now ∷ map_list entry_of copies.now) x.0 x.1)
+        (NoSession (entry_of own.now ∷ map_list entry_of copies.now)) result }
+{
+    let Ok(rows) = rows_of(alloc, own, copies) else {
+        return Err(RowFault::NoMemory);
+    };
+    let client = text_of(alloc, &own.owner)?;
+    match Session::from_rows(alloc, &rows) {
+        Ok(session) => Ok((client, session)),
+        Err(SessionFault::BadRow) => Err(RowFault::BadRow),
+        Err(_) => Err(RowFault::NoMemory),
+    }
+}
+
+/// The sessions whose rows these are: their own in the order of their clients, and in the same order those of their copies.
+pub(crate) fn read_sessions(
+    alloc: Global,
+    own: &[Row],
+    copies: &[Row],
+) -> Result<Sessions, RowFault>
+    requires { T (map.is_sorted key_cmp (map_list entry_of own.now)) }
+    ensures { Finds (AreRead (map_list entry_of own.now) (map_list entry_of copies.now))
+        (NoSessions (map_list entry_of own.now) (map_list entry_of copies.now)) result }
+{
+    let mut sessions = Sessions::new(alloc);
+    let mut rest = copies;
+    for row in own {
+        let (mine, others) = rest.split_at(count_of(rest, &row.owner));
+        let (client, session) = read_one(alloc, row, mine)?;
+        let Ok(()) = sessions.insert(client, session) else {
+            return Err(RowFault::NoMemory);
+        };
+        rest = others;
+    }
+    if !rest.is_empty() {
+        return Err(RowFault::BadRow);
+    }
+    Ok(sessions)
+}

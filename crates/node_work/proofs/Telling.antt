@@ -1,0 +1,219 @@
+-- Changes of rows, one part of a node's work after the other.
+use Rattle.std.proofs.Common.{◌≡◌, ◌≢◌, ℕ, Bool, true, false, cond, ◌||◌, List, [], ◌∷◌, ◌++◌, Option, Some, None, refl, sym, ap, subst, ◌∙◌, inl, inr, append_assoc, eqb→eq}
+use Rattle.std.specs.Prelude.{◌==◌, ◌⊎◌, T, option_map}
+use Rattle.std.proofs.lemmas.Bool.{cases_Bool, false≢true}
+use Rattle.std.proofs.lemmas.List.{append-nil}
+use Rattle.std.specs.Cmp.{tied_itself}
+use Rattle.std.specs.FinMap as map
+use Rattle.std.specs.List.{AllByRecursion}
+use Rattle.std.specs.Ordering.{eq_by_cmp, is_eq}
+use Rattle.mqtt_sessions.specs.Saved.{durable_of}
+use Rattle.replica_store.specs.States.{State}
+use Rattle.row_changes.specs.Leading.{Rows, Lead, LeadWithin, left_by, left_by_one, left_or, or_else}
+use Rattle.row_changes.specs.Leading as leading
+use Rattle.row_changes.specs.Gathered.{LeaveAlike}
+use Rattle.row_changes.proofs.Leaving.{lead_on}
+use Rattle.row_store.specs.declared.row.Row.{Row}
+use Rattle.row_store.specs.declared.row.Change.{Change}
+use Rattle.row_store.specs.declared.row.Change.TheVariants.{Put, Remove}
+use Rattle.row_store.specs.Rows.{Key, key_cmp, key_of}
+use Rattle.row_store.proofs.Keys.{exact_keys, equal_is, keys_total}
+use Rattle.session_table.specs.Rows.{LeadsOn, is_session_kind, row_in, seat_row}
+use Rattle.session_table.specs.Seats.{Seat, Seats}
+use Rattle.store_rows.specs.Changes.{AreChanges, IsNeeded, IsRight, key_in, names}
+use Rattle.store_rows.specs.Rows.{row_at}
+use Rattle.node_rows.specs.Rows.{Lasting, mark, mark_at, mark_key, node_row, session_row}
+use Rattle.node_work.specs.Lasting.{StoreTells, Tells, TellsOn, held_row, is_store_kind, lasting, work_row}
+use Rattle.node_work.specs.View.{HeldView, WorkView}
+
+-- nothing is told where nothing that lasts has changed
+pub tells_none : (w w' : WorkView) → w'.changes ≡ w.changes → work_row w' ≡ work_row w → Tells w w'
+tells_none w w' same rows = ([], same ∙ sym (append-nil w.changes), λ key. (λ i. rows i key))
+
+pub tells_then : (a b c : WorkView) → Tells a b → Tells b c → Tells a c
+tells_then a b c first second = (
+  first.0 ++ second.0,
+  second.1 ∙ ap (λ l. l ++ second.0) first.1 ∙ append_assoc a.changes first.0 second.0,
+  lead_on (work_row a) (work_row b) (work_row c) first.0 second.0 first.2 second.2,
+)
+
+-- ---- rows of one part
+
+-- of a session, as the table of sessions tells them
+session-row : (g : Option Seat) (key : Key) → session_row (option_map (λ (s : Seat). durable_of s.session) g) key ≡ row_in g key
+session-row None key = refl
+session-row (Some s) key = refl
+
+is-one : (n : ℕ) → n == 1 ≡ true → n ≡ 1
+is-one n e = eqb→eq n 1 (subst T (sym e) tt)
+
+-- a row by its kind
+abbrev row-by : (one session : Bool) → Option (List ℕ) → Option (List ℕ) → Option (List ℕ) → Option (List ℕ)
+row-by one session m s r = cond one m (cond session s r)
+
+unsaid : (changes : Option (Option (List ℕ))) (o : Option (List ℕ)) → changes ≡ None → o ≡ left_or changes o
+unsaid changes o none = ap (λ c. left_or c o) (sym none)
+
+module _ (id : ℕ) (h h' : HeldView) (own : List Change) where
+  sessions-lead : h'.named ≡ h.named → h'.store ≡ h.store → LeadWithin is_session_kind (seat_row h.sessions) (seat_row h'.sessions) own → Lead (held_row id h) (held_row id h') own
+  sessions-lead named store lead key = by (key.0 == 1) (is_session_kind key.0) refl refl
+    where
+      old : Option (List ℕ)
+      old = seat_row h.sessions key
+
+      was : session_row ((lasting h).sessions key.1.0) key ≡ old
+      was = session-row (map.get h.sessions key.1.0) key
+
+      is : session_row ((lasting h').sessions key.1.0) key ≡ seat_row h'.sessions key
+      is = session-row (map.get h'.sessions key.1.0) key
+
+      by : (one session : Bool) → (key.0 == 1) ≡ one → is_session_kind key.0 ≡ session
+          → row-by one session (mark_at (mark id h'.named) key.1.0 key.1.1) (session_row ((lasting h').sessions key.1.0) key) (row_at h'.store key)
+          ≡ left_or (left_by own key) (row-by one session (mark_at (mark id h.named) key.1.0 key.1.1) (session_row ((lasting h).sessions key.1.0) key) (row_at h.store key))
+      by true session o s =
+          ap (λ n. mark_at (mark id n) key.1.0 key.1.1) named ∙ unsaid (left_by own key) _ (lead.others key (ap is_session_kind (is-one key.0 o)))
+      by false true o s = is ∙ lead.own key s ∙ ap (left_or (left_by own key)) (sym was)
+      by false false o s = ap (λ t. row_at t key) store ∙ unsaid (left_by own key) _ (lead.others key s)
+
+pub sessions_tell : (id : ℕ) (h h' : HeldView) (s : Seats) (before after : List Change) → h' ≡ record h { sessions = s } → LeadsOn h.sessions before after h'.sessions → TellsOn (held_row id h) before after (held_row id h')
+sessions_tell id h h' s before after is l = (l.0, l.1, sessions-lead id h h' l.0 (ap (λ (v : HeldView). v.named) is) (ap (λ (v : HeldView). v.store) is) l.2)
+
+-- ---- the mark
+itself : (key : Key) → eq_by_cmp key_cmp key key ≡ true
+itself key = ap is_eq (tied_itself keys_total key)
+
+-- beside the mark's key nothing depends on it
+unmarked : (old new : List ℕ) (n : ℕ) (owner place : List ℕ) → n ≡ 1 → eq_by_cmp key_cmp (n, (owner, place)) mark_key ≡ false → mark_at new owner place ≡ mark_at old owner place
+unmarked old new n [] [] e off = absurd (false≢true (sym off ∙ ap (λ m. eq_by_cmp key_cmp (m, ([], [])) mark_key) e ∙ itself mark_key))
+unmarked old new n [] (b ∷ place) e off = refl
+unmarked old new n (b ∷ owner) place e off = refl
+
+pub name_tells : (id : ℕ) (h h' : HeldView) (row : Row) (before after : List Change) → key_of row ≡ mark_key → row.value.items ≡ mark id h'.named → after ≡ before ++ Put row ∷ [] → h'.sessions ≡ h.sessions → h'.store ≡ h.store
+    → TellsOn (held_row id h) before after (held_row id h')
+name_tells id h h' row before after named value is sessions store = (Put row ∷ [], is, lead)
+  where
+    left : (key : Key) (b : Bool) → eq_by_cmp key_cmp key mark_key ≡ b → left_by (Put row ∷ []) key ≡ cond b (Some (Some (mark id h'.named))) None
+    left key b e = ap (λ k. cond (eq_by_cmp key_cmp key k) (Some (Some row.value.items)) None) named ∙ (λ i. cond (e i) (Some (Some (value i))) None)
+
+    rest : (key : Key) (one session : Bool) → (key.0 == 1) ≡ one → eq_by_cmp key_cmp key mark_key ≡ false
+        → row-by one session (mark_at (mark id h'.named) key.1.0 key.1.1) (session_row ((lasting h').sessions key.1.0) key) (row_at h'.store key)
+        ≡ row-by one session (mark_at (mark id h.named) key.1.0 key.1.1) (session_row ((lasting h).sessions key.1.0) key) (row_at h.store key)
+    rest key true session o off = unmarked (mark id h.named) (mark id h'.named) key.0 key.1.0 key.1.1 (is-one key.0 o) off
+    rest key false true o off = ap (λ t. session_row (option_map (λ (x : Seat). durable_of x.session) (map.get t key.1.0)) key) sessions
+    rest key false false o off = ap (λ t. row_at t key) store
+
+    lead : Lead (held_row id h) (held_row id h') (Put row ∷ [])
+    lead key = elim (cases_Bool (eq_by_cmp key_cmp key mark_key)) [
+      | inl e ↦ ap (held_row id h') (exact_keys key mark_key (equal_is (key_cmp key mark_key) e)) ∙ ap (λ l. left_or l (held_row id h key)) (sym (left key true e))
+      | inr e ↦ rest key (key.0 == 1) (is_session_kind key.0) refl e ∙ ap (λ l. left_or l (held_row id h key)) (sym (left key false e))
+    ]
+
+-- ---- the replicated state
+same-key : (c : Change) → leading.key_in c ≡ key_in c
+same-key (Put row) = refl
+same-key (Remove kind owner place) = refl
+
+-- a right change leaves what the state has there
+right-left : (t : State) (c : Change) → IsRight t c → Some (leading.value_in c) ≡ Some (row_at t (leading.key_in c))
+right-left t (Put row) r = ap (λ v. Some v) (sym r)
+right-left t (Remove kind owner place) r = ap (λ v. Some v) (sym r)
+
+here-left : (t : State) (c : Change) (key : Key) → IsRight t c → eq_by_cmp key_cmp key (leading.key_in c) ≡ true → left_by_one c key ≡ Some (row_at t key)
+here-left t c key r e =
+    let same : key ≡ leading.key_in c = exact_keys key (leading.key_in c) (equal_is (key_cmp key (leading.key_in c)) e) in
+    ap (λ b. cond b (Some (leading.value_in c)) None) e ∙ right-left t c r ∙ ap (λ k. Some (row_at t k)) (sym same)
+
+away-left : (c : Change) (key : Key) → eq_by_cmp key_cmp key (leading.key_in c) ≡ false → left_by_one c key ≡ None
+away-left c key e = ap (λ b. cond b (Some (leading.value_in c)) None) e
+
+-- what right changes leave is what the state has
+abbrev pub Leaves : State → Option (Option (List ℕ)) → Key → Type 0
+Leaves t l key = (l ≡ None) ⊎ (l ≡ Some (row_at t key))
+
+else-leaves : (t : State) (key : Key) (last first : Option (Option (List ℕ))) → Leaves t last key → Leaves t first key → Leaves t (or_else last first) key
+else-leaves t key last first (inl none) f = subst (λ l. Leaves t (or_else l first) key) (sym none) f
+else-leaves t key last first (inr some) f = inr (ap (λ l. or_else l first) some)
+
+all-leave : (s t : State) (cs : List Change) (key : Key) → AllByRecursion (IsNeeded s t) cs → Leaves t (left_by cs key) key
+all-leave s t [] key h = inl refl
+all-leave s t (c ∷ cs) key h = else-leaves t key (left_by cs key) (left_by_one c key) (all-leave s t cs key h.1) (elim (cases_Bool (eq_by_cmp key_cmp key (leading.key_in c))) [
+  | inl e ↦ inr (here-left t c key h.0.right e)
+  | inr e ↦ inl (away-left c key e)
+])
+
+-- a change that names the key leaves something there
+else-some : (last first : Option (Option (List ℕ))) → (last ≡ None → first ≢ None) → or_else last first ≢ None
+else-some None first f e = f refl e
+else-some (Some l) first f e = cc
+
+named-left : (s t : State) (cs : List Change) (key : Key) → AllByRecursion (IsNeeded s t) cs → names key cs ≡ true → left_by cs key ≢ None
+named-left s t [] key h e = λ n. absurd (let z : false ≡ true = e in cc)
+named-left s t (c ∷ cs) key h e = by (eq_by_cmp key_cmp key (key_in c)) (λ more. named-left s t cs key h.1 more) refl e
+  where
+    by : (b : Bool) → (names key cs ≡ true → left_by cs key ≢ None) → eq_by_cmp key_cmp key (key_in c) ≡ b → (b || names key cs) ≡ true → left_by (c ∷ cs) key ≢ None
+    by true rest is more =
+        else-some (left_by cs key) (left_by_one c key) (λ _ n. (let z : None ≡ Some (row_at t key) = sym n ∙ here-left t c key h.0.right (ap (eq_by_cmp key_cmp key) (same-key c) ∙ is) in cc))
+    by false rest is more = else-some (left_by cs key) (left_by_one c key) (λ none. absurd (rest more none))
+
+-- outside the state's kinds there is no row
+no-row : (s : State) (key : Key) → is_store_kind key.0 ≡ false → row_at s key ≡ None
+no-row s key e = by (key.0 == 4) (key.0 == 5) (key.0 == 6) refl refl refl
+  where
+    by : (a b c : Bool) → (key.0 == 4) ≡ a → (key.0 == 5) ≡ b → (key.0 == 6) ≡ c → row_at s key ≡ None
+    by true b c x y z = absurd (false≢true (sym e ∙ (λ i. x i || (key.0 == 5) || (key.0 == 6))))
+    by false true c x y z = absurd (false≢true (sym e ∙ (λ i. x i || y i || (key.0 == 6))))
+    by false false true x y z = absurd (false≢true (sym e ∙ (λ i. x i || y i || z i)))
+    by false false false x y z = rw x (rw y (rw z refl))
+
+none-outside : (s t : State) (cs : List Change) (key : Key) → AllByRecursion (IsNeeded s t) cs → is_store_kind key.0 ≡ false → left_by cs key ≡ None
+none-outside s t [] key h e = refl
+none-outside s t (c ∷ cs) key h e =
+    ap (λ l. or_else l (left_by_one c key)) (none-outside s t cs key h.1 e) ∙ elim (cases_Bool (eq_by_cmp key_cmp key (leading.key_in c))) [
+      | inl same ↦ (let k : key ≡ key_in c = exact_keys key (leading.key_in c) (equal_is (key_cmp key (leading.key_in c)) same) ∙ same-key c in
+          absurd (h.0.differs (subst (λ (q : Key). row_at s q ≡ row_at t q) k (no-row s key e ∙ sym (no-row t key e)))))
+      | inr other ↦ away-left c key other
+    ]
+
+pub changes_within : (s t : State) (cs : List Change) → AreChanges s t cs → LeadWithin is_store_kind (row_at s) (row_at t) cs
+changes_within s t cs a = record {
+  own = λ key kind. by key (left_by cs key) (all-leave s t cs key a.needed) (a.complete key);
+  others = λ key kind. none-outside s t cs key a.needed kind;
+}
+  where
+    by : (key : Key) (l : Option (Option (List ℕ))) → Leaves t (left_by cs key) key → (row_at s key ≡ row_at t key) ⊎ (names key cs ≡ true) → row_at t key ≡ left_or (left_by cs key) (row_at s key)
+    by key l (inr some) c = ap (λ z. left_or z (row_at s key)) (sym some)
+    by key l (inl none) (inl same) = sym same ∙ ap (λ z. left_or z (row_at s key)) (sym none)
+    by key l (inl none) (inr named) = absurd (named-left s t cs key a.needed named none)
+
+session-apart : (n : ℕ) → is_session_kind n ≡ true → is_store_kind n ≡ false
+session-apart n e = elim (cases_Bool (n == 2)) [
+  | inl two ↦ ap is_store_kind (eqb→eq n 2 (subst T (sym two) tt))
+  | inr not ↦ ap is_store_kind (eqb→eq n 3 (subst T (sym ((λ i. sym not i || (n == 3)) ∙ e)) tt))
+]
+
+pub store_tells : (id : ℕ) (h h' : HeldView) (before after : List Change) → h'.named ≡ h.named → h'.sessions ≡ h.sessions → StoreTells h.store before after h'.store → TellsOn (held_row id h) before after (held_row id h')
+store_tells id h h' before after named sessions told = (told.0, told.1, lead)
+  where
+    own : List Change
+    own = told.0
+
+    lead : Lead (held_row id h) (held_row id h') own
+    lead key = by (key.0 == 1) (is_session_kind key.0) refl refl
+      where
+        by : (one session : Bool) → (key.0 == 1) ≡ one → is_session_kind key.0 ≡ session
+            → row-by one session (mark_at (mark id h'.named) key.1.0 key.1.1) (session_row ((lasting h').sessions key.1.0) key) (row_at h'.store key)
+            ≡ left_or (left_by own key) (row-by one session (mark_at (mark id h.named) key.1.0 key.1.1) (session_row ((lasting h).sessions key.1.0) key) (row_at h.store key))
+        by true session o s = ap (λ n. mark_at (mark id n) key.1.0 key.1.1) named ∙ unsaid (left_by own key) _ (told.2.others key (ap is_store_kind (is-one key.0 o)))
+        by false true o s = ap (λ t. session_row (option_map (λ (x : Seat). durable_of x.session) (map.get t key.1.0)) key) sessions ∙ unsaid (left_by own key) _ (told.2.others key (session-apart key.0 s))
+        by false false o s = elim (cases_Bool (is_store_kind key.0)) [
+          | inl e ↦ told.2.own key e
+          | inr e ↦ no-row h'.store key e ∙ sym (no-row h.store key e) ∙ unsaid (left_by own key) _ (told.2.others key e)
+        ]
+
+-- ---- changes that leave what none leave are none
+itself-left : (c : Change) → left_by_one c (leading.key_in c) ≡ Some (leading.value_in c)
+itself-left c = ap (λ b. cond b (Some (leading.value_in c)) None) (itself (leading.key_in c))
+
+pub alike_none : (cs : List Change) → LeaveAlike cs [] → cs ≡ []
+alike_none [] alike = refl
+alike_none (c ∷ cs) alike = absurd (else-some (left_by cs (leading.key_in c)) (left_by_one c (leading.key_in c)) (λ _ n. (let z : None ≡ Some (leading.value_in c) = sym n ∙ itself-left c in cc)) (alike (leading.key_in c)))

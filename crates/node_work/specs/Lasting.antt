@@ -1,0 +1,49 @@
+-- What of a node outlives its run, and the changes of its rows.
+use Rattle.std.specs.Prelude.{◌≡◌, ◌==◌, ◌||◌, ◌<◌, ◌^◌, ℕ, Bool, List, ◌++◌, Some, option_map}
+use Rattle.std.specs.FinMap as map
+use Rattle.mqtt_sessions.specs.Saved.{durable_of}
+use Rattle.node_rows.specs.Reading.{AreOpened}
+use Rattle.node_rows.specs.Rows.{Lasting, node_row}
+use Rattle.replica_store.specs.States.{State}
+use Rattle.row_changes.specs.Leading.{Rows, Lead, LeadWithin}
+use Rattle.row_store.specs.declared.row.Change.{Change}
+use Rattle.session_rows.specs.Durable.{IsDurable}
+use Rattle.session_table.specs.Seats.{Seat, Seats}
+use Rattle.store_rows.specs.Reading.{IsStore}
+use Rattle.store_rows.specs.Rows.{row_at}
+use Rattle.node_work.specs.View.{HeldView, WorkView, woken}
+
+-- what lasts of what a node holds: not its moment, its connections, its turn or its counts
+abbrev pub lasting : HeldView → Lasting
+lasting h = record { named = h.named; sessions = λ client. option_map (λ (s : Seat). durable_of s.session) (map.get h.sessions client); store = h.store }
+
+-- its rows, if it is node `id`
+abbrev pub held_row : ℕ → HeldView → Rows
+held_row id h = node_row id (lasting h)
+
+-- what lasts can be read from its rows again
+pub record CanLast (h : HeldView) : Type 0 where
+  pub named : h.named < 2 ^ 62
+  pub sessions : (client : List ℕ) (seat : Seat) → map.get h.sessions client ≡ Some seat → IsDurable (durable_of seat.session) × ((durable_of seat.session).client ≡ client)
+  pub store : IsStore h.store
+
+-- a node that was just opened holds what lasts of it, each session on no connection
+abbrev pub IsWoken : Lasting → HeldView → Type 0
+IsWoken x h = (seats : Seats) × AreOpened x seats × (h ≡ woken x.named seats x.store)
+
+-- changes are appended that lead from the rows before to those after
+abbrev pub TellsOn : Rows → List Change → List Change → Rows → Type 0
+TellsOn old before after new = (own : List Change) × (after ≡ before ++ own) × Lead old new own
+
+abbrev pub work_row : WorkView → Rows
+work_row w = held_row w.place.id w.held
+
+abbrev pub Tells : WorkView → WorkView → Type 0
+Tells w w' = TellsOn (work_row w) w.changes w'.changes (work_row w')
+
+-- the kinds of the rows of the replicated state
+abbrev pub is_store_kind : ℕ → Bool
+is_store_kind n = n == 4 || n == 5 || n == 6
+
+abbrev pub StoreTells : State → List Change → List Change → State → Type 0
+StoreTells old before after new = (own : List Change) × (after ≡ before ++ own) × LeadWithin is_store_kind (row_at old) (row_at new) own

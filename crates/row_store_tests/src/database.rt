@@ -1,0 +1,69 @@
+//! A database of rows over two files, from opening to closing.
+//!
+//! The functions have no clause and hold for each store or each disk, so that no proof goes into one.
+
+use row_store::RowFault;
+use session_records::SqlRows;
+use sqlite::{Alter, Connection, FileStore, Files, Options};
+use sqlite_disk::Disk;
+use std::alloc::Global;
+
+// A commit first copies the log into the database file, once that log holds four pages.
+fn options(seed: u64) -> Options {
+    Options {
+        checkpoint_frames: 4,
+        ..Options::new(seed)
+    }
+}
+
+/// A connection to a database on these files.
+pub fn opened<D: Disk + Drop>(
+    alloc: Global,
+    files: Files<D>,
+    seed: u64,
+) -> Result<Connection<FileStore<D>>, Files<D>> {
+    if !files.may_be_used() {
+        return Err(files);
+    }
+    match Connection::open_files(alloc, files, options(seed)) {
+        Ok(conn) => Ok(conn),
+        Err((_, left)) => Err(left.into_files()),
+    }
+}
+
+/// The rows of a database that is in no transaction.
+pub fn adopted<S: Alter + Drop>(
+    conn: Connection<S>,
+) -> Result<SqlRows<S>, (RowFault, Connection<S>)> {
+    if conn.is_autocommit() {
+        SqlRows::adopt(conn)
+    } else {
+        Err((RowFault::Device, conn))
+    }
+}
+
+/// The connection to the database of these rows.
+pub fn connection_of<S: Alter + Drop>(rows: SqlRows<S>) -> Connection<S> {
+    rows.into_connection()
+}
+
+fn store_of<S: Alter + Drop>(conn: Connection<S>) -> S {
+    conn.into_store()
+}
+
+fn files_in<D: Disk + Drop>(store: FileStore<D>) -> Files<D> {
+    store.close()
+}
+
+/// The files as they are.
+pub fn files_of<D: Disk + Drop>(conn: Connection<FileStore<D>>) -> Files<D> {
+    files_in(store_of(conn))
+}
+
+/// The files after the log was copied into the database file, unless that failed.
+pub fn closed<D: Disk + Drop>(conn: Connection<FileStore<D>>) -> Files<D> {
+    match conn.close_files() {
+        Ok(files) => files,
+        Err((_, store)) => files_in(store),
+    }
+}
