@@ -1,0 +1,64 @@
+-- The commands of the program, and the tasks of what follows them.
+use Rattle.std.proofs.Common.{◌≡◌, ◌∙◌, ◌≤◌, ℕ, List, [], Option, Some, None, Result, Ok, Err, true, refl, sym, ap, subst, option_map, codes}
+use Rattle.std.specs.Prelude.{IfSome, IsErrAnd, MatchResult}
+use Rattle.std.specs.Borrow.{Bor}
+use Rattle.std.specs.Str.Parse.{ParsesUnsigned}
+use Rattle.clap.specs.Words.{App, HasKind, HasMatchesOf, Row, Text, fault_of, first_of, first_value, is_simple, is_simple_and_free, one_text, rows_of, subcommand_of, subcommand_rows_of}
+use Rattle.clap.specs.declared.parser.matches.ArgMatches.{ArgMatches}
+use Rattle.clap.specs.declared.parser.matches.Found.{Found}
+use Rattle.clap.specs.declared.error.Error.{Error}
+use Rattle.clap.proofs.OnLiterals.{clap_on_literals}
+use Rattle.clap.proofs.WalkLemmas.{first_value-rows, one_text-rows}
+use Rattle.broker_command.specs.Line.{broker, IsOf, IsTask, IsTurns}
+use Rattle.broker_command.specs.declared.task.Task.{Task}
+
+-- the program's commands are such that what a parse of words gives is stated exactly
+pub broker_is_simple : is_simple broker ≡ true
+unfolding broker clap_on_literals
+broker_is_simple = refl
+
+-- and such that its faults are
+pub broker_is_free : is_simple_and_free broker ≡ true
+unfolding broker clap_on_literals
+broker_is_free = refl
+
+-- what a getter of text gives is the first value of the row
+pub word_of : (f : Found) (id : Text) (o : Option (Bor Text)) (s : Bor Text) (w : Text) → option_map (λ b. b.now) o ≡ first_value f id
+    → o ≡ Some s → w ≡ s.now → first_of id (rows_of f) ≡ Some w
+word_of f id o s w e is w_is = sym (first_value-rows f id) ∙ sym e ∙ ap (option_map (λ b. b.now)) is ∙ ap Some (sym w_is)
+
+-- what a getter of a number gives is the number that the row's text spells
+pub turns_read : (E : Type 0) (G : Text → Result ℕ E → Type 0) (f : Found) (turns : ℕ)
+    → ((t : Text) (r : Result ℕ E) → G t r → ParsesUnsigned 32 10 t r)
+    → (one_text f (codes "turns") ≡ None → Some turns ≡ None) → ((t : Text) → one_text f (codes "turns") ≡ Some t → G t (Ok turns))
+    → 1 ≤ turns → turns ≤ 1000000000 → IsTurns (rows_of f) turns
+turns_read E G f turns only none value least most = go (one_text f (codes "turns")) refl
+  where
+    go : (o : Option Text) → one_text f (codes "turns") ≡ o → IsTurns (rows_of f) turns
+    go None e = let bad : Some turns ≡ None = none e in cc
+    go (Some t) e =
+        let read = only t (Ok turns) (value t e) in record {
+          text = t;
+          given = sym (one_text-rows f (codes "turns")) ∙ e;
+          numeral = read.0.0;
+          number = read.1;
+          least = least;
+          most = most;
+        }
+
+-- a parse that succeeds found no fault, and met the command that the words name
+pub asked : (a : App) (words : List Text) (m : ArgMatches) → a ≡ broker → HasMatchesOf a words m
+    → (is_simple_and_free a ≡ true → fault_of a words ≡ []) → (o : Option Task) → IfSome o (IsOf (subcommand_rows_of m)) → IfSome o (IsTask words)
+asked a words m is matches free None h = h
+asked a words m is matches free (Some task) h = record {
+  faultless = ap (λ (x : App). fault_of x words) (sym is) ∙ free (ap is_simple_and_free is ∙ broker_is_free);
+  asked = subst (λ (s : Option (Text × List Row)). IsOf s task) ((matches (ap is_simple is ∙ broker_is_simple)).1 ∙ ap (λ (x : App). subcommand_of x words) is) h;
+}
+
+-- a parse that fails has one of the words' faults, or memory ran out
+pub refused : {X : Type 0} (a : App) (words : List Text) (e : Error) (r : Result X Error) (P : X → Type 0) → a ≡ broker
+    → (is_simple_and_free a ≡ true → HasKind (fault_of a words) e) → IsErrAnd r (λ x. x ≡ e) → MatchResult r P (HasKind (fault_of broker words))
+refused a words e (Ok x) P is fails given = absurd given
+refused a words e (Err x) P is fails given =
+    let failed = subst (λ (y : App). HasKind (fault_of y words) e) is (fails (ap is_simple_and_free is ∙ broker_is_free)) in
+    subst (λ (y : Error). HasKind (fault_of broker words) y) (sym given) failed

@@ -1,0 +1,86 @@
+-- The command lines of the program, and what each asks for.
+use Rattle.std.specs.Prelude.{◌≡◌, ◌≤◌, ℕ, List, [], Some, None, Option, true, pos, codes}
+use Rattle.std.specs.Str.Parse.{IsNumeral, digits_value, without_leading_plus}
+use Rattle.clap.specs.Words.{App, IsAmong, Row, Rule, Text, fault_of, first_of, new_app, new_rule, one_of, subcommand_of, with_rule, with_subcommand}
+use Rattle.clap.specs.Simple.{on_top}
+use Rattle.clap.specs.declared.builder.action.ArgAction.TheVariants.{Set}
+use Rattle.clap.specs.declared.builder.value_parser.ValueParser.TheVariants.{Signed}
+use Rattle.clap.specs.declared.error.kind.ErrorKind.{ErrorKind}
+use Rattle.clap.specs.declared.error.kind.ErrorKind.TheVariants.{DisplayHelp}
+use Rattle.broker_stop.specs.declared.stop.Stop.{Stop}
+use Rattle.broker_stop.specs.declared.stop.Stop.TheVariants.{Help, CommandLine}
+use Rattle.broker_command.specs.declared.task.Task.{Task}
+use Rattle.broker_command.specs.declared.task.Task.TheVariants.{Play, Serve}
+
+-- an argument that has to be there, with one value
+abbrev pub word_rule : Text → Rule
+word_rule id = record (new_rule id) { required = true; action = Some Set }
+
+-- `--turns N`, with N from 1 to 1,000,000,000
+abbrev pub turns_rule : Rule
+turns_rule = record (word_rule (codes "turns")) {
+  long = Some (codes "turns");
+  value_names = 1;
+  parser = Some (Signed (pos 1) (pos 1000000000));
+}
+
+-- `play SCRIPT`
+abbrev pub play : App
+play = with_rule (new_app (codes "play")) (word_rule (codes "SCRIPT"))
+
+-- `serve CONFIG NODE DATABASE --turns N`
+abbrev pub serve : App
+serve = with_rule (with_rule (with_rule (with_rule (new_app (codes "serve"))
+    (word_rule (codes "CONFIG"))) (word_rule (codes "NODE"))) (word_rule (codes "DATABASE"))) turns_rule
+
+-- the program's words: one of the two commands, without the program's name
+unfoldable pub broker : App
+broker = with_subcommand (with_subcommand
+    (on_top (λ s. record s { no_binary_name = true; subcommand_required = true }) (new_app (codes "broker")))
+    play.top) serve.top
+
+-- a script to play
+abbrev pub IsPlay : List Row → Task → Type 0
+IsPlay rows (Play script) = first_of (codes "SCRIPT") rows ≡ Some script.bytes.items
+IsPlay rows (Serve configuration node database turns) = ⊥
+
+-- turns to make, in range, as the text spells them
+pub record IsTurns (rows : List Row) (turns : ℕ) : Type 0 where
+  pub text : Text
+  pub given : one_of (codes "turns") rows ≡ Some text
+  pub numeral : IsNumeral 10 (without_leading_plus text)
+  pub number : turns ≡ digits_value 10 (without_leading_plus text)
+  pub least : 1 ≤ turns
+  pub most : turns ≤ 1000000000
+
+-- a node to be
+abbrev pub IsServe : List Row → Task → Type 0
+IsServe rows (Play script) = ⊥
+IsServe rows (Serve configuration node database turns) =
+    (first_of (codes "CONFIG") rows ≡ Some configuration.bytes.items)
+    × (first_of (codes "NODE") rows ≡ Some node.bytes.items)
+    × (first_of (codes "DATABASE") rows ≡ Some database.bytes.items) × IsTurns rows turns
+
+-- the task of a command with what follows it
+abbrev pub IsOf : Option (Text × List Row) → Task → Type 0
+IsOf None task = ⊥
+IsOf (Some (name, rows)) (Play script) = (name ≡ codes "play") × IsPlay rows (Play script)
+IsOf (Some (name, rows)) (Serve configuration node database turns) =
+    (name ≡ codes "serve") × IsServe rows (Serve configuration node database turns)
+
+-- the words are a command line without a fault, and ask for the task
+pub record IsTask (words : List Text) (task : Task) : Type 0 where
+  pub faultless : fault_of broker words ≡ []
+  pub asked : IsOf (subcommand_of broker words) task
+
+-- what is said of an error of that kind
+abbrev pub IsStopOf : ErrorKind → Stop → Type 0
+IsStopOf kind (Help text) = kind ≡ DisplayHelp
+IsStopOf kind (CommandLine text) = Unit {0}
+IsStopOf kind other = ⊥
+
+-- the words ask for help, or there is something wrong with them, or memory ran out
+abbrev pub IsRefusal : List Text → Stop → Type 0
+IsRefusal words (Help text) = IsAmong DisplayHelp (fault_of broker words)
+IsRefusal words (CommandLine text) = Unit {0}
+IsRefusal words other = ⊥

@@ -1,0 +1,10 @@
+//! The command line: which task its words ask for, or why they ask for none.
+#![tactic(auto)]
+
+mod line;
+mod task;
+#[cfg(test)]
+mod tests;
+
+pub use line::task_of;
+pub use task::Task;

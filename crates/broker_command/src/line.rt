@@ -1,0 +1,155 @@
+//! The words of a command line.
+
+ghost use Rattle.std.specs.Prelude.{◌≡◌, map, false, IfOk, IfSome, MatchResult};
+ghost use Rattle.clap.specs.Words.{HasKind, app_of, fault_of, found_of, kind_of, rows_of, rule_of, subcommand_rows_of};
+ghost use Rattle.clap.specs.declared.builder.command.Command.TheViews.{out-Command as fields_of};
+ghost use Rattle.broker_command.specs.Line.{broker, play, serve, word_rule, turns_rule, IsTask, IsOf, IsPlay, IsServe, IsRefusal, IsStopOf};
+
+use crate::task::Task;
+use broker_stop::Stop;
+use clap::error::ErrorKind;
+use clap::{Arg, ArgAction, ArgMatches, Command, Error, value_parser};
+use std::alloc::{AllocError, Global};
+
+const MOST_TURNS: u32 = 1_000_000_000;
+
+/// The task that the words after the program's name ask for. `Stop::Help` has the help that they ask for
+/// instead; `Stop::CommandLine` says what is wrong with them, or that memory ran out.
+pub fn task_of(alloc: Global, words: &[String]) -> Result<Task, Stop>
+    ensures { MatchResult result (IsTask (map (λ w. w.bytes.items) words.now))
+        (IsRefusal (map (λ w. w.bytes.items) words.now)) }
+{
+    match parse(alloc, words) {
+        Ok(Some(task)) => Ok(task),
+        Ok(None) => Err(Stop::CommandLine(String::new(alloc))),
+        Err(error) => Err(stop_of(alloc, &error)),
+    }
+}
+
+/// The program's commands.
+fn commands<'a>(alloc: Global) -> Result<Command<'a>, AllocError>
+    ensures { IfOk result (λ c. app_of c ≡ broker) }
+{
+    let play = play_command(alloc)?;
+    let serve = serve_command(alloc)?;
+    Command::new(alloc, "broker")
+        .about("A node of a cluster of MQTT 5.0 brokers")
+        .no_binary_name(true)
+        .subcommand_required(true)
+        .subcommand(play)?
+        .subcommand(serve)
+}
+
+fn play_command<'a>(alloc: Global) -> Result<Command<'a>, AllocError>
+    ensures { IfOk result (λ c. (app_of c ≡ play) × ((fields_of c).has_globals ≡ false)) }
+{
+    Command::new(alloc, "play")
+        .about("Plays a script of a cluster in memory, and prints what each step gives out")
+        .arg(required(alloc, "SCRIPT").help("The file of the script"))
+}
+
+fn serve_command<'a>(alloc: Global) -> Result<Command<'a>, AllocError>
+    ensures { IfOk result (λ c. (app_of c ≡ serve) × ((fields_of c).has_globals ≡ false)) }
+{
+    Command::new(alloc, "serve")
+        .about("Serves MQTT clients as one node of a cluster")
+        .arg(required(alloc, "CONFIG").help(
+            "The file that names the nodes and their homes, in TOML",
+        ))?
+        .arg(required(alloc, "NODE").help("The name of the node to be"))?
+        .arg(required(alloc, "DATABASE").help("The file of the database that keeps what lasts"))?
+        .arg(turns_option(alloc))
+}
+
+fn turns_option<'a>(alloc: Global) -> Arg<'a>
+    ensures rule { rule_of result ≡ turns_rule }
+    ensures local { result.global ≡ false }
+{
+    required(alloc, "turns")
+        .long("turns")
+        .value_name("N")
+        .help("How many turns to make; a turn asks each socket once")
+        .value_parser(value_parser!(u32).range(1..=1_000_000_000))
+}
+
+/// An argument that has to be there, with one value.
+fn required<'a>(alloc: Global, name: &'a str) -> Arg<'a>
+    ensures rule { rule_of result ≡ word_rule name.entry.now }
+    ensures local { result.global ≡ false }
+{
+    Arg::new(alloc, name).required(true).action(ArgAction::Set)
+}
+
+/// The task of the words; none where they name no command, which a parse refuses before.
+fn parse(alloc: Global, words: &[String]) -> Result<Option<Task>, Error>
+    ensures { MatchResult result (λ task. IfSome task (IsTask (map (λ w. w.bytes.items) words.now)))
+        (HasKind (fault_of broker (map (λ w. w.bytes.items) words.now))) }
+{
+    let matches = commands(alloc)?.try_get_matches_from(words)?;
+    Ok(named_task(alloc, &matches)?)
+}
+
+fn named_task(alloc: Global, matches: &ArgMatches<'_>) -> Result<Option<Task>, AllocError>
+    ensures { IfOk result (λ task. IfSome task (IsOf (subcommand_rows_of matches.now))) }
+{
+    let Some((name, found)) = matches.subcommand() else {
+        return Ok(None);
+    };
+    if name == "play" {
+        play_task(alloc, found)
+    } else if name == "serve" {
+        serve_task(alloc, found)
+    } else {
+        Ok(None)
+    }
+}
+
+fn play_task(alloc: Global, found: &ArgMatches<'_>) -> Result<Option<Task>, AllocError>
+    ensures { IfOk result (λ task. IfSome task (IsPlay (rows_of (found_of found.now)))) }
+{
+    let Some(script) = found.get_str("SCRIPT") else {
+        return Ok(None);
+    };
+    let script = String::from_str(alloc, script)?;
+    Ok(Some(Task::Play { script }))
+}
+
+fn serve_task(alloc: Global, found: &ArgMatches<'_>) -> Result<Option<Task>, AllocError>
+    ensures { IfOk result (λ task. IfSome task (IsServe (rows_of (found_of found.now)))) }
+{
+    let Some(turns) = found.get_one::<u32>("turns") else {
+        return Ok(None);
+    };
+    let (Some(configuration), Some(node), Some(database)) = (
+        found.get_str("CONFIG"),
+        found.get_str("NODE"),
+        found.get_str("DATABASE"),
+    ) else {
+        return Ok(None);
+    };
+    if turns == 0 || MOST_TURNS < turns {
+        return Ok(None);
+    }
+    Ok(Some(Task::Serve {
+        configuration: String::from_str(alloc, configuration)?,
+        node: String::from_str(alloc, node)?,
+        database: String::from_str(alloc, database)?,
+        turns,
+    }))
+}
+
+/// What the program says where a parse gives no task.
+fn stop_of(alloc: Global, error: &Error) -> Stop
+    ensures { IsStopOf (kind_of error.now) result }
+{
+    let Ok(mut text) = format!(in alloc; "{error}") else {
+        return Stop::CommandLine(String::new(alloc));
+    };
+    if text.as_str().ends_with('\n') {
+        text.pop();
+    }
+    match error.kind() {
+        ErrorKind::DisplayHelp => Stop::Help(text),
+        _ => Stop::CommandLine(text),
+    }
+}

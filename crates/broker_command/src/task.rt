@@ -1,0 +1,22 @@
+//! What the program is asked to do.
+
+/// What a command line asks for.
+#[derive(Debug, PartialEq, Eq, Drop)]
+pub enum Task {
+    /// Play the script in a file.
+    Play {
+        /// The path of the script.
+        script: String,
+    },
+    /// Serve clients as a node.
+    Serve {
+        /// The path of the configuration.
+        configuration: String,
+        /// The node's name in it.
+        node: String,
+        /// The path of the node's database.
+        database: String,
+        /// How many turns to make, from 1 to 1,000,000,000.
+        turns: u32,
+    },
+}

@@ -1,0 +1,79 @@
+//! Rows in memory of which one call is refused, as a failed disk refuses it.
+ghost use Rattle.std.specs.Prelude.{◌≡◌, ◌⊎◌, ◌<◌, ◌^◌, ◌-◌, true, false, ⊤};
+
+use row_store::{Change, MemoryRows, Row, RowFault, RowStore};
+use std::alloc::Global;
+
+/// The rows, and how many calls are still answered before the one that is refused. With 0 none is.
+#[derive(Drop)]
+pub struct RefusingRows {
+    rows: MemoryRows,
+    left: u64,
+    failures: u64,
+}
+
+impl RefusingRows {
+    /// No rows; the call of this number is refused, counted from 1.
+    pub fn new(alloc: Global, refused: u64) -> RefusingRows {
+        RefusingRows {
+            rows: MemoryRows::new(alloc),
+            left: refused,
+            failures: 0,
+        }
+    }
+
+    /// Whether this call is refused, which is then counted.
+    fn refuses(&mut self) -> bool
+        ensures same { self.new.rows ≡ self.old.rows }
+        ensures counted { result ≡ true → (self.old.failures < self.new.failures) ⊎ (self.new.failures ≡ 2 ^ 64 - 1) }
+        ensures kept { result ≡ false → self.new.failures ≡ self.old.failures }
+    {
+        let refuses = self.left == 1;
+        self.left = self.left.saturating_sub(1);
+        if refuses {
+            self.failures = self.failures.saturating_add(1);
+        }
+        refuses
+    }
+}
+
+impl RowStore for RefusingRows {
+    ghost content = { λ r. r.rows };
+
+    ghost is_clean = { λ _. ⊤ };
+
+    ghost is_open = { λ _. ⊤ };
+
+    ghost may_leave = { λ r c. c ≡ r.rows };
+
+    ghost failed = { λ r. r.failures };
+
+    fn failures(&self) -> u64 {
+        self.failures
+    }
+
+    fn apply(&mut self, changes: &[Change]) -> Result<(), RowFault> {
+        if changes.is_empty() {
+            return Ok(());
+        }
+        if self.refuses() {
+            return Err(RowFault::Device);
+        }
+        match self.rows.apply(changes) {
+            Ok(()) => Ok(()),
+            Err(_) => Err(RowFault::NoMemory),
+        }
+    }
+
+    fn load(&mut self) -> Result<Vec<Row>, RowFault> {
+        if self.refuses() {
+            return Err(RowFault::Device);
+        }
+        match self.rows.load() {
+            Ok(rows) => Ok(rows),
+            Err(_) => Err(RowFault::NoMemory),
+        }
+    }
+
+    ghost settled = { λ s c up left. left };
+}
