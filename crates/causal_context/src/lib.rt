@@ -21,6 +21,3 @@ pub use dot::Dot;
 pub use joining::Joining;
 pub use lattice::Lattice;
 pub use ranges::Range;
-
-#[cfg(test)]
-mod tests;

@@ -2,4 +2,8 @@
 #![tactic(auto)]
 
 #[cfg(test)]
+mod contexts;
+#[cfg(test)]
 mod store;
+#[cfg(test)]
+mod subscriptions;

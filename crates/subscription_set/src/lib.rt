@@ -13,8 +13,6 @@ mod live;
 mod plan;
 mod ready;
 mod set;
-#[cfg(test)]
-mod tests;
 
 pub use entry::Entry;
 pub use ready::Ready;
