@@ -1,4 +1,5 @@
 pub mod Buffering
 pub mod OrderLaws
+pub mod Serving
 pub mod Telling
 pub mod Turning

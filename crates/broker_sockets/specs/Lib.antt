@@ -1,8 +1,10 @@
 pub mod Answers
+pub mod Binding
 pub mod Buffers
 pub mod Clients
 pub mod Faults
 pub mod Order
 pub mod Queued
+pub mod Serving
 pub mod Turns
 pub mod Writing

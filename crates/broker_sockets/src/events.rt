@@ -11,6 +11,8 @@ pub struct Event {
 /// What happens.
 #[derive(Debug, Drop)]
 pub enum EventKind {
+    /// A node has started, which comes before all else.
+    Started,
     /// A client has connected.
     Opened { connection: u64 },
     /// Bytes came on a connection, from 1 to 65,536.

@@ -1,7 +1,8 @@
-//! Clients' connections over sockets that never wait, and a turn that asks each socket once.
+//! Clients' connections over sockets that never wait, a turn that asks each socket once, and turns one after another.
 #![tactic(auto)]
 
 mod clients;
+mod clock;
 mod events;
 pub mod laws;
 mod network;
@@ -11,7 +12,8 @@ mod real;
 mod tests;
 mod turn;
 
+pub use clock::{Clock, RealClock};
 pub use events::{Event, EventKind, Handler, Output};
-pub use network::{Answer, Sockets};
+pub use network::{Answer, Sockets, bind};
 pub use real::RealSockets;
 pub use turn::{Hub, TurnFault};

@@ -1,4 +1,6 @@
 //! What a turn asks of a network.
+ghost use Rattle.broker_sockets.specs.Binding.{IsBound};
+
 use std::io;
 use std::net::SocketAddr;
 
@@ -15,16 +17,20 @@ pub enum Answer {
 
 /// Sockets that never wait.
 ///
-/// `accepts`, `reads` and `writes` relate a network and a stream before a call to what it answers and to both
-/// after it, where an implementation knows that; of the system's sockets they say nothing.
+/// `listens`, `accepts`, `reads` and `writes` relate a network, and a stream, before a call to what it answers and
+/// to them after it, where an implementation knows that; of the system's sockets they say nothing.
 pub trait Sockets {
     type Listener: Drop;
 
     type Stream: Drop;
 
     ghost use Rattle.std.specs.Prelude.{ℕ, List, Option, length};
+    ghost use Rattle.std.specs.Result.{result_ok};
+    ghost use Rattle.std.specs.declared.net.socket_addr.SocketAddr.{SocketAddr};
     ghost use Rattle.broker_sockets.specs.declared.network.Answer.{Answer};
     ghost use Rattle.broker_sockets.specs.Answers.{CarriesSome, IsWithin, carried};
+
+    ghost listens: { Self → SocketAddr → Option Self.Listener → Self → Type 0 };
 
     ghost accepts: { Self → Self.Listener → Option Self.Stream → Self → Type 0 };
 
@@ -33,7 +39,8 @@ pub trait Sockets {
     ghost writes: { Self → Self.Stream → List ℕ → Answer → Self → Self.Stream → Type 0 };
 
     /// Waits for connections at an address.
-    fn listen(&mut self, address: SocketAddr) -> io::Result<Self::Listener>;
+    fn listen(&mut self, address: SocketAddr) -> io::Result<Self::Listener>
+        ensures { listens self.old address (result_ok result) self.new };
 
     /// A connection that was made, if there is one.
     fn accept(&mut self, listener: &Self::Listener) -> Option<Self::Stream>
@@ -52,4 +59,15 @@ pub trait Sockets {
     fn write(&mut self, stream: &mut Self::Stream, bytes: &[u8]) -> Answer
         ensures within { IsWithin result (length bytes.now) }
         ensures carried { writes self.old stream.old bytes.now result self.new stream.new };
+}
+
+/// Waits for connections at an address that is given as text: an IP address and a port, as `127.0.0.1:1883` or
+/// `[::1]:1883`. `None`: the text is no such address, or the network doesn't listen there.
+pub fn bind<S: Sockets>(sockets: &mut S, text: &str) -> Option<S::Listener>
+    ensures { IsBound S.listens text.now sockets.old result sockets.new }
+{
+    match text.parse::<SocketAddr>() {
+        Ok(address) => sockets.listen(address).ok(),
+        Err(_) => None,
+    }
 }

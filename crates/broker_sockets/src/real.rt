@@ -36,6 +36,8 @@ impl<'a, N: Net> Sockets for RealSockets<'a, N> {
 
     type Stream = TcpStream;
 
+    ghost listens = { λ _ _ _ _. Unit {0} };
+
     ghost accepts = { λ _ _ _ _. Unit {0} };
 
     ghost reads = { λ _ _ _ _ _ _. Unit {0} };

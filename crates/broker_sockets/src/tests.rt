@@ -2,18 +2,25 @@
 
 mod memory;
 
-use crate::{Answer, Event, EventKind, Handler, Hub, Output, RealSockets, Sockets, TurnFault};
+use crate::{
+    Answer, Clock, Event, EventKind, Handler, Hub, Output, RealClock, RealSockets, Sockets,
+    TurnFault, bind,
+};
 use memory::{Line, Memory, memory_of};
 use std::alloc::Global;
+use std::io::{self, ErrorKind};
 use std::net::SocketAddr;
 use std::process::Abort;
 use std::test::Fail;
+use std::time::{self, Duration};
 
 /// Sends each piece back, and notes what it was told. A piece that begins with `q` closes its connection, one
-/// that begins with `m` is answered by so many bytes, and one that begins with `f` is a fault.
+/// that begins with `m` is answered by so many bytes, and one that begins with `f` is a fault. When it starts it
+/// sends `!` to the first connection.
 #[derive(Drop)]
 struct Echo {
     alloc: Global,
+    started: u64,
     opened: Vec<u64>,
     closed: Vec<u64>,
     ticks: u64,
@@ -28,6 +35,7 @@ impl Echo {
     fn new(alloc: Global, many: usize) -> Echo {
         Echo {
             alloc,
+            started: 0,
             opened: Vec::new(alloc),
             closed: Vec::new(alloc),
             ticks: 0,
@@ -68,6 +76,11 @@ impl Handler for Echo {
     fn handle(&mut self, event: Event) -> Result<Vec<Output>, Refused> {
         let nothing = Vec::new(self.alloc);
         match event.kind {
+            EventKind::Started => {
+                self.started = event.at;
+                let sign = Vec::from_slice(self.alloc, b"!").map_err(|_| Refused)?;
+                self.answer(0, sign)
+            }
             EventKind::Opened { connection } => {
                 self.opened.push(connection).map_err(|_| Refused)?;
                 Ok(nothing)
@@ -82,6 +95,34 @@ impl Handler for Echo {
             }
             EventKind::Piece { connection, bytes } => self.answer(connection, bytes),
         }
+    }
+}
+
+/// Tells 1, 2, 3 and so on.
+#[derive(Drop)]
+struct Rising {
+    told: u64,
+}
+
+impl Clock for Rising {
+    ghost tells = { λ _ _ _. Unit {0} };
+
+    fn now(&mut self) -> u64 {
+        self.told = self.told.saturating_add(1);
+        self.told
+    }
+}
+
+/// A clock of the system that can't be read.
+struct Stopped;
+
+impl time::Clock for Stopped {
+    fn monotonic(&self) -> io::Result<Duration> {
+        Err(io::Error::from(ErrorKind::Unsupported))
+    }
+
+    fn since_1970(&self) -> io::Result<Duration> {
+        Err(io::Error::from(ErrorKind::Unsupported))
     }
 }
 
@@ -155,6 +196,61 @@ fn faults_stop_a_turn(rt: HostRuntime) -> Result<(), Fail> {
     };
     assert!(rt; stopped);
     assert_eq!(rt; echo.ticks, 0);
+    Ok(())
+}
+
+/// Serves so many turns after one that a client came in: whether they were made, and the last moment told.
+fn served(
+    alloc: Global,
+    network: &mut Memory,
+    echo: &mut Echo,
+    turns: u32,
+) -> Result<(bool, u64), Fail> {
+    let mut hub: Hub<(), usize> = Hub::new(alloc, ())?;
+    let mut clock = Rising { told: 0 };
+    let came = hub.turn(network, echo, 0).is_ok();
+    let made = hub.serve(network, echo, &mut clock, turns).is_ok();
+    Ok((came && made, clock.told))
+}
+
+#[test]
+fn serving_starts_and_makes_turns(rt: HostRuntime) -> Result<(), Fail> {
+    let alloc = rt.alloc();
+    // so many turns; whether they are made, how often the client is asked, the ticks, and what it has taken: of what
+    // waits a turn offers one packet, and `!` waits first
+    for (turns, whole, asked, ticks, taken) in [
+        (0u32, true, 1u32, 1u64, "h"),
+        (1, true, 2, 2, "h!"),
+        (3, true, 4, 4, "h!el"),
+        (9, false, 6, 5, "h!ell"),
+    ] {
+        let mut network = memory_of(alloc, [Line::new(alloc, b"hellof", 1, 5)?])?;
+        let mut echo = Echo::new(alloc, 0);
+        let (made, told) = served(alloc, &mut network, &mut echo, turns)?;
+        assert_eq!(rt; made, whole);
+        assert_eq!(rt; network.asked(0), asked);
+        assert_eq!(rt; told, u64::from(asked));
+        assert_eq!(rt; echo.ticks, ticks);
+        assert_eq!(rt; echo.started, 1);
+        assert_eq!(rt; network.taken(0), taken.as_bytes());
+    }
+    Ok(())
+}
+
+#[test]
+fn addresses_are_bound_and_moments_told(rt: HostRuntime) -> Result<(), Fail> {
+    let alloc = rt.alloc();
+    let mut sockets = RealSockets::new(&rt);
+    for text in ["", "127.0.0.1", "localhost:1883", "127.0.0.1:65536"] {
+        assert!(rt; bind(&mut sockets, text).is_none());
+    }
+    let listener = bind(&mut sockets, "127.0.0.1:0").expect(&rt, "a port is free");
+    let taken = format!(in alloc; "{}", listener.local_addr()?)?;
+    assert!(rt; bind(&mut sockets, &taken).is_none());
+    // from 2020 to 5138
+    let now = RealClock::new(&rt).now();
+    assert!(rt; now > 1577836800000 && now < 100000000000000);
+    assert_eq!(rt; RealClock::new(&Stopped).now(), 0);
     Ok(())
 }
 

@@ -3,9 +3,11 @@ ghost use Rattle.std.specs.Prelude.{◌≡◌, ℕ, length, OnOk, IfOk, IfErr, N
 ghost use Rattle.slab.specs.Slab.{get, slab_len, Updates};
 ghost use Rattle.broker_sockets.specs.Turns.{Each, IsAccepted, IsHandled, IsLetGo, IsRead, IsTurn, IsWrote, connections, event, world};
 ghost use Rattle.broker_sockets.specs.Faults.{IsCaused};
+ghost use Rattle.broker_sockets.specs.Serving.{IsServed, IsStopped, IsTurns, IsUnserved};
 ghost use Rattle.broker_sockets.specs.Writing.{IsWritten, fate_by_size};
 
 use crate::clients::{Client, release};
+use crate::clock::Clock;
 use crate::events::{Event, EventKind, Handler};
 use crate::network::{Answer, Sockets};
 use crate::queue::Unsent;
@@ -335,5 +337,55 @@ impl<L: Drop, T: Drop> Hub<L, T> {
         // What is shipped to other nodes is put on their links here.
         write_all(&mut self.clients, sockets, handler, at, &keys)?;
         Ok(())
+    }
+
+    /// So many turns, one after another, each at the moment that the clock tells just before it.
+    ///
+    /// After a fault, the handler's or `NoMemory`, nothing is said of the hub.
+    pub fn make_turns<S: Sockets<Listener = L, Stream = T>, H: Handler, C: Clock>(
+        &mut self,
+        sockets: &mut S,
+        handler: &mut H,
+        clock: &mut C,
+        turns: u32,
+    ) -> Result<(), TurnFault<H::Fault>>
+        ensures ok { OnOk result (IsTurns C.tells S.accepts S.reads S.writes H.handles self.old.listener turns
+            clock.old (world sockets.old handler.old self.old.clients)
+            clock.new (world sockets.new handler.new self.new.clients)) }
+        ensures listener { OnOk result (self.new.listener ≡ self.old.listener) }
+        ensures fault { IfErr result (λ fault. IsStopped C.tells S.accepts S.reads S.writes H.handles self.old.listener H.refuses turns
+            clock.old (world sockets.old handler.old self.old.clients) clock.new fault) }
+    {
+        for _ in 0..turns {
+            let at = clock.now();
+            self.turn(sockets, handler, at)?;
+        }
+        Ok(())
+    }
+
+    /// Tells the handler that it has started, at the moment that the clock tells, and then makes so many turns.
+    ///
+    /// After a fault, the handler's or `NoMemory`, nothing is said of the hub.
+    pub fn serve<S: Sockets<Listener = L, Stream = T>, H: Handler, C: Clock>(
+        &mut self,
+        sockets: &mut S,
+        handler: &mut H,
+        clock: &mut C,
+        turns: u32,
+    ) -> Result<(), TurnFault<H::Fault>>
+        ensures ok { OnOk result (IsServed C.tells S.accepts S.reads S.writes H.handles self.old.listener turns
+            clock.old (world sockets.old handler.old self.old.clients)
+            clock.new (world sockets.new handler.new self.new.clients)) }
+        ensures listener { OnOk result (self.new.listener ≡ self.old.listener) }
+        ensures fault { IfErr result (λ fault. IsUnserved C.tells S.accepts S.reads S.writes H.handles self.old.listener H.refuses turns
+            clock.old (world sockets.old handler.old self.old.clients) clock.new fault) }
+    {
+        let at = clock.now();
+        let started = Event {
+            at,
+            kind: EventKind::Started,
+        };
+        handle_event(&mut self.clients, handler, started)?;
+        self.make_turns(sockets, handler, clock, turns)
     }
 }

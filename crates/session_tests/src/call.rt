@@ -187,6 +187,15 @@ fn open(alloc: Global, session: &mut Session, count: u64) -> Result<String, Stop
     Ok(last)
 }
 
+/// Queues so many copies at QoS 1.
+fn fill(alloc: Global, session: &mut Session, count: u64) -> Result<String, Stop> {
+    let mut last = String::new(alloc);
+    for _ in 0..count {
+        last = copy(alloc, session, "x", 1)?;
+    }
+    Ok(last)
+}
+
 /// Leads a new session to a state: not connected; without an exchange; with exchange 1 to the client and 7 from it; with 1
 /// released.
 fn lead(alloc: Global, session: &mut Session, state: u64) -> Result<(), Stop> {
@@ -241,6 +250,7 @@ fn of_word(alloc: Global, session: &mut Session, verb: &str, word: &str) -> Resu
 fn of_number(alloc: Global, session: &mut Session, verb: &str, n: u64) -> Result<String, Stop> {
     match verb {
         "open" => open(alloc, session, n),
+        "fill" => fill(alloc, session, n),
         "due" => due(alloc, session, n),
         _ => at(alloc, session, verb, n),
     }

@@ -15,6 +15,7 @@ pub struct Line {
     taken: Vec<u8>,
     ends: bool,
     fails: bool,
+    asked: u32,
 }
 
 impl Line {
@@ -27,6 +28,7 @@ impl Line {
             taken: Vec::new(alloc),
             ends: false,
             fails: false,
+            asked: 0,
         })
     }
 
@@ -64,12 +66,19 @@ impl Memory {
             None => &[],
         }
     }
+
+    /// How often a stream was asked to read.
+    pub fn asked(&self, stream: usize) -> u32 {
+        self.lines.get(stream).map_or(0, |line| line.asked)
+    }
 }
 
 impl Sockets for Memory {
     type Listener = ();
 
     type Stream = usize;
+
+    ghost listens = { λ _ _ _ _. Unit {0} };
 
     ghost accepts = { λ _ _ _ _. Unit {0} };
 
@@ -97,6 +106,7 @@ impl Sockets for Memory {
         let Some(line) = self.lines.get_mut(*stream) else {
             return Answer::Gone;
         };
+        line.asked = line.asked.saturating_add(1);
         let rest = line.sends.get(line.sent..).map_or(&[][..], |rest| rest);
         let count = rest.len().min(line.piece).min(buffer.len());
         if count == 0 {
