@@ -1,0 +1,10 @@
+pub mod Keeping
+pub mod Acks
+pub mod Work
+pub mod Events
+pub mod Splits
+pub mod Passing
+pub mod Requests
+pub mod Codes
+pub mod Answering
+pub mod SendingLaws

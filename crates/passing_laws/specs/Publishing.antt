@@ -1,0 +1,103 @@
+-- What follows in a step where a session accepts a PUBLISH: its message is passed on (MQTT 5.0, 3.3.1.3, 3.3.4, 4.3.2 and 4.3.3).
+use Rattle.std.specs.Prelude.{◌≡◌, ◌⊎◌, ℕ, Bool, true, cond, is_some, List, [], ◌∷◌, ◌++◌, Some}
+use Rattle.mqtt_fields.specs.declared.options.Qos.{Qos}
+use Rattle.mqtt_fields.specs.declared.options.Qos.TheVariants.{AtLeastOnce, ExactlyOnce}
+use Rattle.mqtt_packets.specs.declared.packet.Packet.{Packet}
+use Rattle.mqtt_packets.specs.declared.packet.Packet.TheVariants as packets
+use Rattle.mqtt_packets.specs.declared.publish.Publish.{Publish}
+use Rattle.mqtt_message.specs.declared.message.Message.{Message}
+use Rattle.mqtt_message.specs.Accepted.{accepted}
+use Rattle.mqtt_message.specs.Expiry.{IsBefore}
+use Rattle.causal_context.specs.Dots.{Dot}
+use Rattle.replica_store.specs.declared.operation.Operation.TheVariants.{Put}
+use Rattle.replica_store.specs.declared.operation.Stamp.{Stamp}
+use Rattle.message_copies.specs.declared.plain.PlainCopy.{PlainCopy as Copy}
+use Rattle.qos_handshakes.specs.Incoming.{opened}
+use Rattle.mqtt_sessions.specs.declared.reaction.Ask.TheVariants.{Pass}
+use Rattle.mqtt_sessions.specs.declared.reaction.Output.{Output}
+use Rattle.mqtt_sessions.specs.declared.reaction.Output.TheVariants.{Answer}
+use Rattle.mqtt_sessions.specs.Answers.{puback, pubrec}
+use Rattle.mqtt_sessions.specs.Reaction.{Reaction}
+use Rattle.mqtt_sessions.specs.State.{State}
+use Rattle.session_laws.specs.Runs.{Event, queues, takes, Reacts}
+use Rattle.node_work.specs.Acts.{Act, Store, Session, Made, Passed}
+use Rattle.node_work.specs.Held.Sessions.{SessionStep, Called}
+use Rattle.node_work.specs.Passing.{content_of}
+use Rattle.node_work.specs.View.{Place, HeldView}
+use Rattle.broker_node.specs.declared.event.Event.{Event as NodeEvent}
+use Rattle.broker_node.specs.Turns.{Decides}
+use Rattle.passing_laws.specs.Sending.{IsIn}
+
+-- ---- what a session tells its client
+
+-- a packet is among those of a reaction
+abbrev pub Gives : Packet → List Output → Type 0
+Gives p os = IsIn (Answer p) os
+
+-- the event takes a PUBLISH of this QoS and identifier
+pub record Publishes (qos : Qos) (id : ℕ) (e : Event) : Type 0 where
+  pub publish : Publish
+  pub now : ℕ
+  pub room : Bool
+  pub event : e ≡ takes (packets.Publish publish) now room
+  pub qos_is : publish.qos ≡ qos
+  pub identifier : publish.identifier ≡ id
+
+-- the message of the PUBLISH that the event takes, from the client of the session
+abbrev pub message_at : {qos : Qos} {id : ℕ} {e : Event} → State → Publishes qos id e → Message
+message_at old p = accepted p.publish old.kept.client p.now
+
+-- PUBACK 0x00 answers a PUBLISH at QoS 1 whose message the node is asked to pass on
+abbrev pub PubackTells : Type 0
+PubackTells =
+    (old new : State) (e : Event) (r : Reaction) (id : ℕ) → Reacts old e r new → Gives (puback id 0) r.packets
+    → (p : Publishes AtLeastOnce id e) × (r.ask ≡ Some (Pass (message_at old p)))
+
+-- PUBREC 0x00 answers a PUBLISH at QoS 2, whose exchange was open, or whose message the node is asked to pass on
+abbrev pub PubrecTells : Type 0
+PubrecTells =
+    (old new : State) (e : Event) (r : Reaction) (id : ℕ) → Reacts old e r new → Gives (pubrec id 0) r.packets
+    → (p : Publishes ExactlyOnce id e) × ((is_some (opened id old.incoming) ≡ true) ⊎ (r.ask ≡ Some (Pass (message_at old p))))
+
+-- ---- what the node does
+
+-- a call of a session takes a PUBLISH, and asks the node to pass a message on
+pub record Accepts (s : SessionStep) (m : Message) : Type 0 where
+  pub publish : Publish
+  pub now : ℕ
+  pub room : Bool
+  pub event : s.event ≡ takes (packets.Publish publish) now room
+  pub asks : s.reaction.ask ≡ Some (Pass m)
+
+-- with RETAIN one Put gives the topic the message, or with an empty payload none; else nothing is put
+abbrev pub IsPut : Message → List Act → Type 0
+IsPut m acts = cond m.retain ((dot : Dot) × (stamp : Stamp) × (acts ≡ Store (Made (Put dot stamp (content_of m))) ∷ [])) (acts ≡ [])
+
+-- calls of sessions, one for each copy in order: it joins its client's session at the moment
+abbrev pub AreQueued : ℕ → List Copy → List Act → Type 0
+AreQueued at [] calls = calls ≡ []
+AreQueued at (x ∷ xs) calls =
+    (s : SessionStep) × (rest : List Act) × (calls ≡ Session (Called s) ∷ rest) × (s.client ≡ x.client) × (s.at ≡ at) × (s.event ≡ queues x.delivery at) × AreQueued at xs rest
+
+-- acts that begin with the copies of a message
+pub record MakesCopies (m : Message) (at : ℕ) (acts : List Act) : Type 0 where
+  pub copies : List Copy
+  pub lost : ℕ
+  pub calls : List Act
+  pub rest : List Act
+  pub is : acts ≡ Passed m copies lost ∷ (calls ++ rest)
+  pub queued : AreQueued at copies calls
+
+-- acts that begin with passing a message on: its Put, and unless its deadline has passed its copies
+pub record PassesOn (m : Message) (at : ℕ) (acts : List Act) : Type 0 where
+  pub puts : List Act
+  pub rest : List Act
+  pub is : acts ≡ puts ++ rest
+  pub put : IsPut m puts
+  pub copied : IsBefore at m.deadline → MakesCopies m at rest
+
+-- a message that is accepted is passed on directly after that, in the same step
+abbrev pub AcceptedIsPassedOn : Type 0
+AcceptedIsPassedOn =
+    (e : NodeEvent) (p : Place) (h : HeldView) (acts : List Act) → Decides e (Some tt) p h acts
+    → (before after : List Act) (s : SessionStep) (m : Message) → acts ≡ before ++ Session (Called s) ∷ after → Accepts s m → PassesOn m s.at after

@@ -1,0 +1,8 @@
+//! What an acknowledgement tells, in every step of a node: a message is passed on in the step that acknowledges it, and the
+//! operations of a SUBSCRIBE or an UNSUBSCRIBE are made in the step that answers it. Each function does nothing: its contract is
+//! the law.
+#![tactic(auto)]
+
+pub mod asking;
+pub mod publishing;
+pub mod sending;

@@ -1,0 +1,5 @@
+pub mod Staying
+pub mod Sending
+pub mod Publishing
+pub mod Calling
+pub mod Asking
