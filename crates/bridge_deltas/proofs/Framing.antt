@@ -7,7 +7,8 @@ use Rattle.std.proofs.lemmas.List.{take_all}
 use Rattle.bridge_frames.specs.declared.body.FrameBody.TheVariants as bodies
 use Rattle.bridge_frames.specs.declared.forward.Forward.{Forward}
 use Rattle.bridge_frames.specs.declared.frame.BridgeFrame.{BridgeFrame}
-use Rattle.bridge_deltas.specs.Lane.{KeptLane, frames_from, told_now}
+use Rattle.lane_rows.specs.Changes.{KeptLane, told_now}
+use Rattle.bridge_deltas.specs.Lane.{frames_from}
 
 -- ---- frames
 

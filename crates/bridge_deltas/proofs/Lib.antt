@@ -1,2 +1,3 @@
 pub mod Framing
 pub mod Shipping
+pub mod Telling

@@ -1,24 +1,15 @@
--- The lanes to and from one other node, as they are and as they were told last.
+-- The lanes to and from one other node.
 use Rattle.std.specs.Prelude.{ℕ, suc, ◌+◌, ◌^◌, nat_lt, List, [], ◌∷◌, length, take, if◌then◌else◌, refl}
 use Rattle.std.specs.Coded.{Coded, code_by, coded×, coded_ℕ, coded_list}
-use Rattle.message_lanes.specs.Lanes.{LaneView, new_lane, with_put}
+use Rattle.message_lanes.specs.Lanes.{with_put}
+use Rattle.lane_rows.specs.Rows.{Messages}
+use Rattle.lane_rows.specs.Changes.{KeptLane}
 use Rattle.bridge_frames.specs.declared.body.FrameBody.TheVariants as bodies
 use Rattle.bridge_frames.specs.declared.forward.Forward.{Forward}
 use Rattle.bridge_frames.specs.declared.frame.BridgeFrame.{BridgeFrame}
 use Rattle.bridge_deltas.specs.declared.offer.Offer.{Offer}
 use Rattle.bridge_deltas.specs.declared.offer.Offer.TheVariants.{Queued, Full, AtEnd}
 use Rattle.bridge_deltas.specs.Codes.{coded_forward}
-
-abbrev pub Messages : Type 0
-Messages = LaneView Forward
-
--- the lanes, and what their rows say
-pub record KeptLane : Type 0 where
-  pub lane : Messages
-  pub told : Messages
-
-abbrev pub new_kept : KeptLane
-new_kept = record { lane = new_lane; told = new_lane }
 
 -- the number that the next message gets
 abbrev pub next_number : Messages → ℕ
@@ -42,9 +33,9 @@ frames_from from to n (m ∷ ms) = record { from = from; to = to; body = bodies.
 abbrev pub first_frames : ℕ → ℕ → Messages → List BridgeFrame
 first_frames from to l = frames_from from to (suc l.gone) (take 64 l.waiting)
 
--- with their rows told as they are
-abbrev pub told_now : KeptLane → KeptLane
-told_now k = record { lane = k.lane; told = k.lane }
+-- lanes whose rows were told as they are
+abbrev pub told_lane : Messages → KeptLane
+told_lane l = record { lane = l; told = l }
 
 -- each is stored as its parts
 abbrev pub coded_messages : Coded Messages

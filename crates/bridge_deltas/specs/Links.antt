@@ -4,7 +4,10 @@ use Rattle.std.specs.Coded.{Coded, code_by, coded×, coded_ℕ, coded_list}
 use Rattle.std.specs.FinSet as set
 use Rattle.causal_context.specs.Dots.{Dots, coded_dot}
 use Rattle.replica_store.specs.States.{State, coded_state}
-use Rattle.bridge_deltas.specs.Lane.{KeptLane, new_kept, told_now, coded_kept}
+use Rattle.message_lanes.specs.Lanes.{Lanes}
+use Rattle.bridge_frames.specs.declared.forward.Forward.{Forward}
+use Rattle.lane_rows.specs.Changes.{KeptLane, new_kept, told_now}
+use Rattle.bridge_deltas.specs.Lane.{told_lane, coded_kept}
 
 -- the node's number and how many nodes there are; by the numbers of the peers, the dots that each is known to have taken;
 -- the last deltas that were made or merged here, the oldest first; and, by the numbers of the peers, the lanes to and from each
@@ -38,6 +41,10 @@ pub record IsSound (l : LinksView) : Type 0 where
 -- with the rows of all lanes told as they are
 abbrev pub all_told : LinksView → LinksView
 all_told l = record l { lanes = map told_now l.lanes }
+
+-- what a node keeps after a restart: its lanes, whose rows were told, and nothing else
+abbrev pub opened_links : ℕ → ℕ → Lanes Forward → LinksView
+opened_links node nodes lanes = record { node = node; nodes = nodes; beliefs = replicate nodes set.empty; deltas = []; lanes = map told_lane lanes }
 
 -- they are stored as their parts
 abbrev pub coded_links : Coded LinksView

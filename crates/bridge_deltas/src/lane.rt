@@ -1,11 +1,22 @@
 //! The lanes to and from one other node.
-ghost use Rattle.std.specs.Prelude.{◌≡◌, ◌<◌, ◌≤◌, ◌+◌, ◌^◌, suc, nat_eq, if◌then◌else◌, take, drop, length, OnOk, OnErr, IfOk};
+ghost use Rattle.std.specs.Prelude.{◌≡◌, ◌<◌, ◌≤◌, ◌+◌, ◌++◌, ◌^◌, suc, nat_eq, if◌then◌else◌, take, drop, length, map, OnOk, OnErr, IfOk};
+ghost use Rattle.std.specs.List.{AllByRecursion};
+ghost use Rattle.bridge_frames.specs.Forwards.{forward};
+ghost use Rattle.row_store.specs.Rows.{entry_of};
+ghost use Rattle.lane_rows.specs.Changes.{left_of, message_changes, new_kept, numbers_changes, told_now};
+ghost use Rattle.lane_rows.specs.Laws.{IsSoundLane};
+ghost use Rattle.lane_rows.specs.Reading.{IsLane, lane_in};
+ghost use Rattle.lane_rows.specs.Rows.{numbers_of, waiting_of};
 ghost use Rattle.message_lanes.specs.Lanes.{with_got, with_took};
-ghost use Rattle.bridge_deltas.specs.Lane.{told_now, after_offer, first_frames, frames_from, new_kept, offer_of, next_number};
+ghost use Rattle.bridge_deltas.specs.Lane.{after_offer, first_frames, frames_from, next_number, offer_of, told_lane};
 
 use crate::offer::Offer;
 use bridge_frames::{BridgeFrame, Forward, FrameBody};
+use lane_rows::{
+    ReadLane, append_numbers, append_numbers_change, append_puts, append_removals, append_rows,
+};
 use mqtt_fields::NoMemory;
+use row_store::{Change, Row};
 use std::alloc::Global;
 use std::collections::VecDeque;
 use std::marker::Model;
@@ -37,7 +48,8 @@ pub(crate) struct Lane {
 
 impl Model for Lane {
     ghost use Rattle.std.specs.Prelude.{◌<◌, ◌≤◌, ◌+◌, ◌^◌, take, drop, length};
-    ghost use Rattle.bridge_deltas.specs.Lane.{told_now, KeptLane, coded_kept};
+    ghost use Rattle.lane_rows.specs.Changes.{KeptLane};
+    ghost use Rattle.bridge_deltas.specs.Lane.{coded_kept};
 
     ghost Value = { KeptLane };
 
@@ -49,7 +61,8 @@ impl Model for Lane {
     } };
 
     ghost invariant = { λ l. (l.gone ≤ length l.messages.items) × (l.told ≤ length l.messages.items)
-        × (l.base + length l.messages.items < 2 ^ 62) };
+        × (l.base + length l.messages.items < 2 ^ 62) × (length l.messages.items ≤ l.gone + 65536)
+        × (l.told_took ≤ l.took) };
 }
 
 // Frames with the first messages from a place on, under the numbers after those that are gone.
@@ -87,6 +100,16 @@ fn let_go(messages: &mut VecDeque<Forward>, count: usize)
 {
     for _ in 0..count {
         let _gone = messages.pop_front();
+    }
+}
+
+// Each message has a spelling. This does nothing; its contract is a law.
+fn have_spellings(messages: &VecDeque<Forward>, from: usize)
+    requires { from ≤ length messages.now.items }
+    ensures { AllByRecursion forward.Fits (drop from messages.now.items) }
+{
+    for i in from..messages.len() {
+        messages[i].has_spelling();
     }
 }
 
@@ -164,5 +187,94 @@ impl Lane {
         self.gone = 0;
         self.told = self.messages.len();
         self.told_took = self.took;
+    }
+
+    /// The lanes that rows say.
+    pub fn of(read: ReadLane) -> Lane
+        requires { IsLane (lane_in read) }
+        ensures { result ≡ told_lane (lane_in read) }
+    {
+        let ReadLane {
+            gone,
+            messages,
+            took,
+        } = read;
+        let told = messages.len();
+        Lane {
+            base: gone,
+            messages,
+            gone: 0,
+            told,
+            took,
+            told_took: took,
+        }
+    }
+
+    /// The lanes are such as rows can say. This does nothing; its contract is a law.
+    pub fn is_lane(&self)
+        ensures { IsLane self.now.lane }
+    {
+        have_spellings(&self.messages, self.gone);
+        let _took = self.took;
+    }
+
+    /// Appends the rows of the messages that wait for the peer.
+    pub fn append_messages(
+        &self,
+        alloc: Global,
+        peer: u16,
+        out: &mut Vec<Row>,
+    ) -> Result<(), NoMemory>
+        ensures { OnOk result (map entry_of out.new.items ≡ map entry_of out.old.items ++ waiting_of peer self.now.lane) }
+    {
+        append_rows(alloc, peer, self.base, &self.messages, self.gone, out)
+    }
+
+    /// Appends the row of the numbers of the peer's lanes, if they have one.
+    pub fn append_numbers(
+        &self,
+        alloc: Global,
+        peer: u16,
+        out: &mut Vec<Row>,
+    ) -> Result<(), NoMemory>
+        ensures { OnOk result (map entry_of out.new.items ≡ map entry_of out.old.items ++ numbers_of peer self.now.lane) }
+    {
+        let last_put = self.base + self.messages.len() as u64;
+        append_numbers(alloc, peer, last_put, self.took, out)
+    }
+
+    /// What is told comes before what is. This does nothing; its contract is a law.
+    pub fn is_sound(&self)
+        ensures { IsSoundLane self.now }
+    {
+        let _base = self.base;
+    }
+
+    /// Appends what has changed of the rows of messages since they were told.
+    pub fn message_changes(
+        &self,
+        alloc: Global,
+        peer: u16,
+        out: &mut Vec<Change>,
+    ) -> Result<(), NoMemory>
+        ensures { OnOk result (map left_of out.new.items ≡ map left_of out.old.items ++ message_changes peer self.now) }
+    {
+        append_removals(alloc, peer, self.base, self.gone.min(self.told), out)?;
+        let from = self.gone.max(self.told);
+        append_puts(alloc, peer, self.base, &self.messages, from, out)
+    }
+
+    /// Appends what has changed of the row of the numbers since it was told.
+    pub fn numbers_change(
+        &self,
+        alloc: Global,
+        peer: u16,
+        out: &mut Vec<Change>,
+    ) -> Result<(), NoMemory>
+        ensures { OnOk result (map left_of out.new.items ≡ map left_of out.old.items ++ numbers_changes peer self.now) }
+    {
+        let told = (self.base + self.told as u64, self.told_took);
+        let now = (self.base + self.messages.len() as u64, self.took);
+        append_numbers_change(alloc, peer, told, now, out)
     }
 }

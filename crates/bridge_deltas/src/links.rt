@@ -1,11 +1,22 @@
 //! What a node keeps for the other nodes of its cluster.
-ghost use Rattle.std.specs.Prelude.{◌≡◌, ◌<◌, ◌↔◌, suc, nat_eq, if◌then◌else◌, slice_set, map, replicate, IfOk, IfSome, IsNone, IsOk, OnErr, OnOk};
+ghost use Rattle.std.specs.Prelude.{◌≡◌, ◌⊎◌, ◌<◌, ◌++◌, ◌↔◌, suc, length, nat_eq, if◌then◌else◌, slice_set, map, replicate, IfOk, IfErr, IfSome, IsErrOf, IsNone, IsOk, OnErr, OnOk};
 ghost use Rattle.std.specs.FinSet as set;
+ghost use Rattle.std.specs.List.{AllByRecursion};
 ghost use Rattle.causal_context.specs.SetLattice.{IsSubset};
 ghost use Rattle.message_lanes.specs.Lanes.{with_got, with_took};
 ghost use Rattle.bridge_deltas.specs.Buffer.{with_delta};
-ghost use Rattle.bridge_deltas.specs.Lane.{after_offer, first_frames, new_kept, next_number, offer_of, told_now};
-ghost use Rattle.bridge_deltas.specs.Links.{all_told, belief_of, kept_of, new_links, with_kept};
+ghost use Rattle.bridge_frames.specs.declared.forward.Forward.{Forward};
+ghost use Rattle.message_lanes.specs.Lanes.{Lanes};
+ghost use Rattle.row_changes.specs.Gathered.{AreOnce};
+ghost use Rattle.row_changes.specs.Leading.{LeadWithin};
+ghost use Rattle.row_store.specs.declared.store.RowFault.TheVariants as faults;
+ghost use Rattle.row_store.specs.Rows.{entry_of};
+ghost use Rattle.lane_rows.specs.Changes.{changes_of, is_lane_kind, left_of, message_changes, new_kept, now_of, numbers_changes, told_now, told_of};
+ghost use Rattle.lane_rows.specs.Laws.{IsSoundLane};
+ghost use Rattle.lane_rows.specs.Reading.{AreLanes, AreLanesOf, IsLane, lane_in};
+ghost use Rattle.lane_rows.specs.Rows.{each, numbers_of, row_at, rows_of, waiting_of};
+ghost use Rattle.bridge_deltas.specs.Lane.{after_offer, first_frames, next_number, offer_of, told_lane};
+ghost use Rattle.bridge_deltas.specs.Links.{all_told, belief_of, kept_of, new_links, opened_links, with_kept};
 ghost use Rattle.bridge_deltas.specs.Shipped.{IsShipped};
 
 use crate::buffer::{keep, shipped};
@@ -13,8 +24,11 @@ use crate::lane::Lane;
 use crate::offer::Offer;
 use bridge_frames::{BridgeFrame, Forward};
 use causal_context::{Context, Lattice};
-use mqtt_fields::NoMemory;
+use lane_rows::laws::changes_lead;
+use lane_rows::{ReadLane, read_lanes};
+use mqtt_fields::{FieldFault, NoMemory};
 use replica_store::ReplicaStore;
+use row_store::{Change, Row, RowFault};
 use std::alloc::Global;
 use std::collections::VecDeque;
 use std::marker::Model;
@@ -82,6 +96,113 @@ fn tell_all(lanes: &mut Vec<Lane>)
     for i in 0..lanes.len() {
         lanes[i].tell();
     }
+}
+
+fn add_messages(
+    alloc: Global,
+    nodes: u16,
+    lanes: &Vec<Lane>,
+    out: &mut Vec<Row>,
+) -> Result<(), NoMemory>
+    requires { length lanes.now.items ≡ nodes }
+    ensures { OnOk result (map entry_of out.new.items
+        ≡ map entry_of out.old.items ++ each (λ p k. waiting_of p k.lane) 0 lanes.now.items) }
+{
+    for peer in 0..nodes {
+        lanes[peer as usize].append_messages(alloc, peer, out)?;
+    }
+    Ok(())
+}
+
+fn add_numbers(
+    alloc: Global,
+    nodes: u16,
+    lanes: &Vec<Lane>,
+    out: &mut Vec<Row>,
+) -> Result<(), NoMemory>
+    requires { length lanes.now.items ≡ nodes }
+    ensures { OnOk result (map entry_of out.new.items
+        ≡ map entry_of out.old.items ++ each (λ p k. numbers_of p k.lane) 0 lanes.now.items) }
+{
+    for peer in 0..nodes {
+        lanes[peer as usize].append_numbers(alloc, peer, out)?;
+    }
+    Ok(())
+}
+
+fn add_message_changes(
+    alloc: Global,
+    nodes: u16,
+    lanes: &Vec<Lane>,
+    out: &mut Vec<Change>,
+) -> Result<(), NoMemory>
+    requires { length lanes.now.items ≡ nodes }
+    ensures { OnOk result (map left_of out.new.items ≡ map left_of out.old.items ++ each message_changes 0 lanes.now.items) }
+{
+    for peer in 0..nodes {
+        lanes[peer as usize].message_changes(alloc, peer, out)?;
+    }
+    Ok(())
+}
+
+fn add_numbers_changes(
+    alloc: Global,
+    nodes: u16,
+    lanes: &Vec<Lane>,
+    out: &mut Vec<Change>,
+) -> Result<(), NoMemory>
+    requires { length lanes.now.items ≡ nodes }
+    ensures { OnOk result (map left_of out.new.items ≡ map left_of out.old.items ++ each numbers_changes 0 lanes.now.items) }
+{
+    for peer in 0..nodes {
+        lanes[peer as usize].numbers_change(alloc, peer, out)?;
+    }
+    Ok(())
+}
+
+// What is told of each lane comes before what it is. This does nothing; its contract is a law.
+fn are_sound(lanes: &Vec<Lane>)
+    ensures { AllByRecursion IsSoundLane lanes.now.items }
+{
+    for i in 0..lanes.len() {
+        lanes[i].is_sound();
+    }
+}
+
+// The lanes are such as rows can say. This does nothing; its contract is a law.
+fn are_lanes(lanes: &Vec<Lane>)
+    ensures { AllByRecursion (λ k. IsLane k.lane) lanes.now.items }
+{
+    for i in 0..lanes.len() {
+        lanes[i].is_lane();
+    }
+}
+
+// The lanes that rows say.
+fn lanes_of(alloc: Global, read: Vec<ReadLane>) -> Result<Vec<Lane>, NoMemory>
+    requires { AllByRecursion (λ r. IsLane (lane_in r)) read.items }
+    ensures { IfOk result (λ lanes. lanes.items ≡ map told_lane (map lane_in read.items)) }
+{
+    let mut lanes = Vec::new(alloc);
+    for lane in read {
+        lanes.push(Lane::of(lane))?;
+    }
+    Ok(lanes)
+}
+
+// What a node keeps that has these lanes, and nothing else.
+fn opened(alloc: Global, node: u16, nodes: u16, read: Vec<ReadLane>) -> Result<Links, NoMemory>
+    requires { AreLanes nodes (map lane_in read.items) }
+    ensures { IfOk result (λ l. l ≡ opened_links node nodes (map lane_in read.items)) }
+{
+    Ok(Links {
+        alloc,
+        node,
+        nodes,
+        beliefs: no_beliefs(alloc, nodes)?,
+        deltas: VecDeque::new(alloc),
+        lanes: lanes_of(alloc, read)?,
+    })
 }
 
 impl Links {
@@ -178,11 +299,58 @@ impl Links {
         self.lanes[peer as usize].got(number);
     }
 
-    /// The rows of the lanes have been told as they are now. Messages that have been taken by their peers
-    /// are let go.
-    pub fn tell(&mut self)
-        ensures { self.new ≡ all_told self.old }
+    /// The lanes are such as rows can say, so that what is written is read again. This does nothing; its contract is a law.
+    pub fn have_rows(&self)
+        ensures { AreLanes self.now.nodes (now_of self.now.lanes) }
     {
+        are_lanes(&self.lanes);
+    }
+
+    /// The rows of the lanes, in the order of their keys.
+    pub fn rows(&self) -> Result<Vec<Row>, NoMemory>
+        ensures { IfOk result (λ rows. map entry_of rows.items ≡ rows_of (now_of self.now.lanes)) }
+    {
+        let mut out = Vec::new(self.alloc);
+        add_messages(self.alloc, self.nodes, &self.lanes, &mut out)?;
+        add_numbers(self.alloc, self.nodes, &self.lanes, &mut out)?;
+        Ok(out)
+    }
+
+    /// The changes that lead from the rows that were told last to those of the lanes, which count as told then. Each key is
+    /// named once, in the order of the keys, and a row that is as it was told isn't named. Where memory runs out nothing changes.
+    pub fn changes(&mut self) -> Result<Vec<Change>, NoMemory>
+        ensures lead { IfOk result (λ out. LeadWithin is_lane_kind (row_at (told_of self.old.lanes)) (row_at (now_of self.old.lanes)) out.items) }
+        ensures once { IfOk result (λ out. AreOnce out.items) }
+        ensures made { IfOk result (λ out. map left_of out.items ≡ changes_of self.old.lanes) }
+        ensures ok { OnOk result (self.new ≡ all_told self.old) }
+        ensures err { OnErr result (self.new ≡ self.old) }
+    {
+        changes_lead();
+        are_sound(&self.lanes);
+        let mut out = Vec::new(self.alloc);
+        add_message_changes(self.alloc, self.nodes, &self.lanes, &mut out)?;
+        add_numbers_changes(self.alloc, self.nodes, &self.lanes, &mut out)?;
         tell_all(&mut self.lanes);
+        Ok(out)
+    }
+
+    /// What a node keeps in a cluster of so many nodes that has these rows of lanes, in the order of their keys: the lanes, and
+    /// nothing else.
+    ///
+    /// BadRow exactly where no lanes have just these rows.
+    pub fn from_rows(alloc: Global, node: u16, nodes: u16, rows: &[Row]) -> Result<Links, RowFault>
+        ensures ok { IfOk result (λ l. (lanes : Lanes Forward) × AreLanesOf nodes (map entry_of rows.now) lanes × (l ≡ opened_links node nodes lanes)) }
+        ensures bad { IsErrOf result RowFault.BadRow → (lanes : Lanes Forward) → AreLanesOf nodes (map entry_of rows.now) lanes → ⊥ }
+        ensures fault { IfErr result (λ e. (e ≡ faults.NoMemory) ⊎ (e ≡ faults.BadRow)) }
+    {
+        let read = match read_lanes(alloc, nodes, rows) {
+            Ok(read) => read,
+            Err(FieldFault::NoMemory) => return Err(RowFault::NoMemory),
+            Err(_) => return Err(RowFault::BadRow),
+        };
+        match opened(alloc, node, nodes, read) {
+            Ok(links) => Ok(links),
+            Err(NoMemory) => Err(RowFault::NoMemory),
+        }
     }
 }

@@ -1,0 +1,131 @@
+-- Rows and changes of lanes, one lane after the other.
+use Rattle.std.proofs.Common.{◌≡◌, ◌⊎◌, inl, inr, ℕ, zero, suc, ◌+◌, ◌-◌, ◌<◌, ◌≤◌, ◌^◌, min, max, List, [], ◌∷◌, ◌++◌, map, length, take, drop, get_or, append-nil, append_assoc, length-drop, refl, sym, ap, subst, ◌∙◌, arith}
+use Rattle.std.specs.List.{AllByRecursion}
+use Rattle.std.proofs.lemmas.Bool.{cases_lt}
+use Rattle.std.proofs.lemmas.List.{drop-drop, take_all, take_more}
+use Rattle.bridge_frames.specs.declared.forward.Forward.{Forward}
+use Rattle.lane_rows.specs.Rows.{Messages, Plain, each, last_put, message_rows, numbers_of, rows_of, waiting_of}
+use Rattle.lane_rows.specs.Reading.{AreLanes, IsLane}
+use Rattle.lane_rows.specs.Changes.{IsLater, KeptLane, Left, gone_count, changes_of, message_changes, now_of, numbers_changes, put, removals, told_count}
+use Rattle.lane_rows.proofs.Cuts.{each_last}
+use Rattle.lane_rows.proofs.Leading.{each_map}
+use Rattle.lane_rows.proofs.Order.{all_both}
+
+count_taken : {A : Type 0} (xs : List A) (i : ℕ) → i ≤ length xs → length (take i xs) ≡ i
+count_taken xs zero few = refl
+count_taken [] (suc i) few = absurd (omega (arith, few))
+count_taken (x ∷ xs) (suc i) few = ap suc (count_taken xs i (omega (arith, few)))
+
+taken_more : {A : Type 0} (xs : List A) (i : ℕ) (x : A) → i < length xs → x ≡ get_or xs i x → take (i + 1) xs ≡ take i xs ++ x ∷ []
+taken_more xs i x lt at = take_more xs i x lt ∙ ap (λ y. take i xs ++ y ∷ []) (sym at)
+
+pub more_each : {X A : Type 0} (f : ℕ → X → List A) (ks : List X) (i : ℕ) (k : X) (old here new : List A) → i < length ks → k ≡ get_or ks i k → here ≡ old ++ each f 0 (take i ks) → new ≡ here ++ f i k → new ≡ old ++ each f 0 (take (i + 1) ks)
+more_each f ks i k old here new lt at so is =
+    let count : 0 + length (take i ks) ≡ i = omega (arith, count_taken ks i (omega (arith, lt))) in
+    is ∙ ap (λ xs. xs ++ f i k) so ∙ append_assoc old (each f 0 (take i ks)) (f i k)
+    ∙ ap (λ xs. old ++ xs) (ap (λ n. each f 0 (take i ks) ++ f n k) (sym count) ∙ sym (each_last f 0 (take i ks) k) ∙ ap (each f 0) (sym (taken_more ks i k lt at)))
+
+pub all_each : {X A : Type 0} (f : ℕ → X → List A) (ks : List X) (i : ℕ) (old here : List A) → length ks ≤ i → here ≡ old ++ each f 0 (take i ks) → here ≡ old ++ each f 0 ks
+all_each f ks i old here over so = so ∙ ap (λ xs. old ++ each f 0 xs) (take_all i ks over)
+
+pub more_all : {X : Type 0} (P : X → Type 0) (ks : List X) (i : ℕ) (k : X) → i < length ks → k ≡ get_or ks i k → AllByRecursion P (take i ks) → P k → AllByRecursion P (take (i + 1) ks)
+more_all P ks i k lt at all one = subst (AllByRecursion P) (sym (taken_more ks i k lt at)) (all_both P (take i ks) (k ∷ []) all (one, tt))
+
+pub all_taken : {X : Type 0} (P : X → Type 0) (ks : List X) (i : ℕ) → length ks ≤ i → AllByRecursion P (take i ks) → AllByRecursion P ks
+all_taken P ks i over all = subst (AllByRecursion P) (take_all i ks over) all
+
+-- ---- one lane
+
+halves : {A : Type 0} (t : ℕ) (xs : List A) → xs ≡ take t xs ++ drop t xs
+halves zero xs = refl
+halves (suc t) [] = refl
+halves (suc t) (x ∷ xs) = ap (λ ys. x ∷ ys) (halves t xs)
+
+cut_were : {A : Type 0} (g t : ℕ) (xs : List A) → g ≤ t → take t xs ≡ take g xs ++ drop g (take t xs)
+cut_were zero t xs le = refl
+cut_were (suc g) zero xs le = absurd (omega (arith, le))
+cut_were (suc g) (suc t) [] le = refl
+cut_were (suc g) (suc t) (x ∷ xs) le = ap (λ ys. x ∷ ys) (cut_were g t xs (omega (arith, le)))
+
+cut_are : {A : Type 0} (g t : ℕ) (xs : List A) → g ≤ t → drop g xs ≡ drop g (take t xs) ++ drop t xs
+cut_are zero t xs le = halves t xs
+cut_are (suc g) zero xs le = absurd (omega (arith, le))
+cut_are (suc g) (suc t) [] le = refl
+cut_are (suc g) (suc t) (x ∷ xs) le = cut_are g t xs (omega (arith, le))
+
+-- a lane of messages from a number on, of which some were told and some are gone
+abbrev pub kept : ℕ → List Forward → ℕ → ℕ → ℕ → ℕ → KeptLane
+kept base all gone told took told_took = record {
+  lane = record { gone = base + gone; waiting = drop gone all; took = took };
+  told = record { gone = base; waiting = take told all; took = told_took };
+}
+
+pub comes_later : (base : ℕ) (all : List Forward) (gone told took told_took : ℕ) → gone ≤ length all → told ≤ length all → told_took ≤ took → IsLater (kept base all gone told took told_took)
+comes_later base all gone told took told_took few some rose = elim (cases_lt told gone) [
+  | inl past ↦ record {
+    gone = take told all;
+    kept = [];
+    fresh = drop gone all;
+    were = sym (append-nil (take told all));
+    are = refl;
+    numbers = inr (refl, omega (arith, count_taken all told some, past));
+    took = rose;
+  }
+  | inr here ↦ record {
+    gone = take gone all;
+    kept = drop gone (take told all);
+    fresh = drop told all;
+    were = cut_were gone told all here;
+    are = cut_are gone told all here;
+    numbers = inl (omega (arith, count_taken all gone few));
+    took = rose;
+  }
+]
+
+pub below_end : (base gone : ℕ) (all : List Forward) → gone ≤ length all → base + length all < 2 ^ 62 → base + gone + length (drop gone all) < 2 ^ 62
+below_end base gone all few below = omega (arith, length-drop gone all, few, below)
+
+pub changes_made : (peer base : ℕ) (all : List Forward) (gone told took told_took : ℕ) (old mid new : List Left) → gone ≤ length all → told ≤ length all
+    → mid ≡ old ++ removals peer (suc base) (min gone told) → new ≡ mid ++ map put (message_rows peer (suc (base + max gone told)) (drop (max gone told) all))
+    → new ≡ old ++ message_changes peer (kept base all gone told took told_took)
+changes_made peer base all gone told took told_took old mid new few some one two =
+    let k = kept base all gone told took told_took in
+    let count = count_taken all told some in
+    let gone_is : min gone told ≡ gone_count k = omega (arith, count) in
+    let told_is : told_count k ≡ told - gone = omega (arith, count) in
+    let from : base + max gone told ≡ base + gone + told_count k = omega (arith, told_is) in
+    let place : gone + (told - gone) ≡ max gone told = omega arith in
+    two ∙ ap (λ xs. xs ++ map put (message_rows peer (suc (base + max gone told)) (drop (max gone told) all))) one ∙ append_assoc old _ _
+    ∙ λ i. old ++ (removals peer (suc base) (gone_is i) ++ map put (message_rows peer (suc (from i)) (
+    (ap (λ n. drop n all) (sym place) ∙ sym (drop-drop (told - gone) gone all) ∙ ap (λ n. drop n (drop gone all)) (sym told_is)) i)))
+
+pub last_is : (base gone : ℕ) (all : List Forward) → gone ≤ length all → base + length all ≡ base + gone + length (drop gone all)
+last_is base gone all few = omega (arith, length-drop gone all, few)
+
+pub told_last_is : (base told : ℕ) (all : List Forward) → told ≤ length all → base + told ≡ base + length (take told all)
+told_last_is base told all some = omega (arith, count_taken all told some)
+
+-- ---- all lanes
+
+pub all_unmapped : {X Y : Type 0} (P : Y → Type 0) (g : X → Y) (xs : List X) → AllByRecursion P (map g xs) → AllByRecursion (λ x. P (g x)) xs
+all_unmapped P g [] all = tt
+all_unmapped P g (x ∷ xs) all = (all.0, all_unmapped P g xs all.1)
+
+all_mapped : {X Y : Type 0} (P : Y → Type 0) (g : X → Y) (xs : List X) → AllByRecursion (λ x. P (g x)) xs → AllByRecursion P (map g xs)
+all_mapped P g [] all = tt
+all_mapped P g (x ∷ xs) all = (all.0, all_mapped P g xs all.1)
+
+count_mapped : {X Y : Type 0} (g : X → Y) (xs : List X) → length (map g xs) ≡ length xs
+count_mapped g [] = refl
+count_mapped g (x ∷ xs) = ap suc (count_mapped g xs)
+
+pub lanes_are : (nodes : ℕ) (ks : List KeptLane) → length ks ≡ nodes → AllByRecursion (λ k. IsLane k.lane) ks → AreLanes nodes (now_of ks)
+lanes_are nodes ks count all = record { count = count_mapped (λ (k : KeptLane). k.lane) ks ∙ count; sound = all_mapped IsLane (λ (k : KeptLane). k.lane) ks all }
+
+pub rows_made : (ks : List KeptLane) (first mid last : List Plain) → first ≡ [] → mid ≡ first ++ each (λ p k. waiting_of p k.lane) 0 ks → last ≡ mid ++ each (λ p k. numbers_of p k.lane) 0 ks → last ≡ rows_of (now_of ks)
+rows_made ks first mid last none one two =
+    two ∙ (λ i. (one ∙ ap (λ xs. xs ++ each (λ p k. waiting_of p k.lane) 0 ks) none) i ++ each (λ p k. numbers_of p k.lane) 0 ks)
+    ∙ λ i. sym (each_map (λ (k : KeptLane). k.lane) waiting_of 0 ks) i ++ sym (each_map (λ (k : KeptLane). k.lane) numbers_of 0 ks) i
+
+pub changes_all : (ks : List KeptLane) (first mid last : List Left) → first ≡ [] → mid ≡ first ++ each message_changes 0 ks → last ≡ mid ++ each numbers_changes 0 ks → last ≡ changes_of ks
+changes_all ks first mid last none one two = two ∙ ap (λ xs. xs ++ each numbers_changes 0 ks) (one ∙ ap (λ xs. xs ++ each message_changes 0 ks) none)

@@ -1,0 +1,10 @@
+pub mod Numbers
+pub mod Whole
+pub mod Keys
+pub mod Lists
+pub mod Order
+pub mod Leading
+pub mod Cuts
+pub mod Readers
+pub mod Lanes
+pub mod Rising

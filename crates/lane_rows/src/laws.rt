@@ -1,0 +1,13 @@
+//! Laws of the rows of lanes. Each function does nothing: its contract is the law.
+ghost use Rattle.lane_rows.specs.Laws.{ChangesAreOnce, ChangesLead, RowsRise};
+
+/// Changes of lanes lead from the rows that were told last to those of the lanes, are of no other kinds, and name each key once.
+pub fn changes_lead()
+    ensures lead { ChangesLead }
+    ensures once { ChangesAreOnce }
+{}
+
+/// The rows of lanes stand in the order of their keys, each once.
+pub fn rows_rise()
+    ensures { RowsRise }
+{}
