@@ -1,7 +1,7 @@
 //! The table of homes that a script stands for.
 
-use crate::stop::Fault;
 use broker_script::Command;
+use broker_stop::{RunFault, Stop};
 use home_table::HomeTable;
 use std::alloc::Global;
 
@@ -12,9 +12,9 @@ const CLIENTS: u32 = 1883;
 const BRIDGES: u32 = 2883;
 
 /// A table for each of so many nodes, all with the homes of a script.
-pub fn tables_of(alloc: Global, nodes: u16, commands: &[Command]) -> Result<Vec<HomeTable>, Fault> {
+pub fn tables_of(alloc: Global, nodes: u16, commands: &[Command]) -> Result<Vec<HomeTable>, Stop> {
     let text = table_text(alloc, nodes, commands)?;
-    let table = HomeTable::parse(alloc, text.as_str())?;
+    let table = HomeTable::parse(alloc, text.as_str()).map_err(RunFault::from)?;
     let mut tables = Vec::new(alloc);
     for _ in 0..nodes {
         tables.push(table.copy()?)?;
@@ -23,7 +23,7 @@ pub fn tables_of(alloc: Global, nodes: u16, commands: &[Command]) -> Result<Vec<
 }
 
 /// The rows of the table: nodes `n0` and so on, each with a port of its own, and the homes.
-fn table_text(alloc: Global, nodes: u16, commands: &[Command]) -> Result<String, Fault> {
+fn table_text(alloc: Global, nodes: u16, commands: &[Command]) -> Result<String, Stop> {
     let mut text = String::new(alloc);
     for node in 0..nodes {
         let clients = CLIENTS + node as u32;
@@ -45,7 +45,7 @@ fn table_text(alloc: Global, nodes: u16, commands: &[Command]) -> Result<String,
 }
 
 /// A text as it stands between the quotes of TOML.
-fn escaped(alloc: Global, text: &str) -> Result<String, Fault> {
+fn escaped(alloc: Global, text: &str) -> Result<String, Stop> {
     let mut out = String::new(alloc);
     for c in text.chars() {
         if c == '"' || c == '\\' {

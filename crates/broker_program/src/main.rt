@@ -1,15 +1,15 @@
 //! The program: its command line, and what each command runs.
 #![tactic(auto)]
 
+mod files;
 mod homes;
 mod run;
-mod stop;
-mod task;
+mod serve;
 #[cfg(test)]
 mod tests;
 
 use crate::run::run_task;
-use crate::task::task_of;
+use broker_command::task_of;
 use std::io;
 use std::process::ExitCode;
 
@@ -19,12 +19,13 @@ fn main(rt: HostRuntime) -> io::Result<ExitCode> {
         Ok(args) => args.skip(1).collect(alloc)?,
         Err(_) => Vec::new(alloc),
     };
-    let status = match task_of(alloc, &words) {
+    let ended = match task_of(alloc, &words) {
         Ok(task) => run_task(&rt, task),
-        Err(stop) => {
-            let _ = rt.eprintln(stop.text.as_str());
-            stop.status
-        }
+        Err(stop) => Err(stop),
+    };
+    let status = match ended {
+        Ok(()) => 0,
+        Err(stop) => stop.tell(&mut rt.stdout(), &mut rt.stderr()),
     };
     Ok(ExitCode::from(status))
 }

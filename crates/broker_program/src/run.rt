@@ -1,35 +1,44 @@
 //! Scripts that are run.
 
+use crate::files::read_file;
 use crate::homes::tables_of;
-use crate::stop::Fault;
-use crate::task::Task;
+use crate::serve::serve;
+use broker_command::Task;
 use broker_node::{Event, EventKind};
 use broker_script::{Command, MOST_BYTES, NodeEvent, ScriptFault, parse_script};
+use broker_stop::{RunFault, Stop};
 use cluster_play::{Cluster, PlayFault, Step};
 use mqtt_fields::Text;
 use mqtt_packets::Bytes;
 use std::alloc::Global;
 use std::fmt::Display;
-use std::fs;
-use std::io::{self, Read, Write};
+use std::io::Write;
 
-/// Runs a task, and answers the exit status.
-pub fn run_task(rt: &HostRuntime, task: Task) -> u8 {
-    let Task::Play(path) = task;
-    let mut out = rt.stdout();
-    let mut err = rt.stderr();
-    match read_file(rt, path.as_str()) {
-        Ok(script) => run_text(rt.alloc(), script.as_slice(), &mut out, &mut err),
-        Err(_) => stop_with(&Fault::Script(ScriptFault::NotText), &mut err),
+/// Runs a task.
+pub fn run_task(rt: &HostRuntime, task: Task) -> Result<(), Stop> {
+    match task {
+        Task::Play { script } => play(rt, script.as_str()),
+        Task::Serve {
+            configuration,
+            node,
+            database,
+            turns,
+        } => serve(
+            rt,
+            configuration.as_str(),
+            node.as_str(),
+            database.as_str(),
+            turns,
+        ),
     }
 }
 
-/// The bytes of a file; of one that is too long only the first ones, so that it is still too long.
-fn read_file(rt: &HostRuntime, path: &str) -> io::Result<Vec<u8>> {
-    let mut bytes = Vec::new(rt.alloc());
-    let mut file = fs::open(rt, path)?.take(MOST_BYTES as u64 + 1);
-    file.read_to_end(&mut bytes)?;
-    Ok(bytes)
+/// Runs the script in a file.
+fn play(rt: &HostRuntime, path: &str) -> Result<(), Stop> {
+    match read_file(rt, path, MOST_BYTES) {
+        Ok(script) => run_script(rt.alloc(), script.as_slice(), &mut rt.stdout()),
+        Err(_) => Err(Stop::Script(ScriptFault::NotText)),
+    }
 }
 
 /// Runs a script: the lines of its steps go to `out`, each step's before the next one runs, and a
@@ -37,26 +46,32 @@ fn read_file(rt: &HostRuntime, path: &str) -> io::Result<Vec<u8>> {
 pub fn run_text<O: Write, E: Write>(alloc: Global, script: &[u8], out: &mut O, err: &mut E) -> u8 {
     match run_script(alloc, script, out) {
         Ok(()) => 0,
-        Err(fault) => stop_with(&fault, err),
+        Err(stop) => stop.tell(out, err),
     }
 }
 
-fn stop_with<E: Write>(fault: &Fault, err: &mut E) -> u8 {
-    let _ = writeln!(err, "{fault}");
-    fault.status()
+/// A step that is refused, as a fault of the run.
+fn of_step(fault: PlayFault) -> RunFault {
+    match fault {
+        PlayFault::BadTables => RunFault::BadTables,
+        PlayFault::UnknownNode => RunFault::UnknownNode,
+        PlayFault::UnknownFrame => RunFault::UnknownFrame,
+        PlayFault::NoMemory => RunFault::NoMemory,
+        PlayFault::Spent => RunFault::Spent,
+    }
 }
 
-fn run_script<O: Write>(alloc: Global, script: &[u8], out: &mut O) -> Result<(), Fault> {
+fn run_script<O: Write>(alloc: Global, script: &[u8], out: &mut O) -> Result<(), Stop> {
     let commands = parse_script(alloc, script)?;
     let nodes = match commands.first() {
         Some(Command::Nodes { nodes }) => *nodes,
         _ => 0,
     };
     let tables = tables_of(alloc, nodes, commands.as_slice())?;
-    let mut cluster = Cluster::new(alloc, tables)?;
+    let mut cluster = Cluster::new(alloc, tables).map_err(of_step)?;
     for command in commands {
         if let Some(step) = step_of(alloc, command)? {
-            let trace = cluster.play(&[step])?;
+            let trace = cluster.play(&[step]).map_err(of_step)?;
             write_lines(alloc, trace.lines.as_slice(), out)?;
         }
     }
@@ -64,7 +79,7 @@ fn run_script<O: Write>(alloc: Global, script: &[u8], out: &mut O) -> Result<(),
 }
 
 /// The step that a command stands for; none for the number of nodes and for a home.
-fn step_of(alloc: Global, command: Command) -> Result<Option<Step>, Fault> {
+fn step_of(alloc: Global, command: Command) -> Result<Option<Step>, Stop> {
     let step = match command {
         Command::Nodes { nodes: _ } | Command::Home { prefix: _, node: _ } => return Ok(None),
         Command::Event(event) => {
@@ -86,7 +101,7 @@ fn step_of(alloc: Global, command: Command) -> Result<Option<Step>, Fault> {
 }
 
 /// The node of an event, and what it is handed.
-fn event_of(alloc: Global, event: NodeEvent) -> Result<(u16, Event), Fault> {
+fn event_of(alloc: Global, event: NodeEvent) -> Result<(u16, Event), Stop> {
     let (node, at, kind) = match event {
         NodeEvent::Start { node, moment } => (node, moment, EventKind::Started),
         NodeEvent::Open {
@@ -123,15 +138,15 @@ fn event_of(alloc: Global, event: NodeEvent) -> Result<(u16, Event), Fault> {
 }
 
 /// A client that a script names; such a word is always a text.
-fn client_of(alloc: Global, word: &str) -> Result<Text, Fault> {
+fn client_of(alloc: Global, word: &str) -> Result<Text, Stop> {
     match Text::new(alloc, word) {
         Ok(client) => Ok(client),
-        Err(_) => Err(Fault::Play(PlayFault::NoMemory)),
+        Err(_) => Err(Stop::Run(RunFault::NoMemory)),
     }
 }
 
 /// Writes one line for each of these, all at once.
-fn write_lines<T: Display, O: Write>(alloc: Global, lines: &[T], out: &mut O) -> Result<(), Fault> {
+fn write_lines<T: Display, O: Write>(alloc: Global, lines: &[T], out: &mut O) -> Result<(), Stop> {
     let mut text = String::new(alloc);
     for line in lines {
         writeln!(&mut text, "{line}")?;
@@ -139,10 +154,10 @@ fn write_lines<T: Display, O: Write>(alloc: Global, lines: &[T], out: &mut O) ->
     write_text(&text, out)
 }
 
-fn write_text<O: Write>(text: &String, out: &mut O) -> Result<(), Fault> {
+fn write_text<O: Write>(text: &String, out: &mut O) -> Result<(), Stop> {
     match out.write_all(text.as_bytes()) {
         Ok(()) => Ok(()),
-        Err(_) => Err(Fault::Output),
+        Err(_) => Err(Stop::Run(RunFault::Output)),
     }
 }
 
@@ -152,7 +167,7 @@ fn write_end<O: Write>(
     cluster: &Cluster,
     nodes: u16,
     out: &mut O,
-) -> Result<(), Fault> {
+) -> Result<(), Stop> {
     let mut text = String::new(alloc);
     for node in 0..nodes {
         match cluster.holdings(node) {

@@ -1,7 +1,6 @@
 //! Worked examples: scripts, and what running them writes.
 
 use crate::run::run_text;
-use crate::task::{Task, task_of};
 use std::alloc::Global;
 use std::io::{self, ErrorKind, Write};
 use std::process::Abort;
@@ -11,6 +10,7 @@ mod crashes;
 mod faults;
 mod first_path;
 mod operations;
+mod serving;
 mod sessions;
 mod streams;
 
@@ -102,31 +102,5 @@ fn tells_of_refused_output(rt: HostRuntime) -> Result<(), Fail> {
     let status = run_text(alloc, b"nodes 1\n", &mut Full, &mut err);
     assert_eq!(rt; err.as_slice(), b"broker: run: Output\n".as_slice());
     assert_eq!(rt; status, 1);
-    Ok(())
-}
-
-/// The path of a command line that plays a script, or the status that another one ends with.
-fn read_words(alloc: Global, words: &[&str]) -> Result<Result<String, u8>, Fail> {
-    let mut owned = Vec::new(alloc);
-    for word in words {
-        owned.push(String::from_str(alloc, word)?)?;
-    }
-    match task_of(alloc, &owned) {
-        Ok(Task::Play(path)) => Ok(Ok(path)),
-        Err(stop) => Ok(Err(stop.status)),
-    }
-}
-
-#[test]
-fn reads_command_lines(rt: HostRuntime) -> Result<(), Fail> {
-    let alloc = rt.alloc();
-    match read_words(alloc, &["play", "a.script"])? {
-        Ok(path) => assert_eq!(rt; path.as_str(), "a.script"),
-        Err(status) => assert_eq!(rt; status, 0, "play and a file name are a command line"),
-    }
-    assert_eq!(rt; read_words(alloc, &[])?.err(), Some(2));
-    assert_eq!(rt; read_words(alloc, &["play"])?.err(), Some(2));
-    assert_eq!(rt; read_words(alloc, &["run", "a.script"])?.err(), Some(2));
-    assert_eq!(rt; read_words(alloc, &["play", "a", "b"])?.err(), Some(2));
     Ok(())
 }

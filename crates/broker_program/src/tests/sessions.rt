@@ -2,7 +2,7 @@
 
 use super::Example;
 
-pub const EXAMPLES: [Example; 18] = [
+pub const EXAMPLES: [Example; 19] = [
     Example {
         name: "a client at its home",
         script: "nodes 2\nstart 0 0\nstart 1 0\nopen 1 1 0\nbytes 1 1 0 100e00044d5154540502003c00000161\n",
@@ -64,6 +64,13 @@ pub const EXAMPLES: [Example; 18] = [
         script: "nodes 2\nstart 0 0\nstart 1 0\nopen 1 2 0\nbytes 1 2 0 100e00044d5154540502003c00000163\nbytes 1 2 0 820700010000017700\nopen 1 1 0\nbytes 1 1 0 101a00044d5154540506003c0000016105180000003c000177000178\nclose 1 1 0\nopen 1 3 0\nbytes 1 3 0 100e00044d5154540502003c00000161\nopen 1 4 0\nbytes 1 4 0 100e00044d5154540502003c00000161\n",
         status: 0,
         out: "sent 1 2 200b0000082100642700100000\nsent 1 2 900400010000\nsent 1 1 200b0000082100642700100000\nsent 1 2 30050001770078\nsent 1 3 200b0000082100642700100000\nsent 1 3 e0018e\nclosed 1 3\nsent 1 4 200b0000082100642700100000\nnode 0 subscriptions 0 retained 0\nnode 1 subscriptions 1 retained 0\ntaken 0 1 differ\n",
+        err: "",
+    },
+    Example {
+        name: "a will at the end of its session, before its delay, and another after its delay",
+        script: "nodes 1\nstart 0 0\nopen 0 2 0\nbytes 0 2 0 100e00044d5154540502003c00000163\nbytes 0 2 0 820700010000017700\nopen 0 1 0\nbytes 0 1 0 101f00044d5154540506003c05110000001e00016105180000003c000177000178\nclose 0 1 10000\ntick 0 39999\ntick 0 40000\nbytes 0 2 40000 c000\nopen 0 3 40000\nbytes 0 3 40000 101f00044d5154540506003c05110000006400016105180000003c000177000178\nclose 0 3 41000\ntick 0 100999\ntick 0 101000\n",
+        status: 0,
+        out: "sent 0 2 200b0000082100642700100000\nsent 0 2 900400010000\nsent 0 1 200b0000082100642700100000\nsent 0 2 30050001770078\nsent 0 2 d000\nsent 0 3 200b0000082100642700100000\nsent 0 2 30050001770078\nnode 0 subscriptions 1 retained 0\n",
         err: "",
     },
     Example {

@@ -101,3 +101,51 @@ fn ends_a_connection_at_its_101st_exchange(rt: HostRuntime) -> Result<(), Fail> 
         (0, out.as_str(), ""),
     )
 }
+
+/// The PUBLISH of `x` at QoS 1 with RETAIN to the topic of these five digits.
+fn push_retained(text: &mut String, alloc: Global, k: u32) -> Result<(), Fail> {
+    let low = digits(alloc, k % 10_000)?;
+    let high = 0x30 + k / 10_000;
+    write!(text, "330b0005{high:02x}{low}00010078")?;
+    Ok(())
+}
+
+/// A hundred thousand topics are given a message, a thousand in each piece, and then one more.
+fn hundred_thousand_topics(
+    alloc: Global,
+    script: &mut String,
+    out: &mut String,
+) -> Result<(), Fail> {
+    for k in 0..100_001 {
+        if k % 1_000 == 0 {
+            script.push_str("\nbytes 0 1 0 ")?;
+        }
+        push_retained(script, alloc, k)?;
+        out.push_str(if k < 100_000 {
+            "sent 0 1 40020001\n"
+        } else {
+            "sent 0 1 4003000197\n"
+        })?;
+    }
+    script.push_str("\n")?;
+    Ok(())
+}
+
+#[test]
+fn refuses_the_topic_after_a_hundred_thousand(rt: HostRuntime) -> Result<(), Fail> {
+    let alloc = rt.alloc();
+    let mut script = String::from_str(
+        alloc,
+        "nodes 1\nstart 0 0\nopen 0 1 0\nbytes 0 1 0 100e00044d5154540502003c00000161",
+    )?;
+    let mut out = String::from_str(alloc, "sent 0 1 200b0000082100642700100000\n")?;
+    hundred_thousand_topics(alloc, &mut script, &mut out)?;
+    out.push_str("node 0 subscriptions 0 retained 100000\n")?;
+    check(
+        &rt,
+        alloc,
+        "100,001 topics",
+        script.as_str(),
+        (0, out.as_str(), ""),
+    )
+}

@@ -1,0 +1,19 @@
+-- Why a run of a node ends before its end.
+use Rattle.broker_sockets.specs.declared.turn.TurnFault.{TurnFault}
+use Rattle.broker_sockets.specs.declared.turn.TurnFault.TheVariants as turns
+use Rattle.broker_stop.specs.declared.run_fault.RunFault.{RunFault}
+use Rattle.broker_stop.specs.declared.run_fault.RunFault.TheVariants as runs
+use Rattle.node_keeper.specs.declared.fault.KeeperFault.{KeeperFault}
+use Rattle.node_keeper.specs.declared.fault.KeeperFault.TheVariants as keepers
+
+-- a fault of the node
+abbrev pub of_node : KeeperFault → RunFault
+of_node keepers.NoMemory = runs.NoMemory
+of_node (keepers.Rows fault) = runs.Rows
+of_node keepers.NumbersAtEnd = runs.NumbersAtEnd
+of_node keepers.Stopped = runs.Stopped
+
+-- a fault of a turn
+abbrev pub of_turn : TurnFault KeeperFault → RunFault
+of_turn turns.NoMemory = runs.NoMemory
+of_turn (turns.Handler fault) = of_node fault

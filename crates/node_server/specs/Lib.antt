@@ -1,0 +1,5 @@
+pub mod Events
+pub mod Faults
+pub mod Outputs
+pub mod Printing
+pub mod Serving

@@ -1,0 +1,30 @@
+//! Why a run of a node ends before its end.
+
+ghost use Rattle.std.specs.Prelude.{◌≡◌};
+ghost use Rattle.node_server.specs.Faults.{of_node, of_turn};
+
+use broker_sockets::TurnFault;
+use broker_stop::RunFault;
+use node_keeper::KeeperFault;
+
+/// A fault of the node, as one of the run.
+pub(crate) fn of_node(fault: KeeperFault) -> RunFault
+    ensures { result ≡ of_node fault }
+{
+    match fault {
+        KeeperFault::NoMemory => RunFault::NoMemory,
+        KeeperFault::Rows(_) => RunFault::Rows,
+        KeeperFault::NumbersAtEnd => RunFault::NumbersAtEnd,
+        KeeperFault::Stopped => RunFault::Stopped,
+    }
+}
+
+/// A fault of a turn, as one of the run.
+pub(crate) fn of_turn(fault: TurnFault<KeeperFault>) -> RunFault
+    ensures { result ≡ of_turn fault }
+{
+    match fault {
+        TurnFault::NoMemory => RunFault::NoMemory,
+        TurnFault::Handler(fault) => of_node(fault),
+    }
+}

@@ -1,0 +1,10 @@
+//! A node that is served over sockets: what its clients send is handed to it, and what it gives out for them is sent.
+#![tactic(auto)]
+
+mod convert;
+mod fault;
+mod run;
+mod served;
+
+pub use run::serve;
+pub use served::ServedNode;

@@ -1,0 +1,57 @@
+//! How many rows a second a store of rows takes, one by one and a thousand at once, and how long it is to load: over memory, where
+//! an argument is `memory`, and over a database, where one is `file`, followed by the path of a database that isn't there yet.
+#![tactic(auto)]
+
+mod measure;
+
+use crate::measure::{fill_and_load, load_again};
+use bench_clock::Failure;
+use node_database::open_rows;
+use row_store::MemoryRows;
+use std::io;
+use std::process::ExitCode;
+
+fn memory(rt: &HostRuntime) -> Result<(), Failure> {
+    let mut rows = MemoryRows::new(rt.alloc());
+    fill_and_load(rt, &mut rows, 20_000)
+}
+
+fn file(rt: &HostRuntime, path: &str) -> Result<(), Failure> {
+    let Ok(mut rows) = open_rows(rt, path) else {
+        return Err(Failure::Outside);
+    };
+    fill_and_load(rt, &mut rows, 1_000)
+}
+
+fn file_again(rt: &HostRuntime, path: &str) -> Result<(), Failure> {
+    let Ok(mut rows) = open_rows(rt, path) else {
+        return Err(Failure::Outside);
+    };
+    load_again(rt, &mut rows)
+}
+
+fn run(rt: &HostRuntime) -> Result<(), Failure> {
+    let mut words = std::env::args(rt)?.skip(1);
+    while let Some(word) = words.next() {
+        match word.as_str() {
+            "memory" => memory(rt)?,
+            "file" => {
+                let path = words.next().ok_or(Failure::Part)?;
+                file(rt, path.as_str())?;
+                file_again(rt, path.as_str())?;
+            }
+            _ => return Err(Failure::Part),
+        }
+    }
+    Ok(())
+}
+
+fn main(rt: HostRuntime) -> io::Result<ExitCode> {
+    match run(&rt) {
+        Ok(()) => Ok(ExitCode::SUCCESS),
+        Err(failure) => {
+            rt.eprintln(failure.text())?;
+            Ok(ExitCode::from(1))
+        }
+    }
+}
