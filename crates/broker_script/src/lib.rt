@@ -24,8 +24,6 @@ mod fault;
 mod laws;
 mod line;
 mod script;
-#[cfg(test)]
-mod tests;
 mod word;
 
 pub use command::Command;

@@ -1,10 +1,12 @@
+//! What each client of the subscriptions gets of one message.
+
 use causal_context::{Context, Dot};
 use message_copies::{copies, offer_of, picks};
 use mqtt_fields::{Qos, SubscriptionOptions, Text};
-use mqtt_message::{Identifiers, Message, SharedMessage};
+use mqtt_message::{Delivery, Identifiers, Message, SharedMessage};
 use mqtt_topics::Filter;
 use std::alloc::Global;
-use std::test::Fail;
+use std::process::Abort;
 use subscription_set::{Entry, SubscriptionSet};
 
 /// The message `x` to `t/u` at QoS 2 with RETAIN, published by `p`.
@@ -31,55 +33,98 @@ const SUBSCRIPTIONS: [Row; 12] = [
     ("d", "$share/g/t", 0x00, 0),
 ];
 
-fn entry(alloc: Global, row: &Row) -> Result<Entry, Fail> {
-    let (client, filter, options, identifier) = *row;
-    let client = Text::new(alloc, client)?;
-    let filter = Text::new(alloc, filter)?;
-    let filter = Filter::parse(alloc, filter.as_str())?;
+fn text(rt: &impl Abort, alloc: Global, text: &str) -> Text {
+    Text::new(alloc, text).expect(rt, "a text")
+}
+
+fn filter(rt: &impl Abort, alloc: Global, to: &str) -> Filter {
+    let text = text(rt, alloc, to);
+    Filter::parse(alloc, text.as_str()).expect(rt, "a filter")
+}
+
+fn entry(rt: &impl Abort, alloc: Global, row: &Row) -> Entry {
+    let (client, to, options, identifier) = *row;
+    let (client, filter) = (text(rt, alloc, client), filter(rt, alloc, to));
     let options = SubscriptionOptions::of_byte(options);
-    Ok(Entry::new(client, filter, options, identifier, 0).ok_or("no entry")?)
+    Entry::new(client, filter, options, identifier, 0).expect(rt, "an entry")
 }
 
-fn subscriptions(alloc: Global) -> Result<SubscriptionSet, Fail> {
+fn dot(rt: &impl Abort, number: usize) -> Dot {
+    Dot::new(0, number as u64 % 65_536 + 1).expect(rt, "a dot")
+}
+
+// All dots from 1 on are seen.
+fn seen(rt: &impl Abort, alloc: Global) -> Context {
     let mut seen = Context::new(alloc);
-    let mut entries = Vec::new(alloc);
-    let mut number = 1;
-    for row in &SUBSCRIPTIONS {
-        let dot = Dot::new(0, number).ok_or("no dot")?;
-        seen.insert(dot)?;
-        entries.push((dot, entry(alloc, row)?))?;
-        number = u64::min(number + 1, 1 << 16);
+    for number in 0..SUBSCRIPTIONS.len() {
+        seen.insert(dot(rt, number)).expect(rt, "memory");
     }
-    Ok(SubscriptionSet::new(seen, entries)?.ok_or("no set")?)
+    seen
 }
 
-fn message(alloc: Global) -> Result<SharedMessage, Fail> {
-    let (message, _) = Message::read(alloc, &MESSAGE)?;
-    Ok(SharedMessage::new(alloc, message)?)
+fn entries(rt: &impl Abort, alloc: Global) -> Vec<(Dot, Entry)> {
+    let mut entries = Vec::new(alloc);
+    for (number, row) in SUBSCRIPTIONS.iter().enumerate() {
+        let entry = (dot(rt, number), entry(rt, alloc, row));
+        entries.push(entry).expect(rt, "memory");
+    }
+    entries
+}
+
+fn subscriptions(rt: &impl Abort, alloc: Global) -> SubscriptionSet {
+    let set = SubscriptionSet::new(seen(rt, alloc), entries(rt, alloc));
+    set.expect(rt, "memory").expect(rt, "a set")
+}
+
+fn message(rt: &impl Abort, alloc: Global) -> SharedMessage {
+    let (message, _) = Message::read(alloc, &MESSAGE).expect(rt, "a message");
+    SharedMessage::new(alloc, message).expect(rt, "memory")
+}
+
+fn told_copies(rt: &impl Abort, alloc: Global, set: &SubscriptionSet) -> String {
+    let message = message(rt, alloc);
+    let copies = copies(alloc, set, &message).expect(rt, "memory");
+    let mut told = String::new(alloc);
+    for copy in copies.as_slice() {
+        let (client, delivery) = (copy.client.as_str(), &copy.delivery);
+        let (qos, retain) = (delivery.qos.number(), delivery.retain);
+        let identifiers = delivery.identifiers.as_slice();
+        writeln!(told, "{client} {qos} {retain} {identifiers:?}").expect(rt, "memory");
+    }
+    drop((message, copies));
+    told
 }
 
 #[test]
-fn clients_get_one_copy(rt: HostRuntime) -> Result<(), Fail> {
-    let alloc = rt.alloc();
-    let mut told = String::new(alloc);
-    for copy in &copies(alloc, &subscriptions(alloc)?, &message(alloc)?)? {
-        let delivery = &copy.delivery;
-        let (client, qos, retain) = (copy.client.as_str(), delivery.qos.number(), delivery.retain);
-        let identifiers = delivery.identifiers.as_slice();
-        writeln!(told, "{client} {qos} {retain} {identifiers:?}")?;
-    }
+fn clients_get_one_copy(rt: HostRuntime) {
+    let set = subscriptions(&rt, rt.alloc());
+    let told = told_copies(&rt, rt.alloc(), &set);
     assert_eq!(rt;
         told.as_str(),
         "a 2 false [3, 7, 7]\nb 1 true []\nq 0 false [4]\n"
     );
-    Ok(())
+    drop((set, told));
+}
+
+fn told_picks(rt: &impl Abort, alloc: Global, set: &SubscriptionSet, turn: u64) -> String {
+    let message = message(rt, alloc);
+    let picks = picks(alloc, set, &message, turn).expect(rt, "memory");
+    let mut told = String::new(alloc);
+    for pick in picks.as_slice() {
+        let (client, filter) = (pick.client.as_str(), pick.filter.as_str());
+        let (qos, identifiers) = (
+            pick.delivery.qos.number(),
+            pick.delivery.identifiers.as_slice(),
+        );
+        writeln!(told, "{client} {filter} {qos} {identifiers:?}").expect(rt, "memory");
+    }
+    drop((message, picks));
+    told
 }
 
 #[test]
-fn a_member_of_each_group_is_picked(rt: HostRuntime) -> Result<(), Fail> {
-    let alloc = rt.alloc();
-    let subscriptions = subscriptions(alloc)?;
-    let message = message(alloc)?;
+fn a_member_of_each_group_is_picked(rt: HostRuntime) {
+    let set = subscriptions(&rt, rt.alloc());
     for (turn, told) in [
         (
             0,
@@ -94,27 +139,23 @@ fn a_member_of_each_group_is_picked(rt: HostRuntime) -> Result<(), Fail> {
             "p $share/g/# 0 []\na $share/g/t/u 2 []\nd $share/g!/t/# 2 []\n",
         ),
     ] {
-        let mut out = String::new(alloc);
-        for pick in &picks(alloc, &subscriptions, &message, turn)? {
-            let (client, filter) = (pick.client.as_str(), pick.filter.as_str());
-            let (qos, identifiers) = (
-                pick.delivery.qos.number(),
-                pick.delivery.identifiers.as_slice(),
-            );
-            writeln!(out, "{client} {filter} {qos} {identifiers:?}")?;
-        }
-        assert_eq!(rt; out.as_str(), told, "at {turn}");
+        let found = told_picks(&rt, rt.alloc(), &set, turn);
+        assert_eq!(rt; found.as_str(), told, "at {turn}");
     }
-    Ok(())
+    drop(set);
+}
+
+fn offer(rt: &impl Abort, alloc: Global, identifiers: &Identifiers) -> Delivery {
+    let message = message(rt, alloc);
+    let options = SubscriptionOptions::of_byte(0x05);
+    offer_of(alloc, &message, options, identifiers).expect(rt, "memory")
 }
 
 #[test]
-fn a_retained_message_is_offered(rt: HostRuntime) -> Result<(), Fail> {
-    let alloc = rt.alloc();
-    let identifiers = Identifiers::of_subscription(alloc, 5)?;
-    let options = SubscriptionOptions::of_byte(0x05);
-    let offer = offer_of(alloc, &message(alloc)?, options, &identifiers)?;
-    assert_eq!(rt; offer.qos, Qos::AtLeastOnce);
-    assert!(rt; offer.retain && offer.identifiers.as_slice().len() == 1);
-    Ok(())
+fn a_retained_message_is_offered(rt: HostRuntime) {
+    let identifiers = Identifiers::of_subscription(rt.alloc(), 5).expect(&rt, "memory");
+    let offer = offer(&rt, rt.alloc(), &identifiers);
+    let found = (offer.qos, offer.retain, offer.identifiers.as_slice().len());
+    assert_eq!(rt; found, (Qos::AtLeastOnce, true, 1));
+    drop(offer);
 }

@@ -11,11 +11,22 @@ use crate::told::{moment, told};
 use mqtt_fields::Text;
 use mqtt_message::{Delivery, Identifiers, Message, SharedMessage, Will};
 use mqtt_packets::{Connect, Packet, read_packet};
-use mqtt_sessions::Session;
+use mqtt_sessions::{Reaction, Session, SessionFault};
 use std::alloc::Global;
+use std::mem::replace;
 
 /// CONNECT of a client that takes one PUBLISH at a time.
 const CONNECT: &str = "101600044d5154540500003c081100000064210001000161";
+
+fn sound(packet: Packet) -> Result<Packet, Stop>
+    ensures { IfOk result HasSpelling }
+{
+    if packet.is_sound() {
+        return Ok(packet);
+    }
+    drop(packet);
+    Err(Stop::Word)
+}
 
 /// The packet that hexadecimal digits spell.
 fn packet(alloc: Global, digits: &str) -> Result<Packet, Stop>
@@ -25,14 +36,11 @@ fn packet(alloc: Global, digits: &str) -> Result<Packet, Stop>
         return Err(Stop::Word);
     };
     match read_packet(alloc, &bytes) {
-        Ok(Some((packet, _))) => {
-            if packet.is_sound() {
-                Ok(packet)
-            } else {
-                Err(Stop::Word)
-            }
+        Ok(Some((packet, _))) => sound(packet),
+        other => {
+            drop(other);
+            Err(Stop::Word)
         }
-        _ => Err(Stop::Word),
     }
 }
 
@@ -45,19 +53,26 @@ fn may_publish(will: &Option<Will>) -> bool
     }
 }
 
+fn publishable(connect: Connect) -> Result<Connect, Stop>
+    ensures { IfOk result (λ c. IsPublishableIf c.will) }
+{
+    if may_publish(&connect.will) {
+        return Ok(connect);
+    }
+    drop(connect);
+    Err(Stop::Word)
+}
+
 /// A CONNECT whose will can be published.
 fn connect_of(alloc: Global, digits: &str) -> Result<Connect, Stop>
     ensures { IfOk result (λ c. IsPublishableIf c.will) }
 {
     match packet(alloc, digits)? {
-        Packet::Connect(connect) => {
-            if may_publish(&connect.will) {
-                Ok(connect)
-            } else {
-                Err(Stop::Word)
-            }
+        Packet::Connect(connect) => publishable(connect),
+        other => {
+            drop(other);
+            Err(Stop::Word)
         }
-        _ => Err(Stop::Word),
     }
 }
 
@@ -87,11 +102,15 @@ fn message(alloc: Global, payload: &str, qos: u64) -> Result<Message, Stop> {
     }
 }
 
+fn no_identifiers(alloc: Global) -> Result<Identifiers, Stop> {
+    match Identifiers::of(Vec::new(alloc)) {
+        Some(identifiers) => Ok(identifiers),
+        None => Err(Stop::Word),
+    }
+}
+
 /// A copy of such a message.
 fn delivery(alloc: Global, payload: &str, qos: u64) -> Result<Delivery, Stop> {
-    let Some(identifiers) = Identifiers::of(Vec::new(alloc)) else {
-        return Err(Stop::Word);
-    };
     let message = message(alloc, payload, qos)?;
     let qos = message.qos;
     let message = SharedMessage::new(alloc, message)?;
@@ -99,7 +118,7 @@ fn delivery(alloc: Global, payload: &str, qos: u64) -> Result<Delivery, Stop> {
         message,
         qos,
         retain: false,
-        identifiers,
+        identifiers: no_identifiers(alloc)?,
     })
 }
 
@@ -113,33 +132,55 @@ pub fn fresh(alloc: Global, client: &str) -> Result<Session, Stop>
     }
 }
 
+/// What a call came to, as text.
+fn tell(alloc: Global, answered: Result<Reaction, SessionFault>, now: u64) -> Result<String, Stop> {
+    let text = told(alloc, &answered, now);
+    drop(answered);
+    text
+}
+
+fn begin_by(
+    alloc: Global,
+    session: &mut Session,
+    client: &str,
+    connect: &Connect,
+) -> Result<String, Stop>
+    requires { IsPublishableIf connect.now.will }
+{
+    drop(replace(session, fresh(alloc, client)?));
+    let result = session.connect(connect, false, 0);
+    tell(alloc, result, 0)
+}
+
 /// A new session in place of the other one, and what its first CONNECT comes to.
 fn begin(alloc: Global, session: &mut Session, client: &str, digits: &str) -> Result<String, Stop> {
     let connect = connect_of(alloc, digits)?;
-    *session = fresh(alloc, client)?;
-    let result = session.connect(&connect, false, 0);
-    told(alloc, &result, 0)
+    let text = begin_by(alloc, session, client, &connect);
+    drop(connect);
+    text
 }
 
 /// What a later CONNECT comes to.
 fn again(alloc: Global, session: &mut Session, digits: &str, now: u64) -> Result<String, Stop> {
     let connect = connect_of(alloc, digits)?;
     let result = session.connect(&connect, true, now);
-    told(alloc, &result, now)
+    drop(connect);
+    tell(alloc, result, now)
 }
 
 /// What a packet comes to.
 fn take(alloc: Global, session: &mut Session, digits: &str, room: bool) -> Result<String, Stop> {
     let packet = packet(alloc, digits)?;
     let result = session.packet(&packet, 0, room);
-    told(alloc, &result, 0)
+    drop(packet);
+    tell(alloc, result, 0)
 }
 
 /// What a copy comes to.
 fn copy(alloc: Global, session: &mut Session, payload: &str, qos: u64) -> Result<String, Stop> {
     let delivery = delivery(alloc, payload, qos)?;
     let result = session.queue(delivery, 0);
-    told(alloc, &result, 0)
+    tell(alloc, result, 0)
 }
 
 /// What codes come to.
@@ -151,7 +192,7 @@ fn answer(alloc: Global, session: &mut Session, id: u64, codes: &str) -> Result<
         return Err(Stop::Word);
     }
     let result = session.answer(id as u16, &codes);
-    told(alloc, &result, 0)
+    tell(alloc, result, 0)
 }
 
 /// What a moment comes to.
@@ -165,7 +206,7 @@ fn at(alloc: Global, session: &mut Session, verb: &str, now: u64) -> Result<Stri
         "finish" => session.finish(now),
         _ => return Err(Stop::Word),
     };
-    told(alloc, &result, now)
+    tell(alloc, result, now)
 }
 
 /// Whether the Keep Alive has run out, when the will and the end are due, and the longest packet.
@@ -212,11 +253,17 @@ fn lead(alloc: Global, session: &mut Session, state: u64) -> Result<(), Stop> {
     Ok(())
 }
 
+fn take_in(alloc: Global, session: &mut Session, state: u64, digits: &str) -> Result<String, Stop> {
+    lead(alloc, session, state)?;
+    take(alloc, session, digits, true)
+}
+
 /// What a packet comes to in a state.
 fn kind(alloc: Global, state: u64, digits: &str) -> Result<String, Stop> {
     let mut session = fresh(alloc, "a")?;
-    lead(alloc, &mut session, state)?;
-    take(alloc, &mut session, digits, true)
+    let text = take_in(alloc, &mut session, state, digits);
+    drop(session);
+    text
 }
 
 /// What a packet comes to in each state.
@@ -236,7 +283,7 @@ fn of_word(alloc: Global, session: &mut Session, verb: &str, word: &str) -> Resu
         "changes" => changes(alloc, session),
         "rows" => rows(alloc, session),
         "reopen" => {
-            *session = reopened(alloc, session)?;
+            drop(replace(session, reopened(alloc, session)?));
             rows(alloc, session)
         }
         "take" => take(alloc, session, word, true),

@@ -10,11 +10,11 @@ mod told;
 
 use crate::call::{answered, fresh};
 use crate::stop::Stop;
+use mqtt_sessions::Session;
 use std::process::ExitCode;
 
-fn play(rt: &HostRuntime) -> Result<u64, Stop> {
+fn play_to(rt: &HostRuntime, session: &mut Session) -> Result<u64, Stop> {
     let alloc = rt.alloc();
-    let mut session = fresh(alloc, "a")?;
     let mut calls: u64 = 0;
     for line in rt.lines(alloc) {
         let line = line?;
@@ -25,12 +25,19 @@ fn play(rt: &HostRuntime) -> Result<u64, Stop> {
             continue;
         }
         calls = calls.saturating_add(1);
-        let text = answered(alloc, &mut session, call)?;
+        let text = answered(alloc, session, call)?;
         if text.as_str() != wanted {
             println!(rt; "{call}=>{text}")?;
         }
     }
     Ok(calls)
+}
+
+fn play(rt: &HostRuntime) -> Result<u64, Stop> {
+    let mut session = fresh(rt.alloc(), "a")?;
+    let calls = play_to(rt, &mut session);
+    drop(session);
+    calls
 }
 
 fn main(rt: HostRuntime) -> ExitCode {

@@ -21,7 +21,10 @@ fn sent(alloc: Global, output: &Output, now: u64) -> Result<String, Stop> {
         Output::Answer(packet) => spelled(alloc, packet),
         Output::Publish(p) => {
             let publish = p.delivery.publish(alloc, now, p.dup, p.id)?;
-            spelled(alloc, &Packet::Publish(publish))
+            let packet = Packet::Publish(publish);
+            let text = spelled(alloc, &packet);
+            drop(packet);
+            text
         }
     }
 }

@@ -7,3 +7,5 @@ mod contexts;
 mod store;
 #[cfg(test)]
 mod subscriptions;
+#[cfg(test)]
+mod values;

@@ -1,59 +1,85 @@
 //! What succeeds while there is memory, and which subscription is live.
 
-use causal_context::{Context, Dot, Lattice};
+use crate::values::{dot, filter, text};
+use causal_context::{Context, Lattice};
 use mqtt_fields::{SubscriptionOptions, Text};
 use mqtt_topics::Filter;
 use std::alloc::Global;
-use std::test::Fail;
+use std::process::Abort;
 use subscription_set::{Entry, SubscriptionSet};
 
-fn dot(number: u64) -> Result<Dot, Fail> {
-    Ok(Dot::new(1, number).ok_or("no dot")?)
-}
-
-fn entry(alloc: Global, to: &str, version: u32) -> Result<Entry, Fail> {
-    let text = Text::new(alloc, to)?;
-    let filter = Filter::parse(alloc, text.as_str())?;
-    let client = Text::new(alloc, "a")?;
+fn entry(rt: &impl Abort, alloc: Global, to: &str, version: u32) -> Entry {
+    let (client, filter) = (text(rt, alloc, "a"), filter(rt, alloc, to));
     let options = SubscriptionOptions::of_byte(1);
-    Ok(Entry::new(client, filter, options, 7, version).ok_or("no entry")?)
+    Entry::new(client, filter, options, 7, version).expect(rt, "an entry")
 }
 
 // The one subscription at the dot, all dots up to it seen.
-fn one(alloc: Global, number: u64, to: &str, version: u32) -> Result<SubscriptionSet, Fail> {
+fn one(rt: &impl Abort, alloc: Global, number: u64, to: &str, version: u32) -> SubscriptionSet {
+    let dot = dot(rt, 1, number);
     let mut seen = Context::new(alloc);
-    seen.insert(dot(number)?)?;
+    seen.insert(dot).expect(rt, "memory");
     let mut entries = Vec::new(alloc);
-    entries.push((dot(number)?, entry(alloc, to, version)?))?;
-    Ok(SubscriptionSet::new(seen, entries)?.ok_or("no set")?)
+    entries
+        .push((dot, entry(rt, alloc, to, version)))
+        .expect(rt, "memory");
+    let set = SubscriptionSet::new(seen, entries).expect(rt, "memory");
+    set.expect(rt, "a set")
+}
+
+fn put_in(rt: &impl Abort, set: &mut SubscriptionSet, other: SubscriptionSet) {
+    set.join(&other).expect(rt, "memory");
+    drop(other);
 }
 
 // Of `a`: to `t` at 2 under version 1 and at 3 under version 0, and to `u` at 4.
-fn some_set(alloc: Global) -> Result<SubscriptionSet, Fail> {
-    let mut set = one(alloc, 2, "t", 1)?;
-    set.join(&one(alloc, 3, "t", 0)?)?;
-    set.join(&one(alloc, 4, "u", 0)?)?;
-    Ok(set)
+fn some_set(rt: &impl Abort, alloc: Global) -> SubscriptionSet {
+    let mut set = one(rt, alloc, 2, "t", 1);
+    put_in(rt, &mut set, one(rt, alloc, 3, "t", 0));
+    put_in(rt, &mut set, one(rt, alloc, 4, "u", 0));
+    set
 }
 
-fn has(pairs: &[(&Dot, &Entry)], dot: Dot) -> bool {
-    pairs.iter().any(|pair| *pair.0 == dot)
+fn copied(rt: &impl Abort, set: SubscriptionSet) -> SubscriptionSet {
+    let copy = set.copy().expect(rt, "memory");
+    drop(set);
+    copy
+}
+
+// Whether the dots 2, 3 and 4 are live.
+fn live(rt: &impl Abort, set: &SubscriptionSet) -> [bool; 3] {
+    let live = set.live().expect(rt, "memory");
+    [2, 3, 4].map(|number| live
+        .iter()
+        .any(|(dot, _)| dot.node() == 1 && dot.number() == number))
+}
+
+// How many are live, by counts and by lists.
+fn counts(rt: &impl Abort, set: &SubscriptionSet, client: &Text) -> [usize; 3] {
+    [
+        set.live_count(),
+        set.live_count_of(client),
+        set.live_of(client).expect(rt, "memory").len(),
+    ]
 }
 
 #[test]
-fn the_latest_is_live(rt: HostRuntime) -> Result<(), Fail> {
-    let set = some_set(rt.alloc())?.copy()?;
-    assert_eq!(rt; set.live_count(), 2);
-    let live = set.live()?;
-    assert!(rt; has(&live, dot(2)?) && !has(&live, dot(3)?) && has(&live, dot(4)?));
-    let a = Text::new(rt.alloc(), "a")?;
-    assert_eq!(rt; set.live_of(&a)?.len(), 2);
-    assert_eq!(rt; set.live_count_of(&a), 2);
-    Ok(())
+fn the_latest_is_live(rt: HostRuntime) {
+    let set = copied(&rt, some_set(&rt, rt.alloc()));
+    let client = text(&rt, rt.alloc(), "a");
+    assert_eq!(rt; live(&rt, &set), [true, false, true]);
+    assert_eq!(rt; counts(&rt, &set, &client), [2, 2, 2]);
+    drop((set, client));
+}
+
+fn can_be_asked(rt: &impl Abort, alloc: Global, options: u8, identifier: u32) -> bool {
+    let (client, filter) = (text(rt, alloc, "a"), filter(rt, alloc, "t"));
+    let options = SubscriptionOptions::of_byte(options);
+    Entry::new(client, filter, options, identifier, 0).is_some()
 }
 
 #[test]
-fn an_entry_is_what_a_subscribe_can_ask(rt: HostRuntime) -> Result<(), Fail> {
+fn an_entry_is_what_a_subscribe_can_ask(rt: HostRuntime) {
     // Options, identifier, and whether a SUBSCRIBE can have them.
     let rows = [
         (0x00, 0, true),
@@ -64,36 +90,57 @@ fn an_entry_is_what_a_subscribe_can_ask(rt: HostRuntime) -> Result<(), Fail> {
         (0x80, 0, false),
         (0x01, 268_435_456, false),
     ];
-    for (options, identifier, can_be) in rows.iter() {
-        let client = Text::new(rt.alloc(), "a")?;
-        let text = Text::new(rt.alloc(), "t")?;
-        let filter = Filter::parse(rt.alloc(), text.as_str())?;
-        let options = SubscriptionOptions::of_byte(*options);
-        let entry = Entry::new(client, filter, options, *identifier, 0);
-        assert_eq!(rt; entry.is_some(), *can_be);
+    for (options, identifier, can_be) in rows {
+        assert_eq!(rt;
+            can_be_asked(&rt, rt.alloc(), options, identifier),
+            can_be,
+            "at {options}"
+        );
     }
-    Ok(())
+}
+
+// Whether the dots 2, 3 and 4 are in it.
+fn which(rt: &impl Abort, dots: &Context) -> [bool; 3] {
+    [
+        dots.contains(dot(rt, 1, 2)),
+        dots.contains(dot(rt, 1, 3)),
+        dots.contains(dot(rt, 1, 4)),
+    ]
+}
+
+fn covered(rt: &impl Abort, set: &SubscriptionSet, client: &Text, by: &Filter) -> [bool; 3] {
+    which(rt, &set.dots_of(client, Some(by)).expect(rt, "memory"))
+}
+
+fn older(rt: &impl Abort, set: &SubscriptionSet, client: &Text) -> [bool; 3] {
+    which(rt, &set.dots_below(client, 1).expect(rt, "memory"))
 }
 
 #[test]
-fn a_cover_takes_what_stands(rt: HostRuntime) -> Result<(), Fail> {
-    let set = some_set(rt.alloc())?;
-    let a = Text::new(rt.alloc(), "a")?;
-    let cover = set.dots_of(&a, Some(entry(rt.alloc(), "t", 0)?.filter()))?;
-    assert!(rt; cover.contains(dot(2)?) && cover.contains(dot(3)?) && !cover.contains(dot(4)?));
-    let old = set.dots_below(&a, 1)?;
-    assert!(rt; !old.contains(dot(2)?) && old.contains(dot(3)?) && old.contains(dot(4)?));
-    Ok(())
+fn a_cover_takes_what_stands(rt: HostRuntime) {
+    let set = some_set(&rt, rt.alloc());
+    let by = entry(&rt, rt.alloc(), "t", 0);
+    assert_eq!(rt;
+        covered(&rt, &set, by.client(), by.filter()),
+        [true, true, false]
+    );
+    assert_eq!(rt; older(&rt, &set, by.client()), [false, true, true]);
+    drop((set, by));
+}
+
+// Both sets, by a merge that was made ready.
+fn merged(rt: &impl Abort, set: SubscriptionSet, other: &SubscriptionSet) -> SubscriptionSet {
+    match set.prepare(other) {
+        Ok(ready) => ready.commit(),
+        Err(_) => rt.panic("memory"),
+    }
 }
 
 #[test]
-fn a_merge_is_made_ready(rt: HostRuntime) -> Result<(), Fail> {
-    let other = one(rt.alloc(), 5, "u", 0)?;
-    let Ok(ready) = some_set(rt.alloc())?.prepare(&other) else {
-        return Err("no memory")?;
-    };
-    let both = ready.commit();
+fn a_merge_is_made_ready(rt: HostRuntime) {
+    let other = one(&rt, rt.alloc(), 5, "u", 0);
+    let both = merged(&rt, some_set(&rt, rt.alloc()), &other);
     assert_eq!(rt; both.entries().len(), 4);
     assert!(rt; other.is_below(&both));
-    Ok(())
+    drop((other, both));
 }

@@ -5,3 +5,5 @@
 mod examples;
 #[cfg(test)]
 mod pairs;
+#[cfg(test)]
+mod values;
