@@ -34,7 +34,9 @@ fn timed_crowd(rt: &HostRuntime, clients: u64) -> Result<Server, Failure> {
 
 fn tick(server: &mut Server) -> Result<(), Failure> {
     let outcome = server.step(EventKind::Tick)?;
-    ensure(outcome.outputs.is_empty())
+    let sent = outcome.outputs.len();
+    drop(outcome);
+    ensure(sent == 0)
 }
 
 fn ping(server: &mut Server) -> Result<(), Failure> {
@@ -43,7 +45,9 @@ fn ping(server: &mut Server) -> Result<(), Failure> {
 
 fn publish(server: &mut Server) -> Result<(), Failure> {
     let outcome = server.take(PUBLISHER, &PUBLISH_0)?;
-    ensure(sent(&outcome, SUBSCRIBER).is_some())
+    let is_sent = sent(&outcome, SUBSCRIBER).is_some();
+    drop(outcome);
+    ensure(is_sent)
 }
 
 fn ticks(rt: &HostRuntime, server: &mut Server, clients: u64) -> Result<(), Failure> {

@@ -3,6 +3,7 @@
 use crate::bytes::PUBLISH_1;
 use crate::server::{Server, sent};
 use bench_clock::{Failure, Stopwatch, ensure};
+use broker_node::Outcome;
 use std::alloc::Global;
 
 /// The client that publishes.
@@ -30,14 +31,21 @@ fn puback(copy: &[u8]) -> Result<[u8; 4], Failure> {
     Ok([0x40, 2, copy[5], copy[6]])
 }
 
-// The publisher's PUBLISH is acknowledged, and the copy goes out; answers the PUBACK of the copy.
-fn publish(server: &mut Server) -> Result<[u8; 4], Failure> {
-    let outcome = server.take(PUBLISHER, &PUBLISH_1)?;
+// The PUBACK of the copy that went out with another packet.
+fn puback_of(outcome: &Outcome) -> Result<[u8; 4], Failure> {
     ensure(outcome.outputs.len() == 2)?;
-    match sent(&outcome, SUBSCRIBER) {
+    match sent(outcome, SUBSCRIBER) {
         Some(copy) => puback(copy),
         None => Err(Failure::Answer),
     }
+}
+
+// The publisher's PUBLISH is acknowledged, and the copy goes out; answers the PUBACK of the copy.
+fn publish(server: &mut Server) -> Result<[u8; 4], Failure> {
+    let outcome = server.take(PUBLISHER, &PUBLISH_1)?;
+    let puback = puback_of(&outcome);
+    drop(outcome);
+    puback
 }
 
 fn round(server: &mut Server) -> Result<(), Failure> {

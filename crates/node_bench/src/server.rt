@@ -17,7 +17,7 @@ const HOMES: &str =
 #[derive(Drop)]
 pub struct Server {
     alloc: Global,
-    node: Node,
+    node: Box<Node>,
     at: u64,
 }
 
@@ -39,7 +39,7 @@ fn open(alloc: Global) -> Result<Node, Failure> {
 
 // A node that has not started.
 fn closed(alloc: Global) -> Result<Server, Failure> {
-    let node = open(alloc)?;
+    let node = Box::new(alloc, open(alloc)?)?;
     Ok(Server { alloc, node, at: 0 })
 }
 
@@ -47,14 +47,16 @@ impl Server {
     /// A node that has started, without clients.
     pub fn start(alloc: Global) -> Result<Server, Failure> {
         let mut server = closed(alloc)?;
-        let _outcome = server.step(EventKind::Started)?;
+        drop(server.step(EventKind::Started)?);
         Ok(server)
     }
 
     pub fn step(&mut self, kind: EventKind) -> Result<Outcome, Failure> {
         self.at = self.at.saturating_add(1);
         let event = Event { at: self.at, kind };
-        match self.node.step(&event) {
+        let result = self.node.step(&event);
+        drop(event);
+        match result {
             Ok(outcome) => Ok(outcome),
             Err(_) => Err(Failure::Answer),
         }
@@ -69,12 +71,16 @@ impl Server {
     // A piece comes on a connection, and so many outputs go out.
     pub fn give(&mut self, connection: u64, piece: &[u8], outputs: usize) -> Result<(), Failure> {
         let outcome = self.take(connection, piece)?;
-        ensure(outcome.outputs.len() == outputs)
+        let sent = outcome.outputs.len();
+        drop(outcome);
+        ensure(sent == outputs)
     }
 
     fn open(&mut self, connection: u64) -> Result<(), Failure> {
         let outcome = self.step(EventKind::Opened { connection })?;
-        ensure(outcome.outputs.is_empty())
+        let sent = outcome.outputs.len();
+        drop(outcome);
+        ensure(sent == 0)
     }
 
     /// A client connects on a connection, whose number is in its name.

@@ -20,19 +20,36 @@ const MESSAGE: [u8; 19] = [
     0, 1, 0x74, 0, 0, 0, 2, 0x6f, 0x6e, 0, 0, 1, 0, 1, 0x61, 0, 0, 0, 0,
 ];
 
+fn sound(packet: Packet) -> Result<Packet, Failure>
+    ensures { IfOk result HasSpelling }
+{
+    if packet.is_sound() {
+        return Ok(packet);
+    }
+    drop(packet);
+    Err(Failure::Answer)
+}
+
 fn packet(alloc: Global, bytes: &[u8]) -> Result<Packet, Failure>
     ensures { IfOk result HasSpelling }
 {
     match read_packet(alloc, bytes) {
-        Ok(Some((packet, _))) => {
-            if packet.is_sound() {
-                Ok(packet)
-            } else {
-                Err(Failure::Answer)
-            }
+        Ok(Some((packet, _))) => sound(packet),
+        other => {
+            drop(other);
+            Err(Failure::Answer)
         }
-        _ => Err(Failure::Answer),
     }
+}
+
+fn without_will(connect: Connect) -> Result<Connect, Failure>
+    ensures { IfOk result (λ c. IsPublishableIf c.will) }
+{
+    if connect.will.is_none() {
+        return Ok(connect);
+    }
+    drop(connect);
+    Err(Failure::Answer)
 }
 
 // CONNECT of the client, without a will.
@@ -41,22 +58,22 @@ fn hello(alloc: Global) -> Result<Connect, Failure>
 {
     let bytes = connect(alloc, "client")?;
     match packet(alloc, &bytes)? {
-        Packet::Connect(connect) => {
-            if connect.will.is_none() {
-                Ok(connect)
-            } else {
-                Err(Failure::Answer)
-            }
+        Packet::Connect(connect) => without_will(connect),
+        other => {
+            drop(other);
+            Err(Failure::Answer)
         }
-        _ => Err(Failure::Answer),
     }
 }
 
-fn answered(call: Result<Reaction, SessionFault>) -> Result<Reaction, Failure> {
-    match call {
-        Ok(reaction) => Ok(reaction),
-        Err(_) => Err(Failure::Answer),
-    }
+// A reaction with so many packets.
+fn reacts(call: Result<Reaction, SessionFault>, packets: usize) -> Result<(), Failure> {
+    let has_reacted = match &call {
+        Ok(reaction) => reaction.packets.len() == packets,
+        Err(_) => false,
+    };
+    drop(call);
+    ensure(has_reacted)
 }
 
 fn client(alloc: Global) -> Result<Text, Failure> {
@@ -66,22 +83,11 @@ fn client(alloc: Global) -> Result<Text, Failure> {
     }
 }
 
-// A new session that is connected.
-fn connected(alloc: Global) -> Result<Session, Failure> {
-    let connect = hello(alloc)?;
-    let mut session = Session::new(alloc, client(alloc)?);
-    let result = session.connect(&connect, false, 0);
-    let reaction = answered(result)?;
-    ensure(reaction.packets.len() == 1)?;
-    Ok(session)
-}
-
 fn take(session: &mut Session, packet: &Packet, packets: usize) -> Result<(), Failure>
     requires { HasSpelling packet.now }
 {
     let result = session.packet(packet, 0, true);
-    let reaction = answered(result)?;
-    ensure(reaction.packets.len() == packets)
+    reacts(result, packets)
 }
 
 fn take_all(session: &mut Session, publish: &Packet) -> Result<(), Failure>
@@ -93,11 +99,19 @@ fn take_all(session: &mut Session, publish: &Packet) -> Result<(), Failure>
     Ok(())
 }
 
+fn timed(rt: &HostRuntime, session: &mut Session, publish: &Packet) -> Result<(), Failure>
+    requires { HasSpelling publish.now }
+{
+    let watch = Stopwatch::start(rt)?;
+    take_all(session, publish)?;
+    Ok(watch.print(rt, "session, PUBLISH in to PUBACK", MESSAGES)?)
+}
+
 fn takes(rt: &HostRuntime, session: &mut Session) -> Result<(), Failure> {
     let publish = packet(rt.alloc(), &PUBLISH_1)?;
-    let watch = Stopwatch::start(rt)?;
-    take_all(session, &publish)?;
-    Ok(watch.print(rt, "session, PUBLISH in to PUBACK", MESSAGES)?)
+    let taken = timed(rt, session, &publish);
+    drop(publish);
+    taken
 }
 
 fn shared(alloc: Global) -> Result<SharedMessage, Failure> {
@@ -117,7 +131,10 @@ fn delivery(alloc: Global, message: &SharedMessage) -> Result<Delivery, Failure>
 }
 
 // The identifier of the one copy that goes out.
-fn identifier(reaction: &Reaction) -> Result<u16, Failure> {
+fn identifier(call: &Result<Reaction, SessionFault>) -> Result<u16, Failure> {
+    let Ok(reaction) = call else {
+        return Err(Failure::Answer);
+    };
     match reaction.packets.as_slice() {
         [Output::Publish(copy)] => Ok(copy.id),
         _ => Err(Failure::Answer),
@@ -128,8 +145,9 @@ fn identifier(reaction: &Reaction) -> Result<u16, Failure> {
 fn send(alloc: Global, session: &mut Session, message: &SharedMessage) -> Result<u16, Failure> {
     let copy = delivery(alloc, message)?;
     let result = session.queue(copy, 0);
-    let reaction = answered(result)?;
-    identifier(&reaction)
+    let sent = identifier(&result);
+    drop(result);
+    sent
 }
 
 fn puback(alloc: Global, identifier: u16) -> Packet {
@@ -141,11 +159,10 @@ fn puback(alloc: Global, identifier: u16) -> Packet {
 }
 
 fn acknowledge(alloc: Global, session: &mut Session, identifier: u16) -> Result<(), Failure> {
-    let packet = puback(alloc, identifier);
-    if !packet.is_sound() {
-        return Err(Failure::Answer);
-    }
-    take(session, &packet, 0)
+    let packet = sound(puback(alloc, identifier))?;
+    let taken = take(session, &packet, 0);
+    drop(packet);
+    taken
 }
 
 fn round(alloc: Global, session: &mut Session, message: &SharedMessage) -> Result<(), Failure> {
@@ -162,9 +179,29 @@ fn sends(rt: &HostRuntime, session: &mut Session) -> Result<(), Failure> {
     Ok(watch.print(rt, "session, copy out to PUBACK", MESSAGES)?)
 }
 
+fn figures(rt: &HostRuntime, session: &mut Session) -> Result<(), Failure> {
+    takes(rt, session)?;
+    sends(rt, session)
+}
+
+// A new session that is connected.
+fn connected(alloc: Global) -> Result<Session, Failure> {
+    let client = client(alloc)?;
+    let connect = hello(alloc)?;
+    let mut session = Session::new(alloc, client);
+    let result = session.connect(&connect, false, 0);
+    drop(connect);
+    if let Err(failure) = reacts(result, 1) {
+        drop(session);
+        return Err(failure);
+    }
+    Ok(session)
+}
+
 /// The figures of a session.
 pub fn run(rt: &HostRuntime) -> Result<(), Failure> {
     let mut session = connected(rt.alloc())?;
-    takes(rt, &mut session)?;
-    sends(rt, &mut session)
+    let told = figures(rt, &mut session);
+    drop(session);
+    told
 }

@@ -3,13 +3,13 @@
 use broker_sockets::{Answer, Event, EventKind, Handler, Hub, RealClock, RealSockets, Sockets};
 use broker_stop::RunFault;
 use home_table::HomeTable;
-use mio::net::TcpStream;
+use mio::net::{TcpListener, TcpStream};
 use node_keeper::{Keeper, KeeperFault};
 use node_server::{ServedNode, serve};
 use row_store::MemoryRows;
 use std::alloc::Global;
 use std::net::SocketAddr;
-use std::test::Fail;
+use std::process::Abort;
 
 /// Two nodes; client `a` has its home at the second one.
 const HOMES: &str =
@@ -26,35 +26,35 @@ const PACKETS: [&[u8]; 3] = [
 const ANSWERS: &[u8] =
     b"\x20\x0b\x00\x00\x08\x21\x00\x64\x27\x00\x10\x00\x00\x90\x04\x00\x01\x00\x00\x31\x06\x00\x01t\x00on";
 
-/// The second node, which has no rows yet and has started.
-fn started_node(alloc: Global) -> Result<ServedNode<MemoryRows>, Fail> {
-    let homes = HomeTable::parse(alloc, HOMES)?;
+/// The second node of the table, if there are two.
+fn keeper(alloc: Global, homes: HomeTable) -> Option<Keeper<MemoryRows>> {
     if homes.nodes() < 2 {
-        return Err("one node".into());
+        drop(homes);
+        return None;
     }
-    let Ok(keeper) = Keeper::open(alloc, MemoryRows::new(alloc), homes, 1) else {
-        return Err("not opened".into());
-    };
-    let mut node = ServedNode::new(alloc, keeper);
-    tell(&mut node, 0, EventKind::Started)?;
-    Ok(node)
+    Keeper::open(alloc, MemoryRows::new(alloc), homes, 1).ok()
 }
 
-/// Tells a node of an event to which it gives out nothing.
-fn tell(node: &mut ServedNode<MemoryRows>, at: u64, kind: EventKind) -> Result<(), Fail> {
-    match node.handle(Event { at, kind }) {
-        Ok(outputs) if outputs.is_empty() => Ok(()),
-        _ => Err("outputs or a fault".into()),
-    }
+/// The second node, which has no rows yet and has started.
+fn started_node(rt: &impl Abort, alloc: Global) -> ServedNode<MemoryRows> {
+    let homes = HomeTable::parse(alloc, HOMES).expect(rt, "a table");
+    let keeper = keeper(alloc, homes).expect(rt, "a node");
+    let mut node = ServedNode::new(alloc, keeper);
+    let at = 0;
+    let kind = EventKind::Started;
+    let outputs = node.handle(Event { at, kind }).expect(rt, "a start");
+    assert!(rt; outputs.is_empty());
+    node
 }
 
 /// One step of a client, which sends its next packet if there is one, and keeps what comes.
 fn step(
+    rt: &impl Abort,
     sockets: &mut impl Sockets<Stream = TcpStream>,
     stream: &mut TcpStream,
     sent: &mut usize,
     got: &mut Vec<u8>,
-) -> Result<(), Fail> {
+) {
     if let Some(packet) = PACKETS.get(*sent) {
         if sockets.write(stream, packet) == Answer::Bytes(packet.len()) {
             *sent = sent.saturating_add(1);
@@ -62,83 +62,103 @@ fn step(
     }
     let mut buffer = [0u8; 64];
     if let Answer::Bytes(count) = sockets.read(stream, &mut buffer) {
-        got.extend_from_slice(&buffer[..count])?;
+        got.extend_from_slice(&buffer[..count]).expect(rt, "memory");
     }
-    Ok(())
 }
 
-#[test]
-fn a_client_is_answered(rt: HostRuntime) -> Result<(), Fail> {
-    let alloc = rt.alloc();
-    let mut node = started_node(alloc)?;
-    let mut sockets = RealSockets::new(&rt);
-    let free: SocketAddr = "127.0.0.1:0".parse()?;
-    let listener = sockets.listen(free)?;
-    let address = listener.local_addr()?;
-    let mut hub = Hub::new(alloc, listener)?;
-    let mut client = sockets.connect(address)?;
+/// Turns and steps in turn, until the client has what it must get, or too many have been made.
+fn run(
+    rt: &impl Abort,
+    hub: &mut Hub<TcpListener, TcpStream>,
+    sockets: &mut impl Sockets<Listener = TcpListener, Stream = TcpStream>,
+    node: &mut ServedNode<MemoryRows>,
+    client: &mut TcpStream,
+    got: &mut Vec<u8>,
+) {
     let mut sent = 0;
-    let mut got = Vec::new(alloc);
     for at in 0..100000 {
-        assert!(rt; hub.turn(&mut sockets, &mut node, at).is_ok());
-        step(&mut sockets, &mut client, &mut sent, &mut got)?;
+        hub.turn(sockets, node, at).ok().expect(rt, "a turn");
+        step(rt, sockets, client, &mut sent, got);
         if got.len() >= ANSWERS.len() {
-            break;
+            return;
         }
     }
-    assert_eq!(rt; got.as_slice(), ANSWERS);
-    assert_eq!(rt; hub.clients(), 1);
-    Ok(())
 }
 
 #[test]
-fn a_node_stops(rt: HostRuntime) -> Result<(), Fail> {
-    let mut node = started_node(rt.alloc())?;
-    for (at, fault) in [
-        (1 << 62, KeeperFault::NumbersAtEnd),
-        (0, KeeperFault::Stopped),
-    ] {
-        let kind = EventKind::Tick;
-        assert_eq!(rt; node.handle(Event { at, kind }).err(), Some(fault));
-    }
-    Ok(())
+fn a_client_is_answered(rt: HostRuntime) {
+    let alloc = rt.alloc();
+    let mut sockets = RealSockets::new(&rt);
+    let free: SocketAddr = "127.0.0.1:0".parse().expect(&rt, "an address");
+    let listener = sockets.listen(free).expect(&rt, "a listener");
+    let address = listener.local_addr().expect(&rt, "its address");
+    let mut client = sockets.connect(address).expect(&rt, "a client");
+    let mut hub = Hub::new(alloc, listener).expect(&rt, "a hub");
+    let mut node = started_node(&rt, alloc);
+    let mut got = Vec::new(alloc);
+    run(
+        &rt,
+        &mut hub,
+        &mut sockets,
+        &mut node,
+        &mut client,
+        &mut got,
+    );
+    assert!(rt; got.as_slice() == ANSWERS);
+    assert!(rt; hub.clients() == 1);
+    drop(node);
 }
 
-/// Runs a new node with these addresses for two turns.
-fn serve_two(
-    rt: &HostRuntime,
-    addresses: (&str, &str),
-    out: &mut Vec<u8>,
-) -> Result<Option<RunFault>, Fail> {
-    let alloc = rt.alloc();
-    let (address, bridge) = addresses;
+/// The fault of a tick.
+fn fault_of(node: &mut ServedNode<MemoryRows>, at: u64) -> Option<KeeperFault> {
+    let kind = EventKind::Tick;
+    node.handle(Event { at, kind }).err()
+}
+
+#[test]
+fn a_node_stops(rt: HostRuntime) {
+    let mut node = started_node(&rt, rt.alloc());
+    assert!(rt; fault_of(&mut node, 1 << 62) == Some(KeeperFault::NumbersAtEnd));
+    assert!(rt; fault_of(&mut node, 0) == Some(KeeperFault::Stopped));
+    drop(node);
+}
+
+/// A table of one node with these addresses.
+fn table(rt: &impl Abort, alloc: Global, address: &str, bridge: &str) -> HomeTable {
     let text = format!(in alloc;
         "[[node]]\nname = \"n0\"\naddress = \"{address}\"\nbridge = \"{bridge}\"\n"
-    )?;
-    let homes = HomeTable::parse(alloc, text.as_str())?;
+    ).expect(rt, "memory");
+    HomeTable::parse(alloc, text.as_str()).expect(rt, "a table")
+}
+
+/// Runs a new node of the table for two turns, and answers what ends the run early, if anything does.
+fn serve_two(rt: &HostRuntime, homes: HomeTable, out: &mut Vec<u8>) -> Option<RunFault> {
     if homes.nodes() == 0 {
-        return Err("no nodes".into());
+        drop(homes);
+        return None;
     }
+    let alloc = rt.alloc();
     let mut sockets = RealSockets::new(rt);
     let mut clock = RealClock::new(rt);
     let rows = MemoryRows::new(alloc);
-    Ok(serve(alloc, &mut sockets, &mut clock, rows, (homes, 0), 2, out).err())
+    serve(alloc, &mut sockets, &mut clock, rows, (homes, 0), 2, out).err()
 }
 
 #[test]
-fn a_run_tells_its_turns(rt: HostRuntime) -> Result<(), Fail> {
-    for (addresses, fault, lines) in [
+fn a_run_tells_its_turns(rt: HostRuntime) {
+    for (address, bridge, fault, lines) in [
         (
-            ("127.0.0.1:0", "127.0.0.1:0"),
+            "127.0.0.1:0",
+            "127.0.0.1:0",
             None,
             "ready 127.0.0.1:0 127.0.0.1:0\nturns 2\n",
         ),
-        (("localhost", "127.0.0.1:0"), Some(RunFault::Socket), ""),
-        (("127.0.0.1:0", "127.0.0.1"), Some(RunFault::Socket), ""),
+        ("localhost", "127.0.0.1:0", Some(RunFault::Socket), ""),
+        ("127.0.0.1:0", "127.0.0.1", Some(RunFault::Socket), ""),
     ] {
         let mut out = Vec::new(rt.alloc());
-        assert_eq!(rt; serve_two(&rt, addresses, &mut out)?, fault);
-        assert_eq!(rt; out.as_slice(), lines.as_bytes());
+        let homes = table(&rt, rt.alloc(), address, bridge);
+        assert!(rt; serve_two(&rt, homes, &mut out) == fault);
+        assert!(rt; out.as_slice() == lines.as_bytes());
     }
-    Ok(())
 }
