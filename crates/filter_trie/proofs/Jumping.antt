@@ -44,7 +44,7 @@ module _ {X : Type 0} where
   abbrev pub After : List ℕ → List (List ℕ × X) → Type 0
   After k es = AllByRecursion (λ y. IsBefore k y) (keys_of es)
 
-  Rises : List (List ℕ × X) → Type 0
+  unfoldable pub Rises : List (List ℕ × X) → Type 0
   Rises [] = Unit {0}
   Rises (e ∷ es) = After e.0 es × Rises es
 
@@ -52,7 +52,7 @@ module _ {X : Type 0} where
   after_each k [] h = tt
   after_each k (e ∷ es) h = ((order_is k e.0).0 h.0, after_each k es h.1)
 
-  rises : (es : List (List ℕ × X)) → IsStrictlySortedBy text_cmp (keys_of es) → Rises es
+  pub rises : (es : List (List ℕ × X)) → IsStrictlySortedBy text_cmp (keys_of es) → Rises es
   unfolding Rises IsStrictlySortedBy
   rises [] h = tt
   rises (e ∷ es) h = (after_each e.0 es h.0, rises es h.1)

@@ -9,3 +9,6 @@ pub mod TopicWalk
 pub mod ShareLaws
 pub mod OnwardLaws
 pub mod Jumping
+pub mod CountLaws
+pub mod BranchLaws
+pub mod Narrowing

@@ -57,7 +57,7 @@ shared_next group part name bound fine next =
     subst C (sym (front bound)) (subst K (sym (front part)) (past, from))
 
 -- a filter that matches is plain and has levels that match, or is shared
-plain_or_shared : (f name : List ℕ) → Matches f name → Matching (levels name) f ⊎ ((t : List ℕ) × (f ≡ codes "$share/" ++ t))
+pub plain_or_shared : (f name : List ℕ) → Matches f name → Matching (levels name) f ⊎ ((t : List ℕ) × (f ≡ codes "$share/" ++ t))
 plain_or_shared f name m = elim (begins (codes "$share/") f) [
   | inl s ↦ inr s
   | inr none ↦ inl (let M : List ℕ → Type 0 = λ x. PlainMatches x name in (subst M (plain_part f none) m).0)

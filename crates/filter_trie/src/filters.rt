@@ -1,11 +1,22 @@
 //! Maps by topic filter.
 
-ghost use Rattle.std.specs.Prelude.{◌≡◌, [], map as map_list, None, IfOk, OnOk, IfErr, OnErr, IsOk};
+ghost use Rattle.std.specs.Prelude.{◌≡◌, ℕ, List, [], map as map_list, codes, None, IfSome, IfOk, OnOk, IfErr, OnErr, IsOk};
 ghost use Rattle.std.specs.Option.{option_copied};
 ghost use Rattle.std.specs.FinMap as map;
+ghost use Rattle.std.specs.BTreeMap.{IsOrdered};
+ghost use Rattle.std.specs.Ordering.{nat_cmp};
+ghost use Rattle.std.specs.Cmp.Lexicographic.{slice_cmp};
+ghost use Rattle.std.specs.Map.{keys_of};
+ghost use Rattle.mqtt_topics.specs.Levels.{levels};
+ghost use Rattle.mqtt_topics.specs.Matching.{LevelsMatch, Matches};
+ghost use Rattle.filter_trie.specs.Selected.{IsSelected};
 ghost use Rattle.filter_trie.specs.Tries.{AreFiltersFor};
+ghost use Rattle.filter_trie.specs.Filing.{IsFiled, AreFiled};
+ghost use Rattle.filter_trie.specs.Branching.{Holds, AfterShare};
 
-use crate::seeks::{Onward, past_filter};
+use crate::beginnings::Beginnings;
+use crate::ends::{Ends, ends_for, onward};
+use crate::seeks::Onward;
 use mqtt_fields::NoMemory;
 use mqtt_topics::{Filter, TopicName};
 use std::alloc::Global;
@@ -17,19 +28,24 @@ use std::marker::Model;
 pub struct FilterTrie<V> {
     alloc: Global,
     pairs: BTreeMap<Filter, V>,
+    beginnings: Beginnings,
 }
 
 impl<V> Model for FilterTrie<V> {
     ghost use Rattle.std.specs.Prelude.{ℕ};
     ghost use Rattle.std.specs.Coded.{coded_ℕ, coded_list};
     ghost use Rattle.std.specs.FinMap as map;
+    ghost use Rattle.std.specs.Map.{keys_of};
     ghost use Rattle.filter_trie.specs.Tries.{ByText};
+    ghost use Rattle.filter_trie.specs.Filing.{AreFiled};
 
     ghost Value = { ByText V };
 
     ghost coded = { map.code (coded_list coded_ℕ) V.code };
 
     ghost view = { λ t. map.from_entries t.pairs.entries };
+
+    ghost invariant = { λ t. AreFiled t.beginnings (keys_of t.pairs.entries) };
 }
 
 impl<V> FilterTrie<V> {
@@ -40,6 +56,7 @@ impl<V> FilterTrie<V> {
         FilterTrie {
             alloc,
             pairs: BTreeMap::new(alloc),
+            beginnings: Beginnings::new(alloc),
         }
     }
 
@@ -59,10 +76,15 @@ impl<V> FilterTrie<V> {
         ensures err { OnErr result (self.new ≡ self.old) }
         ensures absent { OnErr result (map.get self.old filter ≡ None) }
     {
+        let is_there = self.pairs.contains_key(&filter);
+        if let Err(_) = self.beginnings.file(filter.as_str(), is_there) {
+            return Err(value);
+        }
         match self.pairs.insert(filter, value) {
             Ok(before) => return Ok(before),
             Err(refused) => {
-                let (_, value) = refused.value;
+                let (filter, value) = refused.value;
+                self.beginnings.unfile(filter.as_str());
                 return Err(value);
             }
         }
@@ -73,7 +95,13 @@ impl<V> FilterTrie<V> {
         ensures before { result ≡ map.get self.old filter.now }
         ensures left { self.new ≡ map.remove self.old filter.now }
     {
-        self.pairs.remove(filter)
+        match self.pairs.remove(filter) {
+            Some(value) => {
+                self.beginnings.unfile(filter.as_str());
+                Some(value)
+            }
+            None => None,
+        }
     }
 
     /// The pairs whose filter matches the name, in the order of the filters' bytes. It takes memory only where one does.
@@ -82,19 +110,41 @@ impl<V> FilterTrie<V> {
             AreFiltersFor self.now name.now (map_list (λ r. (r.0.now, r.1.now)) out.items)) }
         ensures none { AreFiltersFor self.now name.now [] → IsOk result }
     {
-        let mut out = Vec::new(self.alloc);
-        let mut left = self.pairs.range(..);
-        while let Some((filter, value)) = left.next() {
-            if filter.matches(name) {
-                out.push((filter, value))?;
-                continue;
-            }
-            match past_filter(self.alloc, filter, name) {
-                Onward::Next => {}
-                Onward::From(bound) => left = self.pairs.range(bound..),
-                Onward::End => return Ok(out),
-            }
-        }
-        Ok(out)
+        let ends = ends_for(&self.beginnings, self.alloc, name.as_str()).ok();
+        filters_matching(self.alloc, &self.pairs, &self.beginnings, &ends, name)
     }
+}
+
+/// The pairs whose filter matches the name, in the order of the filters' bytes. It takes memory only where one does.
+fn filters_matching<'a, V>(
+    alloc: Global,
+    pairs: &'a BTreeMap<Filter, V>,
+    beginnings: &Beginnings,
+    ends: &Option<Ends>,
+    name: &TopicName,
+) -> Result<Vec<(&'a Filter, &'a V)>, NoMemory>
+    requires filed { AreFiled beginnings.now (keys_of pairs.now.entries) }
+    requires levels { IfSome ends.now (λ ends. (f : List ℕ) → IsFiled beginnings.now f → LevelsMatch (levels f) (levels name.now)
+        → Holds ends.entries f) }
+    requires share { IfSome ends.now (λ ends. (f : List ℕ) → IsFiled beginnings.now f → AfterShare f
+        → Holds ends.entries (codes "$share")) }
+    ensures pairs { IfOk result (λ out. IsSelected (λ e. Matches e.0 name.now) pairs.now.entries
+        (map_list (λ r. (r.0.now, r.1.now)) out.items)) }
+    ensures none { IsSelected (λ e. Matches e.0 name.now) pairs.now.entries [] → IsOk result }
+    ensures ordered { IsOrdered (slice_cmp nat_cmp) pairs.now }
+{
+    let mut out = Vec::new(alloc);
+    let mut left = pairs.range(..);
+    while let Some((filter, value)) = left.next() {
+        if filter.matches(name) {
+            out.push((filter, value))?;
+            continue;
+        }
+        match onward(beginnings, alloc, ends, filter, name) {
+            Onward::Next => {}
+            Onward::From(bound) => left = pairs.range(bound..),
+            Onward::End => return Ok(out),
+        }
+    }
+    Ok(out)
 }

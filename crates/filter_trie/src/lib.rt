@@ -1,6 +1,8 @@
 //! Maps by topic filter and by topic name, which answer what matches (MQTT 5.0, 4.7).
 #![tactic(auto)]
 
+mod beginnings;
+mod ends;
 mod filters;
 mod seeks;
 mod steps;

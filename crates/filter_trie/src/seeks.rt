@@ -205,7 +205,7 @@ fn topic_onward(alloc: Global, filter: &str, key: &str) -> Onward<String>
     }
 }
 
-fn filter_at(alloc: Global, text: &str) -> Option<Filter>
+pub(crate) fn filter_at(alloc: Global, text: &str) -> Option<Filter>
     ensures { IfSome result (λ f. f ≡ text.now) }
 {
     let Ok(text) = Text::new(alloc, text) else {

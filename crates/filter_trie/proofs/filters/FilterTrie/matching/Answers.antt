@@ -1,74 +1,20 @@
-use Rattle.std.proofs.Common.{List, ℕ, map as map_list, IsTrue, false, refl, sym, ap, subst, ◌∙◌}
+use Rattle.std.proofs.Common.{List, ℕ, [], map as map_list, IfOk, sym, ap, subst, ◌∙◌}
 use Rattle.std.specs.FinMap as map
-use Rattle.std.specs.List.Sorted.{IsStrictlySortedBy}
-use Rattle.std.specs.Map.{keys_of}
 use Rattle.mqtt_topics.specs.Matching.{Matches}
-use Rattle.filter_trie.proofs.Tables.{text_cmp, entries_table}
-use Rattle.filter_trie.proofs.Jumping.{from_bound, all_between, walked_none, walked_with, walked_without, walked_to, walked_over, walked_all, walked_silent, shorter_to}
+use Rattle.filter_trie.specs.Selected.{IsSelected}
+use Rattle.filter_trie.proofs.Tables.{entries_table}
 use Rattle.filter_trie.proofs.filters.FilterTrie.matching.Goals as goal
 
-pub loop-filter-init : goal.loop-filter-init
-loop-filter-init g c =
-    let es = c.self.inside.pairs.entries in
-    let whole = ap map.entries (sym c.self.view_is) ∙ entries_table es c.range-left.ensures.ordered in
-    record {
-      can = tt;
-      ends = tt;
-      walk = walked_none (λ f. Matches f c.args.name.now) (map.entries c.args.self.now) _ _ (c.range-left.ensures.between tt ∙ all_between es ∙ sym whole) (ap (map_list _) c.new-out.ensures.items);
-    }
-
-pub loop-filter-preserved-then-matches : goal.loop-filter-preserved-then-matches
-loop-filter-preserved-then-matches g c = record {
-  can = tt;
-  ends = tt;
-  walk = walked_with (λ f. Matches f c.args.name.now) (map.entries c.args.self.now) _ _ _ _ c.in-Some.ensures.steps c.loop-filter.invariant.walk
-      _ (c.in-Some.filter, c.in-Some.value) _ _ refl refl c.in_ok-push.ensures.items (c.if-matches.ensures.0 refl);
-}
-
-pub returns-in_err-push-clause-none : goal.returns-in_err-push-clause-none
-returns-in_err-push-clause-none g c = λ none.
-    absurd (walked_silent (λ f. Matches f c.args.name.now) (map.entries c.args.self.now) _ _ _ _ c.in-Some.ensures.steps c.loop-filter.invariant.walk none (c.if-matches.ensures.0 refl))
-
-pub loop-filter-preserved-in-Next : goal.loop-filter-preserved-in-Next
-loop-filter-preserved-in-Next g c = record {
-  can = tt;
-  ends = tt;
-  walk = walked_without (λ f. Matches f c.args.name.now) (map.entries c.args.self.now) _ _ _ _ c.in-Some.ensures.steps c.loop-filter.invariant.walk
-      (λ m. let h : IsTrue false = c.if-matches.ensures.1 m in cc);
-}
-
-pub loop-filter-smaller : goal.loop-filter-smaller
-loop-filter-smaller g c =
-    let es = c.self.inside.pairs.entries in
-    let whole = ap map.entries (sym c.self.view_is) ∙ entries_table es c.range-left.ensures.ordered in
-    let S = λ (l : List (List ℕ × g.row.V.Denot)). IsStrictlySortedBy text_cmp (keys_of l) in
-    let sorted = subst S (sym whole) c.range-left.ensures.ordered in
-    shorter_to (λ f. Matches f c.args.name.now) (map.entries c.args.self.now) _ _ _ _ c.in-Some.ensures.steps c.loop-filter.invariant.walk sorted
-    (λ m. let h : IsTrue false = c.if-matches.ensures.1 m in cc)
-    c.in-From.bound _ (c.range-left-in-From.ensures.between tt ∙ ap (from_bound c.in-From.bound) (sym whole)) c.in-From.ensures
-
-pub loop-filter-preserved : goal.loop-filter-preserved
-loop-filter-preserved g c =
-    let es = c.self.inside.pairs.entries in
-    let whole = ap map.entries (sym c.self.view_is) ∙ entries_table es c.range-left.ensures.ordered in
-    let S = λ (l : List (List ℕ × g.row.V.Denot)). IsStrictlySortedBy text_cmp (keys_of l) in
-    let sorted = subst S (sym whole) c.range-left.ensures.ordered in
-    record {
-      can = tt;
-      ends = tt;
-      walk = walked_to (λ f. Matches f c.args.name.now) (map.entries c.args.self.now) _ _ _ _ c.in-Some.ensures.steps c.loop-filter.invariant.walk sorted
-          (λ m. let h : IsTrue false = c.if-matches.ensures.1 m in cc)
-          c.in-From.bound _ (c.range-left-in-From.ensures.between tt ∙ ap (from_bound c.in-From.bound) (sym whole)) c.in-From.ensures;
-    }
-
-pub returns-in-End-clause-pairs : goal.returns-in-End-clause-pairs
-returns-in-End-clause-pairs g c =
-    let es = c.self.inside.pairs.entries in
-    let whole = ap map.entries (sym c.self.view_is) ∙ entries_table es c.range-left.ensures.ordered in
-    let S = λ (l : List (List ℕ × g.row.V.Denot)). IsStrictlySortedBy text_cmp (keys_of l) in
-    let sorted = subst S (sym whole) c.range-left.ensures.ordered in
-    walked_over (λ f. Matches f c.args.name.now) (map.entries c.args.self.now) _ _ _ _ c.in-Some.ensures.steps c.loop-filter.invariant.walk sorted
-    (λ m. let h : IsTrue false = c.if-matches.ensures.1 m in cc) c.in-End.ensures
-
 pub returns-clause-pairs : goal.returns-clause-pairs
-returns-clause-pairs g c = walked_all (λ f. Matches f c.args.name.now) (map.entries c.args.self.now) _ _ c.in_default.ensures.steps.0 c.loop-filter.invariant.walk
+returns-clause-pairs g c =
+    let es = c.self.inside.pairs.entries in
+    let whole = ap map.entries (sym c.self.view_is) ∙ entries_table es c.filters_matching.ensures.ordered in
+    let P = λ (l : List (List ℕ × g.row.V.Denot)). IfOk c.filters_matching.result (λ out. IsSelected (λ e. Matches e.0 c.args.name.now) l (map_list (λ r. (r.0.now, r.1.now)) out.items)) in
+    subst P (sym whole) c.filters_matching.ensures.pairs
+
+pub returns-clause-none : goal.returns-clause-none
+returns-clause-none g c = λ none.
+    let es = c.self.inside.pairs.entries in
+    let whole = ap map.entries (sym c.self.view_is) ∙ entries_table es c.filters_matching.ensures.ordered in
+    let P = λ (l : List (List ℕ × g.row.V.Denot)). IsSelected (λ e. Matches e.0 c.args.name.now) l [] in
+    c.filters_matching.ensures.none (subst P whole none)
