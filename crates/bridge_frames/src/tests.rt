@@ -1,6 +1,8 @@
 //! Worked examples of docs/bridge.md.
 
-use crate::{BridgeFrame, FrameBody, LinkFault, frame_length};
+use crate::{BridgeFrame, Forward, FrameBody, LinkFault, frame_length};
+use std::alloc::Global;
+use std::process::Abort;
 use std::test::Fail;
 
 /// Hello from node 0 to node 1.
@@ -21,53 +23,80 @@ fn lengths(rt: HostRuntime) {
     assert_eq!(rt; frame_length(&[0, 0, 0]), Ok(None));
 }
 
+fn written(rt: &impl Abort, alloc: Global, frame: &BridgeFrame) -> Vec<u8> {
+    let mut out = Vec::new(alloc);
+    frame.write(alloc, &mut out).expect(rt, "a spelling");
+    out
+}
+
+fn read(rt: &impl Abort, alloc: Global, bytes: &[u8]) -> BridgeFrame {
+    BridgeFrame::read(alloc, bytes).expect(rt, "a frame")
+}
+
+fn is_bad(alloc: Global, bytes: &[u8]) -> bool {
+    let read = BridgeFrame::read(alloc, bytes);
+    let is_bad = matches!(read, Err(LinkFault::BadFrame));
+    drop(read);
+    is_bad
+}
+
+fn is_hello(frame: &BridgeFrame) -> bool {
+    frame.from == 0 && frame.to == 1 && matches!(frame.body, FrameBody::Hello)
+}
+
 #[test]
-fn hello_both_ways(rt: HostRuntime) -> Result<(), Fail> {
+fn hello_both_ways(rt: HostRuntime) {
     let alloc = rt.alloc();
     let hello = BridgeFrame {
         from: 0,
         to: 1,
         body: FrameBody::Hello,
     };
-    let mut out = Vec::new(alloc);
-    hello.write(alloc, &mut out)?;
-    assert!(rt; out.as_slice() == HELLO.as_slice());
-    let read = BridgeFrame::read(alloc, &HELLO)?;
-    assert!(rt; read.from == 0 && read.to == 1 && matches!(read.body, FrameBody::Hello));
-    let short = BridgeFrame::read(alloc, &HELLO[..8]);
-    assert!(rt; matches!(short, Err(LinkFault::BadFrame)));
-    Ok(())
+    assert!(rt; written(&rt, alloc, &hello).as_slice() == HELLO.as_slice());
+    let read = read(&rt, alloc, &HELLO);
+    assert!(rt; is_hello(&read));
+    assert!(rt; is_bad(alloc, &HELLO[..8]));
+    drop((hello, read));
+}
+
+/// The number and the message of a Forward.
+fn forward_in(frame: &BridgeFrame) -> Option<(u64, &Forward)> {
+    match &frame.body {
+        FrameBody::Forward(number, forward) => Some((*number, forward)),
+        _ => None,
+    }
+}
+
+fn is_the_forward(forward: &Forward) -> bool {
+    let [pick] = forward.picks.as_slice() else {
+        return false;
+    };
+    forward.plain
+        && forward.message.message().topic.as_str() == "t"
+        && pick.client.as_str() == "a"
+        && pick.filter.as_str() == "$share/g/t"
 }
 
 #[test]
-fn forward_both_ways(rt: HostRuntime) -> Result<(), Fail> {
+fn forward_both_ways(rt: HostRuntime) {
     let alloc = rt.alloc();
-    let frame = BridgeFrame::read(alloc, &FORWARD)?;
-    let mut out = Vec::new(alloc);
-    frame.write(alloc, &mut out)?;
-    assert!(rt; out.as_slice() == FORWARD.as_slice());
-    match &frame.body {
-        FrameBody::Forward(number, forward) => {
-            let copy = forward.copy(alloc)?;
-            assert!(rt; *number == 1 && copy.plain && copy.message.message().topic.as_str() == "t");
-            let picks = copy.picks.as_slice();
-            assert!(rt; picks.len() == 1 && picks[0].client.as_str() == "a");
-            assert!(rt; picks[0].filter.as_str() == "$share/g/t");
-        }
-        _ => assert!(rt; false),
-    }
-    Ok(())
+    let frame = read(&rt, alloc, &FORWARD);
+    assert!(rt; written(&rt, alloc, &frame).as_slice() == FORWARD.as_slice());
+    let (number, forward) = forward_in(&frame).expect(&rt, "a message");
+    let copy = forward.copy(alloc).expect(&rt, "memory");
+    assert!(rt; number == 1 && is_the_forward(&copy));
+    drop(copy);
+    drop(frame);
 }
 
 #[test]
 fn numbers_are_from_one_below_the_end(rt: HostRuntime) {
-    let alloc = rt.alloc();
     let mut none = FORWARD;
     none[16] = 0;
-    assert!(rt; matches!(BridgeFrame::read(alloc, &none), Err(LinkFault::BadFrame)));
+    assert!(rt; is_bad(rt.alloc(), &none));
     let mut end = FORWARD;
     end[9] = 64;
-    assert!(rt; matches!(BridgeFrame::read(alloc, &end), Err(LinkFault::BadFrame)));
+    assert!(rt; is_bad(rt.alloc(), &end));
 }
 
 #[test]
