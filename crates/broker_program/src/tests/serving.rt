@@ -1,13 +1,14 @@
 //! A node with its rows in memory, and a client of it over the sockets of the system.
 
 use broker_sockets::{Answer, Event, EventKind, Handler, Hub, RealClock, RealSockets, Sockets};
-use broker_stop::RunFault;
-use home_table::HomeTable;
+use broker_stop::{RunFault, Stop};
+use home_table::{HomeTable, TableFault};
 use mio::net::{TcpListener, TcpStream};
 use node_keeper::{Keeper, KeeperFault};
 use node_server::{ServedNode, serve};
 use row_store::MemoryRows;
 use std::alloc::Global;
+use std::fs;
 use std::net::SocketAddr;
 use std::process::Abort;
 
@@ -161,4 +162,24 @@ fn a_run_tells_its_turns(rt: HostRuntime) {
         assert!(rt; serve_two(&rt, homes, &mut out) == fault);
         assert!(rt; out.as_slice() == lines.as_bytes());
     }
+}
+
+/// Whether serving a node of a configuration, with its rows in this database, ends early as told.
+fn ends_by(rt: &HostRuntime, names: (&str, &str, &str), end: Stop) -> bool {
+    let (configuration, node, database) = names;
+    let ended = crate::serve::serve(rt, configuration, node, database, 1);
+    let ends = ended == Err(end);
+    drop(ended);
+    ends
+}
+
+#[test]
+fn a_configuration_and_a_database_are_needed(rt: HostRuntime) {
+    let unread = Stop::Configuration(TableFault::Syntax);
+    assert!(rt; ends_by(&rt, ("no.toml", "n0", "no.db"), unread));
+    fs::write(&rt, "two.toml", HOMES).expect(&rt, "a file");
+    let unknown = Stop::Configuration(TableFault::UnknownNode);
+    assert!(rt; ends_by(&rt, ("two.toml", "n2", "no.db"), unknown));
+    let unopened = Stop::Run(RunFault::Rows);
+    assert!(rt; ends_by(&rt, ("two.toml", "n0", "nowhere/no.db"), unopened));
 }
