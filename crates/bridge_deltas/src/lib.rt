@@ -6,8 +6,6 @@ mod buffer;
 mod lane;
 mod links;
 mod offer;
-#[cfg(test)]
-mod tests;
 
 pub use links::Links;
 pub use offer::Offer;

@@ -8,8 +8,6 @@ mod frame;
 mod kind;
 mod length;
 mod pick;
-#[cfg(test)]
-mod tests;
 
 pub use body::FrameBody;
 pub use fault::LinkFault;

@@ -19,12 +19,22 @@ use std::alloc::Global;
 use std::marker::Model;
 
 /// A node of the cluster.
-#[derive(Drop)]
 pub struct Node {
     id: u16,
     homes: HomeTable,
     stopped: bool,
     work: Work,
+}
+
+impl Drop for Node {
+    fn drop(self) {
+        let Node {
+            id: _id,
+            homes: _homes,
+            stopped: _stopped,
+            work: _work,
+        } = self;
+    }
 }
 
 impl Model for Node {

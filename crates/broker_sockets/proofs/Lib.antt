@@ -1,4 +1,6 @@
 pub mod Buffering
+pub mod Cutting
+pub mod Linking
 pub mod OrderLaws
 pub mod Serving
 pub mod Telling

@@ -1,5 +1,5 @@
 -- Turns one after another, and what comes before the first.
-use Rattle.std.proofs.Common.{◌≡◌, ◌⊎◌, inl, inr, ℕ, ◌+◌, List, Option, Result, Ok, Err, sym, subst, add-one}
+use Rattle.std.proofs.Common.{◌≡◌, inr, ℕ, ◌+◌, List, Option, Result, Ok, Err, sym, subst, add-one}
 use Rattle.std.specs.Result.{OnOk, IfErr, IsErrAnd}
 use Rattle.std.proofs.lemmas.Result.{err_from_is_err_and}
 use Rattle.broker_sockets.specs.declared.network.Answer.{Answer}
@@ -7,7 +7,7 @@ use Rattle.broker_sockets.specs.declared.events.Event.{Event}
 use Rattle.broker_sockets.specs.declared.events.Output.{Output}
 use Rattle.broker_sockets.specs.declared.turn.TurnFault.{TurnFault}
 use Rattle.broker_sockets.specs.Turns.{World, IsTurn}
-use Rattle.broker_sockets.specs.Serving.{IsTurns, IsNext, IsStarted, IsServed, IsStopped, IsCut, IsUnserved}
+use Rattle.broker_sockets.specs.Serving.{IsTurns, IsNext, IsStarted, IsServed, IsStopped, IsUnserved}
 
 -- a fault that is handed on
 pub failed : {U F : Type 0} (r : Result U F) (x : F) (P : F → Type 0) → IsErrAnd r (λ e. e ≡ x) → P x → IfErr r P

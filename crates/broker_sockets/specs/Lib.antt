@@ -1,8 +1,11 @@
 pub mod Answers
 pub mod Binding
+pub mod Bridging
 pub mod Buffers
 pub mod Clients
 pub mod Faults
+pub mod Frames
+pub mod Lines
 pub mod Order
 pub mod Queued
 pub mod Serving

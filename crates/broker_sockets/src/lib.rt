@@ -1,10 +1,15 @@
 //! Clients' connections over sockets that never wait, a turn that asks each socket once, and turns one after another.
 #![tactic(auto)]
 
+mod bridge;
 mod clients;
 mod clock;
 mod events;
+mod frames;
+mod held;
 pub mod laws;
+mod lines;
+mod links;
 mod network;
 mod queue;
 mod real;
@@ -12,6 +17,7 @@ mod real;
 mod tests;
 mod turn;
 
+pub use bridge::{BridgeHandler, Given, PeerEvent, PeerEventKind, PeerFrame};
 pub use clock::{Clock, RealClock};
 pub use events::{Event, EventKind, Handler, Output};
 pub use network::{Answer, Sockets, bind};

@@ -17,7 +17,7 @@ pub enum Answer {
 
 /// Sockets that never wait.
 ///
-/// `listens`, `accepts`, `reads` and `writes` relate a network, and a stream, before a call to what it answers and
+/// `listens`, `accepts`, `connects`, `reads` and `writes` relate a network, and a stream, before a call to what it answers and
 /// to them after it, where an implementation knows that; of the system's sockets they say nothing.
 pub trait Sockets {
     type Listener: Drop;
@@ -34,6 +34,8 @@ pub trait Sockets {
 
     ghost accepts: { Self → Self.Listener → Option Self.Stream → Self → Type 0 };
 
+    ghost connects: { Self → SocketAddr → Option Self.Stream → Self → Type 0 };
+
     ghost reads: { Self → Self.Stream → Answer → List ℕ → Self → Self.Stream → Type 0 };
 
     ghost writes: { Self → Self.Stream → List ℕ → Answer → Self → Self.Stream → Type 0 };
@@ -47,7 +49,8 @@ pub trait Sockets {
         ensures { accepts self.old listener.now result self.new };
 
     /// Begins to connect to an address. Until that is done the stream answers `Later`.
-    fn connect(&mut self, address: SocketAddr) -> io::Result<Self::Stream>;
+    fn connect(&mut self, address: SocketAddr) -> io::Result<Self::Stream>
+        ensures { connects self.old address (result_ok result) self.new };
 
     /// Puts bytes that have come at the front of the buffer, at least one and as many as it holds.
     fn read(&mut self, stream: &mut Self::Stream, buffer: &mut [u8]) -> Answer

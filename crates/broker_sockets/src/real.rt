@@ -40,6 +40,8 @@ impl<'a, N: Net> Sockets for RealSockets<'a, N> {
 
     ghost accepts = { λ _ _ _ _. Unit {0} };
 
+    ghost connects = { λ _ _ _ _. Unit {0} };
+
     ghost reads = { λ _ _ _ _ _ _. Unit {0} };
 
     ghost writes = { λ _ _ _ _ _ _. Unit {0} };

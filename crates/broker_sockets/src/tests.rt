@@ -1,5 +1,6 @@
 //! Turns over sockets in memory, and over those of the system.
 
+mod linking;
 mod memory;
 
 use crate::{

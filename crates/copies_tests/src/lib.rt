@@ -2,4 +2,6 @@
 #![tactic(auto)]
 
 #[cfg(test)]
+mod routes;
+#[cfg(test)]
 mod tests;

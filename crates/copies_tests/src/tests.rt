@@ -33,11 +33,11 @@ const SUBSCRIPTIONS: [Row; 12] = [
     ("d", "$share/g/t", 0x00, 0),
 ];
 
-fn text(rt: &impl Abort, alloc: Global, text: &str) -> Text {
+pub fn text(rt: &impl Abort, alloc: Global, text: &str) -> Text {
     Text::new(alloc, text).expect(rt, "a text")
 }
 
-fn filter(rt: &impl Abort, alloc: Global, to: &str) -> Filter {
+pub fn filter(rt: &impl Abort, alloc: Global, to: &str) -> Filter {
     let text = text(rt, alloc, to);
     Filter::parse(alloc, text.as_str()).expect(rt, "a filter")
 }
@@ -71,12 +71,12 @@ fn entries(rt: &impl Abort, alloc: Global) -> Vec<(Dot, Entry)> {
     entries
 }
 
-fn subscriptions(rt: &impl Abort, alloc: Global) -> SubscriptionSet {
+pub fn subscriptions(rt: &impl Abort, alloc: Global) -> SubscriptionSet {
     let set = SubscriptionSet::new(seen(rt, alloc), entries(rt, alloc));
     set.expect(rt, "memory").expect(rt, "a set")
 }
 
-fn message(rt: &impl Abort, alloc: Global) -> SharedMessage {
+pub fn message(rt: &impl Abort, alloc: Global) -> SharedMessage {
     let (message, _) = Message::read(alloc, &MESSAGE).expect(rt, "a message");
     SharedMessage::new(alloc, message).expect(rt, "memory")
 }

@@ -24,9 +24,14 @@ struct Shared {
 }
 
 /// The nodes of a cluster in their order, numbered from 0, and the homes of the identifiers that begin with a prefix.
-#[derive(Drop)]
 pub struct HomeTable {
     shared: Rc<Shared, Global>,
+}
+
+impl Drop for HomeTable {
+    fn drop(self) {
+        let HomeTable { shared: _shared } = self;
+    }
 }
 
 impl Model for HomeTable {

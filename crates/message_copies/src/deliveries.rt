@@ -116,7 +116,7 @@ fn identifiers_in(alloc: Global, own: &[&Entry]) -> Result<Identifiers, NoMemory
 
 /// The one copy for a client with these subscriptions, which shares the message. One with more than 65,535 identifiers can't
 /// be had: it answers want of memory.
-pub(crate) fn copy_for(
+pub fn copy_for(
     alloc: Global,
     message: &SharedMessage,
     own: &[&Entry],

@@ -9,7 +9,7 @@ mod laws;
 mod plain;
 mod selected;
 
-pub use deliveries::{least_qos, offer_of};
+pub use deliveries::{copy_for, least_qos, offer_of};
 pub use groups::{GroupPick, picks};
 pub use laws::{copies_are_determined, picks_are_determined};
 pub use plain::{PlainCopy, copies};

@@ -13,9 +13,15 @@ use std::alloc::Global;
 use std::marker::Model;
 
 /// Properties in the order in which they stand. Contracts see the list.
-#[derive(Debug, Drop)]
+#[derive(Debug)]
 pub struct Properties {
     pub(crate) items: Vec<Property>,
+}
+
+impl Drop for Properties {
+    fn drop(self) {
+        let Properties { items: _items } = self;
+    }
 }
 
 impl Model for Properties {

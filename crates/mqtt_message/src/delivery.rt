@@ -12,12 +12,22 @@ use mqtt_fields::{FieldFault, NoMemory, Qos};
 use std::alloc::Global;
 
 /// A message, and how one client is to get it.
-#[derive(Drop)]
 pub struct Delivery {
     pub message: SharedMessage,
     pub qos: Qos,
     pub retain: bool,
     pub identifiers: Identifiers,
+}
+
+impl Drop for Delivery {
+    fn drop(self) {
+        let Delivery {
+            message: _message,
+            qos: _qos,
+            retain: _retain,
+            identifiers: _identifiers,
+        } = self;
+    }
 }
 
 impl Delivery {

@@ -9,9 +9,14 @@ use std::marker::Model;
 use std::rc::Rc;
 
 /// A message that deliveries and retained messages hold together: a copy copies no bytes. Contracts see the message.
-#[derive(Drop)]
 pub struct SharedMessage {
     rc: Rc<Message, Global>,
+}
+
+impl Drop for SharedMessage {
+    fn drop(self) {
+        let SharedMessage { rc: _rc } = self;
+    }
 }
 
 impl Model for SharedMessage {

@@ -30,9 +30,14 @@ use std::marker::Model;
 
 /// One client's side of a server, over all its connections. Contracts see what it holds; None stands for a session that
 /// is spent: it had a fault, and answers `Spent`.
-#[derive(Drop)]
 pub struct Session {
     live: Option<Live>,
+}
+
+impl Drop for Session {
+    fn drop(self) {
+        let Session { live: _live } = self;
+    }
 }
 
 impl Model for Session {
@@ -292,7 +297,8 @@ impl Session {
     pub fn removals(self) -> Result<Vec<Change>, SessionFault>
         ensures { RemovesIf self result }
     {
-        let Some(mut live) = self.live else {
+        let Session { live } = self;
+        let Some(mut live) = live else {
             return Err(SessionFault::Spent);
         };
         Ok(live.removals()?)

@@ -58,7 +58,6 @@ const MOMENTS_END: u64 = 1 << 62;
 const TURNS_END: u64 = 1 << 62;
 
 /// A node at work: its place, what it holds, and what it has given out so far.
-#[derive(Drop)]
 pub struct Work {
     alloc: Global,
     id: u16,
@@ -68,6 +67,19 @@ pub struct Work {
 
     // The changes of the node's rows, in the order in which they were made.
     changes: Vec<Change>,
+}
+
+impl Drop for Work {
+    fn drop(self) {
+        let Work {
+            alloc: _alloc,
+            id: _id,
+            homes: _homes,
+            held: _held,
+            outputs: _outputs,
+            changes: _changes,
+        } = self;
+    }
 }
 
 impl Model for Work {

@@ -12,12 +12,20 @@ use std::marker::Model;
 const MAXIMUM: usize = 100;
 
 /// The QoS 2 exchanges that a client has opened.
-#[derive(Drop)]
 pub struct Incoming {
     /// Whether the PUBLISH of each came on this connection.
     exchanges: BTreeMap<u16, bool>,
     /// Of how many it did.
     here: usize,
+}
+
+impl Drop for Incoming {
+    fn drop(self) {
+        let Incoming {
+            exchanges: _exchanges,
+            here: _here,
+        } = self;
+    }
 }
 
 impl Model for Incoming {

@@ -51,7 +51,6 @@ struct Chosen {
 }
 
 /// The deliveries owed to one client, and its unfinished exchanges.
-#[derive(Drop)]
 pub struct Outgoing {
     copies: Copies,
     /// The places touched, with room for all that may yet happen to the copies.
@@ -65,6 +64,21 @@ pub struct Outgoing {
     next_place: u64,
     next_order: u64,
     maximum: u16,
+}
+
+impl Drop for Outgoing {
+    fn drop(self) {
+        let Outgoing {
+            copies: _copies,
+            log: _log,
+            resend_from: _resend_from,
+            first_waiting: _first_waiting,
+            in_flight: _in_flight,
+            next_place: _next_place,
+            next_order: _next_order,
+            maximum: _maximum,
+        } = self;
+    }
 }
 
 impl Model for Outgoing {

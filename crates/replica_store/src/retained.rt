@@ -24,13 +24,22 @@ use std::marker::Model;
 /// Of each topic that was put, the message of the greatest stamp, or a tombstone: a map of
 /// last-writer-wins registers, in the order of the topics. It grows by the allocator of its
 /// constructor. A message is under its own topic.
-#[derive(Drop)]
 pub struct RetainedMap {
     alloc: Global,
     topics: Topics,
 
     // The greatest count of a stamp, or 0.
     greatest: u64,
+}
+
+impl Drop for RetainedMap {
+    fn drop(self) {
+        let RetainedMap {
+            alloc: _alloc,
+            topics: _topics,
+            greatest: _greatest,
+        } = self;
+    }
 }
 
 impl Model for RetainedMap {

@@ -28,12 +28,22 @@ use subscription_set::{Entry, SubscriptionSet};
 /// The shared state of a node: the dots of the operations that it has taken, the subscriptions and
 /// the retained messages. Two nodes that have taken the same operations have the same state.
 /// It grows by the allocator of its constructor.
-#[derive(Drop)]
 pub struct ReplicaStore {
     pub(crate) alloc: Global,
     pub(crate) taken: Context,
     pub(crate) subscriptions: SubscriptionSet,
     pub(crate) retained: RetainedMap,
+}
+
+impl Drop for ReplicaStore {
+    fn drop(self) {
+        let ReplicaStore {
+            alloc: _alloc,
+            taken: _taken,
+            subscriptions: _subscriptions,
+            retained: _retained,
+        } = self;
+    }
 }
 
 impl Model for ReplicaStore {

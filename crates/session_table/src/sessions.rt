@@ -29,11 +29,20 @@ use std::marker::Model;
 
 /// The sessions of a node by client, each with the connection that its client is on. What is due is found without a look
 /// at all of them.
-#[derive(Drop)]
 pub struct Sessions {
     alloc: Global,
     seats: BTreeMap<Text, Seated>,
     listing: Listing,
+}
+
+impl Drop for Sessions {
+    fn drop(self) {
+        let Sessions {
+            alloc: _alloc,
+            seats: _seats,
+            listing: _listing,
+        } = self;
+    }
 }
 
 impl Model for Sessions {

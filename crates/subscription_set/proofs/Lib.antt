@@ -1,6 +1,7 @@
 pub mod Counting
 pub mod Filtered
 pub mod Indexing
+pub mod JoinFormula
 pub mod Joins
 pub mod Latest
 pub mod Lists

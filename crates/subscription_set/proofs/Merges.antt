@@ -11,7 +11,8 @@ use Rattle.causal_context.specs.Dots.{Dots, Dot, dot_cmp, dot_cmp_total, dot_cmp
 use Rattle.subscription_set.specs.Entries.{Entry, entry_eq, entry_eq-decides}
 use Rattle.subscription_set.specs.Standing.{Entries, find_entry, AreSeen}
 use Rattle.subscription_set.specs.Sorted.{Rises, without_keys, first_of}
-use Rattle.subscription_set.specs.Merging.{IsJoinOf, HaveSame, kept_entry, same_entry}
+use Rattle.subscription_set.specs.Merging.{same_entry}
+use Rattle.subscription_set.proofs.JoinFormula.{IsJoinOf, HaveSame, kept_entry}
 use Rattle.subscription_set.specs.Indexing.{ByDot}
 use Rattle.subscription_set.specs.Joining.{leaves_with, AreLeaving, AreUnseen, IsBrought, IsCleared}
 use Rattle.subscription_set.proofs.Places.{found_none, first_part, second_part}

@@ -7,7 +7,7 @@ use Rattle.std.specs.Cmp.{Equal-is}
 use Rattle.causal_context.specs.Dots.{Dots, Dot, dot_cmp, dot_cmp_total, dot_cmp_antisym}
 use Rattle.subscription_set.specs.declared.entry.Entry.{Entry}
 use Rattle.subscription_set.specs.Standing.{Entries, find_entry, AreSeen, statuses, get-statuses}
-use Rattle.subscription_set.specs.Merging.{IsJoinOf, kept_entry}
+use Rattle.subscription_set.proofs.JoinFormula.{IsJoinOf, kept_entry}
 
 module _ (c : Dots) (es : Entries) (k : Dots) (fs : Entries) where
   kept_seen : (a b : Bool) (x y : Option Entry) → (is_some x ≡ true → a ≡ true) → (is_some y ≡ true → b ≡ true) → is_some (kept_entry a b x y) ≡ true → (a || b) ≡ true

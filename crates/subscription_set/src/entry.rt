@@ -9,13 +9,25 @@ use std::marker::Model;
 
 /// A subscription of a client to a filter (MQTT 5.0, 3.8), with options and an identifier that a
 /// SUBSCRIBE can have.
-#[derive(Debug, Drop)]
+#[derive(Debug)]
 pub struct Entry {
     client: Text,
     filter: Filter,
     options: SubscriptionOptions,
     identifier: u32,
     version: u32,
+}
+
+impl Drop for Entry {
+    fn drop(self) {
+        let Entry {
+            client: _client,
+            filter: _filter,
+            options: _options,
+            identifier: _identifier,
+            version: _version,
+        } = self;
+    }
 }
 
 impl Model for Entry {

@@ -35,11 +35,20 @@ use std::mem;
 /// Subscriptions under their dots, and the dots that were seen: the causal context. A dot that
 /// was seen and has no entry is removed. It grows by the allocator of the entries that it was
 /// made of.
-#[derive(Drop)]
 pub struct SubscriptionSet {
     pub(crate) alloc: Global,
     pub(crate) seen: Context,
     pub(crate) entries: EntryMap,
+}
+
+impl Drop for SubscriptionSet {
+    fn drop(self) {
+        let SubscriptionSet {
+            alloc: _alloc,
+            seen: _seen,
+            entries: _entries,
+        } = self;
+    }
 }
 
 impl Model for SubscriptionSet {

@@ -45,21 +45,29 @@ impl Line {
     }
 }
 
-/// Clients that connect one after another.
+/// Peers that connect, or are connected to, one after another.
 #[derive(Drop)]
 pub struct Memory {
     lines: Vec<Line>,
     came: usize,
+    refused: u32,
 }
 
 pub fn memory_of<const N: usize>(alloc: Global, lines: [Line; N]) -> Result<Memory, AllocError> {
     Ok(Memory {
         lines: Vec::from_array(alloc, lines)?,
         came: 0,
+        refused: 0,
     })
 }
 
 impl Memory {
+    /// The same, in which so many calls to connect fail first.
+    pub fn refusing(mut self, refused: u32) -> Memory {
+        self.refused = refused;
+        self
+    }
+
     pub fn taken(&self, stream: usize) -> &[u8] {
         match self.lines.get(stream) {
             Some(line) => line.taken.as_slice(),
@@ -82,6 +90,8 @@ impl Sockets for Memory {
 
     ghost accepts = { λ _ _ _ _. Unit {0} };
 
+    ghost connects = { λ _ _ _ _. Unit {0} };
+
     ghost reads = { λ _ _ _ _ _ _. Unit {0} };
 
     ghost writes = { λ _ _ _ _ _ _. Unit {0} };
@@ -99,7 +109,14 @@ impl Sockets for Memory {
     }
 
     fn connect(&mut self, _address: SocketAddr) -> io::Result<usize> {
-        Err(io::Error::from(ErrorKind::ConnectionRefused))
+        if self.refused > 0 {
+            self.refused -= 1;
+            return Err(io::Error::from(ErrorKind::ConnectionRefused));
+        }
+        match self.accept(&()) {
+            Some(stream) => Ok(stream),
+            None => Err(io::Error::from(ErrorKind::ConnectionRefused)),
+        }
     }
 
     fn read(&mut self, stream: &mut usize, buffer: &mut [u8]) -> Answer {

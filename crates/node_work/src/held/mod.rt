@@ -48,7 +48,6 @@ use store_rows::laws::is_store;
 use subscription_set::Entry;
 
 /// What a running node holds.
-#[derive(Drop)]
 pub struct Held {
     at: u64,
     started: bool,
@@ -58,6 +57,21 @@ pub struct Held {
     turn: u64,
     named: u64,
     counts: Counts,
+}
+
+impl Drop for Held {
+    fn drop(self) {
+        let Held {
+            at: _at,
+            started: _started,
+            store: _store,
+            connections: _connections,
+            sessions: _sessions,
+            turn: _turn,
+            named: _named,
+            counts: _counts,
+        } = self;
+    }
 }
 
 impl Model for Held {

@@ -5,7 +5,7 @@ use Rattle.subscription_set.specs.Joining.{AreUnseen}
 use Rattle.subscription_set.specs.Standing.{statuses, AreSeen}
 use Rattle.subscription_set.specs.Sorted.{without_keys}
 use Rattle.subscription_set.specs.Statuses.{statuses_join}
-use Rattle.subscription_set.specs.Merging.{join_by_formula}
+use Rattle.subscription_set.proofs.JoinFormula.{join_by_formula}
 use Rattle.subscription_set.proofs.Plans.{join_seen, seen_as, same_statuses}
 use Rattle.subscription_set.proofs.Merges.{old_again, joined}
 use Rattle.subscription_set.proofs.set.SubscriptionSet.prepare.Goals as goal

@@ -1,6 +1,6 @@
 //! Worked examples of docs/bridge.md.
 
-use crate::{BridgeFrame, Forward, FrameBody, LinkFault, frame_length};
+use bridge_frames::{BridgeFrame, Forward, FrameBody, LinkFault, frame_length};
 use std::alloc::Global;
 use std::process::Abort;
 use std::test::Fail;

@@ -2,7 +2,7 @@
 
 ghost use Rattle.std.specs.Prelude.{◌≡◌};
 
-use crate::{Links, Offer};
+use bridge_deltas::{Links, Offer};
 use bridge_frames::{BridgeFrame, Forward, FrameBody, Picks};
 use causal_context::{Context, Dot, Lattice};
 use mqtt_message::{Message, SharedMessage};

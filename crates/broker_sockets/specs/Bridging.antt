@@ -1,0 +1,177 @@
+-- What a turn does with the sockets between nodes.
+use Rattle.std.specs.Prelude.{◌≡◌, ◌≢◌, ◌≤◌, ℕ, List, [], ◌∷◌, ◌++◌, eqb, leb, length, true, false, Bool, Option, Some, None, Vec}
+use Rattle.std.specs.declared.alloc.Global.{Global}
+use Rattle.std.specs.declared.net.socket_addr.SocketAddr.{SocketAddr}
+use Rattle.slab.specs.Slab.{Slab, get, Updates}
+use Rattle.broker_sockets.specs.declared.network.Answer.{Answer}
+use Rattle.broker_sockets.specs.declared.network.Answer.TheVariants.{Later, Bytes, Gone}
+use Rattle.broker_sockets.specs.declared.clients.Client.{Client}
+use Rattle.broker_sockets.specs.declared.bridge.Given.{Given}
+use Rattle.broker_sockets.specs.declared.bridge.PeerEvent.{PeerEvent}
+use Rattle.broker_sockets.specs.declared.bridge.PeerEventKind.{PeerEventKind}
+use Rattle.broker_sockets.specs.declared.bridge.PeerEventKind.TheVariants.{Linked, Frame, Ship}
+use Rattle.broker_sockets.specs.declared.lines.Line.{Line}
+use Rattle.broker_sockets.specs.declared.turn.TurnFault.{TurnFault}
+use Rattle.broker_sockets.specs.declared.turn.TurnFault.TheVariants.{NoMemory, Handler}
+use Rattle.broker_sockets.specs.Answers.{Offers}
+use Rattle.broker_sockets.specs.Clients.{Released}
+use Rattle.broker_sockets.specs.Frames.{IsCut}
+use Rattle.broker_sockets.specs.Lines.{Framed, fresh_line, link_of}
+
+-- what handles events, the clients by connection, and the links that were dialled, by peer
+pub record Near (H T : Type 0) : Type 0 where
+  pub handler : H
+  pub clients : Slab (Client T)
+  pub dialled : List (Option (Line T))
+
+abbrev pub near : {H T : Type 0} → H → Slab (Client T) → List (Option (Line T)) → Near H T
+near h c d = record { handler = h; clients = c; dialled = d }
+
+-- with the sockets and the links that were accepted
+pub record Place (S H T : Type 0) : Type 0 where
+  pub sockets : S
+  pub near : Near H T
+  pub accepted : Slab (Line T)
+
+abbrev pub place : {S H T : Type 0} → S → Near H T → Slab (Line T) → Place S H T
+place s n a = record { sockets = s; near = n; accepted = a }
+
+abbrev pub peer_event : ℕ → PeerEventKind → PeerEvent
+peer_event at kind = record { at = at; kind = kind }
+
+-- a fault of the handler is one that it gave to an event of this moment
+pub record IsDeclined {H F : Type 0} (declines : H → PeerEvent → F → H → Type 0) (at : ℕ) (fault : F) : Type 0 where
+  pub before : H
+  pub it : PeerEvent
+  pub after : H
+  pub moment : it.at ≡ at
+  pub given : declines before it fault after
+
+abbrev pub IsCausedByPeers : {H F : Type 0} → (H → PeerEvent → F → H → Type 0) → ℕ → TurnFault F → Type 0
+IsCausedByPeers declines at NoMemory = Unit {0}
+IsCausedByPeers declines at (Handler fault) = IsDeclined declines at fault
+
+module _ {H T : Type 0} (hears : H → PeerEvent → Given → H → Type 0) where
+  -- the handler answers an event, and what it gives out waits for the clients and the peers
+  pub record IsHearing (it : PeerEvent) (n n' : Near H T) : Type 0 where
+    pub given : Given
+    pub answered : hears n.handler it given n'.handler
+    pub released : Released given.outputs.items n.clients n'.clients
+    pub framed : Framed given.frames.items n.dialled n'.dialled
+
+  -- frames are handed over, in order
+  abbrev pub HearsAll : ℕ → List (Vec ℕ Global) → Near H T → Near H T → Type 0
+  HearsAll at [] n n' = n' ≡ n
+  HearsAll at (frame ∷ frames) n n' = (m : Near H T) × IsHearing (peer_event at (Frame frame)) n m × HearsAll at frames m n'
+
+-- what a read brought: whole frames, what is held then, and whether the link goes on
+abbrev pub IsTaken : Answer → List ℕ → List ℕ → List (Vec ℕ Global) → List ℕ → Bool → Type 0
+IsTaken Later bytes held frames held' goes_on = (frames ≡ []) × (held' ≡ held) × (goes_on ≡ true)
+IsTaken (Bytes n) bytes held frames held' goes_on = IsCut (held ++ bytes) frames held' goes_on
+IsTaken Gone bytes held frames held' goes_on = (frames ≡ []) × (goes_on ≡ false)
+
+abbrev pub left_if : {T : Type 0} → Bool → Line T → Option (Line T)
+left_if true line = Some line
+left_if false line = None
+
+-- a link is asked once to read, at most 65,536 bytes
+pub record IsLineRead {S T : Type 0} (reads : S → T → Answer → List ℕ → S → T → Type 0) (s : S) (line : Line T) (frames : List (Vec ℕ Global)) (goes_on : Bool) (s' : S) (line' : Line T) : Type 0 where
+  pub answer : Answer
+  pub bytes : List ℕ
+  pub asked : reads s line.stream answer bytes s' line'.stream
+  pub most : length bytes ≤ 65536
+  pub taken : IsTaken answer bytes line.held frames line'.held goes_on
+  pub unsent : line'.unsent ≡ line.unsent
+
+module _ {S T : Type 0} (writes : S → T → List ℕ → Answer → S → T → Type 0) where
+  -- a link is asked exactly where something waits
+  abbrev pub LineTried : S → Line T → Option Answer → S → Line T → Type 0
+  LineTried s line None s' left = (line.unsent ≡ []) × (s' ≡ s) × (left ≡ line)
+  LineTried s line (Some answer) s' left =
+      Offers writes line.unsent s line.stream answer left.unsent s' left.stream × (left.held ≡ line.held)
+
+-- a link goes on unless it failed or more than 536,870,912 bytes wait
+abbrev pub goes_on_by : Option Answer → ℕ → Bool
+goes_on_by None unsent = true
+goes_on_by (Some Later) unsent = leb unsent 536870912
+goes_on_by (Some (Bytes n)) unsent = leb unsent 536870912
+goes_on_by (Some Gone) unsent = false
+
+pub record IsLineWritten {S T : Type 0} (writes : S → T → List ℕ → Answer → S → T → Type 0) (s : S) (line : Line T) (goes_on : Bool) (s' : S) (left : Line T) : Type 0 where
+  pub answer : Option Answer
+  pub tried : LineTried writes s line answer s' left
+  pub comes_to : goes_on ≡ goes_on_by answer (length left.unsent)
+
+-- the link of a peer is this now, and the others are as they were
+pub record Relinks {T : Type 0} (old new : List (Option (Line T))) (peer : ℕ) (link : Option (Line T)) : Type 0 where
+  pub changed : link_of new peer ≡ link
+  pub others : (other : ℕ) → other ≢ peer → link_of new other ≡ link_of old other
+
+-- a link that was accepted stays as it is, or is let go
+abbrev pub IsKept : {T : Type 0} → Bool → ℕ → Slab (Line T) → Slab (Line T) → Type 0
+IsKept true key a a' = a' ≡ a
+IsKept false key a a' = Updates a a' key None
+
+module _ {S L T : Type 0} (accepts : S → L → Option T → S → Type 0) where
+  abbrev pub IsAdmitted : Option T → Slab (Line T) → Slab (Line T) → Type 0
+  IsAdmitted None a a' = a' ≡ a
+  IsAdmitted (Some stream) a a' = (key : ℕ) × (get a key ≡ None) × Updates a a' key (Some (fresh_line stream))
+
+  -- the listener for other nodes is asked once, and a link that came is kept
+  pub record IsLinkAccepted (listener : L) (s : S) (a : Slab (Line T)) (s' : S) (a' : Slab (Line T)) : Type 0 where
+    pub came : Option T
+    pub answered : accepts s listener came s'
+    pub admitted : IsAdmitted came a a'
+
+module _ {S H T : Type 0} (reads : S → T → Answer → List ℕ → S → T → Type 0) (hears : H → PeerEvent → Given → H → Type 0) (at : ℕ) where
+  -- a link that was accepted is read, and the handler is handed its frames; it is let go unless it goes on
+  pub record IsLinkRead (key : ℕ) (line : Line T) (p p' : Place S H T) : Type 0 where
+    pub frames : List (Vec ℕ Global)
+    pub goes_on : Bool
+    pub left : Line T
+    pub read : IsLineRead reads p.sockets line frames goes_on p'.sockets left
+    pub kept : Updates p.accepted p'.accepted key (left_if goes_on left)
+    pub heard : HearsAll hears at frames p.near p'.near
+
+  abbrev pub IsLinkReadIn : Option (Line T) → ℕ → Place S H T → Place S H T → Type 0
+  IsLinkReadIn None key p p' = p' ≡ p
+  IsLinkReadIn (Some line) key p p' = IsLinkRead key line p p'
+
+module _ {S H T : Type 0} (connects : S → SocketAddr → Option T → S → Type 0) (hears : H → PeerEvent → Given → H → Type 0) (at : ℕ) where
+  abbrev pub IsBegunBy : Option T → ℕ → Near H T → Near H T → Type 0
+  IsBegunBy None peer n n' = n' ≡ n
+  IsBegunBy (Some stream) peer n n' =
+      (links : List (Option (Line T))) × Relinks n.dialled links peer (Some (fresh_line stream))
+      × IsHearing hears (peer_event at (Linked peer)) (record n { dialled = links }) n'
+
+  -- a peer without a link is dialled once, and the handler is told where a link was begun
+  pub record IsDialled (address : SocketAddr) (peer : ℕ) (s : S) (n : Near H T) (s' : S) (n' : Near H T) : Type 0 where
+    pub came : Option T
+    pub answered : connects s address came s'
+    pub begun : IsBegunBy came peer n n'
+
+  abbrev pub IsDialledIf : Option (Line T) → SocketAddr → ℕ → S → Near H T → S → Near H T → Type 0
+  IsDialledIf None address peer s n s' n' = IsDialled address peer s n s' n'
+  IsDialledIf (Some line) address peer s n s' n' = (s' ≡ s) × (n' ≡ n)
+
+module _ {H T : Type 0} (hears : H → PeerEvent → Given → H → Type 0) (at : ℕ) where
+  abbrev pub IsShippedIf : Bool → ℕ → Near H T → Near H T → Type 0
+  IsShippedIf true peer n n' = IsHearing hears (peer_event at (Ship peer)) n n'
+  IsShippedIf false peer n n' = n' ≡ n
+
+  -- the handler is asked for more just where nothing waits on the link of a peer
+  abbrev pub IsShipped : Option (Line T) → ℕ → Near H T → Near H T → Type 0
+  IsShipped None peer n n' = n' ≡ n
+  IsShipped (Some line) peer n n' = IsShippedIf (eqb (length line.unsent) 0) peer n n'
+
+module _ {S T : Type 0} (writes : S → T → List ℕ → Answer → S → T → Type 0) where
+  -- the link of a peer is offered what waits, and is let go unless it goes on
+  pub record IsLinkWritten (line : Line T) (peer : ℕ) (s : S) (d : List (Option (Line T))) (s' : S) (d' : List (Option (Line T))) : Type 0 where
+    pub goes_on : Bool
+    pub left : Line T
+    pub written : IsLineWritten writes s line goes_on s' left
+    pub kept : Relinks d d' peer (left_if goes_on left)
+
+  abbrev pub IsLinkWrittenIn : Option (Line T) → ℕ → S → List (Option (Line T)) → S → List (Option (Line T)) → Type 0
+  IsLinkWrittenIn None peer s d s' d' = (s' ≡ s) × (d' ≡ d)
+  IsLinkWrittenIn (Some line) peer s d s' d' = IsLinkWritten line peer s d s' d'
