@@ -1,4 +1,4 @@
-//! What it takes to pass on a message where there are 100,000 subscriptions.
+//! What it takes to pass on a message where there are 1,000,000 subscriptions.
 
 use crate::bytes::{no_filters, publish, push_filter};
 use crate::server::Server;
@@ -6,10 +6,7 @@ use bench_clock::{Failure, Stopwatch};
 use std::alloc::Global;
 
 /// How many clients subscribe.
-const CLIENTS: u64 = 100;
-
-/// How many of them have the same filters.
-const ALIKE: u64 = 10;
+const CLIENTS: u64 = 1_000;
 
 /// How many SUBSCRIBE packets each sends.
 const PACKETS: u64 = 10;
@@ -20,23 +17,36 @@ const FILTERS: u64 = 100;
 /// How many messages are passed on.
 const MESSAGES: u64 = 10_000;
 
-// Adds a filter that ten clients have.
-fn add_filter(
-    alloc: Global,
-    rest: &mut Vec<u8>,
-    client: u64,
-    packet: u64,
-    number: u64,
-) -> Result<(), Failure> {
-    let group = client / ALIKE;
-    let filter = format!(in alloc; "f/{group}/{packet}/{number}")?;
+/// The topic of each message, which one of the numbered filters is.
+const TOPIC: &str = "f/3/4/56";
+
+/// What else matches it, a filter for each of the first clients.
+const WIDER: [&str; 9] = [
+    "f/3/4/+", "f/3/+/56", "f/+/4/56", "+/3/4/56", "f/3/4/#", "f/3/#", "+/+/4/56", "+/3/+/56",
+    "f/+/+/56",
+];
+
+// Adds the filter of a number. All differ, and every tenth has a wildcard.
+fn add_filter(alloc: Global, rest: &mut Vec<u8>, number: u64) -> Result<(), Failure> {
+    let first = number / 10_000;
+    let second = number / 100 % 100;
+    let third = number % 100;
+    let filter = if number % 10 == 9 {
+        format!(in alloc; "f/{first}/+/{number}")?
+    } else {
+        format!(in alloc; "f/{first}/{second}/{third}")?
+    };
     push_filter(rest, filter.as_str(), 0)
 }
 
 fn filters(alloc: Global, client: u64, packet: u64) -> Result<Vec<u8>, Failure> {
     let mut rest = no_filters(alloc)?;
     for number in 0..FILTERS {
-        add_filter(alloc, &mut rest, client, packet, number)?;
+        add_filter(
+            alloc,
+            &mut rest,
+            (client * PACKETS + packet) * FILTERS + number,
+        )?;
     }
     Ok(rest)
 }
@@ -62,23 +72,31 @@ fn joins(rt: &HostRuntime, server: &mut Server) -> Result<(), Failure> {
     Ok(watch.print(rt, "subscriptions, made", CLIENTS * PACKETS * FILTERS)?)
 }
 
+fn widen(server: &mut Server) -> Result<(), Failure> {
+    for (client, filter) in (0u64..).zip(WIDER) {
+        server.subscribe(client, filter, 0)?;
+    }
+    Ok(())
+}
+
 // Each message goes out to ten clients.
 fn messages(rt: &HostRuntime, server: &mut Server, packet: &[u8]) -> Result<(), Failure> {
     let watch = Stopwatch::start(rt)?;
     for _ in 0..MESSAGES {
         server.give(CLIENTS, packet, 10)?;
     }
-    Ok(watch.print(rt, "subscriptions, PUBLISH to 10 of 100000", MESSAGES)?)
+    Ok(watch.print(rt, "subscriptions, PUBLISH to 10 of 1000009", MESSAGES)?)
 }
 
 fn figures(rt: &HostRuntime, server: &mut Server) -> Result<(), Failure> {
     joins(rt, server)?;
+    widen(server)?;
     server.connect(CLIENTS)?;
-    let packet = publish(rt.alloc(), "f/3/4/56")?;
+    let packet = publish(rt.alloc(), TOPIC)?;
     messages(rt, server, &packet)
 }
 
-/// The figures of a node with 100,000 subscriptions.
+/// The figures of a node with 1,000,000 subscriptions.
 pub fn run(rt: &HostRuntime) -> Result<(), Failure> {
     let mut server = Server::start(rt.alloc())?;
     figures(rt, &mut server)
