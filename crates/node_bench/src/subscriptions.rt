@@ -20,7 +20,7 @@ const MESSAGES: u64 = 10_000;
 /// The topic of each message, which one of the numbered filters is.
 const TOPIC: &str = "f/3/4/56";
 
-/// What else matches it, a filter for each of the first clients.
+/// What else matches it, each the filter of one more client.
 const WIDER: [&str; 9] = [
     "f/3/4/+", "f/3/+/56", "f/+/4/56", "+/3/4/56", "f/3/4/#", "f/3/#", "+/+/4/56", "+/3/+/56",
     "f/+/+/56",
@@ -39,14 +39,16 @@ fn add_filter(alloc: Global, rest: &mut Vec<u8>, number: u64) -> Result<(), Fail
     push_filter(rest, filter.as_str(), 0)
 }
 
+// Where a filter stands among those of all clients.
+fn number_of(client: u64, packet: u64, place: u64) -> u64 {
+    let before = client.saturating_mul(PACKETS).saturating_add(packet);
+    before.saturating_mul(FILTERS).saturating_add(place)
+}
+
 fn filters(alloc: Global, client: u64, packet: u64) -> Result<Vec<u8>, Failure> {
     let mut rest = no_filters(alloc)?;
-    for number in 0..FILTERS {
-        add_filter(
-            alloc,
-            &mut rest,
-            (client * PACKETS + packet) * FILTERS + number,
-        )?;
+    for place in 0..FILTERS {
+        add_filter(alloc, &mut rest, number_of(client, packet, place))?;
     }
     Ok(rest)
 }
@@ -73,7 +75,8 @@ fn joins(rt: &HostRuntime, server: &mut Server) -> Result<(), Failure> {
 }
 
 fn widen(server: &mut Server) -> Result<(), Failure> {
-    for (client, filter) in (0u64..).zip(WIDER) {
+    for (client, filter) in (CLIENTS + 1..).zip(WIDER) {
+        server.connect(client)?;
         server.subscribe(client, filter, 0)?;
     }
     Ok(())
