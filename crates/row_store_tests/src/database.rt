@@ -42,26 +42,31 @@ pub fn adopted<S: Alter + Drop>(
     }
 }
 
-/// The connection to the database of these rows.
-pub fn connection_of<S: Alter + Drop>(rows: SqlRows<S>) -> Connection<S> {
-    rows.into_connection()
+/// A connection that is to be closed, or the store of one that is not.
+pub type Left<S> = Result<Connection<S>, S>;
+
+/// The connection to a database, or its store.
+pub fn left<S: Alter + Drop>(conn: Connection<S>, closes: bool) -> Left<S> {
+    if closes {
+        Ok(conn)
+    } else {
+        Err(conn.into_store())
+    }
 }
 
-fn store_of<S: Alter + Drop>(conn: Connection<S>) -> S {
-    conn.into_store()
+/// The files, after the log was copied into the database file where the connection is closed, unless that failed.
+pub fn files_of<D: Disk + Drop>(left: Left<FileStore<D>>) -> Files<D> {
+    match left {
+        Ok(conn) => closed(conn),
+        Err(store) => files_in(store),
+    }
 }
 
 fn files_in<D: Disk + Drop>(store: FileStore<D>) -> Files<D> {
     store.close()
 }
 
-/// The files as they are.
-pub fn files_of<D: Disk + Drop>(conn: Connection<FileStore<D>>) -> Files<D> {
-    files_in(store_of(conn))
-}
-
-/// The files after the log was copied into the database file, unless that failed.
-pub fn closed<D: Disk + Drop>(conn: Connection<FileStore<D>>) -> Files<D> {
+fn closed<D: Disk + Drop>(conn: Connection<FileStore<D>>) -> Files<D> {
     match conn.close_files() {
         Ok(files) => files,
         Err((_, store)) => files_in(store),

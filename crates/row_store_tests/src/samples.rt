@@ -1,34 +1,102 @@
-//! Rows and changes that the tests make.
+//! Rows and changes that the tests make, each in place of a line of a table.
 
 use row_store::{Change, Row, RowFault, RowStore};
-use std::alloc::{AllocError, Global};
+use std::alloc::Global;
+use std::process::Abort;
 
-pub fn bytes(alloc: Global, text: &str) -> Result<Vec<u8>, AllocError> {
-    Vec::from_slice(alloc, text.as_bytes())
+/// A kind, an owner and the one byte of a value, or no value where the row is removed. The place is empty.
+pub type Sample = (u8, &'static str, Option<u8>);
+
+fn change(rt: &impl Abort, alloc: Global, sample: &Sample) -> Change {
+    let owner = Vec::from_slice(alloc, sample.1.as_bytes()).expect(rt, "memory");
+    let place = Vec::new(alloc);
+    match sample.2 {
+        Some(value) => {
+            let value = Vec::from_slice(alloc, &[value]).expect(rt, "memory");
+            Change::Put(Row {
+                kind: sample.0,
+                owner,
+                place,
+                value,
+            })
+        }
+        None => Change::Remove(sample.0, owner, place),
+    }
 }
 
-pub fn row(alloc: Global, kind: u8, owner: &str, value: u8) -> Result<Row, AllocError> {
-    Ok(Row {
-        kind,
-        owner: bytes(alloc, owner)?,
-        place: Vec::new(alloc),
-        value: Vec::from_slice(alloc, &[value])?,
-    })
+pub fn changes(rt: &impl Abort, alloc: Global, samples: &[Sample]) -> Vec<Change> {
+    let mut changes = Vec::new(alloc);
+    for sample in samples {
+        changes
+            .push(change(rt, alloc, sample))
+            .ok()
+            .expect(rt, "memory");
+    }
+    changes
 }
 
-pub fn put(alloc: Global, kind: u8, owner: &str, value: u8) -> Result<Change, AllocError> {
-    Ok(Change::Put(row(alloc, kind, owner, value)?))
+/// Whether the row is that of the line.
+fn is(row: &Row, sample: &Sample) -> bool {
+    let has_value = match (row.value.as_slice(), sample.2) {
+        ([value], Some(want)) => *value == want,
+        _ => false,
+    };
+    row.kind == sample.0
+        && row.owner.as_slice() == sample.1.as_bytes()
+        && row.place.is_empty()
+        && has_value
 }
 
-pub fn removal(alloc: Global, kind: u8, owner: &str) -> Result<Change, AllocError> {
-    Ok(Change::Remove(kind, bytes(alloc, owner)?, Vec::new(alloc)))
+fn is_change(change: &Change, sample: &Sample) -> bool {
+    match change {
+        Change::Put(row) => is(row, sample),
+        Change::Remove(kind, owner, place) => {
+            *kind == sample.0
+                && owner.as_slice() == sample.1.as_bytes()
+                && place.is_empty()
+                && sample.2.is_none()
+        }
+    }
+}
+
+/// Whether these are the changes of the lines.
+pub fn are_changes(changes: &[Change], samples: &[Sample]) -> bool {
+    changes.len() == samples.len()
+        && changes
+            .iter()
+            .zip(samples)
+            .all(|(change, sample)| is_change(change, sample))
+}
+
+fn are(rows: &[Row], samples: &[Sample]) -> bool {
+    rows.len() == samples.len()
+        && rows
+            .iter()
+            .zip(samples)
+            .all(|(row, sample)| is(row, sample))
 }
 
 // These have no clause, so that the proof of a test doesn't carry the content after each call.
-pub fn apply<R: RowStore>(rows: &mut R, changes: &[Change]) -> Result<(), RowFault> {
-    rows.apply(changes)
+pub fn apply<R: RowStore>(
+    rt: &impl Abort,
+    alloc: Global,
+    rows: &mut R,
+    samples: &[Sample],
+) -> Result<(), RowFault> {
+    let changes = changes(rt, alloc, samples);
+    let applied = rows.apply(&changes);
+    drop(changes);
+    applied
 }
 
-pub fn load<R: RowStore>(rows: &mut R) -> Result<Vec<Row>, RowFault> {
-    rows.load()
+/// Whether the rows are those of the lines.
+pub fn holds<R: RowStore>(rows: &mut R, samples: &[Sample]) -> Result<bool, RowFault> {
+    match rows.load() {
+        Ok(found) => {
+            let holds = are(&found, samples);
+            drop(found);
+            Ok(holds)
+        }
+        Err(fault) => Err(fault),
+    }
 }
