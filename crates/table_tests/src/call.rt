@@ -9,8 +9,19 @@ use crate::told::{clients, number, pairs, told};
 use mqtt_fields::Text;
 use mqtt_message::{Message, Will};
 use mqtt_packets::{Connect, Packet, read_packet};
+use mqtt_sessions::{Reaction, SessionFault};
 use session_table::Sessions;
 use std::alloc::Global;
+
+fn sound(packet: Packet) -> Result<Packet, Stop>
+    ensures { IfOk result HasSpelling }
+{
+    if packet.is_sound() {
+        return Ok(packet);
+    }
+    drop(packet);
+    Err(Stop::Word)
+}
 
 /// The packet that hexadecimal digits spell.
 fn packet_of(alloc: Global, digits: &str) -> Result<Packet, Stop>
@@ -20,14 +31,11 @@ fn packet_of(alloc: Global, digits: &str) -> Result<Packet, Stop>
         return Err(Stop::Word);
     };
     match read_packet(alloc, &bytes) {
-        Ok(Some((packet, _))) => {
-            if packet.is_sound() {
-                Ok(packet)
-            } else {
-                Err(Stop::Word)
-            }
+        Ok(Some((packet, _))) => sound(packet),
+        other => {
+            drop(other);
+            Err(Stop::Word)
         }
-        _ => Err(Stop::Word),
     }
 }
 
@@ -40,19 +48,26 @@ fn may_publish(will: &Option<Will>) -> bool
     }
 }
 
+fn publishable(connect: Connect) -> Result<Connect, Stop>
+    ensures { IfOk result (λ c. IsPublishableIf c.will) }
+{
+    if may_publish(&connect.will) {
+        return Ok(connect);
+    }
+    drop(connect);
+    Err(Stop::Word)
+}
+
 /// A CONNECT whose will can be published.
 fn connect_of(alloc: Global, digits: &str) -> Result<Connect, Stop>
     ensures { IfOk result (λ c. IsPublishableIf c.will) }
 {
     match packet_of(alloc, digits)? {
-        Packet::Connect(connect) => {
-            if may_publish(&connect.will) {
-                Ok(connect)
-            } else {
-                Err(Stop::Word)
-            }
+        Packet::Connect(connect) => publishable(connect),
+        other => {
+            drop(other);
+            Err(Stop::Word)
         }
-        _ => Err(Stop::Word),
     }
 }
 
@@ -72,6 +87,13 @@ fn text_of(alloc: Global, word: &str) -> Result<Text, Stop> {
     }
 }
 
+/// What a call came to, as text.
+fn tell(alloc: Global, answered: Result<Option<Reaction>, SessionFault>) -> Result<String, Stop> {
+    let text = told(alloc, &answered);
+    drop(answered);
+    text
+}
+
 /// What a client's CONNECT on a connection comes to.
 fn connect(
     alloc: Global,
@@ -81,10 +103,11 @@ fn connect(
     digits: &str,
     now: u64,
 ) -> Result<String, Stop> {
-    let mut changes = Vec::new(alloc);
     let connect = connect_of(alloc, digits)?;
+    let mut changes = Vec::new(alloc);
     let result = sessions.connect(client, connection, &connect, true, now, &mut changes);
-    told(alloc, &result)
+    drop((connect, changes));
+    tell(alloc, result)
 }
 
 /// What a client's packet comes to.
@@ -97,10 +120,11 @@ fn take(
 ) -> Result<String, Stop>
     requires { now < 2 ^ 62 }
 {
-    let mut changes = Vec::new(alloc);
     let packet = packet_of(alloc, digits)?;
+    let mut changes = Vec::new(alloc);
     let result = sessions.packet(client, &packet, now, true, &mut changes);
-    told(alloc, &result)
+    drop((packet, changes));
+    tell(alloc, result)
 }
 
 /// What a moment comes to.
@@ -120,7 +144,8 @@ fn at(
         "finish" => sessions.finish(client, now, &mut changes),
         _ => return Err(Stop::Word),
     };
-    told(alloc, &result)
+    drop(changes);
+    tell(alloc, result)
 }
 
 /// What is due at a moment.
@@ -133,6 +158,26 @@ fn due(alloc: Global, sessions: &Sessions, verb: &str, now: u64) -> Result<Strin
     }
 }
 
+/// Begins a client's session, or takes it out, and answers how many there are.
+fn change(
+    alloc: Global,
+    sessions: &mut Sessions,
+    client: Text,
+    begins: bool,
+) -> Result<String, Stop> {
+    let mut changes = Vec::new(alloc);
+    let changed = if begins {
+        sessions.begin(client, &mut changes)
+    } else {
+        let removed = sessions.remove(&client, &mut changes);
+        drop(client);
+        removed
+    };
+    drop(changes);
+    changed?;
+    number(alloc, Some(sessions.count() as u64))
+}
+
 /// What is asked of a client, or of all.
 fn of_client(
     alloc: Global,
@@ -140,16 +185,37 @@ fn of_client(
     verb: &str,
     word: &str,
 ) -> Result<String, Stop> {
-    let client = text_of(alloc, word)?;
-    let mut changes = Vec::new(alloc);
     match verb {
-        "begin" => sessions.begin(client, &mut changes)?,
-        "remove" => sessions.remove(&client, &mut changes)?,
-        "connection" => return number(alloc, sessions.connection(&client)),
-        "limit" => return number(alloc, sessions.limit(&client)),
-        _ => return due(alloc, sessions, verb, moment_of(word)?),
+        "begin" => change(alloc, sessions, text_of(alloc, word)?, true),
+        "remove" => change(alloc, sessions, text_of(alloc, word)?, false),
+        "connection" => number(alloc, sessions.connection(&text_of(alloc, word)?)),
+        "limit" => number(alloc, sessions.limit(&text_of(alloc, word)?)),
+        _ => due(alloc, sessions, verb, moment_of(word)?),
     }
-    number(alloc, Some(sessions.count() as u64))
+}
+
+/// What a call about a client comes to, of these words.
+fn about_client(
+    alloc: Global,
+    sessions: &mut Sessions,
+    verb: &str,
+    client: &Text,
+    words: &str,
+) -> Result<String, Stop> {
+    match words.split_once(' ') {
+        Some((digits, more)) => match more.split_once(' ') {
+            Some((connection, now)) => connect(
+                alloc,
+                sessions,
+                client,
+                moment_of(connection)?,
+                digits,
+                moment_of(now)?,
+            ),
+            None => take(alloc, sessions, client, digits, moment_of(more)?),
+        },
+        None => at(alloc, sessions, verb, client, moment_of(words)?),
+    }
 }
 
 /// What a call comes to: a verb, and words about it.
@@ -162,18 +228,7 @@ pub fn answered(alloc: Global, sessions: &mut Sessions, call: &str) -> Result<St
         return of_client(alloc, sessions, verb, about);
     };
     let client = text_of(alloc, word)?;
-    match rest.split_once(' ') {
-        Some((digits, more)) => match more.split_once(' ') {
-            Some((connection, now)) => connect(
-                alloc,
-                sessions,
-                &client,
-                moment_of(connection)?,
-                digits,
-                moment_of(now)?,
-            ),
-            None => take(alloc, sessions, &client, digits, moment_of(more)?),
-        },
-        None => at(alloc, sessions, verb, &client, moment_of(rest)?),
-    }
+    let text = about_client(alloc, sessions, verb, &client, rest);
+    drop(client);
+    text
 }

@@ -12,9 +12,8 @@ use crate::stop::Stop;
 use session_table::Sessions;
 use std::process::ExitCode;
 
-fn play(rt: &HostRuntime) -> Result<u64, Stop> {
+fn play_to(rt: &HostRuntime, sessions: &mut Sessions) -> Result<u64, Stop> {
     let alloc = rt.alloc();
-    let mut sessions = Sessions::new(alloc);
     let mut calls: u64 = 0;
     for line in rt.lines(alloc) {
         let line = line?;
@@ -25,12 +24,19 @@ fn play(rt: &HostRuntime) -> Result<u64, Stop> {
             continue;
         }
         calls = calls.saturating_add(1);
-        let text = answered(alloc, &mut sessions, call)?;
+        let text = answered(alloc, sessions, call)?;
         if text.as_str() != wanted {
             println!(rt; "{call}=>{text}")?;
         }
     }
     Ok(calls)
+}
+
+fn play(rt: &HostRuntime) -> Result<u64, Stop> {
+    let mut sessions = Sessions::new(rt.alloc());
+    let calls = play_to(rt, &mut sessions);
+    drop(sessions);
+    calls
 }
 
 fn main(rt: HostRuntime) -> ExitCode {
