@@ -9,18 +9,18 @@ use mqtt_message::{Message, SharedMessage};
 use replica_store::{Operation, ReplicaStore, delta_of};
 use row_store::{Change, Row, RowFault};
 use std::alloc::Global;
-use std::test::Fail;
+use std::process::Abort;
 
 /// The message `x` under `t`, by `a`, at QoS 1.
 const MESSAGE: [u8; 15] = [0, 1, 116, 0, 0, 0, 1, 120, 0, 1, 0, 0, 1, 97, 0];
 
-fn forward_of(alloc: Global) -> Result<Forward, Fail> {
-    let (message, _) = Message::read(alloc, &MESSAGE)?;
-    Ok(Forward {
+fn forward_of(rt: &impl Abort, alloc: Global) -> Forward {
+    let (message, _) = Message::read(alloc, &MESSAGE).expect(rt, "a message");
+    Forward {
         plain: true,
-        picks: Picks::of(Vec::new(alloc)).ok_or("picks")?,
-        message: SharedMessage::new(alloc, message)?,
-    })
+        picks: Picks::of(Vec::new(alloc)).expect(rt, "picks"),
+        message: SharedMessage::new(alloc, message).expect(rt, "memory"),
+    }
 }
 
 fn has(store: &ReplicaStore, node: u16, number: u64) -> bool {
@@ -30,38 +30,63 @@ fn has(store: &ReplicaStore, node: u16, number: u64) -> bool {
     }
 }
 
-fn remove(alloc: Global, node: u16, number: u64) -> Result<ReplicaStore, Fail> {
+fn remove(rt: &impl Abort, alloc: Global, node: u16, number: u64) -> ReplicaStore {
     let operation = Operation::Remove {
-        dot: Dot::new(node, number).ok_or("a dot")?,
+        dot: Dot::new(node, number).expect(rt, "a dot"),
         cover: Context::new(alloc),
     };
-    let delta = delta_of(alloc, &operation)?;
-    Ok(delta)
+    let delta = delta_of(alloc, &operation).expect(rt, "memory");
+    drop(operation);
+    delta
 }
 
-fn numbers(alloc: Global, frames: Vec<BridgeFrame>) -> Result<Vec<u64>, Fail> {
-    let mut out = Vec::new(alloc);
+// Links of the first of two nodes.
+fn two_links(rt: &impl Abort, alloc: Global) -> Links
+    ensures { result.nodes ≡ 2 }
+{
+    Links::new(alloc, 0, 2).expect(rt, "memory")
+}
+
+fn forward(rt: &impl Abort, alloc: Global, links: &mut Links) -> Offer
+    requires { links.old.nodes ≡ 2 }
+    ensures { links.new.nodes ≡ 2 }
+{
+    let message = forward_of(rt, alloc);
+    links.forward(1, message).expect(rt, "memory")
+}
+
+fn add_numbers(rt: &impl Abort, frames: &[BridgeFrame], numbers: &mut Vec<u64>) {
     for frame in frames {
-        if let FrameBody::Forward(number, _) = frame.body {
-            out.push(number)?;
+        if let FrameBody::Forward(number, _) = &frame.body {
+            numbers.push(*number).expect(rt, "memory");
         }
     }
-    Ok(out)
+}
+
+// Whether the messages of these numbers wait.
+fn wait(rt: &impl Abort, alloc: Global, links: &Links, want: &[u64]) -> bool
+    requires { links.now.nodes ≡ 2 }
+{
+    let frames = links.waiting(1).expect(rt, "memory");
+    let mut numbers = Vec::new(alloc);
+    add_numbers(rt, &frames, &mut numbers);
+    drop(frames);
+    numbers.as_slice() == want
 }
 
 #[test]
-fn messages_wait_until_they_are_taken(rt: HostRuntime) -> Result<(), Fail> {
+fn messages_wait_until_they_are_taken(rt: HostRuntime) {
     let alloc = rt.alloc();
-    let mut links = Links::new(alloc, 0, 2)?;
-    assert_eq!(rt; links.forward(1, forward_of(alloc)?)?, Offer::Queued(1));
-    assert_eq!(rt; links.forward(1, forward_of(alloc)?)?, Offer::Queued(2));
-    assert!(rt; numbers(alloc, links.waiting(1)?)?.as_slice() == [1, 2].as_slice());
+    let mut links = two_links(&rt, alloc);
+    assert_eq!(rt; forward(&rt, alloc, &mut links), Offer::Queued(1));
+    assert_eq!(rt; forward(&rt, alloc, &mut links), Offer::Queued(2));
+    assert!(rt; wait(&rt, alloc, &links, &[1, 2]));
     links.got(1, 1);
-    assert!(rt; numbers(alloc, links.waiting(1)?)?.as_slice() == [2].as_slice());
+    assert!(rt; wait(&rt, alloc, &links, &[2]));
     links.got(1, 9);
-    assert!(rt; numbers(alloc, links.waiting(1)?)?.is_empty());
-    assert_eq!(rt; links.forward(1, forward_of(alloc)?)?, Offer::Queued(3));
-    Ok(())
+    assert!(rt; wait(&rt, alloc, &links, &[]));
+    assert_eq!(rt; forward(&rt, alloc, &mut links), Offer::Queued(3));
+    drop(links);
 }
 
 /// What a row says of that message, and of lanes in which 2 messages were put and 1 was taken.
@@ -86,79 +111,118 @@ fn are_rows(rows: &[Row]) -> bool {
 }
 
 // The kinds of the rows that are put, and 0 for each that is removed.
-fn kinds(alloc: Global, changes: Vec<Change>) -> Result<Vec<u8>, Fail> {
-    let mut out = Vec::new(alloc);
+fn add_kinds(rt: &impl Abort, changes: &[Change], kinds: &mut Vec<u8>) {
     for change in changes {
         let kind = match change {
             Change::Put(row) => row.kind,
             Change::Remove(_, _, _) => 0,
         };
-        out.push(kind)?;
+        kinds.push(kind).expect(rt, "memory");
     }
-    Ok(out)
+}
+
+// Whether the changes of the rows have these kinds; they count as told then.
+fn tell(rt: &impl Abort, alloc: Global, links: &mut Links, want: &[u8]) -> bool
+    ensures { links.new.nodes ≡ links.old.nodes }
+{
+    let changes = links.changes().expect(rt, "memory");
+    let mut kinds = Vec::new(alloc);
+    add_kinds(rt, &changes, &mut kinds);
+    drop(changes);
+    kinds.as_slice() == want
+}
+
+fn is_bad(alloc: Global, rows: &[Row]) -> bool {
+    let read = Links::from_rows(alloc, 0, 2, rows);
+    let is_bad = matches!(read, Err(RowFault::BadRow));
+    drop(read);
+    is_bad
+}
+
+// Whether links that are opened from the rows have those rows.
+fn are_read(rt: &impl Abort, alloc: Global, rows: &[Row]) -> bool {
+    let read = Links::from_rows(alloc, 0, 2, rows).expect(rt, "links");
+    let again = read.rows().expect(rt, "memory");
+    drop(read);
+    let are_read = are_rows(&again);
+    drop(again);
+    are_read
 }
 
 #[test]
-fn rows_are_told_and_read(rt: HostRuntime) -> Result<(), Fail> {
+fn rows_are_told_and_read(rt: HostRuntime) {
     let alloc = rt.alloc();
-    let mut links = Links::new(alloc, 0, 2)?;
-    links.forward(1, forward_of(alloc)?)?;
-    links.forward(1, forward_of(alloc)?)?;
+    let mut links = two_links(&rt, alloc);
+    forward(&rt, alloc, &mut links);
+    forward(&rt, alloc, &mut links);
     links.arrived(1, 1);
-    assert!(rt; kinds(alloc, links.changes()?)?.as_slice() == [7, 7, 8].as_slice());
+    assert!(rt; tell(&rt, alloc, &mut links, &[7, 7, 8]));
     links.got(1, 1);
-    assert!(rt; kinds(alloc, links.changes()?)?.as_slice() == [0].as_slice());
-    let rows = links.rows()?;
+    assert!(rt; tell(&rt, alloc, &mut links, &[0]));
+    let rows = links.rows().expect(&rt, "memory");
+    drop(links);
     assert!(rt; are_rows(&rows));
-    let few = Links::from_rows(alloc, 0, 2, &rows[..1]);
-    assert!(rt; matches!(few, Err(RowFault::BadRow)));
-    if let Ok(read) = Links::from_rows(alloc, 0, 2, &rows) {
-        assert!(rt; are_rows(&read.rows()?));
-    } else {
-        assert!(rt; false);
-    }
-    Ok(())
+    let (few, _) = rows.split_at_checked(1).expect(&rt, "a row");
+    assert!(rt; is_bad(alloc, few));
+    assert!(rt; are_read(&rt, alloc, &rows));
+    drop(rows);
 }
 
 #[test]
-fn messages_are_taken_in_order(rt: HostRuntime) -> Result<(), Fail> {
-    let mut links = Links::new(rt.alloc(), 0, 2)?;
+fn messages_are_taken_in_order(rt: HostRuntime) {
+    let mut links = two_links(&rt, rt.alloc());
     assert!(rt; !links.arrived(1, 2));
     assert!(rt; links.arrived(1, 1));
     assert!(rt; !links.arrived(1, 1));
     assert!(rt; links.arrived(1, 2));
-    Ok(())
+    drop(links);
 }
 
-fn keep(alloc: Global, links: &mut Links, store: &mut ReplicaStore, number: u64) -> Result<(), Fail>
+fn keep(rt: &impl Abort, alloc: Global, links: &mut Links, store: &mut ReplicaStore, number: u64)
     ensures { links.new.nodes ≡ links.old.nodes }
 {
-    let delta = remove(alloc, 0, number)?;
-    store.join(&delta)?;
-    links.took(delta)?;
-    Ok(())
+    let delta = remove(rt, alloc, 0, number);
+    store.join(&delta).expect(rt, "memory");
+    links.took(delta).expect(rt, "memory");
+}
+
+fn ship(rt: &impl Abort, links: &Links, store: &ReplicaStore) -> Option<ReplicaStore>
+    requires { links.now.nodes ≡ 2 }
+{
+    links.ship(1, store).expect(rt, "memory")
+}
+
+fn ships_none(rt: &impl Abort, links: &Links, store: &ReplicaStore) -> bool
+    requires { links.now.nodes ≡ 2 }
+{
+    let shipped = ship(rt, links, store);
+    let is_none = shipped.is_none();
+    drop(shipped);
+    is_none
 }
 
 #[test]
-fn what_a_peer_may_lack_is_shipped(rt: HostRuntime) -> Result<(), Fail> {
+fn what_a_peer_may_lack_is_shipped(rt: HostRuntime) {
     let alloc = rt.alloc();
-    let mut links = Links::new(alloc, 0, 2)?;
+    let mut links = two_links(&rt, alloc);
     let mut store = ReplicaStore::new(alloc);
-    keep(alloc, &mut links, &mut store, 1)?;
-    links.knows(1, store.taken())?;
-    assert!(rt; links.ship(1, &store)?.is_none());
-    keep(alloc, &mut links, &mut store, 2)?;
-    let shipped = links.ship(1, &store)?.ok_or("a delta")?;
+    keep(&rt, alloc, &mut links, &mut store, 1);
+    links.knows(1, store.taken()).expect(&rt, "memory");
+    assert!(rt; ships_none(&rt, &links, &store));
+    keep(&rt, alloc, &mut links, &mut store, 2);
+    let shipped = ship(&rt, &links, &store).expect(&rt, "a delta");
+    drop((links, store));
     assert!(rt; has(&shipped, 0, 2) && !has(&shipped, 0, 1));
-    Ok(())
+    drop(shipped);
 }
 
 #[test]
-fn what_is_in_no_delta_is_shipped_with_the_whole_store(rt: HostRuntime) -> Result<(), Fail> {
+fn what_is_in_no_delta_is_shipped_with_the_whole_store(rt: HostRuntime) {
     let alloc = rt.alloc();
-    let links = Links::new(alloc, 0, 2)?;
-    let store = remove(alloc, 1, 1)?;
-    let whole = links.ship(1, &store)?.ok_or("the store")?;
+    let links = two_links(&rt, alloc);
+    let store = remove(&rt, alloc, 1, 1);
+    let whole = ship(&rt, &links, &store).expect(&rt, "the store");
+    drop((links, store));
     assert!(rt; has(&whole, 1, 1));
-    Ok(())
+    drop(whole);
 }

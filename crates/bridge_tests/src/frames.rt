@@ -3,7 +3,6 @@
 use bridge_frames::{BridgeFrame, Forward, FrameBody, LinkFault, frame_length};
 use std::alloc::Global;
 use std::process::Abort;
-use std::test::Fail;
 
 /// Hello from node 0 to node 1.
 const HELLO: [u8; 9] = [0, 0, 0, 5, 1, 0, 0, 0, 1];
@@ -17,10 +16,15 @@ const FORWARD: [u8; 50] = [
 
 #[test]
 fn lengths(rt: HostRuntime) {
-    assert_eq!(rt; frame_length(&[0, 0, 0, 5]), Ok(Some(9)));
-    assert_eq!(rt; frame_length(&[0x10, 0, 0, 0]), Ok(Some(268_435_460)));
-    assert_eq!(rt; frame_length(&[0x10, 0, 0, 1]), Err(LinkFault::TooLarge));
-    assert_eq!(rt; frame_length(&[0, 0, 0]), Ok(None));
+    let rows: [(&[u8], Result<Option<usize>, LinkFault>); 4] = [
+        (&[0, 0, 0, 5], Ok(Some(9))),
+        (&[0x10, 0, 0, 0], Ok(Some(268_435_460))),
+        (&[0x10, 0, 0, 1], Err(LinkFault::TooLarge)),
+        (&[0, 0, 0], Ok(None)),
+    ];
+    for (bytes, want) in rows {
+        assert_eq!(rt; frame_length(bytes), want, "{bytes:?}");
+    }
 }
 
 fn written(rt: &impl Abort, alloc: Global, frame: &BridgeFrame) -> Vec<u8> {
@@ -100,14 +104,14 @@ fn numbers_are_from_one_below_the_end(rt: HostRuntime) {
 }
 
 #[test]
-fn faults_by_name(rt: HostRuntime) -> Result<(), Fail> {
+fn faults_by_name(rt: HostRuntime) {
     let alloc = rt.alloc();
     let names = format!(in alloc;
         "{} {} {}",
         LinkFault::BadFrame,
         LinkFault::TooLarge,
         LinkFault::NoMemory
-    )?;
+    )
+    .expect(&rt, "memory");
     assert!(rt; names.as_str() == "BadFrame TooLarge NoMemory");
-    Ok(())
 }
