@@ -61,19 +61,21 @@ fn is_change(change: &Change, sample: &Sample) -> bool {
 
 /// Whether these are the changes of the lines.
 pub fn are_changes(changes: &[Change], samples: &[Sample]) -> bool {
+    for (change, sample) in changes.iter().zip(samples) {
+        if !is_change(change, sample) {
+            return false;
+        }
+    }
     changes.len() == samples.len()
-        && changes
-            .iter()
-            .zip(samples)
-            .all(|(change, sample)| is_change(change, sample))
 }
 
 fn are(rows: &[Row], samples: &[Sample]) -> bool {
+    for (row, sample) in rows.iter().zip(samples) {
+        if !is(row, sample) {
+            return false;
+        }
+    }
     rows.len() == samples.len()
-        && rows
-            .iter()
-            .zip(samples)
-            .all(|(row, sample)| is(row, sample))
 }
 
 // These have no clause, so that the proof of a test doesn't carry the content after each call.

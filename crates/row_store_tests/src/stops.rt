@@ -169,6 +169,7 @@ fn done_in<S: Alter + Drop>(
     }
 }
 
+// For each disk: at the one disk of the tests the proof is four times as long.
 fn done_with<D: Disk + Drop>(
     rt: &impl Abort,
     alloc: Global,
@@ -185,7 +186,7 @@ fn done_with<D: Disk + Drop>(
     }
 }
 
-// A disk with these bytes, all of them synced, and no trouble, or the calls of it after which it stops.
+// A disk with these bytes, all of them synced, which stops after so many calls.
 fn disk(rt: &impl Abort, alloc: Global, bytes: &[u8], stop: u64) -> Fuse<Memory> {
     let mut memory = Memory::new(alloc);
     memory.write_at(0, bytes).expect(rt, "memory");
@@ -202,25 +203,48 @@ fn file(rt: &impl Abort, alloc: Global, bytes: &[u8], trouble: Option<Trouble>) 
     CountedDisk::new(disk(rt, alloc, bytes, stop), refusal)
 }
 
-fn files(rt: &impl Abort, alloc: Global, trouble: Option<Trouble>) -> Files<File> {
-    let (log, db) = match trouble {
+// A log and a database file with these bytes.
+fn files(
+    rt: &impl Abort,
+    alloc: Global,
+    (log, db): (&[u8], &[u8]),
+    trouble: Option<Trouble>,
+) -> Files<File> {
+    let (of_log, of_db) = match trouble {
         Some(it) if it.is_of_log => (trouble, None),
         _ => (None, trouble),
     };
     Files {
-        log: file(rt, alloc, &[], log),
-        db: file(rt, alloc, &[], db),
+        log: file(rt, alloc, log, of_log),
+        db: file(rt, alloc, db, of_db),
     }
+}
+
+// The one call at these files, since each such call is long to prove.
+fn run(
+    rt: &impl Abort,
+    alloc: Global,
+    files: Files<File>,
+    seed: u64,
+    task: Task,
+) -> (Files<File>, Option<Outcome>) {
+    done_with(rt, alloc, files, seed, task)
+}
+
+fn let_go(files: Files<File>) {
+    drop(files);
+}
+
+// How many calls were made of the log, and of the database file.
+fn calls_of(files: &Files<File>) -> (u64, u64) {
+    (files.log.calls(), files.db.calls())
 }
 
 // Whether files with these bytes go on from an outcome.
 fn is_there(rt: &impl Abort, alloc: Global, log: &[u8], db: &[u8], outcome: Outcome) -> bool {
-    let files = Files {
-        log: file(rt, alloc, log, None),
-        db: file(rt, alloc, db, None),
-    };
-    let (files, found) = done_with(rt, alloc, files, 2, Task::GoOn(outcome));
-    drop(files);
+    let files = files(rt, alloc, (log, db), None);
+    let (files, found) = run(rt, alloc, files, 2, Task::GoOn(outcome));
+    let_go(files);
     found.is_some()
 }
 
@@ -260,22 +284,18 @@ fn is_left(rt: &impl Abort, alloc: Global, files: &mut Files<File>, outcome: Out
 
 // Whether a run meets its trouble.
 fn meets(rt: &impl Abort, alloc: Global, trouble: Trouble) -> bool {
-    let files = files(rt, alloc, Some(trouble));
-    let (mut files, outcome) = done_with(rt, alloc, files, 1, Task::Make);
+    let files = files(rt, alloc, (&[], &[]), Some(trouble));
+    let (mut files, outcome) = run(rt, alloc, files, 1, Task::Make);
     let outcome = outcome.expect(rt, "another fault than the disk's");
-    let calls = if trouble.is_of_log {
-        files.log.calls()
+    let (log, db) = calls_of(&files);
+    let is_left = is_left(rt, alloc, &mut files, outcome);
+    let_go(files);
+    assert!(rt; is_left, "after {} calls", trouble.calls);
+    if trouble.is_of_log {
+        log > trouble.calls
     } else {
-        files.db.calls()
-    };
-    let meets = calls > trouble.calls;
-    assert!(rt;
-        is_left(rt, alloc, &mut files, outcome),
-        "after {} calls",
-        trouble.calls
-    );
-    drop(files);
-    meets
+        db > trouble.calls
+    }
 }
 
 // How many runs have trouble before one ends without any.
@@ -303,12 +323,12 @@ fn each_stop_and_refusal_leaves_the_rows_before_or_after(rt: HostRuntime) {
 
 // How many calls of both files it takes to make a store, and to make no changes so many times.
 fn calls_for_no_changes(rt: &impl Abort, alloc: Global, times: u64) -> Option<u64> {
-    let files = files(rt, alloc, None);
-    let (files, outcome) = done_with(rt, alloc, files, 1, Task::Nothing(times));
+    let files = files(rt, alloc, (&[], &[]), None);
+    let (files, outcome) = run(rt, alloc, files, 1, Task::Nothing(times));
+    let (log, db) = calls_of(&files);
+    let_go(files);
     assert!(rt; outcome.is_some());
-    let calls = files.log.calls().checked_add(files.db.calls());
-    drop(files);
-    calls
+    log.checked_add(db)
 }
 
 #[test]
