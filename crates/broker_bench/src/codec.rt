@@ -95,6 +95,15 @@ fn feed(framer: &mut Framer, stream: &[u8]) -> Result<u64, Failure> {
     Ok(count)
 }
 
+// How many packets the framer cuts off the stream, which it is fed so many times over.
+fn feed_times(framer: &mut Framer, stream: &[u8], times: u64) -> Result<u64, Failure> {
+    let mut packets = 0u64;
+    for _ in 0..times {
+        packets = packets.saturating_add(feed(framer, stream)?);
+    }
+    Ok(packets)
+}
+
 // Reads the packets of a stream, so many times over.
 fn read(
     rt: &HostRuntime,
@@ -104,26 +113,18 @@ fn read(
     times: u64,
 ) -> Result<(), Failure> {
     let mut framer = Framer::new(rt.alloc(), LIMIT);
-    let watch = Stopwatch::start(rt)?;
-    let mut packets = 0u64;
-    let mut bytes = 0u64;
-    for _ in 0..times {
-        packets = packets.saturating_add(feed(&mut framer, stream)?);
-        bytes = bytes.saturating_add(stream.len() as u64);
-    }
-    watch.print_bytes(rt, name, packets, bytes)?;
+    let watch = Stopwatch::start(rt);
+    let packets = feed_times(&mut framer, stream, times);
+    drop(framer);
+    let packets = packets?;
+    let bytes = times.saturating_mul(stream.len() as u64);
+    watch?.print_bytes(rt, name, packets, bytes)?;
     ensure(packets == count.saturating_mul(times))
 }
 
-fn decode(
-    rt: &HostRuntime,
-    name: &str,
-    packet: &Packet,
-    count: u64,
-    times: u64,
-) -> Result<(), Failure> {
-    let stream = stream(rt.alloc(), packet, count)?;
-    read(rt, name, stream.as_slice(), count, times)
+fn decode(rt: &HostRuntime, packet: &Packet, part: &Part) -> Result<(), Failure> {
+    let stream = stream(rt.alloc(), packet, part.count)?;
+    read(rt, part.decode, stream.as_slice(), part.count, part.times)
 }
 
 // Writes so many packets, of which the last ones stay, and answers how many bytes there were.
@@ -151,10 +152,39 @@ fn encode(rt: &HostRuntime, name: &str, packet: &Packet, count: u64) -> Result<(
     Ok(watch.print_bytes(rt, name, count, bytes)?)
 }
 
+// What is timed of a packet.
+#[derive(Clone, Copy)]
+struct Part {
+    decode: &'static str,
+    /// How many packets the stream has, and how often it is read.
+    count: u64,
+    times: u64,
+    encode: &'static str,
+    /// How many packets are written.
+    written: u64,
+}
+
+fn figures(rt: &HostRuntime, packet: &Packet, part: &Part) -> Result<(), Failure> {
+    decode(rt, packet, part)?;
+    encode(rt, part.encode, packet, part.written)
+}
+
+fn time(rt: &HostRuntime, packet: Packet, part: &Part) -> Result<(), Failure> {
+    let told = figures(rt, &packet, part);
+    drop(packet);
+    told
+}
+
 fn plain(rt: &HostRuntime) -> Result<(), Failure> {
+    let part = Part {
+        decode: "decode of 64 bytes",
+        count: 20_000,
+        times: 10,
+        encode: "encode of 64 bytes",
+        written: 200_000,
+    };
     let packet = publish(rt.alloc(), 64, Properties::new(rt.alloc()))?;
-    decode(rt, "decode of 64 bytes", &packet, 20_000, 10)?;
-    encode(rt, "encode of 64 bytes", &packet, 200_000)
+    time(rt, packet, &part)
 }
 
 fn with_properties(alloc: Global) -> Result<Packet, Failure> {
@@ -164,21 +194,27 @@ fn with_properties(alloc: Global) -> Result<Packet, Failure> {
 }
 
 fn with_two(rt: &HostRuntime) -> Result<(), Failure> {
+    let part = Part {
+        decode: "decode of 64 bytes, two properties",
+        count: 20_000,
+        times: 10,
+        encode: "encode of 64 bytes, two properties",
+        written: 200_000,
+    };
     let packet = with_properties(rt.alloc())?;
-    decode(
-        rt,
-        "decode of 64 bytes, two properties",
-        &packet,
-        20_000,
-        10,
-    )?;
-    encode(rt, "encode of 64 bytes, two properties", &packet, 200_000)
+    time(rt, packet, &part)
 }
 
 fn long(rt: &HostRuntime) -> Result<(), Failure> {
+    let part = Part {
+        decode: "decode of 64 KiB",
+        count: 100,
+        times: 20,
+        encode: "encode of 64 KiB",
+        written: 2000,
+    };
     let packet = publish(rt.alloc(), 65_536, Properties::new(rt.alloc()))?;
-    decode(rt, "decode of 64 KiB", &packet, 100, 20)?;
-    encode(rt, "encode of 64 KiB", &packet, 2000)
+    time(rt, packet, &part)
 }
 
 /// The figures of packets.

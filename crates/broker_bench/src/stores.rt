@@ -141,20 +141,25 @@ fn fill_whole(rt: &HostRuntime, store: &mut ReplicaStore) -> Result<(), Failure>
     ensure(store.retained().len() == 100_000)
 }
 
+// Whether an operation was made, which is let go.
+fn made<E: Drop>(operation: Result<Operation, E>) -> Result<(), Failure> {
+    let is_made = operation.is_ok();
+    drop(operation);
+    if is_made {
+        Ok(())
+    } else {
+        Err(Failure::Memory)
+    }
+}
+
 fn make_subscribe(alloc: Global, store: &ReplicaStore, number: u64) -> Result<(), Failure> {
     let entry = entry(alloc, number)?;
-    match store.make_subscribe(1, entry) {
-        Ok(_) => Ok(()),
-        Err(_) => Err(Failure::Memory),
-    }
+    made(store.make_subscribe(1, entry))
 }
 
 fn make_put(alloc: Global, store: &ReplicaStore, number: u64) -> Result<(), Failure> {
     let content = content(alloc, number)?;
-    match store.make_put(2, content) {
-        Ok(_) => Ok(()),
-        Err(_) => Err(Failure::Memory),
-    }
+    made(store.make_put(2, content))
 }
 
 fn make_subscribes(rt: &HostRuntime, store: &ReplicaStore) -> Result<(), Failure> {
