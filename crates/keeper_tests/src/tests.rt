@@ -1,7 +1,8 @@
 //! The rows refuse the first call, then in another run the second, and so on, until a run ends with none refused.
 
-use crate::trial::{Failed, Trial, ensure};
+use crate::trial::Trial;
 use std::alloc::Global;
+use std::process::Abort;
 
 /// How many steps the client's path has.
 const STEPS: usize = 5;
@@ -11,65 +12,43 @@ const AGAIN: usize = 2;
 
 /// Takes one step; where the rows refuse it, the node is opened again, and takes the step after those that come anew. Whether
 /// they have refused it.
-fn take(trial: &mut Trial, step: usize) -> Result<bool, Failed> {
+fn take(rt: &impl Abort, trial: &mut Trial, step: usize) -> bool {
     let held = trial.holdings();
-    if trial.step(step)? {
-        return Ok(false);
+    if trial.step(rt, step) {
+        return false;
     }
-    trial.reopen(held)?;
+    trial.reopen(rt, held);
     for earlier in 0..step.min(AGAIN) {
-        ensure(trial.step(earlier)?)?;
+        assert!(rt; trial.step(rt, earlier));
     }
-    ensure(trial.step(step)?)?;
-    Ok(true)
+    assert!(rt; trial.step(rt, step));
+    true
 }
 
 /// How often the rows refuse a step of a whole path.
-fn refusals(trial: &mut Trial) -> Result<u64, Failed> {
+fn refusals(rt: &impl Abort, trial: &mut Trial) -> u64 {
     let mut refusals: u64 = 0;
     for step in 0..STEPS {
-        if take(trial, step)? {
+        if take(rt, trial, step) {
             refusals = refusals.saturating_add(1);
         }
     }
-    ensure(trial.holdings() == (1, 1))?;
-    Ok(refusals)
+    assert!(rt; trial.holdings() == (1, 1));
+    refusals
 }
 
 /// A whole path, whose rows refuse the call of this number.
-fn run(alloc: Global, refused: u64) -> Result<u64, Failed> {
-    match Trial::open(alloc, refused) {
-        Ok(mut trial) => refusals(&mut trial),
-        Err(fault) => Err(fault),
-    }
+fn run(rt: &impl Abort, alloc: Global, refused: u64) -> u64 {
+    let mut trial = Trial::open(rt, alloc, refused);
+    let refusals = refusals(rt, &mut trial);
+    drop(trial);
+    refusals
 }
 
 #[test]
 fn a_refused_call_stops_the_node_until_it_is_opened_again(rt: HostRuntime) {
-    let refusals = [
-        run(rt.alloc(), 1),
-        run(rt.alloc(), 2),
-        run(rt.alloc(), 3),
-        run(rt.alloc(), 4),
-        run(rt.alloc(), 5),
-        run(rt.alloc(), 6),
-        run(rt.alloc(), 7),
-        run(rt.alloc(), 8),
-        run(rt.alloc(), 9),
-    ];
     // An opening without rows loads, puts the mark and loads; each of the client's four steps puts its rows once.
-    assert_eq!(rt;
-        refusals,
-        [
-            Ok(0),
-            Ok(0),
-            Ok(0),
-            Ok(1),
-            Ok(1),
-            Ok(1),
-            Ok(1),
-            Ok(0),
-            Ok(0)
-        ]
-    );
+    for (refused, refusals) in (1..).zip([0, 0, 0, 1, 1, 1, 1, 0, 0]) {
+        assert_eq!(rt; run(&rt, rt.alloc(), refused), refusals, "call {refused}");
+    }
 }

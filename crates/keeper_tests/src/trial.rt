@@ -1,5 +1,5 @@
 //! A client's path at a node whose rows refuse one call.
-ghost use Rattle.std.specs.Prelude.{◌<◌, length, IfOk};
+ghost use Rattle.std.specs.Prelude.{◌<◌, length};
 
 use crate::refusing::RefusingRows;
 use broker_node::{Event, EventKind};
@@ -8,6 +8,7 @@ use mqtt_packets::Bytes;
 use node_keeper::{Keeper, KeeperFault};
 use row_store::RowFault;
 use std::alloc::Global;
+use std::process::Abort;
 
 /// The table of homes.
 const HOMES: &str =
@@ -24,15 +25,6 @@ const SUBSCRIBE: &[u8] = &[0x82, 7, 0, 1, 0, 0, 1, 0x74, 0];
 /// PUBLISH of `on` to `t` with QoS 1 and RETAIN.
 const PUBLISH: &[u8] = &[0x33, 8, 0, 1, 0x74, 0, 7, 0, 0x6f, 0x6e];
 
-/// Why a trial isn't gone on with.
-#[derive(Clone, Copy, Debug, PartialEq, Eq)]
-pub enum Failed {
-    /// Memory is wanting.
-    Memory,
-    /// The node has answered otherwise than it must.
-    Answer,
-}
-
 /// A node, the moment of its last event, and the connection of its client.
 #[derive(Drop)]
 pub struct Trial {
@@ -42,56 +34,41 @@ pub struct Trial {
     connection: u64,
 }
 
-pub fn ensure(holds: bool) -> Result<(), Failed> {
-    if holds { Ok(()) } else { Err(Failed::Answer) }
-}
-
-/// The rows' own fault, and no other.
-fn refused_by(fault: KeeperFault) -> Result<bool, Failed> {
-    ensure(fault == KeeperFault::Rows(RowFault::Device))?;
-    Ok(false)
-}
-
-fn table(alloc: Global) -> Result<HomeTable, Failed>
-    ensures { IfOk result (λ homes. 0 < length homes.nodes) }
+fn table(rt: &impl Abort, alloc: Global) -> HomeTable
+    ensures { 0 < length result.nodes }
 {
-    match HomeTable::parse(alloc, HOMES) {
-        Ok(homes) if homes.nodes() > 0 => Ok(homes),
-        _ => Err(Failed::Memory),
-    }
+    let homes = HomeTable::parse(alloc, HOMES).expect(rt, "a table");
+    assert!(rt; homes.nodes() > 0);
+    homes
 }
 
-fn opened(alloc: Global, rows: RefusingRows) -> Result<Keeper<RefusingRows>, RefusingRows> {
-    let Ok(homes) = table(alloc) else {
-        return Err(rows);
-    };
-    match Keeper::open(alloc, rows, homes, 0) {
+fn opened(
+    rt: &impl Abort,
+    alloc: Global,
+    rows: RefusingRows,
+) -> Result<Keeper<RefusingRows>, RefusingRows> {
+    match Keeper::open(alloc, rows, table(rt, alloc), 0) {
         Ok(keeper) => Ok(keeper),
         Err((_, rows)) => Err(rows),
     }
 }
 
-fn woken(alloc: Global, refused: u64) -> Result<Keeper<RefusingRows>, Failed> {
-    let rows = match opened(alloc, RefusingRows::new(alloc, refused)) {
-        Ok(keeper) => return Ok(keeper),
-        Err(rows) => rows,
-    };
-    match opened(alloc, rows) {
-        Ok(keeper) => Ok(keeper),
-        Err(_) => Err(Failed::Answer),
+fn woken(rt: &impl Abort, alloc: Global, refused: u64) -> Keeper<RefusingRows> {
+    match opened(rt, alloc, RefusingRows::new(alloc, refused)) {
+        Ok(keeper) => keeper,
+        Err(rows) => opened(rt, alloc, rows).ok().expect(rt, "a node"),
     }
 }
 
 impl Trial {
     /// A node without rows, of whose calls to the rows one is refused; where that is one of its opening, it is opened again.
-    pub fn open(alloc: Global, refused: u64) -> Result<Trial, Failed> {
-        let keeper = woken(alloc, refused)?;
-        Ok(Trial {
+    pub fn open(rt: &impl Abort, alloc: Global, refused: u64) -> Trial {
+        Trial {
             alloc,
-            keeper,
+            keeper: woken(rt, alloc, refused),
             at: 0,
             connection: 0,
-        })
+        }
     }
 
     /// The live subscriptions and the retained messages of the node.
@@ -103,41 +80,40 @@ impl Trial {
         )
     }
 
-    /// Hands the node an event. Whether it was taken: it isn't where the rows refuse it.
-    fn handle(&mut self, kind: EventKind) -> Result<bool, Failed> {
+    /// Hands the node an event. Whether it was taken: it isn't where the rows refuse it, and it has no other fault.
+    fn handle(&mut self, rt: &impl Abort, kind: EventKind) -> bool {
         self.at = self.at.saturating_add(1);
         let event = Event { at: self.at, kind };
-        match self.keeper.handle(&event) {
-            Ok(_) => Ok(true),
-            Err(fault) => refused_by(fault),
-        }
+        let fault = self.keeper.handle(&event).err();
+        drop(event);
+        let refused = fault == Some(KeeperFault::Rows(RowFault::Device));
+        assert!(rt; refused || fault.is_none());
+        !refused
     }
 
-    fn send(&mut self, bytes: &[u8]) -> Result<bool, Failed> {
-        let Ok(bytes) = Bytes::from_slice(self.alloc, bytes) else {
-            return Err(Failed::Memory);
-        };
+    fn send(&mut self, rt: &impl Abort, bytes: &[u8]) -> bool {
+        let bytes = Bytes::from_slice(self.alloc, bytes).expect(rt, "memory");
         let connection = self.connection;
-        self.handle(EventKind::Piece { connection, bytes })
+        self.handle(rt, EventKind::Piece { connection, bytes })
     }
 
     /// The client connects on a new connection.
-    fn connect(&mut self) -> Result<bool, Failed> {
+    fn connect(&mut self, rt: &impl Abort) -> bool {
         self.connection = self.connection.saturating_add(1);
         let connection = self.connection;
-        ensure(self.handle(EventKind::Opened { connection })?)?;
-        self.send(CONNECT)
+        assert!(rt; self.handle(rt, EventKind::Opened { connection }));
+        self.send(rt, CONNECT)
     }
 
     /// One step of the client's path. Whether it was taken.
-    pub fn step(&mut self, step: usize) -> Result<bool, Failed> {
+    pub fn step(&mut self, rt: &impl Abort, step: usize) -> bool {
         let connection = self.connection;
         match step {
-            0 => self.handle(EventKind::Started),
-            1 => self.connect(),
-            2 => self.send(SUBSCRIBE),
-            3 => self.send(PUBLISH),
-            _ => self.handle(EventKind::Closed { connection }),
+            0 => self.handle(rt, EventKind::Started),
+            1 => self.connect(rt),
+            2 => self.send(rt, SUBSCRIBE),
+            3 => self.send(rt, PUBLISH),
+            _ => self.handle(rt, EventKind::Closed { connection }),
         }
     }
 
@@ -145,14 +121,14 @@ impl Trial {
     fn has_stopped(&mut self) -> bool {
         let at = self.at;
         let kind = EventKind::Tick;
-        let answer = self.keeper.handle(&Event { at, kind });
-        !self.keeper.is_up() && matches!(answer, Err(KeeperFault::Stopped))
+        let fault = self.keeper.handle(&Event { at, kind }).err();
+        !self.keeper.is_up() && fault == Some(KeeperFault::Stopped)
     }
 
     /// The node has stopped, answers so, and is opened again, with what it held.
-    pub fn reopen(&mut self, held: (usize, usize)) -> Result<(), Failed> {
-        let stopped = self.has_stopped();
-        let opened = self.keeper.reopen().is_ok();
-        ensure(stopped && opened && self.holdings() == held)
+    pub fn reopen(&mut self, rt: &impl Abort, held: (usize, usize)) {
+        assert!(rt; self.has_stopped());
+        self.keeper.reopen().expect(rt, "a node");
+        assert!(rt; self.holdings() == held);
     }
 }
