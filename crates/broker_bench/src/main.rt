@@ -1,10 +1,11 @@
 //! How long the parts take that a broker runs most, on the machine it runs on: one line for each
-//! figure of the parts that are named as arguments (`contexts`, `store`, `codec`).
+//! figure of the parts that are named as arguments (`contexts`, `store`, `codec`, `wide`).
 #![tactic(auto)]
 
 mod codec;
 mod contexts;
 mod stores;
+mod wide;
 
 use bench_clock::Failure;
 use std::io;
@@ -15,6 +16,7 @@ fn run(rt: &HostRuntime, part: &str) -> Result<(), Failure> {
         "contexts" => contexts::run(rt),
         "store" => stores::run(rt),
         "codec" => codec::run(rt),
+        "wide" => wide::run(rt),
         _ => Err(Failure::Part),
     }
 }

@@ -51,7 +51,7 @@ fn topic(alloc: Global, number: u64) -> Result<TopicName, Failure> {
         .ok_or(Failure::Answer)
 }
 
-fn message(alloc: Global) -> Result<Message, Failure> {
+pub fn message(alloc: Global) -> Result<Message, Failure> {
     match Message::read(alloc, &MESSAGE) {
         Ok((message, _)) => Ok(message),
         Err(_) => Err(Failure::Answer),
@@ -66,7 +66,7 @@ fn content(alloc: Global, number: u64) -> Result<Content, Failure> {
     Ok(Content::Set(SharedMessage::new(alloc, message)?))
 }
 
-fn dot(node: u16, number: u64) -> Result<Dot, Failure> {
+pub fn dot(node: u16, number: u64) -> Result<Dot, Failure> {
     Dot::new(node, number).ok_or(Failure::Answer)
 }
 
@@ -95,7 +95,7 @@ fn put(alloc: Global, number: u64) -> Result<Operation, Failure> {
     })
 }
 
-fn apply(store: &mut ReplicaStore, operation: &Operation) -> Result<(), Failure> {
+pub fn apply(store: &mut ReplicaStore, operation: &Operation) -> Result<(), Failure> {
     store.apply(operation).ok().ok_or(Failure::Answer)
 }
 
@@ -118,7 +118,7 @@ fn fill(alloc: Global, store: &mut ReplicaStore, from: u64, to: u64) -> Result<(
     Ok(())
 }
 
-fn join(store: &mut ReplicaStore, other: &ReplicaStore) -> Result<(), Failure> {
+pub fn join(store: &mut ReplicaStore, other: &ReplicaStore) -> Result<(), Failure> {
     store.join(other).ok().ok_or(Failure::Memory)
 }
 
@@ -191,7 +191,7 @@ fn applies(
     Ok(watch.print(rt, name, operations.len() as u64)?)
 }
 
-fn delta(alloc: Global, operation: &Operation) -> Result<ReplicaStore, Failure> {
+pub fn delta(alloc: Global, operation: &Operation) -> Result<ReplicaStore, Failure> {
     delta_of(alloc, operation).ok().ok_or(Failure::Memory)
 }
 
