@@ -7,7 +7,7 @@ use Rattle.causal_context.specs.Dots.{Dot, Dots, dot_cmp_total}
 use Rattle.causal_context.specs.SetLattice.{IsSubset}
 use Rattle.filter_trie.specs.Selected.{IsSelected}
 use Rattle.replica_store.specs.States.{State, nothing, state_join}
-use Rattle.bridge_deltas.specs.Shipped.{IsNew, JoinsNew, joined_to, all_joined, dots_with, AreKept}
+use Rattle.bridge_deltas.specs.Shipped.{IsNew, IsShipped, JoinsNew, joined_to, all_joined, dots_with, AreKept}
 
 or_left : (a b : Bool) → a ≡ true → (a || b) ≡ true
 or_left true b e = refl
@@ -95,3 +95,39 @@ next_dots belief all i d dots inside is so = sym (ap (dots_with dots) (next_left
 
 pub all_dots : (belief : Dots) (all : List State) (i : ℕ) (dots : Dots) → length all ≤ i → dots_with dots (drop i all) ≡ dots_with belief all → dots ≡ dots_with belief all
 all_dots belief all i dots over so = sym (ap (dots_with dots) (none_left all i over)) ∙ so
+
+-- ---- what is shipped
+selected_same : (P : State → Type 0) (ds these those : List State) → IsSelected P ds these → IsSelected P ds those → these ≡ those
+selected_same P [] these those a b = a ∙ sym b
+selected_same P (d ∷ ds) these those (inl a) (inl b) = a.1.1 ∙ ap (λ r. d ∷ r) (selected_same P ds a.1.0 b.1.0 a.1.2 b.1.2) ∙ sym b.1.1
+selected_same P (d ∷ ds) these those (inl a) (inr b) = absurd (b.0 a.0)
+selected_same P (d ∷ ds) these those (inr a) (inl b) = absurd (a.0 b.0)
+selected_same P (d ∷ ds) these those (inr a) (inr b) = selected_same P ds these those a.1 b.1
+
+pub shipped_one : (belief : Dots) (deltas : List State) (store s t : State) → IsShipped belief deltas store s → IsShipped belief deltas store t → s ≡ t
+shipped_one belief deltas store s t (inl a) (inl b) = a.1.2 ∙ ap all_joined (selected_same (IsNew belief) deltas a.1.0 b.1.0 a.1.1 b.1.1) ∙ sym b.1.2
+shipped_one belief deltas store s t (inl a) (inr b) = absurd (b.0 a.0)
+shipped_one belief deltas store s t (inr a) (inl b) = absurd (a.0 b.0)
+shipped_one belief deltas store s t (inr a) (inr b) = a.1 ∙ sym b.1
+
+selected_has : (belief : Dots) (q : Dot) (ds news : List State) → set.contains belief q ≡ false → IsSelected (IsNew belief) ds news → any_has q ds ≡ true → any_has q news ≡ true
+selected_has belief q [] news lacks sel some = absurd (true≢false (sym some))
+selected_has belief q (d ∷ ds) news lacks (inl (new, more)) some = ap (any_has q) more.1 ∙ elim (or_cases (set.contains d.taken q) (any_has q ds) some) [
+  | inl here ↦ or_left (set.contains d.taken q) (any_has q more.0) here
+  | inr later ↦ or_right (set.contains d.taken q) (any_has q more.0) (selected_has belief q ds more.0 lacks more.2 later)
+]
+selected_has belief q (d ∷ ds) news lacks (inr (old, sel)) some = elim (or_cases (set.contains d.taken q) (any_has q ds) some) [
+  | inl here ↦ absurd (old (λ below. true≢false (sym (below q here) ∙ lacks)))
+  | inr later ↦ selected_has belief q ds news lacks sel later
+]
+
+joined_has : (s : State) (ds : List State) (q : Dot) → set.contains (joined_to s ds).taken q ≡ (set.contains s.taken q || any_has q ds)
+joined_has s [] q = or_none (set.contains s.taken q)
+joined_has s (d ∷ ds) q =
+    joined_has (state_join s d) ds q ∙ ap (λ b. b || any_has q ds) (in_union s.taken d.taken q) ∙ or_group (set.contains s.taken q) (set.contains d.taken q) (any_has q ds)
+
+pub shipped_enough : (belief : Dots) (deltas : List State) (store s : State) → IsShipped belief deltas store s → (q : Dot) → set.contains store.taken q ≡ true → (set.contains belief q ≡ true) ⊎ (set.contains s.taken q ≡ true)
+shipped_enough belief deltas store s (inl (kept, joined)) q has = by_bool (set.contains belief q) (λ known. inl known)
+    (λ lacks. inr (ap (λ (x : State). set.contains x.taken q) joined.2 ∙ joined_has nothing joined.0 q
+    ∙ or_right (set.contains nothing.taken q) (any_has q joined.0) (selected_has belief q deltas joined.0 lacks joined.1 (kept q has lacks))))
+shipped_enough belief deltas store s (inr (lost, same)) q has = inr (ap (λ (x : State). set.contains x.taken q) same ∙ has)

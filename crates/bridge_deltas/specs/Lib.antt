@@ -3,3 +3,4 @@ pub mod Lane
 pub mod Buffer
 pub mod Shipped
 pub mod Links
+pub mod Laws

@@ -169,6 +169,13 @@ impl Lane {
         true
     }
 
+    /// The number of the last message that was taken.
+    pub fn took(&self) -> u64
+        ensures { result ≡ self.now.lane.took }
+    {
+        self.took
+    }
+
     /// The other node has taken the messages up to a number, and they no longer wait.
     pub fn got(&mut self, number: u64)
         ensures { self.new ≡ record self.old { lane = with_got number self.old.lane } }

@@ -4,6 +4,7 @@
 
 mod buffer;
 mod lane;
+pub mod laws;
 mod links;
 mod offer;
 

@@ -271,13 +271,44 @@ impl Links {
         self.lanes[peer as usize].put(message)
     }
 
-    /// Frames with the first 64 messages that wait for the peer.
+    /// Frames of the node with the first 64 messages that wait for the peer.
     pub fn waiting(&self, peer: u16) -> Result<Vec<BridgeFrame>, NoMemory>
         requires { peer < self.now.nodes }
         ensures { IfOk result (λ out. out.items
             ≡ first_frames self.now.node peer (kept_of self.now peer).lane) }
     {
-        self.lanes[peer as usize].first(self.alloc, self.node, peer)
+        self.waiting_from(self.node, peer)
+    }
+
+    /// Frames with the first 64 messages that wait for the peer, with this node as their sender: none for a node that the cluster
+    /// lacks.
+    pub fn waiting_from(&self, from: u16, peer: u16) -> Result<Vec<BridgeFrame>, NoMemory>
+        ensures { IfOk result (λ out. out.items
+            ≡ first_frames from peer (kept_of self.now peer).lane) }
+    {
+        match self.lanes.get(peer as usize) {
+            Some(lane) => lane.first(self.alloc, from, peer),
+            None => Ok(Vec::new(self.alloc)),
+        }
+    }
+
+    /// The number of the last message that was taken from the peer: 0 of a node that the cluster lacks.
+    pub fn last_taken(&self, peer: u16) -> u64
+        ensures { result ≡ (kept_of self.now peer).lane.took }
+    {
+        match self.lanes.get(peer as usize) {
+            Some(lane) => lane.took(),
+            None => 0,
+        }
+    }
+
+    /// How many nodes there are, each with what is known of it and with lanes.
+    pub fn nodes(&self) -> u16
+        ensures count { result ≡ self.now.nodes }
+        ensures beliefs { length self.now.beliefs ≡ result }
+        ensures lanes { length self.now.lanes ≡ result }
+    {
+        self.nodes
     }
 
     /// Whether the number is that of the next message to take from the peer; then it counts as taken.
@@ -304,6 +335,13 @@ impl Links {
         ensures { AreLanes self.now.nodes (now_of self.now.lanes) }
     {
         are_lanes(&self.lanes);
+    }
+
+    /// The rows of all lanes count as told as they are.
+    pub fn count_as_told(&mut self)
+        ensures { self.new ≡ all_told self.old }
+    {
+        tell_all(&mut self.lanes);
     }
 
     /// The rows of the lanes, in the order of their keys.

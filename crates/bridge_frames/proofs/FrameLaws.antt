@@ -1,12 +1,13 @@
 -- Frames are read as they are spelled.
-use Rattle.std.proofs.Common.{◌≡◌, ℕ, zero, suc, ◌≤◌, List, [], ◌∷◌, ◌++◌, length, Some, Ok, Err, refl, sym, ap, subst, ◌∙◌, append-nil, arith}
-use Rattle.std.specs.Int.{w8, w16, w64}
+use Rattle.std.proofs.Common.{◌≡◌, ℕ, zero, suc, ◌≤◌, List, [], ◌∷◌, ◌++◌, length, Bool, true, false, cond, ltb, Option, Some, None, Result, Ok, Err, refl, sym, ap, subst, ◌∙◌, append-nil, arith}
+use Rattle.std.specs.Int.{to_be_bytes, w8, w16, w32, w64}
+use Rattle.std.proofs.lemmas.Bool.{cond-false, le-ltb, ltb-false}
 use Rattle.mqtt_fields.specs.declared.fault.FieldFault.{FieldFault}
 use Rattle.mqtt_fields.specs.declared.fault.FieldFault.TheVariants as faults
 use Rattle.mqtt_fields.specs.Reading.{Fails}
 use Rattle.mqtt_fields.specs.Field.{Field, IsBytes, IsField, after, seen}
 use Rattle.mqtt_fields.specs.Numbers.{number, long}
-use Rattle.mqtt_fields.proofs.Laws.{bind_ok, ok_is, after_is, variant_is}
+use Rattle.mqtt_fields.proofs.Laws.{IsBytes-after, bind_ok, ok_is, after_is, variant_is}
 use Rattle.mqtt_fields.proofs.NumberLaws.{number_is, wide8, wide16, wide64, long_is}
 use Rattle.mqtt_message.proofs.SpellingLaws.{coded_is}
 use Rattle.causal_context.specs.Dots.{Dots}
@@ -23,7 +24,7 @@ use Rattle.bridge_frames.specs.declared.kind.Kind.TheVariants as kinds
 use Rattle.bridge_frames.specs.Kinds.{kind, kind_in, kind_number}
 use Rattle.bridge_frames.specs.Forwards.{Numbered, numbered}
 use Rattle.bridge_frames.proofs.ForwardLaws.{numbered_is}
-use Rattle.bridge_frames.specs.Frames.{Frame, limit, as_delta, as_know, as_forward, as_got, kind_of, hello, body, Parts, frame_of, frame_parts, content, Spells}
+use Rattle.bridge_frames.specs.Frames.{Frame, limit, as_delta, as_know, as_forward, as_got, kind_of, hello, body, Parts, frame_of, frame_parts, content, HasSpelling, Spells, spelling, whole_of, whole, frame_of_run, frame_in}
 
 kind_back : (n : ℕ) (k : Kind) → kind_in n ≡ Some k → kind_number k ≡ n
 kind_back zero k e = absurd cc
@@ -188,3 +189,57 @@ spells bs run f is small same fits = record {
 
 pub not_content : (bs run : List ℕ) (f : Frame) → bs ≡ long.bytes run → length run ≤ limit → Spells bs f → run ≡ content.bytes f
 not_content bs run f is small spelled = long_same run (content.bytes f) small spelled.has.small (sym is ∙ spelled.is)
+
+-- ---- the frame that bytes spell
+whole_is : {A : Type 0} (r : Result (A × List ℕ) FieldFault) (a : A) → whole_of r ≡ Some a → r ≡ Ok (a, [])
+whole_is (Ok (x, [])) a e = (let same : x ≡ a = cc in rw same refl)
+whole_is (Ok (x, b ∷ bs)) a e = absurd cc
+whole_is (Err f) a e = absurd cc
+
+guarded : {A : Type 0} (over : Bool) (o : Option A) (a : A) → cond over None o ≡ Some a → (over ≡ false) × (o ≡ Some a)
+guarded true o a e = absurd cc
+guarded false o a e = (refl, e)
+
+-- what followed the length, where a frame was read
+run_read : (o : Option (List ℕ)) (f : Frame) → frame_of_run o ≡ Some f → (run : List ℕ) × (o ≡ Some run) × (length run ≤ limit) × (content.at run ≡ Ok (f, []))
+run_read None f e = absurd cc
+run_read (Some run) f e =
+    let g = guarded (ltb limit (length run)) (whole content run) f e in
+    (run, refl, ltb-false limit (length run) g.0, whole_is (content.at run) f g.1)
+
+pub is_spelled : (bs : List ℕ) (f : Frame) → IsBytes bs → frame_in bs ≡ Some f → Spells bs f
+unfolding frame_in
+is_spelled bs f bytes e =
+    let r = run_read (whole long bs) f e in
+    let one = all_read long long_is bs r.0 bytes (whole_is (long.at bs) r.0 r.1) in
+    let own : IsBytes r.0 = IsBytes-after bs (to_be_bytes w32 (length r.0)) r.0 bytes one.0 in
+    let two = all_read content content_is r.0 f own r.3 in
+    spells bs r.0 f one.0 r.2 two.0 two.1
+
+pub read_again : (f : Frame) → HasSpelling f → frame_in (spelling f) ≡ Some f
+unfolding frame_in
+read_again f has =
+    let run = content.bytes f in
+    let within : ltb limit (length run) ≡ false = le-ltb limit (length run) has.small in
+    let one : whole long (spelling f) ≡ Some run = ap whole_of (all_again long long_is (spelling f) run (few run has.small) refl) in
+    let two : whole content run ≡ Some f = ap whole_of (all_again content content_is run f has.fits refl) in
+    ap frame_of_run one ∙ cond-false (ltb limit (length run)) None (whole content run) within ∙ two
+
+pub frame_is : (bs : List ℕ) (f : Frame) → Spells bs f → frame_in bs ≡ Some f
+frame_is bs f s = ap frame_in s.is ∙ read_again f s.has
+
+some_same : {A : Type 0} (x y : A) → Some x ≡ Some y → x ≡ y
+some_same x y e = cc
+
+pub one_frame : (bs : List ℕ) (f g : Frame) → Spells bs f → Spells bs g → f ≡ g
+one_frame bs f g s t = some_same f g (sym (frame_is bs f s) ∙ frame_is bs g t)
+
+-- bytes that spell none are read as none
+pub no_frame : (bs : List ℕ) → IsBytes bs → ((f : Frame) → Spells bs f → ⊥) → frame_in bs ≡ None
+no_frame bs bytes none = elim (frame_in bs) as (λ (o : Option Frame). frame_in bs ≡ o → frame_in bs ≡ None) [
+  | None ↦ λ e. e
+  | Some f ↦ λ e. absurd (none f (is_spelled bs f bytes e))
+] refl
+
+pub no_run : (bs : List ℕ) → IsBytes bs → ((run : List ℕ) → length run ≤ limit → bs ≡ long.bytes run → ⊥) → frame_in bs ≡ None
+no_run bs bytes none = no_frame bs bytes (λ f s. none (content.bytes f) s.has.small s.is)

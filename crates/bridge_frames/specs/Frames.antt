@@ -1,5 +1,5 @@
 -- The bytes of frames. Numbers have their highest byte first.
-use Rattle.std.specs.Prelude.{◌≡◌, ◌+◌, ◌<◌, ◌≤◌, ◌^◌, ℕ, nat_lt, List, [], length, Option, Some, None, Result, Ok, Err, if◌then◌else◌}
+use Rattle.std.specs.Prelude.{◌≡◌, ◌+◌, ◌<◌, ◌≤◌, ◌^◌, ℕ, nat_lt, List, [], ◌∷◌, length, Option, Some, None, Result, Ok, Err, if◌then◌else◌}
 use Rattle.std.specs.Int.{w16, w32, w64}
 use Rattle.mqtt_fields.specs.declared.fault.FieldFault.{FieldFault}
 use Rattle.mqtt_fields.specs.Field.{Field, after, seen, variant}
@@ -118,3 +118,22 @@ pub record HasSpelling (f : Frame) : Type 0 where
 pub record Spells (bs : List ℕ) (f : Frame) : Type 0 where
   pub is : bs ≡ spelling f
   pub has : HasSpelling f
+
+-- ---- reading
+-- a field that takes all of some bytes
+abbrev pub whole_of : {A : Type 0} → Result (A × List ℕ) FieldFault → Option A
+whole_of (Ok (a, [])) = Some a
+whole_of (Ok (a, b ∷ bs)) = None
+whole_of (Err e) = None
+
+abbrev pub whole : {A : Type 0} → Field A → List ℕ → Option A
+whole f bs = whole_of (f.at bs)
+
+-- what follows the length, where a frame may have so much
+abbrev pub frame_of_run : Option (List ℕ) → Option Frame
+frame_of_run None = None
+frame_of_run (Some run) = if nat_lt limit (length run) then None else whole content run
+
+-- the frame whose spelling the bytes are, if they are one's
+unfoldable pub frame_in : List ℕ → Option Frame
+frame_in bs = frame_of_run (whole long bs)

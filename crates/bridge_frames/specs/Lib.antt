@@ -1,3 +1,4 @@
 pub mod Kinds
 pub mod Forwards
 pub mod Frames
+pub mod Laws

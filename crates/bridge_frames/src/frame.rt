@@ -1,5 +1,5 @@
 //! Frames as bytes, both ways.
-ghost use Rattle.std.specs.Prelude.{◌≡◌, ◌≢◌, ◌⊎◌, ◌<◌, ◌≤◌, ◌++◌, ℕ, List, length, IfOk, OnOk, OnErr, IfErr, IfSome, IsNone, IsErrOf};
+ghost use Rattle.std.specs.Prelude.{◌≡◌, ◌≢◌, ◌⊎◌, ◌<◌, ◌≤◌, ◌++◌, ℕ, List, length, IfOk, Some, None, OnOk, OnErr, IfErr, IfSome, IsNone, IsErrOf};
 ghost use Rattle.mqtt_fields.specs.Field.{IsBytes};
 ghost use Rattle.mqtt_fields.specs.Numbers.{long};
 ghost use Rattle.mqtt_fields.specs.Reading.{Gives};
@@ -84,6 +84,8 @@ impl BridgeFrame {
     /// The frame whose spelling the bytes are. BadFrame where they are the spelling of none, also where
     /// they are too few or too many for one.
     pub fn read(alloc: Global, bytes: &[u8]) -> Result<BridgeFrame, LinkFault>
+        ensures exact { IfOk result (λ f. spec.frame_in bytes.now ≡ Some f) }
+        ensures none { IsErrOf result LinkFault.BadFrame → spec.frame_in bytes.now ≡ None }
         ensures ok { IfOk result (λ f. spec.Spells bytes.now f) }
         ensures bad { IsErrOf result LinkFault.BadFrame → (f : spec.Frame) → spec.Spells bytes.now f → ⊥ }
         ensures others { IsErrOf result LinkFault.TooLarge → ⊥ }

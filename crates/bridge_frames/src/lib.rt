@@ -6,6 +6,7 @@ mod fault;
 mod forward;
 mod frame;
 mod kind;
+pub mod laws;
 mod length;
 mod pick;
 

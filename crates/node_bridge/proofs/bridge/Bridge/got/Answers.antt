@@ -1,0 +1,25 @@
+use Rattle.std.proofs.Common.{subst, ap, ◌∙◌}
+use Rattle.std.specs.Prelude.{OnOk}
+use Rattle.lane_rows.specs.Changes.{now_of}
+use Rattle.message_lanes.specs.Lanes.{with_got}
+use Rattle.bridge_deltas.specs.Links.{kept_of}
+use Rattle.node_bridge.specs.View.{BridgeView, LanesTell, gets}
+use Rattle.node_bridge.proofs.Telling.{are_told, if_ok, lanes_tell, on_ok, shows_got, shows_lane}
+use Rattle.node_bridge.proofs.bridge.Bridge.got.Goals as goal
+
+pub invariant_of-self : goal.invariant_of-self
+invariant_of-self c = are_told c.got.new.self c.tell.new.links c.tell.ensures.told
+
+pub returns-clause-after : goal.returns-clause-after
+returns-clause-after c =
+    let l = c.self.inside.links in
+    let lane = with_got c.args.number (kept_of l c.args.peer).lane in
+    let shows = shows_lane l c.got.new.self c.tell.new.links c.args.peer lane c.got.ensures c.tell.ensures.told ∙ shows_got l c.args.peer c.args.number ∙ ap (gets c.args.peer c.args.number) c.self.view_is in
+    on_ok c.tell.result shows
+
+pub returns-clause-tells : goal.returns-clause-tells
+returns-clause-tells c =
+    let l = c.self.inside.links in
+    let lane = with_got c.args.number (kept_of l c.args.peer).lane in
+    subst (λ (b : BridgeView). OnOk c.tell.result (LanesTell b.lanes c.args.changes.now.items c.tell.new.changes.items (now_of c.tell.new.links.lanes))) c.self.view_is
+    (if_ok c.tell.result (lanes_tell l c.got.new.self c.tell.new.links c.args.peer lane c.args.changes.now.items c.tell.new.changes.items c.self.invariant c.got.ensures c.tell.ensures.told) c.tell.ensures.tells)
