@@ -5,3 +5,5 @@
 mod deltas;
 #[cfg(test)]
 mod frames;
+#[cfg(test)]
+mod spellings;

@@ -1,49 +1,95 @@
 -- Each event of a node is determined.
-use Rattle.std.proofs.Common.{ℕ, List, None}
+use Rattle.std.proofs.Common.{ℕ, List, Option, Some, None, inl, inr, refl, sym, ap, ◌∙◌, true≢false}
+use Rattle.bridge_deltas.proofs.Shipping.{shipped_one}
+use Rattle.bridge_frames.specs.declared.body.FrameBody.{FrameBody}
+use Rattle.bridge_frames.specs.declared.body.FrameBody.TheVariants.{Hello, Delta, Know, Forward, Got}
+use Rattle.bridge_frames.specs.declared.forward.Forward.{Forward as Message}
+use Rattle.bridge_frames.specs.declared.frame.BridgeFrame.{BridgeFrame}
+use Rattle.bridge_frames.specs.Frames.{frame_in}
 use Rattle.due_times.specs.Dues.{Due}
 use Rattle.replica_store.specs.States.{State}
 use Rattle.session_laws.specs.Runs.{closes, ticks}
 use Rattle.session_table.specs.Calls.{leaves, stays}
-use Rattle.node_work.specs.declared.frame.Frame.{Frame}
-use Rattle.node_work.specs.declared.frame.FrameBody.{FrameBody}
-use Rattle.node_work.specs.declared.frame.FrameBody.TheVariants.{Delta, Know}
-use Rattle.node_work.specs.declared.outcome.Output.TheVariants.{Frame as Release}
-use Rattle.node_work.specs.Acts.{Began, Connection, Merged, Out, Store}
-use Rattle.node_work.specs.Doings.{Opens, Removes, TakesMoment}
+use Rattle.node_bridge.specs.View.{belief_of, lane_to}
+use Rattle.node_work.specs.declared.counts.Missed.{Missed}
+use Rattle.node_work.specs.declared.counts.Missed.TheVariants.{BadFrame, FrameTooLarge}
+use Rattle.node_work.specs.Acts.{Began, Bridge, Connection, Merged, Store}
+use Rattle.node_work.specs.Doings.{Gives, GivesFrame, Misses, Opens, Removes, TakesMoment, is_small}
+use Rattle.node_work.specs.Held.Bridge.{Believed, Gave, Got as GotBy, Left_out}
 use Rattle.node_work.specs.Held.Connections.{Opened}
 use Rattle.node_work.specs.View.{HeldView}
 use Rattle.node_work.specs.Working.{Returns, Acting, Then}
 use Rattle.node_clients.specs.Ending.{Closes}
-use Rattle.node_clients.proofs.Determined.{Determined, returns_determined, acting_determined, numbered_determined, looks_determined, if_determined, then_determined, each_determined, calls_determined}
-use Rattle.node_clients.proofs.DeterminedClients.{removes_determined, ticks_determined, closes_determined, piece_determined, leaves_determined}
+use Rattle.node_clients.specs.Passing.{TakesForward}
+use Rattle.node_clients.proofs.Determined.{Determined, IsAlone, returns_determined, acting_determined, numbered_determined, looks_determined, finds_determined, if_determined, then_determined, each_determined, calls_determined}
+use Rattle.node_clients.proofs.DeterminedClients.{removes_determined, ticks_determined, closes_determined, piece_determined, leaves_determined, takes_forward_determined}
 use Rattle.broker_node.specs.declared.event.Event.{Event}
 use Rattle.broker_node.specs.declared.event.EventKind.{EventKind}
 use Rattle.broker_node.specs.declared.event.EventKind.TheVariants as kinds
-use Rattle.broker_node.specs.Bridge.{Gives, Hears, Merges, Ships, Takes}
+use Rattle.broker_node.specs.Bridge.{AreShipped, GivesState, Greets, HearsFrame, Merges, Ships, ShipsMessages, ShipsState, ShipsTo, Takes, TakesMessage, TakesNext, TellsTaken}
 use Rattle.broker_node.specs.Due.{ClosesStored, DoesDue, EndsConnections, EndsSessions, PartsFrom, PublishesWills, RunsOut, Starts, TicksOf}
 use Rattle.broker_node.specs.Turns.{Answers, Decides, Evicts, First, GoesOn, Turn}
 
 -- ---- what nodes tell one another
 
+misses_determined : (what : Missed) → Determined (Misses what)
+misses_determined what = acting_determined (λ p h. Bridge (Left_out what))
+
+gives_frame_determined : (f : BridgeFrame) → Determined (GivesFrame f)
+gives_frame_determined f =
+    if_determined (is_small f) (Acting (λ p h. Bridge (Gave f))) (Misses FrameTooLarge) (acting_determined (λ p h. Bridge (Gave f))) (misses_determined FrameTooLarge)
+
 gives_determined : (peer : ℕ) (body : HeldView → FrameBody) → Determined (Gives peer body)
-gives_determined peer body = acting_determined (λ p h. Out (Release (record { from = p.id; to = peer; body = body h })))
+gives_determined peer body = looks_determined _ _ gives_frame_determined
+
+greets_determined : (peer : ℕ) → Determined (Greets peer)
+greets_determined peer =
+    looks_determined _ _ (λ other. if_determined other (Gives peer (λ h. Hello)) (Returns tt) (gives_determined peer (λ h. Hello)) (returns_determined tt))
+
+shipped_alone : (peer : ℕ) → IsAlone (AreShipped peer)
+shipped_alone peer p h None None sound a b = refl
+shipped_alone peer p h None (Some t) sound (inl none) b = absurd (true≢false (sym b.0 ∙ none))
+shipped_alone peer p h None (Some t) sound (inr below) b = absurd (b.1 below)
+shipped_alone peer p h (Some s) None sound a (inl none) = absurd (true≢false (sym a.0 ∙ none))
+shipped_alone peer p h (Some s) None sound a (inr below) = absurd (a.1 below)
+shipped_alone peer p h (Some s) (Some t) sound a b = ap Some (shipped_one (belief_of h.bridge peer) h.bridge.deltas h.store s t a.2 b.2)
+
+gives_state_determined : (peer : ℕ) (s : Option State) → Determined (GivesState peer s)
+gives_state_determined peer None = returns_determined tt
+gives_state_determined peer (Some s) = gives_determined peer (λ h. Delta s)
+
+ships_to_determined : (peer : ℕ) → Determined (ShipsTo peer)
+ships_to_determined peer =
+    then_determined (ShipsState peer) (λ _. ShipsMessages peer) (finds_determined (AreShipped peer) (GivesState peer) (shipped_alone peer) (gives_state_determined peer))
+    (λ _. looks_determined _ _ (each_determined GivesFrame gives_frame_determined))
 
 ships_determined : (peer : ℕ) → Determined (Ships peer)
-ships_determined peer =
-    looks_determined _ _
-    (λ other. if_determined other (Gives peer (λ h. Delta h.store)) (Returns tt) (gives_determined peer (λ h. Delta h.store)) (returns_determined tt))
+ships_determined peer = looks_determined _ _ (λ other. if_determined other (ShipsTo peer) (Returns tt) (ships_to_determined peer) (returns_determined tt))
+
+tells_taken_determined : (from : ℕ) → Determined (TellsTaken from)
+tells_taken_determined from = gives_determined from (λ h. Know h.store.taken)
 
 merges_determined : (from : ℕ) (s : State) → Determined (Merges from s)
-merges_determined from s = then_determined _ _ (acting_determined (λ p h. Store (Merged s))) (λ _. gives_determined from (λ h. Know h.store.taken))
+merges_determined from s = then_determined _ _ (acting_determined (λ p h. Store (Merged s))) (λ _. tells_taken_determined from)
+
+takes_message_determined : (from number : ℕ) (m : Message) → Determined (TakesMessage from number m)
+takes_message_determined from number m =
+    then_determined (TakesNext from number m) _
+    (looks_determined _ _ (λ next. if_determined next (TakesForward from number m) (Returns tt) (takes_forward_determined from number m) (returns_determined tt)))
+    (λ _. gives_determined from (λ h. Got (lane_to h.bridge from).took))
 
 takes_determined : (from : ℕ) (body : FrameBody) → Determined (Takes from body)
+takes_determined from Hello = tells_taken_determined from
 takes_determined from (Delta s) = merges_determined from s
-takes_determined from (Know dots) = returns_determined tt
+takes_determined from (Know dots) = acting_determined (λ p h. Bridge (Believed from dots))
+takes_determined from (Forward number m) = takes_message_determined from number m
+takes_determined from (Got number) = acting_determined (λ p h. Bridge (GotBy from number))
 
-hears_determined : (frame : Frame) → Determined (Hears frame)
-hears_determined frame =
+hears_frame_determined : (frame : Option BridgeFrame) → Determined (HearsFrame frame)
+hears_frame_determined None = misses_determined BadFrame
+hears_frame_determined (Some frame) =
     looks_determined _ _
-    (λ here. if_determined here (Takes frame.from frame.body) (Returns tt) (takes_determined frame.from frame.body) (returns_determined tt))
+    (λ here. if_determined here (Takes frame.from frame.body) (Misses BadFrame) (takes_determined frame.from frame.body) (misses_determined BadFrame))
 
 -- ---- what is due
 
@@ -84,7 +130,8 @@ first_determined kinds.Started = starts_determined
 first_determined (kinds.Opened connection) = returns_determined tt
 first_determined (kinds.Piece connection bytes) = returns_determined tt
 first_determined (kinds.Closed connection) = returns_determined tt
-first_determined (kinds.Frame frame) = returns_determined tt
+first_determined (kinds.Frame bytes) = returns_determined tt
+first_determined (kinds.Linked peer) = returns_determined tt
 first_determined (kinds.Ship peer) = returns_determined tt
 first_determined kinds.Tick = returns_determined tt
 first_determined (kinds.Evict client) = returns_determined tt
@@ -94,7 +141,8 @@ answers_determined kinds.Started = returns_determined tt
 answers_determined (kinds.Opened connection) = opens_determined connection
 answers_determined (kinds.Piece connection bytes) = piece_determined connection bytes
 answers_determined (kinds.Closed connection) = leaves_determined connection
-answers_determined (kinds.Frame frame) = hears_determined frame
+answers_determined (kinds.Frame bytes) = hears_frame_determined (frame_in bytes)
+answers_determined (kinds.Linked peer) = greets_determined peer
 answers_determined (kinds.Ship peer) = ships_determined peer
 answers_determined kinds.Tick = returns_determined tt
 answers_determined (kinds.Evict client) = evicts_determined client
@@ -107,7 +155,8 @@ goes_on_determined kinds.Started = returns_determined tt
 goes_on_determined (kinds.Opened connection) = due_and_answers_determined (kinds.Opened connection)
 goes_on_determined (kinds.Piece connection bytes) = due_and_answers_determined (kinds.Piece connection bytes)
 goes_on_determined (kinds.Closed connection) = due_and_answers_determined (kinds.Closed connection)
-goes_on_determined (kinds.Frame frame) = due_and_answers_determined (kinds.Frame frame)
+goes_on_determined (kinds.Frame bytes) = due_and_answers_determined (kinds.Frame bytes)
+goes_on_determined (kinds.Linked peer) = due_and_answers_determined (kinds.Linked peer)
 goes_on_determined (kinds.Ship peer) = due_and_answers_determined (kinds.Ship peer)
 goes_on_determined kinds.Tick = due_and_answers_determined kinds.Tick
 goes_on_determined (kinds.Evict client) = due_and_answers_determined (kinds.Evict client)

@@ -1,5 +1,7 @@
 pub mod Determined
 pub mod Going
+pub mod Handing
 pub mod Quiet
+pub mod Shipping
 pub mod Stepping
 pub mod Turning

@@ -1,7 +1,14 @@
--- Work that merges nothing, and what a step merges.
-use Rattle.std.proofs.Common.{◌≡◌, ℕ, ◌==◌, ◌&&◌, not, Bool, true, false, cond, List, [], ◌∷◌, ◌++◌, length, Option, Some, None, inl, inr, refl, ap, ◌∙◌}
+-- Work that takes nothing from another node.
+use Rattle.std.proofs.Common.{◌≡◌, ℕ, ◌==◌, ◌&&◌, not, Bool, true, false, cond, List, [], ◌∷◌, ◌++◌, length, map as map_list, Option, Some, None, inl, inr, refl, ap, ◌∙◌}
 use Rattle.std.specs.FinMap as map
+use Rattle.bridge_deltas.specs.declared.offer.Offer.{Offer}
+use Rattle.bridge_deltas.specs.declared.offer.Offer.TheVariants as offers
+use Rattle.bridge_frames.specs.declared.body.FrameBody.{FrameBody}
+use Rattle.bridge_frames.specs.declared.forward.Forward.{Forward}
+use Rattle.bridge_frames.specs.declared.frame.BridgeFrame.{BridgeFrame}
 use Rattle.home_table.specs.Homes.{IsHome}
+use Rattle.message_routes.specs.declared.destinations.Route.{Route}
+use Rattle.message_routes.specs.declared.destinations.Route.TheVariants as routes
 use Rattle.mqtt_fields.specs.declared.value.Property.{Property}
 use Rattle.mqtt_message.specs.Identifiers.{identifiers_of}
 use Rattle.mqtt_message.specs.declared.delivery.Delivery.{Delivery}
@@ -21,15 +28,17 @@ use Rattle.mqtt_sessions.specs.declared.reaction.Ask.{Ask}
 use Rattle.mqtt_sessions.specs.declared.reaction.Ask.TheVariants as asks
 use Rattle.mqtt_topics.specs.Topics.{IsFilter}
 use Rattle.replica_store.specs.Making.{subscribe_of, put_of}
-use Rattle.replica_store.specs.States.{State}
 use Rattle.session_laws.specs.Runs.{Event, answers, closes, connects, finishes, queues, takes, ticks}
 use Rattle.session_table.specs.Calls.{leaves, moves, stays}
 use Rattle.session_table.specs.Seats.{Seat, connected, ends_due, run_outs, wills_due}
 use Rattle.subscription_set.specs.Standing.{any_of}
-use Rattle.node_work.specs.Acts.{Act, Acknowledged, Began, Connection, Dropped, Made, Moment, Named, Out, Passed, Session, Store, gather, merge_in}
+use Rattle.node_bridge.specs.View.{offer_to}
+use Rattle.node_work.specs.declared.counts.Missed.{Missed}
+use Rattle.node_work.specs.declared.counts.Missed.TheVariants.{FrameTooLarge, LaneFull}
+use Rattle.node_work.specs.Acts.{Act, Acknowledged, Began, Bridge, Connection, Dropped, Made, Merged, Moment, Named, Out, Passed, Session, Store, StoreAct, gather}
 use Rattle.node_work.specs.Calling.{Calls, CallsAt, Queues, QueuesOne}
-use Rattle.node_work.specs.Doings.{Disconnects, MakesPut, MakesRemove, MakesSubscribe, Opens, Removes, Sends}
-use Rattle.node_work.specs.Frames.{is_for, is_other, states_in}
+use Rattle.node_work.specs.Doings.{Disconnects, Gives, GivesFrame, MakesPut, MakesRemove, MakesSubscribe, Misses, Opens, PutsBy, Removes, Routes, RoutesBy, Sends, is_small}
+use Rattle.node_work.specs.Held.Bridge.{Gave, Left_out, Put, heard_of}
 use Rattle.node_work.specs.Held.Connections.{Accepted, Closed, Fed, Opened, client_at, first_at, is_open}
 use Rattle.node_work.specs.Held.Feeding.{cut_of}
 use Rattle.node_work.specs.Held.Making.{number_at_end, put_at_end, removal}
@@ -38,10 +47,8 @@ use Rattle.node_work.specs.Packets.{refused_packet}
 use Rattle.node_work.specs.Passing.{content_of, turn_at_end}
 use Rattle.node_work.specs.View.{ConnectionView, HeldView, Place}
 use Rattle.node_work.specs.Working.{Acting, Doing, Each, Finds, If, InTurn, Looks, Numbered, Returns, Stops, Then, Where}
-use Rattle.node_work.specs.declared.frame.FrameBody.{FrameBody}
-use Rattle.node_work.specs.declared.frame.FrameBody.TheVariants.{Delta, Know}
 use Rattle.node_work.specs.declared.granted.Granted.{Granted}
-use Rattle.node_work.specs.declared.outcome.Output.TheVariants.{Close, Frame as Release, Send}
+use Rattle.node_work.specs.declared.outcome.Output.TheVariants.{Close, Send}
 use Rattle.message_copies.specs.declared.plain.PlainCopy.{PlainCopy as Copy}
 use Rattle.node_work.proofs.Working.{gather-append}
 use Rattle.node_clients.specs.Connecting as connecting
@@ -52,36 +59,50 @@ use Rattle.node_clients.specs.Pieces as pieces
 use Rattle.node_clients.specs.Serving as serving
 use Rattle.node_clients.specs.Subscribing as subscribing
 use Rattle.node_clients.specs.Unsubscribing as unsubscribing
-use Rattle.broker_node.specs.declared.event.EventKind.{EventKind}
-use Rattle.broker_node.specs.declared.event.EventKind.TheVariants as kinds
-use Rattle.broker_node.specs.Bridge.{Gives, Hears, Ships, Takes}
 use Rattle.broker_node.specs.Due.{ClosesStored, DoesDue, EndsConnections, EndsSessions, PartsFrom, PublishesWills, RunsOut, Starts, TicksOf}
-use Rattle.broker_node.specs.Step.{brought}
-use Rattle.broker_node.specs.Turns.{Answers, Evicts, First, GoesOn}
 
+-- ---- what a step takes from another node: the states that it merges, and what it hears beside them
+abbrev pub handed_store : StoreAct → List Act
+handed_store (Made o) = []
+handed_store (Merged s) = Store (Merged s) ∷ []
+
+abbrev pub handed_in : Act → List Act
+handed_in (Moment at) = []
+handed_in Began = []
+handed_in (Store a) = handed_store a
+handed_in (Connection a) = []
+handed_in (Session a) = []
+handed_in (Bridge a) = map_list Bridge (heard_of a)
+handed_in (Out o) = []
+handed_in (Named number) = []
+handed_in (Acknowledged client packet at grants offers) = []
+handed_in (Passed m copies lost routes) = []
+handed_in Dropped = []
+
+-- work that takes nothing
 abbrev pub Quiet : {A : Type 0} → (Option A → Doing) → Type 0
-Quiet {A} P = (x : Option A) (p : Place) (h : HeldView) (acts : List Act) → P x p h acts → gather merge_in acts ≡ []
+Quiet {A} P = (x : Option A) (p : Place) (h : HeldView) (acts : List Act) → P x p h acts → gather handed_in acts ≡ []
 
-returns_quiet : {A : Type 0} (x : A) → Quiet (Returns x)
-returns_quiet x y p h acts d = ap (gather merge_in) d.1
+pub returns_quiet : {A : Type 0} (x : A) → Quiet (Returns x)
+returns_quiet x y p h acts d = ap (gather handed_in) d.1
 
 stops_quiet : {A : Type 0} → Quiet {A = A} (Stops {A = A})
-stops_quiet x p h acts d = ap (gather merge_in) d.1
+stops_quiet x p h acts d = ap (gather handed_in) d.1
 
-append_nothing : (xs ys : List State) → xs ≡ [] → ys ≡ [] → xs ++ ys ≡ []
+append_nothing : (xs ys : List Act) → xs ≡ [] → ys ≡ [] → xs ++ ys ≡ []
 append_nothing xs ys e f = λ i. e i ++ f i
 
-acting_quiet : (a : Place → HeldView → Act) → ((p : Place) (h : HeldView) → merge_in (a p h) ≡ []) → Quiet (Acting a)
-acting_quiet a q x p h acts d = ap (gather merge_in) d.1 ∙ append_nothing (merge_in (a p h)) [] (q p h) refl
+acting_quiet : (a : Place → HeldView → Act) → ((p : Place) (h : HeldView) → handed_in (a p h) ≡ []) → Quiet (Acting a)
+acting_quiet a q x p h acts d = ap (gather handed_in) d.1 ∙ append_nothing (handed_in (a p h)) [] (q p h) refl
 
-numbered_by : (b : Bool) (a : Act) (x : Option (Unit {0})) (xs : List Act) → merge_in a ≡ [] → cond b ((x ≡ None) × (xs ≡ [])) ((x ≡ Some tt) × (xs ≡ a ∷ [])) → gather merge_in xs ≡ []
-numbered_by true a x xs q d = ap (gather merge_in) d.1
-numbered_by false a x xs q d = ap (gather merge_in) d.1 ∙ append_nothing (merge_in a) [] q refl
+numbered_by : (b : Bool) (a : Act) (x : Option (Unit {0})) (xs : List Act) → handed_in a ≡ [] → cond b ((x ≡ None) × (xs ≡ [])) ((x ≡ Some tt) × (xs ≡ a ∷ [])) → gather handed_in xs ≡ []
+numbered_by true a x xs q d = ap (gather handed_in) d.1
+numbered_by false a x xs q d = ap (gather handed_in) d.1 ∙ append_nothing (handed_in a) [] q refl
 
-numbered_quiet : (at_end : Place → HeldView → Bool) (a : Place → HeldView → Act) → ((p : Place) (h : HeldView) → merge_in (a p h) ≡ []) → Quiet (Numbered at_end a)
+numbered_quiet : (at_end : Place → HeldView → Bool) (a : Place → HeldView → Act) → ((p : Place) (h : HeldView) → handed_in (a p h) ≡ []) → Quiet (Numbered at_end a)
 numbered_quiet at_end a q x p h acts d = numbered_by (at_end p h) (a p h) x acts (q p h) d
 
-if_quiet : {A : Type 0} (b : Bool) (P Q : Option A → Doing) → Quiet P → Quiet Q → Quiet (If b P Q)
+pub if_quiet : {A : Type 0} (b : Bool) (P Q : Option A → Doing) → Quiet P → Quiet Q → Quiet (If b P Q)
 if_quiet true P Q p q = p
 if_quiet false P Q p q = q
 
@@ -89,36 +110,36 @@ where_quiet : {A : Type 0} (X : Type 0) (P Q : Option A → Doing) → Quiet P �
 where_quiet X P Q p q x place h acts (inl a) = p x place h acts a.1
 where_quiet X P Q p q x place h acts (inr a) = q x place h acts a.1
 
-looks_quiet : {A B : Type 0} (see : Place → HeldView → A) (P : A → Option B → Doing) → ((x : A) → Quiet (P x)) → Quiet (Looks see P)
+pub looks_quiet : {A B : Type 0} (see : Place → HeldView → A) (P : A → Option B → Doing) → ((x : A) → Quiet (P x)) → Quiet (Looks see P)
 looks_quiet see P q x p h acts d = q (see p h) x p h acts d
 
-finds_quiet : {A B : Type 0} (Is : Place → HeldView → A → Type 0) (P : A → Option B → Doing) → ((x : A) → Quiet (P x)) → Quiet (Finds Is P)
+pub finds_quiet : {A B : Type 0} (Is : Place → HeldView → A → Type 0) (P : A → Option B → Doing) → ((x : A) → Quiet (P x)) → Quiet (Finds Is P)
 finds_quiet Is P q x p h acts d = q d.0 x p h acts d.2
 
-then_quiet : {A B : Type 0} (P : Option A → Doing) (Q : A → Option B → Doing) → Quiet P → ((x : A) → Quiet (Q x)) → Quiet (Then P Q)
+pub then_quiet : {A B : Type 0} (P : Option A → Doing) (Q : A → Option B → Doing) → Quiet P → ((x : A) → Quiet (Q x)) → Quiet (Then P Q)
 then_quiet P Q p q x place h acts (inl a) = p None place h acts a.1
 then_quiet P Q p q x place h acts (inr a) =
-    ap (gather merge_in) a.7 ∙ gather-append merge_in a.1 a.3 ∙ append_nothing (gather merge_in a.1) (gather merge_in a.3) (p (Some a.0) place h a.1 a.4) (q a.0 x place a.2 a.3 a.6)
+    ap (gather handed_in) a.7 ∙ gather-append handed_in a.1 a.3 ∙ append_nothing (gather handed_in a.1) (gather handed_in a.3) (p (Some a.0) place h a.1 a.4) (q a.0 x place a.2 a.3 a.6)
 
 in_turn_quiet : {A B : Type 0} (One : A → Option B → Doing) → ((x : A) → Quiet (One x)) → (xs : List A) (given : List B) → Quiet (InTurn One xs given)
 in_turn_quiet One q [] given = returns_quiet given
 in_turn_quiet One q (x ∷ xs) given = then_quiet (One x) (λ y. InTurn One xs (given ++ y ∷ [])) (q x) (λ y. in_turn_quiet One q xs (given ++ y ∷ []))
 
-each_quiet : {A : Type 0} (One : A → Option (Unit {0}) → Doing) → ((x : A) → Quiet (One x)) → (xs : List A) → Quiet (Each One xs)
+pub each_quiet : {A : Type 0} (One : A → Option (Unit {0}) → Doing) → ((x : A) → Quiet (One x)) → (xs : List A) → Quiet (Each One xs)
 each_quiet One q [] = returns_quiet tt
 each_quiet One q (x ∷ xs) = then_quiet (One x) (λ _. Each One xs) (q x) (λ _. each_quiet One q xs)
 
 -- ---- calls of sessions, and small things
 
 calls_at_quiet : (client : List ℕ) (event : ℕ → Event) (on : Option ℕ → Option ℕ) (seat : Option Seat) → Quiet (CallsAt client event on seat)
-calls_at_quiet client event on None x p h acts d = ap (gather merge_in) d.1
-calls_at_quiet client event on (Some seat) x p h acts (inl d) = ap (gather merge_in) d.2
-calls_at_quiet client event on (Some seat) x p h acts (inr d) = ap (gather merge_in) d.4
+calls_at_quiet client event on None x p h acts d = ap (gather handed_in) d.1
+calls_at_quiet client event on (Some seat) x p h acts (inl d) = ap (gather handed_in) d.2
+calls_at_quiet client event on (Some seat) x p h acts (inr d) = ap (gather handed_in) d.4
 
 calls_quiet : (client : List ℕ) (event : ℕ → Event) (on : Option ℕ → Option ℕ) → Quiet (Calls client event on)
 calls_quiet client event on = looks_quiet (λ p h. seat_at client h) (CallsAt client event on) (calls_at_quiet client event on)
 
-queues_quiet : (copies : List Copy) → Quiet (Queues copies)
+pub queues_quiet : (copies : List Copy) → Quiet (Queues copies)
 queues_quiet copies = each_quiet QueuesOne (λ x. then_quiet (Calls x.client (queues x.delivery) stays) (λ _. Returns tt) (calls_quiet x.client (queues x.delivery) stays) (λ _. returns_quiet tt)) copies
 
 sends_quiet : (c : ℕ) (packet : Packet) → Quiet (Sends c packet)
@@ -129,23 +150,49 @@ disconnects_quiet c client code =
     looks_quiet (λ p h. takes_disconnect client code h) (λ taken. If taken (Sends c (disconnect code)) (Returns tt))
     (λ taken. if_quiet taken (Sends c (disconnect code)) (Returns tt) (sends_quiet c (disconnect code)) (returns_quiet tt))
 
-removes_quiet : (client : List ℕ) (to : Option (List ℕ)) → Quiet (Removes client to)
+pub removes_quiet : (client : List ℕ) (to : Option (List ℕ)) → Quiet (Removes client to)
 removes_quiet client to =
     looks_quiet (λ p h. any_of client to h.store.subscriptions) (λ stands. If stands (Then (MakesRemove client to) (λ _. Returns true)) (Returns false))
     (λ stands. if_quiet stands (Then (MakesRemove client to) (λ _. Returns true)) (Returns false)
     (then_quiet (MakesRemove client to) (λ _. Returns true) (numbered_quiet (λ p h. number_at_end p.id h) (λ p h. Store (Made (removal p.id client to h.store))) (λ p h. refl)) (λ _. returns_quiet true)) (returns_quiet false))
 
-opens_quiet : (c : ℕ) → Quiet (Opens c)
+pub opens_quiet : (c : ℕ) → Quiet (Opens c)
 opens_quiet c =
     looks_quiet (λ p h. is_open c h) (λ is. If is (Returns tt) (Acting (λ p h. Connection (Opened c))))
     (λ is. if_quiet is (Returns tt) (Acting (λ p h. Connection (Opened c))) (returns_quiet tt) (acting_quiet (λ p h. Connection (Opened c)) (λ p h. refl)))
+
+-- ---- what goes to other nodes
+
+pub misses_quiet : (what : Missed) → Quiet (Misses what)
+misses_quiet what = acting_quiet (λ p h. Bridge (Left_out what)) (λ p h. refl)
+
+puts_by_quiet : (peer : ℕ) (m : Forward) (o : Offer) → Quiet (PutsBy peer m o)
+puts_by_quiet peer m (offers.Queued n) = acting_quiet (λ p h. Bridge (Put peer m)) (λ p h. refl)
+puts_by_quiet peer m offers.Full = misses_quiet LaneFull
+puts_by_quiet peer m offers.AtEnd = stops_quiet
+
+routes_by_quiet : (peer : ℕ) (r : Route) → Quiet (RoutesBy peer r)
+routes_by_quiet peer routes.Nothing = returns_quiet tt
+routes_by_quiet peer (routes.Lane m) = looks_quiet (λ p h. offer_to peer h.bridge) (PutsBy peer m) (puts_by_quiet peer m)
+routes_by_quiet peer routes.TooLarge = misses_quiet LaneFull
+
+routes_quiet : (x : ℕ × Route) → Quiet (Routes x)
+routes_quiet x = routes_by_quiet x.0 x.1
+
+pub gives_frame_quiet : (f : BridgeFrame) → Quiet (GivesFrame f)
+gives_frame_quiet f =
+    if_quiet (is_small f) (Acting (λ p h. Bridge (Gave f))) (Misses FrameTooLarge) (acting_quiet (λ p h. Bridge (Gave f)) (λ p h. refl)) (misses_quiet FrameTooLarge)
+
+pub gives_quiet : (peer : ℕ) (body : HeldView → FrameBody) → Quiet (Gives peer body)
+gives_quiet peer body = looks_quiet (λ p h. record { from = p.id; to = peer; body = body h }) GivesFrame gives_frame_quiet
 
 -- ---- messages
 
 copies_quiet : (m : Message) → Quiet (passing.Copies m)
 copies_quiet m =
     finds_quiet (passing.AreMade m) (passing.MakesCopies m)
-    (λ x. then_quiet (Numbered turn_at_end (λ p h. Passed m x.0 x.1)) (λ _. Queues x.0) (numbered_quiet turn_at_end (λ p h. Passed m x.0 x.1) (λ p h. refl)) (λ _. queues_quiet x.0))
+    (λ x. then_quiet (Numbered turn_at_end (λ p h. Passed m x.0 x.1.0 x.1.1)) (λ _. Then (Queues x.0) (λ _. Each Routes x.1.1)) (numbered_quiet turn_at_end (λ p h. Passed m x.0 x.1.0 x.1.1) (λ p h. refl))
+    (λ _. then_quiet (Queues x.0) (λ _. Each Routes x.1.1) (queues_quiet x.0) (λ _. each_quiet Routes routes_quiet x.1.1)))
 
 retains_quiet : (m : Message) → Quiet (passing.Retains m)
 retains_quiet m =
@@ -423,7 +470,7 @@ breaks_if_open_quiet c None = returns_quiet tt
 breaks_if_open_quiet c (Some fault) =
     looks_quiet (λ p h. is_open c h) (λ is_there. If is_there (pieces.Breaks c fault) (Returns tt)) (λ is_there. if_quiet is_there (pieces.Breaks c fault) (Returns tt) (breaks_quiet c fault) (returns_quiet tt))
 
-piece_at_quiet : (c : ℕ) (piece : List ℕ) (x : Option ConnectionView) → Quiet (pieces.PieceAt c piece x)
+pub piece_at_quiet : (c : ℕ) (piece : List ℕ) (x : Option ConnectionView) → Quiet (pieces.PieceAt c piece x)
 piece_at_quiet c piece None = returns_quiet tt
 piece_at_quiet c piece (Some found) =
     let ps = (cut_of found.stream piece).packets in
@@ -440,7 +487,7 @@ leaves_by_quiet : (c : ℕ) (client : Option (List ℕ)) → Quiet (pieces.Leave
 leaves_by_quiet c client =
     then_quiet (Acting (λ p h. Connection (Closed c))) (λ _. pieces.PartsBy client) (acting_quiet (λ p h. Connection (Closed c)) (λ p h. refl)) (λ _. parts_by_quiet client)
 
-leaves_quiet : (c : ℕ) → Quiet (pieces.Leaves c)
+pub leaves_quiet : (c : ℕ) → Quiet (pieces.Leaves c)
 leaves_quiet c =
     looks_quiet (λ p h. is_open c h) (λ is_there. If is_there (Looks (λ p h. client_at c h) (pieces.LeavesBy c)) (Returns tt))
     (λ is_there. if_quiet is_there (Looks (λ p h. client_at c h) (pieces.LeavesBy c)) (Returns tt) (looks_quiet (λ p h. client_at c h) (pieces.LeavesBy c) (leaves_by_quiet c)) (returns_quiet tt))
@@ -455,76 +502,13 @@ runs_out_quiet d =
     then_quiet (Calls d.1 ticks stays) (λ _. Then (ending.Closes d.0) (λ _. PartsFrom d.1)) (calls_quiet d.1 ticks stays)
     (λ _. then_quiet (ending.Closes d.0) (λ _. PartsFrom d.1) (closes_quiet d.0) (λ _. parts_from_quiet d.1))
 
-does_due_quiet : Quiet DoesDue
+pub does_due_quiet : Quiet DoesDue
 does_due_quiet =
     then_quiet EndsConnections (λ _. Then PublishesWills (λ _. EndsSessions)) (looks_quiet (λ p h. run_outs h.sessions h.at) (Each RunsOut) (each_quiet RunsOut runs_out_quiet))
     (λ _. then_quiet PublishesWills (λ _. EndsSessions) (looks_quiet (λ p h. wills_due h.sessions h.at) (Each TicksOf) (each_quiet TicksOf (λ d. ticks_quiet d.1)))
     (λ _. looks_quiet (λ p h. ends_due h.sessions h.at) (Each TicksOf) (each_quiet TicksOf (λ d. ticks_quiet d.1))))
 
-starts_quiet : Quiet Starts
+pub starts_quiet : Quiet Starts
 starts_quiet =
     then_quiet (Acting (λ p h. Began)) (λ _. Then ClosesStored (λ _. DoesDue)) (acting_quiet (λ p h. Began) (λ p h. refl))
     (λ _. then_quiet ClosesStored (λ _. DoesDue) (looks_quiet (λ p h. connected h.sessions) (Each PartsFrom) (each_quiet PartsFrom parts_from_quiet)) (λ _. does_due_quiet))
-
--- ---- events: what one merges is what it brings
-
--- work that comes to something merges these states
-abbrev Brings : (Option (Unit {0}) → Doing) → (Place → List State) → Type 0
-Brings P states = (p : Place) (h : HeldView) (acts : List Act) → P (Some tt) p h acts → gather merge_in acts ≡ states p
-
-quiet_brings : (P : Option (Unit {0}) → Doing) → Quiet P → Brings P (λ p. [])
-quiet_brings P q p h acts d = q (Some tt) p h acts d
-
-takes_brings : (from : ℕ) (b : FrameBody) → Brings (Takes from b) (λ p. states_in b)
-takes_brings from (Delta s) p h acts (inl a) = let z : Some tt ≡ None = a.0 in cc
-takes_brings from (Delta s) p h acts (inr a) = ap (gather merge_in) (a.7 ∙ (λ i. a.4.1 i ++ a.6.1 i))
-takes_brings from (Know dots) p h acts d = ap (gather merge_in) d.1
-
-hears_by : (b : Bool) (from : ℕ) (body : FrameBody) (p : Place) (h : HeldView) (acts : List Act) → If b (Takes from body) (Returns tt) (Some tt) p h acts → gather merge_in acts ≡ cond b (states_in body) []
-hears_by true from body p h acts d = takes_brings from body p h acts d
-hears_by false from body p h acts d = ap (gather merge_in) d.1
-
-ships_quiet : (peer : ℕ) → Quiet (Ships peer)
-ships_quiet peer =
-    looks_quiet (λ p h. is_other p peer) (λ other. If other (Gives peer (λ h. Delta h.store)) (Returns tt))
-    (λ other. if_quiet other (Gives peer (λ h. Delta h.store)) (Returns tt) (acting_quiet (λ p h. Out (Release (record { from = p.id; to = peer; body = Delta h.store }))) (λ p h. refl)) (returns_quiet tt))
-
-answers_bring : (kind : EventKind) → Brings (Answers kind) (λ p. brought p kind)
-answers_bring kinds.Started p h acts d = ap (gather merge_in) d.1
-answers_bring (kinds.Opened connection) p h acts d = quiet_brings (Opens connection) (opens_quiet connection) p h acts d
-answers_bring (kinds.Piece connection bytes) p h acts d =
-    quiet_brings (pieces.Piece connection bytes) (looks_quiet (λ n v. map.get v.connections connection) (pieces.PieceAt connection bytes) (piece_at_quiet connection bytes)) p h acts d
-answers_bring (kinds.Closed connection) p h acts d = quiet_brings (pieces.Leaves connection) (leaves_quiet connection) p h acts d
-answers_bring (kinds.Frame frame) p h acts d = hears_by (is_for p frame) frame.from frame.body p h acts d
-answers_bring (kinds.Ship peer) p h acts d = quiet_brings (Ships peer) (ships_quiet peer) p h acts d
-answers_bring kinds.Tick p h acts d = ap (gather merge_in) d.1
-answers_bring (kinds.Evict client) p h acts d = quiet_brings (Evicts client) (then_quiet (Removes client None) (λ _. Returns tt) (removes_quiet client None) (λ _. returns_quiet tt)) p h acts d
-
-due_brings : (kind : EventKind) → Brings (Then DoesDue (λ _. Answers kind)) (λ p. brought p kind)
-due_brings kind p h acts (inl d) = let z : Some tt ≡ None = d.0 in cc
-due_brings kind p h acts (inr d) =
-    ap (gather merge_in) d.7 ∙ gather-append merge_in d.1 d.3 ∙ (λ i. does_due_quiet (Some d.0) p h d.1 d.4 i ++ answers_bring kind p d.2 d.3 d.6 i)
-
-goes_bring : (kind : EventKind) → Brings (GoesOn kind) (λ p. brought p kind)
-goes_bring kinds.Started p h acts d = ap (gather merge_in) d.1
-goes_bring (kinds.Opened connection) p h acts d = due_brings (kinds.Opened connection) p h acts d
-goes_bring (kinds.Piece connection bytes) p h acts d = due_brings (kinds.Piece connection bytes) p h acts d
-goes_bring (kinds.Closed connection) p h acts d = due_brings (kinds.Closed connection) p h acts d
-goes_bring (kinds.Frame frame) p h acts d = due_brings (kinds.Frame frame) p h acts d
-goes_bring (kinds.Ship peer) p h acts d = due_brings (kinds.Ship peer) p h acts d
-goes_bring kinds.Tick p h acts d = due_brings kinds.Tick p h acts d
-goes_bring (kinds.Evict client) p h acts d = due_brings (kinds.Evict client) p h acts d
-
-first_turn_quiet : (kind : EventKind) → Quiet (First kind)
-first_turn_quiet kinds.Started = starts_quiet
-first_turn_quiet (kinds.Opened connection) = returns_quiet tt
-first_turn_quiet (kinds.Piece connection bytes) = returns_quiet tt
-first_turn_quiet (kinds.Closed connection) = returns_quiet tt
-first_turn_quiet (kinds.Frame frame) = returns_quiet tt
-first_turn_quiet (kinds.Ship peer) = returns_quiet tt
-first_turn_quiet kinds.Tick = returns_quiet tt
-first_turn_quiet (kinds.Evict client) = returns_quiet tt
-
-pub turn_brings : (b : Bool) (kind : EventKind) (p : Place) (h : HeldView) (acts : List Act) → cond b (GoesOn kind (Some tt) p h acts) (First kind (Some tt) p h acts) → gather merge_in acts ≡ cond b (brought p kind) []
-turn_brings true kind p h acts d = goes_bring kind p h acts d
-turn_brings false kind p h acts d = first_turn_quiet kind (Some tt) p h acts d

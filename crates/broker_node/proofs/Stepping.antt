@@ -7,7 +7,7 @@ use Rattle.node_work.specs.declared.fault.NodeFault.{NodeFault}
 use Rattle.node_work.specs.declared.fault.NodeFault.TheVariants.{NoMemory, NumbersAtEnd, Stopped}
 use Rattle.node_work.specs.declared.outcome.Outcome.{Outcome}
 use Rattle.node_work.specs.declared.outcome.Output.{Output}
-use Rattle.node_work.specs.Acts.{Act, Moment, Runs, gather, merge_in, output_in}
+use Rattle.node_work.specs.Acts.{Act, Moment, Runs, gather, heard_in, merge_in, output_in}
 use Rattle.node_work.specs.View.{Place, HeldView, WorkView, NodeView, up_of}
 use Rattle.node_work.specs.Lasting.{CanLast, held_row}
 use Rattle.node_work.specs.Working.{Did, Comes, Doing}
@@ -17,10 +17,10 @@ use Rattle.row_changes.proofs.Leaving.{alike_lead_alike}
 use Rattle.row_store.specs.declared.row.Change.{Change}
 use Rattle.broker_node.specs.declared.event.Event.{Event}
 use Rattle.broker_node.specs.Idle.{IsIdle, Keeps, Rests, RestsWhereIdle}
-use Rattle.broker_node.specs.Step.{IsDone, IsAtEnd, HasCause, HasCauseAt, Settles, begun, brought}
+use Rattle.broker_node.specs.Step.{IsDone, IsAtEnd, IsHeard, HasCause, HasCauseAt, Settles, begun, brought}
 use Rattle.broker_node.specs.Turns.{Decides}
 use Rattle.broker_node.proofs.Determined.{decides_determined}
-use Rattle.broker_node.proofs.Quiet.{turn_brings}
+use Rattle.broker_node.proofs.Handing.{turn_brings}
 
 is_below : (n : ℕ) → not (nat_lt n (2 ^ 62)) ≡ false → n < 2 ^ 62
 is_below n h = grind (arith, nat_tests)
@@ -34,6 +34,7 @@ taken_by false at x acts is d = (refl, d.1)
 record Follows (e : Event) (p : Place) (h : HeldView) (acts : List Act) : Type 0 where
   moment : e.at < 2 ^ 62
   merged : gather merge_in acts ≡ cond h.started (brought p e.kind) []
+  heard : cond h.started (IsHeard p e.kind (gather heard_in acts)) (gather heard_in acts ≡ [])
 
 follows : (e : Event) (p : Place) (h : HeldView) (acts : List Act) → Decides e (Some tt) p h acts → Follows e p h acts
 follows e p h acts (inl d) = absurd (let z : Some tt ≡ None = d.0 in cc)
@@ -41,9 +42,14 @@ follows e p h acts (inr d) =
     let t = taken_by (not (nat_lt e.at (2 ^ 62))) e.at (Some d.0) d.1 refl d.4 in
     let r = subst (λ xs. Runs p h xs d.2) t.1 d.5 in
     let mid : d.2 ≡ record h { at = max h.at e.at } = r.2 ∙ r.1.1 in
+    let started : d.2.started ≡ h.started = ap (λ (v : HeldView). v.started) mid in
+    let whole : acts ≡ Moment e.at ∷ d.3 = d.7 ∙ ap (λ xs. xs ++ d.3) t.1 in
+    let turn = turn_brings d.2.started e.kind p d.2 d.3 d.6 in
     record {
       moment = is_below e.at t.0;
-      merged = ap (gather merge_in) (d.7 ∙ ap (λ xs. xs ++ d.3) t.1) ∙ turn_brings d.2.started e.kind p d.2 d.3 d.6 ∙ ap (λ (v : HeldView). cond v.started (brought p e.kind) []) mid;
+      merged = ap (gather merge_in) whole ∙ turn.merged ∙ ap (λ b. cond b (brought p e.kind) []) started;
+      heard = subst (λ b. cond b (IsHeard p e.kind (gather heard_in acts)) (gather heard_in acts ≡ [])) started
+          (subst (λ bs. cond d.2.started (IsHeard p e.kind bs) (bs ≡ [])) (sym (ap (gather heard_in) whole)) turn.heard);
     }
 
 -- ---- what the work comes to
@@ -125,6 +131,7 @@ module _ (n : NodeView) (place : Place) (w : WorkView) (stopped : Bool) (e : Eve
           given = s.given ∙ d.given;
           moment = after.moment;
           merged = after.merged;
+          heard = after.heard;
         };
         once = s.once;
         lasts = s.lasts;

@@ -1,31 +1,77 @@
 -- What nodes tell one another.
-use Rattle.std.specs.Prelude.{ℕ, Option}
+use Rattle.std.specs.Prelude.{ℕ, List, Option, Some, None}
+use Rattle.bridge_deltas.specs.Lane.{first_frames}
+use Rattle.bridge_frames.specs.declared.body.FrameBody.{FrameBody}
+use Rattle.bridge_frames.specs.declared.body.FrameBody.TheVariants.{Hello, Delta, Know, Forward, Got}
+use Rattle.bridge_frames.specs.declared.forward.Forward.{Forward as Message}
+use Rattle.bridge_frames.specs.declared.frame.BridgeFrame.{BridgeFrame}
+use Rattle.bridge_frames.specs.Frames.{frame_in}
+use Rattle.node_bridge.specs.View.{IsToShip, is_next, lane_to}
 use Rattle.replica_store.specs.States.{State}
-use Rattle.node_work.specs.declared.frame.Frame.{Frame}
-use Rattle.node_work.specs.declared.frame.FrameBody.{FrameBody}
-use Rattle.node_work.specs.declared.frame.FrameBody.TheVariants.{Delta, Know}
-use Rattle.node_work.specs.declared.outcome.Output.TheVariants.{Frame as Release}
-use Rattle.node_work.specs.Acts.{Store, Out, Merged}
+use Rattle.node_work.specs.declared.counts.Missed.TheVariants.{BadFrame}
+use Rattle.node_work.specs.Acts.{Store, Merged, Bridge}
+use Rattle.node_work.specs.Doings.{Gives, GivesFrame, Misses}
 use Rattle.node_work.specs.Frames.{is_for, is_other}
-use Rattle.node_work.specs.View.{HeldView}
-use Rattle.node_work.specs.Working.{Doing, Returns, Acting, Looks, If, Then}
+use Rattle.node_work.specs.Held.Bridge.{Believed, Got as GotBy}
+use Rattle.node_work.specs.View.{Place, HeldView}
+use Rattle.node_work.specs.Working.{Doing, Returns, Acting, Looks, Finds, If, Then, Each}
+use Rattle.node_clients.specs.Passing.{TakesForward}
 
--- a frame goes to another node
-abbrev pub Gives : ℕ → (HeldView → FrameBody) → Option (Unit {0}) → Doing
-Gives peer body = Acting (λ p h. Out (Release (record { from = p.id; to = peer; body = body h })))
+-- ---- of its own accord
 
--- the whole state goes to another node of the cluster
+-- a new link to another node of the cluster begins with Hello
+abbrev pub Greets : ℕ → Option (Unit {0}) → Doing
+Greets peer = Looks (λ p h. is_other p peer) (λ other. If other (Gives peer (λ h. Hello)) (Returns tt))
+
+-- what another node may lack of the state goes to it, if there is any
+abbrev pub AreShipped : ℕ → Place → HeldView → Option State → Type 0
+AreShipped peer p h s = IsToShip peer h.bridge h.store s
+
+abbrev pub GivesState : ℕ → Option State → Option (Unit {0}) → Doing
+GivesState peer None = Returns tt
+GivesState peer (Some s) = Gives peer (λ h. Delta s)
+
+abbrev pub ShipsState : ℕ → Option (Unit {0}) → Doing
+ShipsState peer = Finds (AreShipped peer) (GivesState peer)
+
+-- and then the first 64 messages that wait for it
+abbrev pub ShipsMessages : ℕ → Option (Unit {0}) → Doing
+ShipsMessages peer = Looks (λ p h. first_frames p.id peer (lane_to h.bridge peer)) (Each GivesFrame)
+
+abbrev pub ShipsTo : ℕ → Option (Unit {0}) → Doing
+ShipsTo peer = Then (ShipsState peer) (λ _. ShipsMessages peer)
+
 abbrev pub Ships : ℕ → Option (Unit {0}) → Doing
-Ships peer = Looks (λ p h. is_other p peer) (λ other. If other (Gives peer (λ h. Delta h.store)) (Returns tt))
+Ships peer = Looks (λ p h. is_other p peer) (λ other. If other (ShipsTo peer) (Returns tt))
+
+-- ---- frames that come
+
+-- the dots that are taken now are told
+abbrev pub TellsTaken : ℕ → Option (Unit {0}) → Doing
+TellsTaken from = Gives from (λ h. Know h.store.taken)
 
 -- a delta is merged, and answered with the dots that are taken then
 abbrev pub Merges : ℕ → State → Option (Unit {0}) → Doing
-Merges from s = Then (Acting (λ p h. Store (Merged s))) (λ _. Gives from (λ h. Know h.store.taken))
+Merges from s = Then (Acting (λ p h. Store (Merged s))) (λ _. TellsTaken from)
+
+-- a message is taken where its number is the next of its lane; any is answered with the number of the last one that was taken
+abbrev pub TakesNext : ℕ → ℕ → Message → Option (Unit {0}) → Doing
+TakesNext from number m = Looks (λ p h. is_next from number h.bridge) (λ next. If next (TakesForward from number m) (Returns tt))
+
+abbrev pub TakesMessage : ℕ → ℕ → Message → Option (Unit {0}) → Doing
+TakesMessage from number m = Then (TakesNext from number m) (λ _. Gives from (λ h. Got (lane_to h.bridge from).took))
 
 abbrev pub Takes : ℕ → FrameBody → Option (Unit {0}) → Doing
+Takes from Hello = TellsTaken from
 Takes from (Delta s) = Merges from s
-Takes from (Know dots) = Returns tt
+Takes from (Know dots) = Acting (λ p h. Bridge (Believed from dots))
+Takes from (Forward number m) = TakesMessage from number m
+Takes from (Got number) = Acting (λ p h. Bridge (GotBy from number))
 
--- a frame for this node from another one is taken, and another frame is dropped
-abbrev pub Hears : Frame → Option (Unit {0}) → Doing
-Hears frame = Looks (λ p h. is_for p frame) (λ here. If here (Takes frame.from frame.body) (Returns tt))
+-- a frame for this node from another one is taken; another frame, and bytes that are no frame, are dropped and counted
+abbrev pub HearsFrame : Option BridgeFrame → Option (Unit {0}) → Doing
+HearsFrame None = Misses BadFrame
+HearsFrame (Some frame) = Looks (λ p h. is_for p frame) (λ here. If here (Takes frame.from frame.body) (Misses BadFrame))
+
+abbrev pub Hears : List ℕ → Option (Unit {0}) → Doing
+Hears bytes = HearsFrame (frame_in bytes)

@@ -3,19 +3,13 @@ use Rattle.std.specs.Prelude.{◌≡◌, ℕ, ◌<◌, ◌^◌, ◌⊎◌, max, 
 use Rattle.subscription_set.specs.Standing.{any_of}
 use Rattle.session_table.specs.Seats.{run_outs, wills_due, ends_due, connected}
 use Rattle.node_work.specs.declared.fault.NodeFault.{NodeFault}
-use Rattle.node_work.specs.declared.frame.FrameBody.{FrameBody}
-use Rattle.node_work.specs.declared.frame.FrameBody.TheVariants.{Delta, Know}
 use Rattle.node_work.specs.declared.outcome.Outcome.{Outcome}
-use Rattle.node_work.specs.Frames.{is_for, is_other}
+use Rattle.node_work.specs.Frames.{is_other}
 use Rattle.node_work.specs.Held.Connections.{is_open}
 use Rattle.node_work.specs.View.{Place, HeldView, WorkView, NodeView}
 use Rattle.broker_node.specs.declared.event.Event.{Event}
 use Rattle.broker_node.specs.declared.event.EventKind.{EventKind}
 use Rattle.broker_node.specs.declared.event.EventKind.TheVariants as kinds
-
-abbrev pub is_know : FrameBody → Bool
-is_know (Delta s) = false
-is_know (Know dots) = true
 
 -- no Keep Alive has run out, and no will and no end is due
 pub record NothingDue (h : HeldView) : Type 0 where
@@ -23,14 +17,15 @@ pub record NothingDue (h : HeldView) : Type 0 where
   pub wills : wills_due h.sessions h.at ≡ []
   pub ends : ends_due h.sessions h.at ≡ []
 
--- the event itself asks for nothing of a node that has started: a connection that is open already or isn't open, a frame or
--- a peer that is no other node of the cluster, a Know, a client of whom nothing stands
+-- the event itself asks for nothing of a node that has started: a connection that is open already or isn't open, a peer that is no
+-- other node of the cluster, a client of whom nothing stands
 abbrev pub AsksNothing : Place → HeldView → EventKind → Type 0
 AsksNothing p h kinds.Started = Unit {0}
 AsksNothing p h (kinds.Opened connection) = is_open connection h ≡ true
 AsksNothing p h (kinds.Piece connection bytes) = is_open connection h ≡ false
 AsksNothing p h (kinds.Closed connection) = is_open connection h ≡ false
-AsksNothing p h (kinds.Frame frame) = (is_for p frame ≡ false) ⊎ (is_know frame.body ≡ true)
+AsksNothing p h (kinds.Frame bytes) = ⊥
+AsksNothing p h (kinds.Linked peer) = is_other p peer ≡ false
 AsksNothing p h (kinds.Ship peer) = is_other p peer ≡ false
 AsksNothing p h kinds.Tick = Unit {0}
 AsksNothing p h (kinds.Evict client) = any_of client None h.store.subscriptions ≡ false

@@ -6,7 +6,7 @@ use Rattle.node_clients.specs.Pieces.{Piece, Leaves}
 use Rattle.broker_node.specs.declared.event.Event.{Event}
 use Rattle.broker_node.specs.declared.event.EventKind.{EventKind}
 use Rattle.broker_node.specs.declared.event.EventKind.TheVariants as kinds
-use Rattle.broker_node.specs.Bridge.{Hears, Ships}
+use Rattle.broker_node.specs.Bridge.{Greets, Hears, Ships}
 use Rattle.broker_node.specs.Due.{DoesDue, Starts}
 
 -- one Remove that covers all that stands of the client, if anything does
@@ -24,7 +24,8 @@ Answers kinds.Started = Returns tt
 Answers (kinds.Opened connection) = Opens connection
 Answers (kinds.Piece connection bytes) = Piece connection bytes
 Answers (kinds.Closed connection) = Leaves connection
-Answers (kinds.Frame frame) = Hears frame
+Answers (kinds.Frame bytes) = Hears bytes
+Answers (kinds.Linked peer) = Greets peer
 Answers (kinds.Ship peer) = Ships peer
 Answers kinds.Tick = Returns tt
 Answers (kinds.Evict client) = Evicts client

@@ -1,75 +1,162 @@
 //! What nodes tell one another.
 
-ghost use Rattle.std.specs.Prelude.{◌≡◌, ◌⊎◌, false, true, Ok};
-ghost use Rattle.broker_node.specs.Bridge.{Ships, Hears, Merges, Takes, Gives};
-ghost use Rattle.broker_node.specs.Idle.{is_know};
+ghost use Rattle.std.specs.Prelude.{◌≡◌, false, Ok};
+ghost use Rattle.broker_node.specs.Bridge.{Greets, Ships, ShipsState, ShipsMessages, Hears, HearsFrame, Takes, TellsTaken, Merges, TakesMessage, TakesNext};
+ghost use Rattle.node_bridge.specs.View.{lane_to};
+ghost use Rattle.node_work.specs.Doings.{Gives};
 ghost use Rattle.node_work.specs.Frames.{is_for, is_other};
+ghost use Rattle.node_work.specs.Held.Bridge.{Carries};
+ghost use Rattle.node_work.specs.View.{HeldView};
 ghost use Rattle.node_work.specs.Working.{Comes};
+ghost use Rattle.std.specs.Prelude.{Some};
 
-use node_work::{Frame, FrameBody, NodeFault, Work};
+use bridge_frames::{BridgeFrame, Forward, FrameBody, LinkFault};
+use node_clients::take_forward;
+use node_work::{Missed, NodeFault, Work};
 use replica_store::ReplicaStore;
 
-/// Releases the whole state to another node of the cluster.
+fn is_other(work: &Work, peer: u16) -> bool
+    ensures { result ≡ is_other work.now.place peer }
+{
+    peer != work.id() && peer < work.homes().nodes()
+}
+
+/// Gives another node a frame of what the node holds.
+fn give(work: &mut Work, peer: u16, body: FrameBody) -> Result<(), NodeFault>
+    requires { Carries work.old.held peer body }
+    ensures { (said : HeldView → FrameBody) → body ≡ said work.old.held → Comes (λ x. x) result work.old work.new (Gives peer said) }
+{
+    let from = work.id();
+    work.release(BridgeFrame {
+        from,
+        to: peer,
+        body,
+    })
+}
+
+/// Begins a new link to another node of the cluster.
+pub fn greet(work: &mut Work, peer: u16) -> Result<(), NodeFault>
+    ensures idle { is_other work.old.place peer ≡ false → (result ≡ Ok tt) × (work.new ≡ work.old) }
+    ensures comes { Comes (λ x. x) result work.old work.new (Greets peer) }
+{
+    if !is_other(work, peer) {
+        return Ok(());
+    }
+    give(work, peer, FrameBody::Hello)
+}
+
+/// Sends another node of the cluster what it may lack: of the state, and then of the messages that wait for it.
 pub fn ship(work: &mut Work, peer: u16) -> Result<(), NodeFault>
     ensures idle { is_other work.old.place peer ≡ false → (result ≡ Ok tt) × (work.new ≡ work.old) }
     ensures comes { Comes (λ x. x) result work.old work.new (Ships peer) }
 {
-    if peer == work.id() || peer >= work.homes().nodes() {
+    if !is_other(work, peer) {
         return Ok(());
     }
-    give_state(work, peer)
+    ship_state(work, peer)?;
+    ship_messages(work, peer)
 }
 
-fn give_state(work: &mut Work, peer: u16) -> Result<(), NodeFault>
-    ensures { Comes (λ x. x) result work.old work.new (Gives peer (λ h. FrameBody.Delta h.store)) }
+fn ship_state(work: &mut Work, peer: u16) -> Result<(), NodeFault>
+    ensures { Comes (λ x. x) result work.old work.new (ShipsState peer) }
 {
-    let body = FrameBody::Delta(work.held().store().copy()?);
-    let frame = Frame {
-        from: work.id(),
-        to: peer,
-        body,
-    };
-    work.release(frame)
-}
-
-fn give_taken(work: &mut Work, peer: u16) -> Result<(), NodeFault>
-    ensures { Comes (λ x. x) result work.old work.new (Gives peer (λ h. FrameBody.Know h.store.taken)) }
-{
-    let body = FrameBody::Know(work.held().store().taken().copy()?);
-    let frame = Frame {
-        from: work.id(),
-        to: peer,
-        body,
-    };
-    work.release(frame)
-}
-
-/// Takes a frame for this node from another one; another frame is dropped. A frame that is dropped and
-/// a Know take no memory.
-pub fn hear(work: &mut Work, frame: &Frame) -> Result<(), NodeFault>
-    ensures idle { (is_for work.old.place frame.now ≡ false) ⊎ (is_know frame.now.body ≡ true) → (result ≡ Ok tt) × (work.new ≡ work.old) }
-    ensures comes { Comes (λ x. x) result work.old work.new (Hears frame.now) }
-{
-    if frame.to != work.id() || frame.from == work.id() || frame.from >= work.homes().nodes() {
-        return Ok(());
+    let held = work.held();
+    let found = held.bridge().to_ship(peer, held.store())?;
+    match found {
+        None => Ok(()),
+        Some(state) => give(work, peer, FrameBody::Delta(state)),
     }
-    take(work, frame.from, &frame.body)
 }
 
-fn take(work: &mut Work, from: u16, body: &FrameBody) -> Result<(), NodeFault>
-    ensures idle { is_know body.now ≡ true → (result ≡ Ok tt) × (work.new ≡ work.old) }
-    ensures comes { Comes (λ x. x) result work.old work.new (Takes from body.now) }
+fn ship_messages(work: &mut Work, peer: u16) -> Result<(), NodeFault>
+    ensures { Comes (λ x. x) result work.old work.new (ShipsMessages peer) }
+{
+    let frames = work.held().bridge().waiting(work.id(), peer)?;
+    for frame in frames {
+        work.release(frame)?;
+    }
+    Ok(())
+}
+
+/// Takes the bytes of a frame. Bytes that are no frame, and a frame that isn't for this node from another one of the cluster, are
+/// dropped and counted.
+pub fn hear(work: &mut Work, bytes: &[u8]) -> Result<(), NodeFault>
+    ensures { Comes (λ x. x) result work.old work.new (Hears bytes.now) }
+{
+    match BridgeFrame::read(work.alloc(), bytes) {
+        Ok(frame) => hear_frame(work, frame),
+        Err(LinkFault::BadFrame) => work.miss(Missed::BadFrame),
+        Err(_) => Err(NodeFault::NoMemory),
+    }
+}
+
+fn is_for(work: &Work, frame: &BridgeFrame) -> bool
+    ensures { result ≡ is_for work.now.place frame.now }
+{
+    frame.to == work.id() && is_other(work, frame.from)
+}
+
+fn hear_frame(work: &mut Work, frame: BridgeFrame) -> Result<(), NodeFault>
+    ensures { Comes (λ x. x) result work.old work.new (HearsFrame (Some frame)) }
+{
+    if is_for(work, &frame) {
+        let BridgeFrame { from, body, .. } = frame;
+        take(work, from, body)
+    } else {
+        work.miss(Missed::BadFrame)
+    }
+}
+
+/// Takes what another node says.
+fn take(work: &mut Work, from: u16, body: FrameBody) -> Result<(), NodeFault>
+    ensures { Comes (λ x. x) result work.old work.new (Takes from body) }
 {
     match body {
-        FrameBody::Know(_) => Ok(()),
+        FrameBody::Hello => tell_taken(work, from),
         FrameBody::Delta(state) => merge(work, from, state),
+        FrameBody::Know(dots) => work.believe(from, &dots),
+        FrameBody::Forward(number, message) => take_message(work, from, number, &message),
+        FrameBody::Got(number) => work.got(from, number),
     }
+}
+
+/// Tells another node which dots are taken now.
+fn tell_taken(work: &mut Work, to: u16) -> Result<(), NodeFault>
+    ensures { Comes (λ x. x) result work.old work.new (TellsTaken to) }
+{
+    let taken = work.held().store().taken().copy()?;
+    give(work, to, FrameBody::Know(taken))
 }
 
 /// Merges a delta, and answers with the dots that are taken now.
-fn merge(work: &mut Work, from: u16, state: &ReplicaStore) -> Result<(), NodeFault>
-    ensures { Comes (λ x. x) result work.old work.new (Merges from state.now) }
+fn merge(work: &mut Work, from: u16, state: ReplicaStore) -> Result<(), NodeFault>
+    ensures { Comes (λ x. x) result work.old work.new (Merges from state) }
 {
     work.merge(state)?;
-    give_taken(work, from)
+    tell_taken(work, from)
+}
+
+/// Takes a message where it is the next of its lane, and answers with the number of the last one that was taken.
+fn take_message(work: &mut Work, from: u16, number: u64, message: &Forward) -> Result<(), NodeFault>
+    ensures { Comes (λ x. x) result work.old work.new (TakesMessage from number message.now) }
+{
+    take_next(work, from, number, message)?;
+    tell_got(work, from)
+}
+
+fn take_next(work: &mut Work, from: u16, number: u64, message: &Forward) -> Result<(), NodeFault>
+    ensures { Comes (λ x. x) result work.old work.new (TakesNext from number message.now) }
+{
+    if work.held().bridge().is_next(from, number) {
+        take_forward(work, from, number, message)
+    } else {
+        Ok(())
+    }
+}
+
+fn tell_got(work: &mut Work, to: u16) -> Result<(), NodeFault>
+    ensures { Comes (λ x. x) result work.old work.new (Gives to (λ h. FrameBody.Got (lane_to h.bridge to).took)) }
+{
+    let number = work.held().bridge().last_taken(to);
+    give(work, to, FrameBody::Got(number))
 }

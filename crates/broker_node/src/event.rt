@@ -2,7 +2,6 @@
 
 use mqtt_fields::Text;
 use mqtt_packets::Bytes;
-use node_work::Frame;
 
 /// Something that happens at a node, at a moment in milliseconds.
 #[derive(Drop)]
@@ -22,9 +21,11 @@ pub enum EventKind {
     Piece { connection: u64, bytes: Bytes },
     /// A client has closed its connection.
     Closed { connection: u64 },
-    /// A frame came from another node.
-    Frame { frame: Frame },
-    /// The node is to send what it holds to another node.
+    /// The bytes of a frame came from another node.
+    Frame { bytes: Bytes },
+    /// A link to another node was made.
+    Linked { peer: u16 },
+    /// The node is to send another one what that may lack.
     Ship { peer: u16 },
     /// Time has passed: what is due is done.
     Tick,

@@ -9,4 +9,4 @@ mod turn;
 
 pub use event::{Event, EventKind};
 pub use node::Node;
-pub use node_work::{Counts, Frame, FrameBody, FrameKind, NodeFault, Outcome, Output};
+pub use node_work::{Counts, Frame, FrameKind, Missed, NodeFault, Outcome, Output};

@@ -6,6 +6,7 @@ ghost use Rattle.broker_node.specs.Opening.{IsOpenedFrom};
 ghost use Rattle.broker_node.specs.Step.{IsDone, IsAtEnd, HasCauseAt, Settles, begun};
 ghost use Rattle.broker_node.specs.Turns.{Decides};
 ghost use Rattle.node_rows.specs.Reading.{SayNothing};
+ghost use Rattle.node_work.specs.Held.Connections.{is_open};
 ghost use Rattle.node_work.specs.Working.{Comes};
 ghost use Rattle.node_work.specs.declared.fault.NodeFault.TheVariants.{NumbersAtEnd, Stopped};
 
@@ -118,6 +119,13 @@ impl Node {
         ensures { MatchOption self.now.up (Unit {0}) (λ h. result.now ≡ h.store) }
     {
         self.work.held().store()
+    }
+
+    /// Whether a client's connection is open. Nothing is said of it once the node has stopped.
+    pub fn is_open(&self, connection: u64) -> bool
+        ensures { MatchOption self.now.up (Unit {0}) (λ h. result ≡ is_open connection h) }
+    {
+        self.work.held().is_open(connection)
     }
 
     /// How often something was left out. Nothing is said of it once the node has stopped.

@@ -7,7 +7,7 @@ ghost use Rattle.broker_node.specs.Turns.{Decides, Turn, Answers, GoesOn, First,
 ghost use Rattle.node_work.specs.Working.{Comes};
 ghost use Rattle.node_work.specs.declared.fault.NodeFault.TheVariants.{NumbersAtEnd};
 
-use crate::bridge::{hear, ship};
+use crate::bridge::{greet, hear, ship};
 use crate::due::{do_due, start};
 use crate::event::{Event, EventKind};
 use mqtt_fields::Text;
@@ -68,7 +68,8 @@ fn answer(work: &mut Work, kind: &EventKind) -> Result<(), NodeFault>
         EventKind::Opened { connection } => work.open(*connection),
         EventKind::Piece { connection, bytes } => take_piece(work, *connection, bytes.as_slice()),
         EventKind::Closed { connection } => leave(work, *connection),
-        EventKind::Frame { frame } => hear(work, frame),
+        EventKind::Frame { bytes } => hear(work, bytes.as_slice()),
+        EventKind::Linked { peer } => greet(work, *peer),
         EventKind::Ship { peer } => ship(work, *peer),
         EventKind::Tick => Ok(()),
         EventKind::Evict { client } => evict(work, client),

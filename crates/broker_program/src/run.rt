@@ -125,6 +125,7 @@ fn event_of(alloc: Global, event: NodeEvent) -> Result<(u16, Event), Stop> {
         } => (node, moment, EventKind::Closed { connection }),
         NodeEvent::Tick { node, moment } => (node, moment, EventKind::Tick),
         NodeEvent::Ship { node, peer, moment } => (node, moment, EventKind::Ship { peer }),
+        NodeEvent::Link { node, peer, moment } => (node, moment, EventKind::Linked { peer }),
         NodeEvent::Evict {
             node,
             client,

@@ -6,6 +6,7 @@ use std::io::{self, ErrorKind, Write};
 use std::process::Abort;
 use std::test::Fail;
 
+mod bridge;
 mod crashes;
 mod faults;
 mod first_path;
@@ -74,6 +75,11 @@ fn runs_operations(rt: HostRuntime) -> Result<(), Fail> {
 #[test]
 fn runs_crashes(rt: HostRuntime) -> Result<(), Fail> {
     check_all(&rt, rt.alloc(), &crashes::EXAMPLES)
+}
+
+#[test]
+fn runs_the_bridge(rt: HostRuntime) -> Result<(), Fail> {
+    check_all(&rt, rt.alloc(), &bridge::EXAMPLES)
 }
 
 #[test]

@@ -12,7 +12,7 @@ use Rattle.broker_script.specs.Line.{event_words, line_words, event_spelling, sp
 use Rattle.broker_script.specs.declared.command.Command.{Command}
 use Rattle.broker_script.specs.declared.command.Command.TheVariants.{Nodes, Home, Event, CrashBefore, CrashAfter, Restart, Deliver}
 use Rattle.broker_script.specs.declared.event.NodeEvent.{NodeEvent}
-use Rattle.broker_script.specs.declared.event.NodeEvent.TheVariants.{Start, Open, Bytes, Close, Ship, Tick, Evict}
+use Rattle.broker_script.specs.declared.event.NodeEvent.TheVariants.{Start, Open, Bytes, Close, Ship, Link, Tick, Evict}
 use Rattle.broker_script.proofs.Words.{apart, heads, tails, same_line, all_none, all_cons}
 
 -- an event's spelling tells what the event says
@@ -30,13 +30,15 @@ same_event_words (Tick _ _) (Tick _ _) h k e = same_line _ _ h k (refl, (refl, (
 same_event_words (Tick _ _) _ h k e = absurd (apart _ _ _ _ refl e)
 same_event_words (Ship _ _ _) (Ship _ _ _) h k e = same_line _ _ h k (refl, (refl, (refl, (refl, tt)))) e
 same_event_words (Ship _ _ _) _ h k e = absurd (apart _ _ _ _ refl e)
+same_event_words (Link _ _ _) (Link _ _ _) h k e = same_line _ _ h k (refl, (refl, (refl, (refl, tt)))) e
+same_event_words (Link _ _ _) _ h k e = absurd (apart _ _ _ _ refl e)
 same_event_words (Evict _ _ _) (Evict _ _ _) h k e = same_line _ _ h k (refl, (refl, (refl, (refl, tt)))) e
 same_event_words (Evict _ _ _) _ h k e = absurd (apart _ _ _ _ refl e)
 
 -- the keywords of events
 abbrev pub event_keywords : List (List ℕ)
 event_keywords =
-    codes "start" ∷ codes "open" ∷ codes "bytes" ∷ codes "close" ∷ codes "tick" ∷ codes "ship" ∷ codes "evict" ∷ []
+    codes "start" ∷ codes "open" ∷ codes "bytes" ∷ codes "close" ∷ codes "tick" ∷ codes "ship" ∷ codes "evict" ∷ codes "link" ∷ []
 
 apart_first : (a b : Bool) → (not a && b) ≡ true → (a ≡ false) × (b ≡ true)
 apart_first false b h = (refl, h)
@@ -59,6 +61,7 @@ not_event word rest (Close _ _ _) n h = apart _ _ _ _ (apart_each word event_key
 not_event word rest (Tick _ _) n h = apart _ _ _ _ (apart_each word event_keywords n).1.1.1.1.0 h
 not_event word rest (Ship _ _ _) n h = apart _ _ _ _ (apart_each word event_keywords n).1.1.1.1.1.0 h
 not_event word rest (Evict _ _ _) n h = apart _ _ _ _ (apart_each word event_keywords n).1.1.1.1.1.1.0 h
+not_event word rest (Link _ _ _) n h = apart _ _ _ _ (apart_each word event_keywords n).1.1.1.1.1.1.1.0 h
 
 -- a spelling tells what its command says
 pub same_words : (a b : Command) → IsInRange a → IsInRange b → spelling a ≡ spelling b → line_words a ≡ line_words b
@@ -146,17 +149,23 @@ no_ship rest none (Ship a b d) r h =
     none (a ∷ b ∷ []) (d ∷ []) refl (two_in _ a b r.1.0 r.1.1.0) refl (one_in _ d r.1.1.1.0) (tails _ _ _ _ h)
 no_ship rest none _ r h = absurd (apart _ _ _ _ refl h)
 
+pub no_link : (rest : List (List ℕ)) → NoFields 2 1 rest → SpellsNoEvent (codes "link") rest
+no_link rest none (Link a b d) r h =
+    none (a ∷ b ∷ []) (d ∷ []) refl (two_in _ a b r.1.0 r.1.1.0) refl (one_in _ d r.1.1.1.0) (tails _ _ _ _ h)
+no_link rest none _ r h = absurd (apart _ _ _ _ refl h)
+
 -- another keyword spells no event
 pub no_event : (word : List ℕ) (rest : List (List ℕ)) → (word ≡ codes "start" → ⊥) → (word ≡ codes "open" → ⊥)
     → (word ≡ codes "ship" → ⊥) → (word ≡ codes "bytes" → ⊥) → (word ≡ codes "evict" → ⊥) → (word ≡ codes "close" → ⊥)
-    → (word ≡ codes "tick" → ⊥) → SpellsNoEvent word rest
-no_event word rest s o h b v q t (Start _ _) r e = s (heads _ _ _ _ e)
-no_event word rest s o h b v q t (Open _ _ _) r e = o (heads _ _ _ _ e)
-no_event word rest s o h b v q t (Ship _ _ _) r e = h (heads _ _ _ _ e)
-no_event word rest s o h b v q t (Bytes _ _ _ _) r e = b (heads _ _ _ _ e)
-no_event word rest s o h b v q t (Evict _ _ _) r e = v (heads _ _ _ _ e)
-no_event word rest s o h b v q t (Close _ _ _) r e = q (heads _ _ _ _ e)
-no_event word rest s o h b v q t (Tick _ _) r e = t (heads _ _ _ _ e)
+    → (word ≡ codes "tick" → ⊥) → (word ≡ codes "link" → ⊥) → SpellsNoEvent word rest
+no_event word rest s o h b v q t l (Start _ _) r e = s (heads _ _ _ _ e)
+no_event word rest s o h b v q t l (Open _ _ _) r e = o (heads _ _ _ _ e)
+no_event word rest s o h b v q t l (Ship _ _ _) r e = h (heads _ _ _ _ e)
+no_event word rest s o h b v q t l (Bytes _ _ _ _) r e = b (heads _ _ _ _ e)
+no_event word rest s o h b v q t l (Evict _ _ _) r e = v (heads _ _ _ _ e)
+no_event word rest s o h b v q t l (Close _ _ _) r e = q (heads _ _ _ _ e)
+no_event word rest s o h b v q t l (Tick _ _) r e = t (heads _ _ _ _ e)
+no_event word rest s o h b v q t l (Link _ _ _) r e = l (heads _ _ _ _ e)
 
 -- the keyword and the words after it spell no command
 abbrev pub SpellsNone : List ℕ → List (List ℕ) → Type 0
@@ -186,6 +195,7 @@ event_length (Open _ _ _) = omega arith
 event_length (Bytes _ _ _ _) = omega arith
 event_length (Close _ _ _) = omega arith
 event_length (Ship _ _ _) = omega arith
+event_length (Link _ _ _) = omega arith
 event_length (Tick _ _) = omega arith
 event_length (Evict _ _ _) = omega arith
 

@@ -10,7 +10,7 @@ use Rattle.broker_script.specs.Script.{IsText, count_in, FitsAll, prefix_in, may
 use Rattle.broker_script.specs.declared.command.Command.{Command}
 use Rattle.broker_script.specs.declared.command.Command.TheVariants.{Nodes, Home, Event, CrashBefore, CrashAfter, Restart, Deliver}
 use Rattle.broker_script.specs.declared.event.NodeEvent.{NodeEvent}
-use Rattle.broker_script.specs.declared.event.NodeEvent.TheVariants.{Start, Open, Bytes, Close, Ship, Tick, Evict}
+use Rattle.broker_script.specs.declared.event.NodeEvent.TheVariants.{Start, Open, Bytes, Close, Ship, Link, Tick, Evict}
 use Rattle.broker_script.specs.declared.fault.ScriptFault.{ScriptFault}
 use Rattle.broker_script.specs.declared.fault.ScriptFault.TheVariants.{Line, NoMemory}
 use Rattle.broker_script.proofs.Words.{heads, tails}
@@ -90,6 +90,7 @@ event_has_no_prefix (Open _ _ _) = refl
 event_has_no_prefix (Bytes _ _ _ _) = refl
 event_has_no_prefix (Close _ _ _) = refl
 event_has_no_prefix (Ship _ _ _) = refl
+event_has_no_prefix (Link _ _ _) = refl
 event_has_no_prefix (Tick _ _) = refl
 event_has_no_prefix (Evict _ _ _) = refl
 

@@ -6,7 +6,7 @@ use Rattle.hex.specs.Hex.{encode_lower, IsBytes}
 use Rattle.broker_script.specs.declared.command.Command.{Command}
 use Rattle.broker_script.specs.declared.command.Command.TheVariants.{Nodes, Home, Event, CrashBefore, CrashAfter, Restart, Deliver}
 use Rattle.broker_script.specs.declared.event.NodeEvent.{NodeEvent}
-use Rattle.broker_script.specs.declared.event.NodeEvent.TheVariants.{Start, Open, Bytes, Close, Ship, Tick, Evict}
+use Rattle.broker_script.specs.declared.event.NodeEvent.TheVariants.{Start, Open, Bytes, Close, Ship, Link, Tick, Evict}
 
 -- a word of a line, by what it says
 pub data Word : Type 0 where
@@ -28,6 +28,7 @@ event_words (Bytes node connection moment piece) =
 event_words (Close node connection moment) =
     literal (codes "close") ∷ node_number node ∷ whole_number connection ∷ whole_number moment ∷ []
 event_words (Ship node peer moment) = literal (codes "ship") ∷ node_number node ∷ node_number peer ∷ whole_number moment ∷ []
+event_words (Link node peer moment) = literal (codes "link") ∷ node_number node ∷ node_number peer ∷ whole_number moment ∷ []
 event_words (Tick node moment) = literal (codes "tick") ∷ node_number node ∷ whole_number moment ∷ []
 event_words (Evict node client moment) =
     literal (codes "evict") ∷ node_number node ∷ client_identifier (string_bytes client) ∷ whole_number moment ∷ []

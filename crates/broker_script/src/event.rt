@@ -35,8 +35,14 @@ pub enum NodeEvent {
         connection: u64,
         moment: u64,
     },
-    /// `ship NODE PEER MOMENT`: the node sends its peer all that it holds.
+    /// `ship NODE PEER MOMENT`: the node sends its peer what it isn't known to have taken.
     Ship {
+        node: u16,
+        peer: u16,
+        moment: u64,
+    },
+    /// `link NODE PEER MOMENT`: the node's connection to its peer is there.
+    Link {
         node: u16,
         peer: u16,
         moment: u64,
@@ -67,6 +73,7 @@ impl NodeEvent {
             NodeEvent::Close { node, .. } => *node < nodes,
             NodeEvent::Tick { node, .. } => *node < nodes,
             NodeEvent::Ship { node, peer, .. } => *node < nodes && *peer < nodes,
+            NodeEvent::Link { node, peer, .. } => *node < nodes && *peer < nodes,
             NodeEvent::Evict { node, .. } => *node < nodes,
         }
     }
@@ -99,6 +106,7 @@ impl fmt::Display for NodeEvent {
             } => { write!(f, "close {node} {connection} {moment}") }
             NodeEvent::Tick { node, moment } => write!(f, "tick {node} {moment}"),
             NodeEvent::Ship { node, peer, moment } => write!(f, "ship {node} {peer} {moment}"),
+            NodeEvent::Link { node, peer, moment } => write!(f, "link {node} {peer} {moment}"),
             NodeEvent::Evict {
                 node,
                 client,

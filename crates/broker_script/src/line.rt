@@ -49,6 +49,10 @@ fn parse_plain(keyword: &str, rest: &[&str]) -> Option<NodeEvent>
             let ([node, peer], [moment]) = parse_fields::<2, 1>(rest)?;
             Some(NodeEvent::Ship { node, peer, moment })
         }
+        "link" => {
+            let ([node, peer], [moment]) = parse_fields::<2, 1>(rest)?;
+            Some(NodeEvent::Link { node, peer, moment })
+        }
         _ => None,
     }
 }

@@ -1,5 +1,6 @@
 pub mod Buffering
 pub mod Cutting
+pub mod LinkOrder
 pub mod Linking
 pub mod OrderLaws
 pub mod Serving

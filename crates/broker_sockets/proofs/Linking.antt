@@ -6,12 +6,12 @@ use Rattle.slab.specs.Slab.{Slab, get, Updates, with_value}
 use Rattle.broker_sockets.proofs.Turning.{Updates-over, at-value}
 use Rattle.broker_sockets.specs.declared.bridge.Given.{Given}
 use Rattle.broker_sockets.specs.declared.bridge.PeerEvent.{PeerEvent}
-use Rattle.broker_sockets.specs.declared.bridge.PeerEventKind.TheVariants.{Frame}
+use Rattle.broker_sockets.specs.declared.bridge.PeerEventKind.TheVariants.{Frame, Ship}
 use Rattle.broker_sockets.specs.declared.bridge.PeerFrame.{PeerFrame}
 use Rattle.broker_sockets.specs.declared.lines.Line.{Line}
-use Rattle.broker_sockets.specs.Bridging.{HearsAll, IsHearing, IsKept, IsLineWritten, IsLinkRead, IsLinkReadIn, IsLinkWrittenIn, Near, Place, Relinks, left_if, peer_event}
+use Rattle.broker_sockets.specs.Bridging.{HearsAll, IsHearing, IsKept, IsLineWritten, IsLinkRead, IsHeardFrom, IsLinkReadIn, IsLinkWrittenIn, IsMarked, IsOffered, IsPeerKept, IsPeerLinkRead, IsPeerRead, IsPeerReadIn, IsShipped, IsShippedIf, IsSupplied, Near, Place, Reach, Relinks, left_if, peer_event}
 use Rattle.broker_sockets.specs.declared.network.Answer.{Answer}
-use Rattle.broker_sockets.specs.Lines.{framed, framed_all, framed_at, link_of}
+use Rattle.broker_sockets.specs.Lines.{framed, framed_all, framed_at, is_due, link_of}
 
 module _ {T : Type 0} where
   pub framed_all-more : (peer : ℕ) (frames : List PeerFrame) (frame : PeerFrame) (line : Line T) → framed_all peer (frames ++ frame ∷ []) line ≡ framed peer frame (framed_all peer frames line)
@@ -41,10 +41,15 @@ module _ {T : Type 0} where
   }
 
 module _ {S T : Type 0} (writes : S → T → List ℕ → Answer → S → T → Type 0) (peer : ℕ) (line left : Line T) (s s' : S) (links links' : List (Option (Line T))) where
-  pub written-at : (goes_on : Bool) → link_of links peer ≡ Some line → IsLineWritten writes s line goes_on s' left → Relinks links links' peer (left_if goes_on left) → IsLinkWrittenIn writes (link_of links peer) peer s links s' links'
+  pub written-at : (goes_on : Bool) → link_of links peer ≡ Some line → IsLineWritten writes s line goes_on s' left → Relinks links links' peer (left_if goes_on left) → IsOffered writes peer (s, links) (s', links')
   written-at goes_on found written kept =
       let P : Option (Line T) → Type 0 = λ o. IsLinkWrittenIn writes o peer s links s' links' in
-      subst P (sym found) (record { goes_on = goes_on; left = left; written = written; kept = kept })
+      record { by_link = subst P (sym found) (record { goes_on = goes_on; left = left; written = written; kept = kept }) }
+
+pub peer-kept-if : {T : Type 0} (goes_on : Bool) (d d' : List (Option (Line T))) (peer : ℕ) (left : Line T) → peer < length d → IsPeerKept goes_on peer (slice_set d peer (Some left)) d' → Relinks d d' peer (left_if goes_on left)
+peer-kept-if true d d' peer left within same = rw same (Relinks-set d peer (Some left) within)
+peer-kept-if false d d' peer left within gone =
+    Relinks-over d (slice_set d peer (Some left)) d' peer (Some left) None (Relinks-set d peer (Some left) within) gone
 
 pub get_or-default : {X : Type 0} (xs : List X) (i : ℕ) (d e : X) → i < length xs → slice_index_or xs i d ≡ slice_index_or xs i e
 get_or-default [] i d e within = absurd (omega (arith, within))
@@ -56,7 +61,19 @@ kept-if true a a' key line left found same = rw same (at-value a key line left f
 kept-if false a a' key line left found gone = Updates-over a (with_value a key left) a' key (Some left) None (at-value a key line left found) gone
 
 module _ {S H T : Type 0} (reads : S → T → Answer → List ℕ → S → T → Type 0) (hears : H → PeerEvent → Given → H → Type 0) (at key : ℕ) where
-  pub link-read-at : (line : Line T) (p p' : Place S H T) → get p.accepted key ≡ Some line → IsLinkRead reads hears at key line p p' → IsLinkReadIn reads hears at (get p.accepted key) key p p'
+  pub link-read-at : (line : Line T) (p p' : Place S H T) → get p.accepted key ≡ Some line → IsLinkRead reads hears at key line p p' → IsHeardFrom reads hears at key p p'
   link-read-at line p p' found read =
       let P : Option (Line T) → Type 0 = λ o. IsLinkReadIn reads hears at o key p p' in
-      subst P (sym found) read
+      record { by_link = subst P (sym found) read }
+
+  pub peer-read-at : (line : Line T) (r r' : Reach S H T) → link_of r.near.dialled key ≡ Some line → IsPeerLinkRead reads hears at key line r r' → IsPeerRead reads hears at key r r'
+  peer-read-at line r r' found read =
+      let P : Option (Line T) → Type 0 = λ o. IsPeerReadIn reads hears at o key r r' in
+      record { by_link = subst P (sym found) read }
+
+module _ {H T : Type 0} (hears : H → PeerEvent → Given → H → Type 0) (at peer : ℕ) where
+  pub supplied-at : (line : Line T) (n m n' : Near H T) → link_of n.dialled peer ≡ Some line → is_due at line ≡ true → IsHearing hears (peer_event at (Ship peer)) n m → IsMarked at peer m n' → IsSupplied hears at peer n n'
+  supplied-at line n m n' found due heard marks =
+      let P : Option (Line T) → Type 0 = λ o. IsShipped hears at o peer n n' in
+      let Q : Bool → Type 0 = λ b. IsShippedIf hears at b peer n n' in
+      record { by_link = subst P (sym found) (subst Q (sym due) (m, heard, marks)) }

@@ -1,18 +1,28 @@
 -- Steps of a turn, one after another.
-use Rattle.std.proofs.Common.{◌≡◌, ℕ, List, [], ◌∷◌, ◌++◌, Option, Some, None, Bool, true, false, refl, sym, ◌∙◌, subst, ap}
+use Rattle.std.proofs.Common.{◌≡◌, ℕ, ◌+◌, List, [], ◌∷◌, ◌++◌, Option, Some, None, Bool, true, false, refl, sym, ◌∙◌, subst, ap, add-one}
 use Rattle.slab.specs.Slab.{Slab, get, Updates, with_value}
 use Rattle.slab.proofs.SlabLemmas.{Updates-with_value}
 use Rattle.broker_sockets.specs.declared.network.Answer.{Answer}
 use Rattle.broker_sockets.specs.declared.clients.Client.{Client}
 use Rattle.broker_sockets.specs.declared.events.Event.{Event}
 use Rattle.broker_sockets.specs.declared.events.Output.{Output}
-use Rattle.broker_sockets.specs.Turns.{World, Each, IsAsked, IsRead, IsReadIn, IsReadIf, IsTried, IsWrote, IsWroteIn, IsLetGo, IsLost}
+use Rattle.broker_sockets.specs.Turns.{World, Each, EachBelow, IsAsked, IsRead, IsReadIn, IsReadIf, IsTried, IsWrote, IsWroteIn, IsLetGo, IsLost}
 use Rattle.broker_sockets.specs.declared.turn.Fate.{Fate}
 use Rattle.broker_sockets.specs.Writing.{IsWritten, Tried}
 
-pub Each-more : {S H T : Type 0} (step : ℕ → World S H T → World S H T → Type 0) (keys : List ℕ) (key : ℕ) (w m w' : World S H T) → Each step keys w m → step key m w' → Each step (keys ++ key ∷ []) w w'
+pub Each-more : {W : Type 0} (step : ℕ → W → W → Type 0) (keys : List ℕ) (key : ℕ) (w m w' : W) → Each step keys w m → step key m w' → Each step (keys ++ key ∷ []) w w'
 Each-more step [] key w m w' e s = (w', rw (← e) s, refl)
 Each-more step (k ∷ keys) key w m w' e s = (e.0, e.1, Each-more step keys key e.0 m w' e.2 s)
+
+pub EachBelow-more : {W : Type 0} (step : ℕ → W → W → Type 0) (n : ℕ) (w m w' : W) → EachBelow step n w m → step n m w' → EachBelow step (n + 1) w w'
+EachBelow-more step n w m w' e s =
+    let P : ℕ → Type 0 = λ k. EachBelow step k w w' in
+    subst P (sym (add-one n)) (m, e, s)
+
+pub counted : {W : Type 0} (step : ℕ → W → W → Type 0) (n m : ℕ) (w w' : W) → n ≡ m → EachBelow step n w w' → EachBelow step m w w'
+counted step n m w w' same each =
+    let P : ℕ → Type 0 = λ k. EachBelow step k w w' in
+    subst P same each
 
 pub at-value : {T : Type 0} (c : Slab T) (key : ℕ) (old new : T) → get c key ≡ Some old → Updates c (with_value c key new) key (Some new)
 at-value c key old new found = Updates-with_value c key new (rw found refl)

@@ -1,5 +1,5 @@
 -- What a turn does with the sockets between nodes.
-use Rattle.std.specs.Prelude.{◌≡◌, ◌≢◌, ◌≤◌, ℕ, List, [], ◌∷◌, ◌++◌, eqb, leb, length, true, false, Bool, Option, Some, None, Vec}
+use Rattle.std.specs.Prelude.{◌≡◌, ◌≢◌, ◌≤◌, ℕ, List, [], ◌∷◌, ◌++◌, leb, length, slice_index_or, option_map, true, false, Bool, Option, Some, None, Vec}
 use Rattle.std.specs.declared.alloc.Global.{Global}
 use Rattle.std.specs.declared.net.socket_addr.SocketAddr.{SocketAddr}
 use Rattle.slab.specs.Slab.{Slab, get, Updates}
@@ -11,12 +11,10 @@ use Rattle.broker_sockets.specs.declared.bridge.PeerEvent.{PeerEvent}
 use Rattle.broker_sockets.specs.declared.bridge.PeerEventKind.{PeerEventKind}
 use Rattle.broker_sockets.specs.declared.bridge.PeerEventKind.TheVariants.{Linked, Frame, Ship}
 use Rattle.broker_sockets.specs.declared.lines.Line.{Line}
-use Rattle.broker_sockets.specs.declared.turn.TurnFault.{TurnFault}
-use Rattle.broker_sockets.specs.declared.turn.TurnFault.TheVariants.{NoMemory, Handler}
 use Rattle.broker_sockets.specs.Answers.{Offers}
 use Rattle.broker_sockets.specs.Clients.{Released}
 use Rattle.broker_sockets.specs.Frames.{IsCut}
-use Rattle.broker_sockets.specs.Lines.{Framed, fresh_line, link_of}
+use Rattle.broker_sockets.specs.Lines.{Framed, fresh_line, is_due, link_of, marked}
 
 -- what handles events, the clients by connection, and the links that were dialled, by peer
 pub record Near (H T : Type 0) : Type 0 where
@@ -27,29 +25,24 @@ pub record Near (H T : Type 0) : Type 0 where
 abbrev pub near : {H T : Type 0} → H → Slab (Client T) → List (Option (Line T)) → Near H T
 near h c d = record { handler = h; clients = c; dialled = d }
 
--- with the sockets and the links that were accepted
-pub record Place (S H T : Type 0) : Type 0 where
+-- with the sockets
+pub record Reach (S H T : Type 0) : Type 0 where
   pub sockets : S
   pub near : Near H T
+
+abbrev pub reach : {S H T : Type 0} → S → Near H T → Reach S H T
+reach s n = record { sockets = s; near = n }
+
+-- and with the links that were accepted
+pub record Place (S H T : Type 0) : Type 0 where
+  pub reach : Reach S H T
   pub accepted : Slab (Line T)
 
 abbrev pub place : {S H T : Type 0} → S → Near H T → Slab (Line T) → Place S H T
-place s n a = record { sockets = s; near = n; accepted = a }
+place s n a = record { reach = reach s n; accepted = a }
 
 abbrev pub peer_event : ℕ → PeerEventKind → PeerEvent
 peer_event at kind = record { at = at; kind = kind }
-
--- a fault of the handler is one that it gave to an event of this moment
-pub record IsDeclined {H F : Type 0} (declines : H → PeerEvent → F → H → Type 0) (at : ℕ) (fault : F) : Type 0 where
-  pub before : H
-  pub it : PeerEvent
-  pub after : H
-  pub moment : it.at ≡ at
-  pub given : declines before it fault after
-
-abbrev pub IsCausedByPeers : {H F : Type 0} → (H → PeerEvent → F → H → Type 0) → ℕ → TurnFault F → Type 0
-IsCausedByPeers declines at NoMemory = Unit {0}
-IsCausedByPeers declines at (Handler fault) = IsDeclined declines at fault
 
 module _ {H T : Type 0} (hears : H → PeerEvent → Given → H → Type 0) where
   -- the handler answers an event, and what it gives out waits for the clients and the peers
@@ -82,13 +75,14 @@ pub record IsLineRead {S T : Type 0} (reads : S → T → Answer → List ℕ �
   pub most : length bytes ≤ 65536
   pub taken : IsTaken answer bytes line.held frames line'.held goes_on
   pub unsent : line'.unsent ≡ line.unsent
+  pub still : line'.asked ≡ line.asked
 
 module _ {S T : Type 0} (writes : S → T → List ℕ → Answer → S → T → Type 0) where
   -- a link is asked exactly where something waits
   abbrev pub LineTried : S → Line T → Option Answer → S → Line T → Type 0
   LineTried s line None s' left = (line.unsent ≡ []) × (s' ≡ s) × (left ≡ line)
   LineTried s line (Some answer) s' left =
-      Offers writes line.unsent s line.stream answer left.unsent s' left.stream × (left.held ≡ line.held)
+      Offers writes line.unsent s line.stream answer left.unsent s' left.stream × (left.held ≡ line.held) × (left.asked ≡ line.asked)
 
 -- a link goes on unless it failed or more than 536,870,912 bytes wait
 abbrev pub goes_on_by : Option Answer → ℕ → Bool
@@ -112,6 +106,11 @@ abbrev pub IsKept : {T : Type 0} → Bool → ℕ → Slab (Line T) → Slab (Li
 IsKept true key a a' = a' ≡ a
 IsKept false key a a' = Updates a a' key None
 
+-- so is one that was dialled
+abbrev pub IsPeerKept : {T : Type 0} → Bool → ℕ → List (Option (Line T)) → List (Option (Line T)) → Type 0
+IsPeerKept true peer d d' = d' ≡ d
+IsPeerKept false peer d d' = Relinks d d' peer None
+
 module _ {S L T : Type 0} (accepts : S → L → Option T → S → Type 0) where
   abbrev pub IsAdmitted : Option T → Slab (Line T) → Slab (Line T) → Type 0
   IsAdmitted None a a' = a' ≡ a
@@ -129,13 +128,35 @@ module _ {S H T : Type 0} (reads : S → T → Answer → List ℕ → S → T �
     pub frames : List (Vec ℕ Global)
     pub goes_on : Bool
     pub left : Line T
-    pub read : IsLineRead reads p.sockets line frames goes_on p'.sockets left
+    pub read : IsLineRead reads p.reach.sockets line frames goes_on p'.reach.sockets left
     pub kept : Updates p.accepted p'.accepted key (left_if goes_on left)
-    pub heard : HearsAll hears at frames p.near p'.near
+    pub heard : HearsAll hears at frames p.reach.near p'.reach.near
 
   abbrev pub IsLinkReadIn : Option (Line T) → ℕ → Place S H T → Place S H T → Type 0
   IsLinkReadIn None key p p' = p' ≡ p
   IsLinkReadIn (Some line) key p p' = IsLinkRead key line p p'
+
+  -- the link of a number, if it is still there, is read
+  pub record IsHeardFrom (key : ℕ) (p p' : Place S H T) : Type 0 where
+    pub by_link : IsLinkReadIn (get p.accepted key) key p p'
+
+  -- so is a link that was dialled
+  pub record IsPeerLinkRead (peer : ℕ) (line : Line T) (r r' : Reach S H T) : Type 0 where
+    pub frames : List (Vec ℕ Global)
+    pub goes_on : Bool
+    pub left : Line T
+    pub read : IsLineRead reads r.sockets line frames goes_on r'.sockets left
+    pub links : List (Option (Line T))
+    pub kept : Relinks r.near.dialled links peer (left_if goes_on left)
+    pub heard : HearsAll hears at frames (record r.near { dialled = links }) r'.near
+
+  abbrev pub IsPeerReadIn : Option (Line T) → ℕ → Reach S H T → Reach S H T → Type 0
+  IsPeerReadIn None peer r r' = r' ≡ r
+  IsPeerReadIn (Some line) peer r r' = IsPeerLinkRead peer line r r'
+
+  -- the link to a peer, if there is one, is read
+  pub record IsPeerRead (peer : ℕ) (r r' : Reach S H T) : Type 0 where
+    pub by_link : IsPeerReadIn (link_of r.near.dialled peer) peer r r'
 
 module _ {S H T : Type 0} (connects : S → SocketAddr → Option T → S → Type 0) (hears : H → PeerEvent → Given → H → Type 0) (at : ℕ) where
   abbrev pub IsBegunBy : Option T → ℕ → Near H T → Near H T → Type 0
@@ -145,24 +166,41 @@ module _ {S H T : Type 0} (connects : S → SocketAddr → Option T → S → Ty
       × IsHearing hears (peer_event at (Linked peer)) (record n { dialled = links }) n'
 
   -- a peer without a link is dialled once, and the handler is told where a link was begun
-  pub record IsDialled (address : SocketAddr) (peer : ℕ) (s : S) (n : Near H T) (s' : S) (n' : Near H T) : Type 0 where
+  pub record IsDialled (address : SocketAddr) (peer : ℕ) (r r' : Reach S H T) : Type 0 where
     pub came : Option T
-    pub answered : connects s address came s'
-    pub begun : IsBegunBy came peer n n'
+    pub answered : connects r.sockets address came r'.sockets
+    pub begun : IsBegunBy came peer r.near r'.near
 
-  abbrev pub IsDialledIf : Option (Line T) → SocketAddr → ℕ → S → Near H T → S → Near H T → Type 0
-  IsDialledIf None address peer s n s' n' = IsDialled address peer s n s' n'
-  IsDialledIf (Some line) address peer s n s' n' = (s' ≡ s) × (n' ≡ n)
+  abbrev pub IsDialledIf : Option (Line T) → SocketAddr → ℕ → Reach S H T → Reach S H T → Type 0
+  IsDialledIf None address peer r r' = IsDialled address peer r r'
+  IsDialledIf (Some line) address peer r r' = r' ≡ r
+
+  -- a number without an address is this node's own
+  abbrev pub IsDialledAt : Option SocketAddr → ℕ → Reach S H T → Reach S H T → Type 0
+  IsDialledAt None peer r r' = r' ≡ r
+  IsDialledAt (Some address) peer r r' = IsDialledIf (link_of r.near.dialled peer) address peer r r'
+
+  pub record IsSought (peers : List (Option SocketAddr)) (peer : ℕ) (r r' : Reach S H T) : Type 0 where
+    pub by_address : IsDialledAt (slice_index_or peers peer None) peer r r'
+
+-- it is noted on the link of a peer that more was asked for
+pub record IsMarked {H T : Type 0} (at peer : ℕ) (n n' : Near H T) : Type 0 where
+  pub handler : n'.handler ≡ n.handler
+  pub clients : n'.clients ≡ n.clients
+  pub links : Relinks n.dialled n'.dialled peer (option_map (marked at) (link_of n.dialled peer))
 
 module _ {H T : Type 0} (hears : H → PeerEvent → Given → H → Type 0) (at : ℕ) where
   abbrev pub IsShippedIf : Bool → ℕ → Near H T → Near H T → Type 0
-  IsShippedIf true peer n n' = IsHearing hears (peer_event at (Ship peer)) n n'
+  IsShippedIf true peer n n' = (m : Near H T) × IsHearing hears (peer_event at (Ship peer)) n m × IsMarked at peer m n'
   IsShippedIf false peer n n' = n' ≡ n
 
-  -- the handler is asked for more just where nothing waits on the link of a peer
   abbrev pub IsShipped : Option (Line T) → ℕ → Near H T → Near H T → Type 0
   IsShipped None peer n n' = n' ≡ n
-  IsShipped (Some line) peer n n' = IsShippedIf (eqb (length line.unsent) 0) peer n n'
+  IsShipped (Some line) peer n n' = IsShippedIf (is_due at line) peer n n'
+
+  -- the handler is asked for more just where there is a link to the peer on which it is due
+  pub record IsSupplied (peer : ℕ) (n n' : Near H T) : Type 0 where
+    pub by_link : IsShipped (link_of n.dialled peer) peer n n'
 
 module _ {S T : Type 0} (writes : S → T → List ℕ → Answer → S → T → Type 0) where
   -- the link of a peer is offered what waits, and is let go unless it goes on
@@ -175,3 +213,6 @@ module _ {S T : Type 0} (writes : S → T → List ℕ → Answer → S → T �
   abbrev pub IsLinkWrittenIn : Option (Line T) → ℕ → S → List (Option (Line T)) → S → List (Option (Line T)) → Type 0
   IsLinkWrittenIn None peer s d s' d' = (s' ≡ s) × (d' ≡ d)
   IsLinkWrittenIn (Some line) peer s d s' d' = IsLinkWritten line peer s d s' d'
+
+  pub record IsOffered (peer : ℕ) (w w' : S × List (Option (Line T))) : Type 0 where
+    pub by_link : IsLinkWrittenIn (link_of w.1 peer) peer w.0 w.1 w'.0 w'.1

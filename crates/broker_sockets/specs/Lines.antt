@@ -1,12 +1,25 @@
 -- The sockets between nodes: links that were dialled, by the number of the peer, and links that were accepted.
-use Rattle.std.specs.Prelude.{◌≡◌, ℕ, List, [], ◌∷◌, ◌++◌, eqb, if◌then◌else◌, slice_index_or, Option, Some, None}
+use Rattle.std.specs.Prelude.{◌≡◌, ℕ, ◌-◌, List, [], ◌∷◌, ◌++◌, length, Bool, true, ◌&&◌, ◌||◌, eqb, leb, ltb, if◌then◌else◌, slice_index_or, Option, Some, None}
 use Rattle.broker_sockets.specs.declared.bridge.PeerFrame.{PeerFrame}
 use Rattle.broker_sockets.specs.declared.lines.Line.{Line}
+
+-- 10 milliseconds have passed since more was asked for last, if it was; a clock that is set back doesn't make it longer
+abbrev pub is_rested : ℕ → Option ℕ → Bool
+is_rested at None = true
+is_rested at (Some asked) = ltb at asked || leb 10 (at - asked)
 
 module _ {T : Type 0} where
   -- nothing has come, and nothing waits
   abbrev pub fresh_line : T → Line T
-  fresh_line stream = record { stream = stream; held = []; unsent = [] }
+  fresh_line stream = record { stream = stream; held = []; unsent = []; asked = None }
+
+  -- more is asked for where nothing waits
+  abbrev pub is_due : ℕ → Line T → Bool
+  is_due at line = eqb (length line.unsent) 0 && is_rested at line.asked
+
+  -- more was asked for, and frames came of it where something waits now
+  abbrev pub marked : ℕ → Line T → Line T
+  marked at line = if eqb (length line.unsent) 0 then line else record line { asked = Some at }
 
   -- the link that was dialled to a peer
   abbrev pub link_of : List (Option (Line T)) → ℕ → Option (Line T)

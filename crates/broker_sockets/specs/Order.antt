@@ -1,12 +1,19 @@
--- That what waits for a client stays whole and in order.
-use Rattle.std.specs.Prelude.{◌≡◌, ℕ, List, ◌++◌, Option, Some}
+-- That what waits for a client, or on a link, stays whole and in order.
+use Rattle.std.specs.Prelude.{◌≡◌, ◌⊎◌, ℕ, List, ◌++◌, Option, Some}
+use Rattle.std.specs.declared.net.socket_addr.SocketAddr.{SocketAddr}
 use Rattle.slab.specs.Slab.{get}
 use Rattle.broker_sockets.specs.declared.network.Answer.{Answer}
+use Rattle.broker_sockets.specs.declared.bridge.Given.{Given}
+use Rattle.broker_sockets.specs.declared.bridge.PeerEvent.{PeerEvent}
 use Rattle.broker_sockets.specs.declared.clients.Client.{Client}
 use Rattle.broker_sockets.specs.declared.events.Event.{Event}
 use Rattle.broker_sockets.specs.declared.events.Output.{Output}
+use Rattle.broker_sockets.specs.declared.lines.Line.{Line}
+use Rattle.broker_sockets.specs.declared.setting.Setting.{Setting}
 use Rattle.broker_sockets.specs.Answers.{carried}
-use Rattle.broker_sockets.specs.Turns.{World, IsTurn}
+use Rattle.broker_sockets.specs.Bridging.{Place}
+use Rattle.broker_sockets.specs.Lines.{link_of}
+use Rattle.broker_sockets.specs.Turns.{IsTurn}
 
 -- a longer list that begins with this one
 abbrev pub Extends : List ℕ → List ℕ → Type 0
@@ -15,6 +22,9 @@ Extends longer bytes = (more : List ℕ) × (longer ≡ bytes ++ more)
 -- what a stream has taken, and then what waits for it
 abbrev pub flow : {T : Type 0} → (T → List ℕ) → Client T → List ℕ
 flow taken client = taken client.stream ++ client.unsent
+
+abbrev pub link_flow : {T : Type 0} → (T → List ℕ) → Line T → List ℕ
+link_flow taken line = taken line.stream ++ line.unsent
 
 module _ {S T : Type 0} (taken : T → List ℕ) where
   -- a stream takes what it answers that it took
@@ -25,11 +35,31 @@ module _ {S T : Type 0} (taken : T → List ℕ) where
   abbrev pub TakesNothing : (S → T → Answer → List ℕ → S → T → Type 0) → Type 0
   TakesNothing reads = (s s' : S) (t t' : T) (answer : Answer) (bytes : List ℕ) → reads s t answer bytes s' t' → taken t' ≡ taken t
 
-module _ {S H L T : Type 0} (accepts : S → L → Option T → S → Type 0) (reads : S → T → Answer → List ℕ → S → T → Type 0) (writes : S → T → List ℕ → Answer → S → T → Type 0) (handles : H → Event → List Output → H → Type 0) where
+  -- a link of a stream that was connected, with all that it has taken and has waiting since
+  abbrev pub IsNew : (S → SocketAddr → Option T → S → Type 0) → Line T → Type 0
+  IsNew connects line = (s : S) × (s' : S) × (address : SocketAddr) × (stream : T) × connects s address (Some stream) s' × Extends (link_flow taken line) (taken stream)
+
+  -- a link that was there before, with all that it had and then more, or a new one
+  abbrev pub IsOf : (S → SocketAddr → Option T → S → Type 0) → Option (Line T) → Line T → Type 0
+  IsOf connects before line' =
+      ((line : Line T) × (before ≡ Some line) × Extends (link_flow taken line') (link_flow taken line)) ⊎ IsNew connects line'
+
+module _
+    {S H L T : Type 0} (accepts : S → L → Option T → S → Type 0) (connects : S → SocketAddr → Option T → S → Type 0)
+    (reads : S → T → Answer → List ℕ → S → T → Type 0) (writes : S → T → List ℕ → Answer → S → T → Type 0)
+    (handles : H → Event → List Output → H → Type 0) (hears : H → PeerEvent → Given → H → Type 0) where
   -- over a turn, a client that stays has taken, and still has waiting, all that it had before, in the same order, and then what was sent
   abbrev pub NothingIsLost : Type 0
   NothingIsLost =
       (taken : T → List ℕ) → TakesWhatItAnswers taken writes → TakesNothing taken reads
-      → (at : ℕ) (listener : L) (old new : World S H T) → IsTurn accepts reads writes handles at listener old new
-      → (key : ℕ) (client client' : Client T) → get old.clients key ≡ Some client → get new.clients key ≡ Some client'
+      → (setting : Setting L) (at : ℕ) (old new : Place S H T) → IsTurn accepts connects reads writes handles hears setting at old new
+      → (key : ℕ) (client client' : Client T) → get old.reach.near.clients key ≡ Some client → get new.reach.near.clients key ≡ Some client'
       → Extends (flow taken client') (flow taken client)
+
+  -- so it is with a link to a peer, unless it was dialled anew
+  abbrev pub NoFrameIsLost : Type 0
+  NoFrameIsLost =
+      (taken : T → List ℕ) → TakesWhatItAnswers taken writes → TakesNothing taken reads
+      → (setting : Setting L) (at : ℕ) (old new : Place S H T) → IsTurn accepts connects reads writes handles hears setting at old new
+      → (peer : ℕ) (line' : Line T) → link_of new.reach.near.dialled peer ≡ Some line'
+      → IsOf taken connects (link_of old.reach.near.dialled peer) line'

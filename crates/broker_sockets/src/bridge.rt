@@ -14,17 +14,17 @@ pub struct PeerEvent {
 #[derive(Debug, Drop)]
 pub enum PeerEventKind {
     /// A link to a peer was begun, on which nothing waits yet.
-    Linked { peer: u64 },
+    Linked { peer: u16 },
     /// A frame came, whole, with its length.
     Frame { bytes: Vec<u8> },
     /// All that was given for a peer is written on its link: more may be given.
-    Ship { peer: u64 },
+    Ship { peer: u16 },
 }
 
 /// A frame for a peer.
 #[derive(Debug, Drop)]
 pub struct PeerFrame {
-    pub peer: u64,
+    pub peer: u16,
     pub bytes: Vec<u8>,
 }
 

@@ -1,6 +1,6 @@
 //! Links between nodes, and what is given out for them.
 ghost use Rattle.std.specs.Prelude.{◌≡◌, ◌∷◌, [], length, OnOk, IfOk};
-ghost use Rattle.broker_sockets.specs.Lines.{Framed, fresh_line};
+ghost use Rattle.broker_sockets.specs.Lines.{Framed, fresh_line, is_due, is_rested, marked};
 ghost use Rattle.broker_sockets.specs.Bridging.{IsLineRead, IsLineWritten};
 
 use crate::bridge::PeerFrame;
@@ -9,16 +9,21 @@ use crate::network::{Answer, Sockets};
 use crate::queue::Unsent;
 use std::alloc::{AllocError, Global};
 
-/// One socket between two nodes: what came of a frame that isn't whole yet, and what waits to be written.
+/// One socket between two nodes: what came of a frame that isn't whole yet, what waits to be written, and when more was
+/// asked for last, if frames came of that.
 #[derive(Drop)]
 pub struct Line<T: Drop> {
     pub stream: T,
     pub held: Held,
     pub unsent: Unsent,
+    pub asked: Option<u64>,
 }
 
 /// A link with more unsent bytes than this is closed.
 const MOST_UNSENT: usize = 536870912;
+
+/// For so many milliseconds no more is asked for, so that what was given can be answered.
+const PAUSE: u64 = 10;
 
 impl<T: Drop> Line<T> {
     /// A link on which nothing has come and nothing waits.
@@ -29,6 +34,33 @@ impl<T: Drop> Line<T> {
             stream,
             held: Held::new(alloc),
             unsent: Unsent::new(alloc),
+            asked: None,
+        }
+    }
+
+    /// Whether the pause is over. A clock that is set back doesn't make it longer.
+    fn is_rested(&self, at: u64) -> bool
+        ensures { result ≡ is_rested at self.now.asked }
+    {
+        match self.asked {
+            Some(asked) => at < asked || at - asked >= PAUSE,
+            None => true,
+        }
+    }
+
+    /// Whether more is to be asked for at a moment.
+    pub fn is_due(&self, at: u64) -> bool
+        ensures { result ≡ is_due at self.now }
+    {
+        self.unsent.len() == 0 && self.is_rested(at)
+    }
+
+    /// More was asked for at a moment.
+    pub fn mark(&mut self, at: u64)
+        ensures { self.new ≡ marked at self.old }
+    {
+        if self.unsent.len() > 0 {
+            self.asked = Some(at);
         }
     }
 }
@@ -75,7 +107,7 @@ fn give_one<T: Drop>(links: &mut [Option<Line<T>>], frame: PeerFrame) -> Result<
     ensures ok { OnOk result (Framed (frame ∷ []) links.old links.new) }
     ensures len { OnOk result (length links.new ≡ length links.old) }
 {
-    let peer = frame.peer as usize;
+    let peer = usize::from(frame.peer);
     if peer < links.len() {
         if let Some(line) = &mut links[peer] {
             line.unsent.push(frame.bytes)?;

@@ -44,6 +44,9 @@ pub trait Sockets {
     fn listen(&mut self, address: SocketAddr) -> io::Result<Self::Listener>
         ensures { listens self.old address (result_ok result) self.new };
 
+    /// Where a listener waits, where the system tells.
+    fn address(&self, listener: &Self::Listener) -> Option<SocketAddr>;
+
     /// A connection that was made, if there is one.
     fn accept(&mut self, listener: &Self::Listener) -> Option<Self::Stream>
         ensures { accepts self.old listener.now result self.new };

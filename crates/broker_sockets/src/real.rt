@@ -50,6 +50,10 @@ impl<'a, N: Net> Sockets for RealSockets<'a, N> {
         TcpListener::bind(self.net, address)
     }
 
+    fn address(&self, listener: &TcpListener) -> Option<SocketAddr> {
+        listener.local_addr().ok()
+    }
+
     fn accept(&mut self, listener: &TcpListener) -> Option<TcpStream> {
         match listener.accept() {
             Ok((stream, _)) => {

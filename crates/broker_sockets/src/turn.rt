@@ -1,21 +1,17 @@
-//! A turn over a listener and its clients' network connections (MQTT 5.0, 4.2).
-ghost use Rattle.std.specs.Prelude.{◌≡◌, ℕ, length, OnOk, IfOk, IfErr, None};
-ghost use Rattle.slab.specs.Slab.{get, slab_len, Updates};
-ghost use Rattle.broker_sockets.specs.Turns.{Each, IsAccepted, IsHandled, IsLetGo, IsRead, IsTurn, IsWrote, connections, event, world};
+//! What a turn does with clients' network connections (MQTT 5.0, 4.2).
+ghost use Rattle.std.specs.Prelude.{◌≡◌, length, OnOk, IfOk, IfErr, None};
+ghost use Rattle.slab.specs.Slab.{Updates};
+ghost use Rattle.broker_sockets.specs.Turns.{Each, IsAccepted, IsHandled, IsLetGo, IsRead, IsWrote, event, numbers, world};
 ghost use Rattle.broker_sockets.specs.Faults.{IsCaused};
-ghost use Rattle.broker_sockets.specs.Serving.{IsServed, IsStopped, IsTurns, IsUnserved};
 ghost use Rattle.broker_sockets.specs.Writing.{IsWritten, fate_by_size};
 
+use crate::bridge::BridgeHandler;
 use crate::clients::{Client, release};
-use crate::clock::Clock;
-use crate::events::{Event, EventKind, Handler};
+use crate::events::{Event, EventKind};
 use crate::network::{Answer, Sockets};
 use crate::queue::Unsent;
 use slab::Slab;
 use std::alloc::{AllocError, Global};
-
-/// The most bytes that one read takes.
-const PIECE: usize = 65536;
 
 /// A client with more unsent bytes than this is let go.
 const MOST_UNSENT: usize = 16777216;
@@ -50,23 +46,14 @@ enum Fate {
     Lost,
 }
 
-/// A listener and its clients.
-#[derive(Drop)]
-pub struct Hub<L: Drop, T: Drop> {
-    alloc: Global,
-    listener: L,
-    clients: Slab<Client<T>>,
-    buffer: Vec<u8>,
-    ghost whole: { length buffer.items ≡ 65536 },
-}
-
-fn handle_event<H: Handler, T: Drop>(
+/// The handler answers an event, and what it gives out is released.
+pub fn handle_event<H: BridgeHandler, T: Drop>(
     clients: &mut Slab<Client<T>>,
     handler: &mut H,
     event: Event,
 ) -> Result<(), TurnFault<H::Fault>>
     ensures ok { OnOk result (IsHandled H.handles event handler.old clients.old handler.new clients.new) }
-    ensures fault { IfErr result (IsCaused H.refuses event.at) }
+    ensures fault { IfErr result (IsCaused H.refuses H.declines event.at) }
 {
     match handler.handle(event) {
         Ok(outputs) => {
@@ -78,14 +65,14 @@ fn handle_event<H: Handler, T: Drop>(
 }
 
 /// The connection's socket is closed, and the handler is told.
-fn let_go<H: Handler, T: Drop>(
+fn let_go<H: BridgeHandler, T: Drop>(
     clients: &mut Slab<Client<T>>,
     handler: &mut H,
     at: u64,
     key: usize,
 ) -> Result<(), TurnFault<H::Fault>>
     ensures ok { OnOk result (IsLetGo H.handles at key handler.old clients.old handler.new clients.new) }
-    ensures fault { IfErr result (IsCaused H.refuses at) }
+    ensures fault { IfErr result (IsCaused H.refuses H.declines at) }
 {
     remove(clients, key);
     let kind = EventKind::Closed {
@@ -94,7 +81,8 @@ fn let_go<H: Handler, T: Drop>(
     handle_event(clients, handler, Event { at, kind })
 }
 
-fn accept_one<S: Sockets, H: Handler>(
+/// Accepts a client, if one has connected.
+pub fn accept_one<S: Sockets, H: BridgeHandler>(
     alloc: Global,
     clients: &mut Slab<Client<S::Stream>>,
     listener: &S::Listener,
@@ -104,7 +92,7 @@ fn accept_one<S: Sockets, H: Handler>(
 ) -> Result<(), TurnFault<H::Fault>>
     ensures ok { OnOk result (IsAccepted S.accepts H.handles at listener.now
         (world sockets.old handler.old clients.old) (world sockets.new handler.new clients.new)) }
-    ensures fault { IfErr result (IsCaused H.refuses at) }
+    ensures fault { IfErr result (IsCaused H.refuses H.declines at) }
 {
     let Some(stream) = sockets.accept(listener) else {
         return Ok(());
@@ -123,7 +111,8 @@ fn accept_one<S: Sockets, H: Handler>(
     handle_event(clients, handler, Event { at, kind })
 }
 
-fn read_one<S: Sockets, H: Handler>(
+/// Reads the client of a connection, if it is still there.
+fn read_one<S: Sockets, H: BridgeHandler>(
     alloc: Global,
     clients: &mut Slab<Client<S::Stream>>,
     buffer: &mut [u8],
@@ -135,7 +124,7 @@ fn read_one<S: Sockets, H: Handler>(
     requires { length buffer.old ≡ 65536 }
     ensures ok { OnOk result (IsRead S.reads H.handles at key
         (world sockets.old handler.old clients.old) (world sockets.new handler.new clients.new)) }
-    ensures fault { IfErr result (IsCaused H.refuses at) }
+    ensures fault { IfErr result (IsCaused H.refuses H.declines at) }
 {
     let Some(client) = clients.get_mut(key) else {
         return Ok(());
@@ -194,7 +183,8 @@ fn remove<T: Drop>(clients: &mut Slab<Client<T>>, key: usize)
     let _ = clients.try_remove(key);
 }
 
-fn write_one<S: Sockets, H: Handler>(
+/// Writes to the client of a connection, if it is still there.
+fn write_one<S: Sockets, H: BridgeHandler>(
     clients: &mut Slab<Client<S::Stream>>,
     sockets: &mut S,
     handler: &mut H,
@@ -203,7 +193,7 @@ fn write_one<S: Sockets, H: Handler>(
 ) -> Result<(), TurnFault<H::Fault>>
     ensures ok { OnOk result (IsWrote S.writes H.handles at key
         (world sockets.old handler.old clients.old) (world sockets.new handler.new clients.new)) }
-    ensures fault { IfErr result (IsCaused H.refuses at) }
+    ensures fault { IfErr result (IsCaused H.refuses H.declines at) }
 {
     let Some(client) = clients.get_mut(key) else {
         return Ok(());
@@ -226,21 +216,19 @@ fn write_one<S: Sockets, H: Handler>(
     }
 }
 
-/// The connections that there are, by rising number.
-fn connections_of<T: Drop>(
-    alloc: Global,
-    clients: &Slab<Client<T>>,
-) -> Result<Vec<usize>, AllocError>
-    ensures { IfOk result (λ keys. keys.items ≡ connections clients.now) }
+/// The numbers of the connections, or of the links, that there are, rising.
+pub fn numbers_of<V>(alloc: Global, slab: &Slab<V>) -> Result<Vec<usize>, AllocError>
+    ensures { IfOk result (λ keys. keys.items ≡ numbers slab.now) }
 {
     let mut keys = Vec::new(alloc);
-    for (key, _) in clients.iter() {
+    for (key, _) in slab.iter() {
         keys.push(key)?;
     }
     Ok(keys)
 }
 
-fn read_all<S: Sockets, H: Handler>(
+/// Reads the clients of these connections.
+pub fn read_all<S: Sockets, H: BridgeHandler>(
     alloc: Global,
     clients: &mut Slab<Client<S::Stream>>,
     buffer: &mut [u8],
@@ -252,7 +240,7 @@ fn read_all<S: Sockets, H: Handler>(
     requires { length buffer.old ≡ 65536 }
     ensures ok { OnOk result (Each (IsRead S.reads H.handles at) keys.now
         (world sockets.old handler.old clients.old) (world sockets.new handler.new clients.new)) }
-    ensures fault { IfErr result (IsCaused H.refuses at) }
+    ensures fault { IfErr result (IsCaused H.refuses H.declines at) }
 {
     for key in keys {
         read_one(alloc, clients, buffer, sockets, handler, at, *key)?;
@@ -260,7 +248,8 @@ fn read_all<S: Sockets, H: Handler>(
     Ok(())
 }
 
-fn write_all<S: Sockets, H: Handler>(
+/// Writes to the clients of these connections.
+pub fn write_all<S: Sockets, H: BridgeHandler>(
     clients: &mut Slab<Client<S::Stream>>,
     sockets: &mut S,
     handler: &mut H,
@@ -269,123 +258,10 @@ fn write_all<S: Sockets, H: Handler>(
 ) -> Result<(), TurnFault<H::Fault>>
     ensures ok { OnOk result (Each (IsWrote S.writes H.handles at) keys.now
         (world sockets.old handler.old clients.old) (world sockets.new handler.new clients.new)) }
-    ensures fault { IfErr result (IsCaused H.refuses at) }
+    ensures fault { IfErr result (IsCaused H.refuses H.declines at) }
 {
     for key in keys {
         write_one(clients, sockets, handler, at, *key)?;
     }
     Ok(())
-}
-
-impl<L: Drop, T: Drop> Hub<L, T> {
-    /// A hub with no clients yet.
-    pub fn new(alloc: Global, listener: L) -> Result<Self, AllocError>
-        ensures none { IfOk result (λ hub. (key : ℕ) → get hub.clients key ≡ None) }
-        ensures listener { IfOk result (λ hub. hub.listener ≡ listener) }
-    {
-        Ok(Hub {
-            alloc,
-            listener,
-            clients: Slab::new(alloc),
-            buffer: vec![in alloc; 0; PIECE]?,
-        })
-    }
-
-    /// How many sockets of clients are open.
-    pub fn clients(&self) -> usize
-        ensures { result ≡ slab_len self.now.clients }
-    {
-        self.clients.len()
-    }
-
-    /// One turn at a moment in milliseconds: a client is accepted, each is read, the handler is told that time has
-    /// passed, and each is written to. Each socket is asked once in each of these.
-    ///
-    /// After a fault, the handler's or `NoMemory`, nothing is said of the hub.
-    pub fn turn<S: Sockets<Listener = L, Stream = T>, H: Handler>(
-        &mut self,
-        sockets: &mut S,
-        handler: &mut H,
-        at: u64,
-    ) -> Result<(), TurnFault<H::Fault>>
-        ensures ok { OnOk result (IsTurn S.accepts S.reads S.writes H.handles at self.old.listener
-            (world sockets.old handler.old self.old.clients) (world sockets.new handler.new self.new.clients)) }
-        ensures listener { OnOk result (self.new.listener ≡ self.old.listener) }
-        ensures fault { IfErr result (IsCaused H.refuses at) }
-    {
-        accept_one(
-            self.alloc,
-            &mut self.clients,
-            &self.listener,
-            sockets,
-            handler,
-            at,
-        )?;
-        let keys = connections_of(self.alloc, &self.clients)?;
-        read_all(
-            self.alloc,
-            &mut self.clients,
-            &mut self.buffer,
-            sockets,
-            handler,
-            at,
-            &keys,
-        )?;
-        // Links to other nodes are read here, and peers without one are dialled.
-        let kind = EventKind::Tick;
-        handle_event(&mut self.clients, handler, Event { at, kind })?;
-        // What is shipped to other nodes is put on their links here.
-        write_all(&mut self.clients, sockets, handler, at, &keys)?;
-        Ok(())
-    }
-
-    /// So many turns, one after another, each at the moment that the clock tells just before it.
-    ///
-    /// After a fault, the handler's or `NoMemory`, nothing is said of the hub.
-    pub fn make_turns<S: Sockets<Listener = L, Stream = T>, H: Handler, C: Clock>(
-        &mut self,
-        sockets: &mut S,
-        handler: &mut H,
-        clock: &mut C,
-        turns: u32,
-    ) -> Result<(), TurnFault<H::Fault>>
-        ensures ok { OnOk result (IsTurns C.tells S.accepts S.reads S.writes H.handles self.old.listener turns
-            clock.old (world sockets.old handler.old self.old.clients)
-            clock.new (world sockets.new handler.new self.new.clients)) }
-        ensures listener { OnOk result (self.new.listener ≡ self.old.listener) }
-        ensures fault { IfErr result (λ fault. IsStopped C.tells S.accepts S.reads S.writes H.handles self.old.listener H.refuses turns
-            clock.old (world sockets.old handler.old self.old.clients) clock.new fault) }
-    {
-        for _ in 0..turns {
-            let at = clock.now();
-            self.turn(sockets, handler, at)?;
-        }
-        Ok(())
-    }
-
-    /// Tells the handler that it has started, at the moment that the clock tells, and then makes so many turns.
-    ///
-    /// After a fault, the handler's or `NoMemory`, nothing is said of the hub.
-    pub fn serve<S: Sockets<Listener = L, Stream = T>, H: Handler, C: Clock>(
-        &mut self,
-        sockets: &mut S,
-        handler: &mut H,
-        clock: &mut C,
-        turns: u32,
-    ) -> Result<(), TurnFault<H::Fault>>
-        ensures ok { OnOk result (IsServed C.tells S.accepts S.reads S.writes H.handles self.old.listener turns
-            clock.old (world sockets.old handler.old self.old.clients)
-            clock.new (world sockets.new handler.new self.new.clients)) }
-        ensures listener { OnOk result (self.new.listener ≡ self.old.listener) }
-        ensures fault { IfErr result (λ fault. IsUnserved C.tells S.accepts S.reads S.writes H.handles self.old.listener H.refuses turns
-            clock.old (world sockets.old handler.old self.old.clients) clock.new fault) }
-    {
-        let at = clock.now();
-        let started = Event {
-            at,
-            kind: EventKind::Started,
-        };
-        handle_event(&mut self.clients, handler, started)?;
-        self.make_turns(sockets, handler, clock, turns)
-    }
 }

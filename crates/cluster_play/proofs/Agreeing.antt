@@ -1,5 +1,5 @@
 -- What nodes hold, and where they agree.
-use Rattle.std.proofs.Common.{◌≡◌, ◌↔◌, ℕ, Bool, List, filter, Some, sym, ap, ◌∙◌, subst}
+use Rattle.std.proofs.Common.{◌≡◌, ◌↔◌, ℕ, Bool, List, filter, length, Some, sym, ap, ◌∙◌, subst}
 use Rattle.std.specs.FinMap as map
 use Rattle.std.specs.FinSet as set
 use Rattle.causal_context.specs.Dots.{Dot, dot_cmp_total, dot_cmp_antisym}
@@ -11,14 +11,19 @@ use Rattle.replica_store.specs.States.{State}
 use Rattle.replica_store.specs.StateOf.{IsStateOf}
 use Rattle.replica_store.proofs.Answered.{one_answer}
 use Rattle.replica_store.proofs.Deltas.{one_state}
+use Rattle.bridge_frames.specs.declared.body.FrameBody.TheVariants.{Delta}
+use Rattle.bridge_frames.specs.declared.frame.BridgeFrame.{BridgeFrame}
+use Rattle.bridge_frames.specs.Frames.{HasSpelling, frame_in}
 use Rattle.node_work.specs.declared.frame.Frame.{Frame}
-use Rattle.node_work.specs.declared.frame.FrameBody.TheVariants.{Delta}
+use Rattle.node_work.specs.Held.Bridge.{written_frame}
 use Rattle.node_work.specs.View.{HeldView}
 use Rattle.cluster_play.specs.Worlds.{World, numbered}
 use Rattle.cluster_play.specs.Runs.{Moment}
 use Rattle.cluster_play.specs.Histories.{Reached, made, taken, operations}
 use Rattle.cluster_play.specs.Laws.{Holds, AreAlike}
+use Rattle.cluster_play.proofs.Bools.{some_is}
 use Rattle.cluster_play.proofs.Sites.{number_is}
+use Rattle.cluster_play.proofs.Telling.{given_read}
 use Rattle.cluster_play.proofs.Operations.{own_some}
 use Rattle.cluster_play.proofs.Sound.{Sound, state_by}
 use Rattle.cluster_play.proofs.Kept.{explained}
@@ -28,13 +33,24 @@ node_holds run w r i h at =
     let x = (explained run w r).sites i at.site at.at in
     let same : x.held ≡ h = sym (x.up h at.up) in
     let listed : (d : Dot) → set.contains h.store.taken d ≡ taken i run d = subst (λ (v : HeldView). (d : Dot) → set.contains v.store.taken d ≡ taken i run d) same x.listed in
-    (state_by (made run) h.store (taken i run) (subst (λ (v : HeldView). Sound (made run) v.store) same x.grown.sound) listed, listed)
+    (state_by (made run) h.store (taken i run) (subst (λ (v : HeldView). Sound (made run) v.store) same x.holding.grown.sound) listed, listed)
 
 pub own_dots : (run : List Moment) (w : World) → Reached run w → HaveOwnDots (made run)
 own_dots run w r = (explained run w r).own_dots
 
-pub delta_frames : (run : List Moment) (w : World) → Reached run w → (number : ℕ) (f : Frame) (s : State) → numbered w.frames number ≡ Some f → f.body ≡ Delta s → IsStateOf (filter (λ o. set.contains s.taken (dot_of o)) (made run)) s
-delta_frames run w r number f s at is = let k = number_is w.frames number f at in (explained run w r).deltas k.0 f s k.1 is
+pub frames_spelled : (run : List Moment) (w : World) → Reached run w → (number : ℕ) (sent : Frame) → numbered w.frames number ≡ Some sent → (f : BridgeFrame) × (sent ≡ written_frame f) × HasSpelling f × (frame_in sent.bytes ≡ Some f)
+frames_spelled run w r number sent at =
+    let k = number_is w.frames number sent at in
+    let g = (explained run w r).frames k.0 sent k.1 in
+    (g.frame, g.is, g.told.spelled, given_read (length w.sites) (made run) (λ i d. taken i run d) sent g)
+
+pub delta_frames : (run : List Moment) (w : World) → Reached run w → (number : ℕ) (sent : Frame) (f : BridgeFrame) (s : State) → numbered w.frames number ≡ Some sent → frame_in sent.bytes ≡ Some f → f.body ≡ Delta s
+    → IsStateOf (filter (λ o. set.contains s.taken (dot_of o)) (made run)) s
+delta_frames run w r number sent f s at reads is =
+    let k = number_is w.frames number sent at in
+    let g = (explained run w r).frames k.0 sent k.1 in
+    let same : g.frame ≡ f = some_is (sym (given_read (length w.sites) (made run) (λ i d. taken i run d) sent g) ∙ reads) in
+    g.told.sound s (ap (λ (x : BridgeFrame). x.body) same ∙ is)
 
 pub same_taken : (run : List Moment) (w : World) → Reached run w → (i j : ℕ) (h g : HeldView) → Holds w i h → Holds w j g → (h.store.taken ≡ g.store.taken) ↔ ((d : Dot) → taken i run d ≡ taken j run d)
 same_taken run w r i j h g a b =

@@ -14,8 +14,9 @@ use Rattle.cluster_play.specs.Runs.{Moment}
 use Rattle.cluster_play.specs.Histories.{Reached, site, acts_of, ops_of, made, taken_amid, operations_amid}
 use Rattle.cluster_play.proofs.Operations.{among_some, own_part}
 use Rattle.cluster_play.proofs.Agreeing.{own_dots}
-use Rattle.cluster_play.proofs.Amid.{gather_both, Amid, amid_state}
+use Rattle.cluster_play.proofs.Amid.{Amid, amid_state}
 use Rattle.cluster_play.proofs.Paths.{made_both}
+use Rattle.cluster_play.proofs.Splits.{gather_both}
 
 -- states of some of the operations, each with its own dot, that list the same dots are one
 same_from : (ms O P : List Operation) (s t : State) → HaveOwnDots ms → ((o : Operation) → Among o O → Among o ms) → ((o : Operation) → Among o P → Among o ms)

@@ -1,5 +1,5 @@
 -- What the steps of a run make, and what a delivered frame brings.
-use Rattle.std.proofs.Common.{◌≡◌, ◌≢◌, ◌<◌, Bool, true, false, not, cond, ◌||◌, ◌&&◌, nat_eq, nat_lt, List, [], ◌∷◌, ◌++◌, Some, refl, sym, ap, ◌∙◌, inl, inr, subst, eq-eqb, lt-ltb, length}
+use Rattle.std.proofs.Common.{◌≡◌, ◌≢◌, ◌<◌, Bool, true, false, not, cond, ◌||◌, ◌&&◌, nat_eq, nat_lt, List, [], ◌∷◌, ◌++◌, Some, refl, sym, ap, ◌∙◌, ◌⊎◌, inl, inr, subst, eq-eqb, lt-ltb, length}
 use Rattle.std.specs.List.{slice_get}
 use Rattle.std.specs.FinSet as set
 use Rattle.causal_context.specs.Dots.{Dot}
@@ -7,11 +7,15 @@ use Rattle.replica_store.specs.declared.operation.Operation.{Operation}
 use Rattle.replica_store.specs.Operations.{dot_of, HaveOwnDots}
 use Rattle.replica_store.specs.States.{State}
 use Rattle.broker_node.specs.declared.event.EventKind.TheVariants as kinds
-use Rattle.node_work.specs.declared.frame.Frame.{Frame}
-use Rattle.node_work.specs.declared.frame.FrameBody.TheVariants.{Delta}
-use Rattle.node_work.specs.declared.outcome.Output.TheVariants.{Frame as Release}
-use Rattle.node_work.specs.Acts.{Act, Moment as TakesMoment, Began, Store, Connection, Session, Out, Named, Acknowledged, Passed, Dropped, Made, Merged, IsMade, gather, merge_in}
-use Rattle.broker_node.specs.Step.{brought}
+use Rattle.bridge_frames.specs.declared.body.FrameBody.TheVariants.{Delta}
+use Rattle.bridge_frames.specs.declared.frame.BridgeFrame.{BridgeFrame}
+use Rattle.bridge_frames.specs.Frames.{HasSpelling, spelling}
+use Rattle.bridge_frames.proofs.FrameLaws.{read_again}
+use Rattle.node_work.specs.Acts.{Act, Moment as TakesMoment, Began, Store, Connection, Session, Bridge, Out, Named, Acknowledged, Passed, Dropped, Made, Merged, IsMade, gather, merge_in}
+use Rattle.node_work.specs.Held.Bridge.{Carries, Gave}
+use Rattle.broker_node.specs.Step.{brought, brought_in}
+use Rattle.bridge_deltas.proofs.Shipping.{shipped_enough}
+use Rattle.node_bridge.specs.View.{belief_of}
 use Rattle.node_work.specs.Frames.{states_in}
 use Rattle.node_work.specs.View.{Place, nodes_of}
 use Rattle.cluster_play.specs.Worlds.{Site, World}
@@ -21,12 +25,13 @@ use Rattle.cluster_play.specs.Laws.{Ships, Arrives}
 use Rattle.cluster_play.specs.NextOperations.{IsNext}
 use Rattle.cluster_play.proofs.Bools.{or_true, or_left, or_right, nat_cases, nat_other, some_is, dot_same}
 use Rattle.cluster_play.proofs.Operations.{own_some}
-use Rattle.cluster_play.proofs.Growing.{carried}
 use Rattle.cluster_play.proofs.Kept.{explained}
 use Rattle.cluster_play.proofs.Paths.{taken_both}
 use Rattle.cluster_play.proofs.Rows.{Committed, committed}
-use Rattle.cluster_play.proofs.Amid.{amid_acts, amid_state, gained_both, taken_step}
+use Rattle.cluster_play.proofs.Amid.{amid_acts, amid_state, taken_step}
 use Rattle.cluster_play.proofs.Next.{next_operation}
+use Rattle.cluster_play.proofs.Splits.{gained_both}
+use Rattle.cluster_play.proofs.Telling.{given_spelled}
 
 gained_here : (before after : List Act) (a : Act) (d : Dot) → gain_in a d ≡ true → gained (before ++ a ∷ after) d ≡ true
 gained_here before after a d h = gained_both before (a ∷ after) d ∙ or_right (gained before d) (gain_in a d || gained after d) (or_left (gain_in a d) (gained after d) h)
@@ -43,13 +48,27 @@ operations_of_a_step run later m w r before after o h =
       taken_step run later m (dot_of o) (or_right (taken i run (dot_of o)) _ gain),
     )
 
--- a frame lists what its node had taken when it went out
-pub sent_lists : (run later : List Moment) (m : Moment) (w : World) → Reached (run ++ m ∷ later) w → (before : List Act) (f : Frame) (s : Ships m before f)
-    → (f.from ≡ site m.fate) × (site m.fate < length w.sites) × ((d : Dot) → set.contains s.state.taken d ≡ taken_amid (site m.fate) run before d)
-sent_lists run later m w r before f s =
-    let a = amid_acts run later m w r before s.after (Out (Release f)) s.acts in
-    let is : s.state ≡ a.held.store = carried a.held.store s.state f.body a.runs.1.0.1 s.is_delta in
-    (a.runs.1.0.0 ∙ a.id, a.within, λ d. ap (λ (t : State). set.contains t.taken d) is ∙ a.listed d)
+-- a Delta frame, when it goes out: each dot that its node had taken its receiver has taken already, or the frame lists it
+pub record IsSent (run : List Moment) (w : World) (m : Moment) (before : List Act) (f : BridgeFrame) (s : State) : Type 0 where
+  pub spelled : HasSpelling f
+  pub from : f.from ≡ site m.fate
+  pub within : site m.fate < length w.sites
+  pub covers : (d : Dot) → taken_amid (site m.fate) run before d ≡ true → (taken f.to run d ≡ true) ⊎ (set.contains s.taken d ≡ true)
+
+pub sent_as : (run later : List Moment) (m : Moment) (w : World) → Reached (run ++ m ∷ later) w → (before : List Act) (f : BridgeFrame) (s : Ships m before f) → IsSent run w m before f s.state
+sent_as run later m w r before f s =
+    let a = amid_acts run later m w r before s.after (Bridge (Gave f)) s.acts in
+    let given = a.runs.1.0 in
+    let ships = subst (Carries a.held f.to) s.is_delta given.carries in
+    record {
+      spelled = given_spelled (length w.sites) (site m.fate) _ (λ j d. taken j run d) a.held (record { grown = a.grown; deltas = a.deltas }) a.plain a.kept a.place f given;
+      from = given.from ∙ a.id;
+      within = a.within;
+      covers = λ d h. elim (shipped_enough (belief_of a.held.bridge f.to) a.held.bridge.deltas a.held.store s.state ships.2 d (a.listed d ∙ h)) [
+        | inl x ↦ inl (a.kept.beliefs f.to d x)
+        | inr y ↦ inr y
+      ];
+    }
 
 -- some state lists the dot
 abbrev pub any_lists : List State → Dot → Bool
@@ -67,50 +86,59 @@ merges_gain (Store (Merged t) ∷ acts) d h = elim (or_true (set.contains t.take
 ]
 merges_gain (Connection a ∷ acts) d h = merges_gain acts d h
 merges_gain (Session a ∷ acts) d h = merges_gain acts d h
+merges_gain (Bridge a ∷ acts) d h = merges_gain acts d h
 merges_gain (Out o ∷ acts) d h = merges_gain acts d h
 merges_gain (Named number ∷ acts) d h = merges_gain acts d h
 merges_gain (Acknowledged client packet at grants offers ∷ acts) d h = merges_gain acts d h
-merges_gain (Passed m copies lost ∷ acts) d h = merges_gain acts d h
+merges_gain (Passed m copies lost routes ∷ acts) d h = merges_gain acts d h
 merges_gain (Dropped ∷ acts) d h = merges_gain acts d h
 
 -- a frame for this node from another one brings its state
-frame_brings : (p : Place) (f : Frame) (t : State) → f.to ≡ p.id → f.from ≢ p.id → f.from < nodes_of p → f.body ≡ Delta t → brought p (kinds.Frame f) ≡ t ∷ []
-frame_brings p f t to from below is =
-    (λ n. cond (nat_eq f.to p.id && not (nat_eq f.from p.id) && nat_lt f.from (nodes_of p)) (states_in (is n)) [])
+frame_brings : (p : Place) (f : BridgeFrame) (t : State) → HasSpelling f → f.to ≡ p.id → f.from ≢ p.id → f.from < nodes_of p → f.body ≡ Delta t → brought p (kinds.Frame (spelling f)) ≡ t ∷ []
+frame_brings p f t spelled to from below is =
+    ap (brought_in p) (read_again f spelled)
+    ∙ (λ n. cond (nat_eq f.to p.id && not (nat_eq f.from p.id) && nat_lt f.from (nodes_of p)) (states_in (is n)) [])
     ∙ (λ n. cond (eq-eqb f.to p.id to n && not (nat_other f.from p.id from n) && lt-ltb f.from (nodes_of p) below n) (t ∷ []) [])
 
 -- the frame comes to another node than the one that sent it
-module _ (run : List Moment) (w w' : World) (r : Reached run w) (m : Moment) (f : Frame) (a : Arrives w f m w') (t : State) (is : f.body ≡ Delta t) where
+module _ (run : List Moment) (w w' : World) (r : Reached run w) (m : Moment) (f : BridgeFrame) (a : Arrives w f m w') (t : State) (is : f.body ≡ Delta t) where
   here : Committed w (site m.fate) a.event (acts_of m.fate) w'
   here = committed w m.step m.fate w' a.event a.happens a.commits
 
-  gains_all : f.from ≢ f.to → f.from < length w.sites → (d : Dot) → set.contains t.taken d ≡ true → gained (acts_of m.fate) d ≡ true
-  gains_all other below d listed =
+  pub gains_all : HasSpelling f → f.from ≢ f.to → f.from < length w.sites → (d : Dot) → set.contains t.taken d ≡ true → gained (acts_of m.fate) d ≡ true
+  gains_all spelled other below d listed =
       let at : slice_get w.sites f.to ≡ Some here.was = subst (λ j. slice_get w.sites j ≡ Some here.was) a.at here.at in
       let there = (explained run w r).sites f.to here.was at in
       let place = here.was.node.place in
       let same_site : here.was ≡ a.holds.site = some_is (sym at ∙ a.holds.at) in
       let same_held : here.before ≡ a.held = some_is (sym here.up ∙ ap (λ (v : Site). v.node.up) same_site ∙ a.holds.up) in
       let merges : gather merge_in (acts_of m.fate) ≡ t ∷ [] =
-      here.steps.merged ∙ (λ n. cond (same_held n).started (brought place (a.brings n)) []) ∙ ap (λ b. cond b (brought place (kinds.Frame f)) []) a.started
-      ∙ frame_brings place f t (sym there.id) (λ e. other (e ∙ there.id)) (subst (λ n. f.from < n) (sym there.homes) below) is in
+      here.steps.merged ∙ (λ n. cond (same_held n).started (brought place (a.brings n)) []) ∙ ap (λ b. cond b (brought place (kinds.Frame (spelling f))) []) a.started
+      ∙ frame_brings place f t spelled (sym there.id) (λ e. other (e ∙ there.id)) (subst (λ n. f.from < n) (sym there.homes) below) is in
       merges_gain (acts_of m.fate) d (ap (λ ts. any_lists ts d) merges ∙ or_left (set.contains t.taken d) false listed)
 
+  -- so the receiver has taken each dot that the frame lists and the sender had taken
+  pub takes_all : (later : List Moment) → HasSpelling f → f.from < length w.sites → (d : Dot) → taken f.from run d ≡ true → set.contains t.taken d ≡ true → taken f.to (run ++ m ∷ later) d ≡ true
+  takes_all later spelled below d had listed =
+      taken_both f.to run (m ∷ later) d ∙ elim (nat_cases f.from f.to) [
+        | inl e ↦ or_left (taken f.to run d) (taken f.to (m ∷ later) d) (subst (λ j. taken j run d ≡ true) e had)
+        | inr ne ↦ or_right (taken f.to run d) (taken f.to (m ∷ later) d)
+            (or_left (gains f.to m.fate d) (taken f.to later d) (ap (λ b. b && gained (acts_of m.fate) d) (eq-eqb (site m.fate) f.to a.at) ∙ gains_all spelled ne below d listed))
+      ]
+
 pub catch_up : (run amid later : List Moment) (m arrival : Moment) (w w' : World) → Reached (run ++ m ∷ amid) w
-    → (before : List Act) (f : Frame) → Ships m before f → Arrives w f arrival w'
+    → (before : List Act) (f : BridgeFrame) → Ships m before f → Arrives w f arrival w'
     → (d : Dot) → taken_amid (site m.fate) run before d ≡ true → taken f.to ((run ++ m ∷ amid) ++ arrival ∷ later) d ≡ true
 catch_up run between later m arrival w w' r before f s a d had =
     let whole = run ++ m ∷ between in
     let i = site m.fate in
-    let sent = sent_lists run between m w r before f s in
+    let sent = sent_as run between m w r before f s in
     let all : taken_amid i run (acts_of m.fate) d ≡ true = elim (or_true (taken i run d) (gained before d) had) [
       | inl x ↦ or_left (taken i run d) (gained (acts_of m.fate) d) x
-      | inr y ↦ or_right (taken i run d) (gained (acts_of m.fate) d) (ap (λ acts. gained acts d) s.acts ∙ gained_both before (Out (Release f) ∷ s.after) d ∙ or_left (gained before d) (gained s.after d) y)
+      | inr y ↦ or_right (taken i run d) (gained (acts_of m.fate) d) (ap (λ acts. gained acts d) s.acts ∙ gained_both before (Bridge (Gave f) ∷ s.after) d ∙ or_left (gained before d) (gained s.after d) y)
     ] in
-    taken_both f.to whole (arrival ∷ later) d ∙ elim (nat_cases f.from f.to) [
-      | inl e ↦ or_left (taken f.to whole d) (taken f.to (arrival ∷ later) d) (subst (λ j. taken j whole d ≡ true) (sym sent.0 ∙ e) (taken_step run between m d all))
-      | inr ne ↦ or_right (taken f.to whole d) (taken f.to (arrival ∷ later) d)
-          (or_left (gains f.to arrival.fate d) (taken f.to later d)
-          (ap (λ b. b && gained (acts_of arrival.fate) d) (eq-eqb (site arrival.fate) f.to a.at)
-          ∙ gains_all whole w w' r arrival f a s.state s.is_delta ne (subst (λ j. j < length w.sites) (sym sent.0) sent.1) d (sent.2 d ∙ had)))
+    let mine : taken f.from whole d ≡ true = subst (λ j. taken j whole d ≡ true) (sym sent.from) (taken_step run between m d all) in
+    elim (sent.covers d had) [
+      | inl x ↦ taken_both f.to whole (arrival ∷ later) d ∙ or_left (taken f.to whole d) (taken f.to (arrival ∷ later) d) (taken_both f.to run (m ∷ between) d ∙ or_left (taken f.to run d) (taken f.to (m ∷ between) d) x)
+      | inr y ↦ takes_all whole w w' r arrival f a s.state s.is_delta later sent.spelled (subst (λ j. j < length w.sites) (sym sent.from) sent.within) d mine y
     ]

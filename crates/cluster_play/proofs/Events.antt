@@ -1,7 +1,6 @@
 -- What befalls a node in its seat.
 use Rattle.std.proofs.Common.{◌≡◌, ◌≢◌, ℕ, ◌<◌, ◌≤◌, List, [], ◌∷◌, ◌++◌, Option, Some, None, Result, Ok, Err, OnOk, refl, sym, ap, ◌∙◌, get_or, inl, inr, length, map, subst, zero, suc, arith}
 use Rattle.std.specs.Prelude.{is_some, true, false}
-use Rattle.std.specs.FinMap as fin
 use Rattle.std.specs.List.{slice_get}
 use Rattle.std.proofs.Math.ListN.{set}
 use Rattle.std.proofs.lemmas.List.{append-nil}
@@ -13,8 +12,7 @@ use Rattle.node_keeper.specs.Keeping.{AreOfNone, CannotOpen, Commits, HasCauseAt
 use Rattle.node_keeper.specs.Views.{node_of, rows_of}
 use Rattle.node_work.specs.declared.frame.Frame.{Frame}
 use Rattle.node_work.specs.declared.outcome.Output.{Output}
-use Rattle.node_rows.specs.Rows.{new_node}
-use Rattle.node_work.specs.View.{HeldView, NodeView, Place, nodes_of}
+use Rattle.node_work.specs.View.{HeldView, NodeView, Place}
 use Rattle.row_store.specs.declared.store.RowFault.TheVariants as row_faults
 use Rattle.row_store.specs.Rows.{Content}
 use Rattle.row_store.specs.declared.memory.MemoryRows.{MemoryRows}
@@ -24,7 +22,7 @@ use Rattle.cluster_play.specs.declared.step.Step.TheVariants as steps
 use Rattle.cluster_play.specs.Clusters.{site_of}
 use Rattle.cluster_play.specs.Playing.{IsDoneAt, RunsOut}
 use Rattle.cluster_play.specs.Worlds.{Site, World, Fate, Released, Lost, Cut, Faulted, Was_down, Restarted, Befalls, IsInMemory, MayStop, MayStayDown, OfEvent, OfCrashBefore, OfCrashAfter, OfRestart, arrival, changed, numbered, stopped, frames_in}
-use Rattle.cluster_play.proofs.Fresh.{marked_row, new_is_lasting}
+use Rattle.cluster_play.proofs.Lasts.{none_without}
 use Rattle.cluster_play.proofs.Sites.{get_map, map_set, set_own}
 
 -- two things that hold at Ok
@@ -78,7 +76,7 @@ in_memory Stopped bad device = tt
 -- rows that are those of none after an opening were so before
 none_before : (p : Place) (rows rows' : Content) → may_be_marked p.id rows rows' → AreOfNone p rows' → AreOfNone p rows
 none_before p rows rows' (inl e) none = subst (AreOfNone p) e none
-none_before p rows rows' (inr e) none = absurd (none new_node (new_is_lasting (nodes_of p), λ key. ap (λ (c : Content). fin.get c key) e.1 ∙ marked_row p.id key))
+none_before p rows rows' (inr e) none = subst (AreOfNone p) (sym e.0) (none_without p)
 
 pub stays_down : (s : Site) (rows' : Content) (fault : KeeperFault) → CannotOpen fault → may_be_marked s.node.place.id s.rows rows' → (fault ≡ Rows row_faults.BadRow → AreOfNone s.node.place rows') → (fault ≡ Rows row_faults.Device → IsCounted 0 0)
     → MayStayDown s fault

@@ -3,16 +3,15 @@ use Rattle.std.proofs.Common.{◌≡◌, ℕ, length, List, ◌∷◌, ◌++◌,
 use Rattle.std.specs.List.{slice_get}
 use Rattle.std.specs.FinSet as set
 use Rattle.causal_context.specs.Dots.{Dot, Dots}
-use Rattle.replica_store.specs.States.{State}
 use Rattle.node_keeper.specs.declared.fault.KeeperFault.{KeeperFault}
 use Rattle.node_keeper.specs.Keeping.{AreOf, AreOfNone}
 use Rattle.node_rows.proofs.OneNode.{rows_tell_all}
 use Rattle.node_rows.specs.Reading.{IsLasting}
-use Rattle.node_work.specs.declared.frame.Frame.{Frame}
-use Rattle.node_work.specs.declared.frame.FrameBody.{FrameBody}
-use Rattle.node_work.specs.declared.frame.FrameBody.TheVariants.{Know}
-use Rattle.node_work.specs.declared.outcome.Output.TheVariants.{Frame as Release}
-use Rattle.node_work.specs.Acts.{Act, Carries, Out}
+use Rattle.bridge_frames.specs.declared.body.FrameBody.{FrameBody}
+use Rattle.bridge_frames.specs.declared.body.FrameBody.TheVariants.{Know}
+use Rattle.bridge_frames.specs.declared.frame.BridgeFrame.{BridgeFrame}
+use Rattle.node_work.specs.Acts.{Act, Bridge}
+use Rattle.node_work.specs.Held.Bridge.{Carries, Gave}
 use Rattle.node_work.specs.Lasting.{IsWoken, lasting}
 use Rattle.node_work.specs.View.{HeldView}
 use Rattle.cluster_play.specs.Worlds.{Site, World, Fate, Faulted, Restarted, Happens, stopped}
@@ -21,13 +20,14 @@ use Rattle.cluster_play.specs.Histories.{Reached, site, acts_of, gained, made, t
 use Rattle.cluster_play.specs.Laws.{Holds, KeepsIts, WakesFrom}
 use Rattle.cluster_play.proofs.Bools.{or_true, or_left, or_right, some_is}
 use Rattle.cluster_play.proofs.Sites.{get-set_same}
-use Rattle.cluster_play.proofs.Amid.{amid_acts, gained_both, taken_step}
-use Rattle.cluster_play.proofs.Invariant.{Seated, past, seat_lasts}
+use Rattle.cluster_play.proofs.Amid.{amid_acts, taken_step}
+use Rattle.cluster_play.proofs.Explaining.{Seated, past, seat_lasts}
 use Rattle.cluster_play.proofs.Kept.{explained}
 use Rattle.cluster_play.proofs.Lasts.{may_be_same, reopened}
 use Rattle.cluster_play.proofs.Paths.{Befell, befell}
 use Rattle.cluster_play.proofs.Rows.{Woke, came}
 use Rattle.cluster_play.proofs.Sound.{state_by}
+use Rattle.cluster_play.proofs.Splits.{gained_both}
 
 module _ (run : List Moment) (w : World) (r : Reached run w) (i : ℕ) (s : Site) (at : slice_get w.sites i ≡ Some s) where
   seat : Seated (past run) (length w.sites) i s
@@ -43,7 +43,7 @@ module _ (run : List Moment) (w : World) (r : Reached run w) (i : ℕ) (s : Site
   keeps_operations = record {
     said = lasting seat.held;
     are = (can_here, seat.rows);
-    state = state_by (made run) seat.held.store (taken i run) seat.grown.sound seat.listed;
+    state = state_by (made run) seat.held.store (taken i run) seat.holding.grown.sound seat.listed;
     listed = seat.listed;
   }
 
@@ -92,17 +92,17 @@ pub faults_leave_rows : (run : List Moment) (w w' : World) (m : Moment) → Reac
 faults_leave_rows run w w' m r h i fault is =
     faulted_site run w w' r i fault (befell w m.step (Faulted i fault) w' (subst (λ (f : Fate). Happens w m.step f w') is h))
 
-known_dots : (s : State) (dots : Dots) (b : FrameBody) → Carries s b → b ≡ Know dots → dots ≡ s.taken
-known_dots s dots b h e = subst (λ (x : FrameBody). Carries s x) e h
+known_dots : (held : HeldView) (to : ℕ) (dots : Dots) (b : FrameBody) → Carries held to b → b ≡ Know dots → dots ≡ held.store.taken
+known_dots held to dots b h e = subst (Carries held to) e h
 
 pub knows_what_is_taken : (run later : List Moment) (m : Moment) (w : World) → Reached (run ++ m ∷ later) w
-    → (before after : List Act) (f : Frame) (dots : Dots) → acts_of m.fate ≡ before ++ Out (Release f) ∷ after → f.body ≡ Know dots
+    → (before after : List Act) (f : BridgeFrame) (dots : Dots) → acts_of m.fate ≡ before ++ Bridge (Gave f) ∷ after → f.body ≡ Know dots
     → (d : Dot) → set.contains dots d ≡ true → taken (site m.fate) (run ++ m ∷ later) d ≡ true
 knows_what_is_taken run later m w r before after f dots acts is d h =
     let i = site m.fate in
-    let a = amid_acts run later m w r before after (Out (Release f)) acts in
-    let there : taken_amid i run before d ≡ true = sym (a.listed d) ∙ ap (λ ds. set.contains ds d) (sym (known_dots a.held.store dots f.body a.runs.1.0.1 is)) ∙ h in
+    let a = amid_acts run later m w r before after (Bridge (Gave f)) acts in
+    let there : taken_amid i run before d ≡ true = sym (a.listed d) ∙ ap (λ ds. set.contains ds d) (sym (known_dots a.held f.to dots f.body a.runs.1.0.carries is)) ∙ h in
     taken_step run later m d (elim (or_true (taken i run d) _ there) [
       | inl x ↦ or_left (taken i run d) _ x
-      | inr y ↦ or_right (taken i run d) _ (ap (λ xs. gained xs d) acts ∙ gained_both before (Out (Release f) ∷ after) d ∙ or_left (gained before d) (gained after d) y)
+      | inr y ↦ or_right (taken i run d) _ (ap (λ xs. gained xs d) acts ∙ gained_both before (Bridge (Gave f) ∷ after) d ∙ or_left (gained before d) (gained after d) y)
     ])

@@ -1,5 +1,5 @@
 -- What lasts of what a node holds, and its rows.
-use Rattle.std.proofs.Common.{◌≡◌, ℕ, List, Option, Some, None, option_map, refl, sym, ap, ◌∙◌, inl, inr, subst}
+use Rattle.std.proofs.Common.{◌≡◌, ◌≤◌, ◌^◌, ℕ, List, length, Option, Some, None, option_map, refl, sym, ap, ◌∙◌, inl, inr, subst}
 use Rattle.std.specs.FinMap as map
 use Rattle.mqtt_sessions.specs.Saved.{durable_of}
 use Rattle.row_store.specs.Rows.{Content, key_cmp}
@@ -7,7 +7,8 @@ use Rattle.session_rows.specs.Durable.{Durable, IsDurable}
 use Rattle.session_table.specs.Seats.{Seat}
 use Rattle.session_table.proofs.RowLaws.{durable-again}
 use Rattle.store_rows.specs.Reading.{IsUnversioned}
-use Rattle.node_keeper.specs.Keeping.{AreLasting, AreOf, marked, may_be_marked}
+use Rattle.node_bridge.specs.View.{woken_bridge}
+use Rattle.node_keeper.specs.Keeping.{AreLasting, AreOf, AreOfNone, marked, may_be_marked}
 use Rattle.node_rows.specs.Reading.{IsAmong, IsLasting, RowsTellAll}
 use Rattle.node_rows.specs.Sessions.{opened_seat}
 use Rattle.node_rows.specs.Rows.{Lasting, mark_key, node_row}
@@ -29,20 +30,22 @@ woken_lasts count x h is woken =
     let seats = woken.0 in
     let sessions : (client : List ℕ) → lasts_of (map.get seats client) ≡ x.sessions client =
     λ client. ap lasts_of (woken.1 client) ∙ again (x.sessions client) (λ d e. (is.sessions client d e).0) in
-    ap lasting woken.2 ∙ (λ i. record { named = x.named; sessions = λ client. sessions client i; store = x.store })
+    ap lasting woken.2 ∙ (λ i. record { named = x.named; sessions = λ client. sessions client i; store = x.store; lanes = x.lanes })
 
 -- ---- what can last
 seat_lasts : (h : HeldView) (client : List ℕ) (d : Durable) → CanLast h → (o : Option Seat) → map.get h.sessions client ≡ o → lasts_of o ≡ Some d → IsDurable d × (d.client ≡ client)
 seat_lasts h client d can None there is = none-some is
 seat_lasts h client d can (Some seat) there is = subst (λ (x : Durable). IsDurable x × (x.client ≡ client)) (some_is is) (can.sessions client seat there)
 
-pub is_lasting : (count : ℕ) (h : HeldView) → CanLast h → IsUnversioned h.store → IsAmong count h.store → IsLasting count (lasting h)
-is_lasting count h can unversioned among = record {
+pub is_lasting : (count : ℕ) (h : HeldView) → CanLast h → IsUnversioned h.store → IsAmong count h.store → length h.bridge.lanes ≡ count → count ≤ 2 ^ 16 → IsLasting count (lasting h)
+is_lasting count h can unversioned among long few = record {
+  few = few;
   named = can.named;
   sessions = λ client d e. seat_lasts h client d can (map.get h.sessions client) refl e;
   store = can.store;
   unversioned = unversioned;
   among = among;
+  lanes = record { count = long; sound = can.lanes.sound };
 }
 
 pub can_last : (count : ℕ) (h : HeldView) → IsLasting count (lasting h) → CanLast h
@@ -50,12 +53,17 @@ can_last count h is = record {
   named = is.named;
   sessions = λ client seat e. is.sessions client (durable_of seat.session) (ap lasts_of e);
   store = is.store;
+  lanes = record { count = refl; sound = is.lanes.sound };
 }
 
 -- ---- a node that is opened again
 -- rows that have a mark aren't none
 has_rows : (p : Place) (rows : Content) (h : HeldView) → AreOf p rows h → rows ≡ map.empty → ⊥
 has_rows p rows h are none = none-some (sym (map.get-empty {X = List ℕ} key_cmp mark_key) ∙ ap (λ (c : Content). map.get c mark_key) (sym none) ∙ are mark_key)
+
+-- no node has no rows
+pub none_without : (p : Place) → AreOfNone p map.empty
+none_without p x says = none-some (sym (map.get-empty {X = List ℕ} key_cmp mark_key) ∙ says.1 mark_key)
 
 marked_same : (p : Place) (rows rows' : Content) (h : HeldView) → AreOf p rows h → marked p.id rows rows' → rows' ≡ rows
 marked_same p rows rows' h are (inl e) = absurd (has_rows p rows h are e.0)
@@ -70,6 +78,7 @@ pub record Reopened (p : Place) (rows : Content) (h h' : HeldView) : Type 0 wher
   pub are : AreOf p rows h'
   pub lasts : CanLast h'
   pub store : h'.store ≡ h.store
+  pub bridge : h'.bridge ≡ woken_bridge h.bridge.lanes
 
 -- from the rows of what it held
 pub reopened : RowsTellAll → (p : Place) (rows rows' : Content) (h h' : HeldView) (x : Lasting) → IsLasting (nodes_of p) (lasting h) → AreOf p rows h → marked p.id rows rows'
@@ -83,4 +92,5 @@ reopened tell p rows rows' h h' x can are m says woken =
       are = λ key. says.1 key ∙ ap (λ (y : Lasting). node_row p.id y key) (sym lasts);
       lasts = can_last (nodes_of p) h' (subst (IsLasting (nodes_of p)) (sym lasts) says.0);
       store = ap (λ (y : Lasting). y.store) (lasts ∙ one);
+      bridge = ap (λ (v : HeldView). v.bridge) woken.2 ∙ ap (λ (y : Lasting). woken_bridge y.lanes) one;
     }

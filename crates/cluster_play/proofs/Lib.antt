@@ -2,9 +2,13 @@ pub mod Agreeing
 pub mod Alike
 pub mod Amid
 pub mod Bools
+pub mod Bridging
+pub mod Brought
 pub mod Catching
 pub mod Events
+pub mod Explaining
 pub mod Fresh
+pub mod Giving
 pub mod Growing
 pub mod Invariant
 pub mod Keeping
@@ -17,8 +21,9 @@ pub mod Next
 pub mod Offering
 pub mod Onward
 pub mod Operations
-pub mod Paths
+pub mod Parts
 pub mod Passing
+pub mod Paths
 pub mod Plain
 pub mod Played
 pub mod Queueing
@@ -26,5 +31,7 @@ pub mod Rows
 pub mod Showing
 pub mod Sites
 pub mod Sound
+pub mod Splits
 pub mod Tables
 pub mod Taking
+pub mod Telling

@@ -1,6 +1,7 @@
 -- The moment of a node is the greatest that it was handed since it was last opened.
 use Rattle.std.proofs.Common.{◌≡◌, max, List, [], ◌∷◌, refl, ap, ◌∙◌, arith}
-use Rattle.node_work.specs.Acts.{Act, Moment, Began, Store, Connection, Session, Out, Named, Acknowledged, Passed, Dropped, next}
+use Rattle.node_work.specs.Acts.{Act, Moment, Began, Store, Connection, Session, Bridge, Out, Named, Acknowledged, Passed, Dropped, next}
+use Rattle.node_work.specs.Held.Bridge.{BridgeAct, Put, Took, Got, Believed, Gave, Left_out, bridged}
 use Rattle.node_work.specs.Held.Connections.{ConnectionAct, Opened, Fed, Accepted, Closed, connected}
 use Rattle.node_work.specs.Held.Sessions.{SessionAct, Begun, Called, Over, called}
 use Rattle.node_work.specs.View.{Place, HeldView}
@@ -18,16 +19,25 @@ session_moment h (Begun client) = refl
 session_moment h (Called step) = refl
 session_moment h (Over client) = refl
 
+bridge_moment : (h : HeldView) (a : BridgeAct) → (bridged h a).at ≡ h.at
+bridge_moment h (Put peer m) = refl
+bridge_moment h (Took peer number m copies lost) = refl
+bridge_moment h (Got peer number) = refl
+bridge_moment h (Believed peer dots) = refl
+bridge_moment h (Gave f) = refl
+bridge_moment h (Left_out what) = refl
+
 next_moment : (h : HeldView) (a : Act) → (next h a).at ≡ max h.at (moment_in a)
 next_moment h (Moment at) = refl
 next_moment h Began = omega arith
 next_moment h (Store a) = omega arith
 next_moment h (Connection a) = connection_moment h a ∙ omega arith
 next_moment h (Session a) = session_moment h a ∙ omega arith
+next_moment h (Bridge a) = bridge_moment h a ∙ omega arith
 next_moment h (Out o) = omega arith
 next_moment h (Named number) = omega arith
 next_moment h (Acknowledged client packet at grants offers) = omega arith
-next_moment h (Passed m copies lost) = omega arith
+next_moment h (Passed m copies lost routes) = omega arith
 next_moment h Dropped = omega arith
 
 pub moves_moment : (p : Place) (moves : List Move) (h h' : HeldView) → Moves p h moves h' → h'.at ≡ moment_after h.at moves

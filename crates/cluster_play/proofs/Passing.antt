@@ -16,7 +16,7 @@ use Rattle.cluster_play.proofs.Showing.{node_holds_amid}
 pub copies_as_taken : (run later : List Moment) (m : Moment) (w : World) → Reached (run ++ m ∷ later) w → (before : List Act) (s : PassesOn m before) → MakesCopies run m before s
 copies_as_taken run later m w r before s =
     let i = site m.fate in
-    let a = Passed s.message s.copies s.lost in
+    let a = Passed s.message s.copies s.lost s.routes in
     let rest = a ∷ s.after in
     let half = midway run (m ∷ later) w r in
     let e = commits_acts m.fate before s.after a s.acts in

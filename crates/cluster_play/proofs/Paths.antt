@@ -87,7 +87,7 @@ lacks_nothing w w' (steps.Restart i) fate fault h l = none-some (sym l.1 ∙ h.1
 pub known_event : (w : World) (step : Step) (fate : Fate) (w' : World) (e : Event) → IsHonestStep w.frames step → Happens w step fate w' → event_of fate ≡ Some e → IsKnown w.frames e.kind
 known_event w (steps.Event i d) (Released j c acts outputs) w' e honest h is = subst (λ (v : Event). IsKnown w.frames v.kind) (sym h.2 ∙ some_is is) honest
 known_event w (steps.Event i d) (Lost j c acts) w' e honest h is = absurd h.2
-known_event w (steps.Deliver number at) (Released j c acts outputs) w' e honest h is = subst (λ (v : Event). IsKnown w.frames v.kind) (sym h.2.2 ∙ some_is is) (number_is w.frames number h.0 h.1)
+known_event w (steps.Deliver number at) (Released j c acts outputs) w' e honest h is = subst (λ (v : Event). IsKnown w.frames v.kind) (sym h.2.2 ∙ some_is is) (let k = number_is w.frames number h.0 h.1 in (k.0, h.0, k.1, refl))
 known_event w (steps.Deliver number at) (Lost j c acts) w' e honest h is = absurd h.2.2
 known_event w (steps.CrashBefore i d) (Released j c acts outputs) w' e honest h is = absurd h.2
 known_event w (steps.CrashBefore i d) (Lost j c acts) w' e honest h is = absurd h.2

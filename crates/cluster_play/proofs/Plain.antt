@@ -1,5 +1,5 @@
 -- Operations of a cluster of so many nodes, and what states of them name.
-use Rattle.std.proofs.Common.{◌≡◌, ℕ, ◌<◌, true, false, List, [], ◌∷◌, ◌++◌, Option, Some, None, filter, refl, sym, ap, ◌∙◌, inl, inr, subst, append_assoc}
+use Rattle.std.proofs.Common.{◌≡◌, ℕ, ◌<◌, true, false, List, [], ◌∷◌, ◌++◌, Option, Some, None, filter, sym, ap, ◌∙◌, inl, inr, subst, append_assoc}
 use Rattle.std.proofs.lemmas.List.{append-nil}
 use Rattle.std.specs.Prelude.{is_some}
 use Rattle.std.specs.FinMap as map
@@ -16,13 +16,14 @@ use Rattle.replica_store.specs.StateOf.{IsStateOf}
 use Rattle.replica_store.proofs.Unions.{among_cases}
 use Rattle.store_rows.specs.Reading.{IsUnversioned}
 use Rattle.node_rows.specs.Reading.{IsAmong}
-use Rattle.node_work.specs.Acts.{Act, Moment, Began, Store, Connection, Session, Out, Named, Acknowledged, Passed, Dropped, Made, Merged, Allowed, IsMade, Runs, gather, op_in, merge_in}
+use Rattle.node_work.specs.Acts.{Act, Moment, Began, Store, Connection, Session, Bridge, Out, Named, Acknowledged, Passed, Dropped, Made, Merged, Allowed, IsMade, Runs, gather, op_in, merge_in}
 use Rattle.node_work.specs.View.{Place, HeldView}
 use Rattle.cluster_play.specs.NextOperations.{CoversWhatStands, IsNext}
 use Rattle.cluster_play.proofs.Operations.{among_some, own_some}
 use Rattle.cluster_play.proofs.Sound.{Sound, Grown, lists}
-use Rattle.cluster_play.proofs.Growing.{AllSound, acts_grow}
+use Rattle.cluster_play.proofs.Growing.{AllSound, Holding, act_grows}
 use Rattle.cluster_play.proofs.Next.{next_operation}
+use Rattle.cluster_play.proofs.Splits.{all_front, all_weaker}
 
 -- a Subscribe is under version 0, and the stamp of a Put is a node's
 abbrev pub IsPlainly : ℕ → Operation → Type 0
@@ -74,34 +75,26 @@ op_of_act (Store (Made p)) o (inr x) = absurd x
 op_of_act (Store (Merged s)) o x = absurd x
 op_of_act (Connection c) o x = absurd x
 op_of_act (Session c) o x = absurd x
+op_of_act (Bridge b) o x = absurd x
 op_of_act (Out e) o x = absurd x
 op_of_act (Named number) o x = absurd x
 op_of_act (Acknowledged client packet at grants offers) o x = absurd x
-op_of_act (Passed m copies lost) o x = absurd x
+op_of_act (Passed m copies lost routes) o x = absurd x
 op_of_act Dropped o x = absurd x
 
-all_stay : (ms ns : List Operation) (ts : List State) → ((t : State) → Sound ms t → Sound ns t) → AllSound ms ts → AllSound ns ts
-all_stay ms ns [] f a = tt
-all_stay ms ns (t ∷ ts) f a = (f t a.0, all_stay ms ns ts f a.1)
-
-front : (ms : List Operation) (xs ys : List State) → AllSound ms (xs ++ ys) → AllSound ms xs × AllSound ms ys
-front ms [] ys a = (tt, a)
-front ms (x ∷ xs) ys a = (let r = front ms xs ys a.1 in ((a.0, r.0), r.1))
-
-pub acts_plain : (p : Place) (count : ℕ) (acts : List Act) (ms : List Operation) (h h' : HeldView) → p.id < count → Grown p.id ms h.store → Runs p h acts h' → AllSound ms (gather merge_in acts)
+pub acts_plain : (p : Place) (count : ℕ) (acts : List Act) (ms : List Operation) (h h' : HeldView) → p.id < count → Holding p.id ms h → Runs p h acts h' → AllSound ms (gather merge_in acts)
     → AllPlain count ms → AllPlain count (ms ++ gather op_in acts)
 acts_plain p count [] ms h h' low g r all plain = subst (AllPlain count) (sym (append-nil ms)) plain
 acts_plain p count (a ∷ acts) ms h h' low g r all plain =
-    let parts = front ms (merge_in a) (gather merge_in acts) all in
-    let alone : AllSound ms (gather merge_in (a ∷ [])) = subst (AllSound ms) (sym (append-nil (merge_in a))) parts.0 in
-    let grows = acts_grow p (a ∷ []) ms h r.0 g (r.0, r.1, refl) alone in
+    let parts = all_front (Sound ms) (merge_in a) (gather merge_in acts) all in
+    let grows = act_grows p ms h r.0 a g r.1 parts.0 in
     let ms' = ms ++ (op_in a ++ []) in
     let here : AllPlain count ms' = λ o x. elim (among_cases o ms (op_in a ++ []) x) [
       | inl old ↦ plain o old
       | inr new ↦ (let is = op_of_act a o (subst (Among o) (append-nil (op_in a)) new) in
-          made_plain p.id count ms h.store g low plain o (subst (Allowed p h) is r.1.0))
+          made_plain p.id count ms h.store g.grown low plain o (subst (Allowed p h) is r.1.0))
     ] in
-    let rest = acts_plain p count acts ms' r.0 h' low grows.grown r.2 (all_stay ms ms' (gather merge_in acts) grows.stays parts.1) here in
+    let rest = acts_plain p count acts ms' r.0 h' low grows.holding r.2 (all_weaker (Sound ms) (Sound ms') (gather merge_in acts) grows.stays parts.1) here in
     subst (AllPlain count) (ap (λ os. (ms ++ os) ++ gather op_in acts) (append-nil (op_in a)) ∙ append_assoc ms (op_in a) (gather op_in acts)) rest
 
 -- ---- a state of plain operations names none but nodes of the cluster, and is under version 0

@@ -23,17 +23,28 @@ use Rattle.message_copies.specs.declared.plain.PlainCopy.{PlainCopy as Copy}
 use Rattle.due_times.specs.Dues.{Due}
 use Rattle.replica_store.specs.declared.operation.Operation.{Operation}
 use Rattle.replica_store.specs.Making.{subscribe_of}
+use Rattle.replica_store.specs.States.{State}
 use Rattle.session_laws.specs.Runs.{Event, connects, queues, takes, answers, closes, ticks, finishes}
 use Rattle.session_table.specs.Calls.{stays, leaves, moves}
 use Rattle.session_table.specs.Seats.{Seat, run_outs, wills_due, ends_due, connected}
 use Rattle.session_table.proofs.Tables.{get_inserted}
 use Rattle.node_work.specs.declared.granted.Granted.{Granted}
-use Rattle.node_work.specs.declared.frame.Frame.{Frame}
-use Rattle.node_work.specs.declared.frame.FrameBody.{FrameBody}
-use Rattle.node_work.specs.declared.frame.FrameBody.TheVariants.{Delta, Know}
-use Rattle.node_work.specs.Acts.{Act, Moment, Began, Store, Connection, Session, Out, Named, Acknowledged, Passed, Dropped, Made, Merged, Runs}
-use Rattle.node_work.specs.Calling.{CallsAt, Calls, QueuesOne}
-use Rattle.node_work.specs.Doings.{TakesMoment, MakesSubscribe, MakesRemove, Removes, Sends, Disconnects}
+use Rattle.bridge_deltas.specs.declared.offer.Offer.{Offer}
+use Rattle.bridge_deltas.specs.declared.offer.Offer.TheVariants as offers
+use Rattle.bridge_frames.specs.declared.body.FrameBody.{FrameBody}
+use Rattle.bridge_frames.specs.declared.body.FrameBody.TheVariants as bodies
+use Rattle.bridge_frames.specs.declared.forward.Forward.{Forward}
+use Rattle.bridge_frames.specs.declared.frame.BridgeFrame.{BridgeFrame}
+use Rattle.bridge_frames.specs.Frames.{frame_in}
+use Rattle.message_routes.specs.declared.destinations.Route.{Route}
+use Rattle.message_routes.specs.declared.destinations.Route.TheVariants.{Nothing, Lane, TooLarge}
+use Rattle.node_bridge.specs.View.{lane_to, offer_to}
+use Rattle.node_work.specs.declared.counts.Missed.{Missed}
+use Rattle.node_work.specs.declared.counts.Missed.TheVariants.{LaneFull, BadFrame, FrameTooLarge}
+use Rattle.node_work.specs.Held.Bridge.{BridgeAct, Put as PutIn, Took, Got as GotBy, Believed, Gave, Left_out}
+use Rattle.node_work.specs.Acts.{Act, Moment, Began, Store, Connection, Session, Bridge, Out, Named, Acknowledged, Passed, Dropped, Made, Merged, Runs}
+use Rattle.node_work.specs.Calling.{CallsAt, Calls, Queues, QueuesOne}
+use Rattle.node_work.specs.Doings.{TakesMoment, MakesSubscribe, MakesRemove, Removes, Sends, Disconnects, Misses, PutsBy, Routes, RoutesBy, Gives, GivesFrame, is_small}
 use Rattle.node_work.specs.Held.Sessions.{SessionStep, Begun, Called, seat_at, takes_disconnect, will_is_due, end_is_due}
 use Rattle.node_work.specs.Held.Feeding.{cut_of}
 use Rattle.node_work.specs.Held.Connections.{Closed, Fed, Opened, is_open, client_at, first_at}
@@ -136,10 +147,11 @@ Follows Began rest = Unit {0}
 Follows (Store a) rest = Unit {0}
 Follows (Connection a) rest = Unit {0}
 Follows (Session a) rest = Unit {0}
+Follows (Bridge a) rest = Unit {0}
 Follows (Out o) rest = Unit {0}
 Follows (Named number) rest = Unit {0}
 Follows (Acknowledged client packet at grants offers) rest = BeginsWithOffers client at offers rest
-Follows (Passed m copies lost) rest = Unit {0}
+Follows (Passed m copies lost routes) rest = Unit {0}
 Follows Dropped rest = Unit {0}
 
 abbrev pub Answered : List Act → Type 0
@@ -152,11 +164,12 @@ follows_more Began xs ys f = tt
 follows_more (Store a) xs ys f = tt
 follows_more (Connection a) xs ys f = tt
 follows_more (Session a) xs ys f = tt
+follows_more (Bridge a) xs ys f = tt
 follows_more (Out o) xs ys f = tt
 follows_more (Named number) xs ys f = tt
 follows_more (Acknowledged client packet at grants offers) xs ys f =
     record { calls = f.calls; rest = f.rest ++ ys; is = ap (λ zs. zs ++ ys) f.is ∙ append_assoc f.calls f.rest ys; queued = f.queued }
-follows_more (Passed m copies lost) xs ys f = tt
+follows_more (Passed m copies lost routes) xs ys f = tt
 follows_more Dropped xs ys f = tt
 
 answered_both : (xs ys : List Act) → Answered xs → Answered ys → Answered (xs ++ ys)
@@ -293,8 +306,32 @@ queues_one x = k_then Answered answered (Calls x.client (queues x.delivery) stay
 retains : (m : Message) → Keeps Answered (passing.Retains m)
 retains m = k_if Answered answered m.retain _ _ (k_numbered Answered answered _ _ (λ p h. (tt, tt))) (k_returns Answered answered _)
 
+bridge_act : (a : Place → HeldView → BridgeAct) → Keeps Answered (Acting (λ p h. Bridge (a p h)))
+bridge_act a = k_acting Answered answered (λ p h. Bridge (a p h)) (λ p h. (tt, tt))
+
+misses : (what : Missed) → Keeps Answered (Misses what)
+misses what = bridge_act (λ p h. Left_out what)
+
+puts_by : (peer : ℕ) (m : Forward) (o : Offer) → Keeps Answered (PutsBy peer m o)
+puts_by peer m (offers.Queued n) = bridge_act (λ p h. PutIn peer m)
+puts_by peer m offers.Full = misses LaneFull
+puts_by peer m offers.AtEnd = k_stops Answered answered
+
+routes_by : (peer : ℕ) (route : Route) → Keeps Answered (RoutesBy peer route)
+routes_by peer Nothing = k_returns Answered answered _
+routes_by peer (Lane m) = k_looks Answered answered (λ p h. offer_to peer h.bridge) (PutsBy peer m) (puts_by peer m)
+routes_by peer TooLarge = misses LaneFull
+
+queues_all : (copies : List Copy) → Keeps Answered (Queues copies)
+queues_all copies = k_each Answered answered QueuesOne copies queues_one
+
 copies : (m : Message) → Keeps Answered (passing.Copies m)
-copies m = k_finds Answered answered _ _ (λ x. k_then Answered answered _ _ (k_numbered Answered answered _ _ (λ p h. (tt, tt))) (λ _. k_each Answered answered QueuesOne x.0 queues_one))
+copies m = k_finds Answered answered _ _ (λ x. k_then Answered answered _ _ (k_numbered Answered answered _ _ (λ p h. (tt, tt)))
+    (λ _. k_then Answered answered (Queues x.0) (λ _. Each Routes x.1.1) (queues_all x.0) (λ _. k_each Answered answered Routes x.1.1 (λ r. routes_by r.0 r.1))))
+
+takes_forward : (from number : ℕ) (m : Forward) → Keeps Answered (passing.TakesForward from number m)
+takes_forward from number m =
+    k_finds Answered answered _ _ (λ x. k_then Answered answered _ _ (bridge_act (λ p h. Took from number m x.0 x.1)) (λ _. queues_all x.0))
 
 passes : (m : Message) → Keeps Answered (passing.Passes m)
 passes m = k_then Answered answered _ _ (retains m) (λ _. k_looks Answered answered _ _ (λ at. k_where Answered answered (IsBefore at m.deadline) _ _ (copies m) (k_returns Answered answered _)))
@@ -546,23 +583,50 @@ starts =
     k_then Answered answered due.ClosesStored (λ _. due.DoesDue) (k_looks Answered answered (λ p h. connected h.sessions) (Each due.PartsFrom) (λ cs. k_each Answered answered due.PartsFrom cs parts_from)) (λ _. does_due))
 
 -- ---- frames
-gives : (peer : ℕ) (body : HeldView → FrameBody) → Keeps Answered (bridge.Gives peer body)
-gives peer body = k_acting Answered answered _ (λ p h. (tt, tt))
+gives_frame : (f : BridgeFrame) → Keeps Answered (GivesFrame f)
+gives_frame f = k_if Answered answered (is_small f) (Acting (λ p h. Bridge (Gave f))) (Misses FrameTooLarge) (bridge_act (λ p h. Gave f)) (misses FrameTooLarge)
+
+gives : (peer : ℕ) (body : HeldView → FrameBody) → Keeps Answered (Gives peer body)
+gives peer body = k_looks Answered answered _ GivesFrame gives_frame
+
+takes_next : (from number : ℕ) (m : Forward) → Keeps Answered (bridge.TakesNext from number m)
+takes_next from number m =
+    k_looks Answered answered _ (λ next. If next (passing.TakesForward from number m) (Returns tt))
+    (λ next. k_if Answered answered next (passing.TakesForward from number m) (Returns tt) (takes_forward from number m) (k_returns Answered answered tt))
 
 takes_body : (from : ℕ) (body : FrameBody) → Keeps Answered (bridge.Takes from body)
-takes_body from (Delta s) =
-    k_then Answered answered (Acting (λ p h. Store (Merged s))) (λ _. bridge.Gives from (λ h. Know h.store.taken)) (k_acting Answered answered (λ p h. Store (Merged s)) (λ p h. (tt, tt))) (λ _. gives from (λ h. Know h.store.taken))
-takes_body from (Know dots) = k_returns Answered answered _
+takes_body from bodies.Hello = gives from (λ h. bodies.Know h.store.taken)
+takes_body from (bodies.Delta s) =
+    k_then Answered answered (Acting (λ p h. Store (Merged s))) (λ _. bridge.TellsTaken from) (k_acting Answered answered (λ p h. Store (Merged s)) (λ p h. (tt, tt))) (λ _. gives from (λ h. bodies.Know h.store.taken))
+takes_body from (bodies.Know dots) = bridge_act (λ p h. Believed from dots)
+takes_body from (bodies.Forward number m) =
+    k_then Answered answered (bridge.TakesNext from number m) (λ _. Gives from (λ h. bodies.Got (lane_to h.bridge from).took)) (takes_next from number m) (λ _. gives from (λ h. bodies.Got (lane_to h.bridge from).took))
+takes_body from (bodies.Got number) = bridge_act (λ p h. GotBy from number)
 
-hears : (frame : Frame) → Keeps Answered (bridge.Hears frame)
-hears frame =
-    k_looks Answered answered (λ p h. is_for p frame) (λ here. If here (bridge.Takes frame.from frame.body) (Returns tt))
-    (λ here. k_if Answered answered here (bridge.Takes frame.from frame.body) (Returns tt) (takes_body frame.from frame.body) (k_returns Answered answered tt))
+hears_frame : (o : Option BridgeFrame) → Keeps Answered (bridge.HearsFrame o)
+hears_frame None = misses BadFrame
+hears_frame (Some frame) =
+    k_looks Answered answered (λ p h. is_for p frame) (λ here. If here (bridge.Takes frame.from frame.body) (Misses BadFrame))
+    (λ here. k_if Answered answered here (bridge.Takes frame.from frame.body) (Misses BadFrame) (takes_body frame.from frame.body) (misses BadFrame))
+
+greets : (peer : ℕ) → Keeps Answered (bridge.Greets peer)
+greets peer =
+    k_looks Answered answered (λ p h. is_other p peer) (λ other. If other (Gives peer (λ h. bodies.Hello)) (Returns tt))
+    (λ other. k_if Answered answered other (Gives peer (λ h. bodies.Hello)) (Returns tt) (gives peer (λ h. bodies.Hello)) (k_returns Answered answered tt))
+
+gives_state : (peer : ℕ) (s : Option State) → Keeps Answered (bridge.GivesState peer s)
+gives_state peer None = k_returns Answered answered _
+gives_state peer (Some s) = gives peer (λ h. bodies.Delta s)
+
+ships_to : (peer : ℕ) → Keeps Answered (bridge.ShipsTo peer)
+ships_to peer =
+    k_then Answered answered (bridge.ShipsState peer) (λ _. bridge.ShipsMessages peer) (k_finds Answered answered (bridge.AreShipped peer) (bridge.GivesState peer) (gives_state peer))
+    (λ _. k_looks Answered answered _ (Each GivesFrame) (λ fs. k_each Answered answered GivesFrame fs gives_frame))
 
 ships : (peer : ℕ) → Keeps Answered (bridge.Ships peer)
 ships peer =
-    k_looks Answered answered (λ p h. is_other p peer) (λ other. If other (bridge.Gives peer (λ h. Delta h.store)) (Returns tt))
-    (λ other. k_if Answered answered other (bridge.Gives peer (λ h. Delta h.store)) (Returns tt) (gives peer (λ h. Delta h.store)) (k_returns Answered answered tt))
+    k_looks Answered answered (λ p h. is_other p peer) (λ other. If other (bridge.ShipsTo peer) (Returns tt))
+    (λ other. k_if Answered answered other (bridge.ShipsTo peer) (Returns tt) (ships_to peer) (k_returns Answered answered tt))
 
 -- ---- events
 answers_kind : (kind : EventKind) → Keeps Answered (turns.Answers kind)
@@ -572,7 +636,8 @@ answers_kind (kinds.Opened c) =
     k_looks Answered answered (λ p h. is_open c h) (λ is. If is (Returns tt) opens) (λ is. k_if Answered answered is (Returns tt) opens (k_returns Answered answered tt) (k_acting Answered answered (λ p h. Connection (Opened c)) (λ p h. (tt, tt))))
 answers_kind (kinds.Piece c bytes) = k_looks Answered answered (λ p h. map.get h.connections c) (pieces.PieceAt c bytes) (piece_at c bytes)
 answers_kind (kinds.Closed c) = leaves_of c
-answers_kind (kinds.Frame frame) = hears frame
+answers_kind (kinds.Frame bytes) = hears_frame (frame_in bytes)
+answers_kind (kinds.Linked peer) = greets peer
 answers_kind (kinds.Ship peer) = ships peer
 answers_kind kinds.Tick = k_returns Answered answered _
 answers_kind (kinds.Evict client) = k_then Answered answered (Removes client None) (λ _. Returns tt) (removes client None) (λ _. k_returns Answered answered tt)
@@ -585,7 +650,8 @@ goes_on kinds.Started = k_returns Answered answered _
 goes_on (kinds.Opened c) = after_due (kinds.Opened c)
 goes_on (kinds.Piece c bytes) = after_due (kinds.Piece c bytes)
 goes_on (kinds.Closed c) = after_due (kinds.Closed c)
-goes_on (kinds.Frame frame) = after_due (kinds.Frame frame)
+goes_on (kinds.Frame bytes) = after_due (kinds.Frame bytes)
+goes_on (kinds.Linked peer) = after_due (kinds.Linked peer)
 goes_on (kinds.Ship peer) = after_due (kinds.Ship peer)
 goes_on kinds.Tick = after_due kinds.Tick
 goes_on (kinds.Evict client) = after_due (kinds.Evict client)
@@ -595,7 +661,8 @@ first_turn kinds.Started = starts
 first_turn (kinds.Opened c) = k_returns Answered answered _
 first_turn (kinds.Piece c bytes) = k_returns Answered answered _
 first_turn (kinds.Closed c) = k_returns Answered answered _
-first_turn (kinds.Frame frame) = k_returns Answered answered _
+first_turn (kinds.Frame bytes) = k_returns Answered answered _
+first_turn (kinds.Linked peer) = k_returns Answered answered _
 first_turn (kinds.Ship peer) = k_returns Answered answered _
 first_turn kinds.Tick = k_returns Answered answered _
 first_turn (kinds.Evict client) = k_returns Answered answered _

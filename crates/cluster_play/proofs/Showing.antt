@@ -10,21 +10,23 @@ use Rattle.replica_store.specs.Answers.{IsAnswer, IsAnswerOf}
 use Rattle.replica_store.specs.Operations.{dot_of, IsLive}
 use Rattle.replica_store.proofs.Answered.{answer_is}
 use Rattle.replica_store.proofs.Views.{live_is}
-use Rattle.node_work.specs.Acts.{Act, gather, op_in, merge_in}
+use Rattle.node_work.specs.Acts.{Act, gather, heard_in, op_in, merge_in}
 use Rattle.node_work.specs.View.{HeldView}
 use Rattle.cluster_play.specs.Worlds.{World, Happens}
 use Rattle.cluster_play.specs.Runs.{Moment, IsHonestStep}
 use Rattle.cluster_play.specs.Histories.{Reached, acts_of, made, taken, gained, operations, taken_amid, operations_amid}
 use Rattle.cluster_play.specs.Laws.{Holds, HoldsAmid, AnswersBy}
 use Rattle.cluster_play.proofs.Agreeing.{node_holds, own_dots}
-use Rattle.cluster_play.proofs.Amid.{gather_both, front}
+use Rattle.cluster_play.proofs.Bridging.{AreSo, IsSo}
 use Rattle.cluster_play.proofs.Growing.{AllSound}
-use Rattle.cluster_play.proofs.Invariant.{all_merged, past, site_grows}
+use Rattle.cluster_play.proofs.Brought.{all_merged, all_so, site_acts}
+use Rattle.cluster_play.proofs.Explaining.{past}
 use Rattle.cluster_play.proofs.Kept.{explained}
 use Rattle.cluster_play.proofs.Operations.{own_some}
 use Rattle.cluster_play.proofs.Paths.{known_event}
 use Rattle.cluster_play.proofs.Rows.{committed}
-use Rattle.cluster_play.proofs.Sound.{state_by}
+use Rattle.cluster_play.proofs.Sound.{Sound, state_by}
+use Rattle.cluster_play.proofs.Splits.{all_front, gather_both}
 
 pub node_shows : (run : List Moment) (w : World) → Reached run w → (i : ℕ) (h : HeldView) → Holds w i h
     → (dot : Dot) (entry : Entry) → (find_entry dot (live h.store.subscriptions) ≡ Some entry) ↔ IsLive (operations i run) dot entry
@@ -44,13 +46,16 @@ node_holds_amid run w w' m r honest happens i before mid a =
     let x = explained run w r in
     let here = x.sites i a.holds.site a.holds.at in
     let same : here.held ≡ a.held = sym (here.up a.held a.holds.up) in
-    let all = all_merged (made run) w.frames x.deltas c.was.node.place c.before c.after a.event (acts_of m.fate) c.outputs known c.steps in
-    let own_acts = front (made run) (gather merge_in before) (gather merge_in a.rest) (subst (AllSound (made run)) (ap (gather merge_in) a.acts ∙ gather_both merge_in before a.rest) all) in
-    let g = site_grows (past run) w x i a.holds.site a.holds.at a.held mid before a.holds.up a.runs own_acts in
+    let place = c.was.node.place in
+    let all = all_merged (past run) w x place c.before c.after a.event (acts_of m.fate) c.outputs known c.steps in
+    let so = all_so (past run) w x place c.before c.after a.event (acts_of m.fate) c.outputs known c.steps in
+    let own_acts = (all_front (Sound (made run)) (gather merge_in before) (gather merge_in a.rest) (subst (AllSound (made run)) (ap (gather merge_in) a.acts ∙ gather_both merge_in before a.rest) all)).0 in
+    let own_so = (all_front (IsSo (past run).took) (gather heard_in before) (gather heard_in a.rest) (subst (AreSo (past run).took) (ap (gather heard_in) a.acts ∙ gather_both heard_in before a.rest) so)).0 in
+    let g = (site_acts (past run) w x i a.holds.site a.holds.at a.held mid before a.holds.up a.runs own_acts own_so).grows in
     let listed : (d : Dot) → set.contains mid.store.taken d ≡ taken_amid i run before d =
     λ d. g.takes d ∙ ap (λ (v : HeldView). set.contains v.store.taken d || gained before d) (sym same) ∙ ap (λ b. b || gained before d) (here.listed d) in
-    let state = state_by (made run ++ gather op_in before) mid.store (taken_amid i run before) g.grown.sound listed in
+    let state = state_by (made run ++ gather op_in before) mid.store (taken_amid i run before) g.holding.grown.sound listed in
     record {
       state = state;
-      answers = answer_is (operations_amid i run before) mid.store (own_some (made run ++ gather op_in before) (λ o. taken_amid i run before (dot_of o)) g.grown.own_dots) state;
+      answers = answer_is (operations_amid i run before) mid.store (own_some (made run ++ gather op_in before) (λ o. taken_amid i run before (dot_of o)) g.holding.grown.own_dots) state;
     }

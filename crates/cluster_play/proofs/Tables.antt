@@ -1,7 +1,8 @@
 -- The tables of homes of a cluster.
-use Rattle.std.proofs.Common.{◌≡◌, ◌<◌, ◌+◌, ◌==◌, ◌&&◌, ℕ, zero, suc, Bool, true, List, [], ◌∷◌, ◌++◌, length, map, take, get_or, sym, ap, ◌∙◌, arith}
+use Rattle.std.proofs.Common.{◌≡◌, ◌<◌, ◌≤◌, ◌+◌, ◌==◌, ◌&&◌, ℕ, zero, suc, Bool, true, List, [], ◌∷◌, ◌++◌, length, map, take, get_or, sym, ap, ◌∙◌, arith}
 use Rattle.std.specs.List.{list_all}
 use Rattle.std.specs.Prelude.{nat_le}
+use Rattle.std.proofs.lemmas.Bool.Decides.{nat_tests}
 use Rattle.std.proofs.lemmas.List.{take_more, map_push}
 use Rattle.home_table.specs.Table.{Table}
 use Rattle.cluster_play.specs.Clusters.{are_tables}
@@ -19,6 +20,11 @@ fits_at tables i x all h is =
     let each = (and_true (nat_le 1 (length tables) && nat_le (length tables) 64) (list_all (λ t. length t.nodes == length tables) tables) all).1 in
     let here : (length (get_or tables i x).nodes == length tables) ≡ true = all_at (λ t. length t.nodes == length tables) tables i x each h in
     ap (λ (t : Table). length t.nodes) is ∙ nat_is (length (get_or tables i x).nodes) (length tables) here
+
+pub few_tables : (tables : List Table) → are_tables tables ≡ true → length tables ≤ 64
+few_tables tables all =
+    let few = (and_true (nat_le 1 (length tables)) (nat_le (length tables) 64) (and_true (nat_le 1 (length tables) && nat_le (length tables) 64) (list_all (λ t. length t.nodes == length tables) tables) all).0).1 in
+    grind (arith, nat_tests)
 
 -- the tables of the first nodes, and one more
 abbrev pub table_of : Site → Table

@@ -1,5 +1,5 @@
 -- What is seen of a cluster.
-use Rattle.std.specs.Prelude.{◌≡◌, ◌↔◌, ◌==◌, ◌&&◌, nat_le, List, map as map_list, ℕ, Bool, IsTrue, Option, Some, None, length, option_and_then, slice_get}
+use Rattle.std.specs.Prelude.{◌≡◌, ◌↔◌, ◌==◌, ◌&&◌, nat_le, List, map as map_list, ℕ, Bool, false, IsTrue, Option, Some, None, length, option_and_then, slice_get}
 use Rattle.std.specs.FinMap as map
 use Rattle.std.specs.List.{list_all}
 use Rattle.home_table.specs.Table.{Table}
@@ -8,6 +8,7 @@ use Rattle.subscription_set.specs.Standing.{live}
 use Rattle.replica_store.specs.Retained.{with_message}
 use Rattle.node_keeper.specs.declared.keeper.Keeper.{Keeper}
 use Rattle.node_keeper.specs.Views.{node_of, rows_of}
+use Rattle.node_work.specs.Held.Connections.{is_open}
 use Rattle.node_work.specs.View.{HeldView}
 use Rattle.row_store.specs.declared.memory.MemoryRows.{MemoryRows}
 use Rattle.cluster_play.specs.declared.cluster.Cluster.{Cluster}
@@ -40,6 +41,11 @@ held_at w i = option_and_then (λ s. s.node.up) (slice_get w.sites i)
 -- how many subscriptions are live, and how many topics have a message
 abbrev pub holdings_of : HeldView → ℕ × ℕ
 holdings_of h = (length (live h.store.subscriptions), length (with_message (map.entries h.store.retained)))
+
+-- whether a client's connection is open there
+abbrev pub is_open_at : ℕ → Option HeldView → Bool
+is_open_at c None = false
+is_open_at c (Some h) = is_open c h
 
 -- the dots that it has taken
 abbrev pub taken_of : HeldView → Dots

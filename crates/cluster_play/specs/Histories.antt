@@ -1,11 +1,11 @@
 -- What was made and taken in a run, read off its moments.
-use Rattle.std.specs.Prelude.{◌≡◌, ℕ, ◌++◌, List, [], ◌∷◌, Option, Some, None, Bool, false, cond, max, ◌&&◌, ◌||◌, nat_eq, filter, length, slice_get}
+use Rattle.std.specs.Prelude.{◌≡◌, ℕ, ◌≤◌, ◌^◌, ◌++◌, List, [], ◌∷◌, Option, Some, None, Bool, false, cond, max, ◌&&◌, ◌||◌, nat_eq, filter, length, slice_get}
 use Rattle.std.specs.FinMap as map
 use Rattle.std.specs.FinSet as set
 use Rattle.causal_context.specs.Dots.{Dot}
 use Rattle.broker_node.specs.declared.event.Event.{Event}
 use Rattle.node_work.specs.declared.outcome.Output.{Output}
-use Rattle.node_work.specs.Acts.{Act, Moment as TakesMoment, Began, Store, Connection, Session, Out, Named, Acknowledged, Passed, Dropped, Made, Merged, gather, op_in}
+use Rattle.node_work.specs.Acts.{Act, Moment as TakesMoment, Began, Store, Connection, Session, Bridge, Out, Named, Acknowledged, Passed, Dropped, Made, Merged, gather, op_in}
 use Rattle.node_work.specs.View.{opened}
 use Rattle.node_laws.specs.Moves.{Move, Did, Lost as Loses, did}
 use Rattle.node_rows.specs.Rows.{mark, mark_key}
@@ -71,10 +71,11 @@ gain_in (Store (Made o)) d = same_dot (dot_of o) d
 gain_in (Store (Merged s)) d = set.contains s.taken d
 gain_in (Connection a) d = false
 gain_in (Session a) d = false
+gain_in (Bridge a) d = false
 gain_in (Out o) d = false
 gain_in (Named number) d = false
 gain_in (Acknowledged client packet at grants offers) d = false
-gain_in (Passed m copies lost) d = false
+gain_in (Passed m copies lost routes) d = false
 gain_in Dropped d = false
 
 abbrev pub gained : List Act → Dot → Bool
@@ -108,10 +109,11 @@ moment_in Began = 0
 moment_in (Store a) = 0
 moment_in (Connection a) = 0
 moment_in (Session a) = 0
+moment_in (Bridge a) = 0
 moment_in (Out o) = 0
 moment_in (Named number) = 0
 moment_in (Acknowledged client packet at grants offers) = 0
-moment_in (Passed m copies lost) = 0
+moment_in (Passed m copies lost routes) = 0
 moment_in Dropped = 0
 
 -- what a step made of what its node holds: the acts that it committed, and at a restart the loss of what doesn't last
@@ -151,8 +153,9 @@ pub record IsNew (nodes i : ℕ) (s : Site) : Type 0 where
   pub node : s.node ≡ opened (record { id = i; homes = homes })
   pub rows : s.rows ≡ map.insert map.empty mark_key (mark i 0)
 
--- new nodes, and no frame
+-- new nodes, of which there are no more than have numbers in two bytes, and no frame
 pub record IsStart (w : World) : Type 0 where
+  pub few : length w.sites ≤ 2 ^ 16
   pub sites : (i : ℕ) (s : Site) → slice_get w.sites i ≡ Some s → IsNew (length w.sites) i s
   pub frames : w.frames ≡ []
 

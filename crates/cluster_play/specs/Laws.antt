@@ -17,18 +17,21 @@ use Rattle.replica_store.specs.StateOf.{IsStateOf}
 use Rattle.replica_store.specs.States.{State}
 use Rattle.broker_node.specs.declared.event.Event.{Event}
 use Rattle.broker_node.specs.declared.event.EventKind.TheVariants as kinds
+use Rattle.bridge_frames.specs.declared.body.FrameBody.TheVariants.{Delta, Know}
+use Rattle.bridge_frames.specs.declared.frame.BridgeFrame.{BridgeFrame}
+use Rattle.bridge_frames.specs.Frames.{HasSpelling, frame_in, spelling}
+use Rattle.message_routes.specs.declared.destinations.Route.{Route}
 use Rattle.node_work.specs.declared.frame.Frame.{Frame}
-use Rattle.node_work.specs.declared.frame.FrameBody.TheVariants.{Delta, Know}
-use Rattle.node_work.specs.declared.outcome.Output.TheVariants.{Frame as Release}
 use Rattle.node_keeper.specs.declared.fault.KeeperFault.{KeeperFault}
 use Rattle.node_keeper.specs.Keeping.{AreLasting, AreOf, AreOfNone}
 use Rattle.node_rows.specs.Reading.{IsLasting}
 use Rattle.node_rows.specs.Rows.{Lasting}
-use Rattle.node_work.specs.Acts.{Act, Store, Out, Made, Passed, Runs}
+use Rattle.node_work.specs.Acts.{Act, Store, Bridge, Made, Passed, Runs}
+use Rattle.node_work.specs.Held.Bridge.{Gave, written_frame}
 use Rattle.node_work.specs.Passing.{IsPassed}
 use Rattle.message_copies.specs.declared.plain.PlainCopy.{PlainCopy as Copy}
 use Rattle.node_work.specs.Lasting.{lasting, IsWoken}
-use Rattle.node_work.specs.View.{HeldView, fresh}
+use Rattle.node_work.specs.View.{HeldView, fresh, nodes_of}
 use Rattle.node_laws.specs.Lives.{life}
 use Rattle.node_laws.specs.Moves.{Moves}
 use Rattle.cluster_play.specs.declared.fault.PlayFault.{PlayFault}
@@ -90,10 +93,17 @@ HoldsItsOperationsAmid =
 abbrev pub OwnDots : Type 0
 OwnDots = (run : List Moment) (w : World) → Reached run w → HaveOwnDots (made run)
 
+-- each frame that was released is the spelling of one, and its bytes are read as that one
+abbrev pub FramesAreSpelled : Type 0
+FramesAreSpelled =
+    (run : List Moment) (w : World) → Reached run w → (number : ℕ) (sent : Frame) → numbered w.frames number ≡ Some sent
+    → (f : BridgeFrame) × (sent ≡ written_frame f) × HasSpelling f × (frame_in sent.bytes ≡ Some f)
+
 -- the state of a Delta frame is that of the operations whose dots it lists as taken
 abbrev pub DeltaFrames : Type 0
 DeltaFrames =
-    (run : List Moment) (w : World) → Reached run w → (number : ℕ) (f : Frame) (s : State) → numbered w.frames number ≡ Some f → f.body ≡ Delta s
+    (run : List Moment) (w : World) → Reached run w
+    → (number : ℕ) (sent : Frame) (f : BridgeFrame) (s : State) → numbered w.frames number ≡ Some sent → frame_in sent.bytes ≡ Some f → f.body ≡ Delta s
     → IsStateOf (filter (λ o. set.contains s.taken (dot_of o)) (made run)) s
 
 -- the sets of taken dots of two running nodes are equal exactly where the nodes have taken the same in the run
@@ -130,14 +140,14 @@ OperationsOfAStep =
     → IsNext (site m.fate) (operations_amid (site m.fate) run before) o × (taken (site m.fate) (run ++ m ∷ later) (dot_of o) ≡ true)
 
 -- a step gives out a Delta frame, after these of its acts
-pub record Ships (m : Moment) (before : List Act) (f : Frame) : Type 0 where
+pub record Ships (m : Moment) (before : List Act) (f : BridgeFrame) : Type 0 where
   pub after : List Act
-  pub acts : acts_of m.fate ≡ before ++ Out (Release f) ∷ after
+  pub acts : acts_of m.fate ≡ before ++ Bridge (Gave f) ∷ after
   pub state : State
   pub is_delta : f.body ≡ Delta state
 
 -- a frame comes to its receiver, which has started, in a step that commits
-pub record Arrives (w : World) (f : Frame) (m : Moment) (w' : World) : Type 0 where
+pub record Arrives (w : World) (f : BridgeFrame) (m : Moment) (w' : World) : Type 0 where
   pub held : HeldView
   pub holds : Holds w f.to held
   pub started : held.started ≡ true
@@ -145,13 +155,13 @@ pub record Arrives (w : World) (f : Frame) (m : Moment) (w' : World) : Type 0 wh
   pub at : site m.fate ≡ f.to
   pub event : Event
   pub commits : event_of m.fate ≡ Some event
-  pub brings : event.kind ≡ kinds.Frame f
+  pub brings : event.kind ≡ kinds.Frame (spelling f)
 
 -- once a Delta frame has come to its receiver, that has taken all that the sender had taken when the frame went out
 abbrev pub CatchUp : Type 0
 CatchUp =
     (run amid later : List Moment) (m arrival : Moment) (w w' : World) → Reached (run ++ m ∷ amid) w
-    → (before : List Act) (f : Frame) → Ships m before f → Arrives w f arrival w'
+    → (before : List Act) (f : BridgeFrame) → Ships m before f → Arrives w f arrival w'
     → (d : Dot) → taken_amid (site m.fate) run before d ≡ true → taken f.to ((run ++ m ∷ amid) ++ arrival ∷ later) d ≡ true
 
 -- a step of the run makes the operation of this dot at node i
@@ -174,7 +184,8 @@ pub record BringsDot (i : ℕ) (run : List Moment) (d : Dot) : Type 0 where
   pub mid : World
   pub after : World
   pub reached : Reached before mid
-  pub frame : Frame
+  pub frame : BridgeFrame
+  pub spelled : HasSpelling frame
   pub to : frame.to ≡ i
   pub arrives : Arrives mid frame m after
   pub state : State
@@ -204,7 +215,7 @@ SendAlike =
 
 -- a running node holds what the run's acts and losses lead to, from its first opening on
 abbrev pub HoldsWhatItsMovesLeave : Type 0
-HoldsWhatItsMovesLeave = (run : List Moment) (w : World) → Reached run w → (i : ℕ) (h : HeldView) (at : Holds w i h) → Moves at.site.node.place fresh (moves_at i run) h
+HoldsWhatItsMovesLeave = (run : List Moment) (w : World) → Reached run w → (i : ℕ) (h : HeldView) (at : Holds w i h) → Moves at.site.node.place (fresh (nodes_of at.site.node.place)) (moves_at i run) h
 
 -- so each of its sessions is what the calls and losses since the session last began make of a new one
 abbrev pub SessionsAreRuns : Type 0
@@ -242,7 +253,7 @@ RowsAreOfTheirNode = (run : List Moment) (w : World) → Reached run w → (i : 
 
 -- a node holds this, or held it last: the run's acts and losses lead to it, and the rows are its
 pub record HeldLast (run : List Moment) (i : ℕ) (s : Site) (h : HeldView) : Type 0 where
-  pub moves : Moves s.node.place fresh (moves_at i run) h
+  pub moves : Moves s.node.place (fresh (nodes_of s.node.place)) (moves_at i run) h
   pub rows : AreOf s.node.place s.rows h
   pub up : (g : HeldView) → s.node.up ≡ Some g → g ≡ h
 
@@ -269,16 +280,17 @@ FaultsLeaveRows =
 abbrev pub KnowsWhatIsTaken : Type 0
 KnowsWhatIsTaken =
     (run later : List Moment) (m : Moment) (w : World) → Reached (run ++ m ∷ later) w
-    → (before after : List Act) (f : Frame) (dots : Dots) → acts_of m.fate ≡ before ++ Out (Release f) ∷ after → f.body ≡ Know dots
+    → (before after : List Act) (f : BridgeFrame) (dots : Dots) → acts_of m.fate ≡ before ++ Bridge (Gave f) ∷ after → f.body ≡ Know dots
     → (d : Dot) → set.contains dots d ≡ true → taken (site m.fate) (run ++ m ∷ later) d ≡ true
 
--- a step passes a message on after these of its acts: it makes these copies, and so many picks are lost
+-- a step passes a message on after these of its acts: it makes these copies, so many picks are lost, and this goes to other nodes
 pub record PassesOn (m : Moment) (before : List Act) : Type 0 where
   pub message : Message
   pub copies : List Copy
   pub lost : ℕ
+  pub routes : List (ℕ × Route)
   pub after : List Act
-  pub acts : acts_of m.fate ≡ before ++ Passed message copies lost ∷ after
+  pub acts : acts_of m.fate ≡ before ++ Passed message copies lost routes ∷ after
 
 -- the copies are those of the message for what the node holds there, at its place: its turn, its sessions, and the live
 -- subscriptions, which are those of the operations that it has taken until then
@@ -287,7 +299,7 @@ pub record MakesCopies (run : List Moment) (m : Moment) (before : List Act) (s :
   pub reached : Reached run world
   pub held : HeldView
   pub there : HoldsAmid world m (site m.fate) before held
-  pub made : IsPassed there.holds.site.node.place held s.message s.copies s.lost
+  pub made : IsPassed there.holds.site.node.place held s.message s.copies s.lost s.routes
   pub live : (dot : Dot) (entry : Entry) → (find_entry dot (live held.store.subscriptions) ≡ Some entry) ↔ IsLive (operations_amid (site m.fate) run before) dot entry
 
 -- a message that is passed on makes exactly these copies

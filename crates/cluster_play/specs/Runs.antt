@@ -1,6 +1,5 @@
 -- A run: the steps that were played, each with what it came to.
 use Rattle.std.specs.Prelude.{◌≡◌, ℕ, ◌+◌, ◌++◌, List, [], ◌∷◌, Some, flat_map, length, slice_get}
-use Rattle.node_work.specs.Names.{kind_of}
 use Rattle.broker_node.specs.declared.event.EventKind.{EventKind}
 use Rattle.broker_node.specs.declared.event.EventKind.TheVariants as kinds
 use Rattle.node_work.specs.declared.frame.Frame.{Frame}
@@ -48,7 +47,7 @@ client_lines i outputs = flat_map (client_line i) outputs
 -- frames under their numbers, of which so many are given
 abbrev pub frame_lines : ℕ → List Frame → List Line
 frame_lines given [] = []
-frame_lines given (f ∷ fs) = lines.Frame (given + 1) f.from f.to (kind_of f.body) ∷ frame_lines (given + 1) fs
+frame_lines given (f ∷ fs) = lines.Frame (given + 1) f.from f.to f.kind ∷ frame_lines (given + 1) fs
 
 -- the lines of a step, where so many frames were released before it
 abbrev pub lines_of : ℕ → Fate → List Line
@@ -70,7 +69,8 @@ IsKnown sent kinds.Started = Unit {0}
 IsKnown sent (kinds.Opened connection) = Unit {0}
 IsKnown sent (kinds.Piece connection bytes) = Unit {0}
 IsKnown sent (kinds.Closed connection) = Unit {0}
-IsKnown sent (kinds.Frame frame) = (n : ℕ) × (slice_get sent n ≡ Some frame)
+IsKnown sent (kinds.Frame bytes) = (n : ℕ) × (frame : Frame) × (slice_get sent n ≡ Some frame) × (bytes ≡ frame.bytes)
+IsKnown sent (kinds.Linked peer) = Unit {0}
 IsKnown sent (kinds.Ship peer) = Unit {0}
 IsKnown sent kinds.Tick = Unit {0}
 IsKnown sent (kinds.Evict client) = Unit {0}
@@ -81,7 +81,8 @@ BringsNone kinds.Started = Unit {0}
 BringsNone (kinds.Opened connection) = Unit {0}
 BringsNone (kinds.Piece connection bytes) = Unit {0}
 BringsNone (kinds.Closed connection) = Unit {0}
-BringsNone (kinds.Frame frame) = ⊥
+BringsNone (kinds.Frame bytes) = ⊥
+BringsNone (kinds.Linked peer) = Unit {0}
 BringsNone (kinds.Ship peer) = Unit {0}
 BringsNone kinds.Tick = Unit {0}
 BringsNone (kinds.Evict client) = Unit {0}

@@ -149,7 +149,7 @@ Befalls w i Of fate w' = (s : Site) × (slice_get w.sites i ≡ Some s) × Of s 
 
 -- the event that a frame is to its receiver
 abbrev pub arrival : Frame → ℕ → Event
-arrival frame at = record { at = at; kind = kinds.Frame frame }
+arrival frame at = record { at = at; kind = kinds.Frame frame.bytes }
 
 -- what may happen at a step
 abbrev pub Happens : World → Step → Fate → World → Type 0

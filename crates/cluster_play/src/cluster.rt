@@ -2,7 +2,7 @@
 
 ghost use Rattle.std.specs.Prelude.{◌≡◌, ◌<◌, ◌==◌, [], true, false, length, Some, Err, IfOk, IfErr, IsOk, OnOk, ◌⊎◌, option_map, option_copied, vec_len};
 ghost use Rattle.std.specs.List.{list_all};
-ghost use Rattle.cluster_play.specs.Clusters.{world, homes_of, are_tables, is_spent, held_at, holdings_of, taken_of, IsSameTaken};
+ghost use Rattle.cluster_play.specs.Clusters.{world, homes_of, are_tables, is_spent, held_at, holdings_of, is_open_at, taken_of, IsSameTaken};
 ghost use Rattle.cluster_play.specs.Histories.{IsStart};
 ghost use Rattle.cluster_play.specs.Playing.{IsPlayed, IsRefused, IsDoneAt, IsDoneStep, RunsOut};
 ghost use Rattle.cluster_play.specs.Worlds.{Lacks, LacksNode, OfCrashAfter, OfCrashBefore, OfEvent, OfRestart, numbered};
@@ -154,17 +154,17 @@ impl Cluster {
             ⊎ (Lacks (world self.old) (steps.Deliver number at) f × (self.new ≡ self.old))) }
         ensures spent { is_spent self.new ≡ is_spent self.old }
     {
-        let Some(found) = self.frame(number) else {
+        let Some(frame) = self.released(number) else {
             return Err(PlayFault::UnknownFrame);
         };
-        let frame = found.copy()?;
         let node = frame.to;
         if node as usize >= self.nodes.len() {
             return Err(PlayFault::UnknownNode);
         }
+        let bytes = frame.bytes.copy(self.alloc)?;
         let event = Event {
             at,
-            kind: EventKind::Frame { frame },
+            kind: EventKind::Frame { bytes },
         };
         self.event(node, &event, lines)
     }
@@ -278,8 +278,26 @@ impl Cluster {
         Some(first.same(second))
     }
 
+    /// Whether a client's connection is open at a node. None is where it is down, or where there is none of that number.
+    pub fn is_open(&self, node: u16, connection: u64) -> bool
+        ensures { result ≡ is_open_at connection (held_at (world self.now) node) }
+    {
+        match self.nodes.get(node as usize) {
+            Some(keeper) => keeper.node().is_up() && keeper.node().is_open(connection),
+            None => false,
+        }
+    }
+
+    /// The bytes of a released frame, by its number.
+    pub fn frame(&self, number: u64) -> Option<&[u8]>
+        ensures { option_copied result ≡ option_map (λ f. f.bytes) (numbered (world self.now).frames number) }
+    {
+        let frame = self.released(number)?;
+        Some(frame.bytes.as_slice())
+    }
+
     /// A released frame, by its number.
-    pub fn frame(&self, number: u64) -> Option<&Frame>
+    fn released(&self, number: u64) -> Option<&Frame>
         ensures { option_copied result ≡ numbered (world self.now).frames number }
     {
         if number == 0 {

@@ -1,5 +1,5 @@
 //! What holds in every run of a cluster. Each function does nothing: its contract is the law.
-ghost use Rattle.cluster_play.specs.Laws.{HoldsItsOperations, LiveIsOfItsOperations, AnswerIsOfItsOperations, HoldsItsOperationsAmid, OwnDots, DeltaFrames, SameTaken, AgreeWhereTheyTookTheSame, AnswerAlike, OperationsOfAStep, CatchUp, TakesWhatItMakesOrIsBrought, AnswersAsSent, SendAlike, CopiesAsTaken, HoldsWhatItsMovesLeave, SessionsAreRuns, SessionsAreRunsAmid, RowsAreOfWhatIsHeld, RowsKeepItsOperations, RowsAreOfTheirNode, RestartsWithWhatLasts, FaultsLeaveRows, KnowsWhatIsTaken, FramesStay, LacksNothing, RunsCompose, StartIsReached, RunsGoOn, FramelessStepsAreHonest, PlayedIsReached};
+ghost use Rattle.cluster_play.specs.Laws.{HoldsItsOperations, LiveIsOfItsOperations, AnswerIsOfItsOperations, HoldsItsOperationsAmid, OwnDots, DeltaFrames, FramesAreSpelled, SameTaken, AgreeWhereTheyTookTheSame, AnswerAlike, OperationsOfAStep, CatchUp, TakesWhatItMakesOrIsBrought, AnswersAsSent, SendAlike, CopiesAsTaken, HoldsWhatItsMovesLeave, SessionsAreRuns, SessionsAreRunsAmid, RowsAreOfWhatIsHeld, RowsKeepItsOperations, RowsAreOfTheirNode, RestartsWithWhatLasts, FaultsLeaveRows, KnowsWhatIsTaken, FramesStay, LacksNothing, RunsCompose, StartIsReached, RunsGoOn, FramelessStepsAreHonest, PlayedIsReached};
 
 /// Each running node holds the state of the operations that it has taken, no dot has two
 /// operations, and what a Delta frame carries is the state of the operations that it lists.
@@ -7,6 +7,11 @@ pub fn nodes_hold_their_operations()
     ensures nodes { HoldsItsOperations }
     ensures dots { OwnDots }
     ensures frames { DeltaFrames }
+{}
+
+/// Each frame that was released is the spelling of one frame, as which its bytes are read again.
+pub fn frames_are_spelled()
+    ensures { FramesAreSpelled }
 {}
 
 /// What a running node shows is what its operations say: which subscriptions are live, and with which

@@ -94,7 +94,7 @@ fn number_frame(
         number: frames.len() as u64 + 1,
         from: frame.from,
         to: frame.to,
-        kind: frame.kind(),
+        kind: frame.kind,
     };
     frames.push(frame)?;
     note(lines, line)

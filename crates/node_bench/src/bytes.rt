@@ -73,6 +73,22 @@ pub fn subscribe(alloc: Global, rest: &[u8]) -> Result<Vec<u8>, Failure> {
     packet(alloc, 0x82, rest)
 }
 
+/// The PUBACK of a copy with QoS 1, whose topic has one byte.
+pub fn puback(copy: &[u8]) -> Result<[u8; 4], Failure> {
+    if copy.len() < 7 {
+        return Err(Failure::Answer);
+    }
+    Ok([0x40, 2, copy[5], copy[6]])
+}
+
+/// PUBLISH with QoS 0 and RETAIN of `x` to a topic.
+pub fn retain(alloc: Global, topic: &str) -> Result<Vec<u8>, Failure> {
+    let mut rest = Vec::new(alloc);
+    push_text(&mut rest, topic)?;
+    rest.extend_from_slice(&[0, 0x78])?;
+    packet(alloc, 0x31, &rest)
+}
+
 /// PUBLISH with QoS 0 of nothing to a topic.
 pub fn publish(alloc: Global, topic: &str) -> Result<Vec<u8>, Failure> {
     let mut rest = Vec::new(alloc);

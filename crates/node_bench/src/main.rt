@@ -1,12 +1,14 @@
 //! How fast a node and a session are, on the machine it runs on: one line for each figure of the parts that are named as
-//! arguments (`idle`, `passing`, `session`, `subscriptions`).
+//! arguments (`idle`, `lanes`, `passing`, `session`, `ships`, `subscriptions`).
 #![tactic(auto)]
 
 mod bytes;
 mod idle;
+mod lanes;
 mod passing;
 mod server;
 mod sessions;
+mod ships;
 mod subscriptions;
 
 use bench_clock::Failure;
@@ -16,8 +18,10 @@ use std::process::ExitCode;
 fn run(rt: &HostRuntime, part: &str) -> Result<(), Failure> {
     match part {
         "idle" => idle::run(rt),
+        "lanes" => lanes::run(rt),
         "passing" => passing::run(rt),
         "session" => sessions::run(rt),
+        "ships" => ships::run(rt),
         "subscriptions" => subscriptions::run(rt),
         _ => Err(Failure::Part),
     }

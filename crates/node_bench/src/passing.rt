@@ -1,6 +1,6 @@
 //! How many messages with QoS 1 a node passes on, each of them acknowledged on both sides.
 
-use crate::bytes::PUBLISH_1;
+use crate::bytes::{PUBLISH_1, puback};
 use crate::server::{Server, sent};
 use bench_clock::{Failure, Stopwatch, ensure};
 use broker_node::Outcome;
@@ -21,14 +21,6 @@ fn pair(alloc: Global) -> Result<Server, Failure> {
     server.connect(SUBSCRIBER)?;
     server.subscribe(SUBSCRIBER, "t", 1)?;
     Ok(server)
-}
-
-// The PUBACK of a copy: its identifier comes after a topic of one byte.
-fn puback(copy: &[u8]) -> Result<[u8; 4], Failure> {
-    if copy.len() < 7 {
-        return Err(Failure::Answer);
-    }
-    Ok([0x40, 2, copy[5], copy[6]])
 }
 
 // The PUBACK of the copy that went out with another packet.

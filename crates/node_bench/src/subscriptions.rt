@@ -58,7 +58,8 @@ fn subscribe(alloc: Global, server: &mut Server, client: u64, packet: u64) -> Re
     server.subscribe_all(client, &rest)
 }
 
-fn join(alloc: Global, server: &mut Server, client: u64) -> Result<(), Failure> {
+/// A client connects and subscribes to 1,000 filters of its own.
+pub fn join(alloc: Global, server: &mut Server, client: u64) -> Result<(), Failure> {
     server.connect(client)?;
     for packet in 0..PACKETS {
         subscribe(alloc, server, client, packet)?;

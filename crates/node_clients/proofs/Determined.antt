@@ -1,9 +1,11 @@
 -- Work is determined by what a node holds, in its place: what it comes to, and its acts.
-use Rattle.std.proofs.Common.{◌≡◌, ℕ, ◌<◌, ◌^◌, Bool, true, false, cond, List, [], ◌∷◌, ◌++◌, map as map_list, length, Option, Some, None, inl, inr, refl, sym, ap, subst, ◌∙◌}
+use Rattle.std.proofs.Common.{◌≡◌, ℕ, ◌+◌, ◌<◌, ◌^◌, Bool, true, false, cond, List, [], ◌∷◌, ◌++◌, map as map_list, length, Option, Some, None, inl, inr, refl, sym, ap, subst, ◌∙◌}
 use Rattle.std.specs.FinMap as map
 use Rattle.std.proofs.lemmas.Bool.{cases_order}
+use Rattle.bridge_frames.specs.declared.forward.Forward.{Forward}
+use Rattle.bridge_frames.specs.declared.pick.Pick.{Pick}
 use Rattle.home_table.specs.Homes.{IsHome}
-use Rattle.home_table.specs.Table.{IsTable}
+use Rattle.home_table.specs.Table.{IsTable, Table}
 use Rattle.home_table.proofs.HomeLaws.{home_alone}
 use Rattle.message_copies.specs.declared.plain.PlainCopy.{PlainCopy as Copy}
 use Rattle.message_copies.specs.declared.groups.GroupPick.{GroupPick}
@@ -12,6 +14,11 @@ use Rattle.message_copies.specs.Deliveries.{offer_of}
 use Rattle.message_copies.specs.Gathered.{by_client, by_group}
 use Rattle.message_copies.specs.Picks.{ArePicks, IsSharedFor, pick_of, picked}
 use Rattle.message_copies.proofs.Selecting.{selected_once}
+use Rattle.message_routes.specs.declared.destinations.HomedPick.{HomedPick}
+use Rattle.message_routes.specs.declared.destinations.Route.{Route}
+use Rattle.message_routes.specs.Routes.{IsHomeOf, Pairwise, is_at, picks_at, route_of}
+use Rattle.message_routes.specs.Routes as sent
+use Rattle.message_routes.specs.Taken.{IsPicked, IsPickedCopy, copy_by}
 use Rattle.mqtt_message.specs.declared.delivery.Delivery.{Delivery}
 use Rattle.mqtt_message.specs.declared.message.Message.{Message}
 use Rattle.replica_store.specs.declared.kept.Kept.{Kept}
@@ -25,13 +32,14 @@ use Rattle.node_work.specs.declared.granted.Asked.{Asked}
 use Rattle.node_work.specs.declared.granted.Granted.{Granted}
 use Rattle.node_work.specs.Acts.{Act, Session, Runs}
 use Rattle.node_work.specs.Calling.{CallsAt, Calls}
+use Rattle.node_work.specs.Handed.{AreHanded, IsHanded, found, gone}
 use Rattle.node_work.specs.Held.Sessions.{Called, has_session}
 use Rattle.node_work.specs.Offers.{IsOffered, AreOffered}
-use Rattle.node_work.specs.Passing.{IsHomed, IsPassed, pick_copy, seated, unseated}
+use Rattle.node_work.specs.Passing.{AreRoutes, IsHomed, IsPassed, others, pick_copy, seated, unseated}
 use Rattle.node_work.specs.View.{Place, HeldView}
 use Rattle.node_work.specs.Working.{Doing, Returns, Stops, Acting, Numbered, Looks, Finds, If, Where, Then, InTurn, Each}
 use Rattle.node_clients.specs.Naming.{IsNextNumber, automatic}
-use Rattle.node_clients.specs.Passing.{AreMade}
+use Rattle.node_clients.specs.Passing.{AreMade, IsHandedOver}
 use Rattle.node_clients.specs.Subscribing.{AreOffers}
 
 -- it comes to one thing, by one list of acts
@@ -130,17 +138,71 @@ picks_once turn live m xs ys a b = a.2 ∙ ap (λ es. flat_map (λ g. pick_of m 
 homed_once : (p : Place) (picks : List GroupPick) (xs ys : List Copy) → IsHomed p picks xs → IsHomed p picks ys → xs ≡ ys
 homed_once p picks xs ys a b = a.2 ∙ ap (map_list pick_copy) (selected_once (λ (x : GroupPick). IsHome p.homes x.client p.id) picks a.0 b.0 a.1 b.1) ∙ sym b.2
 
-passed_once : (p : Place) (h : HeldView) (m : Message) (xs ys : List Copy) (j k : ℕ) → IsPassed p h m xs j → IsPassed p h m ys k → (xs ≡ ys) × (j ≡ k)
-passed_once p h m xs ys j k a b =
+-- what is paired with a list, place by place
+pairs_once : {A B : Type 0} (P : A → B → Type 0) → ((x : A) (y z : B) → P x y → P x z → y ≡ z) → (xs : List A) (ys zs : List B) → Pairwise P xs ys → Pairwise P xs zs → ys ≡ zs
+pairs_once P one [] [] [] a b = refl
+pairs_once P one [] [] (z ∷ zs) a b = absurd b
+pairs_once P one [] (y ∷ ys) zs a b = absurd a
+pairs_once P one (x ∷ xs) [] zs a b = absurd a
+pairs_once P one (x ∷ xs) (y ∷ ys) [] a b = absurd b
+pairs_once P one (x ∷ xs) (y ∷ ys) (z ∷ zs) a b = λ i. one x y z a.0 b.0 i ∷ pairs_once P one xs ys zs a.1 b.1 i
+
+-- where the clients of copies and picks are at home, and what goes there
+module _ (t : Table) (sound : IsTable t) where
+  homes_once : (plain : List Copy) (xs ys : List ℕ) → Pairwise (IsHomeOf t) plain xs → Pairwise (IsHomeOf t) plain ys → xs ≡ ys
+  homes_once plain xs ys a b = pairs_once (IsHomeOf t) (λ x y z. home_alone t x.client y z sound) plain xs ys a b
+
+  homed_pick_once : (x : GroupPick) (y z : HomedPick) → sent.IsHomed t x y → sent.IsHomed t x z → y ≡ z
+  homed_pick_once x y z a b = let home = home_alone t x.client y.home z.home sound a.1 b.1 in λ i. record { pick = (a.0 ∙ sym b.0) i; home = home i }
+
+  homed_picks_once : (picks : List GroupPick) (xs ys : List HomedPick) → Pairwise (sent.IsHomed t) picks xs → Pairwise (sent.IsHomed t) picks ys → xs ≡ ys
+  homed_picks_once picks xs ys a b = pairs_once (sent.IsHomed t) homed_pick_once picks xs ys a b
+
+routes_once : (p : Place) (plain : List Copy) (picks : List GroupPick) (m : Message) (xs ys : List (ℕ × Route)) → IsTable p.homes → AreRoutes p plain picks m xs → AreRoutes p plain picks m ys → xs ≡ ys
+routes_once p plain picks m xs ys sound a b =
+    let homes = homes_once p.homes sound plain a.0.homes.items b.0.homes.items a.1.0 b.1.0 in
+    let at = homed_picks_once p.homes sound picks a.0.picks.items b.0.picks.items a.1.1 b.1.1 in
+    a.2 ∙ (λ i. map_list (λ peer. (peer, route_of (record { plain = is_at peer (homes i); picks = picks_at peer (at i); message = m }))) (others p)) ∙ sym b.2
+
+passed_once : (p : Place) (h : HeldView) (m : Message) (xs ys : List Copy) (j k : ℕ) (rs ss : List (ℕ × Route)) → IsTable p.homes → IsPassed p h m xs j rs → IsPassed p h m ys k ss → (xs ≡ ys) × (j ≡ k) × (rs ≡ ss)
+passed_once p h m xs ys j k rs ss sound a b =
     let plain : a.plain ≡ b.plain = copies_once (live h.store.subscriptions) m a.plain b.plain a.are_copies b.are_copies in
     let picks : a.picks ≡ b.picks = picks_once h.turn (live h.store.subscriptions) m a.picks b.picks a.are_picks b.are_picks in
-    let homed : a.homed ≡ b.homed = homed_once p b.picks a.homed b.homed (subst (λ ps. IsHomed p ps a.homed) picks a.are_here) b.are_here in (
+    let homed : a.homed ≡ b.homed = homed_once p b.picks a.homed b.homed (subst (λ ps. IsHomed p ps a.homed) picks a.are_here) b.are_here in
+    let routes : AreRoutes p b.plain b.picks m rs = subst (λ cs. AreRoutes p cs b.picks m rs) plain (subst (λ ps. AreRoutes p a.plain ps m rs) picks a.routes_are) in (
       a.copies_are ∙ (λ i. seated h (plain i) ++ seated h (homed i)) ∙ sym b.copies_are,
       a.lost_are ∙ ap (λ cs. length (unseated h cs)) homed ∙ sym b.lost_are,
+      routes_once p b.plain b.picks m rs ss sound routes b.routes_are,
     )
 
 pub copies_alone : (m : Message) → IsAlone (AreMade m)
-copies_alone m p h x y sound a b = let same = passed_once p h m x.0 y.0 x.1 y.1 a b in λ i. (same.0 i, same.1 i)
+copies_alone m p h x y sound a b = let same = passed_once p h m x.0 y.0 x.1.0 y.1.0 x.1.1 y.1.1 sound a b in λ i. (same.0 i, (same.1 i, same.2 i))
+
+-- the copies of a message from another node
+plain_once : (plain : Bool) (live : Entries) (m : Message) (xs ys : List Copy) → cond plain (AreCopies live m xs) (xs ≡ []) → cond plain (AreCopies live m ys) (ys ≡ []) → xs ≡ ys
+plain_once true live m xs ys a b = copies_once live m xs ys a b
+plain_once false live m xs ys a b = a ∙ sym b
+
+picked_once : (live : Entries) (m : Message) (p : Pick) (x y : Option Copy) → IsPickedCopy live m p x → IsPickedCopy live m p y → x ≡ y
+picked_once live m p x y a b = a.2 ∙ ap (copy_by m p) (selected_once (IsPicked m p) (entries_in live) a.0 b.0 a.1 b.1) ∙ sym b.2
+
+are_handed_once : (h : HeldView) (m : Forward) (xs ys : List Copy) (j k : ℕ) → AreHanded h m xs j → AreHanded h m ys k → (xs ≡ ys) × (j ≡ k)
+are_handed_once h m xs ys j k a b =
+    let own = live h.store.subscriptions in
+    let plain : a.plain ≡ b.plain = plain_once m.plain own m.message a.plain b.plain a.are_copies b.are_copies in
+    let picked : a.picked ≡ b.picked = pairs_once (IsPickedCopy own m.message) (picked_once own m.message) m.picks a.picked b.picked a.are_picked b.are_picked in (
+      a.copies_are ∙ (λ i. seated h (plain i) ++ seated h (found (picked i))) ∙ sym b.copies_are,
+      a.lost_are ∙ ap (λ cs. gone cs + length (unseated h (found cs))) picked ∙ sym b.lost_are,
+    )
+
+handed_once : (h : HeldView) (m : Forward) (xs ys : List Copy) (j k : ℕ) → IsHanded h m xs j → IsHanded h m ys k → (xs ≡ ys) × (j ≡ k)
+handed_once h m xs ys j k (inl a) (inl b) = are_handed_once h m xs ys j k a.1 b.1
+handed_once h m xs ys j k (inl a) (inr b) = absurd (b.0 a.0)
+handed_once h m xs ys j k (inr a) (inl b) = absurd (a.0 b.0)
+handed_once h m xs ys j k (inr a) (inr b) = (a.1 ∙ sym b.1, a.2 ∙ sym b.2)
+
+pub handed_alone : (m : Forward) → IsAlone (IsHandedOver m)
+handed_alone m p h x y sound a b = let same = handed_once h m x.0 y.0 x.1 y.1 a b in λ i. (same.0 i, same.1 i)
 
 -- the home of a client
 pub home_is_alone : (client : List ℕ) → IsAlone (λ p h node. IsHome p.homes client node)

@@ -17,17 +17,25 @@ use Rattle.mqtt_sessions.specs.Answers.{disconnect, fits}
 use Rattle.mqtt_sessions.specs.Reaction.{Reaction}
 use Rattle.mqtt_sessions.specs.State.{limit_in}
 use Rattle.mqtt_topics.specs.Topics.{IsFilter}
+use Rattle.bridge_deltas.specs.declared.offer.Offer.{Offer}
+use Rattle.bridge_deltas.specs.declared.offer.Offer.TheVariants as offers
+use Rattle.bridge_frames.specs.declared.forward.Forward.{Forward}
 use Rattle.home_table.specs.Homes.{IsHome}
 use Rattle.message_copies.specs.declared.plain.PlainCopy.{PlainCopy as Copy}
+use Rattle.message_routes.specs.declared.destinations.Route.{Route}
+use Rattle.message_routes.specs.declared.destinations.Route.TheVariants as routes
 use Rattle.mqtt_message.specs.Expiry.{IsBefore}
 use Rattle.replica_store.specs.Making.{put_of, subscribe_of}
 use Rattle.session_laws.specs.Runs.{answers, closes, connects, finishes, queues, takes, ticks}
 use Rattle.session_table.specs.Calls.{leaves, moves, stays}
 use Rattle.node_work.specs.declared.granted.Granted.{Granted}
 use Rattle.node_work.specs.declared.outcome.Output.TheVariants.{Send, Close}
-use Rattle.node_work.specs.Acts.{Acknowledged, Connection, Dropped, Made, Named, Out, Passed, Session, Store}
+use Rattle.node_work.specs.Acts.{Acknowledged, Bridge, Connection, Dropped, Made as MadeAct, Named, Out, Passed, Session, Store}
 use Rattle.node_work.specs.Calling.{Calls, Queues, QueuesOne}
-use Rattle.node_work.specs.Doings.{Disconnects, MakesPut, MakesRemove, MakesSubscribe, Removes, Sends}
+use Rattle.node_work.specs.declared.counts.Missed.{Missed}
+use Rattle.node_work.specs.declared.counts.Missed.TheVariants.{LaneFull}
+use Rattle.node_work.specs.Doings.{Disconnects, MakesPut, MakesRemove, MakesSubscribe, Misses, PutsBy, Removes, Routes, RoutesBy, Sends}
+use Rattle.node_work.specs.Held.Bridge.{Left_out, Put, Took}
 use Rattle.node_work.specs.Held.Connections.{Accepted, Closed, Fed, client_at}
 use Rattle.node_work.specs.Held.Feeding.{cut_of}
 use Rattle.node_work.specs.Held.Making.{number_at_end, put_at_end, removal}
@@ -35,18 +43,18 @@ use Rattle.node_work.specs.Held.Sessions.{Begun, Over}
 use Rattle.node_work.specs.Packets.{refused_packet}
 use Rattle.node_work.specs.Passing.{content_of, turn_at_end}
 use Rattle.node_work.specs.View.{ConnectionView}
-use Rattle.node_work.specs.Working.{Returns, Looks, Finds, Then}
+use Rattle.node_work.specs.Working.{Each, Returns, Looks, Finds, Then}
 use Rattle.node_clients.specs.Connecting.{Accepts, AcceptsAs, Begins, Cleans, ComesHome, Connects, ConnectsAt, ConnectsBy, Joins, JoinsBy, Names, NamesBy, Refers, Refuses, SendsIf, TakesOver, TakesOverFrom, WillIsNamed, refusal}
 use Rattle.node_clients.specs.Ending.{Closes, ClosesAfter, ClosesBy, ClosesFor, DoesDueOf, EndsSession, Finishes, Follows, Parts, PassesAsked, Ticks, TicksIf}
 use Rattle.node_clients.specs.Naming.{IsNextNumber}
-use Rattle.node_clients.specs.Passing.{AreMade, Copies, CopiesAt, Drops, MakesCopies, Passes, PassesWill, Retains}
+use Rattle.node_clients.specs.Passing.{AreMade, Copies, CopiesAt, Drops, IsHandedOver, Made, MakesCopies, Passes, PassesWill, Retains, TakesCopies, TakesForward}
 use Rattle.node_clients.specs.Pieces.{Answers, AnswersBy, AnswersIfOpen, Breaks, BreaksBy, BreaksIfOpen, Feeds, First, Leaves, LeavesBy, PartsBy, Piece, PieceAt, SendsDisconnect, SendsRefusal, Shuts, Takes, TellsBy, connack_code, disconnect_code}
 use Rattle.node_clients.specs.Serving.{DoesAsked, DoesReaction, Serves, ServesIn, SubscribesBy, UnsubscribesBy, is_dropped}
 use Rattle.node_clients.specs.Subscribing.{AreOffers, Grants, GrantsBy, Offers, OffersAfter, OffersEach, OffersOne, Subscribes, entry_of, granted, identifier_of, reasons_of, refused}
 use Rattle.node_clients.specs.Subscribing as subscribing
 use Rattle.node_clients.specs.Unsubscribing.{Unsubscribed, Unsubscribes}
 use Rattle.node_clients.specs.Unsubscribing as unsubscribing
-use Rattle.node_clients.proofs.Determined.{Determined, returns_determined, stops_determined, acting_determined, numbered_determined, looks_determined, finds_determined, if_determined, where_determined, then_determined, in_turn_determined, each_determined, calls_determined, copies_alone, home_is_alone, number_alone, offers_alone}
+use Rattle.node_clients.proofs.Determined.{Determined, returns_determined, stops_determined, acting_determined, numbered_determined, looks_determined, finds_determined, if_determined, where_determined, then_determined, in_turn_determined, each_determined, calls_determined, copies_alone, handed_alone, home_is_alone, number_alone, offers_alone}
 
 -- ---- of one act or two
 
@@ -61,21 +69,38 @@ pub removes_determined : (client : List ℕ) (to : Option (List ℕ)) → Determ
 removes_determined client to =
     looks_determined _ _
     (λ stands. if_determined stands (Then (MakesRemove client to) (λ _. Returns true)) (Returns false)
-    (then_determined (MakesRemove client to) (λ _. Returns true) (numbered_determined (λ p h. number_at_end p.id h) (λ p h. Store (Made (removal p.id client to h.store)))) (λ _. returns_determined true)) (returns_determined false))
+    (then_determined (MakesRemove client to) (λ _. Returns true) (numbered_determined (λ p h. number_at_end p.id h) (λ p h. Store (MadeAct (removal p.id client to h.store)))) (λ _. returns_determined true)) (returns_determined false))
 
 -- ---- messages
 
 retains_determined : (m : Message) → Determined (Retains m)
 retains_determined m =
     if_determined m.retain (MakesPut (content_of m)) (Returns tt)
-    (numbered_determined (λ p h. put_at_end p.id h) (λ p h. Store (Made (put_of p.id (content_of m) h.store)))) (returns_determined tt)
+    (numbered_determined (λ p h. put_at_end p.id h) (λ p h. Store (MadeAct (put_of p.id (content_of m) h.store)))) (returns_determined tt)
 
 queues_one_determined : (x : Copy) → Determined (QueuesOne x)
 queues_one_determined x = then_determined _ _ (calls_determined x.client (queues x.delivery) stays) (λ _. returns_determined tt)
 
-makes_copies_determined : (m : Message) (x : List Copy × ℕ) → Determined (MakesCopies m x)
+queues_determined : (copies : List Copy) → Determined (Queues copies)
+queues_determined copies = each_determined QueuesOne queues_one_determined copies
+
+pub misses_determined : (what : Missed) → Determined (Misses what)
+misses_determined what = acting_determined (λ p h. Bridge (Left_out what))
+
+puts_by_determined : (peer : ℕ) (m : Forward) (offer : Offer) → Determined (PutsBy peer m offer)
+puts_by_determined peer m (offers.Queued n) = acting_determined (λ p h. Bridge (Put peer m))
+puts_by_determined peer m offers.Full = misses_determined LaneFull
+puts_by_determined peer m offers.AtEnd = stops_determined
+
+routes_by_determined : (peer : ℕ) (route : Route) → Determined (RoutesBy peer route)
+routes_by_determined peer routes.Nothing = returns_determined tt
+routes_by_determined peer (routes.Lane m) = looks_determined _ (PutsBy peer m) (puts_by_determined peer m)
+routes_by_determined peer routes.TooLarge = misses_determined LaneFull
+
+makes_copies_determined : (m : Message) (x : Made) → Determined (MakesCopies m x)
 makes_copies_determined m x =
-    then_determined _ (λ _. Queues x.0) (numbered_determined turn_at_end (λ p h. Passed m x.0 x.1)) (λ _. each_determined QueuesOne queues_one_determined x.0)
+    then_determined _ (λ _. Then (Queues x.0) (λ _. Each Routes x.1.1)) (numbered_determined turn_at_end (λ p h. Passed m x.0 x.1.0 x.1.1))
+    (λ _. then_determined (Queues x.0) (λ _. Each Routes x.1.1) (queues_determined x.0) (λ _. each_determined Routes (λ y. routes_by_determined y.0 y.1) x.1.1))
 
 copies_at_determined : (m : Message) (at : ℕ) → Determined (CopiesAt m at)
 copies_at_determined m at =
@@ -89,6 +114,12 @@ drops_determined = acting_determined (λ p h. Dropped)
 
 passes_will_determined : (m : Message) → Determined (PassesWill m)
 passes_will_determined m = looks_determined _ _ (λ lacks. if_determined lacks Drops (Passes m) drops_determined (passes_determined m))
+
+takes_copies_determined : (from number : ℕ) (m : Forward) (x : List Copy × ℕ) → Determined (TakesCopies from number m x)
+takes_copies_determined from number m x = then_determined _ (λ _. Queues x.0) (acting_determined (λ p h. Bridge (Took from number m x.0 x.1))) (λ _. queues_determined x.0)
+
+pub takes_forward_determined : (from number : ℕ) (m : Forward) → Determined (TakesForward from number m)
+takes_forward_determined from number m = finds_determined (IsHandedOver m) (TakesCopies from number m) (handed_alone m) (takes_copies_determined from number m)
 
 -- ---- how sessions and connections end
 
@@ -143,7 +174,7 @@ grants_by_determined client identifier f stood =
     let g = granted f (identifiers_of identifier) stood in
     looks_determined _ _
     (λ full. if_determined full (Returns (refused 151)) (Then (MakesSubscribe entry) (λ _. Returns g)) (returns_determined (refused 151))
-    (then_determined (MakesSubscribe entry) (λ _. Returns g) (numbered_determined (λ p h. number_at_end p.id h) (λ p h. Store (Made (subscribe_of p.id entry h.store)))) (λ _. returns_determined g)))
+    (then_determined (MakesSubscribe entry) (λ _. Returns g) (numbered_determined (λ p h. number_at_end p.id h) (λ p h. Store (MadeAct (subscribe_of p.id entry h.store)))) (λ _. returns_determined g)))
 
 grants_determined : (client : List ℕ) (identifier : ℕ) (f : SubscribeFilter) → Determined (Grants client identifier f)
 grants_determined client identifier f =

@@ -3,6 +3,9 @@ pub mod Copying
 pub mod Determined
 pub mod DeterminedClients
 pub mod Feeding
+pub mod Handing
+pub mod Homes
 pub mod Offering
 pub mod Parting
+pub mod Routing
 pub mod Wills

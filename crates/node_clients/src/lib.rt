@@ -1,6 +1,7 @@
 //! How a node answers its clients: their streams and packets, and how connections and sessions end.
 #![tactic(auto)]
 
+mod arriving;
 mod connect;
 mod ending;
 mod naming;
@@ -12,5 +13,6 @@ mod stream_fault;
 mod subscribe;
 mod unsubscribe;
 
+pub use arriving::take_forward;
 pub use ending::{close, tick};
 pub use piece::{leave, take_piece};

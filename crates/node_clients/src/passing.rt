@@ -1,14 +1,17 @@
 //! How a message is passed on.
 
-ghost use Rattle.std.specs.Prelude.{◌≡◌, ◌+◌, ◌++◌, ◌↔◌, length, IfOk, IfErr, IsTrue};
-ghost use Rattle.node_clients.specs.Passing.{Copies, CopiesAt, Passes, PassesWill, Retains, lacks_room};
+ghost use Rattle.std.specs.Prelude.{◌≡◌, ◌⊎◌, ◌+◌, ◌++◌, ◌↔◌, [], length, IfOk, IfErr, IsTrue};
+ghost use Rattle.message_routes.specs.Routes.{AreFor};
+ghost use Rattle.node_clients.specs.Passing.{Copies, CopiesAt, Passes, PassesWill, Retains, lacks_room, route_to, routes_to};
 ghost use Rattle.node_work.specs.Calling.{Queues, QueuesOne};
-ghost use Rattle.node_work.specs.Passing.{IsHomed, IsPassed, content_of, pick_copy, seated, unseated};
-ghost use Rattle.node_work.specs.Working.{Comes, Looks};
+ghost use Rattle.node_work.specs.Doings.{Routes};
+ghost use Rattle.node_work.specs.Passing.{IsHomed, IsPassed, content_of, others, pick_copy, seated, unseated};
+ghost use Rattle.node_work.specs.Working.{Comes, Each, Looks};
 ghost use Rattle.node_work.specs.declared.fault.NodeFault.TheVariants.{NoMemory};
 ghost use Rattle.home_table.specs.Homes.{IsHome};
 
 use message_copies::{GroupPick, PlainCopy, copies, picks};
+use message_routes::Destinations;
 use mqtt_fields::Text;
 use mqtt_message::{Message, SharedMessage};
 use node_work::{Held, NodeFault, Work};
@@ -18,11 +21,12 @@ use std::alloc::Global;
 /// At most as many topics are held.
 const TOPICS_HELD: usize = 100_000;
 
-/// The copies of a message for sessions here, and how many picks have none.
+/// What is made of a message: the copies for sessions here, how many picks have none, and where it goes to other nodes.
 #[derive(Drop)]
 struct Made {
     copies: Vec<PlainCopy>,
     lost: u64,
+    to: Destinations,
 }
 
 /// Passes a message on: with RETAIN it is put into the store, and until its deadline each session that it is for gets a copy.
@@ -68,17 +72,44 @@ fn pass_alive(work: &mut Work, message: &SharedMessage) -> Result<(), NodeFault>
     }
 }
 
-/// Makes a message's copies, which join their sessions one by one.
+/// Makes a message's copies, which join their sessions one by one, and hands it to the other nodes that it is for.
 fn pass_copies(work: &mut Work, message: &SharedMessage) -> Result<(), NodeFault>
     ensures { Comes (λ x. x) result work.old work.new (Copies message.now) }
 {
-    let made = copies_for(work, message)?;
-    work.pass(made.lost)?;
-    queue_each(work, made.copies)
+    let made = made_of(work, message)?;
+    let Made { copies, lost, to } = made;
+    work.pass(lost)?;
+    queue_each(work, copies)?;
+    route_each(work, message, &to)
+}
+
+/// What goes to the other nodes joins their lanes.
+fn route_each(work: &mut Work, message: &SharedMessage, to: &Destinations) -> Result<(), NodeFault>
+    ensures { Comes (λ x. x) result work.old work.new (Each Routes (routes_to work.old.place message.now to.now)) }
+{
+    for peer in 0..work.homes().nodes() {
+        if peer != work.id() {
+            route_one(work, peer, message, to)?;
+        }
+    }
+    Ok(())
+}
+
+/// What goes to a node joins its lane.
+fn route_one(
+    work: &mut Work,
+    peer: u16,
+    message: &SharedMessage,
+    to: &Destinations,
+) -> Result<(), NodeFault>
+    ensures { Comes (λ x. x) result work.old work.new (Routes (route_to message.now to.now peer)) }
+{
+    let route = to.route(work.alloc(), peer, message)?;
+    work.route(peer, route)
 }
 
 /// The copies join their sessions.
-fn queue_each(work: &mut Work, copies: Vec<PlainCopy>) -> Result<(), NodeFault>
+pub(crate) fn queue_each(work: &mut Work, copies: Vec<PlainCopy>) -> Result<(), NodeFault>
     ensures { Comes (λ x. x) result work.old work.new (Queues copies.items) }
 {
     for copy in copies {
@@ -96,25 +127,53 @@ fn queue_one(work: &mut Work, copy: PlainCopy) -> Result<(), NodeFault>
     Ok(())
 }
 
-/// The copies of a message for sessions here.
-fn copies_for(work: &Work, message: &SharedMessage) -> Result<Made, NodeFault>
-    ensures ok { IfOk result (λ made. IsPassed work.now.place work.now.held message.now made.copies.items made.lost) }
+/// What is made of a message.
+fn made_of(work: &Work, message: &SharedMessage) -> Result<Made, NodeFault>
+    ensures ok { IfOk result (λ made.
+        IsPassed work.now.place work.now.held message.now made.copies.items made.lost (routes_to work.now.place message.now made.to)) }
     ensures fault { IfErr result (λ e. e ≡ NoMemory) }
 {
     let held = work.held();
     let subscriptions = held.store().subscriptions();
     let plain = copies(work.alloc(), subscriptions, message)?;
     let picks = picks(work.alloc(), subscriptions, message, held.turn())?;
+    let to = destinations_of(work, &plain, &picks)?;
     let homed = homed_of(work, picks)?;
     let count = homed.len();
     let homed = seated(held, homed);
     let lost = (count - homed.len()) as u64;
     let copies = joined(seated(held, plain), homed)?;
-    Ok(Made { copies, lost })
+    Ok(Made { copies, lost, to })
+}
+
+/// Where the clients of copies and picks are at home, where the cluster has another node.
+fn destinations_of(
+    work: &Work,
+    plain: &[PlainCopy],
+    picks: &[GroupPick],
+) -> Result<Destinations, NodeFault>
+    ensures ok { IfOk result (λ to. (others work.now.place ≡ []) ⊎ AreFor work.now.place.homes plain.now picks.now to) }
+    ensures fault { IfErr result (λ e. e ≡ NoMemory) }
+{
+    if is_alone(work) {
+        return Ok(Destinations {
+            homes: Vec::new(work.alloc()),
+            picks: Vec::new(work.alloc()),
+        });
+    }
+    Ok(Destinations::of(work.alloc(), work.homes(), plain, picks)?)
+}
+
+/// Whether the cluster has no other node.
+#[tactic(auto, using(crate::proofs::Routing::alone))]
+fn is_alone(work: &Work) -> bool
+    ensures { IsTrue result → others work.now.place ≡ [] }
+{
+    work.homes().nodes() == 1 && work.id() == 0
 }
 
 /// Those for clients that have a session here.
-fn seated(held: &Held, mut copies: Vec<PlainCopy>) -> Vec<PlainCopy>
+pub(crate) fn seated(held: &Held, mut copies: Vec<PlainCopy>) -> Vec<PlainCopy>
     ensures seated { result.items ≡ seated held.now copies.items }
     ensures others { length result.items + length (unseated held.now copies.items) ≡ length copies.items }
 {
@@ -123,7 +182,10 @@ fn seated(held: &Held, mut copies: Vec<PlainCopy>) -> Vec<PlainCopy>
 }
 
 /// One list after the other.
-fn joined(first: Vec<PlainCopy>, then: Vec<PlainCopy>) -> Result<Vec<PlainCopy>, NodeFault>
+pub(crate) fn joined(
+    first: Vec<PlainCopy>,
+    then: Vec<PlainCopy>,
+) -> Result<Vec<PlainCopy>, NodeFault>
     ensures ok { IfOk result (λ both. both.items ≡ first.items ++ then.items) }
     ensures fault { IfErr result (λ e. e ≡ NoMemory) }
 {

@@ -31,7 +31,7 @@ lasts_again nodes x h can is =
     let same : (client : List ℕ) → option_map (λ (s : Seat). durable_of s.session) (map.get is.0 client) ≡ x.sessions client =
     λ client. ap (option_map (λ (s : Seat). durable_of s.session)) (is.1 client) ∙ again (x.sessions client) (λ d at. (can.sessions client d at).0)
     in
-    ap lasting is.2 ∙ (λ i. record { named = x.named; sessions = λ client. same client i; store = x.store })
+    ap lasting is.2 ∙ (λ i. record { named = x.named; sessions = λ client. same client i; store = x.store; lanes = x.lanes })
 
 pub kept_again : (p : Place) (c : Content) (n : NodeView) → IsReopened p c n → AreKept n c
 kept_again p c n r h up key =

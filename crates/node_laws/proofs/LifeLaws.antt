@@ -9,12 +9,13 @@ use Rattle.session_laws.specs.Runs.{Step, Reacts, Run}
 use Rattle.session_laws.proofs.ReopenedLaws.{reopens}
 use Rattle.session_table.specs.Seats.{Seat, Seats, begun}
 use Rattle.session_table.proofs.Tables.{same_text, get_inserted, get_apart, get_removed, get_left}
-use Rattle.node_work.specs.Acts.{Act, Moment, Began, Store, Connection, Session, Out, Named, Acknowledged, Passed, Dropped, Allowed, next}
+use Rattle.node_work.specs.Acts.{Act, Moment, Began, Store, Connection, Session, Bridge, Out, Named, Acknowledged, Passed, Dropped, Allowed, next}
 use Rattle.node_work.specs.Held.Connections.{ConnectionAct, Opened, Fed, Accepted, Closed}
+use Rattle.node_work.specs.Held.Bridge.{BridgeAct, Put, Took, Got, Believed, Gave, Left_out, bridged}
 use Rattle.node_work.specs.Held.Sessions.{SessionAct, SessionStep, Begun, Called, Over, MayCall, called}
 use Rattle.node_work.specs.Lasting.{lasting, IsWoken}
 use Rattle.node_rows.specs.Sessions.{opened_seat}
-use Rattle.node_work.specs.View.{Place, HeldView, fresh}
+use Rattle.node_work.specs.View.{Place, HeldView, fresh, nodes_of}
 use Rattle.node_laws.specs.Moves.{Move, Did, Lost, Becomes, Moves}
 use Rattle.node_laws.specs.Lives.{is_client, step_in, after_call, after_act, lost_step, after_move, life, IsLived, MovesAreLives, FreshIsLived, SessionsAreRuns}
 
@@ -64,16 +65,25 @@ lived_connection h (Fed c piece) lives lived = lived
 lived_connection h (Accepted c client) lives lived = lived
 lived_connection h (Closed c) lives lived = lived
 
+lived_bridge : (h : HeldView) (a : BridgeAct) (lives : List ℕ → List Step) → IsLived lives h → IsLived lives (bridged h a)
+lived_bridge h (Put peer m) lives lived = lived
+lived_bridge h (Took peer number m copies lost) lives lived = lived
+lived_bridge h (Got peer number) lives lived = lived
+lived_bridge h (Believed peer dots) lives lived = lived
+lived_bridge h (Gave f) lives lived = lived
+lived_bridge h (Left_out what) lives lived = lived
+
 pub lived_act : (p : Place) (h : HeldView) (a : Act) (lives : List ℕ → List Step) → Allowed p h a → IsLived lives h → IsLived (λ client. after_act client a (lives client)) (next h a)
 lived_act p h (Moment at) lives may lived = lived
 lived_act p h Began lives may lived = lived
 lived_act p h (Store a) lives may lived = lived
 lived_act p h (Connection a) lives may lived = lived_connection h a lives lived
 lived_act p h (Session a) lives may lived = lived_call h a lives may lived
+lived_act p h (Bridge a) lives may lived = lived_bridge h a lives lived
 lived_act p h (Out o) lives may lived = lived
 lived_act p h (Named number) lives may lived = lived
 lived_act p h (Acknowledged client packet at grants offers) lives may lived = lived
-lived_act p h (Passed m copies lost) lives may lived = lived
+lived_act p h (Passed m copies lost routes) lives may lived = lived
 lived_act p h Dropped lives may lived = lived
 
 -- each session that is there after a loss was there before
@@ -101,7 +111,7 @@ moves_are_lives = λ p h h' moves lives all lived. go p moves h h' lives all liv
         go p moves all.0 h' (λ client. after_move client m (lives client)) all.2 (lived_move p h m all.0 lives all.1 lived)
 
 pub fresh_is_lived : FreshIsLived
-fresh_is_lived = λ client seat is. absurd (no_seat seat (sym (map.get-empty {X = Seat} (slice_cmp nat_cmp) client) ∙ is))
+fresh_is_lived = λ nodes client seat is. absurd (no_seat seat (sym (map.get-empty {X = Seat} (slice_cmp nat_cmp) client) ∙ is))
 
 pub sessions_are_runs : SessionsAreRuns
-sessions_are_runs = λ p h moves all. moves_are_lives p fresh h moves (λ client. []) all fresh_is_lived
+sessions_are_runs = λ p h moves all. moves_are_lives p (fresh (nodes_of p)) h moves (λ client. []) all (fresh_is_lived (nodes_of p))

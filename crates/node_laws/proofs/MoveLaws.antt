@@ -24,7 +24,7 @@ acts_are_moves = λ p h h' acts runs. go p acts h h' runs
 woken_one : (x : Lasting) (a b : HeldView) → IsWoken x a → IsWoken x b → a ≡ b
 woken_one x a b r q =
     let seats : r.0 ≡ q.0 = map.same_map nat_list_cmp_total alike _ _ (λ client. r.1 client ∙ sym (q.1 client)) in
-    r.2 ∙ ap (λ (s : Seats). woken x.named s x.store) seats ∙ sym q.2
+    r.2 ∙ ap (λ (s : Seats). woken x.named s x.store x.lanes) seats ∙ sym q.2
 
 pub moves_lead_to_one : MovesLeadToOne
 moves_lead_to_one = λ p h a b moves r q. go p moves h a b r q

@@ -1,6 +1,7 @@
 -- What a node holds amid its acts.
 use Rattle.std.specs.Prelude.{ℕ, List, ◌∷◌, ◌++◌}
 use Rattle.message_copies.specs.declared.plain.PlainCopy.{PlainCopy as Copy}
+use Rattle.message_routes.specs.declared.destinations.Route.{Route}
 use Rattle.mqtt_message.specs.declared.delivery.Delivery.{Delivery}
 use Rattle.mqtt_message.specs.declared.message.Message.{Message}
 use Rattle.node_work.specs.declared.granted.Granted.{Granted}
@@ -10,8 +11,8 @@ use Rattle.node_work.specs.View.{Place, HeldView}
 
 abbrev pub PassedAreCopies : Type 0
 PassedAreCopies =
-    (p : Place) (h h' : HeldView) (before after : List Act) (m : Message) (copies : List Copy) (lost : ℕ) → Runs p h (before ++ Passed m copies lost ∷ after) h'
-    → (mid : HeldView) × Runs p h before mid × IsPassed p mid m copies lost
+    (p : Place) (h h' : HeldView) (before after : List Act) (m : Message) (copies : List Copy) (lost : ℕ) (routes : List (ℕ × Route))
+    → Runs p h (before ++ Passed m copies lost routes ∷ after) h' → (mid : HeldView) × Runs p h before mid × IsPassed p mid m copies lost routes
 
 abbrev pub AcknowledgedAreAnswers : Type 0
 AcknowledgedAreAnswers =

@@ -7,9 +7,9 @@ use Rattle.mqtt_sessions.specs.Reaction.{nothing}
 use Rattle.mqtt_sessions.specs.State.{new_session}
 use Rattle.session_laws.specs.Runs.{Step, Run, loses}
 use Rattle.session_table.specs.Seats.{Seat}
-use Rattle.node_work.specs.Acts.{Act, Moment, Began, Store, Connection, Session, Out, Named, Acknowledged, Passed, Dropped}
+use Rattle.node_work.specs.Acts.{Act, Moment, Began, Store, Connection, Session, Bridge, Out, Named, Acknowledged, Passed, Dropped}
 use Rattle.node_work.specs.Held.Sessions.{SessionAct, SessionStep, Begun, Called, Over}
-use Rattle.node_work.specs.View.{Place, HeldView, fresh}
+use Rattle.node_work.specs.View.{Place, HeldView, fresh, nodes_of}
 use Rattle.node_laws.specs.Moves.{Move, Did, Lost, Moves}
 
 -- clients are told apart by the bytes of their identifiers
@@ -32,10 +32,11 @@ after_act client Began given = given
 after_act client (Store a) given = given
 after_act client (Connection a) given = given
 after_act client (Session a) given = after_call client a given
+after_act client (Bridge a) given = given
 after_act client (Out o) given = given
 after_act client (Named number) given = given
 after_act client (Acknowledged other packet at grants offers) given = given
-after_act client (Passed m copies lost) given = given
+after_act client (Passed m copies lost routes) given = given
 after_act client Dropped given = given
 
 -- a session that a node holds again after a loss is made of what was kept: it did nothing (MQTT 5.0, 4.1)
@@ -59,9 +60,9 @@ abbrev pub MovesAreLives : Type 0
 MovesAreLives = (p : Place) (h h' : HeldView) (moves : List Move) (lives : List ℕ → List Step) → Moves p h moves h' → IsLived lives h → IsLived (λ client. life client moves (lives client)) h'
 
 abbrev pub FreshIsLived : Type 0
-FreshIsLived = IsLived (λ client. []) fresh
+FreshIsLived = (nodes : ℕ) → IsLived (λ client. []) (fresh nodes)
 
 abbrev pub SessionsAreRuns : Type 0
 SessionsAreRuns =
-    (p : Place) (h : HeldView) (moves : List Move) → Moves p fresh moves h → (client : List ℕ) (seat : Seat) → map.get h.sessions client ≡ Some seat
+    (p : Place) (h : HeldView) (moves : List Move) → Moves p (fresh (nodes_of p)) moves h → (client : List ℕ) (seat : Seat) → map.get h.sessions client ≡ Some seat
     → Run (new_session client) (life client moves []) seat.session

@@ -31,10 +31,13 @@ all_last P (x ∷ es) e all one = (all.0, all_last P es e all.1 one)
 pub all_taken : (P : Plain → Type 0) (rs : List Row) (i : ℕ) (r : Row) → i < length rs → r ≡ get_or rs i r → AllByRecursion P (map entry_of (take i rs)) → P (entry_of r) → AllByRecursion P (map entry_of (take (i + 1) rs))
 all_taken P rs i r lt at all one = subst (AllByRecursion P) (sym (taken_more rs i r lt at)) (all_last P (map entry_of (take i rs)) (entry_of r) all one)
 
-pub drop_sorted : (rs : List Row) (i : ℕ) → T (is_sorted key_cmp (map entry_of rs)) → T (is_sorted key_cmp (map entry_of (drop i rs)))
+drop_sorted : (rs : List Row) (i : ℕ) → T (is_sorted key_cmp (map entry_of rs)) → T (is_sorted key_cmp (map entry_of (drop i rs)))
 drop_sorted rs zero up = up
 drop_sorted [] (suc i) up = tt
 drop_sorted (r ∷ rs) (suc i) up = drop_sorted rs i (sorted_tail (entry_of r) (map entry_of rs) up)
+
+pub later_sorted : (rs later : List Row) (i : ℕ) → later ≡ drop i rs → T (is_sorted key_cmp (map entry_of rs)) → T (is_sorted key_cmp (map entry_of later))
+later_sorted rs later i is up = subst (λ (ls : List Row). T (is_sorted key_cmp (map entry_of ls))) (sym is) (drop_sorted rs i up)
 
 pub kinds_above : (kind : ℕ) (rs : List Row) (i : ℕ) (r : Row) → T (is_sorted key_cmp (map entry_of rs)) → i < length rs → r ≡ get_or rs i r → kind < (get_or rs i r).kind → AllByRecursion (λ e. kind < e.0.0) (map entry_of (drop i rs))
 kinds_above kind rs i r up lt at higher =

@@ -1,10 +1,12 @@
 -- The rows of a node cut by kind.
-use Rattle.std.proofs.Common.{◌≡◌, ◌≢◌, inl, inr, ℕ, ◌≤◌, Bool, false, cond, T, List, [], ◌∷◌, ◌++◌, Option, Some, None, arith, refl, sym, ap, subst, ◌∙◌}
-use Rattle.std.specs.Prelude.{◌==◌}
+use Rattle.std.proofs.Common.{◌≡◌, ◌≢◌, inl, inr, ℕ, ◌<◌, ◌≤◌, Bool, false, cond, T, List, [], ◌∷◌, ◌++◌, Option, Some, None, arith, refl, sym, ap, subst, ◌∙◌}
+use Rattle.std.specs.Prelude.{◌==◌, if◌then◌else◌}
 use Rattle.std.specs.FinMap.{find, is_sorted}
 use Rattle.std.specs.List.{AllByRecursion}
 use Rattle.std.proofs.lemmas.Bool.{cases_eq, ne_eqb}
 use Rattle.row_store.specs.Rows.{Key, key_cmp}
+use Rattle.lane_rows.specs.Changes.{is_lane_kind}
+use Rattle.lane_rows.specs.Rows as lane_rows
 use Rattle.replica_store.specs.States.{State}
 use Rattle.session_rows.specs.Durable.{Durable}
 use Rattle.store_rows.specs.Rows.{row_at}
@@ -26,11 +28,24 @@ own_kind id x q two = rw two refl
 pub copy_kind : (id : ℕ) (x : Lasting) (q : Key) → q.0 ≡ 3 → node_row id x q ≡ session_row (x.sessions q.1.0) q
 copy_kind id x q three = rw three refl
 
-pub state_row : (id : ℕ) (x : Lasting) (q : Key) → q.0 ≢ 1 → q.0 ≢ 2 → q.0 ≢ 3 → node_row id x q ≡ row_at x.store q
-state_row id x q one two three = rw (other_kind q 1 one, other_kind q 2 two, other_kind q 3 three) refl
+-- the rows of the other kinds: those of the lanes and those of the state
+abbrev pub last_row : Lasting → Key → Option (List ℕ)
+last_row x q = if is_lane_kind q.0 then lane_rows.row_at x.lanes q else row_at x.store q
 
-pub no_state_row : (s : State) (q : Key) → q.0 ≤ 3 → row_at s q ≡ None
-no_state_row s q low = rw (other_kind q 4 (λ e. absurd (omega (arith, e, low))), other_kind q 5 (λ e. absurd (omega (arith, e, low))), other_kind q 6 (λ e. absurd (omega (arith, e, low)))) refl
+pub other_row : (id : ℕ) (x : Lasting) (q : Key) → q.0 ≢ 1 → q.0 ≢ 2 → q.0 ≢ 3 → node_row id x q ≡ last_row x q
+other_row id x q one two three = rw (other_kind q 1 one, other_kind q 2 two, other_kind q 3 three) refl
+
+no_state_row : (s : State) (q : Key) → q.0 ≢ 4 → q.0 ≢ 5 → q.0 ≢ 6 → row_at s q ≡ None
+no_state_row s q four five six = rw (other_kind q 4 four, other_kind q 5 five, other_kind q 6 six) refl
+
+pub no_high_row : (s : State) (q : Key) → 6 < q.0 → row_at s q ≡ None
+no_high_row s q high = no_state_row s q (λ e. absurd (omega (arith, e, high))) (λ e. absurd (omega (arith, e, high))) (λ e. absurd (omega (arith, e, high)))
+
+pub no_low_row : (s : State) (q : Key) → q.0 ≤ 3 → row_at s q ≡ None
+no_low_row s q low = no_state_row s q (λ e. absurd (omega (arith, e, low))) (λ e. absurd (omega (arith, e, low))) (λ e. absurd (omega (arith, e, low)))
+
+pub no_last_row : (x : Lasting) (q : Key) → q.0 ≤ 3 → last_row x q ≡ None
+no_last_row x q low = rw (other_kind q 7 (λ e. absurd (omega (arith, e, low))), other_kind q 8 (λ e. absurd (omega (arith, e, low)))) (no_low_row x.store q low)
 
 -- what is found in four parts
 abbrev pub among : Bool → List ℕ → Option (List ℕ) → Option (List ℕ) → Option (List ℕ) → Option (List ℕ)
@@ -58,7 +73,7 @@ find_cut q first own copies others =
 
 -- ---- parts that say it
 module _ (id : ℕ) (x : Lasting) (first : Plain) (own copies others : List Plain) (ds : List Durable) (is : first ≡ (mark_key, mark id x.named)) (up : T (is_sorted key_cmp own)) (are : AreSessions own copies ds)
-    (there : (client : List ℕ) → x.sessions client ≡ session_at ds client) (rest : (q : Key) → find key_cmp q others ≡ row_at x.store q) where
+    (there : (client : List ℕ) → x.sessions client ≡ session_at ds client) (rest : (q : Key) → find key_cmp q others ≡ last_row x q) where
   own_two : AllByRecursion (λ e. e.0.0 ≡ 2) own
   own_two = subst (AllByRecursion (λ (e : Plain). e.0.0 ≡ 2)) are.own_are (are_own ds)
 
@@ -80,7 +95,7 @@ module _ (id : ℕ) (x : Lasting) (first : Plain) (own copies others : List Plai
       (λ i. either (find key_cmp q (sym are.own_are i)) (find key_cmp q (sym are.copies_are i))) ∙ found q ds (clients_apart ds rise) ∙ ap (λ (o : Option Durable). session_row o q) (sym (there q.1.0))
 
   none_left : (q : Key) → q.0 ≤ 3 → find key_cmp q others ≡ None
-  none_left q low = rest q ∙ no_state_row x.store q low
+  none_left q low = rest q ∙ no_last_row x q low
 
   pub say_so : (q : Key) → find key_cmp q (first ∷ (own ++ (copies ++ others))) ≡ node_row id x q
   say_so q = find_cut q first own copies others ∙ elim (cases_eq q.0 1) [
@@ -91,7 +106,7 @@ module _ (id : ℕ) (x : Lasting) (first : Plain) (own copies others : List Plai
       | inl two ↦ in_middle _ first.1 _ _ _ (not_first q one) (none_left q (omega (arith, two))) ∙ sessions_found q ∙ sym (own_kind id x q two)
       | inr two ↦ elim (cases_eq q.0 3) [
         | inl three ↦ in_middle _ first.1 _ _ _ (not_first q one) (none_left q (omega (arith, three))) ∙ sessions_found q ∙ sym (copy_kind id x q three)
-        | inr three ↦ in_last _ first.1 _ _ _ (not_first q one) (no_own q two) (no_copies q three) ∙ rest q ∙ sym (state_row id x q one two three)
+        | inr three ↦ in_last _ first.1 _ _ _ (not_first q one) (no_own q two) (no_copies q three) ∙ rest q ∙ sym (other_row id x q one two three)
       ]
     ]
   ]

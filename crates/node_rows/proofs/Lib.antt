@@ -2,6 +2,7 @@ mod Lists
 mod Numbers
 mod Clients
 mod Cuts
+mod Lanes
 mod Said
 mod Walked
 mod Marks

@@ -16,9 +16,10 @@ use Rattle.session_rows.specs.Rows.{main_key, copy_rows, rows_of}
 use Rattle.session_rows.proofs.DurableLaws.{durable_again, whole_again}
 use Rattle.store_rows.proofs.OneStore.{one_store}
 use Rattle.node_rows.specs.Reading.{AreNodeRows, IsLasting, RowsTellAll, SayOneThing}
-use Rattle.node_rows.specs.Rows.{Lasting, mark, mark_key, node_row, session_row}
+use Rattle.node_rows.specs.Rows.{Lasting, mark, mark_key, new_node, node_row, session_row}
 use Rattle.node_rows.proofs.Clients.{client_is, client_itself, copies_of, rows_rise, same_client}
-use Rattle.node_rows.proofs.Cuts.{copy_kind, no_state_row, own_kind, state_row}
+use Rattle.node_rows.proofs.Cuts.{copy_kind, last_row, no_high_row, no_low_row, other_row, own_kind}
+use Rattle.node_rows.proofs.Lanes.{lane_high, lane_row, lanes_tell, low_row}
 use Rattle.node_rows.proofs.Lists.{all_turned, find_none, itself, one_list}
 
 -- ---- the number in the mark
@@ -103,28 +104,38 @@ module _ (nodes id : ℕ) (x y : Lasting) (a : IsLasting nodes x) (b : IsLasting
       by q is (inl two) = moved q is (sym (own_kind id x q two) ∙ same q ∙ own_kind id y q two)
       by q is (inr three) = moved q is (sym (copy_kind id x q three) ∙ same q ∙ copy_kind id y q three)
 
+  same_last : (q : Key) → 3 < q.0 → last_row x q ≡ last_row y q
+  same_last q high =
+      let one : q.0 ≢ 1 = λ e. absurd (omega (arith, e, high)) in
+      let two : q.0 ≢ 2 = λ e. absurd (omega (arith, e, high)) in
+      let three : q.0 ≢ 3 = λ e. absurd (omega (arith, e, high)) in
+      sym (other_row id x q one two three) ∙ same q ∙ other_row id y q one two three
+
   same_store : x.store ≡ y.store
   same_store = one_store x.store y.store a.store b.store a.unversioned b.unversioned (λ q. elim (cases_lt 3 q.0) [
-    | inr low ↦ no_state_row x.store q low ∙ sym (no_state_row y.store q low)
-    | inl high ↦
-        let one : q.0 ≢ 1 = λ e. absurd (omega (arith, e, high)) in
-        let two : q.0 ≢ 2 = λ e. absurd (omega (arith, e, high)) in
-        let three : q.0 ≢ 3 = λ e. absurd (omega (arith, e, high)) in
-        sym (state_row id x q one two three) ∙ same q ∙ state_row id y q one two three
+    | inr low ↦ no_low_row x.store q low ∙ sym (no_low_row y.store q low)
+    | inl high ↦ elim (cases_lt 6 q.0) [
+      | inl higher ↦ no_high_row x.store q higher ∙ sym (no_high_row y.store q higher)
+      | inr low ↦ sym (low_row x q low) ∙ same_last q high ∙ low_row y q low
+    ]
   ])
+
+  same_lanes : x.lanes ≡ y.lanes
+  same_lanes = lanes_tell nodes x y a.few a.lanes b.lanes (λ q is. sym (lane_row x q is) ∙ same_last q (let high = lane_high q.0 is in omega (arith, high)) ∙ lane_row y q is)
 
 pub rows_tell_all : RowsTellAll
 rows_tell_all nodes id x y a b same =
     let named = same_named nodes id x y a b same in
     let sessions = same_sessions nodes id x y a b same in
     let store = same_store nodes id x y a b same in
-    λ i. record { named = named i; sessions = λ client. sessions client i; store = store i }
+    let lanes = same_lanes nodes id x y a b same in
+    λ i. record { named = named i; sessions = λ client. sessions client i; store = store i; lanes = lanes i }
 
 no_mark : (id : ℕ) (rows : List Row) (x : Lasting) → rows ≡ [] → AreNodeRows rows id x → ⊥
 no_mark id rows x none are = (let other : None ≡ Some (mark id x.named) = sym (map.get-from_entries keys_total [] mark_key) ∙ ap (λ (es : List Row). map.get (content_of es) mark_key) (sym none) ∙ are.are mark_key in cc)
 
 pub say_one_thing : SayOneThing
-say_one_thing nodes id rows x y a b (inl h) (inl k) = h.1 ∙ sym k.1
+say_one_thing nodes id rows x y a b (inl h) (inl k) = h.1 ∙ ap new_node (a.lanes.count ∙ sym b.lanes.count) ∙ sym k.1
 say_one_thing nodes id rows x y a b (inl h) (inr are) = absurd (no_mark id rows y h.0 are)
 say_one_thing nodes id rows x y a b (inr are) (inl k) = absurd (no_mark id rows x k.0 are)
 say_one_thing nodes id rows x y a b (inr are) (inr also) = rows_tell_all nodes id x y a b (λ key. sym (are.are key) ∙ also.are key)

@@ -9,12 +9,11 @@ use Rattle.qos_handshakes.specs.Entries.{Entries}
 use Rattle.session_rows.specs.Durable.{Durable, IsDurable}
 use Rattle.session_rows.specs.Fields.{main}
 use Rattle.session_rows.specs.Rows.{main_key, copy_rows, rows_of}
-use Rattle.store_rows.specs.Rows.{row_at}
 use Rattle.node_rows.specs.Rows.{Lasting, mark, mark_key, node_row, session_row}
 use Rattle.node_rows.specs.Sessions.{AreSessions, Plain, own_row}
 use Rattle.node_rows.proofs.Lists.{IsAbove, all_front, each_found, either, find_none, itself, kind_up, least_first, other_key, same_is, same_key, sorted_back, sorted_front, sorted_head, sorted_tail}
 use Rattle.node_rows.proofs.Clients.{IsOwn, HaveOwn, complete}
-use Rattle.node_rows.proofs.Cuts.{among, copy_kind, find_cut, in_last, in_middle, no_state_row, own_kind, state_row}
+use Rattle.node_rows.proofs.Cuts.{among, copy_kind, find_cut, in_last, in_middle, last_row, no_last_row, other_row, own_kind}
 
 -- ---- parts of what is said
 -- a state that has such rows, cut behind the mark, behind the sessions' own rows and behind their copies
@@ -66,17 +65,17 @@ module _ (id : ℕ) (x : Lasting) (sound : (client : List ℕ) (d : Durable) →
   cut : (q : Key) → among (same_key q first.0) first.1 (find key_cmp q own) (find key_cmp q copies) (find key_cmp q others) ≡ node_row id x q
   cut q = sym (find_cut q first own copies others) ∙ are q
 
-  -- ---- the state
+  -- ---- the state and the lanes
   pub others_up : T (is_sorted key_cmp others)
   unfolding rest
   others_up = sorted_back copies others (sorted_back own (copies ++ others) rest_up)
 
-  pub of_state : (q : Key) → find key_cmp q others ≡ row_at x.store q
-  of_state q = elim (cases_lt 3 q.0) [
+  pub of_last : (q : Key) → find key_cmp q others ≡ last_row x q
+  of_last q = elim (cases_lt 3 q.0) [
     | inl high ↦
         sym (in_last _ first.1 _ _ _ (not_first q (λ e. absurd (omega (arith, e, high)))) (no_own q (omega (arith, high))) (no_copies q (λ e. absurd (omega (arith, e, high)))))
-        ∙ cut q ∙ state_row id x q (λ e. absurd (omega (arith, e, high))) (λ e. absurd (omega (arith, e, high))) (λ e. absurd (omega (arith, e, high)))
-    | inr low ↦ no_others q low ∙ sym (no_state_row x.store q low)
+        ∙ cut q ∙ other_row id x q (λ e. absurd (omega (arith, e, high))) (λ e. absurd (omega (arith, e, high))) (λ e. absurd (omega (arith, e, high)))
+    | inr low ↦ no_others q low ∙ sym (no_last_row x q low)
   ]
 
   -- ---- the sessions

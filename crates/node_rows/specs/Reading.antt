@@ -1,9 +1,14 @@
 -- What is read of the rows of a node.
-use Rattle.std.specs.Prelude.{◌≡◌, ℕ, ◌<◌, ◌^◌, ◌⊎◌, true, T, List, [], map as map_list, Some, option_map, Result, Ok, Err}
+use Rattle.std.specs.Prelude.{◌≡◌, ℕ, ◌<◌, ◌≤◌, ◌^◌, ◌⊎◌, true, T, List, [], ◌++◌, length, map as map_list, Some, option_map, Result, Ok, Err}
 use Rattle.std.specs.Int.{w16, w64}
 use Rattle.std.specs.FinMap as map
 use Rattle.std.specs.FinSet as set
+use Rattle.std.specs.List.{AllByRecursion}
+use Rattle.bridge_deltas.specs.Links.{LinksView, opened_links}
+use Rattle.bridge_frames.specs.declared.forward.Forward.{Forward}
 use Rattle.causal_context.specs.Dots.{Dot, Dots}
+use Rattle.lane_rows.specs.Reading.{AreLanes, AreLanesOf}
+use Rattle.message_lanes.specs.Lanes.{Lanes}
 use Rattle.mqtt_fields.specs.Field.{Field, after}
 use Rattle.mqtt_fields.specs.Numbers.{number}
 use Rattle.replica_store.specs.declared.kept.Kept.{Kept}
@@ -32,12 +37,15 @@ pub record IsAmong (nodes : ℕ) (s : State) : Type 0 where
   pub seen : AreAmong nodes (seen_of s.subscriptions)
   pub stamps : (topic : List ℕ) (k : Kept) → map.get s.retained topic ≡ Some k → k.stamp.node < nodes
 
+-- in a cluster of so many nodes, which have numbers of two bytes
 pub record IsLasting (nodes : ℕ) (x : Lasting) : Type 0 where
+  pub few : nodes ≤ 2 ^ 16
   pub named : x.named < 2 ^ 62
   pub sessions : (client : List ℕ) (d : Durable) → x.sessions client ≡ Some d → IsDurable d × (d.client ≡ client)
   pub store : IsStore x.store
   pub unversioned : IsUnversioned x.store
   pub among : IsAmong nodes x.store
+  pub lanes : AreLanes nodes x.lanes
 
 -- ---- rows
 
@@ -48,7 +56,7 @@ pub record AreNodeRows (rows : List Row) (id : ℕ) (x : Lasting) : Type 0 where
 
 -- they say this of node `id`; a node without rows is new
 abbrev pub Say : List Row → ℕ → Lasting → Type 0
-Say rows id x = ((rows ≡ []) × (x ≡ new_node)) ⊎ AreNodeRows rows id x
+Say rows id x = ((rows ≡ []) × (x ≡ new_node (length x.lanes))) ⊎ AreNodeRows rows id x
 
 -- no node `id` of a cluster of so many has these rows
 abbrev pub SayNothing : List Row → ℕ → ℕ → Type 0
@@ -59,10 +67,11 @@ SayNothing rows id nodes = (x : Lasting) → IsLasting nodes x → Say rows id x
 abbrev pub AreOpened : Lasting → Seats → Type 0
 AreOpened x seats = (client : List ℕ) → map.get seats client ≡ option_map opened_seat (x.sessions client)
 
-pub record IsOpened (x : Lasting) (o : Opened) : Type 0 where
+pub record IsOpened (id nodes : ℕ) (x : Lasting) (o : Opened) : Type 0 where
   pub named : o.named ≡ x.named
   pub sessions : AreOpened x o.sessions
   pub store : o.store ≡ x.store
+  pub links : o.links ≡ opened_links id nodes x.lanes
 
 -- ---- parts of it
 -- what a fault tells: a bad row that this holds, and want of memory nothing
@@ -75,6 +84,16 @@ Tells Bad Device = ⊥
 abbrev pub Finds : {X : Type 0} → (X → Type 0) → Type 0 → Result X RowFault → Type 0
 Finds Is Bad (Ok x) = Is x
 Finds Is Bad (Err e) = Tells Bad e
+
+-- rows behind a mark, cut by kind: the sessions' own, those of their copies, those of the state and those of the lanes
+pub record IsCut (rows own copies state lanes : List Plain) : Type 0 where
+  pub are : rows ≡ own ++ (copies ++ (state ++ lanes))
+  pub own_low : AllByRecursion (λ e. e.0.0 ≤ 2) own
+  pub copies_high : AllByRecursion (λ e. 2 < e.0.0) copies
+  pub copies_low : AllByRecursion (λ e. e.0.0 ≤ 3) copies
+  pub last_high : AllByRecursion (λ e. 3 < e.0.0) (state ++ lanes)
+  pub state_low : AllByRecursion (λ e. e.0.0 ≤ 6) state
+  pub lanes_high : AllByRecursion (λ e. 6 < e.0.0) lanes
 
 -- the version, the node and the number in a mark
 abbrev pub marked : Field (ℕ × (ℕ × ℕ))
@@ -99,6 +118,13 @@ pub record IsStateOf (rows : List Row) (nodes : ℕ) (s : State) : Type 0 where
 
 abbrev pub NoState : List Row → ℕ → Type 0
 NoState rows nodes = (s : State) → IsStateOf rows nodes s → ⊥
+
+-- what node `id` keeps of the lanes that have these rows
+abbrev pub AreLinksOf : List Plain → ℕ → ℕ → LinksView → Type 0
+AreLinksOf rows id nodes links = (lanes : Lanes Forward) × AreLanesOf nodes rows lanes × (links ≡ opened_links id nodes lanes)
+
+abbrev pub NoLanes : List Plain → ℕ → Type 0
+NoLanes rows nodes = (lanes : Lanes Forward) → AreLanesOf nodes rows lanes → ⊥
 
 -- ---- laws
 

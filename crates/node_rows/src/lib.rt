@@ -2,6 +2,7 @@
 #![tactic(auto)]
 
 mod among;
+mod cut;
 pub mod laws;
 pub mod mark;
 pub mod reading;

@@ -6,24 +6,27 @@ ghost use Rattle.row_store.specs.Rows.{entry_of, key_cmp};
 ghost use Rattle.replica_store.specs.States.{nothing};
 ghost use Rattle.store_rows.specs.Reading.{IsStore};
 ghost use Rattle.node_rows.specs.Rows.{Lasting, new_node};
-ghost use Rattle.node_rows.specs.Reading.{Finds, IsLasting, IsOpened, IsStateOf, NoState, Say, SayNothing};
+ghost use Rattle.node_rows.specs.Reading.{AreLinksOf, Finds, IsLasting, IsOpened, IsStateOf, NoLanes, NoState, Say, SayNothing};
 
 use crate::among::is_among;
+use crate::cut::cut;
 use crate::mark::named_in;
-use crate::sessions::{COPY, SESSION, read_sessions, up_to};
+use crate::sessions::read_sessions;
+use bridge_deltas::Links;
 use replica_store::{ReplicaStore, StoreFault};
 use row_store::{Row, RowFault, are_rising};
 use session_table::Sessions;
 use std::alloc::Global;
 use store_rows::laws::is_store;
 
-/// What lasts of a node: the number of the last client identifier that it gave, its sessions, each on no connection, and the
-/// replicated state.
+/// What lasts of a node: the number of the last client identifier that it gave, its sessions, each on no connection, the
+/// replicated state, and the lanes to and from the other nodes. It believes nothing of these nodes yet, and keeps no deltas.
 #[derive(Drop)]
 pub struct Opened {
     pub named: u64,
     pub sessions: Sessions,
     pub store: ReplicaStore,
+    pub links: Links,
 }
 
 // The replicated state whose rows these are.
@@ -43,48 +46,61 @@ fn read_state(alloc: Global, rows: &[Row], nodes: u16) -> Result<ReplicaStore, R
     }
 }
 
+// What the node keeps of the lanes whose rows these are.
+fn read_links(alloc: Global, rows: &[Row], id: u16, nodes: u16) -> Result<Links, RowFault>
+    ensures { Finds (AreLinksOf (map_list entry_of rows.now) id nodes) (NoLanes (map_list entry_of rows.now) nodes) result }
+{
+    Links::from_rows(alloc, id, nodes, rows)
+}
+
 // A node that has done nothing yet.
-fn opened_new(alloc: Global) -> Opened
-    ensures opened { IsOpened new_node result }
+fn opened_new(alloc: Global, id: u16, nodes: u16) -> Result<Opened, RowFault>
+    ensures opened { Finds (IsOpened id nodes (new_node nodes)) ⊥ result }
     ensures store { IsStore nothing }
 {
     let store = ReplicaStore::new(alloc);
     is_store(&store);
-    Opened {
+    let Ok(links) = Links::new(alloc, id, nodes) else {
+        return Err(RowFault::NoMemory);
+    };
+    Ok(Opened {
         named: 0,
         sessions: Sessions::new(alloc),
         store,
-    }
+        links,
+    })
 }
 
 // Reads rows that rise, cut by their kinds.
 fn read(alloc: Global, rows: &[Row], id: u16, nodes: u16) -> Result<Opened, RowFault>
     requires { T (map.is_sorted key_cmp (map_list entry_of rows.now)) }
-    ensures { Finds (λ o. (x : Lasting) × IsLasting nodes x × Say rows.now id x × IsOpened x o) (SayNothing rows.now id nodes) result }
+    ensures { Finds (λ o. (x : Lasting) × IsLasting nodes x × Say rows.now id x × IsOpened id nodes x o) (SayNothing rows.now id nodes) result }
 {
     let [first, others @ ..] = rows else {
-        return Ok(opened_new(alloc));
+        return opened_new(alloc, id, nodes);
     };
-    let (own, later) = others.split_at(up_to(others, SESSION));
-    let (copies, last) = later.split_at(up_to(later, COPY));
+    let (own, copies, state, last) = cut(others);
     let Some(named) = named_in(first, id) else {
         return Err(RowFault::BadRow);
     };
-    let store = read_state(alloc, last, nodes)?;
+    let store = read_state(alloc, state, nodes)?;
     let sessions = read_sessions(alloc, own, copies)?;
+    let links = read_links(alloc, last, id, nodes)?;
     Ok(Opened {
         named,
         sessions,
         store,
+        links,
     })
 }
 
 /// Reads the rows of node `id` of a cluster of `nodes` nodes, in the order of their keys. A node without rows is new.
 ///
 /// BadRow exactly where no such node has just these rows: there is no mark or one of another version or node, a key or value
-/// can't be read, rows contradict each other, or a row names a node that the cluster lacks.
+/// can't be read, rows contradict each other, the numbers of messages that wait for a node don't follow one another up to the last
+/// that was put in, or a row names a node that the cluster lacks.
 pub fn open(alloc: Global, rows: &[Row], id: u16, nodes: u16) -> Result<Opened, RowFault>
-    ensures ok { IfOk result (λ o. (x : Lasting) × IsLasting nodes x × Say rows.now id x × IsOpened x o) }
+    ensures ok { IfOk result (λ o. (x : Lasting) × IsLasting nodes x × Say rows.now id x × IsOpened id nodes x o) }
     ensures bad { IsErrOf result RowFault.BadRow → SayNothing rows.now id nodes }
     ensures fault { IfErr result (λ e. (e ≡ RowFault.NoMemory) ⊎ (e ≡ RowFault.BadRow)) }
 {

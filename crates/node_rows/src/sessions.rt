@@ -1,5 +1,5 @@
 //! The sessions of a node, read from their rows.
-ghost use Rattle.std.specs.Prelude.{◌≡◌, ◌≤◌, ◌<◌, ◌∷◌, T, length, take, drop, map as map_list, IfOk};
+ghost use Rattle.std.specs.Prelude.{◌≡◌, ◌≤◌, ◌∷◌, T, length, take, drop, map as map_list, IfOk};
 ghost use Rattle.std.specs.FinMap as map;
 ghost use Rattle.std.specs.List.{AllByRecursion};
 ghost use Rattle.row_store.specs.Rows.{entry_of, key_cmp};
@@ -12,27 +12,6 @@ use mqtt_sessions::{Session, SessionFault};
 use row_store::{Row, RowFault};
 use session_table::Sessions;
 use std::alloc::Global;
-
-/// The kind of a session's own row.
-pub(crate) const SESSION: u8 = 2;
-
-/// The kind of a copy's row.
-pub(crate) const COPY: u8 = 3;
-
-/// How many rows at the front are of kinds up to this one.
-pub(crate) fn up_to(rows: &[Row], kind: u8) -> usize
-    requires { T (map.is_sorted key_cmp (map_list entry_of rows.now)) }
-    ensures within { result ≤ length rows.now }
-    ensures low { AllByRecursion (λ e. e.0.0 ≤ kind) (map_list entry_of (take result rows.now)) }
-    ensures high { AllByRecursion (λ e. kind < e.0.0) (map_list entry_of (drop result rows.now)) }
-{
-    for i in 0..rows.len() {
-        if rows[i].kind > kind {
-            return i;
-        }
-    }
-    rows.len()
-}
 
 // How many rows at the front are of the owner.
 fn count_of(rows: &[Row], owner: &[u8]) -> usize

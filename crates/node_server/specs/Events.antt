@@ -2,6 +2,9 @@
 use Rattle.broker_node.specs.declared.event.Event.{Event}
 use Rattle.broker_node.specs.declared.event.EventKind.{EventKind}
 use Rattle.broker_node.specs.declared.event.EventKind.TheVariants as kinds
+use Rattle.broker_sockets.specs.declared.bridge.PeerEvent.{PeerEvent}
+use Rattle.broker_sockets.specs.declared.bridge.PeerEventKind.{PeerEventKind}
+use Rattle.broker_sockets.specs.declared.bridge.PeerEventKind.TheVariants as peers
 use Rattle.broker_sockets.specs.declared.events.Event.{Event as Told}
 use Rattle.broker_sockets.specs.declared.events.EventKind.{EventKind as ToldKind}
 use Rattle.broker_sockets.specs.declared.events.EventKind.TheVariants as told
@@ -16,3 +19,11 @@ kind_of told.Tick = kinds.Tick
 -- the same thing, at the same moment
 abbrev pub event_of : Told → Event
 event_of e = record { at = e.at; kind = kind_of e.kind }
+
+abbrev pub peer_kind_of : PeerEventKind → EventKind
+peer_kind_of (peers.Linked peer) = kinds.Linked peer
+peer_kind_of (peers.Frame bytes) = kinds.Frame bytes.items
+peer_kind_of (peers.Ship peer) = kinds.Ship peer
+
+abbrev pub peer_event_of : PeerEvent → Event
+peer_event_of e = record { at = e.at; kind = peer_kind_of e.kind }

@@ -1,8 +1,9 @@
-//! A node that is served over sockets: what its clients send is handed to it, and what it gives out for them is sent.
+//! A node that is served over sockets: what clients and other nodes send is handed to it, and what it gives out for them is sent.
 #![tactic(auto)]
 
 mod convert;
 mod fault;
+mod peers;
 mod run;
 mod served;
 

@@ -1,12 +1,14 @@
 //! A run of a node over sockets.
 
-ghost use Rattle.std.specs.Prelude.{◌++◌, ◌<◌, length, OnOk};
+ghost use Rattle.std.specs.Prelude.{◌++◌, ◌<◌, ◌≤◌, length, IfOk, OnOk};
 ghost use Rattle.std.specs.Io.KnownBytes.{Appends};
+ghost use Rattle.node_server.specs.Peers.{ArePeers};
 ghost use Rattle.node_server.specs.Printing.{ready_line, turns_line};
 
 use crate::fault::{of_node, of_turn};
+use crate::peers::peers_of;
 use crate::served::ServedNode;
-use broker_sockets::{Clock, Hub, Sockets, bind};
+use broker_sockets::{Clock, Hub, Setting, Sockets, bind};
 use broker_stop::RunFault;
 use home_table::HomeTable;
 use node_keeper::Keeper;
@@ -14,21 +16,29 @@ use row_store::RowStore;
 use std::alloc::Global;
 use std::io::Write;
 
-/// Waits for clients at the node's address, and for other nodes at its bridge.
+/// Waits for clients at the node's address, and for other nodes at its bridge, and finds the addresses of these.
 fn listen<S: Sockets>(
+    alloc: Global,
     sockets: &mut S,
     homes: &HomeTable,
     id: u16,
-) -> Result<(S::Listener, S::Listener), RunFault>
+) -> Result<Setting<S::Listener>, RunFault>
     requires { id < length homes.now.nodes }
+    ensures peers { IfOk result (λ setting. ArePeers homes.now.nodes id setting.peers.items) }
+    ensures few { IfOk result (λ setting. length setting.peers.items ≤ 64) }
 {
-    let Some(clients) = bind(sockets, homes.reference(id)) else {
+    let Some(listener) = bind(sockets, homes.reference(id)) else {
         return Err(RunFault::Socket);
     };
-    let Some(nodes) = bind(sockets, homes.bridge(id)) else {
+    let Some(bridge) = bind(sockets, homes.bridge(id)) else {
         return Err(RunFault::Socket);
     };
-    Ok((clients, nodes))
+    let peers = peers_of(alloc, homes, id)?;
+    Ok(Setting {
+        listener,
+        bridge,
+        peers,
+    })
 }
 
 /// Prints that the node waits for clients and for other nodes.
@@ -54,16 +64,18 @@ fn tell_turns<W: Write>(out: &mut W, turns: u32) -> Result<(), RunFault>
     }
 }
 
-/// Starts a node, and makes so many turns over the clients that come.
+/// Starts a node, and makes so many turns over the clients that come and the other nodes.
 fn run_node<S: Sockets, C: Clock, R: RowStore + Drop>(
     alloc: Global,
     sockets: &mut S,
     clock: &mut C,
-    listener: S::Listener,
+    setting: Setting<S::Listener>,
     keeper: Keeper<R>,
     turns: u32,
-) -> Result<(), RunFault> {
-    let Ok(mut hub) = Hub::new(alloc, listener) else {
+) -> Result<(), RunFault>
+    requires { length setting.peers.items ≤ 64 }
+{
+    let Ok(mut hub) = Hub::new(alloc, setting) else {
         return Err(RunFault::NoMemory);
     };
     let mut node = ServedNode::new(alloc, keeper);
@@ -74,10 +86,11 @@ fn run_node<S: Sockets, C: Clock, R: RowStore + Drop>(
 }
 
 /// Opens a node from its rows, waits at its addresses for clients and for other nodes, prints that it is ready, starts it,
-/// makes so many turns, and prints that they were made. Other nodes aren't answered yet.
+/// makes so many turns, and prints that they were made.
 ///
-/// The faults in their order: the node's where it can't be opened, `Socket` where one of its addresses isn't an IP address
-/// with a port or can't be waited at, `Output` where a line can't be printed, and the node's where a turn stops.
+/// The faults in their order: the node's where it can't be opened, `Socket` where one of its addresses or another node's
+/// bridge isn't an IP address with a port, or its own can't be waited at, `Output` where a line can't be printed, and the
+/// node's where a turn stops.
 pub fn serve<S: Sockets, C: Clock, R: RowStore + Drop, W: Write>(
     alloc: Global,
     sockets: &mut S,
@@ -96,8 +109,8 @@ pub fn serve<S: Sockets, C: Clock, R: RowStore + Drop, W: Write>(
         Err((fault, _)) => return Err(of_node(fault)),
     };
     let homes = keeper.node().homes();
-    let (clients, _nodes) = listen(sockets, homes, id)?;
+    let setting = listen(alloc, sockets, homes, id)?;
     tell_ready(out, homes, id)?;
-    run_node(alloc, sockets, clock, clients, keeper, turns)?;
+    run_node(alloc, sockets, clock, setting, keeper, turns)?;
     tell_turns(out, turns)
 }

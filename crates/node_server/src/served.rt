@@ -2,19 +2,17 @@
 
 ghost use Rattle.std.specs.Prelude.{◌≡◌, ◌≢◌, [], IfErr, IfOk};
 ghost use Rattle.node_keeper.specs.declared.fault.KeeperFault.TheVariants.{NoMemory};
-ghost use Rattle.node_server.specs.Outputs.{AreForClients};
+ghost use Rattle.node_server.specs.Outputs.{AreForClients, AreForPeers};
 ghost use Rattle.node_server.specs.Serving.{IsCrashed};
 
-use crate::convert::{event_of, for_clients};
-use broker_sockets::{Event, Handler, Output};
+use crate::convert::{event_of, for_all, for_clients, peer_event_of};
+use broker_sockets::{BridgeHandler, Event, Given, Handler, Output, PeerEvent};
 use node_keeper::{Keeper, KeeperFault};
 use node_work::Output as Made;
 use row_store::RowStore;
 use std::alloc::Global;
 
-/// A node with its rows, which answers the clients of sockets.
-///
-/// Frames for other nodes are dropped: nothing carries them yet.
+/// A node with its rows, which answers the clients and the other nodes of sockets.
 #[derive(Drop)]
 pub struct ServedNode<R> {
     alloc: Global,
@@ -48,13 +46,31 @@ fn hand_over<R: RowStore>(
     }
 }
 
+/// Hands over all outputs, in the same way.
+fn give_all<R: RowStore>(
+    alloc: Global,
+    keeper: &mut Keeper<R>,
+    made: Vec<Made>,
+) -> Result<Given, KeeperFault>
+    ensures ok { IfOk result (λ given. AreForClients made.items given.outputs.items × AreForPeers made.items given.frames.items × (keeper.new ≡ keeper.old)) }
+    ensures fault { IfErr result (λ fault. (fault ≡ NoMemory) × (made.items ≢ []) × IsCrashed keeper.old keeper.new) }
+{
+    match for_all(alloc, made) {
+        Ok(given) => Ok(given),
+        Err(_) => {
+            keeper.crash();
+            Err(KeeperFault::NoMemory)
+        }
+    }
+}
+
 impl<R: RowStore> Handler for ServedNode<R> {
     type Fault = KeeperFault;
 
     ghost use Rattle.node_server.specs.Events.{event_of};
-    ghost use Rattle.node_server.specs.Serving.{IsAnswered, IsHalted};
+    ghost use Rattle.node_server.specs.Serving.{IsAnsweredToClients, IsHalted};
 
-    ghost handles = { λ s told handed s'. IsAnswered R.is_clean R.is_open R.content s.keeper (event_of told) handed s'.keeper };
+    ghost handles = { λ s told handed s'. IsAnsweredToClients R.is_clean R.is_open R.content s.keeper (event_of told) handed s'.keeper };
 
     ghost refuses = { λ s told fault s'. IsHalted R.is_clean R.is_open R.content R.may_leave s.keeper (event_of told) fault s'.keeper };
 
@@ -63,6 +79,24 @@ impl<R: RowStore> Handler for ServedNode<R> {
         let event = event_of(told);
         match self.keeper.handle(&event) {
             Ok(made) => hand_over(self.alloc, &mut self.keeper, made),
+            Err(fault) => Err(fault),
+        }
+    }
+}
+
+impl<R: RowStore> BridgeHandler for ServedNode<R> {
+    ghost use Rattle.node_server.specs.Events.{peer_event_of};
+    ghost use Rattle.node_server.specs.Serving.{IsAnsweredToAll, IsHalted};
+
+    ghost hears = { λ s told given s'. IsAnsweredToAll R.is_clean R.is_open R.content s.keeper (peer_event_of told) given s'.keeper };
+
+    ghost declines = { λ s told fault s'. IsHalted R.is_clean R.is_open R.content R.may_leave s.keeper (peer_event_of told) fault s'.keeper };
+
+    /// Hands the event to the node. After a fault the node has stopped.
+    fn hear(&mut self, told: PeerEvent) -> Result<Given, KeeperFault> {
+        let event = peer_event_of(told);
+        match self.keeper.handle(&event) {
+            Ok(made) => give_all(self.alloc, &mut self.keeper, made),
             Err(fault) => Err(fault),
         }
     }

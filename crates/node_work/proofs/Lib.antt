@@ -1,3 +1,4 @@
+pub mod Bridging
 pub mod Calling
 pub mod Making
 pub mod Spelled

@@ -13,6 +13,7 @@ use Rattle.replica_store.specs.Making.{NumberAtEnd, CountAtEnd, subscribe_of, re
 use Rattle.replica_store.specs.States.{State, state_join}
 use Rattle.node_work.specs.declared.fault.NodeFault.{NodeFault}
 use Rattle.node_work.specs.declared.fault.NodeFault.TheVariants.{NoMemory, NumbersAtEnd, Stopped}
+use Rattle.node_bridge.specs.View.{keeps}
 use Rattle.node_work.specs.View.{Place, HeldView, WorkView}
 use Rattle.node_work.specs.Acts.{Store, Made, IsMade}
 use Rattle.node_work.specs.Lasting.{StoreTells, TellsOn, held_row}
@@ -92,8 +93,8 @@ made_put id content h e = let p = neither _ _ e in (is_below _ p.0, is_below _ p
 removal_is : (id : ℕ) (client : List ℕ) (to : Option (List ℕ)) (s : State) → any_of client to s.subscriptions ≡ true → Some (removal id client to s) ≡ remove_of id client to s
 removal_is id client to s e = ap (λ b. cond b (Some (removal id client to s)) None) (sym e)
 
-pub merge_tells : {T E : Type 0} (id : ℕ) (h h' : HeldView) (s : State) (before after : List Change) (r : Result T E) → OnOk r (h' ≡ record h { store = state_join h.store s }) → OnOk r (StoreTells h.store before after h'.store) → OnOk r (TellsOn (held_row id h) before after (held_row id h'))
-merge_tells id h h' s before after (Ok x) is t = store_tells id h h' before after (ap (λ (v : HeldView). v.named) is) (ap (λ (v : HeldView). v.sessions) is) t
+pub merge_tells : {T E : Type 0} (id : ℕ) (h h' : HeldView) (s : State) (before after : List Change) (r : Result T E) → OnOk r (h' ≡ record h { store = state_join h.store s; bridge = keeps s h.bridge }) → OnOk r (StoreTells h.store before after h'.store) → OnOk r (TellsOn (held_row id h) before after (held_row id h'))
+merge_tells id h h' s before after (Ok x) is t = store_tells id h h' before after (ap (λ (v : HeldView). v.named) is) (ap (λ (v : HeldView). v.sessions) is) (ap (λ (v : HeldView). v.bridge.lanes) is) t
 merge_tells id h h' s before after (Err e) is t = tt
 
 module _ (w : WorkView) (h' : HeldView) (cs : List Change) where
@@ -104,7 +105,7 @@ module _ (w : WorkView) (h' : HeldView) (cs : List Change) where
       → Makes (ends w.place w.held) (o w.place w.held) w.held h' r → OnOk r (StoreTells w.held.store w.changes cs h'.store) → Comes (λ x. x) r w after (Numbered ends (λ p h. Store (Made (o p h))))
   comes_made ends o (Ok x) made m t =
       did_numbered ends (λ p h. Store (Made (o p h))) w after m.0
-      (did_told (λ p h. Store (Made (o p h))) w h' cs (made m.0) refl m.1 (store_tells w.place.id w.held h' w.changes cs (ap (λ (v : HeldView). v.named) m.1) (ap (λ (v : HeldView). v.sessions) m.1) t))
+      (did_told (λ p h. Store (Made (o p h))) w h' cs (made m.0) refl m.1 (store_tells w.place.id w.held h' w.changes cs (ap (λ (v : HeldView). v.named) m.1) (ap (λ (v : HeldView). v.sessions) m.1) (ap (λ (v : HeldView). v.bridge.lanes) m.1) t))
   comes_made ends o (Err NumbersAtEnd) made m t = (w, did_at_end ends (λ p h. Store (Made (o p h))) w w m.0 refl)
   comes_made ends o (Err NoMemory) made m t = tt
   comes_made ends o (Err Stopped) made m t = m

@@ -22,6 +22,9 @@ use Rattle.session_table.specs.Rows.{LeadsOn, is_session_kind, row_in, seat_row}
 use Rattle.session_table.specs.Seats.{Seat, Seats}
 use Rattle.store_rows.specs.Changes.{AreChanges, IsNeeded, IsRight, key_in, names}
 use Rattle.store_rows.specs.Rows.{row_at}
+use Rattle.lane_rows.specs.Changes.{is_lane_kind}
+use Rattle.lane_rows.specs.Rows as lane_rows
+use Rattle.node_bridge.specs.View.{LanesTell}
 use Rattle.node_rows.specs.Rows.{Lasting, mark, mark_at, mark_key, node_row, session_row}
 use Rattle.node_work.specs.Lasting.{StoreTells, Tells, TellsOn, held_row, is_store_kind, lasting, work_row}
 use Rattle.node_work.specs.View.{HeldView, WorkView}
@@ -47,36 +50,66 @@ session-row (Some s) key = refl
 is-one : (n : ℕ) → n == 1 ≡ true → n ≡ 1
 is-one n e = eqb→eq n 1 (subst T (sym e) tt)
 
+-- what is so of both kinds of rows of sessions
+by_session : (f : ℕ → Bool) (n : ℕ) (b : Bool) → f 2 ≡ b → f 3 ≡ b → is_session_kind n ≡ true → f n ≡ b
+by_session f n b two three e = elim (cases_Bool (n == 2)) [
+  | inl is ↦ ap f (eqb→eq n 2 (subst T (sym is) tt)) ∙ two
+  | inr not ↦ ap f (eqb→eq n 3 (subst T (sym ((λ i. sym not i || (n == 3)) ∙ e)) tt)) ∙ three
+]
+
 -- a row by its kind
-abbrev row-by : (one session : Bool) → Option (List ℕ) → Option (List ℕ) → Option (List ℕ) → Option (List ℕ)
-row-by one session m s r = cond one m (cond session s r)
+abbrev pub row-by : (one session lane : Bool) → Option (List ℕ) → Option (List ℕ) → Option (List ℕ) → Option (List ℕ) → Option (List ℕ)
+row-by one session lane m s l r = cond one m (cond session s (cond lane l r))
 
 unsaid : (changes : Option (Option (List ℕ))) (o : Option (List ℕ)) → changes ≡ None → o ≡ left_or changes o
 unsaid changes o none = ap (λ c. left_or c o) (sym none)
 
+-- the parts of a row of a node
+module _ (id : ℕ) (h : HeldView) (key : Key) where
+  abbrev mark-part : Option (List ℕ)
+  mark-part = mark_at (mark id h.named) key.1.0 key.1.1
+
+  abbrev session-part : Option (List ℕ)
+  session-part = session_row ((lasting h).sessions key.1.0) key
+
+  abbrev lane-part : Option (List ℕ)
+  lane-part = lane_rows.row_at h.bridge.lanes key
+
+  abbrev row-of : (one session lane : Bool) → Option (List ℕ)
+  row-of one session lane = row-by one session lane mark-part session-part lane-part (row_at h.store key)
+
 module _ (id : ℕ) (h h' : HeldView) (own : List Change) where
-  sessions-lead : h'.named ≡ h.named → h'.store ≡ h.store → LeadWithin is_session_kind (seat_row h.sessions) (seat_row h'.sessions) own → Lead (held_row id h) (held_row id h') own
-  sessions-lead named store lead key = by (key.0 == 1) (is_session_kind key.0) refl refl
+  -- what changes leave of a row, by its kind
+  abbrev LeadAt : Key → (one session lane : Bool) → Type 0
+  LeadAt key one session lane = row-of id h' key one session lane ≡ left_or (left_by own key) (row-of id h key one session lane)
+
+  sessions-lead : h'.named ≡ h.named → h'.store ≡ h.store → h'.bridge.lanes ≡ h.bridge.lanes → LeadWithin is_session_kind (seat_row h.sessions) (seat_row h'.sessions) own → Lead (held_row id h) (held_row id h') own
+  sessions-lead named store lanes lead key = by (key.0 == 1) (is_session_kind key.0) (is_lane_kind key.0) refl refl
     where
-      old : Option (List ℕ)
-      old = seat_row h.sessions key
-
-      was : session_row ((lasting h).sessions key.1.0) key ≡ old
-      was = session-row (map.get h.sessions key.1.0) key
-
-      is : session_row ((lasting h').sessions key.1.0) key ≡ seat_row h'.sessions key
-      is = session-row (map.get h'.sessions key.1.0) key
-
-      by : (one session : Bool) → (key.0 == 1) ≡ one → is_session_kind key.0 ≡ session
-          → row-by one session (mark_at (mark id h'.named) key.1.0 key.1.1) (session_row ((lasting h').sessions key.1.0) key) (row_at h'.store key)
-          ≡ left_or (left_by own key) (row-by one session (mark_at (mark id h.named) key.1.0 key.1.1) (session_row ((lasting h).sessions key.1.0) key) (row_at h.store key))
-      by true session o s =
+      by : (one session lane : Bool) → (key.0 == 1) ≡ one → is_session_kind key.0 ≡ session → LeadAt key one session lane
+      by true session lane o s =
           ap (λ n. mark_at (mark id n) key.1.0 key.1.1) named ∙ unsaid (left_by own key) _ (lead.others key (ap is_session_kind (is-one key.0 o)))
-      by false true o s = is ∙ lead.own key s ∙ ap (left_or (left_by own key)) (sym was)
-      by false false o s = ap (λ t. row_at t key) store ∙ unsaid (left_by own key) _ (lead.others key s)
+      by false true lane o s = session-row (map.get h'.sessions key.1.0) key ∙ lead.own key s ∙ ap (left_or (left_by own key)) (sym (session-row (map.get h.sessions key.1.0) key))
+      by false false true o s = ap (λ t. lane_rows.row_at t key) lanes ∙ unsaid (left_by own key) _ (lead.others key s)
+      by false false false o s = ap (λ t. row_at t key) store ∙ unsaid (left_by own key) _ (lead.others key s)
+
+  lanes-lead : h'.named ≡ h.named → h'.sessions ≡ h.sessions → h'.store ≡ h.store → LeadWithin is_lane_kind (lane_rows.row_at h.bridge.lanes) (lane_rows.row_at h'.bridge.lanes) own → Lead (held_row id h) (held_row id h') own
+  lanes-lead named sessions store lead key = by (key.0 == 1) (is_session_kind key.0) (is_lane_kind key.0) refl refl refl
+    where
+      by : (one session lane : Bool) → (key.0 == 1) ≡ one → is_session_kind key.0 ≡ session → is_lane_kind key.0 ≡ lane → LeadAt key one session lane
+      by true session lane o s l =
+          ap (λ n. mark_at (mark id n) key.1.0 key.1.1) named ∙ unsaid (left_by own key) _ (lead.others key (ap is_lane_kind (is-one key.0 o)))
+      by false true lane o s l =
+          ap (λ t. session_row (option_map (λ (x : Seat). durable_of x.session) (map.get t key.1.0)) key) sessions ∙ unsaid (left_by own key) _ (lead.others key (by_session is_lane_kind key.0 false refl refl s))
+      by false false true o s l = lead.own key l
+      by false false false o s l = ap (λ t. row_at t key) store ∙ unsaid (left_by own key) _ (lead.others key l)
 
 pub sessions_tell : (id : ℕ) (h h' : HeldView) (s : Seats) (before after : List Change) → h' ≡ record h { sessions = s } → LeadsOn h.sessions before after h'.sessions → TellsOn (held_row id h) before after (held_row id h')
-sessions_tell id h h' s before after is l = (l.0, l.1, sessions-lead id h h' l.0 (ap (λ (v : HeldView). v.named) is) (ap (λ (v : HeldView). v.store) is) l.2)
+sessions_tell id h h' s before after is l = (l.0, l.1, sessions-lead id h h' l.0 (ap (λ (v : HeldView). v.named) is) (ap (λ (v : HeldView). v.store) is) (ap (λ (v : HeldView). v.bridge.lanes) is) l.2)
+
+-- lanes change, and what else is kept for other nodes
+pub lanes_tell : (id : ℕ) (h h' : HeldView) (before after : List Change) → h'.named ≡ h.named → h'.sessions ≡ h.sessions → h'.store ≡ h.store → LanesTell h.bridge.lanes before after h'.bridge.lanes → TellsOn (held_row id h) before after (held_row id h')
+lanes_tell id h h' before after named sessions store l = (l.0, l.1, lanes-lead id h h' l.0 named sessions store l.2)
 
 -- ---- the mark
 itself : (key : Key) → eq_by_cmp key_cmp key key ≡ true
@@ -88,24 +121,23 @@ unmarked old new n [] [] e off = absurd (false≢true (sym off ∙ ap (λ m. eq_
 unmarked old new n [] (b ∷ place) e off = refl
 unmarked old new n (b ∷ owner) place e off = refl
 
-pub name_tells : (id : ℕ) (h h' : HeldView) (row : Row) (before after : List Change) → key_of row ≡ mark_key → row.value.items ≡ mark id h'.named → after ≡ before ++ Put row ∷ [] → h'.sessions ≡ h.sessions → h'.store ≡ h.store
+pub name_tells : (id : ℕ) (h h' : HeldView) (row : Row) (before after : List Change) → key_of row ≡ mark_key → row.value.items ≡ mark id h'.named → after ≡ before ++ Put row ∷ [] → h'.sessions ≡ h.sessions → h'.store ≡ h.store → h'.bridge.lanes ≡ h.bridge.lanes
     → TellsOn (held_row id h) before after (held_row id h')
-name_tells id h h' row before after named value is sessions store = (Put row ∷ [], is, lead)
+name_tells id h h' row before after named value is sessions store lanes = (Put row ∷ [], is, lead)
   where
     left : (key : Key) (b : Bool) → eq_by_cmp key_cmp key mark_key ≡ b → left_by (Put row ∷ []) key ≡ cond b (Some (Some (mark id h'.named))) None
     left key b e = ap (λ k. cond (eq_by_cmp key_cmp key k) (Some (Some row.value.items)) None) named ∙ (λ i. cond (e i) (Some (Some (value i))) None)
 
-    rest : (key : Key) (one session : Bool) → (key.0 == 1) ≡ one → eq_by_cmp key_cmp key mark_key ≡ false
-        → row-by one session (mark_at (mark id h'.named) key.1.0 key.1.1) (session_row ((lasting h').sessions key.1.0) key) (row_at h'.store key)
-        ≡ row-by one session (mark_at (mark id h.named) key.1.0 key.1.1) (session_row ((lasting h).sessions key.1.0) key) (row_at h.store key)
-    rest key true session o off = unmarked (mark id h.named) (mark id h'.named) key.0 key.1.0 key.1.1 (is-one key.0 o) off
-    rest key false true o off = ap (λ t. session_row (option_map (λ (x : Seat). durable_of x.session) (map.get t key.1.0)) key) sessions
-    rest key false false o off = ap (λ t. row_at t key) store
+    rest : (key : Key) (one session lane : Bool) → (key.0 == 1) ≡ one → eq_by_cmp key_cmp key mark_key ≡ false → row-of id h' key one session lane ≡ row-of id h key one session lane
+    rest key true session lane o off = unmarked (mark id h.named) (mark id h'.named) key.0 key.1.0 key.1.1 (is-one key.0 o) off
+    rest key false true lane o off = ap (λ t. session_row (option_map (λ (x : Seat). durable_of x.session) (map.get t key.1.0)) key) sessions
+    rest key false false true o off = ap (λ t. lane_rows.row_at t key) lanes
+    rest key false false false o off = ap (λ t. row_at t key) store
 
     lead : Lead (held_row id h) (held_row id h') (Put row ∷ [])
     lead key = elim (cases_Bool (eq_by_cmp key_cmp key mark_key)) [
       | inl e ↦ ap (held_row id h') (exact_keys key mark_key (equal_is (key_cmp key mark_key) e)) ∙ ap (λ l. left_or l (held_row id h key)) (sym (left key true e))
-      | inr e ↦ rest key (key.0 == 1) (is_session_kind key.0) refl e ∙ ap (λ l. left_or l (held_row id h key)) (sym (left key false e))
+      | inr e ↦ rest key (key.0 == 1) (is_session_kind key.0) (is_lane_kind key.0) refl e ∙ ap (λ l. left_or l (held_row id h key)) (sym (left key false e))
     ]
 
 -- ---- the replicated state
@@ -185,27 +217,27 @@ changes_within s t cs a = record {
     by key l (inl none) (inl same) = sym same ∙ ap (λ z. left_or z (row_at s key)) (sym none)
     by key l (inl none) (inr named) = absurd (named-left s t cs key a.needed named none)
 
-session-apart : (n : ℕ) → is_session_kind n ≡ true → is_store_kind n ≡ false
-session-apart n e = elim (cases_Bool (n == 2)) [
-  | inl two ↦ ap is_store_kind (eqb→eq n 2 (subst T (sym two) tt))
-  | inr not ↦ ap is_store_kind (eqb→eq n 3 (subst T (sym ((λ i. sym not i || (n == 3)) ∙ e)) tt))
+lane-apart : (n : ℕ) → is_lane_kind n ≡ true → is_store_kind n ≡ false
+lane-apart n e = elim (cases_Bool (n == 7)) [
+  | inl seven ↦ ap is_store_kind (eqb→eq n 7 (subst T (sym seven) tt))
+  | inr not ↦ ap is_store_kind (eqb→eq n 8 (subst T (sym ((λ i. sym not i || (n == 8)) ∙ e)) tt))
 ]
 
-pub store_tells : (id : ℕ) (h h' : HeldView) (before after : List Change) → h'.named ≡ h.named → h'.sessions ≡ h.sessions → StoreTells h.store before after h'.store → TellsOn (held_row id h) before after (held_row id h')
-store_tells id h h' before after named sessions told = (told.0, told.1, lead)
+pub store_tells : (id : ℕ) (h h' : HeldView) (before after : List Change) → h'.named ≡ h.named → h'.sessions ≡ h.sessions → h'.bridge.lanes ≡ h.bridge.lanes → StoreTells h.store before after h'.store → TellsOn (held_row id h) before after (held_row id h')
+store_tells id h h' before after named sessions lanes told = (told.0, told.1, lead)
   where
     own : List Change
     own = told.0
 
     lead : Lead (held_row id h) (held_row id h') own
-    lead key = by (key.0 == 1) (is_session_kind key.0) refl refl
+    lead key = by (key.0 == 1) (is_session_kind key.0) (is_lane_kind key.0) refl refl refl
       where
-        by : (one session : Bool) → (key.0 == 1) ≡ one → is_session_kind key.0 ≡ session
-            → row-by one session (mark_at (mark id h'.named) key.1.0 key.1.1) (session_row ((lasting h').sessions key.1.0) key) (row_at h'.store key)
-            ≡ left_or (left_by own key) (row-by one session (mark_at (mark id h.named) key.1.0 key.1.1) (session_row ((lasting h).sessions key.1.0) key) (row_at h.store key))
-        by true session o s = ap (λ n. mark_at (mark id n) key.1.0 key.1.1) named ∙ unsaid (left_by own key) _ (told.2.others key (ap is_store_kind (is-one key.0 o)))
-        by false true o s = ap (λ t. session_row (option_map (λ (x : Seat). durable_of x.session) (map.get t key.1.0)) key) sessions ∙ unsaid (left_by own key) _ (told.2.others key (session-apart key.0 s))
-        by false false o s = elim (cases_Bool (is_store_kind key.0)) [
+        by : (one session lane : Bool) → (key.0 == 1) ≡ one → is_session_kind key.0 ≡ session → is_lane_kind key.0 ≡ lane → LeadAt id h h' own key one session lane
+        by true session lane o s l = ap (λ n. mark_at (mark id n) key.1.0 key.1.1) named ∙ unsaid (left_by own key) _ (told.2.others key (ap is_store_kind (is-one key.0 o)))
+        by false true lane o s l =
+            ap (λ t. session_row (option_map (λ (x : Seat). durable_of x.session) (map.get t key.1.0)) key) sessions ∙ unsaid (left_by own key) _ (told.2.others key (by_session is_store_kind key.0 false refl refl s))
+        by false false true o s l = ap (λ t. lane_rows.row_at t key) lanes ∙ unsaid (left_by own key) _ (told.2.others key (lane-apart key.0 l))
+        by false false false o s l = elim (cases_Bool (is_store_kind key.0)) [
           | inl e ↦ told.2.own key e
           | inr e ↦ no-row h'.store key e ∙ sym (no-row h.store key e) ∙ unsaid (left_by own key) _ (told.2.others key e)
         ]

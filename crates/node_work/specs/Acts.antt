@@ -10,10 +10,11 @@ use Rattle.replica_store.specs.Making.{NumberAtEnd, CountAtEnd, subscribe_of, re
 use Rattle.replica_store.specs.States.{State, state_join}
 use Rattle.replica_store.specs.StateOf.{delta_of}
 use Rattle.node_work.specs.declared.granted.Granted.{Granted}
-use Rattle.node_work.specs.declared.frame.FrameBody.{FrameBody}
-use Rattle.node_work.specs.declared.frame.FrameBody.TheVariants.{Delta, Know}
 use Rattle.node_work.specs.declared.outcome.Output.{Output}
 use Rattle.node_work.specs.declared.outcome.Output.TheVariants.{Send, Close, Frame as Release}
+use Rattle.message_routes.specs.declared.destinations.Route.{Route}
+use Rattle.node_bridge.specs.View.{keeps}
+use Rattle.node_work.specs.Held.Bridge.{BridgeAct, MayBridge, bridged, bridge_outputs, heard_of}
 use Rattle.node_work.specs.Held.Connections.{ConnectionAct, MayConnect, connected}
 use Rattle.node_work.specs.Held.Sessions.{SessionAct, MayCall, called, session_outputs, more}
 use Rattle.node_work.specs.Offers.{AreOffered}
@@ -26,20 +27,21 @@ pub data StoreAct : Type 0 where
   Made : (o : Operation) → StoreAct
   Merged : (s : State) → StoreAct
 
--- one thing that a node does: it takes a moment, begins its work, changes the replicated state, its connections or its
--- sessions, gives something out, or gives a client its identifier by a number; it begins to offer the retained messages that
--- answer a SUBSCRIBE, or to make the copies of a message, each of which is a call of a session after it; or it drops a retained
--- message for want of room
+-- one thing that a node does: it takes a moment, begins its work, changes the replicated state, its connections, its
+-- sessions or what it keeps for the other nodes, gives something out, or gives a client its identifier by a number; it begins to
+-- offer the retained messages that answer a SUBSCRIBE, or to make the copies of a message, each of which is a call of a session
+-- after it, and to hand it to other nodes; or it drops a retained message for want of room
 pub data Act : Type 0 where
   Moment : (at : ℕ) → Act
   Began : Act
   Store : (a : StoreAct) → Act
   Connection : (a : ConnectionAct) → Act
   Session : (a : SessionAct) → Act
+  Bridge : (a : BridgeAct) → Act
   Out : (o : Output) → Act
   Named : (number : ℕ) → Act
   Acknowledged : (client : List ℕ) (packet at : ℕ) (grants : List Granted) (offers : List Delivery) → Act
-  Passed : (m : Message) (copies : List Copy) (lost : ℕ) → Act
+  Passed : (m : Message) (copies : List Copy) (lost : ℕ) (routes : List (ℕ × Route)) → Act
   Dropped : Act
 
 -- the next operation of the node, looking at what was taken before it; a subscription is made under version 0 of the table
@@ -52,19 +54,19 @@ abbrev pub MayStore : ℕ → State → StoreAct → Type 0
 MayStore id s (Made o) = IsMade id s o
 MayStore id s (Merged t) = Unit {0}
 
+-- what is joined to the state
+abbrev pub delta_in : StoreAct → State
+delta_in (Made o) = delta_of o
+delta_in (Merged t) = t
+
 abbrev pub stored : State → StoreAct → State
-stored s (Made o) = state_join s (delta_of o)
-stored s (Merged t) = state_join s t
+stored s a = state_join s (delta_in a)
 
--- a frame carries what the node holds, and names it as its sender
-abbrev pub Carries : State → FrameBody → Type 0
-Carries s (Delta t) = t ≡ s
-Carries s (Know dots) = dots ≡ s.taken
-
-abbrev pub Releases : ℕ → State → Output → Type 0
-Releases id s (Send connection bytes) = Unit {0}
-Releases id s (Close connection) = Unit {0}
-Releases id s (Release frame) = (frame.from ≡ id) × Carries s frame.body
+-- packets and closes; a frame goes out as an act of its own
+abbrev pub IsForClient : Output → Type 0
+IsForClient (Send connection bytes) = Unit {0}
+IsForClient (Close connection) = Unit {0}
+IsForClient (Release frame) = ⊥
 
 -- the offers of a SUBACK are the retained messages that answer, at the node's moment, each filter that asks for them
 abbrev pub AreAnswers : HeldView → ℕ → List Granted → List Delivery → Type 0
@@ -77,23 +79,25 @@ Allowed p h Began = Unit {0}
 Allowed p h (Store a) = MayStore p.id h.store a
 Allowed p h (Connection a) = MayConnect h a
 Allowed p h (Session a) = MayCall h a
-Allowed p h (Out o) = Releases p.id h.store o
+Allowed p h (Bridge a) = MayBridge p h a
+Allowed p h (Out o) = IsForClient o
 Allowed p h (Named number) = h.named < number
 Allowed p h (Acknowledged client packet at grants offers) = AreAnswers h at grants offers
-Allowed p h (Passed m copies lost) = (h.turn < 2 ^ 62) × IsPassed p h m copies lost
+Allowed p h (Passed m copies lost routes) = (h.turn < 2 ^ 62) × IsPassed p h m copies lost routes
 Allowed p h Dropped = Unit {0}
 
 -- what it leaves
 abbrev pub next : HeldView → Act → HeldView
 next h (Moment at) = record h { at = max h.at at }
 next h Began = record h { started = true }
-next h (Store a) = record h { store = stored h.store a }
+next h (Store a) = record h { store = stored h.store a; bridge = keeps (delta_in a) h.bridge }
 next h (Connection a) = connected h a
 next h (Session a) = called h a
+next h (Bridge a) = bridged h a
 next h (Out o) = h
 next h (Named number) = record h { named = number }
 next h (Acknowledged client packet at grants offers) = h
-next h (Passed m copies lost) = record h { turn = h.turn + 1; counts = record h.counts { picks_lost = more lost h.counts.picks_lost } }
+next h (Passed m copies lost routes) = record h { turn = h.turn + 1; counts = record h.counts { picks_lost = more lost h.counts.picks_lost } }
 next h Dropped = record h { counts = record h.counts { retained_full = more 1 h.counts.retained_full } }
 
 abbrev pub Does : Place → HeldView → Act → HeldView → Type 0
@@ -117,10 +121,11 @@ op_in (Store (Made o)) = o ∷ []
 op_in (Store (Merged s)) = []
 op_in (Connection a) = []
 op_in (Session a) = []
+op_in (Bridge a) = []
 op_in (Out o) = []
 op_in (Named number) = []
 op_in (Acknowledged client packet at grants offers) = []
-op_in (Passed m copies lost) = []
+op_in (Passed m copies lost routes) = []
 op_in Dropped = []
 
 -- the states that were merged
@@ -131,11 +136,26 @@ merge_in (Store (Made o)) = []
 merge_in (Store (Merged s)) = s ∷ []
 merge_in (Connection a) = []
 merge_in (Session a) = []
+merge_in (Bridge a) = []
 merge_in (Out o) = []
 merge_in (Named number) = []
 merge_in (Acknowledged client packet at grants offers) = []
-merge_in (Passed m copies lost) = []
+merge_in (Passed m copies lost routes) = []
 merge_in Dropped = []
+
+-- what was taken from another node but states: a message of its lane, how many of this node's it has taken, and its dots
+abbrev pub heard_in : Act → List BridgeAct
+heard_in (Moment at) = []
+heard_in Began = []
+heard_in (Store a) = []
+heard_in (Connection a) = []
+heard_in (Session a) = []
+heard_in (Bridge a) = heard_of a
+heard_in (Out o) = []
+heard_in (Named number) = []
+heard_in (Acknowledged client packet at grants offers) = []
+heard_in (Passed m copies lost routes) = []
+heard_in Dropped = []
 
 -- what was given out
 abbrev pub output_in : Act → List Output
@@ -144,8 +164,9 @@ output_in Began = []
 output_in (Store a) = []
 output_in (Connection a) = []
 output_in (Session a) = session_outputs a
+output_in (Bridge a) = bridge_outputs a
 output_in (Out o) = o ∷ []
 output_in (Named number) = []
 output_in (Acknowledged client packet at grants offers) = []
-output_in (Passed m copies lost) = []
+output_in (Passed m copies lost routes) = []
 output_in Dropped = []

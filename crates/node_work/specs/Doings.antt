@@ -1,6 +1,18 @@
 -- Work of one act or two.
-use Rattle.std.specs.Prelude.{ℕ, ◌^◌, not, nat_lt, Bool, true, false, List, Option}
+use Rattle.std.specs.Prelude.{ℕ, ◌^◌, not, nat_le, nat_lt, Bool, true, false, List, length, Option}
+use Rattle.bridge_deltas.specs.declared.offer.Offer.{Offer}
+use Rattle.bridge_deltas.specs.declared.offer.Offer.TheVariants.{Queued, Full, AtEnd}
+use Rattle.bridge_frames.specs.declared.body.FrameBody.{FrameBody}
+use Rattle.bridge_frames.specs.declared.forward.Forward.{Forward}
+use Rattle.bridge_frames.specs.declared.frame.BridgeFrame.{BridgeFrame}
+use Rattle.bridge_frames.specs.Frames.{content, limit}
+use Rattle.message_routes.specs.declared.destinations.Route.{Route}
+use Rattle.message_routes.specs.declared.destinations.Route.TheVariants.{Nothing, Lane, TooLarge}
 use Rattle.mqtt_packets.specs.declared.packet.Packet.{Packet}
+use Rattle.node_bridge.specs.View.{offer_to}
+use Rattle.node_work.specs.declared.counts.Missed.{Missed}
+use Rattle.node_work.specs.declared.counts.Missed.TheVariants.{LaneFull, FrameTooLarge}
+use Rattle.node_work.specs.View.{HeldView}
 use Rattle.mqtt_packets.specs.Written.{written}
 use Rattle.mqtt_sessions.specs.Answers.{disconnect}
 use Rattle.replica_store.specs.declared.content.Content.{Content}
@@ -8,11 +20,12 @@ use Rattle.replica_store.specs.Making.{put_of, subscribe_of}
 use Rattle.subscription_set.specs.declared.entry.Entry.{Entry}
 use Rattle.subscription_set.specs.Standing.{any_of}
 use Rattle.node_work.specs.declared.outcome.Output.TheVariants.{Send}
-use Rattle.node_work.specs.Acts.{Moment, Store, Made, Connection, Out}
+use Rattle.node_work.specs.Acts.{Moment, Store, Made, Connection, Bridge, Out}
+use Rattle.node_work.specs.Held.Bridge.{Put, Gave, Left_out}
 use Rattle.node_work.specs.Held.Connections.{Opened, is_open}
 use Rattle.node_work.specs.Held.Making.{number_at_end, put_at_end, removal}
 use Rattle.node_work.specs.Held.Sessions.{takes_disconnect}
-use Rattle.node_work.specs.Working.{Doing, Returns, Acting, Numbered, Looks, If, Then}
+use Rattle.node_work.specs.Working.{Doing, Returns, Stops, Acting, Numbered, Looks, If, Then}
 
 -- a moment of 2^62 or later can't be had
 abbrev pub TakesMoment : ℕ → Option (Unit {0}) → Doing
@@ -46,3 +59,37 @@ Sends c packet = Acting (λ p h. Out (Send c (written packet)))
 -- the server's DISCONNECT, unless it is longer than the client takes (MQTT 5.0, 3.14)
 abbrev pub Disconnects : ℕ → List ℕ → ℕ → Option (Unit {0}) → Doing
 Disconnects c client code = Looks (λ p h. takes_disconnect client code h) (λ taken. If taken (Sends c (disconnect code)) (Returns tt))
+
+-- ---- other nodes
+
+-- something is left out, and counted
+abbrev pub Misses : Missed → Option (Unit {0}) → Doing
+Misses what = Acting (λ p h. Bridge (Left_out what))
+
+-- a message for clients of another node joins the lane to it; where too many wait there it is left out
+abbrev pub PutsBy : ℕ → Forward → Offer → Option (Unit {0}) → Doing
+PutsBy peer m (Queued n) = Acting (λ p h. Bridge (Put peer m))
+PutsBy peer m Full = Misses LaneFull
+PutsBy peer m AtEnd = Stops
+
+abbrev pub Puts : ℕ → Forward → Option (Unit {0}) → Doing
+Puts peer m = Looks (λ p h. offer_to peer h.bridge) (PutsBy peer m)
+
+-- what becomes of a message at another node; one that is too large for a frame is left out
+abbrev pub RoutesBy : ℕ → Route → Option (Unit {0}) → Doing
+RoutesBy peer Nothing = Returns tt
+RoutesBy peer (Lane m) = Puts peer m
+RoutesBy peer TooLarge = Misses LaneFull
+
+abbrev pub Routes : ℕ × Route → Option (Unit {0}) → Doing
+Routes x = RoutesBy x.0 x.1
+
+-- a frame goes out, unless more would follow its length than may
+abbrev pub is_small : BridgeFrame → Bool
+is_small f = nat_le (length (content.bytes f)) limit
+
+abbrev pub GivesFrame : BridgeFrame → Option (Unit {0}) → Doing
+GivesFrame f = If (is_small f) (Acting (λ p h. Bridge (Gave f))) (Misses FrameTooLarge)
+
+abbrev pub Gives : ℕ → (HeldView → FrameBody) → Option (Unit {0}) → Doing
+Gives peer body = Looks (λ p h. record { from = p.id; to = peer; body = body h }) GivesFrame

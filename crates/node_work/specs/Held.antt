@@ -1,4 +1,5 @@
 -- What is done to what a node holds.
+pub mod Bridge
 pub mod Calling
 pub mod Connections
 pub mod Feeding

@@ -1,6 +1,10 @@
 -- What of a node outlives its run, and the changes of its rows.
-use Rattle.std.specs.Prelude.{◌≡◌, ◌==◌, ◌||◌, ◌<◌, ◌^◌, ℕ, Bool, List, ◌++◌, Some, option_map}
+use Rattle.std.specs.Prelude.{◌≡◌, ◌==◌, ◌||◌, ◌<◌, ◌^◌, ℕ, Bool, List, ◌++◌, length, Some, option_map}
 use Rattle.std.specs.FinMap as map
+use Rattle.bridge_deltas.specs.Links.{LinksView, opened_links}
+use Rattle.bridge_frames.specs.declared.forward.Forward.{Forward}
+use Rattle.lane_rows.specs.Reading.{AreLanes}
+use Rattle.message_lanes.specs.Lanes.{Lanes}
 use Rattle.mqtt_sessions.specs.Saved.{durable_of}
 use Rattle.node_rows.specs.Reading.{AreOpened}
 use Rattle.node_rows.specs.Rows.{Lasting, node_row}
@@ -13,9 +17,10 @@ use Rattle.store_rows.specs.Reading.{IsStore}
 use Rattle.store_rows.specs.Rows.{row_at}
 use Rattle.node_work.specs.View.{HeldView, WorkView, woken}
 
--- what lasts of what a node holds: not its moment, its connections, its turn or its counts
+-- what lasts of what a node holds: not its moment, its connections, what it believes of other nodes, the last deltas, its turn or its counts
 abbrev pub lasting : HeldView → Lasting
-lasting h = record { named = h.named; sessions = λ client. option_map (λ (s : Seat). durable_of s.session) (map.get h.sessions client); store = h.store }
+lasting h =
+    record { named = h.named; sessions = λ client. option_map (λ (s : Seat). durable_of s.session) (map.get h.sessions client); store = h.store; lanes = h.bridge.lanes }
 
 -- its rows, if it is node `id`
 abbrev pub held_row : ℕ → HeldView → Rows
@@ -26,10 +31,15 @@ pub record CanLast (h : HeldView) : Type 0 where
   pub named : h.named < 2 ^ 62
   pub sessions : (client : List ℕ) (seat : Seat) → map.get h.sessions client ≡ Some seat → IsDurable (durable_of seat.session) × ((durable_of seat.session).client ≡ client)
   pub store : IsStore h.store
+  pub lanes : AreLanes (length h.bridge.lanes) h.bridge.lanes
 
 -- a node that was just opened holds what lasts of it, each session on no connection
 abbrev pub IsWoken : Lasting → HeldView → Type 0
-IsWoken x h = (seats : Seats) × AreOpened x seats × (h ≡ woken x.named seats x.store)
+IsWoken x h = (seats : Seats) × AreOpened x seats × (h ≡ woken x.named seats x.store x.lanes)
+
+-- what a node keeps for its peers is as it is opened with these lanes
+abbrev pub AreOpenedWith : LinksView → Lanes Forward → Type 0
+AreOpenedWith links lanes = (id : ℕ) × (nodes : ℕ) × (links ≡ opened_links id nodes lanes)
 
 -- changes are appended that lead from the rows before to those after
 abbrev pub TellsOn : Rows → List Change → List Change → Rows → Type 0

@@ -2,6 +2,7 @@ pub mod Acts
 pub mod Calling
 pub mod Doings
 pub mod Frames
+pub mod Handed
 pub mod Held
 pub mod Lasting
 pub mod Names

@@ -1,6 +1,6 @@
 -- Which copies of a message a node makes (MQTT 5.0, 3.3.4 and 4.8.2).
-use Rattle.std.specs.Prelude.{◌≡◌, ℕ, ◌<◌, ◌^◌, ◌==◌, ◌&&◌, ◌||◌, not, nat_lt, Bool, cond, if◌then◌else◌, List, [], ◌∷◌, ◌++◌, length, map as map_list}
-use Rattle.std.specs.List.{filter}
+use Rattle.std.specs.Prelude.{◌≡◌, ℕ, ◌<◌, ◌^◌, ◌==◌, ◌&&◌, ◌||◌, not, nat_eq, nat_lt, Bool, cond, if◌then◌else◌, List, [], ◌∷◌, ◌++◌, length, map as map_list}
+use Rattle.std.specs.List.{filter, range_with_len}
 use Rattle.std.specs.FinMap as map
 use Rattle.filter_trie.specs.Selected.{IsSelected}
 use Rattle.home_table.specs.Homes.{IsHome}
@@ -9,12 +9,15 @@ use Rattle.message_copies.specs.declared.groups.GroupPick.{GroupPick}
 use Rattle.message_copies.specs.Copies.{AreCopies}
 use Rattle.message_copies.specs.Picks.{ArePicks}
 use Rattle.mqtt_message.specs.declared.message.Message.{Message}
+use Rattle.message_routes.specs.declared.destinations.Destinations.{Destinations}
+use Rattle.message_routes.specs.declared.destinations.Route.{Route}
+use Rattle.message_routes.specs.Routes.{AreFor, forward_at, route_of}
 use Rattle.replica_store.specs.declared.content.Content.{Content}
 use Rattle.replica_store.specs.declared.content.Content.TheVariants.{Set, Cleared}
 use Rattle.replica_store.specs.States.{State}
 use Rattle.subscription_set.specs.Standing.{live}
 use Rattle.node_work.specs.Held.Sessions.{has_session}
-use Rattle.node_work.specs.View.{Place, HeldView}
+use Rattle.node_work.specs.View.{Place, HeldView, nodes_of}
 
 -- those for clients that have a session here, and the others
 abbrev pub seated : HeldView → List Copy → List Copy
@@ -30,9 +33,18 @@ pick_copy x = record { client = x.client; delivery = x.delivery }
 abbrev pub IsHomed : Place → List GroupPick → List Copy → Type 0
 IsHomed p picks out = (homed : List GroupPick) × IsSelected (λ x. IsHome p.homes x.client p.id) picks homed × (out ≡ map_list pick_copy homed)
 
+-- the other nodes of the cluster, rising
+abbrev pub others : Place → List ℕ
+others p = filter (λ n. not (nat_eq n p.id)) (range_with_len 0 (nodes_of p))
+
+-- what becomes of a message at each of them, by the homes of the clients that have copies and picks
+abbrev pub AreRoutes : Place → List Copy → List GroupPick → Message → List (ℕ × Route) → Type 0
+AreRoutes p plain picks m routes = (d : Destinations) × AreFor p.homes plain picks d × (routes ≡ map_list (λ peer. (peer, route_of (forward_at peer m d))) (others p))
+
 -- what goes to sessions here: a copy for each client with plain subscriptions that match, in the order of the clients' bytes,
--- and then one for each group that matches, where the member that is picked has its home here; picks without a session are lost
-pub record IsPassed (p : Place) (h : HeldView) (m : Message) (copies : List Copy) (lost : ℕ) : Type 0 where
+-- and then one for each group that matches, where the member that is picked has its home here; picks without a session are lost; and
+-- what goes to the other nodes
+pub record IsPassed (p : Place) (h : HeldView) (m : Message) (copies : List Copy) (lost : ℕ) (routes : List (ℕ × Route)) : Type 0 where
   pub plain : List Copy
   pub picks : List GroupPick
   pub homed : List Copy
@@ -41,6 +53,7 @@ pub record IsPassed (p : Place) (h : HeldView) (m : Message) (copies : List Copy
   pub are_here : IsHomed p picks homed
   pub copies_are : copies ≡ seated h plain ++ seated h homed
   pub lost_are : lost ≡ length (unseated h homed)
+  pub routes_are : AreRoutes p plain picks m routes
 
 -- the messages that were passed on before are 2^62
 abbrev pub turn_at_end : Place → HeldView → Bool

@@ -5,7 +5,10 @@ use Rattle.std.specs.Ordering.{nat_cmp}
 use Rattle.std.specs.FinMap.{FinMap}
 use Rattle.std.specs.FinMap as map
 use Rattle.mqtt_packets.specs.Stream.{Held}
+use Rattle.bridge_frames.specs.declared.forward.Forward.{Forward}
 use Rattle.home_table.specs.Table.{Table, coded_table}
+use Rattle.message_lanes.specs.Lanes.{Lanes, new_lanes}
+use Rattle.node_bridge.specs.View.{BridgeView, woken_bridge, coded_bridge}
 use Rattle.replica_store.specs.States.{State, nothing, coded_state}
 use Rattle.session_table.specs.Seats.{Seats, coded_seats}
 use Rattle.node_work.specs.declared.counts.Counts.{Counts}
@@ -27,14 +30,15 @@ pub record ConnectionView : Type 0 where
   pub client : Option (List ℕ)
 
 -- what a running node holds: the greatest moment that it was handed, whether it has started, the replicated state, the open
--- connections by their numbers, the sessions by their clients, how many messages it has passed on, the number of the last
--- client identifier that it gave, and its counts
+-- connections by their numbers, the sessions by their clients, what it keeps for the other nodes, how many messages it has passed
+-- on, the number of the last client identifier that it gave, and its counts
 pub record HeldView : Type 0 where
   pub at : ℕ
   pub started : Bool
   pub store : State
   pub connections : FinMap nat_cmp ConnectionView
   pub sessions : Seats
+  pub bridge : BridgeView
   pub turn : ℕ
   pub named : ℕ
   pub counts : Counts
@@ -52,18 +56,19 @@ pub record NodeView : Type 0 where
   pub up : Option HeldView
 
 abbrev pub no_counts : Counts
-no_counts = record { queue_full = 0; retained_full = 0; picks_lost = 0 }
+no_counts = record { queue_full = 0; retained_full = 0; picks_lost = 0; lane_full = 0; bad_frames = 0; frames_too_large = 0 }
 
 -- a node that was just opened, with what lasts of it
-abbrev pub woken : ℕ → Seats → State → HeldView
-woken named sessions store = record { at = 0; started = false; store = store; connections = map.empty; sessions = sessions; turn = 0; named = named; counts = no_counts }
+abbrev pub woken : ℕ → Seats → State → Lanes Forward → HeldView
+woken named sessions store lanes =
+    record { at = 0; started = false; store = store; connections = map.empty; sessions = sessions; bridge = woken_bridge lanes; turn = 0; named = named; counts = no_counts }
 
--- a new one
-abbrev pub fresh : HeldView
-fresh = woken 0 map.empty nothing
+-- a new one, in a cluster of so many nodes
+abbrev pub fresh : ℕ → HeldView
+fresh nodes = woken 0 map.empty nothing (new_lanes nodes)
 
 abbrev pub opened : Place → NodeView
-opened place = record { place = place; up = Some fresh }
+opened place = record { place = place; up = Some (fresh (nodes_of place)) }
 
 -- nothing is said of what a node holds once it has stopped
 abbrev pub up_of : Bool → HeldView → Option HeldView
@@ -80,14 +85,17 @@ abbrev pub coded_connection : Coded ConnectionView
 coded_connection = code_by (Held × Option (List ℕ)) (coded× coded_stream (coded_option (coded_list coded_ℕ))) (λ c. (c.stream, c.client)) (λ p. record { stream = p.0; client = p.1 }) (λ _. refl)
 
 abbrev pub coded_counts : Coded Counts
-coded_counts = code_by (ℕ × (ℕ × ℕ)) (coded× coded_ℕ (coded× coded_ℕ coded_ℕ)) (λ c. (c.queue_full, (c.retained_full, c.picks_lost))) (λ p. record { queue_full = p.0; retained_full = p.1.0; picks_lost = p.1.1 }) (λ _. refl)
+coded_counts =
+    code_by (ℕ × (ℕ × (ℕ × (ℕ × (ℕ × ℕ))))) (coded× coded_ℕ (coded× coded_ℕ (coded× coded_ℕ (coded× coded_ℕ (coded× coded_ℕ coded_ℕ)))))
+    (λ c. (c.queue_full, (c.retained_full, (c.picks_lost, (c.lane_full, (c.bad_frames, c.frames_too_large))))))
+    (λ p. record { queue_full = p.0; retained_full = p.1.0; picks_lost = p.1.1.0; lane_full = p.1.1.1.0; bad_frames = p.1.1.1.1.0; frames_too_large = p.1.1.1.1.1 }) (λ _. refl)
 
 abbrev pub coded_held : Coded HeldView
 coded_held =
-    code_by (ℕ × (Bool × (State × (FinMap nat_cmp ConnectionView × (Seats × (ℕ × (ℕ × Counts)))))))
-    (coded× coded_ℕ (coded× coded_bool (coded× coded_state (coded× (map.code coded_ℕ coded_connection) (coded× coded_seats (coded× coded_ℕ (coded× coded_ℕ coded_counts)))))))
-    (λ h. (h.at, (h.started, (h.store, (h.connections, (h.sessions, (h.turn, (h.named, h.counts))))))))
-    (λ p. record { at = p.0; started = p.1.0; store = p.1.1.0; connections = p.1.1.1.0; sessions = p.1.1.1.1.0; turn = p.1.1.1.1.1.0; named = p.1.1.1.1.1.1.0; counts = p.1.1.1.1.1.1.1 }) (λ _. refl)
+    code_by (ℕ × (Bool × (State × (FinMap nat_cmp ConnectionView × (Seats × (BridgeView × (ℕ × (ℕ × Counts))))))))
+    (coded× coded_ℕ (coded× coded_bool (coded× coded_state (coded× (map.code coded_ℕ coded_connection) (coded× coded_seats (coded× coded_bridge (coded× coded_ℕ (coded× coded_ℕ coded_counts))))))))
+    (λ h. (h.at, (h.started, (h.store, (h.connections, (h.sessions, (h.bridge, (h.turn, (h.named, h.counts)))))))))
+    (λ p. record { at = p.0; started = p.1.0; store = p.1.1.0; connections = p.1.1.1.0; sessions = p.1.1.1.1.0; bridge = p.1.1.1.1.1.0; turn = p.1.1.1.1.1.1.0; named = p.1.1.1.1.1.1.1.0; counts = p.1.1.1.1.1.1.1.1 }) (λ _. refl)
 
 abbrev pub coded_node : Coded NodeView
 coded_node = code_by (Place × Option HeldView) (coded× coded_place (coded_option coded_held)) (λ n. (n.place, n.up)) (λ p. record { place = p.0; up = p.1 }) (λ _. refl)

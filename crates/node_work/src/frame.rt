@@ -1,35 +1,33 @@
 //! What nodes send to one another.
 
-ghost use Rattle.std.specs.Prelude.{◌≡◌, Some, IfOk};
+ghost use Rattle.std.specs.Prelude.{◌≡◌, ◌≤◌, ◌<◌, length, Some, IfOk, IsErrOf, OnOk};
+ghost use Rattle.bridge_frames.specs.Frames.{HasSpelling, IsPlain, content, limit};
+ghost use Rattle.node_work.specs.Held.Bridge.{written_frame};
 ghost use Rattle.node_work.specs.Names.{frame_name, kind_of};
 
-use causal_context::Context;
+use bridge_frames::{BridgeFrame, FrameBody, LinkFault};
 use mqtt_fields::NoMemory;
-use replica_store::ReplicaStore;
+use mqtt_packets::Bytes;
+use std::alloc::Global;
 use std::fmt;
 
-/// A frame between two nodes, by their numbers.
+/// A frame between two nodes, by their numbers, as it is sent.
 #[derive(Drop)]
 pub struct Frame {
     pub from: u16,
     pub to: u16,
-    pub body: FrameBody,
-}
-
-/// What a frame carries.
-#[derive(Drop)]
-pub enum FrameBody {
-    /// A state to be merged.
-    Delta(ReplicaStore),
-    /// The dots that the sender has taken.
-    Know(Context),
+    pub kind: FrameKind,
+    pub bytes: Bytes,
 }
 
 /// The kinds of frames.
 #[derive(Clone, Copy, Debug, PartialEq, Eq)]
 pub enum FrameKind {
+    Hello,
     Delta,
     Know,
+    Forward,
+    Got,
 }
 
 impl fmt::Display for FrameKind {
@@ -37,34 +35,55 @@ impl fmt::Display for FrameKind {
 
     fn fmt<W: fmt::Write>(&self, f: &mut fmt::Formatter<W>) -> fmt::Result {
         match self {
+            FrameKind::Hello => write!(f, "hello"),
             FrameKind::Delta => write!(f, "delta"),
             FrameKind::Know => write!(f, "know"),
+            FrameKind::Forward => write!(f, "forward"),
+            FrameKind::Got => write!(f, "got"),
         }
     }
 }
 
-impl Frame {
-    pub fn kind(&self) -> FrameKind
-        ensures { result ≡ kind_of self.now.body }
-    {
-        match &self.body {
-            FrameBody::Delta(_) => FrameKind::Delta,
-            FrameBody::Know(_) => FrameKind::Know,
-        }
+/// The kind of a frame that says this.
+pub(crate) fn kind_of(body: &FrameBody) -> FrameKind
+    ensures { result ≡ kind_of body.now }
+{
+    match body {
+        FrameBody::Hello => FrameKind::Hello,
+        FrameBody::Delta(_) => FrameKind::Delta,
+        FrameBody::Know(_) => FrameKind::Know,
+        FrameBody::Forward(_, _) => FrameKind::Forward,
+        FrameBody::Got(_) => FrameKind::Got,
     }
+}
 
+/// A frame as it is sent. TooLarge where more would follow its length than may.
+pub(crate) fn written_frame(alloc: Global, frame: &BridgeFrame) -> Result<Frame, LinkFault>
+    ensures ok { IfOk result (λ written. written ≡ written_frame frame.now) }
+    ensures small { OnOk result (length (content.bytes frame.now) ≤ limit) }
+    ensures spelled { OnOk result (IsPlain frame.now.body → HasSpelling frame.now) }
+    ensures large { IsErrOf result LinkFault.TooLarge → limit < length (content.bytes frame.now) }
+{
+    let mut bytes = Vec::new(alloc);
+    frame.write(alloc, &mut bytes)?;
+    Ok(Frame {
+        from: frame.from,
+        to: frame.to,
+        kind: kind_of(&frame.body),
+        bytes: Bytes::new(bytes),
+    })
+}
+
+impl Frame {
     /// An equal frame.
-    pub fn copy(&self) -> Result<Frame, NoMemory>
+    pub fn copy(&self, alloc: Global) -> Result<Frame, NoMemory>
         ensures { IfOk result (λ copy. copy ≡ self.now) }
     {
-        let body = match &self.body {
-            FrameBody::Delta(state) => FrameBody::Delta(state.copy()?),
-            FrameBody::Know(taken) => FrameBody::Know(taken.copy()?),
-        };
         Ok(Frame {
             from: self.from,
             to: self.to,
-            body,
+            kind: self.kind,
+            bytes: self.bytes.copy(alloc)?,
         })
     }
 }

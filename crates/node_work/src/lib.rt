@@ -10,9 +10,9 @@ mod outcome;
 mod packets;
 mod work;
 
-pub use counts::Counts;
+pub use counts::{Counts, Missed};
 pub use fault::NodeFault;
-pub use frame::{Frame, FrameBody, FrameKind};
+pub use frame::{Frame, FrameKind};
 pub use granted::{Asked, Granted};
 pub use held::Held;
 pub use held::connections::Came;

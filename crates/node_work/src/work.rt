@@ -1,5 +1,7 @@
 //! A node at work on an event.
 
+mod bridging;
+
 ghost use Rattle.std.specs.Prelude.{◌≡◌, ◌<◌, ◌≤◌, ◌^◌, ℕ, List, map, true, false, is_some, [], ◌∷◌, ◌++◌, OnOk, IfOk, IfErr, IsOk, Ok, Err, Some, None};
 ghost use Rattle.std.specs.Option.{option_copied};
 ghost use Rattle.mqtt_packets.specs.Written.{HasSpelling, written};
@@ -25,14 +27,16 @@ ghost use Rattle.store_rows.specs.Reading.{IsStore};
 ghost use Rattle.row_changes.specs.Gathered.{AreOnce, LeaveAlike};
 ghost use Rattle.message_copies.specs.declared.plain.PlainCopy.{PlainCopy as Copy};
 ghost use Rattle.node_work.specs.Passing.{IsPassed, turn_at_end};
-ghost use Rattle.node_work.specs.Lasting.{CanLast};
+ghost use Rattle.node_work.specs.Lasting.{AreOpenedWith, CanLast};
+ghost use Rattle.bridge_frames.specs.declared.forward.Forward.{Forward};
+ghost use Rattle.message_lanes.specs.Lanes.{Lanes};
+ghost use Rattle.message_routes.specs.declared.destinations.Route.{Route};
 ghost use Rattle.node_work.specs.View.{HeldView, Place, woken};
 ghost use Rattle.node_work.specs.Working.{Comes, Acting, Numbered, Returns, If};
 ghost use Rattle.node_work.specs.declared.granted.Granted.{Granted};
 ghost use Rattle.node_work.specs.declared.fault.NodeFault.TheVariants.{NoMemory, NumbersAtEnd};
 
 use crate::fault::NodeFault;
-use crate::frame::{Frame, FrameBody};
 use crate::held::Held;
 use crate::held::connections::Came;
 use crate::outcome::{Outcome, Output};
@@ -117,7 +121,9 @@ impl Work {
     pub fn wake(alloc: Global, id: u16, homes: HomeTable, opened: Opened) -> Work
         requires named { opened.named < 2 ^ 62 }
         requires store { IsStore opened.store }
-        ensures { result ≡ record { place = record { id = id; homes = homes }; held = woken opened.named opened.sessions opened.store; outputs = []; changes = [] } }
+        requires lanes { (lanes : Lanes Forward) × AreOpenedWith opened.links lanes }
+        ensures { (lanes : Lanes Forward) → AreOpenedWith opened.links lanes
+            → result ≡ record { place = record { id = id; homes = homes }; held = woken opened.named opened.sessions opened.store lanes; outputs = []; changes = [] } }
     {
         Work {
             alloc,
@@ -240,8 +246,9 @@ impl Work {
             .put(self.alloc, self.id, content, &mut self.changes)
     }
 
-    pub fn merge(&mut self, state: &ReplicaStore) -> Result<(), NodeFault>
-        ensures { Comes (λ x. x) result self.old self.new (Acting (λ p h. Store (Merged state.now))) }
+    /// Merges a state, and keeps it for the other nodes.
+    pub fn merge(&mut self, state: ReplicaStore) -> Result<(), NodeFault>
+        ensures { Comes (λ x. x) result self.old self.new (Acting (λ p h. Store (Merged state))) }
     {
         self.held.merge(self.alloc, state, &mut self.changes)
     }
@@ -249,6 +256,7 @@ impl Work {
     /// Opens a connection that isn't open.
     pub fn open(&mut self, connection: u64) -> Result<(), NodeFault>
         ensures comes { Comes (λ x. x) result self.old self.new (Opens connection) }
+        ensures same { self.new.changes ≡ self.old.changes }
         ensures idle { is_open connection self.old.held ≡ true → (result ≡ Ok tt) × (self.new ≡ self.old) }
     {
         if self.held.is_open(connection) {
@@ -269,7 +277,8 @@ impl Work {
 
     /// Gives an open connection its client.
     pub fn accept(&mut self, connection: u64, client: &Text) -> Result<(), NodeFault>
-        ensures { Comes (λ x. x) result self.old self.new (Acting (λ p h. Connection (Accepted connection client.now))) }
+        ensures comes { Comes (λ x. x) result self.old self.new (Acting (λ p h. Connection (Accepted connection client.now))) }
+        ensures same { self.new.changes ≡ self.old.changes }
     {
         self.held.accept(self.alloc, connection, client)
     }
@@ -285,6 +294,7 @@ impl Work {
     /// Takes a connection out. It takes no memory.
     pub fn close(&mut self, connection: u64) -> Result<(), NodeFault>
         ensures comes { Comes (λ x. x) result self.old self.new (Acting (λ p h. Connection (Closed connection))) }
+        ensures same { self.new.changes ≡ self.old.changes }
         ensures done { result ≡ Ok tt }
     {
         self.held.close(connection);
@@ -327,14 +337,6 @@ impl Work {
         self.send(connection, &packet, limit)
     }
 
-    /// Gives a frame of what the node holds to another node.
-    pub fn release(&mut self, frame: Frame) -> Result<(), NodeFault>
-        ensures ok { OnOk result (self.new ≡ record self.old { outputs = self.old.outputs ++ Output.Frame frame ∷ [] }) }
-        ensures fault { IfErr result (λ e. e ≡ NoMemory) }
-    {
-        self.give(Output::Frame { frame })
-    }
-
     /// Gives a client the number of its identifier.
     pub fn name(&mut self, number: u64) -> Result<(), NodeFault>
         requires later { self.old.held.named < number }
@@ -347,10 +349,11 @@ impl Work {
         Ok(())
     }
 
-    /// Begins to make the copies of a message.
+    /// Begins to make the copies of a message, and to hand it to other nodes.
     pub fn pass(&mut self, lost: u64) -> Result<(), NodeFault>
-        ensures comes { (m : Message) (copies : List Copy) → IsPassed self.old.place self.old.held m copies lost
-            → Comes (λ x. x) result self.old self.new (Numbered turn_at_end (λ p h. Passed m copies lost)) }
+        ensures comes { (m : Message) (copies : List Copy) (routes : List (ℕ × Route)) → IsPassed self.old.place self.old.held m copies lost routes
+            → Comes (λ x. x) result self.old self.new (Numbered turn_at_end (λ p h. Passed m copies lost routes)) }
+        ensures same { self.new.changes ≡ self.old.changes }
         ensures fault { IfErr result (λ e. e ≡ NumbersAtEnd) }
     {
         if self.held.turn() >= TURNS_END {
@@ -364,6 +367,7 @@ impl Work {
     pub fn acknowledge(&mut self) -> Result<(), NodeFault>
         ensures comes { (client : List ℕ) (packet : ℕ) (grants : List Granted) (offers : List Delivery) → AreAnswers self.old.held self.old.held.at grants offers
             → Comes (λ x. x) result self.old self.new (Acting (λ p h. Acknowledged client packet h.at grants offers)) }
+        ensures same { self.new.changes ≡ self.old.changes }
         ensures done { result ≡ Ok tt }
     {
         Ok(())
@@ -372,6 +376,7 @@ impl Work {
     /// Drops a retained message for want of room.
     pub fn drop_retained(&mut self) -> Result<(), NodeFault>
         ensures comes { Comes (λ x. x) result self.old self.new (Acting (λ p h. Dropped)) }
+        ensures same { self.new.changes ≡ self.old.changes }
         ensures done { result ≡ Ok tt }
     {
         self.held.drop_retained();

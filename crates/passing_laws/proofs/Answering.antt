@@ -35,9 +35,8 @@ use Rattle.passing_laws.specs.Publishing.{Gives}
 use Rattle.passing_laws.specs.Asking.{IsGranted, AreGranted, IsRemoved, AreRemoved, AreInUse, ComesAfter, Subscribes, Unsubscribes, SubackTells, UnsubackTells}
 use Rattle.passing_laws.proofs.Codes.{codes_tell, subscribing_after, unsubscribing_after}
 use Rattle.passing_laws.proofs.Keeping.{calling_by, Property, IsOther, IsPlain, Joins, Keeps, none_some, k_returns, k_if, k_inturn}
-use Rattle.passing_laws.proofs.Passing.{left_by}
 use Rattle.passing_laws.proofs.Requests.{are_granted, are_removed}
-use Rattle.passing_laws.proofs.Splits.{head_is, tail_is, none_there, splits, runs_split}
+use Rattle.passing_laws.proofs.Splits.{head_is, tail_is, none_there, left_by, splits, runs_split}
 use Rattle.passing_laws.proofs.Work.{passes, drops, closes_after, grants, offers_after, unsubscribed}
 use Rattle.passing_laws.proofs.Events.{decides}
 

@@ -5,15 +5,23 @@ use Rattle.mqtt_packets.specs.declared.fault.PacketFault.{PacketFault}
 use Rattle.mqtt_packets.specs.declared.packet.Packet.{Packet}
 use Rattle.mqtt_packets.specs.declared.packet.Packet.TheVariants as packets
 use Rattle.due_times.specs.Dues.{Due}
+use Rattle.message_copies.specs.declared.plain.PlainCopy.{PlainCopy as Copy}
 use Rattle.session_laws.specs.Runs.{closes, ticks}
 use Rattle.session_table.specs.Calls.{stays, leaves}
 use Rattle.session_table.specs.Seats.{run_outs, wills_due, ends_due, connected}
-use Rattle.node_work.specs.declared.frame.Frame.{Frame}
-use Rattle.node_work.specs.declared.frame.FrameBody.{FrameBody}
-use Rattle.node_work.specs.declared.frame.FrameBody.TheVariants.{Delta, Know}
-use Rattle.node_work.specs.Acts.{Moment, Began, Store, Connection, Merged}
-use Rattle.node_work.specs.Calling.{Calls}
-use Rattle.node_work.specs.Doings.{TakesMoment, Removes}
+use Rattle.bridge_deltas.specs.Lane.{first_frames}
+use Rattle.bridge_frames.specs.declared.body.FrameBody.{FrameBody}
+use Rattle.bridge_frames.specs.declared.body.FrameBody.TheVariants.{Hello, Delta, Know, Forward, Got}
+use Rattle.bridge_frames.specs.declared.forward.Forward.{Forward as Message}
+use Rattle.bridge_frames.specs.declared.frame.BridgeFrame.{BridgeFrame}
+use Rattle.bridge_frames.specs.Frames.{frame_in}
+use Rattle.node_bridge.specs.View.{is_next, lane_to}
+use Rattle.replica_store.specs.States.{State}
+use Rattle.node_work.specs.declared.counts.Missed.TheVariants.{BadFrame, FrameTooLarge}
+use Rattle.node_work.specs.Acts.{Moment, Began, Store, Connection, Bridge, Merged}
+use Rattle.node_work.specs.Calling.{Calls, Queues, QueuesOne}
+use Rattle.node_work.specs.Doings.{TakesMoment, Removes, Misses, Gives, GivesFrame, is_small}
+use Rattle.node_work.specs.Held.Bridge.{Gave, Took, Got as GotBy, Believed}
 use Rattle.node_work.specs.Held.Feeding.{cut_of}
 use Rattle.node_work.specs.Held.Connections.{Closed, Fed, Opened, is_open, client_at, first_at}
 use Rattle.node_work.specs.Frames.{is_for, is_other}
@@ -21,6 +29,7 @@ use Rattle.node_work.specs.Packets.{refused_packet}
 use Rattle.node_work.specs.View.{HeldView, ConnectionView}
 use Rattle.node_work.specs.Working.{Doing, Returns, Acting, Looks, If, Then, Each}
 use Rattle.node_clients.specs.Ending as ending
+use Rattle.node_clients.specs.Passing as passing
 use Rattle.node_clients.specs.Pieces as pieces
 use Rattle.node_clients.specs.Serving as serving
 use Rattle.broker_node.specs.declared.event.Event.{Event as NodeEvent}
@@ -29,8 +38,8 @@ use Rattle.broker_node.specs.declared.event.EventKind.TheVariants as kinds
 use Rattle.broker_node.specs.Bridge as bridge
 use Rattle.broker_node.specs.Due as due
 use Rattle.broker_node.specs.Turns as turns
-use Rattle.passing_laws.proofs.Keeping.{Property, Joins, Keeps, k_returns, k_acting, k_numbered, k_looks, k_if, k_then, k_each, k_calls}
-use Rattle.passing_laws.proofs.Work.{removes, sends, disconnects, ticks_of, parts, closes_of, closes_by, connects_by}
+use Rattle.passing_laws.proofs.Keeping.{Property, Joins, Keeps, k_returns, k_acting, k_numbered, k_looks, k_finds, k_if, k_then, k_each, k_calls}
+use Rattle.passing_laws.proofs.Work.{removes, sends, disconnects, queues_one, misses, ticks_of, parts, closes_of, closes_by, connects_by}
 
 -- by what it makes of each packet of an accepted client
 module _ (T : Property) (j : Joins T) (serves : (c : ℕ) (client : List ℕ) (k : Packet) → Keeps T (serving.Serves c client k)) where
@@ -119,23 +128,60 @@ module _ (T : Property) (j : Joins T) (serves : (c : ℕ) (client : List ℕ) (k
       k_then T j due.ClosesStored (λ _. due.DoesDue) (k_looks T j (λ p h. connected h.sessions) (Each due.PartsFrom) (λ cs. k_each T j due.PartsFrom cs parts_from)) (λ _. does_due))
 
   -- ---- frames
-  gives : (peer : ℕ) (body : HeldView → FrameBody) → Keeps T (bridge.Gives peer body)
-  gives peer body = k_acting T j _ (λ p h. tt)
+  gives_frame : (f : BridgeFrame) → Keeps T (GivesFrame f)
+  gives_frame f = k_if T j (is_small f) (Acting (λ p h. Bridge (Gave f))) (Misses FrameTooLarge) (k_acting T j (λ p h. Bridge (Gave f)) (λ p h. tt)) (misses T j FrameTooLarge)
 
-  takes_body : (from : ℕ) (body : FrameBody) → Keeps T (bridge.Takes from body)
-  takes_body from (Delta s) =
-      k_then T j (Acting (λ p h. Store (Merged s))) (λ _. bridge.Gives from (λ h. Know h.store.taken)) (k_acting T j (λ p h. Store (Merged s)) (λ p h. tt)) (λ _. gives from (λ h. Know h.store.taken))
-  takes_body from (Know dots) = k_returns T j _
+  gives : (peer : ℕ) (body : HeldView → FrameBody) → Keeps T (Gives peer body)
+  gives peer body = k_looks T j (λ p h. record { from = p.id; to = peer; body = body h }) GivesFrame gives_frame
 
-  hears : (frame : Frame) → Keeps T (bridge.Hears frame)
-  hears frame =
-      k_looks T j (λ p h. is_for p frame) (λ here. If here (bridge.Takes frame.from frame.body) (Returns tt))
-      (λ here. k_if T j here (bridge.Takes frame.from frame.body) (Returns tt) (takes_body frame.from frame.body) (k_returns T j tt))
+  greets : (peer : ℕ) → Keeps T (bridge.Greets peer)
+  greets peer =
+      k_looks T j (λ p h. is_other p peer) (λ other. If other (Gives peer (λ h. Hello)) (Returns tt))
+      (λ other. k_if T j other (Gives peer (λ h. Hello)) (Returns tt) (gives peer (λ h. Hello)) (k_returns T j tt))
+
+  gives_state : (peer : ℕ) (s : Option State) → Keeps T (bridge.GivesState peer s)
+  gives_state peer None = k_returns T j tt
+  gives_state peer (Some s) = gives peer (λ h. Delta s)
+
+  ships_to : (peer : ℕ) → Keeps T (bridge.ShipsTo peer)
+  ships_to peer =
+      k_then T j (bridge.ShipsState peer) (λ _. bridge.ShipsMessages peer) (k_finds T j (bridge.AreShipped peer) (bridge.GivesState peer) (gives_state peer))
+      (λ _. k_looks T j (λ p h. first_frames p.id peer (lane_to h.bridge peer)) (Each GivesFrame) (λ fs. k_each T j GivesFrame fs gives_frame))
 
   ships : (peer : ℕ) → Keeps T (bridge.Ships peer)
   ships peer =
-      k_looks T j (λ p h. is_other p peer) (λ other. If other (bridge.Gives peer (λ h. Delta h.store)) (Returns tt))
-      (λ other. k_if T j other (bridge.Gives peer (λ h. Delta h.store)) (Returns tt) (gives peer (λ h. Delta h.store)) (k_returns T j tt))
+      k_looks T j (λ p h. is_other p peer) (λ other. If other (bridge.ShipsTo peer) (Returns tt))
+      (λ other. k_if T j other (bridge.ShipsTo peer) (Returns tt) (ships_to peer) (k_returns T j tt))
+
+  tells_taken : (from : ℕ) → Keeps T (bridge.TellsTaken from)
+  tells_taken from = gives from (λ h. Know h.store.taken)
+
+  takes_copies : (from number : ℕ) (m : Message) (x : List Copy × ℕ) → Keeps T (passing.TakesCopies from number m x)
+  takes_copies from number m x =
+      k_then T j (Acting (λ p h. Bridge (Took from number m x.0 x.1))) (λ _. Queues x.0) (k_acting T j (λ p h. Bridge (Took from number m x.0 x.1)) (λ p h. tt))
+      (λ _. k_each T j QueuesOne x.0 (queues_one T j))
+
+  takes_forward : (from number : ℕ) (m : Message) → Keeps T (passing.TakesForward from number m)
+  takes_forward from number m = k_finds T j (passing.IsHandedOver m) (passing.TakesCopies from number m) (takes_copies from number m)
+
+  takes_next : (from number : ℕ) (m : Message) → Keeps T (bridge.TakesNext from number m)
+  takes_next from number m =
+      k_looks T j (λ p h. is_next from number h.bridge) (λ next. If next (passing.TakesForward from number m) (Returns tt))
+      (λ next. k_if T j next (passing.TakesForward from number m) (Returns tt) (takes_forward from number m) (k_returns T j tt))
+
+  takes_body : (from : ℕ) (body : FrameBody) → Keeps T (bridge.Takes from body)
+  takes_body from Hello = tells_taken from
+  takes_body from (Delta s) = k_then T j (Acting (λ p h. Store (Merged s))) (λ _. bridge.TellsTaken from) (k_acting T j (λ p h. Store (Merged s)) (λ p h. tt)) (λ _. tells_taken from)
+  takes_body from (Know dots) = k_acting T j (λ p h. Bridge (Believed from dots)) (λ p h. tt)
+  takes_body from (Forward number m) =
+      k_then T j (bridge.TakesNext from number m) (λ _. Gives from (λ h. Got (lane_to h.bridge from).took)) (takes_next from number m) (λ _. gives from (λ h. Got (lane_to h.bridge from).took))
+  takes_body from (Got number) = k_acting T j (λ p h. Bridge (GotBy from number)) (λ p h. tt)
+
+  hears_frame : (frame : Option BridgeFrame) → Keeps T (bridge.HearsFrame frame)
+  hears_frame None = misses T j BadFrame
+  hears_frame (Some frame) =
+      k_looks T j (λ p h. is_for p frame) (λ here. If here (bridge.Takes frame.from frame.body) (Misses BadFrame))
+      (λ here. k_if T j here (bridge.Takes frame.from frame.body) (Misses BadFrame) (takes_body frame.from frame.body) (misses T j BadFrame))
 
   -- ---- events
   answers_kind : (kind : EventKind) → Keeps T (turns.Answers kind)
@@ -145,7 +191,8 @@ module _ (T : Property) (j : Joins T) (serves : (c : ℕ) (client : List ℕ) (k
       k_looks T j (λ p h. is_open c h) (λ is. If is (Returns tt) opens) (λ is. k_if T j is (Returns tt) opens (k_returns T j tt) (k_acting T j (λ p h. Connection (Opened c)) (λ p h. tt)))
   answers_kind (kinds.Piece c bytes) = k_looks T j (λ p h. map.get h.connections c) (pieces.PieceAt c bytes) (piece_at c bytes)
   answers_kind (kinds.Closed c) = leaves_of c
-  answers_kind (kinds.Frame frame) = hears frame
+  answers_kind (kinds.Frame bytes) = hears_frame (frame_in bytes)
+  answers_kind (kinds.Linked peer) = greets peer
   answers_kind (kinds.Ship peer) = ships peer
   answers_kind kinds.Tick = k_returns T j _
   answers_kind (kinds.Evict client) = k_then T j (Removes client None) (λ _. Returns tt) (removes T j client None) (λ _. k_returns T j tt)
@@ -158,7 +205,8 @@ module _ (T : Property) (j : Joins T) (serves : (c : ℕ) (client : List ℕ) (k
   goes_on (kinds.Opened c) = after_due (kinds.Opened c)
   goes_on (kinds.Piece c bytes) = after_due (kinds.Piece c bytes)
   goes_on (kinds.Closed c) = after_due (kinds.Closed c)
-  goes_on (kinds.Frame frame) = after_due (kinds.Frame frame)
+  goes_on (kinds.Frame bytes) = after_due (kinds.Frame bytes)
+  goes_on (kinds.Linked peer) = after_due (kinds.Linked peer)
   goes_on (kinds.Ship peer) = after_due (kinds.Ship peer)
   goes_on kinds.Tick = after_due kinds.Tick
   goes_on (kinds.Evict client) = after_due (kinds.Evict client)
@@ -168,7 +216,8 @@ module _ (T : Property) (j : Joins T) (serves : (c : ℕ) (client : List ℕ) (k
   first_turn (kinds.Opened c) = k_returns T j _
   first_turn (kinds.Piece c bytes) = k_returns T j _
   first_turn (kinds.Closed c) = k_returns T j _
-  first_turn (kinds.Frame frame) = k_returns T j _
+  first_turn (kinds.Frame bytes) = k_returns T j _
+  first_turn (kinds.Linked peer) = k_returns T j _
   first_turn (kinds.Ship peer) = k_returns T j _
   first_turn kinds.Tick = k_returns T j _
   first_turn (kinds.Evict client) = k_returns T j _

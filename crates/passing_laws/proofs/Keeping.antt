@@ -5,7 +5,7 @@ use Rattle.session_table.specs.Seats.{Seat}
 use Rattle.mqtt_sessions.specs.Reaction.{Reaction}
 use Rattle.node_work.specs.declared.outcome.Output.{Output}
 use Rattle.node_work.specs.declared.outcome.Output.TheVariants.{Send, Close, Frame as Release}
-use Rattle.node_work.specs.Acts.{Act, Moment, Began, Store, Connection, Session, Out, Named, Acknowledged, Passed, Dropped, Runs}
+use Rattle.node_work.specs.Acts.{Act, Moment, Began, Store, Connection, Session, Bridge, Out, Named, Acknowledged, Passed, Dropped, Runs}
 use Rattle.node_work.specs.Calling.{Calls, CallsAt}
 use Rattle.node_work.specs.Held.Sessions.{SessionAct, SessionStep, Begun, Called, Over, seat_at}
 use Rattle.node_work.specs.View.{Place, HeldView}
@@ -45,10 +45,11 @@ IsPlain Began = Unit {0}
 IsPlain (Store a) = Unit {0}
 IsPlain (Connection a) = Unit {0}
 IsPlain (Session a) = IsOtherCall a
+IsPlain (Bridge a) = Unit {0}
 IsPlain (Out o) = IsPlainOutput o
 IsPlain (Named number) = Unit {0}
 IsPlain (Acknowledged client packet at grants offers) = Unit {0}
-IsPlain (Passed m copies lost) = Unit {0}
+IsPlain (Passed m copies lost routes) = Unit {0}
 IsPlain Dropped = Unit {0}
 
 -- it holds of no acts, of a plain act alone, and of acts one after the other

@@ -3,6 +3,7 @@ pub mod Acks
 pub mod Work
 pub mod Events
 pub mod Splits
+pub mod Routing
 pub mod Passing
 pub mod Requests
 pub mod Codes

@@ -13,6 +13,8 @@ use Rattle.replica_store.specs.declared.operation.Operation.TheVariants.{Put}
 use Rattle.replica_store.specs.declared.operation.Stamp.{Stamp}
 use Rattle.replica_store.specs.Making.{put_of}
 use Rattle.message_copies.specs.declared.plain.PlainCopy.{PlainCopy as Copy}
+use Rattle.message_routes.specs.declared.destinations.Route.{Route}
+use Rattle.message_routes.specs.Routes.{forward_at, route_of}
 use Rattle.mqtt_sessions.specs.declared.reaction.Ask.TheVariants as asks
 use Rattle.mqtt_sessions.specs.Reaction.{Reaction}
 use Rattle.session_laws.specs.Runs.{Event, queues, takes, answers}
@@ -20,19 +22,22 @@ use Rattle.session_table.specs.Calls.{stays}
 use Rattle.session_table.specs.Listing.{text_cmp}
 use Rattle.session_table.specs.Seats.{Seat}
 use Rattle.session_table.proofs.Tables.{same_text, get_inserted, get_apart}
+use Rattle.node_bridge.specs.View.{BridgeView, offer_to}
 use Rattle.node_work.specs.Acts.{Act, Store, Session, Made, Passed, Runs, next}
-use Rattle.node_work.specs.Calling.{Calls, CallsAt, QueuesOne}
-use Rattle.node_work.specs.Doings.{MakesPut}
+use Rattle.node_work.specs.Calling.{Calls, CallsAt, Queues, QueuesOne}
+use Rattle.node_work.specs.Doings.{MakesPut, Routes}
 use Rattle.node_work.specs.Held.Making.{put_at_end}
 use Rattle.node_work.specs.Held.Sessions.{SessionStep, Called, seat_at, has_session}
 use Rattle.node_work.specs.Passing.{content_of, seated, turn_at_end}
 use Rattle.node_work.specs.View.{Place, HeldView}
-use Rattle.node_work.specs.Working.{Returns, If, Each}
+use Rattle.node_work.specs.Working.{Returns, If, Then, Each}
 use Rattle.node_clients.specs.Passing as passing
 use Rattle.node_clients.specs.Serving as serving
 use Rattle.passing_laws.specs.Publishing.{Accepts, AreQueued, MakesCopies, PassesOn, AcceptedIsPassedOn}
 use Rattle.passing_laws.proofs.Keeping.{Calling, calling_by, Property, IsOther, IsPlain, Joins, Keeps, none_some}
-use Rattle.passing_laws.proofs.Splits.{head_is, tail_is, none_there, splits}
+use Rattle.node_clients.proofs.Determined.{runs_determined}
+use Rattle.passing_laws.proofs.Routing.{AreApart, are_apart, each_routed}
+use Rattle.passing_laws.proofs.Splits.{head_is, tail_is, none_there, left_by, runs_split, splits}
 use Rattle.passing_laws.proofs.Work.{does_reaction}
 use Rattle.passing_laws.proofs.Events.{decides}
 
@@ -40,10 +45,6 @@ use Rattle.passing_laws.proofs.Events.{decides}
 pub numbered : (b : Bool) (x : Unit {0}) (a : Act) (acts : List Act) → cond b ((Some x ≡ None) × (acts ≡ [])) ((Some x ≡ Some tt) × (acts ≡ a ∷ [])) → acts ≡ a ∷ []
 numbered true x a acts d = absurd (let z = d.0 in cc)
 numbered false x a acts d = d.1
-
--- one act leaves what is next
-pub left_by : (p : Place) (h mid : HeldView) (a : Act) (acts : List Act) → acts ≡ a ∷ [] → Runs p h acts mid → mid ≡ next h a
-left_by p h mid a acts is runs = let r = subst (λ xs. Runs p h xs mid) is runs in r.2 ∙ r.1.1
 
 -- ---- sessions that are there
 abbrev pub Has : List ℕ → HeldView → Type 0
@@ -105,22 +106,45 @@ each_queued (c ∷ cs) x p h acts has (inr (y, own, mid, rest, (inr one), runs, 
     let q : AreQueued mid.at cs rest = each_queued cs x p mid rest (subst (λ v. HaveAll v cs) (sym left) (still_have h k.step cs has.1)) more in
     (k.step, rest, is ∙ ap (λ zs. zs ++ rest) alone, k.client_is, k.at_is, k.event_is, subst (λ at. AreQueued at cs rest) (ap (λ (v : HeldView). v.at) left) q)
 
-makes_copies : (m : Message) (x : Unit {0}) (p : Place) (h : HeldView) (acts : List Act) → passing.Copies m (Some x) p h acts → MakesCopies m h.at acts
-makes_copies m x p h acts (found, made, (inl d)) = none_some (sym d.0)
-makes_copies m x p h acts (found, made, (inr (y, own, mid, rest, one, runs, more, is))) =
-    let a = Passed m found.0 found.1 in
+-- the calls leave what is kept for the other nodes
+calls_keep : (at : ℕ) (xs : List Copy) (p : Place) (h h' : HeldView) (acts : List Act) → AreQueued at xs acts → Runs p h acts h' → h'.bridge ≡ h.bridge
+calls_keep at [] p h h' acts q runs = ap (λ (v : HeldView). v.bridge) (subst (λ zs. Runs p h zs h') q runs)
+calls_keep at (x ∷ xs) p h h' acts (s, rest, is, client, moment, event, q) runs =
+    let r = subst (λ zs. Runs p h zs h') is runs in
+    calls_keep at xs p r.0 h' rest q r.2 ∙ ap (λ (v : HeldView). v.bridge) r.1.1
+
+-- the copies, and what goes to other nodes, by what is kept for them
+then_routed : (b : BridgeView) (copies : List Copy) (routes : List (ℕ × Route)) (at : ℕ) (m : Message) (lost : ℕ) (x : Unit {0}) (p : Place) (h : HeldView) (acts : List Act)
+    → h.at ≡ at → HaveAll h copies → AreApart routes → ((q : ℕ) → offer_to q h.bridge ≡ offer_to q b)
+    → Then (Queues copies) (λ _. Each Routes routes) (Some x) p h acts → MakesCopies m at b (Passed m copies lost routes ∷ acts)
+then_routed b copies routes at m lost x p h acts now there apart alike (inl d) = none_some (sym d.0)
+then_routed b copies routes at m lost x p h acts now there apart alike (inr (y, calls, mid, others, one, runs, more, is)) =
+    let a = Passed m copies lost routes in
+    let queued : AreQueued h.at copies calls = each_queued copies y p h calls there one in
+    let same : mid.bridge ≡ h.bridge = calls_keep h.at copies p h mid calls queued runs in
+    record {
+      copies = copies;
+      lost = lost;
+      routes = routes;
+      calls = calls;
+      to_others = others;
+      rest = [];
+      is = ap (λ zs. a ∷ zs) is ∙ ap (λ zs. a ∷ (calls ++ zs)) (sym (append-nil others));
+      queued = subst (λ n. AreQueued n copies calls) now queued;
+      routed = each_routed b routes x p mid others apart (λ q. ap (offer_to q) same ∙ alike q) more;
+    }
+
+makes_copies : (b : BridgeView) (m : Message) (x : Unit {0}) (p : Place) (h : HeldView) (acts : List Act) → ((q : ℕ) → offer_to q h.bridge ≡ offer_to q b) → passing.Copies m (Some x) p h acts → MakesCopies m h.at b acts
+makes_copies b m x p h acts alike (found, made, (inl d)) = none_some (sym d.0)
+makes_copies b m x p h acts alike (found, made, (inr (y, own, mid, rest, one, runs, more, is))) =
+    let a = Passed m found.0 found.1.0 found.1.1 in
     let alone : own ≡ a ∷ [] = numbered (turn_at_end p h) y a own one in
     let left : mid ≡ next h a = left_by p h mid a own alone runs in
     let there : HaveAll h found.0 = subst (HaveAll h) (sym made.copies_are) (have_both h (seated h made.plain) (seated h made.homed) (have_seated h made.plain) (have_seated h made.homed)) in
-    let q = each_queued found.0 x p mid rest (subst (λ (v : HeldView). HaveAll v found.0) (sym left) there) more in
-    record {
-      copies = found.0;
-      lost = found.1;
-      calls = rest;
-      rest = [];
-      is = is ∙ ap (λ zs. zs ++ rest) alone ∙ ap (λ zs. a ∷ zs) (sym (append-nil rest));
-      queued = subst (λ at. AreQueued at found.0 rest) (ap (λ (v : HeldView). v.at) left) q;
-    }
+    let apart : AreApart found.1.1 = subst AreApart (sym made.routes_are.2) (are_apart p (λ peer. route_of (forward_at peer m made.routes_are.0))) in
+    subst (MakesCopies m h.at b) (sym (is ∙ ap (λ zs. zs ++ rest) alone))
+    (then_routed b found.0 found.1.1 h.at m found.1.0 x p mid rest (ap (λ (v : HeldView). v.at) left) (subst (λ (v : HeldView). HaveAll v found.0) (sym left) there) apart
+    (λ q. ap (λ (v : HeldView). offer_to q v.bridge) left ∙ alike q) more)
 
 -- ---- passing a message on
 put_by : (b : Bool) (content : Content) (x : Unit {0}) (p : Place) (h : HeldView) (acts : List Act) → If b (MakesPut content) (Returns tt) (Some x) p h acts
@@ -133,24 +157,31 @@ same_moment true content x p h mid acts d runs =
     let a = Store (Made (put_of p.id content h.store)) in ap (λ (v : HeldView). v.at) (left_by p h mid a acts (numbered (put_at_end p.id h) x a acts d) runs)
 same_moment false content x p h mid acts d runs = ap (λ (v : HeldView). v.at) (subst (λ xs. Runs p h xs mid) d.1 runs)
 
-pub passes_on : (m : Message) (x : Unit {0}) (p : Place) (h : HeldView) (acts : List Act) → passing.Passes m (Some x) p h acts → PassesOn m h.at acts
+-- a Put leaves the lanes
+same_offers : (b : Bool) (content : Content) (x : Unit {0}) (p : Place) (h mid : HeldView) (acts : List Act) → If b (MakesPut content) (Returns tt) (Some x) p h acts → Runs p h acts mid → (q : ℕ) → offer_to q mid.bridge ≡ offer_to q h.bridge
+same_offers true content x p h mid acts d runs q =
+    let a = Store (Made (put_of p.id content h.store)) in ap (λ (v : HeldView). offer_to q v.bridge) (left_by p h mid a acts (numbered (put_at_end p.id h) x a acts d) runs)
+same_offers false content x p h mid acts d runs q = ap (λ (v : HeldView). offer_to q v.bridge) (subst (λ xs. Runs p h xs mid) d.1 runs)
+
+pub passes_on : (m : Message) (x : Unit {0}) (p : Place) (h : HeldView) (acts : List Act) → passing.Passes m (Some x) p h acts → PassesOn m h.at h.bridge acts
 passes_on m x p h acts (inl d) = none_some (sym d.0)
 passes_on m x p h acts (inr (y, own, mid, rest, one, runs, more, is)) =
     let at : mid.at ≡ h.at = same_moment m.retain (content_of m) y p h mid own one runs in
+    let alike : (q : ℕ) → offer_to q mid.bridge ≡ offer_to q h.bridge = same_offers m.retain (content_of m) y p h mid own one runs in
     record {
       puts = own;
       rest = rest;
       is = is;
       put = put_by m.retain (content_of m) y p h own one;
-      copied = λ before. subst (λ n. MakesCopies m n rest) at (copied_by (subst (λ n. IsBefore n m.deadline) (sym at) before) more);
+      copied = λ before. subst (λ n. MakesCopies m n h.bridge rest) at (copied_by alike (subst (λ n. IsBefore n m.deadline) (sym at) before) more);
     }
   where
-    copied_by : IsBefore mid.at m.deadline → passing.CopiesAt m mid.at (Some x) p mid rest → MakesCopies m mid.at rest
-    copied_by before (inl d) = makes_copies m x p mid rest d.1
-    copied_by before (inr d) = absurd (d.0 before)
+    copied_by : ((q : ℕ) → offer_to q mid.bridge ≡ offer_to q h.bridge) → IsBefore mid.at m.deadline → passing.CopiesAt m mid.at (Some x) p mid rest → MakesCopies m mid.at h.bridge rest
+    copied_by alike before (inl d) = makes_copies h.bridge m x p mid rest alike d.1
+    copied_by alike before (inr d) = absurd (d.0 before)
 
-pub passes_more : (m : Message) (at : ℕ) (xs ys : List Act) → PassesOn m at xs → PassesOn m at (xs ++ ys)
-passes_more m at xs ys d = record {
+pub passes_more : (m : Message) (at : ℕ) (b : BridgeView) (xs ys : List Act) → PassesOn m at b xs → PassesOn m at b (xs ++ ys)
+passes_more m at b xs ys d = record {
   puts = d.puts;
   rest = d.rest ++ ys;
   is = ap (λ zs. zs ++ ys) d.is ∙ append_assoc d.puts d.rest ys;
@@ -158,69 +189,82 @@ passes_more m at xs ys d = record {
   copied = λ before. (let c = d.copied before in record {
     copies = c.copies;
     lost = c.lost;
+    routes = c.routes;
     calls = c.calls;
+    to_others = c.to_others;
     rest = c.rest ++ ys;
-    is = ap (λ zs. zs ++ ys) c.is ∙ ap (λ zs. Passed m c.copies c.lost ∷ zs) (append_assoc c.calls c.rest ys);
+    is = ap (λ zs. zs ++ ys) c.is
+        ∙ ap (λ zs. Passed m c.copies c.lost c.routes ∷ zs) (append_assoc c.calls (c.to_others ++ c.rest) ys ∙ ap (λ zs. c.calls ++ zs) (append_assoc c.to_others c.rest ys));
     queued = c.queued;
+    routed = c.routed;
   });
 }
 
 -- ---- the calls among acts
-abbrev Told : SessionStep → List Act → Type 0
-Told s after = (m : Message) → Accepts s m → PassesOn m s.at after
+abbrev Told : SessionStep → BridgeView → List Act → Type 0
+Told s b after = (m : Message) → Accepts s m → PassesOn m s.at b after
 
 abbrev Followed : Property
-Followed p h acts = (before after : List Act) (s : SessionStep) → acts ≡ before ++ Session (Called s) ∷ after → Told s after
+Followed p h acts = (before after : List Act) (s : SessionStep) (held : HeldView) → acts ≡ before ++ Session (Called s) ∷ after → Runs p h before held → Told s held.bridge after
 
 -- a call that takes no packet
-one_told : (a : Act) → IsPlain a → (before after : List Act) (s : SessionStep) → a ∷ [] ≡ before ++ Session (Called s) ∷ after → Told s after
-one_told a plain [] after s is m accepts = absurd (subst IsOther accepts.event (subst IsPlain (head_is is) plain))
-one_told a plain (b ∷ before) after s is m accepts = none_there before after (Session (Called s)) (tail_is is)
+one_told : (p : Place) (h : HeldView) (a : Act) → IsPlain a → Followed p h (a ∷ [])
+one_told p h a plain [] after s held is ran m accepts = absurd (subst IsOther accepts.event (subst IsPlain (head_is is) plain))
+one_told p h a plain (b ∷ before) after s held is ran m accepts = none_there before after (Session (Called s)) (tail_is is)
 
-both_told : (xs ys : List Act) → ((before after : List Act) (s : SessionStep) → xs ≡ before ++ Session (Called s) ∷ after → Told s after)
-    → ((before after : List Act) (s : SessionStep) → ys ≡ before ++ Session (Called s) ∷ after → Told s after)
-    → (before after : List Act) (s : SessionStep) → xs ++ ys ≡ before ++ Session (Called s) ∷ after → Told s after
-both_told xs ys f g before after s is m accepts =
+both_told : (p : Place) (h mid : HeldView) (xs ys : List Act) → Runs p h xs mid → Followed p h xs → Followed p mid ys → Followed p h (xs ++ ys)
+both_told p h mid xs ys runs f g before after s held is ran m accepts =
     elim (splits xs ys before after (Session (Called s)) is) [
-      | inl r ↦ subst (PassesOn m s.at) (sym r.2) (passes_more m s.at r.0 ys (f before r.0 s r.1 m accepts))
-      | inr r ↦ g r.0 after s r.2 m accepts
+      | inl r ↦ subst (PassesOn m s.at held.bridge) (sym r.2) (passes_more m s.at held.bridge r.0 ys (f before r.0 s held r.1 ran m accepts))
+      | inr r ↦ (
+          let parts = runs_split p xs r.0 h held (subst (λ zs. Runs p h zs held) r.1 ran) in
+          let same : parts.0 ≡ mid = runs_determined p xs h parts.0 mid parts.1 runs in
+          g r.0 after s held r.2 (subst (λ v. Runs p v r.0 held) same parts.2) m accepts)
     ]
 
 followed : Joins Followed
 followed = record {
-  none = λ p h before after s is. none_there before after (Session (Called s)) is;
-  one = λ p h a plain. one_told a plain;
-  both = λ p h mid xs ys runs f g. both_told xs ys f g;
+  none = λ p h before after s held is ran. none_there before after (Session (Called s)) is;
+  one = one_told;
+  both = both_told;
 }
 
 -- a call with what follows it
-call_told : (p : Place) (h mid : HeldView) (s : SessionStep) (rest : List Act) → Told s rest → Followed p mid rest → Followed p h (Session (Called s) ∷ rest)
-call_told p h mid s rest told more [] after t is =
+call_told : (p : Place) (h mid : HeldView) (s : SessionStep) (rest : List Act) → mid ≡ next h (Session (Called s)) → Told s h.bridge rest → Followed p mid rest → Followed p h (Session (Called s) ∷ rest)
+call_told p h mid s rest left told more [] after t held is ran =
     let same : s ≡ t = (let z = head_is is in cc) in
-    subst (λ (v : SessionStep). Told v after) same (subst (Told s) (tail_is is) told)
-call_told p h mid s rest told more (b ∷ before) after t is = more before after t (tail_is is)
+    subst (λ (v : HeldView). Told t v.bridge after) (sym ran) (subst (λ (v : SessionStep). Told v h.bridge after) same (subst (Told s h.bridge) (tail_is is) told))
+call_told p h mid s rest left told more (b ∷ before) after t held is ran =
+    let same : ran.0 ≡ mid = ran.1.1 ∙ ap (next h) (sym (head_is is)) ∙ sym left in
+    more before after t held (tail_is is) (subst (λ v. Runs p v before held) same ran.2)
 
 -- ---- the calls of an answer
 answers_told : (p : Place) (h : HeldView) (s : SessionStep) (id : ℕ) (codes : List ℕ) → s.event ≡ answers id codes → Followed p h (Session (Called s) ∷ [])
-answers_told p h s id codes e = call_told p h h s [] (λ m accepts. absurd (let z : answers id codes ≡ takes _ _ _ = sym e ∙ accepts.event in cc)) (followed.none p h)
+answers_told p h s id codes e =
+    let after = next h (Session (Called s)) in
+    call_told p h after s [] refl (λ m accepts. absurd (let z : answers id codes ≡ takes _ _ _ = sym e ∙ accepts.event in cc)) (followed.none p after)
 
 -- what follows where the reaction asks to pass a message on
-passed : (c : ℕ) (client : List ℕ) (k : Packet) (room : Bool) (r : Reaction) (x : Unit {0}) (p : Place) (h : HeldView) (acts : List Act) (m : Message) → r.ask ≡ Some (asks.Pass m) → serving.DoesReaction c client k room r (Some x) p h acts → PassesOn m h.at acts
+passed : (c : ℕ) (client : List ℕ) (k : Packet) (room : Bool) (r : Reaction) (x : Unit {0}) (p : Place) (h : HeldView) (acts : List Act) (m : Message) → r.ask ≡ Some (asks.Pass m) → serving.DoesReaction c client k room r (Some x) p h acts → PassesOn m h.at h.bridge acts
 passed c client k room r x p h acts m asks (inl d) = none_some (sym d.0)
 passed c client k room r x p h acts m asks (inr (y, own, mid, rest, one, runs, more, is)) =
     let d = subst (λ a. serving.DoesAsked a (serving.is_dropped k room r.end) c client k (Some y) p h own) asks one in
-    subst (PassesOn m h.at) (sym is) (passes_more m h.at own rest (passes_on m y p h own d))
+    subst (PassesOn m h.at h.bridge) (sym is) (passes_more m h.at h.bridge own rest (passes_on m y p h own d))
 
 serves_at : (c : ℕ) (client : List ℕ) (k : Packet) (room : Bool) (found : Option Seat) (r : Reaction) (x : Unit {0}) (p : Place) (h mid : HeldView) (own rest : List Act) → CallsAt client (λ at. takes k at room) stays found (Some r) p h own
     → Runs p h own mid → serving.DoesReaction c client k room r (Some x) p mid rest → Followed p h (own ++ rest)
-serves_at c client k room None r x p h mid own rest d runs more = subst (λ xs. Followed p h (xs ++ rest)) (sym d.1) ((does_reaction Followed followed answers_told c client k room r).of x p mid rest more)
+serves_at c client k room None r x p h mid own rest d runs more =
+    let same : mid ≡ h = subst (λ xs. Runs p h xs mid) d.1 runs in
+    subst (λ xs. Followed p h (xs ++ rest)) (sym d.1) (subst (λ v. Followed p v rest) same ((does_reaction Followed followed answers_told c client k room r).of x p mid rest more))
 serves_at c client k room (Some seat) r x p h mid own rest d runs more =
     let event : ℕ → Event = λ at. takes k at room in
     let s = calling_by client event stays seat r p h own d in
     let left : mid ≡ next h (Session (Called s.step)) = left_by p h mid (Session (Called s.step)) own s.acts_are runs in
     let at : mid.at ≡ s.step.at = ap (λ (v : HeldView). v.at) left ∙ sym s.at_is in
-    let told : Told s.step rest = λ m accepts. subst (λ n. PassesOn m n rest) at (passed c client k room r x p mid rest m (ap (λ (v : Reaction). v.ask) (sym s.reaction_is) ∙ accepts.asks) more) in
-    subst (λ xs. Followed p h (xs ++ rest)) (sym s.acts_are) (call_told p h mid s.step rest told ((does_reaction Followed followed answers_told c client k room r).of x p mid rest more))
+    let same : mid.bridge ≡ h.bridge = ap (λ (v : HeldView). v.bridge) left in
+    let told : Told s.step h.bridge rest = λ m accepts.
+    subst (λ b. PassesOn m s.step.at b rest) same (subst (λ n. PassesOn m n mid.bridge rest) at (passed c client k room r x p mid rest m (ap (λ (v : Reaction). v.ask) (sym s.reaction_is) ∙ accepts.asks) more)) in
+    subst (λ xs. Followed p h (xs ++ rest)) (sym s.acts_are) (call_told p h mid s.step rest left told ((does_reaction Followed followed answers_told c client k room r).of x p mid rest more))
 
 serves_in : (c : ℕ) (client : List ℕ) (k : Packet) (room : Bool) (x : Unit {0}) (p : Place) (h : HeldView) (acts : List Act) → serving.ServesIn c client k room (Some x) p h acts → Followed p h acts
 serves_in c client k room x p h acts (inl d) = none_some (sym d.0)
@@ -230,4 +274,4 @@ serves : (c : ℕ) (client : List ℕ) (k : Packet) → Keeps Followed (serving.
 serves c client k = record { of = λ x p h acts d. serves_in c client k (serving.room_for k h.store) x p h acts d }
 
 pub accepted_is_passed_on : AcceptedIsPassedOn
-accepted_is_passed_on = λ e p h acts d before after s m is accepts. (decides Followed followed serves e).of tt p h acts d before after s is m accepts
+accepted_is_passed_on = λ e p h held acts d before after s m is ran accepts. (decides Followed followed serves e).of tt p h acts d before after s held is ran m accepts

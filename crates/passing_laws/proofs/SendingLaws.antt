@@ -10,8 +10,9 @@ use Rattle.session_laws.specs.Runs.{Event, takes}
 use Rattle.session_table.specs.Calls.{stays}
 use Rattle.session_table.specs.Seats.{Seat}
 use Rattle.node_work.specs.declared.outcome.Output.TheVariants.{Send, Close, Frame as Release}
-use Rattle.node_work.specs.Acts.{Act, Moment, Began, Store, Connection, Session, Out, Named, Acknowledged, Passed, Dropped, Runs, gather, output_in}
+use Rattle.node_work.specs.Acts.{Act, Moment, Began, Store, Connection, Session, Bridge, Out, Named, Acknowledged, Passed, Dropped, Runs, gather, output_in}
 use Rattle.node_work.specs.Calling.{Calls, CallsAt}
+use Rattle.node_work.specs.Held.Bridge.{Put, Took, Got, Believed, Gave, Left_out}
 use Rattle.node_work.specs.Held.Sessions.{SessionStep, Begun, Called, Over, last_of, outputs_on, packet_output, seat_at}
 use Rattle.node_work.specs.View.{Place, HeldView}
 use Rattle.node_work.proofs.Working.{gather-append}
@@ -75,6 +76,13 @@ sent_one p h (Connection a) plain connection bytes i = absurd i
 sent_one p h (Session (Begun client)) plain connection bytes i = absurd i
 sent_one p h (Session (Called s)) plain connection bytes i = sent_call p h s connection bytes i
 sent_one p h (Session (Over client)) plain connection bytes i = absurd i
+sent_one p h (Bridge (Put peer m)) plain connection bytes i = absurd i
+sent_one p h (Bridge (Took peer number m copies lost)) plain connection bytes i = absurd i
+sent_one p h (Bridge (Got peer number)) plain connection bytes i = absurd i
+sent_one p h (Bridge (Believed peer dots)) plain connection bytes i = absurd i
+sent_one p h (Bridge (Gave f)) plain connection bytes (inl e) = cc e
+sent_one p h (Bridge (Gave f)) plain connection bytes (inr i) = absurd i
+sent_one p h (Bridge (Left_out what)) plain connection bytes i = absurd i
 sent_one p h (Out (Send c sent)) plain connection bytes (inl e) = let same : sent ≡ bytes = cc e in inr (subst IsOwn same plain)
 sent_one p h (Out (Send c sent)) plain connection bytes (inr i) = absurd i
 sent_one p h (Out (Close c)) plain connection bytes (inl e) = cc e
@@ -83,7 +91,7 @@ sent_one p h (Out (Release frame)) plain connection bytes (inl e) = cc e
 sent_one p h (Out (Release frame)) plain connection bytes (inr i) = absurd i
 sent_one p h (Named number) plain connection bytes i = absurd i
 sent_one p h (Acknowledged client packet at grants offers) plain connection bytes i = absurd i
-sent_one p h (Passed m copies lost) plain connection bytes i = absurd i
+sent_one p h (Passed m copies lost routes) plain connection bytes i = absurd i
 sent_one p h Dropped plain connection bytes i = absurd i
 
 sent_first : (xs ys : List Act) (connection : ℕ) (bytes : List ℕ) → SentAmong xs connection bytes → SentAmong (xs ++ ys) connection bytes

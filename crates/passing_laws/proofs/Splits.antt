@@ -1,6 +1,6 @@
 -- Where something stands among acts that come one after the other.
-use Rattle.std.proofs.Common.{◌≡◌, ◌⊎◌, inl, inr, List, [], ◌∷◌, ◌++◌, refl, sym}
-use Rattle.node_work.specs.Acts.{Act, Runs}
+use Rattle.std.proofs.Common.{◌≡◌, ◌⊎◌, inl, inr, List, [], ◌∷◌, ◌++◌, refl, sym, ◌∙◌, subst}
+use Rattle.node_work.specs.Acts.{Act, Runs, next}
 use Rattle.node_work.specs.View.{Place, HeldView}
 
 module _ {A : Type 0} where
@@ -28,3 +28,7 @@ module _ {A : Type 0} where
 pub runs_split : (p : Place) (xs ys : List Act) (h h' : HeldView) → Runs p h (xs ++ ys) h' → (mid : HeldView) × Runs p h xs mid × Runs p mid ys h'
 runs_split p [] ys h h' r = (h, refl, r)
 runs_split p (x ∷ xs) ys h h' r = let s = runs_split p xs ys r.0 h' r.2 in (s.0, (r.0, r.1, s.1), s.2)
+
+-- one act leaves what is next
+pub left_by : (p : Place) (h mid : HeldView) (a : Act) (acts : List Act) → acts ≡ a ∷ [] → Runs p h acts mid → mid ≡ next h a
+left_by p h mid a acts is runs = let r = subst (λ xs. Runs p h xs mid) is runs in r.2 ∙ r.1.1

@@ -20,14 +20,23 @@ use Rattle.mqtt_sessions.specs.Answers.{disconnect, fits}
 use Rattle.mqtt_sessions.specs.Reaction.{Reaction}
 use Rattle.mqtt_sessions.specs.State.{limit_in}
 use Rattle.mqtt_topics.specs.Topics.{IsFilter}
+use Rattle.bridge_deltas.specs.declared.offer.Offer.{Offer}
+use Rattle.bridge_deltas.specs.declared.offer.Offer.TheVariants.{Queued, Full, AtEnd}
+use Rattle.bridge_frames.specs.declared.forward.Forward.{Forward}
 use Rattle.message_copies.specs.declared.plain.PlainCopy.{PlainCopy as Copy}
+use Rattle.message_routes.specs.declared.destinations.Route.{Route}
+use Rattle.message_routes.specs.declared.destinations.Route.TheVariants.{Nothing, Lane, TooLarge}
+use Rattle.node_bridge.specs.View.{offer_to}
 use Rattle.replica_store.specs.Making.{subscribe_of}
 use Rattle.session_laws.specs.Runs.{connects, queues, closes, ticks, finishes, answers}
 use Rattle.session_table.specs.Calls.{stays, leaves, moves}
 use Rattle.node_work.specs.declared.granted.Granted.{Granted}
-use Rattle.node_work.specs.Acts.{Store, Session, Acknowledged, Made, Act, Out}
-use Rattle.node_work.specs.Calling.{Calls, QueuesOne, CallsAt}
-use Rattle.node_work.specs.Doings.{MakesSubscribe, MakesRemove, Removes, Sends, Disconnects}
+use Rattle.node_work.specs.declared.counts.Missed.{Missed}
+use Rattle.node_work.specs.declared.counts.Missed.TheVariants.{LaneFull}
+use Rattle.node_work.specs.Acts.{Store, Session, Acknowledged, Made, Act, Bridge, Out}
+use Rattle.node_work.specs.Calling.{Calls, Queues, QueuesOne, CallsAt}
+use Rattle.node_work.specs.Doings.{MakesSubscribe, MakesRemove, Removes, Sends, Disconnects, Misses, PutsBy, RoutesBy, Routes}
+use Rattle.node_work.specs.Held.Bridge.{Put, Left_out}
 use Rattle.node_work.specs.Held.Sessions.{Begun, takes_disconnect, will_is_due, end_is_due, SessionStep, Called, seat_at}
 use Rattle.node_work.specs.Held.Making.{number_at_end, removal}
 use Rattle.subscription_set.specs.declared.entry.Entry.{Entry}
@@ -67,8 +76,23 @@ module _ (T : Property) (j : Joins T) where
   pub retains : (m : Message) → Keeps T (passing.Retains m)
   retains m = k_if T j m.retain _ _ (k_numbered T j _ _ (λ p h. tt)) (k_returns T j _)
 
+  pub misses : (what : Missed) → Keeps T (Misses what)
+  misses what = k_acting T j (λ p h. Bridge (Left_out what)) (λ p h. tt)
+
+  puts_by : (peer : ℕ) (m : Forward) (o : Offer) → Keeps T (PutsBy peer m o)
+  puts_by peer m (Queued n) = k_acting T j (λ p h. Bridge (Put peer m)) (λ p h. tt)
+  puts_by peer m Full = misses LaneFull
+  puts_by peer m AtEnd = k_stops T j
+
+  routes : (peer : ℕ) (route : Route) → Keeps T (RoutesBy peer route)
+  routes peer Nothing = k_returns T j tt
+  routes peer (Lane m) = k_looks T j (λ p h. offer_to peer h.bridge) (PutsBy peer m) (puts_by peer m)
+  routes peer TooLarge = misses LaneFull
+
   pub copies : (m : Message) → Keeps T (passing.Copies m)
-  copies m = k_finds T j _ _ (λ x. k_then T j _ _ (k_numbered T j _ _ (λ p h. tt)) (λ _. k_each T j QueuesOne x.0 queues_one))
+  copies m =
+      k_finds T j _ _ (λ x. k_then T j _ _ (k_numbered T j _ _ (λ p h. tt)) (λ _.
+      k_then T j (Queues x.0) (λ _. Each Routes x.1.1) (k_each T j QueuesOne x.0 queues_one) (λ _. k_each T j Routes x.1.1 (λ y. routes y.0 y.1))))
 
   pub passes : (m : Message) → Keeps T (passing.Passes m)
   passes m = k_then T j _ _ (retains m) (λ _. k_looks T j _ _ (λ at. k_where T j (IsBefore at m.deadline) _ _ (copies m) (k_returns T j _)))

@@ -1,5 +1,8 @@
 -- What follows in a step where a session accepts a PUBLISH: its message is passed on (MQTT 5.0, 3.3.1.3, 3.3.4, 4.3.2 and 4.3.3).
 use Rattle.std.specs.Prelude.{◌≡◌, ◌⊎◌, ℕ, Bool, true, cond, is_some, List, [], ◌∷◌, ◌++◌, Some}
+use Rattle.bridge_deltas.specs.declared.offer.Offer.{Offer}
+use Rattle.bridge_deltas.specs.declared.offer.Offer.TheVariants.{Queued, Full, AtEnd}
+use Rattle.bridge_frames.specs.declared.forward.Forward.{Forward}
 use Rattle.mqtt_fields.specs.declared.options.Qos.{Qos}
 use Rattle.mqtt_fields.specs.declared.options.Qos.TheVariants.{AtLeastOnce, ExactlyOnce}
 use Rattle.mqtt_packets.specs.declared.packet.Packet.{Packet}
@@ -12,6 +15,8 @@ use Rattle.causal_context.specs.Dots.{Dot}
 use Rattle.replica_store.specs.declared.operation.Operation.TheVariants.{Put}
 use Rattle.replica_store.specs.declared.operation.Stamp.{Stamp}
 use Rattle.message_copies.specs.declared.plain.PlainCopy.{PlainCopy as Copy}
+use Rattle.message_routes.specs.declared.destinations.Route.{Route}
+use Rattle.message_routes.specs.declared.destinations.Route.TheVariants.{Nothing, Lane, TooLarge}
 use Rattle.qos_handshakes.specs.Incoming.{opened}
 use Rattle.mqtt_sessions.specs.declared.reaction.Ask.TheVariants.{Pass}
 use Rattle.mqtt_sessions.specs.declared.reaction.Output.{Output}
@@ -20,7 +25,10 @@ use Rattle.mqtt_sessions.specs.Answers.{puback, pubrec}
 use Rattle.mqtt_sessions.specs.Reaction.{Reaction}
 use Rattle.mqtt_sessions.specs.State.{State}
 use Rattle.session_laws.specs.Runs.{Event, queues, takes, Reacts}
-use Rattle.node_work.specs.Acts.{Act, Store, Session, Made, Passed}
+use Rattle.node_bridge.specs.View.{BridgeView, offer_to}
+use Rattle.node_work.specs.declared.counts.Missed.TheVariants.{LaneFull}
+use Rattle.node_work.specs.Acts.{Act, Store, Session, Bridge, Made, Passed, Runs}
+use Rattle.node_work.specs.Held.Bridge.{Put as PutInto, Left_out}
 use Rattle.node_work.specs.Held.Sessions.{SessionStep, Called}
 use Rattle.node_work.specs.Passing.{content_of}
 use Rattle.node_work.specs.View.{Place, HeldView}
@@ -79,25 +87,46 @@ AreQueued at [] calls = calls ≡ []
 AreQueued at (x ∷ xs) calls =
     (s : SessionStep) × (rest : List Act) × (calls ≡ Session (Called s) ∷ rest) × (s.client ≡ x.client) × (s.at ≡ at) × (s.event ≡ queues x.delivery at) × AreQueued at xs rest
 
--- acts that begin with the copies of a message
-pub record MakesCopies (m : Message) (at : ℕ) (acts : List Act) : Type 0 where
+-- what goes to another node joins the lane to it; where too many wait there it is left out
+abbrev pub IsOffered : ℕ → Forward → Offer → List Act → Type 0
+IsOffered peer m (Queued n) acts = acts ≡ Bridge (PutInto peer m) ∷ []
+IsOffered peer m Full acts = acts ≡ Bridge (Left_out LaneFull) ∷ []
+IsOffered peer m AtEnd acts = ⊥
+
+-- by what is kept for the other nodes; what is too large for a frame is left out
+abbrev pub IsRouted : BridgeView → ℕ → Route → List Act → Type 0
+IsRouted b peer Nothing acts = acts ≡ []
+IsRouted b peer (Lane m) acts = IsOffered peer m (offer_to peer b) acts
+IsRouted b peer TooLarge acts = acts ≡ Bridge (Left_out LaneFull) ∷ []
+
+-- each in order
+abbrev pub AreRouted : BridgeView → List (ℕ × Route) → List Act → Type 0
+AreRouted b [] acts = acts ≡ []
+AreRouted b (x ∷ xs) acts = (own : List Act) × (rest : List Act) × (acts ≡ own ++ rest) × IsRouted b x.0 x.1 own × AreRouted b xs rest
+
+-- acts that begin with the copies of a message, and with what goes to other nodes of it
+pub record MakesCopies (m : Message) (at : ℕ) (b : BridgeView) (acts : List Act) : Type 0 where
   pub copies : List Copy
   pub lost : ℕ
+  pub routes : List (ℕ × Route)
   pub calls : List Act
+  pub to_others : List Act
   pub rest : List Act
-  pub is : acts ≡ Passed m copies lost ∷ (calls ++ rest)
+  pub is : acts ≡ Passed m copies lost routes ∷ (calls ++ (to_others ++ rest))
   pub queued : AreQueued at copies calls
+  pub routed : AreRouted b routes to_others
 
--- acts that begin with passing a message on: its Put, and unless its deadline has passed its copies
-pub record PassesOn (m : Message) (at : ℕ) (acts : List Act) : Type 0 where
+-- acts that begin with passing a message on: its Put, and unless its deadline has passed its copies, and what goes to other nodes
+pub record PassesOn (m : Message) (at : ℕ) (b : BridgeView) (acts : List Act) : Type 0 where
   pub puts : List Act
   pub rest : List Act
   pub is : acts ≡ puts ++ rest
   pub put : IsPut m puts
-  pub copied : IsBefore at m.deadline → MakesCopies m at rest
+  pub copied : IsBefore at m.deadline → MakesCopies m at b rest
 
--- a message that is accepted is passed on directly after that, in the same step
+-- a message that is accepted is passed on directly after that, in the same step, by what the node keeps for the others then
 abbrev pub AcceptedIsPassedOn : Type 0
 AcceptedIsPassedOn =
-    (e : NodeEvent) (p : Place) (h : HeldView) (acts : List Act) → Decides e (Some tt) p h acts
-    → (before after : List Act) (s : SessionStep) (m : Message) → acts ≡ before ++ Session (Called s) ∷ after → Accepts s m → PassesOn m s.at after
+    (e : NodeEvent) (p : Place) (h mid : HeldView) (acts : List Act) → Decides e (Some tt) p h acts
+    → (before after : List Act) (s : SessionStep) (m : Message) → acts ≡ before ++ Session (Called s) ∷ after → Runs p h before mid → Accepts s m
+    → PassesOn m s.at mid.bridge after

@@ -9,7 +9,9 @@ pub fn acknowledged_is_accepted()
 {}
 
 /// What a session asks a node to pass on when it takes a PUBLISH is passed on directly after that, in the same step: with RETAIN
-/// by a Put of its content (3.3.1.3), and unless its deadline has passed by copies that join their sessions at once (3.3.4).
+/// by a Put of its content (3.3.1.3), and unless its deadline has passed by copies that join their sessions at once (3.3.4), and by
+/// messages that join the lanes to the other nodes where a client has its home that is to have it; where a lane is full, that is
+/// left out.
 pub fn accepted_is_passed_on()
     ensures { AcceptedIsPassedOn }
 {}

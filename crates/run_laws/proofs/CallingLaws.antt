@@ -5,7 +5,7 @@ use Rattle.session_laws.specs.Runs.{Step}
 use Rattle.session_table.proofs.Tables.{itself, same_text}
 use Rattle.node_laws.specs.Lives.{is_client, step_in, after_act, after_move, life, lost_step}
 use Rattle.node_laws.specs.Moves.{Move, Did, Lost as Loses, did}
-use Rattle.node_work.specs.Acts.{Act, Moment as TakesMoment, Began, Store, Connection, Session, Out, Named, Acknowledged, Passed, Dropped}
+use Rattle.node_work.specs.Acts.{Act, Moment as TakesMoment, Began, Store, Connection, Session, Bridge, Out, Named, Acknowledged, Passed, Dropped}
 use Rattle.node_work.specs.Held.Sessions.{Begun, Called, Over}
 use Rattle.cluster_play.specs.Worlds.{World, Fate, Released, Lost, Cut, Faulted, Was_down, Restarted}
 use Rattle.cluster_play.specs.Runs.{Moment}
@@ -46,10 +46,11 @@ adds_act client (Connection a) given = inr (same given)
 adds_act client (Session (Begun other)) given = begins client other (is_client client other) refl given
 adds_act client (Session (Called s)) given = inr (calls (is_client client s.client) (step_in s) given)
 adds_act client (Session (Over other)) given = ends client other (is_client client other) refl given
+adds_act client (Bridge a) given = inr (same given)
 adds_act client (Out o) given = inr (same given)
 adds_act client (Named number) given = inr (same given)
 adds_act client (Acknowledged other packet at grants offers) given = inr (same given)
-adds_act client (Passed m copies lost) given = inr (same given)
+adds_act client (Passed m copies lost routes) given = inr (same given)
 adds_act client Dropped given = inr (same given)
 
 adds_move : (client : List ℕ) (m : Move) (given : List Step) → Ends client m ⊎ Adds given (after_move client m given)

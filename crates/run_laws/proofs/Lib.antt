@@ -1,4 +1,7 @@
 pub mod Clients
+pub mod LaneActs
+pub mod LaneRuns
+pub mod LaneLaws
 pub mod Staying
 pub mod Opening
 pub mod PublishingLaws

@@ -6,7 +6,7 @@ use Rattle.mqtt_sessions.specs.Reaction.{Reaction}
 use Rattle.session_laws.specs.Arrivals.{is_for, is_open_after, PassesBy, ComesOnce}
 use Rattle.session_laws.specs.Runs.{Event, connects, queues, takes, answers, closes, ticks, finishes, loses, Step, connected_after}
 use Rattle.session_table.proofs.Tables.{same_text}
-use Rattle.node_work.specs.Acts.{Act, Moment as TakesMoment, Began, Store, Connection, Session, Out, Named, Acknowledged, Passed, Dropped}
+use Rattle.node_work.specs.Acts.{Act, Moment as TakesMoment, Began, Store, Connection, Session, Bridge, Out, Named, Acknowledged, Passed, Dropped}
 use Rattle.node_work.specs.Held.Sessions.{SessionStep, Begun, Called, Over}
 use Rattle.node_laws.specs.Lives.{is_client, step_in, after_act, after_move, life, lost_step}
 use Rattle.node_laws.specs.Moves.{Move, Did, Lost as Loses, did}
@@ -145,10 +145,11 @@ module _ (client : List ℕ) (past since : List Step) (s : Step) (kept : lost_st
   by_act (Session (Begun other)) given e = inl (emptied (is_client client other) given past since s e)
   by_act (Session (Called t)) given e = elim (by_call t (is_client client t.client) refl given e) [ inl g ↦ inl g | inr x ↦ inr (t, refl, x.0, x.1) ]
   by_act (Session (Over other)) given e = inl (emptied (is_client client other) given past since s e)
+  by_act (Bridge a) given e = inl (since, e)
   by_act (Out o) given e = inl (since, e)
   by_act (Named number) given e = inl (since, e)
   by_act (Acknowledged other packet at grants offers) given e = inl (since, e)
-  by_act (Passed m copies lost) given e = inl (since, e)
+  by_act (Passed m copies lost routes) given e = inl (since, e)
   by_act Dropped given e = inl (since, e)
 
   by_move : (m : Move) (given : List Step) → after_move client m given ≡ past ++ s ∷ since → InGiven past s given ⊎ ((t : SessionStep) × (m ≡ Did (Session (Called t))) × (t.client ≡ client) × (step_in t ≡ s))

@@ -30,11 +30,18 @@ use Rattle.cluster_play.proofs.Lives.{sessions_are_runs_amid}
 use Rattle.run_laws.specs.Staying.{Calls}
 use Rattle.run_laws.specs.Publishing.{TakesPublish, PutStays, IsPassedOn, WasPassedOn, StaysOpen, connected_over, PubackStaysTrue, PubrecStaysTrue, message_in}
 use Rattle.run_laws.proofs.Opening.{OpenedIn, last_once, open_over, opened_at, opened_in}
-use Rattle.run_laws.proofs.Staying.{CalledAt, called_at, stays_made}
+use Rattle.run_laws.proofs.Staying.{CalledAt, Finds, called_at, stays_made}
 
 -- what is passed on after a call
-passed_on : (run later : List Moment) (m : Moment) (w : World) → Reached (run ++ m ∷ later) w → (before : List Act) (c : Calls m before) (x : Message) → PassesOn x c.step.at c.after → IsPassedOn run later m w before c x
-passed_on run later m w r before c x passes = record { passes = passes; put = λ t. put_by x.retain passes.put t }
+passed_on : (run later : List Moment) (m : Moment) (w : World) → Reached (run ++ m ∷ later) w → (before : List Act) (c : Calls m before) (x : Message) (f : Finds run m before c) → PassesOn x c.step.at f.held.bridge c.after → IsPassedOn run later m w before c x
+passed_on run later m w r before c x f passes = record {
+  world = f.world;
+  reached = f.reached;
+  held = f.held;
+  there = f.there;
+  passes = passes;
+  put = λ t. put_by x.retain passes.put t;
+}
   where
     put_by : (b : Bool) → cond b ((dot : Dot) × (stamp : Stamp) × (passes.puts ≡ Store (Made (Put dot stamp (content_of x))) ∷ [])) (passes.puts ≡ []) → b ≡ true → PutStays run later m w before c x
     put_by true d t =
@@ -60,8 +67,8 @@ module _ (run later : List Moment) (m : Moment) (w : World) (r : Reached (run ++
   accepted qos id p asks =
       let x = message_in (takes_it qos id p) in
       let same : message_at here.finds.seat.session p ≡ x = λ i. message_of p.publish (here.client i) (at_moment p i) in
-      passed_on run later m w r before c x
-      (accepted_is_passed_on here.event here.finds.there.holds.site.node.place here.finds.there.held (acts_of m.fate) here.decides before c.after c.step x c.acts
+      passed_on run later m w r before c x here.finds
+      (accepted_is_passed_on here.event here.finds.there.holds.site.node.place here.finds.there.held here.finds.held (acts_of m.fate) here.decides before c.after c.step x c.acts here.finds.there.runs
       (record { publish = p.publish; now = p.now; room = p.room; event = p.event; asks = asks ∙ ap (λ y. Some (Pass y)) same }))
 
   pub once : (id : ℕ) → Gives (puback id 0) c.step.reaction.packets → (t : TakesPublish AtLeastOnce id c.step) × IsPassedOn run later m w before c (message_in t)

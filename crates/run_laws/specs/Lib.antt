@@ -3,3 +3,5 @@ pub mod Sending
 pub mod Publishing
 pub mod Calling
 pub mod Asking
+pub mod LaneHistories
+pub mod Lanes

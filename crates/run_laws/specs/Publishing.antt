@@ -16,10 +16,12 @@ use Rattle.node_laws.specs.Lives.{life, step_in}
 use Rattle.node_work.specs.Acts.{Act, Session}
 use Rattle.node_work.specs.Held.Sessions.{SessionStep, Called}
 use Rattle.node_work.specs.Passing.{content_of}
+use Rattle.node_work.specs.View.{HeldView}
 use Rattle.passing_laws.specs.Publishing.{Gives, PassesOn}
 use Rattle.cluster_play.specs.Worlds.{World}
 use Rattle.cluster_play.specs.Runs.{Moment}
 use Rattle.cluster_play.specs.Histories.{Reached, site, moves_amid}
+use Rattle.cluster_play.specs.Laws.{HoldsAmid}
 use Rattle.run_laws.specs.Staying.{Calls, StaysMade}
 
 -- a call takes a PUBLISH of this QoS and identifier, at its moment
@@ -42,9 +44,13 @@ pub record PutStays (run later : List Moment) (m : Moment) (w : World) (before :
   pub follows : made.first ≡ before ++ Session (Called c.step) ∷ []
 
 -- a message is passed on directly after the call: with RETAIN its Put stays, and unless its deadline has passed its copies join their
--- sessions
+-- sessions, and what goes to other nodes joins the lanes that the node has then
 pub record IsPassedOn (run later : List Moment) (m : Moment) (w : World) (before : List Act) (c : Calls m before) (x : Message) : Type 0 where
-  pub passes : PassesOn x c.step.at c.after
+  pub world : World
+  pub reached : Reached run world
+  pub held : HeldView
+  pub there : HoldsAmid world m (site m.fate) before held
+  pub passes : PassesOn x c.step.at held.bridge c.after
   pub put : x.retain ≡ true → PutStays run later m w before c x
 
 -- the message of the PUBLISH that PUBACK 0x00 answers is passed on in the step that gives the PUBACK out

@@ -5,7 +5,7 @@ ghost use Rattle.run_laws.specs.Publishing.{PubackStaysTrue, PubrecStaysTrue};
 /// PUBACK 0x00 goes out in the step that passes the message on. So does PUBREC 0x00, or its exchange is open, and the message of the
 /// PUBLISH that opened it was passed on. The Put of a retained message is one of the operations of the step that passes it on, and its
 /// node has taken it in every later world, running or down; and unless the message's deadline has passed, its copies join their
-/// sessions in that step.
+/// sessions in that step, and what other nodes are to get of it joins the lanes to them, or is left out where a lane is full.
 pub fn acknowledged_stays_true()
     ensures once { PubackStaysTrue }
     ensures twice { PubrecStaysTrue }

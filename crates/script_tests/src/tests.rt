@@ -140,6 +140,7 @@ fn reads_crashes(rt: HostRuntime) -> Result<(), Fail> {
         "bytes 0 1 0 c000",
         "close 0 1 0",
         "ship 0 1 0",
+        "link 0 1 0",
         "tick 0 0",
         "evict 0 a 0",
     ] {
@@ -192,6 +193,9 @@ fn names_faults(rt: HostRuntime) -> Result<(), Fail> {
         ("nodes 2\nstart 2 0", 2),
         ("nodes 2\nstart 65536 0", 2),
         ("nodes 2\nship 0 2 0", 2),
+        ("nodes 2\nlink 0 2 0", 2),
+        ("nodes 2\nlink 2 0 0", 2),
+        ("nodes 2\nlink 0 1", 2),
         ("nodes 2\nstart 1 00", 2),
         ("nodes 2\nstart 01 0", 2),
         ("nodes 2\nstart +1 0", 2),
@@ -239,6 +243,7 @@ fn names_faults(rt: HostRuntime) -> Result<(), Fail> {
         ("nodes 1\ncrash before home a 0", 2),
         ("nodes 2\ncrash before start 2 0", 2),
         ("nodes 2\ncrash after ship 0 2 0", 2),
+        ("nodes 2\ncrash after link 0 2 0", 2),
         ("crash before start 0 0", 1),
         ("nodes 2\ncrash before start 0 0\nhome a 0", 3),
         ("nodes 2\nrestart 1\nrestart 2", 3),
@@ -257,8 +262,8 @@ fn names_faults(rt: HostRuntime) -> Result<(), Fail> {
 #[test]
 fn prints_commands(rt: HostRuntime) -> Result<(), Fail> {
     let script =
-        b"nodes 2\nhome d 1\nopen 1 10 0\nbytes 1 10 5 00ff7a\nclose 1 10 6\ntick 0 7\nship 0 1 7\ndeliver 3 9\nevict 1 c-1 8\nstart 0 20\n\
-        crash before bytes 1 10 5 00ff7a\ncrash after ship 0 1 7\nrestart 1\n";
+        b"nodes 2\nhome d 1\nopen 1 10 0\nbytes 1 10 5 00ff7a\nclose 1 10 6\ntick 0 7\nship 0 1 7\nlink 1 0 7\ndeliver 3 9\nevict 1 c-1 8\nstart 0 20\n\
+        crash before bytes 1 10 5 00ff7a\ncrash after ship 0 1 7\ncrash before link 1 0 7\nrestart 1\n";
     let mut printed = String::new(rt.alloc());
     for command in read(&rt, rt.alloc(), script).iter() {
         let line = format!(in rt.alloc(); "{command}\n")?;

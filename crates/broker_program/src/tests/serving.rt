@@ -1,6 +1,8 @@
 //! A node with its rows in memory, and a client of it over the sockets of the system.
 
-use broker_sockets::{Answer, Event, EventKind, Handler, Hub, RealClock, RealSockets, Sockets};
+use broker_sockets::{
+    Answer, Event, EventKind, Handler, Hub, RealClock, RealSockets, Setting, Sockets,
+};
 use broker_stop::{RunFault, Stop};
 use home_table::{HomeTable, TableFault};
 use mio::net::{TcpListener, TcpStream};
@@ -94,7 +96,12 @@ fn a_client_is_answered(rt: HostRuntime) {
     let listener = sockets.listen(free).expect(&rt, "a listener");
     let address = listener.local_addr().expect(&rt, "its address");
     let mut client = sockets.connect(address).expect(&rt, "a client");
-    let mut hub = Hub::new(alloc, listener).expect(&rt, "a hub");
+    let setting = Setting {
+        listener,
+        bridge: sockets.listen(free).expect(&rt, "a bridge"),
+        peers: Vec::new(alloc),
+    };
+    let mut hub = Hub::new(alloc, setting).expect(&rt, "a hub");
     let mut node = started_node(&rt, alloc);
     let mut got = Vec::new(alloc);
     run(

@@ -1,22 +1,33 @@
 //! Links between nodes, over sockets in memory.
 
-use super::memory::{Line, Memory, memory_of};
+use super::memory::{Door, Line, Memory, line_of};
 use crate::clients::Client;
 use crate::lines::Line as Link;
-use crate::links::{accept_link, dial_peer, read_link, ship_to, write_link};
+use crate::links::{accept_link, dial_peers, read_links, ship_all, write_links};
 use crate::{BridgeHandler, Event, Given, Handler, Output, PeerEvent, PeerEventKind, PeerFrame};
 use slab::Slab;
 use std::alloc::Global;
 use std::net::SocketAddr;
+use std::process::Abort;
 use std::test::Fail;
 
 /// Keeps the frames that it hears, says `hi` on each link that is begun, and ships `more`.
-#[derive(Drop)]
 struct Node {
     alloc: Global,
     heard: Vec<u8>,
     linked: u32,
     asked: u32,
+}
+
+impl Drop for Node {
+    fn drop(self) {
+        let Node {
+            alloc: _,
+            heard: _heard,
+            linked: _,
+            asked: _,
+        } = self;
+    }
 }
 
 /// No memory.
@@ -33,7 +44,7 @@ impl Node {
         }
     }
 
-    fn gives(&self, peer: u64, text: &[u8]) -> Result<Given, Refused> {
+    fn gives(&self, peer: u16, text: &[u8]) -> Result<Given, Refused> {
         let bytes = Vec::from_slice(self.alloc, text).map_err(|_| Refused)?;
         let mut frames = Vec::new(self.alloc);
         let given = frames.push(PeerFrame { peer, bytes });
@@ -88,33 +99,32 @@ impl BridgeHandler for Node {
     }
 }
 
-/// Accepts a link and asks it so often to read: whether it is there then.
-fn hear(alloc: Global, network: &mut Memory, node: &mut Node, times: u32) -> Result<bool, Fail> {
+/// Accepts a link and asks it so often to read: whether it is there then, and what the node has heard.
+fn hear(rt: &impl Abort, alloc: Global, line: Line, times: u64) -> (bool, Node) {
+    let mut network = Memory::new(alloc, 0);
+    network.add(rt, line);
+    let mut node = Node::new(alloc);
     let mut clients: Slab<Client<usize>> = Slab::new(alloc);
-    let mut links: Vec<Option<Link<usize>>> = Vec::new(alloc);
+    let mut links: [Option<Link<usize>>; 0] = [];
     let mut accepted = Slab::new(alloc);
-    let mut buffer = vec![in alloc; 0u8; 65536]?;
-    accept_link(alloc, &mut accepted, &(), network)?;
+    let mut buffer = [0u8; 65536];
+    let came = accept_link(alloc, &mut accepted, &Door::Clients, &mut network);
+    came.expect(rt, "memory");
     for at in 0..times {
-        if buffer.len() != 65536 {
-            return Ok(false);
-        }
-        let read = read_link(
+        let read = read_links(
             alloc,
             &mut clients,
             &mut links,
             &mut accepted,
             &mut buffer,
-            network,
-            node,
-            u64::from(at),
-            0,
+            &mut network,
+            &mut node,
+            at,
+            &[0],
         );
-        if read.is_err() {
-            return Ok(false);
-        }
+        read.expect(rt, "memory");
     }
-    Ok(accepted.contains(0))
+    (accepted.contains(0), node)
 }
 
 #[test]
@@ -122,14 +132,10 @@ fn frames_come_in_any_pieces(rt: HostRuntime) -> Result<(), Fail> {
     let alloc = rt.alloc();
     // three frames, of which one is empty, and the beginning of a fourth
     let bytes = b"\0\0\0\x02ab\0\0\0\0\0\0\0\x01c\0\0\0\x05de";
+    let whole = b"\0\0\0\x02ab/\0\0\0\0/\0\0\0\x01c/";
     for size in 1..24 {
-        let mut network = memory_of(alloc, [Line::new(alloc, bytes, size, 1)?])?;
-        let mut node = Node::new(alloc);
-        assert!(rt; hear(alloc, &mut network, &mut node, 24)?);
-        assert_eq!(rt;
-            node.heard.as_slice(),
-            b"\0\0\0\x02ab/\0\0\0\0/\0\0\0\x01c/".as_slice()
-        );
+        let (stays, node) = hear(&rt, alloc, line_of(&rt, alloc, bytes, size, 1), 24);
+        assert!(rt; stays && node.heard.as_slice() == whole.as_slice());
     }
     Ok(())
 }
@@ -143,61 +149,75 @@ fn links_that_end_or_lie_are_let_go(rt: HostRuntime) -> Result<(), Fail> {
         (b"\0\0\0\x01a\x10\0\0\0", false, true),
         (b"\0\0\0\x01a\0\0\0\x02", true, false),
     ] {
-        let line = Line::new(alloc, bytes, 4, 1)?;
-        let line = if ends { line.ending() } else { line };
-        let mut network = memory_of(alloc, [line])?;
-        let mut node = Node::new(alloc);
-        assert_eq!(rt; hear(alloc, &mut network, &mut node, 9)?, stays);
-        assert_eq!(rt; node.heard.as_slice(), b"\0\0\0\x01a/".as_slice());
+        let mut line = line_of(&rt, alloc, bytes, 4, 1);
+        line.ends = ends;
+        let (stayed, node) = hear(&rt, alloc, line, 9);
+        assert!(rt; stayed == stays && node.heard.as_slice() == b"\0\0\0\x01a/".as_slice());
     }
     Ok(())
 }
 
-/// So many turns of a link to one peer: dialling, shipping and writing. Whether the link is there then.
-fn link(alloc: Global, network: &mut Memory, node: &mut Node, turns: u64) -> Result<bool, Fail> {
-    let address: SocketAddr = "127.0.0.1:2883".parse()?;
+/// So many turns of a link to one peer, each so many milliseconds after the one before: dialling, shipping and writing.
+/// Whether the link is there then, and the node.
+fn link(
+    rt: &impl Abort,
+    alloc: Global,
+    network: &mut Memory,
+    turns: u64,
+    each: u64,
+) -> (bool, Node) {
+    let address: SocketAddr = "127.0.0.1:2883".parse().expect(rt, "an address");
+    let mut node = Node::new(alloc);
     let mut clients: Slab<Client<usize>> = Slab::new(alloc);
     let mut links: [Option<Link<usize>>; 1] = [None];
-    for at in 0..turns {
-        let dialled = dial_peer(
+    for turn in 0..turns {
+        let at = turn.saturating_mul(each);
+        let peers = [Some(address)];
+        let dialled = dial_peers(
             alloc,
             &mut clients,
             &mut links,
+            &peers,
             network,
-            node,
+            &mut node,
             at,
-            0,
-            address,
         );
-        let shipped = ship_to(&mut clients, &mut links, node, at, 0);
-        if dialled.is_err() || shipped.is_err() {
-            return Ok(false);
-        }
-        write_link(&mut links, network, 0);
+        dialled.expect(rt, "memory");
+        let shipped = ship_all(&mut clients, &mut links, &mut node, at);
+        shipped.expect(rt, "memory");
+        write_links(&mut links, network);
     }
-    Ok(links[0].is_some())
+    (links[0].is_some(), node)
+}
+
+/// What comes of so many turns of a link to a peer that refuses twice and then takes a byte at a time: whether there is a
+/// link, how often one was begun, how often more was asked for, and what has come.
+fn is_dialled(
+    rt: &impl Abort,
+    alloc: Global,
+    (turns, each): (u64, u64),
+    wanted: (bool, u32, u32),
+    taken: &[u8],
+) {
+    let mut network = Memory::new(alloc, 2);
+    network.add(rt, line_of(rt, alloc, b"", 1, 1));
+    let (stays, node) = link(rt, alloc, &mut network, turns, each);
+    assert!(rt; (stays, node.linked, node.asked) == wanted);
+    assert!(rt; network.taken(0) == taken);
 }
 
 #[test]
 fn peers_are_dialled_until_they_answer(rt: HostRuntime) -> Result<(), Fail> {
     let alloc = rt.alloc();
-    // turns; whether there is a link, how often one was begun, how often more was asked for, and what came: a link on
-    // which something waits isn't asked for more
-    for (turns, there, linked, asked, taken) in [
-        (2u64, false, 0u32, 0u32, ""),
-        (3, true, 1, 0, "h"),
-        (4, true, 1, 0, "hi"),
-        (5, true, 1, 1, "him"),
-        (8, true, 1, 1, "himore"),
-        (9, true, 1, 2, "himorem"),
-    ] {
-        let mut network = memory_of(alloc, [Line::new(alloc, b"", 1, 1)?])?.refusing(2);
-        let mut node = Node::new(alloc);
-        assert_eq!(rt; link(alloc, &mut network, &mut node, turns)?, there);
-        assert_eq!(rt; node.linked, linked);
-        assert_eq!(rt; node.asked, asked);
-        assert_eq!(rt; network.taken(0), taken.as_bytes());
-    }
+    is_dialled(&rt, alloc, (2, 10), (false, 0, 0), b"");
+    is_dialled(&rt, alloc, (3, 10), (true, 1, 0), b"h");
+    // more isn't asked for where something waits, nor within 10 milliseconds
+    is_dialled(&rt, alloc, (4, 10), (true, 1, 0), b"hi");
+    is_dialled(&rt, alloc, (5, 10), (true, 1, 1), b"him");
+    is_dialled(&rt, alloc, (8, 10), (true, 1, 1), b"himore");
+    is_dialled(&rt, alloc, (9, 10), (true, 1, 2), b"himorem");
+    is_dialled(&rt, alloc, (14, 1), (true, 1, 1), b"himore");
+    is_dialled(&rt, alloc, (15, 1), (true, 1, 2), b"himorem");
     Ok(())
 }
 
@@ -205,16 +225,15 @@ fn peers_are_dialled_until_they_answer(rt: HostRuntime) -> Result<(), Fail> {
 fn failed_links_are_dialled_again(rt: HostRuntime) -> Result<(), Fail> {
     let alloc = rt.alloc();
     // one that never takes a byte keeps what waits; one whose write fails is let go
-    let mut network = memory_of(alloc, [Line::new(alloc, b"", 1, 0)?])?;
-    let mut node = Node::new(alloc);
-    assert!(rt; link(alloc, &mut network, &mut node, 5)?);
-    assert_eq!(rt; node.asked, 0);
-    let fails = Line::new(alloc, b"", 1, 9)?.failing();
-    let again = Line::new(alloc, b"", 1, 9)?;
-    let mut network = memory_of(alloc, [fails, again])?;
-    let mut node = Node::new(alloc);
-    assert!(rt; link(alloc, &mut network, &mut node, 3)?);
-    assert_eq!(rt; node.linked, 2);
-    assert_eq!(rt; network.taken(1), b"himore".as_slice());
+    for (fails, most, linked, asked) in [(false, 0, 1, 0), (true, 9, 2, 1)] {
+        let mut line = line_of(&rt, alloc, b"", 1, most);
+        line.fails = fails;
+        let mut network = Memory::new(alloc, 0);
+        network.add(&rt, line);
+        network.add(&rt, line_of(&rt, alloc, b"", 1, 9));
+        let (stays, node) = link(&rt, alloc, &mut network, 3, 10);
+        assert!(rt; stays && node.linked == linked && node.asked == asked);
+        assert!(rt; network.taken(1) == (if fails { b"himore".as_slice() } else { &[] }));
+    }
     Ok(())
 }

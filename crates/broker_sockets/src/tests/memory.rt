@@ -1,71 +1,89 @@
 //! A network in memory.
 
 use crate::{Answer, Sockets};
-use std::alloc::{AllocError, Global};
+use std::alloc::Global;
 use std::io::{self, ErrorKind};
 use std::net::SocketAddr;
+use std::process::Abort;
 
-/// What a client sends, `piece` bytes at a time, and what it has taken, `most` bytes at a time.
-#[derive(Drop)]
+/// What a listener waits for. In memory nobody links.
+#[derive(Clone, Copy, PartialEq, Eq)]
+pub enum Door {
+    Clients,
+    Nodes,
+}
+
+/// What a client sends, `piece` bytes at a time, and what it has taken, `most` bytes at a time. It may be gone once all is
+/// sent, and its writes may fail.
 pub struct Line {
     sends: Vec<u8>,
     sent: usize,
     piece: usize,
     most: usize,
     taken: Vec<u8>,
-    ends: bool,
-    fails: bool,
+    pub ends: bool,
+    pub fails: bool,
     asked: u32,
 }
 
-impl Line {
-    pub fn new(alloc: Global, sends: &[u8], piece: usize, most: usize) -> Result<Line, AllocError> {
-        Ok(Line {
-            sends: Vec::from_slice(alloc, sends)?,
-            sent: 0,
-            piece,
-            most,
-            taken: Vec::new(alloc),
-            ends: false,
-            fails: false,
-            asked: 0,
-        })
+impl Drop for Line {
+    fn drop(self) {
+        let Line {
+            sends: _sends,
+            sent: _,
+            piece: _,
+            most: _,
+            taken: _taken,
+            ends: _,
+            fails: _,
+            asked: _,
+        } = self;
     }
+}
 
-    /// The same, gone once all is sent.
-    pub fn ending(mut self) -> Line {
-        self.ends = true;
-        self
-    }
-
-    /// The same, whose writes fail.
-    pub fn failing(mut self) -> Line {
-        self.fails = true;
-        self
+pub fn line_of(rt: &impl Abort, alloc: Global, sends: &[u8], piece: usize, most: usize) -> Line {
+    let sends = Vec::from_slice(alloc, sends).expect(rt, "memory");
+    Line {
+        sends,
+        sent: 0,
+        piece,
+        most,
+        taken: Vec::new(alloc),
+        ends: false,
+        fails: false,
+        asked: 0,
     }
 }
 
 /// Peers that connect, or are connected to, one after another.
-#[derive(Drop)]
 pub struct Memory {
     lines: Vec<Line>,
     came: usize,
     refused: u32,
 }
 
-pub fn memory_of<const N: usize>(alloc: Global, lines: [Line; N]) -> Result<Memory, AllocError> {
-    Ok(Memory {
-        lines: Vec::from_array(alloc, lines)?,
-        came: 0,
-        refused: 0,
-    })
+impl Drop for Memory {
+    fn drop(self) {
+        let Memory {
+            lines: _lines,
+            came: _,
+            refused: _,
+        } = self;
+    }
 }
 
 impl Memory {
-    /// The same, in which so many calls to connect fail first.
-    pub fn refusing(mut self, refused: u32) -> Memory {
-        self.refused = refused;
-        self
+    /// So many calls to connect fail first.
+    pub fn new(alloc: Global, refused: u32) -> Memory {
+        Memory {
+            lines: Vec::new(alloc),
+            came: 0,
+            refused,
+        }
+    }
+
+    pub fn add(&mut self, rt: &impl Abort, line: Line) {
+        self.lines.push(line).expect(rt, "memory");
     }
 
     pub fn taken(&self, stream: usize) -> &[u8] {
@@ -82,7 +100,7 @@ impl Memory {
 }
 
 impl Sockets for Memory {
-    type Listener = ();
+    type Listener = Door;
 
     type Stream = usize;
 
@@ -96,12 +114,16 @@ impl Sockets for Memory {
 
     ghost writes = { λ _ _ _ _ _ _. Unit {0} };
 
-    fn listen(&mut self, _address: SocketAddr) -> io::Result<()> {
-        Ok(())
+    fn listen(&mut self, _address: SocketAddr) -> io::Result<Door> {
+        Ok(Door::Clients)
     }
 
-    fn accept(&mut self, _listener: &()) -> Option<usize> {
-        if self.came >= self.lines.len() {
+    fn address(&self, _listener: &Door) -> Option<SocketAddr> {
+        None
+    }
+
+    fn accept(&mut self, listener: &Door) -> Option<usize> {
+        if *listener == Door::Nodes || self.came >= self.lines.len() {
             return None;
         }
         self.came += 1;
@@ -113,7 +135,7 @@ impl Sockets for Memory {
             self.refused -= 1;
             return Err(io::Error::from(ErrorKind::ConnectionRefused));
         }
-        match self.accept(&()) {
+        match self.accept(&Door::Clients) {
             Some(stream) => Ok(stream),
             None => Err(io::Error::from(ErrorKind::ConnectionRefused)),
         }

@@ -1,5 +1,6 @@
 -- The operations that a node makes of its own, and when it can't number them.
 use Rattle.std.specs.Prelude.{◌≡◌, ℕ, ◌^◌, ◌||◌, Bool, true, false, not, nat_lt, List, Option, Result, Ok, Err}
+use Rattle.node_bridge.specs.View.{keeps}
 use Rattle.subscription_set.specs.Standing.{dots_of}
 use Rattle.replica_store.specs.declared.operation.Operation.{Operation}
 use Rattle.replica_store.specs.declared.operation.Operation.TheVariants.{Remove}
@@ -22,9 +23,9 @@ put_at_end id h = number_at_end id h || not (nat_lt (next_count h.store) (2 ^ 62
 abbrev pub removal : ℕ → List ℕ → Option (List ℕ) → State → Operation
 removal id client to s = Remove (next_dot id s) (dots_of client to s.subscriptions)
 
--- the state after an operation
+-- the state after an operation, whose delta is kept for the other nodes
 abbrev pub with_operation : HeldView → Operation → HeldView
-with_operation h o = record h { store = state_join h.store (delta_of o) }
+with_operation h o = record h { store = state_join h.store (delta_of o); bridge = keeps (delta_of o) h.bridge }
 
 -- an operation is made and taken at once, unless it can't be numbered; want of memory says nothing of what is left
 abbrev pub Makes : {T : Type 0} → Bool → Operation → HeldView → HeldView → Result T NodeFault → Type 0

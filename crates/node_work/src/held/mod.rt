@@ -1,11 +1,15 @@
 //! What a running node holds.
 
+pub mod bridging;
 pub mod connection;
 pub mod connections;
 
-ghost use Rattle.std.specs.Prelude.{◌≡◌, ◌<◌, ◌≤◌, ◌^◌, ◌+◌, max, true, is_some, None, Some, OnOk, IfOk, IfErr, slice_get, option_and_then, Ok};
+ghost use Rattle.std.specs.Prelude.{◌≡◌, ℕ, ◌<◌, ◌≤◌, ◌^◌, ◌+◌, max, true, is_some, None, Some, OnOk, IfOk, IfErr, slice_get, option_and_then, Ok};
 ghost use Rattle.std.specs.Option.{option_copied};
 ghost use Rattle.std.specs.FinMap as map;
+ghost use Rattle.message_lanes.specs.Lanes.{Lanes};
+ghost use Rattle.bridge_frames.specs.declared.forward.Forward.{Forward};
+ghost use Rattle.node_bridge.specs.View.{keeps, woken_bridge};
 ghost use Rattle.replica_store.specs.States.{state_join};
 ghost use Rattle.replica_store.specs.Making.{subscribe_of, put_of};
 ghost use Rattle.subscription_set.specs.Standing.{any_of};
@@ -18,25 +22,27 @@ ghost use Rattle.node_work.specs.Acts.{next, Connection};
 ghost use Rattle.node_work.specs.Held.Calling.{IsHeldCall, MayConnectHere, MayAnswer};
 ghost use Rattle.session_table.specs.Calls.{IsSpelledIf, stays, leaves, moves};
 ghost use Rattle.session_table.specs.Rows.{LeadsOn};
-ghost use Rattle.node_work.specs.Lasting.{CanLast, StoreTells};
+ghost use Rattle.node_work.specs.Lasting.{AreOpenedWith, CanLast, StoreTells};
 ghost use Rattle.node_work.specs.Held.Sessions.{Begun, Over, called, counted, more, will_is_due, end_is_due};
 ghost use Rattle.node_work.specs.Held.Connections.{Accepted, is_open, client_at, first_at, new_connection};
 ghost use Rattle.node_work.specs.Held.Feeding.{IsHeldFed};
 ghost use Rattle.node_work.specs.Held.Making.{Makes, number_at_end, put_at_end, removal, with_operation};
 ghost use Rattle.node_work.specs.Packets.{CameSpelled};
-ghost use Rattle.node_work.specs.View.{woken};
+ghost use Rattle.node_work.specs.View.{no_counts, woken};
 ghost use Rattle.store_rows.specs.Reading.{IsStore};
 ghost use Rattle.node_work.specs.declared.fault.NodeFault.TheVariants.{NoMemory};
 
 use crate::counts::Counts;
 use crate::fault::NodeFault;
 use crate::held::connections::{Came, Connections};
+use bridge_deltas::Links;
 use causal_context::Lattice;
 use mqtt_fields::Text;
 use mqtt_message::Delivery;
 use mqtt_packets::{Connect, Packet};
 use mqtt_sessions::{Reaction, SessionFault};
 use mqtt_topics::Filter;
+use node_bridge::Bridge;
 use node_rows::Opened;
 use replica_store::{Content, Operation, ReplicaStore, delta_of};
 use row_store::Change;
@@ -54,6 +60,7 @@ pub struct Held {
     store: ReplicaStore,
     connections: Connections,
     sessions: Sessions,
+    bridge: Bridge,
     turn: u64,
     named: u64,
     counts: Counts,
@@ -67,6 +74,7 @@ impl Drop for Held {
             store: _store,
             connections: _connections,
             sessions: _sessions,
+            bridge: _bridge,
             turn: _turn,
             named: _named,
             counts: _counts,
@@ -83,7 +91,7 @@ impl Model for Held {
 
     ghost coded = { coded_held };
 
-    ghost view = { λ h. record { at = h.at; started = h.started; store = h.store; connections = h.connections; sessions = h.sessions; turn = h.turn; named = h.named; counts = h.counts } };
+    ghost view = { λ h. record { at = h.at; started = h.started; store = h.store; connections = h.connections; sessions = h.sessions; bridge = h.bridge; turn = h.turn; named = h.named; counts = h.counts } };
 
     ghost invariant = { λ h. (h.at < 2 ^ 62) × (h.turn ≤ 2 ^ 62) × (h.named < 2 ^ 62) × IsStore h.store };
 }
@@ -97,17 +105,41 @@ fn are_spelled(store: &ReplicaStore)
     let _seen = store.subscriptions().seen().ranges();
 }
 
+// What is kept for other nodes, as it is opened.
+fn bridge_of(links: Links) -> Bridge
+    requires { (lanes : Lanes Forward) × AreOpenedWith links lanes }
+    ensures { (lanes : Lanes Forward) → AreOpenedWith links lanes → result ≡ woken_bridge lanes }
+{
+    links.have_rows();
+    Bridge::of(links)
+}
+
+fn no_counts() -> Counts
+    ensures { result ≡ no_counts }
+{
+    Counts {
+        queue_full: 0,
+        retained_full: 0,
+        picks_lost: 0,
+        lane_full: 0,
+        bad_frames: 0,
+        frames_too_large: 0,
+    }
+}
+
 impl Held {
     /// What a node holds that is opened with what lasts of it.
     pub fn wake(alloc: Global, opened: Opened) -> Held
         requires named { opened.named < 2 ^ 62 }
         requires store { IsStore opened.store }
-        ensures { result ≡ woken opened.named opened.sessions opened.store }
+        requires lanes { (lanes : Lanes Forward) × AreOpenedWith opened.links lanes }
+        ensures { (lanes : Lanes Forward) → AreOpenedWith opened.links lanes → result ≡ woken opened.named opened.sessions opened.store lanes }
     {
         let Opened {
             named,
             sessions,
             store,
+            links,
         } = opened;
         Held {
             at: 0,
@@ -115,13 +147,10 @@ impl Held {
             store,
             connections: Connections::new(alloc),
             sessions,
+            bridge: bridge_of(links),
             turn: 0,
             named,
-            counts: Counts {
-                queue_full: 0,
-                retained_full: 0,
-                picks_lost: 0,
-            },
+            counts: no_counts(),
         }
     }
 
@@ -130,6 +159,7 @@ impl Held {
         ensures { CanLast self.now }
     {
         self.sessions.are_durable();
+        self.bridge.are_lanes();
     }
 
     /// The greatest moment that was taken.
@@ -183,6 +213,13 @@ impl Held {
         ensures { result.now ≡ self.now.sessions }
     {
         &self.sessions
+    }
+
+    /// What is kept for the other nodes.
+    pub fn bridge(&self) -> &Bridge
+        ensures { result.now ≡ self.now.bridge }
+    {
+        &self.bridge
     }
 
     /// Whether the will of a client's session is due.
@@ -254,7 +291,7 @@ impl Held {
         let Ok(delta) = delta_of(alloc, operation) else {
             return Err(NodeFault::NoMemory);
         };
-        self.merge(alloc, &delta, changes)
+        self.merge(alloc, delta, changes)
     }
 
     /// Makes a Subscribe of the entry, and takes it. Here and in the calls below, the changes of the rows of the replicated
@@ -308,7 +345,8 @@ impl Held {
         self.apply(alloc, &operation, changes)
     }
 
-    pub fn merge(
+    /// Joins a state to the replicated one.
+    fn join(
         &mut self,
         alloc: Global,
         state: &ReplicaStore,
@@ -323,6 +361,22 @@ impl Held {
         changes.append(&mut own)?;
         self.store.join(state)?;
         are_spelled(&self.store);
+        Ok(())
+    }
+
+    /// Merges a state, and keeps it for the other nodes.
+    pub fn merge(
+        &mut self,
+        alloc: Global,
+        state: ReplicaStore,
+        changes: &mut Vec<Change>,
+    ) -> Result<(), NodeFault>
+        ensures ok { OnOk result (self.new ≡ record self.old { store = state_join self.old.store state; bridge = keeps state self.old.bridge }) }
+        ensures tells { OnOk result (StoreTells self.old.store changes.old.items changes.new.items self.new.store) }
+        ensures fault { IfErr result (λ e. e ≡ NoMemory) }
+    {
+        self.join(alloc, &state, changes)?;
+        self.bridge.keep(state)?;
         Ok(())
     }
 

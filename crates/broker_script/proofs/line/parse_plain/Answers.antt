@@ -1,5 +1,5 @@
 use Rattle.std.proofs.Common.{◌∷◌, ◌∙◌, sym, ap, map}
-use Rattle.broker_script.proofs.Commands.{no_start, no_open, no_close, no_tick, no_ship, no_event}
+use Rattle.broker_script.proofs.Commands.{no_start, no_open, no_close, no_tick, no_ship, no_link, no_event}
 use Rattle.broker_script.proofs.line.parse_plain.Goals as goal
 
 pub returns-in_err-node-in-start-clause-none : goal.returns-in_err-node-in-start-clause-none
@@ -22,7 +22,11 @@ pub returns-in_err-node-in-ship-clause-none : goal.returns-in_err-node-in-ship-c
 returns-in_err-node-in-ship-clause-none c = rw c.from_residual-in_err-node-in-ship.ensures (λ command r e.
     no_ship _ c.in_err-node-in-ship.ensures.none command r (sym (ap (λ w. w ∷ map (λ v. v.now) c.args.rest.now) c.in-ship.is) ∙ e))
 
+pub returns-in_err-node-in-link-clause-none : goal.returns-in_err-node-in-link-clause-none
+returns-in_err-node-in-link-clause-none c = rw c.from_residual-in_err-node-in-link.ensures (λ command r e.
+    no_link _ c.in_err-node-in-link.ensures.none command r (sym (ap (λ w. w ∷ map (λ v. v.now) c.args.rest.now) c.in-link.is) ∙ e))
+
 pub returns-in_default-clause-none : goal.returns-in_default-clause-none
 returns-in_default-clause-none c =
     let n = c.in_default in
-    no_event _ _ n.not-start n.not-open n.not-ship c.requires.not_bytes c.requires.not_evict n.not-close n.not-tick
+    no_event _ _ n.not-start n.not-open n.not-ship c.requires.not_bytes c.requires.not_evict n.not-close n.not-tick n.not-link

@@ -6,7 +6,7 @@ use Rattle.node_work.specs.declared.fault.NodeFault.{NodeFault}
 use Rattle.node_work.specs.Doings.{MakesSubscribe}
 use Rattle.node_work.specs.View.{HeldView}
 use Rattle.node_work.specs.Working.{Comes, Did, Returns, Then}
-use Rattle.node_work.proofs.Working.{comes_looks, comes_unless, then_stops, did_then, did_nothing}
+use Rattle.node_work.proofs.Working.{comes_looks, comes_unless, comes_when, then_stops, did_then, did_nothing}
 use Rattle.node_clients.specs.Subscribing.{GrantsBy, stands, has_most, refused, granted, entry_of}
 use Rattle.node_clients.proofs.Asking.{identifier_small}
 use Rattle.node_clients.proofs.subscribe.grant_filter.Goals as goal
@@ -32,6 +32,20 @@ returns-in_err-subscribe c =
     comes_looks (λ x. x) r w m (λ p h. stands client f.filter h) (GrantsBy client c.args.identifier f) b (sym stood)
     (comes_unless (λ x. x) r w m (λ p h. not b && has_most client h.store) (Returns (refused 151)) (Then (MakesSubscribe entry) (λ _. Returns g)) room
     (then_stops (MakesSubscribe entry) (λ _. Returns g) (λ x. x) (λ x. x) r fault w m c.from_residual-in_err-subscribe.ensures.1 made))
+
+pub returns-then-is_full : goal.returns-then-is_full
+returns-then-is_full c =
+    let w = c.args.work.now in
+    let client = c.args.client.now in
+    let f = c.args.asked.now in
+    let b = c.stands-stood.result in
+    let store = c.store.ensures ∙ ap (λ (h : HeldView). h.store) c.held-2.ensures in
+    let stood = c.stands-stood.ensures ∙ ap (λ (h : HeldView). any_of client (Some c.args.filter) h.store.subscriptions) c.held.ensures ∙ ap (λ t. any_of client (Some t) w.held.store.subscriptions) c.requires.same in
+    let full = ap (λ s. not b && has_most client s) (sym store) ∙ sym c.is_full.ensures ∙ c.if-is_full.true in
+    let done : Result Granted NodeFault = Ok (refused 151) in
+    comes_looks (λ x. x) done w w (λ p h. stands client f.filter h) (GrantsBy client c.args.identifier f) b (sym stood)
+    (comes_when (λ x. x) done w w (λ p h. not b && has_most client h.store) (Returns (refused 151)) (Then (MakesSubscribe (entry_of client f c.args.identifier)) (λ _. Returns (granted f (identifiers_of c.args.identifier) b))) full
+    (did_nothing w (refused 151)))
 
 pub returns : goal.returns
 returns c =

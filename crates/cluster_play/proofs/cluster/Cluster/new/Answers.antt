@@ -10,7 +10,7 @@ use Rattle.cluster_play.specs.Clusters.{are_tables, site_of}
 use Rattle.cluster_play.specs.Histories.{IsNew}
 use Rattle.cluster_play.proofs.Fresh.{opened_new}
 use Rattle.cluster_play.proofs.Sites.{each_added}
-use Rattle.cluster_play.proofs.Tables.{fits_at, homes_more, table_of}
+use Rattle.cluster_play.proofs.Tables.{few_tables, fits_at, homes_more, table_of}
 use Rattle.cluster_play.proofs.cluster.Cluster.new.Goals as goal
 
 -- the node of the next number joins the ones that are there
@@ -53,4 +53,6 @@ returns-clause-start c =
     let long = ap length c.deref-homes-items.ensures.value in
     let taken = sym (length-map sites table_of) ∙ ap length c.loop-i.invariant.homes ∙ length-take c.loop-i.i tables in
     let count : length tables ≡ length sites = omega (arith, taken, long) in
-    record { sites = λ k s h. subst (λ j. IsNew j k s) count (c.loop-i.invariant.each k s h); frames = c.new-2.ensures.items }
+    let fit : are_tables tables ≡ true = ap are_tables (sym c.as_slice.ensures.value) ∙ sym c.are_tables.ensures ∙ c.if-not-are_tables.false in
+    let few = few_tables tables fit in
+    record { few = omega (arith, few, count); sites = λ k s h. subst (λ j. IsNew j k s) count (c.loop-i.invariant.each k s h); frames = c.new-2.ensures.items }

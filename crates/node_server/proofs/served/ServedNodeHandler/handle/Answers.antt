@@ -4,7 +4,7 @@ use Rattle.broker_node.specs.declared.event.Event.{Event}
 use Rattle.node_keeper.specs.declared.fault.KeeperFault.{KeeperFault}
 use Rattle.node_keeper.specs.declared.keeper.Keeper.{Keeper}
 use Rattle.node_server.proofs.Halting.{crashed, made_cause}
-use Rattle.node_server.specs.Serving.{IsAnswered, IsHalted}
+use Rattle.node_server.specs.Serving.{IsAnsweredToClients, IsHalted}
 use Rattle.node_server.proofs.served.ServedNodeHandler.handle.Goals as goal
 
 pub returns-in-Ok-clause-ok : goal.returns-in-Ok-clause-ok
@@ -13,9 +13,9 @@ returns-in-Ok-clause-ok g c =
     let k = c.args.self.now.keeper in
     IfOk-weaker c.hand_over.result _ _
     (λ handed is.
-    subst (λ (e : Event). IsAnswered R.is_clean R.is_open R.content k e handed.items c.hand_over.new.keeper) c.event_of-event.ensures
-    (subst (λ last. IsAnswered R.is_clean R.is_open R.content k c.event_of-event.result handed.items last) (sym is.1)
-    (record { made = c.in-Ok.made.items; given = c.in-Ok.ensures.given; commits = c.in-Ok.ensures.ok; for_clients = is.0 })))
+    subst (λ (e : Event). IsAnsweredToClients R.is_clean R.is_open R.content k e handed.items c.hand_over.new.keeper) c.event_of-event.ensures
+    (subst (λ last. IsAnsweredToClients R.is_clean R.is_open R.content k c.event_of-event.result handed.items last) (sym is.1)
+    (record { made = c.in-Ok.made.items; given = c.in-Ok.ensures.given; commits = c.in-Ok.ensures.ok; passed = is.0 })))
     c.hand_over.ensures.ok
 
 pub returns-in-Ok-clause-fault : goal.returns-in-Ok-clause-fault

@@ -7,7 +7,7 @@ use Rattle.node_work.proofs.held.Held.answer.Goals as goal
 
 pub returns-clause-called : goal.returns-clause-called
 returns-clause-called c =
-    let h : HeldView = record { at = c.self.inside.at; started = c.self.inside.started; store = c.self.inside.store; connections = c.self.inside.connections; sessions = c.answer.new.self; turn = c.self.inside.turn; named = c.self.inside.named; counts = c.self.inside.counts } in
+    let h : HeldView = record { at = c.self.inside.at; started = c.self.inside.started; store = c.self.inside.store; connections = c.self.inside.connections; sessions = c.answer.new.self; bridge = c.self.inside.bridge; turn = c.self.inside.turn; named = c.self.inside.named; counts = c.self.inside.counts } in
     subst (λ (v : HeldView). IsHeldCall c.args.client.now (answers c.args.identifier c.args.codes.now) stays v c.answer.result h) c.self.view_is (c.answer.new.self, c.answer.ensures.called, refl)
 
 pub returns-clause-spelled : goal.returns-clause-spelled

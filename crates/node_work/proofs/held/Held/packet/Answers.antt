@@ -7,5 +7,5 @@ use Rattle.node_work.proofs.held.Held.packet.Goals as goal
 
 pub returns-clause-called : goal.returns-clause-called
 returns-clause-called c =
-    let h : HeldView = record { at = c.self.inside.at; started = c.self.inside.started; store = c.self.inside.store; connections = c.self.inside.connections; sessions = c.packet.new.self; turn = c.self.inside.turn; named = c.self.inside.named; counts = c.self.inside.counts } in
+    let h : HeldView = record { at = c.self.inside.at; started = c.self.inside.started; store = c.self.inside.store; connections = c.self.inside.connections; sessions = c.packet.new.self; bridge = c.self.inside.bridge; turn = c.self.inside.turn; named = c.self.inside.named; counts = c.self.inside.counts } in
     subst (λ (v : HeldView). IsHeldCall c.args.client.now (takes c.args.packet.now v.at c.args.room) stays v c.packet.result h) c.self.view_is (c.packet.new.self, c.packet.ensures.called, refl)

@@ -1,0 +1,127 @@
+//! Frames between two nodes, field by field as docs/bridge.md and docs/replication.md spell them; whole, cut short, and with one
+//! byte changed.
+
+use bridge_frames::{BridgeFrame, LinkFault, frame_length};
+use std::alloc::Global;
+use std::process::Abort;
+
+/// What frames say, and their bytes in hexadecimal.
+const FRAMES: [(&str, &str); 12] = [
+    ("Hello", "00000005 01 0000 0001"),
+    ("a Know of no dot", "00000009 03 0001 0000 00000000"),
+    (
+        "a Know of (1, 1) and (1, 2)",
+        "0000001b 03 0000 0001 00000001 0001 0000000000000001 0000000000000002",
+    ),
+    (
+        "a Know of (0, 1) and (1, 1)",
+        "0000002d 03 0001 0000 00000002 0000 0000000000000001 0000000000000001 0001 0000000000000001 0000000000000001",
+    ),
+    (
+        "a Delta of the message on to t with RETAIN, by a, as (1, 1)",
+        "00000045 02 0001 0000 00000001 0001 0000000000000001 0000000000000001 00000000 00000000 00000001 \
+         0001 74 0000000000000001 0001 01 0001 74 00000002 6f6e 00 00 01 0001 61 00",
+    ),
+    (
+        "a Delta of no message to t, as (1, 1)",
+        "00000035 02 0001 0000 00000001 0001 0000000000000001 0000000000000001 00000000 00000000 00000001 \
+         0001 74 0000000000000001 0001 00",
+    ),
+    (
+        "a Delta of a subscription of b to t with QoS 1, as (0, 1)",
+        "0000004e 02 0000 0001 00000001 0000 0000000000000001 0000000000000001 \
+         00000001 0000 0000000000000001 0000000000000001 \
+         00000001 0000 0000000000000001 0001 62 0001 74 01 00000000 00000000",
+    ),
+    (
+        "a Delta of a subscription of a to t in place of an older one, as (1, 2)",
+        "0000004e 02 0001 0000 00000001 0001 0000000000000001 0000000000000002 \
+         00000001 0001 0000000000000001 0000000000000002 \
+         00000001 0001 0000000000000002 0001 61 0001 74 00 00000000 00000000",
+    ),
+    (
+        "a Delta of a subscription, as (1, 1), that was removed, as (0, 1)",
+        "0000004b 02 0000 0001 00000002 0000 0000000000000001 0000000000000001 0001 0000000000000001 0000000000000001 \
+         00000001 0001 0000000000000001 0000000000000001 00000000 00000000",
+    ),
+    (
+        "a Forward under 1 of x to t with QoS 1, by a, for plain subscriptions",
+        "0000001f 04 0001 0000 0000000000000001 01 0000 0001 74 00000001 78 00 01 00 0001 61 00",
+    ),
+    (
+        "a Forward under 2 of it with a deadline, for b in $share/g/t",
+        "00000036 04 0001 0000 0000000000000002 00 0001 0001 62 000a 2473686172652f672f74 \
+         0001 74 00000001 78 00 01 00 0001 61 01 0000000000001770",
+    ),
+    ("a Got of 1", "0000000d 05 0000 0001 0000000000000001"),
+];
+
+fn bytes_of(rt: &impl Abort, alloc: Global, spelled: &str) -> Vec<u8> {
+    let mut bytes = Vec::new(alloc);
+    for field in spelled.split(' ') {
+        let field = hex::decode(alloc, field).expect(rt, "hexadecimal");
+        bytes.extend_from_slice(&field).expect(rt, "memory");
+    }
+    bytes
+}
+
+fn is_written(rt: &impl Abort, alloc: Global, frame: BridgeFrame, bytes: &[u8]) -> bool {
+    let mut out = Vec::new(alloc);
+    frame.write(alloc, &mut out).expect(rt, "a spelling");
+    drop(frame);
+    out.as_slice() == bytes
+}
+
+// Whether the frame that the bytes spell is written as they are.
+fn is_read(rt: &impl Abort, alloc: Global, bytes: &[u8]) -> Result<bool, LinkFault> {
+    let frame = BridgeFrame::read(alloc, bytes)?;
+    Ok(is_written(rt, alloc, frame, bytes))
+}
+
+// Whether a frame is none while bytes lack, and tells its length by its first four.
+fn is_whole_alone(rt: &impl Abort, alloc: Global, bytes: &[u8]) -> bool {
+    for end in 0..bytes.len() {
+        let cut = &bytes[..end];
+        let length = if end < 4 { None } else { Some(bytes.len()) };
+        if frame_length(cut) != Ok(length) || is_read(rt, alloc, cut) != Err(LinkFault::BadFrame) {
+            return false;
+        }
+    }
+    true
+}
+
+// Whether a frame with another byte at a place is none, or one that is written as it is.
+fn is_told(rt: &impl Abort, alloc: Global, bytes: &[u8], place: usize, byte: u8) -> bool {
+    let mut changed = Vec::from_slice(alloc, bytes).expect(rt, "memory");
+    if let Some(old) = changed.get_mut(place) {
+        *old = byte;
+    }
+    matches!(
+        is_read(rt, alloc, &changed),
+        Ok(true) | Err(LinkFault::BadFrame)
+    )
+}
+
+// The same at each place, for the next byte and for one with another highest bit.
+fn are_told(rt: &impl Abort, alloc: Global, bytes: &[u8]) -> bool {
+    for place in 0..bytes.len() {
+        let byte = bytes[place];
+        if !is_told(rt, alloc, bytes, place, byte.wrapping_add(1))
+            || !is_told(rt, alloc, bytes, place, byte ^ 0x80)
+        {
+            return false;
+        }
+    }
+    true
+}
+
+#[test]
+fn frames_are_read_whole_and_no_others(rt: HostRuntime) {
+    let alloc = rt.alloc();
+    for (what, spelled) in FRAMES {
+        let bytes = bytes_of(&rt, alloc, spelled);
+        assert_eq!(rt; is_read(&rt, alloc, &bytes), Ok(true), "{what}");
+        assert!(rt; is_whole_alone(&rt, alloc, &bytes), "{what}");
+        assert!(rt; are_told(&rt, alloc, &bytes), "{what}");
+    }
+}

@@ -1,0 +1,73 @@
+-- What was made and taken, and what became of each node, explains a world.
+use Rattle.std.proofs.Common.{◌≡◌, ℕ, ◌≤◌, ◌^◌, Bool, ◌||◌, List, [], ◌∷◌, ◌++◌, Some, filter, length}
+use Rattle.std.specs.List.{slice_get}
+use Rattle.std.specs.FinSet as set
+use Rattle.causal_context.specs.Dots.{Dot}
+use Rattle.replica_store.specs.declared.operation.Operation.{Operation}
+use Rattle.replica_store.specs.Operations.{HaveOwnDots}
+use Rattle.node_keeper.specs.Keeping.{AreOf}
+use Rattle.node_rows.specs.Reading.{IsLasting}
+use Rattle.node_work.specs.declared.frame.Frame.{Frame}
+use Rattle.node_work.specs.Lasting.{CanLast, lasting}
+use Rattle.node_work.specs.View.{Place, HeldView, fresh, nodes_of}
+use Rattle.node_laws.specs.Moves.{Move, Moves}
+use Rattle.cluster_play.specs.Worlds.{Site, World, Fate}
+use Rattle.cluster_play.specs.Runs.{Moment}
+use Rattle.cluster_play.specs.Histories.{ops_of, made, gains, taken, own_moves, moves_at}
+use Rattle.cluster_play.proofs.Bridging.{IsKept}
+use Rattle.cluster_play.proofs.Paths.{made_more, taken_more, moves_more}
+use Rattle.cluster_play.proofs.Sound.{lists}
+use Rattle.cluster_play.proofs.Growing.{Holding}
+use Rattle.cluster_play.proofs.Plain.{AllPlain, are_unversioned, is_among}
+use Rattle.cluster_play.proofs.Operations.{among_some}
+use Rattle.cluster_play.proofs.Lasts.{is_lasting}
+use Rattle.cluster_play.proofs.Telling.{WasGiven}
+
+-- what was made and taken, and what became of what each node held
+pub record Past : Type 0 where
+  pub ops : List Operation
+  pub took : ℕ → Dot → Bool
+  pub moves : ℕ → List Move
+
+abbrev pub past : List Moment → Past
+past run = record { ops = made run; took = λ i d. taken i run d; moves = λ i. moves_at i run }
+
+-- and what comes to a fate
+abbrev pub past_and : Past → Fate → Past
+past_and p fate = record { ops = p.ops ++ ops_of fate; took = λ i d. p.took i d || gains i fate d; moves = λ i. p.moves i ++ own_moves i fate }
+
+pub past_more : (run : List Moment) (m : Moment) → past_and (past run) m.fate ≡ past (run ++ m ∷ [])
+past_more run m = λ n. record { ops = made_more run m n; took = λ i d. taken_more i run m d n; moves = λ i. moves_more i run m n }
+
+-- what a node starts with at a place
+abbrev pub fresh_at : Place → HeldView
+fresh_at place = fresh (nodes_of place)
+
+-- what node i holds, or held last: the moves lead to it, the rows are its, it is the state of what the node has taken, and so are
+-- the last deltas; and what it believes of other nodes is so
+pub record Seated (p : Past) (count i : ℕ) (s : Site) : Type 0 where
+  pub id : s.node.place.id ≡ i
+  pub homes : length s.node.place.homes.nodes ≡ count
+  pub held : HeldView
+  pub moves : Moves s.node.place (fresh_at s.node.place) (p.moves i) held
+  pub rows : AreOf s.node.place s.rows held
+  pub lasts : CanLast held
+  pub up : (h : HeldView) → s.node.up ≡ Some h → h ≡ held
+  pub holding : Holding i p.ops held
+  pub kept : IsKept count p.took held.bridge
+  pub listed : (d : Dot) → set.contains held.store.taken d ≡ p.took i d
+
+pub record Explains (p : Past) (w : World) : Type 0 where
+  pub few : length w.sites ≤ 2 ^ 16
+  pub own_dots : HaveOwnDots p.ops
+  pub plain : AllPlain (length w.sites) p.ops
+  pub sites : (i : ℕ) (s : Site) → slice_get w.sites i ≡ Some s → Seated p (length w.sites) i s
+  pub frames : (n : ℕ) (sent : Frame) → slice_get w.frames n ≡ Some sent → WasGiven (length w.sites) p.ops p.took sent
+
+-- what it held last can last
+pub seat_lasts : (p : Past) (w : World) → Explains p w → (i : ℕ) (s : Site) (at : slice_get w.sites i ≡ Some s) (x : Seated p (length w.sites) i s) → IsLasting (length w.sites) (lasting x.held)
+seat_lasts p w e i s at x =
+    let s = x.held.store in
+    let taken = filter (lists s) p.ops in
+    let plain : AllPlain (length w.sites) taken = λ o a. e.plain o (among_some (lists s) o p.ops a).0 in
+    is_lasting (length w.sites) x.held x.lasts (are_unversioned (length w.sites) taken s x.holding.grown.sound plain) (is_among (length w.sites) taken s x.holding.grown.sound plain) x.kept.lanes e.few

@@ -1,0 +1,22 @@
+use Rattle.std.proofs.Common.{[], ◌∷◌, ◌++◌, length, refl, ap, ◌∙◌}
+use Rattle.std.proofs.lemmas.Result.{on_ok_weaker}
+use Rattle.bridge_frames.specs.Frames.{content, limit}
+use Rattle.node_work.specs.declared.counts.Missed.TheVariants.{FrameTooLarge}
+use Rattle.node_work.specs.declared.outcome.Output.TheVariants.{Frame as Release}
+use Rattle.node_work.specs.Acts.{Bridge}
+use Rattle.node_work.specs.Doings.{Misses, is_small}
+use Rattle.node_work.specs.Held.Bridge.{Gave}
+use Rattle.node_work.specs.Working.{Acting}
+use Rattle.node_work.proofs.Bridging.{small}
+use Rattle.node_work.proofs.Working.{comes_act, comes_if}
+use Rattle.node_work.proofs.work.Work.release.Goals as goal
+
+pub returns-in-Ok : goal.returns-in-Ok
+returns-in-Ok c =
+    let w = c.args.self.now in
+    let f = c.args.frame in
+    let e = c.in-Ok.ensures in
+    let a = Bridge (Gave f) in
+    comes_if (λ x. x) c.give.result w c.give.new.self (is_small f) (Acting (λ p h. a)) (Misses FrameTooLarge) (small (length (content.bytes f)) limit e.small)
+    (comes_act c.give.result (λ p h. a) w c.give.new.self (record { from = c.requires.from; carries = c.requires.carries; small = e.small; spelled = e.spelled }) refl
+    (on_ok_weaker c.give.result (λ g. g ∙ ap (λ o. record w { outputs = w.outputs ++ Release o ∷ [] }) e.ok) c.give.ensures.ok) c.give.ensures.fault)

@@ -1,0 +1,90 @@
+//! What a node does for the other nodes.
+
+ghost use Rattle.std.specs.Prelude.{◌≡◌, ℕ, true, List, Ok};
+ghost use Rattle.bridge_frames.specs.declared.forward.Forward.{Forward};
+ghost use Rattle.message_copies.specs.declared.plain.PlainCopy.{PlainCopy as Copy};
+ghost use Rattle.node_bridge.specs.View.{is_next};
+ghost use Rattle.node_work.specs.Acts.{Bridge};
+ghost use Rattle.node_work.specs.Doings.{GivesFrame, Misses, Puts, RoutesBy};
+ghost use Rattle.node_work.specs.Handed.{IsHanded};
+ghost use Rattle.node_work.specs.Held.Bridge.{Believed, Carries, Got, Took};
+ghost use Rattle.node_work.specs.Working.{Comes, Acting};
+
+use crate::counts::Missed;
+use crate::fault::NodeFault;
+use crate::frame::written_frame;
+use crate::outcome::Output;
+use crate::work::Work;
+use bridge_deltas::Offer;
+use bridge_frames::{BridgeFrame, Forward, LinkFault};
+use causal_context::Context;
+use message_routes::Route;
+
+impl Work {
+    /// Counts what is left out. It takes no memory.
+    pub fn miss(&mut self, what: Missed) -> Result<(), NodeFault>
+        ensures comes { Comes (λ x. x) result self.old self.new (Misses what) }
+        ensures done { result ≡ Ok tt }
+    {
+        self.held.miss(what);
+        Ok(())
+    }
+
+    /// What becomes of a message at another node.
+    pub fn route(&mut self, peer: u16, route: Route) -> Result<(), NodeFault>
+        ensures { Comes (λ x. x) result self.old self.new (RoutesBy peer route) }
+    {
+        match route {
+            Route::Nothing => Ok(()),
+            Route::Lane(message) => self.offer(peer, message),
+            Route::TooLarge => self.miss(Missed::LaneFull),
+        }
+    }
+
+    /// Puts a message into the lane to another node, unless too many wait there.
+    fn offer(&mut self, peer: u16, message: Forward) -> Result<(), NodeFault>
+        ensures { Comes (λ x. x) result self.old self.new (Puts peer message) }
+    {
+        match self.held.offer(peer, message, &mut self.changes)? {
+            Offer::Queued(_) => Ok(()),
+            Offer::Full => self.miss(Missed::LaneFull),
+            Offer::AtEnd => Err(NodeFault::NumbersAtEnd),
+        }
+    }
+
+    /// Gives a frame of what the node holds to another node, unless it is too large.
+    pub fn release(&mut self, frame: BridgeFrame) -> Result<(), NodeFault>
+        requires from { frame.from ≡ self.old.place.id }
+        requires carries { Carries self.old.held frame.to frame.body }
+        ensures { Comes (λ x. x) result self.old self.new (GivesFrame frame) }
+    {
+        match written_frame(self.alloc, &frame) {
+            Ok(frame) => self.give(Output::Frame { frame }),
+            Err(LinkFault::TooLarge) => self.miss(Missed::FrameTooLarge),
+            Err(_) => Err(NodeFault::NoMemory),
+        }
+    }
+
+    /// Another node has taken these dots.
+    pub fn believe(&mut self, peer: u16, dots: &Context) -> Result<(), NodeFault>
+        ensures { Comes (λ x. x) result self.old self.new (Acting (λ p h. Bridge (Believed peer dots.now))) }
+    {
+        self.held.believe(peer, dots)
+    }
+
+    /// Takes the next message of another node's lane, with its copies, of which so many picks are lost.
+    pub fn take(&mut self, peer: u16, number: u64, lost: u64) -> Result<(), NodeFault>
+        requires { is_next peer number self.old.held.bridge ≡ true }
+        ensures { (m : Forward) (copies : List Copy) → IsHanded self.old.held m copies lost
+            → Comes (λ x. x) result self.old self.new (Acting (λ p h. Bridge (Took peer number m copies lost))) }
+    {
+        self.held.take(peer, number, lost, &mut self.changes)
+    }
+
+    /// Another node has taken the messages up to the number.
+    pub fn got(&mut self, peer: u16, number: u64) -> Result<(), NodeFault>
+        ensures { Comes (λ x. x) result self.old self.new (Acting (λ p h. Bridge (Got peer number))) }
+    {
+        self.held.got(peer, number, &mut self.changes)
+    }
+}
