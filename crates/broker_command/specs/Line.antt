@@ -1,5 +1,6 @@
 -- The command lines of the program, and what each asks for.
-use Rattle.std.specs.Prelude.{◌≡◌, ◌≤◌, ℕ, List, [], Some, None, Option, true, pos, codes}
+use Rattle.std.specs.Prelude.{◌≡◌, ◌≤◌, ℕ, List, [], Some, None, Option, String, true, pos, codes}
+use Rattle.std.specs.declared.alloc.Global.{Global}
 use Rattle.std.specs.Str.Parse.{IsNumeral, digits_value, without_leading_plus}
 use Rattle.clap.specs.Words.{App, IsAmong, Row, Rule, Text, fault_of, first_of, new_app, new_rule, one_of, subcommand_of, with_rule, with_subcommand}
 use Rattle.clap.specs.Simple.{on_top}
@@ -10,7 +11,7 @@ use Rattle.clap.specs.declared.error.kind.ErrorKind.TheVariants.{DisplayHelp}
 use Rattle.broker_stop.specs.declared.stop.Stop.{Stop}
 use Rattle.broker_stop.specs.declared.stop.Stop.TheVariants.{Help, CommandLine}
 use Rattle.broker_command.specs.declared.task.Task.{Task}
-use Rattle.broker_command.specs.declared.task.Task.TheVariants.{Play, Serve}
+use Rattle.broker_command.specs.declared.task.Task.TheVariants.{Play, Loopback, Serve}
 
 -- an argument that has to be there, with one value
 abbrev pub word_rule : Text → Rule
@@ -28,21 +29,36 @@ turns_rule = record (word_rule (codes "turns")) {
 abbrev pub play : App
 play = with_rule (new_app (codes "play")) (word_rule (codes "SCRIPT"))
 
+-- `loopback SCRIPT`
+abbrev pub loopback : App
+loopback = with_rule (new_app (codes "loopback")) (word_rule (codes "SCRIPT"))
+
 -- `serve CONFIG NODE DATABASE --turns N`
 abbrev pub serve : App
 serve = with_rule (with_rule (with_rule (with_rule (new_app (codes "serve"))
     (word_rule (codes "CONFIG"))) (word_rule (codes "NODE"))) (word_rule (codes "DATABASE"))) turns_rule
 
--- the program's words: one of the two commands, without the program's name
+-- the program's words: one of the three commands, without the program's name
 unfoldable pub broker : App
-broker = with_subcommand (with_subcommand
+broker = with_subcommand (with_subcommand (with_subcommand
     (on_top (λ s. record s { no_binary_name = true; subcommand_required = true }) (new_app (codes "broker")))
-    play.top) serve.top
+    play.top) loopback.top) serve.top
+
+-- the path of a script
+abbrev pub IsScript : List Row → String Global → Type 0
+IsScript rows script = first_of (codes "SCRIPT") rows ≡ Some script.bytes.items
 
 -- a script to play
 abbrev pub IsPlay : List Row → Task → Type 0
-IsPlay rows (Play script) = first_of (codes "SCRIPT") rows ≡ Some script.bytes.items
+IsPlay rows (Play script) = IsScript rows script
+IsPlay rows (Loopback script) = ⊥
 IsPlay rows (Serve configuration node database turns) = ⊥
+
+-- a script to play over sockets
+abbrev pub IsLoopback : List Row → Task → Type 0
+IsLoopback rows (Play script) = ⊥
+IsLoopback rows (Loopback script) = IsScript rows script
+IsLoopback rows (Serve configuration node database turns) = ⊥
 
 -- turns to make, in range, as the text spells them
 pub record IsTurns (rows : List Row) (turns : ℕ) : Type 0 where
@@ -56,6 +72,7 @@ pub record IsTurns (rows : List Row) (turns : ℕ) : Type 0 where
 -- a node to be
 abbrev pub IsServe : List Row → Task → Type 0
 IsServe rows (Play script) = ⊥
+IsServe rows (Loopback script) = ⊥
 IsServe rows (Serve configuration node database turns) =
     (first_of (codes "CONFIG") rows ≡ Some configuration.bytes.items)
     × (first_of (codes "NODE") rows ≡ Some node.bytes.items)
@@ -65,6 +82,7 @@ IsServe rows (Serve configuration node database turns) =
 abbrev pub IsOf : Option (Text × List Row) → Task → Type 0
 IsOf None task = ⊥
 IsOf (Some (name, rows)) (Play script) = (name ≡ codes "play") × IsPlay rows (Play script)
+IsOf (Some (name, rows)) (Loopback script) = (name ≡ codes "loopback") × IsLoopback rows (Loopback script)
 IsOf (Some (name, rows)) (Serve configuration node database turns) =
     (name ≡ codes "serve") × IsServe rows (Serve configuration node database turns)
 

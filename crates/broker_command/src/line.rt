@@ -3,7 +3,7 @@
 ghost use Rattle.std.specs.Prelude.{◌≡◌, map, false, IfOk, IfSome, MatchResult};
 ghost use Rattle.clap.specs.Words.{HasKind, app_of, fault_of, found_of, kind_of, rows_of, rule_of, subcommand_rows_of};
 ghost use Rattle.clap.specs.declared.builder.command.Command.TheViews.{out-Command as fields_of};
-ghost use Rattle.broker_command.specs.Line.{broker, play, serve, word_rule, turns_rule, IsTask, IsOf, IsPlay, IsServe, IsRefusal, IsStopOf};
+ghost use Rattle.broker_command.specs.Line.{broker, play, loopback, serve, word_rule, turns_rule, IsTask, IsOf, IsPlay, IsLoopback, IsServe, IsScript, IsRefusal, IsStopOf};
 
 use crate::task::Task;
 use broker_stop::Stop;
@@ -31,12 +31,14 @@ fn commands<'a>(alloc: Global) -> Result<Command<'a>, AllocError>
     ensures { IfOk result (λ c. app_of c ≡ broker) }
 {
     let play = play_command(alloc)?;
+    let loopback = loopback_command(alloc)?;
     let serve = serve_command(alloc)?;
     Command::new(alloc, "broker")
         .about("A node of a cluster of MQTT 5.0 brokers")
         .no_binary_name(true)
         .subcommand_required(true)
         .subcommand(play)?
+        .subcommand(loopback)?
         .subcommand(serve)
 }
 
@@ -45,6 +47,14 @@ fn play_command<'a>(alloc: Global) -> Result<Command<'a>, AllocError>
 {
     Command::new(alloc, "play")
         .about("Plays a script of a cluster in memory, and prints what each step gives out")
+        .arg(required(alloc, "SCRIPT").help("The file of the script"))
+}
+
+fn loopback_command<'a>(alloc: Global) -> Result<Command<'a>, AllocError>
+    ensures { IfOk result (λ c. (app_of c ≡ loopback) × ((fields_of c).has_globals ≡ false)) }
+{
+    Command::new(alloc, "loopback")
+        .about("Plays a script, with clients' bytes and frames through sockets of this machine")
         .arg(required(alloc, "SCRIPT").help("The file of the script"))
 }
 
@@ -97,6 +107,8 @@ fn named_task(alloc: Global, matches: &ArgMatches<'_>) -> Result<Option<Task>, A
     };
     if name == "play" {
         play_task(alloc, found)
+    } else if name == "loopback" {
+        loopback_task(alloc, found)
     } else if name == "serve" {
         serve_task(alloc, found)
     } else {
@@ -104,14 +116,33 @@ fn named_task(alloc: Global, matches: &ArgMatches<'_>) -> Result<Option<Task>, A
     }
 }
 
-fn play_task(alloc: Global, found: &ArgMatches<'_>) -> Result<Option<Task>, AllocError>
-    ensures { IfOk result (λ task. IfSome task (IsPlay (rows_of (found_of found.now)))) }
+/// The path of the script that a command names.
+fn script_of(alloc: Global, found: &ArgMatches<'_>) -> Result<Option<String>, AllocError>
+    ensures { IfOk result (λ script. IfSome script (IsScript (rows_of (found_of found.now)))) }
 {
     let Some(script) = found.get_str("SCRIPT") else {
         return Ok(None);
     };
     let script = String::from_str(alloc, script)?;
+    Ok(Some(script))
+}
+
+fn play_task(alloc: Global, found: &ArgMatches<'_>) -> Result<Option<Task>, AllocError>
+    ensures { IfOk result (λ task. IfSome task (IsPlay (rows_of (found_of found.now)))) }
+{
+    let Some(script) = script_of(alloc, found)? else {
+        return Ok(None);
+    };
     Ok(Some(Task::Play { script }))
+}
+
+fn loopback_task(alloc: Global, found: &ArgMatches<'_>) -> Result<Option<Task>, AllocError>
+    ensures { IfOk result (λ task. IfSome task (IsLoopback (rows_of (found_of found.now)))) }
+{
+    let Some(script) = script_of(alloc, found)? else {
+        return Ok(None);
+    };
+    Ok(Some(Task::Loopback { script }))
 }
 
 fn serve_task(alloc: Global, found: &ArgMatches<'_>) -> Result<Option<Task>, AllocError>

@@ -8,6 +8,11 @@ pub enum Task {
         /// The path of the script.
         script: String,
     },
+    /// Play the script in a file, with clients' bytes and frames through sockets.
+    Loopback {
+        /// The path of the script.
+        script: String,
+    },
     /// Serve clients as a node.
     Serve {
         /// The path of the configuration.

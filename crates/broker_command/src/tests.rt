@@ -18,6 +18,7 @@ fn told(alloc: Global, line: &str) -> Result<String, Fail> {
     let words = words_of(alloc, line)?;
     let text = match task_of(alloc, &words) {
         Ok(Task::Play { script }) => format!(in alloc; "play {script}")?,
+        Ok(Task::Loopback { script }) => format!(in alloc; "loopback {script}")?,
         Ok(
             Task::Serve {
                 configuration,
@@ -42,6 +43,7 @@ fn reads_command_lines(rt: HostRuntime) -> Result<(), Fail> {
     let alloc = rt.alloc();
     let lines = [
         ("play a.script", "play a.script"),
+        ("loopback a.script", "loopback a.script"),
         ("serve c.toml n0 d.db --turns 1", "serve c.toml n0 d.db 1"),
         (
             "serve --turns=1000000000 c.toml n0 d.db",
@@ -50,6 +52,7 @@ fn reads_command_lines(rt: HostRuntime) -> Result<(), Fail> {
         ("", "2 (false, true)"),
         ("play", "2 (false, true)"),
         ("play a b", "2 (false, true)"),
+        ("loopback", "2 (false, true)"),
         ("run a", "2 (false, true)"),
         ("serve c.toml n0 d.db", "2 (false, true)"),
         ("serve c.toml n0 --turns 1", "2 (false, true)"),
@@ -59,6 +62,7 @@ fn reads_command_lines(rt: HostRuntime) -> Result<(), Fail> {
         ("--help", "0 (true, false)"),
         ("help", "0 (true, false)"),
         ("serve --help", "0 (true, false)"),
+        ("loopback --help", "0 (true, false)"),
     ];
     for (line, expected) in lines {
         let found = told(alloc, line)?;

@@ -2,7 +2,6 @@
 #![tactic(auto)]
 
 mod files;
-mod homes;
 mod run;
 mod serve;
 #[cfg(test)]

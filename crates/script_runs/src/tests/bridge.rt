@@ -2,7 +2,14 @@
 
 use super::Example;
 
-pub const EXAMPLES: [Example; 4] = [
+pub const EXAMPLES: [Example; 5] = [
+    Example {
+        name: "a frame brings all that its sender had taken",
+        script: "nodes 2\nstart 0 0\nstart 1 0\nopen 1 1 0\nbytes 1 1 0 100e00044d5154540502003c00000161\nbytes 1 1 0 3106000174006f6e\nship 1 0 0\nbytes 1 1 0 3106000174006f66\nship 1 0 0\ndeliver 2 0\n",
+        status: 0,
+        out: "sent 1 1 200b0000082100642700100000\nframe 1 1 0 delta\nframe 2 1 0 delta\nframe 3 0 1 know\nnode 0 subscriptions 0 retained 1\nnode 1 subscriptions 0 retained 1\ntaken 0 1 equal\n",
+        err: "",
+    },
     Example {
         name: "what a node is known to have taken isn't sent again",
         script: "nodes 2\nstart 0 0\nstart 1 0\nopen 1 1 0\nbytes 1 1 0 100e00044d5154540502003c00000161\nbytes 1 1 0 3106000174006f6e\nship 1 0 0\nbytes 1 1 0 3106000174006f66\nship 1 0 0\ndeliver 2 0\ndeliver 1 0\ndeliver 4 0\ndeliver 3 0\nship 1 0 0\n",

@@ -1,0 +1,4 @@
+pub mod Carrying
+pub mod Honest
+pub mod Hosts
+pub mod Network

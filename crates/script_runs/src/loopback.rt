@@ -1,0 +1,226 @@
+//! A cluster whose clients' bytes and frames pass through sockets.
+
+use crate::faults::{of_step, of_wires};
+use crate::player::Player;
+use broker_node::{Event, EventKind};
+use broker_sockets::Sockets;
+use broker_stop::RunFault;
+use cluster_play::{Cluster, Line, Step, Trace};
+use loopback_wires::Wires;
+use mqtt_packets::Bytes;
+use std::alloc::Global;
+use std::mem;
+
+/// From where a frame goes, and to where.
+#[derive(Clone, Copy)]
+struct Route {
+    from: u16,
+    to: u16,
+}
+
+/// The node of a step, with the connection that may have been opened or closed there, and whether the node was restarted.
+#[derive(Clone, Copy)]
+struct Touched {
+    node: u16,
+    connection: Option<u64>,
+    restarted: bool,
+}
+
+/// A cluster and its sockets. An open connection of a client has a pair of them, and so has each link over which a frame has
+/// passed.
+#[derive(Drop)]
+pub struct Loopback<'a, S: Sockets> {
+    alloc: Global,
+    cluster: Cluster,
+    sockets: &'a mut S,
+    wires: Wires<S::Listener, S::Stream>,
+    /// Of each frame, in the order of their numbers.
+    routes: Vec<Route>,
+}
+
+/// What a step touches; a frame that isn't delivered touches nothing.
+fn touched_by(step: &Step) -> Option<Touched> {
+    match step {
+        Step::Event { node, event } => Some(Touched {
+            node: *node,
+            connection: connection_of(event),
+            restarted: false,
+        }),
+        Step::Deliver { frame: _, at: _ } => None,
+        Step::CrashBefore { node, event: _ } | Step::CrashAfter { node, event: _ } => Some(
+            Touched {
+                node: *node,
+                connection: None,
+                restarted: false,
+            },
+        ),
+        Step::Restart { node } => Some(Touched {
+            node: *node,
+            connection: None,
+            restarted: true,
+        }),
+    }
+}
+
+/// The connection that an event opens or closes.
+fn connection_of(event: &Event) -> Option<u64> {
+    match &event.kind {
+        EventKind::Opened { connection } | EventKind::Closed { connection } => Some(*connection),
+        _ => None,
+    }
+}
+
+impl<'a, S: Sockets> Loopback<'a, S> {
+    /// A new cluster of so many nodes, with a listener for each.
+    pub fn new(
+        alloc: Global,
+        cluster: Cluster,
+        nodes: u16,
+        sockets: &'a mut S,
+    ) -> Result<Loopback<'a, S>, RunFault> {
+        let wires = Wires::new(alloc, sockets, nodes).map_err(of_wires)?;
+        Ok(Loopback {
+            alloc,
+            cluster,
+            sockets,
+            wires,
+            routes: Vec::new(alloc),
+        })
+    }
+
+    /// What comes of an event at its node: a piece passes through the connection's sockets.
+    fn event(&mut self, node: u16, event: Event) -> Result<Event, RunFault> {
+        let at = event.at;
+        match event.kind {
+            EventKind::Piece { connection, bytes } => {
+                let bytes = self.piece(node, connection, bytes)?;
+                let kind = EventKind::Piece { connection, bytes };
+                Ok(Event { at, kind })
+            }
+            kind => Ok(Event { at, kind }),
+        }
+    }
+
+    /// What comes at a node of bytes from a client; the bytes themselves where the connection isn't open.
+    fn piece(&mut self, node: u16, connection: u64, bytes: Bytes) -> Result<Bytes, RunFault> {
+        if !self.cluster.is_open(node, connection) {
+            return Ok(bytes);
+        }
+        let sent = bytes.into_vec();
+        let came = self.wires.to_node(self.sockets, node, connection, sent);
+        Ok(Bytes::new(came.map_err(of_wires)?))
+    }
+
+    /// The step by which a frame reaches its receiver: where that is up, the frame passes over the link first.
+    fn frame(&mut self, number: u64, at: u64) -> Result<Step, RunFault> {
+        let delivered = Step::Deliver { frame: number, at };
+        let Some(place) = number.checked_sub(1) else {
+            return Ok(delivered);
+        };
+        let (Some(route), Some(bytes)) = (
+            self.routes.get(place as usize),
+            self.cluster.frame(number),
+        ) else {
+            return Ok(delivered);
+        };
+        let Route { from, to } = *route;
+        if self.cluster.taken(to).is_none() {
+            return Ok(delivered);
+        }
+        let came = self.wires.frame(self.sockets, from, to, bytes);
+        let kind = EventKind::Frame {
+            bytes: Bytes::new(came.map_err(of_wires)?),
+        };
+        let event = Event { at, kind };
+        Ok(Step::Event { node: to, event })
+    }
+
+    /// A step as it comes out of the sockets.
+    fn carried(&mut self, step: Step) -> Result<Step, RunFault> {
+        match step {
+            Step::Event { node, event } => {
+                let event = self.event(node, event)?;
+                Ok(Step::Event { node, event })
+            }
+            Step::CrashAfter { node, event } => {
+                let event = self.event(node, event)?;
+                Ok(Step::CrashAfter { node, event })
+            }
+            Step::Deliver { frame, at } => self.frame(frame, at),
+            step => Ok(step),
+        }
+    }
+
+    /// A packet passes to its client, and is told as it came; a close ends its pair, and a node that goes down has its
+    /// sockets closed.
+    fn told(&mut self, line: &mut Line) -> Result<(), RunFault> {
+        match line {
+            Line::Sent {
+                node,
+                connection,
+                bytes,
+            } => {
+                let empty = Bytes::new(Vec::new(self.alloc));
+                let sent = mem::replace(bytes, empty).into_vec();
+                let came = self.wires.to_client(self.sockets, *node, *connection, sent);
+                *bytes = Bytes::new(came.map_err(of_wires)?);
+            }
+            Line::Closed { node, connection } => self.wires.close(*node, *connection),
+            Line::Frame {
+                number: _,
+                from,
+                to,
+                kind: _,
+            } => {
+                let route = Route {
+                    from: *from,
+                    to: *to,
+                };
+                if self.routes.push(route).is_err() {
+                    return Err(RunFault::NoMemory);
+                }
+            }
+            Line::Fault { node, fault: _ } | Line::Crash { node } => self.wires.close_node(*node),
+            Line::Down { node: _ } => {}
+        }
+        Ok(())
+    }
+
+    /// Sockets are as what a step touched: those of a node that is down or was restarted are closed, and a connection has a
+    /// pair exactly where it is open.
+    fn settle(&mut self, touched: Touched) -> Result<(), RunFault> {
+        let node = touched.node;
+        if touched.restarted || self.cluster.taken(node).is_none() {
+            self.wires.close_node(node);
+            return Ok(());
+        }
+        let Some(connection) = touched.connection else {
+            return Ok(());
+        };
+        if !self.cluster.is_open(node, connection) {
+            self.wires.close(node, connection);
+            return Ok(());
+        }
+        let opened = self.wires.open(self.sockets, node, connection);
+        opened.map_err(of_wires)
+    }
+}
+
+impl<'a, S: Sockets> Player for Loopback<'a, S> {
+    fn step(&mut self, step: Step) -> Result<Trace, RunFault> {
+        let step = self.carried(step)?;
+        let touched = touched_by(&step);
+        let mut trace = self.cluster.play(&[step]).map_err(of_step)?;
+        for line in trace.lines.iter_mut() {
+            self.told(line)?;
+        }
+        if let Some(touched) = touched {
+            self.settle(touched)?;
+        }
+        Ok(trace)
+    }
+
+    fn cluster(&self) -> &Cluster {
+        &self.cluster
+    }
+}

@@ -1,0 +1,152 @@
+//! Scripts that are run.
+
+use crate::faults::of_step;
+use crate::homes::tables_of;
+use crate::loopback::Loopback;
+use crate::player::{Plain, Player};
+use crate::steps::step_of;
+use broker_script::{Command, parse_script};
+use broker_sockets::Sockets;
+use broker_stop::{RunFault, Stop};
+use cluster_play::Cluster;
+use std::alloc::Global;
+use std::fmt::Display;
+use std::io::Write;
+
+/// Runs a script: the lines of its steps go to `out`, each step's before the next one runs, and a
+/// fault to `err`. Answers the exit status.
+pub fn run_text<O: Write, E: Write>(alloc: Global, script: &[u8], out: &mut O, err: &mut E) -> u8 {
+    match run_script(alloc, script, out) {
+        Ok(()) => 0,
+        Err(stop) => stop.tell(out, err),
+    }
+}
+
+/// Runs a script as `run_text` does, but clients' bytes and frames pass through sockets of this machine: the same is written,
+/// unless a socket fails or bytes don't come.
+pub fn loop_text<S: Sockets, O: Write, E: Write>(
+    alloc: Global,
+    sockets: &mut S,
+    script: &[u8],
+    out: &mut O,
+    err: &mut E,
+) -> u8 {
+    match loop_script(alloc, sockets, script, out) {
+        Ok(()) => 0,
+        Err(stop) => stop.tell(out, err),
+    }
+}
+
+/// Runs a script in memory.
+pub fn run_script<O: Write>(alloc: Global, script: &[u8], out: &mut O) -> Result<(), Stop> {
+    let Start {
+        commands,
+        nodes,
+        cluster,
+    } = begin(alloc, script)?;
+    let mut player = Plain::new(cluster);
+    run(alloc, commands, nodes, &mut player, out)
+}
+
+/// Runs a script with clients' bytes and frames through sockets.
+pub fn loop_script<S: Sockets, O: Write>(
+    alloc: Global,
+    sockets: &mut S,
+    script: &[u8],
+    out: &mut O,
+) -> Result<(), Stop> {
+    let Start {
+        commands,
+        nodes,
+        cluster,
+    } = begin(alloc, script)?;
+    let mut player = Loopback::new(alloc, cluster, nodes, sockets)?;
+    run(alloc, commands, nodes, &mut player, out)
+}
+
+/// A script's lines, the number of its nodes, and the cluster before the first step.
+#[derive(Drop)]
+struct Start {
+    commands: Vec<Command>,
+    nodes: u16,
+    cluster: Cluster,
+}
+
+fn begin(alloc: Global, script: &[u8]) -> Result<Start, Stop> {
+    let commands = parse_script(alloc, script)?;
+    let nodes = match commands.first() {
+        Some(Command::Nodes { nodes }) => *nodes,
+        _ => 0,
+    };
+    let tables = tables_of(alloc, nodes, commands.as_slice())?;
+    let cluster = Cluster::new(alloc, tables).map_err(of_step)?;
+    Ok(Start {
+        commands,
+        nodes,
+        cluster,
+    })
+}
+
+/// Plays the step of each line, and tells what the nodes hold at the end.
+fn run<P: Player, O: Write>(
+    alloc: Global,
+    commands: Vec<Command>,
+    nodes: u16,
+    player: &mut P,
+    out: &mut O,
+) -> Result<(), Stop> {
+    for command in commands {
+        if let Some(step) = step_of(alloc, command)? {
+            let trace = player.step(step)?;
+            write_lines(alloc, trace.lines.as_slice(), out)?;
+        }
+    }
+    write_end(alloc, player.cluster(), nodes, out)
+}
+
+/// Writes one line for each of these, all at once.
+fn write_lines<T: Display, O: Write>(alloc: Global, lines: &[T], out: &mut O) -> Result<(), Stop> {
+    let mut text = String::new(alloc);
+    for line in lines {
+        writeln!(&mut text, "{line}")?;
+    }
+    write_text(&text, out)
+}
+
+fn write_text<O: Write>(text: &String, out: &mut O) -> Result<(), Stop> {
+    match out.write_all(text.as_bytes()) {
+        Ok(()) => Ok(()),
+        Err(_) => Err(Stop::Run(RunFault::Output)),
+    }
+}
+
+/// What each node holds, and which of them have taken the same.
+fn write_end<O: Write>(
+    alloc: Global,
+    cluster: &Cluster,
+    nodes: u16,
+    out: &mut O,
+) -> Result<(), Stop> {
+    let mut text = String::new(alloc);
+    for node in 0..nodes {
+        match cluster.holdings(node) {
+            Some((subscriptions, retained)) => {
+                writeln!(
+                    &mut text,
+                    "node {node} subscriptions {subscriptions} retained {retained}"
+                )?
+            }
+            None => writeln!(&mut text, "node {node} down")?,
+        }
+    }
+    for i in 0..nodes {
+        for j in i + 1..nodes {
+            match cluster.same_taken(i, j) {
+                Some(true) => writeln!(&mut text, "taken {i} {j} equal")?,
+                Some(false) => writeln!(&mut text, "taken {i} {j} differ")?,
+                None => {}
+            }
+        }
+    }
+    write_text(&text, out)
+}
