@@ -88,5 +88,5 @@ pub all_lowered : (beliefs : List Dots) (counts lower : List ℕ) (ds new : List
 all_lowered beliefs counts lower ds new d gone lowered confirmed = subst (λ cs. AreConfirmed beliefs cs new) (sym lowered) (subst (AreConfirmed beliefs (map (λ n. n - 1) counts)) (sym gone) (record {
   count = length-map counts (λ n. n - 1) ∙ confirmed.count;
   each = λ peer. subst (λ n. IsConfirmed (get_or beliefs peer finset.empty) n (drop 1 (ds ++ d ∷ []))) (lowered_at counts peer)
-    (oldest_gone (get_or beliefs peer finset.empty) (get_or counts peer 0) ds d (confirmed.each peer));
+      (oldest_gone (get_or beliefs peer finset.empty) (get_or counts peer 0) ds d (confirmed.each peer));
 }))

@@ -6,5 +6,5 @@ pub invariant_of-self-then-branch : goal.invariant_of-self-then-branch
 invariant_of-self-then-branch c = (
   search rules,
   all_lowered c.self.inside.beliefs.items c.self.inside.confirmed.items c.lower_all.new.counts.items c.self.inside.deltas.items c.keep.new.deltas.items c.args.delta
-    (rw c.if-branch.true at c.in_ok-keep.ensures.gone) c.lower_all.ensures c.self.invariant.1,
+      (rw c.if-branch.true at c.in_ok-keep.ensures.gone) c.lower_all.ensures c.self.invariant.1,
 )
