@@ -84,6 +84,12 @@ lowered_at (n ∷ counts) (suc peer) = lowered_at counts peer
 
 -- ---- of each peer
 
+pub all_still : (beliefs : List Dots) (counts : List ℕ) (ds new : List State) (d : State) → new ≡ ds ++ d ∷ [] → AreConfirmed beliefs counts ds → AreConfirmed beliefs counts new
+all_still beliefs counts ds new d put confirmed = subst (AreConfirmed beliefs counts) (sym put) (record {
+  count = confirmed.count;
+  each = λ peer. put_behind (get_or beliefs peer finset.empty) (get_or counts peer 0) ds d (confirmed.each peer);
+})
+
 pub all_lowered : (beliefs : List Dots) (counts lower : List ℕ) (ds new : List State) (d : State) → new ≡ drop 1 (ds ++ d ∷ []) → lower ≡ map (λ n. n - 1) counts → AreConfirmed beliefs counts ds → AreConfirmed beliefs lower new
 all_lowered beliefs counts lower ds new d gone lowered confirmed = subst (λ cs. AreConfirmed beliefs cs new) (sym lowered) (subst (AreConfirmed beliefs (map (λ n. n - 1) counts)) (sym gone) (record {
   count = length-map counts (λ n. n - 1) ∙ confirmed.count;
