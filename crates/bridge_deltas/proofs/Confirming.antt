@@ -1,5 +1,5 @@
 -- The oldest deltas that peers are known to have taken.
-use Rattle.std.proofs.Common.{◌≡◌, inr, ℕ, zero, suc, ◌+◌, ◌-◌, ◌<◌, ◌≤◌, List, [], ◌∷◌, ◌++◌, map, length, take, drop, get_or, length-append, refl, sym, ap, subst, ◌∙◌, arith}
+use Rattle.std.proofs.Common.{◌≡◌, inr, ℕ, zero, suc, ◌-◌, ◌<◌, List, [], ◌∷◌, ◌++◌, map, length, take, drop, get_or, length-append, refl, sym, ap, subst, ◌∙◌, arith}
 use Rattle.std.specs.List.{AllByRecursion}
 use Rattle.std.specs.FinSet as finset
 use Rattle.std.proofs.Math.ListN.{set}
@@ -13,7 +13,7 @@ use Rattle.bridge_deltas.specs.Shipped.{IsNew, dots_with}
 use Rattle.bridge_deltas.specs.Confirmed.{AreConfirmed, IsConfirmed}
 use Rattle.bridge_deltas.proofs.Shipping.{Joins}
 
-abbrev pub IsTaken : Dots → State → Type 0
+abbrev IsTaken : Dots → State → Type 0
 IsTaken belief d = IsSubset d.taken belief
 
 -- ---- what is shipped is found behind them
@@ -40,19 +40,19 @@ pub joins_behind : (belief : Dots) (n : ℕ) (ds : List State) (s : State) → s
 joins_behind belief n ds s is confirmed =
     subst (λ (t : State). Joins belief ds (drop n ds) t) (sym is) (λ news sel. (news, selected_passed belief n ds news confirmed.taken sel, refl))
 
--- ---- they are counted
+-- ---- more is known of a peer
 
 taken_still : (old new : Dots) (ds : List State) → IsSubset old new → AllByRecursion (IsTaken old) ds → AllByRecursion (IsTaken new) ds
 taken_still old new [] grew all = tt
 taken_still old new (d ∷ ds) grew all = (λ q has. grew q (all.0 q has), taken_still old new ds grew all.1)
 
-pub still_confirmed : (old new : Dots) (n : ℕ) (ds : List State) → IsSubset old new → IsConfirmed old n ds → IsConfirmed new n ds
+still_confirmed : (old new : Dots) (n : ℕ) (ds : List State) → IsSubset old new → IsConfirmed old n ds → IsConfirmed new n ds
 still_confirmed old new n ds grew confirmed = record { some = confirmed.some; taken = taken_still old new (take n ds) grew confirmed.taken }
 
 grown_has : (s t : Dots) → IsSubset s (finset.union s t)
 grown_has = (lattice_from_join (set_lattice dot_cmp_total dot_cmp_antisym)).above_left
 
--- what was counted before more is known of a peer
+-- what was counted stays so
 pub known_still : (beliefs : List Dots) (counts : List ℕ) (ds : List State) (peer : ℕ) (old dots grown new : Dots) (known : ℕ) → peer < length beliefs → AreConfirmed beliefs counts ds
     → old ≡ get_or beliefs peer old → grown ≡ finset.union old dots → new ≡ get_or (set beliefs peer grown) peer new → known ≡ get_or counts peer known → IsConfirmed new known ds
 known_still beliefs counts ds peer old dots grown new known inside confirmed was grew is counted =
@@ -64,13 +64,13 @@ known_still beliefs counts ds peer old dots grown new known inside confirmed was
 
 -- ---- one more delta
 
-pub put_behind : (belief : Dots) (n : ℕ) (ds : List State) (d : State) → IsConfirmed belief n ds → IsConfirmed belief n (ds ++ d ∷ [])
+put_behind : (belief : Dots) (n : ℕ) (ds : List State) (d : State) → IsConfirmed belief n ds → IsConfirmed belief n (ds ++ d ∷ [])
 put_behind belief n ds d confirmed = record {
   some = omega (arith, length-append ds (d ∷ []), confirmed.some);
   taken = subst (AllByRecursion (IsTaken belief)) (sym (take-append-le n ds (d ∷ []) confirmed.some)) confirmed.taken;
 }
 
-pub oldest_gone : (belief : Dots) (n : ℕ) (ds : List State) (d : State) → IsConfirmed belief n ds → IsConfirmed belief (n - 1) (drop 1 (ds ++ d ∷ []))
+oldest_gone : (belief : Dots) (n : ℕ) (ds : List State) (d : State) → IsConfirmed belief n ds → IsConfirmed belief (n - 1) (drop 1 (ds ++ d ∷ []))
 oldest_gone belief zero ds d confirmed = record { some = omega arith; taken = tt }
 oldest_gone belief (suc n) [] d confirmed = absurd (omega (arith, confirmed.some))
 oldest_gone belief (suc n) (x ∷ xs) d confirmed =
@@ -84,9 +84,15 @@ lowered_at (n ∷ counts) (suc peer) = lowered_at counts peer
 
 -- ---- of each peer
 
+pub all_still : (beliefs : List Dots) (counts : List ℕ) (ds new : List State) (d : State) → new ≡ ds ++ d ∷ [] → AreConfirmed beliefs counts ds → AreConfirmed beliefs counts new
+all_still beliefs counts ds new d put confirmed = subst (AreConfirmed beliefs counts) (sym put) (record {
+  count = confirmed.count;
+  each = λ peer. put_behind (get_or beliefs peer finset.empty) (get_or counts peer 0) ds d (confirmed.each peer);
+})
+
 pub all_lowered : (beliefs : List Dots) (counts lower : List ℕ) (ds new : List State) (d : State) → new ≡ drop 1 (ds ++ d ∷ []) → lower ≡ map (λ n. n - 1) counts → AreConfirmed beliefs counts ds → AreConfirmed beliefs lower new
 all_lowered beliefs counts lower ds new d gone lowered confirmed = subst (λ cs. AreConfirmed beliefs cs new) (sym lowered) (subst (AreConfirmed beliefs (map (λ n. n - 1) counts)) (sym gone) (record {
   count = length-map counts (λ n. n - 1) ∙ confirmed.count;
   each = λ peer. subst (λ n. IsConfirmed (get_or beliefs peer finset.empty) n (drop 1 (ds ++ d ∷ []))) (lowered_at counts peer)
-    (oldest_gone (get_or beliefs peer finset.empty) (get_or counts peer 0) ds d (confirmed.each peer));
+      (oldest_gone (get_or beliefs peer finset.empty) (get_or counts peer 0) ds d (confirmed.each peer));
 }))

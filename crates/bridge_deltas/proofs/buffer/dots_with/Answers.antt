@@ -1,4 +1,4 @@
-use Rattle.std.proofs.Common.{◌≡◌, drop, ap, ◌∙◌}
+use Rattle.std.proofs.Common.{drop, ap, ◌∙◌}
 use Rattle.bridge_deltas.specs.Shipped.{dots_with}
 use Rattle.bridge_deltas.proofs.Confirming.{dots_behind}
 use Rattle.bridge_deltas.proofs.buffer.dots_with.Goals as goal

@@ -1,4 +1,4 @@
-use Rattle.std.proofs.Common.{◌≡◌, ◌-◌, ◌<◌, length, arith, rules}
+use Rattle.std.proofs.Common.{◌-◌, ◌<◌, length, arith, rules}
 use Rattle.std.proofs.lemmas.Grind.{common_steps}
 use Rattle.bridge_deltas.proofs.Mapping.{one_changed}
 use Rattle.bridge_deltas.proofs.links.lower_all.Goals as goal
