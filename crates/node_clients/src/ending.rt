@@ -1,6 +1,6 @@
 //! How connections and sessions end.
 
-ghost use Rattle.std.specs.Prelude.{◌≡◌};
+ghost use Rattle.std.specs.Prelude.{◌≡◌, None, Ok};
 ghost use Rattle.std.specs.Option.{option_copied};
 ghost use Rattle.node_clients.specs.Ending.{PassesAsked, EndsSession, Follows, TicksIf, DoesDueOf, Ticks, Finishes, Parts, Closes, ClosesFor, ClosesBy, ClosesAfter};
 ghost use Rattle.node_work.specs.Held.Sessions.{will_is_due, end_is_due};
@@ -123,14 +123,15 @@ pub fn close_by(work: &mut Work, connection: u64, client: Option<&Text>) -> Resu
     }
 }
 
-/// Closes the connection of a client's session, where a reaction says so.
+/// Closes the connection of a client's session, where a reaction says so. Elsewhere nothing is done.
 pub fn close_after(
     work: &mut Work,
     end: Option<u8>,
     connection: u64,
     client: &Text,
 ) -> Result<(), NodeFault>
-    ensures { Comes (λ x. x) result work.old work.new (ClosesAfter end connection client.now) }
+    ensures idle { end ≡ None → (result ≡ Ok tt) × (work.new ≡ work.old) }
+    ensures comes { Comes (λ x. x) result work.old work.new (ClosesAfter end connection client.now) }
 {
     match end {
         Some(_) => close_for(work, connection, client),

@@ -1,6 +1,6 @@
 //! How a message is passed on.
 
-ghost use Rattle.std.specs.Prelude.{◌≡◌, ◌⊎◌, ◌+◌, ◌++◌, ◌↔◌, [], length, IfOk, IfErr, IsTrue};
+ghost use Rattle.std.specs.Prelude.{◌≡◌, ◌⊎◌, ◌+◌, ◌++◌, ◌↔◌, [], length, true, IfOk, IfErr, IsOk, IsTrue};
 ghost use Rattle.message_routes.specs.Routes.{AreFor};
 ghost use Rattle.node_clients.specs.Passing.{Copies, CopiesAt, Passes, PassesWill, Retains, lacks_room, route_to, routes_to};
 ghost use Rattle.node_work.specs.Calling.{Queues, QueuesOne};
@@ -239,9 +239,10 @@ fn lacks_room(work: &Work, message: &Message) -> bool
     !retained.holds(&message.topic) && retained.len() >= TOPICS_HELD
 }
 
-/// Passes a will on, unless it is retained and there is no room for its topic.
+/// Passes a will on, unless it is retained and there is no room for its topic: then it takes no memory.
 pub fn pass_will(work: &mut Work, message: Message) -> Result<(), NodeFault>
-    ensures { Comes (λ x. x) result work.old work.new (PassesWill message) }
+    ensures memory { lacks_room message work.old.held ≡ true → IsOk result }
+    ensures comes { Comes (λ x. x) result work.old work.new (PassesWill message) }
 {
     if lacks_room(work, &message) {
         work.drop_retained()

@@ -1,6 +1,6 @@
 //! A piece of a client's stream.
 
-ghost use Rattle.std.specs.Prelude.{◌≡◌, false, Ok};
+ghost use Rattle.std.specs.Prelude.{◌≡◌, false, IsOk, None, Ok};
 ghost use Rattle.mqtt_packets.specs.Written.{HasSpelling};
 ghost use Rattle.node_clients.specs.Pieces.{Piece, Leaves, LeavesBy, Takes, First, Answers, AnswersIfOpen, BreaksIfOpen, Shuts};
 ghost use Rattle.node_work.specs.Held.Connections.{is_open, client_at};
@@ -109,9 +109,11 @@ fn break_if_open(
     break_off(work, connection, fault)
 }
 
-/// A client has closed its connection. For a connection that isn't open nothing is done.
+/// A client has closed its connection. For a connection that isn't open nothing is done, and for one without a client it takes
+/// no memory.
 pub fn leave(work: &mut Work, connection: u64) -> Result<(), NodeFault>
     ensures idle { is_open connection work.old.held ≡ false → (result ≡ Ok tt) × (work.new ≡ work.old) }
+    ensures memory { client_at connection work.old.held ≡ None → IsOk result }
     ensures comes { Comes (λ x. x) result work.old work.new (Leaves connection) }
 {
     if !work.held().is_open(connection) {
@@ -122,7 +124,8 @@ pub fn leave(work: &mut Work, connection: u64) -> Result<(), NodeFault>
 
 /// The client of an open connection has closed it.
 fn leave_open(work: &mut Work, connection: u64) -> Result<(), NodeFault>
-    ensures { Comes (λ x. x) result work.old work.new (Looks (λ p h. client_at connection h) (LeavesBy connection)) }
+    ensures memory { client_at connection work.old.held ≡ None → IsOk result }
+    ensures comes { Comes (λ x. x) result work.old work.new (Looks (λ p h. client_at connection h) (LeavesBy connection)) }
 {
     let client = client_of(work, connection)?;
     work.close(connection)?;

@@ -1,6 +1,6 @@
 //! How a stream that can't go on is answered (MQTT 5.0, 4.13).
 
-ghost use Rattle.std.specs.Prelude.{◌≡◌, Some, IfOk, IfErr};
+ghost use Rattle.std.specs.Prelude.{◌≡◌, None, Some, IfOk, IfErr, IsOk};
 ghost use Rattle.std.specs.Option.{option_copied};
 ghost use Rattle.node_clients.specs.Pieces.{Breaks, TellsBy, SendsRefusal, SendsDisconnect, is_connect, disconnect_code, connack_code};
 ghost use Rattle.node_work.specs.Held.Connections.{client_at};
@@ -24,9 +24,10 @@ pub fn break_off(work: &mut Work, connection: u64, fault: PacketFault) -> Result
     close_by(work, connection, client.as_ref())
 }
 
-/// The client of a connection, once it is accepted.
+/// The client of a connection, once it is accepted. Only it takes memory.
 pub fn client_of(work: &Work, connection: u64) -> Result<Option<Text>, NodeFault>
     ensures ok { IfOk result (λ client. client ≡ client_at connection work.now.held) }
+    ensures memory { client_at connection work.now.held ≡ None → IsOk result }
     ensures fault { IfErr result (λ e. e ≡ NoMemory) }
 {
     match work.held().client_of(connection) {

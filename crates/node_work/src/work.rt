@@ -285,6 +285,7 @@ impl Work {
 
     fn give(&mut self, output: Output) -> Result<(), NodeFault>
         ensures ok { OnOk result (self.new ≡ record self.old { outputs = self.old.outputs ++ output ∷ [] }) }
+        ensures same { self.new.changes ≡ self.old.changes }
         ensures fault { IfErr result (λ e. e ≡ NoMemory) }
     {
         self.outputs.push(output)?;
@@ -303,7 +304,8 @@ impl Work {
 
     /// Tells a client that its connection is closed.
     pub fn tell_close(&mut self, connection: u64) -> Result<(), NodeFault>
-        ensures { Comes (λ x. x) result self.old self.new (Acting (λ p h. Out (Output.Close connection))) }
+        ensures comes { Comes (λ x. x) result self.old self.new (Acting (λ p h. Out (Output.Close connection))) }
+        ensures same { self.new.changes ≡ self.old.changes }
     {
         self.give(Output::Close { connection })
     }
@@ -311,7 +313,8 @@ impl Work {
     /// Sends a packet to a connection, unless it is longer than its client takes.
     pub fn send(&mut self, connection: u64, packet: &Packet, limit: u64) -> Result<(), NodeFault>
         requires { HasSpelling packet.now }
-        ensures { Comes (λ x. x) result self.old self.new (If (fits limit packet.now) (Sends connection packet.now) (Returns tt)) }
+        ensures comes { Comes (λ x. x) result self.old self.new (If (fits limit packet.now) (Sends connection packet.now) (Returns tt)) }
+        ensures same { self.new.changes ≡ self.old.changes }
     {
         let bytes = written(self.alloc, packet)?;
         if bytes.len() as u64 > limit {
@@ -328,7 +331,8 @@ impl Work {
         client: &Text,
         reason: u8,
     ) -> Result<(), NodeFault>
-        ensures { Comes (λ x. x) result self.old self.new (Disconnects connection client.now reason) }
+        ensures comes { Comes (λ x. x) result self.old self.new (Disconnects connection client.now reason) }
+        ensures same { self.new.changes ≡ self.old.changes }
     {
         let Some(limit) = self.held.sessions().limit(client) else {
             return Ok(());

@@ -24,15 +24,17 @@ impl Work {
     /// Counts what is left out. It takes no memory.
     pub fn miss(&mut self, what: Missed) -> Result<(), NodeFault>
         ensures comes { Comes (λ x. x) result self.old self.new (Misses what) }
+        ensures same { self.new.changes ≡ self.old.changes }
         ensures done { result ≡ Ok tt }
     {
         self.held.miss(what);
         Ok(())
     }
 
-    /// What becomes of a message at another node.
+    /// What becomes of a message at another node. Where nothing does, it takes no memory.
     pub fn route(&mut self, peer: u16, route: Route) -> Result<(), NodeFault>
-        ensures { Comes (λ x. x) result self.old self.new (RoutesBy peer route) }
+        ensures idle { route ≡ Route.Nothing → (result ≡ Ok tt) × (self.new ≡ self.old) }
+        ensures comes { Comes (λ x. x) result self.old self.new (RoutesBy peer route) }
     {
         match route {
             Route::Nothing => Ok(()),
@@ -56,7 +58,8 @@ impl Work {
     pub fn release(&mut self, frame: BridgeFrame) -> Result<(), NodeFault>
         requires from { frame.from ≡ self.old.place.id }
         requires carries { Carries self.old.held frame.to frame.body }
-        ensures { Comes (λ x. x) result self.old self.new (GivesFrame frame) }
+        ensures comes { Comes (λ x. x) result self.old self.new (GivesFrame frame) }
+        ensures same { self.new.changes ≡ self.old.changes }
     {
         match written_frame(self.alloc, &frame) {
             Ok(frame) => self.give(Output::Frame { frame }),
@@ -67,7 +70,8 @@ impl Work {
 
     /// Another node has taken these dots.
     pub fn believe(&mut self, peer: u16, dots: &Context) -> Result<(), NodeFault>
-        ensures { Comes (λ x. x) result self.old self.new (Acting (λ p h. Bridge (Believed peer dots.now))) }
+        ensures comes { Comes (λ x. x) result self.old self.new (Acting (λ p h. Bridge (Believed peer dots.now))) }
+        ensures same { self.new.changes ≡ self.old.changes }
     {
         self.held.believe(peer, dots)
     }

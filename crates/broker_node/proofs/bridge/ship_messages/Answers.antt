@@ -23,8 +23,8 @@ loop-frame-preserved c =
     let rest = into_iter_items c.next.new.self in
     let steps = c.in-Some.ensures.steps.0 in
     let inv = c.loop-frame.invariant in (
-      came_next GivesFrame c.args.work.now m (ShipsMessages c.args.peer) (into_iter_items c.loop-frame.frame-iterator) c.release.new.self frame rest steps inv.0 c.in_ok-release.ensures,
-      own_next m c.release.new.self frame rest c.in_ok-release.ensures (subst (AreOwn m.place m.held) steps inv.1),
+      came_next GivesFrame c.args.work.now m (ShipsMessages c.args.peer) (into_iter_items c.loop-frame.frame-iterator) c.release.new.self frame rest steps inv.0 c.in_ok-release.ensures.comes,
+      own_next m c.release.new.self frame rest c.in_ok-release.ensures.comes (subst (AreOwn m.place m.held) steps inv.1),
     )
 
 pub returns : goal.returns

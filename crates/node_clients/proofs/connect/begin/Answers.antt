@@ -18,6 +18,6 @@ returns c =
     let n = c.join.new.work in
     let new = c.close_after.new.work in
     let r = c.close_after.result in
-    let closed = subst (λ (x : Reaction). Comes (λ y. y) r n new (ClosesAfter x.end at client)) c.reaction.view_is c.close_after.ensures in
+    let closed = subst (λ (x : Reaction). Comes (λ y. y) r n new (ClosesAfter x.end at client)) c.reaction.view_is c.close_after.ensures.comes in
     then_goes (Acting (λ place h. Connection (Accepted at client))) (λ _. Then (Joins at client p) (λ x. ClosesAfter x.end at client)) (λ x. x) r w m new tt c.in_ok-accept.ensures.comes
     (then_goes (Joins at client p) (λ x. ClosesAfter x.end at client) (λ x. x) r m n new c.in_ok-reaction.reaction c.in_ok-reaction.ensures closed)

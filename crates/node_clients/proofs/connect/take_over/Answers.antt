@@ -19,4 +19,4 @@ returns c =
     let new = c.close_for.new.work in
     let on = ap (λ (h : HeldView). connection_at client h) (sym c.held.ensures) ∙ ap (λ (s : Seats). option_and_then (λ x. x.connection) (map.get s client)) (sym c.sessions.ensures) ∙ sym c.connection.ensures ∙ c.in-Some.is in
     comes_looks (λ x. x) r w new (λ p h. connection_at client h) (TakesOverFrom client) (Some older) on
-    (then_goes (Disconnects older client 142) (λ _. ClosesFor older client) (λ x. x) r w c.disconnect.new.self new tt c.in_ok-disconnect.ensures c.close_for.ensures)
+    (then_goes (Disconnects older client 142) (λ _. ClosesFor older client) (λ x. x) r w c.disconnect.new.self new tt c.in_ok-disconnect.ensures.comes c.close_for.ensures)

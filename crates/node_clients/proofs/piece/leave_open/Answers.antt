@@ -8,8 +8,8 @@ use Rattle.node_clients.specs.Ending.{Parts}
 use Rattle.node_clients.specs.Pieces.{LeavesBy}
 use Rattle.node_clients.proofs.piece.leave_open.Goals as goal
 
-pub returns-in-Some : goal.returns-in-Some
-returns-in-Some c =
+pub returns-in-Some-clause-comes : goal.returns-in-Some-clause-comes
+returns-in-Some-clause-comes c =
     let at = c.args.connection in
     let client = c.in-Some.client in
     let w = c.args.work.now in
@@ -18,8 +18,8 @@ returns-in-Some c =
     comes_looks (λ x. x) r w n (λ p h. client_at at h) (LeavesBy at) (Some client) (sym c.in_ok-client.ensures.ok ∙ c.in-Some.is)
     (then_goes (Acting (λ p h. Connection (Closed at))) (λ _. Parts client) (λ x. x) r w c.close.new.self n tt c.in_ok-close.ensures.comes c.part.ensures)
 
-pub returns-in-None : goal.returns-in-None
-returns-in-None c =
+pub returns-in-None-clause-comes : goal.returns-in-None-clause-comes
+returns-in-None-clause-comes c =
     let at = c.args.connection in
     let w = c.args.work.now in
     let n = c.close.new.self in

@@ -36,4 +36,4 @@ returns c =
     let r = c.close_after.result in
     let d = subst (λ b. Did w m (DoesAsked ask b at client p (Some tt))) c.is_dropped-dropped.ensures c.in_ok-do_asked.ensures in
     subst (λ (a : Reaction). Comes (λ x. x) r w n (DoesReaction at client p room a)) c.reaction.view_is
-    (then_goes (DoesAsked ask (is_dropped p room end) at client p) (λ _. ClosesAfter end at client) (λ x. x) r w m n tt d c.close_after.ensures)
+    (then_goes (DoesAsked ask (is_dropped p room end) at client p) (λ _. ClosesAfter end at client) (λ x. x) r w m n tt d c.close_after.ensures.comes)

@@ -14,5 +14,5 @@ returns c =
     let m = c.answer.new.self in
     let n = c.close_after.new.work in
     let r = c.close_after.result in
-    let closed = subst (λ (a : Reaction). Comes (λ x. x) r m n (ClosesAfter a.end c.args.connection client)) c.reaction.view_is c.close_after.ensures in
+    let closed = subst (λ (a : Reaction). Comes (λ x. x) r m n (ClosesAfter a.end c.args.connection client)) c.reaction.view_is c.close_after.ensures.comes in
     then_goes (Calls client (λ at. answers c.args.packet c.args.reasons.now) stays) (λ a. ClosesAfter a.end c.args.connection client) (λ x. x) r c.args.work.now m n c.in_ok-reaction.reaction c.in_ok-reaction.ensures closed

@@ -6,8 +6,8 @@ use Rattle.node_work.specs.Working.{Comes, Acting}
 use Rattle.node_work.proofs.Working.{comes_silent}
 use Rattle.node_work.proofs.work.Work.believe.Goals as goal
 
-pub returns : goal.returns
-returns c =
+pub returns-clause-comes : goal.returns-clause-comes
+returns-clause-comes c =
     let before : WorkView = record { place = record { id = c.self.inside.id; homes = c.self.inside.homes }; held = c.self.inside.held; outputs = c.self.inside.outputs.items; changes = c.self.inside.changes.items } in
     let after : WorkView = record before { held = c.believe.new.self } in
     let a = Bridge (Believed c.args.peer c.args.dots.now) in

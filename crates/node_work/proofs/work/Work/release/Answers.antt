@@ -11,8 +11,8 @@ use Rattle.node_work.proofs.Bridging.{small}
 use Rattle.node_work.proofs.Working.{comes_act, comes_if}
 use Rattle.node_work.proofs.work.Work.release.Goals as goal
 
-pub returns-in-Ok : goal.returns-in-Ok
-returns-in-Ok c =
+pub returns-in-Ok-clause-comes : goal.returns-in-Ok-clause-comes
+returns-in-Ok-clause-comes c =
     let w = c.args.self.now in
     let f = c.args.frame in
     let e = c.in-Ok.ensures in

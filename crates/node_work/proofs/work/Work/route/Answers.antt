@@ -4,5 +4,5 @@ use Rattle.node_work.specs.Doings.{RoutesBy}
 use Rattle.node_work.specs.Working.{Comes}
 use Rattle.node_work.proofs.work.Work.route.Goals as goal
 
-pub returns-in-Lane : goal.returns-in-Lane
-returns-in-Lane c = subst (λ (r : Route). Comes (λ x. x) c.offer.result c.args.self.now c.offer.new.self (RoutesBy c.args.peer r)) (sym c.in-Lane.is) c.offer.ensures
+pub returns-in-Lane-clause-comes : goal.returns-in-Lane-clause-comes
+returns-in-Lane-clause-comes c = subst (λ (r : Route). Comes (λ x. x) c.offer.result c.args.self.now c.offer.new.self (RoutesBy c.args.peer r)) (sym c.in-Lane.is) c.offer.ensures

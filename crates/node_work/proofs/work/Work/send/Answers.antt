@@ -18,8 +18,8 @@ short n limit h = grind (arith, nat_tests)
 long : (n limit : ℕ) → limit < n → nat_le n limit ≡ false
 long n limit h = grind (arith, nat_tests)
 
-pub returns-then-len-limit : goal.returns-then-len-limit
-returns-then-len-limit c =
+pub returns-then-len-limit-clause-comes : goal.returns-then-len-limit-clause-comes
+returns-then-len-limit-clause-comes c =
     let w = c.args.self.now in
     let p = c.args.packet.now in
     let is = c.in_ok-bytes.ensures.ok in
@@ -27,8 +27,8 @@ returns-then-len-limit c =
     let fine : Result _ NodeFault = Ok tt in
     comes_if_not (λ x. x) fine w w (fits c.args.limit p) (Sends c.args.connection p) (Returns tt) over (did_nothing w tt)
 
-pub returns : goal.returns
-returns c =
+pub returns-clause-comes : goal.returns-clause-comes
+returns-clause-comes c =
     let w = c.args.self.now in
     let p = c.args.packet.now in
     let o = Send c.args.connection (written p) in
