@@ -1,16 +1,11 @@
--- Frames with the messages of a lane, and lanes that are told one after the other.
+-- Frames with the messages of a lane.
 use Rattle.std.proofs.Common.{◌≡◌, inl, inr, ℕ, zero, suc, ◌+◌, ◌<◌, ◌≤◌, min, List, [], ◌∷◌, ◌++◌, length, take, drop, get_or, add-one, refl, sym, ap, ◌∙◌, arith}
-use Rattle.std.specs.Prelude.{map}
-use Rattle.std.proofs.Math.ListN.{set}
 use Rattle.std.proofs.lemmas.Bool.{cases_lt}
 use Rattle.std.proofs.lemmas.List.{take_all}
 use Rattle.bridge_frames.specs.declared.body.FrameBody.TheVariants as bodies
 use Rattle.bridge_frames.specs.declared.forward.Forward.{Forward}
 use Rattle.bridge_frames.specs.declared.frame.BridgeFrame.{BridgeFrame}
-use Rattle.lane_rows.specs.Changes.{KeptLane, told_now}
 use Rattle.bridge_deltas.specs.Lane.{frames_from}
-
--- ---- frames
 
 abbrev frame : ℕ → ℕ → ℕ → Forward → BridgeFrame
 frame from to n m = record { from = from; to = to; body = bodies.Forward n m }
@@ -45,22 +40,3 @@ first_taken n count xs is = elim (cases_lt n (length xs)) [
   | inl more ↦ (let same : count ≡ n = omega (arith, is, more) in ap (λ k. take k xs) same)
   | inr few ↦ (let over : length xs ≤ count = omega (arith, is, few) in take_all count xs over ∙ sym (take_all n xs (omega (arith, few))))
 ]
-
--- ---- lanes
-
-at_front : (old : List KeptLane) (i : ℕ) (d : KeptLane) → i < length old → get_or (map told_now (take i old) ++ drop i old) i d ≡ get_or old i d
-at_front [] i d inside = absurd (omega (arith, inside))
-at_front (x ∷ xs) zero d inside = refl
-at_front (x ∷ xs) (suc i) d inside = at_front xs i d (omega (arith, inside))
-
-one_set : (old : List KeptLane) (i : ℕ) (d : KeptLane) → i < length old → set (map told_now (take i old) ++ drop i old) i (told_now (get_or old i d)) ≡ map told_now (take (suc i) old) ++ drop (suc i) old
-one_set [] i d inside = absurd (omega (arith, inside))
-one_set (x ∷ xs) zero d inside = refl
-one_set (x ∷ xs) (suc i) d inside = ap (λ ys. told_now x ∷ ys) (one_set xs i d (omega (arith, inside)))
-
-pub one_told : (old lanes : List KeptLane) (i : ℕ) (here told : KeptLane) → i < length old → lanes ≡ map told_now (take i old) ++ drop i old → here ≡ get_or lanes i here → told ≡ told_now here
-    → set lanes i told ≡ map told_now (take (i + 1) old) ++ drop (i + 1) old
-one_told old lanes i here told inside so is tells =
-    let found : told ≡ told_now (get_or old i here) = tells ∙ ap told_now (is ∙ ap (λ ls. get_or ls i here) so ∙ at_front old i here inside) in
-    ap (λ ls. set ls i told) so ∙ ap (set (map told_now (take i old) ++ drop i old) i) found ∙ one_set old i here inside
-    ∙ ap (λ k. map told_now (take k old) ++ drop k old) (sym (add-one i))

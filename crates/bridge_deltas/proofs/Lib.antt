@@ -1,3 +1,5 @@
+pub mod Confirming
 pub mod Framing
+pub mod Mapping
 pub mod Shipping
 pub mod Telling

@@ -1,10 +1,10 @@
 -- Rows and changes of lanes, one lane after the other.
-use Rattle.std.proofs.Common.{◌≡◌, ◌⊎◌, inl, inr, ℕ, zero, suc, ◌+◌, ◌-◌, ◌<◌, ◌≤◌, ◌^◌, min, max, List, [], ◌∷◌, ◌++◌, map, length, take, drop, get_or, append-nil, append_assoc, length-drop, refl, sym, ap, subst, ◌∙◌, arith}
+use Rattle.std.proofs.Common.{◌≡◌, inl, inr, ℕ, zero, suc, ◌+◌, ◌-◌, ◌<◌, ◌≤◌, ◌^◌, min, max, List, [], ◌∷◌, ◌++◌, map, length, take, drop, get_or, append-nil, append_assoc, length-drop, refl, sym, ap, subst, ◌∙◌, arith}
 use Rattle.std.specs.List.{AllByRecursion}
 use Rattle.std.proofs.lemmas.Bool.{cases_lt}
 use Rattle.std.proofs.lemmas.List.{drop-drop, take_all, take_more}
 use Rattle.bridge_frames.specs.declared.forward.Forward.{Forward}
-use Rattle.lane_rows.specs.Rows.{Messages, Plain, each, last_put, message_rows, numbers_of, rows_of, waiting_of}
+use Rattle.lane_rows.specs.Rows.{Plain, each, message_rows, numbers_of, rows_of, waiting_of}
 use Rattle.lane_rows.specs.Reading.{AreLanes, IsLane}
 use Rattle.lane_rows.specs.Changes.{IsLater, KeptLane, Left, gone_count, changes_of, message_changes, now_of, numbers_changes, put, removals, told_count}
 use Rattle.lane_rows.proofs.Cuts.{each_last}

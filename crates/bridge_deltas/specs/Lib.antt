@@ -2,5 +2,6 @@ pub mod Codes
 pub mod Lane
 pub mod Buffer
 pub mod Shipped
+pub mod Confirmed
 pub mod Links
 pub mod Laws

@@ -1,5 +1,5 @@
 //! What a node keeps for the other nodes of its cluster.
-ghost use Rattle.std.specs.Prelude.{◌≡◌, ◌⊎◌, ◌<◌, ◌++◌, ◌↔◌, suc, length, nat_eq, if◌then◌else◌, slice_set, map, replicate, IfOk, IfErr, IfSome, IsErrOf, IsNone, IsOk, OnErr, OnOk};
+ghost use Rattle.std.specs.Prelude.{◌≡◌, ◌⊎◌, ◌<◌, ◌-◌, ◌++◌, ◌↔◌, suc, length, nat_eq, if◌then◌else◌, slice_set, map, replicate, IfOk, IfErr, IfSome, IsErrOf, IsNone, IsOk, OnErr, OnOk};
 ghost use Rattle.std.specs.FinSet as set;
 ghost use Rattle.std.specs.List.{AllByRecursion};
 ghost use Rattle.causal_context.specs.SetLattice.{IsSubset};
@@ -19,7 +19,7 @@ ghost use Rattle.bridge_deltas.specs.Lane.{after_offer, first_frames, next_numbe
 ghost use Rattle.bridge_deltas.specs.Links.{all_told, belief_of, kept_of, new_links, opened_links, with_kept};
 ghost use Rattle.bridge_deltas.specs.Shipped.{IsShipped};
 
-use crate::buffer::{keep, shipped};
+use crate::buffer::{count_confirmed, keep, shipped};
 use crate::lane::Lane;
 use crate::offer::Offer;
 use bridge_frames::{BridgeFrame, Forward};
@@ -42,11 +42,14 @@ pub struct Links {
     node: u16,
     nodes: u16,
     beliefs: Vec<Context>,
+    /// How many of the oldest deltas each peer is known to have taken.
+    confirmed: Vec<usize>,
     deltas: VecDeque<ReplicaStore>,
     lanes: Vec<Lane>,
 }
 
 impl Model for Links {
+    ghost use Rattle.bridge_deltas.specs.Confirmed.{AreConfirmed};
     ghost use Rattle.bridge_deltas.specs.Links.{LinksView, IsSound, coded_links};
 
     ghost Value = { LinksView };
@@ -67,7 +70,7 @@ impl Model for Links {
       beliefs = l.beliefs.items;
       deltas = l.deltas.items;
       lanes = l.lanes.items;
-    }) };
+    }) × AreConfirmed l.beliefs.items l.confirmed.items l.deltas.items };
 }
 
 fn no_beliefs(alloc: Global, nodes: u16) -> Result<Vec<Context>, NoMemory>
@@ -78,6 +81,25 @@ fn no_beliefs(alloc: Global, nodes: u16) -> Result<Vec<Context>, NoMemory>
         beliefs.push(Context::new(alloc))?;
     }
     Ok(beliefs)
+}
+
+fn no_counts(alloc: Global, nodes: u16) -> Result<Vec<usize>, NoMemory>
+    ensures { IfOk result (λ c. c.items ≡ replicate nodes 0) }
+{
+    let mut counts = Vec::new(alloc);
+    for _ in 0..nodes {
+        counts.push(0)?;
+    }
+    Ok(counts)
+}
+
+// The oldest delta is gone: one fewer is counted of each peer, if any is.
+fn lower_all(counts: &mut Vec<usize>)
+    ensures { counts.new.items ≡ map (λ n. n - 1) counts.old.items }
+{
+    for i in 0..counts.len() {
+        counts[i] = counts[i].saturating_sub(1);
+    }
 }
 
 fn new_lanes(alloc: Global, nodes: u16) -> Result<Vec<Lane>, NoMemory>
@@ -200,6 +222,7 @@ fn opened(alloc: Global, node: u16, nodes: u16, read: Vec<ReadLane>) -> Result<L
         node,
         nodes,
         beliefs: no_beliefs(alloc, nodes)?,
+        confirmed: no_counts(alloc, nodes)?,
         deltas: VecDeque::new(alloc),
         lanes: lanes_of(alloc, read)?,
     })
@@ -215,6 +238,7 @@ impl Links {
             node,
             nodes,
             beliefs: no_beliefs(alloc, nodes)?,
+            confirmed: no_counts(alloc, nodes)?,
             deltas: VecDeque::new(alloc),
             lanes: new_lanes(alloc, nodes)?,
         })
@@ -226,7 +250,10 @@ impl Links {
         ensures ok { OnOk result (self.new ≡ record self.old { deltas = with_delta delta self.old.deltas }) }
         ensures err { OnErr result (self.new ≡ self.old) }
     {
-        keep(&mut self.deltas, delta)
+        if keep(&mut self.deltas, delta)? {
+            lower_all(&mut self.confirmed);
+        }
+        Ok(())
     }
 
     /// The peer has taken these dots. Where memory runs out nothing changes; dots that it is known to
@@ -239,7 +266,11 @@ impl Links {
         ensures err { OnErr result (self.new ≡ self.old) }
         ensures known { IsSubset dots.now (belief_of self.old peer) → IsOk result }
     {
-        self.beliefs[peer as usize].join(dots)
+        let place = peer as usize;
+        self.beliefs[place].join(dots)?;
+        let known = self.confirmed[place];
+        self.confirmed[place] = count_confirmed(&self.deltas, &self.beliefs[place], known);
+        Ok(())
     }
 
     /// What to send of the store to the peer: nothing where it is known to have taken all, which takes no memory; else the join
@@ -253,7 +284,8 @@ impl Links {
         ensures nothing { IsSubset store.now.taken (belief_of self.now peer) → IsOk result }
     {
         let belief = &self.beliefs[peer as usize];
-        shipped(self.alloc, &self.deltas, belief, store)
+        let confirmed = self.confirmed[peer as usize];
+        shipped(self.alloc, &self.deltas, confirmed, belief, store)
     }
 
     /// Puts a message into the lane to the peer, where it waits under the next number. It isn't put in where

@@ -216,6 +216,44 @@ fn what_a_peer_may_lack_is_shipped(rt: HostRuntime) {
     drop(shipped);
 }
 
+// Whether, of the changes 1 to 3, the one of this number is shipped alone.
+fn ships_only(rt: &impl Abort, links: &Links, store: &ReplicaStore, number: u64) -> bool
+    requires { links.now.nodes ≡ 2 }
+{
+    let shipped = ship(rt, links, store).expect(rt, "a delta");
+    let mut is_only = true;
+    for other in 1..4 {
+        is_only = is_only && has(&shipped, 0, other) == (other == number);
+    }
+    drop(shipped);
+    is_only
+}
+
+fn confirm(rt: &impl Abort, alloc: Global, links: &mut Links, number: u64)
+    requires { links.old.nodes ≡ 2 }
+    ensures { links.new.nodes ≡ 2 }
+{
+    let delta = remove(rt, alloc, 0, number);
+    links.knows(1, delta.taken()).expect(rt, "memory");
+    drop(delta);
+}
+
+#[test]
+fn deltas_are_confirmed_in_any_order(rt: HostRuntime) {
+    let alloc = rt.alloc();
+    let mut links = two_links(&rt, alloc);
+    let mut store = ReplicaStore::new(alloc);
+    keep(&rt, alloc, &mut links, &mut store, 1);
+    keep(&rt, alloc, &mut links, &mut store, 2);
+    confirm(&rt, alloc, &mut links, 2);
+    assert!(rt; ships_only(&rt, &links, &store, 1));
+    confirm(&rt, alloc, &mut links, 1);
+    assert!(rt; ships_none(&rt, &links, &store));
+    keep(&rt, alloc, &mut links, &mut store, 3);
+    assert!(rt; ships_only(&rt, &links, &store, 3));
+    drop((links, store));
+}
+
 #[test]
 fn what_is_in_no_delta_is_shipped_with_the_whole_store(rt: HostRuntime) {
     let alloc = rt.alloc();

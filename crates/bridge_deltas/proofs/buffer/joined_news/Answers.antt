@@ -1,7 +1,11 @@
 use Rattle.std.proofs.Common.{drop, length, ◌<◌, ◌≤◌, arith, rules}
 use Rattle.std.proofs.lemmas.Grind.{common_steps}
+use Rattle.bridge_deltas.proofs.Confirming.{joins_behind}
 use Rattle.bridge_deltas.proofs.Shipping.{all_passed, next_joined, none_left}
 use Rattle.bridge_deltas.proofs.buffer.joined_news.Goals as goal
+
+pub loop-i-init : goal.loop-i-init
+loop-i-init c = joins_behind c.args.belief.now c.args.confirmed c.args.deltas.now.items c.new-joined.result c.new-joined.ensures c.requires
 
 pub loop-i-preserved : goal.loop-i-preserved
 loop-i-preserved c =

@@ -6,4 +6,4 @@ use Rattle.bridge_deltas.proofs.Telling.{lanes_are}
 use Rattle.bridge_deltas.proofs.links.Links.have_rows.Goals as goal
 
 pub returns : goal.returns
-returns c = subst (λ (l : LinksView). AreLanes l.nodes (now_of l.lanes)) c.self.view_is (lanes_are c.self.inside.nodes c.self.inside.lanes.items c.self.invariant.lanes c.are_lanes.ensures)
+returns c = subst (λ (l : LinksView). AreLanes l.nodes (now_of l.lanes)) c.self.view_is (lanes_are c.self.inside.nodes c.self.inside.lanes.items c.self.invariant.0.lanes c.are_lanes.ensures)
