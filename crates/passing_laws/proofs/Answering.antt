@@ -7,6 +7,8 @@ use Rattle.mqtt_packets.specs.declared.packet.Packet.TheVariants as packets
 use Rattle.mqtt_packets.specs.declared.subscribe.Subscribe.{Subscribe}
 use Rattle.mqtt_packets.specs.declared.subscribe.SubscribeFilter.{SubscribeFilter}
 use Rattle.mqtt_packets.specs.declared.unsubscribe.Unsubscribe.{Unsubscribe}
+use Rattle.bridge_frames.specs.declared.forward.Forward.{Forward}
+use Rattle.message_copies.specs.declared.plain.PlainCopy.{PlainCopy as Copy}
 use Rattle.mqtt_sessions.specs.declared.link.Asked.{Asked}
 use Rattle.mqtt_sessions.specs.declared.link.Asked.TheVariants.{Subscribing, Unsubscribing}
 use Rattle.mqtt_sessions.specs.declared.reaction.Ask.{Ask}
@@ -18,8 +20,9 @@ use Rattle.session_laws.specs.Runs.{takes, answers, Reacts}
 use Rattle.session_table.specs.Calls.{stays}
 use Rattle.session_table.specs.Seats.{Seat}
 use Rattle.session_table.proofs.Tables.{get_inserted}
-use Rattle.node_work.specs.Acts.{Act, Session, Runs, next}
+use Rattle.node_work.specs.Acts.{Act, Session, Bridge, Runs, next}
 use Rattle.node_work.specs.Calling.{CallsAt}
+use Rattle.node_work.specs.Held.Bridge.{Took}
 use Rattle.node_work.specs.Held.Sessions.{SessionStep, Called, IsCall, seat_at}
 use Rattle.node_work.specs.View.{Place, HeldView}
 use Rattle.node_work.specs.Working.{Returns}
@@ -36,8 +39,8 @@ use Rattle.passing_laws.specs.Asking.{IsGranted, AreGranted, IsRemoved, AreRemov
 use Rattle.passing_laws.proofs.Codes.{codes_tell, subscribing_after, unsubscribing_after}
 use Rattle.passing_laws.proofs.Keeping.{calling_by, Property, IsOther, IsPlain, Joins, Keeps, none_some, k_returns, k_if, k_inturn}
 use Rattle.passing_laws.proofs.Requests.{are_granted, are_removed}
-use Rattle.passing_laws.proofs.Splits.{head_is, tail_is, none_there, left_by, splits, runs_split}
-use Rattle.passing_laws.proofs.Work.{passes, drops, closes_after, grants, offers_after, unsubscribed}
+use Rattle.passing_laws.proofs.Splits.{head_is, tail_is, none_there, alone_is, left_by, splits, runs_split}
+use Rattle.passing_laws.proofs.Work.{passes, drops, closes_after, grants, offers_after, unsubscribed, takes_forward}
 use Rattle.passing_laws.proofs.Events.{decides}
 
 -- ---- a request, and what was done for it
@@ -103,6 +106,11 @@ answered = record {
   one = one_answered;
   both = both_answered;
 }
+
+-- the act that takes a message of a lane gives no codes
+took_answered : (from number : ℕ) (m : Forward) (copies : List Copy) (lost : ℕ) (p : Place) (h : HeldView) → Answered p h (Bridge (Took from number m copies lost) ∷ [])
+took_answered from number m copies lost p h before after s is id codes e =
+    let a = Bridge (Took from number m copies lost) in absurd (let z : a ≡ Session (Called s) = alone_is a (Session (Called s)) before after is in cc)
 
 -- a call that gives no codes
 alone_answered : (p : Place) (h : HeldView) (s : SessionStep) → ((id : ℕ) (codes : List ℕ) → s.event ≡ answers id codes → ⊥) → Answered p h (Session (Called s) ∷ [])
@@ -327,7 +335,7 @@ module _ (e : NodeEvent) (p : Place) (h h' : HeldView) (acts : List Act) (does :
   parts = runs_split p before (Session (Called s) ∷ after) h h' (subst (λ zs. Runs p h zs h') is runs)
 
   request : s.event ≡ answers id codes → Requested p h before s.client id codes
-  request event = (decides Answered answered serves e).of tt p h acts does before after s is id codes event
+  request event = (decides Answered answered serves (takes_forward Answered answered took_answered) e).of tt p h acts does before after s is id codes event
 
   told : (mid : HeldView) → Runs p h before mid → (call : IsCall mid s) (a : Asked) → Gives (answer_of a id codes) s.reaction.packets
       → AreInUse codes ⊎ ((r : Requested p h before s.client id codes) × (held : HeldView) × IsCall held r.call × (asked_of r.call.after.link ≡ Some a))

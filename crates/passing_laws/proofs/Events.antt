@@ -5,7 +5,6 @@ use Rattle.mqtt_packets.specs.declared.fault.PacketFault.{PacketFault}
 use Rattle.mqtt_packets.specs.declared.packet.Packet.{Packet}
 use Rattle.mqtt_packets.specs.declared.packet.Packet.TheVariants as packets
 use Rattle.due_times.specs.Dues.{Due}
-use Rattle.message_copies.specs.declared.plain.PlainCopy.{PlainCopy as Copy}
 use Rattle.session_laws.specs.Runs.{closes, ticks}
 use Rattle.session_table.specs.Calls.{stays, leaves}
 use Rattle.session_table.specs.Seats.{run_outs, wills_due, ends_due, connected}
@@ -19,9 +18,9 @@ use Rattle.node_bridge.specs.View.{is_next, lane_to}
 use Rattle.replica_store.specs.States.{State}
 use Rattle.node_work.specs.declared.counts.Missed.TheVariants.{BadFrame, FrameTooLarge}
 use Rattle.node_work.specs.Acts.{Moment, Began, Store, Connection, Bridge, Merged}
-use Rattle.node_work.specs.Calling.{Calls, Queues, QueuesOne}
+use Rattle.node_work.specs.Calling.{Calls}
 use Rattle.node_work.specs.Doings.{TakesMoment, Removes, Misses, Gives, GivesFrame, is_small}
-use Rattle.node_work.specs.Held.Bridge.{Gave, Took, Got as GotBy, Believed}
+use Rattle.node_work.specs.Held.Bridge.{Gave, Got as GotBy, Believed}
 use Rattle.node_work.specs.Held.Feeding.{cut_of}
 use Rattle.node_work.specs.Held.Connections.{Closed, Fed, Opened, is_open, client_at, first_at}
 use Rattle.node_work.specs.Frames.{is_for, is_other}
@@ -39,10 +38,10 @@ use Rattle.broker_node.specs.Bridge as bridge
 use Rattle.broker_node.specs.Due as due
 use Rattle.broker_node.specs.Turns as turns
 use Rattle.passing_laws.proofs.Keeping.{Property, Joins, Keeps, k_returns, k_acting, k_numbered, k_looks, k_finds, k_if, k_then, k_each, k_calls}
-use Rattle.passing_laws.proofs.Work.{removes, sends, disconnects, queues_one, misses, ticks_of, parts, closes_of, closes_by, connects_by}
+use Rattle.passing_laws.proofs.Work.{removes, sends, disconnects, misses, ticks_of, parts, closes_of, closes_by, connects_by}
 
--- by what it makes of each packet of an accepted client
-module _ (T : Property) (j : Joins T) (serves : (c : ℕ) (client : List ℕ) (k : Packet) → Keeps T (serving.Serves c client k)) where
+-- by what it makes of each packet of an accepted client, and of each message that it takes of a lane
+module _ (T : Property) (j : Joins T) (serves : (c : ℕ) (client : List ℕ) (k : Packet) → Keeps T (serving.Serves c client k)) (takes_forward : (from number : ℕ) (m : Message) → Keeps T (passing.TakesForward from number m)) where
   first : (c : ℕ) (k : Packet) → Keeps T (pieces.First c k)
   first c (packets.Connect p) = connects_by T j _ c p
   first c _ = closes_of T j c
@@ -155,14 +154,6 @@ module _ (T : Property) (j : Joins T) (serves : (c : ℕ) (client : List ℕ) (k
 
   tells_taken : (from : ℕ) → Keeps T (bridge.TellsTaken from)
   tells_taken from = gives from (λ h. Know h.store.taken)
-
-  takes_copies : (from number : ℕ) (m : Message) (x : List Copy × ℕ) → Keeps T (passing.TakesCopies from number m x)
-  takes_copies from number m x =
-      k_then T j (Acting (λ p h. Bridge (Took from number m x.0 x.1))) (λ _. Queues x.0) (k_acting T j (λ p h. Bridge (Took from number m x.0 x.1)) (λ p h. tt))
-      (λ _. k_each T j QueuesOne x.0 (queues_one T j))
-
-  takes_forward : (from number : ℕ) (m : Message) → Keeps T (passing.TakesForward from number m)
-  takes_forward from number m = k_finds T j (passing.IsHandedOver m) (passing.TakesCopies from number m) (takes_copies from number m)
 
   takes_next : (from number : ℕ) (m : Message) → Keeps T (bridge.TakesNext from number m)
   takes_next from number m =

@@ -7,6 +7,7 @@ use Rattle.node_work.specs.declared.outcome.Output.{Output}
 use Rattle.node_work.specs.declared.outcome.Output.TheVariants.{Send, Close, Frame as Release}
 use Rattle.node_work.specs.Acts.{Act, Moment, Began, Store, Connection, Session, Bridge, Out, Named, Acknowledged, Passed, Dropped, Runs}
 use Rattle.node_work.specs.Calling.{Calls, CallsAt}
+use Rattle.node_work.specs.Held.Bridge.{BridgeAct, Put, Took, Got, Believed, Gave, Left_out}
 use Rattle.node_work.specs.Held.Sessions.{SessionAct, SessionStep, Begun, Called, Over, seat_at}
 use Rattle.node_work.specs.View.{Place, HeldView}
 use Rattle.node_work.specs.Working.{Doing, Returns, Stops, Acting, Numbered, Looks, Finds, If, Where, Then, InTurn, Each}
@@ -38,14 +39,23 @@ IsPlainOutput (Send connection bytes) = IsOwn bytes
 IsPlainOutput (Close connection) = Unit {0}
 IsPlainOutput (Release frame) = Unit {0}
 
--- an act that isn't such a call
+-- an act for other nodes that takes no message
+abbrev pub IsPlainBridge : BridgeAct → Type 0
+IsPlainBridge (Put peer m) = Unit {0}
+IsPlainBridge (Took peer number m copies lost) = ⊥
+IsPlainBridge (Got peer number) = Unit {0}
+IsPlainBridge (Believed peer dots) = Unit {0}
+IsPlainBridge (Gave f) = Unit {0}
+IsPlainBridge (Left_out what) = Unit {0}
+
+-- an act that is neither such a call nor takes a message of a lane
 abbrev pub IsPlain : Act → Type 0
 IsPlain (Moment at) = Unit {0}
 IsPlain Began = Unit {0}
 IsPlain (Store a) = Unit {0}
 IsPlain (Connection a) = Unit {0}
 IsPlain (Session a) = IsOtherCall a
-IsPlain (Bridge a) = Unit {0}
+IsPlain (Bridge a) = IsPlainBridge a
 IsPlain (Out o) = IsPlainOutput o
 IsPlain (Named number) = Unit {0}
 IsPlain (Acknowledged client packet at grants offers) = Unit {0}

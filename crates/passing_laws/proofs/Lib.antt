@@ -5,6 +5,7 @@ pub mod Events
 pub mod Splits
 pub mod Routing
 pub mod Passing
+pub mod HandingLaws
 pub mod Requests
 pub mod Codes
 pub mod Answering

@@ -12,6 +12,7 @@ use Rattle.replica_store.specs.declared.content.Content.{Content}
 use Rattle.replica_store.specs.declared.operation.Operation.TheVariants.{Put}
 use Rattle.replica_store.specs.declared.operation.Stamp.{Stamp}
 use Rattle.replica_store.specs.Making.{put_of}
+use Rattle.bridge_frames.specs.declared.forward.Forward.{Forward}
 use Rattle.message_copies.specs.declared.plain.PlainCopy.{PlainCopy as Copy}
 use Rattle.message_routes.specs.declared.destinations.Route.{Route}
 use Rattle.message_routes.specs.Routes.{forward_at, route_of}
@@ -23,9 +24,10 @@ use Rattle.session_table.specs.Listing.{text_cmp}
 use Rattle.session_table.specs.Seats.{Seat}
 use Rattle.session_table.proofs.Tables.{same_text, get_inserted, get_apart}
 use Rattle.node_bridge.specs.View.{BridgeView, offer_to}
-use Rattle.node_work.specs.Acts.{Act, Store, Session, Made, Passed, Runs, next}
+use Rattle.node_work.specs.Acts.{Act, Store, Session, Bridge, Made, Passed, Runs, next}
 use Rattle.node_work.specs.Calling.{Calls, CallsAt, Queues, QueuesOne}
 use Rattle.node_work.specs.Doings.{MakesPut, Routes}
+use Rattle.node_work.specs.Held.Bridge.{Took}
 use Rattle.node_work.specs.Held.Making.{put_at_end}
 use Rattle.node_work.specs.Held.Sessions.{SessionStep, Called, seat_at, has_session}
 use Rattle.node_work.specs.Passing.{content_of, seated, turn_at_end}
@@ -37,8 +39,8 @@ use Rattle.passing_laws.specs.Publishing.{Accepts, AreQueued, MakesCopies, Passe
 use Rattle.passing_laws.proofs.Keeping.{Calling, calling_by, Property, IsOther, IsPlain, Joins, Keeps, none_some}
 use Rattle.node_clients.proofs.Determined.{runs_determined}
 use Rattle.passing_laws.proofs.Routing.{AreApart, are_apart, each_routed}
-use Rattle.passing_laws.proofs.Splits.{head_is, tail_is, none_there, left_by, runs_split, splits}
-use Rattle.passing_laws.proofs.Work.{does_reaction}
+use Rattle.passing_laws.proofs.Splits.{head_is, tail_is, none_there, alone_is, left_by, runs_split, splits}
+use Rattle.passing_laws.proofs.Work.{does_reaction, takes_forward}
 use Rattle.passing_laws.proofs.Events.{decides}
 
 -- ---- a number that could be had
@@ -69,14 +71,14 @@ stays_there client h s has = by (eq_by_cmp text_cmp client s.client) refl
     by false t = (has.0, get_apart h.sessions s.client after client t ∙ has.1)
 
 -- of each copy
-abbrev HaveAll : HeldView → List Copy → Type 0
+abbrev pub HaveAll : HeldView → List Copy → Type 0
 HaveAll h xs = AllByRecursion (λ (x : Copy). Has x.client h) xs
 
-have_both : (h : HeldView) (xs ys : List Copy) → HaveAll h xs → HaveAll h ys → HaveAll h (xs ++ ys)
+pub have_both : (h : HeldView) (xs ys : List Copy) → HaveAll h xs → HaveAll h ys → HaveAll h (xs ++ ys)
 have_both h [] ys a b = b
 have_both h (x ∷ xs) ys a b = (a.0, have_both h xs ys a.1 b)
 
-have_seated : (h : HeldView) (xs : List Copy) → HaveAll h (seated h xs)
+pub have_seated : (h : HeldView) (xs : List Copy) → HaveAll h (seated h xs)
 have_seated h [] = tt
 have_seated h (x ∷ xs) = by (has_session x.client h) refl (have_seated h xs)
   where
@@ -93,7 +95,7 @@ pub calling : (client : List ℕ) (event : ℕ → Event) (on : Option ℕ → O
 calling client event on r p h acts has d = calling_by client event on has.0 r p h acts (subst (λ f. CallsAt client event on f (Some r) p h acts) has.1 d)
 
 -- ---- the copies of a message
-each_queued : (xs : List Copy) (x : Unit {0}) (p : Place) (h : HeldView) (acts : List Act) → HaveAll h xs → Each QueuesOne xs (Some x) p h acts → AreQueued h.at xs acts
+pub each_queued : (xs : List Copy) (x : Unit {0}) (p : Place) (h : HeldView) (acts : List Act) → HaveAll h xs → Each QueuesOne xs (Some x) p h acts → AreQueued h.at xs acts
 each_queued [] x p h acts has d = d.1
 each_queued (c ∷ cs) x p h acts has (inl d) = none_some (sym d.0)
 each_queued (c ∷ cs) x p h acts has (inr (y, own, mid, rest, (inl one), runs, more, is)) = none_some (sym one.0)
@@ -229,6 +231,11 @@ followed = record {
   both = both_told;
 }
 
+-- the act that takes a message of a lane is no call
+took_told : (from number : ℕ) (m : Forward) (copies : List Copy) (lost : ℕ) (p : Place) (h : HeldView) → Followed p h (Bridge (Took from number m copies lost) ∷ [])
+took_told from number m copies lost p h before after s held is ran x accepts =
+    let a = Bridge (Took from number m copies lost) in absurd (let z : a ≡ Session (Called s) = alone_is a (Session (Called s)) before after is in cc)
+
 -- a call with what follows it
 call_told : (p : Place) (h mid : HeldView) (s : SessionStep) (rest : List Act) → mid ≡ next h (Session (Called s)) → Told s h.bridge rest → Followed p mid rest → Followed p h (Session (Called s) ∷ rest)
 call_told p h mid s rest left told more [] after t held is ran =
@@ -274,4 +281,4 @@ serves : (c : ℕ) (client : List ℕ) (k : Packet) → Keeps Followed (serving.
 serves c client k = record { of = λ x p h acts d. serves_in c client k (serving.room_for k h.store) x p h acts d }
 
 pub accepted_is_passed_on : AcceptedIsPassedOn
-accepted_is_passed_on = λ e p h held acts d before after s m is ran accepts. (decides Followed followed serves e).of tt p h acts d before after s held is ran m accepts
+accepted_is_passed_on = λ e p h held acts d before after s m is ran accepts. (decides Followed followed serves (takes_forward Followed followed took_told) e).of tt p h acts d before after s held is ran m accepts

@@ -1,25 +1,21 @@
 -- Each packet that goes out is of a call, or the node's own.
 use Rattle.std.proofs.Common.{◌≡◌, ◌⊎◌, inl, inr, ℕ, ◌==◌, Bool, true, false, cond, List, [], ◌∷◌, ◌++◌, map as map_list, Option, Some, None, refl, sym, ap, ◌∙◌, subst, append_assoc}
 use Rattle.std.proofs.lemmas.List.{append-nil}
-use Rattle.mqtt_packets.specs.declared.packet.Packet.{Packet}
 use Rattle.mqtt_packets.specs.Written.{written}
 use Rattle.mqtt_sessions.specs.declared.reaction.Output.{Output as Reply}
 use Rattle.mqtt_sessions.specs.Answers.{disconnect}
-use Rattle.mqtt_sessions.specs.Reaction.{Reaction, packet_of}
-use Rattle.session_laws.specs.Runs.{Event, takes}
-use Rattle.session_table.specs.Calls.{stays}
-use Rattle.session_table.specs.Seats.{Seat}
+use Rattle.mqtt_sessions.specs.Reaction.{packet_of}
+use Rattle.bridge_frames.specs.declared.forward.Forward.{Forward}
+use Rattle.message_copies.specs.declared.plain.PlainCopy.{PlainCopy as Copy}
 use Rattle.node_work.specs.declared.outcome.Output.TheVariants.{Send, Close, Frame as Release}
 use Rattle.node_work.specs.Acts.{Act, Moment, Began, Store, Connection, Session, Bridge, Out, Named, Acknowledged, Passed, Dropped, Runs, gather, output_in}
-use Rattle.node_work.specs.Calling.{Calls, CallsAt}
 use Rattle.node_work.specs.Held.Bridge.{Put, Took, Got, Believed, Gave, Left_out}
-use Rattle.node_work.specs.Held.Sessions.{SessionStep, Begun, Called, Over, last_of, outputs_on, packet_output, seat_at}
+use Rattle.node_work.specs.Held.Sessions.{SessionStep, Begun, Called, Over, last_of, outputs_on, packet_output}
 use Rattle.node_work.specs.View.{Place, HeldView}
 use Rattle.node_work.proofs.Working.{gather-append}
-use Rattle.node_clients.specs.Serving as serving
 use Rattle.passing_laws.specs.Sending.{IsIn, SentBy, IsOwn, SentAmong, SendsAreOfCalls}
-use Rattle.passing_laws.proofs.Keeping.{Property, IsPlain, Joins, Keeps, calling_by, k_looks, k_then}
-use Rattle.passing_laws.proofs.Work.{does_reaction}
+use Rattle.passing_laws.proofs.Keeping.{Property, IsPlain, Joins}
+use Rattle.passing_laws.proofs.Work.{serves, takes_forward}
 use Rattle.passing_laws.proofs.Events.{decides}
 
 in_both : {A : Type 0} (x : A) (xs ys : List A) → IsIn x (xs ++ ys) → IsIn x xs ⊎ IsIn x ys
@@ -77,7 +73,7 @@ sent_one p h (Session (Begun client)) plain connection bytes i = absurd i
 sent_one p h (Session (Called s)) plain connection bytes i = sent_call p h s connection bytes i
 sent_one p h (Session (Over client)) plain connection bytes i = absurd i
 sent_one p h (Bridge (Put peer m)) plain connection bytes i = absurd i
-sent_one p h (Bridge (Took peer number m copies lost)) plain connection bytes i = absurd i
+sent_one p h (Bridge (Took peer number m copies lost)) plain connection bytes i = absurd plain
 sent_one p h (Bridge (Got peer number)) plain connection bytes i = absurd i
 sent_one p h (Bridge (Believed peer dots)) plain connection bytes i = absurd i
 sent_one p h (Bridge (Gave f)) plain connection bytes (inl e) = cc e
@@ -110,18 +106,9 @@ sent_both p h mid xs ys runs f g connection bytes i =
 sent : Joins Sent
 sent = record { none = λ p h connection bytes i. absurd i; one = sent_one; both = sent_both }
 
--- ---- a packet of an accepted client
-takes_at : (client : List ℕ) (event : ℕ → Event) (found : Option Seat) (r : Reaction) (p : Place) (h : HeldView) (acts : List Act) → CallsAt client event stays found (Some r) p h acts → Sent p h acts
-takes_at client event None r p h acts d = subst (Sent p h) (sym d.1) (sent.none p h)
-takes_at client event (Some seat) r p h acts d = let k = calling_by client event stays seat r p h acts d in subst (Sent p h) (sym k.acts_are) (sent_call p h k.step)
-
-calls : (client : List ℕ) (event : ℕ → Event) → Keeps Sent (Calls client event stays)
-calls client event = record { of = λ r p h acts d. takes_at client event (seat_at client h) r p h acts d }
-
-serves : (c : ℕ) (client : List ℕ) (k : Packet) → Keeps Sent (serving.Serves c client k)
-serves c client k =
-    k_looks Sent sent (λ place h. serving.room_for k h.store) (serving.ServesIn c client k)
-    (λ room. k_then Sent sent (Calls client (λ at. takes k at room) stays) (serving.DoesReaction c client k room) (calls client (λ at. takes k at room)) (λ r. does_reaction Sent sent (λ p h s id codes e. sent_call p h s) c client k room r))
+-- a message that is taken of a lane gives nothing out
+sent_took : (from number : ℕ) (m : Forward) (copies : List Copy) (lost : ℕ) (p : Place) (h : HeldView) → Sent p h (Bridge (Took from number m copies lost) ∷ [])
+sent_took from number m copies lost p h connection bytes i = absurd i
 
 pub sends_are_of_calls : SendsAreOfCalls
-sends_are_of_calls = λ e p h acts d connection bytes i. (decides Sent sent serves e).of tt p h acts d connection bytes i
+sends_are_of_calls = λ e p h acts d connection bytes i. (decides Sent sent (serves Sent sent sent_call) (takes_forward Sent sent sent_took) e).of tt p h acts d connection bytes i

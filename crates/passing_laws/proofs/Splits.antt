@@ -14,6 +14,11 @@ module _ {A : Type 0} where
   none_there [] after a e = cc
   none_there (b ∷ before) after a e = cc
 
+  -- one alone is no other
+  pub alone_is : (x a : A) (before after : List A) → x ∷ [] ≡ before ++ a ∷ after → x ≡ a
+  alone_is x a [] after e = head_is e
+  alone_is x a (b ∷ before) after e = none_there before after a (tail_is e)
+
   pub splits : (xs ys before after : List A) (a : A) → xs ++ ys ≡ before ++ a ∷ after
       → ((rest : List A) × (xs ≡ before ++ a ∷ rest) × (after ≡ rest ++ ys)) ⊎ ((front : List A) × (before ≡ xs ++ front) × (ys ≡ front ++ a ∷ after))
   splits [] ys before after a e = inr (before, refl, e)

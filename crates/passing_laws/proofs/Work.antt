@@ -28,7 +28,7 @@ use Rattle.message_routes.specs.declared.destinations.Route.{Route}
 use Rattle.message_routes.specs.declared.destinations.Route.TheVariants.{Nothing, Lane, TooLarge}
 use Rattle.node_bridge.specs.View.{offer_to}
 use Rattle.replica_store.specs.Making.{subscribe_of}
-use Rattle.session_laws.specs.Runs.{connects, queues, closes, ticks, finishes, answers}
+use Rattle.session_laws.specs.Runs.{Event, connects, queues, takes, closes, ticks, finishes, answers}
 use Rattle.session_table.specs.Calls.{stays, leaves, moves}
 use Rattle.node_work.specs.declared.granted.Granted.{Granted}
 use Rattle.node_work.specs.declared.counts.Missed.{Missed}
@@ -36,7 +36,7 @@ use Rattle.node_work.specs.declared.counts.Missed.TheVariants.{LaneFull}
 use Rattle.node_work.specs.Acts.{Store, Session, Acknowledged, Made, Act, Bridge, Out}
 use Rattle.node_work.specs.Calling.{Calls, Queues, QueuesOne, CallsAt}
 use Rattle.node_work.specs.Doings.{MakesSubscribe, MakesRemove, Removes, Sends, Disconnects, Misses, PutsBy, RoutesBy, Routes}
-use Rattle.node_work.specs.Held.Bridge.{Put, Left_out}
+use Rattle.node_work.specs.Held.Bridge.{Put, Took, Left_out}
 use Rattle.node_work.specs.Held.Sessions.{Begun, takes_disconnect, will_is_due, end_is_due, SessionStep, Called, seat_at}
 use Rattle.node_work.specs.Held.Making.{number_at_end, removal}
 use Rattle.subscription_set.specs.declared.entry.Entry.{Entry}
@@ -263,3 +263,27 @@ module _ (T : Property) (j : Joins T) (answers_so : (p : Place) (h : HeldView) (
   does_reaction c client k room r =
       let dropped = serving.is_dropped k room r.end in
       k_then T j (serving.DoesAsked r.ask dropped c client k) (λ _. ending.ClosesAfter r.end c client) (does_asked r.ask dropped c client k) (λ _. closes_after T j r.end c client)
+
+-- ---- a packet of an accepted client, where each call alone keeps it
+module _ (T : Property) (j : Joins T) (called : (p : Place) (h : HeldView) (s : SessionStep) → T p h (Session (Called s) ∷ [])) where
+  called_at : (client : List ℕ) (event : ℕ → Event) (found : Option Seat) (r : Reaction) (p : Place) (h : HeldView) (acts : List Act) → CallsAt client event stays found (Some r) p h acts → T p h acts
+  called_at client event None r p h acts d = subst (T p h) (sym d.1) (j.none p h)
+  called_at client event (Some seat) r p h acts d = let k = calling_by client event stays seat r p h acts d in subst (T p h) (sym k.acts_are) (called p h k.step)
+
+  calls : (client : List ℕ) (event : ℕ → Event) → Keeps T (Calls client event stays)
+  calls client event = record { of = λ r p h acts d. called_at client event (seat_at client h) r p h acts d }
+
+  pub serves : (c : ℕ) (client : List ℕ) (k : Packet) → Keeps T (serving.Serves c client k)
+  serves c client k =
+      k_looks T j (λ place h. serving.room_for k h.store) (serving.ServesIn c client k)
+      (λ room. k_then T j (Calls client (λ at. takes k at room) stays) (serving.DoesReaction c client k room) (calls client (λ at. takes k at room)) (λ r. does_reaction T j (λ p h s id codes e. called p h s) c client k room r))
+
+-- ---- a message from another node, where the act that takes it alone keeps it
+module _ (T : Property) (j : Joins T) (took : (from number : ℕ) (m : Forward) (copies : List Copy) (lost : ℕ) (p : Place) (h : HeldView) → T p h (Bridge (Took from number m copies lost) ∷ [])) where
+  takes_copies : (from number : ℕ) (m : Forward) (x : List Copy × ℕ) → Keeps T (passing.TakesCopies from number m x)
+  takes_copies from number m x =
+      k_then T j (Acting (λ p h. Bridge (Took from number m x.0 x.1))) (λ _. Queues x.0) (record { of = λ y p h acts d. subst (T p h) (sym d.1) (took from number m x.0 x.1 p h) })
+      (λ _. k_each T j QueuesOne x.0 (queues_one T j))
+
+  pub takes_forward : (from number : ℕ) (m : Forward) → Keeps T (passing.TakesForward from number m)
+  takes_forward from number m = k_finds T j (passing.IsHandedOver m) (passing.TakesCopies from number m) (takes_copies from number m)

@@ -1,3 +1,4 @@
 pub mod Sending
 pub mod Publishing
+pub mod Handing
 pub mod Asking

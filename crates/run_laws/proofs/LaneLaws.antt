@@ -13,17 +13,25 @@ use Rattle.node_rows.specs.Rows.{Lasting}
 use Rattle.node_rows.proofs.OneNode.{rows_tell_all}
 use Rattle.node_work.specs.declared.frame.Frame.{Frame}
 use Rattle.node_work.specs.Acts.{Act, Bridge, Runs}
+use Rattle.node_work.specs.Handed.{IsHanded}
 use Rattle.node_work.specs.Held.Bridge.{Took}
 use Rattle.node_work.specs.Lasting.{lasting}
+use Rattle.node_work.specs.View.{HeldView}
+use Rattle.node_laws.proofs.MoveLaws.{acts_are_moves}
+use Rattle.broker_node.specs.declared.event.Event.{Event}
+use Rattle.broker_node.specs.Turns.{Decides}
+use Rattle.passing_laws.proofs.HandingLaws.{handed_is_queued}
 use Rattle.replica_store.specs.Operations.{dot_of}
 use Rattle.replica_store.proofs.Views.{live_is}
-use Rattle.cluster_play.specs.Worlds.{Site, World, numbered}
-use Rattle.cluster_play.specs.Runs.{Moment}
-use Rattle.cluster_play.specs.Histories.{Reached, site, taken_amid, operations_amid}
+use Rattle.cluster_play.specs.Worlds.{Site, World, Happens, numbered}
+use Rattle.cluster_play.specs.Runs.{Moment, IsHonestStep}
+use Rattle.cluster_play.specs.Histories.{Reached, site, acts_of, taken_amid, operations_amid, moves_amid}
 use Rattle.cluster_play.specs.Laws.{HoldsAmid, AnswersBy}
 use Rattle.cluster_play.proofs.Amid.{amid_acts}
-use Rattle.cluster_play.proofs.Explaining.{Seated, past, seat_lasts}
+use Rattle.cluster_play.proofs.Explaining.{Seated, fresh_at, past, seat_lasts}
 use Rattle.cluster_play.proofs.Kept.{explained}
+use Rattle.cluster_play.proofs.Lives.{at_moves, amid_moves}
+use Rattle.cluster_play.proofs.Moments.{moves_moment}
 use Rattle.cluster_play.proofs.Operations.{own_some}
 use Rattle.cluster_play.proofs.Paths.{commits_acts, midway}
 use Rattle.cluster_play.proofs.Rows.{committed}
@@ -31,7 +39,7 @@ use Rattle.cluster_play.proofs.Showing.{node_holds_amid}
 use Rattle.cluster_play.proofs.Sites.{number_is}
 use Rattle.cluster_play.proofs.Splits.{runs_split}
 use Rattle.run_laws.specs.LaneHistories.{put, took}
-use Rattle.run_laws.specs.Lanes.{TakesOver, MakesHanded}
+use Rattle.run_laws.specs.Lanes.{TakesOver, MakesHanded, JoinsHanded}
 use Rattle.run_laws.proofs.LaneActs.{SaysOf}
 use Rattle.run_laws.proofs.LaneRuns.{lanes_explained, put_both, took_both}
 
@@ -72,9 +80,22 @@ pub lanes_go_on : (i j : ℕ) (ms ns : List Moment) → Begins (put i j ms) (put
 lanes_go_on i j ms ns = ((put i j ns, sym (put_both i j ms ns)), (took i j ns, sym (took_both i j ms ns)))
 
 -- ---- copies
-pub handed_as_taken : (run later : List Moment) (m : Moment) (w : World) → Reached (run ++ m ∷ later) w → (before : List Act) (s : TakesOver m before) → MakesHanded run m before s
-handed_as_taken run later m w r before s =
-    let i = site m.fate in
+
+-- a step that takes a message: what its event came to, and what the node holds there
+record TakenAt (run : List Moment) (m : Moment) (before : List Act) (s : TakesOver m before) : Type 0 where
+  world : World
+  reached : Reached run world
+  held : HeldView
+  there : HoldsAmid world m (site m.fate) before held
+  made : IsHanded held s.message s.copies s.lost
+  event : Event
+  decides : Decides event (Some tt) there.holds.site.node.place there.held (acts_of m.fate)
+  next : World
+  happens : Happens world m.step m.fate next
+  honest : IsHonestStep world.frames m.step
+
+taken_at : (run later : List Moment) (m : Moment) (w : World) → Reached (run ++ m ∷ later) w → (before : List Act) (s : TakesOver m before) → TakenAt run m before s
+taken_at run later m w r before s =
     let a = Bridge (Took s.from s.number s.message s.copies s.lost) in
     let rest = a ∷ s.after in
     let half = midway run (m ∷ later) w r in
@@ -82,23 +103,51 @@ handed_as_taken run later m w r before s =
     let c = committed half.mid m.step m.fate half.path.0 e.0 half.path.1 e.1 in
     let place = c.was.node.place in
     let parts = runs_split place before rest c.before c.after (subst (λ acts. Runs place c.before acts c.after) s.acts c.steps.runs) in
-    let there : HoldsAmid half.mid m i before parts.0 = record {
-      event = e.0;
-      commits = e.1;
-      at = refl;
-      rest = rest;
-      acts = s.acts;
-      held = c.before;
-      holds = record { site = c.was; at = c.at; up = c.up };
-      runs = parts.1;
-    } in
-    let by : AnswersBy (operations_amid i run before) parts.0 = node_holds_amid run half.mid half.path.0 m half.reached half.honest.0 half.path.1 i before parts.0 there in
-    let own = own_some _ (λ o. taken_amid i run before (dot_of o)) (amid_acts run later m w r before s.after a s.acts).grown.own_dots in
     record {
       world = half.mid;
       reached = half.reached;
       held = parts.0;
-      there = there;
+      there = record {
+        event = e.0;
+        commits = e.1;
+        at = refl;
+        rest = rest;
+        acts = s.acts;
+        held = c.before;
+        holds = record { site = c.was; at = c.at; up = c.up };
+        runs = parts.1;
+      };
       made = parts.2.1.0.1;
-      live = live_is (operations_amid i run before) parts.0.store own by.state;
+      event = e.0;
+      decides = c.steps.does;
+      next = half.path.0;
+      happens = half.path.1;
+      honest = half.honest.0;
     }
+
+module _ (run later : List Moment) (m : Moment) (w : World) (r : Reached (run ++ m ∷ later) w) (before : List Act) (s : TakesOver m before) where
+  abbrev here : TakenAt run m before s
+  here = taken_at run later m w r before s
+
+  pub handed_as_taken : MakesHanded run m before s
+  handed_as_taken =
+      let i = site m.fate in
+      let a = Bridge (Took s.from s.number s.message s.copies s.lost) in
+      let by : AnswersBy (operations_amid i run before) here.held = node_holds_amid run here.world here.next m here.reached here.honest here.happens i before here.held here.there in
+      let own = own_some _ (λ o. taken_amid i run before (dot_of o)) (amid_acts run later m w r before s.after a s.acts).grown.own_dots in
+      record { world = here.world; reached = here.reached; held = here.held; there = here.there; made = here.made; live = live_is (operations_amid i run before) here.held.store own by.state }
+
+  pub joins_as_taken : JoinsHanded run m before s
+  joins_as_taken =
+      let i = site m.fate in
+      let place = here.there.holds.site.node.place in
+      let was = here.there.held in
+      let moves = amid_moves place run i before was here.held (at_moves run here.world here.reached i was here.there.holds) (acts_are_moves place was here.held before here.there.runs) in
+      record {
+        world = here.world;
+        reached = here.reached;
+        held = here.held;
+        there = here.there;
+        moment = moves_moment place (moves_amid i run before) (fresh_at place) here.held moves;
+        joins = handed_is_queued here.event place was here.held (acts_of m.fate) here.decides before s.after s.from s.number s.message s.copies s.lost s.acts here.there.runs;
+      }

@@ -17,9 +17,10 @@ use Rattle.replica_store.specs.Operations.{IsLive}
 use Rattle.subscription_set.specs.declared.entry.Entry.{Entry}
 use Rattle.subscription_set.specs.Standing.{find_entry, live}
 use Rattle.causal_context.specs.Dots.{Dot}
+use Rattle.passing_laws.specs.Handing.{JoinAtOnce}
 use Rattle.cluster_play.specs.Worlds.{Site, World, numbered}
 use Rattle.cluster_play.specs.Runs.{Moment}
-use Rattle.cluster_play.specs.Histories.{Reached, site, acts_of, operations_amid}
+use Rattle.cluster_play.specs.Histories.{Reached, site, acts_of, operations_amid, moment_amid}
 use Rattle.cluster_play.specs.Laws.{HoldsAmid}
 use Rattle.run_laws.specs.LaneHistories.{put, took}
 
@@ -82,3 +83,17 @@ pub record MakesHanded (run : List Moment) (m : Moment) (before : List Act) (s :
 -- a message that is taken of a lane makes exactly these copies
 abbrev pub HandedAsTaken : Type 0
 HandedAsTaken = (run later : List Moment) (m : Moment) (w : World) → Reached (run ++ m ∷ later) w → (before : List Act) (s : TakesOver m before) → MakesHanded run m before s
+
+-- the copies join their sessions directly after that, in the same step: by calls at the moment of the node there, which is the greatest
+-- that it was handed since it was last opened
+pub record JoinsHanded (run : List Moment) (m : Moment) (before : List Act) (s : TakesOver m before) : Type 0 where
+  pub world : World
+  pub reached : Reached run world
+  pub held : HeldView
+  pub there : HoldsAmid world m (site m.fate) before held
+  pub moment : held.at ≡ moment_amid (site m.fate) run before
+  pub joins : JoinAtOnce held.at s.copies s.after
+
+-- where a message is taken of a lane, nothing stands between that and the calls by which its copies join their sessions
+abbrev pub JoinsAsTaken : Type 0
+JoinsAsTaken = (run later : List Moment) (m : Moment) (w : World) → Reached (run ++ m ∷ later) w → (before : List Act) (s : TakesOver m before) → JoinsHanded run m before s

@@ -1,5 +1,5 @@
 //! The laws of lanes, over every list of steps.
-ghost use Rattle.run_laws.specs.Lanes.{CountsWhatItTook, ForwardFrames, GotFrames, HandedAsTaken, LanesGoOn, TakesInOrder, WaitsPastWhatIsTaken};
+ghost use Rattle.run_laws.specs.Lanes.{CountsWhatItTook, ForwardFrames, GotFrames, HandedAsTaken, JoinsAsTaken, LanesGoOn, TakesInOrder, WaitsPastWhatIsTaken};
 
 /// What a node took of the lane from another one is a beginning of what that put in: each message whole, in order, and once. It stays so.
 pub fn lanes_keep_order()
@@ -23,4 +23,10 @@ pub fn frames_tell_lanes()
 /// A message that is taken of a lane makes exactly its copies and picks.
 pub fn handed_as_taken()
     ensures { HandedAsTaken }
+{}
+
+/// The copies of a message that is taken of a lane join their sessions directly after that, in the same step and before anything else
+/// happens, at the node's moment: each by one call of its client's session, in order.
+pub fn joins_as_taken()
+    ensures { JoinsAsTaken }
 {}
