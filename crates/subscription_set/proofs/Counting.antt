@@ -1,13 +1,16 @@
 -- How many of a client's entries are live, by the filters under which its dots stand.
-use Rattle.std.proofs.Common.{◌≡◌, ℕ, Bool, true, false, cond, ◌&&◌, ◌||◌, List, [], ◌∷◌, map as map_list, length, Option, Some, None, refl, sym, ap, ◌∙◌}
-use Rattle.std.specs.List.{list_any, filter, IsDistinct}
+use Rattle.std.proofs.Common.{◌≡◌, ℕ, suc, ◌≤◌, Bool, true, false, cond, ◌&&◌, ◌||◌, List, [], ◌∷◌, map as map_list, length, Option, Some, None, nat_eq, arith, refl, sym, ap, subst, ◌∙◌}
+use Rattle.std.specs.List.{list_any, list_all, filter, IsDistinct}
 use Rattle.std.specs.Set.{is_member}
+use Rattle.std.specs.Cmp.{both_ways}
 use Rattle.std.specs.Cmp.Lexicographic.{bytes_decides}
 use Rattle.std.specs.Ordering.{eq_by_cmp}
 use Rattle.std.specs.declared.cmp.Ordering.TheVariants.{Less}
 use Rattle.std.specs.FinMap as map
 use Rattle.std.specs.FinSet as set
+use Rattle.std.proofs.lemmas.Bool.{eqb-true, eq-eqb}
 use Rattle.std.proofs.lemmas.List.{length-map}
+use Rattle.std.proofs.lemmas.List.Sums.{length-filter, count_by-le-length}
 use Rattle.causal_context.specs.Dots.{Dot, dot_cmp}
 use Rattle.subscription_set.specs.Entries.{Entry, same_text}
 use Rattle.subscription_set.specs.Standing.{Entries, is_latest, latest}
@@ -108,3 +111,30 @@ module _ (m : ByDot) (clients : Filed) (places : Places) (n : ℕ) (at : IsIndex
 
     pub counted : (k : ℕ) → IsKeyCount text_cmp dot_cmp g k → k ≡ length (filter (λ x. same_text c x.1.client) (latest (map.entries m)))
     counted k count = count filters distinct sound every ∙ length-map (filter here es) (λ x. x.1.filter) ∙ sym live_here
+
+-- ---- as many that pass as there are
+
+few : {X : Type 0} (p : X → Bool) (xs : List X) → length (filter p xs) ≤ length xs
+few p xs = subst (λ n. n ≤ length xs) (sym (length-filter p xs)) (count_by-le-length p xs)
+
+all_pass : {X : Type 0} (p : X → Bool) (xs : List X) → length (filter p xs) ≡ length xs → list_all p xs ≡ true
+all_pass p [] e = refl
+all_pass p (x ∷ xs) e = by (p x) (all_pass p xs) (few p xs) e
+  where
+    by : (b : Bool) → (length (filter p xs) ≡ length xs → list_all p xs ≡ true) → length (filter p xs) ≤ length xs → length (cond b (x ∷ filter p xs) (filter p xs)) ≡ length (x ∷ xs) → (b && list_all p xs) ≡ true
+    by true rest less e = rest (omega arith)
+    by false rest less e = absurd (omega arith)
+
+pass_all : {X : Type 0} (p : X → Bool) (xs : List X) → list_all p xs ≡ true → length (filter p xs) ≡ length xs
+pass_all p [] e = refl
+pass_all p (x ∷ xs) e = by (p x) (pass_all p xs) e
+  where
+    by : (b : Bool) → (list_all p xs ≡ true → length (filter p xs) ≡ length xs) → (b && list_all p xs) ≡ true → length (cond b (x ∷ filter p xs) (filter p xs)) ≡ length (x ∷ xs)
+    by true rest e = ap suc (rest e)
+    by false rest e = cc
+
+-- all pass a test just where as many pass as there are
+pub all_counted : {X : Type 0} (p : X → Bool) (xs : List X) (n k : ℕ) → n ≡ length (filter p xs) → k ≡ length xs → nat_eq n k ≡ list_all p xs
+all_counted p xs n k passed there = both_ways (nat_eq n k) (list_all p xs)
+    (λ e. all_pass p xs (sym passed ∙ eqb-true n k e ∙ there))
+    (λ e. eq-eqb n k (passed ∙ pass_all p xs e ∙ sym there))

@@ -1,6 +1,6 @@
 -- A walk over the dots whose entries match a name.
-use Rattle.std.proofs.Common.{◌≡◌, ℕ, Bool, true, false, cond, ◌||◌, ◌&&◌, T, List, [], ◌∷◌, ◌++◌, map as map_list, filter, Option, Some, None, is_some, inl, inr, ◌↔◌, refl, sym, ap, subst, ◌∙◌}
-use Rattle.std.specs.List.{list_any, AllByRecursion}
+use Rattle.std.proofs.Common.{◌≡◌, ℕ, Bool, true, false, cond, ◌||◌, ◌&&◌, T, List, [], ◌∷◌, ◌++◌, map as map_list, filter, Option, Some, None, inl, inr, ◌↔◌, refl, sym, ap, subst, ◌∙◌}
+use Rattle.std.specs.List.{list_any, list_all, AllByRecursion}
 use Rattle.std.specs.List.Sorted.{IsStrictlySortedBy}
 use Rattle.std.specs.Cmp.{Equal-is}
 use Rattle.std.specs.Cmp.Lexicographic.{bytes_decides}
@@ -17,7 +17,7 @@ use Rattle.subscription_set.specs.Entries.{Entry, entry_eq, entry_eq-decides}
 use Rattle.subscription_set.specs.Standing.{Entries, find_entry, is_latest, latest, present, rises-present}
 use Rattle.subscription_set.specs.Indexing.{ByDot, MatchesName}
 use Rattle.subscription_set.proofs.Indexing.{found_any, in_found}
-use Rattle.subscription_set.proofs.Latest.{IsIn, any_filter, one_is_latest}
+use Rattle.subscription_set.proofs.Latest.{IsIn, all_at, any_filter, one_is_latest}
 
 tied : (d x : Dot) → eq_by_cmp dot_cmp d x ≡ true → d ≡ x
 tied d x t = dot_cmp_antisym d x ((Equal-is (dot_cmp d x)).0 t)
@@ -113,6 +113,10 @@ module _ (m : ByDot) where
 
   pub walk_pass : (s t : List Dot) (d : Dot) (e : Entry) → s ≡ d ∷ t → map.get m d ≡ Some e → is_latest (map.entries m) (d, e) ≡ false → latest_at s ≡ latest_at t
   walk_pass s t d e step is l = walk_some s t d e step is ∙ ap (λ b. cond b ((d, e) ∷ latest_at t) (latest_at t)) l
+
+  -- where all are the latest, so is the one at a dot
+  pub latest_of_all : list_all (is_latest (map.entries m)) (map.entries m) ≡ true → (d : Dot) (e : Entry) → map.get m d ≡ Some e → is_latest (map.entries m) (d, e) ≡ true
+  latest_of_all all d e is = all_at (is_latest (map.entries m)) (map.entries m) (d, e) all (in_found (map.entries m) d e (sym (map.get-entries m d) ∙ is))
 
   below_at : (d : Dot) (ds : List Dot) → AllByRecursion (λ y. dot_cmp d y ≡ Less) ds → T (below_all dot_cmp d (map_list (λ q. (q, map.get m q)) ds))
   below_at d [] h = tt

@@ -1,6 +1,6 @@
 //! What stands of a client, and what is live.
 ghost use Rattle.std.specs.Prelude.{◌≡◌, ◌&&◌, [], IfOk, IsOk, OnErr, true, map as map_list};
-ghost use Rattle.std.specs.List.{filter, list_any};
+ghost use Rattle.std.specs.List.{filter, list_all, list_any};
 ghost use Rattle.std.specs.Map.Iter.{deref_pair};
 ghost use Rattle.std.specs.Option.{option_copied};
 ghost use Rattle.std.specs.FinMap as map;
@@ -198,6 +198,13 @@ pub fn latest_of<'a>(
     Ok(out)
 }
 
+// Whether each entry is the latest of its client and filter. They are counted, and none is looked at.
+fn are_all_latest(entries: &EntryMap) -> bool
+    ensures { result ≡ list_all (is_latest (map.entries entries.now)) (map.entries entries.now) }
+{
+    entries.live() == entries.len()
+}
+
 /// The latest entries of each client and filter whose filter matches the name, rising by their dots. Only these take memory.
 pub fn latest_matching<'a>(
     alloc: Global,
@@ -210,12 +217,13 @@ pub fn latest_matching<'a>(
         (map_list (λ x. x.1) (latest (map.entries entries.now))) [] → IsOk result }
 {
     let dots = entries.matching(name)?;
+    let all_latest = are_all_latest(entries);
     let mut out = Vec::new(alloc);
     for dot in dots.iter() {
         let Some(entry) = entries.get(*dot) else {
             continue;
         };
-        if is_the_latest(entries, *dot, entry) {
+        if all_latest || is_the_latest(entries, *dot, entry) {
             out.push(entry)?;
         }
     }
