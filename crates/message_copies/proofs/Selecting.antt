@@ -1,8 +1,14 @@
 -- What is selected of what is live.
-use Rattle.std.proofs.Common.{◌≡◌, Bool, true, false, cond, List, [], ◌∷◌, ◌++◌, map, filter, length, Bor, inl, inr, refl, sym, ap, subst, ◌∙◌, arith}
+use Rattle.std.proofs.Common.{◌≡◌, List, [], ◌∷◌, length, ℕ, ◌<◌, Result, Ok, Err, OnErr, IsOk, Bor, inl, inr, refl, sym, ap, subst, ◌∙◌, arith}
+use Rattle.mqtt_message.specs.declared.message.Message.{Message}
+use Rattle.subscription_set.specs.Entries.{Entry}
+use Rattle.subscription_set.specs.Standing.{Entries}
+use Rattle.message_copies.specs.declared.plain.PlainCopy.{PlainCopy}
+use Rattle.message_copies.specs.declared.groups.GroupPick.{GroupPick}
+use Rattle.message_copies.specs.Copies.{AreCopies, AreCopiesAmong, AreLive, Counts, IsFor, entries_in}
+use Rattle.message_copies.specs.Picks.{ArePicks, ArePicksAmong, IsSharedFor}
 use Rattle.message_copies.specs.Tables.{referents}
 use Rattle.filter_trie.specs.Selected.{IsSelected}
-use Rattle.filter_trie.proofs.Selecting.{Follows, follows_with, follows_without, none_here, none_later}
 
 module _ {A : Type 0} (P : A → Type 0) where
   pub selected_once : (xs out other : List A) → IsSelected P xs out → IsSelected P xs other → out ≡ other
@@ -11,12 +17,6 @@ module _ {A : Type 0} (P : A → Type 0) where
   selected_once (x ∷ xs) out other (inl a) (inr b) = absurd (b.0 a.0)
   selected_once (x ∷ xs) out other (inr a) (inl b) = absurd (a.0 b.0)
   selected_once (x ∷ xs) out other (inr a) (inr b) = selected_once xs out other a.1 b.1
-
--- where nothing has a property, nothing has a narrower one
-pub none_narrower : {A : Type 0} (P Q : A → Type 0) → ((x : A) → Q x → P x) → (xs : List A) → IsSelected P xs [] → IsSelected Q xs []
-none_narrower P Q f [] h = refl
-none_narrower P Q f (x ∷ xs) (inl h) = absurd (let e = h.1.1 in cc)
-none_narrower P Q f (x ∷ xs) (inr h) = inr ((λ q. h.0 (f x q)), none_narrower P Q f xs h.1)
 
 pub no_referents : {X : Type 0} (rs : List (Bor X)) → length rs ≡ 0 → referents rs ≡ []
 no_referents [] e = refl
@@ -34,3 +34,20 @@ selected_within P Q f (x ∷ xs) ys zs (inl h) g = elim (subst (λ l. IsSelected
   | inr k ↦ inr (k.0, selected_within P Q f xs h.1.0 zs h.1.2 k.1)
 ]
 selected_within P Q f (x ∷ xs) ys zs (inr h) g = inr ((λ q. h.0 (f x q)), selected_within P Q f xs ys zs h.1 g)
+
+-- copies among what was found are copies by what is live
+pub copies_found : (live : Entries) (m : Message) (found : List Entry) (out : List PlainCopy) → AreLive (IsFor m) live found → AreCopiesAmong found m out → AreCopies live m out
+copies_found live m found out h a = (a.0, selected_within (IsFor m) (Counts m) (λ e k. k.0.1) (entries_in live) found a.0 h a.1, a.2)
+
+-- and so are picks
+pub picks_found : (turn : ℕ) (live : Entries) (m : Message) (found : List Entry) (out : List GroupPick) → AreLive (IsFor m) live found → ArePicksAmong turn found m out → ArePicks turn live m out
+picks_found turn live m found out h a = (a.0, selected_within (IsFor m) (IsSharedFor m) (λ e k. k.1) (entries_in live) found a.0 h a.1, a.2)
+
+-- where nothing that is live matches, nothing is found
+pub nothing_found : (live : Entries) (m : Message) (rs : List (Bor Entry)) → AreLive (IsFor m) live (referents rs) → AreLive (IsFor m) live [] → length rs ≡ 0
+nothing_found live m rs h none = no_references rs (selected_once (IsFor m) (entries_in live) (referents rs) [] h none)
+
+-- what fails only where there is something doesn't fail where there is nothing
+pub is_ok_of_none : {T E : Type 0} (n : ℕ) (r : Result T E) → n ≡ 0 → OnErr r (0 < n) → IsOk r
+is_ok_of_none n (Ok x) none h = refl
+is_ok_of_none n (Err e) none h = absurd (omega (arith, none, h))

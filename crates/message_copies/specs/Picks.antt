@@ -3,6 +3,7 @@ use Rattle.std.specs.Prelude.{◌≡◌, ℕ, ◌%◌, List, [], ◌∷◌, leng
 use Rattle.std.specs.List.{flat_map}
 use Rattle.mqtt_message.specs.declared.message.Message.{Message}
 use Rattle.mqtt_topics.specs.Topics.{IsShared}
+use Rattle.filter_trie.specs.Selected.{IsSelected}
 use Rattle.subscription_set.specs.Entries.{Entry}
 use Rattle.subscription_set.specs.Standing.{Entries}
 use Rattle.message_copies.specs.declared.groups.GroupPick.{GroupPick}
@@ -26,6 +27,10 @@ pick_of m (Some x) = pick_by m x.0 x.1
 -- of a group's members, in the order of their clients' bytes, the one in the place `turn mod size`
 abbrev pub picked : ℕ → List Entry → Option (List ℕ × List Entry)
 picked turn es = slice_get (by_client es) (turn % length (by_client es))
+
+-- one pick for each group with one of some subscriptions that is shared and matches, in the order of the groups
+abbrev pub ArePicksAmong : ℕ → List Entry → Message → List GroupPick → Type 0
+ArePicksAmong turn found m out = (shared : List Entry) × IsSelected (IsSharedFor m) found shared × (out ≡ flat_map (λ g. pick_of m (picked turn g.1)) (by_group shared))
 
 -- one pick for each group with a live subscription that matches, in the order of the groups' names and then of their filters
 abbrev pub ArePicks : ℕ → Entries → Message → List GroupPick → Type 0

@@ -1,17 +1,17 @@
 //! Picks of shared groups.
 
-ghost use Rattle.std.specs.Prelude.{◌≡◌, [], slice_get, IfOk, IsOk};
+ghost use Rattle.std.specs.Prelude.{◌≡◌, ◌<◌, [], length, slice_get, IfOk, IsOk, OnErr};
 ghost use Rattle.std.specs.List.{flat_map};
 ghost use Rattle.std.specs.Option.{option_map, option_to_list};
 ghost use Rattle.subscription_set.specs.Standing.{live};
 ghost use Rattle.message_copies.specs.Copies.{AreLive, IsFor};
 ghost use Rattle.message_copies.specs.Gathered.{by_group};
-ghost use Rattle.message_copies.specs.Picks.{ArePicks, pick_by, pick_of, picked};
+ghost use Rattle.message_copies.specs.Picks.{ArePicks, ArePicksAmong, pick_by, pick_of, picked};
 ghost use Rattle.message_copies.specs.Tables.{referents, shown};
 
 use crate::deliveries::copy_for;
 use crate::gathered::{by_client, by_group};
-use crate::selected::shared;
+use crate::selected::{found, shared_among};
 use mqtt_fields::{NoMemory, Text};
 use mqtt_message::{Delivery, SharedMessage};
 use mqtt_topics::Filter;
@@ -100,6 +100,23 @@ fn picks_of(
     Ok(out)
 }
 
+/// One pick for each group with a shared subscription, among these that match. Only these take memory.
+pub fn picks_among(
+    alloc: Global,
+    message: &SharedMessage,
+    found: &[&Entry],
+    turn: u64,
+) -> Result<Vec<GroupPick>, NoMemory>
+    ensures picks { IfOk result (λ out. ArePicksAmong turn (referents found.now) message.now out.items) }
+    ensures memory { OnErr result (0 < length found.now) }
+{
+    if found.is_empty() {
+        return Ok(Vec::new(alloc));
+    }
+    let shared = shared_among(alloc, found, message.message())?;
+    picks_of(alloc, message, shared.as_slice(), turn)
+}
+
 /// One pick for each shared group with a live subscription that matches the message, in the order of the share names and
 /// then of the filters: of the group's clients, in the order of their bytes, the one in the place `turn` modulo their
 /// number, with its copy by its own subscription (MQTT 5.0, 4.8.2). It takes memory only where a live
@@ -113,9 +130,6 @@ pub fn picks(
     ensures picks { IfOk result (λ out. ArePicks turn (live subscriptions.now) message.now out.items) }
     ensures none { AreLive (IsFor message.now) (live subscriptions.now) [] → IsOk result }
 {
-    let shared = shared(alloc, subscriptions, message.message())?;
-    if shared.is_empty() {
-        return Ok(Vec::new(alloc));
-    }
-    picks_of(alloc, message, shared.as_slice(), turn)
+    let found = found(subscriptions, message)?;
+    picks_among(alloc, message, found.as_slice(), turn)
 }

@@ -1,14 +1,14 @@
 //! Copies of a message by plain subscriptions.
 
-ghost use Rattle.std.specs.Prelude.{◌≡◌, [], map as map_list, IfOk, IsOk};
+ghost use Rattle.std.specs.Prelude.{◌≡◌, ◌<◌, [], length, map as map_list, IfOk, IsOk, OnErr};
 ghost use Rattle.subscription_set.specs.Standing.{live};
-ghost use Rattle.message_copies.specs.Copies.{AreCopies, AreLive, IsFor, plain_copy};
+ghost use Rattle.message_copies.specs.Copies.{AreCopies, AreCopiesAmong, AreLive, IsFor, plain_copy};
 ghost use Rattle.message_copies.specs.Gathered.{by_client};
 ghost use Rattle.message_copies.specs.Tables.{referents};
 
 use crate::deliveries::copy_for;
 use crate::gathered::by_client;
-use crate::selected::counted;
+use crate::selected::{counted_among, found};
 use mqtt_fields::{NoMemory, Text};
 use mqtt_message::{Delivery, SharedMessage};
 use std::alloc::Global;
@@ -39,6 +39,22 @@ fn copies_of(
     Ok(out)
 }
 
+/// One copy for each client with a plain subscription that counts, among these that match. Only these take memory.
+pub fn copies_among(
+    alloc: Global,
+    message: &SharedMessage,
+    found: &[&Entry],
+) -> Result<Vec<PlainCopy>, NoMemory>
+    ensures copies { IfOk result (λ out. AreCopiesAmong (referents found.now) message.now out.items) }
+    ensures memory { OnErr result (0 < length found.now) }
+{
+    if found.is_empty() {
+        return Ok(Vec::new(alloc));
+    }
+    let counted = counted_among(alloc, found, message.message())?;
+    copies_of(alloc, message, counted.as_slice())
+}
+
 /// One copy of a message for each client with a live plain subscription that counts, in the order of the clients' bytes: at
 /// the greatest QoS granted, but at most the message's; with the message's RETAIN where one of them has Retain As
 /// Published; with all their identifiers (MQTT 5.0, 3.3.1.3, 3.3.4). No Local leaves out the publisher's own. It takes
@@ -51,9 +67,6 @@ pub fn copies(
     ensures copies { IfOk result (λ out. AreCopies (live subscriptions.now) message.now out.items) }
     ensures none { AreLive (IsFor message.now) (live subscriptions.now) [] → IsOk result }
 {
-    let counted = counted(alloc, subscriptions, message.message())?;
-    if counted.is_empty() {
-        return Ok(Vec::new(alloc));
-    }
-    copies_of(alloc, message, counted.as_slice())
+    let found = found(subscriptions, message)?;
+    copies_among(alloc, message, found.as_slice())
 }

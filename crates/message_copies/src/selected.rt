@@ -1,13 +1,14 @@
 //! The live subscriptions that a message is for.
 
 ghost use Rattle.std.specs.Prelude.{◌↔◌, [], IfOk, IsOk, IsTrue};
+ghost use Rattle.filter_trie.specs.Selected.{IsSelected};
 ghost use Rattle.message_copies.specs.Copies.{AreLive, Counts, IsFor};
 ghost use Rattle.message_copies.specs.Picks.{IsSharedFor};
 ghost use Rattle.message_copies.specs.Tables.{referents};
 ghost use Rattle.subscription_set.specs.Standing.{live};
 
 use mqtt_fields::NoMemory;
-use mqtt_message::Message;
+use mqtt_message::{Message, SharedMessage};
 use std::alloc::Global;
 use subscription_set::{Entry, SubscriptionSet};
 
@@ -28,19 +29,29 @@ fn is_shared_for(message: &Message, entry: &Entry) -> bool
     entry.filter().group().is_some() && entry.filter().matches(&message.topic)
 }
 
-/// The live plain subscriptions that count. It takes memory only where a live subscription matches.
-pub fn counted<'a>(
-    alloc: Global,
+/// The live subscriptions that match. Only these take memory.
+pub fn found<'a>(
     subscriptions: &'a SubscriptionSet,
-    message: &Message,
+    message: &SharedMessage,
 ) -> Result<Vec<&'a Entry>, NoMemory>
-    ensures selected { IfOk result (λ out.
-        AreLive (Counts message.now) (live subscriptions.now) (referents out.items)) }
+    ensures found { IfOk result (λ out.
+        AreLive (IsFor message.now) (live subscriptions.now) (referents out.items)) }
     ensures none { AreLive (IsFor message.now) (live subscriptions.now) [] → IsOk result }
 {
-    let found = subscriptions.matching(&message.topic)?;
+    subscriptions.matching(&message.message().topic)
+}
+
+/// Those of the subscriptions that are plain and count.
+pub fn counted_among<'a>(
+    alloc: Global,
+    found: &[&'a Entry],
+    message: &Message,
+) -> Result<Vec<&'a Entry>, NoMemory>
+    ensures { IfOk result (λ out.
+        IsSelected (Counts message.now) (referents found.now) (referents out.items)) }
+{
     let mut out = Vec::new(alloc);
-    for entry in &found {
+    for entry in found {
         if counts(message, *entry) {
             out.push(*entry)?;
         }
@@ -48,19 +59,17 @@ pub fn counted<'a>(
     Ok(out)
 }
 
-/// The live shared subscriptions that match. It takes memory only where a live subscription matches.
-pub fn shared<'a>(
+/// Those of the subscriptions that are shared and match.
+pub fn shared_among<'a>(
     alloc: Global,
-    subscriptions: &'a SubscriptionSet,
+    found: &[&'a Entry],
     message: &Message,
 ) -> Result<Vec<&'a Entry>, NoMemory>
-    ensures selected { IfOk result (λ out.
-        AreLive (IsSharedFor message.now) (live subscriptions.now) (referents out.items)) }
-    ensures none { AreLive (IsFor message.now) (live subscriptions.now) [] → IsOk result }
+    ensures { IfOk result (λ out.
+        IsSelected (IsSharedFor message.now) (referents found.now) (referents out.items)) }
 {
-    let found = subscriptions.matching(&message.topic)?;
     let mut out = Vec::new(alloc);
-    for entry in &found {
+    for entry in found {
         if is_shared_for(message, *entry) {
             out.push(*entry)?;
         }

@@ -1,0 +1,39 @@
+//! Copies and picks at once.
+
+ghost use Rattle.std.specs.Prelude.{[], IfOk, IsOk};
+ghost use Rattle.subscription_set.specs.Standing.{live};
+ghost use Rattle.message_copies.specs.Copies.{AreCopies, AreLive, IsFor};
+ghost use Rattle.message_copies.specs.Picks.{ArePicks};
+
+use crate::groups::{GroupPick, picks_among};
+use crate::plain::{PlainCopy, copies_among};
+use crate::selected::found;
+use mqtt_fields::NoMemory;
+use mqtt_message::SharedMessage;
+use std::alloc::Global;
+use subscription_set::SubscriptionSet;
+
+/// Whom a message is for: the copies by plain subscriptions, and the picks of shared groups.
+#[derive(Drop)]
+pub struct CopiesAndPicks {
+    pub copies: Vec<PlainCopy>,
+    pub picks: Vec<GroupPick>,
+}
+
+/// What `copies` and `picks` give, with the live subscriptions that match found once (MQTT 5.0, 3.3.4 and 4.8.2). It takes
+/// memory only where a live subscription matches; a copy with more than 65,535 identifiers counts as want of memory.
+pub fn copies_and_picks(
+    alloc: Global,
+    subscriptions: &SubscriptionSet,
+    message: &SharedMessage,
+    turn: u64,
+) -> Result<CopiesAndPicks, NoMemory>
+    ensures copies { IfOk result (λ out. AreCopies (live subscriptions.now) message.now out.copies.items) }
+    ensures picks { IfOk result (λ out. ArePicks turn (live subscriptions.now) message.now out.picks.items) }
+    ensures none { AreLive (IsFor message.now) (live subscriptions.now) [] → IsOk result }
+{
+    let found = found(subscriptions, message)?;
+    let copies = copies_among(alloc, message, found.as_slice())?;
+    let picks = picks_among(alloc, message, found.as_slice(), turn)?;
+    Ok(CopiesAndPicks { copies, picks })
+}
