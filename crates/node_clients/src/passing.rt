@@ -10,7 +10,7 @@ ghost use Rattle.node_work.specs.Working.{Comes, Each, Looks};
 ghost use Rattle.node_work.specs.declared.fault.NodeFault.TheVariants.{NoMemory};
 ghost use Rattle.home_table.specs.Homes.{IsHome};
 
-use message_copies::{GroupPick, PlainCopy, copies, picks};
+use message_copies::{CopiesAndPicks, GroupPick, PlainCopy, copies_and_picks};
 use message_routes::Destinations;
 use mqtt_fields::Text;
 use mqtt_message::{Message, SharedMessage};
@@ -135,8 +135,11 @@ fn made_of(work: &Work, message: &SharedMessage) -> Result<Made, NodeFault>
 {
     let held = work.held();
     let subscriptions = held.store().subscriptions();
-    let plain = copies(work.alloc(), subscriptions, message)?;
-    let picks = picks(work.alloc(), subscriptions, message, held.turn())?;
+    let both = copies_and_picks(work.alloc(), subscriptions, message, held.turn())?;
+    let CopiesAndPicks {
+        copies: plain,
+        picks,
+    } = both;
     let to = destinations_of(work, &plain, &picks)?;
     let homed = homed_of(work, picks)?;
     let count = homed.len();

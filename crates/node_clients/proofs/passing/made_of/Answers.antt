@@ -8,8 +8,8 @@ use Rattle.node_clients.proofs.passing.made_of.Goals as goal
 pub returns-clause-ok : goal.returns-clause-ok
 returns-clause-ok c =
     let p = c.args.work.now.place in
-    let plain = c.in_ok-plain.plain in
-    let picks = c.in_ok-picks.picks in
+    let plain = c.in_ok-both.both.copies in
+    let picks = c.in_ok-both.both.picks in
     let homed = c.in_ok-homed.homed in
     let to = c.in_ok-to.to in
     let few : length plain.items < 2 ^ 63 = omega (arith, plain.ok.0, plain.ok.1, plain.small) in
