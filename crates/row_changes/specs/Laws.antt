@@ -3,8 +3,8 @@ use Rattle.std.specs.Prelude.{◌≡◌, ℕ, Bool, List, ◌++◌}
 use Rattle.std.specs.FinMap.{get}
 use Rattle.row_store.specs.declared.row.Change.{Change}
 use Rattle.row_store.specs.Rows.{Key, Content, after_all}
-use Rattle.row_changes.specs.Leading.{Rows, or_else, left_by, left_or, Lead, LeadWithin}
-use Rattle.row_changes.specs.Gathered.{LeaveAlike}
+use Rattle.row_changes.specs.Leading.{Rows, or_else, left_by, left_or, Lead, LeadWithin, Begin, Differ}
+use Rattle.row_changes.specs.Gathered.{LeaveAlike, Settle}
 
 -- what a store of rows has at each key after changes
 abbrev pub ChangesLeave : Type 0
@@ -34,3 +34,11 @@ AlikeLeadAlike = (old new : Rows) (these those : List Change) → LeaveAlike the
 
 abbrev pub AlikeLeadAlikeWithin : Type 0
 AlikeLeadAlikeWithin = (mine : ℕ → Bool) (old new : Rows) (these those : List Change) → LeaveAlike these those → LeadWithin mine old new those → LeadWithin mine old new these
+
+-- changes that begin with what was there, after others that do
+abbrev pub BeginOn : Type 0
+BeginOn = (kind : ℕ) (a b : Rows) (xs ys : List Change) → ((key : Key) → key.0 ≡ kind → b key ≡ left_or (left_by xs key) (a key)) → Begin kind a xs → Begin kind b ys → Begin kind a (xs ++ ys)
+
+-- what settles changes that begin with what was there leads the same way, and names a row of the kind only where it changes
+abbrev pub SettledLead : Type 0
+SettledLead = (kind : ℕ) (old new : Rows) (these those : List Change) → Settle kind these those → Begin kind old those → Lead old new those → Lead old new these × Differ kind old these

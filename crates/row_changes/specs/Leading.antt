@@ -1,5 +1,5 @@
 -- What changes leave of rows, told key by key.
-use Rattle.std.specs.Prelude.{◌≡◌, ℕ, Bool, true, false, cond, List, [], ◌∷◌, Option, Some, None}
+use Rattle.std.specs.Prelude.{◌≡◌, ◌≢◌, ◌==◌, ℕ, Bool, true, false, cond, List, [], ◌∷◌, Option, Some, None, IfSome}
 use Rattle.std.specs.Ordering.{eq_by_cmp}
 use Rattle.row_store.specs.declared.row.Change.{Change}
 use Rattle.row_store.specs.declared.row.Change.TheVariants.{Put, Remove}
@@ -30,6 +30,11 @@ abbrev pub left_by : List Change → Key → Option (Option (List ℕ))
 left_by [] key = None
 left_by (change ∷ more) key = or_else (left_by more key) (left_by_one change key)
 
+-- what the first of them leaves there
+abbrev pub first_by : List Change → Key → Option (Option (List ℕ))
+first_by [] key = None
+first_by (change ∷ more) key = or_else (left_by_one change key) (first_by more key)
+
 -- a row after that
 abbrev pub left_or : Option (Option (List ℕ)) → Option (List ℕ) → Option (List ℕ)
 left_or None before = before
@@ -43,3 +48,11 @@ Lead old new changes = (key : Key) → new key ≡ left_or (left_by changes key)
 pub record LeadWithin (mine : ℕ → Bool) (old new : Rows) (changes : List Change) : Type 0 where
   pub own : (key : Key) → mine key.0 ≡ true → new key ≡ left_or (left_by changes key) (old key)
   pub others : (key : Key) → mine key.0 ≡ false → left_by changes key ≡ None
+
+-- the changes of rows of a kind begin with what was there: at each key the first one leaves the old row
+abbrev pub Begin : ℕ → Rows → List Change → Type 0
+Begin kind old changes = (key : Key) → key.0 ≡ kind → IfSome (first_by changes key) (λ left. left ≡ old key)
+
+-- a row of a kind is named only where it changes
+abbrev pub Differ : ℕ → Rows → List Change → Type 0
+Differ kind old changes = (key : Key) → key.0 ≡ kind → IfSome (left_by changes key) (λ left. left ≢ old key)
