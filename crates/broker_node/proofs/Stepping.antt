@@ -11,10 +11,11 @@ use Rattle.node_work.specs.Acts.{Act, Moment, Runs, gather, heard_in, merge_in, 
 use Rattle.node_work.specs.View.{Place, HeldView, WorkView, NodeView, up_of}
 use Rattle.node_work.specs.Lasting.{CanLast, held_row}
 use Rattle.node_work.specs.Working.{Did, Comes, Doing}
-use Rattle.row_changes.specs.Gathered.{AreOnce, LeaveAlike}
-use Rattle.row_changes.specs.Leading.{Lead}
-use Rattle.row_changes.proofs.Leaving.{alike_lead_alike}
+use Rattle.row_changes.specs.Gathered.{AreOnce, Settle}
+use Rattle.row_changes.specs.Leading.{Lead, Begin, Differ}
+use Rattle.row_changes.proofs.Leaving.{settled_lead}
 use Rattle.row_store.specs.declared.row.Change.{Change}
+use Rattle.session_table.specs.Rows.{own_kind}
 use Rattle.broker_node.specs.declared.event.Event.{Event}
 use Rattle.broker_node.specs.Idle.{IsIdle, Keeps, Rests, RestsWhereIdle}
 use Rattle.broker_node.specs.Step.{IsDone, IsAtEnd, IsHeard, HasCause, HasCauseAt, Settles, begun, brought}
@@ -60,9 +61,9 @@ begun_idle : (w start : WorkView) (e : Event) → start ≡ begun w → IsIdle w
 begun_idle w start e is i = subst (λ (v : WorkView). IsIdle v.place v.held e) (sym is) i
 
 pub settles : (e : Event) (r : Result Outcome NodeFault) (w start last w' : WorkView) → start ≡ begun w → Did start last (Decides e (Some tt)) → IfOk r (λ o. o.outputs.items ≡ last.outputs) → IfOk r (λ o. AreOnce o.changes.items)
-    → IfOk r (λ o. LeaveAlike o.changes.items last.changes) → CanLast last.held → w' ≡ begun last → IfOk r (λ o. Settles w e o w')
-settles e (Ok o) w start last w' is d given once alike lasts rest = record { last = last; did = subst (λ (v : WorkView). Did v last (Decides e (Some tt))) is d; given = given; once = once; alike = alike; lasts = lasts; rest = rest }
-settles e (Err f) w start last w' is d given once alike lasts rest = tt
+    → IfOk r (λ o. Settle own_kind o.changes.items last.changes) → CanLast last.held → w' ≡ begun last → IfOk r (λ o. Settles w e o w')
+settles e (Ok o) w start last w' is d given once settled lasts rest = record { last = last; did = subst (λ (v : WorkView). Did v last (Decides e (Some tt))) is d; given = given; once = once; settled = settled; lasts = lasts; rest = rest }
+settles e (Err f) w start last w' is d given once settled lasts rest = tt
 
 pub settled_idle : (e : Event) (r : Result Outcome NodeFault) (w start last : WorkView) → start ≡ begun w → (e.at < 2 ^ 62 → IsIdle start.place start.held e → Keeps (Ok tt) start last) → IfOk r (λ o. o.outputs.items ≡ last.outputs)
     → (last.changes ≡ [] → IfOk r (λ o. o.changes.items ≡ []) × IsOk r) → e.at < 2 ^ 62 → IsIdle w.place w.held e → Rests r
@@ -119,6 +120,9 @@ module _ (n : NodeView) (place : Place) (w : WorkView) (stopped : Bool) (e : Eve
       let told : Lead (held_row w.place.id w.held) (held_row last.place.id last.held) last.changes = subst (λ (xs : List Change). Lead (held_row w.place.id w.held) (held_row last.place.id last.held) xs) (sym t.1) t.2 in
       let lead : Lead (held_row n.place.id w.held) (held_row n.place.id last.held) last.changes =
       here (λ p h. Lead (held_row p.id h) (held_row p.id last.held) last.changes) (subst (λ (p : Place). Lead (held_row w.place.id w.held) (held_row p.id last.held) last.changes) d.place told) in
+      let begun_told : Begin own_kind (held_row w.place.id w.held) last.changes = subst (λ (xs : List Change). Begin own_kind (held_row w.place.id w.held) xs) (sym t.1) t.3 in
+      let begins : Begin own_kind (held_row n.place.id w.held) last.changes = here (λ p h. Begin own_kind (held_row p.id h) last.changes) begun_told in
+      let final = settled_lead own_kind (held_row n.place.id w.held) (held_row n.place.id last.held) o.changes.items last.changes s.settled begins lead in
       record {
         before = w.held;
         after = last.held;
@@ -135,7 +139,8 @@ module _ (n : NodeView) (place : Place) (w : WorkView) (stopped : Bool) (e : Eve
         };
         once = s.once;
         lasts = s.lasts;
-        leads = alike_lead_alike (held_row n.place.id w.held) (held_row n.place.id last.held) o.changes.items last.changes s.alike lead;
+        leads = final.0;
+        differ = final.1;
       }
 
   pub not_at_end : IsTable place.homes → (o : Outcome) (w' : WorkView) → Settles w e o w' → IsAtEnd n e → ⊥

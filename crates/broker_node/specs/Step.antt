@@ -16,9 +16,10 @@ use Rattle.node_work.specs.Lasting.{CanLast, held_row}
 use Rattle.node_work.specs.View.{Place, HeldView, NodeView, WorkView}
 use Rattle.node_work.specs.Working.{Did}
 use Rattle.node_work.specs.declared.outcome.Outcome.{Outcome}
-use Rattle.row_changes.specs.Gathered.{AreOnce, LeaveAlike}
-use Rattle.row_changes.specs.Leading.{Lead}
+use Rattle.row_changes.specs.Gathered.{AreOnce, Settle}
+use Rattle.row_changes.specs.Leading.{Lead, Differ}
 use Rattle.row_store.specs.declared.row.Change.{Change}
+use Rattle.session_table.specs.Rows.{own_kind}
 use Rattle.broker_node.specs.declared.event.Event.{Event}
 use Rattle.broker_node.specs.declared.event.EventKind.{EventKind}
 use Rattle.broker_node.specs.declared.event.EventKind.TheVariants as kinds
@@ -62,7 +63,8 @@ pub record Steps (p : Place) (h : HeldView) (e : Event) (acts : List Act) (outpu
   pub merged : gather merge_in acts ≡ cond h.started (brought p e.kind) []
   pub heard : cond h.started (IsHeard p e.kind (gather heard_in acts)) (gather heard_in acts ≡ [])
 
--- a step of a node that runs, after which it runs; the changes lead from its rows before to those after, and name each once
+-- a step of a node that runs, after which it runs; the changes lead from its rows before to those after, and name each once, and a
+-- session's own row only where it changes
 pub record IsDone (n : NodeView) (e : Event) (outputs : List Output) (changes : List Change) (n' : NodeView) : Type 0 where
   pub before : HeldView
   pub after : HeldView
@@ -72,6 +74,7 @@ pub record IsDone (n : NodeView) (e : Event) (outputs : List Output) (changes : 
   pub steps : Steps n.place before e acts outputs after
   pub once : AreOnce changes
   pub leads : Lead (held_row n.place.id before) (held_row n.place.id after) changes
+  pub differ : Differ own_kind (held_row n.place.id before) changes
   pub lasts : CanLast after
 
 -- at the start of a step nothing was given out, and nothing told
@@ -84,7 +87,7 @@ pub record Settles (w : WorkView) (e : Event) (o : Outcome) (w' : WorkView) : Ty
   pub did : Did (begun w) last (Decides e (Some tt))
   pub given : o.outputs.items ≡ last.outputs
   pub once : AreOnce o.changes.items
-  pub alike : LeaveAlike o.changes.items last.changes
+  pub settled : Settle own_kind o.changes.items last.changes
   pub lasts : CanLast last.held
   pub rest : w' ≡ begun last
 

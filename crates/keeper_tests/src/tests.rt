@@ -5,7 +5,7 @@ use std::alloc::Global;
 use std::process::Abort;
 
 /// How many steps the client's path has.
-const STEPS: usize = 5;
+const STEPS: usize = 6;
 
 /// The steps before this one, which a node that was opened again takes anew: it starts, and the client connects.
 const AGAIN: usize = 2;
@@ -47,7 +47,8 @@ fn run(rt: &impl Abort, alloc: Global, refused: u64) -> u64 {
 
 #[test]
 fn a_refused_call_stops_the_node_until_it_is_opened_again(rt: HostRuntime) {
-    // An opening without rows loads, puts the mark and loads; each of the client's four steps puts its rows once.
+    // An opening without rows loads, puts the mark and loads; four of the client's steps put their rows once, and the one that
+    // changes nothing that lasts asks for nothing.
     for (refused, refusals) in (1..).zip([0, 0, 0, 1, 1, 1, 1, 0, 0]) {
         assert_eq!(rt; run(&rt, rt.alloc(), refused), refusals, "call {refused}");
     }

@@ -25,6 +25,9 @@ const SUBSCRIBE: &[u8] = &[0x82, 7, 0, 1, 0, 0, 1, 0x74, 0];
 /// PUBLISH of `on` to `t` with QoS 1 and RETAIN.
 const PUBLISH: &[u8] = &[0x33, 8, 0, 1, 0x74, 0, 7, 0, 0x6f, 0x6e];
 
+/// PUBLISH of `on` to `u` with QoS 2, and the PUBREL that ends the exchange: what lasts of the client's session is as before.
+const EXCHANGE: &[u8] = &[0x34, 8, 0, 1, 0x75, 0, 9, 0, 0x6f, 0x6e, 0x62, 2, 0, 9];
+
 /// A node, the moment of its last event, and the connection of its client.
 #[derive(Drop)]
 pub struct Trial {
@@ -113,6 +116,7 @@ impl Trial {
             1 => self.connect(rt),
             2 => self.send(rt, SUBSCRIBE),
             3 => self.send(rt, PUBLISH),
+            4 => self.send(rt, EXCHANGE),
             _ => self.handle(rt, EventKind::Closed { connection }),
         }
     }

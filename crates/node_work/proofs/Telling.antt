@@ -1,6 +1,6 @@
 -- Changes of rows, one part of a node's work after the other.
 use Rattle.std.proofs.Common.{◌≡◌, ◌≢◌, ℕ, Bool, true, false, cond, ◌||◌, List, [], ◌∷◌, ◌++◌, Option, Some, None, refl, sym, ap, subst, ◌∙◌, inl, inr, append_assoc, eqb→eq}
-use Rattle.std.specs.Prelude.{◌==◌, ◌⊎◌, T, option_map}
+use Rattle.std.specs.Prelude.{◌==◌, ◌⊎◌, T, IfSome, option_map}
 use Rattle.std.proofs.lemmas.Bool.{cases_Bool, false≢true}
 use Rattle.std.proofs.lemmas.List.{append-nil}
 use Rattle.std.specs.Cmp.{tied_itself}
@@ -9,16 +9,15 @@ use Rattle.std.specs.List.{AllByRecursion}
 use Rattle.std.specs.Ordering.{eq_by_cmp, is_eq}
 use Rattle.mqtt_sessions.specs.Saved.{durable_of}
 use Rattle.replica_store.specs.States.{State}
-use Rattle.row_changes.specs.Leading.{Rows, Lead, LeadWithin, left_by, left_by_one, left_or, or_else}
+use Rattle.row_changes.specs.Leading.{Rows, Lead, LeadWithin, Begin, first_by, left_by, left_by_one, left_or, or_else}
 use Rattle.row_changes.specs.Leading as leading
-use Rattle.row_changes.specs.Gathered.{LeaveAlike}
-use Rattle.row_changes.proofs.Leaving.{lead_on}
+use Rattle.row_changes.proofs.Leaving.{begin_on, lead_on}
 use Rattle.row_store.specs.declared.row.Row.{Row}
 use Rattle.row_store.specs.declared.row.Change.{Change}
 use Rattle.row_store.specs.declared.row.Change.TheVariants.{Put, Remove}
 use Rattle.row_store.specs.Rows.{Key, key_cmp, key_of}
 use Rattle.row_store.proofs.Keys.{exact_keys, equal_is, keys_total}
-use Rattle.session_table.specs.Rows.{LeadsOn, is_session_kind, row_in, seat_row}
+use Rattle.session_table.specs.Rows.{LeadsOn, is_session_kind, own_kind, row_in, seat_row}
 use Rattle.session_table.specs.Seats.{Seat, Seats}
 use Rattle.store_rows.specs.Changes.{AreChanges, IsNeeded, IsRight, key_in, names}
 use Rattle.store_rows.specs.Rows.{row_at}
@@ -31,14 +30,27 @@ use Rattle.node_work.specs.View.{HeldView, WorkView}
 
 -- nothing is told where nothing that lasts has changed
 pub tells_none : (w w' : WorkView) → w'.changes ≡ w.changes → work_row w' ≡ work_row w → Tells w w'
-tells_none w w' same rows = ([], same ∙ sym (append-nil w.changes), λ key. (λ i. rows i key))
+tells_none w w' same rows = ([], same ∙ sym (append-nil w.changes), (λ key. (λ i. rows i key)), (λ key own. tt))
 
 pub tells_then : (a b c : WorkView) → Tells a b → Tells b c → Tells a c
 tells_then a b c first second = (
   first.0 ++ second.0,
   second.1 ∙ ap (λ l. l ++ second.0) first.1 ∙ append_assoc a.changes first.0 second.0,
   lead_on (work_row a) (work_row b) (work_row c) first.0 second.0 first.2 second.2,
+  begin_on own_kind (work_row a) (work_row b) first.0 second.0 (λ key own. first.2 key) first.3 second.3,
 )
+
+-- ---- changes that name no session's own row begin with what was there
+or-none : (a b : Option (Option (List ℕ))) → or_else a b ≡ None → (a ≡ None) × (b ≡ None)
+or-none None b e = (refl, e)
+or-none (Some x) b e = absurd (let z : Some x ≡ None = e in cc)
+
+first-none : (cs : List Change) (key : Key) → left_by cs key ≡ None → first_by cs key ≡ None
+first-none [] key e = refl
+first-none (c ∷ cs) key e = let p = or-none (left_by cs key) (left_by_one c key) e in ap (λ l. or_else l (first_by cs key)) p.1 ∙ first-none cs key p.0
+
+begins-none : (cs : List Change) → ((key : Key) → key.0 ≡ own_kind → left_by cs key ≡ None) → (old : Rows) → Begin own_kind old cs
+begins-none cs none old key own = subst (λ (f : Option (Option (List ℕ))). IfSome f (λ left. left ≡ old key)) (sym (first-none cs key (none key own))) tt
 
 -- ---- rows of one part
 
@@ -104,12 +116,19 @@ module _ (id : ℕ) (h h' : HeldView) (own : List Change) where
       by false false true o s l = lead.own key l
       by false false false o s l = ap (λ t. row_at t key) store ∙ unsaid (left_by own key) _ (lead.others key l)
 
+-- a session's own row of a node is that of its table of sessions
+own-row : (id : ℕ) (h : HeldView) (key : Key) → key.0 ≡ own_kind → held_row id h key ≡ seat_row h.sessions key
+own-row id h key own = ap (λ n. row-of id h key (n == 1) (is_session_kind n) (is_lane_kind n)) own ∙ session-row (map.get h.sessions key.1.0) key
+
 pub sessions_tell : (id : ℕ) (h h' : HeldView) (s : Seats) (before after : List Change) → h' ≡ record h { sessions = s } → LeadsOn h.sessions before after h'.sessions → TellsOn (held_row id h) before after (held_row id h')
-sessions_tell id h h' s before after is l = (l.0, l.1, sessions-lead id h h' l.0 (ap (λ (v : HeldView). v.named) is) (ap (λ (v : HeldView). v.store) is) (ap (λ (v : HeldView). v.bridge.lanes) is) l.2)
+sessions_tell id h h' s before after is l = (l.0, l.1, sessions-lead id h h' l.0 (ap (λ (v : HeldView). v.named) is) (ap (λ (v : HeldView). v.store) is) (ap (λ (v : HeldView). v.bridge.lanes) is) l.2, begins)
+  where
+    begins : Begin own_kind (held_row id h) l.0
+    begins key own = subst (λ (o : Option (List ℕ)). IfSome (first_by l.0 key) (λ left. left ≡ o)) (sym (own-row id h key own)) (l.3 key own)
 
 -- lanes change, and what else is kept for other nodes
 pub lanes_tell : (id : ℕ) (h h' : HeldView) (before after : List Change) → h'.named ≡ h.named → h'.sessions ≡ h.sessions → h'.store ≡ h.store → LanesTell h.bridge.lanes before after h'.bridge.lanes → TellsOn (held_row id h) before after (held_row id h')
-lanes_tell id h h' before after named sessions store l = (l.0, l.1, lanes-lead id h h' l.0 named sessions store l.2)
+lanes_tell id h h' before after named sessions store l = (l.0, l.1, lanes-lead id h h' l.0 named sessions store l.2, begins-none l.0 (λ key own. l.2.others key (ap is_lane_kind own)) (held_row id h))
 
 -- ---- the mark
 itself : (key : Key) → eq_by_cmp key_cmp key key ≡ true
@@ -123,7 +142,7 @@ unmarked old new n (b ∷ owner) place e off = refl
 
 pub name_tells : (id : ℕ) (h h' : HeldView) (row : Row) (before after : List Change) → key_of row ≡ mark_key → row.value.items ≡ mark id h'.named → after ≡ before ++ Put row ∷ [] → h'.sessions ≡ h.sessions → h'.store ≡ h.store → h'.bridge.lanes ≡ h.bridge.lanes
     → TellsOn (held_row id h) before after (held_row id h')
-name_tells id h h' row before after named value is sessions store lanes = (Put row ∷ [], is, lead)
+name_tells id h h' row before after named value is sessions store lanes = (Put row ∷ [], is, lead, begins-none (Put row ∷ []) apart (held_row id h))
   where
     left : (key : Key) (b : Bool) → eq_by_cmp key_cmp key mark_key ≡ b → left_by (Put row ∷ []) key ≡ cond b (Some (Some (mark id h'.named))) None
     left key b e = ap (λ k. cond (eq_by_cmp key_cmp key k) (Some (Some row.value.items)) None) named ∙ (λ i. cond (e i) (Some (Some (value i))) None)
@@ -138,6 +157,12 @@ name_tells id h h' row before after named value is sessions store lanes = (Put r
     lead key = elim (cases_Bool (eq_by_cmp key_cmp key mark_key)) [
       | inl e ↦ ap (held_row id h') (exact_keys key mark_key (equal_is (key_cmp key mark_key) e)) ∙ ap (λ l. left_or l (held_row id h key)) (sym (left key true e))
       | inr e ↦ rest key (key.0 == 1) (is_session_kind key.0) (is_lane_kind key.0) refl e ∙ ap (λ l. left_or l (held_row id h key)) (sym (left key false e))
+    ]
+
+    apart : (key : Key) → key.0 ≡ own_kind → left_by (Put row ∷ []) key ≡ None
+    apart key own = elim (cases_Bool (eq_by_cmp key_cmp key mark_key)) [
+      | inl e ↦ absurd (let z : own_kind ≡ 1 = sym own ∙ ap (λ (k : Key). k.0) (exact_keys key mark_key (equal_is (key_cmp key mark_key) e)) in cc)
+      | inr e ↦ left key false e
     ]
 
 -- ---- the replicated state
@@ -224,7 +249,7 @@ lane-apart n e = elim (cases_Bool (n == 7)) [
 ]
 
 pub store_tells : (id : ℕ) (h h' : HeldView) (before after : List Change) → h'.named ≡ h.named → h'.sessions ≡ h.sessions → h'.bridge.lanes ≡ h.bridge.lanes → StoreTells h.store before after h'.store → TellsOn (held_row id h) before after (held_row id h')
-store_tells id h h' before after named sessions lanes told = (told.0, told.1, lead)
+store_tells id h h' before after named sessions lanes told = (told.0, told.1, lead, begins-none told.0 (λ key kind. told.2.others key (ap is_store_kind kind)) (held_row id h))
   where
     own : List Change
     own = told.0
@@ -241,11 +266,3 @@ store_tells id h h' before after named sessions lanes told = (told.0, told.1, le
           | inl e ↦ told.2.own key e
           | inr e ↦ no-row h'.store key e ∙ sym (no-row h.store key e) ∙ unsaid (left_by own key) _ (told.2.others key e)
         ]
-
--- ---- changes that leave what none leave are none
-itself-left : (c : Change) → left_by_one c (leading.key_in c) ≡ Some (leading.value_in c)
-itself-left c = ap (λ b. cond b (Some (leading.value_in c)) None) (itself (leading.key_in c))
-
-pub alike_none : (cs : List Change) → LeaveAlike cs [] → cs ≡ []
-alike_none [] alike = refl
-alike_none (c ∷ cs) alike = absurd (else-some (left_by cs (leading.key_in c)) (left_by_one c (leading.key_in c)) (λ _ n. (let z : None ≡ Some (leading.value_in c) = sym n ∙ itself-left c in cc)) (alike (leading.key_in c)))

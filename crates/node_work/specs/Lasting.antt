@@ -9,9 +9,10 @@ use Rattle.mqtt_sessions.specs.Saved.{durable_of}
 use Rattle.node_rows.specs.Reading.{AreOpened}
 use Rattle.node_rows.specs.Rows.{Lasting, node_row}
 use Rattle.replica_store.specs.States.{State}
-use Rattle.row_changes.specs.Leading.{Rows, Lead, LeadWithin}
+use Rattle.row_changes.specs.Leading.{Rows, Lead, LeadWithin, Begin}
 use Rattle.row_store.specs.declared.row.Change.{Change}
 use Rattle.session_rows.specs.Durable.{IsDurable}
+use Rattle.session_table.specs.Rows.{own_kind}
 use Rattle.session_table.specs.Seats.{Seat, Seats}
 use Rattle.store_rows.specs.Reading.{IsStore}
 use Rattle.store_rows.specs.Rows.{row_at}
@@ -41,9 +42,9 @@ IsWoken x h = (seats : Seats) × AreOpened x seats × (h ≡ woken x.named seats
 abbrev pub AreOpenedWith : LinksView → Lanes Forward → Type 0
 AreOpenedWith links lanes = (id : ℕ) × (nodes : ℕ) × (links ≡ opened_links id nodes lanes)
 
--- changes are appended that lead from the rows before to those after
+-- changes are appended that lead from the rows before to those after; those of a session's own row begin with what was there
 abbrev pub TellsOn : Rows → List Change → List Change → Rows → Type 0
-TellsOn old before after new = (own : List Change) × (after ≡ before ++ own) × Lead old new own
+TellsOn old before after new = (own : List Change) × (after ≡ before ++ own) × Lead old new own × Begin own_kind old own
 
 abbrev pub work_row : WorkView → Rows
 work_row w = held_row w.place.id w.held

@@ -19,12 +19,13 @@ ghost use Rattle.mqtt_sessions.specs.Answers.{fits};
 ghost use Rattle.node_work.specs.Held.Calling.{MayConnectHere, MayAnswer, Reacted};
 ghost use Rattle.mqtt_sessions.specs.Reaction.{AreSpelled};
 ghost use Rattle.session_table.specs.Calls.{IsSpelledIf, stays, leaves, moves};
+ghost use Rattle.session_table.specs.Rows.{own_kind};
 ghost use Rattle.node_work.specs.Held.Connections.{Opened, Accepted, Closed, is_open};
 ghost use Rattle.node_work.specs.Held.Feeding.{IsHeldFed};
 ghost use Rattle.node_work.specs.Held.Sessions.{Begun, Over, has_session, packet_output, last_of, outputs_on};
 ghost use Rattle.node_work.specs.Packets.{CameSpelled};
 ghost use Rattle.store_rows.specs.Reading.{IsStore};
-ghost use Rattle.row_changes.specs.Gathered.{AreOnce, LeaveAlike};
+ghost use Rattle.row_changes.specs.Gathered.{AreOnce, Settle};
 ghost use Rattle.message_copies.specs.declared.plain.PlainCopy.{PlainCopy as Copy};
 ghost use Rattle.node_work.specs.Passing.{IsPassed, turn_at_end};
 ghost use Rattle.node_work.specs.Lasting.{AreOpenedWith, CanLast};
@@ -57,6 +58,9 @@ use subscription_set::Entry;
 
 /// Moments stay below this, in milliseconds.
 const MOMENTS_END: u64 = 1 << 62;
+
+/// The kind of a session's own row.
+const SESSION: u8 = 2;
 
 /// Fewer messages than this are passed on.
 const TURNS_END: u64 = 1 << 62;
@@ -173,12 +177,12 @@ impl Work {
         self.held.can_last();
     }
 
-    /// Hands over what was given out, and the changes of the rows, of those at one row the last. It takes no memory where
-    /// there are no changes.
+    /// Hands over what was given out, and the changes of the rows: of those at one row the last, and none at a session's own row
+    /// where that leaves what the first one does. It takes no memory where there are no changes.
     pub fn finish(&mut self) -> Result<Outcome, NodeFault>
         ensures given { IfOk result (λ o. o.outputs.items ≡ self.old.outputs) }
         ensures once { IfOk result (λ o. AreOnce o.changes.items) }
-        ensures alike { IfOk result (λ o. LeaveAlike o.changes.items self.old.changes) }
+        ensures settled { IfOk result (λ o. Settle own_kind o.changes.items self.old.changes) }
         ensures rest { self.new ≡ record self.old { outputs = []; changes = [] } }
         ensures none { self.old.changes ≡ [] → IfOk result (λ o. o.changes.items ≡ []) × IsOk result }
         ensures fault { IfErr result (λ e. e ≡ NoMemory) }
@@ -186,7 +190,7 @@ impl Work {
         let alloc = self.alloc;
         let outputs = std::mem::replace(&mut self.outputs, Vec::new(alloc));
         let told = std::mem::replace(&mut self.changes, Vec::new(alloc));
-        let changes = gather(alloc, told)?;
+        let changes = gather(alloc, told, SESSION)?;
         Ok(Outcome { outputs, changes })
     }
 
