@@ -11,4 +11,4 @@ mod will;
 pub use copy::write_copy;
 pub use main_row::{MainRow, write_main};
 pub use session::{Opened, read_session};
-pub use told::{Told, copy_changes, own_change, rows};
+pub use told::{Told, copy_changes, own_change, own_left, rows};

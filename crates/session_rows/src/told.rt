@@ -10,7 +10,7 @@ ghost use Rattle.session_rows.specs.Changes as changes;
 ghost use Rattle.session_rows.specs.Changes.{copy_change, is_told, plain_of, untold};
 ghost use Rattle.session_rows.specs.Fields as fields;
 ghost use Rattle.session_rows.specs.Rows.{copy_key, copy_rows, main_key, row_at, rows_at};
-ghost use Rattle.std.specs.Prelude.{IfOk, Some, None};
+ghost use Rattle.std.specs.Prelude.{IfOk, Some, None, option_map};
 
 use crate::copy::write_copy;
 use crate::session::{COPY, SESSION};
@@ -19,6 +19,7 @@ use qos_handshakes::{Entry, Outgoing};
 use row_store::{Change, Row};
 use std::alloc::Global;
 use std::marker::Model;
+use std::mem;
 
 fn place_bytes(alloc: Global, place: u64) -> Result<Vec<u8>, NoMemory>
     ensures { IfOk result (λ bytes. bytes.items ≡ (number w64).bytes place) }
@@ -65,6 +66,23 @@ pub fn own_row(alloc: Global, client: &Text, value: &[u8]) -> Result<Row, NoMemo
         place: Vec::new(alloc),
         value: Vec::from_slice(alloc, value)?,
     })
+}
+
+/// The change that leaves this value of a session's own row, or no row.
+pub fn own_left(alloc: Global, client: &Text, value: Option<Vec<u8>>) -> Result<Change, NoMemory>
+    ensures { IfOk result (λ change. plain_of change ≡ (main_key client.now, option_map (λ v. v.items) value)) }
+{
+    let owner = owner_bytes(alloc, client)?;
+    let place = Vec::new(alloc);
+    match value {
+        Some(value) => Ok(Change::Put(Row {
+            kind: SESSION,
+            owner,
+            place,
+            value,
+        })),
+        None => Ok(Change::Remove(SESSION, owner, place)),
+    }
 }
 
 fn copy_removed(alloc: Global, client: &Text, place: u64) -> Result<Change, NoMemory>
@@ -114,11 +132,20 @@ impl Told {
         }
     }
 
-    /// Its own row has this value from now on.
-    pub fn tell(&mut self, value: Vec<u8>)
-        ensures { self.new ≡ record self.old { value = Some value.items } }
+    /// Its own row has this value from now on. The result is the value that was told before, if one was.
+    pub fn tell(&mut self, value: Vec<u8>) -> Option<Vec<u8>>
+        ensures told { self.new ≡ record self.old { value = Some value.items } }
+        ensures before { option_map (λ v. v.items) result ≡ self.old.value }
     {
-        self.value = Some(value);
+        mem::replace(&mut self.value, Some(value))
+    }
+
+    /// The value of its own row that was told; it has told none from now on.
+    pub fn take(&mut self) -> Option<Vec<u8>>
+        ensures told { self.new ≡ record self.old { value = None } }
+        ensures before { option_map (λ v. v.items) result ≡ self.old.value }
+    {
+        mem::replace(&mut self.value, None)
     }
 
     /// The next place from now on.
