@@ -25,6 +25,11 @@ abbrev pub own_removal : Option (List ℕ) → List ℕ → List Plain
 own_removal None client = []
 own_removal (Some value) client = (main_key client, None) ∷ []
 
+-- what was told last of it, if it was
+abbrev pub own_told : Option (List ℕ) → List ℕ → List Plain
+own_told None client = []
+own_told (Some value) client = (main_key client, Some value) ∷ []
+
 -- The rows that were told go: those of the copies that are there and of those touched that are gone, as no copy were left,
 -- and the session's own.
 abbrev pub removals_of : Told → List ℕ → Entries → List ℕ → List Plain
@@ -34,6 +39,10 @@ pub record Removes (s : Saved) (changes : List Change) : Type 0 where
   pub places : List ℕ
   pub listed : AreListed s.tracked.touched places
   pub named : map plain_of changes ≡ removals_of s.told s.tracked.state.kept.client s.tracked.state.outbox.copies places
+
+-- what goes before them
+abbrev pub removed_before : Saved → List Plain
+removed_before s = own_told s.told.value s.tracked.state.kept.client
 
 abbrev pub RemovesIf : {A : Type 0} → Option Saved → Result (Vec Change A) SessionFault → Type 0
 RemovesIf None (Ok changes) = ⊥

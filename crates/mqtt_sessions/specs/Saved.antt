@@ -1,5 +1,5 @@
 -- What outlives a session's connections as rows, and what was told of them.
-use Rattle.std.specs.Prelude.{◌≡◌, ℕ, Bool, true, false, map, List, [], Option, Some, None, is_some, Result, Ok, Err, Vec}
+use Rattle.std.specs.Prelude.{◌≡◌, ℕ, Bool, true, false, cond, map, List, [], ◌∷◌, ◌++◌, Option, Some, None, is_some, Result, Ok, Err, Vec}
 use Rattle.qos_handshakes.specs.Incoming.{identifiers_of, of_identifiers}
 use Rattle.qos_handshakes.specs.Outbox.{away}
 use Rattle.qos_handshakes.specs.Restored.{restored}
@@ -7,11 +7,11 @@ use Rattle.qos_handshakes.specs.Touched.{AreListed}
 use Rattle.row_store.specs.declared.row.Row.{Row}
 use Rattle.row_store.specs.declared.row.Change.{Change}
 use Rattle.row_store.specs.Rows.{entry_of}
-use Rattle.session_rows.specs.Changes.{Told, Follows, changes_of, plain_of, untold}
+use Rattle.session_rows.specs.Changes.{Plain, Told, Follows, changes_of, is_told, plain_of, untold}
 use Rattle.session_rows.specs.Durable.{Durable, IsDurable}
 use Rattle.session_rows.specs.declared.session.Opened.{Opened}
 use Rattle.session_rows.specs.Fields.{Main, main}
-use Rattle.session_rows.specs.Rows.{rows_of}
+use Rattle.session_rows.specs.Rows.{main_key, rows_of}
 use Rattle.mqtt_sessions.specs.declared.fault.SessionFault.{SessionFault}
 use Rattle.mqtt_sessions.specs.declared.fault.SessionFault.TheVariants.{NoMemory, NumbersAtEnd, Spent, BadRow}
 use Rattle.mqtt_sessions.specs.declared.kept.Phase.{Phase}
@@ -96,6 +96,18 @@ TellsIf None (Ok changes) new = ⊥
 TellsIf None (Err e) new = (e ≡ Spent) × (new ≡ None)
 TellsIf (Some old) (Ok changes) new = (after : Saved) × (new ≡ Some after) × Tells old changes.items after
 TellsIf (Some old) (Err e) new = (e ≡ NoMemory) × (new ≡ None)
+
+-- what was told last of its own row, as a change, unless its value was told
+abbrev pub own_before : Bool → List ℕ → Option (List ℕ) → List Plain
+own_before is_told client told = cond is_told [] ((main_key client, told) ∷ [])
+
+-- what goes before the changes: where they name its own row, what was told last of that
+abbrev pub told_before : Saved → List Plain
+told_before s = own_before (is_told s.told.value (main.bytes (main_of s.tracked.state))) s.tracked.state.kept.client s.told.value
+
+-- changes are appended, which are these
+abbrev pub Appends : List Plain → List Change → List Change → Type 0
+Appends these before after = (own : List Change) × (after ≡ before ++ own) × (map plain_of own ≡ these)
 
 -- the rows of a session
 abbrev pub ListsIf : {A : Type 0} → Option Saved → Result (Vec Row A) SessionFault → Type 0

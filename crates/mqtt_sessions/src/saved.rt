@@ -1,29 +1,26 @@
 //! A session, and what was told last of its rows.
 
-ghost use Rattle.std.specs.Prelude.{◌≡◌, ◌++◌, List, [], ℕ, map, None, Some, MatchOption, IfOk, OnOk};
+ghost use Rattle.std.specs.Prelude.{◌≡◌, ◌++◌, List, [], ℕ, map, None, Some, MatchOption, IfOk, OnOk, option_map};
 ghost use Rattle.row_store.specs.Rows as store;
 ghost use Rattle.qos_handshakes.specs.Touched.{AreListed};
 ghost use Rattle.session_rows.specs.Changes as changes;
 ghost use Rattle.session_rows.specs.Changes.{plain_of};
 ghost use Rattle.session_rows.specs.Durable.{IsMomentIf, IsPublishableIf};
 ghost use Rattle.session_rows.specs.Fields as fields;
-ghost use Rattle.session_rows.specs.Rows.{main_key, rows_of};
+ghost use Rattle.session_rows.specs.Rows.{rows_of};
 ghost use Rattle.qos_handshakes.specs.Entries.{at_place};
 ghost use Rattle.std.specs.Map.{keys_of};
-ghost use Rattle.mqtt_sessions.specs.Removed.{Removes, gone_at, gone_of, own_removal};
-ghost use Rattle.mqtt_sessions.specs.Saved.{Tells, begun_session, durable_of, main_of, told_of, tracked_in};
+ghost use Rattle.mqtt_sessions.specs.Removed.{Removes, gone_at, gone_of, own_removal, own_told, removed_before};
+ghost use Rattle.mqtt_sessions.specs.Saved.{Appends, Tells, begun_session, durable_of, main_of, own_before, told_before, told_of, tracked_in};
 
 use crate::kept::Kept;
 use crate::running::Running;
 use mqtt_fields::{NoMemory, Text};
 use qos_handshakes::Outgoing;
 use row_store::{Change, Row};
-use session_rows::{Opened, Told, copy_changes, own_change, rows, write_main};
+use session_rows::{Opened, Told, copy_changes, own_change, own_left, rows, write_main};
 use std::alloc::Global;
 use std::marker::Model;
-
-/// The kind of a session's own row.
-const SESSION: u8 = 2;
 
 impl Running {
     fn alloc(&self) -> Global {
@@ -91,15 +88,21 @@ fn all_places(alloc: Global, outgoing: &Outgoing, touched: &[u64]) -> Result<Vec
     Ok(all)
 }
 
-/// That the session's own row goes.
-fn own_removed(alloc: Global, client: &Text) -> Result<Change, NoMemory>
-    ensures { IfOk result (λ change. plain_of change ≡ (main_key client.now, None)) }
+/// Appends what was told last of a session's own row, unless its value was told.
+fn push_before(
+    alloc: Global,
+    client: &Text,
+    is_told: bool,
+    told: Option<Vec<u8>>,
+    before: &mut Vec<Change>,
+) -> Result<(), NoMemory>
+    ensures { OnOk result (Appends (own_before is_told client.now (option_map (λ v. v.items) told)) before.old.items before.new.items) }
 {
-    Ok(Change::Remove(
-        SESSION,
-        Vec::from_slice(alloc, client.as_str().as_bytes())?,
-        Vec::new(alloc),
-    ))
+    if is_told {
+        return Ok(());
+    }
+    before.push(own_left(alloc, client, told)?)?;
+    Ok(())
 }
 
 /// A session that isn't spent.
@@ -169,10 +172,11 @@ impl Live {
         Ok(Some(value))
     }
 
-    /// The change of its own row, if its value differs.
-    fn tell_own(&mut self) -> Result<Vec<Change>, NoMemory>
+    /// The change of its own row, if its value differs; what was told of it is appended to `before`.
+    fn tell_own(&mut self, before: &mut Vec<Change>) -> Result<Vec<Change>, NoMemory>
         ensures changes { IfOk result (λ all. map plain_of all.items ≡ changes.own_change self.old.told.value self.old.tracked.state.kept.client (fields.main.bytes (main_of self.old.tracked.state))) }
         ensures told { OnOk result (self.new ≡ record self.old { told = record self.old.told { value = Some (fields.main.bytes (main_of self.old.tracked.state)) } }) }
+        ensures before { OnOk result (Appends (told_before self.old) before.old.items before.new.items) }
     {
         let value = self.own_value()?;
         let alloc = self.running.alloc();
@@ -182,9 +186,10 @@ impl Live {
         let is_told = self.told.is_told(&value);
         let mut all = Vec::new(alloc);
         own_change(alloc, self.running.kept.client(), is_told, &value, &mut all)?;
-        self.told.tell(value);
+        let told = self.told.tell(value);
         self.has_row = true;
         self.stale = false;
+        push_before(alloc, self.running.kept.client(), is_told, told, before)?;
         Ok(all)
     }
 
@@ -207,10 +212,12 @@ impl Live {
         Ok(())
     }
 
-    pub(crate) fn changes(&mut self) -> Result<Vec<Change>, NoMemory>
-        ensures { IfOk result (λ changes. Tells self.old changes.items self.new) }
+    /// The changes since they were told last; what was told of its own row is appended to `before`, where they name it.
+    pub(crate) fn changes(&mut self, before: &mut Vec<Change>) -> Result<Vec<Change>, NoMemory>
+        ensures tells { IfOk result (λ changes. Tells self.old changes.items self.new) }
+        ensures before { OnOk result (Appends (told_before self.old) before.old.items before.new.items) }
     {
-        let mut all = self.tell_own()?;
+        let mut all = self.tell_own(before)?;
         self.tell_copies(&mut all)?;
         Ok(all)
     }
@@ -222,7 +229,26 @@ impl Live {
         if !self.has_row {
             return Ok(());
         }
-        all.push(own_removed(self.running.alloc(), self.running.kept.client())?)?;
+        let gone = own_left(self.running.alloc(), self.running.kept.client(), None)?;
+        all.push(gone)?;
+        Ok(())
+    }
+
+    /// Appends what was told last of its own row, if one was.
+    fn leave_own(&mut self, before: &mut Vec<Change>) -> Result<(), NoMemory>
+        ensures { OnOk result (Appends (own_told self.old.told.value self.old.tracked.state.kept.client) before.old.items before.new.items) }
+    {
+        let told = self.told.take();
+        self.has_row = false;
+        self.stale = true;
+        let Some(value) = told else {
+            return Ok(());
+        };
+        before.push(own_left(
+            self.running.alloc(),
+            self.running.kept.client(),
+            Some(value),
+        )?)?;
         Ok(())
     }
 
@@ -244,14 +270,16 @@ impl Live {
         Ok(all)
     }
 
-    /// The changes after which no row that was told is there.
-    pub(crate) fn removals(&mut self) -> Result<Vec<Change>, NoMemory>
-        ensures { IfOk result (λ changes. Removes self.old changes.items) }
+    /// The changes after which no row that was told is there; what was told of its own row is appended to `before`.
+    pub(crate) fn removals(&mut self, before: &mut Vec<Change>) -> Result<Vec<Change>, NoMemory>
+        ensures removes { IfOk result (λ changes. Removes self.old changes.items) }
+        ensures before { OnOk result (Appends (removed_before self.old) before.old.items before.new.items) }
     {
         let alloc = self.running.alloc();
         let touched = self.running.outgoing.touched(alloc)?;
         let mut all = self.remove_copies(&touched)?;
         self.remove_own(&mut all)?;
+        self.leave_own(before)?;
         Ok(all)
     }
 }

@@ -1,6 +1,6 @@
 //! A session over its connections.
 
-ghost use Rattle.std.specs.Prelude.{◌≡◌, ◌≢◌, ◌<◌, ◌≤◌, ◌^◌, ℕ, [], Some, IfOk, IfErr, IfSome, MatchOption, false};
+ghost use Rattle.std.specs.Prelude.{◌≡◌, ◌≢◌, ◌<◌, ◌≤◌, ◌^◌, ℕ, [], Some, IfOk, IfErr, IfSome, OnOk, MatchOption, false};
 ghost use Rattle.mqtt_packets.specs.Written.{HasSpelling};
 ghost use Rattle.mqtt_sessions.specs.Asking.{AnswerStep};
 ghost use Rattle.mqtt_sessions.specs.Called.{Called, always, never};
@@ -10,8 +10,8 @@ ghost use Rattle.mqtt_sessions.specs.Ending.{ClosedStep, FinishStep, TickStep, H
 ghost use Rattle.mqtt_sessions.specs.Packets.{PacketEnds, PacketStep, WantsMemory};
 ghost use Rattle.mqtt_sessions.specs.Reaction.{AreSpelled};
 ghost use Rattle.mqtt_sessions.specs.Sending.{QueueEnds, QueueStep};
-ghost use Rattle.mqtt_sessions.specs.Removed.{RemovesIf};
-ghost use Rattle.mqtt_sessions.specs.Saved.{ListsIf, NotesIf, OpensFrom, TellsIf, begun_session, durable_of, state_of, told_of, tracked_in};
+ghost use Rattle.mqtt_sessions.specs.Removed.{RemovesIf, removed_before};
+ghost use Rattle.mqtt_sessions.specs.Saved.{Appends, ListsIf, NotesIf, OpensFrom, TellsIf, begun_session, durable_of, state_of, told_before, told_of, tracked_in};
 ghost use Rattle.mqtt_sessions.specs.State.{IsPublishableIf, limit_of};
 ghost use Rattle.mqtt_sessions.specs.declared.fault.SessionFault.TheVariants.{NoMemory as OutOfMemory};
 ghost use Rattle.session_rows.specs.Durable.{IsMomentIf};
@@ -280,27 +280,30 @@ impl Session {
     }
 
     /// The changes that lead from the rows that were told last, by this call or `from_rows`, to those of the session. A new
-    /// session has told none. Each row that differs is named once, and no other.
-    pub fn changes(&mut self) -> Result<Vec<Change>, SessionFault>
-        ensures { TellsIf self.old result self.new }
+    /// session has told none. Each row that differs is named once, and no other. Where the session's own row differs, the change
+    /// that leaves what was told last of it is appended to `before`.
+    pub fn changes(&mut self, before: &mut Vec<Change>) -> Result<Vec<Change>, SessionFault>
+        ensures tells { TellsIf self.old result self.new }
+        ensures before { OnOk result (IfSome self.old (λ s. Appends (told_before s) before.old.items before.new.items)) }
     {
         let Some(mut live) = self.live.take() else {
             return Err(SessionFault::Spent);
         };
-        let changes = live.changes()?;
+        let changes = live.changes(before)?;
         self.live = Some(live);
         Ok(changes)
     }
 
     /// The changes after which no row that was told last is there, for a session that is over: each of these rows goes, and no
-    /// other is named.
-    pub fn removals(self) -> Result<Vec<Change>, SessionFault>
-        ensures { RemovesIf self result }
+    /// other is named. Where the session's own row was told, the change that leaves it is appended to `before`.
+    pub fn removals(self, before: &mut Vec<Change>) -> Result<Vec<Change>, SessionFault>
+        ensures removes { RemovesIf self result }
+        ensures before { OnOk result (IfSome self (λ s. Appends (removed_before s) before.old.items before.new.items)) }
     {
         let Session { live } = self;
         let Some(mut live) = live else {
             return Err(SessionFault::Spent);
         };
-        Ok(live.removals()?)
+        Ok(live.removals(before)?)
     }
 }

@@ -9,10 +9,6 @@ use Rattle.row_changes.specs.Leading.{key_in, value_in, first_by, left_by}
 abbrev pub AreOnce : List Change → Type 0
 AreOnce changes = T (is_sorted key_cmp (map (λ c. (key_in c, value_in c)) changes))
 
--- they leave what the others do
-abbrev pub LeaveAlike : List Change → List Change → Type 0
-LeaveAlike these those = (key : Key) → left_by these key ≡ left_by those key
-
 -- of a key of the kind, what the first change leaves there
 abbrev pub first_in : ℕ → List Change → Key → Option (Option (List ℕ))
 first_in kind changes key = cond (key.0 == kind) (first_by changes key) None

@@ -4,7 +4,7 @@ use Rattle.std.specs.FinMap.{get}
 use Rattle.row_store.specs.declared.row.Change.{Change}
 use Rattle.row_store.specs.Rows.{Key, Content, after_all}
 use Rattle.row_changes.specs.Leading.{Rows, or_else, left_by, left_or, Lead, LeadWithin, Begin, Differ}
-use Rattle.row_changes.specs.Gathered.{LeaveAlike, Settle}
+use Rattle.row_changes.specs.Gathered.{Settle}
 
 -- what a store of rows has at each key after changes
 abbrev pub ChangesLeave : Type 0
@@ -24,16 +24,6 @@ LeadOnWithin = (mine : ℕ → Bool) (a b c : Rows) (xs ys : List Change) → Le
 -- a store that has the old rows has the new ones after changes that lead to them
 abbrev pub ContentFollows : Type 0
 ContentFollows = (c : Content) (old new : Rows) (changes : List Change) → ((key : Key) → get c key ≡ old key) → Lead old new changes → (key : Key) → get (after_all c changes) key ≡ new key
-
--- changes that leave alike make the same of a store, and lead the same way
-abbrev pub AlikeMakeSame : Type 0
-AlikeMakeSame = (c : Content) (these those : List Change) → LeaveAlike these those → after_all c these ≡ after_all c those
-
-abbrev pub AlikeLeadAlike : Type 0
-AlikeLeadAlike = (old new : Rows) (these those : List Change) → LeaveAlike these those → Lead old new those → Lead old new these
-
-abbrev pub AlikeLeadAlikeWithin : Type 0
-AlikeLeadAlikeWithin = (mine : ℕ → Bool) (old new : Rows) (these those : List Change) → LeaveAlike these those → LeadWithin mine old new those → LeadWithin mine old new these
 
 -- changes that begin with what was there, after others that do
 abbrev pub BeginOn : Type 0

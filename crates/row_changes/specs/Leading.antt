@@ -1,5 +1,5 @@
 -- What changes leave of rows, told key by key.
-use Rattle.std.specs.Prelude.{◌≡◌, ◌≢◌, ◌==◌, ℕ, Bool, true, false, cond, List, [], ◌∷◌, Option, Some, None, IfSome}
+use Rattle.std.specs.Prelude.{◌≡◌, ◌≢◌, ℕ, Bool, true, false, cond, List, [], ◌∷◌, Option, Some, None, IfSome}
 use Rattle.std.specs.Ordering.{eq_by_cmp}
 use Rattle.row_store.specs.declared.row.Change.{Change}
 use Rattle.row_store.specs.declared.row.Change.TheVariants.{Put, Remove}

@@ -1,10 +1,11 @@
-//! Many changes made few: of those at one key the last.
+//! Many changes made few: of those at one key the last, or none where it leaves what the first did.
 
-ghost use Rattle.std.specs.Prelude.{◌≡◌, [], OnOk, IfOk, IsOk};
+ghost use Rattle.std.specs.Prelude.{◌≡◌, List, [], ◌∷◌, ◌++◌, OnOk, IfOk, IsOk};
 ghost use Rattle.row_store.specs.Rows.{Key};
-ghost use Rattle.row_changes.specs.Gathered.{AreOnce, LeaveAlike};
-ghost use Rattle.row_changes.specs.Leading.{left_by, left_by_one, or_else};
-ghost use Rattle.row_changes.specs.Noted.{noted, noted_pair, pair_of};
+ghost use Rattle.row_store.specs.declared.row.Change.{Change as Changed};
+ghost use Rattle.row_changes.specs.Gathered.{AreOnce, IsSettled, Settle};
+ghost use Rattle.row_changes.specs.Leading.{left_by, or_else};
+ghost use Rattle.row_changes.specs.Noted.{AreNoted, is_noted, noted, noted_pair, pair_of};
 
 use row_store::memory::RowKey;
 use row_store::{Change, Row};
@@ -46,47 +47,64 @@ fn change_of(key: RowKey, value: Option<Vec<u8>>) -> Change
     }
 }
 
-/// Notes what the change leaves, in place of what is noted at its key.
-fn note(table: &mut Noted, change: Change) -> Result<(), AllocError>
-    ensures { OnOk result ((key : Key) → noted table.new.entries key ≡ or_else (left_by_one change key) (noted table.old.entries key)) }
+/// Notes what the change leaves: in the first table if it is the first at a key of the kind, and else in the second one, in place of
+/// what is noted there at its key.
+fn note(befores: &mut Noted, lefts: &mut Noted, change: Change, kind: u8) -> Result<(), AllocError>
+    ensures { OnOk result ((xs : List Changed) → AreNoted kind befores.old.entries lefts.old.entries xs → AreNoted kind befores.new.entries lefts.new.entries (xs ++ change ∷ [])) }
 {
     let (key, value) = parts(change);
-    table.insert(key, value)?;
+    if key.kind == kind && !befores.contains_key(&key) {
+        befores.insert(key, value)?;
+    } else {
+        lefts.insert(key, value)?;
+    }
     Ok(())
 }
 
-/// What the changes leave.
-fn note_all(alloc: Global, changes: Vec<Change>) -> Result<Noted, AllocError>
-    ensures { IfOk result (λ table. (key : Key) → noted table.entries key ≡ left_by changes.items key) }
+/// What the first of the changes at each key of the kind leaves, and what the last of the others at each key does.
+fn note_all(alloc: Global, changes: Vec<Change>, kind: u8) -> Result<(Noted, Noted), AllocError>
+    ensures { IfOk result (λ tables. AreNoted kind tables.0.entries tables.1.entries changes.items) }
 {
-    let mut table = BTreeMap::new(alloc);
+    let mut befores = BTreeMap::new(alloc);
+    let mut lefts = BTreeMap::new(alloc);
     for change in changes {
-        note(&mut table, change)?;
+        note(&mut befores, &mut lefts, change, kind)?;
     }
-    Ok(table)
+    Ok((befores, lefts))
 }
 
-/// A change for each key, in the order of the keys.
-fn in_order(alloc: Global, table: Noted) -> Result<Vec<Change>, AllocError>
-    ensures once { IfOk result (λ out. AreOnce out.items) }
-    ensures alike { IfOk result (λ out. (key : Key) → left_by out.items key ≡ noted table.entries key) }
+/// Whether the table notes just this at the key.
+fn notes(table: &Noted, key: &RowKey, value: &Option<Vec<u8>>) -> bool
+    ensures { result ≡ is_noted table.now.entries (key.now, value.now) }
 {
-    let mut out = Vec::with_capacity(alloc, table.len())?;
-    for (key, value) in table {
-        out.push(change_of(key, value))?;
+    table.get(key) == Some(value)
+}
+
+/// A change for each key of the second table where the first one doesn't note the same, in the order of the keys.
+fn in_order(alloc: Global, befores: Noted, lefts: Noted) -> Result<Vec<Change>, AllocError>
+    ensures once { IfOk result (λ out. AreOnce out.items) }
+    ensures settled { IfOk result (λ out. (key : Key) → IsSettled (noted befores.entries key) (or_else (noted lefts.entries key) (noted befores.entries key)) (left_by out.items key)) }
+{
+    let mut out = Vec::with_capacity(alloc, lefts.len())?;
+    for (key, value) in lefts {
+        if !notes(&befores, &key, &value) {
+            out.push(change_of(key, value))?;
+        }
     }
     Ok(out)
 }
 
-/// Of the changes at each key the last one, in the order of the keys. It leaves what they all do, made one after the other. It
-/// takes no memory where there are none.
-pub fn gather(alloc: Global, changes: Vec<Change>) -> Result<Vec<Change>, AllocError>
+/// Of the changes at each key the last one, in the order of the keys, but at a key of the kind none where the last leaves what the
+/// first does. Where the changes of rows of the kind begin with what was there, these lead to the rows that all of them lead to,
+/// and name such a row only where it changes. It takes no memory where there are no changes.
+pub fn gather(alloc: Global, changes: Vec<Change>, kind: u8) -> Result<Vec<Change>, AllocError>
     ensures once { IfOk result (λ out. AreOnce out.items) }
-    ensures alike { IfOk result (λ out. LeaveAlike out.items changes.items) }
+    ensures settled { IfOk result (λ out. Settle kind out.items changes.items) }
     ensures none { changes.items ≡ [] → IsOk result }
 {
     if changes.is_empty() {
         return Ok(changes);
     }
-    in_order(alloc, note_all(alloc, changes)?)
+    let (befores, lefts) = note_all(alloc, changes, kind)?;
+    in_order(alloc, befores, lefts)
 }

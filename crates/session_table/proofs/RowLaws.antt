@@ -1,11 +1,12 @@
 -- What a telling leads to.
-use Rattle.std.proofs.Common.{◌≡◌, ◌<◌, ◌^◌, ℕ, Vec, Bool, true, false, List, [], ◌∷◌, ◌++◌, map as map_list, Option, Some, None, Ok, IfSome, unwrap_or, refl, sym, ap, subst, ◌∙◌, inl, inr}
+use Rattle.std.proofs.Common.{◌≡◌, ◌<◌, ◌^◌, ℕ, Vec, Bool, true, false, List, [], ◌∷◌, ◌++◌, map as map_list, Option, Some, None, Ok, IfSome, unwrap_or, refl, sym, ap, subst, ◌∙◌, inl, inr, arith}
 use Rattle.std.specs.Prelude.{nat_lt}
 use Rattle.std.specs.FinMap as map
 use Rattle.std.specs.List.{AllByRecursion}
 use Rattle.std.specs.Map.{keys_of}
 use Rattle.std.specs.Option.{option_map}
-use Rattle.std.specs.Ordering.{eq_by_cmp}
+use Rattle.std.specs.Cmp.{tied_itself}
+use Rattle.std.specs.Ordering.{eq_by_cmp, is_eq}
 use Rattle.std.proofs.lemmas.Bool.{cases_Bool, false≢true}
 use Rattle.std.proofs.lemmas.List.{append-nil, append_assoc}
 use Rattle.mqtt_fields.specs.Numbers.{IsText}
@@ -16,16 +17,16 @@ use Rattle.row_store.specs.declared.row.Change.{Change}
 use Rattle.row_store.specs.declared.row.Change.TheVariants.{Put, Remove}
 use Rattle.row_store.specs.Rows.{Key, Content, key_cmp}
 use Rattle.row_store.proofs.Keys.{keys_total, exact_keys, equal_is}
-use Rattle.row_changes.specs.Leading.{Rows, Lead, LeadWithin, key_in, left_by, left_by_one, left_or, or_else}
-use Rattle.row_changes.proofs.Leaving.{changes_leave, lead_on_within}
+use Rattle.row_changes.specs.Leading.{Rows, Begin, Lead, LeadWithin, first_by, key_in, left_by, left_by_one, left_or, or_else, value_in}
+use Rattle.row_changes.proofs.Leaving.{begin_on, changes_leave, lead_on, lead_on_within}
 use Rattle.session_rows.specs.Changes.{Plain, Told, plain_of, own_change, own_change_by, is_told, copy_change, copy_changes, changes_of}
 use Rattle.session_rows.specs.Durable.{Durable, IsDurable}
 use Rattle.session_rows.specs.Fields.{Main, main, copy, copy_of}
-use Rattle.session_rows.specs.Rows.{rows_of}
+use Rattle.session_rows.specs.Rows.{main_key, rows_of}
 use Rattle.session_row_laws.specs.Laws.{ChangesAreMade, after_plains, told_rows}
 use Rattle.mqtt_sessions.specs.Reaction.{Reaction}
-use Rattle.mqtt_sessions.specs.Removed.{Removes, RemovesIf, gone_of, own_removal, removals_of}
-use Rattle.mqtt_sessions.specs.Saved.{Saved, NotesIf, Tells, begun_session, durable_of, main_of, reopened, state_in, state_of}
+use Rattle.mqtt_sessions.specs.Removed.{RemovesIf, gone_of, own_removal, own_told, removals_of, removed_before}
+use Rattle.mqtt_sessions.specs.Saved.{Appends, Saved, NotesIf, Tells, TellsIf, begun_session, durable_of, main_of, own_before, reopened, state_in, state_of, told_before}
 use Rattle.mqtt_sessions.specs.State.{State, new_session}
 use Rattle.mqtt_sessions.proofs.SavedLaws.{main-back}
 use Rattle.session_laws.specs.Runs.{Event, Reacts}
@@ -36,7 +37,7 @@ use Rattle.session_table.specs.Seats.{Seat, Seats, begun as begun_seat}
 use Rattle.session_table.specs.Calls.{IsTurned}
 use Rattle.session_table.specs.Listing.{AllTold, Table, seat_of, seats_in, session_in, text_cmp}
 use Rattle.session_table.specs.declared.seated.Seated.{Seated}
-use Rattle.session_table.specs.Rows.{AllDurable, IsAllTold, IsOf, IsTold, LeadsOn, OwnLead, OwnLeadsOn, BeginTells, CallTells, RemovalLeaves, TellsAgain, TellsOn, is_session_kind, no_row, row_in, rows_for, saved_row, seat_row, told_point}
+use Rattle.session_table.specs.Rows.{AllDurable, IsAllTold, IsOf, IsTold, LeadsOn, OwnLead, OwnLeadsOn, BeginTells, CallTells, RemovalLeaves, TellsAgain, TellsOn, is_session_kind, no_row, own_kind, row_in, rows_for, saved_row, seat_row, told_point}
 use Rattle.session_table.proofs.Tables.{get_apart, get_inserted, get_left, get_removed, get_seat, itself, remove_absent, same_text, seats_insert, seats_remove}
 
 -- ---- histories
@@ -52,50 +53,126 @@ begins-of : (p : Point) → BeginsSound p → Begins p
 begins-of p (inl b) = inl (b.0, b.2)
 begins-of p (inr b) = inr b
 
--- ---- whose rows the changes are
-abbrev IsMine : List ℕ → Plain → Type 0
-IsMine client p = (is_session_kind p.0.0 ≡ true) × (p.0.1.0 ≡ client)
+itself-key : (key : Key) → eq_by_cmp key_cmp key key ≡ true
+itself-key key = ap is_eq (tied_itself keys_total key)
 
-mine-both : (client : List ℕ) (ps qs : List Plain) → AllByRecursion (IsMine client) ps → AllByRecursion (IsMine client) qs → AllByRecursion (IsMine client) (ps ++ qs)
-mine-both client [] qs h k = k
-mine-both client (p ∷ ps) qs h k = (h.0, mine-both client ps qs h.1 k)
+-- ---- whose rows the changes are; no own row is named of a client whose value was told
+abbrev IsMine : List ℕ → Bool → Plain → Type 0
+IsMine client is_told p = (is_session_kind p.0.0 ≡ true) × (p.0.1.0 ≡ client) × (p.0.0 ≡ own_kind → (is_told ≡ false) × (p.0 ≡ main_key client))
 
-mine-own : (client value : List ℕ) (b : Bool) → AllByRecursion (IsMine client) (own_change_by b client value)
+all-both : {A : Type 0} (P : A → Type 0) (xs ys : List A) → AllByRecursion P xs → AllByRecursion P ys → AllByRecursion P (xs ++ ys)
+all-both P [] ys h k = k
+all-both P (x ∷ xs) ys h k = (h.0, all-both P xs ys h.1 k)
+
+mine-own : (client value : List ℕ) (b : Bool) → AllByRecursion (IsMine client b) (own_change_by b client value)
 mine-own client value true = tt
-mine-own client value false = ((refl, refl), tt)
+mine-own client value false = ((refl, refl, λ is. (refl, refl)), tt)
 
-mine-copy : (client : List ℕ) (next place : ℕ) (o : Option Entry) → AllByRecursion (IsMine client) (copy_change client next place o)
-mine-copy client next place (Some x) = ((refl, refl), tt)
-mine-copy client next place None = elim (cases_Bool (nat_lt place next)) [
-  | inl t ↦ rw t ((refl, refl), tt)
+mine-before : (client : List ℕ) (b : Bool) (value : Option (List ℕ)) → AllByRecursion (IsMine client b) (own_before b client value)
+mine-before client true value = tt
+mine-before client false value = ((refl, refl, λ is. (refl, refl)), tt)
+
+no-own : 3 ≡ own_kind → ⊥
+no-own is = omega (arith, is)
+
+mine-copy : (client : List ℕ) (b : Bool) (next place : ℕ) (o : Option Entry) → AllByRecursion (IsMine client b) (copy_change client next place o)
+mine-copy client b next place (Some x) = ((refl, refl, λ is. absurd (no-own is)), tt)
+mine-copy client b next place None = elim (cases_Bool (nat_lt place next)) [
+  | inl t ↦ rw t ((refl, refl, λ is. absurd (no-own is)), tt)
   | inr f ↦ rw f tt
 ]
 
-mine-copies : (client : List ℕ) (next : ℕ) (es : Entries) (ps : List ℕ) → AllByRecursion (IsMine client) (copy_changes client next es ps)
-mine-copies client next es [] = tt
-mine-copies client next es (p ∷ ps) = mine-both client (copy_change client next p (at_place p es)) (copy_changes client next es ps) (mine-copy client next p (at_place p es)) (mine-copies client next es ps)
+mine-copies : (client : List ℕ) (b : Bool) (next : ℕ) (es : Entries) (ps : List ℕ) → AllByRecursion (IsMine client b) (copy_changes client next es ps)
+mine-copies client b next es [] = tt
+mine-copies client b next es (p ∷ ps) =
+    all-both (IsMine client b) (copy_change client next p (at_place p es)) (copy_changes client next es ps) (mine-copy client b next p (at_place p es)) (mine-copies client b next es ps)
 
-mine-changes : (told : Told) (client : List ℕ) (m : Main) (es : Entries) (ps : List ℕ) → AllByRecursion (IsMine client) (changes_of told client m es ps)
+mine-changes : (told : Told) (client : List ℕ) (m : Main) (es : Entries) (ps : List ℕ) → AllByRecursion (IsMine client (is_told told.value (main.bytes m))) (changes_of told client m es ps)
 mine-changes told client m es ps =
-    mine-both client (own_change told.value client (main.bytes m)) (copy_changes client told.next_place es ps) (mine-own client (main.bytes m) (is_told told.value (main.bytes m)))
-    (mine-copies client told.next_place es ps)
+    let b = is_told told.value (main.bytes m) in
+    all-both (IsMine client b) (own_change told.value client (main.bytes m)) (copy_changes client told.next_place es ps) (mine-own client (main.bytes m) b) (mine-copies client b told.next_place es ps)
 
-mine-removal : (client : List ℕ) (o : Option (List ℕ)) → AllByRecursion (IsMine client) (own_removal o client)
+mine-removal : (client : List ℕ) (o : Option (List ℕ)) → AllByRecursion (IsMine client false) (own_removal o client)
 mine-removal client None = tt
-mine-removal client (Some value) = ((refl, refl), tt)
+mine-removal client (Some value) = ((refl, refl, λ is. (refl, refl)), tt)
 
-mine-removals : (told : Told) (client : List ℕ) (es : Entries) (ps : List ℕ) → AllByRecursion (IsMine client) (removals_of told client es ps)
+mine-removals : (told : Told) (client : List ℕ) (es : Entries) (ps : List ℕ) → AllByRecursion (IsMine client false) (removals_of told client es ps)
 mine-removals told client es ps =
-    mine-both client (copy_changes client told.next_place [] (keys_of es ++ gone_of es ps)) (own_removal told.value client) (mine-copies client told.next_place [] (keys_of es ++ gone_of es ps))
-    (mine-removal client told.value)
+    let places = keys_of es ++ gone_of es ps in
+    all-both (IsMine client false) (copy_changes client told.next_place [] places) (own_removal told.value client) (mine-copies client false told.next_place [] places) (mine-removal client told.value)
 
-is-of : (client : List ℕ) (change : Change) → IsMine client (plain_of change) → IsOf client change
-is-of client (Put row) h = record { kind = h.0; owner = h.1 }
-is-of client (Remove kind owner place) h = record { kind = h.0; owner = h.1 }
+is-of : (client : List ℕ) (b : Bool) (change : Change) → IsMine client b (plain_of change) → IsOf client change
+is-of client b (Put row) h = record { kind = h.0; owner = h.1 }
+is-of client b (Remove kind owner place) h = record { kind = h.0; owner = h.1 }
 
-are-of : (client : List ℕ) (changes : List Change) → AllByRecursion (IsMine client) (map_list plain_of changes) → AllByRecursion (IsOf client) changes
-are-of client [] h = tt
-are-of client (c ∷ cs) h = (is-of client c h.0, are-of client cs h.1)
+are-of : (client : List ℕ) (b : Bool) (changes : List Change) → AllByRecursion (IsMine client b) (map_list plain_of changes) → AllByRecursion (IsOf client) changes
+are-of client b [] h = tt
+are-of client b (c ∷ cs) h = (is-of client b c h.0, are-of client b cs h.1)
+
+-- ---- what goes before changes that name a session's own row
+plain-key : (c : Change) → key_in c ≡ (plain_of c).0
+plain-key (Put row) = refl
+plain-key (Remove kind owner place) = refl
+
+plain-value : (c : Change) → value_in c ≡ (plain_of c).1
+plain-value (Put row) = refl
+plain-value (Remove kind owner place) = refl
+
+named-key : (key : Key) (c : Change) → eq_by_cmp key_cmp key (key_in c) ≡ true → key ≡ key_in c
+named-key key c t = exact_keys key (key_in c) (equal_is (key_cmp key (key_in c)) t)
+
+-- its own row is named only where it wasn't told, and no other of its kind
+unbegun : (client : List ℕ) (b : Bool) (key : Key) (cs : List Change) → AllByRecursion (IsMine client b) (map_list plain_of cs) → key.0 ≡ own_kind → (b ≡ false → key ≡ main_key client → ⊥) → first_by cs key ≡ None
+unbegun client b key [] h kind apart = refl
+unbegun client b key (c ∷ cs) h kind apart = elim (cases_Bool (eq_by_cmp key_cmp key (key_in c))) [
+  | inl t ↦
+      let same : key ≡ (plain_of c).0 = named-key key c t ∙ plain-key c in
+      let own = h.0.2 (ap (λ (k : Key). k.0) (sym same) ∙ kind) in
+      absurd (apart own.0 (same ∙ own.1))
+  | inr f ↦ rw f (unbegun client b key cs h.1 kind apart)
+]
+
+-- a change that leaves what is there
+module _ (client : List ℕ) (value : Option (List ℕ)) (rows : Rows) (c : Change) (was : rows (main_key client) ≡ value) (same : plain_of c ≡ (main_key client, value)) where
+  its-key : key_in c ≡ main_key client
+  its-key = plain-key c ∙ ap (λ (p : Plain). p.0) same
+
+  leaves-it : (key : Key) → eq_by_cmp key_cmp key (key_in c) ≡ true → value_in c ≡ rows key
+  leaves-it key t = plain-value c ∙ ap (λ (p : Plain). p.1) same ∙ sym was ∙ ap rows (sym (named-key key c t ∙ its-key))
+
+  one-stays : (key : Key) → rows key ≡ left_or (left_by (c ∷ []) key) (rows key)
+  one-stays key = elim (cases_Bool (eq_by_cmp key_cmp key (key_in c))) [ inl t ↦ rw t (sym (leaves-it key t)) | inr f ↦ rw f refl ]
+
+  one-begins : (own : List Change) → AllByRecursion (IsMine client false) (map_list plain_of own) → Begin own_kind rows (c ∷ own)
+  one-begins own mine key kind = elim (cases_Bool (eq_by_cmp key_cmp key (key_in c))) [
+    | inl t ↦ rw t (leaves-it key t)
+    | inr f ↦
+        let apart : key ≡ main_key client → ⊥ = λ is. false≢true (sym f ∙ ap (λ (k : Key). eq_by_cmp key_cmp key k) (its-key ∙ sym is) ∙ itself-key key) in
+        rw (f, unbegun client false key own mine kind (λ _. apart)) tt
+  ]
+
+stays : (client : List ℕ) (b : Bool) (value : Option (List ℕ)) (rows : Rows) (first : List Change) → rows (main_key client) ≡ value → map_list plain_of first ≡ own_before b client value → Lead rows rows first
+stays client true value rows [] was is key = refl
+stays client true value rows (c ∷ cs) was is key = absurd (cc is)
+stays client false value rows [] was is key = absurd (cc is)
+stays client false value rows (c ∷ []) was is key = (let same : plain_of c ≡ (main_key client, value) = cc in one-stays client value rows c was same key)
+stays client false value rows (c ∷ d ∷ cs) was is key = absurd (cc is)
+
+begins : (client : List ℕ) (b : Bool) (value : Option (List ℕ)) (rows : Rows) (first own : List Change) → rows (main_key client) ≡ value → map_list plain_of first ≡ own_before b client value → AllByRecursion (IsMine client b) (map_list plain_of own)
+    → Begin own_kind rows (first ++ own)
+begins client true value rows [] own was is mine key kind = rw (unbegun client true key own mine kind (λ no same. false≢true (sym no))) tt
+begins client true value rows (c ∷ cs) own was is mine key kind = absurd (cc is)
+begins client false value rows [] own was is mine key kind = absurd (cc is)
+begins client false value rows (c ∷ []) own was is mine key kind = (let same : plain_of c ≡ (main_key client, value) = cc in one-begins client value rows c was same own mine key kind)
+begins client false value rows (c ∷ d ∷ cs) own was is mine key kind = absurd (cc is)
+
+after-before : (client : List ℕ) (b : Bool) (value : Option (List ℕ)) (old new : Rows) (first own : List Change) → old (main_key client) ≡ value → map_list plain_of first ≡ own_before b client value → AllByRecursion (IsMine client b) (map_list plain_of own) → Lead old new own
+    → OwnLead client old new (first ++ own)
+after-before client b value old new first own was is mine lead = record {
+  own = all-both (IsOf client) first own (are-of client b first (subst (λ (ps : List Plain). AllByRecursion (IsMine client b) ps) (sym is) (mine-before client b value))) (are-of client b own mine);
+  lead = lead_on old old new first own (stays client b value old first was is) lead;
+  begins = begins client b value old first own was is mine;
+}
 
 -- ---- rows
 rows-before : Option Durable → Rows
@@ -104,6 +181,10 @@ rows-before last key = map.get {R = key_cmp} (map.from_entries (told_rows last))
 none-before : (key : Key) → rows-before None key ≡ None
 unfolding rows-before
 none-before key = map.get-from_entries keys_total [] key
+
+-- a session's own row
+own-row : (s : State) → rows_for s (main_key s.kept.client) ≡ Some (main.bytes (main_of s))
+own-row s = map.get-from_entries keys_total (rows_of (durable_of s)) (main_key s.kept.client) ∙ rw (itself-key (main_key s.kept.client)) refl
 
 -- ---- a session that is told
 same-tracked : (old : Saved) (own : List Change) (new : Saved) → Tells old own new → new.tracked.state ≡ old.tracked.state
@@ -121,10 +202,10 @@ told-next start moves old own new b s h t =
       owner = ap (λ s. s.kept.client) (same-tracked old.session own new t);
     }
 
-own-next : (old : Saved) (own : List Change) (new : Saved) → Tells old own new → AllByRecursion (IsOf old.tracked.state.kept.client) own
+own-next : (old : Saved) (own : List Change) (new : Saved) → Tells old own new → AllByRecursion (IsMine old.tracked.state.kept.client (is_told old.told.value (main.bytes (main_of old.tracked.state)))) (map_list plain_of own)
 own-next old own new t =
     let s = old.tracked.state in
-    are-of s.kept.client own (subst (λ (ps : List Plain). AllByRecursion (IsMine s.kept.client) ps) (sym t.named) (mine-changes old.told s.kept.client (main_of s) s.outbox.copies t.places))
+    subst (λ (ps : List Plain). AllByRecursion (IsMine s.kept.client (is_told old.told.value (main.bytes (main_of s)))) ps) (sym t.named) (mine-changes old.told s.kept.client (main_of s) s.outbox.copies t.places)
 
 -- ---- by the laws
 made : ChangesAreMade
@@ -149,37 +230,46 @@ module _ (lead : ToldChangesLead) where
   -- after a call
   pub call-tells : StaysSince → CallTells
   unfolding rows-before
-  call-tells since client e r old mid own new sound told reacts notes t =
+  call-tells since client e r old mid first own new sound told reacts notes before t =
       let p : Point = record { session = mid; last = Some (durable_of old.tracked.state) } in
       let h = history-then told.start told.moves (told_point old) (calls e r) p told.history (record { reacts = reacts; notes = notes; last = refl }) in
       let ms = told.moves ++ calls e r ∷ [] in
-      let begins = begins-of told.start told.begins in
-      let is : mid.tracked.state.kept.client ≡ client = sym (since told.start ms p begins h).owner ∙ told.owner in (
+      let began = begins-of told.start told.begins in
+      let k = mid.tracked.state.kept.client in
+      let now = since told.start ms p began h in
+      let is : k ≡ client = sym now.owner ∙ told.owner in
+      let was : rows_for old.tracked.state (main_key k) ≡ mid.told.value = ap (λ (c : List ℕ). rows_for old.tracked.state (main_key c)) (sym now.owner) ∙ own-row old.tracked.state ∙ sym now.value in
+      let b = is_told mid.told.value (main.bytes (main_of mid.tracked.state)) in (
         subst (λ (c : List ℕ). IsTold c new) is (told-next told.start ms p own new told.begins (sound-then told.moves (calls e r) told.sound sound) h t),
-        record { own = subst (λ (c : List ℕ). AllByRecursion (IsOf c) own) is (own-next mid own new t); lead = lead-next told.start ms p own new begins h t },
+        subst (λ (c : List ℕ). OwnLead c (rows_for old.tracked.state) (rows_for new.tracked.state) (first ++ own)) is
+        (after-before k b mid.told.value (rows_for old.tracked.state) (rows_for new.tracked.state) first own was before (own-next mid own new t) (lead-next told.start ms p own new began h t)),
       )
 
   -- its making
   pub begin-tells : BeginTells
-  begin-tells client own new text t = (
+  begin-tells client first own new text before t = (
     told-next (begun client) [] (begun client) own new (inl (client, text, refl)) tt refl t,
-    record {
-      own = own-next (begun_session client) own new t;
-      lead = λ key. lead-next (begun client) [] (begun client) own new (inl (client, refl)) refl t key ∙ ap (left_or (left_by own key)) (none-before key);
-    },
+    after-before client false None no_row (rows_for new.tracked.state) first own refl before (own-next (begun_session client) own new t)
+    (λ key. lead-next (begun client) [] (begun client) own new (inl (client, refl)) refl t key ∙ ap (left_or (left_by own key)) (none-before key)),
   )
 
 -- its end
-pub removal-leaves : RemovalsLeaveNone → RemovalLeaves
+there : (client value : List ℕ) (o : Option (List ℕ)) → o ≡ Some value → own_told o client ≡ own_before false client o
+there client value None is = absurd (cc is)
+there client value (Some v) is = refl
+
+pub removal-leaves : RemovalsLeaveNone → StaysSince → RemovalLeaves
 unfolding rows-before
-removal-leaves removal client s own told r =
+removal-leaves removal since client s first own told before r =
     let k = s.tracked.state.kept.client in
-    let e : Empties (Some (durable_of s.tracked.state)) own = removal told.start told.moves (told_point s) own (begins-of told.start told.begins) told.history r in
+    let began = begins-of told.start told.begins in
+    let e : Empties (Some (durable_of s.tracked.state)) own = removal told.start told.moves (told_point s) own began told.history r in
+    let now = since told.start told.moves (told_point s) began told.history in
     let named = mine-removals s.told k s.tracked.state.outbox.copies r.places in
-    record {
-      own = subst (λ (c : List ℕ). AllByRecursion (IsOf c) own) told.owner (are-of k own (subst (λ (ps : List Plain). AllByRecursion (IsMine k) ps) (sym r.named) named));
-      lead = λ key. sym (none-before key) ∙ made-lead (Some (durable_of s.tracked.state)) own [] e.none key;
-    }
+    let mine = subst (λ (ps : List Plain). AllByRecursion (IsMine k false) ps) (sym r.named) named in
+    subst (λ (c : List ℕ). OwnLead c (rows_for s.tracked.state) no_row (first ++ own)) told.owner
+    (after-before k false s.told.value (rows_for s.tracked.state) no_row first own (own-row s.tracked.state ∙ sym now.value) (before ∙ there k (main.bytes (main_of s.tracked.state)) s.told.value now.value) mine
+    (λ key. sym (none-before key) ∙ made-lead (Some (durable_of s.tracked.state)) own [] e.none key))
 
 -- ---- rows of all sessions
 unnamed : (client : List ℕ) (key : Key) (cs : List Change) → AllByRecursion (IsOf client) cs → ((c : Change) → IsOf client c → key ≡ key_in c → ⊥) → left_by cs key ≡ None
@@ -205,13 +295,32 @@ within client old new a b own lead was is others = record {
         (let apart : (c : Change) → IsOf client c → key ≡ key_in c → ⊥ = λ c of e. false≢true (sym f ∙ ap (λ (q : List ℕ). eq_by_cmp text_cmp q client) (ap (λ (k : Key). k.1.0) e ∙ of.owner) ∙ itself client) in
         ap (λ g. row_in g key) (others key.1.0 f) ∙ ap (λ l. left_or l (seat_row old key)) (sym (unnamed client key own lead.own apart)))
 
+-- changes that begin with what a client had begin with what all had
+unnamed-first : (client : List ℕ) (key : Key) (cs : List Change) → AllByRecursion (IsOf client) cs → ((c : Change) → IsOf client c → key ≡ key_in c → ⊥) → first_by cs key ≡ None
+unnamed-first client key [] h apart = refl
+unnamed-first client key (c ∷ cs) h apart = elim (cases_Bool (eq_by_cmp key_cmp key (key_in c))) [
+  | inl t ↦ absurd (apart c h.0 (named-key key c t))
+  | inr f ↦ rw f (unnamed-first client key cs h.1 apart)
+]
+
+begin-within : (client : List ℕ) (old : Seats) (a b : Rows) (own : List Change) → OwnLead client a b own → ((key : Key) → row_in (map.get old client) key ≡ a key) → Begin own_kind (seat_row old) own
+begin-within client old a b own lead was key kind = by (eq_by_cmp text_cmp key.1.0 client) refl
+  where
+    by : (same : Bool) → eq_by_cmp text_cmp key.1.0 client ≡ same → IfSome (first_by own key) (λ left. left ≡ seat_row old key)
+    by true t =
+        (let P : List ℕ → Type 0 = λ q. IfSome (first_by own key) (λ left. left ≡ row_in (map.get old q) key) in
+        subst P (sym (same_text key.1.0 client t)) (subst (λ (o : Option (List ℕ)). IfSome (first_by own key) (λ left. left ≡ o)) (sym (was key)) (lead.begins key kind)))
+    by false f =
+        (let apart : (c : Change) → IsOf client c → key ≡ key_in c → ⊥ = λ c of e. false≢true (sym f ∙ ap (λ (q : List ℕ). eq_by_cmp text_cmp q client) (ap (λ (k : Key). k.1.0) e ∙ of.owner) ∙ itself client) in
+        rw (unnamed-first client key own lead.own apart) tt)
+
 within-on : (client : List ℕ) (old new : Seats) (a b : Rows) (before after : List Change) → OwnLeadsOn client a before after b → ((key : Key) → row_in (map.get old client) key ≡ a key) → ((key : Key) → row_in (map.get new client) key ≡ b key)
     → ((q : List ℕ) → eq_by_cmp text_cmp q client ≡ false → map.get new q ≡ map.get old q) → LeadsOn old before after new
-within-on client old new a b before after l was is others = (l.0, l.1, within client old new a b l.0 l.2 was is others)
+within-on client old new a b before after l was is others = (l.0, l.1, within client old new a b l.0 l.2 was is others, begin-within client old a b l.0 l.2 was)
 
 -- where nothing changes
 pub still : (old new : Seats) (xs : List Change) → new ≡ old → LeadsOn old xs xs new
-still old new xs same = ([], sym (append-nil xs), record { own = λ key kind. ap (λ s. seat_row s key) same; others = λ key not. refl })
+still old new xs same = ([], sym (append-nil xs), record { own = λ key kind. ap (λ s. seat_row s key) same; others = λ key not. refl }, λ key kind. tt)
 
 -- one after the other
 pub leads-then : (a b c : Seats) (xs ys zs : List Change) → LeadsOn a xs ys b → LeadsOn b ys zs c → LeadsOn a xs zs c
@@ -219,6 +328,7 @@ leads-then a b c xs ys zs first second = (
   first.0 ++ second.0,
   second.1 ∙ ap (λ l. l ++ second.0) first.1 ∙ append_assoc xs first.0 second.0,
   lead_on_within is_session_kind (seat_row a) (seat_row b) (seat_row c) first.0 second.0 first.2 second.2,
+  begin_on own_kind (seat_row a) (seat_row b) first.0 second.0 (λ key kind. first.2.own key (ap is_session_kind kind)) first.3 second.3,
 )
 
 row-state : (o : Option Saved) (s : State) → state_of o ≡ Some s → (key : Key) → saved_row o key ≡ rows_for s key
@@ -300,27 +410,28 @@ module _ (call : CallTells) where
   turn-tells e r (Some s) (Some m) (Some x) before after client sound h n t told =
       let is : h.0 ≡ m.tracked.state = (let same : Some m.tracked.state ≡ Some h.0 = h.1 in cc) in
       let reacts : Reacts s.tracked.state e r m.tracked.state = subst (λ (z : State). Reacts s.tracked.state e r z) is h.2 in
-      let done = call client e r s m t.0 x sound told reacts n t.2 in
-      record { told = done.0; leads = (t.0, t.1, done.1) }
+      let done = call client e r s m t.0 t.1 x sound told reacts n t.3 t.4 in
+      record { told = done.0; leads = (t.0 ++ t.1, t.2, done.1) }
 
 pub told-begun : BeginTells → (client : List ℕ) (before after : List Change) (old new : Option Saved) → IsText client → old ≡ Some (begun_session client) → TellsOn old before after new → IsAllTold client new × OwnLeadsOn client no_row before after (saved_row new)
 told-begun begin client before after old new text is t = by new (subst (λ (o : Option Saved). TellsOn o before after new) is t)
   where
     by : (o : Option Saved) → TellsOn (Some (begun_session client)) before after o → IsAllTold client o × OwnLeadsOn client no_row before after (saved_row o)
     by None t = absurd t
-    by (Some x) t = (let done = begin client t.0 x text t.2 in (done.0, (t.0, t.1, done.1)))
+    by (Some x) t = (let done = begin client t.0 t.1 x text t.3 t.4 in (done.0, (t.0 ++ t.1, t.2, done.1)))
 
-abbrev pub RemovesOf : Option Saved → List Change → Type 0
-RemovesOf None own = ⊥
-RemovesOf (Some s) own = Removes s own
+pub tells-on : {A : Type 0} (old new : Option Saved) (own : Vec Change A) (before mid after : List Change) → TellsIf old (Ok own) new → IfSome old (λ s. Appends (told_before s) before mid) → after ≡ mid ++ own.items → TellsOn old before after new
+tells-on None new own before mid after t a is = absurd t
+tells-on (Some s) None own before mid after t a is = absurd (let none : None ≡ Some t.0 = t.1 in cc)
+tells-on (Some s) (Some x) own before mid after t a is =
+    let both : Some x ≡ Some t.0 = t.1 in
+    let same : x ≡ t.0 = cc in
+    (a.0, own.items, is ∙ ap (λ l. l ++ own.items) a.1 ∙ append_assoc before a.0 own.items, a.2, subst (λ (y : Saved). Tells s own.items y) (sym same) t.2)
 
-pub removes-of : {A : Type 0} (old : Option Saved) (own : Vec Change A) → RemovesIf old (Ok own) → RemovesOf old own.items
-removes-of None own r = r
-removes-of (Some s) own r = r
-
-pub left-on : RemovalLeaves → (client : List ℕ) (old : Option Saved) (own before after : List Change) → RemovesOf old own → IsAllTold client old → after ≡ before ++ own → OwnLeadsOn client (saved_row old) before after no_row
-left-on leave client None own before after r told is = absurd told
-left-on leave client (Some s) own before after r told is = (own, is, leave client s own told r)
+pub left-on : {A : Type 0} → RemovalLeaves → (client : List ℕ) (old : Option Saved) (own : Vec Change A) (before mid after : List Change) → RemovesIf old (Ok own) → IfSome old (λ s. Appends (removed_before s) before mid) → IsAllTold client old → after ≡ mid ++ own.items
+    → OwnLeadsOn client (saved_row old) before after no_row
+left-on leave client None own before mid after r a told is = absurd told
+left-on leave client (Some s) own before mid after r a told is = (a.0 ++ own.items, is ∙ ap (λ l. l ++ own.items) a.1 ∙ append_assoc before a.0 own.items, leave client s a.0 own.items told a.2 r)
 
 -- ---- a session that was opened from its rows
 copies-again : (es : Entries) → AllByRecursion (λ (e : ℕ × Entry). (e.0 < 2 ^ 64) × (e.1.here ≡ false) × copy.Fits (copy_of e.1)) es → away es ≡ es

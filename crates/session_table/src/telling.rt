@@ -13,11 +13,11 @@ use mqtt_sessions::{Reaction, Session, SessionFault};
 use row_store::Change;
 use std::alloc::Global;
 
-/// Appends the changes of a session's rows since they were told last.
+/// Appends the changes of a session's rows since they were told last; where its own row is named, what was told of it goes before.
 fn tell(session: &mut Session, changes: &mut Vec<Change>) -> Result<(), NoMemory>
     ensures { OnOk result (TellsOn session.old changes.old.items changes.new.items session.new) }
 {
-    let Ok(mut own) = session.changes() else {
+    let Ok(mut own) = session.changes(changes) else {
         return Err(NoMemory);
     };
     changes.append(&mut own)?;
@@ -60,12 +60,12 @@ pub(crate) fn begin_told(
     Ok(session)
 }
 
-/// Appends that the rows of a session go.
+/// Appends that the rows of a session go, and before that what was told of its own row.
 pub(crate) fn leave(session: Session, changes: &mut Vec<Change>) -> Result<(), NoMemory>
     ensures { (client : List ℕ) → IsAllTold client session → OnOk result (OwnLeadsOn client (saved_row session) changes.old.items changes.new.items no_row) }
 {
     tellings_lead();
-    let Ok(mut gone) = session.removals() else {
+    let Ok(mut gone) = session.removals(changes) else {
         return Err(NoMemory);
     };
     changes.append(&mut gone)?;

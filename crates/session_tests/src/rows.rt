@@ -26,11 +26,13 @@ fn change_text(alloc: Global, change: &Change) -> Result<String, Stop> {
     }
 }
 
-/// The changes of its rows.
+/// The changes of its rows, and before them what was told last of its own row where they name it.
 pub fn changes(alloc: Global, session: &mut Session) -> Result<String, Stop> {
-    let Ok(changes) = session.changes() else {
+    let mut changes = Vec::new(alloc);
+    let Ok(mut own) = session.changes(&mut changes) else {
         return Err(Stop::Fault);
     };
+    changes.append(&mut own)?;
     let mut text = String::new(alloc);
     for change in &changes {
         let one = change_text(alloc, change)?;

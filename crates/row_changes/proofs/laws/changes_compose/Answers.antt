@@ -1,4 +1,4 @@
-use Rattle.row_changes.proofs.Leaving.{second_is_last, lead_on, lead_on_within}
+use Rattle.row_changes.proofs.Leaving.{second_is_last, lead_on, lead_on_within, begin_on}
 use Rattle.row_changes.proofs.laws.changes_compose.Goals as goal
 
 pub returns-clause-left : goal.returns-clause-left
@@ -9,3 +9,6 @@ returns-clause-lead c = lead_on
 
 pub returns-clause-within : goal.returns-clause-within
 returns-clause-within c = lead_on_within
+
+pub returns-clause-begin : goal.returns-clause-begin
+returns-clause-begin c = begin_on

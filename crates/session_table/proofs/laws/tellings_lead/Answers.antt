@@ -8,4 +8,4 @@ pub returns-clause-begin : goal.returns-clause-begin
 returns-clause-begin c = begin-tells c.told_changes_lead.ensures
 
 pub returns-clause-removal : goal.returns-clause-removal
-returns-clause-removal c = removal-leaves c.removals_leave_none.ensures
+returns-clause-removal c = removal-leaves c.removals_leave_none.ensures c.stays_since.ensures
