@@ -105,6 +105,22 @@ fn push_before(
     Ok(())
 }
 
+/// Appends what was told last of a session's own row, if it was.
+fn push_told(
+    alloc: Global,
+    client: &Text,
+    told: Option<Vec<u8>>,
+    before: &mut Vec<Change>,
+) -> Result<(), NoMemory>
+    ensures { OnOk result (Appends (own_told (option_map (λ v. v.items) told) client.now) before.old.items before.new.items) }
+{
+    let Some(value) = told else {
+        return Ok(());
+    };
+    before.push(own_left(alloc, client, Some(value))?)?;
+    Ok(())
+}
+
 /// A session that isn't spent.
 #[derive(Drop)]
 pub(crate) struct Live {
@@ -238,18 +254,11 @@ impl Live {
     fn leave_own(&mut self, before: &mut Vec<Change>) -> Result<(), NoMemory>
         ensures { OnOk result (Appends (own_told self.old.told.value self.old.tracked.state.kept.client) before.old.items before.new.items) }
     {
+        let alloc = self.running.alloc();
         let told = self.told.take();
         self.has_row = false;
         self.stale = true;
-        let Some(value) = told else {
-            return Ok(());
-        };
-        before.push(own_left(
-            self.running.alloc(),
-            self.running.kept.client(),
-            Some(value),
-        )?)?;
-        Ok(())
+        push_told(alloc, self.running.kept.client(), told, before)
     }
 
     /// That the rows of its copies go.
