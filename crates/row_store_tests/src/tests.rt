@@ -157,10 +157,11 @@ fn other_databases_are_left_as_they_were(rt: HostRuntime) {
     }
 }
 
-// Changes, and what is left of them.
-const GATHERED: [(&[Sample], &[Sample]); 3] = [
-    (&[], &[]),
+// A kind, changes, and what is left of them.
+const GATHERED: [(u8, &[Sample], &[Sample]); 7] = [
+    (2, &[], &[]),
     (
+        3,
         &[
             (5, "t", Some(1)),
             (2, "a", Some(3)),
@@ -170,6 +171,7 @@ const GATHERED: [(&[Sample], &[Sample]); 3] = [
         &[(2, "a", Some(3)), (5, "t", Some(2))],
     ),
     (
+        3,
         &[
             (5, "t", Some(1)),
             (5, "t", Some(2)),
@@ -178,10 +180,51 @@ const GATHERED: [(&[Sample], &[Sample]); 3] = [
         ],
         &[(2, "a", Some(3)), (5, "t", None)],
     ),
+    // A row that is as it was, and one that wasn't there and isn't.
+    (
+        2,
+        &[
+            (2, "a", Some(1)),
+            (2, "a", Some(2)),
+            (2, "b", None),
+            (2, "b", Some(3)),
+            (2, "a", Some(1)),
+            (2, "b", None),
+        ],
+        &[],
+    ),
+    // A row that differs, one that is new, and one that is gone.
+    (
+        2,
+        &[
+            (2, "b", None),
+            (2, "a", Some(1)),
+            (2, "b", Some(1)),
+            (2, "a", Some(2)),
+            (2, "c", Some(1)),
+            (2, "c", None),
+        ],
+        &[(2, "a", Some(2)), (2, "b", Some(1)), (2, "c", None)],
+    ),
+    // What was there, alone.
+    (2, &[(2, "a", Some(1)), (2, "b", None)], &[]),
+    // Rows of other kinds that are as the first change leaves them.
+    (
+        2,
+        &[
+            (3, "a", Some(1)),
+            (3, "a", Some(2)),
+            (3, "a", Some(1)),
+            (1, "a", None),
+            (1, "a", Some(2)),
+            (1, "a", None),
+        ],
+        &[(1, "a", None), (3, "a", Some(1))],
+    ),
 ];
 
-fn gathers(rt: &impl Abort, alloc: Global, samples: &[Sample], want: &[Sample]) -> bool {
-    let gathered = gather(alloc, changes(rt, alloc, samples)).expect(rt, "memory");
+fn gathers(rt: &impl Abort, alloc: Global, kind: u8, samples: &[Sample], want: &[Sample]) -> bool {
+    let gathered = gather(alloc, changes(rt, alloc, samples), kind).expect(rt, "memory");
     let gathers = are_changes(&gathered, want);
     drop(gathered);
     gathers
@@ -189,7 +232,7 @@ fn gathers(rt: &impl Abort, alloc: Global, samples: &[Sample], want: &[Sample]) 
 
 #[test]
 fn the_last_change_at_a_key_is_left(rt: HostRuntime) {
-    for (samples, want) in GATHERED {
-        assert!(rt; gathers(&rt, rt.alloc(), samples, want));
+    for (kind, samples, want) in GATHERED {
+        assert!(rt; gathers(&rt, rt.alloc(), kind, samples, want));
     }
 }
