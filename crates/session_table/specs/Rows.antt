@@ -35,6 +35,7 @@ seat_row seats key = row_in (map.get seats key.1.0) key
 abbrev pub is_session_kind : ℕ → Bool
 is_session_kind n = n == 2 || n == 3
 
+-- the former alone
 abbrev pub own_kind : ℕ
 own_kind = 2
 
