@@ -242,7 +242,7 @@ module _ (lead : ToldChangesLead) where
       let b = is_told mid.told.value (main.bytes (main_of mid.tracked.state)) in (
         subst (λ (c : List ℕ). IsTold c new) is (told-next told.start ms p own new told.begins (sound-then told.moves (calls e r) told.sound sound) h t),
         subst (λ (c : List ℕ). OwnLead c (rows_for old.tracked.state) (rows_for new.tracked.state) (first ++ own)) is
-        (after-before k b mid.told.value (rows_for old.tracked.state) (rows_for new.tracked.state) first own was before (own-next mid own new t) (lead-next told.start ms p own new began h t)),
+            (after-before k b mid.told.value (rows_for old.tracked.state) (rows_for new.tracked.state) first own was before (own-next mid own new t) (lead-next told.start ms p own new began h t)),
       )
 
   -- its making
@@ -250,7 +250,7 @@ module _ (lead : ToldChangesLead) where
   begin-tells client first own new text before t = (
     told-next (begun client) [] (begun client) own new (inl (client, text, refl)) tt refl t,
     after-before client false None no_row (rows_for new.tracked.state) first own refl before (own-next (begun_session client) own new t)
-    (λ key. lead-next (begun client) [] (begun client) own new (inl (client, refl)) refl t key ∙ ap (left_or (left_by own key)) (none-before key)),
+        (λ key. lead-next (begun client) [] (begun client) own new (inl (client, refl)) refl t key ∙ ap (left_or (left_by own key)) (none-before key)),
   )
 
 -- its end
