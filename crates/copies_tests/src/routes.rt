@@ -3,7 +3,7 @@
 use crate::tests::{filter, message, subscriptions, text};
 use bridge_frames::Pick;
 use home_table::HomeTable;
-use message_copies::{copies, picks};
+use message_copies::{CopiesAndPicks, copies_and_picks};
 use message_routes::{Destinations, Route, picked_copies};
 use mqtt_message::{Message, SharedMessage};
 use std::alloc::Global;
@@ -43,11 +43,11 @@ fn destinations(
     turn: u64,
 ) -> Destinations {
     let table = HomeTable::parse(alloc, THREE).expect(rt, "a table");
-    let plain = copies(alloc, set, message).expect(rt, "memory");
-    let picks = picks(alloc, set, message, turn).expect(rt, "memory");
-    let found = Destinations::of(alloc, &table, plain.as_slice(), picks.as_slice());
+    let both = copies_and_picks(alloc, set, message, turn).expect(rt, "memory");
+    let CopiesAndPicks { copies, picks } = both;
+    let found = Destinations::of(alloc, &table, copies.as_slice(), picks.as_slice());
     let found = found.expect(rt, "memory");
-    drop((table, plain, picks));
+    drop((table, copies, picks));
     found
 }
 

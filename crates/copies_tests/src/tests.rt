@@ -1,7 +1,7 @@
 //! What each client of the subscriptions gets of one message.
 
 use causal_context::{Context, Dot};
-use message_copies::{copies, offer_of, picks};
+use message_copies::{CopiesAndPicks, copies, copies_and_picks, offer_of};
 use mqtt_fields::{Qos, SubscriptionOptions, Text};
 use mqtt_message::{Delivery, Identifiers, Message, SharedMessage};
 use mqtt_topics::Filter;
@@ -108,7 +108,8 @@ fn clients_get_one_copy(rt: HostRuntime) {
 
 fn told_picks(rt: &impl Abort, alloc: Global, set: &SubscriptionSet, turn: u64) -> String {
     let message = message(rt, alloc);
-    let picks = picks(alloc, set, &message, turn).expect(rt, "memory");
+    let both = copies_and_picks(alloc, set, &message, turn).expect(rt, "memory");
+    let CopiesAndPicks { copies, picks } = both;
     let mut told = String::new(alloc);
     for pick in picks.as_slice() {
         let (client, filter) = (pick.client.as_str(), pick.filter.as_str());
@@ -118,7 +119,7 @@ fn told_picks(rt: &impl Abort, alloc: Global, set: &SubscriptionSet, turn: u64) 
         );
         writeln!(told, "{client} {filter} {qos} {identifiers:?}").expect(rt, "memory");
     }
-    drop((message, picks));
+    drop((message, copies, picks));
     told
 }
 

@@ -15,7 +15,7 @@ use Rattle.std.specs.FinMap.Entries.{below_all, is_sorted, same_entries}
 use Rattle.std.specs.FinMap as map
 use Rattle.message_copies.specs.Tables.{under, IsPutUnder}
 
-both : (a b : Bool) → T a → T b → T (a && b)
+pub both : (a b : Bool) → T a → T b → T (a && b)
 both true b p q = q
 both false b p q = p
 
@@ -66,15 +66,27 @@ module _ {K X : Type 0} {R : K → K → Ordering} (o : IsTotalOrder R) (anti : 
     | false ↦ any_kept p xs
   ]
 
-  -- then it has just these keys, in order
-  pub holds_all : (xs : List X) (es : List (K × List X)) → T (is_sorted R es) → Holds R key xs es
-      → es ≡ map.entries (map.from_entries {R = R} (map_list (λ x. (key x, filter (λ y. eq_by_cmp R (key x) (key y)) xs)) xs))
-  holds_all xs es rises h =
-      let fs = map_list (λ x. (key x, of (key x) xs)) xs in
-      same_entries R o anti es (map.entries (map.from_entries {R = R} fs)) rises (map.entries_sorted (map.from_entries {R = R} fs))
-      (λ q. h q ∙ sym (sym (map.get-entries (map.from_entries {R = R} fs) q) ∙ map.get-from_entries o fs q ∙ listed (λ k. of k xs) q xs ∙ any_kept (λ x. eq_by_cmp R q (key x)) xs))
+  -- the keys in order, each with its elements
+  abbrev pub gathered : List X → List (K × List X)
+  gathered xs = map.entries (map.from_entries {R = R} (map_list (λ x. (key x, of (key x) xs)) xs))
 
-  pub holds_nothing : (xs : List X) → xs ≡ [] → [] ≡ map.entries (map.from_entries {R = R} (map_list (λ x. (key x, filter (λ y. eq_by_cmp R (key x) (key y)) xs)) xs))
+  pub gathered_rises : (xs : List X) → T (is_sorted R (gathered xs))
+  gathered_rises xs = map.entries_sorted (map.from_entries {R = R} (map_list (λ x. (key x, of (key x) xs)) xs))
+
+  pub gathered_holds : (xs : List X) → Holds R key xs (gathered xs)
+  gathered_holds xs q =
+      let fs = map_list (λ x. (key x, of (key x) xs)) xs in
+      sym (map.get-entries (map.from_entries {R = R} fs) q) ∙ map.get-from_entries o fs q ∙ listed (λ k. of k xs) q xs ∙ any_kept (λ x. eq_by_cmp R q (key x)) xs
+
+  -- then it has just these keys, in order
+  pub holds_all : (xs : List X) (es : List (K × List X)) → T (is_sorted R es) → Holds R key xs es → es ≡ gathered xs
+  holds_all xs es rises h = same_entries R o anti es (gathered xs) rises (gathered_rises xs) (λ q. h q ∙ sym (gathered_holds xs q))
+
+  -- lists that have the same of each key
+  pub gathered_same : (xs ys : List X) → ((q : K) → of q xs ≡ of q ys) → gathered xs ≡ gathered ys
+  gathered_same xs ys h = holds_all ys (gathered xs) (gathered_rises xs) (λ q. gathered_holds xs q ∙ ap some_of (h q))
+
+  pub holds_nothing : (xs : List X) → xs ≡ [] → [] ≡ gathered xs
   holds_nothing xs e = holds_all xs [] tt (holds_none xs [] e refl)
 
 module _ {K V X : Type 0} (R : K → K → Ordering) (f : V → List X) where

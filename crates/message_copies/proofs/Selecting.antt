@@ -1,11 +1,12 @@
 -- What is selected of what is live.
 use Rattle.std.proofs.Common.{◌≡◌, List, [], ◌∷◌, length, ℕ, ◌<◌, Result, Ok, Err, OnErr, IsOk, Bor, inl, inr, refl, sym, ap, subst, ◌∙◌, arith}
+use Rattle.mqtt_topics.specs.Topics.{IsShared}
 use Rattle.mqtt_message.specs.declared.message.Message.{Message}
 use Rattle.subscription_set.specs.Entries.{Entry}
 use Rattle.subscription_set.specs.Standing.{Entries}
 use Rattle.message_copies.specs.declared.plain.PlainCopy.{PlainCopy}
 use Rattle.message_copies.specs.declared.groups.GroupPick.{GroupPick}
-use Rattle.message_copies.specs.Copies.{AreCopies, AreCopiesAmong, AreLive, Counts, IsFor, entries_in}
+use Rattle.message_copies.specs.Copies.{AreCopies, AreCopiesAmong, AreLive, Counts, MayCount, IsFor, entries_in}
 use Rattle.message_copies.specs.Picks.{ArePicks, ArePicksAmong, IsSharedFor}
 use Rattle.message_copies.specs.Tables.{referents}
 use Rattle.filter_trie.specs.Selected.{IsSelected}
@@ -26,22 +27,26 @@ pub no_references : {X : Type 0} (rs : List (Bor X)) → referents rs ≡ [] →
 no_references [] e = refl
 no_references (r ∷ rs) e = absurd (let f : length (r.now ∷ referents rs) ≡ 0 = ap length e in omega (arith, f))
 
+-- what is selected by one property, and of that by another, is selected by both
+selected_both : {A : Type 0} (P Q R : A → Type 0) → ((x : A) → P x → Q x → R x) → ((x : A) → R x → P x × Q x) → (xs ys zs : List A) → IsSelected P xs ys → IsSelected Q ys zs → IsSelected R xs zs
+selected_both P Q R f g [] ys zs h k = subst (λ l. IsSelected Q l zs) h k
+selected_both P Q R f g (x ∷ xs) ys zs (inl h) k = elim (subst (λ l. IsSelected Q l zs) h.1.1 k) as (λ _. IsSelected R (x ∷ xs) zs) [
+  | inl q ↦ inl (f x h.0 q.0, (q.1.0, q.1.1, selected_both P Q R f g xs h.1.0 q.1.0 h.1.2 q.1.2))
+  | inr q ↦ inr ((λ r. q.0 (g x r).1), selected_both P Q R f g xs h.1.0 zs h.1.2 q.1)
+]
+selected_both P Q R f g (x ∷ xs) ys zs (inr h) k = inr ((λ r. h.0 (g x r).0), selected_both P Q R f g xs ys zs h.1 k)
+
 -- what is selected of what is selected by a wider property
 pub selected_within : {A : Type 0} (P Q : A → Type 0) → ((x : A) → Q x → P x) → (xs ys zs : List A) → IsSelected P xs ys → IsSelected Q ys zs → IsSelected Q xs zs
-selected_within P Q f [] ys zs h g = subst (λ l. IsSelected Q l zs) h g
-selected_within P Q f (x ∷ xs) ys zs (inl h) g = elim (subst (λ l. IsSelected Q l zs) h.1.1 g) as (λ _. IsSelected Q (x ∷ xs) zs) [
-  | inl k ↦ inl (k.0, (k.1.0, k.1.1, selected_within P Q f xs h.1.0 k.1.0 h.1.2 k.1.2))
-  | inr k ↦ inr (k.0, selected_within P Q f xs h.1.0 zs h.1.2 k.1)
-]
-selected_within P Q f (x ∷ xs) ys zs (inr h) g = inr ((λ q. h.0 (f x q)), selected_within P Q f xs ys zs h.1 g)
+selected_within P Q f = selected_both P Q Q (λ x p q. q) (λ x q. (f x q, q))
 
 -- copies among what was found are copies by what is live
 pub copies_found : (live : Entries) (m : Message) (found : List Entry) (out : List PlainCopy) → AreLive (IsFor m) live found → AreCopiesAmong found m out → AreCopies live m out
-copies_found live m found out h a = (a.0, selected_within (IsFor m) (Counts m) (λ e k. k.0.1) (entries_in live) found a.0 h a.1, a.2)
+copies_found live m found out h a = (a.0, selected_both (IsFor m) (MayCount m) (Counts m) (λ e p q. ((q.0, p), q.1)) (λ e k. (k.0.1, (k.0.0, k.1))) (entries_in live) found a.0 h a.1, a.2)
 
 -- and so are picks
 pub picks_found : (turn : ℕ) (live : Entries) (m : Message) (found : List Entry) (out : List GroupPick) → AreLive (IsFor m) live found → ArePicksAmong turn found m out → ArePicks turn live m out
-picks_found turn live m found out h a = (a.0, selected_within (IsFor m) (IsSharedFor m) (λ e k. k.1) (entries_in live) found a.0 h a.1, a.2)
+picks_found turn live m found out h a = (a.0, selected_both (IsFor m) (λ e. IsShared e.filter) (IsSharedFor m) (λ e p q. (q, p)) (λ e k. (k.1, k.0)) (entries_in live) found a.0 h a.1, a.2)
 
 -- where nothing that is live matches, nothing is found
 pub nothing_found : (live : Entries) (m : Message) (rs : List (Bor Entry)) → AreLive (IsFor m) live (referents rs) → AreLive (IsFor m) live [] → length rs ≡ 0

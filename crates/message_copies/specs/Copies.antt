@@ -37,9 +37,13 @@ AreLive P live out = IsSelected P (entries_in live) out
 abbrev pub plain_copy : Message → List ℕ × List Entry → PlainCopy
 plain_copy m x = record { client = x.0; delivery = copy_for m x.1 }
 
--- one copy for each client with one of some subscriptions that counts, in the order of the clients' bytes
+-- a plain one that counts where it matches
+abbrev pub MayCount : Message → Entry → Type 0
+MayCount m e = (IsShared e.filter → ⊥) × (IsOwnLocal m e → ⊥)
+
+-- one copy for each client with one that counts of some subscriptions that match, in the order of the clients' bytes
 abbrev pub AreCopiesAmong : List Entry → Message → List PlainCopy → Type 0
-AreCopiesAmong found m out = (counted : List Entry) × IsSelected (Counts m) found counted × (out ≡ map_list (plain_copy m) (by_client counted))
+AreCopiesAmong found m out = (counted : List Entry) × IsSelected (MayCount m) found counted × (out ≡ map_list (plain_copy m) (by_client counted))
 
 -- one copy for each client with a live subscription that counts, in the order of the clients' bytes
 abbrev pub AreCopies : Entries → Message → List PlainCopy → Type 0

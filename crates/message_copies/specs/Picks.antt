@@ -28,9 +28,9 @@ pick_of m (Some x) = pick_by m x.0 x.1
 abbrev pub picked : ℕ → List Entry → Option (List ℕ × List Entry)
 picked turn es = slice_get (by_client es) (turn % length (by_client es))
 
--- one pick for each group with one of some subscriptions that is shared and matches, in the order of the groups
+-- one pick for each group with a shared one of some subscriptions that match, in the order of the groups
 abbrev pub ArePicksAmong : ℕ → List Entry → Message → List GroupPick → Type 0
-ArePicksAmong turn found m out = (shared : List Entry) × IsSelected (IsSharedFor m) found shared × (out ≡ flat_map (λ g. pick_of m (picked turn g.1)) (by_group shared))
+ArePicksAmong turn found m out = (shared : List Entry) × IsSelected (λ e. IsShared e.filter) found shared × (out ≡ flat_map (λ g. pick_of m (picked turn g.1)) (by_group shared))
 
 -- one pick for each group with a live subscription that matches, in the order of the groups' names and then of their filters
 abbrev pub ArePicks : ℕ → Entries → Message → List GroupPick → Type 0

@@ -11,7 +11,7 @@ mod selected;
 mod together;
 
 pub use deliveries::{copy_for, least_qos, offer_of};
-pub use groups::{GroupPick, picks};
+pub use groups::GroupPick;
 pub use laws::{copies_are_determined, picks_are_determined};
 pub use plain::{PlainCopy, copies};
 pub use together::{CopiesAndPicks, copies_and_picks};

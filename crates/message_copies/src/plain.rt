@@ -1,13 +1,15 @@
 //! Copies of a message by plain subscriptions.
 
 ghost use Rattle.std.specs.Prelude.{◌≡◌, ◌<◌, [], length, map as map_list, IfOk, IsOk, OnErr};
+ghost use Rattle.std.specs.List.Sorted.{IsSortedByKey};
+ghost use Rattle.subscription_set.specs.Filing.{text_cmp};
 ghost use Rattle.subscription_set.specs.Standing.{live};
 ghost use Rattle.message_copies.specs.Copies.{AreCopies, AreCopiesAmong, AreLive, IsFor, plain_copy};
-ghost use Rattle.message_copies.specs.Gathered.{by_client};
+ghost use Rattle.message_copies.specs.Gathered.{by_client, client_of};
 ghost use Rattle.message_copies.specs.Tables.{referents};
 
 use crate::deliveries::copy_for;
-use crate::gathered::by_client;
+use crate::gathered::{by_client, sort_by_client};
 use crate::selected::{counted_among, found};
 use mqtt_fields::{NoMemory, Text};
 use mqtt_message::{Delivery, SharedMessage};
@@ -21,25 +23,53 @@ pub struct PlainCopy {
     pub delivery: Delivery,
 }
 
-// A copy for each of the clients.
-fn copies_of(
+// The copy for a client with these subscriptions.
+fn plain_copy(
+    alloc: Global,
+    message: &SharedMessage,
+    client: &Text,
+    own: &[&Entry],
+) -> Result<PlainCopy, NoMemory>
+    ensures { IfOk result (λ copy. copy ≡ plain_copy message.now (client.now, referents own.now)) }
+{
+    Ok(PlainCopy {
+        client: client.copy(alloc)?,
+        delivery: copy_for(alloc, message, own)?,
+    })
+}
+
+// A copy for each of the clients, of subscriptions in the order of their clients' bytes.
+fn copies_in_order(
     alloc: Global,
     message: &SharedMessage,
     counted: &[&Entry],
 ) -> Result<Vec<PlainCopy>, NoMemory>
+    requires { IsSortedByKey client_of text_cmp (referents counted.now) }
     ensures { IfOk result (λ out. out.items
         ≡ map_list (plain_copy message.now) (by_client (referents counted.now))) }
 {
-    let table = by_client(alloc, counted)?;
-    let mut out = Vec::new(alloc);
-    for (client, own) in table {
-        let delivery = copy_for(alloc, message, own.as_slice())?;
-        out.push(PlainCopy { client, delivery })?;
+    let members = by_client(alloc, counted)?;
+    let mut out = Vec::with_capacity(alloc, members.len())?;
+    for (client, own) in &members {
+        out.push(plain_copy(alloc, message, *client, *own)?)?;
     }
     Ok(out)
 }
 
-/// One copy for each client with a plain subscription that counts, among these that match. Only these take memory.
+// A copy for each of the clients.
+fn copies_of(
+    alloc: Global,
+    message: &SharedMessage,
+    mut counted: Vec<&Entry>,
+) -> Result<Vec<PlainCopy>, NoMemory>
+    ensures { IfOk result (λ out. out.items
+        ≡ map_list (plain_copy message.now) (by_client (referents counted.entry.items))) }
+{
+    sort_by_client(&mut counted)?;
+    copies_in_order(alloc, message, counted.as_slice())
+}
+
+/// One copy for each client with a plain subscription that counts, among these, which match. Only these take memory.
 pub fn copies_among(
     alloc: Global,
     message: &SharedMessage,
@@ -52,7 +82,7 @@ pub fn copies_among(
         return Ok(Vec::new(alloc));
     }
     let counted = counted_among(alloc, found, message.message())?;
-    copies_of(alloc, message, counted.as_slice())
+    copies_of(alloc, message, counted)
 }
 
 /// One copy of a message for each client with a live plain subscription that counts, in the order of the clients' bytes: at

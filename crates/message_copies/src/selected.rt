@@ -2,9 +2,9 @@
 
 ghost use Rattle.std.specs.Prelude.{◌↔◌, [], IfOk, IsOk, IsTrue};
 ghost use Rattle.filter_trie.specs.Selected.{IsSelected};
-ghost use Rattle.message_copies.specs.Copies.{AreLive, Counts, IsFor};
-ghost use Rattle.message_copies.specs.Picks.{IsSharedFor};
+ghost use Rattle.message_copies.specs.Copies.{AreLive, IsFor, MayCount};
 ghost use Rattle.message_copies.specs.Tables.{referents};
+ghost use Rattle.mqtt_topics.specs.Topics.{IsShared};
 ghost use Rattle.subscription_set.specs.Standing.{live};
 
 use mqtt_fields::NoMemory;
@@ -12,21 +12,20 @@ use mqtt_message::{Message, SharedMessage};
 use std::alloc::Global;
 use subscription_set::{Entry, SubscriptionSet};
 
-// Whether a plain subscription counts for the message.
-fn counts(message: &Message, entry: &Entry) -> bool
-    ensures { IsTrue result ↔ Counts message.now entry.now }
+// Whether a subscription is plain, and No Local doesn't leave it out.
+fn may_count(message: &Message, entry: &Entry) -> bool
+    ensures { IsTrue result ↔ MayCount message.now entry.now }
 {
-    if entry.filter().group().is_some() || !entry.filter().matches(&message.topic) {
+    if is_shared(entry) {
         return false;
     }
     !(entry.options().no_local() && entry.has_client(&message.publisher))
 }
 
-// Whether a shared subscription matches the message.
-fn is_shared_for(message: &Message, entry: &Entry) -> bool
-    ensures { IsTrue result ↔ IsSharedFor message.now entry.now }
+fn is_shared(entry: &Entry) -> bool
+    ensures { IsTrue result ↔ IsShared entry.now.filter }
 {
-    entry.filter().group().is_some() && entry.filter().matches(&message.topic)
+    entry.filter().group().is_some()
 }
 
 /// The live subscriptions that match. Only these take memory.
@@ -41,36 +40,32 @@ pub fn found<'a>(
     subscriptions.matching(&message.message().topic)
 }
 
-/// Those of the subscriptions that are plain and count.
+/// Those of the subscriptions that are plain and that No Local doesn't leave out.
 pub fn counted_among<'a>(
     alloc: Global,
     found: &[&'a Entry],
     message: &Message,
 ) -> Result<Vec<&'a Entry>, NoMemory>
     ensures { IfOk result (λ out.
-        IsSelected (Counts message.now) (referents found.now) (referents out.items)) }
+        IsSelected (MayCount message.now) (referents found.now) (referents out.items)) }
 {
-    let mut out = Vec::new(alloc);
+    let mut out = Vec::with_capacity(alloc, found.len())?;
     for entry in found {
-        if counts(message, *entry) {
+        if may_count(message, *entry) {
             out.push(*entry)?;
         }
     }
     Ok(out)
 }
 
-/// Those of the subscriptions that are shared and match.
-pub fn shared_among<'a>(
-    alloc: Global,
-    found: &[&'a Entry],
-    message: &Message,
-) -> Result<Vec<&'a Entry>, NoMemory>
+/// Those of the subscriptions that are shared.
+pub fn shared_among<'a>(alloc: Global, found: &[&'a Entry]) -> Result<Vec<&'a Entry>, NoMemory>
     ensures { IfOk result (λ out.
-        IsSelected (IsSharedFor message.now) (referents found.now) (referents out.items)) }
+        IsSelected (λ e. IsShared e.filter) (referents found.now) (referents out.items)) }
 {
     let mut out = Vec::new(alloc);
     for entry in found {
-        if is_shared_for(message, *entry) {
+        if is_shared(*entry) {
             out.push(*entry)?;
         }
     }

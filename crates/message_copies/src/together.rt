@@ -20,8 +20,10 @@ pub struct CopiesAndPicks {
     pub picks: Vec<GroupPick>,
 }
 
-/// What `copies` and `picks` give, with the live subscriptions that match found once (MQTT 5.0, 3.3.4 and 4.8.2). It takes
-/// memory only where a live subscription matches; a copy with more than 65,535 identifiers counts as want of memory.
+/// The copies that `copies` gives, and one pick for each shared group with a live subscription that matches the message, in
+/// the order of the share names and then of the filters: of the group's clients, in the order of their bytes, the one in the
+/// place `turn` modulo their number, with its copy by its own subscription (MQTT 5.0, 3.3.4 and 4.8.2). It takes memory only
+/// where a live subscription matches; a copy with more than 65,535 identifiers counts as want of memory.
 pub fn copies_and_picks(
     alloc: Global,
     subscriptions: &SubscriptionSet,

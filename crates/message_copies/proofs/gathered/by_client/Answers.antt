@@ -1,25 +1,12 @@
-use Rattle.std.proofs.Common.{◌∷◌, ◌++◌, [], take, sym, ap, subst, ◌∙◌}
-use Rattle.std.proofs.lemmas.List.{map_more, take_all}
-use Rattle.subscription_set.specs.Filing.{text_cmp}
-use Rattle.subscription_set.proofs.Spreading.{text_total, text_anti}
+use Rattle.std.proofs.Common.{◌++◌, sym, ap, ◌∙◌}
+use Rattle.std.proofs.lemmas.List.{append-nil, drop_all}
 use Rattle.message_copies.specs.Gathered.{client_of}
-use Rattle.message_copies.specs.Tables.{referents, shown}
-use Rattle.message_copies.proofs.Gathering.{Holds, holds_more, holds_all, rises_shown}
+use Rattle.message_copies.specs.Tables.{referents, referred}
+use Rattle.subscription_set.proofs.Spreading.{text_total, text_anti}
+use Rattle.message_copies.proofs.Gathering.{holds_nothing}
 use Rattle.message_copies.proofs.gathered.by_client.Goals as goal
 
-pub loop-entry-preserved : goal.loop-entry-preserved
-loop-entry-preserved c =
-    let put = c.in_ok-put_with_client.ensures in
-    let grown = map_more (λ r. r.now) c.args.entries.now c.loop-entry.entry-index c.entry-item.result c.loop-entry-test.true in
-    let item = sym c.entry-item.is in
-    record {
-      holds = subst (λ es. Holds text_cmp client_of es (shown c.put_with_client.new.table.entries)) (sym (grown ∙ ap (λ r. referents (take c.loop-entry.entry-index c.args.entries.now) ++ r.now ∷ []) item))
-          (holds_more text_total text_anti client_of (referents (take c.loop-entry.entry-index c.args.entries.now)) c.entry-item.result.now (shown c.loop-entry.table.entries) (shown c.put_with_client.new.table.entries) c.loop-entry.invariant.holds put.put);
-      ordered = put.ordered;
-    }
-
-pub returns-clause-table : goal.returns-clause-table
-returns-clause-table c =
-    let whole = take_all c.loop-entry.entry-index c.args.entries.now c.loop-entry-test.false in
-    holds_all text_total text_anti client_of (referents c.args.entries.now) (shown c.loop-entry.table.entries) (rises_shown text_cmp (λ v. referents v.items) c.loop-entry.table.entries c.loop-entry.invariant.ordered)
-    (subst (λ es. Holds text_cmp client_of (referents es) (shown c.loop-entry.table.entries)) whole c.loop-entry.invariant.holds)
+pub returns : goal.returns
+returns c =
+    let shown = referred c.loop-place.members.items in
+    sym (append-nil shown) ∙ ap (λ ys. shown ++ ys) (holds_nothing text_total text_anti client_of _ (ap referents (drop_all c.loop-place.place c.args.entries.now c.loop-place-test.false))) ∙ c.loop-place.invariant.left

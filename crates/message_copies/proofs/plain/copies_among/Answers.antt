@@ -2,7 +2,7 @@ use Rattle.std.proofs.Common.{◌≡◌, [], map as map_list, length, refl, sym,
 use Rattle.std.proofs.lemmas.Grind.{common_steps}
 use Rattle.filter_trie.specs.Selected.{IsSelected}
 use Rattle.subscription_set.proofs.Spreading.{text_total, text_anti}
-use Rattle.message_copies.specs.Copies.{Counts, plain_copy}
+use Rattle.message_copies.specs.Copies.{MayCount, plain_copy}
 use Rattle.message_copies.specs.Gathered.{client_of}
 use Rattle.message_copies.proofs.Selecting.{no_referents}
 use Rattle.message_copies.proofs.Gathering.{holds_nothing}
@@ -11,4 +11,4 @@ use Rattle.message_copies.proofs.plain.copies_among.Goals as goal
 pub returns-then-is_empty-clause-copies : goal.returns-then-is_empty-clause-copies
 returns-then-is_empty-clause-copies c =
     let zero : length c.args.found.now ≡ 0 = grind (arith, common_steps) in
-    ([], subst (λ es. IsSelected (Counts c.args.message.now) es []) (sym (no_referents c.args.found.now zero)) refl, c.new.ensures.items ∙ ap (map_list (plain_copy c.args.message.now)) (holds_nothing text_total text_anti client_of [] refl))
+    ([], subst (λ es. IsSelected (MayCount c.args.message.now) es []) (sym (no_referents c.args.found.now zero)) refl, c.new.ensures.items ∙ ap (map_list (plain_copy c.args.message.now)) (holds_nothing text_total text_anti client_of [] refl))
