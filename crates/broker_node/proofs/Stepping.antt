@@ -120,7 +120,7 @@ module _ (n : NodeView) (place : Place) (w : WorkView) (stopped : Bool) (e : Eve
       let told : Lead (held_row w.place.id w.held) (held_row last.place.id last.held) last.changes = subst (λ (xs : List Change). Lead (held_row w.place.id w.held) (held_row last.place.id last.held) xs) (sym t.1) t.2 in
       let lead : Lead (held_row n.place.id w.held) (held_row n.place.id last.held) last.changes =
       here (λ p h. Lead (held_row p.id h) (held_row p.id last.held) last.changes) (subst (λ (p : Place). Lead (held_row w.place.id w.held) (held_row p.id last.held) last.changes) d.place told) in
-      let begun_told : Begin own_kind (held_row w.place.id w.held) last.changes = subst (λ (xs : List Change). Begin own_kind (held_row w.place.id w.held) xs) (sym t.1) t.3 in
+      let begun_told : Begin own_kind (held_row w.place.id w.held) last.changes = d.begins (held_row w.place.id w.held) (λ key. refl) (λ key own. tt) in
       let begins : Begin own_kind (held_row n.place.id w.held) last.changes = here (λ p h. Begin own_kind (held_row p.id h) last.changes) begun_told in
       let final = settled_lead own_kind (held_row n.place.id w.held) (held_row n.place.id last.held) o.changes.items last.changes s.settled begins lead in
       record {

@@ -21,10 +21,10 @@ use Rattle.node_work.specs.declared.fault.NodeFault.TheVariants.{NoMemory, Numbe
 use Rattle.node_work.specs.Acts.{Bridge, Runs, gather, output_in}
 use Rattle.node_work.specs.Doings.{Misses, Puts, PutsBy}
 use Rattle.node_work.specs.Held.Bridge.{Put}
-use Rattle.node_work.specs.Lasting.{AreOpenedWith, Tells, TellsOn, held_row}
+use Rattle.node_work.specs.Lasting.{AreOpenedWith, held_row}
 use Rattle.node_work.specs.View.{Place, HeldView, WorkView}
 use Rattle.node_work.specs.Working.{Comes, Did, Doing, Stops, Acting}
-use Rattle.node_work.proofs.Telling.{lanes_tell, tells_none, tells_then}
+use Rattle.node_work.proofs.Telling.{Tell, TellsFrom, begins_then, lanes_tell, still_begin, tells_none, tells_of, tells_then}
 use Rattle.node_work.proofs.Working.{comes_looks, did_told}
 
 -- ---- a node that is opened
@@ -51,23 +51,24 @@ woken_with links lanes b o rows is =
 
 -- the lanes change, and none of the other rows
 pub on_lanes_tell : {T E : Type 0} (id : ℕ) (h h' x : HeldView) (before after : List Change) (r : Result T E) → x.named ≡ h.named → x.sessions ≡ h.sessions → x.store ≡ h.store → OnOk r (h' ≡ x)
-    → OnOk r (LanesTell h.bridge.lanes before after h'.bridge.lanes) → OnOk r (TellsOn (held_row id h) before after (held_row id h'))
+    → OnOk r (LanesTell h.bridge.lanes before after h'.bridge.lanes) → OnOk r (TellsFrom (held_row id h) before after (held_row id h'))
 on_lanes_tell id h h' x before after (Ok y) named sessions store is l =
     lanes_tell id h h' before after (ap (λ (v : HeldView). v.named) is ∙ named) (ap (λ (v : HeldView). v.sessions) is ∙ sessions) (ap (λ (v : HeldView). v.store) is ∙ store) l
 on_lanes_tell id h h' x before after (Err e) named sessions store is l = tt
 
 -- work after changes that lead to the same rows
-told_before : (w m w' : WorkView) (P : Doing) → m.place ≡ w.place → m.held ≡ w.held → m.outputs ≡ w.outputs → Tells w m → Did m w' P → Did w w' P
+told_before : (w m w' : WorkView) (P : Doing) → m.place ≡ w.place → m.held ≡ w.held → m.outputs ≡ w.outputs → Tell w m → Did m w' P → Did w w' P
 told_before w m w' P place held outputs tells d = record {
   acts = d.acts;
   does = subst (λ p. P p w.held d.acts) place (subst (λ h. P m.place h d.acts) held d.does);
   runs = subst (λ p. Runs p w.held d.acts w'.held) place (subst (λ h. Runs m.place h d.acts w'.held) held d.runs);
   given = d.given ∙ ap (λ os. os ++ gather output_in d.acts) outputs;
-  tells = tells_then w m w' tells d.tells;
+  tells = tells_then w m w' (tells_of w m tells) d.tells;
+  begins = begins_then w m w' (tells_of w m tells) (still_begin w m tells) d.begins;
   place = d.place ∙ place;
 }
 
-comes_before : (r : Result (Unit {0}) NodeFault) (w m w' : WorkView) (P : Option (Unit {0}) → Doing) → m.place ≡ w.place → m.held ≡ w.held → m.outputs ≡ w.outputs → Tells w m → Comes (λ x. x) r m w' P → Comes (λ x. x) r w w' P
+comes_before : (r : Result (Unit {0}) NodeFault) (w m w' : WorkView) (P : Option (Unit {0}) → Doing) → m.place ≡ w.place → m.held ≡ w.held → m.outputs ≡ w.outputs → Tell w m → Comes (λ x. x) r m w' P → Comes (λ x. x) r w w' P
 comes_before (Ok x) w m w' P place held outputs tells d = told_before w m w' (P (Some x)) place held outputs tells d
 comes_before (Err NumbersAtEnd) w m w' P place held outputs tells d = (d.0, told_before w m d.0 (P None) place held outputs tells d.1)
 comes_before (Err NoMemory) w m w' P place held outputs tells d = tt
@@ -77,7 +78,7 @@ module _ (w : WorkView) (h' : HeldView) (cs : List Change) (peer : ℕ) (m : For
   abbrev offered_to : WorkView
   offered_to = record w { held = h'; changes = cs }
 
-  told_on : (x : HeldView) → h' ≡ x → x.named ≡ w.held.named → x.sessions ≡ w.held.sessions → x.store ≡ w.held.store → TellsOn (held_row w.place.id w.held) w.changes cs (held_row w.place.id h')
+  told_on : (x : HeldView) → h' ≡ x → x.named ≡ w.held.named → x.sessions ≡ w.held.sessions → x.store ≡ w.held.store → TellsFrom (held_row w.place.id w.held) w.changes cs (held_row w.place.id h')
   told_on x is named sessions store =
       lanes_tell w.place.id w.held h' w.changes cs (ap (λ (v : HeldView). v.named) is ∙ named) (ap (λ (v : HeldView). v.sessions) is ∙ sessions) (ap (λ (v : HeldView). v.store) is ∙ store) tells
 
@@ -99,7 +100,7 @@ pub puts_at_end : (w w' : WorkView) (peer : ℕ) (m : Forward) → offer_to peer
 puts_at_end w w' peer m offer =
     let stopped : Result (Unit {0}) NodeFault = Err NumbersAtEnd in
     comes_looks (λ x. x) stopped w w' (λ p h. offer_to peer h.bridge) (PutsBy peer m) AtEnd offer
-    (w, record { acts = []; does = (refl, refl); runs = refl; given = sym (append-nil w.outputs); tells = tells_none w w refl refl; place = refl })
+    (w, record { acts = []; does = (refl, refl); runs = refl; given = sym (append-nil w.outputs); tells = tells_none w w refl refl; begins = λ old lead begins. begins; place = refl })
 
 -- ---- frames
 pub small : (n limit : ℕ) → n ≤ limit → nat_le n limit ≡ true

@@ -21,9 +21,9 @@ use Rattle.node_work.specs.Held.Sessions.{SessionStep, Called, IsOn, HappensAt, 
 use Rattle.node_work.specs.View.{HeldView, WorkView}
 use Rattle.row_store.specs.declared.row.Change.{Change}
 use Rattle.session_table.specs.Rows.{LeadsOn}
-use Rattle.node_work.specs.Lasting.{Tells, TellsOn, held_row, work_row}
+use Rattle.node_work.specs.Lasting.{held_row, work_row}
 use Rattle.node_work.specs.Working.{Did, Comes}
-use Rattle.node_work.proofs.Telling.{sessions_tell, tells_none}
+use Rattle.node_work.proofs.Telling.{Tell, TellsFrom, sessions_tell, still_begin, tells_none, tells_of}
 
 -- its packets go to the connection that the client is on afterwards
 abbrev pub GoesTo : Option ℕ → (Option ℕ → Option ℕ) → Option Seat → Type 0
@@ -42,7 +42,7 @@ sends_next f w m m' xs i x below at is e =
     ∙ ap (λ os. record w { outputs = os }) (append_assoc w.outputs (map_list one (take i xs)) (one x ∷ []) ∙ ap (λ os. w.outputs ++ os) (sym more))
 
 -- a session begins or is over
-pub both_tell : {T E : Type 0} (id : ℕ) (h h' : HeldView) (before after : List Change) (r : Result T E) (s : Seats) → OnOk r (h' ≡ record h { sessions = s }) → OnOk r (LeadsOn h.sessions before after h'.sessions) → OnOk r (TellsOn (held_row id h) before after (held_row id h'))
+pub both_tell : {T E : Type 0} (id : ℕ) (h h' : HeldView) (before after : List Change) (r : Result T E) (s : Seats) → OnOk r (h' ≡ record h { sessions = s }) → OnOk r (LeadsOn h.sessions before after h'.sessions) → OnOk r (TellsFrom (held_row id h) before after (held_row id h'))
 both_tell id h h' before after (Ok x) s is l = sessions_tell id h h' s before after is l
 both_tell id h h' before after (Err e) s is l = tt
 
@@ -51,10 +51,10 @@ pub spelled_after : (client : List ℕ) (e : Event) (on : Option ℕ → Option 
 spelled_after client e on h h' called k = subst (λ n. IfOk called (IsSpelledIf n)) (sym (ap (λ (v : HeldView). v.at) k.2))
 
 module _ (client : List ℕ) (event : ℕ → Event) (on : Option ℕ → Option ℕ) (to : Option ℕ) (w w' : WorkView) (h' : HeldView) (cs : List Change) where
-  call_tells : (s : Seats) → h' ≡ record w.held { sessions = s } → LeadsOn w.held.sessions w.changes cs h'.sessions → w'.changes ≡ cs → work_row w' ≡ held_row w.place.id h' → Tells w w'
+  call_tells : (s : Seats) → h' ≡ record w.held { sessions = s } → LeadsOn w.held.sessions w.changes cs h'.sessions → w'.changes ≡ cs → work_row w' ≡ held_row w.place.id h' → Tell w w'
   call_tells s is l changes rows =
       let t = sessions_tell w.place.id w.held h' s w.changes cs is l in
-      subst (λ (r : Rows). TellsOn (work_row w) w.changes w'.changes r) (sym rows) (subst (λ (xs : List Change). TellsOn (work_row w) w.changes xs (held_row w.place.id h')) (sym changes) t)
+      subst (λ (r : Rows). TellsFrom (work_row w) w.changes w'.changes r) (sym rows) (subst (λ (xs : List Change). TellsFrom (work_row w) w.changes xs (held_row w.place.id h')) (sym changes) t)
 
   -- the client has no session
   no_call : IsHeldCall client (event w.held.at) on w.held (Ok None) h' → LeadsOn w.held.sessions w.changes cs h'.sessions → w' ≡ record w { held = h'; changes = cs } → Did w w' (Calls client event on (Some nothing))
@@ -65,7 +65,8 @@ module _ (client : List ℕ) (event : ℕ → Event) (on : Option ℕ → Option
         does = subst (λ o. CallsAt client event on o (Some nothing) w.place w.held []) (sym k.1.0) (refl, refl);
         runs = ap (λ (v : WorkView). v.held) e ∙ held;
         given = ap (λ (v : WorkView). v.outputs) e ∙ sym (append-nil w.outputs);
-        tells = call_tells k.0 k.2 l (ap (λ (v : WorkView). v.changes) e) (ap work_row e);
+        tells = tells_of w w' (call_tells k.0 k.2 l (ap (λ (v : WorkView). v.changes) e) (ap work_row e));
+        begins = still_begin w w' (call_tells k.0 k.2 l (ap (λ (v : WorkView). v.changes) e) (ap work_row e));
         place = ap (λ (v : WorkView). v.place) e;
       }
 
@@ -92,7 +93,8 @@ module _ (client : List ℕ) (event : ℕ → Event) (on : Option ℕ → Option
         given = ap (λ (v : WorkView). v.outputs) e
             ∙ (λ i. w.outputs ++ outputs_on (there i) (ap (λ (h : HeldView). h.at) held i) r)
             ∙ ap (λ os. w.outputs ++ os) (sym (append-nil (outputs_on (on seat.connection) w.held.at r)));
-        tells = call_tells k.0 k.2 l (ap (λ (v : WorkView). v.changes) e) (ap work_row e);
+        tells = tells_of w w' (call_tells k.0 k.2 l (ap (λ (v : WorkView). v.changes) e) (ap work_row e));
+        begins = still_begin w w' (call_tells k.0 k.2 l (ap (λ (v : WorkView). v.changes) e) (ap work_row e));
         place = ap (λ (v : WorkView). v.place) e;
       }
 
@@ -104,6 +106,7 @@ module _ (client : List ℕ) (event : ℕ → Event) (on : Option ℕ → Option
     runs = refl;
     given = sym (append-nil w.outputs);
     tells = tells_none w w refl refl;
+    begins = λ old lead begins. begins;
     place = refl;
   }
 

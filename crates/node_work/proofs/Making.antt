@@ -16,12 +16,12 @@ use Rattle.node_work.specs.declared.fault.NodeFault.TheVariants.{NoMemory, Numbe
 use Rattle.node_bridge.specs.View.{keeps}
 use Rattle.node_work.specs.View.{Place, HeldView, WorkView}
 use Rattle.node_work.specs.Acts.{Store, Made, IsMade}
-use Rattle.node_work.specs.Lasting.{StoreTells, TellsOn, held_row}
+use Rattle.node_work.specs.Lasting.{StoreTells, held_row}
 use Rattle.row_store.specs.declared.row.Change.{Change}
 use Rattle.node_work.specs.Held.Making.{Makes, number_at_end, put_at_end, removal, with_operation}
 use Rattle.node_work.specs.Names.{node_fault}
 use Rattle.node_work.specs.Working.{Numbered, Comes}
-use Rattle.node_work.proofs.Telling.{store_tells}
+use Rattle.node_work.proofs.Telling.{TellsFrom, store_tells}
 use Rattle.node_work.proofs.Working.{did_told, did_numbered, did_at_end}
 
 -- ---- at the end of the numbers
@@ -93,7 +93,7 @@ made_put id content h e = let p = neither _ _ e in (is_below _ p.0, is_below _ p
 removal_is : (id : ℕ) (client : List ℕ) (to : Option (List ℕ)) (s : State) → any_of client to s.subscriptions ≡ true → Some (removal id client to s) ≡ remove_of id client to s
 removal_is id client to s e = ap (λ b. cond b (Some (removal id client to s)) None) (sym e)
 
-pub merge_tells : {T E : Type 0} (id : ℕ) (h h' : HeldView) (s : State) (before after : List Change) (r : Result T E) → OnOk r (h' ≡ record h { store = state_join h.store s; bridge = keeps s h.bridge }) → OnOk r (StoreTells h.store before after h'.store) → OnOk r (TellsOn (held_row id h) before after (held_row id h'))
+pub merge_tells : {T E : Type 0} (id : ℕ) (h h' : HeldView) (s : State) (before after : List Change) (r : Result T E) → OnOk r (h' ≡ record h { store = state_join h.store s; bridge = keeps s h.bridge }) → OnOk r (StoreTells h.store before after h'.store) → OnOk r (TellsFrom (held_row id h) before after (held_row id h'))
 merge_tells id h h' s before after (Ok x) is t = store_tells id h h' before after (ap (λ (v : HeldView). v.named) is) (ap (λ (v : HeldView). v.sessions) is) (ap (λ (v : HeldView). v.bridge.lanes) is) t
 merge_tells id h h' s before after (Err e) is t = tt
 

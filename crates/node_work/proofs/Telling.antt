@@ -25,20 +25,42 @@ use Rattle.lane_rows.specs.Changes.{is_lane_kind}
 use Rattle.lane_rows.specs.Rows as lane_rows
 use Rattle.node_bridge.specs.View.{LanesTell}
 use Rattle.node_rows.specs.Rows.{Lasting, mark, mark_at, mark_key, node_row, session_row}
-use Rattle.node_work.specs.Lasting.{StoreTells, Tells, TellsOn, held_row, is_store_kind, lasting, work_row}
+use Rattle.node_work.specs.Lasting.{StillBegin, StoreTells, Tells, held_row, is_store_kind, lasting, work_row}
 use Rattle.node_work.specs.View.{HeldView, WorkView}
 
+-- changes are appended that lead from the rows before to those after, and begin at sessions' own rows with what was there
+abbrev pub TellsFrom : Rows → List Change → List Change → Rows → Type 0
+TellsFrom old before after new = (own : List Change) × (after ≡ before ++ own) × Lead old new own × Begin own_kind old own
+
+abbrev pub Tell : WorkView → WorkView → Type 0
+Tell w w' = TellsFrom (work_row w) w.changes w'.changes (work_row w')
+
+pub tells_of : (w w' : WorkView) → Tell w w' → Tells w w'
+tells_of w w' t = (t.0, t.1, t.2)
+
+pub still_begin : (w w' : WorkView) → Tell w w' → StillBegin w w'
+still_begin w w' t old lead begins = subst (λ (cs : List Change). Begin own_kind old cs) (sym t.1) (begin_on own_kind old (work_row w) w.changes t.0 (λ key own. lead key) begins t.3)
+
 -- nothing is told where nothing that lasts has changed
+pub told_none : (w w' : WorkView) → w'.changes ≡ w.changes → work_row w' ≡ work_row w → Tell w w'
+told_none w w' same rows = ([], same ∙ sym (append-nil w.changes), (λ key. (λ i. rows i key)), (λ key own. tt))
+
 pub tells_none : (w w' : WorkView) → w'.changes ≡ w.changes → work_row w' ≡ work_row w → Tells w w'
-tells_none w w' same rows = ([], same ∙ sym (append-nil w.changes), (λ key. (λ i. rows i key)), (λ key own. tt))
+tells_none w w' same rows = tells_of w w' (told_none w w' same rows)
+
+pub begins_same : (w w' : WorkView) → w'.changes ≡ w.changes → StillBegin w w'
+begins_same w w' same old lead begins = subst (λ (cs : List Change). Begin own_kind old cs) (sym same) begins
 
 pub tells_then : (a b c : WorkView) → Tells a b → Tells b c → Tells a c
 tells_then a b c first second = (
   first.0 ++ second.0,
   second.1 ∙ ap (λ l. l ++ second.0) first.1 ∙ append_assoc a.changes first.0 second.0,
   lead_on (work_row a) (work_row b) (work_row c) first.0 second.0 first.2 second.2,
-  begin_on own_kind (work_row a) (work_row b) first.0 second.0 (λ key own. first.2 key) first.3 second.3,
 )
+
+pub begins_then : (a b c : WorkView) → Tells a b → StillBegin a b → StillBegin b c → StillBegin a c
+begins_then a b c t first second old lead begins =
+    second old (subst (λ (cs : List Change). Lead old (work_row b) cs) (sym t.1) (lead_on old (work_row a) (work_row b) a.changes t.0 lead t.2)) (first old lead begins)
 
 -- ---- changes that name no session's own row begin with what was there
 or-none : (a b : Option (Option (List ℕ))) → or_else a b ≡ None → (a ≡ None) × (b ≡ None)
@@ -120,14 +142,14 @@ module _ (id : ℕ) (h h' : HeldView) (own : List Change) where
 own-row : (id : ℕ) (h : HeldView) (key : Key) → key.0 ≡ own_kind → held_row id h key ≡ seat_row h.sessions key
 own-row id h key own = ap (λ n. row-of id h key (n == 1) (is_session_kind n) (is_lane_kind n)) own ∙ session-row (map.get h.sessions key.1.0) key
 
-pub sessions_tell : (id : ℕ) (h h' : HeldView) (s : Seats) (before after : List Change) → h' ≡ record h { sessions = s } → LeadsOn h.sessions before after h'.sessions → TellsOn (held_row id h) before after (held_row id h')
+pub sessions_tell : (id : ℕ) (h h' : HeldView) (s : Seats) (before after : List Change) → h' ≡ record h { sessions = s } → LeadsOn h.sessions before after h'.sessions → TellsFrom (held_row id h) before after (held_row id h')
 sessions_tell id h h' s before after is l = (l.0, l.1, sessions-lead id h h' l.0 (ap (λ (v : HeldView). v.named) is) (ap (λ (v : HeldView). v.store) is) (ap (λ (v : HeldView). v.bridge.lanes) is) l.2, begins)
   where
     begins : Begin own_kind (held_row id h) l.0
     begins key own = subst (λ (o : Option (List ℕ)). IfSome (first_by l.0 key) (λ left. left ≡ o)) (sym (own-row id h key own)) (l.3 key own)
 
 -- lanes change, and what else is kept for other nodes
-pub lanes_tell : (id : ℕ) (h h' : HeldView) (before after : List Change) → h'.named ≡ h.named → h'.sessions ≡ h.sessions → h'.store ≡ h.store → LanesTell h.bridge.lanes before after h'.bridge.lanes → TellsOn (held_row id h) before after (held_row id h')
+pub lanes_tell : (id : ℕ) (h h' : HeldView) (before after : List Change) → h'.named ≡ h.named → h'.sessions ≡ h.sessions → h'.store ≡ h.store → LanesTell h.bridge.lanes before after h'.bridge.lanes → TellsFrom (held_row id h) before after (held_row id h')
 lanes_tell id h h' before after named sessions store l = (l.0, l.1, lanes-lead id h h' l.0 named sessions store l.2, begins-none l.0 (λ key own. l.2.others key (ap is_lane_kind own)) (held_row id h))
 
 -- ---- the mark
@@ -141,7 +163,7 @@ unmarked old new n [] (b ∷ place) e off = refl
 unmarked old new n (b ∷ owner) place e off = refl
 
 pub name_tells : (id : ℕ) (h h' : HeldView) (row : Row) (before after : List Change) → key_of row ≡ mark_key → row.value.items ≡ mark id h'.named → after ≡ before ++ Put row ∷ [] → h'.sessions ≡ h.sessions → h'.store ≡ h.store → h'.bridge.lanes ≡ h.bridge.lanes
-    → TellsOn (held_row id h) before after (held_row id h')
+    → TellsFrom (held_row id h) before after (held_row id h')
 name_tells id h h' row before after named value is sessions store lanes = (Put row ∷ [], is, lead, begins-none (Put row ∷ []) apart (held_row id h))
   where
     left : (key : Key) (b : Bool) → eq_by_cmp key_cmp key mark_key ≡ b → left_by (Put row ∷ []) key ≡ cond b (Some (Some (mark id h'.named))) None
@@ -248,7 +270,7 @@ lane-apart n e = elim (cases_Bool (n == 7)) [
   | inr not ↦ ap is_store_kind (eqb→eq n 8 (subst T (sym ((λ i. sym not i || (n == 8)) ∙ e)) tt))
 ]
 
-pub store_tells : (id : ℕ) (h h' : HeldView) (before after : List Change) → h'.named ≡ h.named → h'.sessions ≡ h.sessions → h'.bridge.lanes ≡ h.bridge.lanes → StoreTells h.store before after h'.store → TellsOn (held_row id h) before after (held_row id h')
+pub store_tells : (id : ℕ) (h h' : HeldView) (before after : List Change) → h'.named ≡ h.named → h'.sessions ≡ h.sessions → h'.bridge.lanes ≡ h.bridge.lanes → StoreTells h.store before after h'.store → TellsFrom (held_row id h) before after (held_row id h')
 store_tells id h h' before after named sessions lanes told = (told.0, told.1, lead, begins-none told.0 (λ key kind. told.2.others key (ap is_store_kind kind)) (held_row id h))
   where
     own : List Change

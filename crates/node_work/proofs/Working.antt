@@ -7,10 +7,10 @@ use Rattle.row_store.specs.declared.row.Change.{Change}
 use Rattle.node_work.specs.declared.fault.NodeFault.{NodeFault}
 use Rattle.node_work.specs.declared.fault.NodeFault.TheVariants.{NoMemory, NumbersAtEnd, Stopped}
 use Rattle.node_work.specs.declared.outcome.Output.{Output}
-use Rattle.node_work.specs.Lasting.{Tells, TellsOn, held_row, work_row}
+use Rattle.node_work.specs.Lasting.{held_row, work_row}
 use Rattle.node_work.specs.View.{Place, HeldView, WorkView}
 use Rattle.node_work.specs.Acts.{Act, Out, Allowed, Runs, next, gather, output_in}
-use Rattle.node_work.proofs.Telling.{tells_none, tells_then}
+use Rattle.node_work.proofs.Telling.{Tell, TellsFrom, begins_same, begins_then, still_begin, tells_none, tells_of, tells_then, told_none}
 use Rattle.node_work.specs.Working.{Doing, Returns, Acting, Numbered, Looks, Finds, If, Where, Then, InTurn, Each, Did, Comes}
 
 pub gather-append : {A : Type 0} (f : Act → List A) (xs ys : List Act) → gather f (xs ++ ys) ≡ gather f xs ++ gather f ys
@@ -23,11 +23,11 @@ runs_join p (x ∷ xs) ys a m b r q = (r.0, r.1, runs_join p xs ys r.0 m b r.2 q
 
 -- nothing is done
 pub did_nothing : {A : Type 0} (w : WorkView) (x : A) → Did w w (Returns x (Some x))
-did_nothing w x = record { acts = []; does = (refl, refl); runs = refl; given = sym (append-nil w.outputs); tells = tells_none w w refl refl; place = refl }
+did_nothing w x = record { acts = []; does = (refl, refl); runs = refl; given = sym (append-nil w.outputs); tells = tells_none w w refl refl; begins = λ old lead begins. begins; place = refl }
 
 -- the same acts, as those of another relation
 pub did_as : (w w' : WorkView) (P Q : Doing) → ((acts : List Act) → P w.place w.held acts → Q w.place w.held acts) → Did w w' P → Did w w' Q
-did_as w w' P Q f d = record { acts = d.acts; does = f d.acts d.does; runs = d.runs; given = d.given; tells = d.tells; place = d.place }
+did_as w w' P Q f d = record { acts = d.acts; does = f d.acts d.does; runs = d.runs; given = d.given; tells = d.tells; begins = d.begins; place = d.place }
 
 pub comes_as : {T A : Type 0} (see : T → A) (r : Result T NodeFault) (w w' : WorkView) (P Q : Option A → Doing) → ((out : Option A) (acts : List Act) → P out w.place w.held acts → Q out w.place w.held acts) → Comes see r w w' P → Comes see r w w' Q
 comes_as see (Ok x) w w' P Q f d = did_as w w' (P (Some (see x))) (Q (Some (see x))) (f (Some (see x))) d
@@ -60,11 +60,12 @@ module _ {A B : Type 0} (P : Option A → Doing) (Q : A → Option B → Doing) 
     runs = runs_join w.place d.acts e.acts w.held m.held w'.held d.runs (subst (λ v. Runs v m.held e.acts w'.held) d.place e.runs);
     given = e.given ∙ ap (λ fs. fs ++ gather output_in e.acts) d.given ∙ append_assoc w.outputs (gather output_in d.acts) (gather output_in e.acts) ∙ ap (λ fs. w.outputs ++ fs) (sym (gather-append output_in d.acts e.acts));
     tells = tells_then w m w' d.tells e.tells;
+    begins = begins_then w m w' d.tells d.begins e.begins;
     place = e.place ∙ d.place;
   }
 
   pub did_stop : (w w' : WorkView) → Did w w' (P None) → Did w w' (Then P Q None)
-  did_stop w w' d = record { acts = d.acts; does = inl (refl, d.does); runs = d.runs; given = d.given; tells = d.tells; place = d.place }
+  did_stop w w' d = record { acts = d.acts; does = inl (refl, d.does); runs = d.runs; given = d.given; tells = d.tells; begins = d.begins; place = d.place }
 
   -- what comes of both parts
   pub then_goes : {T : Type 0} (see : T → B) (r : Result T NodeFault) (w m w' : WorkView) (x : A) → Did w m (P (Some x)) → Comes see r m w' (Q x) → Comes see r w w' (Then P Q)
@@ -101,7 +102,7 @@ comes_fine see (Err NumbersAtEnd) w w' P d e = absurd (let z : NumbersAtEnd ≡ 
 comes_fine see (Err Stopped) w w' P d e = absurd (let z : Stopped ≡ NoMemory = e in cc)
 
 -- one act, with the changes that it tells
-pub did_telling : (a : Place → HeldView → Act) (w w' : WorkView) → Allowed w.place w.held (a w.place w.held) → w'.place ≡ w.place → w'.held ≡ next w.held (a w.place w.held) → w'.outputs ≡ w.outputs ++ output_in (a w.place w.held) → Tells w w'
+pub did_telling : (a : Place → HeldView → Act) (w w' : WorkView) → Allowed w.place w.held (a w.place w.held) → w'.place ≡ w.place → w'.held ≡ next w.held (a w.place w.held) → w'.outputs ≡ w.outputs ++ output_in (a w.place w.held) → Tell w w'
     → Did w w' (Acting a (Some tt))
 did_telling a w w' may place held outputs tells =
     let x = a w.place w.held in
@@ -110,7 +111,8 @@ did_telling a w w' may place held outputs tells =
       does = (refl, refl);
       runs = (w'.held, (may, held), refl);
       given = outputs ∙ ap (λ os. w.outputs ++ os) (sym (append-nil (output_in x)));
-      tells = tells;
+      tells = tells_of w w' tells;
+      begins = still_begin w w' tells;
       place = place;
     }
 
@@ -121,7 +123,7 @@ IsQuiet a w = held_row w.place.id (next w.held (a w.place w.held)) ≡ held_row 
 pub did_act : (a : Place → HeldView → Act) (w w' : WorkView) → Allowed w.place w.held (a w.place w.held) → IsQuiet a w → w' ≡ record w { held = next w.held (a w.place w.held); outputs = w.outputs ++ output_in (a w.place w.held) } → Did w w' (Acting a (Some tt))
 did_act a w w' may quiet e =
     did_telling a w w' may (ap (λ (v : WorkView). v.place) e) (ap (λ (v : WorkView). v.held) e) (ap (λ (v : WorkView). v.outputs) e)
-    (tells_none w w' (ap (λ (v : WorkView). v.changes) e) (ap work_row e ∙ quiet))
+    (told_none w w' (ap (λ (v : WorkView). v.changes) e) (ap work_row e ∙ quiet))
 
 pub comes_act : (r : Result (Unit {0}) NodeFault) (a : Place → HeldView → Act) (w w' : WorkView) → Allowed w.place w.held (a w.place w.held) → IsQuiet a w
     → OnOk r (w' ≡ record w { held = next w.held (a w.place w.held); outputs = w.outputs ++ output_in (a w.place w.held) }) → IfErr r (λ e. e ≡ NoMemory) → Comes (λ x. x) r w w' (Acting a)
@@ -146,10 +148,10 @@ module _ (a : Place → HeldView → Act) (w : WorkView) (h' : HeldView) (cs : L
   abbrev told : WorkView
   told = record w { held = h'; changes = cs }
 
-  pub did_told : h' ≡ next w.held (a w.place w.held) → TellsOn (work_row w) w.changes cs (held_row w.place.id h') → Did w told (Acting a (Some tt))
+  pub did_told : h' ≡ next w.held (a w.place w.held) → TellsFrom (work_row w) w.changes cs (held_row w.place.id h') → Did w told (Acting a (Some tt))
   did_told e t = did_telling a w told may refl e (sym (append-nil w.outputs) ∙ ap (λ os. w.outputs ++ os) (sym none)) t
 
-  pub comes_told : (r : Result (Unit {0}) NodeFault) → OnOk r (h' ≡ next w.held (a w.place w.held)) → OnOk r (TellsOn (work_row w) w.changes cs (held_row w.place.id h')) → IfErr r (λ e. e ≡ NoMemory) → Comes (λ x. x) r w told (Acting a)
+  pub comes_told : (r : Result (Unit {0}) NodeFault) → OnOk r (h' ≡ next w.held (a w.place w.held)) → OnOk r (TellsFrom (work_row w) w.changes cs (held_row w.place.id h')) → IfErr r (λ e. e ≡ NoMemory) → Comes (λ x. x) r w told (Acting a)
   comes_told (Ok x) e t f = did_told e t
   comes_told (Err NoMemory) e t f = tt
   comes_told (Err NumbersAtEnd) e t f = absurd (let z : NumbersAtEnd ≡ NoMemory = f in cc)
@@ -171,6 +173,7 @@ did_at_end at_end a w w' e same =
       runs = ap (λ (v : WorkView). v.held) same;
       given = ap (λ (v : WorkView). v.outputs) same ∙ sym (append-nil w.outputs);
       tells = tells_none w w' (ap (λ (v : WorkView). v.changes) same) (ap work_row same);
+      begins = begins_same w w' (ap (λ (v : WorkView). v.changes) same);
       place = ap (λ (v : WorkView). v.place) same;
     }
 

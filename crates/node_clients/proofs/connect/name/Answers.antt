@@ -11,7 +11,7 @@ use Rattle.node_clients.specs.Naming.{IsNextNumber}
 use Rattle.node_clients.proofs.connect.name.Goals as goal
 
 did_stop : (w : WorkView) → Did w w (Stops {A = Unit {0}} None)
-did_stop w = record { acts = []; does = (refl, refl); runs = refl; given = sym (append-nil w.outputs); tells = tells_none w w refl refl; place = refl }
+did_stop w = record { acts = []; does = (refl, refl); runs = refl; given = sym (append-nil w.outputs); tells = tells_none w w refl refl; begins = λ old lead begins. begins; place = refl }
 
 pub returns-in_default : goal.returns-in_default
 returns-in_default c =
