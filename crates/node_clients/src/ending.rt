@@ -17,7 +17,9 @@ fn pass_asked(work: &mut Work, ask: Option<Ask>) -> Result<(), NodeFault>
 {
     match ask {
         Some(Ask::Pass(message)) => pass_will(work, message),
-        _ => Ok(()),
+        Some(Ask::Subscribe) => Ok(()),
+        Some(Ask::Unsubscribe) => Ok(()),
+        None => Ok(()),
     }
 }
 

@@ -4,7 +4,7 @@ use Rattle.node_work.specs.declared.fault.NodeFault.{NodeFault}
 use Rattle.node_clients.specs.Parsing.{IsFilterOf}
 use Rattle.node_work.specs.Doings.{Removes}
 use Rattle.node_work.specs.Working.{Comes, Did, Returns, Then}
-use Rattle.node_work.proofs.Working.{comes_where, then_stops, did_then, did_nothing}
+use Rattle.node_work.proofs.Working.{comes_else, comes_where, then_stops, did_then, did_nothing}
 use Rattle.node_clients.proofs.unsubscribe.remove.Goals as goal
 
 pub returns-in_err-stood : goal.returns-in_err-stood
@@ -33,3 +33,11 @@ returns c =
     comes_where (λ x. x) done w m (IsFilter text) (Then (Removes client (Some text)) (λ b. Returns (cond b 0 17))) (Returns 143) is.0
     (did_then (Removes client (Some text)) (λ b. Returns (cond b 0 17)) w m m stood (Some c.removal_reason.result) d
     (subst (λ n. Did m m (Returns (cond stood 0 17) (Some n))) (sym c.removal_reason.ensures) (did_nothing m (cond stood 0 17))))
+
+pub returns-in_default : goal.returns-in_default
+returns-in_default c =
+    let w = c.args.work.now in
+    let text = c.args.text.now in
+    let done : Result ℕ NodeFault = Ok 143 in
+    let is = subst (IsFilterOf text) c.in_default.is c.in_ok-filter.ensures.ok in
+    comes_else (λ x. x) done w w (IsFilter text) (Then (Removes c.args.client.now (Some text)) (λ b. Returns (cond b 0 17))) (Returns 143) is (did_nothing w 143)
