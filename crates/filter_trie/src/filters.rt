@@ -1,6 +1,6 @@
 //! Maps by topic filter.
 
-ghost use Rattle.std.specs.Prelude.{◌≡◌, ℕ, List, [], map as map_list, codes, None, IfSome, IfOk, OnOk, IfErr, OnErr, IsOk};
+ghost use Rattle.std.specs.Prelude.{◌≡◌, ℕ, List, [], map as map_list, codes, Some, None, IfSome, IfOk, OnOk, IfErr, OnErr, IsOk};
 ghost use Rattle.std.specs.Option.{option_copied};
 ghost use Rattle.std.specs.FinMap as map;
 ghost use Rattle.std.specs.BTreeMap.{IsOrdered};
@@ -22,6 +22,7 @@ use mqtt_topics::{Filter, TopicName};
 use std::alloc::Global;
 use std::collections::BTreeMap;
 use std::marker::Model;
+use std::mem;
 
 /// A value for each of some topic filters. Contracts see a finite map by text.
 #[derive(Drop)]
@@ -88,6 +89,21 @@ impl<V> FilterTrie<V> {
                 return Err(value);
             }
         }
+    }
+
+    /// Puts the value in the place of the one at the topic filter, and answers that one. Where there is none the value comes back
+    /// and nothing has changed. It takes no memory.
+    pub fn replace(&mut self, filter: &Filter, value: V) -> Result<V, V>
+        ensures before { IfOk result (λ before. map.get self.old filter.now ≡ Some before) }
+        ensures ok { OnOk result (self.new ≡ map.insert self.old filter.now value) }
+        ensures absent { OnErr result (map.get self.old filter.now ≡ None) }
+        ensures back { IfErr result (λ back. back ≡ value) }
+        ensures err { OnErr result (self.new ≡ self.old) }
+    {
+        let Some(old) = self.pairs.get_mut(filter) else {
+            return Err(value);
+        };
+        Ok(mem::replace(old, value))
     }
 
     /// Takes out the pair at a topic filter, and answers its value.
