@@ -74,17 +74,22 @@ module _ {K L : Type 0} {R : K → K → Ordering} {S : L → L → Ordering} (o
       split false b c = refl
 
   -- sorted entries: at most one of them has the key
+  in_first : (e : K × FinSet S) (es : List (K × FinSet S)) → T (is_sorted R (e ∷ es)) → (k : K) (x : L) (b : Bool) → eq_by_cmp R k e.0 ≡ b
+      → ((b && set.contains e.1 x) || in_group (find R k es) x) ≡ in_group (cond b (Some e.1) (find R k es)) x
+  in_first e es h k x true t = ap (λ g. set.contains e.1 x || in_group g x) (found_none o es k (subst (λ q. T (below_all R q es)) (sym (same_key k e.0 t)) (first_part _ _ h))) ∙ or_none (set.contains e.1 x)
+  in_first e es h k x false t = refl
+
+  pub any_entry : (es : List (K × FinSet S)) → T (is_sorted R es) → (k : K) (x : L) → list_any (λ e. eq_by_cmp R k e.0 && set.contains e.1 x) es ≡ in_group (find R k es) x
+  any_entry [] h k x = refl
+  any_entry (e ∷ es) h k x = ap (λ b. (eq_by_cmp R k e.0 && set.contains e.1 x) || b) (any_entry es (second_part _ _ h) k x) ∙ in_first e es h k x (eq_by_cmp R k e.0) refl
+
   any_in : (es : List (K × FinSet S)) → T (is_sorted R es) → (k : K) (x : L) → list_any (eq_by_cmp (pair_cmp R S) (k, x)) (flat_map pairs_at es) ≡ in_group (find R k es) x
   any_in [] h k x = refl
   any_in (e ∷ es) h k x =
       any_both (eq_by_cmp (pair_cmp R S) (k, x)) (pairs_at e) (flat_map pairs_at es)
       ∙ (λ i. any_pairs k e.0 x (set.items e.1) i || any_in es (second_part _ _ h) k x i)
       ∙ (λ i. (eq_by_cmp R k e.0 && sym (set.contains-items e.1 x) i) || in_group (find R k es) x)
-      ∙ by (eq_by_cmp R k e.0) refl
-    where
-      by : (b : Bool) → eq_by_cmp R k e.0 ≡ b → ((b && set.contains e.1 x) || in_group (find R k es) x) ≡ in_group (cond b (Some e.1) (find R k es)) x
-      by true t = ap (λ g. set.contains e.1 x || in_group g x) (found_none o es k (subst (λ q. T (below_all R q es)) (sym (same_key k e.0 t)) (first_part _ _ h))) ∙ or_none (set.contains e.1 x)
-      by false t = refl
+      ∙ in_first e es h k x (eq_by_cmp R k e.0) refl
 
   pub contains-spread : (m : FinMap R (FinSet S)) (k : K) (x : L) → set.contains (spread m) (k, x) ≡ in_group (map.get m k) x
   unfolding spread
@@ -169,6 +174,13 @@ module _ {K L : Type 0} {R : K → K → Ordering} {S : L → L → Ordering} (o
   pub group_none : (m : FinMap R (FinSet S)) (k : K) → map.get m k ≡ None → (x : L) → set.contains (spread m) (k, x) ≡ false
   group_none m k none x = contains-spread m k x ∙ ap (λ g. in_group g x) none
 
+  pub under_some : (m : FinMap R (FinSet S)) (k : K) → map.contains_key m k ≡ true → IsFilled m → HasUnder R S (spread m) k
+  under_some m k there filled = by (map.get m k) refl there
+    where
+      by : (g : Option (FinSet S)) → map.get m k ≡ g → is_some g ≡ true → HasUnder R S (spread m) k
+      by None e t = cc
+      by (Some s) e t = (group_some m k s e filled).some
+
   -- as many keys as the map has, each once
   pub key_count : (m : FinMap R (FinSet S)) (ks : List K) → IsDistinct (eq_by_cmp R) ks → ((k : K) → map.contains_key m k ≡ is_member (eq_by_cmp R) ks k) → IsFilled m → IsKeyCount R S (spread m) (length ks)
   key_count m ks apart has filled ls apart_ls under_ls all_ls =
@@ -203,6 +215,10 @@ module _ {K L : Type 0} {R : K → K → Ordering} {S : L → L → Ordering} (o
   pub filled_new : (m n : FinMap R (FinSet S)) (k : K) (t : FinSet S) (x : L) → n ≡ map.insert m k t → t ≡ set.insert set.empty x → IsFilled m → IsFilled n
   filled_new m n k t x written put filled = subst IsFilled (sym (written ∙ ap (map.insert m k) put)) (filled_put m k (set.insert set.empty x) x (put_has set.empty x) filled)
 
+  pub filled_first : {A E : Type 0} (r : Result A E) (m n l : FinMap R (FinSet S)) (k : K) (x : L) → n ≡ m → OnOk r (l ≡ map.insert n k (set.insert set.empty x)) → OnErr r (l ≡ n) → IsFilled m → IsFilled l
+  filled_first (Ok a) m n l k x same ok err filled = filled_new m l k (set.insert set.empty x) x (ok ∙ ap (λ u. map.insert u k (set.insert set.empty x)) same) refl filled
+  filled_first (Err e) m n l k x same ok err filled = subst IsFilled (sym (err ∙ same)) filled
+
   pub take_written : (m n : FinMap R (FinSet S)) (k : K) (s t : FinSet S) (x : L) → map.get m k ≡ Some s → n ≡ map.insert m k t → t ≡ set.remove s x → spread n ≡ set.remove (spread m) (k, x)
   take_written m n k s t x is written taken = ap spread (written ∙ ap (map.insert m k) taken) ∙ spread_take m k s x is
 
@@ -216,12 +232,30 @@ module _ {K L : Type 0} {R : K → K → Ordering} {S : L → L → Ordering} (o
       twice true g = refl
       twice false g = refl
 
+  -- what is put at a key twice
+  over : (m : FinMap R (FinSet S)) (k : K) (s t : FinSet S) → map.insert (map.insert m k s) k t ≡ map.insert m k t
+  over m k s t = map.same_map o anti _ _ (λ q. map.get-insert o (map.insert m k s) k t q ∙ ap (cond (eq_by_cmp R q k) (Some t)) (map.get-insert o m k s q) ∙ twice (eq_by_cmp R q k) (map.get m q) ∙ sym (map.get-insert o m k t q))
+    where
+      twice : (b : Bool) (g : Option (FinSet S)) → cond b (Some t) (cond b (Some s) g) ≡ cond b (Some t) g
+      twice true g = refl
+      twice false g = refl
+
+  -- where a set stood in the meantime, the one that replaces it is there as if it had been put at once
+  pub put_back : {A E : Type 0} (r : Result A E) (m n l : FinMap R (FinSet S)) (k : K) (s t : FinSet S) → n ≡ map.insert m k s
+      → OnOk r (l ≡ map.insert n k t) → OnErr r (map.get n k ≡ None) → l ≡ map.insert m k t
+  put_back (Ok a) m n l k s t held ok err = ok ∙ ap (λ u. map.insert u k t) held ∙ over m k s t
+  put_back (Err e) m n l k s t held ok err =
+      absurd (let no = sym (map.get-insert o m k s k ∙ ap (λ b. cond b (Some s) (map.get m k)) (itself k)) ∙ ap (λ u. map.get u k) (sym held) ∙ err in cc)
+
+  pub taken_out : (m n l : FinMap R (FinSet S)) (k : K) (s : FinSet S) → n ≡ map.insert m k s → l ≡ map.remove n k → l ≡ map.remove m k
+  taken_out m n l k s held gone = gone ∙ ap (λ u. map.remove u k) held ∙ again m k s
+
   pub take_last : (m n l : FinMap R (FinSet S)) (k : K) (s t : FinSet S) (x : L) → map.get m k ≡ Some s → n ≡ map.insert m k t → t ≡ set.remove s x → ((y : L) → set.contains t y ≡ false) → l ≡ map.remove n k → spread l ≡ set.remove (spread m) (k, x)
   take_last m n l k s t x is written taken none gone =
-      ap spread (gone ∙ ap (λ u. map.remove u k) written ∙ again m k t) ∙ spread_take_last m k s x is (λ y. ap (λ u. set.contains u y) (sym taken) ∙ none y)
+      ap spread (taken_out m n l k t written gone) ∙ spread_take_last m k s x is (λ y. ap (λ u. set.contains u y) (sym taken) ∙ none y)
 
   pub filled_last : (m n l : FinMap R (FinSet S)) (k : K) (t : FinSet S) → n ≡ map.insert m k t → l ≡ map.remove n k → IsFilled m → IsFilled l
-  filled_last m n l k t written gone filled = subst IsFilled (sym (gone ∙ ap (λ u. map.remove u k) written ∙ again m k t)) (filled_take m k filled)
+  filled_last m n l k t written gone filled = subst IsFilled (sym (taken_out m n l k t written gone)) (filled_take m k filled)
 
   -- ---- what the code answers
 

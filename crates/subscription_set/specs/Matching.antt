@@ -1,14 +1,9 @@
 -- Dots under filters, and what matches a name.
-use Rattle.std.specs.Prelude.{◌≡◌, ◌↔◌, ℕ, true, is_some, List}
-use Rattle.std.specs.FinMap as map
+use Rattle.std.specs.Prelude.{◌≡◌, ◌↔◌, ℕ, true, List}
 use Rattle.std.specs.FinSet as set
-use Rattle.causal_context.specs.Dots.{Dot, Dots, dot_cmp}
+use Rattle.causal_context.specs.Dots.{Dot, Dots}
 use Rattle.mqtt_topics.specs.Matching.{Matches}
-use Rattle.subscription_set.specs.Filing.{Filed, HasUnder, text_cmp}
-
--- the filters under which there is a dot
-abbrev pub AreFiltersOf : Filed → set.FinSet text_cmp → Type 0
-AreFiltersOf v filters = (f : List ℕ) → (map.contains_key filters f ≡ true) ↔ HasUnder text_cmp dot_cmp v f
+use Rattle.subscription_set.specs.Filing.{Filed}
 
 -- a dot is under a filter that matches the name
 abbrev pub MatchesAt : Filed → List ℕ → Dot → Type 0

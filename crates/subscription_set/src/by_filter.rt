@@ -1,11 +1,11 @@
 //! Dots under filters, found by the topic names that the filters match.
-ghost use Rattle.std.specs.Prelude.{◌≡◌, ◌||◌, OnOk, OnErr, IfOk, IsOk};
+ghost use Rattle.std.specs.Prelude.{◌≡◌, ◌||◌, None, OnOk, OnErr, IfOk, IsOk};
+ghost use Rattle.std.specs.FinMap as map;
 ghost use Rattle.std.specs.FinSet as set;
 ghost use Rattle.causal_context.specs.Dots.{Dot as DotValue};
 ghost use Rattle.subscription_set.specs.Matching.{HasMatch, IsMatched};
 
 use crate::dots::DotSet;
-use crate::groups::Groups;
 use causal_context::Dot;
 use filter_trie::FilterTrie;
 use mqtt_fields::NoMemory;
@@ -13,28 +13,57 @@ use mqtt_topics::{Filter, TopicName};
 use std::alloc::Global;
 use std::marker::Model;
 
-/// Where dots stand: under a filter. The filters that have dots are kept in a trie.
+/// Where dots stand: under a filter.
 #[derive(Drop)]
 pub struct ByFilter {
     alloc: Global,
-    dots: Groups,
-    filters: FilterTrie<()>,
+    dots: FilterTrie<DotSet>,
 }
 
 impl Model for ByFilter {
     ghost use Rattle.std.specs.FinSet as set;
     ghost use Rattle.std.specs.Coded.{coded×, coded_list, coded_ℕ};
     ghost use Rattle.causal_context.specs.Dots.{coded_dot};
-    ghost use Rattle.subscription_set.specs.Filing.{Filed};
-    ghost use Rattle.subscription_set.specs.Matching.{AreFiltersOf};
+    ghost use Rattle.subscription_set.specs.Filing.{Filed, IsFilled, spread};
 
     ghost Value = { Filed };
 
     ghost coded = { set.code (coded× (coded_list coded_ℕ) coded_dot) };
 
-    ghost view = { λ b. b.dots };
+    ghost view = { λ b. spread b.dots };
 
-    ghost invariant = { λ b. AreFiltersOf b.dots b.filters };
+    ghost invariant = { λ b. IsFilled b.dots };
+}
+
+// Puts the dot under a filter that has none.
+fn add_first(
+    alloc: Global,
+    dots: &mut FilterTrie<DotSet>,
+    filter: &Filter,
+    dot: Dot,
+) -> Result<(), NoMemory>
+    requires { map.get dots.old filter.now ≡ None }
+    ensures ok { OnOk result (dots.new ≡ map.insert dots.old filter.now (set.insert set.empty dot)) }
+    ensures err { OnErr result (dots.new ≡ dots.old) }
+{
+    let mut own = DotSet::new(alloc);
+    own.insert(dot)?;
+    let key = filter.copy(alloc)?;
+    match dots.insert(key, own) {
+        Ok(_) => Ok(()),
+        Err(_) => Err(NoMemory),
+    }
+}
+
+// Adds the dots to a set.
+fn add_all(out: &mut DotSet, dots: &DotSet) -> Result<(), NoMemory>
+    ensures { OnOk result ((d : DotValue) → set.contains out.new d
+        ≡ (set.contains out.old d || set.contains dots.now d)) }
+{
+    for dot in dots.iter() {
+        out.insert(*dot)?;
+    }
+    Ok(())
 }
 
 impl ByFilter {
@@ -44,8 +73,7 @@ impl ByFilter {
     {
         ByFilter {
             alloc,
-            dots: Groups::new(alloc),
-            filters: FilterTrie::new(alloc),
+            dots: FilterTrie::new(alloc),
         }
     }
 
@@ -54,44 +82,27 @@ impl ByFilter {
         ensures ok { OnOk result (self.new ≡ set.insert self.old (filter.now, dot)) }
         ensures err { OnErr result (self.new ≡ self.old) }
     {
-        if self.filters.get(filter).is_some() {
-            self.dots.add(filter.as_text(), dot)?;
-            return Ok(());
-        }
-        let own = filter.copy(self.alloc)?;
-        if let Err(_) = self.filters.insert(own, ()) {
-            return Err(NoMemory);
-        }
-        match self.dots.add(filter.as_text(), dot) {
-            Ok(()) => Ok(()),
-            Err(fault) => {
-                self.filters.remove(filter);
-                Err(fault)
-            }
-        }
+        let Ok(mut own) = self.dots.replace(filter, DotSet::new(self.alloc)) else {
+            return add_first(self.alloc, &mut self.dots, filter, dot);
+        };
+        let added = own.insert(dot);
+        let _ = self.dots.replace(filter, own);
+        added
     }
 
     /// Takes the dot out from under the filter.
     pub fn remove(&mut self, filter: &Filter, dot: Dot)
         ensures { self.new ≡ set.remove self.old (filter.now, dot) }
     {
-        self.dots.remove(filter.as_text(), dot);
-        if self.dots.under(filter.as_text()).is_none() {
-            self.filters.remove(filter);
+        let Ok(mut own) = self.dots.replace(filter, DotSet::new(self.alloc)) else {
+            return;
+        };
+        own.remove(dot);
+        if own.is_empty() {
+            self.dots.remove(filter);
+            return;
         }
-    }
-
-    // Adds the dots under the filter.
-    fn add_under(&self, out: &mut DotSet, filter: &Filter) -> Result<(), NoMemory>
-        ensures { OnOk result ((d : DotValue) → set.contains out.new d
-            ≡ (set.contains out.old d || set.contains self.now (filter.now, d))) }
-    {
-        if let Some(dots) = self.dots.under(filter.as_text()) {
-            for dot in dots.iter() {
-                out.insert(*dot)?;
-            }
-        }
-        Ok(())
+        let _ = self.dots.replace(filter, own);
     }
 
     /// The dots under the filters that match the name. Only such a dot takes memory.
@@ -99,10 +110,10 @@ impl ByFilter {
         ensures dots { IfOk result (λ out. IsMatched self.now name.now out) }
         ensures none { (HasMatch self.now name.now → ⊥) → IsOk result }
     {
-        let found = self.filters.matching(name)?;
+        let found = self.dots.matching(name)?;
         let mut out = DotSet::new(self.alloc);
-        for (filter, _) in &found {
-            self.add_under(&mut out, *filter)?;
+        for (_, dots) in &found {
+            add_all(&mut out, *dots)?;
         }
         Ok(out)
     }

@@ -1,32 +1,47 @@
-use Rattle.std.proofs.Common.{is_some, refl, sym, ap, ◌∙◌}
+use Rattle.std.proofs.Common.{refl, ap, ◌∙◌}
+use Rattle.std.proofs.lemmas.Result.{on_ok_weaker, on_err_weaker}
 use Rattle.std.specs.FinMap as map
 use Rattle.std.specs.FinSet as set
-use Rattle.subscription_set.proofs.Matched.{filters_known, filters_new, filters_back, filters_same, some_copied, none_copied}
+use Rattle.causal_context.specs.Dots.{dot_cmp_total, dot_cmp_antisym}
+use Rattle.subscription_set.specs.Filing.{spread}
+use Rattle.subscription_set.proofs.Spreading.{text_total, text_anti, put_new, put_back, put_written, same_written, filled_first, filled_written}
 use Rattle.subscription_set.proofs.by_filter.ByFilter.add.Goals as goal
 
-pub invariant_of-self-in-Ok : goal.invariant_of-self-in-Ok
-invariant_of-self-in-Ok c =
-    let v = c.self.inside.dots in
-    let f = c.args.filter.now in
-    filters_same (set.insert v (f, c.args.dot)) c.add-2.new.self (map.insert c.self.inside.filters f tt) c.insert.new.self
-    (c.in-Ok.ensures.ok ∙ ap (λ k. set.insert v (k, c.args.dot)) c.as_text-2.ensures.same)
-    (c.in_default.ensures.ok ∙ ap (λ k. map.insert c.self.inside.filters k tt) c.in_ok-own.ensures)
-    (filters_new v c.self.inside.filters c.self.invariant f c.args.dot)
+pub invariant_of-self : goal.invariant_of-self
+invariant_of-self c = filled_first text_total text_anti dot_cmp_total dot_cmp_antisym c.add_first.result c.self.inside.dots c.replace.new.self c.add_first.new.dots c.args.filter.now c.args.dot
+    c.in_default.ensures.err c.add_first.ensures.ok c.add_first.ensures.err c.self.invariant
 
-pub invariant_of-self-then-is_some : goal.invariant_of-self-then-is_some
-invariant_of-self-then-is_some c =
-    let v = c.self.inside.dots in
-    let f = c.args.filter.now in
-    let known = ap is_some (sym c.get.ensures) ∙ some_copied c.get.result ∙ sym c.is_some.ensures ∙ c.if-is_some.true in
-    filters_same (set.insert v (f, c.args.dot)) c.add.new.self c.self.inside.filters c.self.inside.filters (c.in_ok-add.ensures.ok ∙ ap (λ k. set.insert v (k, c.args.dot)) c.as_text.ensures.same) refl
-    (filters_known v c.self.inside.filters c.self.invariant f c.args.dot known)
+pub returns-in_default-clause-ok : goal.returns-in_default-clause-ok
+returns-in_default-clause-ok c =
+    let one = set.insert set.empty c.args.dot in
+    on_ok_weaker c.add_first.result
+    (λ put. put_new text_total text_anti dot_cmp_total dot_cmp_antisym c.self.inside.dots c.add_first.new.dots c.args.filter.now one c.args.dot c.in_default.ensures.absent
+    (put ∙ ap (λ m. map.insert m c.args.filter.now one) c.in_default.ensures.err) refl
+    ∙ ap (λ v. set.insert v (c.args.filter.now, c.args.dot)) c.self.view_is)
+    c.add_first.ensures.ok
 
-pub invariant_of-self-in-Err-add : goal.invariant_of-self-in-Err-add
-invariant_of-self-in-Err-add c =
-    let v = c.self.inside.dots in
+pub invariant_of-self-2 : goal.invariant_of-self-2
+invariant_of-self-2 c =
+    let m = c.self.inside.dots in
     let f = c.args.filter.now in
-    let fs = c.self.inside.filters in
-    let none = sym c.get.ensures ∙ none_copied c.get.result (sym c.is_some.ensures ∙ c.if-is_some.false) in
-    filters_same v c.add-2.new.self (map.remove (map.insert fs f tt) f) c.remove.new.self c.in-Err-add.ensures.err
-    (c.remove.ensures.left ∙ ap (λ m. map.remove m f) (c.in_default.ensures.ok ∙ ap (λ k. map.insert fs k tt) c.in_ok-own.ensures))
-    (filters_back v fs c.self.invariant f c.args.dot none)
+    let written = put_back text_total text_anti dot_cmp_total dot_cmp_antisym c.replace-2.result m c.replace.new.self c.replace-2.new.self f c.new.result c.insert-added.new.self c.in-Ok.ensures.ok c.replace-2.ensures.ok c.replace-2.ensures.absent in
+    filled_written text_total text_anti dot_cmp_total dot_cmp_antisym c.insert-added.result m c.replace-2.new.self f c.in-Ok.own c.insert-added.new.self c.args.dot c.in-Ok.ensures.before written c.insert-added.ensures.ok c.insert-added.ensures.err c.self.invariant
+
+pub returns-clause-ok : goal.returns-clause-ok
+returns-clause-ok c =
+    let m = c.self.inside.dots in
+    let f = c.args.filter.now in
+    let written = put_back text_total text_anti dot_cmp_total dot_cmp_antisym c.replace-2.result m c.replace.new.self c.replace-2.new.self f c.new.result c.insert-added.new.self c.in-Ok.ensures.ok c.replace-2.ensures.ok c.replace-2.ensures.absent in
+    on_ok_weaker c.insert-added.result
+    (λ put. put_written text_total text_anti dot_cmp_total dot_cmp_antisym m c.replace-2.new.self f c.in-Ok.own c.insert-added.new.self c.args.dot c.in-Ok.ensures.before written put
+    ∙ ap (λ v. set.insert v (f, c.args.dot)) c.self.view_is)
+    c.insert-added.ensures.ok
+
+pub returns-clause-err : goal.returns-clause-err
+returns-clause-err c =
+    let m = c.self.inside.dots in
+    let f = c.args.filter.now in
+    let written = put_back text_total text_anti dot_cmp_total dot_cmp_antisym c.replace-2.result m c.replace.new.self c.replace-2.new.self f c.new.result c.insert-added.new.self c.in-Ok.ensures.ok c.replace-2.ensures.ok c.replace-2.ensures.absent in
+    on_err_weaker c.insert-added.result
+    (λ same. ap spread (same_written text_total text_anti dot_cmp_total dot_cmp_antisym m c.replace-2.new.self f c.in-Ok.own c.insert-added.new.self c.in-Ok.ensures.before written same) ∙ c.self.view_is)
+    c.insert-added.ensures.err
