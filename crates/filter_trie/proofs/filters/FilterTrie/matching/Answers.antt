@@ -1,36 +1,44 @@
-use Rattle.std.proofs.Common.{rules, ◌≡◌, ℕ, List, []}
-use Rattle.std.proofs.Common.{map as map_list}
-use Rattle.std.proofs.Common.{codes, Some, None, IfSome, IfOk, OnOk, IfErr, OnErr, IsOk, ◌+◌, ◌-◌, ◌*◌, ◌<◌, ◌≤◌, length, ◌/◌, ◌%◌, Bool, true, false, nat_eq, nat_lt, ◌∷◌, ◌++◌, slice_index_or, slice_set, bit_and, bit_or, Fits, w8, w32, w64, Bor, MutBor}
-use Rattle.std.specs.Option.{option_copied}
+use Rattle.std.proofs.Common.{List, ℕ, [], map as map_list, IfOk, IfSome, refl, rules, sym, ap, subst, ◌∙◌}
 use Rattle.std.specs.FinMap as map
-use Rattle.std.specs.BTreeMap.{IsOrdered}
-use Rattle.std.specs.Ordering.{nat_cmp}
-use Rattle.std.specs.Cmp.Lexicographic.{slice_cmp}
-use Rattle.std.specs.Map.{keys_of}
 use Rattle.mqtt_topics.specs.Levels.{levels}
 use Rattle.mqtt_topics.specs.Matching.{LevelsMatch, Matches}
 use Rattle.filter_trie.specs.Selected.{IsSelected}
-use Rattle.filter_trie.specs.Tries.{AreFiltersFor}
-use Rattle.filter_trie.specs.Filing.{IsFiled, AreFiled}
-use Rattle.filter_trie.specs.Branching.{Holds, AfterShare}
+use Rattle.filter_trie.specs.Filing.{IsFiled}
+use Rattle.filter_trie.specs.Branching.{Holds}
+use Rattle.filter_trie.proofs.Tables.{entries_table}
+use Rattle.filter_trie.proofs.LookupLaws.{covered}
 use Rattle.filter_trie.proofs.filters.FilterTrie.matching.Goals as goal
 
--- src/filters.rt:133:17
 pub at_ends-requires : goal.at_ends-requires
-at_ends-requires g c = ?
+at_ends-requires g c =
+    let b = c.self.inside.beginnings in
+    let found : IfSome c.ok-ends.result (λ ends. (f : List ℕ) → IsFiled b f → LevelsMatch (levels f) (levels c.args.name.now) → Holds ends.entries f) = search rules in
+    covered b c.self.inside.pairs.entries c.in-Some.ends.entries c.args.name.now c.hashed.result c.hashed.ensures (c.if-not-has.ensures refl) c.self.invariant (rw c.in-Some.is at found)
 
--- src/filters.rt:133:17
 pub returns-then-not-has-clause-pairs : goal.returns-then-not-has-clause-pairs
-returns-then-not-has-clause-pairs g c = ?
+returns-then-not-has-clause-pairs g c =
+    let es = c.self.inside.pairs.entries in
+    let whole = ap map.entries (sym c.self.view_is) ∙ entries_table es c.at_ends.ensures.ordered in
+    let P = λ (l : List (List ℕ × g.row.V.Denot)). IfOk c.at_ends.result (λ out. IsSelected (λ e. Matches e.0 c.args.name.now) l (map_list (λ r. (r.0.now, r.1.now)) out.items)) in
+    subst P (sym whole) c.at_ends.ensures.pairs
 
--- src/filters.rt:133:17
 pub returns-then-not-has-clause-none : goal.returns-then-not-has-clause-none
-returns-then-not-has-clause-none g c = ?
+returns-then-not-has-clause-none g c = λ none.
+    let es = c.self.inside.pairs.entries in
+    let whole = ap map.entries (sym c.self.view_is) ∙ entries_table es c.at_ends.ensures.ordered in
+    let P = λ (l : List (List ℕ × g.row.V.Denot)). IsSelected (λ e. Matches e.0 c.args.name.now) l [] in
+    c.at_ends.ensures.none (subst P whole none)
 
--- src/filters.rt:125:5
 pub returns-clause-pairs : goal.returns-clause-pairs
-returns-clause-pairs g c = ?
+returns-clause-pairs g c =
+    let es = c.self.inside.pairs.entries in
+    let whole = ap map.entries (sym c.self.view_is) ∙ entries_table es c.filters_matching.ensures.ordered in
+    let P = λ (l : List (List ℕ × g.row.V.Denot)). IfOk c.filters_matching.result (λ out. IsSelected (λ e. Matches e.0 c.args.name.now) l (map_list (λ r. (r.0.now, r.1.now)) out.items)) in
+    subst P (sym whole) c.filters_matching.ensures.pairs
 
--- src/filters.rt:125:5
 pub returns-clause-none : goal.returns-clause-none
-returns-clause-none g c = ?
+returns-clause-none g c = λ none.
+    let es = c.self.inside.pairs.entries in
+    let whole = ap map.entries (sym c.self.view_is) ∙ entries_table es c.filters_matching.ensures.ordered in
+    let P = λ (l : List (List ℕ × g.row.V.Denot)). IsSelected (λ e. Matches e.0 c.args.name.now) l [] in
+    c.filters_matching.ensures.none (subst P whole none)
