@@ -1,5 +1,5 @@
 -- What is found in a map at the keys of another one.
-use Rattle.std.proofs.Common.{◌≡◌, ◌⊎◌, ℕ, cond, List, [], ◌∷◌, ◌++◌, map, Option, Some, None, inl, inr, refl, sym, ap, subst, ◌∙◌, Ordering, Less, Equal, Greater}
+use Rattle.std.proofs.Common.{◌≡◌, ◌⊎◌, ℕ, cond, List, [], ◌∷◌, Option, Some, None, inl, inr, refl, sym, ap, subst, ◌∙◌, Ordering, Less, Equal, Greater}
 use Rattle.std.specs.Prelude.{codes}
 use Rattle.std.specs.Ordering.{is_eq, ordering_reverse}
 use Rattle.std.specs.Map.{lookup, keys_of}
@@ -99,9 +99,9 @@ module _ {X : Type 0} where
         let S : List (List ℕ × X) → Type 0 = λ l. IsSelected (At Q) l out in
         elim (parts e es ks rise.0 keys) [
           | inl there ↦ elim (subst S there.1 s) [
-              | inl has ↦ inl (has.0, (has.1.0, has.1.1, all_found ks es has.1.0 rise.1 keys (λ f h q. covers f (inr h) q) has.1.2))
-              | inr lacks ↦ inr (lacks.0, all_found ks es out rise.1 keys (λ f h q. covers f (inr h) q) lacks.1)
-            ]
+            | inl has ↦ inl (has.0, (has.1.0, has.1.1, all_found ks es has.1.0 rise.1 keys (λ f h q. covers f (inr h) q) has.1.2))
+            | inr lacks ↦ inr (lacks.0, all_found ks es out rise.1 keys (λ f h q. covers f (inr h) q) lacks.1)
+          ]
           | inr absent ↦ inr ((λ q. absent.0 (covers e.0 (inl refl) q)), all_found ks es out rise.1 keys (λ f h q. covers f (inr h) q) (subst S absent.1 s))
         ]
 

@@ -129,6 +129,7 @@ impl<V> FilterTrie<V> {
     {
         let ends = ends_for(&self.beginnings, self.alloc, name.as_str()).ok();
         if let Some(ends) = &ends {
+            // Without shared filters each filter that matches is an end.
             if !self.beginnings.has(hashed(0, "$share/")) {
                 return at_ends(self.alloc, &self.pairs, ends, name);
             }

@@ -1,4 +1,4 @@
-//! The values at some topic filters.
+//! Pairs looked up at the filters that may match a name.
 
 ghost use Rattle.std.specs.Prelude.{ℕ, List, [], map as map_list, IfOk, IsOk};
 ghost use Rattle.std.specs.BTreeMap.{IsOrdered};
@@ -28,7 +28,7 @@ pub(crate) fn at_ends<'a, V>(
     ensures none { IsSelected (λ e. Matches e.0 name.now) pairs.now.entries [] → IsOk result }
     ensures ordered { IsOrdered (slice_cmp nat_cmp) pairs.now }
 {
-    // Its contract says that the filters are in order.
+    // Its contract tells that the filters are in order.
     let _ = pairs.len();
     let mut out = Vec::new(alloc);
     for (end, _) in ends {

@@ -1,4 +1,4 @@
-use Rattle.std.proofs.Common.{◌≡◌, ℕ, List, IsTrue, false, map as map_list, refl, sym, ap, subst}
+use Rattle.std.proofs.Common.{ℕ, List, IsTrue, false, map as map_list, refl, sym, ap, subst}
 use Rattle.mqtt_topics.specs.Matching.{Matches}
 use Rattle.filter_trie.proofs.Selecting.{Follows, begins, goes_with, goes_without, ends}
 use Rattle.filter_trie.proofs.Jumping.{rises}
