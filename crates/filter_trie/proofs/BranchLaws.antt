@@ -113,7 +113,7 @@ module _ {X : Type 0} where
   unfolding is_after
   keeps k e es h = ap (λ t. cond t (e ∷ past_key k es) (past_key k es)) h
 
-  after_holds : (k : List ℕ) (es : List (List ℕ × X)) (q : List ℕ) → After k es → Holds es q → IsBefore k q
+  pub after_holds : (k : List ℕ) (es : List (List ℕ × X)) (q : List ℕ) → After k es → Holds es q → IsBefore k q
   after_holds k [] q a h = absurd h
   after_holds k (e ∷ es) q a (inl h) = let B : List ℕ → Type 0 = IsBefore k in subst B h a.0
   after_holds k (e ∷ es) q a (inr h) = after_holds k es q a.1 h

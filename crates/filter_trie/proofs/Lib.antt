@@ -12,3 +12,4 @@ pub mod Jumping
 pub mod CountLaws
 pub mod BranchLaws
 pub mod Narrowing
+pub mod LookupLaws

@@ -14,8 +14,9 @@ ghost use Rattle.filter_trie.specs.Tries.{AreFiltersFor};
 ghost use Rattle.filter_trie.specs.Filing.{IsFiled, AreFiled};
 ghost use Rattle.filter_trie.specs.Branching.{Holds, AfterShare};
 
-use crate::beginnings::Beginnings;
+use crate::beginnings::{Beginnings, hashed};
 use crate::ends::{Ends, ends_for, onward};
+use crate::lookups::at_ends;
 use crate::seeks::Onward;
 use mqtt_fields::NoMemory;
 use mqtt_topics::{Filter, TopicName};
@@ -127,6 +128,12 @@ impl<V> FilterTrie<V> {
         ensures none { AreFiltersFor self.now name.now [] → IsOk result }
     {
         let ends = ends_for(&self.beginnings, self.alloc, name.as_str()).ok();
+        if let Some(ends) = &ends {
+            // Without shared filters each filter that matches is an end.
+            if !self.beginnings.has(hashed(0, "$share/")) {
+                return at_ends(self.alloc, &self.pairs, ends, name);
+            }
+        }
         filters_matching(self.alloc, &self.pairs, &self.beginnings, &ends, name)
     }
 }

@@ -4,6 +4,7 @@
 mod beginnings;
 mod ends;
 mod filters;
+mod lookups;
 mod seeks;
 mod steps;
 mod topics;

@@ -12,7 +12,7 @@ returns-clause-before g c =
 pub returns-clause-ok : goal.returns-clause-ok
 returns-clause-ok g c =
     insert_table c.self.inside.pairs.entries (c.get_mut.follows.lender c.replace.new.dest).entries c.args.filter.now c.replace.new.dest
-        ((c.get_mut.follows.holds c.replace.new.dest).3 (search rules)).0
+    ((c.get_mut.follows.holds c.replace.new.dest).3 (search rules)).0
     ∙ (λ i. map.insert (c.self.view_is i) c.args.filter.now (c.replace.ensures.after i))
 
 pub returns-in_default-clause-absent : goal.returns-in_default-clause-absent
