@@ -1,5 +1,5 @@
 -- What leaves by a join, as the statuses tell it.
-use Rattle.std.proofs.Common.{◌≡◌, Bool, true, false, cond, not, ◌&&◌, List, Option, Some, None, is_some, refl, sym, ap, subst, ◌∙◌, true≢false}
+use Rattle.std.proofs.Common.{◌≡◌, Bool, true, false, cond, not, ◌&&◌, List, Option, Some, None, is_some, refl, sym, ◌∙◌, true≢false}
 use Rattle.std.specs.List.{list_any}
 use Rattle.std.specs.Ordering.{eq_by_cmp}
 use Rattle.std.specs.FinMap as map
@@ -7,7 +7,7 @@ use Rattle.std.specs.FinSet as set
 use Rattle.causal_context.specs.Dots.{Dot, Dots, dot_cmp}
 use Rattle.subscription_set.specs.declared.entry.Entry.{Entry}
 use Rattle.subscription_set.specs.Indexing.{ByDot}
-use Rattle.subscription_set.specs.Joining.{AreLeaving, is_leaving, leaves_from}
+use Rattle.subscription_set.specs.Joining.{AreLeaving, is_leaving}
 use Rattle.subscription_set.specs.Merging.{IsSet, same_entry}
 use Rattle.subscription_set.specs.Standing.{statuses, find_entry, get-statuses}
 

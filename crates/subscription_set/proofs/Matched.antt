@@ -1,5 +1,5 @@
 -- Dots under the filters that match a name.
-use Rattle.std.proofs.Common.{◌≡◌, ◌⊎◌, ℕ, zero, suc, ◌+◌, ◌<◌, length, get_or, take, arith, Bool, true, false, cond, ◌||◌, ◌&&◌, not, List, [], ◌∷◌, ◌++◌, map as map_list, is_some, option_copied, MatchOption, Option, Some, None, ◌↔◌, Bor, inl, inr, refl, sym, ap, subst, ◌∙◌}
+use Rattle.std.proofs.Common.{◌≡◌, ℕ, zero, suc, ◌+◌, ◌<◌, length, get_or, take, arith, Bool, true, false, ◌||◌, ◌&&◌, List, [], ◌∷◌, map as map_list, inl, inr, refl, sym, ap, subst, ◌∙◌}
 use Rattle.std.specs.List.{list_any}
 use Rattle.std.specs.Cmp.{Equal-is}
 use Rattle.std.specs.Ordering.{eq_by_cmp, is_eq}

@@ -1,4 +1,4 @@
-use Rattle.std.proofs.Common.{◌≡◌, Ok, Err, Result, ◌∙◌}
+use Rattle.std.proofs.Common.{Ok, Err, Result, ◌∙◌}
 use Rattle.std.specs.Prelude.{IfOk}
 use Rattle.std.specs.FinMap as map
 use Rattle.subscription_set.specs.Joining.{is_leaving}
