@@ -46,7 +46,7 @@ fn end(
     if !beginnings.has(hashed(hash, level)) {
         return Ok(());
     }
-    let mut whole = String::new(alloc);
+    let mut whole = String::with_capacity(alloc, text.len() + level.len())?;
     whole.push_str(text)?;
     whole.push_str(level)?;
     let Some(filter) = filter_at(alloc, whole.as_str()) else {
@@ -94,7 +94,7 @@ fn grow<'a>(
     if !beginnings.has(hashed(hashed(hash, level), "/")) {
         return Ok(());
     }
-    let mut whole = String::new(alloc);
+    let mut whole = String::with_capacity(alloc, text.len() + level.len() + 1)?;
     whole.push_str(text)?;
     whole.push_str(level)?;
     whole.push_str("/")?;

@@ -59,7 +59,8 @@ pub(crate) fn release(alloc: Global, packets: &mut Vec<Output>, ids: &[u16]) -> 
     Ok(())
 }
 
-fn is_once(qos: Qos) -> bool
+/// Whether a copy at this QoS is sent at once, or dropped.
+pub(crate) fn is_once(qos: Qos) -> bool
     ensures { result ≡ sending.is_once qos }
 {
     match qos {

@@ -20,6 +20,7 @@ use crate::fault::SessionFault;
 use crate::link::runs_out_at;
 use crate::reaction::Reaction;
 use crate::saved::Live;
+use crate::sending::is_once;
 use mqtt_fields::Text;
 use mqtt_message::Delivery;
 use mqtt_packets::{Connect, Packet};
@@ -102,7 +103,8 @@ impl Session {
         let Some(mut live) = self.live.take() else {
             return Err(SessionFault::Spent);
         };
-        live.stale = true;
+        // A copy at QoS 0 changes nothing that lasts.
+        live.stale = live.stale || !is_once(delivery.qos);
         let reaction = live.running.queue(delivery, now)?;
         self.live = Some(live);
         Ok(reaction)

@@ -14,6 +14,6 @@ returns-then-not-has c = λ f h. elim h [
 pub returns : goal.returns
 returns c = λ f h.
     let H : List (List ℕ × Unit {0}) → Type 0 = λ es. Holds es f in
-    let whole = c.in_ok-push_str-2.ensures.bytes ∙ ap (λ x. x ++ c.args.level.now) (c.in_ok-push_str.ensures.bytes ∙ ap (λ x. x ++ c.args.text.now) c.new-whole.ensures.bytes) in
+    let whole = c.in_ok-push_str-2.ensures.bytes ∙ ap (λ x. x ++ c.args.level.now) (c.in_ok-push_str.ensures.bytes ∙ ap (λ x. x ++ c.args.text.now) c.in_ok-whole.ensures.bytes) in
     let key = c.in-Some.ensures ∙ c.as_str.ensures.value ∙ whole in
     subst H (sym c.in_ok-insert.ensures.entries) (holds_insert c.args.ends.now.entries c.in-Some.filter tt f (elim h [ inl a ↦ inl a | inr q ↦ inr (q.1 ∙ sym key) ]))

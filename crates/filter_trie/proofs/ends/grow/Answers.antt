@@ -16,5 +16,5 @@ pub returns : goal.returns
 returns c = λ f h.
     let B : List Branch → Type 0 = λ bs. Waits bs f in
     let whole = c.in_ok-push_str-3.ensures.bytes ∙ ap (λ x. x ++ 47 ∷ [])
-    (c.in_ok-push_str-2.ensures.bytes ∙ ap (λ x. x ++ c.args.level.now) (c.in_ok-push_str.ensures.bytes ∙ ap (λ x. x ++ c.args.text.now) c.new-whole.ensures.bytes)) in
+    (c.in_ok-push_str-2.ensures.bytes ∙ ap (λ x. x ++ c.args.level.now) (c.in_ok-push_str.ensures.bytes ∙ ap (λ x. x ++ c.args.text.now) c.in_ok-whole.ensures.bytes)) in
     subst B (sym c.in_ok-push.ensures.items) (waits_push c.args.branches.now.items _ f (elim h [ inl a ↦ inl a | inr q ↦ inr (q.1.0, q.1.1 ∙ longer c.args.text.now c.args.level.now q.1.0 _ whole, q.1.2) ]))
