@@ -116,7 +116,7 @@ pub(crate) fn ends(alloc: Global, ask: Option<Ask>, code: u8) -> Reaction
 pub(crate) fn one(alloc: Global, packet: Output) -> Result<Vec<Output>, AllocError>
     ensures { IfOk result (λ packets. packets.items ≡ packet ∷ []) }
 {
-    let mut packets = Vec::new(alloc);
+    let mut packets = Vec::with_capacity(alloc, 1)?;
     packets.push(packet)?;
     Ok(packets)
 }

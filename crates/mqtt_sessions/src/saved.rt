@@ -1,6 +1,6 @@
 //! A session, and what was told last of its rows.
 
-ghost use Rattle.std.specs.Prelude.{◌≡◌, ◌++◌, List, [], ℕ, map, None, Some, MatchOption, IfOk, OnOk, option_map};
+ghost use Rattle.std.specs.Prelude.{◌≡◌, ◌++◌, List, [], ℕ, map, None, Some, MatchOption, IfOk, IfErr, OnOk, option_map};
 ghost use Rattle.row_store.specs.Rows as store;
 ghost use Rattle.qos_handshakes.specs.Touched.{AreListed};
 ghost use Rattle.session_rows.specs.Changes as changes;
@@ -11,11 +11,18 @@ ghost use Rattle.session_rows.specs.Rows.{rows_of};
 ghost use Rattle.qos_handshakes.specs.Entries.{at_place};
 ghost use Rattle.std.specs.Map.{keys_of};
 ghost use Rattle.mqtt_sessions.specs.Removed.{Removes, gone_at, gone_of, own_removal, own_told, removed_before};
-ghost use Rattle.mqtt_sessions.specs.Saved.{Appends, Tells, begun_session, durable_of, main_of, own_before, told_before, told_of, tracked_in};
+ghost use Rattle.mqtt_sessions.specs.Called.{IsFault};
+ghost use Rattle.mqtt_sessions.specs.Reaction.{AreSpelled};
+ghost use Rattle.mqtt_sessions.specs.Sending.{QueueEnds, QueueStep};
+ghost use Rattle.mqtt_sessions.specs.Saved.{Appends, Notes, Tells, begun_session, durable_of, main_of, own_before, told_before, told_of, tracked_in};
 
+use crate::fault::SessionFault;
 use crate::kept::Kept;
+use crate::reaction::Reaction;
 use crate::running::Running;
+use crate::sending::is_once;
 use mqtt_fields::{NoMemory, Text};
+use mqtt_message::Delivery;
 use qos_handshakes::Outgoing;
 use row_store::{Change, Row};
 use session_rows::{Opened, Told, copy_changes, own_change, own_left, rows, write_main};
@@ -175,6 +182,20 @@ impl Live {
             has_row: true,
             stale: false,
         })
+    }
+
+    /// A copy for the client. One at QoS 0 changes nothing that lasts.
+    pub(crate) fn queue(&mut self, delivery: Delivery, now: u64) -> Result<Reaction, SessionFault>
+        ensures step { IfOk result (λ r. QueueStep delivery now self.old.tracked.state r self.new.tracked.state) }
+        ensures spelled { IfOk result (λ r. AreSpelled now r.packets) }
+        ensures fault { IfErr result (λ e. IsFault (Unit {0}) (QueueEnds delivery self.old.tracked.state) e) }
+        ensures notes { OnOk result (Notes self.old self.new) }
+    {
+        let stale = self.stale || !is_once(delivery.qos);
+        self.stale = true;
+        let reaction = self.running.queue(delivery, now)?;
+        self.stale = stale;
+        Ok(reaction)
     }
 
     /// The value of its own row, unless it is known to be as it was told.

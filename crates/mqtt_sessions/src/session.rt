@@ -20,7 +20,6 @@ use crate::fault::SessionFault;
 use crate::link::runs_out_at;
 use crate::reaction::Reaction;
 use crate::saved::Live;
-use crate::sending::is_once;
 use mqtt_fields::Text;
 use mqtt_message::Delivery;
 use mqtt_packets::{Connect, Packet};
@@ -100,14 +99,16 @@ impl Session {
         ensures spelled { IfOk result (λ r. AreSpelled now r.packets) }
         ensures notes { NotesIf self.old self.new }
     {
-        let Some(mut live) = self.live.take() else {
+        let Some(live) = &mut self.live else {
             return Err(SessionFault::Spent);
         };
-        // A copy at QoS 0 changes nothing that lasts.
-        live.stale = live.stale || !is_once(delivery.qos);
-        let reaction = live.running.queue(delivery, now)?;
-        self.live = Some(live);
-        Ok(reaction)
+        match live.queue(delivery, now) {
+            Ok(reaction) => Ok(reaction),
+            Err(fault) => {
+                self.live = None;
+                Err(fault)
+            }
+        }
     }
 
     /// A packet that came. `room` is whether a retained message for a new topic would be taken.
@@ -288,12 +289,16 @@ impl Session {
         ensures tells { TellsIf self.old result self.new }
         ensures before { OnOk result (IfSome self.old (λ s. Appends (told_before s) before.old.items before.new.items)) }
     {
-        let Some(mut live) = self.live.take() else {
+        let Some(live) = &mut self.live else {
             return Err(SessionFault::Spent);
         };
-        let changes = live.changes(before)?;
-        self.live = Some(live);
-        Ok(changes)
+        match live.changes(before) {
+            Ok(changes) => Ok(changes),
+            Err(_) => {
+                self.live = None;
+                Err(SessionFault::NoMemory)
+            }
+        }
     }
 
     /// The changes after which no row that was told last is there, for a session that is over: each of these rows goes, and no

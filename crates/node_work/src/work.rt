@@ -46,7 +46,7 @@ use home_table::HomeTable;
 use mqtt_fields::Text;
 use mqtt_message::Delivery;
 use mqtt_packets::{Bytes, Connect, Packet};
-use mqtt_sessions::{Output as SessionOutput, Reaction, SessionFault};
+use mqtt_sessions::{Output as SessionOutput, Publication, Reaction, SessionFault};
 use mqtt_topics::Filter;
 use node_rows::{Opened, mark_row};
 use replica_store::{Content, ReplicaStore};
@@ -457,14 +457,26 @@ impl Work {
     {
         match packet {
             SessionOutput::Answer(answer) => self.put_out(connection, answer),
-            SessionOutput::Publish(publication) => {
-                let at = self.held.at();
-                let publish = publication
-                    .delivery
-                    .publish(self.alloc, at, publication.dup, publication.id)?;
-                self.put_out(connection, &Packet::Publish(publish))
-            }
+            SessionOutput::Publish(publication) => self.publish(connection, publication),
         }
+    }
+
+    /// Sends a PUBLISH of a session.
+    fn publish(&mut self, connection: u64, publication: &Publication) -> Result<(), NodeFault>
+        requires { HasSpelling (packet_of self.old.held.at (SessionOutput.Publish publication.now)) }
+        ensures ok { OnOk result (self.new ≡ record self.old { outputs = self.old.outputs ++ packet_output connection self.old.held.at (SessionOutput.Publish publication.now) ∷ [] }) }
+        ensures fault { IfErr result (λ e. e ≡ NoMemory) }
+    {
+        let mut bytes = Vec::new(self.alloc);
+        publication.delivery.write_publish(
+            self.alloc,
+            self.held.at(),
+            publication.dup,
+            publication.id,
+            &mut bytes,
+        )?;
+        let bytes = Bytes::new(bytes);
+        self.give(Output::Send { connection, bytes })
     }
 
     /// Sends a packet to a connection.
