@@ -4,6 +4,7 @@ pub mod NumbersLaws
 pub mod WholeLaws
 pub mod SentLaws
 pub mod SendableLaws
+pub mod WrittenLaws
 pub mod AcceptLaws
 pub mod FitsLaws
 pub mod BeginLaws

@@ -58,13 +58,15 @@ written_len p n e =
 added : (t q v b l t' q' v' b' l' : ℕ) → t ≡ t' → q ≡ q' → v ≡ v' → b ≡ b' → l ≡ l' → 2 + t' + (q' + (v' + b' + l')) ≡ 2 + t + q + v + b + l
 added t q v b l t' q' v' b' l' et eq ev eb el = omega arith
 
--- the length of a PUBLISH, of the lengths of its parts
-pub publish_len : (p : Publish) (t q v b l w : ℕ) → t ≡ length p.topic → q ≡ identifier_len p.qos → b ≡ length (properties_bytes p.properties) → v ≡ length (vbi.bytes b) → l ≡ length p.payload
-    → w ≡ length (vbi.bytes (2 + t + q + v + b + l)) → 1 + w + (2 + t + q + v + b + l) ≡ length (written (packets.Publish p))
-publish_len p t q v b l w et eq eb ev el ew =
+-- the length of a PUBLISH's body, of the lengths of its parts
+pub parts_len : (p : Publish) (t q v b l : ℕ) → t ≡ length p.topic → q ≡ identifier_len p.qos → b ≡ length (properties_bytes p.properties) → v ≡ length (vbi.bytes b) → l ≡ length p.payload → 2 + t + q + v + b + l ≡ length (body_bytes (packets.Publish p))
+parts_len p t q v b l et eq eb ev el =
     let block : v ≡ length (vbi.bytes (length (properties_bytes p.properties))) = ev ∙ ap (λ n. length (vbi.bytes n)) eb in
-    let whole = body_len p ∙ added t q v b l (length p.topic) (identifier_len p.qos) (length (vbi.bytes (length (properties_bytes p.properties)))) (length (properties_bytes p.properties)) (length p.payload) et eq block eb el in
-    ap (λ n. 1 + n + (2 + t + q + v + b + l)) ew ∙ sym (written_len p (2 + t + q + v + b + l) whole)
+    sym (body_len p ∙ added t q v b l (length p.topic) (identifier_len p.qos) (length (vbi.bytes (length (properties_bytes p.properties)))) (length (properties_bytes p.properties)) (length p.payload) et eq block eb el)
+
+-- the length of a PUBLISH, of its body's
+pub publish_len : (p : Publish) (n w : ℕ) → n ≡ length (body_bytes (packets.Publish p)) → w ≡ length (vbi.bytes n) → 1 + w + n ≡ length (written (packets.Publish p))
+publish_len p n w en ew = ap (λ k. 1 + k + n) ew ∙ sym (written_len p n (sym en))
 
 pub properties_bytes-append : (ps qs : List Property) → length (properties_bytes (ps ++ qs)) ≡ length (properties_bytes ps) + length (properties_bytes qs)
 properties_bytes-append ps qs = ap length (flat_map-append property_bytes ps qs) ∙ length-append (properties_bytes ps) (properties_bytes qs)

@@ -6,6 +6,7 @@ use Rattle.mqtt_fields.specs.declared.value.Property.{Property}
 use Rattle.mqtt_fields.specs.declared.value.Value.TheVariants as values
 use Rattle.mqtt_packets.specs.declared.publish.Publish.{Publish}
 use Rattle.mqtt_packets.specs.declared.packet.Packet.TheVariants as packets
+use Rattle.mqtt_packets.specs.Packet.{body_bytes}
 use Rattle.mqtt_packets.specs.Written.{written}
 use Rattle.mqtt_message.specs.declared.delivery.Delivery.{Delivery}
 use Rattle.mqtt_message.specs.Expiry.{interval_left}
@@ -40,6 +41,10 @@ abbrev pub identifier_len : Qos → ℕ
 identifier_len AtMostOnce = 0
 identifier_len AtLeastOnce = 2
 identifier_len ExactlyOnce = 2
+
+-- how long its body is, which follows Remaining Length (2.1.4), whatever its identifier and whether it was sent before
+abbrev pub IsBodyLength : Delivery → ℕ → ℕ → Type 0
+IsBodyLength d now n = (dup : Bool) (identifier : ℕ) → n ≡ length (body_bytes (packets.Publish (sent d now dup identifier)))
 
 -- how long that packet is, written, whatever its identifier and whether it was sent before
 abbrev pub IsSentLength : Delivery → ℕ → ℕ → Type 0

@@ -13,6 +13,7 @@ mod payload;
 mod properties;
 mod sent;
 mod shared;
+mod written;
 
 pub use delivery::Delivery;
 pub use expiry::due;

@@ -2,7 +2,7 @@
 
 ghost use Rattle.std.specs.Prelude.{◌≡◌, ◌+◌, ◌*◌, ◌<◌, ◌≤◌, ◌^◌, ◌++◌, length, map, IfOk};
 ghost use Rattle.mqtt_fields.specs.Block.{properties_bytes};
-ghost use Rattle.mqtt_message.specs.Sent.{interval_property, identifier_property, identifier_len, sent_properties, sent, IsSentLength};
+ghost use Rattle.mqtt_message.specs.Sent.{interval_property, identifier_property, identifier_len, sent_properties, sent, IsBodyLength, IsSentLength};
 
 use crate::delivery::Delivery;
 use crate::properties::MessageProperties;
@@ -74,7 +74,7 @@ impl Delivery {
 
     /// The properties of its PUBLISH: the message's own, then the Message Expiry Interval that is left, then
     /// the Subscription Identifiers.
-    fn sent_properties(&self, alloc: Global, now: u64) -> Result<Properties, NoMemory>
+    pub(crate) fn sent_properties(&self, alloc: Global, now: u64) -> Result<Properties, NoMemory>
         ensures { IfOk result (λ ps. ps ≡ sent_properties self.now now) }
     {
         let own = self.message.message().properties.to_properties(alloc)?;
@@ -110,19 +110,27 @@ impl Delivery {
         })
     }
 
+    /// The length of what follows Remaining Length in the PUBLISH that sends it now: topic, Packet Identifier,
+    /// properties with their length, and payload.
+    pub(crate) fn body_len(&self, now: u64) -> usize
+        ensures exact { IsBodyLength self.now now result }
+        ensures small { result < 2 ^ 30 }
+    {
+        let message = self.message.message();
+        let properties = self.properties_len(now);
+        2 + message.topic.as_str().len()
+            + identifier_len(self.qos)
+            + vbi_len(properties as u32)
+            + properties
+            + message.payload.as_slice().len()
+    }
+
     /// The length of the PUBLISH that sends it now: the message's own properties, then the Message Expiry
     /// Interval that is left, then the Subscription Identifiers.
     pub fn packet_length(&self, now: u64) -> u64
         ensures { IsSentLength self.now now result }
     {
-        let message = self.message.message();
-        let properties = self.properties_len(now);
-        let body = 2
-            + message.topic.as_str().len()
-            + identifier_len(self.qos)
-            + vbi_len(properties as u32)
-            + properties
-            + message.payload.as_slice().len();
+        let body = self.body_len(now);
         (1 + vbi_len(body as u32) + body) as u64
     }
 }

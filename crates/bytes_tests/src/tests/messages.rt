@@ -33,6 +33,11 @@ const SENT: [u8; 19] = [
     0x33, 17, 0, 1, 0x74, 0, 9, 9, 2, 0, 0, 0, 1, 11, 7, 11, 7, 0x6f, 0x6e,
 ];
 
+/// The same, sent again.
+const SENT_AGAIN: [u8; 19] = [
+    0x3b, 17, 0, 1, 0x74, 0, 9, 9, 2, 0, 0, 0, 1, 11, 7, 11, 7, 0x6f, 0x6e,
+];
+
 fn publish_in(alloc: Global, bytes: &[u8]) -> Result<Publish, Fail> {
     match read_packet(alloc, bytes)? {
         Some((packet, _)) => match packet {
@@ -201,5 +206,23 @@ fn deliveries_are_written_and_sent(rt: HostRuntime) -> Result<(), Fail> {
     assert_eq!(rt; sent.as_slice(), SENT.as_slice());
     let fault = Delivery::read(rt.alloc(), &FALLING).err();
     assert_eq!(rt; fault, Some(FieldFault::Malformed));
+    Ok(())
+}
+
+/// The PUBLISH that sends the delivery again at 5,999, written without a copy.
+fn sent_again(alloc: Global, delivery: &Delivery) -> Result<Vec<u8>, Fail> {
+    let packet = Packet::Publish(delivery.publish(alloc, 5999, true, 9)?);
+    let mut out = Vec::new(alloc);
+    if packet.is_sound() {
+        delivery.write_publish(alloc, 5999, true, 9, &mut out)?;
+    }
+    Ok(out)
+}
+
+#[test]
+fn deliveries_are_sent_again(rt: HostRuntime) -> Result<(), Fail> {
+    let delivery = delivery_of(rt.alloc())?;
+    let bytes = sent_again(rt.alloc(), &delivery)?;
+    assert_eq!(rt; bytes.as_slice(), SENT_AGAIN.as_slice());
     Ok(())
 }

@@ -1,10 +1,7 @@
-use Rattle.std.proofs.Common.{ap, length, ◌∙◌}
-use Rattle.mqtt_message.specs.declared.message.Message.{Message}
 use Rattle.mqtt_message.specs.Sent.{sent}
 use Rattle.mqtt_message.proofs.SentLaws.{publish_len}
 use Rattle.mqtt_message.proofs.delivery.Delivery.packet_length.Goals as goal
 
 pub returns : goal.returns
 returns c = λ dup identifier.
-    publish_len (sent c.args.self.now c.args.now dup identifier) (length c.as_str.result.now) c.identifier_len.result c.vbi_len.result c.properties_len-properties.result (length c.as_slice.result.now) c.vbi_len-2.result
-    (ap length (c.as_str.ensures.same ∙ ap (λ (m : Message). m.topic) c.message-message.ensures)) c.identifier_len.ensures c.properties_len-properties.ensures.exact c.vbi_len.ensures.exact (ap length (c.as_slice.ensures.same ∙ ap (λ (m : Message). m.payload) c.message-message.ensures)) c.vbi_len-2.ensures.exact
+    publish_len (sent c.args.self.now c.args.now dup identifier) c.body_len-body.result c.vbi_len.result (c.body_len-body.ensures.exact dup identifier) c.vbi_len.ensures.exact

@@ -1,0 +1,22 @@
+use Rattle.std.proofs.Common.{arith}
+use Rattle.std.proofs.lemmas.Result.{on_ok_weaker}
+use Rattle.mqtt_message.specs.Sent.{sent}
+use Rattle.mqtt_message.proofs.WrittenLaws.{sent_short, sent_fits, joined}
+use Rattle.mqtt_message.proofs.delivery.Delivery.write_publish.Goals as goal
+
+pub write-requires : goal.write-requires
+write-requires c =
+    let p = sent c.args.self.now c.args.now c.args.dup c.args.identifier in
+    omega (arith, c.body_len-body.ensures.exact c.args.dup c.args.identifier, sent_short p c.requires)
+
+pub write_body-requires : goal.write_body-requires
+write_body-requires c =
+    let p = sent c.args.self.now c.args.now c.args.dup c.args.identifier in
+    rw c.in_ok-properties.ensures (sent_fits p c.requires)
+
+pub returns : goal.returns
+returns c =
+    let p = sent c.args.self.now c.args.now c.args.dup c.args.identifier in
+    on_ok_weaker c.write_body.result (joined p c.body_len-body.result c.args.out.now.items c.push_reserved.new.self.items c.write.new.out.items c.write_body.new.out.items
+    (cc) (c.body_len-body.ensures.exact c.args.dup c.args.identifier) c.in_ok-write.ensures.ok)
+    (rw c.in_ok-properties.ensures at (c.write_body.ensures c.args.now c.args.dup))
