@@ -1,6 +1,6 @@
 //! The bytes of the PUBLISH by which a delivery is sent.
 
-ghost use Rattle.std.specs.Prelude.{◌≡◌, ◌+◌, ◌++◌, Bool, OnOk, ℕ};
+ghost use Rattle.std.specs.Prelude.{◌≡◌, ◌+◌, ◌++◌, Bool, IfOk, OnOk, ℕ};
 ghost use Rattle.mqtt_fields.specs.declared.table.Place.TheVariants as places;
 ghost use Rattle.mqtt_fields.specs.Block.{properties};
 ghost use Rattle.mqtt_packets.specs.declared.packet.Packet.TheVariants as packets;
@@ -46,24 +46,24 @@ impl Delivery {
         Ok(())
     }
 
-    /// Appends the bytes of the PUBLISH that sends it now, with this DUP flag and Packet Identifier (0 at QoS 0): what
-    /// `publish` gives, written, without a copy of topic and payload beside it.
-    pub fn write_publish(
+    /// The bytes of the PUBLISH that sends it now, with this DUP flag and Packet Identifier (0 at QoS 0): what `publish` gives,
+    /// written, without a copy of topic and payload beside it.
+    pub fn publish_bytes(
         &self,
         alloc: Global,
         now: u64,
         dup: bool,
         identifier: u16,
-        out: &mut Vec<u8>,
-    ) -> Result<(), NoMemory>
+    ) -> Result<Vec<u8>, NoMemory>
         requires { HasSpelling (packets.Publish (sent self.now now dup identifier)) }
-        ensures { OnOk result (out.new.items ≡ out.old.items ++ written (packets.Publish (sent self.now now dup identifier))) }
+        ensures { IfOk result (λ bytes. bytes.items ≡ written (packets.Publish (sent self.now now dup identifier))) }
     {
         let properties = self.sent_properties(alloc, now)?;
         let body = self.body_len(now);
-        out.reserve(1 + vbi_len(body as u32) + body)?;
-        out.push_reserved(first_byte(dup, self.qos, self.retain));
-        Vbi::write(body as u32, out)?;
-        self.write_body(identifier, &properties, out)
+        let mut bytes = Vec::with_capacity(alloc, 1 + vbi_len(body as u32) + body)?;
+        bytes.push_reserved(first_byte(dup, self.qos, self.retain));
+        Vbi::write(body as u32, &mut bytes)?;
+        self.write_body(identifier, &properties, &mut bytes)?;
+        Ok(bytes)
     }
 }

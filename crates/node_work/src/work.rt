@@ -467,13 +467,12 @@ impl Work {
         ensures ok { OnOk result (self.new ≡ record self.old { outputs = self.old.outputs ++ packet_output connection self.old.held.at (SessionOutput.Publish publication.now) ∷ [] }) }
         ensures fault { IfErr result (λ e. e ≡ NoMemory) }
     {
-        let mut bytes = Vec::new(self.alloc);
-        publication.delivery.write_publish(
+        let at = self.held.at();
+        let bytes = publication.delivery.publish_bytes(
             self.alloc,
-            self.held.at(),
+            at,
             publication.dup,
             publication.id,
-            &mut bytes,
         )?;
         let bytes = Bytes::new(bytes);
         self.give(Output::Send { connection, bytes })

@@ -212,11 +212,10 @@ fn deliveries_are_written_and_sent(rt: HostRuntime) -> Result<(), Fail> {
 /// The PUBLISH that sends the delivery again at 5,999, written without a copy.
 fn sent_again(alloc: Global, delivery: &Delivery) -> Result<Vec<u8>, Fail> {
     let packet = Packet::Publish(delivery.publish(alloc, 5999, true, 9)?);
-    let mut out = Vec::new(alloc);
-    if packet.is_sound() {
-        delivery.write_publish(alloc, 5999, true, 9, &mut out)?;
+    if !packet.is_sound() {
+        return Ok(Vec::new(alloc));
     }
-    Ok(out)
+    Ok(delivery.publish_bytes(alloc, 5999, true, 9)?)
 }
 
 #[test]
