@@ -468,12 +468,9 @@ impl Work {
         ensures fault { IfErr result (λ e. e ≡ NoMemory) }
     {
         let at = self.held.at();
-        let bytes = publication.delivery.publish_bytes(
-            self.alloc,
-            at,
-            publication.dup,
-            publication.id,
-        )?;
+        let bytes = publication
+            .delivery
+            .publish_bytes(self.alloc, at, publication.dup, publication.id)?;
         let bytes = Bytes::new(bytes);
         self.give(Output::Send { connection, bytes })
     }
