@@ -192,6 +192,7 @@ impl Live {
         ensures notes { OnOk result (Notes self.old self.new) }
     {
         let stale = self.stale || !is_once(delivery.qos);
+        // After a fault nothing is known of its own row.
         self.stale = true;
         let reaction = self.running.queue(delivery, now)?;
         self.stale = stale;
