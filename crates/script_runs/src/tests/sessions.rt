@@ -2,7 +2,7 @@
 
 use super::Example;
 
-pub const EXAMPLES: [Example; 19] = [
+pub const EXAMPLES: [Example; 21] = [
     Example {
         name: "a client at its home",
         script: "nodes 2\nstart 0 0\nstart 1 0\nopen 1 1 0\nbytes 1 1 0 100e00044d5154540502003c00000161\n",
@@ -134,6 +134,20 @@ pub const EXAMPLES: [Example; 19] = [
         script: "nodes 1\nstart 0 0\nopen 0 1 0\nbytes 0 1 0 100e00044d5154540502003c00000163\nbytes 0 1 0 820700010000017700\nopen 0 2 0\nbytes 0 2 0 101a00044d5154540506003c0000016105180000003c000177000178\nbytes 0 2 0 e000\nopen 0 3 0\nbytes 0 3 0 101a00044d5154540506003c0000016105180000003c000177000178\nbytes 0 3 0 e00104\n",
         status: 0,
         out: "sent 0 1 200b0000082100642700100000\nsent 0 1 900400010000\nsent 0 2 200b0000082100642700100000\nclosed 0 2\nsent 0 3 200b0000082100642700100000\nclosed 0 3\nsent 0 1 30050001770078\nnode 0 subscriptions 1 retained 0\n",
+        err: "",
+    },
+    Example {
+        name: "a CONNACK that is longer than Maximum Packet Size",
+        script: "nodes 2\nstart 0 0\nstart 1 0\nopen 1 1 0\nbytes 1 1 0 101300044d5154540502003c05270000000c000161\n",
+        status: 0,
+        out: "closed 1 1\nnode 0 subscriptions 0 retained 0\nnode 1 subscriptions 0 retained 0\ntaken 0 1 equal\n",
+        err: "",
+    },
+    Example {
+        name: "a message within Maximum Packet Size, and one that is longer",
+        script: "nodes 2\nstart 0 0\nstart 1 0\nopen 1 1 0\nbytes 1 1 0 101300044d5154540502003c05270000000d000161\nbytes 1 1 0 820700010000017400\nopen 1 2 0\nbytes 1 2 0 100e00044d5154540502003c00000163\nbytes 1 2 0 300b0001740031323334353637\nbytes 1 2 0 300c000174003132333435363738\nbytes 1 1 0 c000\n",
+        status: 0,
+        out: "sent 1 1 200b0000082100642700100000\nsent 1 1 900400010000\nsent 1 2 200b0000082100642700100000\nsent 1 1 300b0001740031323334353637\nsent 1 1 d000\nnode 0 subscriptions 0 retained 0\nnode 1 subscriptions 1 retained 0\ntaken 0 1 differ\n",
         err: "",
     },
 ];
