@@ -1,0 +1,270 @@
+// Loads a broker of MQTT 5.0 at 127.0.0.1, and tells how many messages a second come and how long they take.
+//
+//   gcc -O2 -o load examples/load.c
+//   ./load PORT IDLE PAIRS AHEAD QOS BYTES SECONDS
+//
+// IDLE clients connect and say nothing more. Then there are PAIRS of a publisher and a subscriber, each pair with a topic of its
+// own. A publisher has AHEAD messages of BYTES bytes on their way at QOS, 0 or 1: it publishes the next one once one has come
+// (QoS 0) or is acknowledged (QoS 1). The broker may be any one of MQTT 5.0.
+#include <arpa/inet.h>
+#include <errno.h>
+#include <netinet/tcp.h>
+#include <stdint.h>
+#include <stdio.h>
+#include <stdlib.h>
+#include <string.h>
+#include <sys/epoll.h>
+#include <time.h>
+#include <unistd.h>
+
+enum { ROOM = 65536, MOST_BYTES = 16000, MOST_TIMES = 1 << 22, EVENTS = 256 };
+
+struct client {
+    int socket;
+    int pair;
+    uint16_t identifier;
+    size_t held;
+    uint8_t bytes[ROOM];
+};
+
+static int port, pairs, ahead, qos, length;
+static struct client *clients;
+static double *times;
+static size_t sent, come, acknowledged, taken_times;
+static double stop;
+
+static double now(void) {
+    struct timespec at;
+    clock_gettime(CLOCK_MONOTONIC, &at);
+    return (double)at.tv_sec + (double)at.tv_nsec * 1e-9;
+}
+
+static void end(const char *why) {
+    fprintf(stderr, "load: %s\n", why);
+    exit(1);
+}
+
+static void send_all(int socket, const uint8_t *bytes, size_t count) {
+    while (count > 0) {
+        ssize_t written = write(socket, bytes, count);
+        if (written < 0)
+            end("a connection was closed");
+        bytes += written;
+        count -= (size_t)written;
+    }
+}
+
+// Reads one packet of fewer than 128 bytes after its length.
+static void receive(int socket, uint8_t *packet) {
+    size_t held = 0, wanted = 2;
+    while (held < wanted) {
+        ssize_t count = read(socket, packet + held, wanted - held);
+        if (count <= 0)
+            end("a connection was closed");
+        held += (size_t)count;
+        if (held == 2)
+            wanted += packet[1] & 127;
+    }
+}
+
+static size_t put_text(uint8_t *at, const char *text) {
+    size_t count = strlen(text);
+    at[0] = (uint8_t)(count >> 8);
+    at[1] = (uint8_t)count;
+    memcpy(at + 2, text, count);
+    return 2 + count;
+}
+
+static int dial(void) {
+    struct sockaddr_in to = {.sin_family = AF_INET, .sin_port = htons((uint16_t)port), .sin_addr.s_addr = htonl(INADDR_LOOPBACK)};
+    int made = socket(AF_INET, SOCK_STREAM, 0), on = 1;
+    if (made < 0 || connect(made, (struct sockaddr *)&to, sizeof to) != 0)
+        end(strerror(errno));
+    setsockopt(made, IPPROTO_TCP, TCP_NODELAY, &on, sizeof on);
+    return made;
+}
+
+// Connects with Clean Start and no Keep Alive.
+static int connect_client(const char *identifier) {
+    uint8_t packet[160] = {0x10, 0, 0, 4, 'M', 'Q', 'T', 'T', 5, 2, 0, 0, 0};
+    packet[1] = (uint8_t)(11 + put_text(packet + 13, identifier));
+    int made = dial();
+    send_all(made, packet, 2 + packet[1]);
+    receive(made, packet);
+    if (packet[0] != 0x20 || packet[3] != 0)
+        end("a CONNECT was refused");
+    return made;
+}
+
+static void subscribe(int socket, const char *filter) {
+    uint8_t packet[160] = {0x82, 0, 0, 1, 0};
+    size_t count = 5 + put_text(packet + 5, filter);
+    packet[count++] = (uint8_t)qos;
+    packet[1] = (uint8_t)(count - 2);
+    send_all(socket, packet, count);
+    receive(socket, packet);
+    if (packet[0] != 0x90)
+        end("a SUBSCRIBE was refused");
+}
+
+// A payload begins with the moment at which it was published.
+static void publish(struct client *publisher) {
+    uint8_t body[MOST_BYTES + 64], packet[MOST_BYTES + 68] = {(uint8_t)(0x30 | qos << 1)};
+    char topic[32];
+    snprintf(topic, sizeof topic, "pair/%d", publisher->pair);
+    size_t count = put_text(body, topic);
+    if (qos > 0) {
+        publisher->identifier = publisher->identifier == 65535 ? 1 : publisher->identifier + 1;
+        body[count++] = (uint8_t)(publisher->identifier >> 8);
+        body[count++] = (uint8_t)publisher->identifier;
+    }
+    body[count++] = 0;
+    memset(body + count, 'x', (size_t)length);
+    double at = now();
+    memcpy(body + count, &at, sizeof at);
+    count += (size_t)length;
+    size_t head = 1, left = count;
+    for (; left > 127; left >>= 7)
+        packet[head++] = (uint8_t)(left & 127) | 128;
+    packet[head++] = (uint8_t)left;
+    memcpy(packet + head, body, count);
+    send_all(publisher->socket, packet, head + count);
+    sent++;
+}
+
+static void publish_again(struct client *publisher) {
+    if (now() < stop)
+        publish(publisher);
+}
+
+static void take_message(struct client *subscriber, const uint8_t *packet, const uint8_t *body) {
+    size_t at = 2 + ((size_t)body[0] << 8 | body[1]);
+    if (packet[0] & 6) {
+        uint8_t answer[4] = {0x40, 2, body[at], body[at + 1]};
+        send_all(subscriber->socket, answer, sizeof answer);
+        at += 2;
+    }
+    double published;
+    memcpy(&published, body + at + 1 + body[at], sizeof published);
+    if (taken_times < MOST_TIMES)
+        times[taken_times++] = now() - published;
+    come++;
+    if (qos == 0)
+        publish_again(&clients[2 * subscriber->pair + 1]);
+}
+
+static void take_packet(struct client *client, const uint8_t *packet, const uint8_t *body) {
+    switch (packet[0] >> 4) {
+    case 3:
+        take_message(client, packet, body);
+        break;
+    case 4:
+        acknowledged++;
+        publish_again(client);
+        break;
+    default:
+        end("a packet that was not expected");
+    }
+}
+
+// Reads what has come, and takes the packets that are whole.
+static void take_bytes(struct client *client) {
+    ssize_t count = read(client->socket, client->bytes + client->held, ROOM - client->held);
+    if (count <= 0)
+        end("a connection was closed");
+    client->held += (size_t)count;
+    size_t at = 0;
+    while (1) {
+        size_t head = 1, body = 0;
+        int shift = 0, whole = 0;
+        while (at + head < client->held && !whole) {
+            uint8_t byte = client->bytes[at + head++];
+            body |= (size_t)(byte & 127) << shift;
+            shift += 7;
+            whole = byte < 128;
+        }
+        if (!whole || at + head + body > client->held)
+            break;
+        take_packet(client, client->bytes + at, client->bytes + at + head);
+        at += head + body;
+    }
+    client->held -= at;
+    memmove(client->bytes, client->bytes + at, client->held);
+}
+
+static void connect_idle(int idle) {
+    double start = now();
+    for (int i = 0; i < idle; i++) {
+        char name[32];
+        snprintf(name, sizeof name, "idle%d", i);
+        connect_client(name);
+    }
+    if (idle > 0)
+        printf("%d idle clients connected in %.2f s\n", idle, now() - start);
+    fflush(stdout);
+}
+
+static int connect_pairs(void) {
+    int poll = epoll_create1(0);
+    for (int i = 0; i < 2 * pairs; i++) {
+        char name[32];
+        snprintf(name, sizeof name, "%s%d", i % 2 ? "publisher" : "subscriber", i / 2);
+        clients[i].pair = i / 2;
+        clients[i].socket = connect_client(name);
+        struct epoll_event asked = {.events = EPOLLIN, .data.ptr = &clients[i]};
+        epoll_ctl(poll, EPOLL_CTL_ADD, clients[i].socket, &asked);
+        snprintf(name, sizeof name, "pair/%d", i / 2);
+        if (i % 2 == 0)
+            subscribe(clients[i].socket, name);
+    }
+    return poll;
+}
+
+// Until the end, and then until nothing comes for a fifth of a second.
+static void run(int poll) {
+    struct epoll_event ready[EVENTS];
+    for (int i = 0; i < pairs * ahead; i++)
+        publish(&clients[2 * (i % pairs) + 1]);
+    while (1) {
+        int count = epoll_wait(poll, ready, EVENTS, 200);
+        if (count <= 0 && now() > stop)
+            break;
+        for (int i = 0; i < count; i++)
+            take_bytes(ready[i].data.ptr);
+    }
+}
+
+static int compare(const void *one, const void *other) {
+    double a = *(const double *)one, b = *(const double *)other;
+    return (a > b) - (a < b);
+}
+
+static double percentile(double share) {
+    return taken_times == 0 ? 0 : times[(size_t)(share * (double)(taken_times - 1))] * 1e3;
+}
+
+int main(int count, char **words) {
+    if (count != 8)
+        end("usage: load PORT IDLE PAIRS AHEAD QOS BYTES SECONDS");
+    port = atoi(words[1]);
+    pairs = atoi(words[3]);
+    ahead = atoi(words[4]);
+    qos = atoi(words[5]);
+    length = atoi(words[6]);
+    double seconds = atof(words[7]);
+    if (pairs < 1 || ahead < 1 || qos < 0 || qos > 1 || length < (int)sizeof(double) || length > MOST_BYTES)
+        end("a word is out of its range");
+    clients = calloc(2 * (size_t)pairs, sizeof *clients);
+    times = calloc(MOST_TIMES, sizeof *times);
+    if (!clients || !times)
+        end("no memory");
+    connect_idle(atoi(words[2]));
+    int poll = connect_pairs();
+    double start = now();
+    stop = start + seconds;
+    run(poll);
+    qsort(times, taken_times, sizeof *times, compare);
+    printf("%zu published, %zu acknowledged, %zu came: %.0f a second; half within %.3f ms, 99 of 100 within %.3f ms, all within %.3f ms\n",
+           sent, acknowledged, come, (double)come / seconds, percentile(0.5), percentile(0.99), percentile(1));
+    return 0;
+}
