@@ -10,7 +10,8 @@ use std::alloc::Global;
 use std::process::Abort;
 
 /// A table of two nodes.
-const HOMES: &str = "[[node]]\nname = \"n0\"\naddress = \"127.0.0.1:1883\"\nbridge = \"127.0.0.1:2883\"\n[[node]]\nname = \"n1\"\naddress = \"127.0.0.1:1884\"\nbridge = \"127.0.0.1:2884\"\n";
+const HOMES: &str =
+    "[[node]]\nname = \"n0\"\naddress = \"127.0.0.1:1883\"\nbridge = \"127.0.0.1:2883\"\n[[node]]\nname = \"n1\"\naddress = \"127.0.0.1:1884\"\nbridge = \"127.0.0.1:2884\"\n";
 
 /// Hello of node 0 for node 1.
 const HELLO: &[u8] = &[0, 0, 0, 5, 1, 0, 0, 0, 1];
