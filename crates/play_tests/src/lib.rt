@@ -1,0 +1,5 @@
+//! Worked examples of a cluster whose steps no script has.
+#![tactic(auto)]
+
+#[cfg(test)]
+mod tests;
