@@ -15,7 +15,7 @@ use bridge_frames::{BridgeFrame, Forward, FrameBody};
 use lane_rows::{
     ReadLane, append_numbers, append_numbers_change, append_puts, append_removals, append_rows,
 };
-use mqtt_fields::NoMemory;
+use mqtt_fields::{NUMBERS_END, NoMemory};
 use row_store::{Change, Row};
 use std::alloc::Global;
 use std::collections::VecDeque;
@@ -26,9 +26,6 @@ const ROOM: usize = 65_536;
 
 /// As many messages as are sent at once.
 const FIRST: usize = 64;
-
-/// Numbers stay below this.
-const NUMBERS_END: u64 = 1 << 62;
 
 /// Numbered messages to the other node, and the number of the last one that was taken of its messages.
 ///

@@ -10,8 +10,8 @@ use Rattle.mqtt_message.specs.Spelling.{flag, listed}
 use Rattle.mqtt_message.specs.Spellings.{message}
 use Rattle.mqtt_message.proofs.SpellingLaws.{flag_is, listed_is}
 use Rattle.mqtt_message.proofs.WholeLaws.{message_is}
-use Rattle.store_bytes.specs.Filters.{is_filter}
-use Rattle.store_bytes.specs.Values.{filter}
+use Rattle.replica_bytes.specs.Filters.{is_filter}
+use Rattle.replica_bytes.specs.Values.{filter}
 use Rattle.bridge_frames.specs.Forwards.{pick, forward_of, forward_parts, forward, is_lane_number, lane_number, numbered}
 
 filter_is : IsField filter

@@ -15,8 +15,8 @@ use Rattle.causal_context.specs.Spelling.{context}
 use Rattle.causal_context.specs.Spelling as contexts
 use Rattle.causal_context.proofs.SpellingLaws.{context_is}
 use Rattle.replica_store.specs.States.{State}
-use Rattle.store_bytes.specs.Stores.{state}
-use Rattle.store_bytes.proofs.Wholes.{state_is}
+use Rattle.replica_bytes.specs.Stores.{state}
+use Rattle.replica_bytes.proofs.Wholes.{state_is}
 use Rattle.bridge_frames.specs.declared.body.FrameBody.{FrameBody}
 use Rattle.bridge_frames.specs.declared.body.FrameBody.TheVariants.{Hello, Delta, Know, Forward, Got}
 use Rattle.bridge_frames.specs.declared.kind.Kind.{Kind}

@@ -7,7 +7,7 @@ use Rattle.mqtt_fields.specs.Numbers.{number, text}
 use Rattle.mqtt_message.specs.declared.message.Message.{Message}
 use Rattle.mqtt_message.specs.Spelling.{flag, listed}
 use Rattle.mqtt_message.specs.Spellings.{message}
-use Rattle.store_bytes.specs.Values.{filter}
+use Rattle.replica_bytes.specs.Values.{filter}
 use Rattle.bridge_frames.specs.declared.forward.Forward.{Forward}
 use Rattle.bridge_frames.specs.declared.pick.Pick.{Pick}
 

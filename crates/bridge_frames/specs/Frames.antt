@@ -7,7 +7,7 @@ use Rattle.mqtt_fields.specs.Numbers.{number, long}
 use Rattle.causal_context.specs.Dots.{Dots}
 use Rattle.causal_context.specs.Spelling.{context}
 use Rattle.replica_store.specs.States.{State}
-use Rattle.store_bytes.specs.Stores.{state, HasNoVersions}
+use Rattle.replica_bytes.specs.Stores.{state, HasNoVersions}
 use Rattle.bridge_frames.specs.declared.body.FrameBody.{FrameBody}
 use Rattle.bridge_frames.specs.declared.body.FrameBody.TheVariants.{Hello, Delta, Know, Forward, Got}
 use Rattle.bridge_frames.specs.declared.fault.LinkFault.{LinkFault}

@@ -7,10 +7,10 @@ ghost use Rattle.bridge_frames.specs.Frames as spec;
 use crate::forward::Forward;
 use crate::kind::Kind;
 use causal_context::Context;
-use mqtt_fields::{FieldFault, NoMemory, put_u64, u64_at};
+use mqtt_fields::{FieldFault, NUMBERS_END, NoMemory, put_u64, u64_at};
 use replica_store::ReplicaStore;
 use std::alloc::Global;
-use store_bytes::{read_store, write_store};
+use replica_bytes::{read_store, write_store};
 
 /// What a frame says.
 #[derive(Drop)]
@@ -32,7 +32,7 @@ fn lane_number_at(bytes: &[u8]) -> Result<(u64, &[u8]), FieldFault>
     ensures { Gives (λ x. (x.0, x.1.now)) result (lane_number.at bytes.now) }
 {
     let (number, rest) = u64_at(bytes)?;
-    if number == 0 || number >= 1 << 62 {
+    if number == 0 || number >= NUMBERS_END {
         return Err(FieldFault::Malformed);
     }
     Ok((number, rest))

@@ -3,7 +3,7 @@ ghost use Rattle.std.specs.Prelude.{◌≡◌, ◌↔◌, ◌<◌, ◌^◌, ◌+
 ghost use Rattle.std.specs.List.{AllByRecursion};
 ghost use Rattle.mqtt_fields.specs.Reading.{Gives};
 ghost use Rattle.mqtt_message.specs.Spelling.{listed, values_at};
-ghost use Rattle.store_bytes.specs.Values.{filter, filter_in};
+ghost use Rattle.replica_bytes.specs.Values.{filter, filter_in};
 ghost use Rattle.bridge_frames.specs.Forwards as spec;
 
 use mqtt_fields::{FieldFault, NoMemory, Text, put_u16, u16_at};
@@ -56,7 +56,7 @@ impl Pick {
     }
 
     // Each pick has a spelling. This does nothing; its contract is a law.
-    #[tactic(auto, using(store_bytes::proofs::Fits::fits))]
+    #[tactic(auto, using(replica_bytes::proofs::Fits::fits))]
     fn has_spelling(&self)
         ensures { spec.pick.Fits self.now }
     {

@@ -5,7 +5,7 @@ ghost use Rattle.mqtt_fields.specs.Reading.{Gives};
 ghost use Rattle.causal_context.specs.Spelling as spec;
 
 use crate::ranges::Range;
-use mqtt_fields::{FieldFault, NoMemory, put_u16, put_u32, put_u64, u16_at, u32_at, u64_at};
+use mqtt_fields::{FieldFault, NUMBERS_END, NoMemory, put_u16, put_u32, put_u64, u16_at, u32_at, u64_at};
 use std::alloc::Global;
 
 // The range at the front, and the bytes after it. Short where they end inside it.
@@ -22,7 +22,7 @@ fn range_at(bytes: &[u8]) -> Result<(Range, &[u8]), FieldFault>
 fn has_dots(range: Range) -> bool
     ensures { result ≡ spec.is_of_dots range }
 {
-    range.first >= 1 && (range.first <= range.last && range.last < 1 << 62)
+    range.first >= 1 && (range.first <= range.last && range.last < NUMBERS_END)
 }
 
 // Whether the first stands before the second, with a gap between them.

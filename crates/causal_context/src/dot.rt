@@ -2,6 +2,7 @@
 ghost use Rattle.std.specs.Prelude.{◌≡◌, ◌^◌, ◌≤◌, ◌<◌};
 ghost use Rattle.causal_context.specs.Dots.{dot_of};
 
+use mqtt_fields::NUMBERS_END;
 use std::marker::Model;
 
 /// A node and the number of a change there, from 1 to 2^62 - 1.
@@ -31,7 +32,7 @@ impl Dot {
     pub fn new(node: u16, number: u64) -> Option<Dot>
         ensures { result ≡ dot_of node number }
     {
-        if number < 1 || number >= 1 << 62 {
+        if number < 1 || number >= NUMBERS_END {
             return None;
         }
         Some(Dot { node, number })

@@ -10,7 +10,7 @@ use Rattle.replica_store.proofs.Deltas.{one_state}
 use Rattle.replica_store.proofs.Unions.{among_left, among_right, among_cases}
 use Rattle.node_work.specs.Acts.{Act, gather, op_in}
 use Rattle.cluster_play.specs.Worlds.{World}
-use Rattle.cluster_play.specs.Runs.{Moment}
+use Rattle.cluster_play.specs.Runs.{Played}
 use Rattle.cluster_play.specs.Histories.{Reached, site, acts_of, ops_of, made, taken_amid, operations_amid}
 use Rattle.cluster_play.proofs.Operations.{among_some, own_part}
 use Rattle.cluster_play.proofs.Agreeing.{own_dots}
@@ -30,7 +30,7 @@ same_from ms O P s t own first second x y same =
     }) (own_part ms O own first) s t x y
 
 -- what was made until amid a step was made in the run
-made_amid : (run later : List Moment) (m : Moment) (before rest : List Act) → acts_of m.fate ≡ before ++ rest → (o : Operation) → Among o (made run ++ gather op_in before) → Among o (made (run ++ m ∷ later))
+made_amid : (run later : List Played) (m : Played) (before rest : List Act) → acts_of m.fate ≡ before ++ rest → (o : Operation) → Among o (made run ++ gather op_in before) → Among o (made (run ++ m ∷ later))
 made_amid run later m before rest acts o a =
     let all = made_both run (m ∷ later) in
     subst (λ os. Among o os) (sym all) (elim (among_cases o (made run) (gather op_in before) a) [
@@ -40,7 +40,7 @@ made_amid run later m before rest acts o a =
     ])
 
 -- two nodes that have taken the same amid their steps hold the same there
-pub states_agree_amid : (whole run later run' later' : List Moment) (m m' : Moment) (w : World) → Reached whole w → whole ≡ run ++ m ∷ later → whole ≡ run' ++ m' ∷ later'
+pub states_agree_amid : (whole run later run' later' : List Played) (m m' : Played) (w : World) → Reached whole w → whole ≡ run ++ m ∷ later → whole ≡ run' ++ m' ∷ later'
     → (before rest before' rest' : List Act) → acts_of m.fate ≡ before ++ rest → acts_of m'.fate ≡ before' ++ rest'
     → (a : Amid run w (site m.fate) before rest) (b : Amid run' w (site m'.fate) before' rest')
     → ((d : Dot) → taken_amid (site m.fate) run before d ≡ taken_amid (site m'.fate) run' before' d) → a.held.store ≡ b.held.store

@@ -8,7 +8,7 @@ use Rattle.node_work.specs.View.{Place, HeldView}
 use Rattle.node_laws.specs.Moves.{Moves, did}
 use Rattle.node_laws.proofs.MoveLaws.{moves_join, acts_are_moves}
 use Rattle.cluster_play.specs.Worlds.{World}
-use Rattle.cluster_play.specs.Runs.{Moment}
+use Rattle.cluster_play.specs.Runs.{Played}
 use Rattle.cluster_play.specs.Histories.{Reached, site, acts_of, made, gained, gains, taken, taken_amid, operations_amid, moves_at, moves_amid, moment_amid}
 pub use Rattle.cluster_play.proofs.Splits.{runs_split}
 use Rattle.cluster_play.proofs.Bools.{or_left, or_assoc}
@@ -25,7 +25,7 @@ use Rattle.cluster_play.proofs.Plain.{AllPlain}
 use Rattle.cluster_play.proofs.Rows.{committed}
 
 -- what node i holds after some acts of a step that comes after a run
-pub record Amid (run : List Moment) (w : World) (i : ℕ) (before rest : List Act) : Type 0 where
+pub record Amid (run : List Played) (w : World) (i : ℕ) (before rest : List Act) : Type 0 where
   pub within : i < length w.sites
   pub held : HeldView
   pub last : HeldView
@@ -39,7 +39,7 @@ pub record Amid (run : List Moment) (w : World) (i : ℕ) (before rest : List Ac
   pub runs : Runs place held rest last
   pub moment : held.at ≡ moment_amid i run before
 
-pub amid_acts : (run later : List Moment) (m : Moment) (w : World) → Reached (run ++ m ∷ later) w → (before rest : List Act) (a : Act) → acts_of m.fate ≡ before ++ a ∷ rest → Amid run w (site m.fate) before (a ∷ rest)
+pub amid_acts : (run later : List Played) (m : Played) (w : World) → Reached (run ++ m ∷ later) w → (before rest : List Act) (a : Act) → acts_of m.fate ≡ before ++ a ∷ rest → Amid run w (site m.fate) before (a ∷ rest)
 amid_acts run later m w r before rest a is =
     let i = site m.fate in
     let half = midway run (m ∷ later) w r in
@@ -70,11 +70,11 @@ amid_acts run later m w r before rest a is =
     }
 
 -- what it holds there is the state of what it had taken there
-pub amid_state : (run : List Moment) (w : World) (i : ℕ) (before rest : List Act) (a : Amid run w i before rest) → IsStateOf (operations_amid i run before) a.held.store
+pub amid_state : (run : List Played) (w : World) (i : ℕ) (before rest : List Act) (a : Amid run w i before rest) → IsStateOf (operations_amid i run before) a.held.store
 amid_state run w i before rest a = state_by (made run ++ gather op_in before) a.held.store (taken_amid i run before) a.grown.sound a.listed
 
 -- what an act of the step takes is taken from then on
-pub taken_step : (run later : List Moment) (m : Moment) (d : Dot) → taken_amid (site m.fate) run (acts_of m.fate) d ≡ true → taken (site m.fate) (run ++ m ∷ later) d ≡ true
+pub taken_step : (run later : List Played) (m : Played) (d : Dot) → taken_amid (site m.fate) run (acts_of m.fate) d ≡ true → taken (site m.fate) (run ++ m ∷ later) d ≡ true
 taken_step run later m d h =
     let i = site m.fate in
     let gain : gains i m.fate d ≡ gained (acts_of m.fate) d = ap (λ b. b && gained (acts_of m.fate) d) (eq-eqb i i refl) in

@@ -11,7 +11,7 @@ use Rattle.bridge_frames.specs.declared.body.FrameBody.TheVariants.{Delta}
 use Rattle.bridge_frames.specs.declared.frame.BridgeFrame.{BridgeFrame}
 use Rattle.bridge_frames.specs.Frames.{HasSpelling, spelling}
 use Rattle.bridge_frames.proofs.FrameLaws.{read_again}
-use Rattle.node_work.specs.Acts.{Act, Moment as TakesMoment, Began, Store, Connection, Session, Bridge, Out, Named, Acknowledged, Passed, Dropped, Made, Merged, IsMade, gather, merge_in}
+use Rattle.node_work.specs.Acts.{Act, Moment, Began, Store, Connection, Session, Bridge, Out, Named, Acknowledged, Passed, Dropped, Made, Merged, IsMade, gather, merge_in}
 use Rattle.node_work.specs.Held.Bridge.{Carries, Gave}
 use Rattle.broker_node.specs.Step.{brought, brought_in}
 use Rattle.bridge_deltas.proofs.Shipping.{shipped_enough}
@@ -19,7 +19,7 @@ use Rattle.node_bridge.specs.View.{belief_of}
 use Rattle.node_work.specs.Frames.{states_in}
 use Rattle.node_work.specs.View.{Place, nodes_of}
 use Rattle.cluster_play.specs.Worlds.{Site, World}
-use Rattle.cluster_play.specs.Runs.{Moment}
+use Rattle.cluster_play.specs.Runs.{Played}
 use Rattle.cluster_play.specs.Histories.{Reached, site, acts_of, gained, gain_in, gains, taken, taken_amid, operations_amid, same_dot}
 use Rattle.cluster_play.specs.Laws.{Ships, Arrives}
 use Rattle.cluster_play.specs.NextOperations.{IsNext}
@@ -36,7 +36,7 @@ use Rattle.cluster_play.proofs.Telling.{given_spelled}
 gained_here : (before after : List Act) (a : Act) (d : Dot) → gain_in a d ≡ true → gained (before ++ a ∷ after) d ≡ true
 gained_here before after a d h = gained_both before (a ∷ after) d ∙ or_right (gained before d) (gain_in a d || gained after d) (or_left (gain_in a d) (gained after d) h)
 
-pub operations_of_a_step : (run later : List Moment) (m : Moment) (w : World) → Reached (run ++ m ∷ later) w
+pub operations_of_a_step : (run later : List Played) (m : Played) (w : World) → Reached (run ++ m ∷ later) w
     → (before after : List Act) (o : Operation) → acts_of m.fate ≡ before ++ Store (Made o) ∷ after
     → IsNext (site m.fate) (operations_amid (site m.fate) run before) o × (taken (site m.fate) (run ++ m ∷ later) (dot_of o) ≡ true)
 operations_of_a_step run later m w r before after o h =
@@ -49,13 +49,13 @@ operations_of_a_step run later m w r before after o h =
     )
 
 -- a Delta frame, when it goes out: each dot that its node had taken its receiver has taken already, or the frame lists it
-pub record IsSent (run : List Moment) (w : World) (m : Moment) (before : List Act) (f : BridgeFrame) (s : State) : Type 0 where
+pub record IsSent (run : List Played) (w : World) (m : Played) (before : List Act) (f : BridgeFrame) (s : State) : Type 0 where
   pub spelled : HasSpelling f
   pub from : f.from ≡ site m.fate
   pub within : site m.fate < length w.sites
   pub covers : (d : Dot) → taken_amid (site m.fate) run before d ≡ true → (taken f.to run d ≡ true) ⊎ (set.contains s.taken d ≡ true)
 
-pub sent_as : (run later : List Moment) (m : Moment) (w : World) → Reached (run ++ m ∷ later) w → (before : List Act) (f : BridgeFrame) (s : Ships m before f) → IsSent run w m before f s.state
+pub sent_as : (run later : List Played) (m : Played) (w : World) → Reached (run ++ m ∷ later) w → (before : List Act) (f : BridgeFrame) (s : Ships m before f) → IsSent run w m before f s.state
 sent_as run later m w r before f s =
     let a = amid_acts run later m w r before s.after (Bridge (Gave f)) s.acts in
     let given = a.runs.1.0 in
@@ -77,7 +77,7 @@ any_lists (t ∷ ts) d = set.contains t.taken d || any_lists ts d
 
 merges_gain : (acts : List Act) (d : Dot) → any_lists (gather merge_in acts) d ≡ true → gained acts d ≡ true
 merges_gain [] d h = h
-merges_gain (TakesMoment at ∷ acts) d h = merges_gain acts d h
+merges_gain (Moment at ∷ acts) d h = merges_gain acts d h
 merges_gain (Began ∷ acts) d h = merges_gain acts d h
 merges_gain (Store (Made o) ∷ acts) d h = or_right (same_dot (dot_of o) d) (gained acts d) (merges_gain acts d h)
 merges_gain (Store (Merged t) ∷ acts) d h = elim (or_true (set.contains t.taken d) (any_lists (gather merge_in acts) d) h) [
@@ -101,7 +101,7 @@ frame_brings p f t spelled to from below is =
     ∙ (λ n. cond (eq-eqb f.to p.id to n && not (nat_other f.from p.id from n) && lt-ltb f.from (nodes_of p) below n) (t ∷ []) [])
 
 -- the frame comes to another node than the one that sent it
-module _ (run : List Moment) (w w' : World) (r : Reached run w) (m : Moment) (f : BridgeFrame) (a : Arrives w f m w') (t : State) (is : f.body ≡ Delta t) where
+module _ (run : List Played) (w w' : World) (r : Reached run w) (m : Played) (f : BridgeFrame) (a : Arrives w f m w') (t : State) (is : f.body ≡ Delta t) where
   here : Committed w (site m.fate) a.event (acts_of m.fate) w'
   here = committed w m.step m.fate w' a.event a.happens a.commits
 
@@ -118,7 +118,7 @@ module _ (run : List Moment) (w w' : World) (r : Reached run w) (m : Moment) (f 
       merges_gain (acts_of m.fate) d (ap (λ ts. any_lists ts d) merges ∙ or_left (set.contains t.taken d) false listed)
 
   -- so the receiver has taken each dot that the frame lists and the sender had taken
-  pub takes_all : (later : List Moment) → HasSpelling f → f.from < length w.sites → (d : Dot) → taken f.from run d ≡ true → set.contains t.taken d ≡ true → taken f.to (run ++ m ∷ later) d ≡ true
+  pub takes_all : (later : List Played) → HasSpelling f → f.from < length w.sites → (d : Dot) → taken f.from run d ≡ true → set.contains t.taken d ≡ true → taken f.to (run ++ m ∷ later) d ≡ true
   takes_all later spelled below d had listed =
       taken_both f.to run (m ∷ later) d ∙ elim (nat_cases f.from f.to) [
         | inl e ↦ or_left (taken f.to run d) (taken f.to (m ∷ later) d) (subst (λ j. taken j run d ≡ true) e had)
@@ -126,7 +126,7 @@ module _ (run : List Moment) (w w' : World) (r : Reached run w) (m : Moment) (f 
             (or_left (gains f.to m.fate d) (taken f.to later d) (ap (λ b. b && gained (acts_of m.fate) d) (eq-eqb (site m.fate) f.to a.at) ∙ gains_all spelled ne below d listed))
       ]
 
-pub catch_up : (run amid later : List Moment) (m arrival : Moment) (w w' : World) → Reached (run ++ m ∷ amid) w
+pub catch_up : (run amid later : List Played) (m arrival : Played) (w w' : World) → Reached (run ++ m ∷ amid) w
     → (before : List Act) (f : BridgeFrame) → Ships m before f → Arrives w f arrival w'
     → (d : Dot) → taken_amid (site m.fate) run before d ≡ true → taken f.to ((run ++ m ∷ amid) ++ arrival ∷ later) d ≡ true
 catch_up run between later m arrival w w' r before f s a d had =

@@ -12,7 +12,7 @@ use Rattle.node_work.specs.Lasting.{CanLast, lasting}
 use Rattle.node_work.specs.View.{Place, HeldView, fresh, nodes_of}
 use Rattle.node_laws.specs.Moves.{Move, Moves}
 use Rattle.cluster_play.specs.Worlds.{Site, World, Fate}
-use Rattle.cluster_play.specs.Runs.{Moment}
+use Rattle.cluster_play.specs.Runs.{Played}
 use Rattle.cluster_play.specs.Histories.{ops_of, made, gains, taken, own_moves, moves_at}
 use Rattle.cluster_play.proofs.Bridging.{IsKept}
 use Rattle.cluster_play.proofs.Paths.{made_more, taken_more, moves_more}
@@ -29,14 +29,14 @@ pub record Past : Type 0 where
   pub took : ℕ → Dot → Bool
   pub moves : ℕ → List Move
 
-abbrev pub past : List Moment → Past
+abbrev pub past : List Played → Past
 past run = record { ops = made run; took = λ i d. taken i run d; moves = λ i. moves_at i run }
 
 -- and what comes to a fate
 abbrev pub past_and : Past → Fate → Past
 past_and p fate = record { ops = p.ops ++ ops_of fate; took = λ i d. p.took i d || gains i fate d; moves = λ i. p.moves i ++ own_moves i fate }
 
-pub past_more : (run : List Moment) (m : Moment) → past_and (past run) m.fate ≡ past (run ++ m ∷ [])
+pub past_more : (run : List Played) (m : Played) → past_and (past run) m.fate ≡ past (run ++ m ∷ [])
 past_more run m = λ n. record { ops = made_more run m n; took = λ i d. taken_more i run m d n; moves = λ i. moves_more i run m n }
 
 -- what a node starts with at a place

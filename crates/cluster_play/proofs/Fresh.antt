@@ -24,10 +24,10 @@ use Rattle.row_store.specs.Rows.{Content, Key, key_cmp}
 use Rattle.row_store.proofs.Keys.{keys_total, exact_keys}
 use Rattle.session_table.specs.Rows.{is_session_kind}
 use Rattle.session_table.specs.Seats.{Seat, Seats}
-use Rattle.session_table.proofs.Tables.{alike}
-use Rattle.store_rows.specs.Reading.{IsStore}
-use Rattle.store_rows.specs.Rows.{row_at}
-use Rattle.store_rows.proofs.Empty.{no_rows}
+use Rattle.finite_maps.proofs.Texts.{alike}
+use Rattle.replica_rows.specs.Reading.{IsStore}
+use Rattle.replica_rows.specs.Rows.{row_at}
+use Rattle.replica_rows.proofs.Empty.{no_rows}
 use Rattle.subscription_set.specs.Standing.{seen_of, contains-seen_of}
 use Rattle.subscription_set.specs.Statuses.{Status}
 use Rattle.node_keeper.specs.Keeping.{AreOf, Opens}

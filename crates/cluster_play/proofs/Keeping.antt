@@ -15,7 +15,7 @@ use Rattle.node_work.specs.Held.Bridge.{Carries, Gave}
 use Rattle.node_work.specs.Lasting.{IsWoken, lasting}
 use Rattle.node_work.specs.View.{HeldView}
 use Rattle.cluster_play.specs.Worlds.{Site, World, Fate, Faulted, Restarted, Happens, stopped}
-use Rattle.cluster_play.specs.Runs.{Moment}
+use Rattle.cluster_play.specs.Runs.{Played}
 use Rattle.cluster_play.specs.Histories.{Reached, site, acts_of, gained, made, taken, taken_amid}
 use Rattle.cluster_play.specs.Laws.{Holds, KeepsIts, WakesFrom}
 use Rattle.cluster_play.proofs.Bools.{or_true, or_left, or_right, some_is}
@@ -29,7 +29,7 @@ use Rattle.cluster_play.proofs.Rows.{Woke, came}
 use Rattle.cluster_play.proofs.Sound.{state_by}
 use Rattle.cluster_play.proofs.Splits.{gained_both}
 
-module _ (run : List Moment) (w : World) (r : Reached run w) (i : ℕ) (s : Site) (at : slice_get w.sites i ≡ Some s) where
+module _ (run : List Played) (w : World) (r : Reached run w) (i : ℕ) (s : Site) (at : slice_get w.sites i ≡ Some s) where
   seat : Seated (past run) (length w.sites) i s
   seat = (explained run w r).sites i s at
 
@@ -50,13 +50,13 @@ module _ (run : List Moment) (w : World) (r : Reached run w) (i : ℕ) (s : Site
   pub rows_of_node : AreOfNone s.node.place s.rows → ⊥
   rows_of_node none = none (lasting seat.held) (can_here, seat.rows)
 
-pub rows_of_held : (run : List Moment) (w : World) → Reached run w → (i : ℕ) (h : HeldView) (at : Holds w i h) → AreOf at.site.node.place at.site.rows h × IsLasting (length w.sites) (lasting h)
+pub rows_of_held : (run : List Played) (w : World) → Reached run w → (i : ℕ) (h : HeldView) (at : Holds w i h) → AreOf at.site.node.place at.site.rows h × IsLasting (length w.sites) (lasting h)
 rows_of_held run w r i h at =
     let x = seat run w r i at.site at.at in
     let same : x.held ≡ h = sym (x.up h at.up) in
     (subst (AreOf at.site.node.place at.site.rows) same x.rows, subst (λ (v : HeldView). IsLasting (length w.sites) (lasting v)) same (can run w r i at.site at.at))
 
-restarted_seat : (run : List Moment) (w w' : World) → Reached run w → (i : ℕ) → Woke w i w' → (h' : HeldView) → Holds w' i h' → WakesFrom run w i h'
+restarted_seat : (run : List Played) (w w' : World) → Reached run w → (i : ℕ) → Woke w i w' → (h' : HeldView) → Holds w' i h' → WakesFrom run w i h'
 restarted_seat run w w' r i c h' holds =
     let x = seat run w r i c.was c.at in
     let o = c.reopens.node in
@@ -72,11 +72,11 @@ restarted_seat run w w' r i c h' holds =
       woken = subst (IsWoken (lasting x.held)) same again.woken;
     }
 
-pub restarts_with_what_lasts : (run : List Moment) (w w' : World) (m : Moment) → Reached run w → Happens w m.step m.fate w' → (i : ℕ) → m.fate ≡ Restarted i → (h' : HeldView) → Holds w' i h' → WakesFrom run w i h'
+pub restarts_with_what_lasts : (run : List Played) (w w' : World) (m : Played) → Reached run w → Happens w m.step m.fate w' → (i : ℕ) → m.fate ≡ Restarted i → (h' : HeldView) → Holds w' i h' → WakesFrom run w i h'
 restarts_with_what_lasts run w w' m r h i is h' holds =
     restarted_seat run w w' r i (came w m.step (Restarted i) w' (subst (λ (f : Fate). Happens w m.step f w') is h)) h' holds
 
-faulted_site : (run : List Moment) (w w' : World) → Reached run w → (i : ℕ) (fault : KeeperFault) → Befell w (Faulted i fault) w' → (s s' : Site) → slice_get w.sites i ≡ Some s → slice_get w'.sites i ≡ Some s' → s' ≡ stopped s
+faulted_site : (run : List Played) (w w' : World) → Reached run w → (i : ℕ) (fault : KeeperFault) → Befell w (Faulted i fault) w' → (s s' : Site) → slice_get w.sites i ≡ Some s → slice_get w'.sites i ≡ Some s' → s' ≡ stopped s
 faulted_site run w w' r i fault b s s' at at' =
     let here : i ≡ b.i = b.becomes.0 in
     let later = b.becomes.1.0 in
@@ -87,7 +87,7 @@ faulted_site run w w' r i fault b s s' at at' =
     let rows : later.rows ≡ b.was.rows = may_be_same b.was.node.place b.was.rows later.rows x.held x.rows h.rows in
     sym there ∙ (λ n. record { node = record { place = h.place n; up = h.up n }; rows = rows n }) ∙ ap stopped was
 
-pub faults_leave_rows : (run : List Moment) (w w' : World) (m : Moment) → Reached run w → Happens w m.step m.fate w' → (i : ℕ) (fault : KeeperFault) → m.fate ≡ Faulted i fault
+pub faults_leave_rows : (run : List Played) (w w' : World) (m : Played) → Reached run w → Happens w m.step m.fate w' → (i : ℕ) (fault : KeeperFault) → m.fate ≡ Faulted i fault
     → (s s' : Site) → slice_get w.sites i ≡ Some s → slice_get w'.sites i ≡ Some s' → s' ≡ stopped s
 faults_leave_rows run w w' m r h i fault is =
     faulted_site run w w' r i fault (befell w m.step (Faulted i fault) w' (subst (λ (f : Fate). Happens w m.step f w') is h))
@@ -95,7 +95,7 @@ faults_leave_rows run w w' m r h i fault is =
 known_dots : (held : HeldView) (to : ℕ) (dots : Dots) (b : FrameBody) → Carries held to b → b ≡ Know dots → dots ≡ held.store.taken
 known_dots held to dots b h e = subst (Carries held to) e h
 
-pub knows_what_is_taken : (run later : List Moment) (m : Moment) (w : World) → Reached (run ++ m ∷ later) w
+pub knows_what_is_taken : (run later : List Played) (m : Played) (w : World) → Reached (run ++ m ∷ later) w
     → (before after : List Act) (f : BridgeFrame) (dots : Dots) → acts_of m.fate ≡ before ++ Bridge (Gave f) ∷ after → f.body ≡ Know dots
     → (d : Dot) → set.contains dots d ≡ true → taken (site m.fate) (run ++ m ∷ later) d ≡ true
 knows_what_is_taken run later m w r before after f dots acts is d h =

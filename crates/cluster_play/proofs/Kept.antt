@@ -9,7 +9,7 @@ use Rattle.node_keeper.specs.Keeping.{AreOf}
 use Rattle.node_rows.proofs.OneNode.{rows_tell_all}
 use Rattle.node_work.specs.View.{NodeView, Place, nodes_of}
 use Rattle.cluster_play.specs.Worlds.{Site, World}
-use Rattle.cluster_play.specs.Runs.{Moment}
+use Rattle.cluster_play.specs.Runs.{Played}
 use Rattle.cluster_play.specs.Histories.{IsNew, IsStart, Reached}
 use Rattle.cluster_play.proofs.Bools.{some_is, none-some}
 use Rattle.cluster_play.proofs.Paths.{along}
@@ -48,7 +48,7 @@ start_explained w s = record {
   frames = λ n f a. none-some (subst (λ fs. slice_get fs n ≡ Some f) s.frames a);
 }
 
-pub explained : (run : List Moment) (w : World) → Reached run w → Explains (past run) w
+pub explained : (run : List Played) (w : World) → Reached run w → Explains (past run) w
 explained = along (λ run w. Explains (past run) w)
     (λ run m w w' r x honest h. subst (λ (p : Past). Explains p w') (past_more run m) (step_explains rows_tell_all (past run) w w' m.step x m.fate honest h))
     start_explained

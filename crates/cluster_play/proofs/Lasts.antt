@@ -6,7 +6,7 @@ use Rattle.row_store.specs.Rows.{Content, key_cmp}
 use Rattle.session_rows.specs.Durable.{Durable, IsDurable}
 use Rattle.session_table.specs.Seats.{Seat}
 use Rattle.session_table.proofs.RowLaws.{durable-again}
-use Rattle.store_rows.specs.Reading.{IsUnversioned}
+use Rattle.replica_rows.specs.Reading.{IsUnversioned}
 use Rattle.node_bridge.specs.View.{woken_bridge}
 use Rattle.node_keeper.specs.Keeping.{AreLasting, AreOf, AreOfNone, marked, may_be_marked}
 use Rattle.node_rows.specs.Reading.{IsAmong, IsLasting, RowsTellAll}

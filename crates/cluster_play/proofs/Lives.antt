@@ -11,26 +11,26 @@ use Rattle.node_laws.specs.Moves.{Moves, did}
 use Rattle.node_laws.proofs.LifeLaws as lives
 use Rattle.node_laws.proofs.MoveLaws.{moves_join, acts_are_moves}
 use Rattle.cluster_play.specs.Worlds.{World}
-use Rattle.cluster_play.specs.Runs.{Moment}
+use Rattle.cluster_play.specs.Runs.{Played}
 use Rattle.cluster_play.specs.Histories.{moves_at, moves_amid, Reached}
 use Rattle.cluster_play.specs.Laws.{Holds, HoldsAmid}
 use Rattle.cluster_play.proofs.Explaining.{fresh_at}
 use Rattle.cluster_play.proofs.Kept.{explained}
 
-pub at_moves : (run : List Moment) (w : World) → Reached run w → (i : ℕ) (h : HeldView) (at : Holds w i h) → Moves at.site.node.place (fresh_at at.site.node.place) (moves_at i run) h
+pub at_moves : (run : List Played) (w : World) → Reached run w → (i : ℕ) (h : HeldView) (at : Holds w i h) → Moves at.site.node.place (fresh_at at.site.node.place) (moves_at i run) h
 at_moves run w r i h at =
     let x = (explained run w r).sites i at.site at.at in
     subst (Moves at.site.node.place (fresh_at at.site.node.place) (moves_at i run)) (sym (x.up h at.up)) x.moves
 
 -- amid a step too
-pub amid_moves : (p : Place) (run : List Moment) (i : ℕ) (before : List Act) (h mid : HeldView) → Moves p (fresh_at p) (moves_at i run) h → Moves p h (did before) mid → Moves p (fresh_at p) (moves_amid i run before) mid
+pub amid_moves : (p : Place) (run : List Played) (i : ℕ) (before : List Act) (h mid : HeldView) → Moves p (fresh_at p) (moves_at i run) h → Moves p h (did before) mid → Moves p (fresh_at p) (moves_amid i run before) mid
 amid_moves p run i before h mid r q = moves_join p (moves_at i run) (did before) (fresh_at p) h mid r q
 
-pub sessions_are_runs : (run : List Moment) (w : World) → Reached run w → (i : ℕ) (h : HeldView) → Holds w i h
+pub sessions_are_runs : (run : List Played) (w : World) → Reached run w → (i : ℕ) (h : HeldView) → Holds w i h
     → (client : List ℕ) (seat : Seat) → map.get h.sessions client ≡ Some seat → SessionRun (new_session client) (life client (moves_at i run) []) seat.session
 sessions_are_runs run w r i h at = lives.sessions_are_runs at.site.node.place h (moves_at i run) (at_moves run w r i h at)
 
-pub sessions_are_runs_amid : (run : List Moment) (w : World) (m : Moment) → Reached run w → (i : ℕ) (before : List Act) (mid : HeldView) → HoldsAmid w m i before mid
+pub sessions_are_runs_amid : (run : List Played) (w : World) (m : Played) → Reached run w → (i : ℕ) (before : List Act) (mid : HeldView) → HoldsAmid w m i before mid
     → (client : List ℕ) (seat : Seat) → map.get mid.sessions client ≡ Some seat → SessionRun (new_session client) (life client (moves_amid i run before) []) seat.session
 sessions_are_runs_amid run w m r i before mid a =
     let place = a.holds.site.node.place in

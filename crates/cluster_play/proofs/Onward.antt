@@ -8,12 +8,12 @@ use Rattle.cluster_play.specs.declared.line.Line.{Line}
 use Rattle.cluster_play.specs.declared.step.Step.{Step}
 use Rattle.cluster_play.specs.declared.step.Step.TheVariants as steps
 use Rattle.cluster_play.specs.Worlds.{World}
-use Rattle.cluster_play.specs.Runs.{Moment, Run, steps_of, released, printed, IsKnown, BringsNone, BringsNoFrame, IsHonestStep, IsHonest}
+use Rattle.cluster_play.specs.Runs.{Played, Run, steps_of, released, printed, IsKnown, BringsNone, BringsNoFrame, IsHonestStep, IsHonest}
 use Rattle.cluster_play.specs.Histories.{IsStart, Reached}
 use Rattle.cluster_play.specs.Playing.{IsPlayed}
 use Rattle.cluster_play.proofs.Paths.{run_join, step_frames}
 
-honest_join : (ms ns : List Moment) (w mid : World) → Run w ms mid → IsHonest w.frames ms → IsHonest mid.frames ns → IsHonest w.frames (ms ++ ns)
+honest_join : (ms ns : List Played) (w mid : World) → Run w ms mid → IsHonest w.frames ms → IsHonest mid.frames ns → IsHonest w.frames (ms ++ ns)
 honest_join [] ns w mid r h k = subst (λ (v : World). IsHonest v.frames ns) r k
 honest_join (m ∷ ms) ns w mid r h k =
     let frames = step_frames w m.step m.fate r.0 r.1 in
@@ -22,7 +22,7 @@ honest_join (m ∷ ms) ns w mid r h k =
 pub start_is_reached : (w : World) → IsStart w → Reached [] w
 start_is_reached w s = record { start = w; is_start = s; path = refl; honest = tt }
 
-pub goes_on : (ms ns : List Moment) (w w' : World) → Reached ms w → Run w ns w' → IsHonest w.frames ns → Reached (ms ++ ns) w'
+pub goes_on : (ms ns : List Played) (w w' : World) → Reached ms w → Run w ns w' → IsHonest w.frames ns → Reached (ms ++ ns) w'
 goes_on ms ns w w' r path honest = record {
   start = r.start;
   is_start = r.is_start;
@@ -48,11 +48,11 @@ honest_step sent (steps.CrashBefore i e) h = tt
 honest_step sent (steps.CrashAfter i e) h = known_free sent e.kind h
 honest_step sent (steps.Restart i) h = tt
 
-pub honest_free : (sent : List Frame) (run : List Moment) → AllByRecursion BringsNoFrame (steps_of run) → IsHonest sent run
+pub honest_free : (sent : List Frame) (run : List Played) → AllByRecursion BringsNoFrame (steps_of run) → IsHonest sent run
 honest_free sent [] h = tt
 honest_free sent (m ∷ run) h = (honest_step sent m.step h.0, honest_free (sent ++ released m.fate) run h.1)
 
-pub played_is_reached : (run : List Moment) (w w' : World) (steps : List Step) (lines : List Line) → Reached run w → AllByRecursion BringsNoFrame steps → IsPlayed w steps lines w'
-    → (more : List Moment) × (steps_of more ≡ steps) × Reached (run ++ more) w' × (lines ≡ printed (length w.frames) more)
+pub played_is_reached : (run : List Played) (w w' : World) (steps : List Step) (lines : List Line) → Reached run w → AllByRecursion BringsNoFrame steps → IsPlayed w steps lines w'
+    → (more : List Played) × (steps_of more ≡ steps) × Reached (run ++ more) w' × (lines ≡ printed (length w.frames) more)
 played_is_reached run w w' steps lines r free p =
     (p.0, p.1, goes_on run p.0 w w' r p.2 (honest_free w.frames p.0 (subst (AllByRecursion BringsNoFrame) (sym p.1) free)), p.3)

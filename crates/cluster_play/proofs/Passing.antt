@@ -4,7 +4,7 @@ use Rattle.replica_store.specs.Operations.{dot_of}
 use Rattle.replica_store.proofs.Views.{live_is}
 use Rattle.node_work.specs.Acts.{Act, Passed, Runs}
 use Rattle.cluster_play.specs.Worlds.{World}
-use Rattle.cluster_play.specs.Runs.{Moment}
+use Rattle.cluster_play.specs.Runs.{Played}
 use Rattle.cluster_play.specs.Histories.{Reached, site, taken_amid, operations_amid}
 use Rattle.cluster_play.specs.Laws.{HoldsAmid, AnswersBy, PassesOn, MakesCopies}
 use Rattle.cluster_play.proofs.Operations.{own_some}
@@ -13,7 +13,7 @@ use Rattle.cluster_play.proofs.Rows.{committed}
 use Rattle.cluster_play.proofs.Amid.{amid_acts, runs_split}
 use Rattle.cluster_play.proofs.Showing.{node_holds_amid}
 
-pub copies_as_taken : (run later : List Moment) (m : Moment) (w : World) → Reached (run ++ m ∷ later) w → (before : List Act) (s : PassesOn m before) → MakesCopies run m before s
+pub copies_as_taken : (run later : List Played) (m : Played) (w : World) → Reached (run ++ m ∷ later) w → (before : List Act) (s : PassesOn m before) → MakesCopies run m before s
 copies_as_taken run later m w r before s =
     let i = site m.fate in
     let a = Passed s.message s.copies s.lost s.routes in

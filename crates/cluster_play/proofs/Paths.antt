@@ -11,12 +11,12 @@ use Rattle.cluster_play.specs.declared.fault.PlayFault.{PlayFault}
 use Rattle.cluster_play.specs.declared.step.Step.{Step}
 use Rattle.cluster_play.specs.declared.step.Step.TheVariants as steps
 use Rattle.cluster_play.specs.Worlds.{Site, World, Fate, Released, Lost, Cut, Faulted, Was_down, Restarted, Becomes, Happens, Lacks, stopped, numbered}
-use Rattle.cluster_play.specs.Runs.{Moment, Run, released, IsKnown, IsHonestStep, IsHonest}
+use Rattle.cluster_play.specs.Runs.{Played, Run, released, IsKnown, IsHonestStep, IsHonest}
 use Rattle.cluster_play.specs.Histories.{event_of, acts_of, ops_of, made, gains, taken, own_moves, moves_at, IsStart, Reached}
 use Rattle.cluster_play.proofs.Bools.{or_assoc, or_false, some_is, none-some}
 use Rattle.cluster_play.proofs.Sites.{number_is}
 
-pub run_join : (ms ns : List Moment) (w mid w' : World) → Run w ms mid → Run mid ns w' → Run w (ms ++ ns) w'
+pub run_join : (ms ns : List Played) (w mid w' : World) → Run w ms mid → Run mid ns w' → Run w (ms ++ ns) w'
 run_join [] ns w mid w' r q = subst (λ v. Run v ns w') r q
 run_join (m ∷ ms) ns w mid w' r q = (r.0, r.1, run_join ms ns r.0 mid w' r.2 q)
 
@@ -57,7 +57,7 @@ became_sites w i s (Restarted j) w' b = ap (λ (v : World). length v.sites) b.1.
 pub step_sites : (w : World) (step : Step) (fate : Fate) (w' : World) → Happens w step fate w' → length w'.sites ≡ length w.sites
 step_sites w step fate w' h = let b = befell w step fate w' h in became_sites w b.i b.was fate w' b.becomes
 
-pub run_sites : (run : List Moment) (w w' : World) → Run w run w' → length w'.sites ≡ length w.sites
+pub run_sites : (run : List Played) (w w' : World) → Run w run w' → length w'.sites ≡ length w.sites
 run_sites [] w w' r = ap (λ (v : World). length v.sites) r
 run_sites (m ∷ run) w w' r = run_sites run r.0 w' r.2 ∙ step_sites w m.step m.fate r.0 r.1
 
@@ -68,7 +68,7 @@ number_stays [] ys (suc n) x h = none-some h
 number_stays (y ∷ xs) ys (suc zero) x h = h
 number_stays (y ∷ xs) ys (suc (suc n)) x h = number_stays xs ys (suc n) x h
 
-pub frames_stay : (run : List Moment) (w w' : World) → Run w run w' → (number : ℕ) (f : Frame) → numbered w.frames number ≡ Some f → numbered w'.frames number ≡ Some f
+pub frames_stay : (run : List Played) (w w' : World) → Run w run w' → (number : ℕ) (f : Frame) → numbered w.frames number ≡ Some f → numbered w'.frames number ≡ Some f
 frames_stay [] w w' r number f h = ap (λ (v : World). numbered v.frames number) r ∙ h
 frames_stay (m ∷ run) w w' r number f h =
     frames_stay run r.0 w' r.2 number f (ap (λ fs. numbered fs number) (step_frames w m.step m.fate r.0 r.1) ∙ number_stays w.frames (released m.fate) number f h)
@@ -101,13 +101,13 @@ known_event w step (Was_down j) w' e honest h is = none-some is
 known_event w step (Restarted j) w' e honest h is = none-some is
 
 -- ---- one more step
-honest_more : (run : List Moment) (m : Moment) (w w' : World) → Run w run w' → IsHonest w.frames run → IsHonestStep w'.frames m.step → IsHonest w.frames (run ++ m ∷ [])
+honest_more : (run : List Played) (m : Played) (w w' : World) → Run w run w' → IsHonest w.frames run → IsHonestStep w'.frames m.step → IsHonest w.frames (run ++ m ∷ [])
 honest_more [] m w w' r h s = (subst (λ (v : World). IsHonestStep v.frames m.step) r s, tt)
 honest_more (n ∷ run) m w w' r h s =
     let frames = step_frames w n.step n.fate r.0 r.1 in
     (h.0, subst (λ fs. IsHonest fs (run ++ m ∷ [])) frames (honest_more run m r.0 w' r.2 (subst (λ fs. IsHonest fs run) (sym frames) h.1) s))
 
-pub reached_more : (run : List Moment) (m : Moment) (w w' : World) → Reached run w → IsHonestStep w.frames m.step → Happens w m.step m.fate w' → Reached (run ++ m ∷ []) w'
+pub reached_more : (run : List Played) (m : Played) (w w' : World) → Reached run w → IsHonestStep w.frames m.step → Happens w m.step m.fate w' → Reached (run ++ m ∷ []) w'
 reached_more run m w w' r s h = record {
   start = r.start;
   is_start = r.is_start;
@@ -116,9 +116,9 @@ reached_more run m w w' r s h = record {
 }
 
 -- what holds at the start, and after a step where it held before, holds in each world that is reached
-module _ (P : List Moment → World → Type 0)
-    (kept : (run : List Moment) (m : Moment) (w w' : World) → Reached run w → P run w → IsHonestStep w.frames m.step → Happens w m.step m.fate w' → P (run ++ m ∷ []) w') where
-  walk : (done run : List Moment) (w w' : World) → Reached done w → P done w → IsHonest w.frames run → Run w run w' → P (done ++ run) w'
+module _ (P : List Played → World → Type 0)
+    (kept : (run : List Played) (m : Played) (w w' : World) → Reached run w → P run w → IsHonestStep w.frames m.step → Happens w m.step m.fate w' → P (run ++ m ∷ []) w') where
+  walk : (done run : List Played) (w w' : World) → Reached done w → P done w → IsHonest w.frames run → Run w run w' → P (done ++ run) w'
   walk done [] w w' r p honest path = subst (P (done ++ [])) (sym path) (subst (λ ms. P ms w) (sym (append-nil done)) p)
   walk done (m ∷ run) w w' r p honest path =
       let mid = path.0 in
@@ -126,26 +126,26 @@ module _ (P : List Moment → World → Type 0)
       (walk (done ++ m ∷ []) run mid w' (reached_more done m w mid r honest.0 path.1) (kept done m w mid r p honest.0 path.1)
       (subst (λ fs. IsHonest fs run) (sym (step_frames w m.step m.fate mid path.1)) honest.1) path.2)
 
-  pub along : ((w : World) → IsStart w → P [] w) → (run : List Moment) (w : World) → Reached run w → P run w
+  pub along : ((w : World) → IsStart w → P [] w) → (run : List Played) (w : World) → Reached run w → P run w
   along start run w r =
       walk [] run r.start w (record { start = r.start; is_start = r.is_start; path = refl; honest = tt }) (start r.start r.is_start)
       (subst (λ fs. IsHonest fs run) (sym r.is_start.frames) r.honest) r.path
 
 -- ---- a run that is reached, up to a moment of it and from there
-pub record Midway (run rest : List Moment) (w : World) : Type 0 where
+pub record Midway (run rest : List Played) (w : World) : Type 0 where
   pub mid : World
   pub reached : Reached run mid
   pub path : Run mid rest w
   pub honest : IsHonest mid.frames rest
 
-split : (run rest : List Moment) (w w' : World) → Run w (run ++ rest) w' → IsHonest w.frames (run ++ rest) → (mid : World) × Run w run mid × IsHonest w.frames run × Run mid rest w' × IsHonest mid.frames rest
+split : (run rest : List Played) (w w' : World) → Run w (run ++ rest) w' → IsHonest w.frames (run ++ rest) → (mid : World) × Run w run mid × IsHonest w.frames run × Run mid rest w' × IsHonest mid.frames rest
 split [] rest w w' r h = (w, refl, tt, r, h)
 split (m ∷ run) rest w w' r h =
     let frames = step_frames w m.step m.fate r.0 r.1 in
     let s = split run rest r.0 w' r.2 (subst (λ fs. IsHonest fs (run ++ rest)) (sym frames) h.1) in
     (s.0, (r.0, r.1, s.1), (h.0, subst (λ fs. IsHonest fs run) frames s.2), s.3, s.4)
 
-pub midway : (run rest : List Moment) (w : World) → Reached (run ++ rest) w → Midway run rest w
+pub midway : (run rest : List Played) (w : World) → Reached (run ++ rest) w → Midway run rest w
 midway run rest w r =
     let s = split run rest r.start w r.path (subst (λ fs. IsHonest fs (run ++ rest)) (sym r.is_start.frames) r.honest) in
     record {
@@ -156,26 +156,26 @@ midway run rest w r =
     }
 
 -- ---- histories of two parts of a run
-pub taken_both : (i : ℕ) (ms ns : List Moment) (d : Dot) → taken i (ms ++ ns) d ≡ (taken i ms d || taken i ns d)
+pub taken_both : (i : ℕ) (ms ns : List Played) (d : Dot) → taken i (ms ++ ns) d ≡ (taken i ms d || taken i ns d)
 taken_both i [] ns d = refl
 taken_both i (m ∷ ms) ns d = ap (λ b. gains i m.fate d || b) (taken_both i ms ns d) ∙ sym (or_assoc (gains i m.fate d) (taken i ms d) (taken i ns d))
 
-pub made_both : (ms ns : List Moment) → made (ms ++ ns) ≡ made ms ++ made ns
+pub made_both : (ms ns : List Played) → made (ms ++ ns) ≡ made ms ++ made ns
 made_both [] ns = refl
 made_both (m ∷ ms) ns = ap (λ os. ops_of m.fate ++ os) (made_both ms ns) ∙ sym (append_assoc (ops_of m.fate) (made ms) (made ns))
 
-moves_both : (i : ℕ) (ms ns : List Moment) → moves_at i (ms ++ ns) ≡ moves_at i ms ++ moves_at i ns
+moves_both : (i : ℕ) (ms ns : List Played) → moves_at i (ms ++ ns) ≡ moves_at i ms ++ moves_at i ns
 moves_both i [] ns = refl
 moves_both i (m ∷ ms) ns = ap (λ xs. own_moves i m.fate ++ xs) (moves_both i ms ns) ∙ sym (append_assoc (own_moves i m.fate) (moves_at i ms) (moves_at i ns))
 
 -- and of one more step
-pub taken_more : (i : ℕ) (run : List Moment) (m : Moment) (d : Dot) → (taken i run d || gains i m.fate d) ≡ taken i (run ++ m ∷ []) d
+pub taken_more : (i : ℕ) (run : List Played) (m : Played) (d : Dot) → (taken i run d || gains i m.fate d) ≡ taken i (run ++ m ∷ []) d
 taken_more i run m d = ap (λ b. taken i run d || b) (sym (or_false (gains i m.fate d))) ∙ sym (taken_both i run (m ∷ []) d)
 
-pub made_more : (run : List Moment) (m : Moment) → made run ++ ops_of m.fate ≡ made (run ++ m ∷ [])
+pub made_more : (run : List Played) (m : Played) → made run ++ ops_of m.fate ≡ made (run ++ m ∷ [])
 made_more run m = ap (λ os. made run ++ os) (sym (append-nil (ops_of m.fate))) ∙ sym (made_both run (m ∷ []))
 
-pub moves_more : (i : ℕ) (run : List Moment) (m : Moment) → moves_at i run ++ own_moves i m.fate ≡ moves_at i (run ++ m ∷ [])
+pub moves_more : (i : ℕ) (run : List Played) (m : Played) → moves_at i run ++ own_moves i m.fate ≡ moves_at i (run ++ m ∷ [])
 moves_more i run m = ap (λ xs. moves_at i run ++ xs) (sym (append-nil (own_moves i m.fate))) ∙ sym (moves_both i run (m ∷ []))
 
 -- ---- a step that has acts committed an event

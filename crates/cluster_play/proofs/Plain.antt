@@ -14,7 +14,7 @@ use Rattle.replica_store.specs.Operations.{dot_of, cover_of, Among, HasStatus, H
 use Rattle.replica_store.specs.States.{State}
 use Rattle.replica_store.specs.StateOf.{IsStateOf}
 use Rattle.replica_store.proofs.Unions.{among_cases}
-use Rattle.store_rows.specs.Reading.{IsUnversioned}
+use Rattle.replica_rows.specs.Reading.{IsUnversioned}
 use Rattle.node_rows.specs.Reading.{IsAmong}
 use Rattle.node_work.specs.Acts.{Act, Moment, Began, Store, Connection, Session, Bridge, Out, Named, Acknowledged, Passed, Dropped, Made, Merged, Allowed, IsMade, Runs, gather, op_in, merge_in}
 use Rattle.node_work.specs.View.{Place, HeldView}

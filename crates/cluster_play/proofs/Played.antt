@@ -11,15 +11,15 @@ use Rattle.cluster_play.specs.declared.step.Step.{Step}
 use Rattle.cluster_play.specs.declared.step.Step.TheVariants as steps
 use Rattle.cluster_play.specs.Clusters.{world, is_spent}
 use Rattle.cluster_play.specs.Playing.{IsPlayed, StopsAt, StopsShort, RunsOut, IsRefused, IsDoneStep}
-use Rattle.cluster_play.specs.Runs.{Moment, Run, steps_of, released, lines_of, printed}
+use Rattle.cluster_play.specs.Runs.{Played, Run, steps_of, released, lines_of, printed}
 use Rattle.cluster_play.specs.Worlds.{World, Lacks}
 use Rattle.cluster_play.proofs.Paths.{run_join, step_frames}
 
-steps_more : (run : List Moment) (m : Moment) → steps_of (run ++ m ∷ []) ≡ steps_of run ++ m.step ∷ []
+steps_more : (run : List Played) (m : Played) → steps_of (run ++ m ∷ []) ≡ steps_of run ++ m.step ∷ []
 steps_more [] m = refl
 steps_more (n ∷ run) m = ap (λ ss. n.step ∷ ss) (steps_more run m)
 
-printed_more : (run : List Moment) (m : Moment) (w mid : World) → Run w run mid → printed (length w.frames) (run ++ m ∷ []) ≡ printed (length w.frames) run ++ lines_of (length mid.frames) m.fate
+printed_more : (run : List Played) (m : Played) (w mid : World) → Run w run mid → printed (length w.frames) (run ++ m ∷ []) ≡ printed (length w.frames) run ++ lines_of (length mid.frames) m.fate
 printed_more [] m w mid r = append-nil (lines_of (length w.frames) m.fate) ∙ ap (λ (v : World). lines_of (length v.frames) m.fate) (sym r)
 printed_more (n ∷ run) m w mid r =
     let given : length w.frames + length (released n.fate) ≡ length r.0.frames = sym (ap length (step_frames w n.step n.fate r.0 r.1) ∙ length-append w.frames (released n.fate)) in
@@ -31,7 +31,7 @@ printed_more (n ∷ run) m w mid r =
 pub play_more : (w mid w' : World) (steps : List Step) (k : ℕ) (step : Step) (lines lines' : List Line) → k < length steps → step ≡ get_or steps k step
     → IsPlayed w (take k steps) lines mid → IsDoneStep mid step lines lines' w' → IsPlayed w (take (k + 1) steps) lines' w'
 play_more w mid w' steps k step lines lines' lt is before h =
-    let m : Moment = record { step = step; fate = h.0 } in (
+    let m : Played = record { step = step; fate = h.0 } in (
       before.0 ++ m ∷ [],
       steps_more before.0 m ∙ ap (λ ss. ss ++ step ∷ []) before.1 ∙ sym (take_more steps k step lt ∙ ap (λ s. take k steps ++ s ∷ []) (sym is)),
       run_join before.0 (m ∷ []) w mid w' before.2 (w', h.1, refl),

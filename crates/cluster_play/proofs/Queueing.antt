@@ -27,7 +27,7 @@ use Rattle.replica_store.specs.States.{State}
 use Rattle.session_laws.specs.Runs.{Event, connects, queues, takes, answers, closes, ticks, finishes}
 use Rattle.session_table.specs.Calls.{stays, leaves, moves}
 use Rattle.session_table.specs.Seats.{Seat, run_outs, wills_due, ends_due, connected}
-use Rattle.session_table.proofs.Tables.{get_inserted}
+use Rattle.finite_maps.proofs.Texts.{get_inserted}
 use Rattle.node_work.specs.declared.granted.Granted.{Granted}
 use Rattle.bridge_deltas.specs.declared.offer.Offer.{Offer}
 use Rattle.bridge_deltas.specs.declared.offer.Offer.TheVariants as offers

@@ -13,7 +13,7 @@ use Rattle.replica_store.proofs.Views.{live_is}
 use Rattle.node_work.specs.Acts.{Act, gather, heard_in, op_in, merge_in}
 use Rattle.node_work.specs.View.{HeldView}
 use Rattle.cluster_play.specs.Worlds.{World, Happens}
-use Rattle.cluster_play.specs.Runs.{Moment, IsHonestStep}
+use Rattle.cluster_play.specs.Runs.{Played, IsHonestStep}
 use Rattle.cluster_play.specs.Histories.{Reached, acts_of, made, taken, gained, operations, taken_amid, operations_amid}
 use Rattle.cluster_play.specs.Laws.{Holds, HoldsAmid, AnswersBy}
 use Rattle.cluster_play.proofs.Agreeing.{node_holds, own_dots}
@@ -28,17 +28,17 @@ use Rattle.cluster_play.proofs.Rows.{committed}
 use Rattle.cluster_play.proofs.Sound.{Sound, state_by}
 use Rattle.cluster_play.proofs.Splits.{all_front, gather_both}
 
-pub node_shows : (run : List Moment) (w : World) → Reached run w → (i : ℕ) (h : HeldView) → Holds w i h
+pub node_shows : (run : List Played) (w : World) → Reached run w → (i : ℕ) (h : HeldView) → Holds w i h
     → (dot : Dot) (entry : Entry) → (find_entry dot (live h.store.subscriptions) ≡ Some entry) ↔ IsLive (operations i run) dot entry
 node_shows run w r i h at dot entry =
     live_is (operations i run) h.store (own_some (made run) (λ o. taken i run (dot_of o)) (own_dots run w r)) (node_holds run w r i h at).0 dot entry
 
-pub node_answers : (run : List Moment) (w : World) → Reached run w → (i : ℕ) (h : HeldView) → Holds w i h
+pub node_answers : (run : List Played) (w : World) → Reached run w → (i : ℕ) (h : HeldView) → Holds w i h
     → (filter : List ℕ) (now : ℕ) (out : List Message) → IsAnswer filter now (map.entries h.store.retained) out → IsAnswerOf (operations i run) filter now out
 node_answers run w r i h at filter now out a =
     answer_is (operations i run) h.store (own_some (made run) (λ o. taken i run (dot_of o)) (own_dots run w r)) (node_holds run w r i h at).0 filter now out a
 
-pub node_holds_amid : (run : List Moment) (w w' : World) (m : Moment) → Reached run w → IsHonestStep w.frames m.step → Happens w m.step m.fate w'
+pub node_holds_amid : (run : List Played) (w w' : World) (m : Played) → Reached run w → IsHonestStep w.frames m.step → Happens w m.step m.fate w'
     → (i : ℕ) (before : List Act) (mid : HeldView) → HoldsAmid w m i before mid → AnswersBy (operations_amid i run before) mid
 node_holds_amid run w w' m r honest happens i before mid a =
     let c = committed w m.step m.fate w' a.event happens a.commits in

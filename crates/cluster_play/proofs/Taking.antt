@@ -16,12 +16,12 @@ use Rattle.broker_node.specs.declared.event.Event.{Event}
 use Rattle.broker_node.specs.declared.event.EventKind.{EventKind}
 use Rattle.broker_node.specs.declared.event.EventKind.TheVariants as kinds
 use Rattle.node_work.specs.declared.frame.Frame.{Frame}
-use Rattle.node_work.specs.Acts.{Act, Moment as TakesMoment, Began, Store, Connection, Session, Bridge, Out, Named, Acknowledged, Passed, Dropped, Made, Merged, gather, op_in, merge_in}
+use Rattle.node_work.specs.Acts.{Act, Moment, Began, Store, Connection, Session, Bridge, Out, Named, Acknowledged, Passed, Dropped, Made, Merged, gather, op_in, merge_in}
 use Rattle.broker_node.specs.Step.{brought, brought_in}
 use Rattle.node_work.specs.Frames.{is_for, states_in}
 use Rattle.node_work.specs.View.{Place, nodes_of}
 use Rattle.cluster_play.specs.Worlds.{World, Fate, Released, Lost, Cut, Faulted, Was_down, Restarted}
-use Rattle.cluster_play.specs.Runs.{Moment, Run, released, IsKnown}
+use Rattle.cluster_play.specs.Runs.{Played, Run, released, IsKnown}
 use Rattle.cluster_play.specs.Histories.{Reached, site, event_of, acts_of, gained, gains, taken, same_dot}
 use Rattle.cluster_play.specs.Laws.{MakesDot, BringsDot}
 use Rattle.cluster_play.proofs.Bools.{or_true, or_left, or_right, and_true, nat_is, dot_is, dot_same, some_is}
@@ -36,7 +36,7 @@ use Rattle.cluster_play.proofs.Telling.{IsTold, dots_in}
 -- what acts take is made or merged by them
 gained_from : (acts : List Act) (d : Dot) → gained acts d ≡ true → ((o : Operation) × Among o (gather op_in acts) × (dot_of o ≡ d)) ⊎ (any_lists (gather merge_in acts) d ≡ true)
 gained_from [] d h = cc
-gained_from (TakesMoment at ∷ acts) d h = gained_from acts d h
+gained_from (Moment at ∷ acts) d h = gained_from acts d h
 gained_from (Began ∷ acts) d h = gained_from acts d h
 gained_from (Store (Made o) ∷ acts) d h = elim (or_true (same_dot (dot_of o) d) (gained acts d) h) [
   | inl a ↦ inl (o, inl refl, dot_is (dot_of o) d a)
@@ -57,7 +57,7 @@ gained_from (Dropped ∷ acts) d h = gained_from acts d h
 
 made_gains : (acts : List Act) (o : Operation) (d : Dot) → Among o (gather op_in acts) → dot_of o ≡ d → gained acts d ≡ true
 made_gains [] o d a e = absurd a
-made_gains (TakesMoment at ∷ acts) o d a e = made_gains acts o d a e
+made_gains (Moment at ∷ acts) o d a e = made_gains acts o d a e
 made_gains (Began ∷ acts) o d a e = made_gains acts o d a e
 made_gains (Store (Made p) ∷ acts) o d (inl s) e = or_left (same_dot (dot_of p) d) (gained acts d) (dot_same (dot_of p) d (ap dot_of (sym s) ∙ e))
 made_gains (Store (Made p) ∷ acts) o d (inr b) e = or_right (same_dot (dot_of p) d) (gained acts d) (made_gains acts o d b e)
@@ -72,8 +72,8 @@ made_gains (Passed m copies lost routes ∷ acts) o d a e = made_gains acts o d 
 made_gains (Dropped ∷ acts) o d a e = made_gains acts o d a e
 
 -- the step that takes a dot
-taken_at : (i : ℕ) (run : List Moment) (d : Dot) → taken i run d ≡ true
-    → (before : List Moment) × (m : Moment) × (later : List Moment) × (run ≡ before ++ m ∷ later) × (gains i m.fate d ≡ true)
+taken_at : (i : ℕ) (run : List Played) (d : Dot) → taken i run d ≡ true
+    → (before : List Played) × (m : Played) × (later : List Played) × (run ≡ before ++ m ∷ later) × (gains i m.fate d ≡ true)
 taken_at i [] d h = cc
 taken_at i (m ∷ run) d h = elim (or_true (gains i m.fate d) (taken i run d) h) [
   | inl a ↦ ([], m, run, refl, a)
@@ -83,7 +83,7 @@ taken_at i (m ∷ run) d h = elim (or_true (gains i m.fate d) (taken i run d) h)
 gains_means : (i : ℕ) (fate : Fate) (d : Dot) → gains i fate d ≡ true → (site fate ≡ i) × (gained (acts_of fate) d ≡ true)
 gains_means i fate d h = let both = and_true (nat_eq (site fate) i) (gained (acts_of fate) d) h in (nat_is (site fate) i both.0, both.1)
 
-taken_there : (i : ℕ) (before later : List Moment) (m : Moment) (d : Dot) → site m.fate ≡ i → gained (acts_of m.fate) d ≡ true → taken i (before ++ m ∷ later) d ≡ true
+taken_there : (i : ℕ) (before later : List Played) (m : Played) (d : Dot) → site m.fate ≡ i → gained (acts_of m.fate) d ≡ true → taken i (before ++ m ∷ later) d ≡ true
 taken_there i before later m d at h =
     taken_both i before (m ∷ later) d ∙ or_right (taken i before d) (gains i m.fate d || taken i later d) (or_left (gains i m.fate d) (taken i later d) (λ k. eq-eqb (site m.fate) i at k && h k))
 
@@ -148,7 +148,7 @@ given_out p w e bytes f known reads =
     record { told = subst (IsTold (length w.sites) p.ops p.took) same b.told; is = b.is ∙ ap spelling same }
 
 -- what a step merges came with its frame
-brings_dot : (run before later : List Moment) (m : Moment) (w : World) → run ≡ before ++ m ∷ later → Reached run w → (i : ℕ) (d : Dot) → site m.fate ≡ i
+brings_dot : (run before later : List Played) (m : Played) (w : World) → run ≡ before ++ m ∷ later → Reached run w → (i : ℕ) (d : Dot) → site m.fate ≡ i
     → gained (acts_of m.fate) d ≡ true → any_lists (gather merge_in (acts_of m.fate)) d ≡ true → BringsDot i run d
 brings_dot run before later m w is r i d at gain merged =
     let half = midway before (m ∷ later) w (subst (λ ms. Reached ms w) is r) in
@@ -190,22 +190,22 @@ brings_dot run before later m w is r i d at gain merged =
     }
 
 -- the frames of a world that a run reaches
-all_released : List Moment → List Frame
+all_released : List Played → List Frame
 all_released [] = []
 all_released (m ∷ run) = released m.fate ++ all_released run
 
-run_frames : (run : List Moment) (w w' : World) → Run w run w' → w'.frames ≡ w.frames ++ all_released run
+run_frames : (run : List Played) (w w' : World) → Run w run w' → w'.frames ≡ w.frames ++ all_released run
 unfolding all_released
 run_frames [] w w' r = ap (λ (v : World). v.frames) r ∙ sym (append-nil w.frames)
 run_frames (m ∷ run) w w' r =
     run_frames run r.0 w' r.2 ∙ ap (λ fs. fs ++ all_released run) (step_frames w m.step m.fate r.0 r.1) ∙ append_assoc w.frames (released m.fate) (all_released run)
 
-same_frames : (run : List Moment) (w v : World) → Reached run w → Reached run v → w.frames ≡ v.frames
+same_frames : (run : List Played) (w v : World) → Reached run w → Reached run v → w.frames ≡ v.frames
 same_frames run w v r q =
     run_frames run r.start w r.path ∙ ap (λ fs. fs ++ all_released run) (r.is_start.frames ∙ sym q.is_start.frames) ∙ sym (run_frames run q.start v q.path)
 
 -- a frame that was brought lists what its sender had taken
-dot_brought : (run : List Moment) (w : World) → Reached run w → (i : ℕ) (d : Dot) → BringsDot i run d → taken i run d ≡ true
+dot_brought : (run : List Played) (w : World) → Reached run w → (i : ℕ) (d : Dot) → BringsDot i run d → taken i run d ≡ true
 dot_brought run w r i d b =
     let half = midway b.before (b.m ∷ b.later) w (subst (λ ms. Reached ms w) b.run_is r) in
     let a = b.arrives in
@@ -216,7 +216,7 @@ dot_brought run w r i d b =
     let has = takes_all b.before b.mid b.after b.reached b.m b.frame a b.state b.is_delta b.later b.spelled g.told.from d had b.lists in
     subst (λ ms. taken i ms d ≡ true) (sym b.run_is) (subst (λ k. taken k (b.before ++ b.m ∷ b.later) d ≡ true) b.to has)
 
-pub takes_what_is_brought : (run : List Moment) (w : World) → Reached run w → (i : ℕ) (d : Dot) → (taken i run d ≡ true) ↔ (MakesDot i run d ⊎ BringsDot i run d)
+pub takes_what_is_brought : (run : List Played) (w : World) → Reached run w → (i : ℕ) (d : Dot) → (taken i run d ≡ true) ↔ (MakesDot i run d ⊎ BringsDot i run d)
 takes_what_is_brought run w r i d = (
   λ h. (let s = taken_at i run d h in
       let g = gains_means i s.1.fate d s.4 in

@@ -13,8 +13,8 @@ use Rattle.bridge_frames.specs.declared.frame.BridgeFrame.{BridgeFrame}
 use Rattle.bridge_frames.specs.Frames.{HasSpelling, IsPlain as CanGo, frame_in}
 use Rattle.bridge_frames.proofs.FrameLaws.{read_again}
 use Rattle.causal_context.specs.Dots.{Dot, Dots, dot_cmp, dot_cmp_total, dot_cmp_antisym}
-use Rattle.store_bytes.specs.Stores.{HasNoVersions}
-use Rattle.store_rows.specs.Reading.{IsUnversioned}
+use Rattle.replica_bytes.specs.Stores.{HasNoVersions}
+use Rattle.replica_rows.specs.Reading.{IsUnversioned}
 use Rattle.subscription_set.specs.declared.entry.Entry.{Entry}
 use Rattle.subscription_set.specs.Standing.{Entries, entry_of, find_entry, standing}
 use Rattle.subscription_set.specs.Statuses.{Status}

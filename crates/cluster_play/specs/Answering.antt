@@ -10,7 +10,7 @@ use Rattle.node_work.specs.Acts.{Act, Acknowledged, Session}
 use Rattle.node_work.specs.Held.Sessions.{SessionStep, Called}
 use Rattle.session_laws.specs.Runs.{queues}
 use Rattle.message_copies.specs.Deliveries.{offer_of}
-use Rattle.cluster_play.specs.Runs.{Moment}
+use Rattle.cluster_play.specs.Runs.{Played}
 use Rattle.cluster_play.specs.Histories.{acts_of}
 
 -- what is offered to a filter that asks for retained messages: those with which the operations answer it at the moment, in the
@@ -25,7 +25,7 @@ AreOfferedBy O at [] parts = parts ≡ []
 AreOfferedBy O at (g ∷ gs) parts = (own : List Delivery) × (rest : List (List Delivery)) × (parts ≡ own ∷ rest) × IsOfferedBy O at g.asked own × AreOfferedBy O at gs rest
 
 -- a step answers a SUBSCRIBE of a client after these of its acts, at the node's moment
-pub record Acknowledges (m : Moment) (before : List Act) : Type 0 where
+pub record Acknowledges (m : Played) (before : List Act) : Type 0 where
   pub client : List ℕ
   pub packet : ℕ
   pub at : ℕ
@@ -53,7 +53,7 @@ pub record FallsInto (O : List Operation) (at : ℕ) (grants : List Granted) (of
   pub each : AreOfferedBy O at grants parts
 
 -- directly after that the client's session is offered what the operations say
-pub record SendsAnswers (O : List Operation) (m : Moment) (before : List Act) (s : Acknowledges m before) : Type 0 where
+pub record SendsAnswers (O : List Operation) (m : Played) (before : List Act) (s : Acknowledges m before) : Type 0 where
   pub follow : BeginsWithOffers s.client s.at s.offers s.after
   pub parts : List (List Delivery)
   pub answers : FallsInto O s.at s.grants s.offers parts

@@ -5,7 +5,7 @@ use Rattle.std.specs.FinSet as set
 use Rattle.causal_context.specs.Dots.{Dot}
 use Rattle.broker_node.specs.declared.event.Event.{Event}
 use Rattle.node_work.specs.declared.outcome.Output.{Output}
-use Rattle.node_work.specs.Acts.{Act, Moment as TakesMoment, Began, Store, Connection, Session, Bridge, Out, Named, Acknowledged, Passed, Dropped, Made, Merged, gather, op_in}
+use Rattle.node_work.specs.Acts.{Act, Moment, Began, Store, Connection, Session, Bridge, Out, Named, Acknowledged, Passed, Dropped, Made, Merged, gather, op_in}
 use Rattle.node_work.specs.View.{opened}
 use Rattle.node_laws.specs.Moves.{Move, Did, Lost as Loses, did}
 use Rattle.node_rows.specs.Rows.{mark, mark_key}
@@ -13,7 +13,7 @@ use Rattle.replica_store.specs.declared.operation.Operation.{Operation}
 use Rattle.replica_store.specs.Operations.{dot_of}
 use Rattle.home_table.specs.Table.{Table}
 use Rattle.cluster_play.specs.Worlds.{Site, World, Fate, Released, Lost, Cut, Faulted, Was_down, Restarted}
-use Rattle.cluster_play.specs.Runs.{Moment, Run, IsHonest}
+use Rattle.cluster_play.specs.Runs.{Played, Run, IsHonest}
 
 -- the node where a step came to something
 abbrev pub site : Fate → ℕ
@@ -56,7 +56,7 @@ abbrev pub ops_of : Fate → List Operation
 ops_of fate = gather op_in (acts_of fate)
 
 -- all operations of a run, in order
-abbrev pub made : List Moment → List Operation
+abbrev pub made : List Played → List Operation
 made [] = []
 made (m ∷ ms) = ops_of m.fate ++ made ms
 
@@ -65,7 +65,7 @@ same_dot d e = nat_eq d.node e.node && nat_eq d.number e.number
 
 -- an act takes the dot: of the operation that it makes, or listed as taken in the state that it merges
 abbrev pub gain_in : Act → Dot → Bool
-gain_in (TakesMoment at) d = false
+gain_in (Moment at) d = false
 gain_in Began d = false
 gain_in (Store (Made o)) d = same_dot (dot_of o) d
 gain_in (Store (Merged s)) d = set.contains s.taken d
@@ -87,24 +87,24 @@ abbrev pub gains : ℕ → Fate → Dot → Bool
 gains i fate d = nat_eq (site fate) i && gained (acts_of fate) d
 
 -- the dots that node i has taken in a run
-abbrev pub taken : ℕ → List Moment → Dot → Bool
+abbrev pub taken : ℕ → List Played → Dot → Bool
 taken i [] d = false
 taken i (m ∷ ms) d = gains i m.fate d || taken i ms d
 
 -- the operations that it has taken
-abbrev pub operations : ℕ → List Moment → List Operation
+abbrev pub operations : ℕ → List Played → List Operation
 operations i run = filter (λ o. taken i run (dot_of o)) (made run)
 
 -- the same amid a step of node i, after these of its acts
-abbrev pub taken_amid : ℕ → List Moment → List Act → Dot → Bool
+abbrev pub taken_amid : ℕ → List Played → List Act → Dot → Bool
 taken_amid i run acts d = taken i run d || gained acts d
 
-abbrev pub operations_amid : ℕ → List Moment → List Act → List Operation
+abbrev pub operations_amid : ℕ → List Played → List Act → List Operation
 operations_amid i run acts = filter (λ o. taken_amid i run acts (dot_of o)) (made run ++ gather op_in acts)
 
 -- the moment that an act takes
 abbrev pub moment_in : Act → ℕ
-moment_in (TakesMoment at) = at
+moment_in (Moment at) = at
 moment_in Began = 0
 moment_in (Store a) = 0
 moment_in (Connection a) = 0
@@ -129,12 +129,12 @@ abbrev pub own_moves : ℕ → Fate → List Move
 own_moves i fate = cond (nat_eq (site fate) i) (moves_of fate) []
 
 -- what a run made of what node i holds, in order
-abbrev pub moves_at : ℕ → List Moment → List Move
+abbrev pub moves_at : ℕ → List Played → List Move
 moves_at i [] = []
 moves_at i (m ∷ ms) = own_moves i m.fate ++ moves_at i ms
 
 -- the same amid a step of node i, after these of its acts
-abbrev pub moves_amid : ℕ → List Moment → List Act → List Move
+abbrev pub moves_amid : ℕ → List Played → List Act → List Move
 moves_amid i run acts = moves_at i run ++ did acts
 
 -- the moment that a node is at after moves, from one on: the greatest that it was handed since it was last opened
@@ -143,7 +143,7 @@ moment_after at [] = at
 moment_after at (Did a ∷ moves) = moment_after (max at (moment_in a)) moves
 moment_after at (Loses ∷ moves) = moment_after 0 moves
 
-abbrev pub moment_amid : ℕ → List Moment → List Act → ℕ
+abbrev pub moment_amid : ℕ → List Played → List Act → ℕ
 moment_amid i run acts = moment_after 0 (moves_amid i run acts)
 
 -- the node of a seat is new, with a table of homes for so many nodes, and its rows are its mark
@@ -160,7 +160,7 @@ pub record IsStart (w : World) : Type 0 where
   pub frames : w.frames ≡ []
 
 -- the world after a run from the start in which no frame is forged
-pub record Reached (run : List Moment) (w : World) : Type 0 where
+pub record Reached (run : List Played) (w : World) : Type 0 where
   pub start : World
   pub is_start : IsStart start
   pub path : Run start run w

@@ -10,15 +10,15 @@ use Rattle.cluster_play.specs.declared.line.Line.{Line}
 use Rattle.cluster_play.specs.declared.step.Step.{Step}
 use Rattle.cluster_play.specs.Clusters.{world, is_spent}
 use Rattle.cluster_play.specs.Worlds.{Site, World, Fate, Released, Befalls, Happens, Lacks}
-use Rattle.cluster_play.specs.Runs.{Moment, Run, steps_of, lines_of, printed}
+use Rattle.cluster_play.specs.Runs.{Played, Run, steps_of, lines_of, printed}
 
 -- there is a run over exactly these steps, and these are its lines
 abbrev pub IsPlayed : World → List Step → List Line → World → Type 0
-IsPlayed w steps lines w' = (run : List Moment) × (steps_of run ≡ steps) × Run w run w' × (lines ≡ printed (length w.frames) run)
+IsPlayed w steps lines w' = (run : List Played) × (steps_of run ≡ steps) × Run w run w' × (lines ≡ printed (length w.frames) run)
 
 -- there is a run over the steps before one that the world lacks something for
 abbrev pub StopsAt : World → List Step → PlayFault → World → Type 0
-StopsAt w steps fault w' = (run : List Moment) × (step : Step) × (rest : List Step) × (steps ≡ steps_of run ++ step ∷ rest) × Run w run w' × Lacks w' step fault
+StopsAt w steps fault w' = (run : List Played) × (step : Step) × (rest : List Step) × (steps ≡ steps_of run ++ step ∷ rest) × Run w run w' × Lacks w' step fault
 
 -- memory was refused at a step: before anything happened, or for what its node gave out, which goes on
 abbrev pub RunsOut : World → Step → World → Type 0
@@ -29,7 +29,7 @@ RunsOut w step w' =
 -- there is a run over the steps before one at which memory was refused
 abbrev pub StopsShort : World → List Step → World → Type 0
 StopsShort w steps w' =
-    (run : List Moment) × (step : Step) × (rest : List Step) × (mid : World) × (steps ≡ steps_of run ++ step ∷ rest) × Run w run mid × RunsOut mid step w'
+    (run : List Played) × (step : Step) × (rest : List Step) × (mid : World) × (steps ≡ steps_of run ++ step ∷ rest) × Run w run mid × RunsOut mid step w'
 
 -- why steps aren't played, and what that leaves
 abbrev pub IsRefused : Cluster → List Step → PlayFault → Cluster → Type 0

@@ -12,16 +12,16 @@ use Rattle.cluster_play.specs.declared.step.Step.TheVariants as steps
 use Rattle.cluster_play.specs.Worlds.{World, Fate, Released, Lost, Cut, Faulted, Was_down, Restarted, Happens, frames_in}
 
 -- a step, and what it came to
-pub record Moment : Type 0 where
+pub record Played : Type 0 where
   pub step : Step
   pub fate : Fate
 
 -- from one world to another, one step after the other
-abbrev pub Run : World → List Moment → World → Type 0
+abbrev pub Run : World → List Played → World → Type 0
 Run w [] w' = w' ≡ w
 Run w (m ∷ ms) w' = (mid : World) × Happens w m.step m.fate mid × Run mid ms w'
 
-abbrev pub steps_of : List Moment → List Step
+abbrev pub steps_of : List Played → List Step
 steps_of [] = []
 steps_of (m ∷ ms) = m.step ∷ steps_of ms
 
@@ -59,7 +59,7 @@ lines_of given (Was_down i) = lines.Down i ∷ []
 lines_of given (Restarted i) = []
 
 -- the lines of a run
-abbrev pub printed : ℕ → List Moment → List Line
+abbrev pub printed : ℕ → List Played → List Line
 printed given [] = []
 printed given (m ∷ ms) = lines_of given m.fate ++ printed (given + length (released m.fate)) ms
 
@@ -103,6 +103,6 @@ IsHonestStep sent (steps.CrashAfter i e) = IsKnown sent e.kind
 IsHonestStep sent (steps.Restart i) = Unit {0}
 
 -- no frame is forged
-abbrev pub IsHonest : List Frame → List Moment → Type 0
+abbrev pub IsHonest : List Frame → List Played → Type 0
 IsHonest sent [] = Unit {0}
 IsHonest sent (m ∷ ms) = IsHonestStep sent m.step × IsHonest (sent ++ released m.fate) ms

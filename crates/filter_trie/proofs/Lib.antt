@@ -1,4 +1,3 @@
-pub mod Tables
 pub mod Selecting
 pub mod Order
 pub mod LevelLaws

@@ -13,7 +13,7 @@ use Rattle.filter_trie.specs.Counting.{hash_on}
 use Rattle.filter_trie.specs.Filing.{counted, IsFiled, AreFiled}
 use Rattle.filter_trie.specs.Branching.{Holds}
 use Rattle.filter_trie.specs.Seeking.{IsBefore}
-use Rattle.filter_trie.proofs.Tables.{text_cmp}
+use Rattle.finite_maps.proofs.Texts.{text_cmp}
 use Rattle.filter_trie.proofs.Order.{order_is, asymmetric, transitive}
 use Rattle.filter_trie.proofs.Selecting.{none_here, none_later}
 use Rattle.filter_trie.proofs.Jumping.{After, Rises, At}

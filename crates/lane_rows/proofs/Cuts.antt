@@ -12,7 +12,8 @@ use Rattle.row_store.specs.Rows.{entry_of}
 use Rattle.message_lanes.specs.Lanes.{Lanes}
 use Rattle.bridge_frames.specs.declared.forward.Forward.{Forward}
 use Rattle.lane_rows.specs.Rows.{Plain, Messages, each, numbers_of, rows_of, waiting_of}
-use Rattle.lane_rows.specs.Reading.{AreLanes, AreLanesOf, AreParts, Finds, lane_in, IsLane, IsLaneOf, IsMessageRow, IsPeers, StartsApart}
+use Rattle.mqtt_fields.specs.Reading.{Finds}
+use Rattle.lane_rows.specs.Reading.{AreLanes, AreLanesOf, AreParts, lane_in, IsLane, IsLaneOf, IsMessageRow, IsPeers, StartsApart}
 use Rattle.lane_rows.proofs.Lists.{mapped_both}
 use Rattle.lane_rows.proofs.Order.{all_both, all_turned}
 use Rattle.lane_rows.proofs.Leading.{IsOf, each_all, each_apart, kinds, messages_of, numbers_are, owns}

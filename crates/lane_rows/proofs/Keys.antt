@@ -9,7 +9,7 @@ use Rattle.mqtt_fields.proofs.NumberLaws.{number_is, wide16, wide64}
 use Rattle.row_store.specs.Rows.{Key, key_cmp}
 use Rattle.lane_rows.specs.Rows.{owner, message_key, numbers_key}
 use Rattle.lane_rows.proofs.Numbers.{bytes_rise, short_rise}
-use Rattle.lane_rows.proofs.Whole.{one_value}
+use Rattle.mqtt_fields.proofs.Whole.{one_value}
 
 pub one_owner : (p q : ℕ) → p < 2 ^ 16 → q < 2 ^ 16 → owner p ≡ owner q → p ≡ q
 one_owner p q small few e = one_value (number w16) (number_is w16 wide16) p q (omega (arith, small)) (omega (arith, few)) e

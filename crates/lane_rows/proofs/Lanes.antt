@@ -16,11 +16,12 @@ use Rattle.row_store.specs.Rows.{entry_of}
 use Rattle.bridge_frames.specs.declared.forward.Forward.{Forward}
 use Rattle.bridge_frames.specs.Forwards.{forward}
 use Rattle.lane_rows.specs.Rows.{Plain, Messages, last_put, message_row, message_rows, numbers_key, numbers_value, numbers_rows}
-use Rattle.lane_rows.specs.Reading.{AreMessages, AreNumbers, Finds, IsLane, IsLaneOf, IsMessage}
+use Rattle.mqtt_fields.specs.Reading.{Finds}
+use Rattle.lane_rows.specs.Reading.{AreMessages, AreNumbers, IsLane, IsLaneOf, IsMessage}
 use Rattle.lane_rows.proofs.Leading.{message_both}
 use Rattle.lane_rows.proofs.Lists.{mapped_last}
 use Rattle.lane_rows.proofs.Order.{all_both}
-use Rattle.lane_rows.proofs.Whole.{one_value}
+use Rattle.mqtt_fields.proofs.Whole.{one_value}
 
 -- a fault that is handed on
 pub handed : {X Y A B : Type 0} (view : X → A) (seen : Y → B) (Is : A → Type 0) (Was : B → Type 0) (r : Result X FieldFault) (e f : FieldFault) → r ≡ Err f → f ≡ e → (((b : B) → Was b → ⊥) → (a : A) → Is a → ⊥)

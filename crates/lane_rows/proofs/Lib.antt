@@ -1,5 +1,4 @@
 pub mod Numbers
-pub mod Whole
 pub mod Keys
 pub mod Lists
 pub mod Order

@@ -8,7 +8,7 @@ use Rattle.mqtt_fields.specs.Numbers.{number}
 use Rattle.mqtt_fields.proofs.Laws.{after_is}
 use Rattle.mqtt_fields.proofs.NumberLaws.{number_is, wide64}
 use Rattle.lane_rows.specs.Rows.{numbers_value}
-use Rattle.lane_rows.proofs.Whole.{whole_found, whole_same}
+use Rattle.mqtt_fields.proofs.Whole.{whole_found, whole_same}
 
 pub is_number : (bs : List ℕ) (m : ℕ) (rest : List ℕ) (n : ℕ) → n < 2 ^ 64 → IsBytes bs → (number w64).at bs ≡ Ok (m, rest) → length rest ≡ 0
     → (IsTrue (nat_eq m n) → bs ≡ (number w64).bytes n) × (bs ≡ (number w64).bytes n → IsTrue (nat_eq m n))

@@ -1,8 +1,6 @@
 -- Rows of lanes as they are read.
 use Rattle.std.specs.Prelude.{◌≡◌, ◌≢◌, ◌<◌, ◌≤◌, ◌^◌, ℕ, List, [], ◌∷◌, length, Result, Ok, Err}
 use Rattle.std.specs.List.{AllByRecursion}
-use Rattle.mqtt_fields.specs.declared.fault.FieldFault.{FieldFault}
-use Rattle.mqtt_fields.specs.declared.fault.FieldFault.TheVariants.{NoMemory}
 use Rattle.message_lanes.specs.Lanes.{Lanes}
 use Rattle.bridge_frames.specs.declared.forward.Forward.{Forward}
 use Rattle.bridge_frames.specs.Forwards.{forward}
@@ -23,12 +21,6 @@ pub record AreLanes (nodes : ℕ) (lanes : Lanes Forward) : Type 0 where
 
 abbrev pub lane_in : ReadLane → Messages
 lane_in r = record { gone = r.gone; waiting = r.messages.items; took = r.took }
-
--- What a function found is such a value; where it failed there is none. Want of memory says nothing of it.
-abbrev pub Finds : {X A : Type 0} → (X → A) → (A → Type 0) → Result X FieldFault → Type 0
-Finds view Is (Ok x) = Is (view x)
-Finds view Is (Err NoMemory) = Unit {0}
-Finds {A = A} view Is (Err f) = (a : A) → Is a → ⊥
 
 -- the row is that of the message under the number
 abbrev pub IsMessage : ℕ → ℕ → Plain → Forward → Type 0

@@ -6,21 +6,19 @@ ghost use Rattle.mqtt_fields.specs.Field.{IsBytes};
 ghost use Rattle.mqtt_fields.specs.Numbers.{number};
 ghost use Rattle.bridge_frames.specs.Forwards.{forward};
 ghost use Rattle.row_store.specs.Rows.{entry_of, key_of};
-ghost use Rattle.lane_rows.specs.Reading.{AreLanesOf, AreMessages, AreNumbers, AreParts, Finds, IsLaneOf, IsMessage, IsMessageRow, IsPeers, StartsApart, lane_in};
+ghost use Rattle.mqtt_fields.specs.Reading.{Finds};
+ghost use Rattle.lane_rows.specs.Reading.{AreLanesOf, AreMessages, AreNumbers, AreParts, IsLaneOf, IsMessage, IsMessageRow, IsPeers, StartsApart, lane_in};
 ghost use Rattle.lane_rows.specs.Rows.{message_key, numbers_key, numbers_value, owner};
 
 use crate::row::{MESSAGE, NUMBERS};
 use bridge_frames::Forward;
-use mqtt_fields::{FieldFault, u16_at, u64_at};
+use mqtt_fields::{FieldFault, NUMBERS_END, u16_at, u64_at};
 use row_store::Row;
 use std::alloc::Global;
 use std::collections::VecDeque;
 
 /// As many messages as may wait.
 const ROOM: usize = 65_536;
-
-/// Numbers stay below this.
-const NUMBERS_END: u64 = 1 << 62;
 
 /// The lanes to and from one other node as their rows say: how many messages that were put in are gone, those that wait, and
 /// the number of the last one that was taken.

@@ -9,3 +9,4 @@ pub mod SteadyLaws
 pub mod FieldLaws
 pub mod BlockLaws
 pub mod LengthLaws
+pub mod Whole

@@ -18,3 +18,9 @@ Fails f read = read ≡ Err f
 abbrev pub Gives : {X Y : Type 0} → (X → Y) → Result X FieldFault → Result Y FieldFault → Type 0
 Gives view (Ok x) read = read ≡ Ok (view x)
 Gives view (Err e) read = Fails e read
+
+-- What a function found is such a value; where it failed there is none. Want of memory says nothing of it.
+abbrev pub Finds : {X A : Type 0} → (X → A) → (A → Type 0) → Result X FieldFault → Type 0
+Finds view Is (Ok x) = Is (view x)
+Finds view Is (Err NoMemory) = Unit {0}
+Finds {A = A} view Is (Err f) = (a : A) → Is a → ⊥

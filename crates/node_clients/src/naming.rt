@@ -4,12 +4,9 @@ ghost use Rattle.std.specs.Prelude.{◌≡◌, IfOk, IfErr};
 ghost use Rattle.node_clients.specs.Naming.{IsNextNumber, automatic};
 ghost use Rattle.node_work.specs.declared.fault.NodeFault.TheVariants.{NoMemory};
 
-use mqtt_fields::Text;
+use mqtt_fields::{NUMBERS_END, Text};
 use node_work::{NodeFault, Work};
 use std::alloc::Global;
-
-/// Fewer identifiers than this are given.
-const NUMBERS_END: u64 = 1 << 62;
 
 /// The identifier that a node gives to a client by a number.
 pub fn automatic(alloc: Global, id: u16, number: u64) -> Result<Text, NodeFault>

@@ -8,7 +8,7 @@ use Rattle.mqtt_sessions.specs.Saved.{durable_of, state_in}
 use Rattle.session_laws.specs.Runs.{Step, Reacts, Run}
 use Rattle.session_laws.proofs.ReopenedLaws.{reopens}
 use Rattle.session_table.specs.Seats.{Seat, Seats, begun}
-use Rattle.session_table.proofs.Tables.{same_text, get_inserted, get_apart, get_removed, get_left}
+use Rattle.finite_maps.proofs.Texts.{same_text, get_inserted, get_apart, get_removed, get_left}
 use Rattle.node_work.specs.Acts.{Act, Moment, Began, Store, Connection, Session, Bridge, Out, Named, Acknowledged, Passed, Dropped, Allowed, next}
 use Rattle.node_work.specs.Held.Connections.{ConnectionAct, Opened, Fed, Accepted, Closed}
 use Rattle.node_work.specs.Held.Bridge.{BridgeAct, Put, Took, Got, Believed, Gave, Left_out, bridged}

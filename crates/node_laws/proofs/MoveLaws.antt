@@ -3,7 +3,7 @@ use Rattle.std.proofs.Common.{◌≡◌, List, [], ◌∷◌, ◌++◌, sym, ap,
 use Rattle.std.specs.FinMap as map
 use Rattle.std.specs.Cmp.Lexicographic.{nat_list_cmp_total}
 use Rattle.session_table.specs.Seats.{Seats}
-use Rattle.session_table.proofs.Tables.{alike}
+use Rattle.finite_maps.proofs.Texts.{alike}
 use Rattle.node_rows.specs.Rows.{Lasting}
 use Rattle.node_work.specs.Acts.{Act, Runs}
 use Rattle.node_work.specs.Lasting.{IsWoken, lasting}

@@ -9,7 +9,7 @@ use Rattle.lane_rows.specs.Changes.{is_lane_kind}
 use Rattle.lane_rows.specs.Rows as lane_rows
 use Rattle.replica_store.specs.States.{State}
 use Rattle.session_rows.specs.Durable.{Durable}
-use Rattle.store_rows.specs.Rows.{row_at}
+use Rattle.replica_rows.specs.Rows.{row_at}
 use Rattle.node_rows.specs.Rows.{Lasting, mark, mark_at, mark_key, node_row, session_row}
 use Rattle.node_rows.specs.Sessions.{AreSessions, Plain, session_at}
 use Rattle.node_rows.proofs.Lists.{either, find_both, find_none, other_key, same_key}

@@ -1,5 +1,4 @@
 mod Lists
-mod Numbers
 mod Clients
 mod Cuts
 mod Lanes

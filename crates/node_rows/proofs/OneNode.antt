@@ -14,7 +14,7 @@ use Rattle.session_rows.specs.Fields.{main}
 use Rattle.session_rows.specs.Reading.{durable_in, whole}
 use Rattle.session_rows.specs.Rows.{main_key, copy_rows, rows_of}
 use Rattle.session_rows.proofs.DurableLaws.{durable_again, whole_again}
-use Rattle.store_rows.proofs.OneStore.{one_store}
+use Rattle.replica_rows.proofs.OneStore.{one_store}
 use Rattle.node_rows.specs.Reading.{AreNodeRows, IsLasting, RowsTellAll, SayOneThing}
 use Rattle.node_rows.specs.Rows.{Lasting, mark, mark_key, new_node, node_row, session_row}
 use Rattle.node_rows.proofs.Clients.{client_is, client_itself, copies_of, rows_rise, same_client}

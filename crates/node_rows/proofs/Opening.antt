@@ -22,8 +22,8 @@ use Rattle.row_store.specs.Rows.{Key, content_of, entry_of, key_cmp}
 use Rattle.row_store.proofs.Keys.{keys_total}
 use Rattle.session_rows.specs.Durable.{Durable, IsDurable}
 use Rattle.session_table.specs.Seats.{Seats}
-use Rattle.store_rows.specs.Reading.{AreAllRowsOf, IsStore, IsUnversioned}
-use Rattle.store_rows.proofs.OneStore.{one_reading}
+use Rattle.replica_rows.specs.Reading.{AreAllRowsOf, IsStore, IsUnversioned}
+use Rattle.replica_rows.proofs.OneStore.{one_reading}
 use Rattle.node_rows.specs.declared.reading.Opened.{Opened}
 use Rattle.node_rows.specs.Reading.{AreAmong, AreLinksOf, AreNodeRows, AreOpened, Finds, IsAmong, IsCut, IsLasting, IsMark, IsOpened, IsStateOf, NoLanes, NoMark, NoState, Say, SayNothing}
 use Rattle.node_rows.specs.Rows.{Lasting, new_node, node_row}

@@ -19,7 +19,7 @@ use Rattle.row_store.specs.declared.store.RowFault.TheVariants.{NoMemory, Device
 use Rattle.row_store.specs.Rows.{Key, key_cmp, entry_of, content_of}
 use Rattle.session_rows.specs.Durable.{Durable, IsDurable}
 use Rattle.session_table.specs.Seats.{Seats}
-use Rattle.store_rows.specs.Reading.{AreAllRowsOf, IsStore, IsUnversioned}
+use Rattle.replica_rows.specs.Reading.{AreAllRowsOf, IsStore, IsUnversioned}
 use Rattle.subscription_set.specs.Standing.{seen_of}
 use Rattle.node_rows.specs.declared.reading.Opened.{Opened}
 use Rattle.node_rows.specs.Rows.{Lasting, mark, mark_key, new_node, node_row}

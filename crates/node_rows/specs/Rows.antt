@@ -13,7 +13,7 @@ use Rattle.row_store.specs.Rows.{Key, key_cmp}
 use Rattle.session_rows.specs.Durable.{Durable}
 use Rattle.session_rows.specs.Rows.{rows_of}
 use Rattle.session_table.specs.Rows.{is_session_kind}
-use Rattle.store_rows.specs.Rows.{row_at}
+use Rattle.replica_rows.specs.Rows.{row_at}
 
 -- what of a node outlives its run: the number of the last client identifier that it gave, what lasts of the session of each
 -- client that has one, the replicated state, and the lanes to and from the other nodes

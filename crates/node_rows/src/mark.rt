@@ -7,7 +7,7 @@ ghost use Rattle.session_rows.specs.Reading.{whole};
 ghost use Rattle.node_rows.specs.Reading.{IsMark, NoMark, marked};
 ghost use Rattle.node_rows.specs.Rows.{mark, mark_key};
 
-use mqtt_fields::{FieldFault, NoMemory, put_u16, put_u64, u16_at, u64_at};
+use mqtt_fields::{FieldFault, NUMBERS_END, NoMemory, put_u16, put_u64, u16_at, u64_at};
 use row_store::Row;
 use std::alloc::Global;
 
@@ -16,9 +16,6 @@ pub const MARK: u8 = 1;
 
 /// The version of the rows.
 const VERSION: u16 = 1;
-
-/// The numbers of client identifiers stay below.
-const END: u64 = 1 << 62;
 
 /// The row that says which node it is, and the number of the last client identifier that it gave.
 pub fn mark_row(alloc: Global, id: u16, named: u64) -> Result<Row, NoMemory>
@@ -68,7 +65,7 @@ fn whole_mark(bytes: &[u8]) -> Option<(u16, u16, u64)>
 fn is_of(version: u16, node: u16, named: u64, id: u16) -> bool
     ensures { IsTrue result ↔ (version ≡ 1) × (node ≡ id) × (named < 2 ^ 62) }
 {
-    version == VERSION && node == id && named < END
+    version == VERSION && node == id && named < NUMBERS_END
 }
 
 // The number in the value of the node's mark.

@@ -4,7 +4,7 @@ ghost use Rattle.std.specs.FinMap as map;
 ghost use Rattle.row_store.specs.declared.store.RowFault.TheVariants as faults;
 ghost use Rattle.row_store.specs.Rows.{entry_of, key_cmp};
 ghost use Rattle.replica_store.specs.States.{nothing};
-ghost use Rattle.store_rows.specs.Reading.{IsStore};
+ghost use Rattle.replica_rows.specs.Reading.{IsStore};
 ghost use Rattle.node_rows.specs.Rows.{Lasting, new_node};
 ghost use Rattle.node_rows.specs.Reading.{AreLinksOf, Finds, IsLasting, IsOpened, IsStateOf, NoLanes, NoState, Say, SayNothing};
 
@@ -17,7 +17,7 @@ use replica_store::{ReplicaStore, StoreFault};
 use row_store::{Row, RowFault, are_rising};
 use session_table::Sessions;
 use std::alloc::Global;
-use store_rows::laws::is_store;
+use replica_rows::laws::is_store;
 
 /// What lasts of a node: the number of the last client identifier that it gave, its sessions, each on no connection, the
 /// replicated state, and the lanes to and from the other nodes. It believes nothing of these nodes yet, and keeps no deltas.
@@ -33,7 +33,7 @@ pub struct Opened {
 fn read_state(alloc: Global, rows: &[Row], nodes: u16) -> Result<ReplicaStore, RowFault>
     ensures { Finds (IsStateOf rows.now nodes) (NoState rows.now nodes) result }
 {
-    match store_rows::from_rows(alloc, rows) {
+    match replica_rows::from_rows(alloc, rows) {
         Ok(store) => {
             if is_among(nodes, &store) {
                 Ok(store)

@@ -16,8 +16,8 @@ use Rattle.subscription_set.specs.Statuses.{Status, Statuses, status_join, statu
 use Rattle.replica_store.specs.declared.kept.Kept.{Kept}
 use Rattle.replica_store.specs.Retained.{Retained, kept_cmp, retained_join}
 use Rattle.replica_store.specs.States.{State, state_join}
-use Rattle.store_bytes.specs.Values.{dot, kept}
-use Rattle.store_rows.specs.Reading.{CanStand, IsStore}
+use Rattle.replica_bytes.specs.Values.{dot, kept}
+use Rattle.replica_rows.specs.Reading.{CanStand, IsStore}
 
 abbrev Present : Entry → Option Status
 Present e = Some (Some e)

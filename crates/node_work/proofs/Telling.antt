@@ -19,8 +19,8 @@ use Rattle.row_store.specs.Rows.{Key, key_cmp, key_of}
 use Rattle.row_store.proofs.Keys.{exact_keys, equal_is, keys_total}
 use Rattle.session_table.specs.Rows.{LeadsOn, is_session_kind, own_kind, row_in, seat_row}
 use Rattle.session_table.specs.Seats.{Seat, Seats}
-use Rattle.store_rows.specs.Changes.{AreChanges, IsNeeded, IsRight, key_in, names}
-use Rattle.store_rows.specs.Rows.{row_at}
+use Rattle.replica_rows.specs.Changes.{AreChanges, IsNeeded, IsRight, key_in, names}
+use Rattle.replica_rows.specs.Rows.{row_at}
 use Rattle.lane_rows.specs.Changes.{is_lane_kind}
 use Rattle.lane_rows.specs.Rows as lane_rows
 use Rattle.node_bridge.specs.View.{LanesTell}

@@ -14,8 +14,8 @@ use Rattle.row_store.specs.declared.row.Change.{Change}
 use Rattle.session_rows.specs.Durable.{IsDurable}
 use Rattle.session_table.specs.Rows.{own_kind}
 use Rattle.session_table.specs.Seats.{Seat, Seats}
-use Rattle.store_rows.specs.Reading.{IsStore}
-use Rattle.store_rows.specs.Rows.{row_at}
+use Rattle.replica_rows.specs.Reading.{IsStore}
+use Rattle.replica_rows.specs.Rows.{row_at}
 use Rattle.node_work.specs.View.{HeldView, WorkView, woken}
 
 -- what lasts of what a node holds: not its moment, its connections, what it believes of other nodes, the last deltas, its turn or its counts

@@ -24,7 +24,7 @@ ghost use Rattle.node_work.specs.Held.Connections.{Opened, Accepted, Closed, is_
 ghost use Rattle.node_work.specs.Held.Feeding.{IsHeldFed};
 ghost use Rattle.node_work.specs.Held.Sessions.{Begun, Over, has_session, packet_output, last_of, outputs_on};
 ghost use Rattle.node_work.specs.Packets.{CameSpelled};
-ghost use Rattle.store_rows.specs.Reading.{IsStore};
+ghost use Rattle.replica_rows.specs.Reading.{IsStore};
 ghost use Rattle.row_changes.specs.Gathered.{AreOnce, Settle};
 ghost use Rattle.message_copies.specs.declared.plain.PlainCopy.{PlainCopy as Copy};
 ghost use Rattle.node_work.specs.Passing.{IsPassed, turn_at_end};
@@ -43,7 +43,7 @@ use crate::held::connections::Came;
 use crate::outcome::{Outcome, Output};
 use crate::packets::{disconnect, written};
 use home_table::HomeTable;
-use mqtt_fields::Text;
+use mqtt_fields::{NUMBERS_END, Text};
 use mqtt_message::Delivery;
 use mqtt_packets::{Bytes, Connect, Packet};
 use mqtt_sessions::{Output as SessionOutput, Publication, Reaction, SessionFault};
@@ -56,14 +56,8 @@ use std::alloc::Global;
 use std::marker::Model;
 use subscription_set::Entry;
 
-/// Moments stay below this, in milliseconds.
-const MOMENTS_END: u64 = 1 << 62;
-
 /// The kind of a session's own row.
 const SESSION: u8 = 2;
-
-/// Fewer messages than this are passed on.
-const TURNS_END: u64 = 1 << 62;
 
 /// A node at work: its place, what it holds, and what it has given out so far.
 pub struct Work {
@@ -201,7 +195,7 @@ impl Work {
         ensures below { at < 2 ^ 62 → result ≡ Ok tt }
         ensures end { 2 ^ 62 ≤ at → result ≡ Err NumbersAtEnd }
     {
-        if at >= MOMENTS_END {
+        if at >= NUMBERS_END {
             return Err(NodeFault::NumbersAtEnd);
         }
         self.held.take_moment(at);
@@ -364,7 +358,7 @@ impl Work {
         ensures same { self.new.changes ≡ self.old.changes }
         ensures fault { IfErr result (λ e. e ≡ NumbersAtEnd) }
     {
-        if self.held.turn() >= TURNS_END {
+        if self.held.turn() >= NUMBERS_END {
             return Err(NodeFault::NumbersAtEnd);
         }
         self.held.pass(lost);

@@ -19,7 +19,7 @@ use Rattle.mqtt_sessions.specs.State.{State}
 use Rattle.session_laws.specs.Runs.{takes, answers, Reacts}
 use Rattle.session_table.specs.Calls.{stays}
 use Rattle.session_table.specs.Seats.{Seat}
-use Rattle.session_table.proofs.Tables.{get_inserted}
+use Rattle.finite_maps.proofs.Texts.{get_inserted}
 use Rattle.node_work.specs.Acts.{Act, Session, Bridge, Runs, next}
 use Rattle.node_work.specs.Calling.{CallsAt}
 use Rattle.node_work.specs.Held.Bridge.{Took}

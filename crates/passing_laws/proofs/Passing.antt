@@ -22,7 +22,7 @@ use Rattle.session_laws.specs.Runs.{Event, queues, takes, answers}
 use Rattle.session_table.specs.Calls.{stays}
 use Rattle.session_table.specs.Listing.{text_cmp}
 use Rattle.session_table.specs.Seats.{Seat}
-use Rattle.session_table.proofs.Tables.{same_text, get_inserted, get_apart}
+use Rattle.finite_maps.proofs.Texts.{same_text, get_inserted, get_apart}
 use Rattle.node_bridge.specs.View.{BridgeView, offer_to}
 use Rattle.node_work.specs.Acts.{Act, Store, Session, Bridge, Made, Passed, Runs, next}
 use Rattle.node_work.specs.Calling.{Calls, CallsAt, Queues, QueuesOne}

@@ -19,16 +19,13 @@ use crate::answers::{Ack, Offer, Rec};
 use crate::copies::{Copies, Entry, Stage, id_of};
 use crate::log::Log;
 use crate::restored::Restored;
-use mqtt_fields::{NoMemory, Qos};
+use mqtt_fields::{NUMBERS_END, NoMemory, Qos};
 use mqtt_message::{Delivery, sent_is_spelled};
 use std::alloc::Global;
 use std::marker::Model;
 
 /// How many copies may wait.
 const QUEUE: u64 = 65_536;
-
-/// Places and orders of release stay below.
-pub(crate) const END: u64 = 1 << 62;
 
 /// The first reason code of a PUBREC by which the client refuses the message (MQTT 5.0, 3.5.2.1).
 const FIRST_ERROR: u8 = 0x80;
@@ -235,7 +232,7 @@ impl Outgoing {
     ) -> Result<Option<Outgoing>, NoMemory>
         ensures { IfOk result (λ o. MatchOption o (agree next_place entries.items ≡ false) (λ x. (agree next_place entries.items ≡ true) × (x ≡ record { box = restored next_place entries.items; touched = [] }))) }
     {
-        if next_place == 0 || next_place > END {
+        if next_place == 0 || next_place > NUMBERS_END {
             return Ok(None);
         }
         let mut left = entries;
@@ -322,7 +319,7 @@ impl Outgoing {
         if self.next_place - self.first_waiting >= QUEUE {
             return Ok(Offer::Full);
         }
-        if self.next_place >= END {
+        if self.next_place >= NUMBERS_END {
             return Ok(Offer::AtEnd);
         }
         let Ok(()) = self.log.reserve(self.copies.count()) else {
@@ -515,7 +512,7 @@ impl Outgoing {
             return Rec::Ended;
         }
         let order = self.next_order;
-        if order >= END {
+        if order >= NUMBERS_END {
             return Rec::AtEnd;
         }
         self.log.mark(self.copies.place_of(id));

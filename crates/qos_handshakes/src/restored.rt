@@ -3,8 +3,8 @@ ghost use Rattle.std.specs.Prelude.{◌≡◌, ◌+◌, ◌≤◌, ◌<◌, ◌^
 ghost use Rattle.qos_handshakes.specs.Restored.{first_place, is_asked, is_free, precedes, restored, stage_fits};
 
 use crate::copies::{Copies, Entry, Stage};
-use crate::outgoing::{END, Outgoing};
-use mqtt_fields::{NoMemory, Qos};
+use crate::outgoing::Outgoing;
+use mqtt_fields::{NUMBERS_END, NoMemory, Qos};
 use std::alloc::Global;
 use std::collections::BTreeMap;
 use std::marker::Model;
@@ -75,7 +75,7 @@ impl Restored {
             Stage::Waiting => self.waiting && place + 1 == self.first,
             Stage::Published(id) => self.is_free(id),
             Stage::Released(id, order) => {
-                self.is_free(id) && order >= 1 && order < END && !self.orders.contains_key(&order)
+                self.is_free(id) && order >= 1 && order < NUMBERS_END && !self.orders.contains_key(&order)
             }
         }
     }

@@ -17,7 +17,7 @@ use crate::fault::StoreFault;
 use crate::operation::{Operation, Stamp};
 use crate::retained::RetainedMap;
 use causal_context::{Context, Dot, Lattice};
-use mqtt_fields::{NoMemory, Text};
+use mqtt_fields::{NUMBERS_END, NoMemory, Text};
 use mqtt_message::SharedMessage;
 use mqtt_topics::Filter;
 use std::alloc::Global;
@@ -249,7 +249,7 @@ impl ReplicaStore {
 }
 
 /// The greatest count of a stamp.
-const LAST_COUNT: u64 = (1 << 62) - 1;
+const LAST_COUNT: u64 = NUMBERS_END - 1;
 
 impl Lattice for ReplicaStore {
     ghost joined = { state_join };

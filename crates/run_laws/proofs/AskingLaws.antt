@@ -25,7 +25,7 @@ use Rattle.passing_laws.specs.Publishing.{Gives}
 use Rattle.passing_laws.specs.Asking.{AreGranted, AreRemoved, AreInUse, Subscribes, Unsubscribes}
 use Rattle.passing_laws.proofs.Answering.{suback_tells, unsuback_tells}
 use Rattle.cluster_play.specs.Worlds.{World}
-use Rattle.cluster_play.specs.Runs.{Moment}
+use Rattle.cluster_play.specs.Runs.{Played}
 use Rattle.cluster_play.specs.Histories.{Reached, site, acts_of, taken_amid, operations_amid}
 use Rattle.cluster_play.specs.NextOperations.{CoversWhatStands}
 use Rattle.cluster_play.proofs.Amid.{amid_acts}
@@ -44,7 +44,7 @@ none_passes p q r (x ∷ es) e = by (p x.1) (list_any (λ y. p y.1) es) e (none_
     by true b t f = absurd (let z = t in cc)
     by false b t f = f t
 
-module _ (run later : List Moment) (m : Moment) (w : World) (r : Reached (run ++ m ∷ later) w) (before : List Act) (c : Calls m before) where
+module _ (run later : List Played) (m : Played) (w : World) (r : Reached (run ++ m ∷ later) w) (before : List Act) (c : Calls m before) where
   abbrev here : CalledAt run m before c
   here = called_at run later m w r before c
 

@@ -2,13 +2,13 @@
 use Rattle.std.proofs.Common.{◌≡◌, ◌⊎◌, inl, inr, ℕ, Bool, true, false, cond, List, [], ◌∷◌, ◌++◌, refl, sym, ap, ◌∙◌, append_assoc, eq-eqb}
 use Rattle.std.proofs.lemmas.List.{append-nil}
 use Rattle.session_laws.specs.Runs.{Step}
-use Rattle.session_table.proofs.Tables.{itself, same_text}
+use Rattle.finite_maps.proofs.Texts.{itself, same_text}
 use Rattle.node_laws.specs.Lives.{is_client, step_in, after_act, after_move, life, lost_step}
 use Rattle.node_laws.specs.Moves.{Move, Did, Lost as Loses, did}
-use Rattle.node_work.specs.Acts.{Act, Moment as TakesMoment, Began, Store, Connection, Session, Bridge, Out, Named, Acknowledged, Passed, Dropped}
+use Rattle.node_work.specs.Acts.{Act, Moment, Began, Store, Connection, Session, Bridge, Out, Named, Acknowledged, Passed, Dropped}
 use Rattle.node_work.specs.Held.Sessions.{Begun, Called, Over}
 use Rattle.cluster_play.specs.Worlds.{World, Fate, Released, Lost, Cut, Faulted, Was_down, Restarted}
-use Rattle.cluster_play.specs.Runs.{Moment}
+use Rattle.cluster_play.specs.Runs.{Played}
 use Rattle.cluster_play.specs.Histories.{Reached, site, acts_of, moves_of, own_moves, moves_at}
 use Rattle.cluster_play.proofs.Amid.{amid_acts}
 use Rattle.passing_laws.proofs.Splits.{none_there}
@@ -39,7 +39,7 @@ calls true s given = (s ∷ [], refl)
 calls false s given = same given
 
 adds_act : (client : List ℕ) (a : Act) (given : List Step) → Ends client (Did a) ⊎ Adds given (after_act client a given)
-adds_act client (TakesMoment at) given = inr (same given)
+adds_act client (Moment at) given = inr (same given)
 adds_act client Began given = inr (same given)
 adds_act client (Store a) given = inr (same given)
 adds_act client (Connection a) given = inr (same given)
@@ -100,11 +100,11 @@ moves_did (Faulted i fault) before after a is = none_there before after a is
 moves_did (Was_down i) before after a is = none_there before after a is
 moves_did (Restarted i) before after a is = none_there before after a is
 
-moves_both : (i : ℕ) (ms ns : List Moment) → moves_at i (ms ++ ns) ≡ moves_at i ms ++ moves_at i ns
+moves_both : (i : ℕ) (ms ns : List Played) → moves_at i (ms ++ ns) ≡ moves_at i ms ++ moves_at i ns
 moves_both i [] ns = refl
 moves_both i (m ∷ ms) ns = ap (λ xs. own_moves i m.fate ++ xs) (moves_both i ms ns) ∙ sym (append_assoc (own_moves i m.fate) (moves_at i ms) (moves_at i ns))
 
-stays_called : (run later : List Moment) (m : Moment) (w : World) → Reached (run ++ m ∷ later) w → (before : List Act) (c : Calls m before) → StaysCalled run later m before c
+stays_called : (run later : List Played) (m : Played) (w : World) → Reached (run ++ m ∷ later) w → (before : List Act) (c : Calls m before) → StaysCalled run later m before c
 stays_called run later m w r before c =
     let i = site m.fate in
     let client = c.step.client in

@@ -24,7 +24,7 @@ use Rattle.passing_laws.proofs.HandingLaws.{handed_is_queued}
 use Rattle.replica_store.specs.Operations.{dot_of}
 use Rattle.replica_store.proofs.Views.{live_is}
 use Rattle.cluster_play.specs.Worlds.{Site, World, Happens, numbered}
-use Rattle.cluster_play.specs.Runs.{Moment, IsHonestStep}
+use Rattle.cluster_play.specs.Runs.{Played, IsHonestStep}
 use Rattle.cluster_play.specs.Histories.{Reached, site, acts_of, taken_amid, operations_amid, moves_amid}
 use Rattle.cluster_play.specs.Laws.{HoldsAmid, AnswersBy}
 use Rattle.cluster_play.proofs.Amid.{amid_acts}
@@ -43,7 +43,7 @@ use Rattle.run_laws.specs.Lanes.{TakesOver, MakesHanded, JoinsHanded}
 use Rattle.run_laws.proofs.LaneActs.{SaysOf}
 use Rattle.run_laws.proofs.LaneRuns.{lanes_explained, put_both, took_both}
 
-module _ (run : List Moment) (w : World) (r : Reached run w) where
+module _ (run : List Played) (w : World) (r : Reached run w) where
   pub takes_in_order : (i j : ℕ) → Begins (took j i run) (put i j run)
   takes_in_order = (lanes_explained run w r).begins
 
@@ -76,13 +76,13 @@ module _ (run : List Moment) (w : World) (r : Reached run w) where
       let k = number_is w.frames number sent at in
       subst (SaysOf (put f.from f.to run) (took f.from f.to run)) is ((lanes_explained run w r).frames k.0 sent f k.1 read)
 
-pub lanes_go_on : (i j : ℕ) (ms ns : List Moment) → Begins (put i j ms) (put i j (ms ++ ns)) × Begins (took i j ms) (took i j (ms ++ ns))
+pub lanes_go_on : (i j : ℕ) (ms ns : List Played) → Begins (put i j ms) (put i j (ms ++ ns)) × Begins (took i j ms) (took i j (ms ++ ns))
 lanes_go_on i j ms ns = ((put i j ns, sym (put_both i j ms ns)), (took i j ns, sym (took_both i j ms ns)))
 
 -- ---- copies
 
 -- a step that takes a message: what its event came to, and what the node holds there
-record TakenAt (run : List Moment) (m : Moment) (before : List Act) (s : TakesOver m before) : Type 0 where
+record TakenAt (run : List Played) (m : Played) (before : List Act) (s : TakesOver m before) : Type 0 where
   world : World
   reached : Reached run world
   held : HeldView
@@ -94,7 +94,7 @@ record TakenAt (run : List Moment) (m : Moment) (before : List Act) (s : TakesOv
   happens : Happens world m.step m.fate next
   honest : IsHonestStep world.frames m.step
 
-taken_at : (run later : List Moment) (m : Moment) (w : World) → Reached (run ++ m ∷ later) w → (before : List Act) (s : TakesOver m before) → TakenAt run m before s
+taken_at : (run later : List Played) (m : Played) (w : World) → Reached (run ++ m ∷ later) w → (before : List Act) (s : TakesOver m before) → TakenAt run m before s
 taken_at run later m w r before s =
     let a = Bridge (Took s.from s.number s.message s.copies s.lost) in
     let rest = a ∷ s.after in
@@ -125,7 +125,7 @@ taken_at run later m w r before s =
       honest = half.honest.0;
     }
 
-module _ (run later : List Moment) (m : Moment) (w : World) (r : Reached (run ++ m ∷ later) w) (before : List Act) (s : TakesOver m before) where
+module _ (run later : List Played) (m : Played) (w : World) (r : Reached (run ++ m ∷ later) w) (before : List Act) (s : TakesOver m before) where
   abbrev here : TakenAt run m before s
   here = taken_at run later m w r before s
 

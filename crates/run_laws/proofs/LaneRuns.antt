@@ -25,7 +25,7 @@ use Rattle.node_laws.specs.Moves.{Move, Moves, Lost as Loses, did}
 use Rattle.node_laws.proofs.MoveLaws.{moves_join, acts_are_moves, moves_lead_to_one}
 use Rattle.cluster_play.specs.declared.step.Step.{Step}
 use Rattle.cluster_play.specs.Worlds.{Site, World, Fate, Released, Lost, Cut, Faulted, Was_down, Restarted, Happens, frames_in}
-use Rattle.cluster_play.specs.Runs.{Moment, IsKnown, IsHonestStep}
+use Rattle.cluster_play.specs.Runs.{Played, IsKnown, IsHonestStep}
 use Rattle.cluster_play.specs.Histories.{site, moves_of, moves_at, IsStart, Reached}
 use Rattle.cluster_play.proofs.Bools.{and_true, nat_is, nat_other, nat_cases, some_is, none-some}
 use Rattle.cluster_play.proofs.Brought.{site_amid}
@@ -44,13 +44,13 @@ abbrev pub Histories : Type 0
 Histories = ℕ → ℕ → List Forward
 
 -- node i holds this, or held it last
-pub record HeldLast (run : List Moment) (w : World) (i : ℕ) (h : HeldView) : Type 0 where
+pub record HeldLast (run : List Played) (w : World) (i : ℕ) (h : HeldView) : Type 0 where
   pub node : Site
   pub at : slice_get w.sites i ≡ Some node
   pub moves : Moves node.node.place (fresh_at node.node.place) (moves_at i run) h
 
 -- put i j has what node i put into its lane to node j, and took i j what node i took of the lane from node j
-pub record LanesExplain (put took : Histories) (run : List Moment) (w : World) : Type 0 where
+pub record LanesExplain (put took : Histories) (run : List Played) (w : World) : Type 0 where
   pub begins : (i j : ℕ) → Begins (took j i) (put i j)
   pub sites : (i : ℕ) (h : HeldView) → HeldLast run w i h → AreKept h.bridge.lanes (put i) (took i) (λ j. took j i)
   pub frames : (n : ℕ) (sent : Frame) (f : BridgeFrame) → slice_get w.frames n ≡ Some sent → frame_in sent.bytes ≡ Some f → SaysOf (put f.from f.to) (took f.from f.to) f.body
@@ -64,13 +64,13 @@ lanes_last : (p : Place) (a b : HeldView) → Moves p a (Loses ∷ []) b → b.b
 lanes_last p a b r = ap (λ (v : HeldView). v.bridge.lanes) r.2 ∙ ap (λ (v : HeldView). v.bridge.lanes) r.1.2
 
 -- one more moment, of this node or of another one
-own_more : (i : ℕ) (run : List Moment) (m : Moment) → site m.fate ≡ i → moves_at i (run ++ m ∷ []) ≡ moves_at i run ++ moves_of m.fate
+own_more : (i : ℕ) (run : List Played) (m : Played) → site m.fate ≡ i → moves_at i (run ++ m ∷ []) ≡ moves_at i run ++ moves_of m.fate
 own_more i run m own = sym (moves_more i run m) ∙ ap (λ b. moves_at i run ++ cond b (moves_of m.fate) []) (eq-eqb (site m.fate) i own)
 
-other_more : (i : ℕ) (run : List Moment) (m : Moment) → site m.fate ≢ i → moves_at i (run ++ m ∷ []) ≡ moves_at i run
+other_more : (i : ℕ) (run : List Played) (m : Played) → site m.fate ≢ i → moves_at i (run ++ m ∷ []) ≡ moves_at i run
 other_more i run m ne = sym (moves_more i run m) ∙ ap (λ b. moves_at i run ++ cond b (moves_of m.fate) []) (nat_other (site m.fate) i ne) ∙ append-nil (moves_at i run)
 
-none_more : (i : ℕ) (run : List Moment) (m : Moment) → moves_of m.fate ≡ [] → moves_at i (run ++ m ∷ []) ≡ moves_at i run
+none_more : (i : ℕ) (run : List Played) (m : Played) → moves_of m.fate ≡ [] → moves_at i (run ++ m ∷ []) ≡ moves_at i run
 none_more i run m none = elim (nat_cases (site m.fate) i) [
   | inl own ↦ own_more i run m own ∙ ap (λ ms. moves_at i run ++ ms) none ∙ append-nil (moves_at i run)
   | inr ne ↦ other_more i run m ne
@@ -141,7 +141,7 @@ longer : (xs ys : List Forward) → length xs ≤ length (xs ++ ys)
 longer xs ys = let n = length-append xs ys in omega arith
 
 -- ---- a node commits acts
-module _ (put took : Histories) (run : List Moment) (w : World) (x : LanesExplain put took run w) (r : Reached run w) (i : ℕ) (e : Event) (acts : List Act) (w' : World) (c : Committed w i e acts w') (m : Moment)
+module _ (put took : Histories) (run : List Played) (w : World) (x : LanesExplain put took run w) (r : Reached run w) (i : ℕ) (e : Event) (acts : List Act) (w' : World) (c : Committed w i e acts w') (m : Played)
     (own : site m.fate ≡ i) (moves : moves_of m.fate ≡ did acts) (known : IsKnown w.frames e.kind) where
   abbrev put' : Histories
   put' k j = put k j ++ added i (put_by j) acts k
@@ -231,7 +231,7 @@ nothing : (b : Bool) → ◌≡◌ {A = List Forward} (cond b [] []) []
 nothing true = refl
 nothing false = refl
 
-module _ (put took : Histories) (run : List Moment) (w : World) (x : LanesExplain put took run w) (w' : World) (m : Moment) where
+module _ (put took : Histories) (run : List Played) (w : World) (x : LanesExplain put took run w) (w' : World) (m : Played) where
   same_histories : (k : ℕ) → LanesExplain put took (run ++ m ∷ []) w' → LanesExplain (λ i j. put i j ++ cond (nat_eq k i) [] []) (λ i j. took i j ++ cond (nat_eq k i) [] []) (run ++ m ∷ []) w'
   same_histories k y =
       let same : (xs : List Forward) (b : Bool) → xs ≡ xs ++ cond b [] [] = λ xs b. sym (append-nil xs) ∙ ap (λ ys. xs ++ ys) (sym (nothing b)) in
@@ -275,7 +275,7 @@ module _ (put took : Histories) (run : List Moment) (w : World) (x : LanesExplai
         subst (λ ls. AreKept ls (put i) (took i) (λ j. took j i)) (sym (lanes_last place parts.0 h parts.2)) (x.sites i parts.0 (record { node = c.was; at = c.at; moves = parts.1 }))
 
 -- ---- a step
-module _ (run : List Moment) (w w' : World) (step : Step) (x : LanesExplain (λ i j. put i j run) (λ i j. took i j run) run w) (r : Reached run w) where
+module _ (run : List Played) (w w' : World) (step : Step) (x : LanesExplain (λ i j. put i j run) (λ i j. took i j run) run w) (r : Reached run w) where
   abbrev After : Fate → Type 0
   After fate = LanesExplain (λ i j. put i j run ++ at_node i (by_bridge (put_by j)) fate) (λ i j. took i j run ++ at_node i (by_bridge (took_by j)) fate) (run ++ record { step = step; fate = fate } ∷ []) w'
 
@@ -287,16 +287,16 @@ module _ (run : List Moment) (w w' : World) (step : Step) (x : LanesExplain (λ 
       let fate = Lost i e acts in
       lanes_committed (λ i j. put i j run) (λ i j. took i j run) run w x r i e acts w' (came w step fate w' h) (record { step = step; fate = fate }) refl refl (known_event w step fate w' e honest h refl)
   after (Cut i) honest h =
-      let m : Moment = record { step = step; fate = Cut i } in
+      let m : Played = record { step = step; fate = Cut i } in
       same_histories (λ i j. put i j run) (λ i j. took i j run) run w x w' m i (lanes_rest (λ i j. put i j run) (λ i j. took i j run) run w x w' m refl (came w step (Cut i) w' h))
   after (Faulted i fault) honest h =
-      let m : Moment = record { step = step; fate = Faulted i fault } in
+      let m : Played = record { step = step; fate = Faulted i fault } in
       same_histories (λ i j. put i j run) (λ i j. took i j run) run w x w' m i (lanes_rest (λ i j. put i j run) (λ i j. took i j run) run w x w' m refl (came w step (Faulted i fault) w' h))
   after (Was_down i) honest h =
-      let m : Moment = record { step = step; fate = Was_down i } in
+      let m : Played = record { step = step; fate = Was_down i } in
       same_histories (λ i j. put i j run) (λ i j. took i j run) run w x w' m i (lanes_rest (λ i j. put i j run) (λ i j. took i j run) run w x w' m refl (came w step (Was_down i) w' h))
   after (Restarted i) honest h =
-      let m : Moment = record { step = step; fate = Restarted i } in
+      let m : Played = record { step = step; fate = Restarted i } in
       same_histories (λ i j. put i j run) (λ i j. took i j run) run w x w' m i (lanes_woke (λ i j. put i j run) (λ i j. took i j run) run w x w' m i (came w step (Restarted i) w' h) refl refl)
 
 lanes_start : (w : World) → IsStart w → LanesExplain (λ i j. []) (λ i j. []) [] w
@@ -308,21 +308,21 @@ lanes_start w s = record {
 }
 
 -- ---- histories go on
-pub put_both : (i j : ℕ) (ms ns : List Moment) → put i j (ms ++ ns) ≡ put i j ms ++ put i j ns
+pub put_both : (i j : ℕ) (ms ns : List Played) → put i j (ms ++ ns) ≡ put i j ms ++ put i j ns
 put_both i j [] ns = refl
 put_both i j (m ∷ ms) ns = ap (λ xs. at_node i (by_bridge (put_by j)) m.fate ++ xs) (put_both i j ms ns) ∙ sym (append_assoc (at_node i (by_bridge (put_by j)) m.fate) (put i j ms) (put i j ns))
 
-pub took_both : (i j : ℕ) (ms ns : List Moment) → took i j (ms ++ ns) ≡ took i j ms ++ took i j ns
+pub took_both : (i j : ℕ) (ms ns : List Played) → took i j (ms ++ ns) ≡ took i j ms ++ took i j ns
 took_both i j [] ns = refl
 took_both i j (m ∷ ms) ns = ap (λ xs. at_node i (by_bridge (took_by j)) m.fate ++ xs) (took_both i j ms ns) ∙ sym (append_assoc (at_node i (by_bridge (took_by j)) m.fate) (took i j ms) (took i j ns))
 
-put_more : (i j : ℕ) (run : List Moment) (m : Moment) → put i j run ++ at_node i (by_bridge (put_by j)) m.fate ≡ put i j (run ++ m ∷ [])
+put_more : (i j : ℕ) (run : List Played) (m : Played) → put i j run ++ at_node i (by_bridge (put_by j)) m.fate ≡ put i j (run ++ m ∷ [])
 put_more i j run m = ap (λ xs. put i j run ++ xs) (sym (append-nil (at_node i (by_bridge (put_by j)) m.fate))) ∙ sym (put_both i j run (m ∷ []))
 
-took_more : (i j : ℕ) (run : List Moment) (m : Moment) → took i j run ++ at_node i (by_bridge (took_by j)) m.fate ≡ took i j (run ++ m ∷ [])
+took_more : (i j : ℕ) (run : List Played) (m : Played) → took i j run ++ at_node i (by_bridge (took_by j)) m.fate ≡ took i j (run ++ m ∷ [])
 took_more i j run m = ap (λ xs. took i j run ++ xs) (sym (append-nil (at_node i (by_bridge (took_by j)) m.fate))) ∙ sym (took_both i j run (m ∷ []))
 
-pub lanes_explained : (run : List Moment) (w : World) → Reached run w → LanesExplain (λ i j. put i j run) (λ i j. took i j run) run w
+pub lanes_explained : (run : List Played) (w : World) → Reached run w → LanesExplain (λ i j. put i j run) (λ i j. took i j run) run w
 lanes_explained = along (λ run w. LanesExplain (λ i j. put i j run) (λ i j. took i j run) run w)
     (λ run m w w' r x honest h.
     subst (λ (p : Histories). LanesExplain p (λ i j. took i j (run ++ m ∷ [])) (run ++ m ∷ []) w') (λ n i j. put_more i j run m n)

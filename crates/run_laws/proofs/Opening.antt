@@ -5,13 +5,13 @@ use Rattle.mqtt_packets.specs.declared.publish.Publish.{Publish}
 use Rattle.mqtt_sessions.specs.Reaction.{Reaction}
 use Rattle.session_laws.specs.Arrivals.{is_for, is_open_after, PassesBy, ComesOnce}
 use Rattle.session_laws.specs.Runs.{Event, connects, queues, takes, answers, closes, ticks, finishes, loses, Step, connected_after}
-use Rattle.session_table.proofs.Tables.{same_text}
-use Rattle.node_work.specs.Acts.{Act, Moment as TakesMoment, Began, Store, Connection, Session, Bridge, Out, Named, Acknowledged, Passed, Dropped}
+use Rattle.finite_maps.proofs.Texts.{same_text}
+use Rattle.node_work.specs.Acts.{Act, Moment, Began, Store, Connection, Session, Bridge, Out, Named, Acknowledged, Passed, Dropped}
 use Rattle.node_work.specs.Held.Sessions.{SessionStep, Begun, Called, Over}
 use Rattle.node_laws.specs.Lives.{is_client, step_in, after_act, after_move, life, lost_step}
 use Rattle.node_laws.specs.Moves.{Move, Did, Lost as Loses, did}
 use Rattle.cluster_play.specs.Worlds.{Fate, Released, Lost, Cut, Faulted, Was_down, Restarted}
-use Rattle.cluster_play.specs.Runs.{Moment}
+use Rattle.cluster_play.specs.Runs.{Played}
 use Rattle.cluster_play.specs.Histories.{site, acts_of, moves_of, own_moves, moves_at, moves_amid}
 use Rattle.passing_laws.proofs.Splits.{head_is, tail_is, none_there, splits}
 use Rattle.run_laws.specs.Publishing.{connected_over, StaysOpen}
@@ -138,7 +138,7 @@ module _ (client : List ℕ) (past since : List Step) (s : Step) (kept : lost_st
   by_call t false is given e = inl (since, e)
 
   by_act : (a : Act) (given : List Step) → after_act client a given ≡ past ++ s ∷ since → InGiven past s given ⊎ ((t : SessionStep) × (a ≡ Session (Called t)) × (t.client ≡ client) × (step_in t ≡ s))
-  by_act (TakesMoment at) given e = inl (since, e)
+  by_act (Moment at) given e = inl (since, e)
   by_act Began given e = inl (since, e)
   by_act (Store a) given e = inl (since, e)
   by_act (Connection a) given e = inl (since, e)
@@ -169,10 +169,10 @@ moved client past s kept (m ∷ moves) given since e =
 
 -- ---- from moves to the acts of steps
 
-pub record IsAct (i : ℕ) (run : List Moment) (a : Act) : Type 0 where
-  pub first : List Moment
-  pub m : Moment
-  pub last : List Moment
+pub record IsAct (i : ℕ) (run : List Played) (a : Act) : Type 0 where
+  pub first : List Played
+  pub m : Played
+  pub last : List Played
   pub is : run ≡ first ++ m ∷ last
   pub at : site m.fate ≡ i
   pub before : List Act
@@ -206,7 +206,7 @@ own_in : (i : ℕ) (fate : Fate) (b : Bool) → nat_eq (site fate) i ≡ b → (
 own_in i fate true is ms ns a h = (eqb-true (site fate) i is, acts_in fate ms ns a h)
 own_in i fate false is ms ns a h = none_there ms ns (Did a) h
 
-in_run : (i : ℕ) (run : List Moment) (ms ns : List Move) (a : Act) → moves_at i run ≡ ms ++ Did a ∷ ns → IsAct i run a
+in_run : (i : ℕ) (run : List Played) (ms ns : List Move) (a : Act) → moves_at i run ≡ ms ++ Did a ∷ ns → IsAct i run a
 in_run i [] ms ns a h = none_there ms ns (Did a) h
 in_run i (m ∷ run) ms ns a h =
     elim (splits (own_moves i m.fate) (moves_at i run) ms ns (Did a) h) [
@@ -217,7 +217,7 @@ in_run i (m ∷ run) ms ns a h =
     ]
 
 -- amid a step: in an earlier step, or among the acts before
-pub in_amid : (run later : List Moment) (m : Moment) (before after : List Act) (a b : Act) → acts_of m.fate ≡ before ++ b ∷ after → (ms ns : List Move) → moves_amid (site m.fate) run before ≡ ms ++ Did a ∷ ns → IsAct (site m.fate) (run ++ m ∷ later) a
+pub in_amid : (run later : List Played) (m : Played) (before after : List Act) (a b : Act) → acts_of m.fate ≡ before ++ b ∷ after → (ms ns : List Move) → moves_amid (site m.fate) run before ≡ ms ++ Did a ∷ ns → IsAct (site m.fate) (run ++ m ∷ later) a
 in_amid run later m before after a b acts ms ns h =
     elim (splits (moves_at (site m.fate) run) (did before) ms ns (Did a) h) [
       | inl r ↦ (let x = in_run (site m.fate) run ms r.0 a r.1 in
@@ -227,13 +227,13 @@ in_amid run later m before after a b acts ms ns h =
     ]
 
 -- ---- the call among the acts of the run
-pub record OpenedAt (run later : List Moment) (m : Moment) (client : List ℕ) (s : Step) : Type 0 where
+pub record OpenedAt (run later : List Played) (m : Played) (client : List ℕ) (s : Step) : Type 0 where
   pub step : SessionStep
   pub same : step.client ≡ client
   pub step_is : step_in step ≡ s
   pub there : IsAct (site m.fate) (run ++ m ∷ later) (Session (Called step))
 
-pub opened_at : (run later : List Moment) (m : Moment) (before after : List Act) (b : Act) (client : List ℕ) (past since : List Step) (s : Step) → acts_of m.fate ≡ before ++ b ∷ after → (lost_step ≡ s → ⊥) → life client (moves_amid (site m.fate) run before) [] ≡ past ++ s ∷ since
+pub opened_at : (run later : List Played) (m : Played) (before after : List Act) (b : Act) (client : List ℕ) (past since : List Step) (s : Step) → acts_of m.fate ≡ before ++ b ∷ after → (lost_step ≡ s → ⊥) → life client (moves_amid (site m.fate) run before) [] ≡ past ++ s ∷ since
     → OpenedAt run later m client s
 opened_at run later m before after b client past since s acts kept h =
     elim (moved client past s kept (moves_amid (site m.fate) run before) [] since h) [

@@ -24,7 +24,7 @@ use Rattle.passing_laws.specs.Publishing.{Gives, Publishes, PassesOn, message_at
 use Rattle.passing_laws.proofs.Acks.{puback_tells, pubrec_tells, alone, asks_pass}
 use Rattle.passing_laws.proofs.Passing.{accepted_is_passed_on}
 use Rattle.cluster_play.specs.Worlds.{World}
-use Rattle.cluster_play.specs.Runs.{Moment}
+use Rattle.cluster_play.specs.Runs.{Played}
 use Rattle.cluster_play.specs.Histories.{Reached, site, acts_of, moves_amid}
 use Rattle.cluster_play.proofs.Lives.{sessions_are_runs_amid}
 use Rattle.run_laws.specs.Staying.{Calls}
@@ -33,7 +33,7 @@ use Rattle.run_laws.proofs.Opening.{OpenedIn, last_once, open_over, opened_at, o
 use Rattle.run_laws.proofs.Staying.{CalledAt, Finds, called_at, stays_made}
 
 -- what is passed on after a call
-passed_on : (run later : List Moment) (m : Moment) (w : World) → Reached (run ++ m ∷ later) w → (before : List Act) (c : Calls m before) (x : Message) (f : Finds run m before c) → PassesOn x c.step.at f.held.bridge c.after → IsPassedOn run later m w before c x
+passed_on : (run later : List Played) (m : Played) (w : World) → Reached (run ++ m ∷ later) w → (before : List Act) (c : Calls m before) (x : Message) (f : Finds run m before c) → PassesOn x c.step.at f.held.bridge c.after → IsPassedOn run later m w before c x
 passed_on run later m w r before c x f passes = record {
   world = f.world;
   reached = f.reached;
@@ -52,7 +52,7 @@ passed_on run later m w r before c x f passes = record {
         record { dot = d.0; stamp = d.1; made = stays_made run later m w r (before ++ call ∷ []) passes.rest (Put d.0 d.1 (content_of x)) acts; follows = refl }
     put_by false d t = absurd (let z : false ≡ true = t in cc)
 
-module _ (run later : List Moment) (m : Moment) (w : World) (r : Reached (run ++ m ∷ later) w) (before : List Act) (c : Calls m before) where
+module _ (run later : List Played) (m : Played) (w : World) (r : Reached (run ++ m ∷ later) w) (before : List Act) (c : Calls m before) where
   abbrev here : CalledAt run m before c
   here = called_at run later m w r before c
 
@@ -87,7 +87,7 @@ qos_for AtLeastOnce b e = absurd (let z : false ≡ true = e in cc)
 qos_for ExactlyOnce b e = (refl, e)
 
 -- the call that opened the exchange
-opened_by : (run later : List Moment) (m : Moment) (w : World) → Reached (run ++ m ∷ later) w → (before : List Act) (c : Calls m before) (id : ℕ) → OpenedIn false id (life c.step.client (moves_amid (site m.fate) run before) []) → WasPassedOn run later m w before c id
+opened_by : (run later : List Played) (m : Played) (w : World) → Reached (run ++ m ∷ later) w → (before : List Act) (c : Calls m before) (id : ℕ) → OpenedIn false id (life c.step.client (moves_amid (site m.fate) run before) []) → WasPassedOn run later m w before c id
 opened_by run later m w r before c id o =
     let lost : lost_step ≡ o.step → ⊥ = λ e. (let z : loses ≡ takes (packets.Publish o.opens.publish) o.opens.now o.opens.room = ap (λ (v : Step). v.event) e ∙ o.opens.event in cc) in
     let x = opened_at run later m before c.after (Session (Called c.step)) c.step.client o.past o.since o.step c.acts lost o.is in
@@ -118,7 +118,7 @@ opened_by run later m w r before c id o =
       stays = subst (λ t. StaysOpen (connected_over false (o.past ++ t ∷ [])) id o.since) (sym x.step_is) o.stays;
     }
 
-twice : (run later : List Moment) (m : Moment) (w : World) (r : Reached (run ++ m ∷ later) w) (before : List Act) (c : Calls m before) (id : ℕ) → Gives (pubrec id 0) c.step.reaction.packets
+twice : (run later : List Played) (m : Played) (w : World) (r : Reached (run ++ m ∷ later) w) (before : List Act) (c : Calls m before) (id : ℕ) → Gives (pubrec id 0) c.step.reaction.packets
     → (t : TakesPublish ExactlyOnce id c.step) × (IsPassedOn run later m w before c (message_in t) ⊎ WasPassedOn run later m w before c id)
 twice run later m w r before c id g =
     let here = called_at run later m w r before c in

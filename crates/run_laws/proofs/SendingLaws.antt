@@ -7,7 +7,7 @@ use Rattle.broker_node.specs.declared.event.Event.{Event}
 use Rattle.passing_laws.specs.Sending.{IsIn, IsOwn, SentAmong}
 use Rattle.passing_laws.proofs.SendingLaws.{sends_are_of_calls}
 use Rattle.cluster_play.specs.Worlds.{Site, World, Fate, Released, Lost, Cut, Faulted, Was_down, Restarted, Takes, Becomes}
-use Rattle.cluster_play.specs.Runs.{Moment}
+use Rattle.cluster_play.specs.Runs.{Played}
 use Rattle.cluster_play.specs.Histories.{acts_of, outputs_of}
 use Rattle.cluster_play.proofs.Paths.{befell, midway}
 use Rattle.run_laws.specs.Sending.{CallSends, OutputsAreOfCalls}
@@ -27,7 +27,7 @@ by_fate w j s (Faulted k fault) w' connection bytes b i = absurd i
 by_fate w j s (Was_down k) w' connection bytes b i = absurd i
 by_fate w j s (Restarted k) w' connection bytes b i = absurd i
 
-called : (m : Moment) (connection : ℕ) (bytes : List ℕ) → SentAmong (acts_of m.fate) connection bytes ⊎ IsOwn bytes → CallSends m connection bytes ⊎ IsOwn bytes
+called : (m : Played) (connection : ℕ) (bytes : List ℕ) → SentAmong (acts_of m.fate) connection bytes ⊎ IsOwn bytes → CallSends m connection bytes ⊎ IsOwn bytes
 called m connection bytes (inl s) = inl (record { before = s.before; call = record { step = s.step; after = s.after; acts = s.acts_are }; sent = s.sent })
 called m connection bytes (inr own) = inr own
 

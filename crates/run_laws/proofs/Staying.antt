@@ -14,7 +14,7 @@ use Rattle.node_work.specs.View.{HeldView}
 use Rattle.broker_node.specs.declared.event.Event.{Event}
 use Rattle.broker_node.specs.Turns.{Decides}
 use Rattle.cluster_play.specs.Worlds.{World, Happens}
-use Rattle.cluster_play.specs.Runs.{Moment, IsHonestStep}
+use Rattle.cluster_play.specs.Runs.{Played, IsHonestStep}
 use Rattle.cluster_play.specs.Laws.{HoldsAmid}
 use Rattle.cluster_play.specs.Histories.{Reached, site, acts_of, taken, moves_amid}
 use Rattle.cluster_play.proofs.Amid.{runs_split}
@@ -25,20 +25,20 @@ use Rattle.cluster_play.proofs.Rows.{committed}
 use Rattle.run_laws.specs.Staying.{Calls, HasTaken, StaysMade}
 
 -- a dot that is taken is listed in the rows
-pub has_taken : (run : List Moment) (w : World) (i : ℕ) (dot : Dot) → Reached run w → taken i run dot ≡ true → HasTaken run w i dot
+pub has_taken : (run : List Played) (w : World) (i : ℕ) (dot : Dot) → Reached run w → taken i run dot ≡ true → HasTaken run w i dot
 has_taken run w i dot r is = record {
   taken = is;
   rows = λ s at. (let k = keeps_operations run w r i s at in record { said = k.said; are = k.are; listed = k.listed dot ∙ is });
 }
 
 -- an operation among the acts
-abbrev pub stays_made : (run later : List Moment) (m : Moment) (w : World) → Reached (run ++ m ∷ later) w → (first last : List Act) (o : Operation) → acts_of m.fate ≡ first ++ Store (Made o) ∷ last → StaysMade run later m w o
+abbrev pub stays_made : (run later : List Played) (m : Played) (w : World) → Reached (run ++ m ∷ later) w → (first last : List Act) (o : Operation) → acts_of m.fate ≡ first ++ Store (Made o) ∷ last → StaysMade run later m w o
 stays_made run later m w r first last o is =
     let made = operations_of_a_step run later m w r first last o is in
     record { first = first; last = last; acts = is; next = made.0; stays = has_taken (run ++ m ∷ later) w (site m.fate) (dot_of o) r made.1 }
 
 -- the session that is called, at its node amid the step
-pub record Finds (run : List Moment) (m : Moment) (before : List Act) (c : Calls m before) : Type 0 where
+pub record Finds (run : List Played) (m : Played) (before : List Act) (c : Calls m before) : Type 0 where
   pub world : World
   pub reached : Reached run world
   pub held : HeldView
@@ -47,7 +47,7 @@ pub record Finds (run : List Moment) (m : Moment) (before : List Act) (c : Calls
   pub found : seat_at c.step.client held ≡ Some seat
 
 -- a call of a session in a step: what the event came to, and what the node held then
-pub record CalledAt (run : List Moment) (m : Moment) (before : List Act) (c : Calls m before) : Type 0 where
+pub record CalledAt (run : List Played) (m : Played) (before : List Act) (c : Calls m before) : Type 0 where
   pub finds : Finds run m before c
   pub event : Event
   pub decides : Decides event (Some tt) finds.there.holds.site.node.place finds.there.held (acts_of m.fate)
@@ -61,7 +61,7 @@ pub record CalledAt (run : List Moment) (m : Moment) (before : List Act) (c : Ca
   pub happens : Happens finds.world m.step m.fate next
   pub honest : IsHonestStep finds.world.frames m.step
 
-pub called_at : (run later : List Moment) (m : Moment) (w : World) → Reached (run ++ m ∷ later) w → (before : List Act) (c : Calls m before) → CalledAt run m before c
+pub called_at : (run later : List Played) (m : Played) (w : World) → Reached (run ++ m ∷ later) w → (before : List Act) (c : Calls m before) → CalledAt run m before c
 called_at run later m w r before c =
     let a = Session (Called c.step) in
     let rest = a ∷ c.after in

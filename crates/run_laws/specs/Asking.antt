@@ -20,24 +20,24 @@ use Rattle.node_clients.specs.Subscribing.{entry_of, identifier_of}
 use Rattle.passing_laws.specs.Publishing.{Gives}
 use Rattle.passing_laws.specs.Asking.{AreInUse}
 use Rattle.cluster_play.specs.Worlds.{World}
-use Rattle.cluster_play.specs.Runs.{Moment}
+use Rattle.cluster_play.specs.Runs.{Played}
 use Rattle.cluster_play.specs.Histories.{Reached, site, operations_amid}
 use Rattle.cluster_play.specs.NextOperations.{CoversWhatStands}
 use Rattle.run_laws.specs.Staying.{Calls, StaysMade}
 
 -- the step makes an operation among these of its acts, and it stays
-pub record IsMadeIn (run later : List Moment) (m : Moment) (w : World) (acts : List Act) (o : Operation) : Type 0 where
+pub record IsMadeIn (run later : List Played) (m : Played) (w : World) (acts : List Act) (o : Operation) : Type 0 where
   pub made : StaysMade run later m w o
   pub rest : List Act
   pub is : acts ≡ made.first ++ Store (Made o) ∷ rest
 
 -- ---- a SUBSCRIBE
 -- the client is subscribed to the filter, with its options and the identifier
-abbrev pub IsSubscribed : List Moment → List Moment → Moment → World → List Act → List ℕ → ℕ → SubscribeFilter → Type 0
+abbrev pub IsSubscribed : List Played → List Played → Played → World → List Act → List ℕ → ℕ → SubscribeFilter → Type 0
 IsSubscribed run later m w acts client identifier f = (dot : Dot) × (cover : Dots) × IsMadeIn run later m w acts (operations.Subscribe dot (entry_of client f identifier) cover)
 
 -- each filter has a code: its QoS, where the client is subscribed to it, or Topic Filter invalid or Quota exceeded
-abbrev pub AreSubscribed : List Moment → List Moment → Moment → World → List Act → List ℕ → ℕ → List SubscribeFilter → List ℕ → Type 0
+abbrev pub AreSubscribed : List Played → List Played → Played → World → List Act → List ℕ → ℕ → List SubscribeFilter → List ℕ → Type 0
 AreSubscribed run later m w acts client identifier [] codes = codes ≡ []
 AreSubscribed run later m w acts client identifier (f ∷ fs) codes =
     (code : ℕ) × (others : List ℕ) × (codes ≡ code ∷ others)
@@ -46,21 +46,21 @@ AreSubscribed run later m w acts client identifier (f ∷ fs) codes =
 
 -- ---- an UNSUBSCRIBE
 -- all that stood of the client to the text is removed
-pub record IsUnsubscribed (run later : List Moment) (m : Moment) (w : World) (acts : List Act) (client text : List ℕ) : Type 0 where
+pub record IsUnsubscribed (run later : List Played) (m : Played) (w : World) (acts : List Act) (client text : List ℕ) : Type 0 where
   pub dot : Dot
   pub cover : Dots
   pub made : IsMadeIn run later m w acts (operations.Remove dot cover)
   pub covers : CoversWhatStands (operations_amid (site m.fate) run made.made.first) client (Some text) cover
 
 -- nothing stood of the client to the text, by what the node had taken when it came to it
-pub record NothingStood (run : List Moment) (m : Moment) (acts : List Act) (client text : List ℕ) : Type 0 where
+pub record NothingStood (run : List Played) (m : Played) (acts : List Act) (client text : List ℕ) : Type 0 where
   pub first : List Act
   pub rest : List Act
   pub is : acts ≡ first ++ rest
   pub none : ¬ ((dot : Dot) × (entry : Entry) × Stands (operations_amid (site m.fate) run first) dot entry × (is_of client (Some text) entry ≡ true))
 
 -- each text has a code: Success, No subscription existed, or Topic Filter invalid
-abbrev pub AreUnsubscribed : List Moment → List Moment → Moment → World → List Act → List ℕ → List (List ℕ) → List ℕ → Type 0
+abbrev pub AreUnsubscribed : List Played → List Played → Played → World → List Act → List ℕ → List (List ℕ) → List ℕ → Type 0
 AreUnsubscribed run later m w acts client [] codes = codes ≡ []
 AreUnsubscribed run later m w acts client (text ∷ texts) codes =
     (code : ℕ) × (others : List ℕ) × (codes ≡ code ∷ others)
@@ -69,14 +69,14 @@ AreUnsubscribed run later m w acts client (text ∷ texts) codes =
 
 -- ---- in a run
 -- before these acts of a step end, its client's session takes a packet
-pub record CallsBefore (m : Moment) (before : List Act) (client : List ℕ) : Type 0 where
+pub record CallsBefore (m : Played) (before : List Act) (client : List ℕ) : Type 0 where
   pub call : SessionStep
   pub earlier : List Act
   pub acts : List Act
   pub is : before ≡ earlier ++ Session (Called call) ∷ acts
   pub same : call.client ≡ client
 
-pub record AnswersSubscribe (run later : List Moment) (m : Moment) (w : World) (before : List Act) (client : List ℕ) (id : ℕ) (codes : List ℕ) : Type 0 where
+pub record AnswersSubscribe (run later : List Played) (m : Played) (w : World) (before : List Act) (client : List ℕ) (id : ℕ) (codes : List ℕ) : Type 0 where
   pub calls : CallsBefore m before client
   pub subscribe : Subscribe
   pub now : ℕ
@@ -85,7 +85,7 @@ pub record AnswersSubscribe (run later : List Moment) (m : Moment) (w : World) (
   pub identifier : subscribe.identifier ≡ id
   pub subscribed : AreSubscribed run later m w before client (identifier_of subscribe) subscribe.filters codes
 
-pub record AnswersUnsubscribe (run later : List Moment) (m : Moment) (w : World) (before : List Act) (client : List ℕ) (id : ℕ) (codes : List ℕ) : Type 0 where
+pub record AnswersUnsubscribe (run later : List Played) (m : Played) (w : World) (before : List Act) (client : List ℕ) (id : ℕ) (codes : List ℕ) : Type 0 where
   pub calls : CallsBefore m before client
   pub unsubscribe : Unsubscribe
   pub now : ℕ
@@ -97,13 +97,13 @@ pub record AnswersUnsubscribe (run later : List Moment) (m : Moment) (w : World)
 -- what SUBACK tells of each filter is so before it goes out, and stays so
 abbrev pub SubackStaysTrue : Type 0
 SubackStaysTrue =
-    (run later : List Moment) (m : Moment) (w : World) → Reached (run ++ m ∷ later) w
+    (run later : List Played) (m : Played) (w : World) → Reached (run ++ m ∷ later) w
     → (before : List Act) (c : Calls m before) (id : ℕ) (codes : List ℕ) → Gives (suback id codes) c.step.reaction.packets
     → AreInUse codes ⊎ AnswersSubscribe run later m w before c.step.client id codes
 
 -- and so is what UNSUBACK tells
 abbrev pub UnsubackStaysTrue : Type 0
 UnsubackStaysTrue =
-    (run later : List Moment) (m : Moment) (w : World) → Reached (run ++ m ∷ later) w
+    (run later : List Played) (m : Played) (w : World) → Reached (run ++ m ∷ later) w
     → (before : List Act) (c : Calls m before) (id : ℕ) (codes : List ℕ) → Gives (unsuback id codes) c.step.reaction.packets
     → AreInUse codes ⊎ AnswersUnsubscribe run later m w before c.step.client id codes

@@ -6,7 +6,7 @@ use Rattle.node_laws.specs.Moves.{Move, Did}
 use Rattle.node_work.specs.Acts.{Act, Session}
 use Rattle.node_work.specs.Held.Sessions.{Begun, Called, Over}
 use Rattle.cluster_play.specs.Worlds.{World}
-use Rattle.cluster_play.specs.Runs.{Moment}
+use Rattle.cluster_play.specs.Runs.{Played}
 use Rattle.cluster_play.specs.Histories.{Reached, site, moment_amid, moves_at}
 use Rattle.run_laws.specs.Staying.{Calls}
 
@@ -18,7 +18,7 @@ pub record IsOver (client : List ℕ) (moves : List Move) : Type 0 where
 
 -- the call is at the moment of its node, and one of the node's moves; until the session is over it is one of the calls of which the session
 -- is made, in its place
-pub record StaysCalled (run later : List Moment) (m : Moment) (before : List Act) (c : Calls m before) : Type 0 where
+pub record StaysCalled (run later : List Played) (m : Played) (before : List Act) (c : Calls m before) : Type 0 where
   pub at : c.step.at ≡ moment_amid (site m.fate) run before
   pub earlier : List Move
   pub after : List Move
@@ -29,4 +29,4 @@ pub record StaysCalled (run later : List Moment) (m : Moment) (before : List Act
 
 -- in every later world: so the copies that a step makes are told of by what is proved of every run of a session
 abbrev pub CallsStay : Type 0
-CallsStay = (run later : List Moment) (m : Moment) (w : World) → Reached (run ++ m ∷ later) w → (before : List Act) (c : Calls m before) → StaysCalled run later m before c
+CallsStay = (run later : List Played) (m : Played) (w : World) → Reached (run ++ m ∷ later) w → (before : List Act) (c : Calls m before) → StaysCalled run later m before c

@@ -19,49 +19,49 @@ use Rattle.subscription_set.specs.Standing.{find_entry, live}
 use Rattle.causal_context.specs.Dots.{Dot}
 use Rattle.passing_laws.specs.Handing.{JoinAtOnce}
 use Rattle.cluster_play.specs.Worlds.{Site, World, numbered}
-use Rattle.cluster_play.specs.Runs.{Moment}
+use Rattle.cluster_play.specs.Runs.{Played}
 use Rattle.cluster_play.specs.Histories.{Reached, site, acts_of, operations_amid, moment_amid}
 use Rattle.cluster_play.specs.Laws.{HoldsAmid}
 use Rattle.run_laws.specs.LaneHistories.{put, took}
 
 -- what node j took of the lane from node i is a beginning of what i put in: each message whole, in order, and once
 abbrev pub TakesInOrder : Type 0
-TakesInOrder = (run : List Moment) (w : World) → Reached run w → (i j : ℕ) → Begins (took j i run) (put i j run)
+TakesInOrder = (run : List Played) (w : World) → Reached run w → (i j : ℕ) → Begins (took j i run) (put i j run)
 
 -- what waits at node i for node j, by i's rows, is all that i put in past some that j has taken; i may be running or down
 abbrev pub WaitsPastWhatIsTaken : Type 0
 WaitsPastWhatIsTaken =
-    (run : List Moment) (w : World) → Reached run w → (i j : ℕ) (s : Site) (said : Lasting) → slice_get w.sites i ≡ Some s → AreLasting s.node.place s.rows said
+    (run : List Played) (w : World) → Reached run w → (i j : ℕ) (s : Site) (said : Lasting) → slice_get w.sites i ≡ Some s → AreLasting s.node.place s.rows said
     → (k : ℕ) × (k ≤ length (took j i run)) × ((lane_of said.lanes j).waiting ≡ drop k (put i j run)) × ((lane_of said.lanes j).gone ≡ k)
 
 -- and they count what i took of the lane from j
 abbrev pub CountsWhatItTook : Type 0
 CountsWhatItTook =
-    (run : List Moment) (w : World) → Reached run w → (i j : ℕ) (s : Site) (said : Lasting) → slice_get w.sites i ≡ Some s → AreLasting s.node.place s.rows said
+    (run : List Played) (w : World) → Reached run w → (i j : ℕ) (s : Site) (said : Lasting) → slice_get w.sites i ≡ Some s → AreLasting s.node.place s.rows said
     → (lane_of said.lanes j).took ≡ length (took i j run)
 
 -- a Forward frame has a message under its number among those that its sender put in for its receiver
 abbrev pub ForwardFrames : Type 0
 ForwardFrames =
-    (run : List Moment) (w : World) → Reached run w
+    (run : List Played) (w : World) → Reached run w
     → (number : ℕ) (sent : Frame) (f : BridgeFrame) (n : ℕ) (m : Forward) → numbered w.frames number ≡ Some sent → frame_in sent.bytes ≡ Some f → f.body ≡ bodies.Forward n m
     → IsNumbered (put f.from f.to run) n m
 
 -- at least as many messages were taken as a Got frame says
 abbrev pub GotFrames : Type 0
 GotFrames =
-    (run : List Moment) (w : World) → Reached run w
+    (run : List Played) (w : World) → Reached run w
     → (number : ℕ) (sent : Frame) (f : BridgeFrame) (n : ℕ) → numbered w.frames number ≡ Some sent → frame_in sent.bytes ≡ Some f → f.body ≡ bodies.Got n
     → n ≤ length (took f.from f.to run)
 
 -- what was put in and taken stays so
 abbrev pub LanesGoOn : Type 0
-LanesGoOn = (i j : ℕ) (ms ns : List Moment) → Begins (put i j ms) (put i j (ms ++ ns)) × Begins (took i j ms) (took i j (ms ++ ns))
+LanesGoOn = (i j : ℕ) (ms ns : List Played) → Begins (put i j ms) (put i j (ms ++ ns)) × Begins (took i j ms) (took i j (ms ++ ns))
 
 -- ---- copies
 
 -- a step takes a message of a lane after these of its acts: it makes these copies here, and so many picks are lost
-pub record TakesOver (m : Moment) (before : List Act) : Type 0 where
+pub record TakesOver (m : Played) (before : List Act) : Type 0 where
   pub from : ℕ
   pub number : ℕ
   pub message : Forward
@@ -72,7 +72,7 @@ pub record TakesOver (m : Moment) (before : List Act) : Type 0 where
 
 -- the copies are those of the message for what the node holds there: its sessions, and the live subscriptions, which are those of the
 -- operations that it has taken until then
-pub record MakesHanded (run : List Moment) (m : Moment) (before : List Act) (s : TakesOver m before) : Type 0 where
+pub record MakesHanded (run : List Played) (m : Played) (before : List Act) (s : TakesOver m before) : Type 0 where
   pub world : World
   pub reached : Reached run world
   pub held : HeldView
@@ -82,11 +82,11 @@ pub record MakesHanded (run : List Moment) (m : Moment) (before : List Act) (s :
 
 -- a message that is taken of a lane makes exactly these copies
 abbrev pub HandedAsTaken : Type 0
-HandedAsTaken = (run later : List Moment) (m : Moment) (w : World) → Reached (run ++ m ∷ later) w → (before : List Act) (s : TakesOver m before) → MakesHanded run m before s
+HandedAsTaken = (run later : List Played) (m : Played) (w : World) → Reached (run ++ m ∷ later) w → (before : List Act) (s : TakesOver m before) → MakesHanded run m before s
 
 -- the copies join their sessions directly after that, in the same step: by calls at the moment of the node there, which is the greatest
 -- that it was handed since it was last opened
-pub record JoinsHanded (run : List Moment) (m : Moment) (before : List Act) (s : TakesOver m before) : Type 0 where
+pub record JoinsHanded (run : List Played) (m : Played) (before : List Act) (s : TakesOver m before) : Type 0 where
   pub world : World
   pub reached : Reached run world
   pub held : HeldView
@@ -96,4 +96,4 @@ pub record JoinsHanded (run : List Moment) (m : Moment) (before : List Act) (s :
 
 -- where a message is taken of a lane, nothing stands between that and the calls by which its copies join their sessions
 abbrev pub JoinsAsTaken : Type 0
-JoinsAsTaken = (run later : List Moment) (m : Moment) (w : World) → Reached (run ++ m ∷ later) w → (before : List Act) (s : TakesOver m before) → JoinsHanded run m before s
+JoinsAsTaken = (run later : List Played) (m : Played) (w : World) → Reached (run ++ m ∷ later) w → (before : List Act) (s : TakesOver m before) → JoinsHanded run m before s

@@ -19,7 +19,7 @@ use Rattle.node_work.specs.Passing.{content_of}
 use Rattle.node_work.specs.View.{HeldView}
 use Rattle.passing_laws.specs.Publishing.{Gives, PassesOn}
 use Rattle.cluster_play.specs.Worlds.{World}
-use Rattle.cluster_play.specs.Runs.{Moment}
+use Rattle.cluster_play.specs.Runs.{Played}
 use Rattle.cluster_play.specs.Histories.{Reached, site, moves_amid}
 use Rattle.cluster_play.specs.Laws.{HoldsAmid}
 use Rattle.run_laws.specs.Staying.{Calls, StaysMade}
@@ -37,7 +37,7 @@ abbrev pub message_in : {qos : Qos} {id : ℕ} {s : SessionStep} → TakesPublis
 message_in {s = s} t = accepted t.publish s.client s.at
 
 -- directly after the call the topic is given the message, or with an empty payload none, and that stays
-pub record PutStays (run later : List Moment) (m : Moment) (w : World) (before : List Act) (c : Calls m before) (x : Message) : Type 0 where
+pub record PutStays (run later : List Played) (m : Played) (w : World) (before : List Act) (c : Calls m before) (x : Message) : Type 0 where
   pub dot : Dot
   pub stamp : Stamp
   pub made : StaysMade run later m w (Put dot stamp (content_of x))
@@ -45,7 +45,7 @@ pub record PutStays (run later : List Moment) (m : Moment) (w : World) (before :
 
 -- a message is passed on directly after the call: with RETAIN its Put stays, and unless its deadline has passed its copies join their
 -- sessions, and what goes to other nodes joins the lanes that the node has then
-pub record IsPassedOn (run later : List Moment) (m : Moment) (w : World) (before : List Act) (c : Calls m before) (x : Message) : Type 0 where
+pub record IsPassedOn (run later : List Played) (m : Played) (w : World) (before : List Act) (c : Calls m before) (x : Message) : Type 0 where
   pub world : World
   pub reached : Reached run world
   pub held : HeldView
@@ -56,7 +56,7 @@ pub record IsPassedOn (run later : List Moment) (m : Moment) (w : World) (before
 -- the message of the PUBLISH that PUBACK 0x00 answers is passed on in the step that gives the PUBACK out
 abbrev pub PubackStaysTrue : Type 0
 PubackStaysTrue =
-    (run later : List Moment) (m : Moment) (w : World) → Reached (run ++ m ∷ later) w
+    (run later : List Played) (m : Played) (w : World) → Reached (run ++ m ∷ later) w
     → (before : List Act) (c : Calls m before) (id : ℕ) → Gives (puback id 0) c.step.reaction.packets
     → (t : TakesPublish AtLeastOnce id c.step) × IsPassedOn run later m w before c (message_in t)
 
@@ -74,10 +74,10 @@ StaysOpen on id (s ∷ ss) = (is_open_after on id true s.event s.reaction ≡ tr
 
 -- An earlier call of the client's session, in this step or an earlier one of its node, opened the exchange, and the message of that
 -- PUBLISH is passed on directly after it. By the calls of the session since it last began, the exchange has been open from then on.
-pub record WasPassedOn (run later : List Moment) (m : Moment) (w : World) (before : List Act) (c : Calls m before) (id : ℕ) : Type 0 where
-  pub first : List Moment
-  pub opening : Moment
-  pub last : List Moment
+pub record WasPassedOn (run later : List Played) (m : Played) (w : World) (before : List Act) (c : Calls m before) (id : ℕ) : Type 0 where
+  pub first : List Played
+  pub opening : Played
+  pub last : List Played
   pub whole : run ++ m ∷ later ≡ first ++ opening ∷ last
   pub at : site opening.fate ≡ site m.fate
   pub earlier : List Act
@@ -94,7 +94,7 @@ pub record WasPassedOn (run later : List Moment) (m : Moment) (w : World) (befor
 -- then the message of the PUBLISH that opened it was passed on
 abbrev pub PubrecStaysTrue : Type 0
 PubrecStaysTrue =
-    (run later : List Moment) (m : Moment) (w : World) → Reached (run ++ m ∷ later) w
+    (run later : List Played) (m : Played) (w : World) → Reached (run ++ m ∷ later) w
     → (before : List Act) (c : Calls m before) (id : ℕ) → Gives (pubrec id 0) c.step.reaction.packets
     → (t : TakesPublish ExactlyOnce id c.step)
     × (IsPassedOn run later m w before c (message_in t) ⊎ WasPassedOn run later m w before c id)

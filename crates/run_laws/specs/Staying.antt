@@ -9,7 +9,7 @@ use Rattle.node_rows.specs.Rows.{Lasting}
 use Rattle.node_work.specs.Acts.{Act, Store, Session, Made}
 use Rattle.node_work.specs.Held.Sessions.{SessionStep, Called}
 use Rattle.cluster_play.specs.Worlds.{Site, World}
-use Rattle.cluster_play.specs.Runs.{Moment}
+use Rattle.cluster_play.specs.Runs.{Played}
 use Rattle.cluster_play.specs.Histories.{site, acts_of, taken, operations_amid}
 use Rattle.cluster_play.specs.NextOperations.{IsNext}
 
@@ -20,12 +20,12 @@ pub record Lists (s : Site) (dot : Dot) : Type 0 where
   pub listed : set.contains said.store.taken dot ≡ true
 
 -- node i has taken a dot, and lists it in its rows, whether it runs or is down
-pub record HasTaken (run : List Moment) (w : World) (i : ℕ) (dot : Dot) : Type 0 where
+pub record HasTaken (run : List Played) (w : World) (i : ℕ) (dot : Dot) : Type 0 where
   pub taken : taken i run dot ≡ true
   pub rows : (s : Site) → slice_get w.sites i ≡ Some s → Lists s dot
 
 -- a step makes an operation, the next one of its node, and the node has it in a later world
-pub record StaysMade (run later : List Moment) (m : Moment) (w : World) (o : Operation) : Type 0 where
+pub record StaysMade (run later : List Played) (m : Played) (w : World) (o : Operation) : Type 0 where
   pub first : List Act
   pub last : List Act
   pub acts : acts_of m.fate ≡ first ++ Store (Made o) ∷ last
@@ -33,7 +33,7 @@ pub record StaysMade (run later : List Moment) (m : Moment) (w : World) (o : Ope
   pub stays : HasTaken (run ++ m ∷ later) w (site m.fate) (dot_of o)
 
 -- a step calls a session after these of its acts
-pub record Calls (m : Moment) (before : List Act) : Type 0 where
+pub record Calls (m : Played) (before : List Act) : Type 0 where
   pub step : SessionStep
   pub after : List Act
   pub acts : acts_of m.fate ≡ before ++ Session (Called step) ∷ after

@@ -1,3 +1,4 @@
+mod LeadLaws
 mod AgreedLaws
 mod TurnLaws
 mod SinceLaws

@@ -29,7 +29,7 @@ use Rattle.session_rows.specs.Changes.{Plain, Told, copy_changes}
 use Rattle.session_rows.specs.Durable.{Durable}
 use Rattle.session_rows.specs.Fields.{main, copy, copy_of}
 use Rattle.session_rows.specs.Rows.{main_key, copy_key, copy_rows, rows_of}
-use Rattle.session_row_laws.specs.Laws.{AreDifferent, AreExact, FollowsOn, IsSince, NameApart, after_plains, told_rows, told_copies, told_next}
+use Rattle.saved_laws.specs.Leading.{AreDifferent, AreExact, FollowsOn, IsSince, NameApart, after_plains, told_rows, told_copies, told_next}
 use Rattle.mqtt_sessions.specs.Removed.{gone_at, gone_of, own_removal, removals_of}
 use Rattle.mqtt_sessions.specs.State.{watched}
 use Rattle.saved_laws.specs.Told.{RemovalsLeaveNone}

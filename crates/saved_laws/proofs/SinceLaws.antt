@@ -25,7 +25,7 @@ use Rattle.row_store.specs.declared.row.Change.{Change}
 use Rattle.session_rows.specs.Changes.{Follows}
 use Rattle.session_rows.specs.Durable.{Durable, IsDurable}
 use Rattle.session_rows.specs.Fields.{copy, copy_of}
-use Rattle.session_row_laws.specs.Laws.{IsSince, told_box, FollowsOn}
+use Rattle.saved_laws.specs.Leading.{IsSince, told_box, FollowsOn}
 use Rattle.mqtt_sessions.specs.Reaction.{Reaction}
 use Rattle.mqtt_sessions.specs.Saved.{Saved, Notes, Tells, durable_of}
 use Rattle.mqtt_sessions.specs.Sending.{is_once}

@@ -3,7 +3,7 @@ use Rattle.std.proofs.Common.{◌≡◌, List, [], ◌∷◌, ◌++◌, Option, 
 use Rattle.std.specs.FinMap.{from_entries}
 use Rattle.row_store.specs.Rows.{Content, after_all}
 use Rattle.session_rows.specs.Durable.{Durable}
-use Rattle.session_row_laws.specs.Laws.{AreExact, ChangesAreExact, ChangesAreMade, ChangesLead, after_plains, told_rows}
+use Rattle.saved_laws.specs.Leading.{AreExact, ChangesAreExact, ChangesAreMade, ChangesLead, after_plains, told_rows}
 use Rattle.mqtt_sessions.specs.Saved.{main_of}
 use Rattle.mqtt_sessions.specs.State.{watched}
 use Rattle.saved_laws.specs.Histories.{Point, Move, calls, tells, Moves, History, Begins, durable_at}

@@ -1,3 +1,4 @@
+pub mod Leading
 pub mod Histories
 pub mod Told
 pub mod Sound

@@ -5,7 +5,7 @@ use Rattle.mqtt_sessions.specs.Removed.{Removes}
 use Rattle.mqtt_sessions.specs.State.{watched}
 use Rattle.row_store.specs.declared.row.Change.{Change}
 use Rattle.row_store.specs.Rows.{Content, after_all}
-use Rattle.session_row_laws.specs.Laws.{AreExact, IsSince, after_plains, told_rows}
+use Rattle.saved_laws.specs.Leading.{AreExact, IsSince, after_plains, told_rows}
 use Rattle.session_rows.specs.Changes.{plain_of}
 use Rattle.session_rows.specs.Durable.{Durable}
 use Rattle.session_rows.specs.Rows.{rows_of}

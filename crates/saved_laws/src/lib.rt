@@ -9,7 +9,10 @@ ghost use Rattle.saved_laws.specs.Told.{RemovalsLeaveNone, StaysSince, StoresTol
 
 use mqtt_packets::Connect;
 use session_laws::events::calls_are_events;
-use session_row_laws::{calls_follow, changes_are_exact, changes_are_made, changes_lead};
+
+use crate::changes::{calls_follow, changes_are_exact, changes_are_made, changes_lead};
+
+pub mod changes;
 
 /// Each call of a session that answers is a move.
 pub fn calls_are_moves()

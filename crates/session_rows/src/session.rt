@@ -11,7 +11,7 @@ ghost use Rattle.session_rows.specs.Rows.{rows_of};
 
 use crate::copy::read_copy;
 use crate::main_row::{MainRow, read_main};
-use mqtt_fields::{FieldFault, Text, u64_at};
+use mqtt_fields::{FieldFault, NUMBERS_END, Text, u64_at};
 use mqtt_message::{Message, Will};
 use qos_handshakes::{Entry, Incoming, Outgoing};
 use row_store::{Row, RowFault};
@@ -23,9 +23,6 @@ pub(crate) const SESSION: u8 = 2;
 
 /// The kind of a copy's row.
 pub(crate) const COPY: u8 = 3;
-
-/// Moments stay below.
-const END: u64 = 1 << 62;
 
 /// A session as its rows say, without a connection.
 #[derive(Drop)]
@@ -158,7 +155,7 @@ fn is_moment(moment: Option<u64>) -> bool
 {
     match moment {
         None => true,
-        Some(at) => at < END,
+        Some(at) => at < NUMBERS_END,
     }
 }
 

@@ -23,7 +23,8 @@ use Rattle.session_table.specs.declared.listing.Listing.{Listing}
 use Rattle.session_table.specs.declared.moments.Moments.{Moments}
 use Rattle.session_table.specs.declared.seated.Seated.{Seated}
 use Rattle.due_times.specs.Dues.{Dues, due_cmp}
-use Rattle.session_table.proofs.Tables.{remove_absent, get_seat, seats_insert, get_apart, get_removed, get_left}
+use Rattle.finite_maps.proofs.Texts.{remove_absent, get_apart, get_removed, get_left}
+use Rattle.session_table.proofs.SeatMaps.{get_seat, seats_insert}
 use Rattle.session_table.proofs.Lists.{listed_again, relists_then, listed_put, listed_out, each_put, each_out, each_but}
 
 -- ---- one session

@@ -1,4 +1,4 @@
-pub mod Tables
+pub mod SeatMaps
 pub mod RowLaws
 pub mod Lists
 pub mod Calling

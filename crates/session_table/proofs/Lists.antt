@@ -8,7 +8,7 @@ use Rattle.session_table.specs.Listing.{Table, text_cmp, IsAt, KeepsOthers, IsLi
 use Rattle.session_table.specs.declared.listing.Listing.{Listing}
 use Rattle.session_table.specs.declared.moments.Moments.{Moments}
 use Rattle.session_table.specs.declared.seated.Seated.{Seated}
-use Rattle.session_table.proofs.Tables.{same_text, itself, get_inserted, get_apart, get_removed, get_left}
+use Rattle.finite_maps.proofs.Texts.{same_text, itself, get_inserted, get_apart, get_removed, get_left}
 
 then_eq : (a b : Ordering) → is_eq (ordering_then a b) ≡ (is_eq a && is_eq b)
 then_eq Less b = refl

@@ -18,7 +18,8 @@ use Rattle.session_table.specs.declared.moments.Moments.{Moments}
 use Rattle.session_table.specs.declared.seated.Seated.{Seated}
 use Rattle.session_table.proofs.Calling.{same_state}
 use Rattle.session_table.proofs.Lists.{tied, and_false, and_true}
-use Rattle.session_table.proofs.Tables.{get_seat, itself, same_text}
+use Rattle.finite_maps.proofs.Texts.{itself, same_text}
+use Rattle.session_table.proofs.SeatMaps.{get_seat}
 
 any_both : {X : Type 0} (t : X → Bool) (xs ys : List X) → list_any t (xs ++ ys) ≡ (list_any t xs || list_any t ys)
 any_both t [] ys = refl

@@ -23,7 +23,7 @@ use Rattle.session_rows.specs.Changes.{Plain, Told, plain_of, own_change, own_ch
 use Rattle.session_rows.specs.Durable.{Durable, IsDurable}
 use Rattle.session_rows.specs.Fields.{Main, main, copy, copy_of}
 use Rattle.session_rows.specs.Rows.{main_key, rows_of}
-use Rattle.session_row_laws.specs.Laws.{ChangesAreMade, after_plains, told_rows}
+use Rattle.saved_laws.specs.Leading.{ChangesAreMade, after_plains, told_rows}
 use Rattle.mqtt_sessions.specs.Reaction.{Reaction}
 use Rattle.mqtt_sessions.specs.Removed.{RemovesIf, gone_of, own_removal, own_told, removals_of, removed_before}
 use Rattle.mqtt_sessions.specs.Saved.{Appends, Saved, NotesIf, Tells, TellsIf, begun_session, durable_of, main_of, own_before, reopened, state_in, state_of, told_before}
@@ -38,7 +38,8 @@ use Rattle.session_table.specs.Calls.{IsTurned}
 use Rattle.session_table.specs.Listing.{AllTold, Table, seat_of, seats_in, session_in, text_cmp}
 use Rattle.session_table.specs.declared.seated.Seated.{Seated}
 use Rattle.session_table.specs.Rows.{AllDurable, IsAllTold, IsOf, IsTold, LeadsOn, OwnLead, OwnLeadsOn, BeginTells, CallTells, RemovalLeaves, TellsAgain, TellsOn, is_session_kind, no_row, own_kind, row_in, rows_for, saved_row, seat_row, told_point}
-use Rattle.session_table.proofs.Tables.{get_apart, get_inserted, get_left, get_removed, get_seat, itself, remove_absent, same_text, seats_insert, seats_remove}
+use Rattle.finite_maps.proofs.Texts.{get_apart, get_inserted, get_left, get_removed, itself, remove_absent, same_text}
+use Rattle.session_table.proofs.SeatMaps.{get_seat, seats_insert, seats_remove}
 
 -- ---- histories
 history-then : (a : Point) (ms : List Move) (b : Point) (m : Move) (c : Point) → History a ms b → Moves b m c → History a (ms ++ m ∷ []) c

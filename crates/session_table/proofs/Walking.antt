@@ -13,7 +13,7 @@ use Rattle.mqtt_sessions.specs.State.{State, new_session}
 use Rattle.session_table.specs.Seats.{at_number, connected}
 use Rattle.session_table.specs.Listing.{Table, connected_of, connection_in, on_connection, seat_of, seats_in, table, was_connected}
 use Rattle.session_table.specs.declared.seated.Seated.{Seated}
-use Rattle.session_table.proofs.Tables.{entries_of_seats, seat_entries}
+use Rattle.session_table.proofs.SeatMaps.{entries_of_seats, seat_entries}
 
 -- ---- clients that were connected
 pub was : (x : Seated) (b : Bool) → MatchOption (state_of x.session) (b ≡ false) (λ s. b ≡ is_connected s.kept.phase) → b ≡ was_connected x

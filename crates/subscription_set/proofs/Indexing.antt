@@ -2,20 +2,21 @@
 use Rattle.std.proofs.Common.{◌≡◌, ℕ, ◌+◌, ◌≤◌, MatchOption, Bor, Bool, true, false, cond, ◌&&◌, ◌||◌, not, T, List, [], ◌∷◌, map as map_list, length, Option, Some, None, is_some, arith, refl, sym, ap, subst, ◌∙◌}
 use Rattle.std.specs.List.Sorted.{IsStrictlySortedBy}
 use Rattle.std.specs.Map.{keys_of}
-use Rattle.std.specs.FinMap.Entries.{same_entries}
 use Rattle.std.specs.List.{list_any, filter, IsDistinct, AllByRecursion}
 use Rattle.std.specs.Set.{is_member}
 use Rattle.std.specs.Cmp.{IsTotalOrder, Equal-is, eq_by_cmp_equiv, both_ways}
 use Rattle.std.specs.Cmp.Lexicographic.{bytes_decides}
-use Rattle.std.specs.Ordering.{eq_by_cmp, is_eq, is_lt}
-use Rattle.std.specs.declared.cmp.Ordering.TheVariants.{Less, Equal}
+use Rattle.std.specs.Ordering.{eq_by_cmp, is_eq}
+use Rattle.std.specs.declared.cmp.Ordering.TheVariants.{Equal}
 use Rattle.std.specs.declared.cmp.Ordering.{Ordering}
+use Rattle.std.specs.FinMap.Entries.{below_all}
 use Rattle.std.specs.FinMap as map
 use Rattle.std.specs.FinSet as set
 use Rattle.std.proofs.lemmas.Cmp.{tied_itself}
 use Rattle.std.proofs.lemmas.List.{length-map}
 use Rattle.std.proofs.lemmas.Map.Made.{length-from_same_keys}
 use Rattle.std.proofs.lemmas.Map.Keys.{IsDistinct-cons}
+use Rattle.finite_maps.proofs.Tables as tables
 use Rattle.causal_context.specs.Dots.{Dot, Dots, dot_cmp, dot_cmp_total, dot_cmp_antisym}
 use Rattle.subscription_set.specs.Entries.{Entry, is_of}
 use Rattle.subscription_set.specs.Standing.{Entries, find_entry, is_latest, latest}
@@ -48,7 +49,7 @@ found_any t (x ∷ xs) h e = by (t x) refl (found_any t xs (second_part _ _ h)) 
     Found es = (d : Dot) × (e : Entry) × ((find_entry d es ≡ Some e) × (t (d, e) ≡ true))
 
     later : (d : Dot) (e : Entry) (b : Bool) → eq_by_cmp dot_cmp d x.0 ≡ b → find_entry d xs ≡ Some e → find_entry d (x ∷ xs) ≡ Some e
-    later d e true t f = (let none = found_none dot_cmp_total xs d (subst (λ q. T (map.Entries.below_all dot_cmp q xs)) (sym (tied d x.0 t)) (first_part _ _ h)) in cc)
+    later d e true t f = (let none = found_none dot_cmp_total xs d (subst (λ q. T (below_all dot_cmp q xs)) (sym (tied d x.0 t)) (first_part _ _ h)) in cc)
     later d e false t f = ap (λ b. cond b (Some x.1) (find_entry d xs)) t ∙ f
 
     by : (b : Bool) → t x ≡ b → (list_any t xs ≡ true → (d : Dot) × (e : Entry) × ((find_entry d xs ≡ Some e) × (t (d, e) ≡ true))) → (b || list_any t xs) ≡ true
@@ -80,27 +81,9 @@ few p (x ∷ xs) = by (p x) (few p xs)
 pub live_few : (es : Entries) → length (latest es) ≤ length es
 live_few es = few (is_latest es) es
 
-sorted_below : (d : Dot) (es : Entries) → AllByRecursion (λ y. dot_cmp d y ≡ Less) (keys_of es) → T (map.Entries.below_all dot_cmp d es)
-sorted_below d [] h = tt
-sorted_below d (x ∷ xs) h = both _ _ (subst (λ r. T (is_lt r)) (sym h.0) tt) (sorted_below d xs h.1)
-  where
-    both : (a b : Bool) → T a → T b → T (a && b)
-    both true b p q = q
-    both false b p q = p
-
-pub rising : (es : Entries) → IsStrictlySortedBy dot_cmp (keys_of es) → Rises dot_cmp es
-unfolding IsStrictlySortedBy
-rising [] h = tt
-rising (x ∷ xs) h = both _ _ (sorted_below x.0 xs h.0) (rising xs h.1)
-  where
-    both : (a b : Bool) → T a → T b → T (a && b)
-    both true b p q = q
-    both false b p q = p
-
 -- the entries of a table are those of its map
 pub entries_table : (es : Entries) → IsStrictlySortedBy dot_cmp (keys_of es) → map.entries (map.from_entries {R = dot_cmp} es) ≡ es
-entries_table es h = same_entries dot_cmp dot_cmp_total dot_cmp_antisym (map.entries (map.from_entries {R = dot_cmp} es)) es (map.entries_sorted (map.from_entries {R = dot_cmp} es)) (rising es h)
-    (λ q. sym (map.get-entries (map.from_entries {R = dot_cmp} es) q) ∙ map.get-from_entries dot_cmp_total es q)
+entries_table es h = tables.entries_sorted dot_cmp_total dot_cmp_antisym es (tables.rising dot_cmp_total es h)
 
 -- ---- the clients and filters of which something stands
 

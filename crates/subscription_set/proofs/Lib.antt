@@ -16,6 +16,5 @@ pub mod Rising
 pub mod Spans
 pub mod Spreading
 pub mod Standings
-pub mod Tables
 pub mod Leaving
 pub mod Walking

@@ -29,7 +29,7 @@ ghost use Rattle.node_work.specs.Held.Feeding.{IsHeldFed};
 ghost use Rattle.node_work.specs.Held.Making.{Makes, number_at_end, put_at_end, removal, with_operation};
 ghost use Rattle.node_work.specs.Packets.{CameSpelled};
 ghost use Rattle.node_work.specs.View.{no_counts, woken};
-ghost use Rattle.store_rows.specs.Reading.{IsStore};
+ghost use Rattle.replica_rows.specs.Reading.{IsStore};
 ghost use Rattle.node_work.specs.declared.fault.NodeFault.TheVariants.{NoMemory};
 
 use crate::counts::Counts;
@@ -49,8 +49,8 @@ use row_store::Change;
 use session_table::Sessions;
 use std::alloc::Global;
 use std::marker::Model;
-use store_rows::changes_by;
-use store_rows::laws::is_store;
+use replica_rows::changes_by;
+use replica_rows::laws::is_store;
 use subscription_set::Entry;
 
 /// What a running node holds.
@@ -85,7 +85,7 @@ impl Drop for Held {
 impl Model for Held {
     ghost use Rattle.std.specs.Prelude.{◌<◌, ◌≤◌, ◌^◌};
     ghost use Rattle.node_work.specs.View.{HeldView, coded_held};
-    ghost use Rattle.store_rows.specs.Reading.{IsStore};
+    ghost use Rattle.replica_rows.specs.Reading.{IsStore};
 
     ghost Value = { HeldView };
 

@@ -1,6 +1,6 @@
 use Rattle.std.proofs.Common.{inl, inr, ap, sym, ◌∙◌, Ok}
-use Rattle.store_bytes.specs.Values.{filter_in}
-use Rattle.store_bytes.proofs.Filters.{read_filter, bad_filter}
+use Rattle.replica_bytes.specs.Values.{filter_in}
+use Rattle.replica_bytes.proofs.Filters.{read_filter, bad_filter}
 use Rattle.bridge_frames.proofs.pick.filter_of.Goals as goal
 
 pub returns-in-Ok : goal.returns-in-Ok

@@ -1,7 +1,7 @@
 use Rattle.std.proofs.Common.{arith}
 use Rattle.bridge_frames.specs.Forwards.{forward}
 use Rattle.bridge_frames.proofs.ForwardLaws.{forward_is}
-use Rattle.lane_rows.proofs.Whole.{whole_found, whole_more, whole_none}
+use Rattle.mqtt_fields.proofs.Whole.{whole_found, whole_more, whole_none}
 use Rattle.lane_rows.proofs.reading.forward_of.Goals as goal
 
 pub returns-in-Ok-default-empty : goal.returns-in-Ok-default-empty

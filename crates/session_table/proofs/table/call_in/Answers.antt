@@ -3,7 +3,7 @@ use Rattle.std.specs.FinMap as map
 use Rattle.std.specs.Option.{option_copied_mut}
 use Rattle.session_table.specs.Calls.{event_of, on_of}
 use Rattle.session_table.specs.Listing.{seats_in, table}
-use Rattle.session_table.proofs.Tables.{get_table, insert_table}
+use Rattle.finite_maps.proofs.Texts.{get_table, insert_table}
 use Rattle.session_table.proofs.RowLaws.{called-leads, still}
 use Rattle.session_table.proofs.Calling.{told_here, called_none, called_ok, called_err, kept_ok, broken, listed_here, may_here}
 use Rattle.session_table.proofs.table.call_in.Goals as goal

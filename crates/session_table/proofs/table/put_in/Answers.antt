@@ -5,7 +5,7 @@ use Rattle.mqtt_sessions.specs.State.{State}
 use Rattle.session_table.specs.Rows.{IsAllTold}
 use Rattle.session_table.specs.Listing.{Table, IsKept, seats_in, table}
 use Rattle.session_table.specs.declared.seated.Seated.{Seated}
-use Rattle.session_table.proofs.Tables.{insert_table}
+use Rattle.finite_maps.proofs.Texts.{insert_table}
 use Rattle.session_table.proofs.Calling.{absent_here, put_kept, put_seats, put_taken_back}
 use Rattle.session_table.proofs.table.put_in.Goals as goal
 

@@ -2,8 +2,8 @@ use Rattle.std.proofs.Common.{subst, sym}
 use Rattle.causal_context.specs.Spelling.{HasSpelling}
 use Rattle.replica_store.specs.States.{State, state_join}
 use Rattle.row_changes.specs.Leading.{LeadWithin}
-use Rattle.store_rows.specs.Reading.{IsStore}
-use Rattle.store_rows.specs.Rows.{row_at}
+use Rattle.replica_rows.specs.Reading.{IsStore}
+use Rattle.replica_rows.specs.Rows.{row_at}
 use Rattle.subscription_set.specs.Standing.{seen_of}
 use Rattle.node_work.specs.Lasting.{is_store_kind}
 use Rattle.node_work.specs.View.{HeldView}

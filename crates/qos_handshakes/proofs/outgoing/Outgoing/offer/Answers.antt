@@ -22,8 +22,8 @@ returns-clause-touched c =
 pub returns-then-self-ge-QUEUE-clause-offered : goal.returns-then-self-ge-QUEUE-clause-offered
 returns-then-self-ge-QUEUE-clause-offered c = (rw (← c.self.view_is) (omega (arith, queue-length _ _ _ c.self.invariant.counted.queued)), refl)
 
-pub returns-then-self-ge-END-clause-offered : goal.returns-then-self-ge-END-clause-offered
-returns-then-self-ge-END-clause-offered c = rw (← c.self.view_is) (omega (arith, queue-length _ _ _ c.self.invariant.counted.queued), c.if-self-ge-END.true, refl)
+pub returns-then-self-ge-NUMBERS_END-clause-offered : goal.returns-then-self-ge-NUMBERS_END-clause-offered
+returns-then-self-ge-NUMBERS_END-clause-offered c = rw (← c.self.view_is) (omega (arith, queue-length _ _ _ c.self.invariant.counted.queued), c.if-self-ge-NUMBERS_END.true, refl)
 
 pub returns-clause-offered : goal.returns-clause-offered
-returns-clause-offered c = rw (← c.self.view_is) (omega (arith, queue-length _ _ _ c.self.invariant.counted.queued), c.if-self-ge-END.false, rw c.in_ok-push.ensures.ok refl)
+returns-clause-offered c = rw (← c.self.view_is) (omega (arith, queue-length _ _ _ c.self.invariant.counted.queued), c.if-self-ge-NUMBERS_END.false, rw c.in_ok-push.ensures.ok refl)

@@ -1,6 +1,6 @@
 use Rattle.std.proofs.Common.{ap, ◌∙◌}
 use Rattle.std.specs.FinMap as map
-use Rattle.session_table.proofs.Tables.{count_of}
+use Rattle.session_table.proofs.SeatMaps.{count_of}
 use Rattle.session_table.proofs.sessions.Sessions.count.Goals as goal
 
 pub returns : goal.returns

@@ -1,6 +1,6 @@
 use Rattle.std.proofs.Common.{ap, ◌∙◌}
 use Rattle.session_table.specs.Listing.{seats_in, table}
-use Rattle.session_table.proofs.Tables.{seats_empty}
+use Rattle.session_table.proofs.SeatMaps.{seats_empty}
 use Rattle.session_table.proofs.Calling.{kept_empty}
 use Rattle.session_table.proofs.sessions.Sessions.new.Goals as goal
 

@@ -4,7 +4,7 @@ use Rattle.std.specs.FinMap as map
 use Rattle.session_table.specs.Listing.{seats_in, table}
 use Rattle.session_table.specs.Rows.{LeadsOn}
 use Rattle.session_table.specs.Seats.{Seats}
-use Rattle.session_table.proofs.Tables.{seats_remove}
+use Rattle.session_table.proofs.SeatMaps.{seats_remove}
 use Rattle.session_table.proofs.Calling.{kept_out}
 use Rattle.session_table.proofs.RowLaws.{gone-leads, no-session, none-leads, session-told}
 use Rattle.session_table.proofs.sessions.Sessions.remove.Goals as goal

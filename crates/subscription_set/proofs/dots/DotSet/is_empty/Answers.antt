@@ -2,7 +2,7 @@ use Rattle.std.proofs.Common.{refl, false, sym, ap, ◌∙◌}
 use Rattle.std.specs.FinSet as set
 use Rattle.causal_context.specs.Dots.{dot_cmp_total}
 use Rattle.subscription_set.proofs.Spreading.{not_both}
-use Rattle.subscription_set.proofs.Tables.{contains_table, none_in}
+use Rattle.finite_maps.proofs.Tables.{contains_table, none_in}
 use Rattle.subscription_set.proofs.dots.DotSet.is_empty.Goals as goal
 
 pub returns-in-Some : goal.returns-in-Some

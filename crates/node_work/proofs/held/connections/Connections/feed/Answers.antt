@@ -2,7 +2,7 @@ use Rattle.std.proofs.Common.{◌∙◌, sym, ap, Err, refl}
 use Rattle.std.specs.Cmp.{nat_cmp_total}
 use Rattle.std.specs.FinMap.{nat_cmp-IsAntisymmetric}
 use Rattle.std.specs.FinMap as map
-use Rattle.node_work.proofs.Tables.{remove_absent, insert_taken, insert_same}
+use Rattle.finite_maps.proofs.Tables.{remove_absent, insert_taken, insert_same}
 use Rattle.node_work.proofs.held.connections.Connections.feed.Goals as goal
 
 pub returns-in-None-clause-fed : goal.returns-in-None-clause-fed

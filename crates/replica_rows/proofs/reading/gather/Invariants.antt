@@ -1,0 +1,8 @@
+use Rattle.std.proofs.Common.{map, drop}
+use Rattle.row_store.specs.Rows.{entry_of}
+use Rattle.replica_rows.specs.Reading.{said}
+use Rattle.replica_rows.proofs.Told.{IsGathered}
+use Rattle.replica_rows.proofs.reading.gather.Given as goal
+
+abbrev pub invariant-loop-row : goal.invariant-loop-row
+invariant-loop-row l = IsGathered (map entry_of l.rows) (map entry_of (drop l.row-index l.rows)) (said l.parts)

@@ -1,8 +1,0 @@
-use Rattle.std.proofs.Common.{map, drop}
-use Rattle.row_store.specs.Rows.{entry_of}
-use Rattle.store_rows.specs.Reading.{said}
-use Rattle.store_rows.proofs.Told.{IsGathered}
-use Rattle.store_rows.proofs.reading.gather.Given as goal
-
-abbrev pub invariant-loop-row : goal.invariant-loop-row
-invariant-loop-row l = IsGathered (map entry_of l.rows) (map entry_of (drop l.row-index l.rows)) (said l.parts)
