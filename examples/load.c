@@ -1,11 +1,13 @@
 // Loads a broker of MQTT 5.0 at 127.0.0.1, and tells how many messages a second come and how long they take.
 //
 //   gcc -O2 -o load examples/load.c
-//   ./load PORT IDLE PAIRS AHEAD QOS BYTES SECONDS
+//   ./load [-p PORT] [-i IDLE] [-f FILTERS] [-n PAIRS] [-a AHEAD] [-q QOS] [-b BYTES] [-s SECONDS] [-u USER -w PASSWORD] [-m PID]
 //
-// IDLE clients connect and say nothing more. Then there are PAIRS of a publisher and a subscriber, each pair with a topic of its
-// own. A publisher has AHEAD messages of BYTES bytes on their way at QOS, 0 or 1: it publishes the next one once one has come
-// (QoS 0) or is acknowledged (QoS 1). The broker may be any one of MQTT 5.0.
+// IDLE clients connect, subscribe to FILTERS filters each, which no message matches, and say nothing more. Then there are PAIRS of
+// a publisher and a subscriber, each pair with a topic of its own. A publisher has AHEAD messages of BYTES bytes on their way at
+// QOS: it publishes the next one once one has come (QoS 0) or its exchange has ended (QoS 1 and 2), until SECONDS are over. What
+// came is counted to the last message and divided by the time until then. With -m the memory of the process PID is told, before
+// the idle clients, with them, and with their subscriptions. The broker may be any one of MQTT 5.0.
 #include <arpa/inet.h>
 #include <errno.h>
 #include <netinet/tcp.h>
@@ -27,11 +29,13 @@ struct client {
     uint8_t bytes[ROOM];
 };
 
-static int port, pairs, ahead, qos, length;
+static int port = 1883, idle, filters, pairs, ahead = 1, qos, length = 64, process;
+static double seconds = 2;
+static const char *user, *password;
 static struct client *clients;
 static double *times;
 static size_t sent, come, acknowledged, taken_times;
-static double stop;
+static double stop, last;
 
 static double now(void) {
     struct timespec at;
@@ -87,7 +91,13 @@ static int dial(void) {
 // Connects with Clean Start and no Keep Alive.
 static int connect_client(const char *identifier) {
     uint8_t packet[160] = {0x10, 0, 0, 4, 'M', 'Q', 'T', 'T', 5, 2, 0, 0, 0};
-    packet[1] = (uint8_t)(11 + put_text(packet + 13, identifier));
+    size_t count = 13 + put_text(packet + 13, identifier);
+    if (user) {
+        packet[9] |= 0xC0;
+        count += put_text(packet + count, user);
+        count += put_text(packet + count, password);
+    }
+    packet[1] = (uint8_t)(count - 2);
     int made = dial();
     send_all(made, packet, 2 + packet[1]);
     receive(made, packet);
@@ -96,8 +106,8 @@ static int connect_client(const char *identifier) {
     return made;
 }
 
-static void subscribe(int socket, const char *filter) {
-    uint8_t packet[160] = {0x82, 0, 0, 1, 0};
+static void subscribe(int socket, const char *filter, int identifier) {
+    uint8_t packet[160] = {0x82, 0, (uint8_t)(identifier >> 8), (uint8_t)identifier, 0};
     size_t count = 5 + put_text(packet + 5, filter);
     packet[count++] = (uint8_t)qos;
     packet[1] = (uint8_t)(count - 2);
@@ -137,17 +147,23 @@ static void publish_again(struct client *publisher) {
         publish(publisher);
 }
 
+// Answers a packet by one with its identifier.
+static void answer(struct client *client, uint8_t first, const uint8_t *identifier) {
+    uint8_t packet[4] = {first, 2, identifier[0], identifier[1]};
+    send_all(client->socket, packet, sizeof packet);
+}
+
 static void take_message(struct client *subscriber, const uint8_t *packet, const uint8_t *body) {
     size_t at = 2 + ((size_t)body[0] << 8 | body[1]);
     if (packet[0] & 6) {
-        uint8_t answer[4] = {0x40, 2, body[at], body[at + 1]};
-        send_all(subscriber->socket, answer, sizeof answer);
+        answer(subscriber, packet[0] & 2 ? 0x40 : 0x50, body + at);
         at += 2;
     }
     double published;
     memcpy(&published, body + at + 1 + body[at], sizeof published);
+    last = now();
     if (taken_times < MOST_TIMES)
-        times[taken_times++] = now() - published;
+        times[taken_times++] = last - published;
     come++;
     if (qos == 0)
         publish_again(&clients[2 * subscriber->pair + 1]);
@@ -158,7 +174,14 @@ static void take_packet(struct client *client, const uint8_t *packet, const uint
     case 3:
         take_message(client, packet, body);
         break;
+    case 5:
+        answer(client, 0x62, body);
+        break;
+    case 6:
+        answer(client, 0x70, body);
+        break;
     case 4:
+    case 7:
         acknowledged++;
         publish_again(client);
         break;
@@ -192,16 +215,46 @@ static void take_bytes(struct client *client) {
     memmove(client->bytes, client->bytes + at, client->held);
 }
 
-static void connect_idle(int idle) {
+// The kilobytes of memory that the process holds.
+static long memory(void) {
+    char path[64], line[128];
+    long found = 0;
+    snprintf(path, sizeof path, "/proc/%d/status", process);
+    FILE *file = fopen(path, "r");
+    while (file && fgets(line, sizeof line, file))
+        sscanf(line, "VmRSS: %ld", &found);
+    if (file)
+        fclose(file);
+    return found;
+}
+
+static void tell_memory(const char *what, long before, long count) {
+    if (process > 0 && count > 0)
+        printf("%s: %.0f bytes each\n", what, 1024.0 * (double)(memory() - before) / (double)count);
+}
+
+static void connect_idle(void) {
+    int *made = calloc((size_t)idle + 1, sizeof *made);
     double start = now();
+    long before = memory();
     for (int i = 0; i < idle; i++) {
         char name[32];
         snprintf(name, sizeof name, "idle%d", i);
-        connect_client(name);
+        made[i] = connect_client(name);
     }
     if (idle > 0)
         printf("%d idle clients connected in %.2f s\n", idle, now() - start);
+    tell_memory("an idle client", before, idle);
+    before = memory();
+    for (int i = 0; i < idle; i++)
+        for (int k = 0; k < filters; k++) {
+            char name[64];
+            snprintf(name, sizeof name, "site/%d/line/%d/+", i, k);
+            subscribe(made[i], name, k + 1);
+        }
+    tell_memory("a subscription", before, (long)idle * filters);
     fflush(stdout);
+    free(made);
 }
 
 static int connect_pairs(void) {
@@ -215,18 +268,18 @@ static int connect_pairs(void) {
         epoll_ctl(poll, EPOLL_CTL_ADD, clients[i].socket, &asked);
         snprintf(name, sizeof name, "pair/%d", i / 2);
         if (i % 2 == 0)
-            subscribe(clients[i].socket, name);
+            subscribe(clients[i].socket, name, 1);
     }
     return poll;
 }
 
-// Until the end, and then until nothing comes for a fifth of a second.
+// Until the end, and then until nothing comes for a second.
 static void run(int poll) {
     struct epoll_event ready[EVENTS];
     for (int i = 0; i < pairs * ahead; i++)
         publish(&clients[2 * (i % pairs) + 1]);
     while (1) {
-        int count = epoll_wait(poll, ready, EVENTS, 200);
+        int count = epoll_wait(poll, ready, EVENTS, 1000);
         if (count <= 0 && now() > stop)
             break;
         for (int i = 0; i < count; i++)
@@ -243,28 +296,45 @@ static double percentile(double share) {
     return taken_times == 0 ? 0 : times[(size_t)(share * (double)(taken_times - 1))] * 1e3;
 }
 
-int main(int count, char **words) {
-    if (count != 8)
-        end("usage: load PORT IDLE PAIRS AHEAD QOS BYTES SECONDS");
-    port = atoi(words[1]);
-    pairs = atoi(words[3]);
-    ahead = atoi(words[4]);
-    qos = atoi(words[5]);
-    length = atoi(words[6]);
-    double seconds = atof(words[7]);
-    if (pairs < 1 || ahead < 1 || qos < 0 || qos > 1 || length < (int)sizeof(double) || length > MOST_BYTES)
+static void read_words(int count, char **words) {
+    int letter;
+    while ((letter = getopt(count, words, "p:i:f:n:a:q:b:s:u:w:m:")) != -1) {
+        switch (letter) {
+        case 'p': port = atoi(optarg); break;
+        case 'i': idle = atoi(optarg); break;
+        case 'f': filters = atoi(optarg); break;
+        case 'n': pairs = atoi(optarg); break;
+        case 'a': ahead = atoi(optarg); break;
+        case 'q': qos = atoi(optarg); break;
+        case 'b': length = atoi(optarg); break;
+        case 's': seconds = atof(optarg); break;
+        case 'u': user = optarg; break;
+        case 'w': password = optarg; break;
+        case 'm': process = atoi(optarg); break;
+        default: end("the words are at the head of its source");
+        }
+    }
+    if (idle < 0 || filters < 0 || pairs < 0 || ahead < 1 || qos < 0 || qos > 2 || length < (int)sizeof(double) || length > MOST_BYTES
+        || !user != !password || (user && strlen(user) + strlen(password) > 80))
         end("a word is out of its range");
-    clients = calloc(2 * (size_t)pairs, sizeof *clients);
+}
+
+int main(int count, char **words) {
+    read_words(count, words);
+    clients = calloc(2 * (size_t)pairs + 1, sizeof *clients);
     times = calloc(MOST_TIMES, sizeof *times);
     if (!clients || !times)
         end("no memory");
-    connect_idle(atoi(words[2]));
+    connect_idle();
+    if (pairs == 0)
+        return 0;
     int poll = connect_pairs();
     double start = now();
     stop = start + seconds;
+    last = start;
     run(poll);
     qsort(times, taken_times, sizeof *times, compare);
     printf("%zu published, %zu acknowledged, %zu came: %.0f a second; half within %.3f ms, 99 of 100 within %.3f ms, all within %.3f ms\n",
-           sent, acknowledged, come, (double)come / seconds, percentile(0.5), percentile(0.99), percentile(1));
+           sent, acknowledged, come, come ? (double)come / (last - start) : 0, percentile(0.5), percentile(0.99), percentile(1));
     return 0;
 }
