@@ -15,6 +15,7 @@ pub enum Watched {
 }
 
 /// What may have something to be read or accepted.
+#[derive(Drop)]
 pub struct Ready {
     /// Whether one of the listeners has.
     pub listeners: bool,
@@ -24,17 +25,6 @@ pub struct Ready {
     pub links: Vec<usize>,
     /// The peers on whose links something has come.
     pub peers: Vec<usize>,
-}
-
-impl Drop for Ready {
-    fn drop(self) {
-        let Ready {
-            listeners: _,
-            clients: _clients,
-            links: _links,
-            peers: _peers,
-        } = self;
-    }
 }
 
 impl Ready {

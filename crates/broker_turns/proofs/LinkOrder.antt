@@ -8,14 +8,18 @@ use Rattle.broker_sockets.specs.declared.bridge.PeerEvent.{PeerEvent}
 use Rattle.broker_sockets.specs.declared.bridge.PeerFrame.{PeerFrame}
 use Rattle.broker_sockets.specs.declared.events.Event.{Event}
 use Rattle.broker_sockets.specs.declared.events.Output.{Output}
-use Rattle.broker_sockets.specs.declared.lines.Line.{Line}
+use Rattle.broker_turns.specs.declared.lines.Line.{Line}
+use Rattle.broker_sockets.specs.declared.ready.Ready.{Ready}
+use Rattle.broker_sockets.specs.declared.ready.Watched.{Watched}
 use Rattle.broker_sockets.specs.declared.network.Answer.{Answer}
 use Rattle.broker_sockets.specs.Answers.{Offers, carried}
-use Rattle.broker_sockets.specs.Bridging.{HearsAll, IsBegunBy, IsDialledAt, IsDialledIf, IsHeardFrom, IsHearing, IsLineRead, IsLinkReadIn, IsLinkWrittenIn, IsOffered, IsPeerRead, IsPeerReadIn, IsShipped, IsShippedIf, IsSought, IsSupplied, LineTried, Near, Place, Reach, Relinks, left_if}
-use Rattle.broker_sockets.specs.Lines.{Framed, framed, framed_all, framed_at, fresh_line, is_due, link_of, marked}
-use Rattle.broker_sockets.specs.Order.{Extends, IsNew, IsOf, NoFrameIsLost, TakesNothing, TakesWhatItAnswers, link_flow}
-use Rattle.broker_sockets.specs.Turns.{Each, EachBelow}
-use Rattle.broker_sockets.proofs.OrderLaws.{Extends-over, Extends-same, whole}
+use Rattle.broker_turns.specs.Bridging.{HearsAll, IsBegun, IsBegunBy, IsDialledAt, IsDialledIf, IsDialledOnce, IsWatchedIf, IsHeardFrom, IsHearing, IsLineRead, IsLinkReadIn, IsLinkWrittenIn, IsOffered, IsPeerRead, IsPeerReadIn, IsShipped, IsShippedIf, IsSought, IsSupplied, LineTried, Near, Place, Reach, Relinks, Search, left_if}
+use Rattle.broker_turns.specs.Lines.{Framed, framed, framed_all, framed_at, fresh_line, is_due, is_rested, link_of, marked}
+use Rattle.broker_turns.specs.Order.{Extends, IsNew, IsOf, NoFrameIsLost, TakesNothing, TakesWhatItAnswers, link_flow}
+use Rattle.broker_turns.specs.Steps.{Each, EachBelow, EachTells}
+use Rattle.broker_turns.specs.Turns.{IsDecided, IsGivenOut, IsTakenIn}
+use Rattle.broker_turns.specs.declared.setting.Setting.{Setting}
+use Rattle.broker_turns.proofs.OrderLaws.{Extends-over, Extends-same, whole}
 
 module _ {S T : Type 0} (taken : T → List ℕ) (connects : S → SocketAddr → Option T → S → Type 0) where
   -- each link that is there was there and has kept what it had, or is new
@@ -113,7 +117,13 @@ module _ {S T : Type 0} (taken : T → List ℕ) (connects : S → SocketAddr �
     Carries-below (suc n) w w' each =
         Carries-over (links w) (links each.0) (links w') (Carries-below n w each.0 each.1) (carries n each.0 w' each.2)
 
-module _ {S H T : Type 0} (taken : T → List ℕ) (connects : S → SocketAddr → Option T → S → Type 0) (reads : S → T → Answer → List ℕ → S → T → Type 0) (writes : S → T → List ℕ → Answer → S → T → Type 0) (hears : H → PeerEvent → Given → H → Type 0) (at : ℕ) where
+  module _ {W : Type 0} (links : W → List (Option (Line T))) (step : ℕ → W → Bool → W → Type 0) (carries : (key : ℕ) (w : W) (more : Bool) (w' : W) → step key w more w' → Carries (links w) (links w')) where
+    Carries-tells : (keys : List ℕ) (w : W) (found : List ℕ) (w' : W) → EachTells step keys w found w' → Carries (links w) (links w')
+    Carries-tells [] w found w' same = Carries-equal (links w) (links w') (ap links same.0)
+    Carries-tells (key ∷ keys) w found w' each =
+        Carries-over (links w) (links each.0) (links w') (carries key w each.1 each.0 each.3) (Carries-tells keys each.0 each.2 w' each.4)
+
+module _ {S H T : Type 0} (taken : T → List ℕ) (watches : S → T → Watched → Bool → S → Type 0) (connects : S → SocketAddr → Option T → S → Type 0) (reads : S → T → Answer → List ℕ → S → T → Type 0) (writes : S → T → List ℕ → Answer → S → T → Type 0) (hears : H → PeerEvent → Given → H → Type 0) (at : ℕ) where
   Carries-hearing : (it : PeerEvent) (n n' : Near H T) → IsHearing hears it n n' → Carries taken connects n.dialled n'.dialled
   Carries-hearing it n n' h = Carries-framed taken connects h.given.frames.items n.dialled n'.dialled h.framed
 
@@ -122,43 +132,58 @@ module _ {S H T : Type 0} (taken : T → List ℕ) (connects : S → SocketAddr 
   Carries-hears_all (frame ∷ frames) n n' h =
       Carries-over taken connects n.dialled h.0.dialled n'.dialled (Carries-hearing _ n h.0 h.1) (Carries-hears_all frames h.0 n' h.2)
 
-  Carries-link_in : (line : Option (Line T)) (key : ℕ) (p p' : Place S H T) → IsLinkReadIn reads hears at line key p p' → Carries taken connects p.reach.near.dialled p'.reach.near.dialled
-  Carries-link_in None key p p' same = Carries-equal taken connects _ _ (ap (λ q. q.reach.near.dialled) same)
-  Carries-link_in (Some line) key p p' read = Carries-hears_all read.frames p.reach.near p'.reach.near read.heard
+  Carries-link_in : (line : Option (Line T)) (key : ℕ) (p : Place S H T) (more : Bool) (p' : Place S H T) → IsLinkReadIn reads hears at line key p more p' → Carries taken connects p.reach.near.dialled p'.reach.near.dialled
+  Carries-link_in None key p more p' same = Carries-equal taken connects _ _ (ap (λ q. q.reach.near.dialled) same.0)
+  Carries-link_in (Some line) key p more p' read = Carries-hears_all read.frames p.reach.near p'.reach.near read.heard
 
-  Carries-heard_from : (key : ℕ) (p p' : Place S H T) → IsHeardFrom reads hears at key p p' → Carries taken connects p.reach.near.dialled p'.reach.near.dialled
-  Carries-heard_from key p p' h = Carries-link_in _ key p p' h.by_link
+  Carries-heard_from : (key : ℕ) (p : Place S H T) (more : Bool) (p' : Place S H T) → IsHeardFrom reads hears at key p more p' → Carries taken connects p.reach.near.dialled p'.reach.near.dialled
+  Carries-heard_from key p more p' h = Carries-link_in _ key p more p' h.by_link
 
-  read-extends : TakesNothing taken reads → (s s' : S) (line left : Line T) (frames : List (Vec ℕ Global)) (goes_on : Bool) → IsLineRead reads s line frames goes_on s' left → Extends (link_flow taken left) (link_flow taken line)
-  read-extends none s s' line left frames goes_on read =
+  read-extends : TakesNothing taken reads → (s s' : S) (line left : Line T) (frames : List (Vec ℕ Global)) (goes_on more : Bool) → IsLineRead reads s line frames goes_on more s' left → Extends (link_flow taken left) (link_flow taken line)
+  read-extends none s s' line left frames goes_on more read =
       Extends-same _ _ (ap (λ t. t ++ left.unsent) (none _ _ _ _ _ _ read.asked) ∙ ap (λ t. taken line.stream ++ t) read.unsent)
 
-  Carries-peer_in : TakesNothing taken reads → (line : Option (Line T)) (peer : ℕ) (r r' : Reach S H T) → link_of r.near.dialled peer ≡ line → IsPeerReadIn reads hears at line peer r r' → Carries taken connects r.near.dialled r'.near.dialled
-  Carries-peer_in none None peer r r' found same = Carries-equal taken connects _ _ (ap (λ q. q.near.dialled) same)
-  Carries-peer_in none (Some line) peer r r' found read =
+  Carries-peer_in : TakesNothing taken reads → (line : Option (Line T)) (peer : ℕ) (r : Reach S H T) (more : Bool) (r' : Reach S H T) → link_of r.near.dialled peer ≡ line → IsPeerReadIn reads hears at line peer r more r' → Carries taken connects r.near.dialled r'.near.dialled
+  Carries-peer_in none None peer r more r' found same = Carries-equal taken connects _ _ (ap (λ q. q.near.dialled) same.0)
+  Carries-peer_in none (Some line) peer r more r' found read =
       Carries-over taken connects r.near.dialled read.links r'.near.dialled
-      (Carries-left taken connects read.goes_on line read.left r.near.dialled read.links peer found (read-extends none _ _ line read.left read.frames read.goes_on read.read) read.kept)
+      (Carries-left taken connects read.goes_on line read.left r.near.dialled read.links peer found (read-extends none _ _ line read.left read.frames read.goes_on more read.read) read.kept)
       (Carries-hears_all read.frames (record r.near { dialled = read.links }) r'.near read.heard)
 
-  Carries-peer : TakesNothing taken reads → (peer : ℕ) (r r' : Reach S H T) → IsPeerRead reads hears at peer r r' → Carries taken connects r.near.dialled r'.near.dialled
-  Carries-peer none peer r r' h = Carries-peer_in none (link_of r.near.dialled peer) peer r r' refl h.by_link
+  Carries-peer : TakesNothing taken reads → (peer : ℕ) (r : Reach S H T) (more : Bool) (r' : Reach S H T) → IsPeerRead reads hears at peer r more r' → Carries taken connects r.near.dialled r'.near.dialled
+  Carries-peer none peer r more r' h = Carries-peer_in none (link_of r.near.dialled peer) peer r more r' refl h.by_link
 
-  Carries-begun_by : (came : Option T) (address : SocketAddr) (s s' : S) (peer : ℕ) (n n' : Near H T) → connects s address came s' → IsBegunBy connects hears at came peer n n' → Carries taken connects n.dialled n'.dialled
+  watched-was : (watchable : Bool) (came stream : T) → Some stream ≡ (if watchable then Some came else None) → came ≡ stream
+  watched-was true came stream is = cc
+  watched-was false came stream is = absurd (cc)
+
+  -- a stream that is watched was begun
+  was-connected : (came : Option T) (peer : ℕ) (m s' : S) (stream : T) → IsWatchedIf connects watches came peer m (Some stream) s' → came ≡ Some stream
+  was-connected None peer m s' stream watched = absurd (cc watched.0)
+  was-connected (Some came) peer m s' stream watched = ap (λ t. Some t) (watched-was watched.0 came stream watched.2)
+
+  Carries-begun_by : (stream : Option T) (address : SocketAddr) (s s' : S) (peer : ℕ) (n n' : Near H T) → IsBegun connects watches address peer s stream s' → IsBegunBy connects watches hears at stream peer n n' → Carries taken connects n.dialled n'.dialled
   Carries-begun_by None address s s' peer n n' answered same = Carries-equal taken connects _ _ (ap (λ m. m.dialled) same)
   Carries-begun_by (Some stream) address s s' peer n n' answered begun =
-      Carries-over taken connects n.dialled begun.0 n'.dialled (Carries-begun taken connects address s s' stream n.dialled begun.0 peer answered begun.1)
+      let Connected : Option T → Type 0 = λ came. connects s address came answered.asked in
+      let connected = subst Connected (was-connected answered.came peer answered.asked s' stream answered.watched) answered.answered in
+      Carries-over taken connects n.dialled begun.0 n'.dialled (Carries-begun taken connects address s answered.asked stream n.dialled begun.0 peer connected begun.1)
       (Carries-hearing _ (record n { dialled = begun.0 }) n' begun.2)
 
-  Carries-dialled_if : (line : Option (Line T)) (address : SocketAddr) (peer : ℕ) (r r' : Reach S H T) → IsDialledIf connects hears at line address peer r r' → Carries taken connects r.near.dialled r'.near.dialled
-  Carries-dialled_if None address peer r r' dialled = Carries-begun_by dialled.came address r.sockets r'.sockets peer r.near r'.near dialled.answered dialled.begun
-  Carries-dialled_if (Some line) address peer r r' same = Carries-equal taken connects _ _ (ap (λ q. q.near.dialled) same)
+  Carries-dialled_once : (rested : Bool) (address : SocketAddr) (peer : ℕ) (q q' : Search S H T) → IsDialledOnce connects watches hears at rested address peer q q' → Carries taken connects q.reach.near.dialled q'.reach.near.dialled
+  Carries-dialled_once true address peer q q' dialled = Carries-begun_by dialled.stream address q.reach.sockets q'.reach.sockets peer q.reach.near q'.reach.near dialled.answered dialled.begun
+  Carries-dialled_once false address peer q q' same = Carries-equal taken connects _ _ (ap (λ d. d.reach.near.dialled) same)
 
-  Carries-dialled_at : (address : Option SocketAddr) (peer : ℕ) (r r' : Reach S H T) → IsDialledAt connects hears at address peer r r' → Carries taken connects r.near.dialled r'.near.dialled
-  Carries-dialled_at None peer r r' same = Carries-equal taken connects _ _ (ap (λ q. q.near.dialled) same)
-  Carries-dialled_at (Some address) peer r r' dialled = Carries-dialled_if (link_of r.near.dialled peer) address peer r r' dialled
+  Carries-dialled_if : (line : Option (Line T)) (address : SocketAddr) (peer : ℕ) (q q' : Search S H T) → IsDialledIf connects watches hears at line address peer q q' → Carries taken connects q.reach.near.dialled q'.reach.near.dialled
+  Carries-dialled_if None address peer q q' dialled = Carries-dialled_once (is_rested 1000 at (slice_index_or q.sought peer None)) address peer q q' dialled
+  Carries-dialled_if (Some line) address peer q q' same = Carries-equal taken connects _ _ (ap (λ d. d.reach.near.dialled) same)
 
-  Carries-sought : (peers : List (Option SocketAddr)) (peer : ℕ) (r r' : Reach S H T) → IsSought connects hears at peers peer r r' → Carries taken connects r.near.dialled r'.near.dialled
-  Carries-sought peers peer r r' sought = Carries-dialled_at (slice_index_or peers peer None) peer r r' sought.by_address
+  Carries-dialled_at : (address : Option SocketAddr) (peer : ℕ) (q q' : Search S H T) → IsDialledAt connects watches hears at address peer q q' → Carries taken connects q.reach.near.dialled q'.reach.near.dialled
+  Carries-dialled_at None peer q q' same = Carries-equal taken connects _ _ (ap (λ d. d.reach.near.dialled) same)
+  Carries-dialled_at (Some address) peer q q' dialled = Carries-dialled_if (link_of q.reach.near.dialled peer) address peer q q' dialled
+
+  Carries-sought : (peers : List (Option SocketAddr)) (peer : ℕ) (q q' : Search S H T) → IsSought connects watches hears at peers peer q q' → Carries taken connects q.reach.near.dialled q'.reach.near.dialled
+  Carries-sought peers peer q q' sought = Carries-dialled_at (slice_index_or peers peer None) peer q q' sought.by_address
 
   Carries-shipped_if : (empty : Bool) (peer : ℕ) (n n' : Near H T) → IsShippedIf hears at empty peer n n' → Carries taken connects n.dialled n'.dialled
   Carries-shipped_if true peer n n' h =
@@ -191,20 +216,48 @@ module _ {S H T : Type 0} (taken : T → List ℕ) (connects : S → SocketAddr 
   Carries-offered : TakesWhatItAnswers taken writes → (peer : ℕ) (w w' : S × List (Option (Line T))) → IsOffered writes peer w w' → Carries taken connects w.1 w'.1
   Carries-offered honest peer w w' o = Carries-written_in honest (link_of w.1 peer) peer w.0 w'.0 w.1 w'.1 refl o.by_link
 
-pub no_frame_is_lost : {S H L T : Type 0} (accepts : S → L → Option T → S → Type 0) (connects : S → SocketAddr → Option T → S → Type 0) (reads : S → T → Answer → List ℕ → S → T → Type 0) (writes : S → T → List ℕ → Answer → S → T → Type 0) (handles : H → Event → List Output → H → Type 0) (hears : H → PeerEvent → Given → H → Type 0) → NoFrameIsLost {L = L} accepts connects reads writes handles hears
-no_frame_is_lost {S} {H} {L} {T} accepts connects reads writes handles hears taken takes none setting at old new turn =
-    let links : Place S H T → List (Option (Line T)) = λ p. p.reach.near.dialled in
-    let same : (p p' : Place S H T) → links p' ≡ links p → Carries taken connects (links p) (links p') = λ p p' e. Carries-equal taken connects (links p) (links p') e in
-    let over : (a b c : Place S H T) → Carries taken connects (links a) (links b) → Carries taken connects (links b) (links c) → Carries taken connects (links a) (links c) =
-    λ a b c first second. Carries-over taken connects (links a) (links b) (links c) first second in
-    let heard = Carries-each taken connects links (IsHeardFrom reads hears at) (Carries-heard_from taken connects reads writes hears at) _ turn.heard turn.listened turn.links_read in
-    let peers = Carries-below taken connects (λ (r : Reach S H T). r.near.dialled) (IsPeerRead reads hears at) (Carries-peer taken connects reads writes hears at none) _ turn.listened.reach turn.answered.reach turn.peers_read.does in
-    let dialled = Carries-below taken connects (λ (r : Reach S H T). r.near.dialled) (IsSought connects hears at setting.peers.items) (Carries-sought taken connects reads writes hears at setting.peers.items) _ turn.answered.reach turn.reached.reach turn.dialled.does in
-    let shipped = Carries-below taken connects (λ (n : Near H T). n.dialled) (IsSupplied hears at) (Carries-supplied taken connects reads writes hears at) _ turn.told.reach.near turn.supplied.reach.near turn.shipped.does in
-    let wrote = Carries-below taken connects (λ (w : S × List (Option (Line T))). w.1) (IsOffered writes) (Carries-offered taken connects reads writes hears at takes) _ (turn.served.reach.sockets, links turn.served) (new.reach.sockets, links new) turn.links_written.does in
-    over old turn.heard new
-    (over old turn.joined turn.heard (same old turn.joined turn.accepted.dialled)
-    (over turn.joined turn.met turn.heard (same turn.joined turn.met (ap (λ (n : Near H T). n.dialled) turn.link_accepted.near)) (same turn.met turn.heard turn.read.dialled)))
-    (over turn.heard turn.listened new heard (over turn.listened turn.answered new peers (over turn.answered turn.reached new dialled
-    (over turn.reached turn.told new (same turn.reached turn.told turn.ticked.dialled)
-    (over turn.told turn.supplied new shipped (over turn.supplied turn.served new (same turn.supplied turn.served turn.written.dialled) wrote))))))
+module _ {S H L T : Type 0} (accepts : S → L → Option T → S → Type 0) (watches : S → T → Watched → Bool → S → Type 0) (connects : S → SocketAddr → Option T → S → Type 0) (reads : S → T → Answer → List ℕ → S → T → Type 0) (writes : S → T → List ℕ → Answer → S → T → Type 0) (finds : S → Ready → S → Type 0) (handles : H → Event → List Output → H → Type 0) (hears : H → PeerEvent → Given → H → Type 0) (settles : H → H → Type 0) where
+  Carries-taken_in :
+      (taken : T → List ℕ) → TakesNothing taken reads
+      → (setting : Setting L) (at : ℕ) (ready : Ready) (p : Place S H T) (more : Ready) (p' : Place S H T) → IsTakenIn accepts watches reads handles hears setting at ready p more p'
+      → Carries taken connects p.reach.near.dialled p'.reach.near.dialled
+  Carries-taken_in taken none setting at ready p more p' t =
+      let of : Place S H T → List (Option (Line T)) = λ p. p.reach.near.dialled in
+      let same : (p p' : Place S H T) → of p' ≡ of p → Carries taken connects (of p) (of p') = λ p p' e. Carries-equal taken connects (of p) (of p') e in
+      let over : (a b c : Place S H T) → Carries taken connects (of a) (of b) → Carries taken connects (of b) (of c) → Carries taken connects (of a) (of c) =
+      λ a b c first second. Carries-over taken connects (of a) (of b) (of c) first second in
+      let links = Carries-tells taken connects (λ (p : Place S H T). p.reach.near.dialled) (IsHeardFrom reads hears at) (Carries-heard_from taken watches connects reads writes hears at) ready.links.items t.heard more.links.items t.listened t.links_read in
+      let peers = Carries-tells taken connects (λ (r : Reach S H T). r.near.dialled) (IsPeerRead reads hears at) (Carries-peer taken watches connects reads writes hears at none) ready.peers.items t.listened.reach more.peers.items p'.reach t.peers_read.does in
+      over p t.joined p' (same p t.joined t.accepted.does.dialled)
+      (over t.joined t.met p' (same t.joined t.met (ap (λ (n : Near H T). n.dialled) t.links_accepted.near))
+      (over t.met t.heard p' (same t.met t.heard t.read.does.dialled) (over t.heard t.listened p' links peers)))
+
+  Carries-decided :
+      (taken : T → List ℕ) (setting : Setting L) (at : ℕ) (q q' : Search S H T) → IsDecided watches connects handles hears settles setting at q q'
+      → Carries taken connects q.reach.near.dialled q'.reach.near.dialled
+  Carries-decided taken setting at q q' d =
+      let of : Reach S H T → List (Option (Line T)) = λ r. r.near.dialled in
+      let same : (r r' : Reach S H T) → of r' ≡ of r → Carries taken connects (of r) (of r') = λ r r' e. Carries-equal taken connects (of r) (of r') e in
+      let over : (a b c : Reach S H T) → Carries taken connects (of a) (of b) → Carries taken connects (of b) (of c) → Carries taken connects (of a) (of c) =
+      λ a b c first second. Carries-over taken connects (of a) (of b) (of c) first second in
+      let dialled = Carries-below taken connects (λ (s : Search S H T). s.reach.near.dialled) (IsSought connects watches hears at setting.peers.items) (Carries-sought taken watches connects reads writes hears at setting.peers.items) _ q d.reached d.dialled in
+      let shipped = Carries-below taken connects (λ (n : Near H T). n.dialled) (IsSupplied hears at) (Carries-supplied taken watches connects reads writes hears at) _ d.told.near d.supplied.near d.shipped.does in
+      over q.reach d.reached.reach q'.reach dialled
+      (over d.reached.reach d.told q'.reach (same d.reached.reach d.told d.ticked.dialled)
+      (over d.told d.supplied q'.reach shipped (same d.supplied q'.reach d.settled.does.dialled)))
+
+  Carries-given_out :
+      (taken : T → List ℕ) → TakesWhatItAnswers taken writes
+      → (setting : Setting L) (at : ℕ) (r r' : Reach S H T) → IsGivenOut writes handles settles setting at r r'
+      → Carries taken connects r.near.dialled r'.near.dialled
+  Carries-given_out taken takes setting at r r' g =
+      let wrote = Carries-below taken connects (λ (w : S × List (Option (Line T))). w.1) (IsOffered writes) (Carries-offered taken watches connects reads writes hears at takes) _ (g.served.sockets, g.served.near.dialled) (r'.sockets, r'.near.dialled) g.links_written.does in
+      Carries-over taken connects r.near.dialled g.served.near.dialled r'.near.dialled (Carries-equal taken connects r.near.dialled g.served.near.dialled g.written.dialled) wrote
+
+  pub no_frame_is_lost : NoFrameIsLost accepts watches connects reads writes finds handles hears settles
+  no_frame_is_lost taken takes none setting at old new turn =
+      let last = Carries-equal taken connects turn.given.near.dialled new.place.reach.near.dialled (ap (λ (n : Near H T). n.dialled) turn.near) in
+      Carries-over taken connects old.place.reach.near.dialled turn.taken.reach.near.dialled new.place.reach.near.dialled
+      (Carries-taken_in taken none setting at old.ready old.place turn.more turn.taken turn.takes_in)
+      (Carries-over taken connects turn.taken.reach.near.dialled turn.settled.near.dialled new.place.reach.near.dialled (Carries-decided taken setting at _ _ turn.decides)
+      (Carries-over taken connects turn.settled.near.dialled turn.given.near.dialled new.place.reach.near.dialled (Carries-given_out taken takes setting at turn.settled turn.given turn.gives_out) last))

@@ -3,15 +3,15 @@ use Rattle.std.proofs.Common.{◌≡◌, ◌<◌, ℕ, zero, suc, List, [], ◌�
 use Rattle.std.proofs.lemmas.List.{get_or-set_same, get_or-set_other}
 use Rattle.std.specs.declared.alloc.Global.{Global}
 use Rattle.slab.specs.Slab.{Slab, get, Updates, with_value}
-use Rattle.broker_sockets.proofs.Turning.{Updates-over, at-value}
+use Rattle.broker_turns.proofs.Turning.{Updates-over, at-value}
 use Rattle.broker_sockets.specs.declared.bridge.Given.{Given}
 use Rattle.broker_sockets.specs.declared.bridge.PeerEvent.{PeerEvent}
 use Rattle.broker_sockets.specs.declared.bridge.PeerEventKind.TheVariants.{Frame, Ship}
 use Rattle.broker_sockets.specs.declared.bridge.PeerFrame.{PeerFrame}
-use Rattle.broker_sockets.specs.declared.lines.Line.{Line}
-use Rattle.broker_sockets.specs.Bridging.{HearsAll, IsHearing, IsKept, IsLineWritten, IsLinkRead, IsHeardFrom, IsLinkReadIn, IsLinkWrittenIn, IsMarked, IsOffered, IsPeerKept, IsPeerLinkRead, IsPeerRead, IsPeerReadIn, IsShipped, IsShippedIf, IsSupplied, Near, Place, Reach, Relinks, left_if, peer_event}
+use Rattle.broker_turns.specs.declared.lines.Line.{Line}
+use Rattle.broker_turns.specs.Bridging.{HearsAll, IsHearing, IsKept, IsLineWritten, IsLinkRead, IsHeardFrom, IsLinkReadIn, IsLinkWrittenIn, IsMarked, IsOffered, IsPeerKept, IsPeerLinkRead, IsPeerRead, IsPeerReadIn, IsShipped, IsShippedIf, IsSupplied, Near, Place, Reach, Relinks, left_if, peer_event}
 use Rattle.broker_sockets.specs.declared.network.Answer.{Answer}
-use Rattle.broker_sockets.specs.Lines.{framed, framed_all, framed_at, is_due, link_of}
+use Rattle.broker_turns.specs.Lines.{framed, framed_all, framed_at, is_due, link_of}
 
 module _ {T : Type 0} where
   pub framed_all-more : (peer : ℕ) (frames : List PeerFrame) (frame : PeerFrame) (line : Line T) → framed_all peer (frames ++ frame ∷ []) line ≡ framed peer frame (framed_all peer frames line)
@@ -61,14 +61,14 @@ kept-if true a a' key line left found same = rw same (at-value a key line left f
 kept-if false a a' key line left found gone = Updates-over a (with_value a key left) a' key (Some left) None (at-value a key line left found) gone
 
 module _ {S H T : Type 0} (reads : S → T → Answer → List ℕ → S → T → Type 0) (hears : H → PeerEvent → Given → H → Type 0) (at key : ℕ) where
-  pub link-read-at : (line : Line T) (p p' : Place S H T) → get p.accepted key ≡ Some line → IsLinkRead reads hears at key line p p' → IsHeardFrom reads hears at key p p'
-  link-read-at line p p' found read =
-      let P : Option (Line T) → Type 0 = λ o. IsLinkReadIn reads hears at o key p p' in
+  pub link-read-at : (line : Line T) (p : Place S H T) (more : Bool) (p' : Place S H T) → get p.accepted key ≡ Some line → IsLinkRead reads hears at key line p more p' → IsHeardFrom reads hears at key p more p'
+  link-read-at line p more p' found read =
+      let P : Option (Line T) → Type 0 = λ o. IsLinkReadIn reads hears at o key p more p' in
       record { by_link = subst P (sym found) read }
 
-  pub peer-read-at : (line : Line T) (r r' : Reach S H T) → link_of r.near.dialled key ≡ Some line → IsPeerLinkRead reads hears at key line r r' → IsPeerRead reads hears at key r r'
-  peer-read-at line r r' found read =
-      let P : Option (Line T) → Type 0 = λ o. IsPeerReadIn reads hears at o key r r' in
+  pub peer-read-at : (line : Line T) (r : Reach S H T) (more : Bool) (r' : Reach S H T) → link_of r.near.dialled key ≡ Some line → IsPeerLinkRead reads hears at key line r more r' → IsPeerRead reads hears at key r more r'
+  peer-read-at line r more r' found read =
+      let P : Option (Line T) → Type 0 = λ o. IsPeerReadIn reads hears at o key r more r' in
       record { by_link = subst P (sym found) read }
 
 module _ {H T : Type 0} (hears : H → PeerEvent → Given → H → Type 0) (at peer : ℕ) where

@@ -2,7 +2,7 @@
 use Rattle.std.proofs.Common.{◌≡◌, inr, ℕ, ◌+◌, Result, Ok, Err, sym, subst, add-one}
 use Rattle.std.specs.Result.{OnOk, IfErr, IsErrAnd}
 use Rattle.std.proofs.lemmas.Result.{err_from_is_err_and}
-use Rattle.broker_sockets.specs.Serving.{IsTurns, IsNext, IsServed, IsStopped, IsUnserved}
+use Rattle.broker_turns.specs.Serving.{IsTurns, IsNext, IsServed, IsStopped, IsUnserved}
 
 -- a fault that is handed on
 pub failed : {U F : Type 0} (r : Result U F) (x : F) (P : F → Type 0) → IsErrAnd r (λ e. e ≡ x) → P x → IfErr r P

@@ -1,8 +1,8 @@
 -- Outputs, one after another.
 use Rattle.std.proofs.Common.{◌≡◌, ℕ, List, [], ◌∷◌, ◌++◌, Option, Some, None, refl}
-use Rattle.broker_sockets.specs.declared.clients.Client.{Client}
+use Rattle.broker_turns.specs.declared.clients.Client.{Client}
 use Rattle.broker_sockets.specs.declared.events.Output.{Output}
-use Rattle.broker_sockets.specs.Clients.{told, told_all, told_at}
+use Rattle.broker_turns.specs.Clients.{told, told_all, told_at}
 
 pub told_all-more : {T : Type 0} (key : ℕ) (outputs : List Output) (o : Output) (client : Client T) → told_all key (outputs ++ o ∷ []) client ≡ told key o (told_all key outputs client)
 told_all-more key [] o client = refl

@@ -1,21 +1,21 @@
 -- The sockets between nodes: links that were dialled, by the number of the peer, and links that were accepted.
 use Rattle.std.specs.Prelude.{◌≡◌, ℕ, ◌-◌, List, [], ◌∷◌, ◌++◌, length, Bool, true, ◌&&◌, ◌||◌, eqb, leb, ltb, if◌then◌else◌, slice_index_or, Option, Some, None}
 use Rattle.broker_sockets.specs.declared.bridge.PeerFrame.{PeerFrame}
-use Rattle.broker_sockets.specs.declared.lines.Line.{Line}
+use Rattle.broker_turns.specs.declared.lines.Line.{Line}
 
--- 10 milliseconds have passed since more was asked for last, if it was; a clock that is set back doesn't make it longer
-abbrev pub is_rested : ℕ → Option ℕ → Bool
-is_rested at None = true
-is_rested at (Some asked) = ltb at asked || leb 10 (at - asked)
+-- so many milliseconds have passed since a moment, if there was one; a clock that is set back doesn't make it longer
+abbrev pub is_rested : ℕ → ℕ → Option ℕ → Bool
+is_rested pause at None = true
+is_rested pause at (Some last) = ltb at last || leb pause (at - last)
 
 module _ {T : Type 0} where
   -- nothing has come, and nothing waits
   abbrev pub fresh_line : T → Line T
   fresh_line stream = record { stream = stream; held = []; unsent = []; asked = None }
 
-  -- more is asked for where nothing waits
+  -- more is asked for where nothing waits, but not within 10 milliseconds of the last time
   abbrev pub is_due : ℕ → Line T → Bool
-  is_due at line = eqb (length line.unsent) 0 && is_rested at line.asked
+  is_due at line = eqb (length line.unsent) 0 && is_rested 10 at line.asked
 
   -- more was asked for, and frames came of it where something waits now
   abbrev pub marked : ℕ → Line T → Line T

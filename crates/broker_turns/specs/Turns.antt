@@ -1,209 +1,146 @@
 -- What a turn over the clients and the other nodes comes to.
-use Rattle.std.specs.Prelude.{◌≡◌, ◌<◌, ◌≤◌, ℕ, zero, suc, List, [], ◌∷◌, map, length, true, false, Bool, Option, Some, None, Vec}
-use Rattle.std.specs.declared.alloc.Global.{Global}
+use Rattle.std.specs.Prelude.{◌≡◌, ◌||◌, ℕ, List, length, Bool, Option}
 use Rattle.std.specs.declared.net.socket_addr.SocketAddr.{SocketAddr}
-use Rattle.slab.specs.Slab.{Slab, get, Updates, entries}
+use Rattle.slab.specs.Slab.{Slab}
 use Rattle.broker_sockets.specs.declared.network.Answer.{Answer}
-use Rattle.broker_sockets.specs.declared.network.Answer.TheVariants.{Later, Bytes, Gone}
-use Rattle.broker_sockets.specs.declared.clients.Client.{Client}
-use Rattle.broker_sockets.specs.declared.turn.Fate.{Fate}
-use Rattle.broker_sockets.specs.declared.turn.Fate.TheVariants.{Stays, Done, Lost}
 use Rattle.broker_sockets.specs.declared.bridge.Given.{Given}
 use Rattle.broker_sockets.specs.declared.bridge.PeerEvent.{PeerEvent}
 use Rattle.broker_sockets.specs.declared.events.Event.{Event}
-use Rattle.broker_sockets.specs.declared.events.EventKind.{EventKind}
-use Rattle.broker_sockets.specs.declared.events.EventKind.TheVariants.{Started, Opened, Piece, Closed, Tick}
+use Rattle.broker_sockets.specs.declared.events.EventKind.TheVariants.{Started, Tick}
 use Rattle.broker_sockets.specs.declared.events.Output.{Output}
-use Rattle.broker_sockets.specs.declared.lines.Line.{Line}
-use Rattle.broker_sockets.specs.declared.setting.Setting.{Setting}
-use Rattle.broker_sockets.specs.Bridging.{IsHeardFrom, IsLinkAccepted, IsOffered, IsPeerRead, IsSought, IsSupplied, Near, Place, Reach}
-use Rattle.broker_sockets.specs.Clients.{Released}
-use Rattle.broker_sockets.specs.Writing.{IsWritten}
-
--- the sockets, what handles events, and the clients by connection
-pub record World (S H T : Type 0) : Type 0 where
-  pub sockets : S
-  pub handler : H
-  pub clients : Slab (Client T)
-
-abbrev pub world : {S H T : Type 0} → S → H → Slab (Client T) → World S H T
-world s h c = record { sockets = s; handler = h; clients = c }
-
-abbrev pub event : ℕ → EventKind → Event
-event at kind = record { at = at; kind = kind }
-
--- the handler answers an event, and what it gives out is released
-pub record IsHandled {H T : Type 0} (handles : H → Event → List Output → H → Type 0) (it : Event) (h : H) (c : Slab (Client T)) (h' : H) (c' : Slab (Client T)) : Type 0 where
-  pub outputs : List Output
-  pub answered : handles h it outputs h'
-  pub released : Released outputs c c'
-
-abbrev pub fresh : {T : Type 0} → T → Client T
-fresh stream = record { stream = stream; unsent = []; closing = false }
-
--- the numbers of the connections, or of the links, that there are, rising
-abbrev pub numbers : {V : Type 0} → Slab V → List ℕ
-numbers slab = map (λ e. e.0) (entries slab)
-
-module _ {W : Type 0} where
-  -- one step for each number of a list, in order
-  abbrev pub Each : (ℕ → W → W → Type 0) → List ℕ → W → W → Type 0
-  Each step [] w w' = w' ≡ w
-  Each step (key ∷ keys) w w' = (m : W) × step key w m × Each step keys m w'
-
-  -- one step for each number below a bound, rising
-  abbrev pub EachBelow : (ℕ → W → W → Type 0) → ℕ → W → W → Type 0
-  EachBelow step zero w w' = w' ≡ w
-  EachBelow step (suc n) w w' = (m : W) × EachBelow step n w m × step n m w'
-
-module _ {H T : Type 0} (handles : H → Event → List Output → H → Type 0) (at : ℕ) where
-  -- nothing came, or a new client has a connection that was free
-  abbrev pub IsWelcomed : Option T → H → Slab (Client T) → H → Slab (Client T) → Type 0
-  IsWelcomed None h c h' c' = (h' ≡ h) × (c' ≡ c)
-  IsWelcomed (Some stream) h c h' c' =
-      (key : ℕ) × (more : Slab (Client T)) × (get c key ≡ None) × Updates c more key (Some (fresh stream))
-      × IsHandled handles (event at (Opened key)) h more h' c'
-
-  -- a connection is let go, and the handler is told
-  pub record IsLetGo (key : ℕ) (h : H) (c : Slab (Client T)) (h' : H) (c' : Slab (Client T)) : Type 0 where
-    pub less : Slab (Client T)
-    pub removed : Updates c less key None
-    pub handled : IsHandled handles (event at (Closed key)) h less h' c'
-
-  -- the handler is handed what was read, as one piece of 1 to 65,536 bytes
-  pub record IsPassedOn (key : ℕ) (bytes : List ℕ) (client : Client T) (h : H) (c : Slab (Client T)) (h' : H) (c' : Slab (Client T)) : Type 0 where
-    pub piece : Vec ℕ Global
-    pub is : piece.items ≡ bytes
-    pub some : 0 < length bytes
-    pub most : length bytes ≤ 65536
-    pub kept : Slab (Client T)
-    pub keeps : Updates c kept key (Some client)
-    pub handled : IsHandled handles (event at (Piece key piece)) h kept h' c'
-
-  abbrev pub IsHeard : ℕ → Answer → List ℕ → Client T → H → Slab (Client T) → H → Slab (Client T) → Type 0
-  IsHeard key Later bytes client h c h' c' = (h' ≡ h) × Updates c c' key (Some client)
-  IsHeard key (Bytes n) bytes client h c h' c' = IsPassedOn key bytes client h c h' c'
-  IsHeard key Gone bytes client h c h' c' = IsLetGo key h c h' c'
-
-  abbrev pub IsLost : Bool → ℕ → H → Slab (Client T) → H → Slab (Client T) → Type 0
-  IsLost true key h c h' c' = (h' ≡ h) × Updates c c' key None
-  IsLost false key h c h' c' = IsLetGo key h c h' c'
-
-  -- a client stays as it is now, is done with, or is lost; of one that the handler has closed it isn't told
-  abbrev pub IsParted : ℕ → Fate → Client T → H → Slab (Client T) → H → Slab (Client T) → Type 0
-  IsParted key Stays left h c h' c' = (h' ≡ h) × Updates c c' key (Some left)
-  IsParted key Done left h c h' c' = (h' ≡ h) × Updates c c' key None
-  IsParted key Lost left h c h' c' = IsLost left.closing key h c h' c'
-
-module _ {S H L T : Type 0} where
-  -- the listener is asked once
-  pub record IsAccepted (accepts : S → L → Option T → S → Type 0) (handles : H → Event → List Output → H → Type 0) (at : ℕ) (listener : L) (w w' : World S H T) : Type 0 where
-    pub came : Option T
-    pub answered : accepts w.sockets listener came w'.sockets
-    pub welcomed : IsWelcomed handles at came w.handler w.clients w'.handler w'.clients
-
-module _ {S H T : Type 0} where
-  -- a stream is asked once to read
-  pub record IsAsked (reads : S → T → Answer → List ℕ → S → T → Type 0) (handles : H → Event → List Output → H → Type 0) (at key : ℕ) (client : Client T) (w w' : World S H T) : Type 0 where
-    pub answer : Answer
-    pub bytes : List ℕ
-    pub stream : T
-    pub answered : reads w.sockets client.stream answer bytes w'.sockets stream
-    pub heard : IsHeard handles at key answer bytes (record client { stream = stream }) w.handler w.clients w'.handler w'.clients
-
-  -- one that closes isn't read any more
-  abbrev pub IsReadIf : Bool → (reads : S → T → Answer → List ℕ → S → T → Type 0) (handles : H → Event → List Output → H → Type 0) (at key : ℕ) (client : Client T) (w w' : World S H T) → Type 0
-  IsReadIf true reads handles at key client w w' = w' ≡ w
-  IsReadIf false reads handles at key client w w' = IsAsked reads handles at key client w w'
-
-  abbrev pub IsReadIn : Option (Client T) → (reads : S → T → Answer → List ℕ → S → T → Type 0) (handles : H → Event → List Output → H → Type 0) (at key : ℕ) (w w' : World S H T) → Type 0
-  IsReadIn None reads handles at key w w' = w' ≡ w
-  IsReadIn (Some client) reads handles at key w w' = IsReadIf client.closing reads handles at key client w w'
-
-  -- the client of a connection, if it is still there, is read
-  pub record IsRead (reads : S → T → Answer → List ℕ → S → T → Type 0) (handles : H → Event → List Output → H → Type 0) (at key : ℕ) (w w' : World S H T) : Type 0 where
-    pub by_client : IsReadIn (get w.clients key) reads handles at key w w'
-
-  pub record IsTried (writes : S → T → List ℕ → Answer → S → T → Type 0) (handles : H → Event → List Output → H → Type 0) (at key : ℕ) (client : Client T) (w w' : World S H T) : Type 0 where
-    pub fate : Fate
-    pub left : Client T
-    pub written : IsWritten writes w.sockets client fate w'.sockets left
-    pub parted : IsParted handles at key fate left w.handler w.clients w'.handler w'.clients
-
-  abbrev pub IsWroteIn : Option (Client T) → (writes : S → T → List ℕ → Answer → S → T → Type 0) (handles : H → Event → List Output → H → Type 0) (at key : ℕ) (w w' : World S H T) → Type 0
-  IsWroteIn None writes handles at key w w' = w' ≡ w
-  IsWroteIn (Some client) writes handles at key w w' = IsTried writes handles at key client w w'
-
-  -- the client of a connection, if it is still there, is offered what waits for it
-  pub record IsWrote (writes : S → T → List ℕ → Answer → S → T → Type 0) (handles : H → Event → List Output → H → Type 0) (at key : ℕ) (w w' : World S H T) : Type 0 where
-    pub by_client : IsWroteIn (get w.clients key) writes handles at key w w'
-
-  -- the handler is told of something that concerns no socket
-  pub record IsTold (handles : H → Event → List Output → H → Type 0) (kind : EventKind) (at : ℕ) (w w' : World S H T) : Type 0 where
-    pub sockets : w'.sockets ≡ w.sockets
-    pub handled : IsHandled handles (event at kind) w.handler w.clients w'.handler w'.clients
+use Rattle.broker_sockets.specs.declared.ready.Ready.{Ready}
+use Rattle.broker_sockets.specs.declared.ready.Watched.{Watched}
+use Rattle.broker_turns.specs.declared.lines.Line.{Line}
+use Rattle.broker_turns.specs.declared.setting.Setting.{Setting}
+use Rattle.broker_turns.specs.Bridging.{IsHeardFrom, IsLinkAccepted, IsNoLinkAccepted, IsOffered, IsPeerRead, IsSought, IsSupplied, Near, Place, Reach, Search, search}
+use Rattle.broker_turns.specs.Clients.{AreDue}
+use Rattle.broker_turns.specs.Connections.{IsAccepted, IsNobodyAccepted, IsRead, IsTold, IsWrote, World, world}
+use Rattle.broker_turns.specs.Numbers.{AreThose, is_among}
+use Rattle.broker_turns.specs.Steps.{AreLetInIf, Each, EachBelow, EachTells}
 
 module _ {S H T : Type 0} where
   -- what a step for clients sees
-  abbrev pub front : Place S H T → World S H T
-  front p = world p.reach.sockets p.reach.near.handler p.reach.near.clients
+  abbrev pub front : Reach S H T → World S H T
+  front r = world r.sockets r.near.handler r.near.clients
 
   -- it leaves the links alone
-  pub record OfClients (step : World S H T → World S H T → Type 0) (p p' : Place S H T) : Type 0 where
-    pub does : step (front p) (front p')
-    pub dialled : p'.reach.near.dialled ≡ p.reach.near.dialled
-    pub accepted : p'.accepted ≡ p.accepted
+  pub record OfClients (step : World S H T → World S H T → Type 0) (r r' : Reach S H T) : Type 0 where
+    pub does : step (front r) (front r')
+    pub dialled : r'.near.dialled ≡ r.near.dialled
 
-  -- steps that leave the links alone that were accepted: with the sockets, without them, and without the handler
+  -- steps without the sockets, and without the handler
+  pub record OfNear (step : Near H T → Near H T → Type 0) (r r' : Reach S H T) : Type 0 where
+    pub does : step r.near r'.near
+    pub sockets : r'.sockets ≡ r.sockets
+
+  pub record OfLinks (step : S × List (Option (Line T)) → S × List (Option (Line T)) → Type 0) (r r' : Reach S H T) : Type 0 where
+    pub does : step (r.sockets, r.near.dialled) (r'.sockets, r'.near.dialled)
+    pub handler : r'.near.handler ≡ r.near.handler
+    pub clients : r'.near.clients ≡ r.near.clients
+
+  -- steps that leave the links alone that were accepted, and steps for these alone
   pub record OfReach (step : Reach S H T → Reach S H T → Type 0) (p p' : Place S H T) : Type 0 where
     pub does : step p.reach p'.reach
     pub accepted : p'.accepted ≡ p.accepted
 
-  pub record OfNear (step : Near H T → Near H T → Type 0) (p p' : Place S H T) : Type 0 where
-    pub does : step p.reach.near p'.reach.near
-    pub sockets : p'.reach.sockets ≡ p.reach.sockets
-    pub accepted : p'.accepted ≡ p.accepted
-
-  pub record OfLinks (step : S × List (Option (Line T)) → S × List (Option (Line T)) → Type 0) (p p' : Place S H T) : Type 0 where
-    pub does : step (p.reach.sockets, p.reach.near.dialled) (p'.reach.sockets, p'.reach.near.dialled)
-    pub handler : p'.reach.near.handler ≡ p.reach.near.handler
-    pub clients : p'.reach.near.clients ≡ p.reach.near.clients
-    pub accepted : p'.accepted ≡ p.accepted
-
--- before the first turn the handler is told that it has started
-abbrev pub IsStart : {S H T : Type 0} → (H → Event → List Output → H → Type 0) → ℕ → Place S H T → Place S H T → Type 0
-IsStart handles at p p' = OfClients (IsTold handles Started at) p p'
-
-module _ {S H L T : Type 0} where
-  -- the listener for other nodes is asked once
-  pub record IsMet (accepts : S → L → Option T → S → Type 0) (listener : L) (p p' : Place S H T) : Type 0 where
-    pub came : IsLinkAccepted accepts listener p.reach.sockets p.accepted p'.reach.sockets p'.accepted
+  pub record OfAccepted (step : S × Slab (Line T) → S × Slab (Line T) → Type 0) (p p' : Place S H T) : Type 0 where
+    pub does : step (p.reach.sockets, p.accepted) (p'.reach.sockets, p'.accepted)
     pub near : p'.reach.near ≡ p.reach.near
 
-  -- the order of a turn: a client is accepted, and a link; each client is read, each link that was accepted, and each that was
-  -- dialled; peers without a link are dialled; a tick; each link on which nothing waits is supplied; each client is written to, and
-  -- each link that was dialled
-  pub record IsTurn
-      (accepts : S → L → Option T → S → Type 0) (connects : S → SocketAddr → Option T → S → Type 0)
-      (reads : S → T → Answer → List ℕ → S → T → Type 0) (writes : S → T → List ℕ → Answer → S → T → Type 0)
-      (handles : H → Event → List Output → H → Type 0) (hears : H → PeerEvent → Given → H → Type 0)
-      (setting : Setting L) (at : ℕ) (old new : Place S H T) : Type 0 where
+-- the handler settles
+pub record IsSettled {H T : Type 0} (settles : H → H → Type 0) (n n' : Near H T) : Type 0 where
+  pub does : settles n.handler n'.handler
+  pub clients : n'.clients ≡ n.clients
+  pub dialled : n'.dialled ≡ n.dialled
+
+module _ {S H L T : Type 0}
+    (accepts : S → L → Option T → S → Type 0) (watches : S → T → Watched → Bool → S → Type 0) (reads : S → T → Answer → List ℕ → S → T → Type 0)
+    (handles : H → Event → List Output → H → Type 0) (hears : H → PeerEvent → Given → H → Type 0)
+    (setting : Setting L) (at : ℕ) where
+  -- where somebody may have come clients are accepted, and links, at most 64 each; and what may have something is read, in this order:
+  -- clients, links that were accepted, links that were dialled; and what may have more
+  pub record IsTakenIn (ready : Ready) (p : Place S H T) (more : Ready) (p' : Place S H T) : Type 0 where
+    pub came : Bool
     pub joined : Place S H T
-    pub accepted : OfClients (IsAccepted accepts handles at setting.listener) old joined
+    pub accepted : OfReach (OfClients (λ w w'. AreLetInIf (IsAccepted accepts watches handles at setting.listener) (IsNobodyAccepted accepts watches handles at setting.listener) 64 ready.listeners w came w')) p joined
+    pub linked : Bool
     pub met : Place S H T
-    pub link_accepted : IsMet accepts setting.bridge joined met
+    pub links_accepted : OfAccepted (λ w w'. AreLetInIf (IsLinkAccepted accepts watches setting.bridge) (IsNoLinkAccepted accepts watches setting.bridge) 64 ready.listeners w linked w') joined met
+    pub listeners : more.listeners ≡ (came || linked)
     pub heard : Place S H T
-    pub read : OfClients (Each (IsRead reads handles at) (numbers met.reach.near.clients)) met heard
+    pub read : OfReach (OfClients (λ w w'. EachTells (IsRead reads handles at) ready.clients.items w more.clients.items w')) met heard
     pub listened : Place S H T
-    pub links_read : Each (IsHeardFrom reads hears at) (numbers heard.accepted) heard listened
-    pub answered : Place S H T
-    pub peers_read : OfReach (EachBelow (IsPeerRead reads hears at) (length setting.peers.items)) listened answered
-    pub reached : Place S H T
-    pub dialled : OfReach (EachBelow (IsSought connects hears at setting.peers.items) (length setting.peers.items)) answered reached
-    pub told : Place S H T
-    pub ticked : OfClients (IsTold handles Tick at) reached told
-    pub supplied : Place S H T
+    pub links_read : EachTells (IsHeardFrom reads hears at) ready.links.items heard more.links.items listened
+    pub peers_read : OfReach (λ r r'. EachTells (IsPeerRead reads hears at) ready.peers.items r more.peers.items r') listened p'
+
+module _ {S H L T : Type 0}
+    (watches : S → T → Watched → Bool → S → Type 0) (connects : S → SocketAddr → Option T → S → Type 0)
+    (handles : H → Event → List Output → H → Type 0) (hears : H → PeerEvent → Given → H → Type 0) (settles : H → H → Type 0)
+    (setting : Setting L) (at : ℕ) where
+  -- peers without a link are dialled; a tick; each link on which nothing waits is supplied; and the handler settles
+  pub record IsDecided (q q' : Search S H T) : Type 0 where
+    pub reached : Search S H T
+    pub dialled : EachBelow (IsSought connects watches hears at setting.peers.items) (length setting.peers.items) q reached
+    pub told : Reach S H T
+    pub ticked : OfClients (IsTold handles Tick at) reached.reach told
+    pub supplied : Reach S H T
     pub shipped : OfNear (EachBelow (IsSupplied hears at) (length setting.peers.items)) told supplied
-    pub served : Place S H T
-    pub written : OfClients (Each (IsWrote writes handles at) (numbers met.reach.near.clients)) supplied served
-    pub links_written : OfLinks (EachBelow (IsOffered writes) (length setting.peers.items)) served new
+    pub settled : OfNear (IsSettled settles) supplied q'.reach
+    pub sought : q'.sought ≡ reached.sought
+
+module _ {S H L T : Type 0} (writes : S → T → List ℕ → Answer → S → T → Type 0) (handles : H → Event → List Output → H → Type 0) (settles : H → H → Type 0) (setting : Setting L) (at : ℕ) where
+  -- each client for which something is due is written to, and each link that was dialled
+  pub record IsGivenOut (r r' : Reach S H T) : Type 0 where
+    pub due : List ℕ
+    pub all : AreDue r.near.clients due
+    pub served : Reach S H T
+    pub written : OfClients (Each (IsWrote writes handles settles at) due) r served
+    pub links_written : OfLinks (EachBelow (IsOffered writes) (length setting.peers.items)) served r'
+
+-- what either tells
+pub record IsEither (found more all : Ready) : Type 0 where
+  pub listeners : all.listeners ≡ (found.listeners || more.listeners)
+  pub clients : AreThose (λ key. is_among found.clients.items key || is_among more.clients.items key) all.clients.items
+  pub links : AreThose (λ key. is_among found.links.items key || is_among more.links.items key) all.links.items
+  pub peers : AreThose (λ peer. is_among found.peers.items peer || is_among more.peers.items peer) all.peers.items
+
+-- the network tells what may have something; that is to be asked in the next turn, and what may have more
+pub record IsFound {S : Type 0} (finds : S → Ready → S → Type 0) (s : S) (more ready : Ready) (s' : S) : Type 0 where
+  pub found : Ready
+  pub told : finds s found s'
+  pub either : IsEither found more ready
+
+-- all that a turn changes: besides the sockets, the handler, the clients and the links what is to be asked in the next turn, and when
+-- peers were dialled last
+pub record Site (S H T : Type 0) : Type 0 where
+  pub place : Place S H T
+  pub ready : Ready
+  pub sought : List (Option ℕ)
+
+abbrev pub site : {S H T : Type 0} → Place S H T → Ready → List (Option ℕ) → Site S H T
+site p ready sought = record { place = p; ready = ready; sought = sought }
+
+-- before the first turn the handler is told that it has started
+pub record IsStart {S H T : Type 0} (handles : H → Event → List Output → H → Type 0) (at : ℕ) (old new : Site S H T) : Type 0 where
+  pub told : OfReach (OfClients (IsTold handles Started at)) old.place new.place
+  pub ready : new.ready ≡ old.ready
+  pub sought : new.sought ≡ old.sought
+
+-- the order of a turn: what is ready is taken in, what comes of it is decided and settled, what is due is given out, and the network
+-- is asked what is ready
+pub record IsTurn {S H L T : Type 0}
+    (accepts : S → L → Option T → S → Type 0) (watches : S → T → Watched → Bool → S → Type 0) (connects : S → SocketAddr → Option T → S → Type 0)
+    (reads : S → T → Answer → List ℕ → S → T → Type 0) (writes : S → T → List ℕ → Answer → S → T → Type 0) (finds : S → Ready → S → Type 0)
+    (handles : H → Event → List Output → H → Type 0) (hears : H → PeerEvent → Given → H → Type 0) (settles : H → H → Type 0)
+    (setting : Setting L) (at : ℕ) (old new : Site S H T) : Type 0 where
+  pub more : Ready
+  pub taken : Place S H T
+  pub takes_in : IsTakenIn accepts watches reads handles hears setting at old.ready old.place more taken
+  pub settled : Reach S H T
+  pub decides : IsDecided watches connects handles hears settles setting at
+      (search taken.reach.sockets taken.reach.near old.sought) (search settled.sockets settled.near new.sought)
+  pub given : Reach S H T
+  pub gives_out : IsGivenOut writes handles settles setting at settled given
+  pub looks : IsFound finds given.sockets more new.ready new.place.reach.sockets
+  pub near : new.place.reach.near ≡ given.near
+  pub accepted : new.place.accepted ≡ taken.accepted

@@ -2,9 +2,9 @@
 use Rattle.std.specs.Prelude.{◌≡◌, ℕ, List, [], ◌&&◌, eqb, ltb, if◌then◌else◌, length, Option, Some, None}
 use Rattle.broker_sockets.specs.declared.network.Answer.{Answer}
 use Rattle.broker_sockets.specs.declared.network.Answer.TheVariants.{Later, Bytes, Gone}
-use Rattle.broker_sockets.specs.declared.clients.Client.{Client}
-use Rattle.broker_sockets.specs.declared.turn.Fate.{Fate}
-use Rattle.broker_sockets.specs.declared.turn.Fate.TheVariants.{Stays, Done, Lost}
+use Rattle.broker_turns.specs.declared.clients.Client.{Client}
+use Rattle.broker_turns.specs.declared.turn.Fate.{Fate}
+use Rattle.broker_turns.specs.declared.turn.Fate.TheVariants.{Stays, Done, Lost}
 use Rattle.broker_sockets.specs.Answers.{Offers}
 
 module _ {S T : Type 0} (writes : S → T → List ℕ → Answer → S → T → Type 0) where

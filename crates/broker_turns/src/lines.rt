@@ -1,12 +1,9 @@
 //! Links between nodes, and what is given out for them.
 ghost use Rattle.std.specs.Prelude.{◌≡◌, ◌∷◌, [], length, OnOk, IfOk};
-ghost use Rattle.broker_sockets.specs.Lines.{Framed, fresh_line, is_due, is_rested, marked};
-ghost use Rattle.broker_sockets.specs.Bridging.{IsLineRead, IsLineWritten};
+ghost use Rattle.broker_turns.specs.Lines.{Framed, fresh_line, is_due, is_rested, marked};
+ghost use Rattle.broker_turns.specs.Bridging.{IsLineRead, IsLineWritten};
 
-use crate::bridge::PeerFrame;
-use crate::held::{Came, Held};
-use crate::network::{Answer, Sockets};
-use crate::queue::Unsent;
+use broker_sockets::{Answer, Held, PeerFrame, Sockets, Unsent};
 use std::alloc::{AllocError, Global};
 
 /// One socket between two nodes: what came of a frame that isn't whole yet, what waits to be written, and when more was
@@ -25,6 +22,25 @@ const MOST_UNSENT: usize = 536870912;
 /// For so many milliseconds no more is asked for, so that what was given can be answered.
 const PAUSE: u64 = 10;
 
+/// What a read of a link brought: the frames that it made whole, in order, whether the link goes on, and whether it may have
+/// more.
+#[derive(Drop)]
+pub struct Heard {
+    pub frames: Vec<Vec<u8>>,
+    pub goes_on: bool,
+    pub more: bool,
+}
+
+/// Whether so many milliseconds have passed since a moment, if there was one. A clock that is set back doesn't make it longer.
+pub fn is_rested(pause: u64, last: Option<u64>, at: u64) -> bool
+    ensures { result ≡ is_rested pause at last }
+{
+    match last {
+        Some(last) => at < last || at - last >= pause,
+        None => true,
+    }
+}
+
 impl<T: Drop> Line<T> {
     /// A link on which nothing has come and nothing waits.
     pub fn new(alloc: Global, stream: T) -> Self
@@ -38,21 +54,11 @@ impl<T: Drop> Line<T> {
         }
     }
 
-    /// Whether the pause is over. A clock that is set back doesn't make it longer.
-    fn is_rested(&self, at: u64) -> bool
-        ensures { result ≡ is_rested at self.now.asked }
-    {
-        match self.asked {
-            Some(asked) => at < asked || at - asked >= PAUSE,
-            None => true,
-        }
-    }
-
     /// Whether more is to be asked for at a moment.
     pub fn is_due(&self, at: u64) -> bool
         ensures { result ≡ is_due at self.now }
     {
-        self.unsent.len() == 0 && self.is_rested(at)
+        self.unsent.len() == 0 && is_rested(PAUSE, self.asked, at)
     }
 
     /// More was asked for at a moment.
@@ -71,19 +77,28 @@ pub fn read_line<S: Sockets>(
     line: &mut Line<S::Stream>,
     buffer: &mut [u8],
     sockets: &mut S,
-) -> Result<Came, AllocError>
+) -> Result<Heard, AllocError>
     requires { length buffer.old ≡ 65536 }
-    ensures { IfOk result (λ came. IsLineRead S.reads sockets.old line.old came.frames.items came.goes_on sockets.new line.new) }
+    ensures { IfOk result (λ heard. IsLineRead S.reads sockets.old line.old heard.frames.items heard.goes_on heard.more sockets.new line.new) }
 {
     match sockets.read(&mut line.stream, buffer) {
-        Answer::Later => Ok(Came {
+        Answer::Later => Ok(Heard {
             frames: Vec::new(alloc),
             goes_on: true,
+            more: false,
         }),
-        Answer::Bytes(count) => line.held.take(alloc, &buffer[..count]),
-        Answer::Gone => Ok(Came {
+        Answer::Bytes(count) => {
+            let came = line.held.take(alloc, &buffer[..count])?;
+            Ok(Heard {
+                frames: came.frames,
+                goes_on: came.goes_on,
+                more: came.goes_on,
+            })
+        }
+        Answer::Gone => Ok(Heard {
             frames: Vec::new(alloc),
             goes_on: false,
+            more: false,
         }),
     }
 }

@@ -1,17 +1,17 @@
 //! What a turn does with clients' network connections (MQTT 5.0, 4.2).
-ghost use Rattle.std.specs.Prelude.{◌≡◌, length, OnOk, IfOk, IfErr, None};
-ghost use Rattle.slab.specs.Slab.{Updates};
-ghost use Rattle.broker_sockets.specs.Turns.{Each, IsAccepted, IsHandled, IsLetGo, IsRead, IsWrote, event, numbers, world};
-ghost use Rattle.broker_sockets.specs.Faults.{IsCaused};
-ghost use Rattle.broker_sockets.specs.Writing.{IsWritten, fate_by_size};
+ghost use Rattle.std.specs.Prelude.{◌≡◌, length, OnOk, IfOk, IfErr};
+ghost use Rattle.broker_turns.specs.Connections.{IsAccepted, IsAwaited, IsHandled, IsLetGo, IsNobodyAccepted, IsRead, IsWrote, event, world};
+ghost use Rattle.broker_turns.specs.Faults.{IsCaused};
+ghost use Rattle.broker_turns.specs.Steps.{AreLetInIf, Each, EachTells};
+ghost use Rattle.broker_turns.specs.Writing.{IsWritten, fate_by_size};
 
-use crate::bridge::BridgeHandler;
-use crate::clients::{Client, release};
-use crate::events::{Event, EventKind};
-use crate::network::{Answer, Sockets};
-use crate::queue::Unsent;
-use slab::Slab;
+use crate::clients::{Client, Clients, release};
+use crate::numbers::note_if;
+use broker_sockets::{Answer, BridgeHandler, Event, EventKind, Readiness, Sockets, Watched};
 use std::alloc::{AllocError, Global};
+
+/// The most clients that a turn accepts, and the most links.
+pub const MOST_ACCEPTED: u32 = 64;
 
 /// A client with more unsent bytes than this is let go.
 const MOST_UNSENT: usize = 16777216;
@@ -27,7 +27,7 @@ pub enum TurnFault<F> {
 
 impl<F> From<AllocError> for TurnFault<F> {
     ghost use Rattle.std.specs.Prelude.{◌≡◌};
-    ghost use Rattle.broker_sockets.specs.declared.turn.TurnFault.TheVariants.{NoMemory};
+    ghost use Rattle.broker_turns.specs.declared.turn.TurnFault.TheVariants.{NoMemory};
 
     ghost from_gives = { λ _ fault. fault ≡ NoMemory };
 
@@ -48,12 +48,12 @@ enum Fate {
 
 /// The handler answers an event, and what it gives out is released.
 pub fn handle_event<H: BridgeHandler, T: Drop>(
-    clients: &mut Slab<Client<T>>,
+    clients: &mut Clients<T>,
     handler: &mut H,
     event: Event,
 ) -> Result<(), TurnFault<H::Fault>>
-    ensures ok { OnOk result (IsHandled H.handles event handler.old clients.old handler.new clients.new) }
-    ensures fault { IfErr result (IsCaused H.refuses H.declines event.at) }
+    ensures ok { OnOk result (IsHandled H.handles event handler.old clients.old.slab handler.new clients.new.slab) }
+    ensures fault { IfErr result (IsCaused H.refuses H.declines H.stops event.at) }
 {
     match handler.handle(event) {
         Ok(outputs) => {
@@ -66,84 +66,108 @@ pub fn handle_event<H: BridgeHandler, T: Drop>(
 
 /// The connection's socket is closed, and the handler is told.
 fn let_go<H: BridgeHandler, T: Drop>(
-    clients: &mut Slab<Client<T>>,
+    clients: &mut Clients<T>,
     handler: &mut H,
     at: u64,
     key: usize,
 ) -> Result<(), TurnFault<H::Fault>>
-    ensures ok { OnOk result (IsLetGo H.handles at key handler.old clients.old handler.new clients.new) }
-    ensures fault { IfErr result (IsCaused H.refuses H.declines at) }
+    ensures ok { OnOk result (IsLetGo H.handles at key handler.old clients.old.slab handler.new clients.new.slab) }
+    ensures fault { IfErr result (IsCaused H.refuses H.declines H.stops at) }
 {
-    remove(clients, key);
+    clients.remove(key);
     let kind = EventKind::Closed {
         connection: key as u64,
     };
     handle_event(clients, handler, Event { at, kind })
 }
 
-/// Accepts a client, if one has connected.
-pub fn accept_one<S: Sockets, H: BridgeHandler>(
+/// Accepts a client, if one has connected, and tells whether one had. One that can't be watched is closed.
+fn accept_one<S: Readiness, H: BridgeHandler>(
     alloc: Global,
-    clients: &mut Slab<Client<S::Stream>>,
+    clients: &mut Clients<S::Stream>,
     listener: &S::Listener,
     sockets: &mut S,
     handler: &mut H,
     at: u64,
-) -> Result<(), TurnFault<H::Fault>>
-    ensures ok { OnOk result (IsAccepted S.accepts H.handles at listener.now
-        (world sockets.old handler.old clients.old) (world sockets.new handler.new clients.new)) }
-    ensures fault { IfErr result (IsCaused H.refuses H.declines at) }
+) -> Result<bool, TurnFault<H::Fault>>
+    ensures ok { IfOk result (λ came. IsAwaited S.accepts S.watches H.handles at listener.now came
+        (world sockets.old handler.old clients.old.slab) (world sockets.new handler.new clients.new.slab)) }
+    ensures fault { IfErr result (IsCaused H.refuses H.declines H.stops at) }
 {
-    let Some(stream) = sockets.accept(listener) else {
-        return Ok(());
+    let Some(mut stream) = sockets.accept(listener) else {
+        return Ok(false);
     };
-    let client = Client {
-        stream,
-        unsent: Unsent::new(alloc),
-        closing: false,
-    };
-    let Ok(key) = clients.insert(client) else {
-        return Err(TurnFault::NoMemory);
-    };
+    let name = Watched::Client(clients.next_key());
+    if !sockets.watch(&mut stream, name) {
+        return Ok(true);
+    }
+    let key = clients.insert(alloc, stream)?;
     let kind = EventKind::Opened {
         connection: key as u64,
     };
-    handle_event(clients, handler, Event { at, kind })
+    handle_event(clients, handler, Event { at, kind })?;
+    Ok(true)
 }
 
-/// Reads the client of a connection, if it is still there.
+/// Accepts clients where one may have connected, and tells whether there may be more.
+pub fn accept_some<S: Readiness, H: BridgeHandler>(
+    alloc: Global,
+    clients: &mut Clients<S::Stream>,
+    listener: &S::Listener,
+    sockets: &mut S,
+    handler: &mut H,
+    at: u64,
+    asked: bool,
+) -> Result<bool, TurnFault<H::Fault>>
+    ensures ok { IfOk result (λ more. AreLetInIf (IsAccepted S.accepts S.watches H.handles at listener.now)
+        (IsNobodyAccepted S.accepts S.watches H.handles at listener.now) 64 asked
+        (world sockets.old handler.old clients.old.slab) more (world sockets.new handler.new clients.new.slab)) }
+    ensures fault { IfErr result (IsCaused H.refuses H.declines H.stops at) }
+{
+    if !asked {
+        return Ok(false);
+    }
+    for _ in 0..MOST_ACCEPTED {
+        if !accept_one(alloc, clients, listener, sockets, handler, at)? {
+            return Ok(false);
+        }
+    }
+    Ok(true)
+}
+
+/// Reads the client of a connection, if it is still there, and tells whether it may have more.
 fn read_one<S: Sockets, H: BridgeHandler>(
     alloc: Global,
-    clients: &mut Slab<Client<S::Stream>>,
+    clients: &mut Clients<S::Stream>,
     buffer: &mut [u8],
     sockets: &mut S,
     handler: &mut H,
     at: u64,
     key: usize,
-) -> Result<(), TurnFault<H::Fault>>
+) -> Result<bool, TurnFault<H::Fault>>
     requires { length buffer.old ≡ 65536 }
-    ensures ok { OnOk result (IsRead S.reads H.handles at key
-        (world sockets.old handler.old clients.old) (world sockets.new handler.new clients.new)) }
-    ensures fault { IfErr result (IsCaused H.refuses H.declines at) }
+    ensures ok { IfOk result (λ more. IsRead S.reads H.handles at key
+        (world sockets.old handler.old clients.old.slab) more (world sockets.new handler.new clients.new.slab)) }
+    ensures fault { IfErr result (IsCaused H.refuses H.declines H.stops at) }
 {
-    let Some(client) = clients.get_mut(key) else {
-        return Ok(());
+    let Some(client) = clients.slab.get_mut(key) else {
+        return Ok(false);
     };
     if client.closing {
-        return Ok(());
+        return Ok(false);
     }
     match sockets.read(&mut client.stream, buffer) {
-        Answer::Later => Ok(()),
+        Answer::Later => Ok(false),
         Answer::Bytes(count) => {
             let bytes = Vec::from_slice(alloc, &buffer[..count])?;
             let connection = key as u64;
             let kind = EventKind::Piece { connection, bytes };
             handle_event(clients, handler, Event { at, kind })?;
-            Ok(())
+            Ok(true)
         }
         Answer::Gone => {
             let_go(clients, handler, at, key)?;
-            Ok(())
+            Ok(false)
         }
     }
 }
@@ -176,89 +200,84 @@ fn write_client<S: Sockets>(client: &mut Client<S::Stream>, sockets: &mut S) -> 
     }
 }
 
-/// The connection's socket is closed.
-fn remove<T: Drop>(clients: &mut Slab<Client<T>>, key: usize)
-    ensures { Updates clients.old clients.new key None }
+/// The handler makes what it has decided last, in a turn at this moment.
+pub fn settle<H: BridgeHandler>(handler: &mut H, _at: u64) -> Result<(), TurnFault<H::Fault>>
+    ensures ok { OnOk result (H.settles handler.old handler.new) }
+    ensures fault { IfErr result (IsCaused H.refuses H.declines H.stops _at) }
 {
-    let _ = clients.try_remove(key);
+    match handler.settle() {
+        Ok(()) => Ok(()),
+        Err(fault) => Err(TurnFault::Handler(fault)),
+    }
 }
 
 /// Writes to the client of a connection, if it is still there.
 fn write_one<S: Sockets, H: BridgeHandler>(
-    clients: &mut Slab<Client<S::Stream>>,
+    clients: &mut Clients<S::Stream>,
     sockets: &mut S,
     handler: &mut H,
     at: u64,
     key: usize,
 ) -> Result<(), TurnFault<H::Fault>>
-    ensures ok { OnOk result (IsWrote S.writes H.handles at key
-        (world sockets.old handler.old clients.old) (world sockets.new handler.new clients.new)) }
-    ensures fault { IfErr result (IsCaused H.refuses H.declines at) }
+    ensures ok { OnOk result (IsWrote S.writes H.handles H.settles at key
+        (world sockets.old handler.old clients.old.slab) (world sockets.new handler.new clients.new.slab)) }
+    ensures fault { IfErr result (IsCaused H.refuses H.declines H.stops at) }
 {
-    let Some(client) = clients.get_mut(key) else {
+    let Some(client) = clients.slab.get_mut(key) else {
         return Ok(());
     };
     let closing = client.closing;
     match write_client(client, sockets) {
         Fate::Stays => Ok(()),
         Fate::Done => {
-            remove(clients, key);
+            clients.remove(key);
             Ok(())
         }
         Fate::Lost => {
             if closing {
-                remove(clients, key);
+                clients.remove(key);
                 return Ok(());
             }
             let_go(clients, handler, at, key)?;
-            Ok(())
+            settle(handler, at)
         }
     }
 }
 
-/// The numbers of the connections, or of the links, that there are, rising.
-pub fn numbers_of<V>(alloc: Global, slab: &Slab<V>) -> Result<Vec<usize>, AllocError>
-    ensures { IfOk result (λ keys. keys.items ≡ numbers slab.now) }
-{
-    let mut keys = Vec::new(alloc);
-    for (key, _) in slab.iter() {
-        keys.push(key)?;
-    }
-    Ok(keys)
-}
-
-/// Reads the clients of these connections.
+/// Reads the clients of these connections, and tells which of them may have more.
 pub fn read_all<S: Sockets, H: BridgeHandler>(
     alloc: Global,
-    clients: &mut Slab<Client<S::Stream>>,
+    clients: &mut Clients<S::Stream>,
     buffer: &mut [u8],
     sockets: &mut S,
     handler: &mut H,
     at: u64,
     keys: &[usize],
-) -> Result<(), TurnFault<H::Fault>>
+) -> Result<Vec<usize>, TurnFault<H::Fault>>
     requires { length buffer.old ≡ 65536 }
-    ensures ok { OnOk result (Each (IsRead S.reads H.handles at) keys.now
-        (world sockets.old handler.old clients.old) (world sockets.new handler.new clients.new)) }
-    ensures fault { IfErr result (IsCaused H.refuses H.declines at) }
+    ensures ok { IfOk result (λ found. EachTells (IsRead S.reads H.handles at) keys.now
+        (world sockets.old handler.old clients.old.slab) found.items (world sockets.new handler.new clients.new.slab)) }
+    ensures fault { IfErr result (IsCaused H.refuses H.declines H.stops at) }
 {
+    let mut found = Vec::new(alloc);
     for key in keys {
-        read_one(alloc, clients, buffer, sockets, handler, at, *key)?;
+        let more = read_one(alloc, clients, buffer, sockets, handler, at, *key)?;
+        note_if(&mut found, *key, more)?;
     }
-    Ok(())
+    Ok(found)
 }
 
 /// Writes to the clients of these connections.
 pub fn write_all<S: Sockets, H: BridgeHandler>(
-    clients: &mut Slab<Client<S::Stream>>,
+    clients: &mut Clients<S::Stream>,
     sockets: &mut S,
     handler: &mut H,
     at: u64,
     keys: &[usize],
 ) -> Result<(), TurnFault<H::Fault>>
-    ensures ok { OnOk result (Each (IsWrote S.writes H.handles at) keys.now
-        (world sockets.old handler.old clients.old) (world sockets.new handler.new clients.new)) }
-    ensures fault { IfErr result (IsCaused H.refuses H.declines at) }
+    ensures ok { OnOk result (Each (IsWrote S.writes H.handles H.settles at) keys.now
+        (world sockets.old handler.old clients.old.slab) (world sockets.new handler.new clients.new.slab)) }
+    ensures fault { IfErr result (IsCaused H.refuses H.declines H.stops at) }
 {
     for key in keys {
         write_one(clients, sockets, handler, at, *key)?;

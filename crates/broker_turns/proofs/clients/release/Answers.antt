@@ -1,7 +1,7 @@
 use Rattle.std.proofs.Common.{sym, ◌∙◌, ◌∷◌, [], ap}
-use Rattle.broker_sockets.proofs.Telling.{told_at-more}
-use Rattle.broker_sockets.specs.Clients.{told_at}
-use Rattle.broker_sockets.proofs.clients.release.Goals as goal
+use Rattle.broker_turns.proofs.Telling.{told_at-more}
+use Rattle.broker_turns.specs.Clients.{told_at}
+use Rattle.broker_turns.proofs.clients.release.Goals as goal
 
 pub loop-output-preserved : goal.loop-output-preserved
 loop-output-preserved g c key =

@@ -1,5 +1,5 @@
-use Rattle.broker_sockets.specs.Clients.{Released}
-use Rattle.broker_sockets.proofs.clients.release.Given as goal
+use Rattle.broker_turns.specs.Clients.{Released}
+use Rattle.broker_turns.proofs.clients.release.Given as goal
 
 abbrev pub invariant-loop-output : goal.invariant-loop-output
-invariant-loop-output g l = Released l.yielded l.initial.clients l.clients
+invariant-loop-output g l = Released l.yielded l.initial.clients.slab l.clients.slab

@@ -1,7 +1,7 @@
 use Rattle.std.proofs.Common.{sym, ◌∙◌, ◌∷◌, [], ap}
-use Rattle.broker_sockets.proofs.Linking.{framed_at-more}
-use Rattle.broker_sockets.specs.Lines.{framed_at}
-use Rattle.broker_sockets.proofs.lines.give.Goals as goal
+use Rattle.broker_turns.proofs.Linking.{framed_at-more}
+use Rattle.broker_turns.specs.Lines.{framed_at}
+use Rattle.broker_turns.proofs.lines.give.Goals as goal
 
 pub loop-frame-preserved : goal.loop-frame-preserved
 loop-frame-preserved g c = (

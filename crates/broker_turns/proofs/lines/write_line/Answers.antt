@@ -1,6 +1,6 @@
 use Rattle.std.proofs.Common.{Some, refl, ap, leb}
 use Rattle.broker_sockets.specs.declared.network.Answer.TheVariants.{Later, Bytes, Gone}
-use Rattle.broker_sockets.proofs.lines.write_line.Goals as goal
+use Rattle.broker_turns.proofs.lines.write_line.Goals as goal
 
 pub returns-in-Later : goal.returns-in-Later
 returns-in-Later g c = record { answer = Some Later; tried = (c.in-Later.ensures, refl, refl); comes_to = ap (λ n. leb n 536870912) c.len-in-Later.ensures }

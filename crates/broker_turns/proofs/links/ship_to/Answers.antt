@@ -1,7 +1,7 @@
 use Rattle.std.proofs.Common.{◌≡◌, Some, None, sym, refl, ◌∙◌}
-use Rattle.broker_sockets.specs.Lines.{link_of}
-use Rattle.broker_sockets.proofs.Linking.{get_or-default, supplied-at}
-use Rattle.broker_sockets.proofs.links.ship_to.Goals as goal
+use Rattle.broker_turns.specs.Lines.{link_of}
+use Rattle.broker_turns.proofs.Linking.{get_or-default, supplied-at}
+use Rattle.broker_turns.proofs.links.ship_to.Goals as goal
 
 pub returns-clause-ok : goal.returns-clause-ok
 returns-clause-ok g c =

@@ -1,9 +1,9 @@
 use Rattle.std.proofs.Common.{◌≡◌, ◌<◌, Some, None, length, slice_set, Bool, sym, subst, arith, ◌∙◌}
 use Rattle.std.proofs.lemmas.Grind.{common_steps}
-use Rattle.broker_sockets.specs.Bridging.{Relinks, left_if}
-use Rattle.broker_sockets.specs.Lines.{link_of}
-use Rattle.broker_sockets.proofs.Linking.{Relinks-over, Relinks-set, get_or-default, written-at}
-use Rattle.broker_sockets.proofs.links.write_link.Goals as goal
+use Rattle.broker_turns.specs.Bridging.{Relinks, left_if}
+use Rattle.broker_turns.specs.Lines.{link_of}
+use Rattle.broker_turns.proofs.Linking.{Relinks-over, Relinks-set, get_or-default, written-at}
+use Rattle.broker_turns.proofs.links.write_link.Goals as goal
 
 pub returns-then-write_line : goal.returns-then-write_line
 returns-then-write_line g c =

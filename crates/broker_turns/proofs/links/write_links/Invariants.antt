@@ -1,6 +1,6 @@
-use Rattle.broker_sockets.specs.Bridging.{IsOffered}
-use Rattle.broker_sockets.specs.Turns.{EachBelow}
-use Rattle.broker_sockets.proofs.links.write_links.Given as goal
+use Rattle.broker_turns.specs.Bridging.{IsOffered}
+use Rattle.broker_turns.specs.Steps.{EachBelow}
+use Rattle.broker_turns.proofs.links.write_links.Given as goal
 
 abbrev pub invariant-loop-peer : goal.invariant-loop-peer
 invariant-loop-peer g l =

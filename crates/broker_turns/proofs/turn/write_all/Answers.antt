@@ -1,6 +1,6 @@
 use Rattle.std.proofs.lemmas.List.{take_more}
-use Rattle.broker_sockets.proofs.Turning.{Each-more}
-use Rattle.broker_sockets.proofs.turn.write_all.Goals as goal
+use Rattle.broker_turns.proofs.Stepping.{Each-more}
+use Rattle.broker_turns.proofs.turn.write_all.Goals as goal
 
 pub loop-key-preserved : goal.loop-key-preserved
 loop-key-preserved g c =

@@ -1,6 +1,6 @@
 use Rattle.std.proofs.Common.{Some, refl}
 use Rattle.broker_sockets.specs.declared.network.Answer.TheVariants.{Later, Bytes, Gone}
-use Rattle.broker_sockets.proofs.turn.write_client.Goals as goal
+use Rattle.broker_turns.proofs.turn.write_client.Goals as goal
 
 pub returns-in-Later : goal.returns-in-Later
 returns-in-Later g c = record { answer = Some Later; tried = (c.in-Later.ensures, refl); comes_to = c.fate_of-in-Later.ensures }
