@@ -1,10 +1,8 @@
-//! Bytes over sockets in memory, and over those of the system.
+//! Bytes that pass through sockets in memory, and through those of the system.
 
-mod memory;
-
-use crate::{WireFault, Wires};
 use broker_sockets::{RealSockets, Sockets};
-use memory::{Manner, Memory};
+use fake_sockets::{FakeSockets, Manner};
+use loopback_wires::{WireFault, Wires};
 use std::alloc::Global;
 use std::process::Abort;
 
@@ -54,7 +52,8 @@ fn run_all<S: Sockets>(rt: &impl Abort, alloc: Global, sockets: &mut S, most: us
 fn bytes_pass_in_memory(rt: HostRuntime) {
     let alloc = rt.alloc();
     for (size, most) in [(1000000, 1000000), (7, 1000), (1, 1000)] {
-        let mut sockets = Memory::new(alloc, Manner::Pieces(size));
+        let mut sockets = FakeSockets::new(alloc);
+        sockets.piece = size;
         run_all(&rt, alloc, &mut sockets, most);
         // the client's, and a link each way
         assert!(rt; sockets.streams() == 6);
@@ -74,7 +73,8 @@ fn faults(
     alloc: Global,
     manner: Manner,
 ) -> (Option<WireFault>, Option<WireFault>) {
-    let mut sockets = Memory::new(alloc, Manner::Pieces(1));
+    let mut sockets = FakeSockets::new(alloc);
+    sockets.piece = 1;
     let mut wires = Wires::new(alloc, &mut sockets, 2).expect(rt, "listeners");
     assert!(rt; wires.open(&mut sockets, 1, 7) == Ok(()));
     sockets.manner = manner;
@@ -94,7 +94,8 @@ fn bytes_that_never_come_are_faults(rt: HostRuntime) {
     assert!(rt; faults(&rt, alloc, Manner::Silent) == (turns, turns));
     assert!(rt; faults(&rt, alloc, Manner::Gone) == (socket, socket));
     assert!(rt; faults(&rt, alloc, Manner::Deaf) == (None, turns));
-    let mut sockets = Memory::new(alloc, Manner::Closed);
+    let mut sockets = FakeSockets::new(alloc);
+    sockets.manner = Manner::Closed;
     let unbound: Option<WireFault> = Wires::new(alloc, &mut sockets, 2).err();
     assert!(rt; unbound == socket);
     drop(sockets);
@@ -104,7 +105,7 @@ fn bytes_that_never_come_are_faults(rt: HostRuntime) {
 fn passes(
     rt: &impl Abort,
     alloc: Global,
-    sockets: &mut Memory,
+    sockets: &mut FakeSockets,
     wires: &mut Wires<u16, usize>,
     connection: u64,
 ) -> (bool, bool) {
@@ -117,7 +118,8 @@ fn passes(
 #[test]
 fn closed_connections_pass_through_no_socket(rt: HostRuntime) {
     let alloc = rt.alloc();
-    let mut sockets = Memory::new(alloc, Manner::Pieces(9));
+    let mut sockets = FakeSockets::new(alloc);
+    sockets.piece = 9;
     let mut wires = Wires::new(alloc, &mut sockets, 2).expect(&rt, "listeners");
     for connection in [7, 8, 9, 8] {
         assert!(rt; wires.open(&mut sockets, 1, connection) == Ok(()));
