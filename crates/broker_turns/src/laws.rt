@@ -1,0 +1,22 @@
+//! Laws of turns.
+ghost use Rattle.broker_turns.specs.Order.{NoFrameIsLost, NothingIsLost, NothingIsToldEarly};
+
+use broker_sockets::{BridgeHandler, Readiness};
+
+/// Over a turn, whatever a client's stream takes and whatever the handler sends, what the stream has taken, followed
+/// by what waits for it, begins with what it was before: nothing that waits is lost, repeated or moved while the
+/// client is there.
+pub fn nothing_is_lost<S: Readiness, H: BridgeHandler>()
+    ensures { NothingIsLost S.accepts S.watches S.connects S.reads S.writes S.finds H.handles H.hears H.settles }
+{}
+
+/// The same of a link to a peer that is there after a turn: it was there before, and has lost nothing, or it was dialled in
+/// the turn.
+pub fn no_frame_is_lost<S: Readiness, H: BridgeHandler>()
+    ensures { NoFrameIsLost S.accepts S.watches S.connects S.reads S.writes S.finds H.handles H.hears H.settles }
+{}
+
+/// Whoever is written to in a turn, client or peer, the handler has settled since it was last told of anything.
+pub fn nothing_is_told_early<S: Readiness, H: BridgeHandler>()
+    ensures { NothingIsToldEarly S.accepts S.watches S.connects S.reads S.writes S.finds H.handles H.hears H.settles }
+{}
