@@ -2,7 +2,7 @@
 ghost use Rattle.std.specs.Prelude.{◌<◌, length};
 
 use crate::refusing::RefusingRows;
-use broker_node::{Event, EventKind, Node};
+use broker_node::{Event, EventKind};
 use home_table::HomeTable;
 use mqtt_packets::Bytes;
 use node_keeper::{Keeper, KeeperFault};
@@ -15,15 +15,15 @@ const HOMES: &str =
     "[[node]]\nname = \"n0\"\naddress = \"127.0.0.1:1883\"\nbridge = \"127.0.0.1:2883\"\n";
 
 /// CONNECT of `a`, whose session stays for 100 s.
-pub const CONNECT: &[u8] = &[
+const CONNECT: &[u8] = &[
     0x10, 0x13, 0, 4, 0x4d, 0x51, 0x54, 0x54, 5, 0, 0, 0x3c, 5, 0x11, 0, 0, 0, 0x64, 0, 1, 0x61,
 ];
 
 /// SUBSCRIBE to `t`, at most QoS 0.
-pub const SUBSCRIBE: &[u8] = &[0x82, 7, 0, 1, 0, 0, 1, 0x74, 0];
+const SUBSCRIBE: &[u8] = &[0x82, 7, 0, 1, 0, 0, 1, 0x74, 0];
 
 /// PUBLISH of `on` to `t` with QoS 1 and RETAIN.
-pub const PUBLISH: &[u8] = &[0x33, 8, 0, 1, 0x74, 0, 7, 0, 0x6f, 0x6e];
+const PUBLISH: &[u8] = &[0x33, 8, 0, 1, 0x74, 0, 7, 0, 0x6f, 0x6e];
 
 /// PUBLISH of `on` to `u` with QoS 2, and the PUBREL that ends the exchange: what lasts of the client's session is as before.
 const EXCHANGE: &[u8] = &[0x34, 8, 0, 1, 0x75, 0, 9, 0, 0x6f, 0x6e, 0x62, 2, 0, 9];
@@ -45,8 +45,7 @@ fn table(rt: &impl Abort, alloc: Global) -> HomeTable
     homes
 }
 
-/// A node of these rows, or the rows where they refuse a call.
-pub fn opened(
+fn opened(
     rt: &impl Abort,
     alloc: Global,
     rows: RefusingRows,
@@ -64,15 +63,6 @@ fn woken(rt: &impl Abort, alloc: Global, refused: u64) -> Keeper<RefusingRows> {
     }
 }
 
-/// The live subscriptions and the retained messages of a node.
-pub fn holdings(node: &Node) -> (usize, usize) {
-    let store = node.store();
-    (
-        store.subscriptions().live_count(),
-        store.retained().messages(),
-    )
-}
-
 impl Trial {
     /// A node without rows, of whose calls to the rows one is refused; where that is one of its opening, it is opened again.
     pub fn open(rt: &impl Abort, alloc: Global, refused: u64) -> Trial {
@@ -86,7 +76,11 @@ impl Trial {
 
     /// The live subscriptions and the retained messages of the node.
     pub fn holdings(&self) -> (usize, usize) {
-        holdings(self.keeper.node())
+        let store = self.keeper.node().store();
+        (
+            store.subscriptions().live_count(),
+            store.retained().messages(),
+        )
     }
 
     /// Hands the node an event. Whether it was taken: it isn't where the rows refuse it, and it has no other fault.
