@@ -1,6 +1,8 @@
-//! Tests of a node over rows that refuse a call, and of a frame that isn't for it.
+//! Tests of a node over rows that refuse a call, of many events that are written at once, and of a frame that isn't for the node.
 #![tactic(auto)]
 
+#[cfg(test)]
+mod batches;
 #[cfg(test)]
 mod frames;
 #[cfg(test)]
