@@ -25,3 +25,6 @@ mod refusing;
 mod retained;
 #[cfg(test)]
 mod trial;
+
+/// Does nothing: the examples are the tests.
+fn main() {}

@@ -8,3 +8,6 @@ mod databases;
 mod served;
 #[cfg(test)]
 mod serving;
+
+/// Does nothing: the examples are the tests.
+fn main() {}

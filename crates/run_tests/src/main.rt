@@ -3,3 +3,6 @@
 
 #[cfg(test)]
 mod tests;
+
+/// Does nothing: the examples are the tests.
+fn main() {}
