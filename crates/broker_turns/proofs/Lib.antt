@@ -1,3 +1,4 @@
+pub mod Handling
 pub mod LinkOrder
 pub mod Linking
 pub mod Naming

@@ -2,6 +2,7 @@ pub mod Bridging
 pub mod Clients
 pub mod Connections
 pub mod Faults
+pub mod Handling
 pub mod Lines
 pub mod Numbers
 pub mod Order

@@ -1,4 +1,5 @@
 //! Laws of turns.
+ghost use Rattle.broker_turns.specs.Handling.{TurnSettles};
 ghost use Rattle.broker_turns.specs.Order.{NoFrameIsLost, NothingIsLost, NothingIsToldEarly};
 
 use broker_sockets::{BridgeHandler, Readiness};
@@ -19,4 +20,10 @@ pub fn no_frame_is_lost<S: Readiness, H: BridgeHandler>()
 /// Whoever is written to in a turn, client or peer, the handler has settled since it was last told of anything.
 pub fn nothing_is_told_early<S: Readiness, H: BridgeHandler>()
     ensures { NothingIsToldEarly S.accepts S.watches S.connects S.reads S.writes S.finds H.handles H.hears H.settles }
+{}
+
+/// In a turn the handler is told all that came and was due, and settles; and then, of one client after another that is lost while it is
+/// written to, it is told, and settles.
+pub fn turn_settles<S: Readiness, H: BridgeHandler>()
+    ensures { TurnSettles S.accepts S.watches S.connects S.reads S.writes S.finds H.handles H.hears H.settles }
 {}
