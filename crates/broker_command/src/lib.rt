@@ -3,8 +3,6 @@
 
 mod line;
 mod task;
-#[cfg(test)]
-mod tests;
 
 pub use line::task_of;
 pub use task::Task;

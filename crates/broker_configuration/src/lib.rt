@@ -7,9 +7,6 @@ ghost use Rattle.broker_configuration.specs.Configurations.{configuration};
 use home_table::{HomeTable, TableFault};
 use std::alloc::Global;
 
-#[cfg(test)]
-mod tests;
-
 /// The table of homes that a text is, and the number in it of the node of a name, for which the table has the addresses.
 /// A fault is the text's own, in the order of `TableFault`, or `UnknownNode` where the text is a table that has no such
 /// node; `NoMemory` may stand for a later one.

@@ -1,11 +1,7 @@
 //! The program: its command line, and what each command runs.
 #![tactic(auto)]
 
-mod files;
 mod run;
-mod serve;
-#[cfg(test)]
-mod tests;
 
 use crate::run::run_task;
 use broker_command::task_of;

@@ -1,9 +1,8 @@
 //! What each command runs.
 
-use crate::files::read_file;
-use crate::serve::serve;
 use broker_command::Task;
 use broker_script::{MOST_BYTES, ScriptFault};
+use broker_serving::{read_file, serve};
 use broker_sockets::RealSockets;
 use broker_stop::Stop;
 use script_runs::{loop_script, run_script};

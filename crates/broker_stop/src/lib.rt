@@ -3,8 +3,6 @@
 
 mod run_fault;
 mod stop;
-#[cfg(test)]
-mod tests;
 
 pub use run_fault::RunFault;
 pub use stop::Stop;

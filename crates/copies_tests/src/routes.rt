@@ -2,17 +2,13 @@
 
 use crate::tests::{filter, message, subscriptions, text};
 use bridge_frames::Pick;
-use home_table::HomeTable;
 use message_copies::{CopiesAndPicks, copies_and_picks};
 use message_routes::{Destinations, Route, picked_copies};
 use mqtt_message::{Message, SharedMessage};
+use numbered_homes::homes_of;
 use std::alloc::Global;
 use std::process::Abort;
 use subscription_set::SubscriptionSet;
-
-/// By the sums of their bytes, `c` is at home at node 0, `a`, `d` and `p` at 1, and `b` and `q` at 2.
-const THREE: &str =
-    "[[node]]\nname = \"n0\"\naddress = \"a0\"\nbridge = \"b0\"\n\n[[node]]\nname = \"n1\"\naddress = \"a1\"\nbridge = \"b1\"\n\n[[node]]\nname = \"n2\"\naddress = \"a2\"\nbridge = \"b2\"\n";
 
 /// The message's bytes before its payload's length, and after its payload.
 const FRONT: [u8; 5] = [0, 3, 0x74, 0x2f, 0x75];
@@ -35,6 +31,7 @@ fn tell(rt: &impl Abort, told: &mut String, node: u16, route: Route) {
     }
 }
 
+/// By the sums of their bytes, `c` is at home at node 0, `a`, `d` and `p` at 1, and `b` and `q` at 2.
 fn destinations(
     rt: &impl Abort,
     alloc: Global,
@@ -42,7 +39,7 @@ fn destinations(
     message: &SharedMessage,
     turn: u64,
 ) -> Destinations {
-    let table = HomeTable::parse(alloc, THREE).expect(rt, "a table");
+    let table = homes_of(alloc, 3).expect(rt, "a table");
     let both = copies_and_picks(alloc, set, message, turn).expect(rt, "memory");
     let CopiesAndPicks { copies, picks } = both;
     let found = Destinations::of(alloc, &table, copies.as_slice(), picks.as_slice());

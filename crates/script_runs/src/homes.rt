@@ -3,13 +3,8 @@
 use broker_script::Command;
 use broker_stop::{RunFault, Stop};
 use home_table::HomeTable;
+use numbered_homes::nodes_text;
 use std::alloc::Global;
-
-/// The port on which the first node of a script has its clients.
-const CLIENTS: u32 = 1883;
-
-/// The port on which the first node of a script has the other nodes.
-const BRIDGES: u32 = 2883;
 
 /// A table for each of so many nodes, all with the homes of a script.
 pub fn tables_of(alloc: Global, nodes: u16, commands: &[Command]) -> Result<Vec<HomeTable>, Stop> {
@@ -22,16 +17,9 @@ pub fn tables_of(alloc: Global, nodes: u16, commands: &[Command]) -> Result<Vec<
     Ok(tables)
 }
 
-/// The rows of the table: nodes `n0` and so on, each with a port of its own, and the homes.
+/// The rows of the table: nodes `n0` and so on, each with ports of its own, and the homes.
 fn table_text(alloc: Global, nodes: u16, commands: &[Command]) -> Result<String, Stop> {
-    let mut text = String::new(alloc);
-    for node in 0..nodes {
-        let clients = CLIENTS + node as u32;
-        let bridge = BRIDGES + node as u32;
-        writeln!(&mut text, "[[node]]\nname = \"n{node}\"")?;
-        writeln!(&mut text, "address = \"127.0.0.1:{clients}\"")?;
-        writeln!(&mut text, "bridge = \"127.0.0.1:{bridge}\"")?;
-    }
+    let mut text = nodes_text(alloc, nodes)?;
     for command in commands {
         if let Command::Home { prefix, node } = command {
             let prefix = escaped(alloc, prefix.as_str())?;

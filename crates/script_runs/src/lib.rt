@@ -7,7 +7,5 @@ mod loopback;
 mod player;
 mod run;
 mod steps;
-#[cfg(test)]
-mod tests;
 
 pub use run::{loop_script, loop_text, run_script, run_text};

@@ -107,32 +107,49 @@ impl<'a, S: Sockets> Loopback<'a, S> {
             return Ok(bytes);
         }
         let sent = bytes.into_vec();
-        let came = self.wires.to_node(self.sockets, node, connection, sent);
-        Ok(Bytes::new(came.map_err(of_wires)?))
+        match self.wires.to_node(self.sockets, node, connection, sent) {
+            Ok(came) => Ok(Bytes::new(came)),
+            Err(fault) => Err(of_wires(fault)),
+        }
+    }
+
+    /// The route of a frame whose receiver is up.
+    fn route(&self, number: u64) -> Option<Route> {
+        let place = number.checked_sub(1)?;
+        let route = *self.routes.get(place as usize)?;
+        match self.cluster.taken(route.to) {
+            Some(_) => Some(route),
+            None => None,
+        }
+    }
+
+    /// What comes of a frame at the other end of its link; nothing where no frame has that number.
+    fn over_link(&mut self, number: u64, route: Route) -> Result<Option<Bytes>, RunFault> {
+        let Some(bytes) = self.cluster.frame(number) else {
+            return Ok(None);
+        };
+        match self.wires.frame(self.sockets, route.from, route.to, bytes) {
+            Ok(came) => Ok(Some(Bytes::new(came))),
+            Err(fault) => Err(of_wires(fault)),
+        }
     }
 
     /// The step by which a frame reaches its receiver: where that is up, the frame passes over the link first.
     fn frame(&mut self, number: u64, at: u64) -> Result<Step, RunFault> {
-        let delivered = Step::Deliver { frame: number, at };
-        let Some(place) = number.checked_sub(1) else {
-            return Ok(delivered);
+        let Some(route) = self.route(number) else {
+            return Ok(Step::Deliver { frame: number, at });
         };
-        let (Some(route), Some(bytes)) = (
-            self.routes.get(place as usize),
-            self.cluster.frame(number),
-        ) else {
-            return Ok(delivered);
-        };
-        let Route { from, to } = *route;
-        if self.cluster.taken(to).is_none() {
-            return Ok(delivered);
+        match self.over_link(number, route)? {
+            Some(bytes) => {
+                let kind = EventKind::Frame { bytes };
+                let event = Event { at, kind };
+                Ok(Step::Event {
+                    node: route.to,
+                    event,
+                })
+            }
+            None => Ok(Step::Deliver { frame: number, at }),
         }
-        let came = self.wires.frame(self.sockets, from, to, bytes);
-        let kind = EventKind::Frame {
-            bytes: Bytes::new(came.map_err(of_wires)?),
-        };
-        let event = Event { at, kind };
-        Ok(Step::Event { node: to, event })
     }
 
     /// A step as it comes out of the sockets.
@@ -151,35 +168,45 @@ impl<'a, S: Sockets> Loopback<'a, S> {
         }
     }
 
-    /// A packet passes to its client, and is told as it came; a close ends its pair, and a node that goes down has its
-    /// sockets closed.
+    /// A packet passes to its client; it is told as it came.
+    fn sent(&mut self, node: u16, connection: u64, bytes: &mut Bytes) -> Result<(), RunFault> {
+        let empty = Bytes::new(Vec::new(self.alloc));
+        let sent = mem::replace(bytes, empty).into_vec();
+        *bytes = self.to_client(node, connection, sent)?;
+        Ok(())
+    }
+
+    /// What comes at a client of bytes that a node sends it.
+    fn to_client(&mut self, node: u16, connection: u64, bytes: Vec<u8>) -> Result<Bytes, RunFault> {
+        match self.wires.to_client(self.sockets, node, connection, bytes) {
+            Ok(came) => Ok(Bytes::new(came)),
+            Err(fault) => Err(of_wires(fault)),
+        }
+    }
+
+    /// Keeps from where a frame goes, and to where.
+    fn released(&mut self, from: u16, to: u16) -> Result<(), RunFault> {
+        match self.routes.push(Route { from, to }) {
+            Ok(()) => Ok(()),
+            Err(_) => Err(RunFault::NoMemory),
+        }
+    }
+
+    /// A packet passes to its client; a close ends its pair, and a node that goes down has its sockets closed.
     fn told(&mut self, line: &mut Line) -> Result<(), RunFault> {
         match line {
             Line::Sent {
                 node,
                 connection,
                 bytes,
-            } => {
-                let empty = Bytes::new(Vec::new(self.alloc));
-                let sent = mem::replace(bytes, empty).into_vec();
-                let came = self.wires.to_client(self.sockets, *node, *connection, sent);
-                *bytes = Bytes::new(came.map_err(of_wires)?);
-            }
+            } => return self.sent(*node, *connection, bytes),
             Line::Closed { node, connection } => self.wires.close(*node, *connection),
             Line::Frame {
                 number: _,
                 from,
                 to,
                 kind: _,
-            } => {
-                let route = Route {
-                    from: *from,
-                    to: *to,
-                };
-                if self.routes.push(route).is_err() {
-                    return Err(RunFault::NoMemory);
-                }
-            }
+            } => return self.released(*from, *to),
             Line::Fault { node, fault: _ } | Line::Crash { node } => self.wires.close_node(*node),
             Line::Down { node: _ } => {}
         }

@@ -9,7 +9,8 @@ use broker_script::{Command, parse_script};
 use broker_sockets::Sockets;
 use broker_stop::{RunFault, Stop};
 use cluster_play::Cluster;
-use std::alloc::Global;
+use home_table::HomeTable;
+use std::alloc::{AllocError, Global};
 use std::fmt::Display;
 use std::io::Write;
 
@@ -79,12 +80,20 @@ fn begin(alloc: Global, script: &[u8]) -> Result<Start, Stop> {
         _ => 0,
     };
     let tables = tables_of(alloc, nodes, commands.as_slice())?;
-    let cluster = Cluster::new(alloc, tables).map_err(of_step)?;
+    let cluster = cluster_of(alloc, tables)?;
     Ok(Start {
         commands,
         nodes,
         cluster,
     })
+}
+
+/// A cluster with these tables.
+fn cluster_of(alloc: Global, tables: Vec<HomeTable>) -> Result<Cluster, RunFault> {
+    match Cluster::new(alloc, tables) {
+        Ok(cluster) => Ok(cluster),
+        Err(fault) => Err(of_step(fault)),
+    }
 }
 
 /// Plays the step of each line, and tells what the nodes hold at the end.
@@ -120,33 +129,46 @@ fn write_text<O: Write>(text: &String, out: &mut O) -> Result<(), Stop> {
     }
 }
 
+/// What a node holds.
+fn push_node(text: &mut String, cluster: &Cluster, node: u16) -> Result<(), AllocError> {
+    match cluster.holdings(node) {
+        Some((subscriptions, retained)) => writeln!(
+            text,
+            "node {node} subscriptions {subscriptions} retained {retained}"
+        ),
+        None => writeln!(text, "node {node} down"),
+    }
+}
+
+/// Whether two nodes have taken the same; nothing where one of them is down.
+fn push_pair(text: &mut String, cluster: &Cluster, i: u16, j: u16) -> Result<(), AllocError> {
+    match cluster.same_taken(i, j) {
+        Some(true) => writeln!(text, "taken {i} {j} equal"),
+        Some(false) => writeln!(text, "taken {i} {j} differ"),
+        None => Ok(()),
+    }
+}
+
 /// What each node holds, and which of them have taken the same.
+fn end_text(alloc: Global, cluster: &Cluster, nodes: u16) -> Result<String, AllocError> {
+    let mut text = String::new(alloc);
+    for node in 0..nodes {
+        push_node(&mut text, cluster, node)?;
+    }
+    for i in 0..nodes {
+        for j in i + 1..nodes {
+            push_pair(&mut text, cluster, i, j)?;
+        }
+    }
+    Ok(text)
+}
+
 fn write_end<O: Write>(
     alloc: Global,
     cluster: &Cluster,
     nodes: u16,
     out: &mut O,
 ) -> Result<(), Stop> {
-    let mut text = String::new(alloc);
-    for node in 0..nodes {
-        match cluster.holdings(node) {
-            Some((subscriptions, retained)) => {
-                writeln!(
-                    &mut text,
-                    "node {node} subscriptions {subscriptions} retained {retained}"
-                )?
-            }
-            None => writeln!(&mut text, "node {node} down")?,
-        }
-    }
-    for i in 0..nodes {
-        for j in i + 1..nodes {
-            match cluster.same_taken(i, j) {
-                Some(true) => writeln!(&mut text, "taken {i} {j} equal")?,
-                Some(false) => writeln!(&mut text, "taken {i} {j} differ")?,
-                None => {}
-            }
-        }
-    }
+    let text = end_text(alloc, cluster, nodes)?;
     write_text(&text, out)
 }

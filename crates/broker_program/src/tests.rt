@@ -1,3 +1,0 @@
-//! Worked examples: nodes that are served.
-
-mod serving;

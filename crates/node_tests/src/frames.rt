@@ -1,0 +1,52 @@
+//! Frames that can't be read, and frames that aren't for the node to which they come.
+
+use crate::keepers::{opened, outputs};
+use broker_node::EventKind;
+use mqtt_packets::Bytes;
+use node_keeper::Keeper;
+use row_store::MemoryRows;
+use std::alloc::Global;
+use std::process::Abort;
+
+/// Frames that come to node 0 of two, and none of which is for it from the other one.
+const BAD: [(&str, &[u8]); 8] = [
+    ("Hello of node 0 for node 1", b"\0\0\0\x05\x01\0\0\0\x01"),
+    ("Hello of node 1 for itself", b"\0\0\0\x05\x01\0\x01\0\x01"),
+    ("Hello of node 0 for itself", b"\0\0\0\x05\x01\0\0\0\0"),
+    ("Hello of node 2", b"\0\0\0\x05\x01\0\x02\0\0"),
+    ("no bytes", b""),
+    ("a Hello one byte short", b"\0\0\0\x05\x01\0\x01\0"),
+    (
+        "a Hello with a byte behind it",
+        b"\0\0\0\x06\x01\0\x01\0\0\0",
+    ),
+    ("no kind of frame", b"\0\0\0\x05\x06\0\x01\0\0"),
+];
+
+/// Hello of node 1 for node 0.
+const HELLO: &[u8] = b"\0\0\0\x05\x01\0\x01\0\0";
+
+/// How many outputs a frame comes to, and how many frames have been counted then.
+fn taken(
+    rt: &impl Abort,
+    alloc: Global,
+    keeper: &mut Keeper<MemoryRows>,
+    frame: &[u8],
+) -> (usize, u64) {
+    let bytes = Bytes::from_slice(alloc, frame).expect(rt, "memory");
+    let outputs = outputs(rt, keeper, EventKind::Frame { bytes });
+    (outputs, keeper.node().counts().bad_frames)
+}
+
+#[test]
+fn a_frame_for_another_node_is_counted_and_changes_nothing(rt: HostRuntime) {
+    let alloc = rt.alloc();
+    let mut keeper = opened(&rt, alloc, MemoryRows::new(alloc), 0);
+    assert_eq!(rt; outputs(&rt, &mut keeper, EventKind::Started), 0);
+    for (count, (name, frame)) in (1..).zip(BAD) {
+        let found = taken(&rt, alloc, &mut keeper, frame);
+        assert_eq!(rt; found, (0, count), "{name}");
+    }
+    assert_eq!(rt; taken(&rt, alloc, &mut keeper, HELLO), (1, 8));
+    drop(keeper);
+}

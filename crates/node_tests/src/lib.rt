@@ -1,0 +1,27 @@
+//! Worked examples of a node with its rows, and of nodes together whose steps no script has.
+#![tactic(auto)]
+
+#[cfg(test)]
+mod batches;
+#[cfg(test)]
+mod clusters;
+#[cfg(test)]
+mod crashes;
+#[cfg(test)]
+mod frames;
+#[cfg(test)]
+mod keepers;
+#[cfg(test)]
+mod numbers;
+#[cfg(test)]
+mod packets;
+#[cfg(test)]
+mod playing;
+#[cfg(test)]
+mod refusals;
+#[cfg(test)]
+mod refusing;
+#[cfg(test)]
+mod retained;
+#[cfg(test)]
+mod trial;

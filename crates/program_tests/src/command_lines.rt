@@ -1,0 +1,72 @@
+//! Worked examples: command lines, and the tasks that they ask for or the statuses that they end with.
+
+use broker_command::{Task, task_of};
+use std::alloc::Global;
+use std::process::Abort;
+
+/// The words of a command line.
+fn words_of(rt: &impl Abort, alloc: Global, line: &str) -> Vec<String> {
+    let mut words = Vec::new(alloc);
+    for word in line.split_whitespace() {
+        let word = String::from_str(alloc, word).expect(rt, "memory");
+        words.push(word).expect(rt, "memory");
+    }
+    words
+}
+
+/// A task in one line, or the status and whether help goes to the standard output.
+fn told(rt: &impl Abort, alloc: Global, line: &str) -> String {
+    let words = words_of(rt, alloc, line);
+    let text = match task_of(alloc, &words) {
+        Ok(Task::Play { script }) => format!(in alloc; "play {script}"),
+        Ok(Task::Loopback { script }) => format!(in alloc; "loopback {script}"),
+        Ok(
+            Task::Serve {
+                configuration,
+                node,
+                database,
+                turns,
+            },
+        ) => { format!(in alloc; "serve {configuration} {node} {database} {turns}") }
+        Err(stop) => {
+            let mut out: Vec<u8> = Vec::new(alloc);
+            let mut err: Vec<u8> = Vec::new(alloc);
+            let status = stop.tell(&mut out, &mut err);
+            let streams = (1 < out.len(), 1 < err.len());
+            format!(in alloc; "{status} {streams:?}")
+        }
+    };
+    text.expect(rt, "memory")
+}
+
+#[test]
+fn reads_command_lines(rt: HostRuntime) {
+    let alloc = rt.alloc();
+    let lines = [
+        ("play a.script", "play a.script"),
+        ("loopback a.script", "loopback a.script"),
+        ("serve c.toml n0 d.db --turns 1", "serve c.toml n0 d.db 1"),
+        (
+            "serve --turns=1000000000 c.toml n0 d.db",
+            "serve c.toml n0 d.db 1000000000",
+        ),
+        ("", "2 (false, true)"),
+        ("play", "2 (false, true)"),
+        ("play a b", "2 (false, true)"),
+        ("loopback", "2 (false, true)"),
+        ("run a", "2 (false, true)"),
+        ("serve c.toml n0 d.db", "2 (false, true)"),
+        ("serve c.toml n0 --turns 1", "2 (false, true)"),
+        ("serve c.toml n0 d.db --turns 0", "2 (false, true)"),
+        ("serve c.toml n0 d.db --turns 1000000001", "2 (false, true)"),
+        ("serve c.toml n0 d.db --turns many", "2 (false, true)"),
+        ("--help", "0 (true, false)"),
+        ("help", "0 (true, false)"),
+        ("serve --help", "0 (true, false)"),
+        ("loopback --help", "0 (true, false)"),
+    ];
+    for (line, expected) in lines {
+        let found = told(&rt, alloc, line);
+        assert_eq!(rt; found.as_str(), expected, "{line}");
+    }
+}

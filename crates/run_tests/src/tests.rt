@@ -1,0 +1,179 @@
+//! Worked examples: scripts, and what running them writes.
+
+use broker_sockets::{Answer, RealSockets, Sockets};
+use script_runs::{loop_text, run_text};
+use silent::Silent;
+use std::alloc::Global;
+use std::io::{self, ErrorKind, Write};
+use std::net::Net;
+use std::process::Abort;
+use std::test::Fail;
+
+mod bridge;
+mod crashes;
+mod faults;
+mod first_path;
+mod operations;
+mod sessions;
+mod silent;
+mod streams;
+
+/// A script, and the status and the texts that it ends with.
+pub struct Example {
+    name: &'static str,
+    script: &'static str,
+    status: u8,
+    out: &'static str,
+    err: &'static str,
+}
+
+/// What running a script ends with: the status, and what was written where.
+#[derive(Drop)]
+pub struct Ended {
+    status: u8,
+    out: Vec<u8>,
+    err: Vec<u8>,
+}
+
+/// Runs a script in memory.
+fn play(alloc: Global, script: &str) -> Ended {
+    let mut out: Vec<u8> = Vec::new(alloc);
+    let mut err: Vec<u8> = Vec::new(alloc);
+    let status = run_text(alloc, script.as_bytes(), &mut out, &mut err);
+    Ended { status, out, err }
+}
+
+/// Runs a script over sockets.
+fn play_over<S: Sockets>(alloc: Global, sockets: &mut S, script: &str) -> Ended {
+    let mut out: Vec<u8> = Vec::new(alloc);
+    let mut err: Vec<u8> = Vec::new(alloc);
+    let status = loop_text(alloc, sockets, script.as_bytes(), &mut out, &mut err);
+    Ended { status, out, err }
+}
+
+/// Compares what a run ended with.
+fn compare(
+    rt: &impl Abort,
+    name: &str,
+    ended: Ended,
+    expected: (u8, &str, &str),
+) -> Result<(), Fail> {
+    let (status, out, err) = expected;
+    let Ended {
+        status: found,
+        out: written,
+        err: told,
+    } = ended;
+    let lines = String::from_utf8(written).map_err(|_| "no text")?;
+    let fault = String::from_utf8(told).map_err(|_| "no text")?;
+    assert_eq!(rt; lines.as_str(), out, "{name}");
+    assert_eq!(rt; fault.as_str(), err, "{name}");
+    assert_eq!(rt; found, status, "{name}");
+    Ok(())
+}
+
+/// Runs a script in memory, and compares what it ends with.
+fn check(
+    rt: &impl Abort,
+    alloc: Global,
+    name: &str,
+    script: &str,
+    expected: (u8, &str, &str),
+) -> Result<(), Fail> {
+    compare(rt, name, play(alloc, script), expected)
+}
+
+/// Runs scripts in memory, and over the sockets of this machine, which makes no difference.
+fn check_all(rt: &(impl Abort + Net), alloc: Global, examples: &[Example]) -> Result<(), Fail> {
+    for example in examples {
+        let name = example.name;
+        let expected = (example.status, example.out, example.err);
+        compare(rt, name, play(alloc, example.script), expected)?;
+        let mut sockets = RealSockets::new(rt);
+        let ended = play_over(alloc, &mut sockets, example.script);
+        compare(rt, name, ended, expected)?;
+    }
+    Ok(())
+}
+
+#[test]
+fn runs_the_first_path(rt: HostRuntime) -> Result<(), Fail> {
+    check_all(&rt, rt.alloc(), &first_path::EXAMPLES)
+}
+
+#[test]
+fn answers_each_fault(rt: HostRuntime) -> Result<(), Fail> {
+    check_all(&rt, rt.alloc(), &faults::EXAMPLES)
+}
+
+#[test]
+fn runs_operations(rt: HostRuntime) -> Result<(), Fail> {
+    check_all(&rt, rt.alloc(), &operations::EXAMPLES)
+}
+
+#[test]
+fn runs_crashes(rt: HostRuntime) -> Result<(), Fail> {
+    check_all(&rt, rt.alloc(), &crashes::EXAMPLES)
+}
+
+#[test]
+fn runs_the_bridge(rt: HostRuntime) -> Result<(), Fail> {
+    check_all(&rt, rt.alloc(), &bridge::EXAMPLES)
+}
+
+#[test]
+fn runs_sessions(rt: HostRuntime) -> Result<(), Fail> {
+    check_all(&rt, rt.alloc(), &sessions::EXAMPLES)
+}
+
+/// Where sockets don't do what they should.
+fn check_silent(
+    rt: &impl Abort,
+    alloc: Global,
+    name: &str,
+    mut sockets: Silent,
+    expected: (u8, &str, &str),
+) -> Result<(), Fail> {
+    let script = first_path::EXAMPLES[0].script;
+    let ended = play_over(alloc, &mut sockets, script);
+    compare(rt, name, ended, expected)
+}
+
+#[test]
+fn tells_of_sockets_that_fail(rt: HostRuntime) -> Result<(), Fail> {
+    let turns = (1, "", "broker: run: Turns\n");
+    let socket = (1, "", "broker: run: Socket\n");
+    for (name, binds, answer, ended) in [
+        ("nothing comes", true, Answer::Later, turns),
+        ("streams end", true, Answer::Gone, socket),
+        ("nothing is bound", false, Answer::Later, socket),
+    ] {
+        let sockets = Silent::new(binds, answer);
+        check_silent(&rt, rt.alloc(), name, sockets, ended)?;
+    }
+    Ok(())
+}
+
+/// A writer that takes nothing.
+#[derive(Drop)]
+struct Full;
+
+impl Write for Full {
+    fn write(&mut self, _bytes: &[u8]) -> io::Result<usize> {
+        Err(io::Error::from(ErrorKind::Other))
+    }
+
+    fn flush(&mut self) -> io::Result<()> {
+        Ok(())
+    }
+}
+
+#[test]
+fn tells_of_refused_output(rt: HostRuntime) -> Result<(), Fail> {
+    let alloc = rt.alloc();
+    let mut err: Vec<u8> = Vec::new(alloc);
+    let status = run_text(alloc, b"nodes 1\n", &mut Full, &mut err);
+    assert_eq!(rt; err.as_slice(), b"broker: run: Output\n".as_slice());
+    assert_eq!(rt; status, 1);
+    Ok(())
+}
