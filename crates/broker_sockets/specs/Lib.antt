@@ -1,13 +1,6 @@
 pub mod Answers
 pub mod Binding
-pub mod Bridging
 pub mod Buffers
-pub mod Clients
-pub mod Faults
 pub mod Frames
-pub mod Lines
-pub mod Order
 pub mod Queued
-pub mod Serving
-pub mod Turns
-pub mod Writing
+pub mod Ready

@@ -32,14 +32,16 @@ pub enum Output {
     Close { connection: u64 },
 }
 
-/// What stands behind the sockets, as a node.
+/// What stands behind the sockets, as a node. It decides events one after another, and makes what it has decided last where it
+/// settles; what it gives out is sent to nobody before that.
 ///
 /// `handles` relates the handler before an event to its outputs, in order, and to the handler after it, and
-/// `refuses` to a fault in their place.
+/// `refuses` to a fault in their place. `settles` relates the handler before it settles to the handler after it, and `stops` to a
+/// fault too.
 pub trait Handler {
     type Fault: Drop;
 
-    ghost use Rattle.std.specs.Prelude.{List, IfOk, IfErr};
+    ghost use Rattle.std.specs.Prelude.{List, IfOk, IfErr, OnOk};
     ghost use Rattle.broker_sockets.specs.declared.events.Event.{Event};
     ghost use Rattle.broker_sockets.specs.declared.events.Output.{Output};
 
@@ -47,8 +49,17 @@ pub trait Handler {
 
     ghost refuses: { Self → Event → Self.Fault → Self → Type 0 };
 
+    ghost settles: { Self → Self → Type 0 };
+
+    ghost stops: { Self → Self.Fault → Self → Type 0 };
+
     /// Decides one event.
     fn handle(&mut self, event: Event) -> Result<Vec<Output>, Self::Fault>
         ensures ok { IfOk result (λ outputs. handles self.old event outputs.items self.new) }
         ensures fault { IfErr result (λ fault. refuses self.old event fault self.new) };
+
+    /// Makes all that it has decided since the last call last.
+    fn settle(&mut self) -> Result<(), Self::Fault>
+        ensures ok { OnOk result (settles self.old self.new) }
+        ensures fault { IfErr result (λ fault. stops self.old fault self.new) };
 }

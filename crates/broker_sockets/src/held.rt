@@ -8,9 +8,14 @@ use std::marker::Model;
 use std::mem;
 
 /// The bytes of a frame that isn't whole yet.
-#[derive(Drop)]
 pub struct Held {
     bytes: Vec<u8>,
+}
+
+impl Drop for Held {
+    fn drop(self) {
+        let Held { bytes: _bytes } = self;
+    }
 }
 
 impl Model for Held {

@@ -1,30 +1,23 @@
-//! Clients' connections and links between nodes over sockets that never wait, a turn that asks each socket once, and turns one after
-//! another.
+//! Sockets that never wait, which of them may have something, the bytes on their way in and out, clocks, and what stands behind the sockets.
 #![tactic(auto)]
 
 mod bridge;
-mod clients;
 mod clock;
 mod events;
 mod frames;
 mod held;
-mod hub;
-pub mod laws;
-mod lines;
-mod links;
 mod network;
+mod polled;
 mod queue;
+mod ready;
 mod real;
-mod setting;
-#[cfg(test)]
-mod tests;
-mod turn;
 
 pub use bridge::{BridgeHandler, Given, PeerEvent, PeerEventKind, PeerFrame};
 pub use clock::{Clock, RealClock};
 pub use events::{Event, EventKind, Handler, Output};
-pub use hub::Hub;
+pub use held::{Came, Held};
 pub use network::{Answer, Sockets, bind};
+pub use polled::PolledSockets;
+pub use queue::Unsent;
+pub use ready::{Readiness, Ready, Watched};
 pub use real::RealSockets;
-pub use setting::Setting;
-pub use turn::TurnFault;

@@ -15,7 +15,6 @@ const SHARED: usize = 16384;
 
 /// Bytes in buffers that are never moved once they wait: the first, of which `start` bytes are written
 /// already, those behind it, and the last, which small packets fill.
-#[derive(Drop)]
 pub struct Unsent {
     alloc: Global,
     first: Vec<u8>,
@@ -23,6 +22,19 @@ pub struct Unsent {
     rest: VecDeque<Vec<u8>>,
     last: Vec<u8>,
     len: usize,
+}
+
+impl Drop for Unsent {
+    fn drop(self) {
+        let Unsent {
+            alloc: _,
+            first: _first,
+            start: _,
+            rest: _rest,
+            last: _last,
+            len: _,
+        } = self;
+    }
 }
 
 impl Model for Unsent {

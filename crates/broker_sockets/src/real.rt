@@ -20,13 +20,16 @@ impl<'a, N: Net> RealSockets<'a, N> {
     }
 }
 
+/// How often a call is made that a signal interrupts.
+const TRIES: u32 = 16;
+
 /// Nothing came of a call: it would have to wait, or the socket has failed.
 fn refused(error: &io::Error) -> Answer
     ensures within { (most : ℕ) → IsWithin result most }
     ensures some { CarriesSome result }
 {
     match error.kind() {
-        ErrorKind::WouldBlock | ErrorKind::Interrupted => Answer::Later,
+        ErrorKind::WouldBlock => Answer::Later,
         _ => Answer::Gone,
     }
 }
@@ -71,17 +74,25 @@ impl<'a, N: Net> Sockets for RealSockets<'a, N> {
     }
 
     fn read(&mut self, stream: &mut TcpStream, buffer: &mut [u8]) -> Answer {
-        match stream.read(buffer) {
-            Ok(0) => Answer::Gone,
-            Ok(count) => Answer::Bytes(count),
-            Err(error) => refused(&error),
+        for _ in 0..TRIES {
+            match stream.read(buffer) {
+                Ok(0) => return Answer::Gone,
+                Ok(count) => return Answer::Bytes(count),
+                Err(error) if error.kind() == ErrorKind::Interrupted => {}
+                Err(error) => return refused(&error),
+            }
         }
+        Answer::Gone
     }
 
     fn write(&mut self, stream: &mut TcpStream, bytes: &[u8]) -> Answer {
-        match stream.write(bytes) {
-            Ok(written) => Answer::Bytes(written),
-            Err(error) => refused(&error),
+        for _ in 0..TRIES {
+            match stream.write(bytes) {
+                Ok(written) => return Answer::Bytes(written),
+                Err(error) if error.kind() == ErrorKind::Interrupted => {}
+                Err(error) => return refused(&error),
+            }
         }
+        Answer::Gone
     }
 }

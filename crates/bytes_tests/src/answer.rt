@@ -1,6 +1,10 @@
 //! Examples, and what answers them.
 
-use crate::{cuts, fields, packets, properties, topics};
+use crate::words::{bytes_of, halves, said};
+use crate::{
+    contents, cuts, deliveries, fields, messages, names, packets, properties, spellings, topics,
+};
+use mqtt_fields::NoMemory;
 use std::alloc::{AllocError, Global};
 
 /// A question and its answer.
@@ -16,17 +20,16 @@ impl<'a> Example<'a> {
         if line.is_empty() || line.starts_with("//") {
             return None;
         }
-        let (question, answer) = match line.split_once(" = ") {
-            Some(parts) => parts,
-            None => (line, ""),
-        };
+        let (question, answer) = line.split_once(" = ").unwrap_or((line, ""));
         Some(Example { question, answer })
     }
 }
 
 /// Tells of another answer than the example's, if there is one.
 pub fn differs(alloc: Global, example: &Example) -> Result<Option<String>, AllocError> {
-    let text = answered(alloc, example.question)?;
+    let Ok(text) = answered(alloc, example.question) else {
+        return Err(AllocError);
+    };
     if text.as_str() == example.answer {
         return Ok(None);
     }
@@ -37,35 +40,55 @@ pub fn differs(alloc: Global, example: &Example) -> Result<Option<String>, Alloc
 }
 
 /// The answer to a question: a word that names its subject, and words about it.
-fn answered(alloc: Global, question: &str) -> Result<String, AllocError> {
-    let (subject, about) = match question.split_once(' ') {
-        Some(parts) => parts,
-        None => (question, ""),
-    };
+fn answered(alloc: Global, question: &str) -> Result<String, NoMemory> {
+    let (subject, about) = halves(question);
     match subject {
+        "encoded" => fields::encoded(alloc, about),
+        "qos" => fields::qos(alloc, about),
+        "identifier" => names::identifier_of(alloc, about),
+        "reason" => names::reason_of(alloc, about),
+        "property" => properties::places_of(alloc, about),
+        "block" => properties::block(alloc, about),
+        "values" => properties::values(alloc, about),
+        "length" => properties::length(alloc, about),
+        "sound" => contents::sound(alloc, about),
+        "stream" => cuts::stream(alloc, about),
         "name" => topics::name(alloc, about),
         "filter" => topics::filter(alloc, about),
         "match" => topics::matches(alloc, about),
-        "property" => properties::places_of(alloc, about),
-        "block" => properties::block(alloc, about),
-        "stream" => cuts::stream(alloc, about),
+        "order" => topics::order(alloc, about),
+        "accepted" => messages::accepted(alloc, about),
+        "expiry" => messages::expiry(alloc, about),
+        "due" => messages::due_at(alloc, about),
+        "made" => deliveries::made(alloc, about),
+        "sent" => deliveries::sent(alloc, about),
         _ => of_bytes(alloc, subject, about),
     }
 }
 
-/// The answer to a question about bytes, which are given in hexadecimal.
-fn of_bytes(alloc: Global, subject: &str, digits: &str) -> Result<String, AllocError> {
-    let Ok(bytes) = hex::decode(alloc, digits) else {
-        return String::from_str(alloc, "not hexadecimal");
+/// The answer to a question about bytes.
+fn of_bytes(alloc: Global, subject: &str, word: &str) -> Result<String, NoMemory> {
+    let Some(bytes) = bytes_of(alloc, word) else {
+        return said(alloc, "not hexadecimal");
     };
     match subject {
-        "packet" => packets::packet(alloc, &bytes),
-        "parts" => packets::parts(alloc, &bytes),
-        "changes" => packets::changes(alloc, &bytes),
-        "cuts" => cuts::cuts(alloc, &bytes),
         "number" => fields::number(alloc, &bytes),
+        "byte" => fields::byte(alloc, &bytes),
+        "two" => fields::two(alloc, &bytes),
+        "four" => fields::four(alloc, &bytes),
+        "eight" => fields::eight(alloc, &bytes),
+        "long" => fields::long(alloc, &bytes),
         "text" => fields::text(alloc, &bytes),
         "binary" => fields::binary(alloc, &bytes),
-        _ => String::from_str(alloc, "no such question"),
+        "string" => fields::string(alloc, &bytes),
+        "data" => fields::data(alloc, &bytes),
+        "options" => fields::options(alloc, &bytes),
+        "packet" => packets::packet(alloc, &bytes),
+        "spelling" => spellings::spelling(alloc, &bytes),
+        "fields" => contents::fields(alloc, &bytes),
+        "cuts" => cuts::cuts(alloc, &bytes),
+        "message" => messages::message(alloc, &bytes),
+        "delivery" => deliveries::delivery(alloc, &bytes),
+        _ => said(alloc, "no such question"),
     }
 }

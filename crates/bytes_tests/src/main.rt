@@ -4,13 +4,17 @@
 #![tactic(auto)]
 
 mod answer;
+mod contents;
 mod cuts;
+mod deliveries;
 mod fields;
+mod messages;
+mod names;
 mod packets;
 mod properties;
-#[cfg(test)]
-mod tests;
+mod spellings;
 mod topics;
+mod words;
 
 use crate::answer::{Example, differs};
 use std::io;

@@ -1,66 +1,68 @@
-//! Examples of packets (MQTT 5.0, chapters 2 and 3).
+//! Examples of packets (MQTT 5.0, chapters 2 and 3): what bytes are read as.
 
+use crate::words::{said, word_of};
+use mqtt_fields::NoMemory;
 use mqtt_packets::{Packet, PacketFault, read_packet, write_packet};
-use std::alloc::{AllocError, Global};
-
-/// What is read of the bytes: a packet's shortest spelling, `waits`, or the name of the fault.
-pub fn packet(alloc: Global, bytes: &[u8]) -> Result<String, AllocError> {
-    match read_packet(alloc, bytes) {
-        Ok(Some((packet, used))) => {
-            if used != bytes.len() {
-                return format!(in alloc; "a packet of {used}");
-            }
-            let mut out = Vec::new(alloc);
-            spell(alloc, &packet, &mut out)?;
-            hex::encode(alloc, out.as_slice())
-        }
-        Ok(None) => String::from_str(alloc, "waits"),
-        Err(fault) => format!(in alloc; "{fault:?}"),
-    }
-}
+use std::alloc::Global;
 
 /// Appends the shortest spelling of a copy of the packet.
-pub fn spell(alloc: Global, packet: &Packet, out: &mut Vec<u8>) -> Result<(), AllocError> {
-    let Ok(copy) = packet.copy(alloc) else {
-        return Err(AllocError);
-    };
-    if copy.is_sound() && write_packet(alloc, &copy, out).is_err() {
-        return Err(AllocError);
+pub fn spell(alloc: Global, packet: &Packet, out: &mut Vec<u8>) -> Result<(), NoMemory> {
+    let copy = packet.copy(alloc)?;
+    if copy.is_sound() {
+        write_packet(alloc, &copy, out)?;
     }
     Ok(())
 }
 
-/// `wait` where each proper prefix of the bytes waits, or the length of one that doesn't.
-pub fn parts(alloc: Global, bytes: &[u8]) -> Result<String, AllocError> {
+/// The shortest spelling of a packet of which so many bytes were read.
+fn shortest(alloc: Global, bytes: &[u8], packet: &Packet, used: usize) -> Result<String, NoMemory> {
+    if used != bytes.len() {
+        return Ok(format!(in alloc; "a packet of {used}")?);
+    }
+    let mut out = Vec::new(alloc);
+    spell(alloc, packet, &mut out)?;
+    word_of(alloc, &out)
+}
+
+/// What is read of all of the bytes.
+fn read(alloc: Global, bytes: &[u8]) -> Result<String, NoMemory> {
+    match read_packet(alloc, bytes) {
+        Ok(Some((packet, used))) => {
+            let told = shortest(alloc, bytes, &packet, used);
+            drop(packet);
+            told
+        }
+        Ok(None) => said(alloc, "waits"),
+        Err(fault) => Ok(format!(in alloc; "{fault:?}")?),
+    }
+}
+
+/// Whether the bytes wait or have this fault.
+fn waits_or_has(alloc: Global, bytes: &[u8], fault: Option<PacketFault>) -> bool {
+    match read_packet(alloc, bytes) {
+        Ok(None) => true,
+        Ok(Some(_)) => false,
+        Err(found) => Some(found) == fault,
+    }
+}
+
+/// The length of a part at the front that neither waits nor has the fault of all of the bytes.
+fn other_part(alloc: Global, bytes: &[u8]) -> Option<usize> {
+    let fault = read_packet(alloc, bytes).err();
     for len in 0..bytes.len() {
-        if !matches!(read_packet(alloc, &bytes[..len]), Ok(None)) {
-            return format!(in alloc; "{len}");
+        if !waits_or_has(alloc, &bytes[..len], fault) {
+            return Some(len);
         }
     }
-    String::from_str(alloc, "wait")
+    None
 }
 
-/// `answered` where the bytes with any one byte changed give a packet, wait or have a named fault, or
-/// the place of a byte where they don't.
-pub fn changes(alloc: Global, bytes: &[u8]) -> Result<String, AllocError> {
-    for place in 0..bytes.len() {
-        if !are_answered_at(alloc, bytes, place)? {
-            return format!(in alloc; "{place}");
-        }
+/// What is read of the bytes: a packet's shortest spelling, `waits`, or the name of the fault. Each shorter
+/// part at their front must wait, or have that fault.
+pub fn packet(alloc: Global, bytes: &[u8]) -> Result<String, NoMemory> {
+    let told = read(alloc, bytes)?;
+    match other_part(alloc, bytes) {
+        Some(len) => Ok(format!(in alloc; "{told}, with {len} bytes otherwise")?),
+        None => Ok(told),
     }
-    String::from_str(alloc, "answered")
-}
-
-/// Whether the bytes are answered with any of these at this place.
-fn are_answered_at(alloc: Global, bytes: &[u8], place: usize) -> Result<bool, AllocError> {
-    let mut changed = Vec::from_slice(alloc, bytes)?;
-    for other in [0, 1, 0x7f, 0x80, 0xff] {
-        if let Some(byte) = changed.get_mut(place) {
-            *byte = other;
-        }
-        if read_packet(alloc, &changed).err() == Some(PacketFault::NoMemory) {
-            return Ok(false);
-        }
-    }
-    Ok(true)
 }

@@ -1,6 +1,8 @@
 //! The key at which a walk over filters or names goes on.
 
-ghost use Rattle.std.specs.Prelude.{◌≡◌, ◌↔◌, ◌++◌, ◌∷◌, List, ℕ, take, codes, string_bytes, IfSome, MatchOption, IsTrue, IfOk, Some};
+ghost use Rattle.std.specs.Prelude.{◌≡◌, ◌==◌, ◌↔◌, ◌++◌, ◌∷◌, List, ℕ, not, take, codes, string_bytes, IfSome, MatchOption, IsTrue, IfOk, Some};
+ghost use Rattle.std.specs.List.{list_all};
+ghost use Rattle.mqtt_fields.specs.Numbers.{IsText};
 ghost use Rattle.mqtt_topics.specs.Levels.{levels};
 ghost use Rattle.mqtt_topics.specs.Topics.{IsShared, share_name, share_filter, filter_part};
 ghost use Rattle.mqtt_topics.specs.Matching.{LevelsMatch, Matches, BeginsWithWildcard, BeginsWithDollar};
@@ -10,7 +12,6 @@ ghost use Rattle.filter_trie.specs.Onward.{Leads, from_text};
 
 use crate::steps::{Bound, Seek, Step, first_level, is_before, is_before_step};
 use crate::walks::{filter_bound, topic_bound};
-use mqtt_fields::Text;
 use mqtt_topics::{Filter, TopicName};
 use std::alloc::Global;
 
@@ -205,25 +206,41 @@ fn topic_onward(alloc: Global, filter: &str, key: &str) -> Onward<String>
     }
 }
 
+/// Whether no byte is 0.
+fn has_no_zero(text: &str) -> bool
+    ensures { result ≡ list_all (λ b. not (b == 0)) text.now }
+{
+    text.as_bytes().iter().all(|b| *b != 0)
+}
+
+/// Whether a text can be a UTF-8 Encoded String (MQTT 5.0, 1.5.4).
+fn is_text(text: &str) -> bool
+    ensures { IsTrue result → IsText text.now }
+{
+    text.len() <= 65535 && has_no_zero(text)
+}
+
+/// The text as a filter, if it is one and memory isn't refused.
 pub(crate) fn filter_at(alloc: Global, text: &str) -> Option<Filter>
     ensures { IfSome result (λ f. f ≡ text.now) }
 {
-    let Ok(text) = Text::new(alloc, text) else {
+    if !is_text(text) {
         return None;
-    };
-    match Filter::parse(alloc, text.as_str()) {
+    }
+    match Filter::parse(alloc, text) {
         Ok(filter) => Some(filter),
         Err(_) => None,
     }
 }
 
+/// The text as a topic name, in the same way.
 fn name_at(alloc: Global, text: &str) -> Option<TopicName>
     ensures { IfSome result (λ n. n ≡ text.now) }
 {
-    let Ok(text) = Text::new(alloc, text) else {
+    if !is_text(text) {
         return None;
-    };
-    match TopicName::parse(alloc, text.as_str()) {
+    }
+    match TopicName::parse(alloc, text) {
         Ok(name) => Some(name),
         Err(_) => None,
     }

@@ -10,7 +10,7 @@ ghost use Rattle.home_table.specs.Homes.{IsHome};
 use crate::automatic::automatic_node;
 use crate::fault::TableFault;
 use crate::prefixes::Prefixes;
-use crate::rows::{HomeEntry, NodeEntry, read_document, read_rows};
+use crate::rows::{HomeEntry, NodeEntry, read_document, read_rows, read_version};
 use mqtt_fields::{NoMemory, Text};
 use std::alloc::Global;
 use std::marker::Model;
@@ -19,6 +19,7 @@ use std::rc::Rc;
 /// What the holders of a table share.
 #[derive(Drop)]
 struct Shared {
+    version: u32,
     nodes: Vec<NodeEntry>,
     prefixes: Prefixes,
 }
@@ -41,9 +42,9 @@ impl Model for HomeTable {
 
     ghost coded = { coded_table };
 
-    ghost view = { λ t. record { nodes = t.shared.value.nodes.items; homes = t.shared.value.prefixes } };
+    ghost view = { λ t. record { version = t.shared.value.version; nodes = t.shared.value.nodes.items; homes = t.shared.value.prefixes } };
 
-    ghost invariant = { λ t. IsTable (record { nodes = t.shared.value.nodes.items; homes = t.shared.value.prefixes }) };
+    ghost invariant = { λ t. IsTable (record { version = t.shared.value.version; nodes = t.shared.value.nodes.items; homes = t.shared.value.prefixes }) };
 }
 
 /// Whether a node has the name.
@@ -131,12 +132,13 @@ impl HomeTable {
     /// The table of some rows, or their first fault.
     fn of(
         alloc: Global,
+        version: u32,
         nodes: Vec<NodeEntry>,
         homes: &[HomeEntry],
     ) -> Result<HomeTable, TableFault>
         requires { length nodes.items ≤ 64 }
-        ensures table { IfOk result (λ t. table_of nodes.items homes.now ≡ Ok t) }
-        ensures fault { IfErr result (λ e. (e ≡ TableFault.NoMemory) ⊎ (table_of nodes.items homes.now ≡ Err e)) }
+        ensures table { IfOk result (λ t. table_of version nodes.items homes.now ≡ Ok t) }
+        ensures fault { IfErr result (λ e. (e ≡ TableFault.NoMemory) ⊎ (table_of version nodes.items homes.now ≡ Err e)) }
     {
         if nodes.is_empty() {
             return Err(TableFault::NoNodes);
@@ -148,20 +150,35 @@ impl HomeTable {
         if has_unknown(nodes.as_slice(), homes) {
             return Err(TableFault::UnknownNode);
         }
-        let shared = Rc::new(alloc, Shared { nodes, prefixes })?;
+        let shared = Rc::new(
+            alloc,
+            Shared {
+                version,
+                nodes,
+                prefixes,
+            },
+        )?;
         Ok(HomeTable { shared })
     }
 
-    /// The table that a text is in TOML: an array `node` of tables with `name`, `address` and `bridge`, and an array
-    /// `home`, which may be missing, of tables with `prefix` and `node`. A fault is the first of the text, in the order
+    /// The table that a text is in TOML: an array `node` of tables with `name`, `address` and `bridge`, and, which may both be
+    /// missing, an array `home` of tables with `prefix` and `node` and a `version`, which is then 0. A fault is the first of the text, in the order
     /// of `TableFault`; `NoMemory` may stand for a later one.
     pub fn parse(alloc: Global, text: &str) -> Result<HomeTable, TableFault>
         ensures table { IfOk result (λ t. reading text.now ≡ Ok t) }
         ensures fault { IfErr result (λ e. (e ≡ TableFault.NoMemory) ⊎ (reading text.now ≡ Err e)) }
     {
         let document = read_document(alloc, text)?;
+        let version = read_version(&document)?;
         let (nodes, homes) = read_rows(alloc, &document)?;
-        HomeTable::of(alloc, nodes, homes.as_slice())
+        HomeTable::of(alloc, version, nodes, homes.as_slice())
+    }
+
+    /// The version of the table: of two, the one with the greater version is the newer.
+    pub fn version(&self) -> u32
+        ensures { result ≡ self.now.version }
+    {
+        self.shared.as_ref().version
     }
 
     /// How many nodes there are: 1 to 64. They are numbered from 0.

@@ -5,8 +5,6 @@ mod carrying;
 mod fault;
 mod host;
 pub mod laws;
-#[cfg(test)]
-mod tests;
 mod wire;
 mod wires;
 

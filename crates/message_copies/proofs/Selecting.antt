@@ -1,5 +1,8 @@
 -- What is selected of what is live.
-use Rattle.std.proofs.Common.{◌≡◌, List, [], ◌∷◌, length, ℕ, ◌<◌, Result, Ok, Err, OnErr, IsOk, Bor, inl, inr, refl, sym, ap, subst, ◌∙◌, arith}
+use Rattle.std.proofs.Common.{◌≡◌, ◌↔◌, Bool, true, false, List, [], ◌∷◌, map, length, ℕ, ◌<◌, Result, Ok, Err, OnErr, IsOk, Bor, inl, inr, refl, sym, ap, subst, ◌∙◌, arith}
+use Rattle.std.proofs.lemmas.Bool.{false≢true}
+use Rattle.std.specs.List.{items_where_true}
+use Rattle.std.specs.List.Retain.{IsFiltered, ReturnsInTurn}
 use Rattle.mqtt_topics.specs.Topics.{IsShared}
 use Rattle.mqtt_message.specs.declared.message.Message.{Message}
 use Rattle.subscription_set.specs.Entries.{Entry}
@@ -56,3 +59,19 @@ nothing_found live m rs h none = no_references rs (selected_once (IsFor m) (entr
 pub is_ok_of_none : {T E : Type 0} (n : ℕ) (r : Result T E) → n ≡ 0 → OnErr r (0 < n) → IsOk r
 is_ok_of_none n (Ok x) none h = refl
 is_ok_of_none n (Err e) none h = absurd (omega (arith, none, h))
+
+-- what `retain` keeps is what its test selects
+module _ {X Y F : Type 0} (R : F → X → Bool → F → Type 0) (P : Y → Type 0) (g : X → Y) (f : F) (h : (x : X) (b : Bool) (f' : F) → R f x b f' → ((b ≡ true) ↔ P (g x)) × (f' ≡ f)) where
+  selected_in_turn : (bs : List Bool) (xs : List X) (q : F) → length bs ≡ length xs → ReturnsInTurn R f bs xs q → IsSelected P (map g xs) (map g (items_where_true bs xs))
+  selected_in_turn [] [] q e t = refl
+  selected_in_turn [] (x ∷ xs) q e t = absurd (omega arith)
+  selected_in_turn (b ∷ bs) [] q e t = absurd t
+  selected_in_turn (true ∷ bs) (x ∷ xs) q e t =
+      let one = h x true t.0 t.1 in
+      inl (one.0.0 refl, (map g (items_where_true bs xs), refl, selected_in_turn bs xs q (omega arith) (subst (λ (y : F). ReturnsInTurn R y bs xs q) one.1 t.2)))
+  selected_in_turn (false ∷ bs) (x ∷ xs) q e t =
+      let one = h x false t.0 t.1 in
+      inr ((λ p. false≢true (one.0.1 p)), selected_in_turn bs xs q (omega arith) (subst (λ (y : F). ReturnsInTurn R y bs xs q) one.1 t.2))
+
+  pub selected_from_retain : (xs ys : List X) → IsFiltered R f xs ys → IsSelected P (map g xs) (map g ys)
+  selected_from_retain xs ys k = subst (λ zs. IsSelected P (map g xs) (map g zs)) (sym k.4) (selected_in_turn k.0 xs k.1 k.2 k.3)

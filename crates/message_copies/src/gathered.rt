@@ -48,8 +48,8 @@ fn front_of(client: &Text, entries: &[&Entry]) -> usize
     entries.len()
 }
 
-// The client of the subscription in a place, with its subscriptions from there on.
-fn member_at<'a>(entries: &'a [&'a Entry], place: usize) -> Member<'a>
+/// The client of the subscription in a place, with its subscriptions from there on.
+pub fn member_at<'a>(entries: &'a [&'a Entry], place: usize) -> Member<'a>
     requires there { place < length entries.now }
     requires order { IsSortedByKey client_of text_cmp (referents entries.now) }
     ensures within { place + length result.1.now ≤ length entries.now }

@@ -9,7 +9,7 @@ ghost use Rattle.message_copies.specs.Gathered.{by_client, client_of};
 ghost use Rattle.message_copies.specs.Tables.{referents};
 
 use crate::deliveries::copy_for;
-use crate::gathered::{by_client, sort_by_client};
+use crate::gathered::{member_at, sort_by_client};
 use crate::selected::{counted_among, found};
 use mqtt_fields::{NoMemory, Text};
 use mqtt_message::{Delivery, SharedMessage};
@@ -48,10 +48,12 @@ fn copies_in_order(
     ensures { IfOk result (λ out. out.items
         ≡ map_list (plain_copy message.now) (by_client (referents counted.now))) }
 {
-    let members = by_client(alloc, counted)?;
-    let mut out = Vec::with_capacity(alloc, members.len())?;
-    for (client, own) in &members {
-        out.push(plain_copy(alloc, message, *client, *own)?)?;
+    let mut out = Vec::with_capacity(alloc, counted.len())?;
+    let mut place = 0;
+    while place < counted.len() {
+        let (client, own) = member_at(counted, place);
+        out.push(plain_copy(alloc, message, client, own)?)?;
+        place += own.len();
     }
     Ok(out)
 }
@@ -73,15 +75,15 @@ fn copies_of(
 pub fn copies_among(
     alloc: Global,
     message: &SharedMessage,
-    found: &[&Entry],
+    found: Vec<&Entry>,
 ) -> Result<Vec<PlainCopy>, NoMemory>
-    ensures copies { IfOk result (λ out. AreCopiesAmong (referents found.now) message.now out.items) }
-    ensures memory { OnErr result (0 < length found.now) }
+    ensures copies { IfOk result (λ out. AreCopiesAmong (referents found.entry.items) message.now out.items) }
+    ensures memory { OnErr result (0 < length found.entry.items) }
 {
     if found.is_empty() {
         return Ok(Vec::new(alloc));
     }
-    let counted = counted_among(alloc, found, message.message())?;
+    let counted = counted_among(found, message.message());
     copies_of(alloc, message, counted)
 }
 
@@ -98,5 +100,5 @@ pub fn copies(
     ensures none { AreLive (IsFor message.now) (live subscriptions.now) [] → IsOk result }
 {
     let found = found(subscriptions, message)?;
-    copies_among(alloc, message, found.as_slice())
+    copies_among(alloc, message, found)
 }

@@ -41,21 +41,11 @@ pub fn found<'a>(
 }
 
 /// Those of the subscriptions that are plain and that No Local doesn't leave out.
-pub fn counted_among<'a>(
-    alloc: Global,
-    found: &[&'a Entry],
-    message: &Message,
-) -> Result<Vec<&'a Entry>, NoMemory>
-    ensures { IfOk result (λ out.
-        IsSelected (MayCount message.now) (referents found.now) (referents out.items)) }
+pub fn counted_among<'a>(mut found: Vec<&'a Entry>, message: &Message) -> Vec<&'a Entry>
+    ensures { IsSelected (MayCount message.now) (referents found.entry.items) (referents result.items) }
 {
-    let mut out = Vec::with_capacity(alloc, found.len())?;
-    for entry in found {
-        if may_count(message, *entry) {
-            out.push(*entry)?;
-        }
-    }
-    Ok(out)
+    found.retain(|entry| may_count(message, *entry));
+    found
 }
 
 /// Those of the subscriptions that are shared.

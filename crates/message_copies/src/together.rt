@@ -35,7 +35,7 @@ pub fn copies_and_picks(
     ensures none { AreLive (IsFor message.now) (live subscriptions.now) [] → IsOk result }
 {
     let found = found(subscriptions, message)?;
-    let copies = copies_among(alloc, message, found.as_slice())?;
     let picks = picks_among(alloc, message, found.as_slice(), turn)?;
+    let copies = copies_among(alloc, message, found)?;
     Ok(CopiesAndPicks { copies, picks })
 }

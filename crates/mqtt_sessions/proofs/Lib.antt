@@ -7,3 +7,4 @@ pub mod SpelledLaws
 pub mod ReactionLaws
 pub mod SavedLaws
 pub mod RemovedLaws
+pub mod KeepingLaws

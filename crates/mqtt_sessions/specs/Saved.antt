@@ -1,5 +1,9 @@
 -- What outlives a session's connections as rows, and what was told of them.
 use Rattle.std.specs.Prelude.{◌≡◌, ℕ, Bool, true, false, cond, map, List, [], ◌∷◌, ◌++◌, Option, Some, None, is_some, Result, Ok, Err, Vec}
+use Rattle.mqtt_fields.specs.declared.options.Qos.{Qos}
+use Rattle.mqtt_fields.specs.declared.options.Qos.TheVariants.{AtMostOnce, AtLeastOnce, ExactlyOnce}
+use Rattle.mqtt_packets.specs.declared.packet.Packet.{Packet}
+use Rattle.mqtt_packets.specs.declared.packet.Packet.TheVariants as packets
 use Rattle.qos_handshakes.specs.Incoming.{identifiers_of, of_identifiers}
 use Rattle.qos_handshakes.specs.Outbox.{away}
 use Rattle.qos_handshakes.specs.Restored.{restored}
@@ -72,6 +76,19 @@ begun_session client = record { tracked = record { state = new_session client; t
 
 abbrev pub reopened : Durable → Saved
 reopened d = record { tracked = record { state = state_in d; touched = [] }; told = told_of d }
+
+-- a packet that leaves what the session's own row has as it is
+abbrev pub is_single : Qos → Bool
+is_single AtMostOnce = true
+is_single AtLeastOnce = true
+is_single ExactlyOnce = false
+
+abbrev pub keeps_main : Packet → Bool
+keeps_main (packets.Publish p) = is_single p.qos
+keeps_main (packets.Subscribe p) = true
+keeps_main (packets.Unsubscribe p) = true
+keeps_main packets.Pingreq = true
+keeps_main p = false
 
 -- nothing is told by a call, and what changes of the copies is noted
 pub record Notes (old new : Saved) : Type 0 where

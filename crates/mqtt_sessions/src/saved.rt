@@ -1,6 +1,6 @@
 //! A session, and what was told last of its rows.
 
-ghost use Rattle.std.specs.Prelude.{◌≡◌, ◌++◌, List, [], ℕ, map, None, Some, MatchOption, IfOk, IfErr, OnOk, option_map};
+ghost use Rattle.std.specs.Prelude.{◌≡◌, ◌<◌, ◌^◌, ◌++◌, List, [], ℕ, map, None, Some, MatchOption, IfOk, IfErr, OnOk, option_map};
 ghost use Rattle.row_store.specs.Rows as store;
 ghost use Rattle.qos_handshakes.specs.Touched.{AreListed};
 ghost use Rattle.session_rows.specs.Changes as changes;
@@ -12,17 +12,20 @@ ghost use Rattle.qos_handshakes.specs.Entries.{at_place};
 ghost use Rattle.std.specs.Map.{keys_of};
 ghost use Rattle.mqtt_sessions.specs.Removed.{Removes, gone_at, gone_of, own_removal, own_told, removed_before};
 ghost use Rattle.mqtt_sessions.specs.Called.{IsFault};
+ghost use Rattle.mqtt_packets.specs.Written.{HasSpelling};
+ghost use Rattle.mqtt_sessions.specs.Packets.{PacketEnds, PacketStep, WantsMemory};
 ghost use Rattle.mqtt_sessions.specs.Reaction.{AreSpelled};
 ghost use Rattle.mqtt_sessions.specs.Sending.{QueueEnds, QueueStep};
-ghost use Rattle.mqtt_sessions.specs.Saved.{Appends, Notes, Tells, begun_session, durable_of, main_of, own_before, told_before, told_of, tracked_in};
+ghost use Rattle.mqtt_sessions.specs.Saved.{Appends, Notes, Tells, begun_session, durable_of, main_of, keeps_main, own_before, told_before, told_of, tracked_in};
 
 use crate::fault::SessionFault;
 use crate::kept::Kept;
 use crate::reaction::Reaction;
 use crate::running::Running;
 use crate::sending::is_once;
-use mqtt_fields::{NoMemory, Text};
+use mqtt_fields::{NoMemory, Qos, Text};
 use mqtt_message::Delivery;
+use mqtt_packets::Packet;
 use qos_handshakes::Outgoing;
 use row_store::{Change, Row};
 use session_rows::{Opened, Told, copy_changes, own_change, own_left, rows, write_main};
@@ -128,6 +131,20 @@ fn push_told(
     Ok(())
 }
 
+/// Whether a packet leaves what the session's own row has as it is.
+fn keeps_own_row(packet: &Packet) -> bool
+    ensures { result ≡ keeps_main packet.now }
+{
+    match packet {
+        Packet::Publish(publish) => match publish.qos {
+            Qos::AtMostOnce | Qos::AtLeastOnce => true,
+            Qos::ExactlyOnce => false,
+        },
+        Packet::Subscribe(_) | Packet::Unsubscribe(_) | Packet::Pingreq => true,
+        _ => false,
+    }
+}
+
 /// A session that isn't spent.
 #[derive(Drop)]
 pub(crate) struct Live {
@@ -195,6 +212,28 @@ impl Live {
         // After a fault nothing is known of its own row.
         self.stale = true;
         let reaction = self.running.queue(delivery, now)?;
+        self.stale = stale;
+        Ok(reaction)
+    }
+
+    /// A packet that came. `room` is whether a retained message would be taken.
+    pub(crate) fn packet(
+        &mut self,
+        packet: &Packet,
+        room: bool,
+        now: u64,
+    ) -> Result<Reaction, SessionFault>
+        requires spelled { HasSpelling packet.now }
+        requires moment { now < 2 ^ 62 }
+        ensures step { IfOk result (λ r. PacketStep packet.now now room self.old.tracked.state r self.new.tracked.state) }
+        ensures spelled { IfOk result (λ r. AreSpelled now r.packets) }
+        ensures fault { IfErr result (λ e. IsFault (WantsMemory packet.now) (PacketEnds packet.now self.old.tracked.state) e) }
+        ensures notes { OnOk result (Notes self.old self.new) }
+    {
+        let stale = self.stale || !keeps_own_row(packet);
+        // After a fault nothing is known of its own row.
+        self.stale = true;
+        let reaction = self.running.packet(packet, room, now)?;
         self.stale = stale;
         Ok(reaction)
     }

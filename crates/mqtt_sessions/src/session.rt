@@ -124,13 +124,16 @@ impl Session {
         ensures spelled { IfOk result (λ r. AreSpelled now r.packets) }
         ensures notes { NotesIf self.old self.new }
     {
-        let Some(mut live) = self.live.take() else {
+        let Some(live) = &mut self.live else {
             return Err(SessionFault::Spent);
         };
-        live.stale = true;
-        let reaction = live.running.packet(packet, room, now)?;
-        self.live = Some(live);
-        Ok(reaction)
+        match live.packet(packet, room, now) {
+            Ok(reaction) => Ok(reaction),
+            Err(fault) => {
+                self.live = None;
+                Err(fault)
+            }
+        }
     }
 
     /// The codes of the SUBSCRIBE or UNSUBSCRIBE that was asked for last, one for each filter in order: SUBACK or

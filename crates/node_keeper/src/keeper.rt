@@ -143,6 +143,15 @@ impl<R: RowStore> Keeper<R> {
         rows
     }
 
+    /// Gives the node and the rows.
+    pub fn into_parts(self) -> (Node, R)
+        ensures node { result.0 ≡ node_of self }
+        ensures rows { result.1 ≡ rows_of self }
+    {
+        let Keeper { node, rows, .. } = self;
+        (node, rows)
+    }
+
     /// A crash: the node is down, and the rows stay.
     pub fn crash(&mut self)
         ensures node { (node_of self.new) ≡ record (node_of self.old) { up = None } }

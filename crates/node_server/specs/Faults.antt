@@ -1,8 +1,8 @@
 -- Why a run of a node ends before its end.
-use Rattle.broker_sockets.specs.declared.turn.TurnFault.{TurnFault}
-use Rattle.broker_sockets.specs.declared.turn.TurnFault.TheVariants as turns
 use Rattle.broker_stop.specs.declared.run_fault.RunFault.{RunFault}
 use Rattle.broker_stop.specs.declared.run_fault.RunFault.TheVariants as runs
+use Rattle.broker_turns.specs.declared.turn.TurnFault.{TurnFault}
+use Rattle.broker_turns.specs.declared.turn.TurnFault.TheVariants as turns
 use Rattle.node_keeper.specs.declared.fault.KeeperFault.{KeeperFault}
 use Rattle.node_keeper.specs.declared.fault.KeeperFault.TheVariants as keepers
 

@@ -4,3 +4,4 @@ pub mod Outputs
 pub mod Peers
 pub mod Printing
 pub mod Serving
+pub mod Views

@@ -3,8 +3,8 @@
 ghost use Rattle.std.specs.Prelude.{◌≡◌};
 ghost use Rattle.node_server.specs.Faults.{of_node, of_turn};
 
-use broker_sockets::TurnFault;
 use broker_stop::RunFault;
+use broker_turns::TurnFault;
 use node_keeper::KeeperFault;
 
 /// A fault of the node, as one of the run.

@@ -8,8 +8,9 @@ ghost use Rattle.node_server.specs.Printing.{ready_line, turns_line};
 use crate::fault::{of_node, of_turn};
 use crate::peers::peers_of;
 use crate::served::ServedNode;
-use broker_sockets::{Clock, Hub, Setting, Sockets, bind};
+use broker_sockets::{Clock, Readiness, Sockets, bind};
 use broker_stop::RunFault;
+use broker_turns::{Hub, Setting};
 use home_table::HomeTable;
 use node_keeper::Keeper;
 use row_store::RowStore;
@@ -65,7 +66,7 @@ fn tell_turns<W: Write>(out: &mut W, turns: u32) -> Result<(), RunFault>
 }
 
 /// Starts a node, and makes so many turns over the clients that come and the other nodes.
-fn run_node<S: Sockets, C: Clock, R: RowStore + Drop>(
+fn run_node<S: Readiness, C: Clock, R: RowStore + Drop>(
     alloc: Global,
     sockets: &mut S,
     clock: &mut C,
@@ -91,7 +92,7 @@ fn run_node<S: Sockets, C: Clock, R: RowStore + Drop>(
 /// The faults in their order: the node's where it can't be opened, `Socket` where one of its addresses or another node's
 /// bridge isn't an IP address with a port, or its own can't be waited at, `Output` where a line can't be printed, and the
 /// node's where a turn stops.
-pub fn serve<S: Sockets, C: Clock, R: RowStore + Drop, W: Write>(
+pub fn serve<S: Readiness, C: Clock, R: RowStore + Drop, W: Write>(
     alloc: Global,
     sockets: &mut S,
     clock: &mut C,

@@ -7,6 +7,7 @@ ghost use Rattle.node_server.specs.Serving.{IsCrashed};
 
 use crate::convert::{event_of, for_all, for_clients, peer_event_of};
 use broker_sockets::{BridgeHandler, Event, Given, Handler, Output, PeerEvent};
+use node_batches::BatchKeeper;
 use node_keeper::{Keeper, KeeperFault};
 use node_work::Output as Made;
 use row_store::RowStore;
@@ -16,22 +17,30 @@ use std::alloc::Global;
 #[derive(Drop)]
 pub struct ServedNode<R> {
     alloc: Global,
-    keeper: Keeper<R>,
+    keeper: BatchKeeper<R>,
 }
 
 impl<R: RowStore> ServedNode<R> {
+    ghost use Rattle.node_batches.specs.Views.{node_in, rows_in, waiting_in};
+    ghost use Rattle.node_keeper.specs.Views.{node_of, rows_of};
+
     /// A node that is to be served.
     pub fn new(alloc: Global, keeper: Keeper<R>) -> ServedNode<R>
-        ensures { result.keeper ≡ keeper }
+        ensures node { node_in result.keeper ≡ node_of keeper }
+        ensures rows { rows_in result.keeper ≡ rows_of keeper }
+        ensures nothing { waiting_in result.keeper ≡ [] }
     {
-        ServedNode { alloc, keeper }
+        ServedNode {
+            alloc,
+            keeper: BatchKeeper::new(alloc, keeper),
+        }
     }
 }
 
 /// Hands over what of the outputs is for clients. Where there is no memory for it the node stops, as in a crash.
 fn hand_over<R: RowStore>(
     alloc: Global,
-    keeper: &mut Keeper<R>,
+    keeper: &mut BatchKeeper<R>,
     made: Vec<Made>,
 ) -> Result<Vec<Output>, KeeperFault>
     ensures ok { IfOk result (λ handed. AreForClients made.items handed.items × (keeper.new ≡ keeper.old)) }
@@ -49,7 +58,7 @@ fn hand_over<R: RowStore>(
 /// Hands over all outputs, in the same way.
 fn give_all<R: RowStore>(
     alloc: Global,
-    keeper: &mut Keeper<R>,
+    keeper: &mut BatchKeeper<R>,
     made: Vec<Made>,
 ) -> Result<Given, KeeperFault>
     ensures ok { IfOk result (λ given. AreForClients made.items given.outputs.items × AreForPeers made.items given.frames.items × (keeper.new ≡ keeper.old)) }
@@ -68,19 +77,28 @@ impl<R: RowStore> Handler for ServedNode<R> {
     type Fault = KeeperFault;
 
     ghost use Rattle.node_server.specs.Events.{event_of};
-    ghost use Rattle.node_server.specs.Serving.{IsAnsweredToClients, IsHalted};
+    ghost use Rattle.node_server.specs.Serving.{IsAnsweredToClients, IsCommitted, IsCutOff, IsHalted};
 
-    ghost handles = { λ s told handed s'. IsAnsweredToClients R.is_clean R.is_open R.content s.keeper (event_of told) handed s'.keeper };
+    ghost handles = { λ s told handed s'. IsAnsweredToClients s.keeper (event_of told) handed s'.keeper };
 
-    ghost refuses = { λ s told fault s'. IsHalted R.is_clean R.is_open R.content R.may_leave s.keeper (event_of told) fault s'.keeper };
+    ghost refuses = { λ s told fault s'. IsHalted s.keeper (event_of told) fault s'.keeper };
 
-    /// Hands the event to the node. After a fault the node has stopped.
+    ghost settles = { λ s s'. IsCommitted R.is_clean R.is_open R.content R.may_leave s.keeper s'.keeper };
+
+    ghost stops = { λ s fault s'. IsCutOff R.is_clean R.is_open R.content R.may_leave s.keeper fault s'.keeper };
+
+    /// Hands the event to the node, whose rows stay. After a fault the node has stopped.
     fn handle(&mut self, told: Event) -> Result<Vec<Output>, KeeperFault> {
         let event = event_of(told);
-        match self.keeper.handle(&event) {
+        match self.keeper.decide(&event) {
             Ok(made) => hand_over(self.alloc, &mut self.keeper, made),
             Err(fault) => Err(fault),
         }
+    }
+
+    /// Changes the rows as all events since the last call tell, at once. After a fault the node has stopped.
+    fn settle(&mut self) -> Result<(), KeeperFault> {
+        self.keeper.commit()
     }
 }
 
@@ -88,14 +106,14 @@ impl<R: RowStore> BridgeHandler for ServedNode<R> {
     ghost use Rattle.node_server.specs.Events.{peer_event_of};
     ghost use Rattle.node_server.specs.Serving.{IsAnsweredToAll, IsHalted};
 
-    ghost hears = { λ s told given s'. IsAnsweredToAll R.is_clean R.is_open R.content s.keeper (peer_event_of told) given s'.keeper };
+    ghost hears = { λ s told given s'. IsAnsweredToAll s.keeper (peer_event_of told) given s'.keeper };
 
-    ghost declines = { λ s told fault s'. IsHalted R.is_clean R.is_open R.content R.may_leave s.keeper (peer_event_of told) fault s'.keeper };
+    ghost declines = { λ s told fault s'. IsHalted s.keeper (peer_event_of told) fault s'.keeper };
 
-    /// Hands the event to the node. After a fault the node has stopped.
+    /// Hands the event to the node, whose rows stay. After a fault the node has stopped.
     fn hear(&mut self, told: PeerEvent) -> Result<Given, KeeperFault> {
         let event = peer_event_of(told);
-        match self.keeper.handle(&event) {
+        match self.keeper.decide(&event) {
             Ok(made) => give_all(self.alloc, &mut self.keeper, made),
             Err(fault) => Err(fault),
         }

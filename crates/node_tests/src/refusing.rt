@@ -4,12 +4,13 @@ ghost use Rattle.std.specs.Prelude.{◌≡◌, ◌⊎◌, ◌<◌, ◌^◌, ◌-
 use row_store::{Change, MemoryRows, Row, RowFault, RowStore};
 use std::alloc::Global;
 
-/// The rows, and how many calls are still answered before the one that is refused. With 0 none is.
+/// The rows, how many calls are still answered before the one that is refused (with 0 none is), and how often rows were to be changed.
 #[derive(Drop)]
 pub struct RefusingRows {
     rows: MemoryRows,
     left: u64,
     failures: u64,
+    writes: u64,
 }
 
 impl RefusingRows {
@@ -19,7 +20,13 @@ impl RefusingRows {
             rows: MemoryRows::new(alloc),
             left: refused,
             failures: 0,
+            writes: 0,
         }
+    }
+
+    /// How often rows were to be changed.
+    pub fn writes(&self) -> u64 {
+        self.writes
     }
 
     /// Whether this call is refused, which is then counted.
@@ -56,6 +63,7 @@ impl RowStore for RefusingRows {
         if changes.is_empty() {
             return Ok(());
         }
+        self.writes = self.writes.saturating_add(1);
         if self.refuses() {
             return Err(RowFault::Device);
         }

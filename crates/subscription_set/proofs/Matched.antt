@@ -1,5 +1,6 @@
 -- Dots under the filters that match a name.
-use Rattle.std.proofs.Common.{◌≡◌, ℕ, zero, suc, ◌+◌, ◌<◌, length, get_or, take, arith, Bool, true, false, ◌||◌, ◌&&◌, List, [], ◌∷◌, map as map_list, inl, inr, refl, sym, ap, subst, ◌∙◌}
+use Rattle.std.proofs.Common.{◌≡◌, ℕ, ◌+◌, ◌<◌, length, get_or, take, arith, Bool, true, false, ◌||◌, ◌&&◌, List, [], ◌∷◌, map as map_list, Result, Ok, Err, inl, inr, refl, sym, ap, subst, ◌∙◌}
+use Rattle.std.specs.Prelude.{IsOk, OnErr}
 use Rattle.std.specs.List.{list_any}
 use Rattle.std.specs.Cmp.{Equal-is}
 use Rattle.std.specs.Ordering.{eq_by_cmp, is_eq}
@@ -121,13 +122,18 @@ module _ (m : map.FinMap text_cmp Dots) (filled : IsFilled m) (name : List ℕ) 
 
 -- ---- lists
 
-pub at_place : {X : Type 0} (xs : List X) (i : ℕ) (x : X) → x ≡ get_or xs i x → i < length xs → IsIn xs x
-at_place [] i x e lt = absurd (omega arith)
-at_place (y ∷ ys) zero x e lt = λ t p. ap (λ b. b || list_any t ys) (ap t (sym e) ∙ p)
-at_place (y ∷ ys) (suc i) x e lt = λ t p. ap (λ b. t y || b) (at_place ys i x e (omega arith) t p) ∙ either (t y)
+-- a list with an element has one
+pub some_in : {X : Type 0} (xs : List X) → 0 < length xs → (x : X) × IsIn xs x
+some_in [] h = absurd (omega arith)
+some_in (x ∷ xs) h = (x, (λ t p. ap (λ b. b || list_any t xs) p))
 
 pub in_map : {X Y : Type 0} (g : X → Y) (xs : List X) (x : X) → IsIn xs x → IsIn (map_list g xs) (g x)
 in_map g xs x h t p = any_map t g xs ∙ h (λ y. t (g y)) p
 
 pub any_more : {X : Type 0} (t : X → Bool) (xs : List X) (i : ℕ) (x : X) → x ≡ get_or xs i x → i < length xs → (list_any t (take i xs) || t x) ≡ list_any t (take (i + 1) xs)
 any_more t xs i x e lt = ap (λ b. list_any t (take i xs) || b) (sym (or_false (t x)) ∙ ap (λ y. t y || false) e) ∙ sym (any_both t (take i xs) (get_or xs i x ∷ [])) ∙ ap (list_any t) (sym (take_more xs i x lt))
+
+-- an error that says what isn't so isn't there
+pub ok_where : {A E P : Type 0} (r : Result A E) → ¬ P → OnErr r P → IsOk r
+ok_where (Ok a) not h = refl
+ok_where (Err e) not h = absurd (not h)

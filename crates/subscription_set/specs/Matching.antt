@@ -4,6 +4,8 @@ use Rattle.std.specs.FinSet as set
 use Rattle.causal_context.specs.Dots.{Dot, Dots}
 use Rattle.mqtt_topics.specs.Matching.{Matches}
 use Rattle.subscription_set.specs.Filing.{Filed}
+use Rattle.subscription_set.specs.declared.by_filter.Matched.{Matched}
+use Rattle.subscription_set.specs.declared.by_filter.Matched.TheVariants.{One, Many}
 
 -- a dot is under a filter that matches the name
 abbrev pub MatchesAt : Filed → List ℕ → Dot → Type 0
@@ -16,3 +18,8 @@ HasMatch v name = (d : Dot) × MatchesAt v name d
 -- s has just the dots under filters that match the name
 abbrev pub IsMatched : Filed → List ℕ → Dots → Type 0
 IsMatched v name s = (d : Dot) → (set.contains s d ≡ true) ↔ MatchesAt v name d
+
+-- the dots that were found, where they lie or in a set of their own
+abbrev pub dots_of : Matched → Dots
+dots_of (One dots) = dots.now
+dots_of (Many dots) = dots

@@ -1,9 +1,10 @@
 //! Dots under filters, found by the topic names that the filters match.
-ghost use Rattle.std.specs.Prelude.{◌≡◌, ◌||◌, None, OnOk, OnErr, IfOk, IsOk};
+ghost use Rattle.std.specs.Prelude.{◌≡◌, ◌<◌, ◌||◌, None, OnOk, OnErr, IfOk, IsOk, length};
+ghost use Rattle.std.specs.List.{list_any};
 ghost use Rattle.std.specs.FinMap as map;
 ghost use Rattle.std.specs.FinSet as set;
 ghost use Rattle.causal_context.specs.Dots.{Dot as DotValue};
-ghost use Rattle.subscription_set.specs.Matching.{HasMatch, IsMatched};
+ghost use Rattle.subscription_set.specs.Matching.{HasMatch, IsMatched, dots_of};
 
 use crate::dots::DotSet;
 use causal_context::Dot;
@@ -55,6 +56,25 @@ fn add_first(
     }
 }
 
+/// The dots under the filters that match a name: those that lie under one filter, or a set of those under several.
+#[derive(Drop)]
+pub enum Matched<'a> {
+    One(&'a DotSet),
+    Many(DotSet),
+}
+
+impl Matched<'_> {
+    /// The set.
+    pub fn dots(&self) -> &DotSet
+        ensures { result.now ≡ dots_of self.now }
+    {
+        match self {
+            Matched::One(dots) => *dots,
+            Matched::Many(dots) => dots,
+        }
+    }
+}
+
 // Adds the dots to a set.
 fn add_all(out: &mut DotSet, dots: &DotSet) -> Result<(), NoMemory>
     ensures { OnOk result ((d : DotValue) → set.contains out.new d
@@ -64,6 +84,31 @@ fn add_all(out: &mut DotSet, dots: &DotSet) -> Result<(), NoMemory>
         out.insert(*dot)?;
     }
     Ok(())
+}
+
+// The dots of all the sets. Only these take memory.
+fn united(alloc: Global, found: &[(&Filter, &DotSet)]) -> Result<DotSet, NoMemory>
+    ensures dots { IfOk result (λ out. (d : DotValue) → set.contains out d
+        ≡ list_any (λ r. set.contains r.1.now d) found.now) }
+    ensures memory { OnErr result (0 < length found.now) }
+{
+    let mut out = DotSet::new(alloc);
+    for (_, dots) in found {
+        add_all(&mut out, *dots)?;
+    }
+    Ok(out)
+}
+
+// The same, where they lie if there is one set.
+fn gather<'a>(alloc: Global, found: &[(&'a Filter, &'a DotSet)]) -> Result<Matched<'a>, NoMemory>
+    ensures dots { IfOk result (λ out. (d : DotValue) → set.contains (dots_of out) d
+        ≡ list_any (λ r. set.contains r.1.now d) found.now) }
+    ensures memory { OnErr result (0 < length found.now) }
+{
+    if let [(_, dots)] = found {
+        return Ok(Matched::One(*dots));
+    }
+    Ok(Matched::Many(united(alloc, found)?))
 }
 
 impl ByFilter {
@@ -106,15 +151,11 @@ impl ByFilter {
     }
 
     /// The dots under the filters that match the name. Only such a dot takes memory.
-    pub fn matching(&self, name: &TopicName) -> Result<DotSet, NoMemory>
-        ensures dots { IfOk result (λ out. IsMatched self.now name.now out) }
+    pub fn matching(&self, name: &TopicName) -> Result<Matched<'_>, NoMemory>
+        ensures dots { IfOk result (λ out. IsMatched self.now name.now (dots_of out)) }
         ensures none { (HasMatch self.now name.now → ⊥) → IsOk result }
     {
         let found = self.dots.matching(name)?;
-        let mut out = DotSet::new(self.alloc);
-        for (_, dots) in &found {
-            add_all(&mut out, *dots)?;
-        }
-        Ok(out)
+        gather(self.alloc, found.as_slice())
     }
 }

@@ -10,10 +10,11 @@ ghost use Rattle.std.specs.FinMap.Entries.{where_key};
 ghost use Rattle.subscription_set.specs.Entries.{same_text};
 ghost use Rattle.subscription_set.specs.Standing.{latest};
 ghost use Rattle.subscription_set.specs.Filing.{IsPlaced};
+ghost use Rattle.subscription_set.specs.Matching.{dots_of};
 ghost use Rattle.subscription_set.specs.Indexing.{IsStanding, MatchesName, stands_as};
 
 use crate::by_client::ByClient;
-use crate::by_filter::ByFilter;
+use crate::by_filter::{ByFilter, Matched};
 use crate::dots::DotSet;
 use crate::entry::Entry;
 use crate::groups::Groups;
@@ -200,8 +201,8 @@ impl EntryMap {
     }
 
     /// The dots of the entries whose filter matches the name. Only such a dot takes memory.
-    pub fn matching(&self, name: &TopicName) -> Result<DotSet, NoMemory>
-        ensures dots { IfOk result (λ out. (d : DotValue) → (set.contains out d ≡ true) ↔ MatchesName name.now (map.get self.now d)) }
+    pub fn matching(&self, name: &TopicName) -> Result<Matched<'_>, NoMemory>
+        ensures dots { IfOk result (λ out. (d : DotValue) → (set.contains (dots_of out) d ≡ true) ↔ MatchesName name.now (map.get self.now d)) }
         ensures none { ((d : DotValue) → MatchesName name.now (map.get self.now d) → ⊥) → IsOk result }
     {
         self.index.matches.matching(name)

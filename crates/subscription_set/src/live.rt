@@ -216,7 +216,8 @@ pub fn latest_matching<'a>(
     ensures none { IsSelected (λ e. Matches e.filter name.now)
         (map_list (λ x. x.1) (latest (map.entries entries.now))) [] → IsOk result }
 {
-    let dots = entries.matching(name)?;
+    let found = entries.matching(name)?;
+    let dots = found.dots();
     let all_latest = are_all_latest(entries);
     let mut out = Vec::new(alloc);
     for dot in dots.iter() {

@@ -1,7 +1,6 @@
-use Rattle.std.proofs.Common.{sym, subst}
 use Rattle.std.proofs.lemmas.Result.{IfOk-weaker}
 use Rattle.subscription_set.specs.Standing.{live}
-use Rattle.message_copies.specs.Copies.{AreCopies, AreCopiesAmong, AreLive, IsFor}
+use Rattle.message_copies.specs.Copies.{AreCopies, AreCopiesAmong}
 use Rattle.message_copies.specs.Tables.{referents}
 use Rattle.message_copies.proofs.Selecting.{copies_found, nothing_found, is_ok_of_none}
 use Rattle.message_copies.proofs.plain.copies.Goals as goal
@@ -9,14 +8,14 @@ use Rattle.message_copies.proofs.plain.copies.Goals as goal
 pub returns-clause-copies : goal.returns-clause-copies
 returns-clause-copies c =
     let m = c.args.message.now in
-    let es = c.as_slice.result.now in
-    let found = subst (λ rs. AreLive (IsFor m) (live c.args.subscriptions.now) (referents rs)) (sym c.as_slice.ensures.value) c.in_ok-found.ensures.found in
+    let es = c.in_ok-found.found.items in
+    let found = c.in_ok-found.ensures.found in
     IfOk-weaker c.copies_among.result (λ out. AreCopiesAmong (referents es) m out.items) (λ out. AreCopies (live c.args.subscriptions.now) m out.items)
     (λ out among. copies_found (live c.args.subscriptions.now) m (referents es) out.items found among) c.copies_among.ensures.copies
 
 pub returns-clause-none : goal.returns-clause-none
 returns-clause-none c = λ none.
     let m = c.args.message.now in
-    let es = c.as_slice.result.now in
-    let found = subst (λ rs. AreLive (IsFor m) (live c.args.subscriptions.now) (referents rs)) (sym c.as_slice.ensures.value) c.in_ok-found.ensures.found in
+    let es = c.in_ok-found.found.items in
+    let found = c.in_ok-found.ensures.found in
     is_ok_of_none _ c.copies_among.result (nothing_found (live c.args.subscriptions.now) m es found none) c.copies_among.ensures.memory

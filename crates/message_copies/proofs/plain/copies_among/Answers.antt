@@ -10,5 +10,5 @@ use Rattle.message_copies.proofs.plain.copies_among.Goals as goal
 
 pub returns-then-is_empty-clause-copies : goal.returns-then-is_empty-clause-copies
 returns-then-is_empty-clause-copies c =
-    let zero : length c.args.found.now ≡ 0 = grind (arith, common_steps) in
-    ([], subst (λ es. IsSelected (MayCount c.args.message.now) es []) (sym (no_referents c.args.found.now zero)) refl, c.new.ensures.items ∙ ap (map_list (plain_copy c.args.message.now)) (holds_nothing text_total text_anti client_of [] refl))
+    let zero : length c.args.found.items ≡ 0 = grind (arith, common_steps) in
+    ([], subst (λ es. IsSelected (MayCount c.args.message.now) es []) (sym (no_referents c.args.found.items zero)) refl, c.new.ensures.items ∙ ap (map_list (plain_copy c.args.message.now)) (holds_nothing text_total text_anti client_of [] refl))

@@ -7,22 +7,20 @@ use Rattle.message_copies.proofs.together.copies_and_picks.Goals as goal
 
 pub returns-in_err-copies-clause-none : goal.returns-in_err-copies-clause-none
 returns-in_err-copies-clause-none c = λ none.
-    let found = subst (λ rs. AreLive (IsFor c.args.message.now) (live c.args.subscriptions.now) (referents rs)) (sym c.as_slice.ensures.value) c.in_ok-found.ensures.found in
-    let zero = nothing_found (live c.args.subscriptions.now) c.args.message.now c.as_slice.result.now found none in
+    let zero = nothing_found (live c.args.subscriptions.now) c.args.message.now c.in_ok-found.found.items c.in_ok-found.ensures.found none in
     absurd (omega (arith, zero, c.in_err-copies.ensures.memory))
 
 pub returns-in_err-picks-clause-none : goal.returns-in_err-picks-clause-none
 returns-in_err-picks-clause-none c = λ none.
-    let found = subst (λ rs. AreLive (IsFor c.args.message.now) (live c.args.subscriptions.now) (referents rs)) (sym c.as_slice-2.ensures.value) c.in_ok-found.ensures.found in
-    let zero = nothing_found (live c.args.subscriptions.now) c.args.message.now c.as_slice-2.result.now found none in
+    let found = subst (λ rs. AreLive (IsFor c.args.message.now) (live c.args.subscriptions.now) (referents rs)) (sym c.as_slice.ensures.value) c.in_ok-found.ensures.found in
+    let zero = nothing_found (live c.args.subscriptions.now) c.args.message.now c.as_slice.result.now found none in
     absurd (omega (arith, zero, c.in_err-picks.ensures.memory))
 
 pub returns-clause-copies : goal.returns-clause-copies
 returns-clause-copies c =
-    let found = subst (λ rs. AreLive (IsFor c.args.message.now) (live c.args.subscriptions.now) (referents rs)) (sym c.as_slice.ensures.value) c.in_ok-found.ensures.found in
-    copies_found (live c.args.subscriptions.now) c.args.message.now (referents c.as_slice.result.now) c.in_ok-copies.copies.items found c.in_ok-copies.ensures.copies
+    copies_found (live c.args.subscriptions.now) c.args.message.now (referents c.in_ok-found.found.items) c.in_ok-copies.copies.items c.in_ok-found.ensures.found c.in_ok-copies.ensures.copies
 
 pub returns-clause-picks : goal.returns-clause-picks
 returns-clause-picks c =
-    let found = subst (λ rs. AreLive (IsFor c.args.message.now) (live c.args.subscriptions.now) (referents rs)) (sym c.as_slice-2.ensures.value) c.in_ok-found.ensures.found in
-    picks_found c.args.turn (live c.args.subscriptions.now) c.args.message.now (referents c.as_slice-2.result.now) c.in_ok-picks.picks.items found c.in_ok-picks.ensures.picks
+    let found = subst (λ rs. AreLive (IsFor c.args.message.now) (live c.args.subscriptions.now) (referents rs)) (sym c.as_slice.ensures.value) c.in_ok-found.ensures.found in
+    picks_found c.args.turn (live c.args.subscriptions.now) c.args.message.now (referents c.as_slice.result.now) c.in_ok-picks.picks.items found c.in_ok-picks.ensures.picks

@@ -1,0 +1,11 @@
+pub mod Handling
+pub mod LinkOrder
+pub mod Linking
+pub mod Naming
+pub mod Numbering
+pub mod OrderLaws
+pub mod Serving
+pub mod Settling
+pub mod Stepping
+pub mod Telling
+pub mod Turning

@@ -1,0 +1,12 @@
+pub mod Bridging
+pub mod Clients
+pub mod Connections
+pub mod Faults
+pub mod Handling
+pub mod Lines
+pub mod Numbers
+pub mod Order
+pub mod Serving
+pub mod Steps
+pub mod Turns
+pub mod Writing

@@ -1,0 +1,146 @@
+//! Links between nodes, and what is given out for them.
+ghost use Rattle.std.specs.Prelude.{◌≡◌, ◌∷◌, [], length, OnOk, IfOk};
+ghost use Rattle.broker_turns.specs.Lines.{Framed, fresh_line, is_due, is_rested, marked};
+ghost use Rattle.broker_turns.specs.Bridging.{IsLineRead, IsLineWritten};
+
+use broker_sockets::{Answer, Held, PeerFrame, Sockets, Unsent};
+use std::alloc::{AllocError, Global};
+
+/// One socket between two nodes: what came of a frame that isn't whole yet, what waits to be written, and when more was
+/// asked for last, if frames came of that.
+#[derive(Drop)]
+pub struct Line<T: Drop> {
+    pub stream: T,
+    pub held: Held,
+    pub unsent: Unsent,
+    pub asked: Option<u64>,
+}
+
+/// A link with more unsent bytes than this is closed.
+const MOST_UNSENT: usize = 536870912;
+
+/// For so many milliseconds no more is asked for, so that what was given can be answered.
+const PAUSE: u64 = 10;
+
+/// What a read of a link brought: the frames that it made whole, in order, whether the link goes on, and whether it may have
+/// more.
+#[derive(Drop)]
+pub struct Heard {
+    pub frames: Vec<Vec<u8>>,
+    pub goes_on: bool,
+    pub more: bool,
+}
+
+/// Whether so many milliseconds have passed since a moment, if there was one. A clock that is set back doesn't make it longer.
+pub fn is_rested(pause: u64, last: Option<u64>, at: u64) -> bool
+    ensures { result ≡ is_rested pause at last }
+{
+    match last {
+        Some(last) => at < last || at - last >= pause,
+        None => true,
+    }
+}
+
+impl<T: Drop> Line<T> {
+    /// A link on which nothing has come and nothing waits.
+    pub fn new(alloc: Global, stream: T) -> Self
+        ensures { result ≡ fresh_line stream }
+    {
+        Line {
+            stream,
+            held: Held::new(alloc),
+            unsent: Unsent::new(alloc),
+            asked: None,
+        }
+    }
+
+    /// Whether more is to be asked for at a moment.
+    pub fn is_due(&self, at: u64) -> bool
+        ensures { result ≡ is_due at self.now }
+    {
+        self.unsent.len() == 0 && is_rested(PAUSE, self.asked, at)
+    }
+
+    /// More was asked for at a moment.
+    pub fn mark(&mut self, at: u64)
+        ensures { self.new ≡ marked at self.old }
+    {
+        if self.unsent.len() > 0 {
+            self.asked = Some(at);
+        }
+    }
+}
+
+/// Asks a link once for bytes.
+pub fn read_line<S: Sockets>(
+    alloc: Global,
+    line: &mut Line<S::Stream>,
+    buffer: &mut [u8],
+    sockets: &mut S,
+) -> Result<Heard, AllocError>
+    requires { length buffer.old ≡ 65536 }
+    ensures { IfOk result (λ heard. IsLineRead S.reads sockets.old line.old heard.frames.items heard.goes_on heard.more sockets.new line.new) }
+{
+    match sockets.read(&mut line.stream, buffer) {
+        Answer::Later => Ok(Heard {
+            frames: Vec::new(alloc),
+            goes_on: true,
+            more: false,
+        }),
+        Answer::Bytes(count) => {
+            let came = line.held.take(alloc, &buffer[..count])?;
+            Ok(Heard {
+                frames: came.frames,
+                goes_on: came.goes_on,
+                more: came.goes_on,
+            })
+        }
+        Answer::Gone => Ok(Heard {
+            frames: Vec::new(alloc),
+            goes_on: false,
+            more: false,
+        }),
+    }
+}
+
+/// Offers what waits to a link, and tells whether it goes on.
+pub fn write_line<S: Sockets>(line: &mut Line<S::Stream>, sockets: &mut S) -> bool
+    ensures { IsLineWritten S.writes sockets.old line.old result sockets.new line.new }
+{
+    if line.unsent.len() == 0 {
+        return true;
+    }
+    match line.unsent.write_to(sockets, &mut line.stream) {
+        Answer::Later => line.unsent.len() <= MOST_UNSENT,
+        Answer::Bytes(_) => line.unsent.len() <= MOST_UNSENT,
+        Answer::Gone => false,
+    }
+}
+
+/// Gives one frame to the link of its peer, if there is one.
+fn give_one<T: Drop>(links: &mut [Option<Line<T>>], frame: PeerFrame) -> Result<(), AllocError>
+    ensures ok { OnOk result (Framed (frame ∷ []) links.old links.new) }
+    ensures len { OnOk result (length links.new ≡ length links.old) }
+{
+    let peer = usize::from(frame.peer);
+    if peer < links.len() {
+        if let Some(line) = &mut links[peer] {
+            line.unsent.push(frame.bytes)?;
+        }
+    }
+    Ok(())
+}
+
+/// Gives frames to the links of their peers, in order.
+pub fn give<T: Drop>(
+    links: &mut [Option<Line<T>>],
+    frames: Vec<PeerFrame>,
+) -> Result<(), AllocError>
+    ensures ok { OnOk result (Framed frames.items links.old links.new) }
+    ensures len { OnOk result (length links.new ≡ length links.old) }
+{
+    for frame in frames {
+        give_one(links, frame)?;
+    }
+    Ok(())
+}

@@ -1,5 +1,0 @@
-//! Values that examples of bytes don't show.
-
-mod fields;
-mod messages;
-mod packets;

@@ -1,8 +1,0 @@
-use Rattle.std.proofs.Common.{drop}
-use Rattle.filter_trie.proofs.Selecting.{Follows}
-use Rattle.message_copies.specs.Copies.{MayCount}
-use Rattle.message_copies.specs.Tables.{referents}
-use Rattle.message_copies.proofs.selected.counted_among.Given as goal
-
-abbrev pub invariant-loop-entry : goal.invariant-loop-entry
-invariant-loop-entry l = Follows (MayCount l.message) (referents l.found) (referents l.out.items) (referents (drop l.entry-index l.found))

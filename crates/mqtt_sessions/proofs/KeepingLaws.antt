@@ -1,0 +1,87 @@
+-- Packets that leave what a session's own row has as it is.
+use Rattle.std.proofs.Common.{◌≡◌, ℕ, Bool, true, false, cond, not, Option, Some, None, inl, inr, refl, sym, ap, ◌∙◌}
+use Rattle.std.specs.Prelude.{◌⊎◌, is_some, length, replicate}
+use Rattle.std.proofs.lemmas.Bool.{false≢true}
+use Rattle.mqtt_fields.specs.declared.options.Qos.{Qos}
+use Rattle.mqtt_fields.specs.declared.options.Qos.TheVariants.{AtMostOnce, AtLeastOnce, ExactlyOnce}
+use Rattle.mqtt_packets.specs.declared.packet.Packet.{Packet}
+use Rattle.mqtt_packets.specs.declared.packet.Packet.TheVariants as packets
+use Rattle.mqtt_packets.specs.declared.publish.Publish.{Publish}
+use Rattle.mqtt_packets.specs.declared.subscribe.Subscribe.{Subscribe}
+use Rattle.mqtt_message.specs.Accepted.{accepted}
+use Rattle.mqtt_message.specs.declared.message.Message.{Message}
+use Rattle.qos_handshakes.specs.declared.answers.In.{In}
+use Rattle.qos_handshakes.specs.declared.answers.In.TheVariants.{New, Repeat, InUse, OverMaximum}
+use Rattle.qos_handshakes.specs.Incoming.{opened}
+use Rattle.session_rows.specs.Changes.{Told}
+use Rattle.session_rows.specs.Fields.{main}
+use Rattle.mqtt_sessions.specs.declared.reaction.Ask.{Ask}
+use Rattle.mqtt_sessions.specs.Answers.{fits, puback, suback, unsuback}
+use Rattle.mqtt_sessions.specs.Arriving.{refusal, publish_by, passes_by, once_by, arrival_once, is_unwelcome}
+use Rattle.mqtt_sessions.specs.Asking.{SubscribeStep, subscribed}
+use Rattle.mqtt_sessions.specs.Packets.{KindStep, PacketIf, PacketStep}
+use Rattle.mqtt_sessions.specs.Reaction.{Reaction, Outcome, answered}
+use Rattle.mqtt_sessions.specs.Saved.{IsFresh, is_single, keeps_main, main_of}
+use Rattle.mqtt_sessions.specs.State.{State, Tracked, heard, limit_of}
+
+-- an outcome that leaves it
+abbrev Keeps : State → Outcome → Type 0
+Keeps s o = main_of o.left ≡ main_of s
+
+either_keeps : (b : Bool) (s : State) (x y : Outcome) → Keeps s x → Keeps s y → Keeps s (cond b x y)
+either_keeps true s x y p q = p
+either_keeps false s x y p q = q
+
+answered_keeps : (limit : ℕ) (p : Packet) (ask : Option Ask) (s : State) → Keeps s (answered limit p ask s)
+answered_keeps limit p ask s = either_keeps (fits limit p) s _ _ refl refl
+
+once_keeps : (a : In) (unwelcome : Bool) (limit id : ℕ) (m : Message) (s : State) → Keeps s (once_by a unwelcome limit id m s)
+once_keeps OverMaximum unwelcome limit id m s = refl
+once_keeps InUse unwelcome limit id m s = answered_keeps limit (puback id 145) _ s
+once_keeps Repeat unwelcome limit id m s = answered_keeps limit (puback id 145) _ s
+once_keeps New true limit id m s = answered_keeps limit (puback id 151) _ s
+once_keeps New false limit id m s = answered_keeps limit (puback id 0) _ s
+
+passes_keeps : (q : Qos) (p : Publish) (unwelcome : Bool) (limit : ℕ) (m : Message) (s : State) → is_single q ≡ true → Keeps s (passes_by q p unwelcome limit m s)
+passes_keeps AtMostOnce p unwelcome limit m s is = refl
+passes_keeps AtLeastOnce p unwelcome limit m s is = once_keeps (arrival_once s.incoming p.identifier) unwelcome limit p.identifier m s
+passes_keeps ExactlyOnce p unwelcome limit m s is = absurd (false≢true is)
+
+publish_keeps : (why : Option ℕ) (p : Publish) (now : ℕ) (room : Bool) (limit : ℕ) (s : State) → is_single p.qos ≡ true → Keeps s (publish_by why p now room limit s)
+publish_keeps (Some code) p now room limit s is = refl
+publish_keeps None p now room limit s is = passes_keeps p.qos p (is_unwelcome p room) limit (accepted p s.kept.client now) s is
+
+subscribe_keeps : (p : Subscribe) (limit : ℕ) (s : State) (r : Reaction) (new : State) → SubscribeStep p limit s r new → main_of new ≡ main_of s
+subscribe_keeps p limit s r new (inl breaks) = ap main_of breaks.1.1
+subscribe_keeps p limit s r new (inr keeps) =
+    ap main_of keeps.1.1 ∙ either_keeps (is_some (opened p.identifier s.incoming)) s _ _ (answered_keeps limit (suback p.identifier (replicate (length p.filters) 145)) _ s) refl
+
+kind_keeps : (p : Packet) (now : ℕ) (room : Bool) (limit : ℕ) (s : State) (r : Reaction) (new : State) → keeps_main p ≡ true → KindStep p now room limit s r new → main_of new ≡ main_of s
+kind_keeps (packets.Publish p) now room limit s r new is step = ap main_of step.1 ∙ publish_keeps (refusal p) p now room limit s is
+kind_keeps (packets.Subscribe p) now room limit s r new is step = subscribe_keeps p limit s r new step
+kind_keeps (packets.Unsubscribe p) now room limit s r new is step =
+    ap main_of step.1 ∙ either_keeps (is_some (opened p.identifier s.incoming)) s _ _ (answered_keeps limit (unsuback p.identifier (replicate (length p.filters) 145)) _ s) refl
+kind_keeps packets.Pingreq now room limit s r new is step = ap main_of step.1 ∙ answered_keeps limit packets.Pingresp None s
+kind_keeps (packets.Connect p) now room limit s r new is step = absurd (false≢true is)
+kind_keeps (packets.Connack p) now room limit s r new is step = absurd (false≢true is)
+kind_keeps (packets.Puback p) now room limit s r new is step = absurd (false≢true is)
+kind_keeps (packets.Pubrec p) now room limit s r new is step = absurd (false≢true is)
+kind_keeps (packets.Pubrel p) now room limit s r new is step = absurd (false≢true is)
+kind_keeps (packets.Pubcomp p) now room limit s r new is step = absurd (false≢true is)
+kind_keeps (packets.Suback p) now room limit s r new is step = absurd (false≢true is)
+kind_keeps (packets.Unsuback p) now room limit s r new is step = absurd (false≢true is)
+kind_keeps packets.Pingresp now room limit s r new is step = absurd (false≢true is)
+kind_keeps (packets.Disconnect p) now room limit s r new is step = absurd (false≢true is)
+kind_keeps (packets.Auth p) now room limit s r new is step = absurd (false≢true is)
+
+by_limit : (l : Option ℕ) (p : Packet) (now : ℕ) (room : Bool) (s : State) (r : Reaction) (new : State) → keeps_main p ≡ true → PacketIf l p now room s r new → main_of new ≡ main_of s
+by_limit None p now room s r new is step = ap main_of step.1
+by_limit (Some limit) p now room s r new is step = kind_keeps p now room limit (heard s now) r new is step
+
+pub packet_keeps : (p : Packet) (now : ℕ) (room : Bool) (s : State) (r : Reaction) (new : State) → keeps_main p ≡ true → PacketStep p now room s r new → main_of new ≡ main_of s
+packet_keeps p now room s r new is step = by_limit (limit_of s.link) p now room s r new is step
+
+-- what is known to be as it was told stays so where nothing of it changes
+pub fresh_still : (stale : Bool) (t after : Tracked) (told : Told) → (stale ≡ false → IsFresh false t told × (main_of after.state ≡ main_of t.state)) → IsFresh stale after told
+fresh_still true t after told h = tt
+fresh_still false t after told h = (h refl).0 ∙ ap (λ m. Some (main.bytes m)) (sym (h refl).1)

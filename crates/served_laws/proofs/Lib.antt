@@ -1,0 +1,4 @@
+pub mod Joining
+pub mod Running
+pub mod Settling
+pub mod Sockets

@@ -1,0 +1,141 @@
+-- A turn over sockets of a served node is a run.
+use Rattle.std.proofs.Common.{◌≡◌, ℕ, List, [], ◌∷◌, ◌++◌, Bool, Option, Some, refl, sym, ap, subst, ◌∙◌}
+use Rattle.std.specs.declared.net.socket_addr.SocketAddr.{SocketAddr}
+use Rattle.broker_sockets.specs.declared.bridge.Given.{Given}
+use Rattle.broker_sockets.specs.declared.bridge.PeerEvent.{PeerEvent}
+use Rattle.broker_sockets.specs.declared.events.Event.{Event as Told}
+use Rattle.broker_sockets.specs.declared.events.Output.{Output as Handed}
+use Rattle.broker_sockets.specs.declared.network.Answer.{Answer}
+use Rattle.broker_sockets.specs.declared.ready.Ready.{Ready}
+use Rattle.broker_sockets.specs.declared.ready.Watched.{Watched}
+use Rattle.broker_turns.specs.declared.setting.Setting.{Setting}
+use Rattle.broker_turns.proofs.Handling.{turn_settles}
+use Rattle.broker_turns.specs.Handling.{AreSettled, AreTold, Of_client, Of_peer, Told as Heard}
+use Rattle.broker_turns.specs.Turns.{IsStart, IsTurn, Site as Seat}
+use Rattle.cluster_play.proofs.Sites.{get-set_same}
+use Rattle.cluster_play.specs.Worlds.{World, changed}
+use Rattle.node_batches.specs.declared.batch.BatchKeeper.{BatchKeeper}
+use Rattle.node_batches.specs.Batches.{Answered}
+use Rattle.node_batches.specs.Views.{node_in, rows_in}
+use Rattle.node_server.specs.declared.served.ServedNode.{ServedNode}
+use Rattle.node_server.specs.Events.{event_of, peer_event_of}
+use Rattle.node_server.specs.Serving.{IsAnsweredToAll, IsAnsweredToClients, IsCommitted}
+use Rattle.node_server.specs.Views.{keeper_of}
+use Rattle.row_store.specs.Rows.{Content}
+use Rattle.served_laws.proofs.Joining.{changed_over, run_over, taken_join}
+use Rattle.served_laws.proofs.Running.{turn_is_run}
+use Rattle.served_laws.proofs.Settling.{settled_is_run, taken_rows}
+use Rattle.served_laws.specs.Settling.{AreTaken, Begins, site_of}
+use Rattle.served_laws.specs.Sockets.{Settles, SocketTurnIsRun, Stands, StartIsTaken, served_in}
+use Rattle.served_laws.specs.Turns.{IsRunOf, frames_of}
+
+-- ---- what is taken
+
+abbrev Taken : {R : Type 0} → ServedNode R → ServedNode R → Type 0
+Taken s s' = (answered : List Answered) × AreTaken (keeper_of s) answered (keeper_of s')
+
+taken_none : {R : Type 0} (s s' : ServedNode R) → s' ≡ s → Taken s s'
+taken_none s s' same = ([], ap (λ x. keeper_of x) same)
+
+taken_over : {R : Type 0} (a b c : ServedNode R) → Taken a b → Taken b c → Taken a c
+taken_over a b c p q = (p.0 ++ q.0, taken_join (keeper_of a) (keeper_of b) (keeper_of c) p.0 q.0 p.1 q.1)
+
+module _ {R : Type 0} (is_clean is_open : R → Type 0) (content : R → Content) (may_leave : R → Content → Type 0) where
+  -- ---- what is committed
+
+  -- from a node that has committed all
+  abbrev Runs : ServedNode R → ServedNode R → Type 0
+  Runs s s' =
+      (is_clean (rows_in (keeper_of s')) → is_clean (rows_in (keeper_of s)))
+      × ((w : World) (i : ℕ) → Begins is_open content w i (keeper_of s) → is_clean (rows_in (keeper_of s')) → (answered : List Answered) × Settles is_open content w i answered s')
+
+  at_rest : (w : World) (i : ℕ) (s : ServedNode R) → Begins is_open content w i (keeper_of s) → Settles is_open content w i [] s
+  at_rest w i s b =
+      let k = keeper_of s in
+      let site = site_of content k in
+      record {
+        run = turn_is_run w i site [] (node_in k) (content (rows_in k)) b.at (refl, refl);
+        begins = record { at = get-set_same w.sites i site site b.at; held = b.held; up = b.up; nothing = b.nothing; stands = b.stands };
+      }
+
+  settles_over : (w : World) (i : ℕ) (s t : ServedNode R) (xs ys : List Answered) → Settles is_open content w i xs s
+      → Settles is_open content (changed w i (site_of content (keeper_of s)) (frames_of xs)) i ys t → Settles is_open content w i (xs ++ ys) t
+  settles_over w i s t xs ys p q =
+      let first = site_of content (keeper_of s) in
+      let last = site_of content (keeper_of t) in
+      let Begun : World → Type 0 = λ v. Begins is_open content v i (keeper_of t) in
+      record { run = run_over w i first last xs ys p.run q.run; begins = subst Begun (changed_over w i first last xs ys) q.begins }
+
+  runs_none : (s s' : ServedNode R) → s' ≡ s → Runs s s'
+  runs_none s s' same =
+      let Clean : ServedNode R → Type 0 = λ x. is_clean (rows_in (keeper_of x)) in (
+        λ clean. subst Clean same clean,
+        λ w i b clean. let Settled : ServedNode R → Type 0 = λ x. Settles is_open content w i [] x in ([], subst Settled (sym same) (at_rest w i s b)),
+      )
+
+  runs_over : (a b c : ServedNode R) → Runs a b → Runs b c → Runs a c
+  runs_over a b c p q = (
+    λ clean. p.0 (q.0 clean),
+    λ w i begins clean.
+        let first = p.1 w i begins (q.0 clean) in
+        let second = q.1 (changed w i (site_of content (keeper_of b)) (frames_of first.0)) i first.1.begins clean in
+        (first.0 ++ second.0, settles_over w i b c first.0 second.0 first.1 second.1),
+  )
+
+  -- what is taken, and then committed
+  runs_once : (s m s' : ServedNode R) → Taken s m → IsCommitted is_clean is_open content may_leave (keeper_of m) (keeper_of s') → Runs s s'
+  runs_once s m s' taken commit = (
+    λ clean. subst is_clean (taken_rows (keeper_of s) (keeper_of m) taken.0 taken.1) (commit.was_clean clean),
+    λ w i begins clean.
+        let settled = settled_is_run is_clean is_open content may_leave w i (keeper_of s) (keeper_of m) (keeper_of s') taken.0 begins taken.1 commit clean in
+        (taken.0, record { run = settled.0; begins = settled.1 }),
+  )
+
+  module _ (handles : ServedNode R → Told → List Handed → ServedNode R → Type 0) (hears : ServedNode R → PeerEvent → Given → ServedNode R → Type 0)
+      (settles : ServedNode R → ServedNode R → Type 0)
+      (by_clients : (s : ServedNode R) (e : Told) (outputs : List Handed) (s' : ServedNode R) → handles s e outputs s' → IsAnsweredToClients (keeper_of s) (event_of e) outputs (keeper_of s'))
+      (by_peers : (s : ServedNode R) (e : PeerEvent) (given : Given) (s' : ServedNode R) → hears s e given s' → IsAnsweredToAll (keeper_of s) (peer_event_of e) given (keeper_of s'))
+      (by_commit : (s s' : ServedNode R) → settles s s' → IsCommitted is_clean is_open content may_leave (keeper_of s) (keeper_of s')) where
+    taken_handled : (s : ServedNode R) (e : Told) (outputs : List Handed) (s' : ServedNode R) → handles s e outputs s' → Taken s s'
+    taken_handled s e outputs s' is = let a = by_clients s e outputs s' is in ((event_of e, a.made) ∷ [], (keeper_of s', a.taken, refl))
+
+    taken_heard : (s : ServedNode R) (e : PeerEvent) (given : Given) (s' : ServedNode R) → hears s e given s' → Taken s s'
+    taken_heard s e given s' is = let a = by_peers s e given s' is in ((peer_event_of e, a.made) ∷ [], (keeper_of s', a.taken, refl))
+
+    taken_all : (told : List Heard) (s s' : ServedNode R) → AreTold handles hears told s s' → Taken s s'
+    taken_all [] s s' same = taken_none s s' same
+    taken_all (Of_client e outputs ∷ more) s s' all = taken_over s all.0 s' (taken_handled s e outputs all.0 all.1) (taken_all more all.0 s' all.2)
+    taken_all (Of_peer e given ∷ more) s s' all = taken_over s all.0 s' (taken_heard s e given all.0 all.1) (taken_all more all.0 s' all.2)
+
+    runs_all : (lost : List (Told × List Handed)) (s s' : ServedNode R) → AreSettled handles settles lost s s' → Runs s s'
+    runs_all [] s s' same = runs_none s s' same
+    runs_all (t ∷ more) s s' all =
+        runs_over s all.1 s' (runs_once s all.0 all.1 (taken_handled s t.0 t.1 all.0 all.2) (by_commit all.0 all.1 all.3)) (runs_all more all.1 s' all.4)
+
+    pub start_is_taken : {S T : Type 0} (at : ℕ) (old new : Seat S (ServedNode R) T) → IsStart handles at old new
+        → (w : World) (i : ℕ) (pending : List Answered) → Stands is_open content w i pending (served_in old) → (more : List Answered) × Stands is_open content w i more (served_in new)
+    start_is_taken at old new start w i pending stands =
+        let first = start.told.does.does.handled in
+        let taken = taken_handled (served_in old) _ first.outputs (served_in new) first.answered in
+        (pending ++ taken.0, record { before = stands.before; begins = stands.begins; taken = taken_join stands.before (keeper_of (served_in old)) (keeper_of (served_in new)) pending taken.0 stands.taken taken.1 })
+
+    module _ {S L T : Type 0}
+        (accepts : S → L → Option T → S → Type 0) (watches : S → T → Watched → Bool → S → Type 0) (connects : S → SocketAddr → Option T → S → Type 0)
+        (reads : S → T → Answer → List ℕ → S → T → Type 0) (writes : S → T → List ℕ → Answer → S → T → Type 0) (finds : S → Ready → S → Type 0) where
+      pub socket_turn_is_run : SocketTurnIsRun is_clean is_open content accepts watches connects reads writes finds handles hears settles
+      socket_turn_is_run setting at old new turn w i pending stands clean =
+          let t = turn_settles handles hears settles accepts watches connects reads writes finds setting at old new turn in
+          let s = served_in old in
+          let all = taken_all t.told s t.last t.all in
+          let commit = by_commit t.last t.settled t.first in
+          let on = runs_all t.lost t.settled (served_in new) t.then in
+          let was = on.0 clean in
+          let answered = pending ++ all.0 in
+          let before = taken_join stands.before (keeper_of s) (keeper_of t.last) pending all.0 stands.taken all.1 in
+          let one = settled_is_run is_clean is_open content may_leave w i stands.before (keeper_of t.last) (keeper_of t.settled) answered stands.begins before commit was in
+          let done : Settles is_open content w i answered t.settled = record { run = one.0; begins = one.1 } in
+          let more = on.1 (changed w i (site_of content (keeper_of t.settled)) (frames_of answered)) i one.1 clean in (
+            answered ++ more.0,
+            settles_over w i t.settled (served_in new) answered more.0 done more.1,
+            (runs_once s t.last t.settled all commit).0 was,
+          )

@@ -1,0 +1,34 @@
+//! The laws.
+
+ghost use Rattle.served_laws.specs.Settling.{CrashAfterCommit, CrashAmidCommit, CrashBeforeCommit, CrashWhereHalted, SettledIsRun};
+ghost use Rattle.served_laws.specs.Sockets.{SocketTurnIsRun, StartIsTaken};
+ghost use Rattle.served_laws.specs.Turns.{CrashIsRun, TurnIsRun};
+
+use broker_sockets::{BridgeHandler, Handler, Readiness};
+use node_server::ServedNode;
+use row_store::RowStore;
+
+/// Events that are handled one after another are a run, and so is a crash with the rows of before them or of after them.
+pub fn turns_are_runs()
+    ensures turns { TurnIsRun }
+    ensures crashes { CrashIsRun }
+{}
+
+/// What a served node has taken since its last commit, and what it commits next, is a run of the cluster. A crash at any moment is one
+/// too: before the commit, and where the node stops, one in which none of these events happened; after it one in which all did; amid
+/// it one of the two. So every law over runs holds of a cluster of served nodes.
+pub fn served_turns_are_runs<R: RowStore>()
+    ensures settled { SettledIsRun R.is_clean R.is_open R.content R.may_leave }
+    ensures before { CrashBeforeCommit R.is_open R.content R.may_leave }
+    ensures halted { CrashWhereHalted R.is_open R.content R.may_leave }
+    ensures amid { CrashAmidCommit R.is_clean R.is_open R.content R.may_leave }
+    ensures after { CrashAfterCommit R.is_clean R.is_open R.content R.may_leave }
+{}
+
+/// So a turn over sockets of a served node is a run, and in the world to which it leads the next turn may begin. What the node is told
+/// before the first turn is part of that one's run.
+pub fn socket_turns_are_runs<S: Readiness, R: RowStore>()
+    ensures start { StartIsTaken R.is_open R.content S S.Stream ⟦<ServedNode<R> as Handler>⟧.handles }
+    ensures turns { SocketTurnIsRun R.is_clean R.is_open R.content S.accepts S.watches S.connects S.reads S.writes S.finds
+        ⟦<ServedNode<R> as Handler>⟧.handles ⟦<ServedNode<R> as BridgeHandler>⟧.hears ⟦<ServedNode<R> as Handler>⟧.settles }
+{}

@@ -1,0 +1,116 @@
+//! What stands behind links between nodes.
+
+use broker_sockets::{
+    BridgeHandler, Event, Given, Handler, Output, PeerEvent, PeerEventKind, PeerFrame,
+};
+use std::alloc::Global;
+
+/// Says something on each link that is begun, and so often something more where it is asked; keeps the frames that it hears,
+/// each with `/` behind it.
+pub struct Talker {
+    alloc: Global,
+    says: &'static [u8],
+    more: &'static [u8],
+    left: u32,
+    pub heard: Vec<u8>,
+    pub linked: u32,
+    pub shipped: u32,
+}
+
+impl Drop for Talker {
+    fn drop(self) {
+        let Talker {
+            alloc: _,
+            says: _,
+            more: _,
+            left: _,
+            heard: _heard,
+            linked: _,
+            shipped: _,
+        } = self;
+    }
+}
+
+/// No memory.
+#[derive(Debug, Drop)]
+pub struct Refused;
+
+impl Talker {
+    pub fn new(alloc: Global, says: &'static [u8], more: &'static [u8], left: u32) -> Talker {
+        Talker {
+            alloc,
+            says,
+            more,
+            left,
+            heard: Vec::new(alloc),
+            linked: 0,
+            shipped: 0,
+        }
+    }
+
+    fn silence(&self) -> Given {
+        Given {
+            outputs: Vec::new(self.alloc),
+            frames: Vec::new(self.alloc),
+        }
+    }
+
+    fn gives(&self, peer: u16, text: &[u8]) -> Result<Given, Refused> {
+        let bytes = Vec::from_slice(self.alloc, text).map_err(|_| Refused)?;
+        let mut given = self.silence();
+        let said = given.frames.push(PeerFrame { peer, bytes });
+        said.map_err(|_| Refused)?;
+        Ok(given)
+    }
+
+    fn keeps(&mut self, bytes: &[u8]) -> Result<Given, Refused> {
+        self.heard.extend_from_slice(bytes).map_err(|_| Refused)?;
+        self.heard.push(b'/').map_err(|_| Refused)?;
+        Ok(self.silence())
+    }
+}
+
+impl Handler for Talker {
+    type Fault = Refused;
+
+    ghost use Rattle.std.specs.Prelude.{List};
+
+    ghost handles = { λ _ _ _ _. Unit {0} };
+
+    ghost refuses = { λ _ _ _ _. Unit {0} };
+
+    ghost settles = { λ _ _. Unit {0} };
+
+    ghost stops = { λ _ _ _. Unit {0} };
+
+    fn handle(&mut self, _event: Event) -> Result<Vec<Output>, Refused> {
+        Ok(Vec::new(self.alloc))
+    }
+
+    fn settle(&mut self) -> Result<(), Refused> {
+        Ok(())
+    }
+}
+
+impl BridgeHandler for Talker {
+    ghost hears = { λ _ _ _ _. Unit {0} };
+
+    ghost declines = { λ _ _ _ _. Unit {0} };
+
+    fn hear(&mut self, event: PeerEvent) -> Result<Given, Refused> {
+        match event.kind {
+            PeerEventKind::Linked { peer } => {
+                self.linked = self.linked.saturating_add(1);
+                self.gives(peer, self.says)
+            }
+            PeerEventKind::Ship { peer } => {
+                if self.shipped >= self.left {
+                    return Ok(self.silence());
+                }
+                self.shipped = self.shipped.saturating_add(1);
+                self.gives(peer, self.more)
+            }
+            PeerEventKind::Frame { bytes } => self.keeps(&bytes),
+        }
+    }
+}
