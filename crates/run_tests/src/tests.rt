@@ -1,8 +1,8 @@
 //! Worked examples: scripts, and what running them writes.
 
-use broker_sockets::{Answer, RealSockets, Sockets};
+use broker_sockets::{RealSockets, Sockets};
+use fake_sockets::{FakeSockets, Manner};
 use script_runs::{loop_text, run_text};
-use silent::Silent;
 use std::alloc::Global;
 use std::io::{self, ErrorKind, Write};
 use std::net::Net;
@@ -15,7 +15,6 @@ mod faults;
 mod first_path;
 mod operations;
 mod sessions;
-mod silent;
 mod streams;
 
 /// A script, and the status and the texts that it ends with.
@@ -110,15 +109,18 @@ fn runs_sessions(rt: HostRuntime) {
 }
 
 /// Where sockets don't do what they should.
-fn check_silent(
+fn check_fakes(
     rt: &impl Abort,
     alloc: Global,
     name: &str,
-    mut sockets: Silent,
+    manner: Manner,
     expected: (u8, &str, &str),
 ) {
+    let mut sockets = FakeSockets::new(alloc);
+    sockets.manner = manner;
     let script = first_path::EXAMPLES[0].script;
     let ended = play_over(alloc, &mut sockets, script);
+    drop(sockets);
     compare(rt, name, ended, expected);
 }
 
@@ -126,13 +128,13 @@ fn check_silent(
 fn tells_of_sockets_that_fail(rt: HostRuntime) {
     let turns = (1, "", "broker: run: Turns\n");
     let socket = (1, "", "broker: run: Socket\n");
-    for (name, binds, answer, ended) in [
-        ("nothing comes", true, Answer::Later, turns),
-        ("streams end", true, Answer::Gone, socket),
-        ("nothing is bound", false, Answer::Later, socket),
+    for (name, manner, ended) in [
+        ("nothing comes", Manner::Silent, turns),
+        ("nobody is accepted", Manner::Deaf, turns),
+        ("streams end", Manner::Gone, socket),
+        ("nothing is bound", Manner::Closed, socket),
     ] {
-        let sockets = Silent::new(binds, answer);
-        check_silent(&rt, rt.alloc(), name, sockets, ended);
+        check_fakes(&rt, rt.alloc(), name, manner, ended);
     }
 }
 

@@ -19,7 +19,7 @@ fn cut_after(rt: &impl Abort, alloc: Global, digits: usize) -> String {
 }
 
 #[test]
-fn takes_a_stream_in_any_pieces(rt: HostRuntime) -> Result<(), Fail> {
+fn takes_a_stream_in_any_pieces(rt: HostRuntime) {
     for bytes in 1..33 {
         let script = cut_after(&rt, rt.alloc(), 2 * bytes);
         check(
