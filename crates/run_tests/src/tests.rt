@@ -1,13 +1,13 @@
 //! Worked examples: scripts, and what running them writes.
 
-use broker_sockets::{Answer, RealSockets, Sockets};
+use broker_sockets::{RealSockets, Sockets};
+use fake_sockets::{FakeSockets, Manner};
 use script_runs::{loop_text, run_text};
-use silent::Silent;
 use std::alloc::Global;
 use std::io::{self, ErrorKind, Write};
 use std::net::Net;
 use std::process::Abort;
-use std::test::Fail;
+use std::str;
 
 mod bridge;
 mod crashes;
@@ -15,7 +15,6 @@ mod faults;
 mod first_path;
 mod operations;
 mod sessions;
-mod silent;
 mod streams;
 
 /// A script, and the status and the texts that it ends with.
@@ -52,106 +51,91 @@ fn play_over<S: Sockets>(alloc: Global, sockets: &mut S, script: &str) -> Ended 
 }
 
 /// Compares what a run ended with.
-fn compare(
-    rt: &impl Abort,
-    name: &str,
-    ended: Ended,
-    expected: (u8, &str, &str),
-) -> Result<(), Fail> {
+fn compare(rt: &impl Abort, name: &str, ended: Ended, expected: (u8, &str, &str)) {
     let (status, out, err) = expected;
-    let Ended {
-        status: found,
-        out: written,
-        err: told,
-    } = ended;
-    let lines = String::from_utf8(written).map_err(|_| "no text")?;
-    let fault = String::from_utf8(told).map_err(|_| "no text")?;
-    assert_eq!(rt; lines.as_str(), out, "{name}");
-    assert_eq!(rt; fault.as_str(), err, "{name}");
-    assert_eq!(rt; found, status, "{name}");
-    Ok(())
+    let lines = str::from_utf8(&ended.out).ok().expect(rt, "a text");
+    let fault = str::from_utf8(&ended.err).ok().expect(rt, "a text");
+    assert_eq!(rt; lines, out, "{name}");
+    assert_eq!(rt; fault, err, "{name}");
+    assert_eq!(rt; ended.status, status, "{name}");
+    drop(ended);
 }
 
 /// Runs a script in memory, and compares what it ends with.
-fn check(
-    rt: &impl Abort,
-    alloc: Global,
-    name: &str,
-    script: &str,
-    expected: (u8, &str, &str),
-) -> Result<(), Fail> {
-    compare(rt, name, play(alloc, script), expected)
+fn check(rt: &impl Abort, alloc: Global, name: &str, script: &str, expected: (u8, &str, &str)) {
+    compare(rt, name, play(alloc, script), expected);
 }
 
 /// Runs scripts in memory, and over the sockets of this machine, which makes no difference.
-fn check_all(rt: &(impl Abort + Net), alloc: Global, examples: &[Example]) -> Result<(), Fail> {
+fn check_all(rt: &(impl Abort + Net), alloc: Global, examples: &[Example]) {
     for example in examples {
         let name = example.name;
         let expected = (example.status, example.out, example.err);
-        compare(rt, name, play(alloc, example.script), expected)?;
+        compare(rt, name, play(alloc, example.script), expected);
         let mut sockets = RealSockets::new(rt);
         let ended = play_over(alloc, &mut sockets, example.script);
-        compare(rt, name, ended, expected)?;
+        compare(rt, name, ended, expected);
     }
-    Ok(())
 }
 
 #[test]
-fn runs_the_first_path(rt: HostRuntime) -> Result<(), Fail> {
-    check_all(&rt, rt.alloc(), &first_path::EXAMPLES)
+fn runs_the_first_path(rt: HostRuntime) {
+    check_all(&rt, rt.alloc(), &first_path::EXAMPLES);
 }
 
 #[test]
-fn answers_each_fault(rt: HostRuntime) -> Result<(), Fail> {
-    check_all(&rt, rt.alloc(), &faults::EXAMPLES)
+fn answers_each_fault(rt: HostRuntime) {
+    check_all(&rt, rt.alloc(), &faults::EXAMPLES);
 }
 
 #[test]
-fn runs_operations(rt: HostRuntime) -> Result<(), Fail> {
-    check_all(&rt, rt.alloc(), &operations::EXAMPLES)
+fn runs_operations(rt: HostRuntime) {
+    check_all(&rt, rt.alloc(), &operations::EXAMPLES);
 }
 
 #[test]
-fn runs_crashes(rt: HostRuntime) -> Result<(), Fail> {
-    check_all(&rt, rt.alloc(), &crashes::EXAMPLES)
+fn runs_crashes(rt: HostRuntime) {
+    check_all(&rt, rt.alloc(), &crashes::EXAMPLES);
 }
 
 #[test]
-fn runs_the_bridge(rt: HostRuntime) -> Result<(), Fail> {
-    check_all(&rt, rt.alloc(), &bridge::EXAMPLES)
+fn runs_the_bridge(rt: HostRuntime) {
+    check_all(&rt, rt.alloc(), &bridge::EXAMPLES);
 }
 
 #[test]
-fn runs_sessions(rt: HostRuntime) -> Result<(), Fail> {
-    check_all(&rt, rt.alloc(), &sessions::EXAMPLES)
+fn runs_sessions(rt: HostRuntime) {
+    check_all(&rt, rt.alloc(), &sessions::EXAMPLES);
 }
 
 /// Where sockets don't do what they should.
-fn check_silent(
+fn check_fakes(
     rt: &impl Abort,
     alloc: Global,
     name: &str,
-    mut sockets: Silent,
+    manner: Manner,
     expected: (u8, &str, &str),
-) -> Result<(), Fail> {
+) {
+    let mut sockets = FakeSockets::new(alloc);
+    sockets.manner = manner;
     let script = first_path::EXAMPLES[0].script;
     let ended = play_over(alloc, &mut sockets, script);
-    compare(rt, name, ended, expected)
+    drop(sockets);
+    compare(rt, name, ended, expected);
 }
 
 #[test]
-fn tells_of_sockets_that_fail(rt: HostRuntime) -> Result<(), Fail> {
+fn tells_of_sockets_that_fail(rt: HostRuntime) {
     let turns = (1, "", "broker: run: Turns\n");
     let socket = (1, "", "broker: run: Socket\n");
-    for (name, binds, answer, ended) in [
-        ("nothing comes", true, Answer::Later, turns),
-        ("streams end", true, Answer::Gone, socket),
-        ("nothing is bound", false, Answer::Later, socket),
+    for (name, manner, ended) in [
+        ("nothing comes", Manner::Silent, turns),
+        ("nobody is accepted", Manner::Deaf, turns),
+        ("streams end", Manner::Gone, socket),
+        ("nothing is bound", Manner::Closed, socket),
     ] {
-        let sockets = Silent::new(binds, answer);
-        check_silent(&rt, rt.alloc(), name, sockets, ended)?;
+        check_fakes(&rt, rt.alloc(), name, manner, ended);
     }
-    Ok(())
 }
 
 /// A writer that takes nothing.
@@ -169,11 +153,10 @@ impl Write for Full {
 }
 
 #[test]
-fn tells_of_refused_output(rt: HostRuntime) -> Result<(), Fail> {
+fn tells_of_refused_output(rt: HostRuntime) {
     let alloc = rt.alloc();
     let mut err: Vec<u8> = Vec::new(alloc);
     let status = run_text(alloc, b"nodes 1\n", &mut Full, &mut err);
     assert_eq!(rt; err.as_slice(), b"broker: run: Output\n".as_slice());
     assert_eq!(rt; status, 1);
-    Ok(())
 }

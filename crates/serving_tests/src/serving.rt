@@ -1,9 +1,10 @@
 //! A node with its rows in memory, and a client of it over the sockets of the system.
 
 use broker_sockets::{
-    Answer, Event, EventKind, Handler, Hub, RealClock, RealSockets, Setting, Sockets,
+    Answer, Event, EventKind, Handler, PolledSockets, Readiness, RealClock, Sockets,
 };
 use broker_stop::RunFault;
+use broker_turns::{Hub, Setting};
 use home_table::HomeTable;
 use mio::net::{TcpListener, TcpStream};
 use node_keeper::{Keeper, KeeperFault};
@@ -61,13 +62,13 @@ fn step(
 fn run(
     rt: &impl Abort,
     hub: &mut Hub<TcpListener, TcpStream>,
-    sockets: &mut impl Sockets<Listener = TcpListener, Stream = TcpStream>,
+    sockets: &mut impl Readiness<Listener = TcpListener, Stream = TcpStream>,
     node: &mut ServedNode<MemoryRows>,
     client: &mut TcpStream,
     got: &mut Vec<u8>,
 ) {
     let mut sent = 0;
-    for at in 0..100000 {
+    for at in 0..10000 {
         hub.turn(sockets, node, at).ok().expect(rt, "a turn");
         step(rt, sockets, client, &mut sent, got);
         if got.len() >= ANSWERS.len() {
@@ -79,7 +80,7 @@ fn run(
 #[test]
 fn a_client_is_answered(rt: HostRuntime) {
     let alloc = rt.alloc();
-    let mut sockets = RealSockets::new(&rt);
+    let mut sockets = PolledSockets::new(alloc, &rt).expect(&rt, "sockets");
     let free: SocketAddr = "127.0.0.1:0".parse().expect(&rt, "an address");
     let listener = sockets.listen(free).expect(&rt, "a listener");
     let address = listener.local_addr().expect(&rt, "its address");
@@ -134,7 +135,7 @@ fn serve_two(rt: &HostRuntime, homes: HomeTable, out: &mut Vec<u8>) -> Option<Ru
         return None;
     }
     let alloc = rt.alloc();
-    let mut sockets = RealSockets::new(rt);
+    let mut sockets = PolledSockets::new(alloc, rt).expect(rt, "sockets");
     let mut clock = RealClock::new(rt);
     let rows = MemoryRows::new(alloc);
     serve(alloc, &mut sockets, &mut clock, rows, (homes, 0), 2, out).err()
