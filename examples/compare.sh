@@ -23,6 +23,7 @@ address = "127.0.0.1:18831"
 bridge = "127.0.0.1:18832"
 TOML
 cat > "$room/plain.conf" << 'CONF'
+user root
 listener 18833 127.0.0.1
 allow_anonymous true
 max_queued_messages 100000

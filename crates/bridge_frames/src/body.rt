@@ -8,9 +8,9 @@ use crate::forward::Forward;
 use crate::kind::Kind;
 use causal_context::Context;
 use mqtt_fields::{FieldFault, NUMBERS_END, NoMemory, put_u64, u64_at};
+use replica_bytes::{read_store, write_store};
 use replica_store::ReplicaStore;
 use std::alloc::Global;
-use replica_bytes::{read_store, write_store};
 
 /// What a frame says.
 #[derive(Drop)]

@@ -102,18 +102,18 @@ module _ {H : Type 0} (handles : H → Event → List Output → H → Type 0) (
             let of : Place S H T → H = λ v. v.reach.near.handler in
             let front : World S H T → H = λ v. v.handler in
             let joined = let_in Q stays over front (IsAccepted accepts watches handles at setting.listener) (IsNobodyAccepted accepts watches handles at setting.listener)
-                (λ w w' is. welcomed is.watchable is.stream is.key w.handler w.clients w'.handler w'.clients is.welcomed)
-                (λ w w' is. stays w.handler w'.handler is.handler) 64 ready.listeners _ t.came _ t.accepted.does.does in
+            (λ w w' is. welcomed is.watchable is.stream is.key w.handler w.clients w'.handler w'.clients is.welcomed)
+            (λ w w' is. stays w.handler w'.handler is.handler) 64 ready.listeners _ t.came _ t.accepted.does.does in
             let met = stays (of t.joined) (of t.met) (ap (λ (n : Near H T). n.handler) t.links_accepted.near) in
             let heard_of = each_tells Q stays over front (λ key w more' w'. IsRead reads handles at key w more' w') (λ key w more' w' is. read_in key _ w more' w' is.by_client)
-                ready.clients.items _ more.clients.items _ t.read.does.does in
+            ready.clients.items _ more.clients.items _ t.read.does.does in
             let listened = each_tells Q stays over of (λ key w more' w'. IsHeardFrom reads hears at key w more' w') (λ key w more' w' is. link_read _ key w more' w' is.by_link)
-                ready.links.items t.heard more.links.items t.listened t.links_read in
+            ready.links.items t.heard more.links.items t.listened t.links_read in
             let reach : Reach S H T → H = λ v. v.near.handler in
             let peers = each_tells Q stays over reach (λ key w more' w'. IsPeerRead reads hears at key w more' w') (λ key w more' w' is. peer_read _ key w more' w' is.by_link)
-                ready.peers.items _ more.peers.items _ t.peers_read.does in
+            ready.peers.items _ more.peers.items _ t.peers_read.does in
             over (of p) (of t.joined) (of p') joined (over (of t.joined) (of t.met) (of p') met
-                (over (of t.met) (of t.heard) (of p') heard_of (over (of t.heard) (of t.listened) (of p') listened peers)))
+            (over (of t.met) (of t.heard) (of p') heard_of (over (of t.heard) (of t.listened) (of p') listened peers)))
 
     -- ---- dialling, and what is due
 
@@ -241,7 +241,7 @@ module _ {H : Type 0} (handles : H → Event → List Output → H → Type 0) (
         let h' = new.place.reach.near.handler in
         let first = taken_in handles hears Tells tells_none tells_over tells_client tells_peer at reads accepts watches setting old.ready old.place turn.more turn.taken turn.takes_in in
         let next = decided handles hears Tells tells_none tells_over tells_client tells_peer at connects watches settles setting
-            (search turn.taken.reach.sockets turn.taken.reach.near old.sought) (search turn.settled.sockets turn.settled.near new.sought) turn.decides in
+        (search turn.taken.reach.sockets turn.taken.reach.near old.sought) (search turn.settled.sockets turn.settled.near new.sought) turn.decides in
         let all = tells_over h mid next.0 first next.1 in
         let out = given_out handles settles Loses loses_none loses_over loses_one at writes setting turn.settled turn.given turn.gives_out in
         let on = loses_over settled given h' out (loses_none given h' (ap (λ (n : Near H T). n.handler) turn.near)) in

@@ -5,7 +5,9 @@ ghost use Rattle.mqtt_fields.specs.Reading.{Gives};
 ghost use Rattle.causal_context.specs.Spelling as spec;
 
 use crate::ranges::Range;
-use mqtt_fields::{FieldFault, NUMBERS_END, NoMemory, put_u16, put_u32, put_u64, u16_at, u32_at, u64_at};
+use mqtt_fields::{
+    FieldFault, NUMBERS_END, NoMemory, put_u16, put_u32, put_u64, u16_at, u32_at, u64_at,
+};
 use std::alloc::Global;
 
 // The range at the front, and the bytes after it. Short where they end inside it.

@@ -13,11 +13,11 @@ use crate::cut::cut;
 use crate::mark::named_in;
 use crate::sessions::read_sessions;
 use bridge_deltas::Links;
+use replica_rows::laws::is_store;
 use replica_store::{ReplicaStore, StoreFault};
 use row_store::{Row, RowFault, are_rising};
 use session_table::Sessions;
 use std::alloc::Global;
-use replica_rows::laws::is_store;
 
 /// What lasts of a node: the number of the last client identifier that it gave, its sessions, each on no connection, the
 /// replicated state, and the lanes to and from the other nodes. It believes nothing of these nodes yet, and keeps no deltas.

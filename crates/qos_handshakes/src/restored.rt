@@ -75,7 +75,10 @@ impl Restored {
             Stage::Waiting => self.waiting && place + 1 == self.first,
             Stage::Published(id) => self.is_free(id),
             Stage::Released(id, order) => {
-                self.is_free(id) && order >= 1 && order < NUMBERS_END && !self.orders.contains_key(&order)
+                self.is_free(id)
+                    && order >= 1
+                    && order < NUMBERS_END
+                    && !self.orders.contains_key(&order)
             }
         }
     }

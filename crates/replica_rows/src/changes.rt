@@ -16,10 +16,10 @@ use crate::row::{
 use causal_context::{Context, Dot, Lattice};
 use mqtt_fields::NoMemory;
 use mqtt_topics::TopicName;
+use replica_bytes::kept_fits;
 use replica_store::{Kept, ReplicaStore};
 use row_store::Change;
 use std::alloc::Global;
-use replica_bytes::kept_fits;
 use subscription_set::Entry;
 
 // A put of the subscription that the delta brings, where its dot is new here.

@@ -8,8 +8,8 @@ ghost use Rattle.replica_rows.specs.Reading.{AllCanStand, AllHaveSpellings, CanS
 
 use causal_context::Dot;
 use mqtt_topics::TopicName;
-use replica_store::{Kept, ReplicaStore, RetainedMap};
 use replica_bytes::kept_fits;
+use replica_store::{Kept, ReplicaStore, RetainedMap};
 use subscription_set::{Entry, SubscriptionSet};
 
 /// Two stores with the same rows, whose subscriptions were made under version 0, are the same.

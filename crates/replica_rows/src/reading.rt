@@ -18,11 +18,11 @@ use causal_context::{Context, Dot};
 use mqtt_fields::{FieldFault, NoMemory, Text};
 use mqtt_message::SharedMessage;
 use mqtt_topics::{TopicFault, TopicName};
+use replica_bytes::{dot_at, entry_of as entry_at, kept_at};
 use replica_store::{Content, Kept, ReplicaStore, RetainedMap, StoreFault};
 use row_store::{Row, are_rising};
 use std::alloc::Global;
 use std::collections::BTreeMap;
-use replica_bytes::{dot_at, entry_of as entry_at, kept_at};
 use subscription_set::{Entry, SubscriptionSet};
 
 /// What rows say.

@@ -7,10 +7,10 @@ ghost use Rattle.replica_bytes.specs.Values.{dot, subscription, subscription_in,
 use causal_context::{Context, Dot};
 use mqtt_fields::NoMemory;
 use mqtt_topics::TopicName;
+use replica_bytes::{write_dot, write_kept, write_subscription};
 use replica_store::Kept;
 use row_store::Row;
 use std::alloc::Global;
-use replica_bytes::{write_dot, write_kept, write_subscription};
 use subscription_set::Entry;
 
 /// The kinds of the rows.

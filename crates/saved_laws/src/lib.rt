@@ -7,10 +7,9 @@ ghost use Rattle.saved_laws.specs.Histories.{CallsAreMoves};
 ghost use Rattle.saved_laws.specs.Sound.{DurableOpens, IsSoundConnect, StaysDurable};
 ghost use Rattle.saved_laws.specs.Told.{RemovalsLeaveNone, StaysSince, StoresTold, ToldChangesLead};
 
+use crate::changes::{calls_follow, changes_are_exact, changes_are_made, changes_lead};
 use mqtt_packets::Connect;
 use session_laws::events::calls_are_events;
-
-use crate::changes::{calls_follow, changes_are_exact, changes_are_made, changes_lead};
 
 pub mod changes;
 

@@ -44,13 +44,13 @@ use mqtt_sessions::{Reaction, SessionFault};
 use mqtt_topics::Filter;
 use node_bridge::Bridge;
 use node_rows::Opened;
+use replica_rows::changes_by;
+use replica_rows::laws::is_store;
 use replica_store::{Content, Operation, ReplicaStore, delta_of};
 use row_store::Change;
 use session_table::Sessions;
 use std::alloc::Global;
 use std::marker::Model;
-use replica_rows::changes_by;
-use replica_rows::laws::is_store;
 use subscription_set::Entry;
 
 /// What a running node holds.

@@ -7,14 +7,14 @@ use Rattle.mqtt_sessions.proofs.saved.Live.packet.Goals.{then-self, else-self}
 
 pub invariant_of-self-2 : goal.invariant_of-self-2
 invariant_of-self-2 c = (
-    fresh_still c.if-self.stale c.self.inside.running c.packet.new.self c.self.inside.told
-    (λ is. elim c.if-self.branch [
-      | then-self w ↦ absurd (false≢true (sym is ∙ w.stale-is ∙ w.if-self.true))
-      | else-self w ↦ (
+  fresh_still c.if-self.stale c.self.inside.running c.packet.new.self c.self.inside.told
+      (λ is. elim c.if-self.branch [
+        | then-self w ↦ absurd (false≢true (sym is ∙ w.stale-is ∙ w.if-self.true))
+        | else-self w ↦ (
           subst (λ b. IsFresh b c.self.inside.running c.self.inside.told) w.if-self.false c.self.invariant.0,
           packet_keeps c.args.packet.now c.args.now c.args.room c.self.inside.running.state c.in_ok-reaction.reaction c.packet.new.self.state
-          (sym w.keeps_own_row.ensures ∙ not-false w.keeps_own_row.result (sym w.stale-is ∙ is)) c.in_ok-reaction.ensures.step,
+              (sym w.keeps_own_row.ensures ∙ not-false w.keeps_own_row.result (sym w.stale-is ∙ is)) c.in_ok-reaction.ensures.step,
         )
-    ]),
-    c.self.invariant.1,
-  )
+      ]),
+  c.self.invariant.1,
+)

@@ -18,7 +18,7 @@ returns-in_default-clause-comes c =
     let code = c.args.reason in
     let test : Place → HeldView → Bool = λ p h. takes_disconnect client code h in
     let gone : option_and_then (λ s. limit_of s.session.link) (map.get before.held.sessions client) ≡ None =
-        subst (λ seats. option_and_then (λ s. limit_of s.session.link) (map.get seats client) ≡ None) c.sessions.ensures (sym c.limit.ensures ∙ c.in_default.is) in
+    subst (λ seats. option_and_then (λ s. limit_of s.session.link) (map.get seats client) ≡ None) c.sessions.ensures (sym c.limit.ensures ∙ c.in_default.is) in
     let answer : Result (Unit {0}) NodeFault = Ok tt in
     subst (λ w. Did w w (Disconnects c.args.connection client code (Some tt))) c.self.view_is
     (comes_unless (λ x. x) answer before before test (Sends c.args.connection (disconnect code)) (Returns tt) (ap (λ l. fits_in l code) gone) (did_nothing before tt))
