@@ -42,13 +42,16 @@ fn a_database_is_made_and_opened_again(rt: HostRuntime) {
     assert!(rt; ends_by(&rt, ("two.toml", "n1", "n0.db"), other));
 }
 
-/// A configuration of so many bytes: its table, and a comment to the end.
-fn write_padded(rt: &HostRuntime, path: &str, bytes: usize) {
+/// Writes a configuration of so many bytes, its table and a comment to the end, and answers whether that was done.
+fn write_padded(rt: &HostRuntime, path: &str, bytes: usize) -> bool {
     let rest = bytes.saturating_sub(HOMES.len());
-    let comment = "#".repeat(rt.alloc(), rest).expect(rt, "memory");
-    let text = format!(in rt.alloc(); "{HOMES}{comment}").expect(rt, "memory");
-    fs::write(rt, path, text.as_str()).expect(rt, "a file");
-    drop((comment, text));
+    let Ok(comment) = "#".repeat(rt.alloc(), rest) else {
+        return false;
+    };
+    let Ok(text) = format!(in rt.alloc(); "{HOMES}{comment}") else {
+        return false;
+    };
+    fs::write(rt, path, text.as_str()).is_ok()
 }
 
 #[test]
@@ -57,7 +60,7 @@ fn a_configuration_has_an_end(rt: HostRuntime) {
         (MOST_BYTES, TableFault::UnknownNode),
         (MOST_BYTES + 1, TableFault::Syntax),
     ] {
-        write_padded(&rt, "long.toml", bytes);
+        assert!(rt; write_padded(&rt, "long.toml", bytes));
         let end = Err(Stop::Configuration(fault));
         assert!(rt;
             ends_by(&rt, ("long.toml", "n2", "no.db"), end),

@@ -135,7 +135,10 @@ fn serve_two(rt: &HostRuntime, homes: HomeTable, out: &mut Vec<u8>) -> Option<Ru
         return None;
     }
     let alloc = rt.alloc();
-    let mut sockets = PolledSockets::new(alloc, rt).expect(rt, "sockets");
+    let Ok(mut sockets) = PolledSockets::new(alloc, rt) else {
+        drop(homes);
+        return Some(RunFault::Socket);
+    };
     let mut clock = RealClock::new(rt);
     let rows = MemoryRows::new(alloc);
     serve(alloc, &mut sockets, &mut clock, rows, (homes, 0), 2, out).err()
