@@ -47,7 +47,7 @@ pub second_says_two : (id named : ℕ) (said : ℕ × ℕ) → whole marked (mar
 unfolding rest_of
 second_says_two id named said is =
     let read : marked.at (mark id named) ≡ behind_two ((after (number w16) (λ _. number w64)).at (rest_of id named)) =
-        ap (λ r. r >>= λ (a : ℕ × List ℕ). (after (number w16) (λ _. number w64)).at a.1 >>= λ b. Ok ((a.0, b.0), b.1)) ((number_is w16 wide16).again 2 (rest_of id named) (omega arith))
+    ap (λ r. r >>= λ (a : ℕ × List ℕ). (after (number w16) (λ _. number w64)).at a.1 >>= λ b. Ok ((a.0, b.0), b.1)) ((number_is w16 wide16).again 2 (rest_of id named) (omega arith))
     in
     says_two ((after (number w16) (λ _. number w64)).at (rest_of id named)) said (ap whole_of (sym read) ∙ is)
 

@@ -38,7 +38,11 @@ fn opened(
 }
 
 fn woken(rt: &impl Abort, alloc: Global, refused: u64) -> Keeper<RefusingRows> {
-    match opened(rt, alloc, RefusingRows::new(MemoryRows::new(alloc), refused)) {
+    match opened(
+        rt,
+        alloc,
+        RefusingRows::new(MemoryRows::new(alloc), refused),
+    ) {
         Ok(keeper) => keeper,
         Err(rows) => opened(rt, alloc, rows).ok().expect(rt, "a node"),
     }

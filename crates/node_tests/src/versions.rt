@@ -12,16 +12,20 @@ type Plain = (u8, &'static [u8], &'static [u8], &'static [u8]);
 
 /// The mark in version 1 and in version 2: the node, and that it has given no identifier.
 const FIRST_MARK: &[u8] = b"\0\x01\0\x01\0\0\0\0\0\0\0\0";
+
 const SECOND_MARK: &[u8] = b"\0\x02\0\x01\0\0\0\0\0\0\0\0";
 
 /// A subscription to `t` with options 0 and no identifier: in version 1, in version 2 under version 0 of the table of homes, and
 /// under the last one.
 const FIRST_VALUE: &[u8] = b"\0\x01t\0\0\0\0\0";
+
 const SECOND_VALUE: &[u8] = b"\0\x01t\0\0\0\0\0\0\0\0\0";
+
 const LAST_VALUE: &[u8] = b"\0\x01t\0\0\0\0\0\xff\xff\xff\xff";
 
 /// The dot (1, 1), and the set of it.
 const DOT: &[u8] = b"\0\x01\0\0\0\0\0\0\0\x01";
+
 const DOTS: &[u8] = b"\0\0\0\x01\0\x01\0\0\0\0\0\0\0\x01\0\0\0\0\0\0\0\x01";
 
 /// The rows of a node with one subscription, of `a`.

@@ -85,7 +85,8 @@ fn is_read(rt: &impl Abort, alloc: Global, bytes: &[u8]) -> Result<bool, LinkFau
 }
 
 // A Delta of no message to t, as (1, 1), under the kind that Deltas without versions had.
-const UNVERSIONED: &str = "00000035 02 0001 0000 00000001 0001 0000000000000001 0000000000000001 00000000 00000000 00000001 \
+const UNVERSIONED: &str =
+    "00000035 02 0001 0000 00000001 0001 0000000000000001 0000000000000001 00000000 00000000 00000001 \
      0001 74 0000000000000001 0001 00";
 
 #[test]

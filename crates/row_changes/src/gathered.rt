@@ -96,14 +96,14 @@ fn in_order(alloc: Global, befores: Noted, lefts: Noted) -> Result<Vec<Change>, 
 
 /// Notes what the last of the changes at each key leaves.
 fn note_lasts(alloc: Global, changes: Vec<Change>) -> Result<Noted, AllocError>
-    ensures { IfOk result (λ lefts. AreLast lefts.entries changes.items) }
+    ensures { IfOk result (λ lasts. AreLast lasts.entries changes.items) }
 {
-    let mut lefts = BTreeMap::new(alloc);
+    let mut lasts = BTreeMap::new(alloc);
     for change in changes {
         let (key, value) = parts(change);
-        lefts.insert(key, value)?;
+        lasts.insert(key, value)?;
     }
-    Ok(lefts)
+    Ok(lasts)
 }
 
 /// Of the changes at each key the last one, in the order of the keys: a store of rows has the same content after them as after all.
@@ -115,10 +115,11 @@ pub fn last_of_each(alloc: Global, changes: Vec<Change>) -> Result<Vec<Change>, 
     ensures none { changes.items ≡ [] → result ≡ Ok changes }
 {
     if changes.is_empty() {
-        return Ok(changes);
+        Ok(changes)
+    } else {
+        let lefts = note_lasts(alloc, changes)?;
+        in_order(alloc, BTreeMap::new(alloc), lefts)
     }
-    let lefts = note_lasts(alloc, changes)?;
-    in_order(alloc, BTreeMap::new(alloc), lefts)
 }
 
 /// Of the changes at each key the last one, in the order of the keys, but at a key of the kind none where the last leaves what the
