@@ -6,7 +6,7 @@ use Rattle.std.specs.FinMap as map
 use Rattle.std.specs.FinMap.{get-insert, get-empty, get-entries, get-from_entries, entries_sorted, empty_of_len, len-entries, same_map}
 use Rattle.broker_node.specs.Opening.{IsOpenedFrom}
 use Rattle.mqtt_sessions.specs.Saved.{durable_of}
-use Rattle.node_keeper.specs.Keeping.{AreKept, AreLasting, AreOfNone, IsReopened, Opens, are_raised, given_mark, marked, may_be_raised, may_be_marked, only_mark}
+use Rattle.node_keeper.specs.Keeping.{AreKept, AreLasting, AreOfNone, HaveOneVersion, IsReopened, LastsIn, OpeningKeepsWhatLasts, Opens, are_raised, given_mark, marked, may_be_raised, may_be_marked, only_mark}
 use Rattle.node_rows.specs.Reading.{IsLasting, Say, SayNothing}
 use Rattle.node_rows.specs.Sessions.{Plain, opened_seat}
 use Rattle.node_rows.specs.Versions.{AreFirst, Raise, raised_all, raised_content}
@@ -144,3 +144,28 @@ none_have p rows c is nothing x (inr are) =
       rise = subst (λ es. T (map.is_sorted key_cmp es)) (sym is) (entries_sorted c);
       are = λ key. sym (raised_rows c rows is key) ∙ are.2 key;
     }))
+
+-- ---- laws
+
+has_mark : (p : Place) (c : Content) (x : Lasting) → AreLasting p c x → ¬ (c ≡ map.empty)
+has_mark p c x are none =
+    let here : map.get c mark_key ≡ Some (mark p.id x.named) = are.1 mark_key in
+    let gone : map.get c mark_key ≡ None = ap (λ (y : Content). map.get y mark_key) none ∙ get-empty key_cmp mark_key in
+    cc (here, gone)
+
+has_first : (c : Content) → AreFirst (map.entries c) → ¬ (c ≡ map.empty)
+has_first c first none = by (map.entries c) first (sym (len-entries c) ∙ ap map.len none ∙ map.len-empty key_cmp (List ℕ))
+  where
+    by : (rows : List Plain) → AreFirst rows → length rows ≡ 0 → ⊥
+    by [] first few = first
+    by (row ∷ rows) first few = absurd (omega (arith, few))
+
+pub have_one_version : HaveOneVersion
+have_one_version p rows x y are first = not_both p.id x.named (map.entries rows) (sym (get-entries rows mark_key) ∙ are.1 mark_key) first.1
+
+pub opening_keeps : OpeningKeepsWhatLasts
+opening_keeps p rows rows' x (inl (inl same)) lasts = subst (λ (c : Content). LastsIn p c x) (sym same) lasts
+opening_keeps p rows rows' x (inl (inr marked)) (inl are) = absurd (has_mark p rows x are marked.0)
+opening_keeps p rows rows' x (inl (inr marked)) (inr first) = absurd (has_first rows first.1 marked.0)
+opening_keeps p rows rows' x (inr raised) (inl are) = absurd (not_both p.id x.named (map.entries rows) (sym (get-entries rows mark_key) ∙ are.1 mark_key) raised.0)
+opening_keeps p rows rows' x (inr raised) (inr first) = inl (first.0, λ key. ap (λ (c : Content). map.get c key) raised.1 ∙ first.2 key)

@@ -35,9 +35,13 @@ AreLasting p c x = IsLasting (nodes_of p) x × ((key : Key) → map.get c key �
 abbrev pub AreFirstLasting : Place → Content → Lasting → Type 0
 AreFirstLasting p c x = IsLasting (nodes_of p) x × AreFirst (map.entries c) × ((key : Key) → map.get (raised_content c) key ≡ node_row p.id x key)
 
--- no such node has these rows, in version 1 or 2
+-- in either
+abbrev pub LastsIn : Place → Content → Lasting → Type 0
+LastsIn p c x = AreLasting p c x ⊎ AreFirstLasting p c x
+
+-- no such node has these rows
 abbrev pub AreOfNone : Place → Content → Type 0
-AreOfNone p rows = (x : Lasting) → AreLasting p rows x ⊎ AreFirstLasting p rows x → ⊥
+AreOfNone p rows = (x : Lasting) → LastsIn p rows x → ⊥
 
 -- ---- an event
 
@@ -137,3 +141,13 @@ pub record Opens (p : Place) (rows rows' : Content) (n : NodeView) : Type 0 wher
   pub mark : marked p.id rows rows'
   pub reopened : IsReopened p rows' n
   pub kept : AreKept n rows'
+
+-- ---- laws
+
+-- rows that a crash leaves while a node is opened say what they said, in either version
+abbrev pub OpeningKeepsWhatLasts : Type 0
+OpeningKeepsWhatLasts = (p : Place) (rows rows' : Content) (x : Lasting) → may_be_raised p.id rows rows' → LastsIn p rows x → LastsIn p rows' x
+
+-- rows are of one version
+abbrev pub HaveOneVersion : Type 0
+HaveOneVersion = (p : Place) (rows : Content) (x y : Lasting) → AreLasting p rows x → AreFirstLasting p rows y → ⊥

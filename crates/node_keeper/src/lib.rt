@@ -3,7 +3,9 @@
 
 pub mod fault;
 pub mod keeper;
+pub mod laws;
 mod waking;
 
 pub use fault::KeeperFault;
 pub use keeper::Keeper;
+pub use laws::openings_keep_what_lasts;

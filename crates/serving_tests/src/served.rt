@@ -1,0 +1,70 @@
+//! Nodes that are served by a configuration's file, with their rows in a database's.
+
+use broker_serving::serve;
+use broker_stop::{RunFault, Stop};
+use home_table::TableFault;
+use std::fs;
+
+/// Two nodes, each at any ports that are free.
+pub const HOMES: &str = "[[node]]\nname = \"n0\"\naddress = \"127.0.0.1:0\"\nbridge = \"127.0.0.1:0\"\n\
+    [[node]]\nname = \"n1\"\naddress = \"127.0.0.1:0\"\nbridge = \"127.0.0.1:0\"\n";
+
+/// How many bytes a configuration may have.
+const MOST_BYTES: usize = 16_777_216;
+
+/// Whether serving a node of a configuration for one turn, with its rows in this database, ends as told.
+pub fn ends_by(rt: &HostRuntime, names: (&str, &str, &str), end: Result<(), Stop>) -> bool {
+    let (configuration, node, database) = names;
+    let ended = serve(rt, configuration, node, database, 1);
+    let ends = ended == end;
+    drop((ended, end));
+    ends
+}
+
+#[test]
+fn a_configuration_and_a_database_are_needed(rt: HostRuntime) {
+    let unread = Err(Stop::Configuration(TableFault::Syntax));
+    assert!(rt; ends_by(&rt, ("no.toml", "n0", "no.db"), unread));
+    fs::write(&rt, "two.toml", HOMES).expect(&rt, "a file");
+    let unknown = Err(Stop::Configuration(TableFault::UnknownNode));
+    assert!(rt; ends_by(&rt, ("two.toml", "n2", "no.db"), unknown));
+    let unopened = Err(Stop::Run(RunFault::Rows));
+    assert!(rt; ends_by(&rt, ("two.toml", "n0", "nowhere/no.db"), unopened));
+}
+
+#[test]
+fn a_database_is_made_and_opened_again(rt: HostRuntime) {
+    fs::write(&rt, "two.toml", HOMES).expect(&rt, "a file");
+    for _ in 0..2 {
+        assert!(rt; ends_by(&rt, ("two.toml", "n0", "n0.db"), Ok(())));
+    }
+    let other = Err(Stop::Run(RunFault::Rows));
+    assert!(rt; ends_by(&rt, ("two.toml", "n1", "n0.db"), other));
+}
+
+/// Writes a configuration of so many bytes, its table and a comment to the end, and answers whether that was done.
+fn write_padded(rt: &HostRuntime, path: &str, bytes: usize) -> bool {
+    let rest = bytes.saturating_sub(HOMES.len());
+    let Ok(comment) = "#".repeat(rt.alloc(), rest) else {
+        return false;
+    };
+    let Ok(text) = format!(in rt.alloc(); "{HOMES}{comment}") else {
+        return false;
+    };
+    fs::write(rt, path, text.as_str()).is_ok()
+}
+
+#[test]
+fn a_configuration_has_an_end(rt: HostRuntime) {
+    for (bytes, fault) in [
+        (MOST_BYTES, TableFault::UnknownNode),
+        (MOST_BYTES + 1, TableFault::Syntax),
+    ] {
+        assert!(rt; write_padded(&rt, "long.toml", bytes));
+        let end = Err(Stop::Configuration(fault));
+        assert!(rt;
+            ends_by(&rt, ("long.toml", "n2", "no.db"), end),
+            "{bytes} bytes"
+        );
+    }
+}

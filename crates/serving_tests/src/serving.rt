@@ -1,0 +1,164 @@
+//! A node with its rows in memory, and a client of it over the sockets of the system.
+
+use broker_sockets::{
+    Answer, Event, EventKind, Handler, PolledSockets, Readiness, RealClock, Sockets,
+};
+use broker_stop::RunFault;
+use broker_turns::{Hub, Setting};
+use home_table::HomeTable;
+use mio::net::{TcpListener, TcpStream};
+use node_keeper::{Keeper, KeeperFault};
+use node_server::{ServedNode, serve};
+use numbered_homes::homes_of;
+use row_store::MemoryRows;
+use std::alloc::Global;
+use std::net::SocketAddr;
+use std::process::Abort;
+
+/// CONNECT of client `a`, whose home of two nodes is the second one, a retained PUBLISH of `on` to `t`, and SUBSCRIBE to `t`.
+const PACKETS: [&[u8]; 3] = [
+    b"\x10\x0e\x00\x04MQTT\x05\x02\x00\x3c\x00\x00\x01a",
+    b"\x31\x06\x00\x01t\x00on",
+    b"\x82\x07\x00\x01\x00\x00\x01t\x00",
+];
+
+/// CONNACK, SUBACK, and the retained message.
+const ANSWERS: &[u8] =
+    b"\x20\x0b\x00\x00\x08\x21\x00\x64\x27\x00\x10\x00\x00\x90\x04\x00\x01\x00\x00\x31\x06\x00\x01t\x00on";
+
+/// The second of two nodes, which has no rows yet and has started.
+fn started_node(rt: &impl Abort, alloc: Global) -> ServedNode<MemoryRows> {
+    let homes = homes_of(alloc, 2).expect(rt, "a table");
+    let opened = Keeper::open(alloc, MemoryRows::new(alloc), homes, 1);
+    let keeper = opened.ok().expect(rt, "a node");
+    let mut node = ServedNode::new(alloc, keeper);
+    let at = 0;
+    let kind = EventKind::Started;
+    let outputs = node.handle(Event { at, kind }).expect(rt, "a start");
+    assert!(rt; outputs.is_empty());
+    node
+}
+
+/// One step of a client, which sends its next packet if there is one, and keeps what comes.
+fn step(
+    rt: &impl Abort,
+    sockets: &mut impl Sockets<Stream = TcpStream>,
+    stream: &mut TcpStream,
+    sent: &mut usize,
+    got: &mut Vec<u8>,
+) {
+    if let Some(packet) = PACKETS.get(*sent) {
+        if sockets.write(stream, packet) == Answer::Bytes(packet.len()) {
+            *sent = sent.saturating_add(1);
+        }
+    }
+    let mut buffer = [0u8; 64];
+    if let Answer::Bytes(count) = sockets.read(stream, &mut buffer) {
+        got.extend_from_slice(&buffer[..count]).expect(rt, "memory");
+    }
+}
+
+/// Turns and steps in turn, until the client has what it must get, or too many have been made.
+fn run(
+    rt: &impl Abort,
+    hub: &mut Hub<TcpListener, TcpStream>,
+    sockets: &mut impl Readiness<Listener = TcpListener, Stream = TcpStream>,
+    node: &mut ServedNode<MemoryRows>,
+    client: &mut TcpStream,
+    got: &mut Vec<u8>,
+) {
+    let mut sent = 0;
+    for at in 0..10000 {
+        hub.turn(sockets, node, at).ok().expect(rt, "a turn");
+        step(rt, sockets, client, &mut sent, got);
+        if got.len() >= ANSWERS.len() {
+            return;
+        }
+    }
+}
+
+#[test]
+fn a_client_is_answered(rt: HostRuntime) {
+    let alloc = rt.alloc();
+    let mut sockets = PolledSockets::new(alloc, &rt).expect(&rt, "sockets");
+    let free: SocketAddr = "127.0.0.1:0".parse().expect(&rt, "an address");
+    let listener = sockets.listen(free).expect(&rt, "a listener");
+    let address = listener.local_addr().expect(&rt, "its address");
+    let mut client = sockets.connect(address).expect(&rt, "a client");
+    let setting = Setting {
+        listener,
+        bridge: sockets.listen(free).expect(&rt, "a bridge"),
+        peers: Vec::new(alloc),
+    };
+    let mut hub = Hub::new(alloc, setting).expect(&rt, "a hub");
+    let mut node = started_node(&rt, alloc);
+    let mut got = Vec::new(alloc);
+    run(
+        &rt,
+        &mut hub,
+        &mut sockets,
+        &mut node,
+        &mut client,
+        &mut got,
+    );
+    assert!(rt; got.as_slice() == ANSWERS);
+    assert!(rt; hub.clients() == 1);
+    drop(node);
+}
+
+/// The fault of a tick.
+fn fault_of(node: &mut ServedNode<MemoryRows>, at: u64) -> Option<KeeperFault> {
+    let kind = EventKind::Tick;
+    node.handle(Event { at, kind }).err()
+}
+
+#[test]
+fn a_node_stops(rt: HostRuntime) {
+    let mut node = started_node(&rt, rt.alloc());
+    assert!(rt; fault_of(&mut node, 1 << 62) == Some(KeeperFault::NumbersAtEnd));
+    assert!(rt; fault_of(&mut node, 0) == Some(KeeperFault::Stopped));
+    drop(node);
+}
+
+/// A table of one node with these addresses.
+fn table(rt: &impl Abort, alloc: Global, address: &str, bridge: &str) -> HomeTable {
+    let text = format!(in alloc;
+        "[[node]]\nname = \"n0\"\naddress = \"{address}\"\nbridge = \"{bridge}\"\n"
+    ).expect(rt, "memory");
+    HomeTable::parse(alloc, text.as_str()).expect(rt, "a table")
+}
+
+/// Runs a new node of the table for two turns, and answers what ends the run early, if anything does.
+fn serve_two(rt: &HostRuntime, homes: HomeTable, out: &mut Vec<u8>) -> Option<RunFault> {
+    if homes.nodes() == 0 {
+        drop(homes);
+        return None;
+    }
+    let alloc = rt.alloc();
+    let Ok(mut sockets) = PolledSockets::new(alloc, rt) else {
+        drop(homes);
+        return Some(RunFault::Socket);
+    };
+    let mut clock = RealClock::new(rt);
+    let rows = MemoryRows::new(alloc);
+    serve(alloc, &mut sockets, &mut clock, rows, (homes, 0), 2, out).err()
+}
+
+#[test]
+fn a_run_tells_its_turns(rt: HostRuntime) {
+    for (address, bridge, fault, lines) in [
+        (
+            "127.0.0.1:0",
+            "127.0.0.1:0",
+            None,
+            "ready 127.0.0.1:0 127.0.0.1:0\nturns 2\n",
+        ),
+        ("localhost", "127.0.0.1:0", Some(RunFault::Socket), ""),
+        ("127.0.0.1:0", "127.0.0.1", Some(RunFault::Socket), ""),
+    ] {
+        let mut out = Vec::new(rt.alloc());
+        let homes = table(&rt, rt.alloc(), address, bridge);
+        assert!(rt; serve_two(&rt, homes, &mut out) == fault);
+        assert!(rt; out.as_slice() == lines.as_bytes());
+    }
+}
