@@ -26,7 +26,7 @@ use Rattle.replica_store.specs.States.{State}
 use Rattle.subscription_set.specs.Merging.{IsSet}
 use Rattle.replica_bytes.specs.Filters.{is_filter}
 use Rattle.replica_bytes.specs.Spelling.{listed_by}
-use Rattle.replica_bytes.specs.Values.{is_number, dot, filter, asked, version, subscription_in, entry_in, subscription, entry, has_topic, kept_in, kept, topic_entry, dot_entry}
+use Rattle.replica_bytes.specs.Values.{is_number, dot, filter, asked, subscription_in, entry_in, subscription, entry, has_topic, kept_in, kept, topic_entry, dot_entry}
 use Rattle.replica_bytes.specs.Stores.{is_set, entries, subscriptions, retained, state}
 use Rattle.replica_bytes.proofs.Sets.{passed_set, set_passes, t_true, true_t}
 
@@ -66,10 +66,11 @@ filter_is : IsField filter
 filter_is = tested_is is_filter Malformed text text_is
 
 asked_is : IsField asked
-asked_is = tested_is (λ x. can_be_asked x.0 x.1) Malformed (after (number w8) (λ _. number w32)) (after_is (number w8) (λ _. number w32) (number_is w8 wide8) (λ _. number_is w32 wide32))
+asked_is = tested_is (λ x. can_be_asked x.0.0 x.0.1) Malformed (after (after (number w8) (λ _. number w32)) (λ _. number w32))
+    (after_is (after (number w8) (λ _. number w32)) (λ _. number w32) (after_is (number w8) (λ _. number w32) (number_is w8 wide8) (λ _. number_is w32 wide32)) (λ _. number_is w32 wide32))
 
 pub subscription_is : IsField subscription
-subscription_is = after_is filter (λ _. after asked (λ _. version)) filter_is (λ _. after_is asked (λ _. version) asked_is (λ _. number_is w32 wide32))
+subscription_is = after_is filter (λ _. asked) filter_is (λ _. asked_is)
 
 entry_is : IsField entry
 unfolding entry

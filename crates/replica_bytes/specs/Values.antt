@@ -34,13 +34,10 @@ filter = tested is_filter Malformed text
 abbrev pub filter_in : List ℕ → Result (List ℕ) FieldFault
 filter_in t = if is_filter t then Ok t else Err Malformed
 
--- options in a byte and a Subscription Identifier in four (0: none), such as a SUBSCRIBE can have
-abbrev pub asked : Field (ℕ × ℕ)
-asked = tested (λ x. can_be_asked x.0 x.1) Malformed (after (number w8) (λ _. number w32))
-
--- the version of the home table, in four bytes
-abbrev pub version : Field ℕ
-version = number w32
+-- options in a byte and a Subscription Identifier in four (0: none), such as a SUBSCRIBE can have, and the version of the home
+-- table in four
+abbrev pub asked : Field ((ℕ × ℕ) × ℕ)
+asked = tested (λ x. can_be_asked x.0.0 x.0.1) Malformed (after (after (number w8) (λ _. number w32)) (λ _. number w32))
 
 -- what follows the client of a subscription: its filter, options, identifier and version
 abbrev pub Subscription : Type 0
@@ -53,7 +50,7 @@ abbrev pub entry_in : List ℕ × Subscription → Entry
 entry_in x = record { client = x.0; filter = x.1.0; options = x.1.1.0.0; identifier = x.1.1.0.1; version = x.1.1.1 }
 
 abbrev pub subscription : Field Subscription
-subscription = after filter (λ _. after asked (λ _. version))
+subscription = after filter (λ _. asked)
 
 -- a client's subscription, without the client
 abbrev pub entry_of_client : List ℕ → Field Entry

@@ -100,8 +100,19 @@ fn entry_fits(entry: &Entry)
     let _version = entry.version();
 }
 
-/// Appends the dot and the subscription, or their beginning where memory runs out.
+/// Appends the subscription, or its beginning where memory runs out.
 #[tactic(auto, unfolding(crate::specs::Values::entry))]
+fn append_entry(entry: &Entry, out: &mut Vec<u8>) -> Result<(), NoMemory>
+    ensures ok { OnOk result (out.new.items ≡ out.old.items ++ spec.entry.bytes entry.now) }
+    ensures begins { take (length out.old.items) out.new.items ≡ out.old.items }
+    ensures full { OnErr result (vec_capacity out.old < vec_len out.old + length (spec.entry.bytes entry.now)) }
+    ensures capacity { vec_capacity out.old ≤ vec_capacity out.new }
+{
+    entry.client().write(out)?;
+    append_subscription(entry, out)
+}
+
+/// Appends the dot and the subscription, or their beginning where memory runs out.
 pub(crate) fn append_dot_entry(dot: Dot, entry: &Entry, out: &mut Vec<u8>) -> Result<(), NoMemory>
     ensures spelling { spec.dot_entry.Fits (dot, entry.now) }
     ensures ok { OnOk result (out.new.items ≡ out.old.items ++ spec.dot_entry.bytes (dot, entry.now)) }
@@ -113,6 +124,5 @@ pub(crate) fn append_dot_entry(dot: Dot, entry: &Entry, out: &mut Vec<u8>) -> Re
     entry_fits(entry);
     let _number = dot.number();
     write_dot(dot, out)?;
-    entry.client().write(out)?;
-    append_subscription(entry, out)
+    append_entry(entry, out)
 }
