@@ -11,7 +11,7 @@ use Rattle.node_keeper.specs.Keeping.{AreLasting, AreOf, AreOfNone, marked, may_
 use Rattle.node_rows.specs.Reading.{IsAmong, IsLasting, RowsTellAll}
 use Rattle.node_rows.specs.Sessions.{Plain, opened_seat}
 use Rattle.node_rows.specs.Versions.{AreFirst}
-use Rattle.node_rows.proofs.Versions.{not_both}
+use Rattle.node_rows.proofs.Raising.{not_both}
 use Rattle.node_rows.specs.Rows.{Lasting, mark_key, node_row}
 use Rattle.node_work.specs.Lasting.{CanLast, IsWoken, lasting}
 use Rattle.node_work.specs.View.{HeldView, Place, nodes_of}

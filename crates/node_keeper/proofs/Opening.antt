@@ -11,7 +11,7 @@ use Rattle.node_rows.specs.Reading.{IsLasting, Say, SayNothing}
 use Rattle.node_rows.specs.Sessions.{Plain, opened_seat}
 use Rattle.node_rows.specs.Versions.{AreFirst, Raise, raised_all, raised_content}
 use Rattle.node_rows.proofs.OneNode.{two_marks}
-use Rattle.node_rows.proofs.Versions.{not_both}
+use Rattle.node_rows.proofs.Raising.{not_both}
 use Rattle.node_rows.specs.Rows.{Lasting, mark, mark_key, node_row}
 use Rattle.node_work.specs.Lasting.{IsWoken, held_row, lasting}
 use Rattle.node_work.specs.View.{HeldView, NodeView, Place, nodes_of, woken}

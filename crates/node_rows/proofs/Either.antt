@@ -10,7 +10,7 @@ use Rattle.node_rows.specs.Reading.{Finds, IsLasting, IsOpened, Say, SayNothing,
 use Rattle.node_rows.specs.Rows.{Lasting}
 use Rattle.node_rows.specs.Versions.{AreFirst, raised_all}
 use Rattle.node_rows.proofs.OneNode.{no_first, two_marks}
-use Rattle.node_rows.proofs.Versions.{raised_up}
+use Rattle.node_rows.proofs.Raising.{raised_up}
 
 -- rows that aren't of version 1 say what they say in version 2
 pub second_found : (rows : List Row) (id nodes : ℕ) (r : Result Opened RowFault) → (AreFirst (map_list entry_of rows) → ⊥)

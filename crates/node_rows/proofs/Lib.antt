@@ -1,5 +1,5 @@
 mod Lists
-pub mod Versions
+pub mod Raising
 mod Clients
 mod Cuts
 mod Lanes

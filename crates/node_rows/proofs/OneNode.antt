@@ -22,7 +22,7 @@ use Rattle.node_rows.proofs.Clients.{client_is, client_itself, copies_of, rows_r
 use Rattle.node_rows.proofs.Cuts.{copy_kind, last_row, no_high_row, no_low_row, other_row, own_kind}
 use Rattle.node_rows.proofs.Lanes.{lane_high, lane_row, lanes_tell, low_row}
 use Rattle.node_rows.proofs.Lists.{all_turned, find_none, itself, one_list}
-use Rattle.node_rows.proofs.Versions.{not_both}
+use Rattle.node_rows.proofs.Raising.{not_both}
 
 -- ---- the number in the mark
 one_number : (n m : ℕ) → Some n ≡ Some m → n ≡ m

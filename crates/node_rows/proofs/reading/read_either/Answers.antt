@@ -2,7 +2,7 @@ use Rattle.std.proofs.Common.{true≢false, map as map_list, sym, ap, subst, ◌
 use Rattle.std.specs.FinMap.{is_sorted}
 use Rattle.row_store.specs.Rows.{entry_of, key_cmp}
 use Rattle.node_rows.proofs.Either.{raised_found, second_found}
-use Rattle.node_rows.proofs.Versions.{raised_up}
+use Rattle.node_rows.proofs.Raising.{raised_up}
 use Rattle.node_rows.proofs.reading.read_either.Goals as goal
 
 pub returns-then-not-are_first : goal.returns-then-not-are_first
