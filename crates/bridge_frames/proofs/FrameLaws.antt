@@ -29,11 +29,12 @@ use Rattle.bridge_frames.specs.Frames.{Frame, limit, as_delta, as_know, as_forwa
 kind_back : (n : ℕ) (k : Kind) → kind_in n ≡ Some k → kind_number k ≡ n
 kind_back zero k e = absurd cc
 kind_back (suc zero) k e = (let is : k ≡ kinds.Hello = sym cc in rw is refl)
-kind_back (suc (suc zero)) k e = (let is : k ≡ kinds.Delta = sym cc in rw is refl)
+kind_back (suc (suc zero)) k e = absurd cc
 kind_back (suc (suc (suc zero))) k e = (let is : k ≡ kinds.Know = sym cc in rw is refl)
 kind_back (suc (suc (suc (suc zero)))) k e = (let is : k ≡ kinds.Forward = sym cc in rw is refl)
 kind_back (suc (suc (suc (suc (suc zero))))) k e = (let is : k ≡ kinds.Got = sym cc in rw is refl)
-kind_back (suc (suc (suc (suc (suc (suc n)))))) k e = absurd cc
+kind_back (suc (suc (suc (suc (suc (suc zero)))))) k e = (let is : k ≡ kinds.Delta = sym cc in rw is refl)
+kind_back (suc (suc (suc (suc (suc (suc (suc n))))))) k e = absurd cc
 
 kind_forth : (k : Kind) → kind_in (kind_number k) ≡ Some k
 kind_forth kinds.Hello = refl

@@ -1,10 +1,11 @@
 //! Rows of version 1, as they stand in version 2.
 //!
 //! In version 1 a subscription doesn't say under which version of the table of homes it was made: it is version 0.
-ghost use Rattle.std.specs.Prelude.{◌≡◌, ◌↔◌, ◌∷◌, [], drop, map as map_list, IfOk, IsTrue};
+ghost use Rattle.std.specs.Prelude.{◌≡◌, ◌↔◌, ◌∷◌, ◌++◌, List, [], drop, map as map_list, IfOk, OnOk, IsTrue};
 ghost use Rattle.row_store.specs.Rows.{entry_of};
 ghost use Rattle.node_rows.specs.Versions as spec;
-ghost use Rattle.node_rows.specs.Versions.{AreFirst, Raise, raised, raised_all};
+ghost use Rattle.node_rows.specs.Sessions.{Plain};
+ghost use Rattle.node_rows.specs.Versions.{AreFirst, AreRaising, Raise, SaysFirst, raised, raised_all};
 
 use crate::mark::{MARK, VERSION, whole_mark};
 use mqtt_fields::{NoMemory, put_u16, put_u32};
@@ -17,17 +18,24 @@ const FIRST: u16 = 1;
 /// The kind of a subscription's row.
 const SUBSCRIPTION: u8 = 4;
 
+// Whether the value is that of a mark of version 1.
+fn says_first(value: &[u8]) -> bool
+    ensures { IsTrue result ↔ SaysFirst value.now }
+{
+    match whole_mark(value) {
+        Some((version, _, _)) => version == FIRST,
+        None => false,
+    }
+}
+
 // Whether the row is a mark of version 1.
 fn is_first(row: &Row) -> bool
     ensures { IsTrue result ↔ AreFirst (entry_of row.now ∷ []) }
 {
-    if row.kind != MARK || !row.owner.is_empty() || !row.place.is_empty() {
-        return false;
-    }
-    match whole_mark(&row.value) {
-        Some((version, _, _)) => version == FIRST,
-        None => false,
-    }
+    row.kind == MARK
+        && row.owner.is_empty()
+        && row.place.is_empty()
+        && says_first(&row.value)
 }
 
 /// Whether rows are of version 1: the first is a mark that says so.
@@ -97,15 +105,25 @@ pub(crate) fn raised_rows(alloc: Global, rows: &[Row]) -> Result<Vec<Row>, NoMem
     Ok(made)
 }
 
+// Puts the row as it stands in version 2 behind the changes, where it differs.
+fn raise_row(alloc: Global, row: &Row, changes: &mut Vec<Change>) -> Result<(), NoMemory>
+    ensures { OnOk result ((rows : List Plain) → AreRaising rows changes.old.items → AreRaising (rows ++ entry_of row.now ∷ []) changes.new.items) }
+{
+    if !differs(row.kind) {
+        return Ok(());
+    }
+    let made = raised_row(alloc, row)?;
+    changes.push(Change::Put(made))?;
+    Ok(())
+}
+
 /// The changes that make rows of version 1 rows of version 2: of the mark and of each subscription, and no other.
 pub fn raise(alloc: Global, rows: &[Row]) -> Result<Vec<Change>, NoMemory>
     ensures { IfOk result (λ changes. Raise (map_list entry_of rows.now) changes.items) }
 {
     let mut changes = Vec::new(alloc);
     for row in rows {
-        if differs(row.kind) {
-            changes.push(Change::Put(raised_row(alloc, row)?))?;
-        }
+        raise_row(alloc, row, &mut changes)?;
     }
     Ok(changes)
 }
