@@ -6,7 +6,8 @@
 #   examples/kill.sh             runs the program, which is built first where it isn't yet
 #   examples/kill.sh PROGRAM..   runs these words in its place, with `serve CONFIG NODE DATABASE --turns N` behind them
 #
-# It needs python3. The ports 1883 and 2883 must be free.
+# Each kill comes after 1 to 2,000 further messages, or after at most as many as MESSAGES says. It needs python3. The ports 1883 and 2883
+# must be free.
 set -eu
 
 top=$(cd "$(dirname "${BASH_SOURCE[0]}")/.." && pwd)
@@ -17,6 +18,7 @@ fi
 client=$top/examples/kill_client.py
 port=1883
 kills=5
+most=${MESSAGES:-2000}
 failed=0
 work=$(mktemp -d)
 
@@ -48,6 +50,13 @@ lines() {
     wc -l < "$1"
 }
 
+# Waits until a file has so many lines, or the process $3 has ended.
+await_lines() {
+    while [ "$(lines "$1")" -lt "$2" ] && kill -0 "$3" 2> "$work/kill"; do
+        sleep 0.01
+    done
+}
+
 # What is said of the numbers that came: those that were acknowledged and didn't, how many came again, and whether they came in order.
 judge() {
     local acknowledged=$1 came=$2 qos=$3 lost again
@@ -69,10 +78,11 @@ try_at() {
     local qos=$1 publisher receiver total number
     start_node "$qos"
     "$client" subscribe "$port" "$qos"
+    : > "$work/acknowledged"
     "$client" publish "$port" "$qos" "$work/acknowledged" > "$work/published" &
     publisher=$!
     for number in $(seq "$kills"); do
-        sleep "0.$((RANDOM % 6 + 3))"
+        await_lines "$work/acknowledged" $(($(lines "$work/acknowledged") + RANDOM % most + 1)) "$publisher"
         kill_node
         start_node "$qos"
     done
@@ -84,9 +94,7 @@ try_at() {
     "$client" receive "$port" "$qos" "$total" "$work/came" &
     receiver=$!
     for number in $(seq "$kills"); do
-        while [ "$(lines "$work/came")" -lt $((total * number / (kills + 1))) ] && kill -0 "$receiver" 2> "$work/kill"; do
-            sleep 0.02
-        done
+        await_lines "$work/came" $((total * number / (kills + 1))) "$receiver"
         kill_node
         start_node "$qos"
     done
