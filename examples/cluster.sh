@@ -96,7 +96,7 @@ received() {
 compare() {
     local name=$1 wanted=$2 got
     shift 2
-    for _ in $(seq 100); do
+    for _ in $(seq 600); do
         got=$(received "$@")
         if [ "$got" = "$wanted" ]; then
             break

@@ -8,7 +8,7 @@
 #   examples/split.sh             runs the program, which is built first where it isn't yet
 #   examples/split.sh PROGRAM..   runs these words in its place, with `serve CONFIG NODE DATABASE --turns N` behind them
 #
-# The node stands still for 20 seconds, or for as many as STILL says.
+# The node stands still for 20 seconds, or for as many as STILL says, and what is wanted is waited for 60, or PATIENCE.
 # It needs python3 and mosquitto's clients: apt-get install mosquitto-clients. The ports 1883, 1884, 2883, 2884, 3883 and
 # 3884 must be free.
 set -eu
@@ -19,8 +19,9 @@ if [ "$#" -gt 0 ]; then
     program=("$@")
 fi
 host=127.0.0.1
-seconds=600
+seconds=3600
 still=${STILL:-20}
+patience=${PATIENCE:-60}
 failed=0
 work=$(mktemp -d)
 nodes=()
@@ -132,9 +133,9 @@ await() {
 
 # Compares $2 with what the words that follow print, for a while.
 compare() {
-    local name=$1 wanted=$2 got
+    local name=$1 wanted=$2 end=$((SECONDS + patience)) got
     shift 2
-    for _ in $(seq 200); do
+    while [ "$SECONDS" -le "$end" ]; do
         got=$("$@")
         if [ "$got" = "$wanted" ]; then
             echo "$name: $got"
