@@ -86,7 +86,7 @@ try_at() {
         kill_node
         start_node "$qos"
     done
-    kill "$publisher"
+    kill "$publisher" 2> "$work/kill" || true
     wait "$publisher"
     echo "QoS $qos: $(cat "$work/published"), over $kills kills"
     total=$(lines "$work/acknowledged")
