@@ -15,7 +15,7 @@ if [ "$#" -gt 0 ]; then
     program=("$@")
 fi
 host=127.0.0.1
-seconds=60
+seconds=600
 failed=0
 work=$(mktemp -d)
 nodes=()
