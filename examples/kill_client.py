@@ -152,7 +152,7 @@ class Receiver(Client):
 
     def work(self, connection):
         while True:
-            heard = connection.next(1 if len(self.found) >= self.count else 10)
+            heard = connection.next(1 if len(self.found) >= self.count else 60)
             if not heard:
                 return
             kind, body = heard
