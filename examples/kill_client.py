@@ -3,7 +3,8 @@
 
     kill_client.py subscribe PORT QOS             subscribes to `kill` in a session that lasts, and ends
     kill_client.py publish PORT QOS FILE          publishes 1, 2, 3 .. until it is told to stop (TERM) and all is acknowledged
-    kill_client.py receive PORT QOS COUNT FILE    receives in that session until COUNT numbers and a second of silence have come
+    kill_client.py receive PORT QOS COUNT FILE    receives in that session until COUNT numbers and then nothing for a second have come,
+                                                  or nothing for a minute
 
 Each number that was acknowledged, or came, is a line of FILE. A connection that ends is dialled again, and what was on its way is sent
 again under its identifier; a session that isn't there any more ends the run with status 1.
