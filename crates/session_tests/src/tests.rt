@@ -36,6 +36,11 @@ fn sessions_answer_their_calls(rt: HostRuntime) {
     }
 }
 
+#[test]
+fn a_full_queue_is_told(rt: HostRuntime) {
+    play(&rt, rt.alloc(), &session_scripts::QUEUE);
+}
+
 /// Plays lines to a table of sessions.
 fn play_table(rt: &impl Abort, alloc: Global, lines: &[Line]) {
     let mut sessions = Sessions::new(alloc);

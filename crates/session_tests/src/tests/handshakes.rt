@@ -1,6 +1,6 @@
 //! Exchanges of one session over several connections, a full queue, entries put back, and what came.
 
-ghost use Rattle.std.specs.Prelude.{◌≡◌, ◌≢◌};
+ghost use Rattle.std.specs.Prelude.{◌≢◌};
 ghost use Rattle.mqtt_fields.specs.declared.options.Qos.TheVariants.{AtMostOnce};
 
 use crate::tests::copies::{self, copy_of};

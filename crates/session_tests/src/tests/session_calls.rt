@@ -2,7 +2,6 @@
 
 ghost use Rattle.std.specs.Prelude.{◌≡◌, ◌<◌, ◌^◌, Some};
 ghost use Rattle.mqtt_sessions.specs.Saved.{begun_session};
-ghost use Rattle.mqtt_sessions.specs.State.{IsPublishableIf};
 
 use crate::tests::copies::{copy_of, message};
 use crate::tests::rows::{changes, reopened, rows};
@@ -10,7 +9,6 @@ use crate::tests::told::{self, told};
 use crate::tests::words::{connect, level, moment, number, packet, text};
 use mqtt_fields::Qos;
 use mqtt_message::SharedMessage;
-use mqtt_packets::Connect;
 use mqtt_sessions::{Reaction, Session, SessionFault};
 use std::alloc::Global;
 use std::mem::replace;

@@ -3,15 +3,7 @@
 use super::Line;
 
 /// Each script begins with a session of its own.
-pub const ALL: [&[Line]; 7] = [
-    &CONNECTIONS,
-    &ARRIVALS,
-    &KINDS,
-    &MOMENTS,
-    &LIMITS,
-    &QUEUE,
-    &ROWS,
-];
+pub const ALL: [&[Line]; 6] = [&CONNECTIONS, &ARRIVALS, &KINDS, &MOMENTS, &LIMITS, &ROWS];
 
 /// Two connections, and a third: PUBREL and the resends come first, identifiers are the least that are free.
 const CONNECTIONS: [Line; 20] = [
@@ -175,7 +167,7 @@ const LIMITS: [Line; 13] = [
 ];
 
 /// A queue of 65,536 copies is full: the copy after them is left out, and that is told.
-const QUEUE: [Line; 8] = [
+pub const QUEUE: [Line; 8] = [
     (
         "new a 101600044d5154540500003c081100000064210001000161",
         "200b0000082100642700100000",

@@ -1,7 +1,5 @@
 //! Slots are taken, freed and found again, over a word's end and at the last slot.
 
-ghost use Rattle.std.specs.Prelude.{◌≡◌, ◌+◌, length};
-
 use slot_table::Slots;
 use std::process::Abort;
 
