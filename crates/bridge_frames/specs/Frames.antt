@@ -7,7 +7,7 @@ use Rattle.mqtt_fields.specs.Numbers.{number, long}
 use Rattle.causal_context.specs.Dots.{Dots}
 use Rattle.causal_context.specs.Spelling.{context}
 use Rattle.replica_store.specs.States.{State}
-use Rattle.replica_bytes.specs.Stores.{state, HasNoVersions}
+use Rattle.replica_bytes.specs.Stores.{state}
 use Rattle.bridge_frames.specs.declared.body.FrameBody.{FrameBody}
 use Rattle.bridge_frames.specs.declared.body.FrameBody.TheVariants.{Hello, Delta, Know, Forward, Got}
 use Rattle.bridge_frames.specs.declared.fault.LinkFault.{LinkFault}
@@ -86,9 +86,8 @@ body kinds.Know = know
 body kinds.Forward = forward
 body kinds.Got = got
 
--- no subscription has a version other than 0, which isn't spelled, and a message has a number that lanes give
+-- a message has a number that lanes give
 abbrev pub IsPlain : FrameBody → Type 0
-IsPlain (Delta s) = HasNoVersions s
 IsPlain (Forward n f) = (1 ≤ n) × (n < 2 ^ 62)
 IsPlain _ = Unit {0}
 

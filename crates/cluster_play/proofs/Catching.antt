@@ -61,7 +61,7 @@ sent_as run later m w r before f s =
     let given = a.runs.1.0 in
     let ships = subst (Carries a.held f.to) s.is_delta given.carries in
     record {
-      spelled = given_spelled (length w.sites) (site m.fate) _ (λ j d. taken j run d) a.held (record { grown = a.grown; deltas = a.deltas }) a.plain a.kept a.place f given;
+      spelled = given_spelled (length w.sites) (site m.fate) _ (λ j d. taken j run d) a.held (record { grown = a.grown; deltas = a.deltas }) a.kept a.place f given;
       from = given.from ∙ a.id;
       within = a.within;
       covers = λ d h. elim (shipped_enough (belief_of a.held.bridge f.to) a.held.bridge.deltas a.held.store s.state ships.2 d (a.listed d ∙ h)) [

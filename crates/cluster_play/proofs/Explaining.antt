@@ -18,7 +18,7 @@ use Rattle.cluster_play.proofs.Bridging.{IsKept}
 use Rattle.cluster_play.proofs.Paths.{made_more, taken_more, moves_more}
 use Rattle.cluster_play.proofs.Sound.{lists}
 use Rattle.cluster_play.proofs.Growing.{Holding}
-use Rattle.cluster_play.proofs.Plain.{AllPlain, are_unversioned, is_among}
+use Rattle.cluster_play.proofs.Plain.{AllPlain, is_among}
 use Rattle.cluster_play.proofs.Operations.{among_some}
 use Rattle.cluster_play.proofs.Lasts.{is_lasting}
 use Rattle.cluster_play.proofs.Telling.{WasGiven}
@@ -70,4 +70,4 @@ seat_lasts p w e i s at x =
     let s = x.held.store in
     let taken = filter (lists s) p.ops in
     let plain : AllPlain (length w.sites) taken = λ o a. e.plain o (among_some (lists s) o p.ops a).0 in
-    is_lasting (length w.sites) x.held x.lasts (are_unversioned (length w.sites) taken s x.holding.grown.sound plain) (is_among (length w.sites) taken s x.holding.grown.sound plain) x.kept.lanes e.few
+    is_lasting (length w.sites) x.held x.lasts (is_among (length w.sites) taken s x.holding.grown.sound plain) x.kept.lanes e.few

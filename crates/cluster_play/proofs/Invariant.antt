@@ -152,7 +152,7 @@ module _ (p : Past) (w : World) (x : Explains p w) (i : ℕ) (e : Event) (acts :
       record {
         frame = o.frame;
         is = o.is;
-        told = told (length w.sites) i (p.ops ++ gather op_in o.before) p.took mid g.grows.holding g.plain g.kept (p.ops ++ gather op_in acts) (λ j d. p.took j d || gains j fate d) c.was.node.place o.frame here.id
+        told = told (length w.sites) i (p.ops ++ gather op_in o.before) p.took mid g.grows.holding g.kept (p.ops ++ gather op_in acts) (λ j d. p.took j d || gains j fate d) c.was.node.place o.frame here.id
             (get_within w.sites i c.was c.at) (stays_made known o.before rest mid o.acts_are parts.1 parts.2)
             (λ d h. elim (or_true (p.took i d) (gained o.before d) (sym (so_far d) ∙ h)) [
               | inl a ↦ or_left (p.took i d) (gains i fate d) a

@@ -48,7 +48,7 @@ module _ (run : List Played) (w : World) (r : Reached run w) (i : ℕ) (s : Site
   }
 
   pub rows_of_node : AreOfNone s.node.place s.rows → ⊥
-  rows_of_node none = none (lasting seat.held) (can_here, seat.rows)
+  rows_of_node none = none (lasting seat.held) (inl (can_here, seat.rows))
 
 pub rows_of_held : (run : List Played) (w : World) → Reached run w → (i : ℕ) (h : HeldView) (at : Holds w i h) → AreOf at.site.node.place at.site.rows h × IsLasting (length w.sites) (lasting h)
 rows_of_held run w r i h at =

@@ -1,16 +1,17 @@
 -- What lasts of what a node holds, and its rows.
-use Rattle.std.proofs.Common.{◌≡◌, ◌≤◌, ◌^◌, ℕ, List, length, Option, Some, None, option_map, refl, sym, ap, ◌∙◌, inl, inr, subst}
+use Rattle.std.proofs.Common.{◌≡◌, ◌≤◌, ◌^◌, ℕ, List, [], ◌∷◌, length, arith, Option, Some, None, option_map, refl, sym, ap, ◌∙◌, inl, inr, subst}
 use Rattle.std.specs.FinMap as map
 use Rattle.mqtt_sessions.specs.Saved.{durable_of}
 use Rattle.row_store.specs.Rows.{Content, key_cmp}
 use Rattle.session_rows.specs.Durable.{Durable, IsDurable}
 use Rattle.session_table.specs.Seats.{Seat}
 use Rattle.session_table.proofs.RowLaws.{durable-again}
-use Rattle.replica_rows.specs.Reading.{IsUnversioned}
 use Rattle.node_bridge.specs.View.{woken_bridge}
 use Rattle.node_keeper.specs.Keeping.{AreLasting, AreOf, AreOfNone, marked, may_be_marked}
 use Rattle.node_rows.specs.Reading.{IsAmong, IsLasting, RowsTellAll}
-use Rattle.node_rows.specs.Sessions.{opened_seat}
+use Rattle.node_rows.specs.Sessions.{Plain, opened_seat}
+use Rattle.node_rows.specs.Versions.{AreFirst}
+use Rattle.node_rows.proofs.Versions.{not_both}
 use Rattle.node_rows.specs.Rows.{Lasting, mark_key, node_row}
 use Rattle.node_work.specs.Lasting.{CanLast, IsWoken, lasting}
 use Rattle.node_work.specs.View.{HeldView, Place, nodes_of}
@@ -37,13 +38,12 @@ seat_lasts : (h : HeldView) (client : List ℕ) (d : Durable) → CanLast h → 
 seat_lasts h client d can None there is = none-some is
 seat_lasts h client d can (Some seat) there is = subst (λ (x : Durable). IsDurable x × (x.client ≡ client)) (some_is is) (can.sessions client seat there)
 
-pub is_lasting : (count : ℕ) (h : HeldView) → CanLast h → IsUnversioned h.store → IsAmong count h.store → length h.bridge.lanes ≡ count → count ≤ 2 ^ 16 → IsLasting count (lasting h)
-is_lasting count h can unversioned among long few = record {
+pub is_lasting : (count : ℕ) (h : HeldView) → CanLast h → IsAmong count h.store → length h.bridge.lanes ≡ count → count ≤ 2 ^ 16 → IsLasting count (lasting h)
+is_lasting count h can among long few = record {
   few = few;
   named = can.named;
   sessions = λ client d e. seat_lasts h client d can (map.get h.sessions client) refl e;
   store = can.store;
-  unversioned = unversioned;
   among = among;
   lanes = record { count = long; sound = can.lanes.sound };
 }
@@ -63,11 +63,21 @@ has_rows p rows h are none = none-some (sym (map.get-empty {X = List ℕ} key_cm
 
 -- no node has no rows
 pub none_without : (p : Place) → AreOfNone p map.empty
-none_without p x says = none-some (sym (map.get-empty {X = List ℕ} key_cmp mark_key) ∙ says.1 mark_key)
+none_without p x (inl says) = none-some (sym (map.get-empty {X = List ℕ} key_cmp mark_key) ∙ says.1 mark_key)
+none_without p x (inr says) = no_first (map.entries map.empty) (sym (map.len-entries {R = key_cmp} {X = List ℕ} map.empty) ∙ map.len-empty key_cmp (List ℕ)) says.1
+  where
+    no_first : (rows : List Plain) → length rows ≡ 0 → AreFirst rows → ⊥
+    no_first [] none first = first
+    no_first (row ∷ rows) none first = absurd (omega (arith, none))
+
+-- the rows of what a node holds are of version 2
+not_first : (p : Place) (rows : Content) (h : HeldView) → AreOf p rows h → AreFirst (map.entries rows) → ⊥
+not_first p rows h are = not_both p.id (lasting h).named (map.entries rows) (sym (map.get-entries rows mark_key) ∙ are mark_key)
 
 marked_same : (p : Place) (rows rows' : Content) (h : HeldView) → AreOf p rows h → marked p.id rows rows' → rows' ≡ rows
 marked_same p rows rows' h are (inl e) = absurd (has_rows p rows h are e.0)
-marked_same p rows rows' h are (inr e) = e.1
+marked_same p rows rows' h are (inr (some, inl first)) = absurd (not_first p rows h are first.0)
+marked_same p rows rows' h are (inr (some, inr same)) = same.1
 
 pub may_be_same : (p : Place) (rows rows' : Content) (h : HeldView) → AreOf p rows h → may_be_marked p.id rows rows' → rows' ≡ rows
 may_be_same p rows rows' h are (inl e) = e

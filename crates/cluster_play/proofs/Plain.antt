@@ -5,7 +5,6 @@ use Rattle.std.specs.Prelude.{is_some}
 use Rattle.std.specs.FinMap as map
 use Rattle.std.specs.FinSet as set
 use Rattle.causal_context.specs.Dots.{Dot, Dots, dot_cmp}
-use Rattle.subscription_set.specs.declared.entry.Entry.{Entry}
 use Rattle.subscription_set.specs.Standing.{contains-seen_of}
 use Rattle.subscription_set.specs.Statuses.{Status}
 use Rattle.replica_store.specs.declared.operation.Operation.{Operation}
@@ -14,7 +13,6 @@ use Rattle.replica_store.specs.Operations.{dot_of, cover_of, Among, HasStatus, H
 use Rattle.replica_store.specs.States.{State}
 use Rattle.replica_store.specs.StateOf.{IsStateOf}
 use Rattle.replica_store.proofs.Unions.{among_cases}
-use Rattle.replica_rows.specs.Reading.{IsUnversioned}
 use Rattle.node_rows.specs.Reading.{IsAmong}
 use Rattle.node_work.specs.Acts.{Act, Moment, Began, Store, Connection, Session, Bridge, Out, Named, Acknowledged, Passed, Dropped, Made, Merged, Allowed, IsMade, Runs, gather, op_in, merge_in}
 use Rattle.node_work.specs.View.{Place, HeldView}
@@ -25,9 +23,9 @@ use Rattle.cluster_play.proofs.Growing.{AllSound, Holding, act_grows}
 use Rattle.cluster_play.proofs.Next.{next_operation}
 use Rattle.cluster_play.proofs.Splits.{all_front, all_weaker}
 
--- a Subscribe is under version 0, and the stamp of a Put is a node's
+-- the stamp of a Put is a node's
 abbrev pub IsPlainly : ℕ → Operation → Type 0
-IsPlainly count (Subscribe dot entry cover) = entry.version ≡ 0
+IsPlainly count (Subscribe dot entry cover) = Unit {0}
 IsPlainly count (Remove dot cover) = Unit {0}
 IsPlainly count (Put dot stamp content) = stamp.node < count
 
@@ -54,7 +52,7 @@ module _ (i count : ℕ) (ms : List Operation) (s : State) (g : Grown i ms s) (l
   made_plain : (o : Operation) → IsMade i s o → IsPlain count o
   made_plain (Subscribe dot entry cover) may =
       let n = next (Subscribe dot entry cover) may in
-      record { dot = subst (λ j. j < count) (sym n.0.node) low; cover = covers_plain count ms s entry.client (Some entry.filter) cover plain n.1; rest = may.2 }
+      record { dot = subst (λ j. j < count) (sym n.0.node) low; cover = covers_plain count ms s entry.client (Some entry.filter) cover plain n.1; rest = tt }
   made_plain (Remove dot cover) may =
       let n = next (Remove dot cover) may in
       record { dot = subst (λ j. j < count) (sym n.0.node) low; cover = covers_plain count ms s n.1.0 n.1.1 cover plain n.1.2; rest = tt }
@@ -97,25 +95,8 @@ acts_plain p count (a ∷ acts) ms h h' low g r all plain =
     let rest = acts_plain p count acts ms' r.0 h' low grows.holding r.2 (all_weaker (Sound ms) (Sound ms') (gather merge_in acts) grows.stays parts.1) here in
     subst (AllPlain count) (ap (λ os. (ms ++ os) ++ gather op_in acts) (append-nil (op_in a)) ∙ append_assoc ms (op_in a) (gather op_in acts)) rest
 
--- ---- a state of plain operations names none but nodes of the cluster, and is under version 0
+-- ---- a state of plain operations names none but nodes of the cluster
 module _ (count : ℕ) (O : List Operation) (s : State) (state : IsStateOf O s) (plain : AllPlain count O) where
-  unversioned : (q : Dot) (e : Entry) (o : Option Status) → HasStatus O q o → o ≡ Some (Some e) → e.version ≡ 0
-  unversioned q e None h is = none-is is
-    where
-      none-is : ◌≡◌ {A = Option Status} None (Some (Some e)) → e.version ≡ 0
-      none-is x = cc
-  unversioned q e (Some None) h is = bare is
-    where
-      bare : ◌≡◌ {A = Option Status} (Some None) (Some (Some e)) → e.version ≡ 0
-      bare x = cc
-  unversioned q e (Some (Some f)) h is =
-      let same : f ≡ e = cc is in
-      let by = h.subscribed in
-      subst (λ (x : Entry). x.version ≡ 0) same (plain (Subscribe q f by.0) by.1).rest
-
-  pub are_unversioned : IsUnversioned s
-  are_unversioned q e is = unversioned q e (map.get s.subscriptions q) (state.subscriptions q) is
-
   seen_plain : (d : Dot) (o : Option Status) → HasStatus O d o → is_some o ≡ true → d.node < count
   seen_plain d None h is = absurd (let no : false ≡ true = is in cc)
   seen_plain d (Some None) h is = (plain h.0 h.1).cover d h.2

@@ -12,6 +12,7 @@ ghost use Rattle.row_store.specs.Rows.{Content, after_all};
 use broker_node::{Event, Node};
 use node_keeper::{Keeper, KeeperFault};
 use node_work::{Outcome, Output};
+use row_changes::last_of_each;
 use row_store::{Change, RowFault, RowStore};
 use std::alloc::{AllocError, Global};
 use std::mem;
@@ -69,6 +70,24 @@ fn take(
     }
 }
 
+/// Makes the changes, all or none, by one call of the store of rows, which is given the last one of each row.
+fn write<R: RowStore>(alloc: Global, rows: &mut R, changes: Vec<Change>) -> Result<(), RowFault>
+    ensures nothing { changes.items ≡ [] → (result ≡ Ok tt) × (rows.new ≡ rows.old) }
+    ensures ok { R.is_clean rows.new → R.is_open rows.old → OnOk result (R.is_open rows.new × (R.content rows.new ≡ after_all (R.content rows.old) changes.items)) }
+    ensures err { R.is_clean rows.new → R.is_open rows.new → OnErr result (R.content rows.new ≡ R.content rows.old) }
+    ensures crash { R.is_clean rows.new → R.is_open rows.old → (c : Content) → R.may_leave rows.new c
+        → (c ≡ R.content rows.old) ⊎ (c ≡ after_all (R.content rows.old) changes.items) }
+    ensures device { IsErrOf result RowFault.Device → IsCounted (R.failed rows.old) (R.failed rows.new) }
+    ensures counts { result ≢ Err RowFault.Device → R.failed rows.new ≡ R.failed rows.old }
+    ensures bad { result ≢ Err RowFault.BadRow }
+    ensures was_clean { R.is_clean rows.new → R.is_clean rows.old }
+{
+    let Ok(lasts) = last_of_each(alloc, changes) else {
+        return Err(RowFault::NoMemory);
+    };
+    rows.apply(&lasts)
+}
+
 impl<R: RowStore> BatchKeeper<R> {
     ghost use Rattle.node_batches.specs.Views.{node_in, rows_in, waiting_in};
     ghost use Rattle.node_keeper.specs.Views.{node_of, rows_of};
@@ -110,8 +129,8 @@ impl<R: RowStore> BatchKeeper<R> {
         taken
     }
 
-    /// Makes the changes that wait, all or none, by one call of the store of rows; where none wait it asks the store for nothing.
-    /// Where they can't be made the node has stopped. Nothing waits afterwards.
+    /// Makes the changes that wait, all or none, by one call of the store of rows, which is given the last one of each row; where
+    /// none wait it asks the store for nothing. Where they can't be made the node has stopped. Nothing waits afterwards.
     pub fn commit(&mut self) -> Result<(), KeeperFault>
         ensures place { (node_in self.new).place ≡ (node_in self.old).place }
         ensures node { OnOk result (node_in self.new ≡ node_in self.old) }
@@ -132,8 +151,8 @@ impl<R: RowStore> BatchKeeper<R> {
         ensures counts { result ≢ Err (faults.Rows RowFault.Device) → R.failed (rows_in self.new) ≡ R.failed (rows_in self.old) }
         ensures was_clean { R.is_clean (rows_in self.new) → R.is_clean (rows_in self.old) }
     {
-        let changes = mem::replace(&mut self.waiting, Vec::new(self.alloc));
-        match self.rows.apply(&changes) {
+        let waiting = mem::replace(&mut self.waiting, Vec::new(self.alloc));
+        match write(self.alloc, &mut self.rows, waiting) {
             Ok(()) => Ok(()),
             Err(fault) => {
                 self.node.stop();

@@ -1,20 +1,26 @@
 -- What a node is that is opened from its rows.
-use Rattle.std.proofs.Common.{◌≡◌, ℕ, T, List, [], ◌∷◌, map as map_list, Option, Some, None, Result, Ok, Err, IfOk, OnOk, OnErr, length, arith, refl, sym, ap, subst, ◌∙◌, inl, inr}
+use Rattle.std.proofs.Common.{◌≡◌, ◌⊎◌, ℕ, T, List, [], ◌∷◌, map as map_list, Option, Some, None, Result, Ok, Err, IfOk, OnOk, OnErr, length, arith, refl, sym, ap, subst, ◌∙◌, inl, inr}
 use Rattle.std.proofs.lemmas.List.{length-map}
 use Rattle.std.specs.Option.{option_map}
 use Rattle.std.specs.FinMap as map
-use Rattle.std.specs.FinMap.{get-insert, get-empty, get-entries, get-from_entries, entries_sorted, empty_of_len, len-entries}
+use Rattle.std.specs.FinMap.{get-insert, get-empty, get-entries, get-from_entries, entries_sorted, empty_of_len, len-entries, same_map}
 use Rattle.broker_node.specs.Opening.{IsOpenedFrom}
 use Rattle.mqtt_sessions.specs.Saved.{durable_of}
-use Rattle.node_keeper.specs.Keeping.{AreKept, AreLasting, AreOfNone, IsReopened, Opens, marked, may_be_marked, only_mark}
+use Rattle.node_keeper.specs.Keeping.{AreKept, AreLasting, AreOfNone, IsReopened, Opens, are_raised, given_mark, marked, may_be_raised, may_be_marked, only_mark}
 use Rattle.node_rows.specs.Reading.{IsLasting, Say, SayNothing}
-use Rattle.node_rows.specs.Sessions.{opened_seat}
+use Rattle.node_rows.specs.Sessions.{Plain, opened_seat}
+use Rattle.node_rows.specs.Versions.{AreFirst, Raise, raised_all, raised_content}
+use Rattle.node_rows.proofs.OneNode.{two_marks}
+use Rattle.node_rows.proofs.Versions.{not_both}
 use Rattle.node_rows.specs.Rows.{Lasting, mark, mark_key, node_row}
 use Rattle.node_work.specs.Lasting.{IsWoken, held_row, lasting}
 use Rattle.node_work.specs.View.{HeldView, NodeView, Place, nodes_of, woken}
 use Rattle.row_store.specs.declared.row.Row.{Row}
-use Rattle.row_store.specs.Rows.{Content, Key, content_of, entry_of, key_cmp}
-use Rattle.row_store.proofs.Keys.{keys_total}
+use Rattle.row_changes.specs.Leading.{left_by, left_or}
+use Rattle.row_changes.proofs.Leaving.{changes_leave}
+use Rattle.row_store.specs.declared.row.Change.{Change}
+use Rattle.row_store.specs.Rows.{Content, Key, after_all, content_of, entry_of, key_cmp}
+use Rattle.row_store.proofs.Keys.{exact_keys, keys_total}
 use Rattle.session_rows.specs.Durable.{Durable, IsDurable}
 use Rattle.session_table.specs.Seats.{Seat}
 use Rattle.session_table.proofs.RowLaws.{durable-again}
@@ -66,7 +72,7 @@ pub with_ok : {A E P : Type 0} {Q S : A → Type 0} (r : Result A E) → OnOk r 
 with_ok (Ok a) p q f = f p a q
 with_ok (Err e) p q f = tt
 
-pub marked_may : (id : ℕ) (old new : Content) → marked id old new → may_be_marked id old new
+pub marked_may : (id : ℕ) (old new : Content) → given_mark id old new → may_be_marked id old new
 marked_may id old new (inl m) = inr m
 marked_may id old new (inr m) = inl m.1
 
@@ -75,22 +81,66 @@ on_err (Ok x) p = tt
 on_err (Err e) p = p
 
 -- it is a row
-some_row : (id : ℕ) (old c : Content) → marked id old c → ¬ (c ≡ map.empty)
+some_row : (id : ℕ) (old c : Content) → given_mark id old c → ¬ (c ≡ map.empty)
 some_row id old c (inl m) none =
     let here : map.get c mark_key ≡ Some (mark id 0) = ap (λ (x : Content). map.get x mark_key) m.1 ∙ get-insert keys_total map.empty mark_key (mark id 0) mark_key in
     let gone : map.get c mark_key ≡ None = ap (λ (x : Content). map.get x mark_key) none ∙ get-empty key_cmp mark_key in
     cc (here, gone)
 some_row id old c (inr m) none = m.0 (sym m.1 ∙ none)
 
-say_lasting : (p : Place) (rows : List Row) (c : Content) (x : Lasting) → ¬ (c ≡ map.empty) → map_list entry_of rows ≡ map.entries c → IsLasting (nodes_of p) x → Say rows p.id x → AreLasting p c x
-say_lasting p rows c x some is can (inl new) = absurd (some (none_loaded rows c new.0 is))
-say_lasting p rows c x some is can (inr are) = (can, λ key. sym (get_loaded rows c is key) ∙ are.are key)
+-- ---- rows of version 1
 
-pub opens : (p : Place) (rows : List Row) (old c : Content) (n : NodeView) → marked p.id old c → map_list entry_of rows ≡ map.entries c → IsOpenedFrom rows p n → Opens p old c n
-opens p rows old c n m is o =
-    let r : IsReopened p c n = record { lasting = o.lasting; held = o.held; are = say_lasting p rows c o.lasting (some_row p.id old c m) is o.can_last o.say; woken = o.woken; is = o.is } in
-    record { mark = m; reopened = r; kept = kept_again p c n r }
+-- the mark of a new node is of version 2
+new_mark : (id : ℕ) (c : Content) → c ≡ only_mark id → ¬ AreFirst (map.entries c)
+new_mark id c is = not_both id 0 (map.entries c) (sym (get-entries c mark_key) ∙ ap (λ (x : Content). map.get x mark_key) is ∙ get-insert keys_total map.empty mark_key (mark id 0) mark_key)
+
+pub raised_after : (rows : List Row) (c : Content) (changes : List Change) → map_list entry_of rows ≡ map.entries c → Raise (map_list entry_of rows) changes → after_all c changes ≡ raised_content c
+raised_after rows c changes is raise =
+    let lead = (subst (λ es. Raise es changes) is raise).lead (entries_sorted c) in
+    same_map keys_total exact_keys (after_all c changes) (raised_content c)
+    (λ key. changes_leave c changes key ∙ ap (left_or (left_by changes key)) (get-entries c key) ∙ sym (lead key) ∙ sym (get-from_entries keys_total (raised_all (map.entries c)) key))
+
+pub stays_first : (rows : List Row) (c : Content) → map_list entry_of rows ≡ map.entries c → AreFirst (map_list entry_of rows) → AreFirst (map.entries c)
+stays_first rows c is first = subst AreFirst is first
+
+pub not_first : (rows : List Row) (c : Content) → map_list entry_of rows ≡ map.entries c → (AreFirst (map_list entry_of rows) → ⊥) → ¬ AreFirst (map.entries c)
+not_first rows c is not first = not (subst AreFirst (sym is) first)
+
+-- the rows that were there are marked, and then raised
+pub both : (id : ℕ) (old mid new : Content) → given_mark id old mid → are_raised mid new → marked id old new
+both id old mid new (inl m) (inl r) = absurd (new_mark id mid m.1 r.0)
+both id old mid new (inl m) (inr r) = inl (m.0, r.1 ∙ m.1)
+both id old mid new (inr m) r = inr (m.0, subst (λ (c : Content). are_raised c new) m.1 r)
+
+pub may_be_both : (id : ℕ) (old mid new : Content) → given_mark id old mid → (new ≡ mid) ⊎ are_raised mid new → may_be_raised id old new
+may_be_both id old mid new m (inl e) = inl (subst (may_be_marked id old) (sym e) (marked_may id old mid m))
+may_be_both id old mid new m (inr (inr r)) = inl (subst (may_be_marked id old) (sym r.1) (marked_may id old mid m))
+may_be_both id old mid new (inl m) (inr (inl r)) = absurd (new_mark id mid m.1 r.0)
+may_be_both id old mid new (inr m) (inr (inl r)) = inr (subst (λ (c : Content). AreFirst (map.entries c) × (new ≡ raised_content c)) m.1 r)
+
+-- ---- what they say
+
+raised_rows : (c : Content) (rows : List Row) → map_list entry_of rows ≡ map.entries c → (key : Key) → map.get (raised_content c) key ≡ map.get (map.from_entries (raised_all (map_list entry_of rows))) key
+raised_rows c rows is key = ap (λ (es : List Plain). map.get (map.from_entries (raised_all es)) key) (sym is)
+
+say_lasting : (p : Place) (rows : List Row) (mid c : Content) (x : Lasting) → ¬ (mid ≡ map.empty) → map_list entry_of rows ≡ map.entries mid → are_raised mid c → IsLasting (nodes_of p) x → Say rows p.id x → AreLasting p c x
+say_lasting p rows mid c x some is r can (inl (inl new)) = absurd (some (none_loaded rows mid new.0 is))
+say_lasting p rows mid c x some is (inl r) can (inl (inr are)) = absurd (two_marks p.id rows x are (subst AreFirst (sym is) r.0))
+say_lasting p rows mid c x some is (inr r) can (inl (inr are)) = (can, λ key. ap (λ (m : Content). map.get m key) r.1 ∙ sym (get_loaded rows mid is key) ∙ are.are key)
+say_lasting p rows mid c x some is (inl r) can (inr first) = (can, λ key. ap (λ (m : Content). map.get m key) r.1 ∙ raised_rows mid rows is key ∙ first.are key)
+say_lasting p rows mid c x some is (inr r) can (inr first) = absurd (r.0 (subst AreFirst is first.first))
+
+pub opens : (p : Place) (rows : List Row) (old mid c : Content) (n : NodeView) → given_mark p.id old mid → map_list entry_of rows ≡ map.entries mid → are_raised mid c → IsOpenedFrom rows p n → Opens p old c n
+opens p rows old mid c n m is r o =
+    let again : IsReopened p c n = record { lasting = o.lasting; held = o.held; are = say_lasting p rows mid c o.lasting (some_row p.id old mid m) is r o.can_last o.say; woken = o.woken; is = o.is } in
+    record { mark = both p.id old mid c m r; reopened = again; kept = kept_again p c n again }
 
 pub none_have : (p : Place) (rows : List Row) (c : Content) → map_list entry_of rows ≡ map.entries c → SayNothing rows p.id (nodes_of p) → AreOfNone p c
-none_have p rows c is nothing x are =
-    nothing x are.0 (inr (record { rise = subst (λ es. T (map.is_sorted key_cmp es)) (sym is) (entries_sorted c); are = λ key. get_loaded rows c is key ∙ are.1 key }))
+none_have p rows c is nothing x (inl are) =
+    nothing x are.0 (inl (inr (record { rise = subst (λ es. T (map.is_sorted key_cmp es)) (sym is) (entries_sorted c); are = λ key. get_loaded rows c is key ∙ are.1 key })))
+none_have p rows c is nothing x (inr are) =
+    nothing x are.0 (inr (record {
+      first = subst AreFirst (sym is) are.1;
+      rise = subst (λ es. T (map.is_sorted key_cmp es)) (sym is) (entries_sorted c);
+      are = λ key. sym (raised_rows c rows is key) ∙ are.2 key;
+    }))

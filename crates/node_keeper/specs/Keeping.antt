@@ -9,6 +9,7 @@ use Rattle.node_keeper.specs.declared.fault.KeeperFault.{KeeperFault}
 use Rattle.node_keeper.specs.declared.fault.KeeperFault.TheVariants.{NoMemory, Rows, NumbersAtEnd, Stopped}
 use Rattle.node_rows.specs.Reading.{IsLasting}
 use Rattle.node_rows.specs.Rows.{Lasting, mark, mark_key, node_row}
+use Rattle.node_rows.specs.Versions.{AreFirst, raised_content}
 use Rattle.node_work.specs.Lasting.{IsWoken, held_row}
 use Rattle.node_work.specs.View.{HeldView, NodeView, Place, nodes_of}
 use Rattle.node_work.specs.declared.outcome.Output.{Output}
@@ -30,9 +31,13 @@ AreKept n c = (h : HeldView) → n.up ≡ Some h → AreOf n.place c h
 abbrev pub AreLasting : Place → Content → Lasting → Type 0
 AreLasting p c x = IsLasting (nodes_of p) x × ((key : Key) → map.get c key ≡ node_row p.id x key)
 
--- no such node has these rows
+-- they are those in version 1: in version 2 they are its rows
+abbrev pub AreFirstLasting : Place → Content → Lasting → Type 0
+AreFirstLasting p c x = IsLasting (nodes_of p) x × AreFirst (map.entries c) × ((key : Key) → map.get (raised_content c) key ≡ node_row p.id x key)
+
+-- no such node has these rows, in version 1 or 2
 abbrev pub AreOfNone : Place → Content → Type 0
-AreOfNone p rows = (x : Lasting) → AreLasting p rows x → ⊥
+AreOfNone p rows = (x : Lasting) → AreLasting p rows x ⊎ AreFirstLasting p rows x → ⊥
 
 -- ---- an event
 
@@ -107,15 +112,27 @@ pub record IsReopened (p : Place) (rows : Content) (n : NodeView) : Type 0 where
 abbrev pub only_mark : ℕ → Content
 only_mark id = map.insert map.empty mark_key (mark id 0)
 
--- the rows with which a node is opened: where there are none, its mark
-abbrev pub marked : ℕ → Content → Content → Type 0
-marked id rows rows' = ((rows ≡ map.empty) × (rows' ≡ only_mark id)) ⊎ ((¬ (rows ≡ map.empty)) × (rows' ≡ rows))
+-- rows of version 1 in version 2, and others as they are
+abbrev pub are_raised : Content → Content → Type 0
+are_raised rows rows' = (AreFirst (map.entries rows) × (rows' ≡ raised_content rows)) ⊎ ((¬ AreFirst (map.entries rows)) × (rows' ≡ rows))
 
--- the same where the mark may be wanting
+-- the rows of a node: where there are none, its mark
+abbrev pub given_mark : ℕ → Content → Content → Type 0
+given_mark id rows rows' = ((rows ≡ map.empty) × (rows' ≡ only_mark id)) ⊎ ((¬ (rows ≡ map.empty)) × (rows' ≡ rows))
+
+-- the rows with which a node is opened: where there are none, its mark; and in version 2
+abbrev pub marked : ℕ → Content → Content → Type 0
+marked id rows rows' = ((rows ≡ map.empty) × (rows' ≡ only_mark id)) ⊎ ((¬ (rows ≡ map.empty)) × are_raised rows rows')
+
+-- the same where the mark may be wanting, in the version that they have
 abbrev pub may_be_marked : ℕ → Content → Content → Type 0
 may_be_marked id rows rows' = (rows' ≡ rows) ⊎ ((rows ≡ map.empty) × (rows' ≡ only_mark id))
 
--- the node is opened: it has the rows, and its mark where there were none
+-- what a crash leaves while a node is opened
+abbrev pub may_be_raised : ℕ → Content → Content → Type 0
+may_be_raised id rows rows' = may_be_marked id rows rows' ⊎ (AreFirst (map.entries rows) × (rows' ≡ raised_content rows))
+
+-- the node is opened: it has the rows in version 2, and its mark where there were none
 pub record Opens (p : Place) (rows rows' : Content) (n : NodeView) : Type 0 where
   pub mark : marked p.id rows rows'
   pub reopened : IsReopened p rows' n

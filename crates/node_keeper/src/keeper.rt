@@ -3,7 +3,7 @@
 ghost use Rattle.std.specs.Prelude.{◌≡◌, ◌≢◌, ◌<◌, ◌≤◌, ◌^◌, length, OnOk, IfOk, IfErr, OnErr, IsOk, IsErrOf, is_some, Err, None, Some, true};
 ghost use Rattle.broker_node.specs.Idle.{IsIdle};
 ghost use Rattle.broker_node.specs.Step.{IsAtEnd};
-ghost use Rattle.node_keeper.specs.Keeping.{AreOfNone, CannotOpen, Commits, GivesOut, HasCauseAt, IsCounted, KeepsRows, MayBeLeft, Opens, Rests, may_be_marked};
+ghost use Rattle.node_keeper.specs.Keeping.{AreOfNone, CannotOpen, Commits, GivesOut, HasCauseAt, IsCounted, KeepsRows, MayBeLeft, Opens, Rests, may_be_raised, may_be_marked};
 ghost use Rattle.node_keeper.specs.declared.fault.KeeperFault.TheVariants as faults;
 ghost use Rattle.node_work.specs.View.{HeldView};
 ghost use Rattle.row_store.specs.Rows.{Content};
@@ -28,8 +28,9 @@ pub struct Keeper<R> {
 impl<R: RowStore> Keeper<R> {
     ghost use Rattle.node_keeper.specs.Views.{node_of, rows_of};
 
-    /// Opens a node from its rows: its table of homes, and its number. Where there are no rows it first writes the mark. A
-    /// fault gives the rows back; they are what they were, but for the mark.
+    /// Opens a node from its rows: its table of homes, and its number. Where there are no rows it first writes the mark, and
+    /// rows of version 1 it writes as rows of version 2 before it answers. A fault gives the rows back; they are what they
+    /// were, but for the mark.
     pub fn open(
         alloc: Global,
         mut rows: R,
@@ -43,7 +44,7 @@ impl<R: RowStore> Keeper<R> {
         ensures err { IfErr result (λ e. R.is_clean e.1 → R.is_open e.1 → may_be_marked id (R.content rows) (R.content e.1)) }
         ensures bad { IfErr result (λ e. R.is_clean e.1 → R.is_open rows → e.0 ≡ faults.Rows RowFault.BadRow
             → AreOfNone (record { id = id; homes = homes }) (R.content e.1)) }
-        ensures crash { IfErr result (λ e. R.is_clean e.1 → R.is_open rows → (c : Content) → R.may_leave e.1 c → may_be_marked id (R.content rows) c) }
+        ensures crash { IfErr result (λ e. R.is_clean e.1 → R.is_open rows → (c : Content) → R.may_leave e.1 c → may_be_raised id (R.content rows) c) }
         ensures device { IfErr result (λ e. e.0 ≡ faults.Rows RowFault.Device → IsCounted (R.failed rows) (R.failed e.1)) }
         ensures fault { IfErr result (λ e. CannotOpen e.0) }
     {
@@ -64,7 +65,7 @@ impl<R: RowStore> Keeper<R> {
         ensures bad { R.is_clean (rows_of self.new) → R.is_open (rows_of self.old) → IsErrOf result (faults.Rows RowFault.BadRow)
             → AreOfNone (node_of self.old).place (R.content (rows_of self.new)) }
         ensures crash { R.is_clean (rows_of self.new) → R.is_open (rows_of self.old) → (c : Content) → R.may_leave (rows_of self.new) c
-            → may_be_marked (node_of self.old).place.id (R.content (rows_of self.old)) c }
+            → may_be_raised (node_of self.old).place.id (R.content (rows_of self.old)) c }
         ensures device { IsErrOf result (faults.Rows RowFault.Device) → IsCounted (R.failed (rows_of self.old)) (R.failed (rows_of self.new)) }
         ensures fault { IfErr result CannotOpen }
     {

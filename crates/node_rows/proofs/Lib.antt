@@ -1,4 +1,5 @@
 mod Lists
+pub mod Versions
 mod Clients
 mod Cuts
 mod Lanes
@@ -10,3 +11,4 @@ mod Kept
 mod Opening
 pub mod OneNode
 mod Reached
+mod Either

@@ -1,5 +1,5 @@
 -- Rows say one thing at most of a node.
-use Rattle.std.proofs.Common.{◌≡◌, ◌≢◌, ◌⊎◌, inl, inr, ℕ, ◌<◌, ◌^◌, true, false, List, [], drop, Option, Some, None, arith, refl, sym, ap, subst, ◌∙◌}
+use Rattle.std.proofs.Common.{◌≡◌, ◌≢◌, ◌⊎◌, inl, inr, ℕ, ◌<◌, ◌^◌, true, false, List, [], ◌∷◌, map as map_list, drop, Option, Some, None, arith, refl, sym, ap, subst, ◌∙◌}
 use Rattle.std.specs.FinMap as map
 use Rattle.std.specs.Int.{w64}
 use Rattle.std.specs.List.{AllByRecursion}
@@ -7,7 +7,7 @@ use Rattle.std.proofs.lemmas.Bool.{cases_Bool, cases_eq, cases_lt}
 use Rattle.mqtt_fields.specs.Numbers.{number}
 use Rattle.mqtt_fields.proofs.NumberLaws.{number_is, wide64}
 use Rattle.row_store.specs.declared.row.Row.{Row}
-use Rattle.row_store.specs.Rows.{Key, content_of, key_cmp}
+use Rattle.row_store.specs.Rows.{Key, content_of, entry_of, key_cmp}
 use Rattle.row_store.proofs.Keys.{keys_total}
 use Rattle.session_rows.specs.Durable.{Durable, IsDurable}
 use Rattle.session_rows.specs.Fields.{main}
@@ -16,11 +16,13 @@ use Rattle.session_rows.specs.Rows.{main_key, copy_rows, rows_of}
 use Rattle.session_rows.proofs.DurableLaws.{durable_again, whole_again}
 use Rattle.replica_rows.proofs.OneStore.{one_store}
 use Rattle.node_rows.specs.Reading.{AreNodeRows, IsLasting, RowsTellAll, SayOneThing}
+use Rattle.node_rows.specs.Versions.{AreFirst}
 use Rattle.node_rows.specs.Rows.{Lasting, mark, mark_key, new_node, node_row, session_row}
 use Rattle.node_rows.proofs.Clients.{client_is, client_itself, copies_of, rows_rise, same_client}
 use Rattle.node_rows.proofs.Cuts.{copy_kind, last_row, no_high_row, no_low_row, other_row, own_kind}
 use Rattle.node_rows.proofs.Lanes.{lane_high, lane_row, lanes_tell, low_row}
 use Rattle.node_rows.proofs.Lists.{all_turned, find_none, itself, one_list}
+use Rattle.node_rows.proofs.Versions.{not_both}
 
 -- ---- the number in the mark
 one_number : (n m : ℕ) → Some n ≡ Some m → n ≡ m
@@ -112,7 +114,7 @@ module _ (nodes id : ℕ) (x y : Lasting) (a : IsLasting nodes x) (b : IsLasting
       sym (other_row id x q one two three) ∙ same q ∙ other_row id y q one two three
 
   same_store : x.store ≡ y.store
-  same_store = one_store x.store y.store a.store b.store a.unversioned b.unversioned (λ q. elim (cases_lt 3 q.0) [
+  same_store = one_store x.store y.store a.store b.store (λ q. elim (cases_lt 3 q.0) [
     | inr low ↦ no_low_row x.store q low ∙ sym (no_low_row y.store q low)
     | inl high ↦ elim (cases_lt 6 q.0) [
       | inl higher ↦ no_high_row x.store q higher ∙ sym (no_high_row y.store q higher)
@@ -134,8 +136,21 @@ rows_tell_all nodes id x y a b same =
 no_mark : (id : ℕ) (rows : List Row) (x : Lasting) → rows ≡ [] → AreNodeRows rows id x → ⊥
 no_mark id rows x none are = (let other : None ≡ Some (mark id x.named) = sym (map.get-from_entries keys_total [] mark_key) ∙ ap (λ (es : List Row). map.get (content_of es) mark_key) (sym none) ∙ are.are mark_key in cc)
 
+-- the mark is of one version
+pub two_marks : (id : ℕ) (rows : List Row) (x : Lasting) → AreNodeRows rows id x → AreFirst (map_list entry_of rows) → ⊥
+two_marks id rows x are first = not_both id x.named (map_list entry_of rows) (sym (map.get-from_entries keys_total (map_list entry_of rows) mark_key) ∙ are.are mark_key) first
+
+pub no_first : (rows : List Row) → rows ≡ [] → AreFirst (map_list entry_of rows) → ⊥
+no_first [] none first = first
+no_first (row ∷ rows) none first = absurd (cc)
+
 pub say_one_thing : SayOneThing
-say_one_thing nodes id rows x y a b (inl h) (inl k) = h.1 ∙ ap new_node (a.lanes.count ∙ sym b.lanes.count) ∙ sym k.1
-say_one_thing nodes id rows x y a b (inl h) (inr are) = absurd (no_mark id rows y h.0 are)
-say_one_thing nodes id rows x y a b (inr are) (inl k) = absurd (no_mark id rows x k.0 are)
-say_one_thing nodes id rows x y a b (inr are) (inr also) = rows_tell_all nodes id x y a b (λ key. sym (are.are key) ∙ also.are key)
+say_one_thing nodes id rows x y a b (inl (inl h)) (inl (inl k)) = h.1 ∙ ap new_node (a.lanes.count ∙ sym b.lanes.count) ∙ sym k.1
+say_one_thing nodes id rows x y a b (inl (inl h)) (inl (inr are)) = absurd (no_mark id rows y h.0 are)
+say_one_thing nodes id rows x y a b (inl (inl h)) (inr first) = absurd (no_first rows h.0 first.first)
+say_one_thing nodes id rows x y a b (inl (inr are)) (inl (inl k)) = absurd (no_mark id rows x k.0 are)
+say_one_thing nodes id rows x y a b (inl (inr are)) (inl (inr also)) = rows_tell_all nodes id x y a b (λ key. sym (are.are key) ∙ also.are key)
+say_one_thing nodes id rows x y a b (inl (inr are)) (inr first) = absurd (two_marks id rows x are first.first)
+say_one_thing nodes id rows x y a b (inr first) (inl (inl k)) = absurd (no_first rows k.0 first.first)
+say_one_thing nodes id rows x y a b (inr first) (inl (inr are)) = absurd (two_marks id rows y are first.first)
+say_one_thing nodes id rows x y a b (inr first) (inr also) = rows_tell_all nodes id x y a b (λ key. sym (first.are key) ∙ also.are key)

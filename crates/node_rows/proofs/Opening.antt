@@ -22,10 +22,10 @@ use Rattle.row_store.specs.Rows.{Key, content_of, entry_of, key_cmp}
 use Rattle.row_store.proofs.Keys.{keys_total}
 use Rattle.session_rows.specs.Durable.{Durable, IsDurable}
 use Rattle.session_table.specs.Seats.{Seats}
-use Rattle.replica_rows.specs.Reading.{AreAllRowsOf, IsStore, IsUnversioned}
+use Rattle.replica_rows.specs.Reading.{AreAllRowsOf, IsStore}
 use Rattle.replica_rows.proofs.OneStore.{one_reading}
 use Rattle.node_rows.specs.declared.reading.Opened.{Opened}
-use Rattle.node_rows.specs.Reading.{AreAmong, AreLinksOf, AreNodeRows, AreOpened, Finds, IsAmong, IsCut, IsLasting, IsMark, IsOpened, IsStateOf, NoLanes, NoMark, NoState, Say, SayNothing}
+use Rattle.node_rows.specs.Reading.{AreAmong, AreLinksOf, AreNodeRows, AreOpened, Finds, IsAmong, IsCut, IsLasting, IsMark, IsOpened, IsStateOf, NoLanes, NoMark, NoState, SayNothing, SayNothingNow, SayNow}
 use Rattle.node_rows.specs.Rows.{Lasting, new_node, node_row}
 use Rattle.node_rows.specs.Sessions.{AreRead, AreSessions, NoSessions, Plain, session_at}
 use Rattle.node_rows.proofs.Clients.{session_is}
@@ -43,7 +43,6 @@ new_lasting nodes few store = record {
   named = omega arith;
   sessions = λ client d is. absurd (cc);
   store = store;
-  unversioned = λ q e is. absurd (let other : None ≡ Some (Some e) = sym (map.get-empty dot_cmp q) ∙ is in cc);
   among = record {
     taken = λ d there. absurd (let other : false ≡ true = sym (set.contains-empty dot_cmp d) ∙ there in cc);
     seen = λ d there. absurd (let other : false ≡ true = ap is_some (sym (map.get-empty dot_cmp d)) ∙ sym (contains-seen_of map.empty d) ∙ there in cc);
@@ -57,7 +56,7 @@ new_said nodes = ap new_node (sym (length-replicate nodes new_lane))
 
 -- what a function opens that isn't given rows
 pub new_found : (rows : List Row) (id nodes : ℕ) (r : Result Opened RowFault) → rows ≡ [] → nodes ≤ 2 ^ 16 → IsStore nothing → Finds (IsOpened id nodes (new_node nodes)) ⊥ r
-    → Finds (λ (o : Opened). (x : Lasting) × IsLasting nodes x × Say rows id x × IsOpened id nodes x o) (SayNothing rows id nodes) r
+    → Finds (λ (o : Opened). (x : Lasting) × IsLasting nodes x × SayNow rows id x × IsOpened id nodes x o) (SayNothingNow rows id nodes) r
 new_found rows id nodes (Ok o) none few store is = (new_node nodes, new_lasting nodes few store, inl (none, new_said nodes), is)
 new_found rows id nodes (Err NoMemory) none few store is = tt
 new_found rows id nodes (Err BadRow) none few store is = absurd is
@@ -107,7 +106,7 @@ module _ (rows : List Row) (first : Plain) (own copies : List Plain) (state : Li
 
   -- ---- what they say
   pub said : (named : ℕ) (s : State) (seats : Seats) (links : LinksView) → nodes ≤ 2 ^ 16 → IsMark id first named → IsStateOf state nodes s → AreRead own copies seats → AreLinksOf lanes id nodes links
-      → (x : Lasting) × IsLasting nodes x × Say rows id x × (named ≡ x.named) × AreOpened x seats × (s ≡ x.store) × (links ≡ opened_links id nodes x.lanes)
+      → (x : Lasting) × IsLasting nodes x × SayNow rows id x × (named ≡ x.named) × AreOpened x seats × (s ≡ x.store) × (links ≡ opened_links id nodes x.lanes)
   said named s seats links few is_mark of_s read of_lanes =
       let ds = read.0 in
       let x : Lasting = record { named = named; sessions = session_at ds; store = s; lanes = of_lanes.0 } in
@@ -118,7 +117,6 @@ module _ (rows : List Row) (first : Plain) (own copies : List Plain) (state : Li
         named = is_mark.0;
         sessions = λ client d is. (let one = session_is IsDurable ds client d read.1.durable is in (one.0, sym one.1));
         store = of_s.kept.store;
-        unversioned = of_s.kept.unversioned;
         among = of_s.kept.among;
         lanes = of_lanes.1.lanes_are;
       } in
@@ -153,7 +151,7 @@ module _ (rows : List Row) (first : Plain) (own copies : List Plain) (state : Li
         rise = sorted_front (map_list entry_of state) lanes last_up;
         are = λ q. map.get-from_entries keys_total (map_list entry_of state) q ∙ of_state x (map_list entry_of state) lanes whole.cut.state_low whole.cut.lanes_high found_last q;
       };
-      kept = record { store = lasting.store; unversioned = lasting.unversioned; among = lasting.among };
+      kept = record { store = lasting.store; among = lasting.among };
     }
 
     has_lanes : AreLanesOf nodes lanes x.lanes
@@ -162,31 +160,32 @@ module _ (rows : List Row) (first : Plain) (own copies : List Plain) (state : Li
     has_sessions : (ds : List Durable) × AreSessions own copies ds
     has_sessions = of_sessions id x lasting.sessions first own copies (map_list entry_of state ++ lanes) whole.up found_all whole.cut.own_low whole.cut.copies_high whole.cut.copies_low whole.cut.last_high
 
-  pub no_mark : NoMark id first → SayNothing rows id nodes
+  pub no_mark : NoMark id first → SayNothingNow rows id nodes
   no_mark none x lasting (inl new) = no_rows rows new.0 whole.are
   no_mark none x lasting (inr are) = none x.named (has_mark x lasting are)
 
-  pub no_state : NoState state nodes → SayNothing rows id nodes
+  pub no_state : NoState state nodes → SayNothingNow rows id nodes
   no_state none x lasting (inl new) = no_rows rows new.0 whole.are
   no_state none x lasting (inr are) = none x.store (has_state x lasting are)
 
-  pub no_sessions : NoSessions own copies → SayNothing rows id nodes
+  pub no_sessions : NoSessions own copies → SayNothingNow rows id nodes
   no_sessions none x lasting (inl new) = no_rows rows new.0 whole.are
   no_sessions none x lasting (inr are) = (let some = has_sessions x lasting are in none some.0 some.1)
 
-  pub no_lanes : NoLanes lanes nodes → SayNothing rows id nodes
+  pub no_lanes : NoLanes lanes nodes → SayNothingNow rows id nodes
   no_lanes none x lasting (inl new) = no_rows rows new.0 whole.are
   no_lanes none x lasting (inr are) = none x.lanes (has_lanes x lasting are)
 
 -- ---- rows that don't rise
 pub not_rising : (rows : List Row) (id nodes : ℕ) → (T (map.is_sorted key_cmp (map_list entry_of rows)) → ⊥) → SayNothing rows id nodes
 not_rising [] id nodes not x lasting says = not tt
-not_rising (e ∷ es) id nodes not x lasting (inl new) = absurd (let other = new.0 in cc)
+not_rising (e ∷ es) id nodes not x lasting (inl (inl new)) = absurd (let other = new.0 in cc)
+not_rising (e ∷ es) id nodes not x lasting (inl (inr are)) = not are.rise
 not_rising (e ∷ es) id nodes not x lasting (inr are) = not are.rise
 
 -- ---- rows of another state
-pub one_state : (rows : List Row) (nodes : ℕ) (s : State) → AreAllRowsOf rows s → IsStore s → IsUnversioned s → (IsAmong nodes s → ⊥) → NoState rows nodes
-one_state rows nodes s are store plain far t is = far (subst (IsAmong nodes) (one_reading rows t s is.kept.store store is.kept.unversioned plain is.rows_are are) is.kept.among)
+pub one_state : (rows : List Row) (nodes : ℕ) (s : State) → AreAllRowsOf rows s → IsStore s → (IsAmong nodes s → ⊥) → NoState rows nodes
+one_state rows nodes s are store far t is = far (subst (IsAmong nodes) (one_reading rows t s is.kept.store store is.rows_are are) is.kept.among)
 
 -- ---- parts of a state
 pub far_taken : (nodes : ℕ) (s : State) (dots : Dots) (b : Bool) → dots ≡ s.taken → IsTrue b ↔ AreAmong nodes dots → b ≡ false → IsTrue false ↔ IsAmong nodes s
@@ -204,6 +203,6 @@ all_among nodes s taken seen kept b taken_is taken_low seen_is seen_low kept_is 
 
 -- ---- what is returned
 pub opened_so : (rows : List Row) (id nodes : ℕ) (o : Opened)
-    → (x : Lasting) × IsLasting nodes x × Say rows id x × (o.named ≡ x.named) × AreOpened x o.sessions × (o.store ≡ x.store) × (o.links ≡ opened_links id nodes x.lanes)
-    → (x : Lasting) × IsLasting nodes x × Say rows id x × IsOpened id nodes x o
+    → (x : Lasting) × IsLasting nodes x × SayNow rows id x × (o.named ≡ x.named) × AreOpened x o.sessions × (o.store ≡ x.store) × (o.links ≡ opened_links id nodes x.lanes)
+    → (x : Lasting) × IsLasting nodes x × SayNow rows id x × IsOpened id nodes x o
 opened_so rows id nodes o h = (h.0, h.1, h.2, record { named = h.3; sessions = h.4; store = h.5; links = h.6 })

@@ -1,3 +1,4 @@
 pub mod Rows
 pub mod Sessions
+pub mod Versions
 pub mod Reading

@@ -1,6 +1,5 @@
 -- What is read of the rows of a node.
 use Rattle.std.specs.Prelude.{◌≡◌, ℕ, ◌<◌, ◌≤◌, ◌^◌, ◌⊎◌, true, T, List, [], ◌++◌, length, map as map_list, Some, option_map, Result, Ok, Err}
-use Rattle.std.specs.Int.{w16, w64}
 use Rattle.std.specs.FinMap as map
 use Rattle.std.specs.FinSet as set
 use Rattle.std.specs.List.{AllByRecursion}
@@ -9,8 +8,6 @@ use Rattle.bridge_frames.specs.declared.forward.Forward.{Forward}
 use Rattle.causal_context.specs.Dots.{Dot, Dots}
 use Rattle.lane_rows.specs.Reading.{AreLanes, AreLanesOf}
 use Rattle.message_lanes.specs.Lanes.{Lanes}
-use Rattle.mqtt_fields.specs.Field.{Field, after}
-use Rattle.mqtt_fields.specs.Numbers.{number}
 use Rattle.replica_store.specs.declared.kept.Kept.{Kept}
 use Rattle.replica_store.specs.States.{State}
 use Rattle.row_store.specs.declared.row.Row.{Row}
@@ -19,11 +16,12 @@ use Rattle.row_store.specs.declared.store.RowFault.TheVariants.{NoMemory, Device
 use Rattle.row_store.specs.Rows.{Key, key_cmp, entry_of, content_of}
 use Rattle.session_rows.specs.Durable.{Durable, IsDurable}
 use Rattle.session_table.specs.Seats.{Seats}
-use Rattle.replica_rows.specs.Reading.{AreAllRowsOf, IsStore, IsUnversioned}
+use Rattle.replica_rows.specs.Reading.{AreAllRowsOf, IsStore}
 use Rattle.subscription_set.specs.Standing.{seen_of}
 use Rattle.node_rows.specs.declared.reading.Opened.{Opened}
 use Rattle.node_rows.specs.Rows.{Lasting, mark, mark_key, new_node, node_row}
 use Rattle.node_rows.specs.Sessions.{Plain, opened_seat}
+use Rattle.node_rows.specs.Versions.{AreFirstRows}
 
 -- ---- what can last
 
@@ -43,7 +41,6 @@ pub record IsLasting (nodes : ℕ) (x : Lasting) : Type 0 where
   pub named : x.named < 2 ^ 62
   pub sessions : (client : List ℕ) (d : Durable) → x.sessions client ≡ Some d → IsDurable d × (d.client ≡ client)
   pub store : IsStore x.store
-  pub unversioned : IsUnversioned x.store
   pub among : IsAmong nodes x.store
   pub lanes : AreLanes nodes x.lanes
 
@@ -54,11 +51,19 @@ pub record AreNodeRows (rows : List Row) (id : ℕ) (x : Lasting) : Type 0 where
   pub rise : T (map.is_sorted key_cmp (map_list entry_of rows))
   pub are : (key : Key) → map.get (content_of rows) key ≡ node_row id x key
 
--- they say this of node `id`; a node without rows is new
-abbrev pub Say : List Row → ℕ → Lasting → Type 0
-Say rows id x = ((rows ≡ []) × (x ≡ new_node (length x.lanes))) ⊎ AreNodeRows rows id x
+-- in version 2 they say this of node `id`; a node without rows is new
+abbrev pub SayNow : List Row → ℕ → Lasting → Type 0
+SayNow rows id x = ((rows ≡ []) × (x ≡ new_node (length x.lanes))) ⊎ AreNodeRows rows id x
 
--- no node `id` of a cluster of so many has these rows
+-- in version 1 or 2 they say this of node `id`
+abbrev pub Say : List Row → ℕ → Lasting → Type 0
+Say rows id x = SayNow rows id x ⊎ AreFirstRows rows id x
+
+-- no node `id` of a cluster of so many has these rows in version 2
+abbrev pub SayNothingNow : List Row → ℕ → ℕ → Type 0
+SayNothingNow rows id nodes = (x : Lasting) → IsLasting nodes x → SayNow rows id x → ⊥
+
+-- nor in version 1
 abbrev pub SayNothing : List Row → ℕ → ℕ → Type 0
 SayNothing rows id nodes = (x : Lasting) → IsLasting nodes x → Say rows id x → ⊥
 
@@ -95,10 +100,6 @@ pub record IsCut (rows own copies state lanes : List Plain) : Type 0 where
   pub state_low : AllByRecursion (λ e. e.0.0 ≤ 6) state
   pub lanes_high : AllByRecursion (λ e. 6 < e.0.0) lanes
 
--- the version, the node and the number in a mark
-abbrev pub marked : Field (ℕ × (ℕ × ℕ))
-marked = after (number w16) (λ _. after (number w16) (λ _. number w64))
-
 -- the mark of the node with this number
 abbrev pub IsMark : ℕ → Plain → ℕ → Type 0
 IsMark id row named = (named < 2 ^ 62) × (row ≡ (mark_key, mark id named))
@@ -109,7 +110,6 @@ NoMark id row = (named : ℕ) → IsMark id row named → ⊥
 -- a state that can last
 pub record IsKept (nodes : ℕ) (s : State) : Type 0 where
   pub store : IsStore s
-  pub unversioned : IsUnversioned s
   pub among : IsAmong nodes s
 
 pub record IsStateOf (rows : List Row) (nodes : ℕ) (s : State) : Type 0 where

@@ -6,6 +6,7 @@ use Rattle.bridge_frames.specs.declared.forward.Forward.{Forward}
 use Rattle.lane_rows.specs.Changes.{is_lane_kind}
 use Rattle.lane_rows.specs.Rows as lane_rows
 use Rattle.message_lanes.specs.Lanes.{Lanes, new_lanes}
+use Rattle.mqtt_fields.specs.Field.{Field, after}
 use Rattle.mqtt_fields.specs.Numbers.{number}
 use Rattle.replica_store.specs.States.{State, nothing}
 use Rattle.row_changes.specs.Leading.{Rows}
@@ -27,9 +28,13 @@ pub record Lasting : Type 0 where
 abbrev pub new_node : ℕ → Lasting
 new_node nodes = record { named = 0; sessions = λ _. None; store = nothing; lanes = new_lanes nodes }
 
--- kind 1, without owner and place: the version of the rows, which is 1, the node, and the last identifier's number
+-- kind 1, without owner and place: the version of the rows, which is 2, the node, and the last identifier's number
 abbrev pub mark : ℕ → ℕ → List ℕ
-mark id named = (number w16).bytes 1 ++ (number w16).bytes id ++ (number w64).bytes named
+mark id named = (number w16).bytes 2 ++ (number w16).bytes id ++ (number w64).bytes named
+
+-- the version, the node and the number in a mark
+abbrev pub marked : Field (ℕ × (ℕ × ℕ))
+marked = after (number w16) (λ _. after (number w16) (λ _. number w64))
 
 abbrev pub mark_key : Key
 mark_key = (1, ([], []))

@@ -7,6 +7,8 @@ pub mod laws;
 pub mod mark;
 pub mod reading;
 mod sessions;
+pub mod versions;
 
 pub use mark::mark_row;
 pub use reading::{Opened, open};
+pub use versions::{are_first, raise};

@@ -4,8 +4,8 @@ ghost use Rattle.mqtt_fields.specs.Field.{IsBytes};
 ghost use Rattle.mqtt_fields.specs.Reading.{Gives};
 ghost use Rattle.row_store.specs.Rows.{entry_of};
 ghost use Rattle.session_rows.specs.Reading.{whole};
-ghost use Rattle.node_rows.specs.Reading.{IsMark, NoMark, marked};
-ghost use Rattle.node_rows.specs.Rows.{mark, mark_key};
+ghost use Rattle.node_rows.specs.Reading.{IsMark, NoMark};
+ghost use Rattle.node_rows.specs.Rows.{mark, mark_key, marked};
 
 use mqtt_fields::{FieldFault, NUMBERS_END, NoMemory, put_u16, put_u64, u16_at, u64_at};
 use row_store::Row;
@@ -15,7 +15,7 @@ use std::alloc::Global;
 pub const MARK: u8 = 1;
 
 /// The version of the rows.
-const VERSION: u16 = 1;
+pub(crate) const VERSION: u16 = 2;
 
 /// The row that says which node it is, and the number of the last client identifier that it gave.
 pub fn mark_row(alloc: Global, id: u16, named: u64) -> Result<Row, NoMemory>
@@ -52,7 +52,7 @@ fn marked_at(bytes: &[u8]) -> Result<((u16, u16, u64), &[u8]), FieldFault>
 }
 
 // What a mark says, where it is just these bytes.
-fn whole_mark(bytes: &[u8]) -> Option<(u16, u16, u64)>
+pub(crate) fn whole_mark(bytes: &[u8]) -> Option<(u16, u16, u64)>
     ensures { option_map (λ x. (x.0, (x.1, x.2))) result ≡ whole marked bytes.now }
 {
     match marked_at(bytes) {
@@ -63,7 +63,7 @@ fn whole_mark(bytes: &[u8]) -> Option<(u16, u16, u64)>
 }
 
 fn is_of(version: u16, node: u16, named: u64, id: u16) -> bool
-    ensures { IsTrue result ↔ (version ≡ 1) × (node ≡ id) × (named < 2 ^ 62) }
+    ensures { IsTrue result ↔ (version ≡ 2) × (node ≡ id) × (named < 2 ^ 62) }
 {
     version == VERSION && node == id && named < NUMBERS_END
 }

@@ -6,12 +6,13 @@ ghost use Rattle.row_store.specs.Rows.{entry_of, key_cmp};
 ghost use Rattle.replica_store.specs.States.{nothing};
 ghost use Rattle.replica_rows.specs.Reading.{IsStore};
 ghost use Rattle.node_rows.specs.Rows.{Lasting, new_node};
-ghost use Rattle.node_rows.specs.Reading.{AreLinksOf, Finds, IsLasting, IsOpened, IsStateOf, NoLanes, NoState, Say, SayNothing};
+ghost use Rattle.node_rows.specs.Reading.{AreLinksOf, Finds, IsLasting, IsOpened, IsStateOf, NoLanes, NoState, Say, SayNothing, SayNothingNow, SayNow};
 
 use crate::among::is_among;
 use crate::cut::cut;
 use crate::mark::named_in;
 use crate::sessions::read_sessions;
+use crate::versions::{are_first, raised_rows};
 use bridge_deltas::Links;
 use replica_rows::laws::is_store;
 use replica_store::{ReplicaStore, StoreFault};
@@ -71,10 +72,10 @@ fn opened_new(alloc: Global, id: u16, nodes: u16) -> Result<Opened, RowFault>
     })
 }
 
-// Reads rows that rise, cut by their kinds.
+// Reads rows of version 2 that rise, cut by their kinds.
 fn read(alloc: Global, rows: &[Row], id: u16, nodes: u16) -> Result<Opened, RowFault>
     requires { T (map.is_sorted key_cmp (map_list entry_of rows.now)) }
-    ensures { Finds (λ o. (x : Lasting) × IsLasting nodes x × Say rows.now id x × IsOpened id nodes x o) (SayNothing rows.now id nodes) result }
+    ensures { Finds (λ o. (x : Lasting) × IsLasting nodes x × SayNow rows.now id x × IsOpened id nodes x o) (SayNothingNow rows.now id nodes) result }
 {
     let [first, others @ ..] = rows else {
         return opened_new(alloc, id, nodes);
@@ -94,7 +95,22 @@ fn read(alloc: Global, rows: &[Row], id: u16, nodes: u16) -> Result<Opened, RowF
     })
 }
 
-/// Reads the rows of node `id` of a cluster of `nodes` nodes, in the order of their keys. A node without rows is new.
+// Reads rows of version 1 or 2 that rise.
+fn read_either(alloc: Global, rows: &[Row], id: u16, nodes: u16) -> Result<Opened, RowFault>
+    requires { T (map.is_sorted key_cmp (map_list entry_of rows.now)) }
+    ensures { Finds (λ o. (x : Lasting) × IsLasting nodes x × Say rows.now id x × IsOpened id nodes x o) (SayNothing rows.now id nodes) result }
+{
+    if !are_first(rows) {
+        return read(alloc, rows, id, nodes);
+    }
+    let Ok(raised) = raised_rows(alloc, rows) else {
+        return Err(RowFault::NoMemory);
+    };
+    read(alloc, &raised, id, nodes)
+}
+
+/// Reads the rows of node `id` of a cluster of `nodes` nodes, in the order of their keys, in version 1 or 2. A node without
+/// rows is new.
 ///
 /// BadRow exactly where no such node has just these rows: there is no mark or one of another version or node, a key or value
 /// can't be read, rows contradict each other, the numbers of messages that wait for a node don't follow one another up to the last
@@ -105,7 +121,7 @@ pub fn open(alloc: Global, rows: &[Row], id: u16, nodes: u16) -> Result<Opened, 
     ensures fault { IfErr result (λ e. (e ≡ RowFault.NoMemory) ⊎ (e ≡ RowFault.BadRow)) }
 {
     if are_rising(rows) {
-        read(alloc, rows, id, nodes)
+        read_either(alloc, rows, id, nodes)
     } else {
         Err(RowFault::BadRow)
     }

@@ -7,7 +7,7 @@ use home_table::HomeTable;
 use mqtt_packets::Bytes;
 use node_batches::BatchKeeper;
 use node_keeper::{Keeper, KeeperFault};
-use row_store::RowFault;
+use row_store::{MemoryRows, RowFault};
 use std::alloc::Global;
 use std::process::Abort;
 
@@ -55,7 +55,7 @@ fn send(rt: &impl Abort, alloc: Global, batch: &mut BatchKeeper<RefusingRows>, b
 
 /// A node that has decided the three events, over rows that refuse the call of this number.
 fn decided(rt: &impl Abort, alloc: Global, refused: u64) -> BatchKeeper<RefusingRows> {
-    let rows = RefusingRows::new(alloc, refused);
+    let rows = RefusingRows::new(MemoryRows::new(alloc), refused);
     let mut batch = BatchKeeper::new(alloc, opened(rt, alloc, rows));
     let connection = 1;
     for kind in [EventKind::Started, EventKind::Opened { connection }] {

@@ -9,7 +9,7 @@ use std::alloc::Global;
 use std::process::Abort;
 
 /// Frames that come to node 0 of two, and none of which is for it from the other one.
-const BAD: [(&str, &[u8]); 8] = [
+const BAD: [(&str, &[u8]); 9] = [
     ("Hello of node 0 for node 1", b"\0\0\0\x05\x01\0\0\0\x01"),
     ("Hello of node 1 for itself", b"\0\0\0\x05\x01\0\x01\0\x01"),
     ("Hello of node 0 for itself", b"\0\0\0\x05\x01\0\0\0\0"),
@@ -20,8 +20,12 @@ const BAD: [(&str, &[u8]); 8] = [
         "a Hello with a byte behind it",
         b"\0\0\0\x06\x01\0\x01\0\0\0",
     ),
-    ("no kind of frame", b"\0\0\0\x05\x06\0\x01\0\0"),
+    ("no kind of frame", b"\0\0\0\x05\x07\0\x01\0\0"),
+    ("the kind of a Delta without versions", UNVERSIONED),
 ];
+
+/// A state of nothing, from node 1 to node 0, under kind 2.
+const UNVERSIONED: &[u8] = b"\0\0\0\x15\x02\0\x01\0\0\0\0\0\0\0\0\0\0\0\0\0\0\0\0\0\0";
 
 /// Hello of node 1 for node 0.
 const HELLO: &[u8] = b"\0\0\0\x05\x01\0\x01\0\0";
@@ -47,6 +51,6 @@ fn a_frame_for_another_node_is_counted_and_changes_nothing(rt: HostRuntime) {
         let found = taken(&rt, alloc, &mut keeper, frame);
         assert_eq!(rt; found, (0, count), "{name}");
     }
-    assert_eq!(rt; taken(&rt, alloc, &mut keeper, HELLO), (1, 8));
+    assert_eq!(rt; taken(&rt, alloc, &mut keeper, HELLO), (1, 9));
     drop(keeper);
 }

@@ -25,6 +25,8 @@ mod refusing;
 mod retained;
 #[cfg(test)]
 mod trial;
+#[cfg(test)]
+mod versions;
 
 /// Does nothing: the examples are the tests.
 fn main() {}

@@ -9,7 +9,7 @@ use std::alloc::Global;
 use std::process::Abort;
 
 /// The mark of node 1: the version, the node, and that no identifier was given.
-const MARK: &[u8] = b"\0\x01\0\x01\0\0\0\0\0\0\0\0";
+const MARK: &[u8] = b"\0\x02\0\x01\0\0\0\0\0\0\0\0";
 
 /// The one dot (1, 2^62 - 1), as a range.
 const TAKEN: &[u8] =

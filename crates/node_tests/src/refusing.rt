@@ -2,7 +2,6 @@
 ghost use Rattle.std.specs.Prelude.{◌≡◌, ◌⊎◌, ◌<◌, ◌^◌, ◌-◌, true, false, ⊤};
 
 use row_store::{Change, MemoryRows, Row, RowFault, RowStore};
-use std::alloc::Global;
 
 /// The rows, how many calls are still answered before the one that is refused (with 0 none is), and how often rows were to be changed.
 #[derive(Drop)]
@@ -14,10 +13,10 @@ pub struct RefusingRows {
 }
 
 impl RefusingRows {
-    /// No rows; the call of this number is refused, counted from 1.
-    pub fn new(alloc: Global, refused: u64) -> RefusingRows {
+    /// These rows; the call of this number is refused, counted from 1, and with 0 none is.
+    pub fn new(rows: MemoryRows, refused: u64) -> RefusingRows {
         RefusingRows {
-            rows: MemoryRows::new(alloc),
+            rows,
             left: refused,
             failures: 0,
             writes: 0,

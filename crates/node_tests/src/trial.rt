@@ -6,7 +6,7 @@ use broker_node::{Event, EventKind};
 use mqtt_packets::Bytes;
 use node_keeper::{Keeper, KeeperFault};
 use numbered_homes::homes_of;
-use row_store::RowFault;
+use row_store::{MemoryRows, RowFault};
 use std::alloc::Global;
 use std::process::Abort;
 
@@ -38,7 +38,11 @@ fn opened(
 }
 
 fn woken(rt: &impl Abort, alloc: Global, refused: u64) -> Keeper<RefusingRows> {
-    match opened(rt, alloc, RefusingRows::new(alloc, refused)) {
+    match opened(
+        rt,
+        alloc,
+        RefusingRows::new(MemoryRows::new(alloc), refused),
+    ) {
         Ok(keeper) => keeper,
         Err(rows) => opened(rt, alloc, rows).ok().expect(rt, "a node"),
     }

@@ -25,7 +25,7 @@ use Rattle.replica_store.specs.Retained.{Retained, topic_cmp}
 use Rattle.replica_store.specs.States.{State}
 use Rattle.subscription_set.specs.Merging.{IsSet}
 use Rattle.replica_bytes.specs.Filters.{is_filter}
-use Rattle.replica_bytes.specs.Spelling.{listed_by, unspelled}
+use Rattle.replica_bytes.specs.Spelling.{listed_by}
 use Rattle.replica_bytes.specs.Values.{is_number, dot, filter, asked, version, subscription_in, entry_in, subscription, entry, has_topic, kept_in, kept, topic_entry, dot_entry}
 use Rattle.replica_bytes.specs.Stores.{is_set, entries, subscriptions, retained, state}
 use Rattle.replica_bytes.proofs.Sets.{passed_set, set_passes, t_true, true_t}
@@ -45,12 +45,6 @@ listed_by_is {A} w f W F = record {
       (front.0 ∙ ap (λ (r : List ℕ). (number w).bytes (length x.0) ++ r) t.spelled ∙ sym (append_assoc ((number w).bytes (length x.0)) (flat_map f.bytes x.0) x.1), (front.1, t.each));
   again = λ xs rest fits.
       rw (append_assoc ((number w).bytes (length xs)) (flat_map f.bytes xs) rest, (number_is w W).again (length xs) (flat_map f.bytes xs ++ rest) fits.0) (values_again f F xs rest fits.1);
-}
-
-unspelled_is : IsField unspelled
-unspelled_is = record {
-  takes = λ bs x bytes e. let made : ℕ × List ℕ = (0, bs) in subst (λ (y : ℕ × List ℕ). (bs ≡ y.1) × (y.0 ≡ 0)) (ok_is made x e) (refl, refl);
-  again = λ n rest fits. ap (λ k. Ok (k, rest)) (sym fits);
 }
 
 -- the same bytes, for values of another type, of which some that fit are those that are read
@@ -75,7 +69,7 @@ asked_is : IsField asked
 asked_is = tested_is (λ x. can_be_asked x.0 x.1) Malformed (after (number w8) (λ _. number w32)) (after_is (number w8) (λ _. number w32) (number_is w8 wide8) (λ _. number_is w32 wide32))
 
 pub subscription_is : IsField subscription
-subscription_is = after_is filter (λ _. after asked (λ _. version)) filter_is (λ _. after_is asked (λ _. version) asked_is (λ _. unspelled_is))
+subscription_is = after_is filter (λ _. after asked (λ _. version)) filter_is (λ _. after_is asked (λ _. version) asked_is (λ _. number_is w32 wide32))
 
 entry_is : IsField entry
 unfolding entry

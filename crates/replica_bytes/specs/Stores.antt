@@ -1,7 +1,7 @@
 -- The bytes of a state.
 use Rattle.std.specs.Prelude.{◌≡◌, ◌&&◌, ◌<◌, ◌^◌, ℕ, Bool, List, length, Result, Ok, Err, if◌then◌else◌}
 use Rattle.std.specs.Int.{w32}
-use Rattle.std.specs.List.{AllByRecursion, list_all}
+use Rattle.std.specs.List.{list_all}
 use Rattle.std.specs.FinSet as set
 use Rattle.std.specs.FinMap as map
 use Rattle.mqtt_fields.specs.declared.fault.FieldFault.{FieldFault}
@@ -43,13 +43,6 @@ retained = seen map.from_sorted map.entries (tested (map.is_sorted topic_cmp) Ma
 -- a state: the dots that were taken, the subscriptions and the retained messages
 unfoldable pub state : Field State
 state = seen (λ x. record { taken = x.0; subscriptions = x.1.0; retained = x.1.1 }) (λ s. (s.taken, (s.subscriptions, s.retained))) (after context (λ _. after subscriptions (λ _. retained)))
-
--- each subscription was made under version 0
-abbrev pub AreUnversioned : List (Dot × Entry) → Type 0
-AreUnversioned es = AllByRecursion (λ x. x.1.version ≡ 0) es
-
-abbrev pub HasNoVersions : State → Type 0
-HasNoVersions s = AreUnversioned (standing s.subscriptions)
 
 -- there are no more subscriptions, and no more topics, than four bytes can count
 pub record IsCounted (s : State) : Type 0 where

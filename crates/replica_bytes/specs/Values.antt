@@ -15,7 +15,6 @@ use Rattle.subscription_set.specs.declared.entry.Entry.{Entry}
 use Rattle.subscription_set.specs.Entries.{can_be_asked}
 use Rattle.replica_store.specs.declared.kept.Kept.{Kept}
 use Rattle.replica_bytes.specs.Filters.{is_filter}
-use Rattle.replica_bytes.specs.Spelling.{unspelled}
 
 -- a number that dots have
 abbrev pub is_number : ℕ → Bool
@@ -39,9 +38,9 @@ filter_in t = if is_filter t then Ok t else Err Malformed
 abbrev pub asked : Field (ℕ × ℕ)
 asked = tested (λ x. can_be_asked x.0 x.1) Malformed (after (number w8) (λ _. number w32))
 
--- the version of the home table, which isn't spelled: it is 0
+-- the version of the home table, in four bytes
 abbrev pub version : Field ℕ
-version = unspelled
+version = number w32
 
 -- what follows the client of a subscription: its filter, options, identifier and version
 abbrev pub Subscription : Type 0

@@ -13,8 +13,8 @@ use mqtt_fields::{
 use std::alloc::Global;
 use subscription_set::Entry;
 
-/// The subscription of the client whose filter, options and identifier are at the front, made under
-/// version 0, and the bytes after them.
+/// The subscription of the client whose filter, options, identifier and version are at the front, and
+/// the bytes after them.
 ///
 /// Short where the bytes end inside them; Malformed where the filter isn't one, or no SUBSCRIBE can
 /// have the options and the identifier.
@@ -25,8 +25,9 @@ pub fn entry_of(alloc: Global, client: Text, bytes: &[u8]) -> Result<(Entry, &[u
     let (filter, rest) = filter_at(alloc, bytes)?;
     let (options, rest) = u8_at(rest)?;
     let (identifier, rest) = u32_at(rest)?;
+    let (version, rest) = u32_at(rest)?;
     let options = SubscriptionOptions::of_byte(options);
-    match Entry::new(client, filter, options, identifier, 0) {
+    match Entry::new(client, filter, options, identifier, version) {
         None => Err(FieldFault::Malformed),
         Some(entry) => Ok((entry, rest)),
     }
@@ -63,11 +64,12 @@ fn append_subscription(entry: &Entry, out: &mut Vec<u8>) -> Result<(), NoMemory>
 {
     entry.filter().as_text().write(out)?;
     put_u8(entry.options().byte(), out)?;
-    put_u32(entry.identifier(), out)
+    put_u32(entry.identifier(), out)?;
+    put_u32(entry.version(), out)
 }
 
-/// Appends what follows the client of the subscription: its filter, options and identifier. The
-/// version isn't written. Where memory runs out `out` stays as it was.
+/// Appends what follows the client of the subscription: its filter, options, identifier and version.
+/// Where memory runs out `out` stays as it was.
 pub fn write_subscription(entry: &Entry, out: &mut Vec<u8>) -> Result<(), NoMemory>
     ensures ok { OnOk result (out.new.items ≡ out.old.items
         ++ spec.subscription.bytes (spec.subscription_in entry.now)) }
@@ -86,21 +88,22 @@ pub fn write_subscription(entry: &Entry, out: &mut Vec<u8>) -> Result<(), NoMemo
     }
 }
 
-// Each subscription that was made under version 0 has a spelling.
+// Each subscription has a spelling.
 #[tactic(auto, unfolding(crate::specs::Values::entry), using(crate::proofs::Fits::fits))]
 fn entry_fits(entry: &Entry)
-    ensures { entry.now.version ≡ 0 → spec.entry.Fits entry.now }
+    ensures { spec.entry.Fits entry.now }
 {
     let _client = entry.client().as_str();
     let _filter = entry.filter().as_str();
     let _options = entry.options().byte();
     let _identifier = entry.identifier();
+    let _version = entry.version();
 }
 
 /// Appends the dot and the subscription, or their beginning where memory runs out.
 #[tactic(auto, unfolding(crate::specs::Values::entry))]
 pub(crate) fn append_dot_entry(dot: Dot, entry: &Entry, out: &mut Vec<u8>) -> Result<(), NoMemory>
-    ensures spelling { entry.now.version ≡ 0 → spec.dot_entry.Fits (dot, entry.now) }
+    ensures spelling { spec.dot_entry.Fits (dot, entry.now) }
     ensures ok { OnOk result (out.new.items ≡ out.old.items ++ spec.dot_entry.bytes (dot, entry.now)) }
     ensures begins { take (length out.old.items) out.new.items ≡ out.old.items }
     ensures full { OnErr result (vec_capacity out.old

@@ -3,7 +3,7 @@ ghost use Rattle.std.specs.Prelude.{◌≡◌, ◌+◌, ◌<◌, ◌≤◌, ◌+
 ghost use Rattle.mqtt_fields.specs.Reading.{Gives};
 ghost use Rattle.replica_bytes.specs.Memory.{WantsMemory};
 ghost use Rattle.replica_bytes.specs.Stores as spec;
-ghost use Rattle.replica_bytes.specs.Stores.{IsCounted, HasNoVersions};
+ghost use Rattle.replica_bytes.specs.Stores.{IsCounted};
 
 use crate::retained::{append_retained, retained_at};
 use crate::subscriptions::{append_subscriptions, subscriptions_at};
@@ -25,8 +25,7 @@ fn store_at(alloc: Global, bytes: &[u8]) -> Result<(ReplicaStore, &[u8]), FieldF
     Ok((store, rest))
 }
 
-/// The store at the front of the bytes, and how many bytes it takes. Its subscriptions are made under
-/// version 0.
+/// The store at the front of the bytes, and how many bytes it takes.
 ///
 /// Short where the bytes end inside it; Malformed where they aren't the one spelling of a store.
 /// Memory is wanted only once a range of a set, a client or a topic has been read.
@@ -42,7 +41,7 @@ pub fn read_store(alloc: Global, bytes: &[u8]) -> Result<(ReplicaStore, usize), 
 #[tactic(auto, unfolding(crate::specs::Stores::state))]
 fn append_store(store: &ReplicaStore, out: &mut Vec<u8>) -> Result<(), NoMemory>
     ensures ok { OnOk result (out.new.items ≡ out.old.items ++ spec.state.bytes store.now) }
-    ensures spelling { OnOk result (HasNoVersions store.now → spec.state.Fits store.now) }
+    ensures spelling { OnOk result (spec.state.Fits store.now) }
     ensures counted { OnOk result (IsCounted store.now) }
     ensures begins { take (length out.old.items) out.new.items ≡ out.old.items }
     ensures full { OnErr result (IsCounted store.now
@@ -54,13 +53,12 @@ fn append_store(store: &ReplicaStore, out: &mut Vec<u8>) -> Result<(), NoMemory>
     append_retained(store.retained(), out)
 }
 
-/// Appends the store's bytes; the versions of its subscriptions aren't written. Where memory runs
-/// out, or there are more subscriptions or topics than four bytes can count, `out` stays as it was.
+/// Appends the store's bytes. Where memory runs out, or there are more subscriptions or topics than four bytes can count, `out` stays as it was.
 pub fn write_store(store: &ReplicaStore, out: &mut Vec<u8>) -> Result<(), NoMemory>
     ensures ok { OnOk result (out.new.items ≡ out.old.items ++ spec.state.bytes store.now) }
 
-    // With versions of 0 they are the store's one spelling, so what is written is read again.
-    ensures spelling { OnOk result (HasNoVersions store.now → spec.state.Fits store.now) }
+    // They are the store's one spelling, so what is written is read again.
+    ensures spelling { OnOk result (spec.state.Fits store.now) }
     ensures counted { OnOk result (IsCounted store.now) }
     ensures err { OnErr result (out.new.items ≡ out.old.items) }
     ensures full { OnErr result (IsCounted store.now

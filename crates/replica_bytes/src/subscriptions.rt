@@ -60,8 +60,7 @@ pub(crate) fn subscriptions_at(
 }
 
 fn append_entries(set: &SubscriptionSet, out: &mut Vec<u8>) -> Result<(), NoMemory>
-    ensures spelling { OnOk result (spec.AreUnversioned (standing set.now)
-        → AllByRecursion dot_entry.Fits (standing set.now)) }
+    ensures spelling { OnOk result (AllByRecursion dot_entry.Fits (standing set.now)) }
     ensures ok { OnOk result (out.new.items
         ≡ out.old.items ++ flat_map dot_entry.bytes (standing set.now)) }
     ensures begins { take (length out.old.items) out.new.items ≡ out.old.items }
@@ -81,8 +80,7 @@ fn append_entries(set: &SubscriptionSet, out: &mut Vec<u8>) -> Result<(), NoMemo
 pub(crate) fn append_subscriptions(set: &SubscriptionSet, out: &mut Vec<u8>) -> Result<(), NoMemory>
     ensures ok { OnOk result (out.new.items ≡ out.old.items ++ spec.subscriptions.bytes set.now) }
     ensures counted { OnOk result (length (standing set.now) < 2 ^ 32) }
-    ensures spelling { OnOk result (spec.AreUnversioned (standing set.now)
-        → spec.subscriptions.Fits set.now) }
+    ensures spelling { OnOk result (spec.subscriptions.Fits set.now) }
     ensures begins { take (length out.old.items) out.new.items ≡ out.old.items }
     ensures full { OnErr result (length (standing set.now) < 2 ^ 32
         → vec_capacity out.old < vec_len out.old + length (spec.subscriptions.bytes set.now)) }

@@ -16,7 +16,7 @@ use Rattle.replica_bytes.specs.Values.{subscription, subscription_in, entry_in, 
 use Rattle.replica_bytes.proofs.Wholes.{subscription_is, kept_is}
 use Rattle.replica_rows.specs.Rows.{subscription_of, kept_of, row_at}
 use Rattle.replica_rows.specs.Steps.{subscription_key}
-use Rattle.replica_rows.specs.Reading.{IsStore, IsUnversioned, TellAll, HaveOneReading}
+use Rattle.replica_rows.specs.Reading.{IsStore, TellAll, HaveOneReading}
 use Rattle.replica_rows.proofs.Keyed.{one_value, at_dot, row_stands}
 use Rattle.replica_rows.proofs.Saying.{no_value}
 use Rattle.replica_rows.proofs.Refused.{owned}
@@ -25,7 +25,7 @@ use Rattle.replica_rows.proofs.Told.{one_set}
 some_is : {A : Type 0} (a b : A) → Some a ≡ Some b → a ≡ b
 some_is a b e = cc
 
-module _ (s t : State) (a : IsStore s) (b : IsStore t) (plain_a : IsUnversioned s) (plain_b : IsUnversioned t) (same : (key : Key) → row_at s key ≡ row_at t key) where
+module _ (s t : State) (a : IsStore s) (b : IsStore t) (same : (key : Key) → row_at s key ≡ row_at t key) where
   same_seen : seen_of s.subscriptions ≡ seen_of t.subscriptions
   same_seen = one_set (seen_of s.subscriptions) (seen_of t.subscriptions) a.seen b.seen (same (6, ([], 2 ∷ [])))
 
@@ -40,7 +40,7 @@ module _ (s t : State) (a : IsStore s) (b : IsStore t) (plain_a : IsUnversioned 
       let own = owned e.client _ g h in
       let can = a.entries q e x in
       let could = b.entries q g is in
-      let value = one_value subscription subscription_is (subscription_in e) (subscription_in g) (can.0, (can.1, plain_a q e x)) (could.0, (could.1, plain_b q g is)) own.1 in
+      let value = one_value subscription subscription_is (subscription_in e) (subscription_in g) can could own.1 in
       let entry : e ≡ g = λ i. entry_in (own.0 i, value i) in
       ap (λ v. Some (Some v)) (sym entry)
 
@@ -65,14 +65,14 @@ same_kept topic (Some k) None p q h = absurd (cc)
 same_kept topic (Some k) (Some l) p q h = ap Some (one_value (kept topic) (kept_is topic) k l (p k refl) (q l refl) (some_is _ _ h))
 
 pub one_store : TellAll
-one_store s t a b plain_a plain_b same =
+one_store s t a b same =
     let taken = one_set s.taken t.taken a.taken b.taken (same (6, ([], 1 ∷ []))) in
     let subscriptions = map.same_map dot_cmp_total dot_cmp_antisym s.subscriptions t.subscriptions (λ q. same_status (map.get s.subscriptions q) (map.get t.subscriptions q)
-    (same_there s t a b plain_a plain_b same q)
-    (also s t a b plain_a plain_b same q)
-    (also t s b a plain_b plain_a (λ key. sym (same key)) q)) in
+    (same_there s t a b same q)
+    (also s t a b same q)
+    (also t s b a (λ key. sym (same key)) q)) in
     let retained = map.same_map nat_list_cmp_total topic_cmp_antisym s.retained t.retained (λ topic. same_kept topic (map.get s.retained topic) (map.get t.retained topic) (a.kept topic) (b.kept topic) (same (5, (topic, [])))) in
     λ i. record { taken = taken i; subscriptions = subscriptions i; retained = retained i }
 
 pub one_reading : HaveOneReading
-one_reading rows s t a b plain_a plain_b of_s of_t = one_store s t a b plain_a plain_b (λ key. sym (of_s.are key) ∙ of_t.are key)
+one_reading rows s t a b of_s of_t = one_store s t a b (λ key. sym (of_s.are key) ∙ of_t.are key)

@@ -61,16 +61,12 @@ stands_there s client place value h = by_dot (spelled dot place) refl h
     by_dot None at g = absurd (cc)
     by_dot (Some d) at g = by_status d (map.get s.subscriptions d) at refl g
 
--- the same subscription, made under version 0
-abbrev unversioned : Entry → Entry
-unversioned e = record { client = e.client; filter = e.filter; options = e.options; identifier = e.identifier; version = 0 }
-
-says_so : (row : Plain) (s : State) → IsStore s → row.0.0 ≡ 4 → (t : StandsThere s row.0.1.0 row.0.1.1 row.1) → IsSubscription row (t.d, unversioned t.e)
+says_so : (row : Plain) (s : State) → IsStore s → row.0.0 ≡ 4 → (t : StandsThere s row.0.1.0 row.0.1.1 row.1) → IsSubscription row (t.d, t.e)
 says_so row s store four t = record {
   is = λ i. ((four i, (t.own i, sym (spelled_so dot row.0.1.1 t.d t.at) i)), t.is i);
   dot = store.dots t.d t.e t.stands;
   client = store.clients t.d t.e t.stands;
-  rest = (let can = store.entries t.d t.e t.stands in (can.0, (can.1, refl)));
+  rest = store.entries t.d t.e t.stands;
 }
 
 pub said_row : (m : ByDot) (d : Dot) (g : Entry) → dot.Fits d → map.get m d ≡ Some g → standing_at m g.client (spelled dot (dot.bytes d)) ≡ Some (subscription.bytes (subscription_in g))
@@ -84,8 +80,8 @@ no_subscription row x four none fresh s store agrees at =
     let says = says_so row s store four t in
     by_standing t says (map.get x.standing t.d) refl
   where
-    by_standing : (t : StandsThere s row.0.1.0 row.0.1.1 row.1) → IsSubscription row (t.d, unversioned t.e) → (o : Option Entry) → map.get x.standing t.d ≡ o → ⊥
-    by_standing t says None is = none (t.d, unversioned t.e) says is
+    by_standing : (t : StandsThere s row.0.1.0 row.0.1.1 row.1) → IsSubscription row (t.d, t.e) → (o : Option Entry) → map.get x.standing t.d ≡ o → ⊥
+    by_standing t says None is = none (t.d, t.e) says is
     by_standing t says (Some g) is =
         let there = said_row x.standing t.d g says.dot is in
         let alike = sym (at_dot s g.client t.d says.dot ∙ ap (subscription_of g.client) t.stands) ∙ agrees (subscription_key g t.d) _ there in

@@ -34,7 +34,7 @@ use Rattle.row_store.proofs.Keys.{keys_total, exact_keys}
 use Rattle.replica_bytes.specs.Values.{dot, subscription, subscription_in}
 use Rattle.replica_rows.specs.Rows.{AreRowsOf, spelled, subscription_of, subscription_at, kept_of, retained_at, context_at, dots_value, row_at}
 use Rattle.replica_rows.specs.Steps.{subscription_key}
-use Rattle.replica_rows.specs.Reading.{Plain, IsStore, IsUnversioned, AreAllRowsOf, AreOfNone, Said, IsSaid, standing_at, topic_at, dots_at, row_of, SaysMore, Agrees, Contradicts, AreSaid, state_of, AreSeenThere}
+use Rattle.replica_rows.specs.Reading.{Plain, IsStore, AreAllRowsOf, AreOfNone, Said, IsSaid, standing_at, topic_at, dots_at, row_of, SaysMore, Agrees, Contradicts, AreSaid, state_of, AreSeenThere}
 use Rattle.replica_rows.proofs.Keyed.{one_value, at_dot}
 use Rattle.replica_rows.proofs.Saying.{by_bool, no_value, picked}
 use Rattle.replica_rows.proofs.Refused.{said_row, value_of}
@@ -254,13 +254,10 @@ module _ (x : Said) (seen : AreSeenThere x) where
     seen = subst HasSpelling (sym same_seen) sound.seen;
     dots = λ q e is. sound.dots q e (stands q e is);
     clients = λ q e is. sound.clients q e (stands q e is);
-    entries = λ q e is. (let fits = sound.entries q e (stands q e is) in (fits.0, fits.1.0));
+    entries = λ q e is. sound.entries q e (stands q e is);
     topics = sound.topics;
     kept = sound.kept;
   }
-
-  pub made_unversioned : IsSaid x → IsUnversioned s
-  made_unversioned sound = λ q e is. (sound.entries q e (stands q e is)).1.1
 
 -- ---- dots that stand and weren't seen
 

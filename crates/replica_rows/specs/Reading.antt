@@ -5,7 +5,6 @@ use Rattle.std.specs.List.{AllByRecursion}
 use Rattle.std.specs.Ordering.{eq_by_cmp}
 use Rattle.std.specs.FinSet as set
 use Rattle.std.specs.FinMap as map
-use Rattle.mqtt_fields.specs.Field.{after}
 use Rattle.mqtt_fields.specs.Numbers.{IsText}
 use Rattle.mqtt_message.specs.Parts.{name}
 use Rattle.causal_context.specs.Dots.{Dot, Dots, dot_cmp}
@@ -19,7 +18,7 @@ use Rattle.replica_store.specs.Retained.{Retained, retained_join, one_put}
 use Rattle.replica_store.specs.States.{State}
 use Rattle.row_store.specs.declared.row.Row.{Row}
 use Rattle.row_store.specs.Rows.{Key, key_cmp, entry_of, content_of}
-use Rattle.replica_bytes.specs.Values.{dot, filter, asked, subscription, subscription_in, kept}
+use Rattle.replica_bytes.specs.Values.{dot, subscription, subscription_in, kept}
 use Rattle.replica_rows.specs.declared.reading.Parts.{Parts}
 use Rattle.replica_rows.specs.Rows.{AreRowsOf, spelled, subscription_of, kept_of, dots_value, row_at}
 use Rattle.replica_rows.specs.Steps.{subscription_key}
@@ -30,9 +29,9 @@ Plain = Key × List ℕ
 
 -- ---- stores
 
--- a filter, options and an identifier that a subscription can have
+-- a filter, options, an identifier and a version that a subscription can have
 abbrev pub CanStand : Entry → Type 0
-CanStand e = (after filter (λ _. asked)).Fits (e.filter, (e.options, e.identifier))
+CanStand e = subscription.Fits (subscription_in e)
 
 -- what holds of each store: its sets, its subscriptions and what it keeps of topics have spellings
 pub record IsStore (s : State) : Type 0 where
@@ -43,10 +42,6 @@ pub record IsStore (s : State) : Type 0 where
   pub entries : (q : Dot) (e : Entry) → map.get s.subscriptions q ≡ Some (Some e) → CanStand e
   pub topics : (topic : List ℕ) (k : Kept) → map.get s.retained topic ≡ Some k → name.Fits topic
   pub kept : (topic : List ℕ) (k : Kept) → map.get s.retained topic ≡ Some k → (kept topic).Fits k
-
--- each subscription that stands was made under version 0
-abbrev pub IsUnversioned : State → Type 0
-IsUnversioned s = (q : Dot) (e : Entry) → map.get s.subscriptions q ≡ Some (Some e) → e.version ≡ 0
 
 -- the rows of the state, in the order of their keys, each once
 pub record AreAllRowsOf (rows : List Row) (s : State) : Type 0 where
@@ -177,10 +172,10 @@ AllCanStand es = AllByRecursion (λ x. dot.Fits x.0 × IsText x.1.client × CanS
 abbrev pub AllHaveSpellings : List Topic → Type 0
 AllHaveSpellings es = AllByRecursion (λ x. name.Fits x.0 × (kept x.0).Fits x.1) es
 
--- the rows of a store tell all of it but the versions of its subscriptions
+-- the rows of a store tell all of it
 abbrev pub TellAll : Type 0
-TellAll = (s t : State) → IsStore s → IsStore t → IsUnversioned s → IsUnversioned t → ((key : Key) → row_at s key ≡ row_at t key) → s ≡ t
+TellAll = (s t : State) → IsStore s → IsStore t → ((key : Key) → row_at s key ≡ row_at t key) → s ≡ t
 
 -- so what is read of the rows of a store is the store
 abbrev pub HaveOneReading : Type 0
-HaveOneReading = (rows : List Row) (s t : State) → IsStore s → IsStore t → IsUnversioned s → IsUnversioned t → AreAllRowsOf rows s → AreAllRowsOf rows t → s ≡ t
+HaveOneReading = (rows : List Row) (s t : State) → IsStore s → IsStore t → AreAllRowsOf rows s → AreAllRowsOf rows t → s ≡ t

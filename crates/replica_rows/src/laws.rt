@@ -12,7 +12,7 @@ use replica_bytes::kept_fits;
 use replica_store::{Kept, ReplicaStore, RetainedMap};
 use subscription_set::{Entry, SubscriptionSet};
 
-/// Two stores with the same rows, whose subscriptions were made under version 0, are the same.
+/// Two stores with the same rows are the same.
 pub fn rows_tell_all()
     ensures { TellAll }
 {}
@@ -34,6 +34,7 @@ fn can_stand(at: Dot, entry: &Entry)
     let _filter = entry.filter().as_str();
     let _options = entry.options().byte();
     let _identifier = entry.identifier();
+    let _version = entry.version();
 }
 
 fn all_can_stand(set: &SubscriptionSet)

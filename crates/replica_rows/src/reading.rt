@@ -11,7 +11,7 @@ ghost use Rattle.replica_store.specs.Contents.{topic_in, message_in};
 ghost use Rattle.row_store.specs.Rows.{entry_of, key_cmp, key_of};
 ghost use Rattle.replica_bytes.specs.Values.{dot, subscription, subscription_in, kept, has_topic};
 ghost use Rattle.mqtt_fields.specs.Reading.{Finds};
-ghost use Rattle.replica_rows.specs.Reading.{AreAllRowsOf, AreOfNone, AreSaid, Contradicts, IsDots, IsStore, IsSubscription, IsTopic, IsUnversioned, NoDots, NoSubscription, SaysMore, TakesDots, TakesSubscription, TakesTopic, Topic, AreSeenThere, row_of, said, state_of};
+ghost use Rattle.replica_rows.specs.Reading.{AreAllRowsOf, AreOfNone, AreSaid, Contradicts, IsDots, IsStore, IsSubscription, IsTopic, NoDots, NoSubscription, SaysMore, TakesDots, TakesSubscription, TakesTopic, Topic, AreSeenThere, row_of, said, state_of};
 
 use crate::row::{CONTEXT, RETAINED, SEEN, SUBSCRIPTION, TAKEN};
 use causal_context::{Context, Dot};
@@ -287,7 +287,6 @@ fn store_of(alloc: Global, parts: Parts) -> Result<ReplicaStore, FieldFault>
 fn store_in(alloc: Global, rows: &[Row]) -> Result<ReplicaStore, FieldFault>
     ensures ok { IfOk result (AreAllRowsOf rows.now) }
     ensures store { IfOk result IsStore }
-    ensures unversioned { IfOk result IsUnversioned }
     ensures bad { IfErr result (λ f. (f ≡ faults.NoMemory) ⊎ AreOfNone rows.now) }
 {
     if !are_rising(rows) {
@@ -297,13 +296,12 @@ fn store_in(alloc: Global, rows: &[Row]) -> Result<ReplicaStore, FieldFault>
     store_of(alloc, parts)
 }
 
-/// The store whose rows these are, in the order of their keys, with subscriptions made under version 0.
+/// The store whose rows these are, in the order of their keys.
 ///
 /// BadRow where no store has just these rows.
 pub fn from_rows(alloc: Global, rows: &[Row]) -> Result<ReplicaStore, StoreFault>
     ensures ok { IfOk result (AreAllRowsOf rows.now) }
     ensures store { IfOk result IsStore }
-    ensures unversioned { IfOk result IsUnversioned }
     ensures bad { IsErrOf result StoreFault.BadRow → AreOfNone rows.now }
     ensures fault { IfErr result (λ e. (e ≡ StoreFault.NoMemory) ⊎ (e ≡ StoreFault.BadRow)) }
 {

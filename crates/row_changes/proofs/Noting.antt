@@ -5,7 +5,7 @@ use Rattle.std.specs.List.{AllByRecursion}
 use Rattle.std.specs.List.Sorted.{IsStrictlySortedBy}
 use Rattle.std.specs.Ordering.{is_lt}
 use Rattle.std.specs.Cmp.{eq_by_cmp_equiv}
-use Rattle.std.specs.FinMap.{is_sorted}
+use Rattle.std.specs.FinMap.{get, is_sorted, same_map}
 use Rattle.std.specs.FinMap.Entries.{below_all}
 use Rattle.std.specs.Map.{keys_of}
 use Rattle.std.specs.Option.{option_eq}
@@ -15,14 +15,14 @@ use Rattle.std.proofs.lemmas.Slice.Eq.{bytes_eq-Decides}
 use Rattle.row_store.specs.declared.memory.RowKey.{RowKey}
 use Rattle.row_store.specs.declared.row.Change.{Change}
 use Rattle.row_store.specs.Cells.{Cell, plain_key, cell_at}
-use Rattle.row_store.specs.Rows.{Key, key_cmp}
-use Rattle.row_store.proofs.Keys.{keys_total}
+use Rattle.row_store.specs.Rows.{Content, Key, after_all, key_cmp}
+use Rattle.row_store.proofs.Keys.{exact_keys, keys_total}
 use Rattle.row_store.proofs.CellLemmas.{Sets, at_key, same_key, ties}
 use Rattle.row_store.proofs.Sorted.{row_key_cmp}
 use Rattle.row_changes.specs.Gathered.{AreOnce, IsSettled, first_in}
-use Rattle.row_changes.specs.Leading.{or_else, first_by, left_by, left_by_one, key_in, value_in}
-use Rattle.row_changes.specs.Noted.{Pair, AreNoted, plain_value, pair_of, noted_pair, noted, is_noted}
-use Rattle.row_changes.proofs.Leaving.{else_none, first_by_both, first_none, or_else_else, or_else_none, second_is_last}
+use Rattle.row_changes.specs.Leading.{or_else, first_by, left_by, left_by_one, left_or, key_in, value_in}
+use Rattle.row_changes.specs.Noted.{Pair, AreLast, AreNoted, plain_value, pair_of, noted_pair, noted, is_noted}
+use Rattle.row_changes.proofs.Leaving.{changes_leave, else_none, first_by_both, first_none, or_else_else, or_else_none, second_is_last}
 
 -- ---- a table that takes a change
 
@@ -114,6 +114,34 @@ module _ (kind : ℕ) (own : RowKey) (cell : Cell) (change : Change) (is : noted
           | inr some ↦ inr (inr (subst (λ k. noted befores k ≢ None) (sym here) (some_noted (cell_at befores (plain_key own)) some)))
         ])
       ]
+
+-- ---- a table of what the last changes leave
+pub note_last : (old new : List (RowKey × Cell)) (own : RowKey) (cell : Cell) (change : Change) → noted_pair (own, cell) ≡ pair_of change → Sets old new (plain_key own) (Some cell)
+    → (xs : List Change) → AreLast old xs → AreLast new (xs ++ change ∷ [])
+note_last old new own cell change is sets xs lasts key =
+    noted_put old new own cell change is sets key ∙ ap (or_else (left_by_one change key)) (lasts key) ∙ sym (second_is_last xs (change ∷ []) key)
+
+pub none_last : (lefts : List (RowKey × Cell)) → lefts ≡ [] → AreLast lefts []
+none_last lefts none key = ap (λ es. noted es key) none
+
+-- where nothing is noted first, what is settled is the last
+settled_last : (befores : List (RowKey × Cell)) → befores ≡ [] → (last left : Option (Option (List ℕ))) (key : Key) → IsSettled (noted befores key) (or_else last (noted befores key)) left → left ≡ last
+settled_last befores none last left key settled = by last (subst (λ b. IsSettled b (or_else last b) left) (ap (λ es. noted es key) none) settled)
+  where
+    by : (last : Option (Option (List ℕ))) → IsSettled None (or_else last None) left → left ≡ last
+    by None (inl same) = same.1
+    by None (inr other) = other.1
+    by (Some value) (inl same) = absurd (cc)
+    by (Some value) (inr other) = other.1
+
+pub last_left : (befores lefts : List (RowKey × Cell)) (changes out : List Change) → befores ≡ [] → AreLast lefts changes
+    → ((key : Key) → IsSettled (noted befores key) (or_else (noted lefts key) (noted befores key)) (left_by out key)) → (key : Key) → left_by out key ≡ left_by changes key
+last_left befores lefts changes out none lasts settled key = settled_last befores none (noted lefts key) (left_by out key) key (settled key) ∙ lasts key
+
+pub same_content : (changes out : List Change) → ((key : Key) → left_by out key ≡ left_by changes key) → (c : Content) → after_all c out ≡ after_all c changes
+same_content changes out same c =
+    same_map keys_total exact_keys (after_all c out) (after_all c changes)
+    (λ key. changes_leave c out key ∙ ap (λ l. left_or l (get c key)) (same key) ∙ sym (changes_leave c changes key))
 
 none_if : (b : Bool) (o : Option (Option (List ℕ))) → o ≡ cond b o o
 none_if true o = refl

@@ -31,6 +31,10 @@ noted cells key = option_map plain_value (cell_at cells key)
 abbrev pub is_noted : List (RowKey × Cell) → RowKey × Cell → Bool
 is_noted cells e = option_eq (option_eq bytes_eq) (noted cells (plain_key e.0)) (Some (plain_value e.1))
 
+-- what the last of the changes at each key leaves
+abbrev pub AreLast : List (RowKey × Cell) → List Change → Type 0
+AreLast lefts changes = (key : Key) → noted lefts key ≡ left_by changes key
+
 -- what the first of the changes at each key of the kind leaves, and in a second table what the last of the others leaves
 pub record AreNoted (kind : ℕ) (befores lefts : List (RowKey × Cell)) (changes : List Change) : Type 0 where
   pub firsts : (key : Key) → noted befores key ≡ first_in kind changes key

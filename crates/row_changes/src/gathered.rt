@@ -1,11 +1,11 @@
 //! Many changes made few: of those at one key the last, or none where it leaves what the first did.
 
-ghost use Rattle.std.specs.Prelude.{◌≡◌, List, [], ◌∷◌, ◌++◌, OnOk, IfOk, IsOk};
-ghost use Rattle.row_store.specs.Rows.{Key};
+ghost use Rattle.std.specs.Prelude.{◌≡◌, List, [], ◌∷◌, ◌++◌, OnOk, IfOk, IsOk, Ok};
+ghost use Rattle.row_store.specs.Rows.{Content, Key, after_all};
 ghost use Rattle.row_store.specs.declared.row.Change.{Change as Changed};
 ghost use Rattle.row_changes.specs.Gathered.{AreOnce, IsSettled, Settle};
 ghost use Rattle.row_changes.specs.Leading.{left_by, or_else};
-ghost use Rattle.row_changes.specs.Noted.{AreNoted, is_noted, noted, noted_pair, pair_of};
+ghost use Rattle.row_changes.specs.Noted.{AreLast, AreNoted, is_noted, noted, noted_pair, pair_of};
 
 use row_store::memory::RowKey;
 use row_store::{Change, Row};
@@ -92,6 +92,34 @@ fn in_order(alloc: Global, befores: Noted, lefts: Noted) -> Result<Vec<Change>, 
         }
     }
     Ok(out)
+}
+
+/// Notes what the last of the changes at each key leaves.
+fn note_lasts(alloc: Global, changes: Vec<Change>) -> Result<Noted, AllocError>
+    ensures { IfOk result (λ lasts. AreLast lasts.entries changes.items) }
+{
+    let mut lasts = BTreeMap::new(alloc);
+    for change in changes {
+        let (key, value) = parts(change);
+        lasts.insert(key, value)?;
+    }
+    Ok(lasts)
+}
+
+/// Of the changes at each key the last one, in the order of the keys: a store of rows has the same content after them as after all.
+/// It takes no memory where there are no changes.
+pub fn last_of_each(alloc: Global, changes: Vec<Change>) -> Result<Vec<Change>, AllocError>
+    ensures once { IfOk result (λ out. AreOnce out.items) }
+    ensures left { IfOk result (λ out. (key : Key) → left_by out.items key ≡ left_by changes.items key) }
+    ensures content { IfOk result (λ out. (c : Content) → after_all c out.items ≡ after_all c changes.items) }
+    ensures none { changes.items ≡ [] → result ≡ Ok changes }
+{
+    if changes.is_empty() {
+        Ok(changes)
+    } else {
+        let lefts = note_lasts(alloc, changes)?;
+        in_order(alloc, BTreeMap::new(alloc), lefts)
+    }
 }
 
 /// Of the changes at each key the last one, in the order of the keys, but at a key of the kind none where the last leaves what the

@@ -5,4 +5,4 @@
 pub mod gathered;
 pub mod laws;
 
-pub use gathered::gather;
+pub use gathered::{gather, last_of_each};

@@ -1,7 +1,7 @@
 use Rattle.std.proofs.Common.{◌<◌, ◌^◌, length, subst}
 use Rattle.causal_context.specs.Spelling.{context, HasSpelling}
 use Rattle.subscription_set.specs.Standing.{standing}
-use Rattle.replica_bytes.specs.Stores.{AreUnversioned, retained, subscriptions}
+use Rattle.replica_bytes.specs.Stores.{retained, subscriptions}
 use Rattle.replica_bytes.proofs.Loops.{on_ok, put_begins, begins_so}
 use Rattle.replica_bytes.proofs.Wholes.{few_topics, state_fits}
 use Rattle.replica_bytes.proofs.store.append_store.Goals as goal
@@ -9,8 +9,8 @@ use Rattle.replica_bytes.proofs.store.append_store.Goals as goal
 pub returns-clause-spelling : goal.returns-clause-spelling
 returns-clause-spelling c =
     let taken = subst HasSpelling c.taken.ensures c.in_ok-write.ensures.spelling in
-    let subs = subst (λ m. AreUnversioned (standing m) → subscriptions.Fits m) c.subscriptions.ensures c.in_ok-append_subscriptions.ensures.spelling in
-    on_ok c.append_retained.result (λ kept plain. state_fits c.args.store.now taken (subs plain) (subst retained.Fits c.retained.ensures kept)) c.append_retained.ensures.spelling
+    let subs = subst subscriptions.Fits c.subscriptions.ensures c.in_ok-append_subscriptions.ensures.spelling in
+    on_ok c.append_retained.result (λ kept. state_fits c.args.store.now taken subs (subst retained.Fits c.retained.ensures kept)) c.append_retained.ensures.spelling
 
 pub returns-clause-counted : goal.returns-clause-counted
 returns-clause-counted c =

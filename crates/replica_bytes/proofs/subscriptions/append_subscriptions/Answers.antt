@@ -11,7 +11,7 @@ pub returns-clause-spelling : goal.returns-clause-spelling
 returns-clause-spelling c =
     let few : length (standing c.args.set.now) < 2 ^ 32 = search rules in
     let seen : HasSpelling (seen_of c.args.set.now) = search rules in
-    on_ok c.append_entries.result (λ all plain. subscriptions_fit c.args.set.now seen few (all plain)) c.append_entries.ensures.spelling
+    on_ok c.append_entries.result (λ all. subscriptions_fit c.args.set.now seen few all) c.append_entries.ensures.spelling
 
 pub returns-clause-begins : goal.returns-clause-begins
 returns-clause-begins c =

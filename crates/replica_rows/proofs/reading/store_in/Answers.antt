@@ -1,7 +1,7 @@
 use Rattle.std.proofs.Common.{map}
 use Rattle.row_store.specs.Rows.{entry_of}
-use Rattle.replica_rows.specs.Reading.{said, IsStore, IsUnversioned, AreAllRowsOf}
-use Rattle.replica_rows.proofs.Told.{made_by, refused_by, made_rows, made_store, made_unversioned}
+use Rattle.replica_rows.specs.Reading.{said, IsStore, AreAllRowsOf}
+use Rattle.replica_rows.proofs.Told.{made_by, refused_by, made_rows, made_store}
 use Rattle.replica_rows.proofs.reading.store_in.Goals as goal
 
 pub returns-clause-ok : goal.returns-clause-ok
@@ -9,9 +9,6 @@ returns-clause-ok c = made_by c.store_of.result (AreAllRowsOf c.args.rows.now) (
 
 pub returns-clause-store : goal.returns-clause-store
 returns-clause-store c = made_by c.store_of.result IsStore (said c.in_ok-parts.parts) c.store_of.ensures.ok (λ seen. made_store (said c.in_ok-parts.parts) seen c.in_ok-parts.ensures.ok.sound)
-
-pub returns-clause-unversioned : goal.returns-clause-unversioned
-returns-clause-unversioned c = made_by c.store_of.result IsUnversioned (said c.in_ok-parts.parts) c.store_of.ensures.ok (λ seen. made_unversioned (said c.in_ok-parts.parts) seen c.in_ok-parts.ensures.ok.sound)
 
 pub returns-clause-bad : goal.returns-clause-bad
 returns-clause-bad c = refused_by c.store_of.result c.args.rows.now (said c.in_ok-parts.parts) c.store_of.ensures.bad c.in_ok-parts.ensures.ok

@@ -1,6 +1,7 @@
 //! What other nodes of a cluster of three get of one message.
 
-use crate::tests::{filter, message, subscriptions, text};
+use crate::copies::{message, subscriptions};
+use crate::values::{filter, text};
 use bridge_frames::Pick;
 use message_copies::{CopiesAndPicks, copies_and_picks};
 use message_routes::{Destinations, Route, picked_copies};

@@ -6,7 +6,7 @@ use std::alloc::Global;
 use std::process::Abort;
 
 /// What frames say, and their bytes in hexadecimal.
-const FRAMES: [(&str, &str); 12] = [
+const FRAMES: [(&str, &str); 13] = [
     ("Hello", "00000005 01 0000 0001"),
     ("a Know of no dot", "00000009 03 0001 0000 00000000"),
     (
@@ -19,29 +19,35 @@ const FRAMES: [(&str, &str); 12] = [
     ),
     (
         "a Delta of the message on to t with RETAIN, by a, as (1, 1)",
-        "00000045 02 0001 0000 00000001 0001 0000000000000001 0000000000000001 00000000 00000000 00000001 \
+        "00000045 06 0001 0000 00000001 0001 0000000000000001 0000000000000001 00000000 00000000 00000001 \
          0001 74 0000000000000001 0001 01 0001 74 00000002 6f6e 00 00 01 0001 61 00",
     ),
     (
         "a Delta of no message to t, as (1, 1)",
-        "00000035 02 0001 0000 00000001 0001 0000000000000001 0000000000000001 00000000 00000000 00000001 \
+        "00000035 06 0001 0000 00000001 0001 0000000000000001 0000000000000001 00000000 00000000 00000001 \
          0001 74 0000000000000001 0001 00",
     ),
     (
         "a Delta of a subscription of b to t with QoS 1, as (0, 1)",
-        "0000004e 02 0000 0001 00000001 0000 0000000000000001 0000000000000001 \
+        "00000052 06 0000 0001 00000001 0000 0000000000000001 0000000000000001 \
          00000001 0000 0000000000000001 0000000000000001 \
-         00000001 0000 0000000000000001 0001 62 0001 74 01 00000000 00000000",
+         00000001 0000 0000000000000001 0001 62 0001 74 01 00000000 00000000 00000000",
     ),
     (
         "a Delta of a subscription of a to t in place of an older one, as (1, 2)",
-        "0000004e 02 0001 0000 00000001 0001 0000000000000001 0000000000000002 \
+        "00000052 06 0001 0000 00000001 0001 0000000000000001 0000000000000002 \
          00000001 0001 0000000000000001 0000000000000002 \
-         00000001 0001 0000000000000002 0001 61 0001 74 00 00000000 00000000",
+         00000001 0001 0000000000000002 0001 61 0001 74 00 00000000 00000000 00000000",
+    ),
+    (
+        "a Delta of a subscription of a to t under the last version of the table of homes, as (1, 1)",
+        "00000052 06 0001 0000 00000001 0001 0000000000000001 0000000000000001 \
+         00000001 0001 0000000000000001 0000000000000001 \
+         00000001 0001 0000000000000001 0001 61 0001 74 00 00000000 ffffffff 00000000",
     ),
     (
         "a Delta of a subscription, as (1, 1), that was removed, as (0, 1)",
-        "0000004b 02 0000 0001 00000002 0000 0000000000000001 0000000000000001 0001 0000000000000001 0000000000000001 \
+        "0000004b 06 0000 0001 00000002 0000 0000000000000001 0000000000000001 0001 0000000000000001 0000000000000001 \
          00000001 0001 0000000000000001 0000000000000001 00000000 00000000",
     ),
     (
@@ -76,6 +82,18 @@ fn is_written(rt: &impl Abort, alloc: Global, frame: BridgeFrame, bytes: &[u8]) 
 fn is_read(rt: &impl Abort, alloc: Global, bytes: &[u8]) -> Result<bool, LinkFault> {
     let frame = BridgeFrame::read(alloc, bytes)?;
     Ok(is_written(rt, alloc, frame, bytes))
+}
+
+// A Delta of no message to t, as (1, 1), under the kind that Deltas without versions had.
+const UNVERSIONED: &str =
+    "00000035 02 0001 0000 00000001 0001 0000000000000001 0000000000000001 00000000 00000000 00000001 \
+     0001 74 0000000000000001 0001 00";
+
+#[test]
+fn kind_2_is_no_frame(rt: HostRuntime) {
+    let alloc = rt.alloc();
+    let bytes = bytes_of(&rt, alloc, UNVERSIONED);
+    assert_eq!(rt; is_read(&rt, alloc, &bytes), Err(LinkFault::BadFrame));
 }
 
 // Whether a frame is none while bytes lack, and tells its length by its first four.

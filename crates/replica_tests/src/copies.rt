@@ -1,10 +1,10 @@
 //! What each client of the subscriptions gets of one message.
 
+use crate::values::{filter, text};
 use causal_context::{Context, Dot};
 use message_copies::{CopiesAndPicks, copies, copies_and_picks, offer_of};
-use mqtt_fields::{Qos, SubscriptionOptions, Text};
+use mqtt_fields::{Qos, SubscriptionOptions};
 use mqtt_message::{Delivery, Identifiers, Message, SharedMessage};
-use mqtt_topics::Filter;
 use std::alloc::Global;
 use std::process::Abort;
 use subscription_set::{Entry, SubscriptionSet};
@@ -32,15 +32,6 @@ const SUBSCRIPTIONS: [Row; 12] = [
     ("p", "$share/g/#", 0x00, 0),
     ("d", "$share/g/t", 0x00, 0),
 ];
-
-pub fn text(rt: &impl Abort, alloc: Global, text: &str) -> Text {
-    Text::new(alloc, text).expect(rt, "a text")
-}
-
-pub fn filter(rt: &impl Abort, alloc: Global, to: &str) -> Filter {
-    let text = text(rt, alloc, to);
-    Filter::parse(alloc, text.as_str()).expect(rt, "a filter")
-}
 
 fn entry(rt: &impl Abort, alloc: Global, row: &Row) -> Entry {
     let (client, to, options, identifier) = *row;

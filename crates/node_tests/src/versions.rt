@@ -1,0 +1,166 @@
+//! Rows of node 1 in version 1, in version 2, and in none.
+
+use crate::refusing::RefusingRows;
+use node_keeper::{Keeper, KeeperFault};
+use numbered_homes::homes_of;
+use row_store::{Change, MemoryRows, Row, RowFault, RowStore};
+use std::alloc::Global;
+use std::process::Abort;
+
+/// A row: its kind, owner, place and value.
+type Plain = (u8, &'static [u8], &'static [u8], &'static [u8]);
+
+/// The mark in version 1 and in version 2: the node, and that it has given no identifier.
+const FIRST_MARK: &[u8] = b"\0\x01\0\x01\0\0\0\0\0\0\0\0";
+
+const SECOND_MARK: &[u8] = b"\0\x02\0\x01\0\0\0\0\0\0\0\0";
+
+/// A subscription to `t` with options 0 and no identifier: in version 1, in version 2 under version 0 of the table of homes, and
+/// under the last one.
+const FIRST_VALUE: &[u8] = b"\0\x01t\0\0\0\0\0";
+
+const SECOND_VALUE: &[u8] = b"\0\x01t\0\0\0\0\0\0\0\0\0";
+
+const LAST_VALUE: &[u8] = b"\0\x01t\0\0\0\0\0\xff\xff\xff\xff";
+
+/// The dot (1, 1), and the set of it.
+const DOT: &[u8] = b"\0\x01\0\0\0\0\0\0\0\x01";
+
+const DOTS: &[u8] = b"\0\0\0\x01\0\x01\0\0\0\0\0\0\0\x01\0\0\0\0\0\0\0\x01";
+
+/// The rows of a node with one subscription, of `a`.
+fn rows_with(mark: &'static [u8], subscription: &'static [u8]) -> [Plain; 4] {
+    [
+        (1, b"", b"", mark),
+        (4, b"a", DOT, subscription),
+        (6, b"", b"\x01", DOTS),
+        (6, b"", b"\x02", DOTS),
+    ]
+}
+
+fn row(rt: &impl Abort, alloc: Global, plain: &Plain) -> Row {
+    let (kind, owner, place, value) = *plain;
+    Row {
+        kind,
+        owner: Vec::from_slice(alloc, owner).expect(rt, "memory"),
+        place: Vec::from_slice(alloc, place).expect(rt, "memory"),
+        value: Vec::from_slice(alloc, value).expect(rt, "memory"),
+    }
+}
+
+/// A store of these rows, of whose calls the one of this number is refused, counted from 1.
+fn store(rt: &impl Abort, alloc: Global, rows: &[Plain], refused: u64) -> RefusingRows {
+    let mut changes = Vec::new(alloc);
+    for plain in rows {
+        let put = Change::Put(row(rt, alloc, plain));
+        changes.push(put).expect(rt, "memory");
+    }
+    let mut store = MemoryRows::new(alloc);
+    store.apply(&changes).ok().expect(rt, "memory");
+    drop(changes);
+    RefusingRows::new(store, refused)
+}
+
+fn is_row(row: &Row, plain: &Plain) -> bool {
+    row.kind == plain.0
+        && row.owner.as_slice() == plain.1
+        && row.place.as_slice() == plain.2
+        && row.value.as_slice() == plain.3
+}
+
+fn are_rows(rows: &[Row], plain: &[Plain]) -> bool {
+    for (row, plain) in rows.iter().zip(plain) {
+        if !is_row(row, plain) {
+            return false;
+        }
+    }
+    rows.len() == plain.len()
+}
+
+/// Whether a store has just these rows.
+fn has(rt: &impl Abort, store: &mut RefusingRows, plain: &[Plain]) -> bool {
+    let rows = store.load().ok().expect(rt, "rows");
+    let has = are_rows(&rows, plain);
+    drop(rows);
+    has
+}
+
+/// Opens node 1 from the store: how many subscriptions stand, or the fault; and the store.
+fn opened(
+    rt: &impl Abort,
+    alloc: Global,
+    store: RefusingRows,
+) -> (Result<usize, KeeperFault>, RefusingRows) {
+    let homes = homes_of(alloc, 2).expect(rt, "a table");
+    match Keeper::open(alloc, store, homes, 1) {
+        Ok(keeper) => {
+            let stand = keeper.node().store().subscriptions().live_count();
+            (Ok(stand), keeper.into_rows())
+        }
+        Err((fault, store)) => (Err(fault), store),
+    }
+}
+
+#[test]
+fn rows_of_version_1_are_written_as_version_2(rt: HostRuntime) {
+    let alloc = rt.alloc();
+    let rows = rows_with(FIRST_MARK, FIRST_VALUE);
+    let raised = rows_with(SECOND_MARK, SECOND_VALUE);
+    let (found, mut store) = opened(&rt, alloc, store(&rt, alloc, &rows, 0));
+    assert!(rt; found == Ok(1));
+    assert_eq!(rt; store.writes(), 1);
+    assert!(rt; has(&rt, &mut store, &raised));
+    let (found, mut store) = opened(&rt, alloc, store);
+    assert!(rt; found == Ok(1));
+    assert_eq!(rt; store.writes(), 1);
+    assert!(rt; has(&rt, &mut store, &raised));
+    drop(store);
+}
+
+#[test]
+fn rows_of_version_2_are_left_as_they_are(rt: HostRuntime) {
+    let alloc = rt.alloc();
+    for value in [SECOND_VALUE, LAST_VALUE] {
+        let rows = rows_with(SECOND_MARK, value);
+        let (found, mut store) = opened(&rt, alloc, store(&rt, alloc, &rows, 0));
+        assert!(rt; found == Ok(1));
+        assert_eq!(rt; store.writes(), 0);
+        assert!(rt; has(&rt, &mut store, &rows));
+        drop(store);
+    }
+}
+
+#[test]
+fn rows_of_no_version_are_bad(rt: HostRuntime) {
+    let alloc = rt.alloc();
+    for (mark, value) in [
+        (b"\0\0\0\x01\0\0\0\0\0\0\0\0".as_slice(), FIRST_VALUE),
+        (b"\0\x03\0\x01\0\0\0\0\0\0\0\0".as_slice(), SECOND_VALUE),
+        (b"\0\x01\0\0\0\0\0\0\0\0\0\0".as_slice(), FIRST_VALUE),
+        (FIRST_MARK, SECOND_VALUE),
+        (SECOND_MARK, FIRST_VALUE),
+    ] {
+        let rows = rows_with(mark, value);
+        let (found, mut store) = opened(&rt, alloc, store(&rt, alloc, &rows, 0));
+        assert!(rt; found == Err(KeeperFault::Rows(RowFault::BadRow)));
+        assert_eq!(rt; store.writes(), 0);
+        assert!(rt; has(&rt, &mut store, &rows));
+        drop(store);
+    }
+}
+
+#[test]
+fn a_refused_call_leaves_version_1(rt: HostRuntime) {
+    let alloc = rt.alloc();
+    let rows = rows_with(FIRST_MARK, FIRST_VALUE);
+    // The rows are loaded, and then raised.
+    for refused in 1..3 {
+        let (found, mut store) = opened(&rt, alloc, store(&rt, alloc, &rows, refused));
+        assert!(rt; found == Err(KeeperFault::Rows(RowFault::Device)));
+        assert!(rt; has(&rt, &mut store, &rows));
+        let (found, mut store) = opened(&rt, alloc, store);
+        assert!(rt; found == Ok(1));
+        assert!(rt; has(&rt, &mut store, &rows_with(SECOND_MARK, SECOND_VALUE)));
+        drop(store);
+    }
+}
