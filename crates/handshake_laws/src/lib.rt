@@ -10,5 +10,3 @@ pub mod order;
 pub mod quota;
 pub mod releases;
 pub mod resends;
-#[cfg(test)]
-mod tests;

@@ -1,53 +1,9 @@
-//! Plays the script on standard input to a session: each line has a call and, after `=>`, what it comes to. Lines that begin
-//! with `//` and empty lines are skipped. Each line that comes to something else is printed as it is, and then how many calls
-//! there were.
+//! Worked examples of what a broker holds of its clients: their sessions, the exchanges of these, and their table, in a crate of
+//! their own so that the crates below are proved once.
 #![tactic(auto)]
 
-mod call;
-mod rows;
-mod stop;
-mod told;
+#[cfg(test)]
+mod tests;
 
-use crate::call::{answered, fresh};
-use crate::stop::Stop;
-use mqtt_sessions::Session;
-use std::process::ExitCode;
-
-fn play_to(rt: &HostRuntime, session: &mut Session) -> Result<u64, Stop> {
-    let alloc = rt.alloc();
-    let mut calls: u64 = 0;
-    for line in rt.lines(alloc) {
-        let line = line?;
-        let Some((call, wanted)) = line.as_str().split_once("=>") else {
-            continue;
-        };
-        if call.starts_with("//") {
-            continue;
-        }
-        calls = calls.saturating_add(1);
-        let text = answered(alloc, session, call)?;
-        if text.as_str() != wanted {
-            println!(rt; "{call}=>{text}")?;
-        }
-    }
-    Ok(calls)
-}
-
-fn play(rt: &HostRuntime) -> Result<u64, Stop> {
-    let mut session = fresh(rt.alloc(), "a")?;
-    let calls = play_to(rt, &mut session);
-    drop(session);
-    calls
-}
-
-fn main(rt: HostRuntime) -> ExitCode {
-    let told = match play(&rt) {
-        Ok(calls) => println!(rt; "{calls} calls").is_ok(),
-        Err(stop) => rt.eprintln(stop.text()).is_err(),
-    };
-    if told {
-        ExitCode::SUCCESS
-    } else {
-        ExitCode::from(1)
-    }
-}
+/// Does nothing: the examples are the tests.
+fn main() {}

@@ -3,7 +3,5 @@
 
 mod bits;
 mod slots;
-#[cfg(test)]
-mod tests;
 
 pub use slots::Slots;
