@@ -1,7 +1,7 @@
 use Rattle.std.proofs.Common.{refl, arith}
 use Rattle.sqlite.specs.Held.{state}
-use Rattle.session_records.proofs.Effects.{put_goes, keeps_run}
-use Rattle.session_records.proofs.statements.put_row.Goals as goal
+use Rattle.session_records.proofs.Effects.{put_goes, keeps_run, stays_run}
+use Rattle.session_records.proofs.statements.insert_row.Goals as goal
 
 pub returns-clause-goes : goal.returns-clause-goes
 returns-clause-goes g c clean is =
@@ -9,3 +9,6 @@ returns-clause-goes g c clean is =
 
 pub returns-clause-kept : goal.returns-clause-kept
 returns-clause-kept g c clean = keeps_run g.S.Store c.args.tx.now.conn.now c.execute.new.self.conn.now _ _ c.execute.result c.args.tx.now.conn.now.in_transaction refl (λ was. (c.execute.ensures.ended was).1) (λ was. c.execute.ensures.runs clean was)
+
+pub returns-clause-refused : goal.returns-clause-refused
+returns-clause-refused g c clean = stays_run g.S.Store c.args.tx.now.conn.now c.execute.new.self.conn.now _ _ c.execute.result c.args.tx.now.conn.now.in_transaction refl (λ was. (c.execute.ensures.ended was).1) (λ was. c.execute.ensures.runs clean was)
