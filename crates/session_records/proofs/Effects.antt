@@ -1,5 +1,5 @@
 -- What the statements do to the content.
-use Rattle.std.proofs.Common.{◌≡◌, ◌≢◌, ◌⊎◌, inl, inr, ℕ, ℤ, ◌<◌, pos, List, [], ◌∷◌, Bool, true, false, not, cond, Some, None, Ok, Err, Result, OnOk, IfErr, OnErr, refl, sym, ap, subst, ◌∙◌, true≢false}
+use Rattle.std.proofs.Common.{◌≡◌, ◌⊎◌, inl, inr, ℕ, ◌<◌, pos, List, [], ◌∷◌, Bool, true, false, not, cond, Some, None, Ok, Err, Result, OnOk, IfErr, OnErr, refl, sym, ap, subst, ◌∙◌}
 use Rattle.std.proofs.lemmas.Bool.{and_parts, not-true}
 use Rattle.std.specs.FinMap.{get, insert, remove}
 use Rattle.sqlite.specs.declared.types.Value.{Value}
@@ -44,7 +44,7 @@ use Rattle.session_records.specs.Table.{rows_table, rows_schema}
 use Rattle.session_records.proofs.Means.{erase_text, erase_is, erase_plain, hits, tests, put_text, put_is, put_plain, terms}
 use Rattle.session_records.proofs.Lists.{given_key, hit, erased, taken_out, rows_left, rows_put, put_in}
 use Rattle.session_records.proofs.Unique.{stored, free_key}
-use Rattle.session_records.specs.Connections.{GoesOn, HasUpdated, StaysOrEnds}
+use Rattle.session_records.specs.Connections.{GoesOn, StaysOrEnds}
 use Rattle.row_store.specs.Rows.{key_cmp, Key, Content}
 use Rattle.session_records.specs.Stored.{content_in, AreRows, IsFormed, held}
 
@@ -197,18 +197,6 @@ pub begun_of : (b : Bool) (r : Result ℕ Error) → (b ≡ false → (e : Error
 begun_of b (Err e) ended = tt
 begun_of true (Ok count) ended = refl
 begun_of false (Ok count) ended = absurd (let e = (ended refl).1 in cc)
-
-pub after_refusal : (old mid new : State) (key : Key) (value : List ℕ) (count : ℕ) → StaysOrEnds old mid → IsTrue mid.in_transaction → IsFormed old.now → (IsFormed mid.now → HasUpdated mid new key value count) → count ≢ 0
-    → GoesOn old new (insert (held old.now) key value)
-after_refusal old mid new key value count (inr ended) begun is did found = absurd (true≢false (sym begun ∙ ended))
-after_refusal old mid new key value count (inl same) begun is did found =
-    let here = same.0.now_is in
-    let on = (did (subst IsFormed (sym here) is)).some found in
-    record {
-      formed = on.formed;
-      holds = on.holds ∙ ap (λ d. insert (held d) key value) here;
-      shown = record { was_open = same.0.was_open; is_open = on.shown.is_open; now_is = refl; committed_is = on.shown.committed_is ∙ same.0.committed_is; mode = on.shown.mode };
-    }
 
 -- ---- a change is one or two statements
 

@@ -1,6 +1,6 @@
 -- At most one row is at a key, and where one is, no other row can be put in at it.
 use Rattle.std.proofs.Common.{◌≡◌, ◌≢◌, ◌⊎◌, inl, inr, ℕ, ℤ, pos, List, [], ◌∷◌, filter, Bool, true, false, not, ◌&&◌, cond, Some, None, Ordering, Less, Equal, Greater, refl, sym, ap, subst, ◌∙◌, true≢false}
-use Rattle.std.specs.List.{AllByRecursion, list_any}
+use Rattle.std.specs.List.{AllByRecursion}
 use Rattle.std.specs.Ordering.{is_eq, is_ne, eq_by_cmp}
 use Rattle.std.specs.FinMap.{get, get-from_entries}
 use Rattle.std.proofs.lemmas.Bool.{cases_Bool, not-true, or_parts}
@@ -17,7 +17,7 @@ use Rattle.sqlite_rules.proofs.ListLemmas.{test_has}
 use Rattle.sqlite_rules.proofs.RuleLemmas.{keeps_at}
 use Rattle.row_store.specs.Rows.{Key, key_cmp}
 use Rattle.row_store.proofs.Keys.{keys_total, exact_keys, equal_is}
-use Rattle.session_records.specs.Stored.{IsFormedRow, IsStored, AreRows, content_in, key_in}
+use Rattle.session_records.specs.Stored.{IsFormedRow, AreRows, content_in, key_in}
 use Rattle.session_records.specs.Table.{rows_table, rows_index, rows_schema, listed_schema}
 use Rattle.session_records.proofs.Means.{schema_is}
 use Rattle.session_records.proofs.Lists.{hit, test_is, each, any_has, Found, Put}
