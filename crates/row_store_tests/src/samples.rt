@@ -4,12 +4,21 @@ use row_store::{Change, Row, RowFault, RowStore};
 use std::alloc::Global;
 use std::process::Abort;
 
-/// A kind, an owner and the one byte of a value, or no value where the row is removed. The place is empty.
+/// A kind, an owner and the one byte of a value, or no value where the row is removed. The place is a number in
+/// kind 3, and else empty.
 pub type Sample = (u8, &'static str, Option<u8>);
+
+fn place_of(kind: u8) -> &'static [u8] {
+    if kind == 3 {
+        b"\x00\x00\x00\x00\x00\x00\x00\x01"
+    } else {
+        b""
+    }
+}
 
 fn change(rt: &impl Abort, alloc: Global, sample: &Sample) -> Change {
     let owner = Vec::from_slice(alloc, sample.1.as_bytes()).expect(rt, "memory");
-    let place = Vec::new(alloc);
+    let place = Vec::from_slice(alloc, place_of(sample.0)).expect(rt, "memory");
     match sample.2 {
         Some(value) => {
             let value = Vec::from_slice(alloc, &[value]).expect(rt, "memory");
@@ -43,7 +52,7 @@ fn is(row: &Row, sample: &Sample) -> bool {
     };
     row.kind == sample.0
         && row.owner.as_slice() == sample.1.as_bytes()
-        && row.place.is_empty()
+        && row.place.as_slice() == place_of(row.kind)
         && has_value
 }
 
@@ -53,7 +62,7 @@ fn is_change(change: &Change, sample: &Sample) -> bool {
         Change::Remove(kind, owner, place) => {
             *kind == sample.0
                 && owner.as_slice() == sample.1.as_bytes()
-                && place.is_empty()
+                && place.as_slice() == place_of(*kind)
                 && sample.2.is_none()
         }
     }

@@ -12,14 +12,68 @@ use std::process::Abort;
 // Put (5, `t`, empty) with 01 and then with 02, and remove (2, `a`, empty).
 const CHANGES: [Sample; 3] = [(5, "t", Some(1)), (5, "t", Some(2)), (2, "a", None)];
 
-// Whether the example leaves its one row, and the row goes by a removal.
+// Changes, and the rows after them: rows with a number as their place and without are put where none is, where one
+// stands from before, where one was put just now, and where one was removed just now.
+const PUTS: [(&[Sample], &[Sample]); 4] = [
+    (
+        &[(3, "n", Some(1)), (5, "t", Some(1))],
+        &[(3, "n", Some(1)), (5, "t", Some(1))],
+    ),
+    (
+        &[(2, "a", Some(1)), (3, "n", Some(2)), (5, "t", Some(2))],
+        &[(2, "a", Some(1)), (3, "n", Some(2)), (5, "t", Some(2))],
+    ),
+    (
+        &[
+            (3, "m", Some(1)),
+            (3, "m", Some(2)),
+            (3, "n", Some(3)),
+            (3, "n", Some(4)),
+            (5, "s", Some(1)),
+            (5, "s", Some(2)),
+        ],
+        &[
+            (2, "a", Some(1)),
+            (3, "m", Some(2)),
+            (3, "n", Some(4)),
+            (5, "s", Some(2)),
+            (5, "t", Some(2)),
+        ],
+    ),
+    (
+        &[
+            (3, "m", None),
+            (3, "m", Some(5)),
+            (3, "n", None),
+            (2, "a", None),
+            (2, "a", Some(5)),
+            (5, "s", None),
+            (5, "t", None),
+        ],
+        &[(2, "a", Some(5)), (3, "m", Some(5))],
+    ),
+];
+
+// Whether each of these leaves its rows.
+fn are_put<R: RowStore>(rt: &impl Abort, alloc: Global, rows: &mut R) -> bool {
+    for (changes, after) in PUTS {
+        apply(rt, alloc, rows, changes).expect(rt, "puts");
+        if !holds(rows, after).expect(rt, "rows") {
+            return false;
+        }
+    }
+    true
+}
+
+// Whether the example leaves its one row, the row goes by a removal, and rows are put.
 fn is_worked<R: RowStore>(rt: &impl Abort, alloc: Global, rows: &mut R) -> bool {
     apply(rt, alloc, rows, &[]).expect(rt, "no changes");
     apply(rt, alloc, rows, &CHANGES).expect(rt, "changes");
     let one = holds(rows, &[(5, "t", Some(2))]).expect(rt, "a row");
     apply(rt, alloc, rows, &[(5, "t", None)]).expect(rt, "a removal");
     let none = holds(rows, &[]).expect(rt, "no row");
-    one && none && rows.failures() == 0
+    let put = are_put(rt, alloc, rows);
+    one && none && put && rows.failures() == 0
 }
 
 #[test]

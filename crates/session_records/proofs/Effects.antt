@@ -1,5 +1,5 @@
 -- What the statements do to the content.
-use Rattle.std.proofs.Common.{◌≡◌, ◌⊎◌, inl, inr, ℕ, ℤ, ◌<◌, pos, List, [], ◌∷◌, Bool, true, false, not, cond, Some, None, Ok, Err, Result, OnOk, IfErr, OnErr, refl, sym, ap, subst, ◌∙◌}
+use Rattle.std.proofs.Common.{◌≡◌, ◌⊎◌, inl, inr, ℕ, ◌<◌, pos, List, [], ◌∷◌, Bool, true, false, not, cond, Some, None, Ok, Err, Result, OnOk, IfErr, OnErr, refl, sym, ap, subst, ◌∙◌}
 use Rattle.std.proofs.lemmas.Bool.{and_parts, not-true}
 use Rattle.std.specs.FinMap.{get, insert, remove}
 use Rattle.sqlite.specs.declared.types.Value.{Value}
@@ -43,7 +43,8 @@ use Rattle.sqlite_rules.proofs.ProbeLemmas.{found_rowids}
 use Rattle.session_records.specs.Table.{rows_table, rows_schema}
 use Rattle.session_records.proofs.Means.{erase_text, erase_is, erase_plain, hits, tests, put_text, put_is, put_plain, terms}
 use Rattle.session_records.proofs.Lists.{given_key, hit, erased, taken_out, rows_left, rows_put, put_in}
-use Rattle.session_records.specs.Connections.{GoesOn}
+use Rattle.session_records.proofs.Unique.{stored, free_key}
+use Rattle.session_records.specs.Connections.{GoesOn, StaysOrEnds}
 use Rattle.row_store.specs.Rows.{key_cmp, Key, Content}
 use Rattle.session_records.specs.Stored.{content_in, AreRows, IsFormed, held}
 
@@ -97,17 +98,13 @@ cast_null = either _ Null
 
 -- ---- putting in
 
--- a row as the table has it
-abbrev pub stored : ℤ → Key → List ℕ → Row
-stored id key value = Int id ∷ Int (pos key.0) ∷ Blob key.1.0 ∷ Blob key.1.1 ∷ Blob value ∷ []
-
 abbrev pub given_row : Key → List ℕ → Row
 given_row key value = Int (pos key.0) ∷ Blob key.1.0 ∷ Blob key.1.1 ∷ Blob value ∷ []
 
-pub puts : (old new : State) (key : Key) (value : List ℕ) (r : Result ℕ Error) → key.0 < 256 → IsFormed old.now → get (held old.now) key ≡ None → Executes put_text (given_row key value) old new r
+pub puts : (old new : State) (key : Key) (value : List ℕ) (r : Result ℕ Error) → key.0 < 256 → IsFormed old.now → Executes put_text (given_row key value) old new r
     → OnOk r (Changes old.now new.now (insert (held old.now) key value))
-puts old new key value (Err e) byte is none h = tt
-puts old new key value (Ok count) byte is none h =
+puts old new key value (Err e) byte is h = tt
+puts old new key value (Ok count) byte is h =
     let params = given_row key value in
     let db = old.now.trees in
     let command = Insert 0 (Values terms 5) in
@@ -124,6 +121,7 @@ puts old new key value (Ok count) byte is none h =
     let news : (edit_of db rows_table [] Chosen 0 given.0).news ≡ new_row ∷ [] = ap (λ all. (edit_of db rows_table [] Chosen 0 all).news) given.1.1 ∙ rw (cast_null, cast_int key.0) refl in
     let free : is_taken (db 0) new_row ≡ false = not-true _ (and_parts _ _ (subst (λ all. are_fresh (db 0) all ≡ true) news step.fresh)).0 in
     let rows : written.0 0 ≡ put_row new_row (db 0) = step.rows ∙ ap (put_all (db 0)) news in
+    let none : get (held old.now) key ≡ None = free_key (db 0) written.0 (next_rowid (db 0)) key value is.rows free rows step.fits in
     let whole = ap (λ (d : Database). d.trees 0) now ∙ ap (λ (t : Trees). t 0) trees ∙ rows in
     (record { schema = ap (λ (d : Database). d.schema) now; rows = subst AreRows (sym whole) (rows_put new_row (db 0) free none (next_rowid (db 0), key, value, record { id_is = refl; kind = refl; owner = refl; place = refl; value_is = refl; byte = byte }) is.rows) }, ap content_in whole ∙ put_in new_row (db 0) free none)
 
@@ -145,16 +143,16 @@ pub erase_goes : (old new : State) (key : Key) (r : Result ℕ Error) → (old.i
     → OnOk r (GoesOn old new (remove (held old.now) key))
 erase_goes old new key r = erases_inside old new key r old.in_transaction refl
 
-puts_inside : (old new : State) (key : Key) (value : List ℕ) (r : Result ℕ Error) (b : Bool) → key.0 < 256 → old.in_transaction ≡ b → (old.in_transaction ≡ false → Refused old new r) → (IsTrue old.in_transaction → ExecutesInside 0 put_text (given_row key value) old new r) → IsFormed old.now → get (held old.now) key ≡ None
+puts_inside : (old new : State) (key : Key) (value : List ℕ) (r : Result ℕ Error) (b : Bool) → key.0 < 256 → old.in_transaction ≡ b → (old.in_transaction ≡ false → Refused old new r) → (IsTrue old.in_transaction → ExecutesInside 0 put_text (given_row key value) old new r) → IsFormed old.now
     → OnOk r (GoesOn old new (insert (held old.now) key value))
-puts_inside old new key value (Err e) b byte was ended runs is none = tt
-puts_inside old new key value (Ok count) false byte was ended runs is none = absurd (let e = (ended was).1 in cc)
-puts_inside old new key value (Ok count) true byte was ended runs is none =
+puts_inside old new key value (Err e) b byte was ended runs is = tt
+puts_inside old new key value (Ok count) false byte was ended runs is = absurd (let e = (ended was).1 in cc)
+puts_inside old new key value (Ok count) true byte was ended runs is =
     let ran = runs was in
-    let did = puts old new key value (Ok count) byte is none ran.0 in
+    let did = puts old new key value (Ok count) byte is ran.0 in
     record { formed = did.0; holds = did.1; shown = ran.1 }
 
-pub put_goes : (old new : State) (key : Key) (value : List ℕ) (r : Result ℕ Error) → key.0 < 256 → (old.in_transaction ≡ false → Refused old new r) → (IsTrue old.in_transaction → ExecutesInside 0 put_text (given_row key value) old new r) → IsFormed old.now → get (held old.now) key ≡ None
+pub put_goes : (old new : State) (key : Key) (value : List ℕ) (r : Result ℕ Error) → key.0 < 256 → (old.in_transaction ≡ false → Refused old new r) → (IsTrue old.in_transaction → ExecutesInside 0 put_text (given_row key value) old new r) → IsFormed old.now
     → OnOk r (GoesOn old new (insert (held old.now) key value))
 put_goes old new key value r byte = puts_inside old new key value r old.in_transaction byte refl
 
@@ -181,6 +179,24 @@ keeps_then a b c one two = record { was_open = λ up. one.was_open (two.was_open
 pub keeps_run : {S : Type 0} (g : Ghosts S) (old new : Held S) (sql : List ℕ) (params : Row) (r : Result ℕ Error) (b : Bool) → old.in_transaction ≡ b → (old.in_transaction ≡ false → new ≡ old) → (IsTrue old.in_transaction → ExecutesInside 0 sql params (state g old) (state g new) r) → KeepsCommit (state g old) (state g new)
 keeps_run g old new sql params r true was ended runs = keeps_inside (state g old) (state g new) sql params r (runs was)
 keeps_run g old new sql params r false was ended runs = subst (λ h. KeepsCommit (state g old) (state g h)) (sym (ended was)) (keeps_same (state g old))
+
+-- ---- what a refusal leaves
+
+stays_inside : (old new : State) (sql : List ℕ) (params : Row) (r : Result ℕ Error) → ExecutesInside 0 sql params old new r → OnErr r (StaysOrEnds old new)
+stays_inside old new sql params (Ok count) h = tt
+stays_inside old new sql params (Err e) (inl (_, inl same)) = inl same
+stays_inside old new sql params (Err e) (inl (_, inr undone)) = inr undone.autocommit
+stays_inside old new sql params (Err e) (inr (_, _, same)) = inl same
+
+pub stays_run : {S : Type 0} (g : Ghosts S) (old new : Held S) (sql : List ℕ) (params : Row) (r : Result ℕ Error) (b : Bool) → old.in_transaction ≡ b → (old.in_transaction ≡ false → new ≡ old) → (IsTrue old.in_transaction → ExecutesInside 0 sql params (state g old) (state g new) r) → OnErr r (StaysOrEnds (state g old) (state g new))
+stays_run g old new sql params r true was ended runs = stays_inside (state g old) (state g new) sql params r (runs was)
+stays_run g old new sql params (Ok count) false was ended runs = tt
+stays_run {S} g old new sql params (Err e) false was ended runs = inr (ap (λ (h : Held S). h.in_transaction) (ended was) ∙ was)
+
+pub begun_of : (b : Bool) (r : Result ℕ Error) → (b ≡ false → (e : Error) × (r ≡ Err e)) → OnOk r (IsTrue b)
+begun_of b (Err e) ended = tt
+begun_of true (Ok count) ended = refl
+begun_of false (Ok count) ended = absurd (let e = (ended refl).1 in cc)
 
 -- ---- a change is one or two statements
 

@@ -1,5 +1,6 @@
 pub mod Means
 pub mod Lists
+pub mod Unique
 pub mod Effects
 pub mod Updates
 pub mod Loads

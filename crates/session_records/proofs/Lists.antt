@@ -126,7 +126,7 @@ each P [] x all h = absurd h
 each P (y ∷ xs) x all (inl same) = subst P (sym same) all.0
 each P (y ∷ xs) x all (inr later) = each P xs x all.1 later
 
-any_has : {A : Type 0} (p : A → Bool) (xs : List A) (x : A) → Has xs x → p x ≡ true → list_any p xs ≡ true
+pub any_has : {A : Type 0} (p : A → Bool) (xs : List A) (x : A) → Has xs x → p x ≡ true → list_any p xs ≡ true
 any_has p [] x h is = absurd h
 any_has p (y ∷ xs) x (inl same) is = rw (← same, is) refl
 any_has p (y ∷ xs) x (inr later) is = rw (any_has p xs x later is) (or_true (p y))
@@ -195,7 +195,7 @@ rows_left p rows are = record {
 
 -- ---- putting in
 
-abbrev Put : Ordering → Row → Row → List Row → List Row
+abbrev pub Put : Ordering → Row → Row → List Row → List Row
 Put o new r rows = match_ordering o (r ∷ put_row new rows) (new ∷ rows) (new ∷ r ∷ rows)
 
 all_put : (P : Row → Type 0) (new : Row) (rows : List Row) → P new → AllByRecursion P rows → AllByRecursion P (put_row new rows)

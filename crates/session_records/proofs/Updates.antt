@@ -1,11 +1,10 @@
 -- What an update of the row at a key does to the content.
-use Rattle.std.proofs.Common.{◌≡◌, ◌≢◌, ◌⊎◌, inl, inr, ℕ, ℤ, ◌<◌, pos, List, [], ◌∷◌, ◌++◌, map, filter, flat_map, length, Bool, true, false, not, cond, unwrap_or, None, Ok, Err, Result, IfOk, IsTrue, arith, refl, sym, ap, subst, subst₂, ◌∙◌}
+use Rattle.std.proofs.Common.{◌≡◌, ◌≢◌, inl, inr, ℕ, ℤ, ◌<◌, pos, List, [], ◌∷◌, ◌++◌, map, filter, flat_map, length, Bool, true, false, not, cond, unwrap_or, None, Ok, Err, Result, IfOk, IsTrue, arith, refl, sym, ap, subst, subst₂, ◌∙◌}
 use Rattle.std.specs.Prelude.{if◌then◌else◌}
 use Rattle.std.specs.List.{AllByRecursion, list_all}
 use Rattle.std.specs.List.Sorted.{IsPermutation}
 use Rattle.std.proofs.lemmas.List.Sorted.{length_permutation}
-use Rattle.std.proofs.lemmas.Bool.{and_parts, cases_Bool, not-true}
-use Rattle.std.specs.Ordering.{eq_by_cmp}
+use Rattle.std.proofs.lemmas.Bool.{and_parts, not-true}
 use Rattle.std.specs.FinMap.{get, insert, get-from_entries}
 use Rattle.sqlite.specs.declared.types.Value.TheVariants.{Null, Int, Blob}
 use Rattle.sqlite.specs.Order.{Row}
@@ -23,7 +22,6 @@ use Rattle.sqlite.specs.Rowids.TheVariants.{Given}
 use Rattle.sqlite.specs.Does.{Tally, Does}
 use Rattle.sqlite.specs.Rows.{Written}
 use Rattle.sqlite.specs.Tree.{Trees, put_row, rowid}
-use Rattle.sqlite_trees.specs.Tree.{IsAscending}
 use Rattle.sqlite.specs.declared.error.Error.{Error}
 use Rattle.sqlite.specs.Listing.{understood}
 use Rattle.sqlite.specs.Effect.{Database}
@@ -34,50 +32,14 @@ use Rattle.sqlite_rules.specs.Lists.{Has}
 use Rattle.sqlite_rules.specs.Calls.{ids_of}
 use Rattle.sqlite_rules.specs.Probe.{AreFound}
 use Rattle.session_records.specs.Connections.{HasUpdated}
-use Rattle.row_store.specs.Rows.{Key, key_cmp}
+use Rattle.row_store.specs.Rows.{Key}
 use Rattle.session_records.specs.Stored.{IsStored, IsFormedRow, AreRows, IsFormed, content_in, held, key_in}
 use Rattle.session_records.specs.Table.{rows_table, rows_schema}
 use Rattle.session_records.proofs.Means.{tests, changed, update_text, update_is, update_plain}
 use Rattle.row_store.proofs.Keys.{keys_total, exact_keys, equal_is}
-use Rattle.session_records.proofs.Lists.{given_key, hit, test_is, erased, taken_out, rows_left, rows_put, put_in, each, Found}
-use Rattle.session_records.proofs.Effects.{given_row, stored, went, same_value, either, insert_over, absent, Refused}
-
--- ---- at most one row is at a key
-
-none_hit : (key : Key) (r : Row) (rows : List Row) → hit key r ≡ true → AllByRecursion (λ s. eq_by_cmp key_cmp (key_in r) (key_in s) ≡ false) rows → filter (hit key) rows ≡ []
-none_hit key r [] at off = refl
-none_hit key r (s ∷ rows) at off =
-    let here : hit key s ≡ false = ap (λ k. eq_by_cmp key_cmp k (key_in s)) (exact_keys key (key_in r) (equal_is _ at)) ∙ off.0 in
-    rw here (none_hit key r rows at off.1)
-
-abbrev pub OneHit : Key → List Row → Type 0
-OneHit key rows = (filter (hit key) rows ≡ []) ⊎ ((r : Row) × Has rows r × (hit key r ≡ true) × (filter (hit key) rows ≡ r ∷ []))
-
-pub one_hit : (key : Key) (rows : List Row) → IsAscending (λ a b. eq_by_cmp key_cmp (key_in a) (key_in b) ≡ false) rows → OneHit key rows
-one_hit key [] up = inl refl
-one_hit key (r ∷ rows) up = elim (cases_Bool (hit key r)) [
-  | inl at ↦ inr (r, inl refl, at, rw at (ap (λ xs. r ∷ xs) (none_hit key r rows at up.0)))
-  | inr off ↦ elim (one_hit key rows up.1) [
-    | inl none ↦ inl (rw off none)
-    | inr found ↦ inr (found.0, inr found.1, found.2, rw off found.3)
-  ]
-]
-
-has_filter : (key : Key) (rows : List Row) (s : Row) → Has rows s → hit key s ≡ true → Has (filter (hit key) rows) s
-has_filter key [] s h at = absurd h
-has_filter key (r ∷ rows) s (inl same) at = rw (← same, at) (inl refl)
-has_filter key (r ∷ rows) s (inr later) at = elim (hit key r) as (λ b. Has (cond {A = List Row} b (r ∷ filter (hit key) rows) (filter (hit key) rows)) s) [
-  | true ↦ inr (has_filter key rows s later at)
-  | false ↦ has_filter key rows s later at
-]
-
--- no row at the key
-pub none_found : (key : Key) (rows : List Row) → filter (hit key) rows ≡ [] → Found key rows ≡ None
-none_found key [] none = refl
-none_found key (r ∷ rows) none = elim (cases_Bool (hit key r)) [
-  | inl at ↦ absurd (let e = rw at at none in cc)
-  | inr off ↦ rw off (none_found key rows (rw off at none))
-]
+use Rattle.session_records.proofs.Lists.{given_key, hit, test_is, erased, taken_out, rows_left, rows_put, put_in, each}
+use Rattle.session_records.proofs.Unique.{stored, one_hit, has_filter, none_found}
+use Rattle.session_records.proofs.Effects.{given_row, went, same_value, either, insert_over, absent, Refused}
 
 -- ---- what the query of the update shows
 

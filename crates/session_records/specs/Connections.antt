@@ -1,9 +1,9 @@
 -- What a connection to a database of rows holds, and what the statements of a store of rows do to it.
-use Rattle.std.specs.Prelude.{◌≡◌, ◌≢◌, ◌⊎◌, ℕ, List, None, true, IsTrue}
+use Rattle.std.specs.Prelude.{◌≡◌, ◌≢◌, ◌⊎◌, ℕ, List, None, false, true, IsTrue}
 use Rattle.std.specs.FinMap.{empty, get, insert}
 use Rattle.sqlite_trees.specs.Tree.{Trees}
 use Rattle.sqlite.specs.Effect.{Database}
-use Rattle.sqlite.specs.State.{State, HasCleanDisk, Shows}
+use Rattle.sqlite.specs.State.{State, HasCleanDisk, IsUnchanged, Shows}
 use Rattle.row_store.specs.Rows.{Content, Key}
 use Rattle.session_records.specs.Stored.{AreRows, IsFormed, content_in, held}
 use Rattle.session_records.specs.Table.{no_schema}
@@ -26,6 +26,10 @@ pub record GoesOn (old new : State) (content : Content) : Type 0 where
 pub record HasUpdated (old new : State) (key : Key) (value : List ℕ) (count : ℕ) : Type 0 where
   pub none : count ≡ 0 → (get (held old.now) key ≡ None) × GoesOn old new (held old.now)
   pub some : count ≢ 0 → GoesOn old new (insert (held old.now) key value)
+
+-- what a statement that failed leaves inside a transaction: all as it was, or no transaction
+abbrev pub StaysOrEnds : State → State → Type 0
+StaysOrEnds old new = IsUnchanged old new ⊎ (new.in_transaction ≡ false)
 
 -- a transaction is under way
 pub record IsBegun (s : State) : Type 0 where

@@ -1,6 +1,6 @@
 //! The statements that a store of rows runs.
-ghost use Rattle.std.specs.Prelude.{◌≡◌, ◌≤◌, ◌↔◌, [], false, true, None, map, T, IsTrue, IfOk, OnOk, OnErr};
-ghost use Rattle.std.specs.FinMap.{empty, get, insert, remove, is_sorted};
+ghost use Rattle.std.specs.Prelude.{◌≡◌, ◌≤◌, ◌↔◌, [], false, true, map, T, IsTrue, IfOk, OnOk, OnErr};
+ghost use Rattle.std.specs.FinMap.{empty, insert, remove, is_sorted};
 ghost use Rattle.std.specs.List.{All};
 ghost use Rattle.std.specs.List.Sorted.{IsPermutation};
 ghost use Rattle.sqlite.specs.Given.{IsPlain};
@@ -8,14 +8,14 @@ ghost use Rattle.sqlite.specs.Held.{state};
 ghost use Rattle.sqlite.specs.Listing.{understood};
 ghost use Rattle.sqlite.specs.State.{HasCleanDisk, KeepsCommit, Shown, Survives};
 ghost use Rattle.sqlite.specs.View.{doubt};
-ghost use Rattle.session_records.specs.Connections.{Becomes, Commits, GoesOn, HasUpdated, IsBegun, IsSameAs, Stays};
-ghost use Rattle.row_store.specs.Rows.{after, after_all, key_cmp};
+ghost use Rattle.session_records.specs.Connections.{Becomes, Commits, GoesOn, HasUpdated, IsBegun, IsSameAs, Stays, StaysOrEnds};
+ghost use Rattle.row_store.specs.Rows.{after, after_all, key_cmp, key_of};
 ghost use Rattle.session_records.specs.Stored.{AreTyped, IsFormed, IsShown, entry_in, entry_shown, held};
 ghost use Rattle.session_records.specs.Table.{no_schema, rows_schema};
 
 use crate::found::are_rows;
-use row_store::Change;
-use sqlite::{Alter, Connection, Error, Row as Found, Transaction, params};
+use row_store::{Change, Row};
+use sqlite::{Alter, Connection, Constraint, Error, ErrorCode, Row as Found, Transaction, params};
 
 fn erase_row<S: Alter>(
     tx: &mut Transaction<'_, S>,
@@ -35,7 +35,8 @@ fn erase_row<S: Alter>(
     )
 }
 
-fn put_row<S: Alter>(
+/// Answers one, or is refused where a row is at the key.
+fn insert_row<S: Alter>(
     tx: &mut Transaction<'_, S>,
     kind: u8,
     owner: &[u8],
@@ -44,8 +45,8 @@ fn put_row<S: Alter>(
 ) -> Result<usize, Error>
     ensures same_reference { tx.new.conn.ghost_name ≡ tx.old.conn.ghost_name }
     ensures goes { HasCleanDisk (state S.Store tx.new.conn.now) → IsFormed (state S.Store tx.old.conn.now).now
-        → get (held (state S.Store tx.old.conn.now).now) (kind, (owner.now, place.now)) ≡ None
         → OnOk result (GoesOn (state S.Store tx.old.conn.now) (state S.Store tx.new.conn.now) (insert (held (state S.Store tx.old.conn.now).now) (kind, (owner.now, place.now)) value.now)) }
+    ensures refused { HasCleanDisk (state S.Store tx.new.conn.now) → OnErr result (StaysOrEnds (state S.Store tx.old.conn.now) (state S.Store tx.new.conn.now)) }
     ensures kept { HasCleanDisk (state S.Store tx.new.conn.now) → KeepsCommit (state S.Store tx.old.conn.now) (state S.Store tx.new.conn.now) }
     ensures survives { Survives (state S.Store tx.old.conn.now) (state S.Store tx.new.conn.now) (λ _. ⊥) }
 {
@@ -66,6 +67,7 @@ fn update_row<S: Alter>(
     ensures same_reference { tx.new.conn.ghost_name ≡ tx.old.conn.ghost_name }
     ensures goes { HasCleanDisk (state S.Store tx.new.conn.now) → IsFormed (state S.Store tx.old.conn.now).now
         → IfOk result (HasUpdated (state S.Store tx.old.conn.now) (state S.Store tx.new.conn.now) (kind, (owner.now, place.now)) value.now) }
+    ensures begun { OnOk result (IsTrue (state S.Store tx.old.conn.now).in_transaction) }
     ensures kept { HasCleanDisk (state S.Store tx.new.conn.now) → KeepsCommit (state S.Store tx.old.conn.now) (state S.Store tx.new.conn.now) }
     ensures survives { Survives (state S.Store tx.old.conn.now) (state S.Store tx.new.conn.now) (λ _. ⊥) }
 {
@@ -73,6 +75,72 @@ fn update_row<S: Alter>(
         "UPDATE rows SET value = ?4 WHERE kind = ?1 AND owner = ?2 AND place = ?3",
         params![u32::from(kind), owner, place, value],
     )
+}
+
+/// Whether a row is at the key of the one that was to be put in.
+fn is_taken(error: &Error) -> bool {
+    *error == Error::SqliteFailure(ErrorCode::ConstraintViolation(Constraint::Unique))
+}
+
+/// Puts a row at a key that is mostly new: an INSERT and, where that is refused, an UPDATE.
+fn put_new<S: Alter>(
+    tx: &mut Transaction<'_, S>,
+    kind: u8,
+    owner: &[u8],
+    place: &[u8],
+    value: &[u8],
+) -> Result<(), Error>
+    ensures same_reference { tx.new.conn.ghost_name ≡ tx.old.conn.ghost_name }
+    ensures goes { HasCleanDisk (state S.Store tx.new.conn.now) → IsFormed (state S.Store tx.old.conn.now).now
+        → OnOk result (GoesOn (state S.Store tx.old.conn.now) (state S.Store tx.new.conn.now) (insert (held (state S.Store tx.old.conn.now).now) (kind, (owner.now, place.now)) value.now)) }
+    ensures kept { HasCleanDisk (state S.Store tx.new.conn.now) → KeepsCommit (state S.Store tx.old.conn.now) (state S.Store tx.new.conn.now) }
+    ensures survives { Survives (state S.Store tx.old.conn.now) (state S.Store tx.new.conn.now) (λ _. ⊥) }
+{
+    let Err(refusal) = insert_row(tx, kind, owner, place, value) else {
+        return Ok(());
+    };
+    if !is_taken(&refusal) || update_row(tx, kind, owner, place, value)? == 0 {
+        return Err(refusal);
+    }
+    Ok(())
+}
+
+/// Puts a row at a key that mostly has one: an UPDATE and, where that finds none, an INSERT.
+fn put_again<S: Alter>(
+    tx: &mut Transaction<'_, S>,
+    kind: u8,
+    owner: &[u8],
+    place: &[u8],
+    value: &[u8],
+) -> Result<(), Error>
+    ensures same_reference { tx.new.conn.ghost_name ≡ tx.old.conn.ghost_name }
+    ensures goes { HasCleanDisk (state S.Store tx.new.conn.now) → IsFormed (state S.Store tx.old.conn.now).now
+        → OnOk result (GoesOn (state S.Store tx.old.conn.now) (state S.Store tx.new.conn.now) (insert (held (state S.Store tx.old.conn.now).now) (kind, (owner.now, place.now)) value.now)) }
+    ensures kept { HasCleanDisk (state S.Store tx.new.conn.now) → KeepsCommit (state S.Store tx.old.conn.now) (state S.Store tx.new.conn.now) }
+    ensures survives { Survives (state S.Store tx.old.conn.now) (state S.Store tx.new.conn.now) (λ _. ⊥) }
+{
+    if update_row(tx, kind, owner, place, value)? == 0 {
+        insert_row(tx, kind, owner, place, value)?;
+    }
+    Ok(())
+}
+
+/// The bytes of a place that is a number, or begins with one.
+const NUMBERED: usize = 8;
+
+/// The row takes the place of the one at its key, if there is one. A row whose place is a number is mostly new, and any other mostly there.
+fn put_row<S: Alter>(tx: &mut Transaction<'_, S>, row: &Row) -> Result<(), Error>
+    ensures same_reference { tx.new.conn.ghost_name ≡ tx.old.conn.ghost_name }
+    ensures goes { HasCleanDisk (state S.Store tx.new.conn.now) → IsFormed (state S.Store tx.old.conn.now).now
+        → OnOk result (GoesOn (state S.Store tx.old.conn.now) (state S.Store tx.new.conn.now) (insert (held (state S.Store tx.old.conn.now).now) (key_of row.now) row.now.value.items)) }
+    ensures kept { HasCleanDisk (state S.Store tx.new.conn.now) → KeepsCommit (state S.Store tx.old.conn.now) (state S.Store tx.new.conn.now) }
+    ensures survives { Survives (state S.Store tx.old.conn.now) (state S.Store tx.new.conn.now) (λ _. ⊥) }
+{
+    if row.place.len() < NUMBERED {
+        put_again(tx, row.kind, &row.owner, &row.place, &row.value)
+    } else {
+        put_new(tx, row.kind, &row.owner, &row.place, &row.value)
+    }
 }
 
 fn make_change<S: Alter>(tx: &mut Transaction<'_, S>, change: &Change) -> Result<(), Error>
@@ -83,17 +151,12 @@ fn make_change<S: Alter>(tx: &mut Transaction<'_, S>, change: &Change) -> Result
     ensures survives { Survives (state S.Store tx.old.conn.now) (state S.Store tx.new.conn.now) (λ _. ⊥) }
 {
     match change {
-        Change::Put(row) => {
-            let found = update_row(tx, row.kind, &row.owner, &row.place, &row.value)?;
-            if found == 0 {
-                put_row(tx, row.kind, &row.owner, &row.place, &row.value)?;
-            }
-        }
+        Change::Put(row) => put_row(tx, row),
         Change::Remove(kind, owner, place) => {
             erase_row(tx, *kind, owner, place)?;
+            Ok(())
         }
     }
-    Ok(())
 }
 
 fn make_changes<S: Alter>(tx: &mut Transaction<'_, S>, changes: &[Change]) -> Result<(), Error>

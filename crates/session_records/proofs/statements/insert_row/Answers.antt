@@ -1,0 +1,14 @@
+use Rattle.std.proofs.Common.{refl, arith}
+use Rattle.sqlite.specs.Held.{state}
+use Rattle.session_records.proofs.Effects.{put_goes, keeps_run, stays_run}
+use Rattle.session_records.proofs.statements.insert_row.Goals as goal
+
+pub returns-clause-goes : goal.returns-clause-goes
+returns-clause-goes g c clean is =
+    put_goes (state g.S.Store c.args.tx.now.conn.now) (state g.S.Store c.execute.new.self.conn.now) (c.args.kind, (c.args.owner.now, c.args.place.now)) c.args.value.now c.execute.result (omega arith) (λ was. (_, (c.execute.ensures.ended was).0)) (λ was. rw (c.params-to_sql.ensures, c.params-to_sql-2.ensures, c.params-to_sql-3.ensures, c.params-to_sql-4.ensures, c.from.ensures) at (c.execute.ensures.runs clean was)) is
+
+pub returns-clause-kept : goal.returns-clause-kept
+returns-clause-kept g c clean = keeps_run g.S.Store c.args.tx.now.conn.now c.execute.new.self.conn.now _ _ c.execute.result c.args.tx.now.conn.now.in_transaction refl (λ was. (c.execute.ensures.ended was).1) (λ was. c.execute.ensures.runs clean was)
+
+pub returns-clause-refused : goal.returns-clause-refused
+returns-clause-refused g c clean = stays_run g.S.Store c.args.tx.now.conn.now c.execute.new.self.conn.now _ _ c.execute.result c.args.tx.now.conn.now.in_transaction refl (λ was. (c.execute.ensures.ended was).1) (λ was. c.execute.ensures.runs clean was)
