@@ -62,7 +62,7 @@ pub fn load_again<R: RowStore>(rt: &HostRuntime, rows: &mut R) -> Result<(), Fai
     Ok(())
 }
 
-/// Puts so many rows one by one, then all of them a thousand at once, and again, and loads them.
+/// Puts so many rows one by one, then all of them a thousand at once, and loads them.
 pub fn fill_and_load<R: RowStore>(
     rt: &HostRuntime,
     rows: &mut R,
@@ -74,8 +74,5 @@ pub fn fill_and_load<R: RowStore>(
     let watch = Stopwatch::start(rt)?;
     fill(rt.alloc(), rows, ROWS, STEP)?;
     watch.print(rt, "rows put a thousand at once", ROWS)?;
-    let watch = Stopwatch::start(rt)?;
-    fill(rt.alloc(), rows, ROWS, STEP)?;
-    watch.print(rt, "rows put again a thousand at once", ROWS)?;
     load_again(rt, rows)
 }
