@@ -15,7 +15,7 @@ if [ "$#" -gt 0 ]; then
     program=("$@")
 fi
 host=127.0.0.1
-seconds=60
+seconds=600
 failed=0
 work=$(mktemp -d)
 nodes=()
@@ -96,7 +96,7 @@ received() {
 compare() {
     local name=$1 wanted=$2 got
     shift 2
-    for _ in $(seq 100); do
+    for _ in $(seq 600); do
         got=$(received "$@")
         if [ "$got" = "$wanted" ]; then
             break

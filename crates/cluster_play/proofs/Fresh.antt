@@ -91,7 +91,6 @@ new_is_lasting count few = record {
   named = omega arith;
   sessions = λ client d e. none-some e;
   store = nothing_is_store;
-  unversioned = λ q e is. none_stands q (Some (Some e)) is refl;
   among = record {
     taken = λ d h. absurd (none_seen d h);
     seen = λ d h. absurd (none_seen d (subst (λ s. set.contains s d ≡ true) no_seen h));

@@ -64,7 +64,9 @@ has_rows p rows h are none = none-some (sym (map.get-empty {X = List ℕ} key_cm
 -- no node has no rows
 pub none_without : (p : Place) → AreOfNone p map.empty
 none_without p x (inl says) = none-some (sym (map.get-empty {X = List ℕ} key_cmp mark_key) ∙ says.1 mark_key)
-none_without p x (inr says) = no_first (map.entries map.empty) (sym (map.len-entries {R = key_cmp} {X = List ℕ} map.empty) ∙ map.len-empty key_cmp (List ℕ)) says.1
+none_without p x (inr says) =
+    let none : Content = map.empty in
+    no_first (map.entries none) (sym (map.len-entries none) ∙ map.len-empty key_cmp (List ℕ)) says.1
   where
     no_first : (rows : List Plain) → length rows ≡ 0 → AreFirst rows → ⊥
     no_first [] none first = first

@@ -120,8 +120,8 @@ may_be_both id old mid new (inr m) (inr (inl r)) = inr (subst (λ (c : Content).
 
 -- ---- what they say
 
-raised_rows : (c : Content) (rows : List Row) → map_list entry_of rows ≡ map.entries c → (key : Key) → map.get (raised_content c) key ≡ map.get (map.from_entries (raised_all (map_list entry_of rows))) key
-raised_rows c rows is key = ap (λ (es : List Plain). map.get (map.from_entries (raised_all es)) key) (sym is)
+raised_rows : (c : Content) (rows : List Row) → map_list entry_of rows ≡ map.entries c → (key : Key) → map.get (raised_content c) key ≡ map.get {R = key_cmp} (map.from_entries (raised_all (map_list entry_of rows))) key
+raised_rows c rows is key = ap (λ (es : List Plain). map.get {R = key_cmp} (map.from_entries (raised_all es)) key) (sym is)
 
 say_lasting : (p : Place) (rows : List Row) (mid c : Content) (x : Lasting) → ¬ (mid ≡ map.empty) → map_list entry_of rows ≡ map.entries mid → are_raised mid c → IsLasting (nodes_of p) x → Say rows p.id x → AreLasting p c x
 say_lasting p rows mid c x some is r can (inl (inl new)) = absurd (some (none_loaded rows mid new.0 is))

@@ -32,10 +32,7 @@ fn says_first(value: &[u8]) -> bool
 fn is_first(row: &Row) -> bool
     ensures { IsTrue result ↔ AreFirst (entry_of row.now ∷ []) }
 {
-    row.kind == MARK
-        && row.owner.is_empty()
-        && row.place.is_empty()
-        && says_first(&row.value)
+    row.kind == MARK && row.owner.is_empty() && row.place.is_empty() && says_first(&row.value)
 }
 
 /// Whether rows are of version 1: the first is a mark that says so.

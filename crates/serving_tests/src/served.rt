@@ -6,7 +6,8 @@ use home_table::TableFault;
 use std::fs;
 
 /// Two nodes, each at any ports that are free.
-pub const HOMES: &str = "[[node]]\nname = \"n0\"\naddress = \"127.0.0.1:0\"\nbridge = \"127.0.0.1:0\"\n\
+pub const HOMES: &str =
+    "[[node]]\nname = \"n0\"\naddress = \"127.0.0.1:0\"\nbridge = \"127.0.0.1:0\"\n\
     [[node]]\nname = \"n1\"\naddress = \"127.0.0.1:0\"\nbridge = \"127.0.0.1:0\"\n";
 
 /// How many bytes a configuration may have.

@@ -7,3 +7,11 @@ use Rattle.node_rows.proofs.reading.read_either.Goals as goal
 
 pub returns-then-not-are_first : goal.returns-then-not-are_first
 returns-then-not-are_first c = second_found c.args.rows.now c.args.id c.args.nodes c.read.result (λ first. true≢false (sym (c.are_first.ensures.1 first) ∙ c.if-not-are_first.true)) c.read.ensures
+
+pub read-requires-2 : goal.read-requires-2
+read-requires-2 c =
+    subst (λ es. T (is_sorted key_cmp es)) (sym (ap (map_list entry_of) c.deref.ensures.value ∙ c.in-Ok.ensures)) (raised_up (map_list entry_of c.args.rows.now) c.requires)
+
+pub returns : goal.returns
+returns c =
+    raised_found c.args.rows.now c.deref.result.now c.args.id c.args.nodes c.read-2.result (ap (map_list entry_of) c.deref.ensures.value ∙ c.in-Ok.ensures) c.requires (c.are_first.ensures.0 c.if-not-are_first.false) c.read-2.ensures

@@ -1,0 +1,112 @@
+#!/usr/bin/env bash
+# Kills a node ten times by SIGKILL, at QoS 1 and then at QoS 2: five times while a publisher publishes for a subscriber that is away, and five
+# times while that subscriber receives. Each time the node is started again over its database, and the clients go on. Prints what was
+# acknowledged and what came, and exits 1 where something acknowledged didn't come, or comes twice at QoS 2, or out of order.
+#
+#   examples/kill.sh             runs the program, which is built first where it isn't yet
+#   examples/kill.sh PROGRAM..   runs these words in its place, with `serve CONFIG NODE DATABASE --turns N` behind them
+#
+# Each kill comes after 1 to 2,000 further messages, or after at most as many as MESSAGES says. It needs python3. The ports 1883 and 2883
+# must be free.
+set -eu
+
+top=$(cd "$(dirname "${BASH_SOURCE[0]}")/.." && pwd)
+program=("$top/broker")
+if [ "$#" -gt 0 ]; then
+    program=("$@")
+fi
+client=$top/examples/kill_client.py
+port=1883
+kills=5
+most=${MESSAGES:-2000}
+failed=0
+work=$(mktemp -d)
+
+clean_up() {
+    jobs -p | xargs -r kill 2> "$work/kill" || true
+    rm -rf "$work"
+}
+trap clean_up EXIT
+
+start_node() {
+    : > "$work/ready"
+    "${program[@]}" serve "$top/examples/one_node.toml" n0 "$work/qos$1.db" --turns 1000000000 > "$work/ready" 2> "$work/err" &
+    node=$!
+    until grep -q '^ready ' "$work/ready"; do
+        if ! kill -0 "$node" 2> "$work/kill"; then
+            cat "$work/err" >&2
+            exit 1
+        fi
+        sleep 0.05
+    done
+}
+
+kill_node() {
+    kill -9 "$node"
+    wait "$node" 2> "$work/kill" || true
+}
+
+lines() {
+    wc -l < "$1"
+}
+
+# Waits until a file has so many lines, or the process $3 has ended.
+await_lines() {
+    while [ "$(lines "$1")" -lt "$2" ] && kill -0 "$3" 2> "$work/kill"; do
+        sleep 0.01
+    done
+}
+
+# What is said of the numbers that came: those that were acknowledged and didn't, how many came again, and whether they came in order.
+judge() {
+    local acknowledged=$1 came=$2 qos=$3 lost again
+    awk '!seen[$1]++' "$came" > "$work/first"
+    lost=$(sort "$acknowledged" | comm -23 - <(sort "$came") | wc -l)
+    again=$(($(lines "$came") - $(lines "$work/first")))
+    echo "QoS $qos: $(lines "$acknowledged") acknowledged, $lost of them lost, $again came again"
+    if ! sort -n -c "$work/first"; then
+        echo "QoS $qos: they came out of order"
+        failed=1
+    fi
+    if [ "$lost" -gt 0 ] || { [ "$qos" -eq 2 ] && [ "$again" -gt 0 ]; }; then
+        failed=1
+    fi
+}
+
+# Kills the node while it is published to, and while it delivers.
+try_at() {
+    local qos=$1 publisher receiver total number
+    start_node "$qos"
+    "$client" subscribe "$port" "$qos"
+    : > "$work/acknowledged"
+    "$client" publish "$port" "$qos" "$work/acknowledged" > "$work/published" &
+    publisher=$!
+    for number in $(seq "$kills"); do
+        await_lines "$work/acknowledged" $(($(lines "$work/acknowledged") + RANDOM % most + 1)) "$publisher"
+        kill_node
+        start_node "$qos"
+    done
+    kill "$publisher" 2> "$work/kill" || true
+    wait "$publisher"
+    echo "QoS $qos: $(cat "$work/published"), over $kills kills"
+    total=$(lines "$work/acknowledged")
+    : > "$work/came"
+    "$client" receive "$port" "$qos" "$total" "$work/came" &
+    receiver=$!
+    for number in $(seq "$kills"); do
+        await_lines "$work/came" $((total * number / (kills + 1))) "$receiver"
+        kill_node
+        start_node "$qos"
+    done
+    wait "$receiver"
+    judge "$work/acknowledged" "$work/came" "$qos"
+    kill_node
+}
+
+for qos in 1 2; do
+    try_at "$qos"
+done
+if [ "$failed" -eq 0 ]; then
+    echo 'nothing acknowledged was lost'
+fi
+exit "$failed"
