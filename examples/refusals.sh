@@ -1,6 +1,6 @@
 #!/usr/bin/env bash
-# Refuses each allocation of each call that refused_calls and refused_states try, in turn: the answer is NoMemory, nothing has changed, and
-# the call that is made again gives what it should. Prints a line for each call with how many allocations were refused; the last line is
+# Refuses each allocation of each call that refused_calls and refused_states try, in turn: the answer is NoMemory, unless the call does
+# without, nothing has changed, and the call that is made again gives what it should. Prints a line for each call with how many allocations were refused; the last line is
 # 'N passed, M failed', and the status is 1 where one failed.
 #
 #   examples/refusals.sh
