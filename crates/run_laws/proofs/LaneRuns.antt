@@ -188,7 +188,7 @@ module _ (put took : Histories) (run : List Played) (w : World) (x : LanesExplai
       let rest = Bridge (Gave f) ∷ after in
       let parts = runs_split place before rest c.before c.after (subst (λ xs. Runs place c.before xs c.after) is c.steps.runs) in
       let g = site_amid (past run) w (explained run w r) i e acts w' c known before rest parts.0 is parts.1 in
-      given_spelled (length w.sites) i _ (past run).took parts.0 g.grows.holding g.plain g.kept place f parts.2.1.0
+      given_spelled (length w.sites) i _ (past run).took parts.0 g.grows.holding g.kept place f parts.2.1.0
 
   new_says : (k : ℕ) (sent : Frame) (f : BridgeFrame) → slice_get (frames_in c.outputs) k ≡ Some sent → frame_in sent.bytes ≡ Some f → SaysOf (put' f.from f.to) (took' f.from f.to) f.body
   new_says k sent f at read =
