@@ -58,8 +58,9 @@ fn held<R: RowStore + Drop>(
 
 #[test]
 fn what_lasts_is_in_the_database(rt: HostRuntime) {
-    for packets in [PACKETS.as_slice(), [].as_slice()] {
-        let rows = open_rows(&rt, "n1.db").ok().expect(&rt, "a database");
-        assert_eq!(rt; held(&rt, rt.alloc(), rows, packets), (1, 1));
-    }
+    let rows = open_rows(&rt, "n1.db").ok().expect(&rt, "a database");
+    assert_eq!(rt; held(&rt, rt.alloc(), rows, &PACKETS), (1, 1));
+    let none: [&[u8]; 0] = [];
+    let rows = open_rows(&rt, "n1.db").ok().expect(&rt, "a database");
+    assert_eq!(rt; held(&rt, rt.alloc(), rows, &none), (1, 1));
 }
