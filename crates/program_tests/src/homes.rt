@@ -98,6 +98,31 @@ fn faults(rt: HostRuntime) {
     }
 }
 
+/// The version of the table that a text is, or why it is none.
+fn version_in(alloc: Global, text: &str) -> Result<u32, TableFault> {
+    let table = HomeTable::parse(alloc, text)?;
+    Ok(table.version())
+}
+
+#[test]
+fn versions(rt: HostRuntime) {
+    let node = "[[node]]\nname = \"n0\"\naddress = \"a\"\nbridge = \"b\"\n";
+    for (key, version) in [
+        ("", Ok(0)),
+        ("version = 0\n", Ok(0)),
+        ("version = 1\n", Ok(1)),
+        ("version = 4294967295\n", Ok(4_294_967_295)),
+        ("version = 4294967296\n", Err(TableFault::Syntax)),
+        ("version = -1\n", Err(TableFault::Syntax)),
+        ("version = 1.0\n", Err(TableFault::Syntax)),
+        ("version = \"1\"\n", Err(TableFault::Syntax)),
+    ] {
+        let text = format!(in rt.alloc(); "{key}{node}").expect(&rt, "memory");
+        let found = version_in(rt.alloc(), text.as_str());
+        assert_eq!(rt; found, version, "with {key}");
+    }
+}
+
 #[test]
 fn a_table_has_as_many_as_64_nodes(rt: HostRuntime) {
     for (nodes, fault) in [
