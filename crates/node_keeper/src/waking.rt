@@ -52,7 +52,7 @@ fn load_marked<R: RowStore>(alloc: Global, rows: &mut R, id: u16) -> Result<Vec<
     rows.load()
 }
 
-/// Writes rows of version 1 as rows of version 2, and leaves others as they are. The second ones are the rows, loaded.
+/// Writes rows of version 1 as rows of version 2, and leaves others as they are. `loaded` are the rows that the store has.
 fn write_raised<R: RowStore>(alloc: Global, rows: &mut R, loaded: &[Row]) -> Result<(), RowFault>
     ensures ok { R.is_clean rows.new → R.is_open rows.old → map entry_of loaded.now ≡ entries (R.content rows.old)
         → OnOk result (R.is_open rows.new × are_raised (R.content rows.old) (R.content rows.new)) }
