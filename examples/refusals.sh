@@ -1,29 +1,52 @@
 #!/usr/bin/env bash
-# Refuses each allocation of each call that refused_calls and refused_states try, in turn: the answer is NoMemory, unless the call does
-# without, nothing has changed, and the call that is made again gives what it should. Prints a line for each call with how many allocations were refused; the last line is
-# 'N passed, M failed', and the status is 1 where one failed.
+# Refuses each allocation in turn of what some programs do, each time from the start:
+#
+# - refused_calls and refused_states make calls: the answer is NoMemory, unless the call does without, nothing has changed, and the call that
+#   is made again gives what it should.
+# - refused_runs plays the scripts of crates/refused_runs/data over nodes with their rows in memory and over a cluster: the answer is
+#   NoMemory, of the node or of its rows, the rows are those of before, the next call is answered by Stopped or Spent, and opened again from
+#   its rows the node goes on as after a crash. Rows whose changes are made one by one, and nodes that go on after want of memory, have to
+#   be found there.
+#
+# Prints a line for each call and each run with how many allocations were refused; the last line is 'N passed, M failed', and the status is
+# 1 where one failed.
 #
 #   examples/refusals.sh
 #
-# `rt ci` comes first, or `rt run` in both crates: they prove the programs, and leave them in the crates' out/. A C compiler makes
-# examples/refuse.c a library, by which allocations are refused (CC names another compiler than cc).
+# `rt ci` comes first, or `rt run` in these crates: they prove the programs, and leave them in the crates' out/. A C compiler makes
+# examples/refuse.c a library, by which allocations are refused (CC names another compiler than cc); without one the status is 2.
 set -eu
 
 top=$(cd "$(dirname "${BASH_SOURCE[0]}")/.." && pwd)
+compiler=${CC:-cc}
 seconds=600
 work=$(mktemp -d)
 trap 'rm -rf "$work"' EXIT
 
-"${CC:-cc}" -O2 -shared -fPIC -o "$work/refuse.so" "$top/examples/refuse.c"
+if ! command -v "$compiler" > "$work/found"; then
+    echo "refusals: there is no C compiler: $compiler isn't found (CC names another one)"
+    exit 2
+fi
+"$compiler" -O2 -shared -fPIC -o "$work/refuse.so" "$top/examples/refuse.c"
 
 passed=0
 failed=0
 
-# Sweeps one build of a program.
-sweep() {
-    local status=0 wrong
-    LD_PRELOAD="$work/refuse.so" timeout "$seconds" "$1" > "$work/said" 2> "$work/errors" || status=$?
+# Runs a build of a program with these words, in the folder of the crate's data where it has one, and prints what it says.
+run() {
+    local program=$1 folder
+    shift
+    folder=$(dirname "$program")/../data
+    [ -d "$folder" ] || folder=$(dirname "$program")
+    status=0
+    (cd "$folder" && LD_PRELOAD="$work/refuse.so" exec timeout "$seconds" "$program" "$@") > "$work/said" 2> "$work/errors" || status=$?
     cat "$work/said" "$work/errors"
+}
+
+# Sweeps a build of a program.
+sweep() {
+    local wrong
+    run "$@"
     passed=$((passed + $(grep -c ': [1-9][0-9]* refused$' "$work/said" || true)))
     wrong=$(grep -vc ': [1-9][0-9]* refused$' "$work/said" || true)
     if [ "$status" -ne 0 ] && [ "$wrong" -eq 0 ]; then
@@ -33,16 +56,37 @@ sweep() {
     failed=$((failed + wrong))
 }
 
-for crate in refused_calls refused_states; do
+# Sweeps a run that isn't as it should be: the text says what has to be found, and the words come after it.
+find_out() {
+    local program=$1 text=$2
+    shift 2
+    run "$program" "$@"
+    if grep -q ": FAILED: $text\$" "$work/said"; then
+        echo "refusals: found, as it should be"
+        passed=$((passed + 1))
+    else
+        echo "refusals: NOT FOUND: $program $*"
+        failed=$((failed + 1))
+    fi
+}
+
+for crate in refused_calls refused_states refused_runs; do
     if [ ! -x "$top/crates/$crate/out/$crate" ]; then
         echo "refusals: crates/$crate/out has no program: run rt ci first, or rt run in crates/$crate"
         exit 2
     fi
+    words=()
+    if [ -f "$top/crates/$crate/args" ]; then
+        mapfile -t words < "$top/crates/$crate/args"
+    fi
     for program in "$top/crates/$crate/out/$crate" "$top/crates/$crate/out/$crate.by-rattle"; do
         if [ -x "$program" ]; then
-            sweep "$program"
+            sweep "$program" ${words[@]+"${words[@]}"}
         fi
     done
 done
+runs=$top/crates/refused_runs/out/refused_runs
+find_out "$runs" "the rows aren't those of before" --careless-rows stored_run.script
+find_out "$runs" "the next call isn't answered by Stopped or Spent" --careless-nodes stored_run.script
 echo "$passed passed, $failed failed"
 [ "$failed" -eq 0 ] && [ "$passed" -gt 0 ]

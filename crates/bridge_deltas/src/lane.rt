@@ -1,7 +1,5 @@
 //! The lanes to and from one other node.
 ghost use Rattle.std.specs.Prelude.{◌≡◌, ◌<◌, ◌≤◌, ◌+◌, ◌++◌, ◌^◌, suc, nat_eq, if◌then◌else◌, take, drop, length, map, OnOk, OnErr, IfOk};
-ghost use Rattle.std.specs.List.{AllByRecursion};
-ghost use Rattle.bridge_frames.specs.Forwards.{forward};
 ghost use Rattle.row_store.specs.Rows.{entry_of};
 ghost use Rattle.lane_rows.specs.Changes.{left_of, message_changes, new_kept, numbers_changes, told_now};
 ghost use Rattle.lane_rows.specs.Laws.{IsSoundLane};
@@ -11,7 +9,7 @@ ghost use Rattle.message_lanes.specs.Lanes.{with_got, with_took};
 ghost use Rattle.bridge_deltas.specs.Lane.{after_offer, first_frames, frames_from, next_number, offer_of, told_lane};
 
 use crate::offer::Offer;
-use bridge_frames::{BridgeFrame, Forward, FrameBody};
+use bridge_frames::{BridgeFrame, Forward, FrameBody, LaneNumber};
 use lane_rows::{
     ReadLane, append_numbers, append_numbers_change, append_puts, append_removals, append_rows,
 };
@@ -45,6 +43,8 @@ pub(crate) struct Lane {
 
 impl Model for Lane {
     ghost use Rattle.std.specs.Prelude.{◌<◌, ◌≤◌, ◌+◌, ◌^◌, take, drop, length};
+    ghost use Rattle.std.specs.List.{AllByRecursion};
+    ghost use Rattle.bridge_frames.specs.Forwards.{forward};
     ghost use Rattle.lane_rows.specs.Changes.{KeptLane};
     ghost use Rattle.bridge_deltas.specs.Lane.{coded_kept};
 
@@ -59,7 +59,7 @@ impl Model for Lane {
 
     ghost invariant = { λ l. (l.gone ≤ length l.messages.items) × (l.told ≤ length l.messages.items)
         × (l.base + length l.messages.items < 2 ^ 62) × (length l.messages.items ≤ l.gone + 65536)
-        × (l.told_took ≤ l.took) };
+        × (l.told_took ≤ l.took) × (l.took < 2 ^ 62) × AllByRecursion forward.Fits l.messages.items };
 }
 
 // Frames with the first messages from a place on, under the numbers after those that are gone.
@@ -72,7 +72,7 @@ fn frames_of(
     place: usize,
 ) -> Result<Vec<BridgeFrame>, NoMemory>
     requires there { place ≤ length messages.now.items }
-    requires numbers { gone + length messages.now.items < 2 ^ 63 }
+    requires numbers { gone + length messages.now.items < 2 ^ 62 + place }
     ensures { IfOk result (λ out. out.items
         ≡ frames_from from to (suc gone) (take 64 (drop place messages.now.items))) }
 {
@@ -84,7 +84,7 @@ fn frames_of(
         out.push(BridgeFrame {
             from,
             to,
-            body: FrameBody::Forward(number, message),
+            body: FrameBody::Forward(LaneNumber::of(number), message),
         })?;
     }
     Ok(out)
@@ -97,16 +97,6 @@ fn let_go(messages: &mut VecDeque<Forward>, count: usize)
 {
     for _ in 0..count {
         let _gone = messages.pop_front();
-    }
-}
-
-// Each message has a spelling. This does nothing; its contract is a law.
-fn have_spellings(messages: &VecDeque<Forward>, from: usize)
-    requires { from ≤ length messages.now.items }
-    ensures { AllByRecursion forward.Fits (drop from messages.now.items) }
-{
-    for i in from..messages.len() {
-        messages[i].has_spelling();
     }
 }
 
@@ -140,6 +130,7 @@ impl Lane {
         if number >= NUMBERS_END {
             return Ok(Offer::AtEnd);
         }
+        message.has_spelling();
         self.messages.push_back(message)?;
         Ok(Offer::Queued(number))
     }
@@ -154,11 +145,12 @@ impl Lane {
     }
 
     /// Whether a number is that of the next message to take; then it counts as taken.
-    pub fn take_next(&mut self, number: u64) -> bool
+    pub fn take_next(&mut self, number: LaneNumber) -> bool
         ensures next { result ≡ nat_eq number (suc self.old.lane.took) }
         ensures after { self.new
             ≡ (if result then record self.old { lane = with_took number self.old.lane } else self.old) }
     {
+        let number = number.get();
         if number == 0 || number - 1 != self.took {
             return false;
         }
@@ -167,17 +159,17 @@ impl Lane {
     }
 
     /// The number of the last message that was taken.
-    pub fn took(&self) -> u64
+    pub fn took(&self) -> LaneNumber
         ensures { result ≡ self.now.lane.took }
     {
-        self.took
+        LaneNumber::of(self.took)
     }
 
     /// The other node has taken the messages up to a number, and they no longer wait.
-    pub fn got(&mut self, number: u64)
+    pub fn got(&mut self, number: LaneNumber)
         ensures { self.new ≡ record self.old { lane = with_got number self.old.lane } }
     {
-        let past = number.saturating_sub(self.base + self.gone as u64);
+        let past = number.get().saturating_sub(self.base + self.gone as u64);
         let waiting = self.messages.len() - self.gone;
         self.gone += past.min(waiting as u64) as usize;
     }
@@ -218,8 +210,7 @@ impl Lane {
     pub fn is_lane(&self)
         ensures { IsLane self.now.lane }
     {
-        have_spellings(&self.messages, self.gone);
-        let _took = self.took;
+        let _gone = self.gone;
     }
 
     /// Appends the rows of the messages that wait for the peer.

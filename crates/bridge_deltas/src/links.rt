@@ -22,7 +22,7 @@ ghost use Rattle.bridge_deltas.specs.Shipped.{IsShipped};
 use crate::buffer::{count_confirmed, keep, shipped};
 use crate::lane::Lane;
 use crate::offer::Offer;
-use bridge_frames::{BridgeFrame, Forward};
+use bridge_frames::{BridgeFrame, Forward, LaneNumber};
 use causal_context::{Context, Lattice};
 use lane_rows::laws::changes_lead;
 use lane_rows::{ReadLane, read_lanes};
@@ -325,12 +325,12 @@ impl Links {
     }
 
     /// The number of the last message that was taken from the peer: 0 of a node that the cluster lacks.
-    pub fn last_taken(&self, peer: u16) -> u64
+    pub fn last_taken(&self, peer: u16) -> LaneNumber
         ensures { result ≡ (kept_of self.now peer).lane.took }
     {
         match self.lanes.get(peer as usize) {
             Some(lane) => lane.took(),
-            None => 0,
+            None => LaneNumber::of(0),
         }
     }
 
@@ -344,7 +344,7 @@ impl Links {
     }
 
     /// Whether the number is that of the next message to take from the peer; then it counts as taken.
-    pub fn arrived(&mut self, peer: u16, number: u64) -> bool
+    pub fn arrived(&mut self, peer: u16, number: LaneNumber) -> bool
         requires { peer < self.old.nodes }
         ensures next { result ≡ nat_eq number (suc (kept_of self.old peer).lane.took) }
         ensures after { let k = kept_of self.old peer in self.new
@@ -354,7 +354,7 @@ impl Links {
     }
 
     /// The peer has taken the messages up to the number, or all that were put in: these no longer wait.
-    pub fn got(&mut self, peer: u16, number: u64)
+    pub fn got(&mut self, peer: u16, number: LaneNumber)
         requires { peer < self.old.nodes }
         ensures { let k = kept_of self.old peer in self.new
             ≡ with_kept peer (record k { lane = with_got number k.lane }) self.old }

@@ -1,6 +1,6 @@
 -- Frames are read as they are spelled.
-use Rattle.std.proofs.Common.{◌≡◌, ℕ, zero, suc, ◌≤◌, List, [], ◌∷◌, ◌++◌, length, Bool, true, false, cond, ltb, Option, Some, None, Result, Ok, Err, refl, sym, ap, subst, ◌∙◌, append-nil, arith}
-use Rattle.std.specs.Int.{to_be_bytes, w8, w16, w32, w64}
+use Rattle.std.proofs.Common.{◌≡◌, ℕ, zero, suc, ◌+◌, ◌≤◌, List, [], ◌∷◌, ◌++◌, length, Bool, true, false, cond, ltb, Option, Some, None, Result, Ok, Err, refl, sym, ap, subst, ◌∙◌, append-nil, arith}
+use Rattle.std.specs.Int.{to_be_bytes, w8, w16, w32}
 use Rattle.std.proofs.lemmas.Bool.{cond-false, le-ltb, ltb-false}
 use Rattle.mqtt_fields.specs.declared.fault.FieldFault.{FieldFault}
 use Rattle.mqtt_fields.specs.declared.fault.FieldFault.TheVariants as faults
@@ -8,7 +8,7 @@ use Rattle.mqtt_fields.specs.Reading.{Fails}
 use Rattle.mqtt_fields.specs.Field.{Field, IsBytes, IsField, after, seen}
 use Rattle.mqtt_fields.specs.Numbers.{number, long}
 use Rattle.mqtt_fields.proofs.Laws.{IsBytes-after, bind_ok, ok_is, after_is, variant_is}
-use Rattle.mqtt_fields.proofs.NumberLaws.{number_is, wide8, wide16, wide64, long_is}
+use Rattle.mqtt_fields.proofs.NumberLaws.{number_is, wide8, wide16, wide32, long_is}
 use Rattle.mqtt_message.proofs.SpellingLaws.{coded_is}
 use Rattle.causal_context.specs.Dots.{Dots}
 use Rattle.causal_context.specs.Spelling.{context}
@@ -19,12 +19,13 @@ use Rattle.replica_bytes.specs.Stores.{state}
 use Rattle.replica_bytes.proofs.Wholes.{state_is}
 use Rattle.bridge_frames.specs.declared.body.FrameBody.{FrameBody}
 use Rattle.bridge_frames.specs.declared.body.FrameBody.TheVariants.{Hello, Delta, Know, Forward, Got}
+use Rattle.bridge_frames.specs.declared.fault.LinkFault.TheVariants.{TooLarge}
 use Rattle.bridge_frames.specs.declared.kind.Kind.{Kind}
 use Rattle.bridge_frames.specs.declared.kind.Kind.TheVariants as kinds
 use Rattle.bridge_frames.specs.Kinds.{kind, kind_in, kind_number}
-use Rattle.bridge_frames.specs.Forwards.{Numbered, numbered}
-use Rattle.bridge_frames.proofs.ForwardLaws.{numbered_is}
-use Rattle.bridge_frames.specs.Frames.{Frame, limit, as_delta, as_know, as_forward, as_got, kind_of, hello, body, Parts, frame_of, frame_parts, content, HasSpelling, Spells, spelling, whole_of, whole, frame_of_run, frame_in}
+use Rattle.bridge_frames.specs.Forwards.{Numbered, got_number, numbered}
+use Rattle.bridge_frames.proofs.ForwardLaws.{got_number_is, numbered_is}
+use Rattle.bridge_frames.specs.Frames.{Frame, limit, length_by, length_in, as_delta, as_know, as_forward, as_got, kind_of, hello, body, Parts, frame_of, frame_parts, content, HasSpelling, Spells, spelling, whole_of, whole, frame_of_run, frame_in}
 
 kind_back : (n : ℕ) (k : Kind) → kind_in n ≡ Some k → kind_number k ≡ n
 kind_back zero k e = absurd cc
@@ -85,7 +86,7 @@ body_is kinds.Hello = hello_is
 body_is kinds.Delta = variant_is Delta as_delta state (λ _. refl) delta_forth state_is
 body_is kinds.Know = variant_is Know as_know context (λ _. refl) know_forth context_is
 body_is kinds.Forward = variant_is (λ x. Forward x.0 x.1) as_forward numbered (λ _. refl) forward_forth numbered_is
-body_is kinds.Got = variant_is Got as_got (number w64) (λ _. refl) got_forth (number_is w64 wide64)
+body_is kinds.Got = variant_is Got as_got got_number (λ _. refl) got_forth got_number_is
 
 -- a body of this kind fits no other
 kind_same : (k : Kind) (b : FrameBody) → (body k).Fits b → kind_of b ≡ k
@@ -244,3 +245,11 @@ no_frame bs bytes none = elim (frame_in bs) as (λ (o : Option Frame). frame_in 
 
 pub no_run : (bs : List ℕ) → IsBytes bs → ((run : List ℕ) → length run ≤ limit → bs ≡ long.bytes run → ⊥) → frame_in bs ≡ None
 no_run bs bytes none = no_frame bs bytes (λ f s. none (content.bytes f) s.has.small s.is)
+
+-- a length that is too large stands before no frame
+pub too_large : (bs : List ℕ) → IsBytes bs → length_in bs ≡ Err TooLarge → frame_in bs ≡ None
+too_large bs bytes e = no_run bs bytes (λ run small is.
+    let read : (number w32).at bs ≡ Ok (length run, run) = ap (number w32).at is ∙ (number_is w32 wide32).again (length run) run (few run small) in
+    let within : ltb limit (length run) ≡ false = le-ltb limit (length run) small in
+    let fine : length_in bs ≡ Ok (Some (4 + length run)) = ap length_by read ∙ cond-false (ltb limit (length run)) (Err TooLarge) (Ok (Some (4 + length run))) within in
+    absurd (let no : Err TooLarge ≡ Ok (Some (4 + length run)) = sym e ∙ fine in cc))

@@ -28,6 +28,10 @@ forward_parts f = (f.plain, (f.picks, f.message))
 unfoldable pub forward : Field Forward
 forward = seen forward_of forward_parts (after flag (λ _. after (listed pick) (λ _. message)))
 
+-- a number below 2^62, in eight bytes
+abbrev pub got_number : Field ℕ
+got_number = tested (λ n. nat_lt n (2 ^ 62)) Malformed (number w64)
+
 -- a number from 1 to 2^62 - 1, in eight bytes
 abbrev pub is_lane_number : ℕ → Bool
 is_lane_number n = nat_le 1 n && nat_lt n (2 ^ 62)

@@ -1,6 +1,6 @@
 -- The bytes of frames. Numbers have their highest byte first.
 use Rattle.std.specs.Prelude.{◌≡◌, ◌+◌, ◌<◌, ◌≤◌, ◌^◌, ℕ, nat_lt, List, [], ◌∷◌, length, Option, Some, None, Result, Ok, Err, if◌then◌else◌}
-use Rattle.std.specs.Int.{w16, w32, w64}
+use Rattle.std.specs.Int.{w16, w32}
 use Rattle.mqtt_fields.specs.declared.fault.FieldFault.{FieldFault}
 use Rattle.mqtt_fields.specs.Field.{Field, after, seen, variant}
 use Rattle.mqtt_fields.specs.Numbers.{number, long}
@@ -16,7 +16,7 @@ use Rattle.bridge_frames.specs.declared.frame.BridgeFrame.{BridgeFrame}
 use Rattle.bridge_frames.specs.declared.kind.Kind.{Kind}
 use Rattle.bridge_frames.specs.declared.kind.Kind.TheVariants as kinds
 use Rattle.bridge_frames.specs.Kinds.{kind}
-use Rattle.bridge_frames.specs.Forwards.{Numbered, numbered}
+use Rattle.bridge_frames.specs.Forwards.{Numbered, got_number, numbered}
 
 abbrev pub Frame : Type 0
 Frame = BridgeFrame
@@ -74,9 +74,9 @@ know = variant Know as_know context
 abbrev pub forward : Field FrameBody
 forward = variant (λ x. Forward x.0 x.1) as_forward numbered
 
--- a number in eight bytes
+-- a number below 2^62, in eight bytes; 0 stands for none
 abbrev pub got : Field FrameBody
-got = variant Got as_got (number w64)
+got = variant Got as_got got_number
 
 -- the body of a frame of this kind
 abbrev pub body : Kind → Field FrameBody

@@ -1,11 +1,12 @@
 //! What a frame says.
-ghost use Rattle.std.specs.Prelude.{◌≡◌, ◌++◌, OnOk};
+ghost use Rattle.std.specs.Prelude.{◌≡◌, ◌<◌, ◌++◌, ◌^◌, IfOk, OnOk};
 ghost use Rattle.mqtt_fields.specs.Reading.{Gives};
-ghost use Rattle.bridge_frames.specs.Forwards.{lane_number, numbered};
+ghost use Rattle.bridge_frames.specs.Forwards.{got_number, lane_number, numbered};
 ghost use Rattle.bridge_frames.specs.Frames as spec;
 
 use crate::forward::Forward;
 use crate::kind::Kind;
+use crate::number::LaneNumber;
 use causal_context::Context;
 use mqtt_fields::{FieldFault, NUMBERS_END, NoMemory, put_u64, u64_at};
 use replica_bytes::{read_store, write_store};
@@ -22,14 +23,27 @@ pub enum FrameBody {
     /// The dots that its sender has taken.
     Know(Context),
     /// A message of the lane from its sender, under its number there.
-    Forward(u64, Forward),
+    Forward(LaneNumber, Forward),
     /// What has come, up to this number.
-    Got(u64),
+    Got(LaneNumber),
+}
+
+// A number below 2^62.
+fn number_at(bytes: &[u8]) -> Result<(u64, &[u8]), FieldFault>
+    ensures exact { Gives (λ x. (x.0, x.1.now)) result (got_number.at bytes.now) }
+    ensures below { IfOk result (λ x. x.0 < 2 ^ 62) }
+{
+    let (number, rest) = u64_at(bytes)?;
+    if number >= NUMBERS_END {
+        return Err(FieldFault::Malformed);
+    }
+    Ok((number, rest))
 }
 
 // The number of a message in a lane, from 1 to 2^62 - 1.
 fn lane_number_at(bytes: &[u8]) -> Result<(u64, &[u8]), FieldFault>
-    ensures { Gives (λ x. (x.0, x.1.now)) result (lane_number.at bytes.now) }
+    ensures exact { Gives (λ x. (x.0, x.1.now)) result (lane_number.at bytes.now) }
+    ensures below { IfOk result (λ x. x.0 < 2 ^ 62) }
 {
     let (number, rest) = u64_at(bytes)?;
     if number == 0 || number >= NUMBERS_END {
@@ -38,16 +52,38 @@ fn lane_number_at(bytes: &[u8]) -> Result<(u64, &[u8]), FieldFault>
     Ok((number, rest))
 }
 
-fn append_forward(number: u64, forward: &Forward, out: &mut Vec<u8>) -> Result<(), NoMemory>
+fn append_forward(number: LaneNumber, forward: &Forward, out: &mut Vec<u8>) -> Result<(), NoMemory>
     ensures ok { OnOk result (out.new.items ≡ out.old.items ++ numbered.bytes (number, forward.now)) }
     ensures spelling { lane_number.Fits number → numbered.Fits (number, forward.now) }
 {
     forward.has_spelling();
-    put_u64(number, out)?;
+    put_u64(number.get(), out)?;
     forward.append(out)
 }
 
+fn append_got(number: LaneNumber, out: &mut Vec<u8>) -> Result<(), NoMemory>
+    ensures ok { OnOk result (out.new.items ≡ out.old.items ++ got_number.bytes number) }
+    ensures spelling { got_number.Fits number }
+{
+    put_u64(number.get(), out)
+}
+
 impl FrameBody {
+    /// An equal body. A message is shared.
+    pub fn copy(&self, alloc: Global) -> Result<FrameBody, NoMemory>
+        ensures { IfOk result (λ copy. copy ≡ self.now) }
+    {
+        match self {
+            FrameBody::Hello => Ok(FrameBody::Hello),
+            FrameBody::Delta(state) => Ok(FrameBody::Delta(state.copy()?)),
+            FrameBody::Know(dots) => Ok(FrameBody::Know(dots.copy()?)),
+            FrameBody::Forward(number, forward) => {
+                Ok(FrameBody::Forward(*number, forward.copy(alloc)?))
+            }
+            FrameBody::Got(number) => Ok(FrameBody::Got(*number)),
+        }
+    }
+
     pub(crate) fn kind(&self) -> Kind
         ensures { result ≡ spec.kind_of self.now }
     {
@@ -73,7 +109,7 @@ impl FrameBody {
             FrameBody::Delta(state) => write_store(state, out),
             FrameBody::Know(dots) => dots.write(out),
             FrameBody::Forward(number, forward) => append_forward(*number, forward, out),
-            FrameBody::Got(number) => put_u64(*number, out),
+            FrameBody::Got(number) => append_got(*number, out),
         }
     }
 }
@@ -97,14 +133,14 @@ fn forward_at(alloc: Global, bytes: &[u8]) -> Result<(FrameBody, &[u8]), FieldFa
 {
     let (number, rest) = lane_number_at(bytes)?;
     let (forward, rest) = Forward::at(alloc, rest)?;
-    Ok((FrameBody::Forward(number, forward), rest))
+    Ok((FrameBody::Forward(LaneNumber::of(number), forward), rest))
 }
 
 fn got_at(bytes: &[u8]) -> Result<(FrameBody, &[u8]), FieldFault>
     ensures { Gives (λ x. (x.0, x.1.now)) result (spec.got.at bytes.now) }
 {
-    let (number, rest) = u64_at(bytes)?;
-    Ok((FrameBody::Got(number), rest))
+    let (number, rest) = number_at(bytes)?;
+    Ok((FrameBody::Got(LaneNumber::of(number)), rest))
 }
 
 /// The body of a frame of this kind at the front, and the bytes after it.

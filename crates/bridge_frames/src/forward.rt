@@ -1,5 +1,5 @@
 //! Messages for clients of another node.
-ghost use Rattle.std.specs.Prelude.{◌≡◌, ◌++◌, IfOk, OnOk};
+ghost use Rattle.std.specs.Prelude.{◌≡◌, ◌++◌, length, take, IfOk, OnOk, OnErr};
 ghost use Rattle.mqtt_fields.specs.Reading.{Gives};
 ghost use Rattle.mqtt_message.specs.Spelling.{flag};
 ghost use Rattle.mqtt_message.specs.Spellings.{message};
@@ -32,7 +32,8 @@ fn flag_at(bytes: &[u8]) -> Result<(bool, &[u8]), FieldFault>
 }
 
 fn put_flag(set: bool, out: &mut Vec<u8>) -> Result<(), NoMemory>
-    ensures { OnOk result (out.new.items ≡ out.old.items ++ flag.bytes set) }
+    ensures ok { OnOk result (out.new.items ≡ out.old.items ++ flag.bytes set) }
+    ensures err { OnErr result (out.new.items ≡ out.old.items) }
 {
     put_u8(if set { 1 } else { 0 }, out)
 }
@@ -67,7 +68,8 @@ impl Forward {
     /// Appends the spelling, or its beginning where memory runs out.
     #[tactic(auto, unfolding(crate::specs::Forwards::forward))]
     pub fn append(&self, out: &mut Vec<u8>) -> Result<(), NoMemory>
-        ensures { OnOk result (out.new.items ≡ out.old.items ++ spec.forward.bytes self.now) }
+        ensures ok { OnOk result (out.new.items ≡ out.old.items ++ spec.forward.bytes self.now) }
+        ensures begins { take (length out.old.items) out.new.items ≡ out.old.items }
     {
         put_flag(self.plain, out)?;
         self.picks.append(out)?;

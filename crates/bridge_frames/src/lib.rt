@@ -8,6 +8,7 @@ mod frame;
 mod kind;
 pub mod laws;
 mod length;
+mod number;
 mod pick;
 
 pub use body::FrameBody;
@@ -15,4 +16,5 @@ pub use fault::LinkFault;
 pub use forward::Forward;
 pub use frame::BridgeFrame;
 pub use length::frame_length;
+pub use number::LaneNumber;
 pub use pick::{Pick, Picks};

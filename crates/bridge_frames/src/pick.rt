@@ -1,5 +1,5 @@
 //! Members of shared groups.
-ghost use Rattle.std.specs.Prelude.{◌≡◌, ◌↔◌, ◌<◌, ◌^◌, ◌++◌, length, flat_map, IfOk, MatchOption, OnOk};
+ghost use Rattle.std.specs.Prelude.{◌≡◌, ◌↔◌, ◌<◌, ◌^◌, ◌++◌, length, take, flat_map, IfOk, MatchOption, OnOk};
 ghost use Rattle.std.specs.List.{AllByRecursion};
 ghost use Rattle.mqtt_fields.specs.Reading.{Gives};
 ghost use Rattle.mqtt_message.specs.Spelling.{listed, values_at};
@@ -49,7 +49,8 @@ impl Pick {
     }
 
     fn append(&self, out: &mut Vec<u8>) -> Result<(), NoMemory>
-        ensures { OnOk result (out.new.items ≡ out.old.items ++ spec.pick.bytes self.now) }
+        ensures ok { OnOk result (out.new.items ≡ out.old.items ++ spec.pick.bytes self.now) }
+        ensures begins { take (length out.old.items) out.new.items ≡ out.old.items }
     {
         self.client.write(out)?;
         self.filter.as_text().write(out)
@@ -105,8 +106,10 @@ fn list_at(alloc: Global, count: u16, bytes: &[u8]) -> Result<(Vec<Pick>, &[u8])
     Ok((list, rest))
 }
 
+#[tactic(auto, using(replica_bytes::proofs::Loops::begins_so))]
 fn append_list(list: &[Pick], out: &mut Vec<u8>) -> Result<(), NoMemory>
-    ensures { OnOk result (out.new.items ≡ out.old.items ++ flat_map spec.pick.bytes list.now) }
+    ensures ok { OnOk result (out.new.items ≡ out.old.items ++ flat_map spec.pick.bytes list.now) }
+    ensures begins { take (length out.old.items) out.new.items ≡ out.old.items }
 {
     for pick in list {
         pick.append(out)?;
@@ -163,7 +166,8 @@ impl Picks {
 
     /// Appends the picks, or their beginning where memory runs out.
     pub(crate) fn append(&self, out: &mut Vec<u8>) -> Result<(), NoMemory>
-        ensures { OnOk result (out.new.items ≡ out.old.items ++ (listed spec.pick).bytes self.now) }
+        ensures ok { OnOk result (out.new.items ≡ out.old.items ++ (listed spec.pick).bytes self.now) }
+        ensures begins { take (length out.old.items) out.new.items ≡ out.old.items }
     {
         put_u16(self.list.len() as u16, out)?;
         append_list(&self.list, out)

@@ -78,12 +78,12 @@ fn content(alloc: Global, number: u64) -> Result<Content, Failure> {
 fn put(alloc: Global, number: u64) -> Result<Operation, Failure> {
     let dot = dot(2, number)?;
     let content = content(alloc, number)?;
+    let Some(stamp) = Stamp::new(number, 2) else {
+        return Err(Failure::Answer);
+    };
     Ok(Operation::Put {
         dot,
-        stamp: Stamp {
-            count: number,
-            node: 2,
-        },
+        stamp,
         content,
     })
 }

@@ -1,5 +1,5 @@
 -- The command lines of the program, and what each asks for.
-use Rattle.std.specs.Prelude.{◌≡◌, ◌≤◌, ℕ, List, [], Some, None, Option, String, true, pos, codes}
+use Rattle.std.specs.Prelude.{◌≡◌, ◌≢◌, ◌≤◌, ℕ, List, [], Some, None, Option, String, true, pos, codes}
 use Rattle.std.specs.declared.alloc.Global.{Global}
 use Rattle.std.specs.Str.Parse.{IsNumeral, digits_value, without_leading_plus}
 use Rattle.clap.specs.Words.{App, IsAmong, Row, Rule, Text, fault_of, first_of, new_app, new_rule, one_of, subcommand_of, with_rule, with_subcommand}
@@ -7,11 +7,12 @@ use Rattle.clap.specs.Simple.{on_top}
 use Rattle.clap.specs.declared.builder.action.ArgAction.TheVariants.{Set}
 use Rattle.clap.specs.declared.builder.value_parser.ValueParser.TheVariants.{Signed}
 use Rattle.clap.specs.declared.error.kind.ErrorKind.{ErrorKind}
-use Rattle.clap.specs.declared.error.kind.ErrorKind.TheVariants.{DisplayHelp}
+use Rattle.clap.specs.declared.error.kind.ErrorKind.TheVariants.{DisplayHelp, OutOfMemory}
 use Rattle.broker_stop.specs.declared.stop.Stop.{Stop}
-use Rattle.broker_stop.specs.declared.stop.Stop.TheVariants.{Help, CommandLine}
+use Rattle.broker_stop.specs.declared.stop.Stop.TheVariants.{Help, CommandLine, Run}
+use Rattle.broker_stop.specs.declared.run_fault.RunFault.TheVariants.{NoMemory}
 use Rattle.broker_command.specs.declared.task.Task.{Task}
-use Rattle.broker_command.specs.declared.task.Task.TheVariants.{Play, Loopback, Serve}
+use Rattle.broker_command.specs.declared.task.Task.TheVariants.{Play, Loopback, Serve, Check}
 
 -- an argument that has to be there, with one value
 abbrev pub word_rule : Text → Rule
@@ -38,11 +39,16 @@ abbrev pub serve : App
 serve = with_rule (with_rule (with_rule (with_rule (new_app (codes "serve"))
     (word_rule (codes "CONFIG"))) (word_rule (codes "NODE"))) (word_rule (codes "DATABASE"))) turns_rule
 
--- the program's words: one of the three commands, without the program's name
+-- `check CONFIG NODE DATABASE`
+abbrev pub check : App
+check = with_rule (with_rule (with_rule (new_app (codes "check"))
+    (word_rule (codes "CONFIG"))) (word_rule (codes "NODE"))) (word_rule (codes "DATABASE"))
+
+-- the program's words: one of the four commands, without the program's name
 unfoldable pub broker : App
-broker = with_subcommand (with_subcommand (with_subcommand
+broker = with_subcommand (with_subcommand (with_subcommand (with_subcommand
     (on_top (λ s. record s { no_binary_name = true; subcommand_required = true }) (new_app (codes "broker")))
-    play.top) loopback.top) serve.top
+    play.top) loopback.top) serve.top) check.top
 
 -- the path of a script
 abbrev pub IsScript : List Row → String Global → Type 0
@@ -53,12 +59,14 @@ abbrev pub IsPlay : List Row → Task → Type 0
 IsPlay rows (Play script) = IsScript rows script
 IsPlay rows (Loopback script) = ⊥
 IsPlay rows (Serve configuration node database turns) = ⊥
+IsPlay rows (Check configuration node database) = ⊥
 
 -- a script to play over sockets
 abbrev pub IsLoopback : List Row → Task → Type 0
 IsLoopback rows (Play script) = ⊥
 IsLoopback rows (Loopback script) = IsScript rows script
 IsLoopback rows (Serve configuration node database turns) = ⊥
+IsLoopback rows (Check configuration node database) = ⊥
 
 -- turns to make, in range, as the text spells them
 pub record IsTurns (rows : List Row) (turns : ℕ) : Type 0 where
@@ -77,6 +85,17 @@ IsServe rows (Serve configuration node database turns) =
     (first_of (codes "CONFIG") rows ≡ Some configuration.bytes.items)
     × (first_of (codes "NODE") rows ≡ Some node.bytes.items)
     × (first_of (codes "DATABASE") rows ≡ Some database.bytes.items) × IsTurns rows turns
+IsServe rows (Check configuration node database) = ⊥
+
+-- a node whose rows are to be told
+abbrev pub IsCheck : List Row → Task → Type 0
+IsCheck rows (Play script) = ⊥
+IsCheck rows (Loopback script) = ⊥
+IsCheck rows (Serve configuration node database turns) = ⊥
+IsCheck rows (Check configuration node database) =
+    (first_of (codes "CONFIG") rows ≡ Some configuration.bytes.items)
+    × (first_of (codes "NODE") rows ≡ Some node.bytes.items)
+    × (first_of (codes "DATABASE") rows ≡ Some database.bytes.items)
 
 -- the task of a command with what follows it
 abbrev pub IsOf : Option (Text × List Row) → Task → Type 0
@@ -85,6 +104,8 @@ IsOf (Some (name, rows)) (Play script) = (name ≡ codes "play") × IsPlay rows 
 IsOf (Some (name, rows)) (Loopback script) = (name ≡ codes "loopback") × IsLoopback rows (Loopback script)
 IsOf (Some (name, rows)) (Serve configuration node database turns) =
     (name ≡ codes "serve") × IsServe rows (Serve configuration node database turns)
+IsOf (Some (name, rows)) (Check configuration node database) =
+    (name ≡ codes "check") × IsCheck rows (Check configuration node database)
 
 -- the words are a command line without a fault, and ask for the task
 pub record IsTask (words : List Text) (task : Task) : Type 0 where
@@ -94,11 +115,13 @@ pub record IsTask (words : List Text) (task : Task) : Type 0 where
 -- what is said of an error of that kind
 abbrev pub IsStopOf : ErrorKind → Stop → Type 0
 IsStopOf kind (Help text) = kind ≡ DisplayHelp
-IsStopOf kind (CommandLine text) = Unit {0}
+IsStopOf kind (CommandLine text) = kind ≢ OutOfMemory
+IsStopOf kind (Run fault) = fault ≡ NoMemory
 IsStopOf kind other = ⊥
 
 -- the words ask for help, or there is something wrong with them, or memory ran out
 abbrev pub IsRefusal : List Text → Stop → Type 0
 IsRefusal words (Help text) = IsAmong DisplayHelp (fault_of broker words)
 IsRefusal words (CommandLine text) = Unit {0}
+IsRefusal words (Run fault) = fault ≡ NoMemory
 IsRefusal words other = ⊥

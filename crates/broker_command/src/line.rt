@@ -3,10 +3,10 @@
 ghost use Rattle.std.specs.Prelude.{◌≡◌, map, false, IfOk, IfSome, MatchResult};
 ghost use Rattle.clap.specs.Words.{HasKind, app_of, fault_of, found_of, kind_of, rows_of, rule_of, subcommand_rows_of};
 ghost use Rattle.clap.specs.declared.builder.command.Command.TheViews.{out-Command as fields_of};
-ghost use Rattle.broker_command.specs.Line.{broker, play, loopback, serve, word_rule, turns_rule, IsTask, IsOf, IsPlay, IsLoopback, IsServe, IsScript, IsRefusal, IsStopOf};
+ghost use Rattle.broker_command.specs.Line.{broker, play, loopback, serve, check, word_rule, turns_rule, IsTask, IsOf, IsPlay, IsLoopback, IsServe, IsCheck, IsScript, IsRefusal, IsStopOf};
 
 use crate::task::Task;
-use broker_stop::Stop;
+use broker_stop::{RunFault, Stop};
 use clap::error::ErrorKind;
 use clap::{Arg, ArgAction, ArgMatches, Command, Error, value_parser};
 use std::alloc::{AllocError, Global};
@@ -14,7 +14,7 @@ use std::alloc::{AllocError, Global};
 const MOST_TURNS: u32 = 1_000_000_000;
 
 /// The task that the words after the program's name ask for. `Stop::Help` has the help that they ask for
-/// instead; `Stop::CommandLine` says what is wrong with them, or that memory ran out.
+/// instead; `Stop::CommandLine` says what is wrong with them, and `Stop::Run` that memory ran out.
 pub fn task_of(alloc: Global, words: &[String]) -> Result<Task, Stop>
     ensures { MatchResult result (IsTask (map (λ w. w.bytes.items) words.now))
         (IsRefusal (map (λ w. w.bytes.items) words.now)) }
@@ -33,13 +33,15 @@ fn commands<'a>(alloc: Global) -> Result<Command<'a>, AllocError>
     let play = play_command(alloc)?;
     let loopback = loopback_command(alloc)?;
     let serve = serve_command(alloc)?;
+    let check = check_command(alloc)?;
     Command::new(alloc, "broker")
         .about("A node of a cluster of MQTT 5.0 brokers")
         .no_binary_name(true)
         .subcommand_required(true)
         .subcommand(play)?
         .subcommand(loopback)?
-        .subcommand(serve)
+        .subcommand(serve)?
+        .subcommand(check)
 }
 
 fn play_command<'a>(alloc: Global) -> Result<Command<'a>, AllocError>
@@ -69,6 +71,18 @@ fn serve_command<'a>(alloc: Global) -> Result<Command<'a>, AllocError>
         .arg(required(alloc, "NODE").help("The name of the node to be"))?
         .arg(required(alloc, "DATABASE").help("The file of the database that keeps what lasts"))?
         .arg(turns_option(alloc))
+}
+
+fn check_command<'a>(alloc: Global) -> Result<Command<'a>, AllocError>
+    ensures { IfOk result (λ c. (app_of c ≡ check) × ((fields_of c).has_globals ≡ false)) }
+{
+    Command::new(alloc, "check")
+        .about("Tells what the rows of a node that is down hold, and changes no file")
+        .arg(required(alloc, "CONFIG").help(
+            "The file that names the nodes and their homes, in TOML",
+        ))?
+        .arg(required(alloc, "NODE").help("The name of the node"))?
+        .arg(required(alloc, "DATABASE").help("The file of the database that keeps what lasts"))
 }
 
 fn turns_option<'a>(alloc: Global) -> Arg<'a>
@@ -111,6 +125,8 @@ fn named_task(alloc: Global, matches: &ArgMatches<'_>) -> Result<Option<Task>, A
         loopback_task(alloc, found)
     } else if name == "serve" {
         serve_task(alloc, found)
+    } else if name == "check" {
+        check_task(alloc, found)
     } else {
         Ok(None)
     }
@@ -169,18 +185,39 @@ fn serve_task(alloc: Global, found: &ArgMatches<'_>) -> Result<Option<Task>, All
     }))
 }
 
+fn check_task(alloc: Global, found: &ArgMatches<'_>) -> Result<Option<Task>, AllocError>
+    ensures { IfOk result (λ task. IfSome task (IsCheck (rows_of (found_of found.now)))) }
+{
+    let (Some(configuration), Some(node), Some(database)) = (
+        found.get_str("CONFIG"),
+        found.get_str("NODE"),
+        found.get_str("DATABASE"),
+    ) else {
+        return Ok(None);
+    };
+    let configuration = String::from_str(alloc, configuration)?;
+    let node = String::from_str(alloc, node)?;
+    let database = String::from_str(alloc, database)?;
+    Ok(Some(Task::Check {
+        configuration,
+        node,
+        database,
+    }))
+}
+
 /// What the program says where a parse gives no task.
 fn stop_of(alloc: Global, error: &Error) -> Stop
     ensures { IsStopOf (kind_of error.now) result }
 {
     let Ok(mut text) = format!(in alloc; "{error}") else {
-        return Stop::CommandLine(String::new(alloc));
+        return Stop::Run(RunFault::NoMemory);
     };
     if text.as_str().ends_with('\n') {
         text.pop();
     }
     match error.kind() {
         ErrorKind::DisplayHelp => Stop::Help(text),
+        ErrorKind::OutOfMemory => Stop::Run(RunFault::NoMemory),
         _ => Stop::CommandLine(text),
     }
 }

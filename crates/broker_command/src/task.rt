@@ -24,4 +24,13 @@ pub enum Task {
         /// How many turns to make, from 1 to 1,000,000,000.
         turns: u32,
     },
+    /// Tell what the rows of a node that is down hold.
+    Check {
+        /// The path of the configuration.
+        configuration: String,
+        /// The node's name in it.
+        node: String,
+        /// The path of the node's database.
+        database: String,
+    },
 }

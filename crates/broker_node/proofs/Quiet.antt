@@ -6,7 +6,6 @@ use Rattle.bridge_deltas.specs.declared.offer.Offer.TheVariants as offers
 use Rattle.bridge_frames.specs.declared.body.FrameBody.{FrameBody}
 use Rattle.bridge_frames.specs.declared.forward.Forward.{Forward}
 use Rattle.bridge_frames.specs.declared.frame.BridgeFrame.{BridgeFrame}
-use Rattle.home_table.specs.Homes.{IsHome}
 use Rattle.message_routes.specs.declared.destinations.Route.{Route}
 use Rattle.message_routes.specs.declared.destinations.Route.TheVariants as routes
 use Rattle.mqtt_fields.specs.declared.value.Property.{Property}
@@ -31,17 +30,17 @@ use Rattle.replica_store.specs.Making.{subscribe_of, put_of}
 use Rattle.session_laws.specs.Runs.{Event, answers, closes, connects, finishes, queues, takes, ticks}
 use Rattle.session_table.specs.Calls.{leaves, moves, stays}
 use Rattle.session_table.specs.Seats.{Seat, connected, ends_due, run_outs, wills_due}
-use Rattle.subscription_set.specs.Standing.{any_of}
+use Rattle.subscription_set.specs.Standing.{any_of, any_below}
 use Rattle.node_bridge.specs.View.{offer_to}
 use Rattle.node_work.specs.declared.counts.Missed.{Missed}
 use Rattle.node_work.specs.declared.counts.Missed.TheVariants.{FrameTooLarge, LaneFull}
 use Rattle.node_work.specs.Acts.{Act, Acknowledged, Began, Bridge, Connection, Dropped, Made, Merged, Moment, Named, Out, Passed, Session, Store, StoreAct, gather}
 use Rattle.node_work.specs.Calling.{Calls, CallsAt, Queues, QueuesOne}
-use Rattle.node_work.specs.Doings.{Disconnects, Gives, GivesFrame, MakesPut, MakesRemove, MakesSubscribe, Misses, Opens, PutsBy, Removes, Routes, RoutesBy, Sends, is_small}
+use Rattle.node_work.specs.Doings.{Disconnects, Gives, GivesFrame, MakesPut, MakesRemove, MakesRemoveBelow, MakesSubscribe, Misses, Opens, PutsBy, Removes, RemovesBelow, Routes, RoutesBy, Sends, is_small}
 use Rattle.node_work.specs.Held.Bridge.{Gave, Left_out, Put, heard_of}
 use Rattle.node_work.specs.Held.Connections.{Accepted, Closed, Fed, Opened, client_at, first_at, is_open}
 use Rattle.node_work.specs.Held.Feeding.{cut_of}
-use Rattle.node_work.specs.Held.Making.{number_at_end, put_at_end, removal}
+use Rattle.node_work.specs.Held.Making.{number_at_end, put_at_end, removal, removal_below}
 use Rattle.node_work.specs.Held.Sessions.{Begun, Over, connection_at, end_is_due, has_session, seat_at, takes_disconnect, will_is_due}
 use Rattle.node_work.specs.Packets.{refused_packet}
 use Rattle.node_work.specs.Passing.{content_of, turn_at_end}
@@ -156,6 +155,16 @@ removes_quiet client to =
     (λ stands. if_quiet stands (Then (MakesRemove client to) (λ _. Returns true)) (Returns false)
     (then_quiet (MakesRemove client to) (λ _. Returns true) (numbered_quiet (λ p h. number_at_end p.id h) (λ p h. Store (Made (removal p.id client to h.store))) (λ p h. refl)) (λ _. returns_quiet true)) (returns_quiet false))
 
+removes_below_quiet : (client : List ℕ) (version : ℕ) → Quiet (RemovesBelow client version)
+removes_below_quiet client version =
+    looks_quiet (λ p h. any_below client version h.store.subscriptions) (λ stands. If stands (Then (MakesRemoveBelow client version) (λ _. Returns true)) (Returns false))
+    (λ stands. if_quiet stands (Then (MakesRemoveBelow client version) (λ _. Returns true)) (Returns false)
+    (then_quiet (MakesRemoveBelow client version) (λ _. Returns true) (numbered_quiet (λ p h. number_at_end p.id h) (λ p h. Store (Made (removal_below p.id client version h.store))) (λ p h. refl)) (λ _. returns_quiet true)) (returns_quiet false))
+
+removes_own_quiet : (client : List ℕ) → Quiet (ending.RemovesOwn client)
+removes_own_quiet client =
+    finds_quiet (ending.IsAtHome client) (ending.RemovesFor client) (λ node. looks_quiet (ending.ends_below node) (RemovesBelow client) (removes_below_quiet client))
+
 pub opens_quiet : (c : ℕ) → Quiet (Opens c)
 opens_quiet c =
     looks_quiet (λ p h. is_open c h) (λ is. If is (Returns tt) (Acting (λ p h. Connection (Opened c))))
@@ -222,7 +231,7 @@ passes_asked_quiet (Some asks.Unsubscribe) = returns_quiet tt
 
 ends_session_quiet : (client : List ℕ) → Quiet (ending.EndsSession client)
 ends_session_quiet client =
-    then_quiet (Removes client None) (λ _. Acting (λ p h. Session (Over client))) (removes_quiet client None) (λ _. acting_quiet (λ p h. Session (Over client)) (λ p h. refl))
+    then_quiet (ending.RemovesOwn client) (λ _. Acting (λ p h. Session (Over client))) (removes_own_quiet client) (λ _. acting_quiet (λ p h. Session (Over client)) (λ p h. refl))
 
 follows_quiet : (client : List ℕ) (r : Reaction) → Quiet (ending.Follows client r)
 follows_quiet client r =
@@ -264,12 +273,13 @@ closes_after_quiet (Some code) c client = closes_for_quiet c client
 
 grants_by_quiet : (client : List ℕ) (identifier : ℕ) (f : SubscribeFilter) (stood : Bool) → Quiet (subscribing.GrantsBy client identifier f stood)
 grants_by_quiet client identifier f stood =
-    let entry = subscribing.entry_of client f identifier in
+    let Makes = subscribing.SubscribesTo client identifier f in
     let g = subscribing.granted f (identifiers_of identifier) stood in
     let no = subscribing.refused 151 in
-    looks_quiet (λ p h. not stood && subscribing.has_most client h.store) (λ full. If full (Returns no) (Then (MakesSubscribe entry) (λ _. Returns g)))
-    (λ full. if_quiet full (Returns no) (Then (MakesSubscribe entry) (λ _. Returns g)) (returns_quiet no)
-    (then_quiet (MakesSubscribe entry) (λ _. Returns g) (numbered_quiet (λ p h. number_at_end p.id h) (λ p h. Store (Made (subscribe_of p.id entry h.store))) (λ p h. refl)) (λ _. returns_quiet g)))
+    looks_quiet (λ p h. not stood && subscribing.has_most client h.store) (λ full. If full (Returns no) (Then Makes (λ _. Returns g)))
+    (λ full. if_quiet full (Returns no) (Then Makes (λ _. Returns g)) (returns_quiet no)
+    (then_quiet Makes (λ _. Returns g) (looks_quiet (λ p h. h.homes.version) (λ version. MakesSubscribe (subscribing.entry_of client f identifier version))
+    (λ version. numbered_quiet (λ p h. number_at_end p.id h) (λ p h. Store (Made (subscribe_of p.id (subscribing.entry_of client f identifier version) h.store))) (λ p h. refl))) (λ _. returns_quiet g)))
 
 grants_quiet : (client : List ℕ) (identifier : ℕ) (f : SubscribeFilter) → Quiet (subscribing.Grants client identifier f)
 grants_quiet client identifier f =
@@ -357,7 +367,7 @@ does_reaction_quiet c client p room r =
 
 serves_quiet : (c : ℕ) (client : List ℕ) (p : Packet) → Quiet (serving.Serves c client p)
 serves_quiet c client p =
-    looks_quiet (λ place h. serving.room_for p h.store) (serving.ServesIn c client p)
+    looks_quiet (λ place h. serving.room_for client p h) (serving.ServesIn c client p)
     (λ room. then_quiet (Calls client (λ at. takes p at room) stays) (serving.DoesReaction c client p room) (calls_quiet client (λ at. takes p at room) stays) (does_reaction_quiet c client p room))
 
 -- ---- CONNECT
@@ -408,12 +418,12 @@ comes_home_quiet : (c : ℕ) (p : Connect) (node : ℕ) → Quiet (connecting.Co
 comes_home_quiet c p node =
     looks_quiet (λ place h. node == place.id) (λ here. If here (connecting.AcceptsAs c p p.client) (connecting.Refers c p node))
     (λ here. if_quiet here (connecting.AcceptsAs c p p.client) (connecting.Refers c p node) (accepts_as_quiet c p p.client)
-    (looks_quiet (λ place h. connecting.address_of place node) (λ reference. connecting.Refuses c p 156 reference) (refuses_quiet c p 156)))
+    (looks_quiet (λ place h. connecting.address_of h node) (λ reference. connecting.Refuses c p 156 reference) (refuses_quiet c p 156)))
 
 connects_at_quiet : (unnamed : Bool) (c : ℕ) (p : Connect) → Quiet (connecting.ConnectsAt unnamed c p)
 connects_at_quiet true c p =
     where_quiet _ (Finds IsNextNumber (connecting.NamesBy c p)) (connecting.Refuses c p 144 None) (finds_quiet IsNextNumber (connecting.NamesBy c p) (names_by_quiet c p)) (refuses_quiet c p 144 None)
-connects_at_quiet false c p = finds_quiet (λ place h node. IsHome place.homes p.client node) (connecting.ComesHome c p) (comes_home_quiet c p)
+connects_at_quiet false c p = finds_quiet (ending.IsAtHome p.client) (connecting.ComesHome c p) (comes_home_quiet c p)
 
 connects_by_quiet : (code : Option ℕ) (c : ℕ) (p : Connect) → Quiet (connecting.ConnectsBy code c p)
 connects_by_quiet (Some code) c p = refuses_quiet c p code None

@@ -1,8 +1,8 @@
 -- A step of a node, from its work.
 use Rattle.std.proofs.Common.{◌≡◌, ℕ, ◌<◌, ◌≤◌, ◌^◌, max, not, nat_lt, Bool, true, false, cond, List, [], ◌∷◌, ◌++◌, Option, Some, None, Result, Ok, Err, inl, inr, refl, sym, ap, subst, ◌∙◌, arith}
-use Rattle.std.specs.Result.{IfErr, IfOk, IsErrAnd, IsOk}
+use Rattle.std.specs.Result.{IfErr, IfOk, IsErrAnd, IsOk, OnOk}
 use Rattle.std.proofs.lemmas.Bool.Decides.{nat_tests}
-use Rattle.home_table.specs.Table.{IsTable}
+use Rattle.home_table.specs.Table.{IsTable, Table}
 use Rattle.node_work.specs.declared.fault.NodeFault.{NodeFault}
 use Rattle.node_work.specs.declared.fault.NodeFault.TheVariants.{NoMemory, NumbersAtEnd, Stopped}
 use Rattle.node_work.specs.declared.outcome.Outcome.{Outcome}
@@ -11,6 +11,7 @@ use Rattle.node_work.specs.Acts.{Act, Moment, Runs, gather, heard_in, merge_in, 
 use Rattle.node_work.specs.View.{Place, HeldView, WorkView, NodeView, up_of}
 use Rattle.node_work.specs.Lasting.{CanLast, held_row}
 use Rattle.node_work.specs.Working.{Did, Comes, Doing}
+use Rattle.node_work.proofs.Homes.{homes_stay}
 use Rattle.row_changes.specs.Gathered.{AreOnce, Settle}
 use Rattle.row_changes.specs.Leading.{Lead, Begin, Differ}
 use Rattle.row_changes.proofs.Leaving.{settled_lead}
@@ -98,19 +99,24 @@ pub failed_comes : (r : Result Outcome NodeFault) (f : NodeFault) (w start a b :
 failed_comes (Ok o) f w start a b P is at d = tt
 failed_comes (Err g) f w start a b P is at d = subst (λ h. Comes {T = Unit {0}} (λ x. x) (Err h) (begun w) b P) (sym is) (comes_elsewhere f (begun w) a b P (subst (λ (v : WorkView). Comes {T = Unit {0}} (λ x. x) (Err f) v a P) at d))
 
+-- the table stays
+pub settled_homes : (e : Event) (r : Result Outcome NodeFault) (w w' : WorkView) → IfOk r (λ o. Settles w e o w') → OnOk r (w'.held.homes ≡ w.held.homes)
+settled_homes e (Ok o) w w' s = ap (λ (v : WorkView). v.held.homes) s.rest ∙ homes_stay w.place s.did.acts w.held s.last.held s.did.runs
+settled_homes e (Err f) w w' s = tt
+
 -- ---- a step
-module _ (n : NodeView) (place : Place) (w : WorkView) (stopped : Bool) (e : Event) (view : record { place = place; up = up_of stopped w.held } ≡ n) (kept : stopped ≡ false → w.place ≡ place) (runs : stopped ≡ false) where
+module _ (n : NodeView) (place : Place) (homes : Table) (w : WorkView) (stopped : Bool) (e : Event) (view : record { place = place; homes = homes; up = up_of stopped w.held } ≡ n) (kept : stopped ≡ false → (w.place ≡ place) × (w.held.homes ≡ homes)) (runs : stopped ≡ false) where
   up : n.up ≡ Some w.held
   up = sym (ap (λ (m : NodeView). m.up) view) ∙ ap (λ b. up_of b w.held) runs
 
   places : n.place ≡ w.place
-  places = sym (ap (λ (m : NodeView). m.place) view) ∙ sym (kept runs)
+  places = sym (ap (λ (m : NodeView). m.place) view) ∙ sym (kept runs).0
 
   -- what is said of the work is said of the node
   here : (P : Place → HeldView → Type 0) → P w.place w.held → P n.place w.held
   here P d = subst (λ (p : Place). P p w.held) (sym places) d
 
-  pub done : (o : Outcome) (w' : WorkView) → Settles w e o w' → IsDone n e o.outputs.items o.changes.items (record { place = place; up = up_of stopped w'.held })
+  pub done : (o : Outcome) (w' : WorkView) → Settles w e o w' → IsDone n e o.outputs.items o.changes.items (record { place = place; homes = homes; up = up_of stopped w'.held })
   done o w' s =
       let d = s.did in
       let last = s.last in
@@ -129,6 +135,7 @@ module _ (n : NodeView) (place : Place) (w : WorkView) (stopped : Bool) (e : Eve
         acts = d.acts;
         was = up;
         is = ap (λ b. up_of b w'.held) runs ∙ ap (λ (v : WorkView). Some v.held) s.rest;
+        homes = sym (kept runs).1 ∙ sym (homes_stay w.place d.acts w.held last.held d.runs);
         steps = record {
           does = does;
           runs = here (λ p h. Runs p h d.acts last.held) d.runs;
@@ -143,12 +150,12 @@ module _ (n : NodeView) (place : Place) (w : WorkView) (stopped : Bool) (e : Eve
         differ = final.1;
       }
 
-  pub not_at_end : IsTable place.homes → (o : Outcome) (w' : WorkView) → Settles w e o w' → IsAtEnd n e → ⊥
+  pub not_at_end : IsTable w.held.homes → (o : Outcome) (w' : WorkView) → Settles w e o w' → IsAtEnd n e → ⊥
   not_at_end table o w' s a =
       let d = s.did in
       let same : Some a.0 ≡ Some w.held = sym a.1 ∙ up in
       let held : a.0 ≡ w.held = cc in
-      let z : None ≡ Some tt = (decides_determined e None (Some tt) n.place w.held a.2.0 d.acts (subst (λ (p : Place). IsTable p.homes) (ap (λ (m : NodeView). m.place) view) table) (subst (λ h. Decides e None n.place h a.2.0) held a.2.1) (here (λ p h. Decides e (Some tt) p h d.acts) d.does)).0 in
+      let z : None ≡ Some tt = (decides_determined e None (Some tt) n.place w.held a.2.0 d.acts table (subst (λ h. Decides e None n.place h a.2.0) held a.2.1) (here (λ p h. Decides e (Some tt) p h d.acts) d.does)).0 in
       cc
 
   abbrev faulted : NodeFault → Result Outcome NodeFault

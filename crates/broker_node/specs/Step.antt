@@ -71,6 +71,7 @@ pub record IsDone (n : NodeView) (e : Event) (outputs : List Output) (changes : 
   pub acts : List Act
   pub was : n.up ≡ Some before
   pub is : n'.up ≡ Some after
+  pub homes : n'.homes ≡ after.homes
   pub steps : Steps n.place before e acts outputs after
   pub once : AreOnce changes
   pub leads : Lead (held_row n.place.id before) (held_row n.place.id after) changes

@@ -10,7 +10,7 @@ ghost use Rattle.node_work.specs.View.{HeldView};
 ghost use Rattle.node_work.specs.Working.{Comes};
 ghost use Rattle.std.specs.Prelude.{Some};
 
-use bridge_frames::{BridgeFrame, Forward, FrameBody, LinkFault};
+use bridge_frames::{BridgeFrame, Forward, FrameBody, LaneNumber, LinkFault};
 use node_clients::take_forward;
 use node_work::{Missed, NodeFault, Work};
 use replica_store::ReplicaStore;
@@ -18,7 +18,7 @@ use replica_store::ReplicaStore;
 fn is_other(work: &Work, peer: u16) -> bool
     ensures { result ≡ is_other work.now.place peer }
 {
-    peer != work.id() && peer < work.homes().nodes()
+    peer != work.id() && peer < work.nodes()
 }
 
 /// Gives another node a frame of what the node holds.
@@ -86,6 +86,7 @@ pub fn hear(work: &mut Work, bytes: &[u8]) -> Result<(), NodeFault>
     match BridgeFrame::read(work.alloc(), bytes) {
         Ok(frame) => hear_frame(work, frame),
         Err(LinkFault::BadFrame) => work.miss(Missed::BadFrame),
+        Err(LinkFault::TooLarge) => work.miss(Missed::BadFrame),
         Err(_) => Err(NodeFault::NoMemory),
     }
 }
@@ -137,14 +138,24 @@ fn merge(work: &mut Work, from: u16, state: ReplicaStore) -> Result<(), NodeFaul
 }
 
 /// Takes a message where it is the next of its lane, and answers with the number of the last one that was taken.
-fn take_message(work: &mut Work, from: u16, number: u64, message: &Forward) -> Result<(), NodeFault>
+fn take_message(
+    work: &mut Work,
+    from: u16,
+    number: LaneNumber,
+    message: &Forward,
+) -> Result<(), NodeFault>
     ensures { Comes (λ x. x) result work.old work.new (TakesMessage from number message.now) }
 {
     take_next(work, from, number, message)?;
     tell_got(work, from)
 }
 
-fn take_next(work: &mut Work, from: u16, number: u64, message: &Forward) -> Result<(), NodeFault>
+fn take_next(
+    work: &mut Work,
+    from: u16,
+    number: LaneNumber,
+    message: &Forward,
+) -> Result<(), NodeFault>
     ensures { Comes (λ x. x) result work.old work.new (TakesNext from number message.now) }
 {
     if work.held().bridge().is_next(from, number) {

@@ -7,6 +7,7 @@ ghost use Rattle.broker_node.specs.Step.{IsDone, IsAtEnd, HasCauseAt, Settles, b
 ghost use Rattle.broker_node.specs.Turns.{Decides};
 ghost use Rattle.node_rows.specs.Reading.{SayNothing};
 ghost use Rattle.node_work.specs.Held.Connections.{is_open};
+ghost use Rattle.node_work.specs.View.{place_of};
 ghost use Rattle.node_work.specs.Working.{Comes};
 ghost use Rattle.node_work.specs.declared.fault.NodeFault.TheVariants.{NumbersAtEnd, Stopped};
 
@@ -40,15 +41,15 @@ impl Drop for Node {
 
 impl Model for Node {
     ghost use Rattle.std.specs.Prelude.{◌≡◌, false};
-    ghost use Rattle.node_work.specs.View.{NodeView, up_of, coded_node};
+    ghost use Rattle.node_work.specs.View.{NodeView, place_of, up_of, coded_node};
 
     ghost Value = { NodeView };
 
     ghost coded = { coded_node };
 
-    ghost view = { λ n. record { place = record { id = n.id; homes = n.homes }; up = up_of n.stopped n.work.held } };
+    ghost view = { λ n. record { place = place_of n.id n.homes; homes = n.homes; up = up_of n.stopped n.work.held } };
 
-    ghost invariant = { λ n. n.stopped ≡ false → n.work.place ≡ record { id = n.id; homes = n.homes } };
+    ghost invariant = { λ n. n.stopped ≡ false → (n.work.place ≡ place_of n.id n.homes) × (n.work.held.homes ≡ n.homes) };
 }
 
 /// Decides an event of a node that runs, and hands over what comes of it.
@@ -56,6 +57,7 @@ fn settle(work: &mut Work, event: &Event) -> Result<Outcome, NodeFault>
     ensures idle { event.now.at < 2 ^ 62 → IsIdle work.old.place work.old.held event.now → Rests result }
     ensures end { 2 ^ 62 ≤ event.now.at → result ≡ Err NumbersAtEnd }
     ensures ok { IfOk result (λ o. Settles work.old event.now o work.new) }
+    ensures homes { OnOk result (work.new.held.homes ≡ work.old.held.homes) }
     ensures err { IfErr result (λ f. Comes {T = Unit {0}} (λ x. x) (Err f) (begun work.old) work.new (Decides event.now)) }
 {
     work.start();
@@ -70,7 +72,7 @@ impl Node {
     /// BadRow exactly where no such node has just these rows.
     pub fn open(alloc: Global, rows: &[Row], homes: HomeTable, id: u16) -> Result<Node, RowFault>
         requires { id < length homes.nodes }
-        ensures ok { IfOk result (IsOpenedFrom rows.now (record { id = id; homes = homes })) }
+        ensures ok { IfOk result (IsOpenedFrom rows.now id homes) }
         ensures bad { IsErrOf result RowFault.BadRow → SayNothing rows.now id (length homes.nodes) }
         ensures fault { IfErr result (λ e. (e ≡ RowFault.NoMemory) ⊎ (e ≡ RowFault.BadRow)) }
     {
@@ -86,9 +88,9 @@ impl Node {
         })
     }
 
-    /// The table of homes.
+    /// The table of homes, with which it is opened again.
     pub fn homes(&self) -> &HomeTable
-        ensures { result.now ≡ self.now.place.homes }
+        ensures { result.now ≡ self.now.homes }
     {
         &self.homes
     }
@@ -98,6 +100,13 @@ impl Node {
         ensures { result ≡ self.now.place.id }
     {
         self.id
+    }
+
+    /// Its place is that of its number and its table. This does nothing; its contract is the law.
+    pub fn has_place(&self)
+        ensures { self.now.place ≡ place_of self.now.place.id self.now.homes }
+    {
+        let _id = self.id;
     }
 
     /// Stops the node.
@@ -141,18 +150,19 @@ impl Node {
     /// 2^62 or more; and such an event never succeeds. An idle event asks for no memory.
     pub fn step(&mut self, event: &Event) -> Result<Outcome, NodeFault>
         ensures place { self.new.place ≡ self.old.place }
+        ensures homes { self.new.homes ≡ self.old.homes }
         ensures stopped { self.old.up ≡ None → (result ≡ Err Stopped) × (self.new ≡ self.old) }
         ensures idle { RestsWhereIdle self.old event.now result }
         ensures end { is_some self.old.up ≡ true → 2 ^ 62 ≤ event.now.at → result ≡ Err NumbersAtEnd }
         ensures exactly { IsAtEnd self.old event.now → ¬ IsOk result }
         ensures ok { IfOk result (λ o. IsDone self.old event.now o.outputs.items o.changes.items self.new) }
-        ensures err { OnErr result (self.new.up ≡ None) }
+        ensures err { OnErr result (self.new ≡ record self.old { up = None }) }
         ensures cause { IfErr result (HasCauseAt self.old.up self.old.place event.now) }
     {
         if self.stopped {
             return Err(NodeFault::Stopped);
         }
-        self.homes.is_table();
+        self.work.homes().is_table();
         match settle(&mut self.work, event) {
             Ok(outcome) => Ok(outcome),
             Err(fault) => {

@@ -5,6 +5,7 @@ mod run;
 
 use crate::run::run_task;
 use broker_command::task_of;
+use run_causes::Ending;
 use std::io;
 use std::process::ExitCode;
 
@@ -16,11 +17,11 @@ fn main(rt: HostRuntime) -> io::Result<ExitCode> {
     };
     let ended = match task_of(alloc, &words) {
         Ok(task) => run_task(&rt, task),
-        Err(stop) => Err(stop),
+        Err(stop) => Err(Ending::from(stop)),
     };
     let status = match ended {
         Ok(()) => 0,
-        Err(stop) => stop.tell(&mut rt.stdout(), &mut rt.stderr()),
+        Err(ending) => ending.tell(&mut rt.stdout(), &mut rt.stderr()),
     };
     Ok(ExitCode::from(status))
 }

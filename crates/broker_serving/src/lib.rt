@@ -1,9 +1,7 @@
-//! A node that a configuration names, served over the machine's sockets with its rows in a database; and files that are read
-//! whole.
+//! A node that a configuration names, served over the machine's sockets with its rows in a database.
 #![tactic(auto)]
 
-mod files;
+mod causes;
 mod run;
 
-pub use files::read_file;
 pub use run::serve;

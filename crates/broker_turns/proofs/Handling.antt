@@ -85,7 +85,7 @@ module _ {H : Type 0} (handles : H → Event → List Output → H → Type 0) (
 
       hears_all : (frames : List (Vec ℕ Global)) (n n' : Near H T) → HearsAll hears at frames n n' → Q n.handler n'.handler
       hears_all [] n n' same = stays n.handler n'.handler (ap (λ (m : Near H T). m.handler) same)
-      hears_all (frame ∷ frames) n n' all = over n.handler all.0.handler n'.handler (hearing _ n all.0 all.1) (hears_all frames all.0 n' all.2)
+      hears_all (frame ∷ frames) n n' all = over n.handler all.0.handler n'.handler (hearing _ (record n { dialled = all.1.links }) all.0 all.1.heard) (hears_all frames all.0 n' all.2)
 
       link_read : (link : Option (Line T)) (key : ℕ) (p : Place S H T) (more : Bool) (p' : Place S H T) → IsLinkReadIn reads hears at link key p more p' → Q p.reach.near.handler p'.reach.near.handler
       link_read None key p more p' is = stays p.reach.near.handler p'.reach.near.handler (ap (λ (v : Place S H T). v.reach.near.handler) is.0)

@@ -13,8 +13,8 @@ use Rattle.broker_sockets.specs.declared.ready.Ready.{Ready}
 use Rattle.broker_sockets.specs.declared.ready.Watched.{Watched}
 use Rattle.broker_sockets.specs.declared.network.Answer.{Answer}
 use Rattle.broker_sockets.specs.Answers.{Offers, carried}
-use Rattle.broker_turns.specs.Bridging.{HearsAll, IsBegun, IsBegunBy, IsDialledAt, IsDialledIf, IsDialledOnce, IsWatchedIf, IsHeardFrom, IsHearing, IsLineRead, IsLinkReadIn, IsLinkWrittenIn, IsOffered, IsPeerRead, IsPeerReadIn, IsShipped, IsShippedIf, IsSought, IsSupplied, LineTried, Near, Place, Reach, Relinks, Search, left_if}
-use Rattle.broker_turns.specs.Lines.{Framed, framed, framed_all, framed_at, fresh_line, is_due, is_rested, link_of, marked}
+use Rattle.broker_turns.specs.Bridging.{HearsAll, IsFrameHeard, IsBegun, IsBegunBy, IsDialledAt, IsDialledIf, IsDialledOnce, IsWatchedIf, IsHeardFrom, IsHearing, IsLineRead, IsLinkReadIn, IsLinkWrittenIn, IsOffered, IsPeerRead, IsPeerReadIn, IsShipped, IsShippedIf, IsSought, IsSupplied, LineTried, Near, Place, Reach, Relinks, Search, left_if}
+use Rattle.broker_turns.specs.Lines.{Framed, Noted, framed, framed_all, framed_at, fresh_line, is_due, is_from, is_rested, link_of, marked, noted}
 use Rattle.broker_turns.specs.Order.{Extends, IsNew, IsOf, NoFrameIsLost, TakesNothing, TakesWhatItAnswers, link_flow}
 use Rattle.broker_turns.specs.Steps.{Each, EachBelow, EachTells}
 use Rattle.broker_turns.specs.Turns.{IsDecided, IsGivenOut, IsTakenIn}
@@ -84,7 +84,7 @@ module _ {S T : Type 0} (taken : T → List ℕ) (connects : S → SocketAddr �
       Carries-relinked d d' peer (left_if goes_on left) (subst P (sym found) (λ line' e. left-from goes_on line left line' extends e)) is
 
   -- a note on a link changes nothing that waits there
-  marked-if : (empty : Bool) (at : ℕ) (line : Line T) → Extends (link_flow taken (if empty then line else record line { asked = Some at })) (link_flow taken line)
+  marked-if : (empty : Bool) (at : ℕ) (line : Line T) → Extends (link_flow taken (if empty then line else record line { asked = Some at; answered = false })) (link_flow taken line)
   marked-if true at line = Extends-same _ _ refl
   marked-if false at line = Extends-same _ _ refl
 
@@ -96,6 +96,19 @@ module _ {S T : Type 0} (taken : T → List ℕ) (connects : S → SocketAddr �
 
   Carries-marked : (at : ℕ) (d d' : List (Option (Line T))) (peer : ℕ) → Relinks d d' peer (option_map (marked at) (link_of d peer)) → Carries d d'
   Carries-marked at d d' peer is = Carries-relinked d d' peer _ (λ line' e. marked-from at (link_of d peer) line' e) is
+
+  noted-if : (sent : Bool) (line : Line T) → Extends (link_flow taken (if sent then record line { answered = true } else line)) (link_flow taken line)
+  noted-if true line = Extends-same _ _ refl
+  noted-if false line = Extends-same _ _ refl
+
+  noted-from : (peer : ℕ) (frame : List ℕ) (before : Option (Line T)) (line' : Line T) → Some line' ≡ noted peer frame before → IsOf taken connects before line'
+  noted-from peer frame None line' e = absurd (cc)
+  noted-from peer frame (Some line) line' e =
+      let is : line' ≡ (if is_from peer frame then record line { answered = true } else line) = cc in
+      inl (line, refl, rw is (noted-if (is_from peer frame) line))
+
+  Carries-noted : (frame : List ℕ) (d d' : List (Option (Line T))) → Noted frame d d' → Carries d d'
+  Carries-noted frame d d' is peer line' there = noted-from peer frame (link_of d peer) line' (sym there ∙ is peer)
 
   begun-new : (address : SocketAddr) (s s' : S) (stream : T) (line' : Line T) → connects s address (Some stream) s' → Some (fresh_line stream) ≡ Some line' → IsNew taken connects line'
   begun-new address s s' stream line' began is =
@@ -127,10 +140,14 @@ module _ {S H T : Type 0} (taken : T → List ℕ) (watches : S → T → Watche
   Carries-hearing : (it : PeerEvent) (n n' : Near H T) → IsHearing hears it n n' → Carries taken connects n.dialled n'.dialled
   Carries-hearing it n n' h = Carries-framed taken connects h.given.frames.items n.dialled n'.dialled h.framed
 
+  Carries-frame : (frame : Vec ℕ Global) (n n' : Near H T) → IsFrameHeard hears at frame n n' → Carries taken connects n.dialled n'.dialled
+  Carries-frame frame n n' h =
+      Carries-over taken connects n.dialled h.links n'.dialled (Carries-noted taken connects frame.items n.dialled h.links h.noted) (Carries-hearing _ (record n { dialled = h.links }) n' h.heard)
+
   Carries-hears_all : (frames : List (Vec ℕ Global)) (n n' : Near H T) → HearsAll hears at frames n n' → Carries taken connects n.dialled n'.dialled
   Carries-hears_all [] n n' same = Carries-equal taken connects n.dialled n'.dialled (ap (λ m. m.dialled) same)
   Carries-hears_all (frame ∷ frames) n n' h =
-      Carries-over taken connects n.dialled h.0.dialled n'.dialled (Carries-hearing _ n h.0 h.1) (Carries-hears_all frames h.0 n' h.2)
+      Carries-over taken connects n.dialled h.0.dialled n'.dialled (Carries-frame frame n h.0 h.1) (Carries-hears_all frames h.0 n' h.2)
 
   Carries-link_in : (line : Option (Line T)) (key : ℕ) (p : Place S H T) (more : Bool) (p' : Place S H T) → IsLinkReadIn reads hears at line key p more p' → Carries taken connects p.reach.near.dialled p'.reach.near.dialled
   Carries-link_in None key p more p' same = Carries-equal taken connects _ _ (ap (λ q. q.reach.near.dialled) same.0)

@@ -9,7 +9,7 @@ use Rattle.broker_sockets.specs.declared.bridge.PeerEvent.{PeerEvent}
 use Rattle.broker_sockets.specs.declared.bridge.PeerEventKind.TheVariants.{Frame, Ship}
 use Rattle.broker_sockets.specs.declared.bridge.PeerFrame.{PeerFrame}
 use Rattle.broker_turns.specs.declared.lines.Line.{Line}
-use Rattle.broker_turns.specs.Bridging.{HearsAll, IsHearing, IsKept, IsLineWritten, IsLinkRead, IsHeardFrom, IsLinkReadIn, IsLinkWrittenIn, IsMarked, IsOffered, IsPeerKept, IsPeerLinkRead, IsPeerRead, IsPeerReadIn, IsShipped, IsShippedIf, IsSupplied, Near, Place, Reach, Relinks, left_if, peer_event}
+use Rattle.broker_turns.specs.Bridging.{HearsAll, IsFrameHeard, IsHearing, IsKept, IsLineWritten, IsLinkRead, IsHeardFrom, IsLinkReadIn, IsLinkWrittenIn, IsMarked, IsOffered, IsPeerKept, IsPeerLinkRead, IsPeerRead, IsPeerReadIn, IsShipped, IsShippedIf, IsSupplied, Near, Place, Reach, Relinks, left_if, peer_event}
 use Rattle.broker_sockets.specs.declared.network.Answer.{Answer}
 use Rattle.broker_turns.specs.Lines.{framed, framed_all, framed_at, is_due, link_of}
 
@@ -23,7 +23,7 @@ module _ {T : Type 0} where
   framed_at-more peer frames frame (Some line) = rw (framed_all-more peer frames frame line) refl
 
 module _ {H T : Type 0} (hears : H → PeerEvent → Given → H → Type 0) (at : ℕ) where
-  pub HearsAll-more : (frames : List (Vec ℕ Global)) (frame : Vec ℕ Global) (n m n' : Near H T) → HearsAll hears at frames n m → IsHearing hears (peer_event at (Frame frame)) m n' → HearsAll hears at (frames ++ frame ∷ []) n n'
+  pub HearsAll-more : (frames : List (Vec ℕ Global)) (frame : Vec ℕ Global) (n m n' : Near H T) → HearsAll hears at frames n m → IsFrameHeard hears at frame m n' → HearsAll hears at (frames ++ frame ∷ []) n n'
   HearsAll-more [] frame n m n' same heard = (n', rw (← same) heard, refl)
   HearsAll-more (f ∷ frames) frame n m n' before heard = (before.0, before.1, HearsAll-more frames frame before.0 m n' before.2 heard)
 

@@ -235,7 +235,7 @@ module _ {S H T : Type 0} (taken : T → List ℕ) (watches : S → T → Watche
   Keeps-hears_all : (frames : List (Vec ℕ Global)) (n n' : Near H T) → HearsAll hears at frames n n' → Keeps taken n.clients n'.clients
   Keeps-hears_all [] n n' same = Keeps-equal taken n.clients n'.clients (ap (λ m. m.clients) same)
   Keeps-hears_all (frame ∷ frames) n n' h =
-      Keeps-over taken n.clients h.0.clients n'.clients (Keeps-hearing _ n h.0 h.1) (Keeps-hears_all frames h.0 n' h.2)
+      Keeps-over taken n.clients h.0.clients n'.clients (Keeps-hearing _ (record n { dialled = h.1.links }) h.0 h.1.heard) (Keeps-hears_all frames h.0 n' h.2)
 
   Keeps-link_in : (line : Option (Line T)) (key : ℕ) (p : Place S H T) (more : Bool) (p' : Place S H T) → IsLinkReadIn reads hears at line key p more p' → Keeps taken p.reach.near.clients p'.reach.near.clients
   Keeps-link_in None key p more p' same = Keeps-equal taken _ _ (ap (λ q. q.reach.near.clients) same.0)

@@ -16,7 +16,7 @@ use Rattle.broker_turns.specs.declared.lines.Line.{Line}
 use Rattle.broker_sockets.specs.Answers.{Offers}
 use Rattle.broker_turns.specs.Clients.{Released}
 use Rattle.broker_sockets.specs.Frames.{IsCut}
-use Rattle.broker_turns.specs.Lines.{Framed, fresh_line, is_due, is_rested, link_of, marked}
+use Rattle.broker_turns.specs.Lines.{Framed, Noted, fresh_line, is_due, is_rested, link_of, marked}
 
 -- what handles events, the clients by connection, and the links that were dialled, by peer
 pub record Near (H T : Type 0) : Type 0 where
@@ -62,10 +62,16 @@ module _ {H T : Type 0} (hears : H → PeerEvent → Given → H → Type 0) whe
     pub released : Released given.outputs.items n.clients n'.clients
     pub framed : Framed given.frames.items n.dialled n'.dialled
 
+  -- the link of the node that sends a frame notes that it has answered, and the frame is handed over
+  pub record IsFrameHeard (at : ℕ) (frame : Vec ℕ Global) (n n' : Near H T) : Type 0 where
+    pub links : List (Option (Line T))
+    pub noted : Noted frame.items n.dialled links
+    pub heard : IsHearing (peer_event at (Frame frame)) (record n { dialled = links }) n'
+
   -- frames are handed over, in order
   abbrev pub HearsAll : ℕ → List (Vec ℕ Global) → Near H T → Near H T → Type 0
   HearsAll at [] n n' = n' ≡ n
-  HearsAll at (frame ∷ frames) n n' = (m : Near H T) × IsHearing (peer_event at (Frame frame)) n m × HearsAll at frames m n'
+  HearsAll at (frame ∷ frames) n n' = (m : Near H T) × IsFrameHeard at frame n m × HearsAll at frames m n'
 
 -- what a read brought: whole frames, what is held then, whether the link goes on, and whether it may have more
 abbrev pub IsTaken : Answer → List ℕ → List ℕ → List (Vec ℕ Global) → List ℕ → Bool → Bool → Type 0
@@ -86,13 +92,14 @@ pub record IsLineRead {S T : Type 0} (reads : S → T → Answer → List ℕ �
   pub taken : IsTaken answer bytes line.held frames line'.held goes_on more
   pub unsent : line'.unsent ≡ line.unsent
   pub still : line'.asked ≡ line.asked
+  pub as_ever : line'.answered ≡ line.answered
 
 module _ {S T : Type 0} (writes : S → T → List ℕ → Answer → S → T → Type 0) where
   -- a link is asked exactly where something waits
   abbrev pub LineTried : S → Line T → Option Answer → S → Line T → Type 0
   LineTried s line None s' left = (line.unsent ≡ []) × (s' ≡ s) × (left ≡ line)
   LineTried s line (Some answer) s' left =
-      Offers writes line.unsent s line.stream answer left.unsent s' left.stream × (left.held ≡ line.held) × (left.asked ≡ line.asked)
+      Offers writes line.unsent s line.stream answer left.unsent s' left.stream × (left.held ≡ line.held) × (left.asked ≡ line.asked) × (left.answered ≡ line.answered)
 
 -- a link goes on unless it failed or more than 536,870,912 bytes wait
 abbrev pub goes_on_by : Option Answer → ℕ → Bool

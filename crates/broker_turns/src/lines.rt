@@ -1,19 +1,20 @@
 //! Links between nodes, and what is given out for them.
 ghost use Rattle.std.specs.Prelude.{◌≡◌, ◌∷◌, [], length, OnOk, IfOk};
-ghost use Rattle.broker_turns.specs.Lines.{Framed, fresh_line, is_due, is_rested, marked};
+ghost use Rattle.broker_turns.specs.Lines.{Framed, Noted, fresh_line, is_due, is_rested, marked, pause};
 ghost use Rattle.broker_turns.specs.Bridging.{IsLineRead, IsLineWritten};
 
 use broker_sockets::{Answer, Held, PeerFrame, Sockets, Unsent};
 use std::alloc::{AllocError, Global};
 
-/// One socket between two nodes: what came of a frame that isn't whole yet, what waits to be written, and when more was
-/// asked for last, if frames came of that.
+/// One socket between two nodes: what came of a frame that isn't whole yet, what waits to be written, when more was
+/// asked for last, if frames came of that, and whether the peer has sent anything since.
 #[derive(Drop)]
 pub struct Line<T: Drop> {
     pub stream: T,
     pub held: Held,
     pub unsent: Unsent,
     pub asked: Option<u64>,
+    pub answered: bool,
 }
 
 /// A link with more unsent bytes than this is closed.
@@ -21,6 +22,12 @@ const MOST_UNSENT: usize = 536870912;
 
 /// For so many milliseconds no more is asked for, so that what was given can be answered.
 const PAUSE: u64 = 10;
+
+/// And for so many where the peer has sent nothing since.
+const SILENCE: u64 = 1000;
+
+/// Where a frame has the number of the node that sends it, in two bytes, the higher one first.
+const SENDER: usize = 5;
 
 /// What a read of a link brought: the frames that it made whole, in order, whether the link goes on, and whether it may have
 /// more.
@@ -51,14 +58,22 @@ impl<T: Drop> Line<T> {
             held: Held::new(alloc),
             unsent: Unsent::new(alloc),
             asked: None,
+            answered: false,
         }
+    }
+
+    /// How many milliseconds lie between two times that more is asked for.
+    fn pause(&self) -> u64
+        ensures { result ≡ pause self.now }
+    {
+        if self.answered { PAUSE } else { SILENCE }
     }
 
     /// Whether more is to be asked for at a moment.
     pub fn is_due(&self, at: u64) -> bool
         ensures { result ≡ is_due at self.now }
     {
-        self.unsent.len() == 0 && is_rested(PAUSE, self.asked, at)
+        self.unsent.len() == 0 && is_rested(self.pause(), self.asked, at)
     }
 
     /// More was asked for at a moment.
@@ -67,6 +82,7 @@ impl<T: Drop> Line<T> {
     {
         if self.unsent.len() > 0 {
             self.asked = Some(at);
+            self.answered = false;
         }
     }
 }
@@ -114,6 +130,21 @@ pub fn write_line<S: Sockets>(line: &mut Line<S::Stream>, sockets: &mut S) -> bo
         Answer::Later => line.unsent.len() <= MOST_UNSENT,
         Answer::Bytes(_) => line.unsent.len() <= MOST_UNSENT,
         Answer::Gone => false,
+    }
+}
+
+/// Notes on the link of the node that sends a frame, if there is one, that it has answered.
+pub fn note_sender<T: Drop>(links: &mut [Option<Line<T>>], frame: &[u8])
+    ensures { Noted frame.now links.old links.new }
+{
+    if frame.len() <= SENDER + 1 {
+        return;
+    }
+    let peer = usize::from(frame[SENDER]) * 256 + usize::from(frame[SENDER + 1]);
+    if peer < links.len() {
+        if let Some(line) = &mut links[peer] {
+            line.answered = true;
+        }
     }
 }
 

@@ -1,12 +1,12 @@
 //! What a turn does with each link to another node.
 ghost use Rattle.std.specs.Prelude.{◌≡◌, ◌<◌, length, option_map, slice_index_or, None, OnOk, IfOk, IfErr};
-ghost use Rattle.broker_turns.specs.Bridging.{HearsAll, IsBegun, IsDialledIf, IsHeardFrom, IsHearing, IsKept, IsLinkAccepted, IsLinkAwaited, IsNoLinkAccepted, IsOffered, IsPeerKept, IsPeerRead, IsSought, IsSupplied, Relinks, near, place, reach, search};
+ghost use Rattle.broker_turns.specs.Bridging.{HearsAll, IsBegun, IsDialledIf, IsFrameHeard, IsHeardFrom, IsHearing, IsKept, IsLinkAccepted, IsLinkAwaited, IsNoLinkAccepted, IsOffered, IsPeerKept, IsPeerRead, IsSought, IsSupplied, Relinks, near, place, reach, search};
 ghost use Rattle.broker_turns.specs.Faults.{IsCaused};
 ghost use Rattle.broker_turns.specs.Lines.{link_of, marked};
 ghost use Rattle.broker_turns.specs.Steps.{AreLetInIf, EachBelow, EachTells};
 
 use crate::clients::{Clients, release};
-use crate::lines::{Line, give, is_rested, read_line, write_line};
+use crate::lines::{Line, give, is_rested, note_sender, read_line, write_line};
 use crate::numbers::note_if;
 use crate::turn::{MOST_ACCEPTED, TurnFault};
 use broker_sockets::{BridgeHandler, PeerEvent, PeerEventKind, Readiness, Sockets, Watched};
@@ -37,6 +37,22 @@ fn hear_one<H: BridgeHandler, T: Drop>(
     }
 }
 
+/// The handler is handed a frame, and the link of the node that sends it notes that it has answered.
+fn hear_frame<H: BridgeHandler, T: Drop>(
+    clients: &mut Clients<T>,
+    links: &mut [Option<Line<T>>],
+    handler: &mut H,
+    at: u64,
+    bytes: Vec<u8>,
+) -> Result<(), TurnFault<H::Fault>>
+    ensures ok { OnOk result (IsFrameHeard H.hears at bytes (near handler.old clients.old.slab links.old) (near handler.new clients.new.slab links.new)) }
+    ensures fault { IfErr result (IsCaused H.refuses H.declines H.stops at) }
+{
+    note_sender(links, &bytes);
+    let kind = PeerEventKind::Frame { bytes };
+    hear_one(clients, links, handler, PeerEvent { at, kind })
+}
+
 /// The handler is handed frames, in order.
 fn hear_all<H: BridgeHandler, T: Drop>(
     clients: &mut Clients<T>,
@@ -49,8 +65,7 @@ fn hear_all<H: BridgeHandler, T: Drop>(
     ensures fault { IfErr result (IsCaused H.refuses H.declines H.stops at) }
 {
     for bytes in frames {
-        let kind = PeerEventKind::Frame { bytes };
-        hear_one(clients, links, handler, PeerEvent { at, kind })?;
+        hear_frame(clients, links, handler, at, bytes)?;
     }
     Ok(())
 }

@@ -52,7 +52,8 @@ amid_acts run later m w r before rest a is =
     let same : here.held ≡ c.before = sym (here.up c.before c.up) in
     let parts = runs_split place before (a ∷ rest) c.before c.after (subst (λ acts. Runs place c.before acts c.after) is c.steps.runs) in
     let g = site_amid (past run) half.mid x i e.0 (acts_of m.fate) half.path.0 c known before (a ∷ rest) parts.0 is parts.1 in
-    let moves : Moves place (fresh_at place) (moves_at i run) c.before = subst (Moves place (fresh_at place) (moves_at i run)) same here.moves in
+    let first = fresh_at c.was.node in
+    let moves : Moves place first (moves_at i run) c.before = subst (Moves place first (moves_at i run)) same here.moves in
     let many : length half.mid.sites ≡ length w.sites = sym (run_sites (m ∷ later) half.mid w half.path) in
     record {
       within = subst (λ n. i < n) many (get_within half.mid.sites i c.was c.at);
@@ -66,7 +67,7 @@ amid_acts run later m w r before rest a is =
       place = place;
       id = here.id;
       runs = parts.2;
-      moment = moves_moment place (moves_amid i run before) (fresh_at place) parts.0 (moves_join place (moves_at i run) (did before) (fresh_at place) c.before parts.0 moves (acts_are_moves place c.before parts.0 before parts.1));
+      moment = moves_moment place (moves_amid i run before) first parts.0 (moves_join place (moves_at i run) (did before) first c.before parts.0 moves (acts_are_moves place c.before parts.0 before parts.1));
     }
 
 -- what it holds there is the state of what it had taken there

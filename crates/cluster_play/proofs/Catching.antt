@@ -11,7 +11,7 @@ use Rattle.bridge_frames.specs.declared.body.FrameBody.TheVariants.{Delta}
 use Rattle.bridge_frames.specs.declared.frame.BridgeFrame.{BridgeFrame}
 use Rattle.bridge_frames.specs.Frames.{HasSpelling, spelling}
 use Rattle.bridge_frames.proofs.FrameLaws.{read_again}
-use Rattle.node_work.specs.Acts.{Act, Moment, Began, Store, Connection, Session, Bridge, Out, Named, Acknowledged, Passed, Dropped, Made, Merged, IsMade, gather, merge_in}
+use Rattle.node_work.specs.Acts.{Act, Moment, Began, Store, Connection, Session, Bridge, Out, Named, Acknowledged, Passed, Dropped, Made, Merged, IsMade, Runs, gather, merge_in}
 use Rattle.node_work.specs.Held.Bridge.{Carries, Gave}
 use Rattle.broker_node.specs.Step.{brought, brought_in}
 use Rattle.bridge_deltas.proofs.Shipping.{shipped_enough}
@@ -21,15 +21,15 @@ use Rattle.node_work.specs.View.{Place, nodes_of}
 use Rattle.cluster_play.specs.Worlds.{Site, World}
 use Rattle.cluster_play.specs.Runs.{Played}
 use Rattle.cluster_play.specs.Histories.{Reached, site, acts_of, gained, gain_in, gains, taken, taken_amid, operations_amid, same_dot}
-use Rattle.cluster_play.specs.Laws.{Ships, Arrives}
-use Rattle.cluster_play.specs.NextOperations.{IsNext}
+use Rattle.cluster_play.specs.Laws.{AnswersBy, Arrives, HoldsAmid, MakesNext, Ships}
 use Rattle.cluster_play.proofs.Bools.{or_true, or_left, or_right, nat_cases, nat_other, some_is, dot_same}
 use Rattle.cluster_play.proofs.Operations.{own_some}
 use Rattle.cluster_play.proofs.Kept.{explained}
-use Rattle.cluster_play.proofs.Paths.{taken_both}
+use Rattle.cluster_play.proofs.Paths.{commits_acts, midway, taken_both}
 use Rattle.cluster_play.proofs.Rows.{Committed, committed}
-use Rattle.cluster_play.proofs.Amid.{amid_acts, amid_state, taken_step}
+use Rattle.cluster_play.proofs.Amid.{amid_acts, runs_split, taken_step}
 use Rattle.cluster_play.proofs.Next.{next_operation}
+use Rattle.cluster_play.proofs.Showing.{node_holds_amid}
 use Rattle.cluster_play.proofs.Splits.{gained_both}
 use Rattle.cluster_play.proofs.Telling.{given_spelled}
 
@@ -38,13 +38,38 @@ gained_here before after a d h = gained_both before (a ∷ after) d ∙ or_right
 
 pub operations_of_a_step : (run later : List Played) (m : Played) (w : World) → Reached (run ++ m ∷ later) w
     → (before after : List Act) (o : Operation) → acts_of m.fate ≡ before ++ Store (Made o) ∷ after
-    → IsNext (site m.fate) (operations_amid (site m.fate) run before) o × (taken (site m.fate) (run ++ m ∷ later) (dot_of o) ≡ true)
+    → MakesNext run later m w before o × (taken (site m.fate) (run ++ m ∷ later) (dot_of o) ≡ true)
 operations_of_a_step run later m w r before after o h =
     let i = site m.fate in
-    let a = amid_acts run later m w r before after (Store (Made o)) h in
-    let own : HaveOwnDots (operations_amid i run before) = own_some _ (λ p. taken_amid i run before (dot_of p)) a.grown.own_dots in
+    let a = Store (Made o) in
+    let half = midway run (m ∷ later) w r in
+    let e = commits_acts m.fate before after a h in
+    let c = committed half.mid m.step m.fate half.path.0 e.0 half.path.1 e.1 in
+    let place = c.was.node.place in
+    let parts = runs_split place before (a ∷ after) c.before c.after (subst (λ acts. Runs place c.before acts c.after) h c.steps.runs) in
+    let there : HoldsAmid half.mid m i before parts.0 = record {
+      event = e.0;
+      commits = e.1;
+      at = refl;
+      rest = a ∷ after;
+      acts = h;
+      held = c.before;
+      holds = record { site = c.was; at = c.at; up = c.up };
+      runs = parts.1;
+    } in
+    let id : place.id ≡ i = ((explained run half.mid half.reached).sites i c.was c.at).id in
+    let by : AnswersBy (operations_amid i run before) parts.0 = node_holds_amid run half.mid half.path.0 m half.reached half.honest.0 half.path.1 i before parts.0 there in
+    let own : HaveOwnDots (operations_amid i run before) = own_some _ (λ p. taken_amid i run before (dot_of p)) (amid_acts run later m w r before after a h).grown.own_dots in
+    let made : IsMade i parts.0.homes.version parts.0.store o = subst (λ j. IsMade j parts.0.homes.version parts.0.store o) id parts.2.1.0 in
     let gain : gained (acts_of m.fate) (dot_of o) ≡ true = ap (λ acts. gained acts (dot_of o)) h ∙ gained_here before after (Store (Made o)) (dot_of o) (dot_same (dot_of o) (dot_of o) refl) in (
-      next_operation i (operations_amid i run before) a.held.store own (amid_state run w i before (Store (Made o) ∷ after) a) o (subst (λ j. IsMade j a.held.store o) a.id a.runs.1.0),
+      record {
+        world = half.mid;
+        reached = half.reached;
+        path = half.path;
+        held = parts.0;
+        there = there;
+        next = next_operation i (operations_amid i run before) parts.0.store own by.state parts.0.homes.version o made;
+      },
       taken_step run later m (dot_of o) (or_right (taken i run (dot_of o)) _ gain),
     )
 
@@ -114,7 +139,7 @@ module _ (run : List Played) (w w' : World) (r : Reached run w) (m : Played) (f 
       let same_held : here.before ≡ a.held = some_is (sym here.up ∙ ap (λ (v : Site). v.node.up) same_site ∙ a.holds.up) in
       let merges : gather merge_in (acts_of m.fate) ≡ t ∷ [] =
       here.steps.merged ∙ (λ n. cond (same_held n).started (brought place (a.brings n)) []) ∙ ap (λ b. cond b (brought place (kinds.Frame (spelling f))) []) a.started
-      ∙ frame_brings place f t spelled (sym there.id) (λ e. other (e ∙ there.id)) (subst (λ n. f.from < n) (sym there.homes) below) is in
+      ∙ frame_brings place f t spelled (sym there.id) (λ e. other (e ∙ there.id)) (subst (λ n. f.from < n) (sym there.nodes) below) is in
       merges_gain (acts_of m.fate) d (ap (λ ts. any_lists ts d) merges ∙ or_left (set.contains t.taken d) false listed)
 
   -- so the receiver has taken each dot that the frame lists and the sender had taken

@@ -127,10 +127,10 @@ module _ (nodes : List (Keeper MemoryRows)) (frames : List Frame) (i : ℕ) (k :
 
   -- ---- an event that it doesn't take
   module _ (Of : Site → Fate → Type 0) (e : Event) (may : (fault : KeeperFault) → MayStop (node_of k) e fault → Of (site_of k) (Faulted i fault)) (down : Of (site_of k) (Was_down i)) where
-    faulted : (fault : KeeperFault) (k' : Keeper MemoryRows) → fault ≢ Stopped → HasCauseAt (node_of k).up (node_of k).place e fault → IsInMemory fault → (node_of k').place ≡ (node_of k).place → (node_of k').up ≡ None → (rows_of k') ≡ (rows_of k)
+    faulted : (fault : KeeperFault) (k' : Keeper MemoryRows) → fault ≢ Stopped → HasCauseAt (node_of k).up (node_of k).place e fault → IsInMemory fault → (node_of k') ≡ record (node_of k) { up = None } → (rows_of k') ≡ (rows_of k)
         → Befalls before i Of (Faulted i fault) (world_of (set nodes i k') frames)
-    faulted fault k' other cause memory place up rows =
-        (site_of k, at, may fault (has_cause (node_of k).up (node_of k) e fault refl other cause memory), (refl, (site_of k', record { place = place; up = up; rows = inl rows }, alone k' (site_of k') refl)))
+    faulted fault k' other cause memory node rows =
+        (site_of k, at, may fault (has_cause (node_of k).up (node_of k) e fault refl other cause memory), (refl, (site_of k', record { node = node; rows = inl rows }, alone k' (site_of k') refl)))
 
     stayed_down : (k' : Keeper MemoryRows) → HasCauseAt (node_of k).up (node_of k).place e Stopped → ((node_of k).up ≡ None → site_of k' ≡ site_of k) → Befalls before i Of (Was_down i) (world_of (set nodes i k') frames)
     stayed_down k' cause same_keeper =
@@ -138,19 +138,19 @@ module _ (nodes : List (Keeper MemoryRows)) (frames : List Frame) (i : ℕ) (k :
         (site_of k, at, down, (refl, none, still k' (same_keeper none)))
 
     -- with its line
-    pub refused : (ls ls' : List Line) (fault : KeeperFault) (k' : Keeper MemoryRows) → HasCauseAt (node_of k).up (node_of k).place e fault → IsInMemory fault → ((node_of k).up ≡ None → site_of k' ≡ site_of k) → (node_of k').place ≡ (node_of k).place → (node_of k').up ≡ None
+    pub refused : (ls ls' : List Line) (fault : KeeperFault) (k' : Keeper MemoryRows) → HasCauseAt (node_of k).up (node_of k).place e fault → IsInMemory fault → ((node_of k).up ≡ None → site_of k' ≡ site_of k) → (node_of k') ≡ record (node_of k) { up = None }
         → (rows_of k') ≡ (rows_of k) → (fault ≡ Stopped → ls' ≡ ls ++ lines.Down i ∷ []) → (fault ≢ Stopped → ls' ≡ ls ++ lines.Fault i fault ∷ []) → IsDoneAt before i Of ls ls' (world_of (set nodes i k') frames)
-    refused ls ls' NoMemory k' cause memory stays place up rows told other = (Faulted i NoMemory, faulted NoMemory k' (λ x. cc) cause memory place up rows, other (λ x. cc))
-    refused ls ls' (Rows f) k' cause memory stays place up rows told other = (Faulted i (Rows f), faulted (Rows f) k' (λ x. cc) cause memory place up rows, other (λ x. cc))
-    refused ls ls' NumbersAtEnd k' cause memory stays place up rows told other = (Faulted i NumbersAtEnd, faulted NumbersAtEnd k' (λ x. cc) cause memory place up rows, other (λ x. cc))
-    refused ls ls' Stopped k' cause memory stays place up rows told other = (Was_down i, stayed_down k' cause stays, told refl)
+    refused ls ls' NoMemory k' cause memory stays node rows told other = (Faulted i NoMemory, faulted NoMemory k' (λ x. cc) cause memory node rows, other (λ x. cc))
+    refused ls ls' (Rows f) k' cause memory stays node rows told other = (Faulted i (Rows f), faulted (Rows f) k' (λ x. cc) cause memory node rows, other (λ x. cc))
+    refused ls ls' NumbersAtEnd k' cause memory stays node rows told other = (Faulted i NumbersAtEnd, faulted NumbersAtEnd k' (λ x. cc) cause memory node rows, other (λ x. cc))
+    refused ls ls' Stopped k' cause memory stays node rows told other = (Was_down i, stayed_down k' cause stays, told refl)
 
-  pub event_refused : (e : Event) (ls ls' : List Line) (fault : KeeperFault) (k' : Keeper MemoryRows) → HasCauseAt (node_of k).up (node_of k).place e fault → IsInMemory fault → ((node_of k).up ≡ None → site_of k' ≡ site_of k) → (node_of k').place ≡ (node_of k).place
-      → (node_of k').up ≡ None → (rows_of k') ≡ (rows_of k) → (fault ≡ Stopped → ls' ≡ ls ++ lines.Down i ∷ []) → (fault ≢ Stopped → ls' ≡ ls ++ lines.Fault i fault ∷ []) → IsDoneAt before i (OfEvent e) ls ls' (world_of (set nodes i k') frames)
+  pub event_refused : (e : Event) (ls ls' : List Line) (fault : KeeperFault) (k' : Keeper MemoryRows) → HasCauseAt (node_of k).up (node_of k).place e fault → IsInMemory fault → ((node_of k).up ≡ None → site_of k' ≡ site_of k)
+      → (node_of k') ≡ record (node_of k) { up = None } → (rows_of k') ≡ (rows_of k) → (fault ≡ Stopped → ls' ≡ ls ++ lines.Down i ∷ []) → (fault ≢ Stopped → ls' ≡ ls ++ lines.Fault i fault ∷ []) → IsDoneAt before i (OfEvent e) ls ls' (world_of (set nodes i k') frames)
   event_refused e = refused (OfEvent e) e (λ fault m. m) tt
 
-  pub crash_refused : (e : Event) (ls ls' : List Line) (fault : KeeperFault) (k' : Keeper MemoryRows) → HasCauseAt (node_of k).up (node_of k).place e fault → IsInMemory fault → ((node_of k).up ≡ None → site_of k' ≡ site_of k) → (node_of k').place ≡ (node_of k).place
-      → (node_of k').up ≡ None → (rows_of k') ≡ (rows_of k) → (fault ≡ Stopped → ls' ≡ ls ++ lines.Down i ∷ []) → (fault ≢ Stopped → ls' ≡ ls ++ lines.Fault i fault ∷ []) → IsDoneAt before i (OfCrashAfter e) ls ls' (world_of (set nodes i k') frames)
+  pub crash_refused : (e : Event) (ls ls' : List Line) (fault : KeeperFault) (k' : Keeper MemoryRows) → HasCauseAt (node_of k).up (node_of k).place e fault → IsInMemory fault → ((node_of k).up ≡ None → site_of k' ≡ site_of k)
+      → (node_of k') ≡ record (node_of k) { up = None } → (rows_of k') ≡ (rows_of k) → (fault ≡ Stopped → ls' ≡ ls ++ lines.Down i ∷ []) → (fault ≢ Stopped → ls' ≡ ls ++ lines.Fault i fault ∷ []) → IsDoneAt before i (OfCrashAfter e) ls ls' (world_of (set nodes i k') frames)
   crash_refused e = refused (OfCrashAfter e) e (λ fault m. m) tt
 
   -- ---- a crash before an event
@@ -169,11 +169,11 @@ module _ (nodes : List (Keeper MemoryRows)) (frames : List Frame) (i : ℕ) (k :
   cut_down down = (site_of k, at, tt, (refl, none_held (node_of k).up down, still k refl))
 
   -- ---- a restart
-  pub restarted : (k' : Keeper MemoryRows) → Opens (node_of k).place (rows_of k) (rows_of k') (node_of k') → Befalls before i OfRestart (Restarted i) (world_of (set nodes i k') frames)
+  pub restarted : (k' : Keeper MemoryRows) → Opens (node_of k).place (node_of k).homes (rows_of k) (rows_of k') (node_of k') → Befalls before i OfRestart (Restarted i) (world_of (set nodes i k') frames)
   restarted k' o = (site_of k, at, tt, (refl, (site_of k', record { rows = o.mark; node = o.reopened }, alone k' (site_of k') refl)))
 
-  pub not_restarted : (fault : KeeperFault) (k' : Keeper MemoryRows) → MayStayDown (site_of k) fault → (node_of k').place ≡ (node_of k).place → (node_of k').up ≡ None → may_be_marked (node_of k).place.id (rows_of k) (rows_of k') → Befalls before i OfRestart (Faulted i fault) (world_of (set nodes i k') frames)
-  not_restarted fault k' may place up rows = (site_of k, at, may, (refl, (site_of k', record { place = place; up = up; rows = rows }, alone k' (site_of k') refl)))
+  pub not_restarted : (fault : KeeperFault) (k' : Keeper MemoryRows) → MayStayDown (site_of k) fault → (node_of k') ≡ record (node_of k) { up = None } → may_be_marked (node_of k).place.id (rows_of k) (rows_of k') → Befalls before i OfRestart (Faulted i fault) (world_of (set nodes i k') frames)
+  not_restarted fault k' may node rows = (site_of k, at, may, (refl, (site_of k', record { node = node; rows = rows }, alone k' (site_of k') refl)))
 
 -- memory that is refused at the event of a delivery is refused at the delivery
 pub delivery_out : (w w' : World) (number at : ℕ) (f : Frame) → numbered w.frames number ≡ Some f → RunsOut w (steps.Event f.to (arrival f at)) w' → RunsOut w (steps.Deliver number at) w'

@@ -1,15 +1,16 @@
 -- What was made and taken, and what became of each node, explains a world.
-use Rattle.std.proofs.Common.{◌≡◌, ℕ, ◌≤◌, ◌^◌, Bool, ◌||◌, List, [], ◌∷◌, ◌++◌, Some, filter, length}
+use Rattle.std.proofs.Common.{◌≡◌, ℕ, ◌≤◌, ◌^◌, Bool, ◌||◌, List, [], ◌∷◌, ◌++◌, Some, filter, length, subst, sym}
 use Rattle.std.specs.List.{slice_get}
 use Rattle.std.specs.FinSet as set
 use Rattle.causal_context.specs.Dots.{Dot}
+use Rattle.home_table.specs.Table.{Table}
 use Rattle.replica_store.specs.declared.operation.Operation.{Operation}
 use Rattle.replica_store.specs.Operations.{HaveOwnDots}
 use Rattle.node_keeper.specs.Keeping.{AreOf}
 use Rattle.node_rows.specs.Reading.{IsLasting}
 use Rattle.node_work.specs.declared.frame.Frame.{Frame}
 use Rattle.node_work.specs.Lasting.{CanLast, lasting}
-use Rattle.node_work.specs.View.{Place, HeldView, fresh, nodes_of}
+use Rattle.node_work.specs.View.{Place, HeldView, NodeView, fresh}
 use Rattle.node_laws.specs.Moves.{Move, Moves}
 use Rattle.cluster_play.specs.Worlds.{Site, World, Fate}
 use Rattle.cluster_play.specs.Runs.{Played}
@@ -39,17 +40,22 @@ past_and p fate = record { ops = p.ops ++ ops_of fate; took = λ i d. p.took i d
 pub past_more : (run : List Played) (m : Played) → past_and (past run) m.fate ≡ past (run ++ m ∷ [])
 past_more run m = λ n. record { ops = made_more run m n; took = λ i d. taken_more i run m d n; moves = λ i. moves_more i run m n }
 
--- what a node starts with at a place
-abbrev pub fresh_at : Place → HeldView
-fresh_at place = fresh (nodes_of place)
+-- what a node starts with
+abbrev pub fresh_at : NodeView → HeldView
+fresh_at n = fresh n.homes
+
+-- moves of a node are those of another one with its place and its table
+pub led_by : (n n' : NodeView) (ms : List Move) (h : HeldView) → n'.place ≡ n.place → n'.homes ≡ n.homes → Moves n.place (fresh_at n) ms h → Moves n'.place (fresh_at n') ms h
+led_by n n' ms h place homes moves = subst (λ (t : Table). Moves n'.place (fresh t) ms h) (sym homes) (subst (λ (p : Place). Moves p (fresh n.homes) ms h) (sym place) moves)
 
 -- what node i holds, or held last: the moves lead to it, the rows are its, it is the state of what the node has taken, and so are
 -- the last deltas; and what it believes of other nodes is so
 pub record Seated (p : Past) (count i : ℕ) (s : Site) : Type 0 where
   pub id : s.node.place.id ≡ i
-  pub homes : length s.node.place.homes.nodes ≡ count
+  pub nodes : s.node.place.nodes ≡ count
   pub held : HeldView
-  pub moves : Moves s.node.place (fresh_at s.node.place) (p.moves i) held
+  pub homes : s.node.homes ≡ held.homes
+  pub moves : Moves s.node.place (fresh_at s.node) (p.moves i) held
   pub rows : AreOf s.node.place s.rows held
   pub lasts : CanLast held
   pub up : (h : HeldView) → s.node.up ≡ Some h → h ≡ held

@@ -1,5 +1,5 @@
 -- What lasts of a new node, and its rows.
-use Rattle.std.proofs.Common.{◌≡◌, ◌≤◌, ◌^◌, ℕ, zero, suc, ◌==◌, Bool, true, false, cond, List, [], ◌∷◌, ◌++◌, Option, Some, None, if◌then◌else◌, refl, sym, ap, ◌∙◌, inl, inr, subst, arith}
+use Rattle.std.proofs.Common.{◌≡◌, ◌≤◌, ◌^◌, ℕ, zero, suc, ◌==◌, Bool, true, false, cond, List, [], ◌∷◌, ◌++◌, length, Option, Some, None, if◌then◌else◌, refl, sym, ap, ◌∙◌, inl, inr, subst, arith}
 use Rattle.std.proofs.lemmas.List.{length-replicate}
 use Rattle.std.specs.List.{AllByRecursion}
 use Rattle.std.specs.Prelude.{is_some}
@@ -12,6 +12,7 @@ use Rattle.std.specs.Ordering.{eq_by_cmp, is_eq, nat_cmp}
 use Rattle.causal_context.specs.Dots.{Dot, dot_cmp, dot_cmp_total, dot_cmp_antisym}
 use Rattle.causal_context.specs.Spelling.{HasSpelling}
 use Rattle.causal_context.proofs.RangeSets.{set_of_none}
+use Rattle.home_table.specs.Table.{Table}
 use Rattle.lane_rows.specs.Changes.{is_lane_kind}
 use Rattle.lane_rows.specs.Reading.{IsLane}
 use Rattle.lane_rows.specs.Rows.{Messages, Plain, each, numbers_of, waiting_of}
@@ -34,15 +35,15 @@ use Rattle.node_keeper.specs.Keeping.{AreOf, Opens}
 use Rattle.node_rows.specs.Reading.{AreOpened, IsLasting, RowsTellAll}
 use Rattle.node_rows.specs.Rows.{Lasting, mark, mark_at, mark_key, new_node, node_row}
 use Rattle.node_work.specs.Lasting.{CanLast, IsWoken, lasting}
-use Rattle.node_work.specs.View.{NodeView, Place, nodes_of, fresh, opened, woken}
+use Rattle.node_work.specs.View.{NodeView, Place, fresh, opened, place_of, woken}
 use Rattle.cluster_play.proofs.Bools.{none-some, nat_is}
 use Rattle.cluster_play.proofs.Lasts.{lasts_of}
 
 -- ---- what lasts of it
-pub fresh_lasts : (count : ℕ) → lasting (fresh count) ≡ new_node count
-fresh_lasts count =
+pub fresh_lasts : (homes : Table) → lasting (fresh homes) ≡ new_node (length homes.nodes)
+fresh_lasts homes =
     let none : (client : List ℕ) → lasts_of (map.get {X = Seat} {R = slice_cmp nat_cmp} map.empty client) ≡ None = λ client. ap lasts_of (map.get-empty {X = Seat} (slice_cmp nat_cmp) client) in
-    λ i. record { named = 0; sessions = λ client. none client i; store = nothing; lanes = new_lanes count }
+    λ i. record { named = 0; sessions = λ client. none client i; store = nothing; lanes = new_lanes (length homes.nodes) }
 
 none_spelled : HasSpelling set.empty
 none_spelled = record {
@@ -99,12 +100,12 @@ new_is_lasting count few = record {
   lanes = record { count = length-replicate count new_lane; sound = new_sound count };
 }
 
-pub fresh_can_last : (count : ℕ) → CanLast (fresh count)
-fresh_can_last count = record {
+pub fresh_can_last : (homes : Table) → CanLast (fresh homes)
+fresh_can_last homes = record {
   named = omega arith;
   sessions = λ client seat e. none-some (sym (map.get-empty {X = Seat} (slice_cmp nat_cmp) client) ∙ e);
   store = nothing_is_store;
-  lanes = record { count = refl; sound = new_sound count };
+  lanes = record { count = refl; sound = new_sound (length homes.nodes) };
 }
 
 -- ---- its rows are its mark
@@ -143,21 +144,21 @@ marked_row count id key =
     map.get-insert keys_total map.empty mark_key (mark id 0) key ∙ ap (cond (eq_by_cmp key_cmp key mark_key) (Some (mark id 0))) (map.get-empty {X = List ℕ} key_cmp key)
     ∙ mark_alone count id key (eq_by_cmp key_cmp key mark_key) refl
 
-pub fresh_rows : (p : Place) (rows : Content) → rows ≡ map.insert map.empty mark_key (mark p.id 0) → AreOf p rows (fresh (nodes_of p))
-fresh_rows p rows is key = ap (λ (c : Content). map.get c key) is ∙ marked_row (nodes_of p) p.id key ∙ ap (λ (x : Lasting). node_row p.id x key) (sym (fresh_lasts (nodes_of p)))
+pub fresh_rows : (p : Place) (homes : Table) (rows : Content) → rows ≡ map.insert map.empty mark_key (mark p.id 0) → AreOf p rows (fresh homes)
+fresh_rows p homes rows is key = ap (λ (c : Content). map.get c key) is ∙ marked_row (length homes.nodes) p.id key ∙ ap (λ (x : Lasting). node_row p.id x key) (sym (fresh_lasts homes))
 
 -- ---- a node that is opened from its mark alone is new
 empty_seats : (count : ℕ) (seats : Seats) → AreOpened (new_node count) seats → seats ≡ map.empty
 empty_seats count seats are = map.same_map nat_list_cmp_total alike _ _ (λ client. are client ∙ sym (map.get-empty {X = Seat} (slice_cmp nat_cmp) client))
 
-pub opened_new : RowsTellAll → (p : Place) (rows rows' : Content) (n : NodeView) → rows ≡ map.empty → Opens p rows rows' n
-    → (n ≡ opened p) × (rows' ≡ map.insert map.empty mark_key (mark p.id 0))
-opened_new tell p rows rows' n none opens =
+pub opened_new : RowsTellAll → (id : ℕ) (homes : Table) (rows rows' : Content) (n : NodeView) → rows ≡ map.empty → Opens (place_of id homes) homes rows rows' n
+    → (n ≡ opened id homes) × (rows' ≡ map.insert map.empty mark_key (mark id 0))
+opened_new tell id homes rows rows' n none opens =
     let o = opens.reopened in
-    let alone : rows' ≡ map.insert map.empty mark_key (mark p.id 0) = elim opens.mark [ inl e ↦ e.1 | inr e ↦ absurd (e.0 none) ] in
+    let alone : rows' ≡ map.insert map.empty mark_key (mark id 0) = elim opens.mark [ inl e ↦ e.1 | inr e ↦ absurd (e.0 none) ] in
     let x = o.lasting in
-    let count = nodes_of p in
-    let one : x ≡ new_node count = tell count p.id x (new_node count) o.are.0 (new_is_lasting count o.are.0.few) (λ key. sym (o.are.1 key) ∙ ap (λ (c : Content). map.get c key) alone ∙ marked_row count p.id key) in
-    let w : IsWoken (new_node count) o.held = subst (λ (y : Lasting). IsWoken y o.held) one o.woken in
-    let held : o.held ≡ fresh count = w.2 ∙ ap (λ (s : Seats). woken 0 s nothing (new_lanes count)) (empty_seats count w.0 w.1) in
-    (o.is ∙ (λ i. record { place = p; up = Some (held i) }), alone)
+    let count = length homes.nodes in
+    let one : x ≡ new_node count = tell count id x (new_node count) o.are.0 (new_is_lasting count o.are.0.few) (λ key. sym (o.are.1 key) ∙ ap (λ (c : Content). map.get c key) alone ∙ marked_row count id key) in
+    let w : IsWoken homes (new_node count) o.held = subst (λ (y : Lasting). IsWoken homes y o.held) one o.woken in
+    let held : o.held ≡ fresh homes = w.2 ∙ ap (λ (s : Seats). woken homes 0 s nothing (new_lanes count)) (empty_seats count w.0 w.1) in
+    (o.is ∙ (λ i. record { place = place_of id homes; homes = homes; up = Some (held i) }), alone)

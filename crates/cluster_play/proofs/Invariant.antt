@@ -28,7 +28,7 @@ use Rattle.cluster_play.proofs.Bridging.{IsKept, kept_more, woken_kept}
 use Rattle.cluster_play.proofs.Giving.{given_out}
 use Rattle.cluster_play.proofs.Sites.{each_changed, get_within}
 use Rattle.cluster_play.proofs.Paths.{known_event, step_sites}
-use Rattle.cluster_play.proofs.Rows.{Committed, Rests, Stays, Woke, came}
+use Rattle.cluster_play.proofs.Rows.{Committed, Rests, Stays, Woke, came, table_again, table_stays}
 use Rattle.cluster_play.proofs.Sound.{Sound, Grown}
 use Rattle.cluster_play.proofs.Growing.{AllSound, Grows, Holding, acts_grow}
 use Rattle.cluster_play.proofs.Parts.{AreParts, parts_stay}
@@ -36,7 +36,7 @@ use Rattle.cluster_play.proofs.Plain.{AllPlain}
 use Rattle.cluster_play.proofs.Lasts.{may_be_same, reopened}
 use Rattle.cluster_play.proofs.Splits.{all_front, all_weaker, gained_both, gather_both, runs_split}
 use Rattle.cluster_play.proofs.Telling.{WasGiven, given_more, told}
-use Rattle.cluster_play.proofs.Explaining.{Past, past_and, fresh_at, Seated, Explains, seat_lasts}
+use Rattle.cluster_play.proofs.Explaining.{Past, past_and, fresh_at, led_by, Seated, Explains, seat_lasts}
 use Rattle.cluster_play.proofs.Brought.{all_merged, Acted, site_amid}
 
 -- ---- another node than the one of the fate
@@ -63,10 +63,11 @@ seat_stays : (p : Past) (count i : ℕ) (fate : Fate) (s s' : Site) (x : Seated 
     → Seated (past_and p fate) count i s'
 seat_stays p count i fate s s' x stays holding none idle = record {
   id = ap (λ (q : Place). q.id) stays.place ∙ x.id;
-  homes = ap (λ (q : Place). length q.homes.nodes) stays.place ∙ x.homes;
+  nodes = ap (λ (q : Place). q.nodes) stays.place ∙ x.nodes;
   held = x.held;
-  moves = subst (λ (q : Place). Moves q (fresh_at q) (p.moves i ++ own_moves i fate) x.held) (sym stays.place)
-      (subst (λ ms. Moves s.node.place (fresh_at s.node.place) ms x.held) (sym (ap (λ ms. p.moves i ++ ms) none ∙ append-nil (p.moves i))) x.moves);
+  homes = stays.homes ∙ x.homes;
+  moves = led_by s.node s'.node (p.moves i ++ own_moves i fate) x.held stays.place stays.homes
+      (subst (λ ms. Moves s.node.place (fresh_at s.node) ms x.held) (sym (ap (λ ms. p.moves i ++ ms) none ∙ append-nil (p.moves i))) x.moves);
   rows = subst (λ (q : Place). AreOf q s'.rows x.held) (sym stays.place) (subst (λ rows. AreOf s.node.place rows x.held) (sym (may_be_same s.node.place s.rows s'.rows x.held x.rows stays.rows)) x.rows);
   lasts = x.lasts;
   up = λ h u. x.up h (stays.up h u);
@@ -76,7 +77,7 @@ seat_stays p count i fate s s' x stays holding none idle = record {
 }
 
 same_seat : (s : Site) → Stays s s
-same_seat s = record { place = refl; rows = inl refl; up = λ h u. u }
+same_seat s = record { place = refl; homes = refl; rows = inl refl; up = λ h u. u }
 
 none_other : (i j : ℕ) (ms : List Move) → i ≢ j → cond (nat_eq i j) ms [] ≡ []
 none_other i j ms ne = ap (λ b. cond b ms []) (nat_other i j ne)
@@ -100,13 +101,16 @@ module _ (p : Past) (w : World) (x : Explains p w) (i : ℕ) (e : Event) (acts :
   seat_committed g =
       let mine : own_moves i fate ≡ did acts = ap (λ b. cond b (moves_of fate) []) (eq-eqb (site fate) i own) ∙ moves in
       let place = c.was.node.place in
-      let all : Moves place (fresh_at place) (p.moves i ++ did acts) c.after =
-      moves_join place (p.moves i) (did acts) (fresh_at place) c.before c.after (subst (Moves place (fresh_at place) (p.moves i)) held_before here.moves) (acts_are_moves place c.before c.after acts c.steps.runs) in
+      let first = fresh_at c.was.node in
+      let table = table_stays w i e acts w' c (here.homes ∙ ap (λ (v : HeldView). v.homes) held_before) in
+      let all : Moves place first (p.moves i ++ did acts) c.after =
+      moves_join place (p.moves i) (did acts) first c.before c.after (subst (Moves place first (p.moves i)) held_before here.moves) (acts_are_moves place c.before c.after acts c.steps.runs) in
       record {
         id = ap (λ (q : Place). q.id) c.place ∙ here.id;
-        homes = ap (λ (q : Place). length q.homes.nodes) c.place ∙ here.homes;
+        nodes = ap (λ (q : Place). q.nodes) c.place ∙ here.nodes;
         held = c.after;
-        moves = subst (λ (q : Place). Moves q (fresh_at q) (p.moves i ++ own_moves i fate) c.after) (sym c.place) (subst (λ ms. Moves place (fresh_at place) (p.moves i ++ ms) c.after) (sym mine) all);
+        homes = c.homes;
+        moves = led_by c.was.node c.later.node (p.moves i ++ own_moves i fate) c.after c.place table (subst (λ ms. Moves place first (p.moves i ++ ms) c.after) (sym mine) all);
         rows = subst (λ (q : Place). AreOf q c.later.rows c.after) (sym c.place) (c.rows (subst (AreOf place c.was.rows) held_before here.rows));
         lasts = c.lasts;
         up = c.is;
@@ -205,16 +209,18 @@ module _ (p : Past) (w w' : World) (x : Explains p w) (fate : Fate) (idle : acts
       let y = x.sites i c.was c.at in
       let o = c.reopens.node in
       let place = c.was.node.place in
-      let can : IsLasting (length place.homes.nodes) (lasting y.held) = subst (λ n. IsLasting n (lasting y.held)) (sym y.homes) (seat_lasts p w x i c.was c.at y) in
-      let again = reopened tell place c.was.rows c.later.rows y.held o.held o.lasting can y.rows c.reopens.rows o.are o.woken in
+      let first = fresh_at c.was.node in
+      let can : IsLasting place.nodes (lasting y.held) = subst (λ n. IsLasting n (lasting y.held)) (sym y.nodes) (seat_lasts p w x i c.was c.at y) in
+      let again = reopened tell place c.was.node.homes c.was.rows c.later.rows y.held o.held o.lasting y.homes can y.rows c.reopens.rows o.are o.woken in
       let at : c.later.node.place ≡ place = ap (λ n. n.place) o.is in
       let mine : own_moves i fate ≡ Loses ∷ [] = ap (λ b. cond b (moves_of fate) []) (eq-eqb (site fate) i own) ∙ moves in
-      let all : Moves place (fresh_at place) (p.moves i ++ Loses ∷ []) o.held = moves_join place (p.moves i) (Loses ∷ []) (fresh_at place) y.held o.held y.moves (o.held, again.woken, refl) in
+      let all : Moves place first (p.moves i ++ Loses ∷ []) o.held = moves_join place (p.moves i) (Loses ∷ []) first y.held o.held y.moves (o.held, again.woken, refl) in
       record {
         id = ap (λ (q : Place). q.id) at ∙ y.id;
-        homes = ap (λ (q : Place). length q.homes.nodes) at ∙ y.homes;
+        nodes = ap (λ (q : Place). q.nodes) at ∙ y.nodes;
         held = o.held;
-        moves = subst (λ (q : Place). Moves q (fresh_at q) (p.moves i ++ own_moves i fate) o.held) (sym at) (subst (λ ms. Moves place (fresh_at place) (p.moves i ++ ms) o.held) (sym mine) all);
+        homes = ap (λ n. n.homes) o.is ∙ sym (ap (λ (v : HeldView). v.homes) o.woken.2);
+        moves = led_by c.was.node c.later.node (p.moves i ++ own_moves i fate) o.held at (table_again w i w' c) (subst (λ ms. Moves place first (p.moves i ++ ms) o.held) (sym mine) all);
         rows = subst (λ (q : Place). AreOf q c.later.rows o.held) (sym at) again.are;
         lasts = again.lasts;
         up = λ h u. some_is (sym u ∙ ap (λ n. n.up) o.is);

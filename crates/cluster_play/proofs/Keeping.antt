@@ -36,8 +36,8 @@ module _ (run : List Played) (w : World) (r : Reached run w) (i : ℕ) (s : Site
   can : IsLasting (length w.sites) (lasting seat.held)
   can = seat_lasts (past run) w (explained run w r) i s at seat
 
-  can_here : IsLasting (length s.node.place.homes.nodes) (lasting seat.held)
-  can_here = subst (λ n. IsLasting n (lasting seat.held)) (sym seat.homes) can
+  can_here : IsLasting s.node.place.nodes (lasting seat.held)
+  can_here = subst (λ n. IsLasting n (lasting seat.held)) (sym seat.nodes) can
 
   pub keeps_operations : KeepsIts run i s
   keeps_operations = record {
@@ -61,15 +61,15 @@ restarted_seat run w w' r i c h' holds =
     let x = seat run w r i c.was c.at in
     let o = c.reopens.node in
     let place = c.was.node.place in
-    let again = reopened rows_tell_all place c.was.rows c.later.rows x.held o.held o.lasting (can_here run w r i c.was c.at) x.rows c.reopens.rows o.are o.woken in
+    let again = reopened rows_tell_all place c.was.node.homes c.was.rows c.later.rows x.held o.held o.lasting x.homes (can_here run w r i c.was c.at) x.rows c.reopens.rows o.are o.woken in
     let there : c.later ≡ holds.site = some_is (sym (get-set_same w.sites i c.later c.was c.at) ∙ sym (ap (λ ss. slice_get ss i) c.sites) ∙ holds.at) in
     let same : o.held ≡ h' = some_is (sym (ap (λ n. n.up) o.is) ∙ ap (λ (s : Site). s.node.up) there ∙ holds.up) in
     record {
       site = c.was;
       at = c.at;
       held = x.held;
-      last = record { moves = x.moves; rows = x.rows; up = x.up };
-      woken = subst (IsWoken (lasting x.held)) same again.woken;
+      last = record { moves = x.moves; homes = x.homes; rows = x.rows; up = x.up };
+      woken = subst (IsWoken x.held.homes (lasting x.held)) same again.woken;
     }
 
 pub restarts_with_what_lasts : (run : List Played) (w w' : World) (m : Played) → Reached run w → Happens w m.step m.fate w' → (i : ℕ) → m.fate ≡ Restarted i → (h' : HeldView) → Holds w' i h' → WakesFrom run w i h'
@@ -85,7 +85,7 @@ faulted_site run w w' r i fault b s s' at at' =
     let there : later ≡ s' = some_is (sym (get-set_same w.sites b.i later b.was b.at) ∙ ap (λ (v : World). slice_get v.sites b.i) (sym b.becomes.1.2) ∙ ap (slice_get w'.sites) (sym here) ∙ at') in
     let x = seat run w r b.i b.was b.at in
     let rows : later.rows ≡ b.was.rows = may_be_same b.was.node.place b.was.rows later.rows x.held x.rows h.rows in
-    sym there ∙ (λ n. record { node = record { place = h.place n; up = h.up n }; rows = rows n }) ∙ ap stopped was
+    sym there ∙ (λ n. record { node = h.node n; rows = rows n }) ∙ ap stopped was
 
 pub faults_leave_rows : (run : List Played) (w w' : World) (m : Played) → Reached run w → Happens w m.step m.fate w' → (i : ℕ) (fault : KeeperFault) → m.fate ≡ Faulted i fault
     → (s s' : Site) → slice_get w.sites i ≡ Some s → slice_get w'.sites i ≡ Some s' → s' ≡ stopped s

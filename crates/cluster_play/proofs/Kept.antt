@@ -7,7 +7,7 @@ use Rattle.causal_context.specs.Dots.{dot_cmp}
 use Rattle.message_lanes.specs.Lanes.{new_lane, new_lanes}
 use Rattle.node_keeper.specs.Keeping.{AreOf}
 use Rattle.node_rows.proofs.OneNode.{rows_tell_all}
-use Rattle.node_work.specs.View.{NodeView, Place, nodes_of}
+use Rattle.node_work.specs.View.{HeldView, NodeView, Place, fresh, place_of}
 use Rattle.cluster_play.specs.Worlds.{Site, World}
 use Rattle.cluster_play.specs.Runs.{Played}
 use Rattle.cluster_play.specs.Histories.{IsNew, IsStart, Reached}
@@ -22,20 +22,22 @@ use Rattle.cluster_play.proofs.Parts.{sound_nothing}
 -- at the start nothing is made or taken, and each node holds nothing
 new_seat : (count i : ℕ) (s : Site) → IsNew count i s → Seated (past []) count i s
 new_seat count i s is =
-    let place : s.node.place ≡ record { id = i; homes = is.homes } = ap (λ (n : NodeView). n.place) is.node in
-    let here : Place = record { id = i; homes = is.homes } in
-    let rows : AreOf here s.rows (fresh_at here) = fresh_rows here s.rows is.rows in
-    let at : fresh_at s.node.place ≡ fresh_at here = ap fresh_at place in
+    let place : s.node.place ≡ place_of i is.homes = ap (λ (n : NodeView). n.place) is.node in
+    let table : s.node.homes ≡ is.homes = ap (λ (n : NodeView). n.homes) is.node in
+    let first : HeldView = fresh is.homes in
+    let rows : AreOf (place_of i is.homes) s.rows first = fresh_rows (place_of i is.homes) is.homes s.rows is.rows in
+    let at : fresh_at s.node ≡ first = ap fresh table in
     record {
       id = ap (λ (p : Place). p.id) place;
-      homes = ap (λ (p : Place). length p.homes.nodes) place ∙ is.fits;
-      held = fresh_at here;
+      nodes = ap (λ (p : Place). p.nodes) place ∙ is.fits;
+      held = first;
+      homes = table;
       moves = sym at;
-      rows = subst (λ (p : Place). AreOf p s.rows (fresh_at here)) (sym place) rows;
-      lasts = fresh_can_last (nodes_of here);
+      rows = subst (λ (p : Place). AreOf p s.rows first) (sym place) rows;
+      lasts = fresh_can_last is.homes;
       up = λ h u. some_is (sym u ∙ ap (λ (n : NodeView). n.up) is.node);
       holding = record { grown = record { own_dots = λ o p a b e. absurd a; sound = sound_nothing []; own = λ o a e. absurd a }; deltas = tt };
-      kept = woken_kept count (λ j d. false) (new_lanes (nodes_of here)) (length-replicate (nodes_of here) new_lane ∙ is.fits) (new_below (nodes_of here));
+      kept = woken_kept count (λ j d. false) (new_lanes (length is.homes.nodes)) (length-replicate (length is.homes.nodes) new_lane ∙ is.fits) (new_below (length is.homes.nodes));
       listed = λ d. set.contains-empty dot_cmp d;
     }
 

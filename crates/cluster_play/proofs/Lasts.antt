@@ -1,6 +1,7 @@
 -- What lasts of what a node holds, and its rows.
 use Rattle.std.proofs.Common.{◌≡◌, ◌≤◌, ◌^◌, ℕ, List, [], ◌∷◌, length, arith, Option, Some, None, option_map, refl, sym, ap, ◌∙◌, inl, inr, subst}
 use Rattle.std.specs.FinMap as map
+use Rattle.home_table.specs.Table.{Table}
 use Rattle.mqtt_sessions.specs.Saved.{durable_of}
 use Rattle.row_store.specs.Rows.{Content, key_cmp}
 use Rattle.session_rows.specs.Durable.{Durable, IsDurable}
@@ -26,8 +27,8 @@ again : (o : Option Durable) → ((d : Durable) → o ≡ Some d → IsDurable d
 again None durable = refl
 again (Some d) durable = ap Some (durable-again d (durable d refl))
 
-pub woken_lasts : (count : ℕ) (x : Lasting) (h : HeldView) → IsLasting count x → IsWoken x h → lasting h ≡ x
-woken_lasts count x h is woken =
+pub woken_lasts : (count : ℕ) (homes : Table) (x : Lasting) (h : HeldView) → IsLasting count x → IsWoken homes x h → lasting h ≡ x
+woken_lasts count homes x h is woken =
     let seats = woken.0 in
     let sessions : (client : List ℕ) → lasts_of (map.get seats client) ≡ x.sessions client =
     λ client. ap lasts_of (woken.1 client) ∙ again (x.sessions client) (λ d e. (is.sessions client d e).0) in
@@ -86,21 +87,21 @@ may_be_same p rows rows' h are (inl e) = e
 may_be_same p rows rows' h are (inr e) = absurd (has_rows p rows h are e.0)
 
 pub record Reopened (p : Place) (rows : Content) (h h' : HeldView) : Type 0 where
-  pub woken : IsWoken (lasting h) h'
+  pub woken : IsWoken h.homes (lasting h) h'
   pub are : AreOf p rows h'
   pub lasts : CanLast h'
   pub store : h'.store ≡ h.store
   pub bridge : h'.bridge ≡ woken_bridge h.bridge.lanes
 
 -- from the rows of what it held
-pub reopened : RowsTellAll → (p : Place) (rows rows' : Content) (h h' : HeldView) (x : Lasting) → IsLasting (nodes_of p) (lasting h) → AreOf p rows h → marked p.id rows rows'
-    → AreLasting p rows' x → IsWoken x h' → Reopened p rows' h h'
-reopened tell p rows rows' h h' x can are m says woken =
+pub reopened : RowsTellAll → (p : Place) (homes : Table) (rows rows' : Content) (h h' : HeldView) (x : Lasting) → homes ≡ h.homes → IsLasting (nodes_of p) (lasting h) → AreOf p rows h → marked p.id rows rows'
+    → AreLasting p rows' x → IsWoken homes x h' → Reopened p rows' h h'
+reopened tell p homes rows rows' h h' x table can are m says woken =
     let same = marked_same p rows rows' h are m in
     let one : x ≡ lasting h = tell (nodes_of p) p.id x (lasting h) says.0 can (λ key. sym (says.1 key) ∙ ap (λ (c : Content). map.get c key) same ∙ are key) in
-    let lasts : lasting h' ≡ x = woken_lasts (nodes_of p) x h' says.0 woken in
+    let lasts : lasting h' ≡ x = woken_lasts (nodes_of p) homes x h' says.0 woken in
     record {
-      woken = subst (λ (y : Lasting). IsWoken y h') one woken;
+      woken = subst (λ (t : Table). IsWoken t (lasting h) h') table (subst (λ (y : Lasting). IsWoken homes y h') one woken);
       are = λ key. says.1 key ∙ ap (λ (y : Lasting). node_row p.id y key) (sym lasts);
       lasts = can_last (nodes_of p) h' (subst (IsLasting (nodes_of p)) (sym lasts) says.0);
       store = ap (λ (y : Lasting). y.store) (lasts ∙ one);

@@ -17,22 +17,23 @@ use Rattle.cluster_play.specs.Laws.{Holds, HoldsAmid}
 use Rattle.cluster_play.proofs.Explaining.{fresh_at}
 use Rattle.cluster_play.proofs.Kept.{explained}
 
-pub at_moves : (run : List Played) (w : World) → Reached run w → (i : ℕ) (h : HeldView) (at : Holds w i h) → Moves at.site.node.place (fresh_at at.site.node.place) (moves_at i run) h
+pub at_moves : (run : List Played) (w : World) → Reached run w → (i : ℕ) (h : HeldView) (at : Holds w i h) → Moves at.site.node.place (fresh_at at.site.node) (moves_at i run) h
 at_moves run w r i h at =
     let x = (explained run w r).sites i at.site at.at in
-    subst (Moves at.site.node.place (fresh_at at.site.node.place) (moves_at i run)) (sym (x.up h at.up)) x.moves
+    subst (Moves at.site.node.place (fresh_at at.site.node) (moves_at i run)) (sym (x.up h at.up)) x.moves
 
 -- amid a step too
-pub amid_moves : (p : Place) (run : List Played) (i : ℕ) (before : List Act) (h mid : HeldView) → Moves p (fresh_at p) (moves_at i run) h → Moves p h (did before) mid → Moves p (fresh_at p) (moves_amid i run before) mid
-amid_moves p run i before h mid r q = moves_join p (moves_at i run) (did before) (fresh_at p) h mid r q
+pub amid_moves : (p : Place) (first : HeldView) (run : List Played) (i : ℕ) (before : List Act) (h mid : HeldView) → Moves p first (moves_at i run) h → Moves p h (did before) mid → Moves p first (moves_amid i run before) mid
+amid_moves p first run i before h mid r q = moves_join p (moves_at i run) (did before) first h mid r q
 
 pub sessions_are_runs : (run : List Played) (w : World) → Reached run w → (i : ℕ) (h : HeldView) → Holds w i h
     → (client : List ℕ) (seat : Seat) → map.get h.sessions client ≡ Some seat → SessionRun (new_session client) (life client (moves_at i run) []) seat.session
-sessions_are_runs run w r i h at = lives.sessions_are_runs at.site.node.place h (moves_at i run) (at_moves run w r i h at)
+sessions_are_runs run w r i h at = lives.sessions_are_runs at.site.node.place at.site.node.homes h (moves_at i run) (at_moves run w r i h at)
 
 pub sessions_are_runs_amid : (run : List Played) (w : World) (m : Played) → Reached run w → (i : ℕ) (before : List Act) (mid : HeldView) → HoldsAmid w m i before mid
     → (client : List ℕ) (seat : Seat) → map.get mid.sessions client ≡ Some seat → SessionRun (new_session client) (life client (moves_amid i run before) []) seat.session
 sessions_are_runs_amid run w m r i before mid a =
-    let place = a.holds.site.node.place in
-    lives.sessions_are_runs place mid (moves_amid i run before)
-    (amid_moves place run i before a.held mid (at_moves run w r i a.held a.holds) (acts_are_moves place a.held mid before a.runs))
+    let node = a.holds.site.node in
+    let place = node.place in
+    lives.sessions_are_runs place node.homes mid (moves_amid i run before)
+    (amid_moves place (fresh_at node) run i before a.held mid (at_moves run w r i a.held a.holds) (acts_are_moves place a.held mid before a.runs))

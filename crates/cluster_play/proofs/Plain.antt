@@ -5,18 +5,19 @@ use Rattle.std.specs.Prelude.{is_some}
 use Rattle.std.specs.FinMap as map
 use Rattle.std.specs.FinSet as set
 use Rattle.causal_context.specs.Dots.{Dot, Dots, dot_cmp}
+use Rattle.subscription_set.specs.declared.entry.Entry.{Entry}
 use Rattle.subscription_set.specs.Standing.{contains-seen_of}
 use Rattle.subscription_set.specs.Statuses.{Status}
 use Rattle.replica_store.specs.declared.operation.Operation.{Operation}
 use Rattle.replica_store.specs.declared.operation.Operation.TheVariants.{Subscribe, Remove, Put}
-use Rattle.replica_store.specs.Operations.{dot_of, cover_of, Among, HasStatus, HasKept}
+use Rattle.replica_store.specs.Operations.{dot_of, cover_of, Among, Stands, HasStatus, HasKept}
 use Rattle.replica_store.specs.States.{State}
 use Rattle.replica_store.specs.StateOf.{IsStateOf}
 use Rattle.replica_store.proofs.Unions.{among_cases}
 use Rattle.node_rows.specs.Reading.{IsAmong}
 use Rattle.node_work.specs.Acts.{Act, Moment, Began, Store, Connection, Session, Bridge, Out, Named, Acknowledged, Passed, Dropped, Made, Merged, Allowed, IsMade, Runs, gather, op_in, merge_in}
 use Rattle.node_work.specs.View.{Place, HeldView}
-use Rattle.cluster_play.specs.NextOperations.{CoversWhatStands, IsNext}
+use Rattle.cluster_play.specs.NextOperations.{CoversWhatStands, IsRemoval, IsNext}
 use Rattle.cluster_play.proofs.Operations.{among_some, own_some}
 use Rattle.cluster_play.proofs.Sound.{Sound, Grown, lists}
 use Rattle.cluster_play.proofs.Growing.{AllSound, Holding, act_grows}
@@ -38,26 +39,36 @@ abbrev pub AllPlain : ℕ → List Operation → Type 0
 AllPlain count ms = (o : Operation) → Among o ms → IsPlain count o
 
 -- ---- what a node makes is plain
+stands_plain : (count : ℕ) (ms : List Operation) (s : State) (d : Dot) (entry : Entry) → AllPlain count ms → Stands (filter (lists s) ms) d entry → d.node < count
+stands_plain count ms s d entry plain stands =
+    let by = stands.subscribed in
+    (plain (Subscribe d entry by.0) (among_some (lists s) (Subscribe d entry by.0) ms by.1).0).dot
+
 covers_plain : (count : ℕ) (ms : List Operation) (s : State) (client : List ℕ) (to : Option (List ℕ)) (cover : Dots) → AllPlain count ms → CoversWhatStands (filter (lists s) ms) client to cover
     → (d : Dot) → set.contains cover d ≡ true → d.node < count
 covers_plain count ms s client to cover plain covers d h =
     let there = (covers d).0 h in
-    let by = there.1.subscribed in
-    (plain (Subscribe d there.0 by.0) (among_some (lists s) (Subscribe d there.0 by.0) ms by.1).0).dot
+    stands_plain count ms s d there.0 plain there.1
+
+removes_plain : (count : ℕ) (ms : List Operation) (s : State) (cover : Dots) → AllPlain count ms → IsRemoval (filter (lists s) ms) cover → (d : Dot) → set.contains cover d ≡ true → d.node < count
+removes_plain count ms s cover plain (inl (client, to, covers)) d h = covers_plain count ms s client to cover plain covers d h
+removes_plain count ms s cover plain (inr (client, version, covers)) d h =
+    let there = (covers d).0 h in
+    stands_plain count ms s d there.0 plain there.1
 
 module _ (i count : ℕ) (ms : List Operation) (s : State) (g : Grown i ms s) (low : i < count) (plain : AllPlain count ms) where
-  next : (o : Operation) → IsMade i s o → IsNext i (filter (lists s) ms) o
-  next o may = next_operation i (filter (lists s) ms) s (own_some ms (lists s) g.own_dots) g.sound o may
+  next : (version : ℕ) (o : Operation) → IsMade i version s o → IsNext i version (filter (lists s) ms) o
+  next version o may = next_operation i (filter (lists s) ms) s (own_some ms (lists s) g.own_dots) g.sound version o may
 
-  made_plain : (o : Operation) → IsMade i s o → IsPlain count o
-  made_plain (Subscribe dot entry cover) may =
-      let n = next (Subscribe dot entry cover) may in
+  made_plain : (version : ℕ) (o : Operation) → IsMade i version s o → IsPlain count o
+  made_plain version (Subscribe dot entry cover) may =
+      let n = next version (Subscribe dot entry cover) may in
       record { dot = subst (λ j. j < count) (sym n.0.node) low; cover = covers_plain count ms s entry.client (Some entry.filter) cover plain n.1; rest = tt }
-  made_plain (Remove dot cover) may =
-      let n = next (Remove dot cover) may in
-      record { dot = subst (λ j. j < count) (sym n.0.node) low; cover = covers_plain count ms s n.1.0 n.1.1 cover plain n.1.2; rest = tt }
-  made_plain (Put dot stamp content) may =
-      let n = next (Put dot stamp content) may in
+  made_plain version (Remove dot cover) may =
+      let n = next version (Remove dot cover) may in
+      record { dot = subst (λ j. j < count) (sym n.0.node) low; cover = removes_plain count ms s cover plain n.1; rest = tt }
+  made_plain version (Put dot stamp content) may =
+      let n = next version (Put dot stamp content) may in
       record {
         dot = subst (λ j. j < count) (sym n.0.node) low;
         cover = λ d h. absurd (let no : false ≡ true = sym (set.contains-empty dot_cmp d) ∙ h in cc);
@@ -90,7 +101,7 @@ acts_plain p count (a ∷ acts) ms h h' low g r all plain =
     let here : AllPlain count ms' = λ o x. elim (among_cases o ms (op_in a ++ []) x) [
       | inl old ↦ plain o old
       | inr new ↦ (let is = op_of_act a o (subst (Among o) (append-nil (op_in a)) new) in
-          made_plain p.id count ms h.store g.grown low plain o (subst (Allowed p h) is r.1.0))
+          made_plain p.id count ms h.store g.grown low plain h.homes.version o (subst (Allowed p h) is r.1.0))
     ] in
     let rest = acts_plain p count acts ms' r.0 h' low grows.holding r.2 (all_weaker (Sound ms) (Sound ms') (gather merge_in acts) grows.stays parts.1) here in
     subst (AllPlain count) (ap (λ os. (ms ++ os) ++ gather op_in acts) (append-nil (op_in a)) ∙ append_assoc ms (op_in a) (gather op_in acts)) rest

@@ -44,14 +44,14 @@ use Rattle.node_work.specs.declared.counts.Missed.TheVariants.{LaneFull, BadFram
 use Rattle.node_work.specs.Held.Bridge.{BridgeAct, Put as PutIn, Took, Got as GotBy, Believed, Gave, Left_out}
 use Rattle.node_work.specs.Acts.{Act, Moment, Began, Store, Connection, Session, Bridge, Out, Named, Acknowledged, Passed, Dropped, Made, Merged, Runs}
 use Rattle.node_work.specs.Calling.{CallsAt, Calls, Queues, QueuesOne}
-use Rattle.node_work.specs.Doings.{TakesMoment, MakesSubscribe, MakesRemove, Removes, Sends, Disconnects, Misses, PutsBy, Routes, RoutesBy, Gives, GivesFrame, is_small}
+use Rattle.node_work.specs.Doings.{TakesMoment, MakesSubscribe, MakesRemove, MakesRemoveBelow, Removes, RemovesBelow, Sends, Disconnects, Misses, PutsBy, Routes, RoutesBy, Gives, GivesFrame, is_small}
 use Rattle.node_work.specs.Held.Sessions.{SessionStep, Begun, Called, seat_at, takes_disconnect, will_is_due, end_is_due}
 use Rattle.node_work.specs.Held.Feeding.{cut_of}
 use Rattle.node_work.specs.Held.Connections.{Closed, Fed, Opened, is_open, client_at, first_at}
-use Rattle.node_work.specs.Held.Making.{number_at_end, removal}
+use Rattle.node_work.specs.Held.Making.{number_at_end, removal, removal_below}
 use Rattle.node_work.specs.Frames.{is_for, is_other}
 use Rattle.subscription_set.specs.declared.entry.Entry.{Entry}
-use Rattle.subscription_set.specs.Standing.{any_of}
+use Rattle.subscription_set.specs.Standing.{any_of, any_below}
 use Rattle.node_work.specs.Packets.{refused_packet}
 use Rattle.node_work.specs.View.{Place, HeldView, ConnectionView}
 use Rattle.node_work.specs.Working.{Doing, Returns, Stops, Acting, Numbered, Looks, Finds, If, Where, Then, InTurn, Each}
@@ -131,9 +131,10 @@ module _ (T : List Act → Type 0) (c : Joined T) where
     granted stood =
         let full = Returns (subscribing.refused 151) in
         let given = subscribing.granted f (identifiers_of identifier) stood in
-        let entry = subscribing.entry_of client f identifier in
-        k_looks (λ p h. not stood && subscribing.has_most client h.store) (λ is. If is full (Then (MakesSubscribe entry) (λ _. Returns given)))
-        (λ is. k_if is full (Then (MakesSubscribe entry) (λ _. Returns given)) (k_returns (subscribing.refused 151)) (k_then (MakesSubscribe entry) (λ _. Returns given) (subscribed entry) (λ _. k_returns given)))
+        let Makes = subscribing.SubscribesTo client identifier f in
+        let subscribes = k_looks (λ p h. h.homes.version) (λ version. MakesSubscribe (subscribing.entry_of client f identifier version)) (λ version. subscribed (subscribing.entry_of client f identifier version)) in
+        k_looks (λ p h. not stood && subscribing.has_most client h.store) (λ is. If is full (Then Makes (λ _. Returns given)))
+        (λ is. k_if is full (Then Makes (λ _. Returns given)) (k_returns (subscribing.refused 151)) (k_then Makes (λ _. Returns given) subscribes (λ _. k_returns given)))
 
     grants : Keeps T (subscribing.Grants client identifier f)
     grants =
@@ -292,6 +293,19 @@ removes client to =
     (λ stands. k_if Answered answered stands (Then (MakesRemove client to) (λ _. Returns true)) (Returns false)
     (k_then Answered answered (MakesRemove client to) (λ _. Returns true) (makes_remove client to) (λ _. k_returns Answered answered true)) (k_returns Answered answered false))
 
+makes_remove_below : (client : List ℕ) (version : ℕ) → Keeps Answered (MakesRemoveBelow client version)
+makes_remove_below client version = k_numbered Answered answered (λ p h. number_at_end p.id h) (λ p h. Store (Made (removal_below p.id client version h.store))) (λ p h. (tt, tt))
+
+removes_below : (client : List ℕ) (version : ℕ) → Keeps Answered (RemovesBelow client version)
+removes_below client version =
+    k_looks Answered answered (λ p h. any_below client version h.store.subscriptions) (λ stands. If stands (Then (MakesRemoveBelow client version) (λ _. Returns true)) (Returns false))
+    (λ stands. k_if Answered answered stands (Then (MakesRemoveBelow client version) (λ _. Returns true)) (Returns false)
+    (k_then Answered answered (MakesRemoveBelow client version) (λ _. Returns true) (makes_remove_below client version) (λ _. k_returns Answered answered true)) (k_returns Answered answered false))
+
+removes_own : (client : List ℕ) → Keeps Answered (ending.RemovesOwn client)
+removes_own client =
+    k_finds Answered answered (ending.IsAtHome client) (ending.RemovesFor client) (λ node. k_looks Answered answered (ending.ends_below node) (RemovesBelow client) (removes_below client))
+
 sends : (c : ℕ) (packet : Packet) → Keeps Answered (Sends c packet)
 sends c packet = k_acting Answered answered _ (λ p h. (tt, tt))
 
@@ -349,7 +363,7 @@ passes_asked (Some asks.Subscribe) = k_returns Answered answered _
 passes_asked (Some asks.Unsubscribe) = k_returns Answered answered _
 
 ends_session : (client : List ℕ) → Keeps Answered (ending.EndsSession client)
-ends_session client = k_then Answered answered _ _ (removes client None) (λ _. k_acting Answered answered _ (λ p h. (tt, tt)))
+ends_session client = k_then Answered answered _ _ (removes_own client) (λ _. k_acting Answered answered _ (λ p h. (tt, tt)))
 
 follows : (client : List ℕ) (r : Reaction) → Keeps Answered (ending.Follows client r)
 follows client r = k_then Answered answered _ _ (passes_asked r.ask) (λ _. k_if Answered answered r.over _ _ (ends_session client) (k_returns Answered answered _))
@@ -415,7 +429,7 @@ comes_home c p node =
     k_looks Answered answered (λ place h. node == place.id) (λ here. If here (connecting.AcceptsAs c p p.client) (connecting.Refers c p node))
     (λ here. k_if Answered answered here (connecting.AcceptsAs c p p.client) (connecting.Refers c p node)
     (k_where Answered answered (connecting.WillIsNamed p.will) (connecting.Accepts c p p.client) (connecting.Refuses c p 144 None) (accepts c p p.client) (refuses c p 144 None))
-    (k_looks Answered answered (λ place h. connecting.address_of place node) (λ reference. connecting.Refuses c p 156 reference) (λ reference. refuses c p 156 reference)))
+    (k_looks Answered answered (λ place h. connecting.address_of h node) (λ reference. connecting.Refuses c p 156 reference) (λ reference. refuses c p 156 reference)))
 
 connects_at : (bare : Bool) (c : ℕ) (p : Connect) → Keeps Answered (connecting.ConnectsAt bare c p)
 connects_at true c p = k_where Answered answered (connecting.WillIsNamed p.will) _ _ (k_finds Answered answered _ _ (names_by c p)) (refuses c p 144 None)

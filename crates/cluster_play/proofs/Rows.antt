@@ -10,7 +10,8 @@ use Rattle.node_work.specs.declared.frame.Frame.{Frame}
 use Rattle.node_work.specs.declared.outcome.Output.{Output}
 use Rattle.node_work.specs.Acts.{Act}
 use Rattle.node_work.specs.Lasting.{CanLast}
-use Rattle.node_work.specs.View.{Place, HeldView}
+use Rattle.node_work.specs.View.{Place, HeldView, NodeView}
+use Rattle.node_work.proofs.Homes.{homes_stay}
 use Rattle.cluster_play.specs.declared.step.Step.{Step}
 use Rattle.cluster_play.specs.Worlds.{Site, World, Fate, Released, Lost, Cut, Faulted, Was_down, Restarted, Takes, Reopens, Stops, Becomes, Happens, changed, stopped, frames_in}
 use Rattle.cluster_play.specs.Histories.{event_of, acts_of, site}
@@ -29,6 +30,7 @@ pub record Committed (w : World) (i : ℕ) (e : Event) (acts : List Act) (w' : W
   pub up : was.node.up ≡ Some before
   pub steps : Steps was.node.place before e acts outputs after
   pub place : later.node.place ≡ was.node.place
+  pub homes : later.node.homes ≡ after.homes
   pub rows : AreOf was.node.place was.rows before → AreOf was.node.place later.rows after
   pub lasts : CanLast after
   pub is : (h : HeldView) → later.node.up ≡ Some h → h ≡ after
@@ -38,6 +40,7 @@ pub record Committed (w : World) (i : ℕ) (e : Event) (acts : List Act) (w' : W
 -- a node that goes on as it was, or stops; where it had no rows it may have its mark
 pub record Stays (s s' : Site) : Type 0 where
   pub place : s'.node.place ≡ s.node.place
+  pub homes : s'.node.homes ≡ s.node.homes
   pub rows : may_be_marked s.node.place.id s.rows s'.rows
   pub up : (h : HeldView) → s'.node.up ≡ Some h → s.node.up ≡ Some h
 
@@ -55,6 +58,13 @@ pub record Woke (w : World) (i : ℕ) (w' : World) : Type 0 where
   pub sites : w'.sites ≡ set w.sites i later
   pub frames : w'.frames ≡ w.frames
 
+-- the table of homes stays
+pub table_stays : (w : World) (i : ℕ) (e : Event) (acts : List Act) (w' : World) (c : Committed w i e acts w') → c.was.node.homes ≡ c.before.homes → c.later.node.homes ≡ c.was.node.homes
+table_stays w i e acts w' c is = c.homes ∙ homes_stay c.was.node.place acts c.before c.after c.steps.runs ∙ sym is
+
+pub table_again : (w : World) (i : ℕ) (w' : World) (c : Woke w i w') → c.later.node.homes ≡ c.was.node.homes
+table_again w i w' c = ap (λ (n : NodeView). n.homes) c.reopens.node.is
+
 abbrev pub Came : World → Fate → World → Type 0
 Came w (Released i e acts outputs) w' = Committed w i e acts w'
 Came w (Lost i e acts) w' = Committed w i e acts w'
@@ -64,13 +74,18 @@ Came w (Was_down i) w' = Rests w w'
 Came w (Restarted i) w' = Woke w i w'
 
 still : (s : Site) → Stays s s
-still s = record { place = refl; rows = inl refl; up = λ h u. u }
+still s = record { place = refl; homes = refl; rows = inl refl; up = λ h u. u }
 
 down : (s : Site) → Stays s (stopped s)
-down s = record { place = refl; rows = inl refl; up = λ h u. none-some u }
+down s = record { place = refl; homes = refl; rows = inl refl; up = λ h u. none-some u }
 
 stops : (s s' : Site) → Stops s s' → Stays s s'
-stops s s' h = record { place = h.place; rows = h.rows; up = λ g u. none-some (sym h.up ∙ u) }
+stops s s' h = record {
+  place = ap (λ (n : NodeView). n.place) h.node;
+  homes = ap (λ (n : NodeView). n.homes) h.node;
+  rows = h.rows;
+  up = λ g u. none-some (sym (ap (λ (n : NodeView). n.up) h.node) ∙ u);
+}
 
 module _ (w : World) (i : ℕ) (s : Site) (at : slice_get w.sites i ≡ Some s) where
   rests : (s' : Site) (w' : World) → Stays s s' → w' ≡ changed w i s' [] → Rests w w'
@@ -81,9 +96,9 @@ module _ (w : World) (i : ℕ) (s : Site) (at : slice_get w.sites i ≡ Some s) 
   }
 
   -- the rows are those of what the node holds after the step
-  commits : (j : ℕ) (e : Event) (acts : List Act) (outputs : List Output) (s' later : Site) (sent : List Frame) (w' : World) → j ≡ i → Takes s e acts outputs s' → later.node.place ≡ s'.node.place → later.rows ≡ s'.rows → ((h : HeldView) → later.node.up ≡ Some h → s'.node.up ≡ Some h)
+  commits : (j : ℕ) (e : Event) (acts : List Act) (outputs : List Output) (s' later : Site) (sent : List Frame) (w' : World) → j ≡ i → Takes s e acts outputs s' → later.node.place ≡ s'.node.place → later.node.homes ≡ s'.node.homes → later.rows ≡ s'.rows → ((h : HeldView) → later.node.up ≡ Some h → s'.node.up ≡ Some h)
       → ((k : ℕ) (f : Frame) → slice_get sent k ≡ Some f → (m : ℕ) × (slice_get (frames_in outputs) m ≡ Some f)) → w' ≡ changed w i later sent → Committed w j e acts w'
-  commits j e acts outputs s' later sent w' same t place rows up out is =
+  commits j e acts outputs s' later sent w' same t place homes rows up out is =
       let c = t.commits in
       let d = c.done in
       record {
@@ -96,6 +111,7 @@ module _ (w : World) (i : ℕ) (s : Site) (at : slice_get w.sites i ≡ Some s) 
         up = d.was;
         steps = subst (λ xs. Steps s.node.place d.before e xs outputs d.after) t.does d.steps;
         place = place ∙ t.place;
+        homes = homes ∙ d.homes;
         rows = λ r. subst (λ rows. AreOf s.node.place rows d.after) (sym rows)
             (subst (λ (p : Place). AreOf p s'.rows d.after) t.place (c.kept (λ h u. subst (AreOf s.node.place s.rows) (some_is (sym d.was ∙ u)) r) d.after d.is));
         lasts = d.lasts;
@@ -105,8 +121,8 @@ module _ (w : World) (i : ℕ) (s : Site) (at : slice_get w.sites i ≡ Some s) 
       }
 
   became : (fate : Fate) (w' : World) → Becomes w i s fate w' → Came w fate w'
-  became (Released j e acts outputs) w' b = commits j e acts outputs b.1.0 b.1.0 (frames_in outputs) w' b.0 b.1.1 refl refl (λ h u. u) (λ k f h. (k, h)) b.1.2
-  became (Lost j e acts) w' b = commits j e acts b.1.0 b.1.1 (stopped b.1.1) [] w' b.0 b.1.2 refl refl (λ h u. none-some u) (λ k f h. none-some h) b.1.3
+  became (Released j e acts outputs) w' b = commits j e acts outputs b.1.0 b.1.0 (frames_in outputs) w' b.0 b.1.1 refl refl refl (λ h u. u) (λ k f h. (k, h)) b.1.2
+  became (Lost j e acts) w' b = commits j e acts b.1.0 b.1.1 (stopped b.1.1) [] w' b.0 b.1.2 refl refl refl (λ h u. none-some u) (λ k f h. none-some h) b.1.3
   became (Cut j) w' b = rests (stopped s) w' (down s) b.2
   became (Faulted j fault) w' b = rests b.1.0 w' (stops s b.1.0 b.1.1) b.1.2
   became (Was_down j) w' b = record { sites = λ k k' h. (k', subst (λ (v : World). slice_get v.sites k ≡ Some k') b.2 h, still k'); frames = ap (λ (v : World). v.frames) b.2 }

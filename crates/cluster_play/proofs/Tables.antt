@@ -28,7 +28,7 @@ few_tables tables all =
 
 -- the tables of the first nodes, and one more
 abbrev pub table_of : Site → Table
-table_of s = s.node.place.homes
+table_of s = s.node.homes
 
 pub homes_more : (sites : List Site) (tables : List Table) (i : ℕ) (s : Site) (x : Table) → i < length tables → x ≡ get_or tables i x → table_of s ≡ x
     → map table_of sites ≡ take i tables → map table_of (sites ++ s ∷ []) ≡ take (i + 1) tables

@@ -150,7 +150,7 @@ moment_amid i run acts = moment_after 0 (moves_amid i run acts)
 pub record IsNew (nodes i : ℕ) (s : Site) : Type 0 where
   pub homes : Table
   pub fits : length homes.nodes ≡ nodes
-  pub node : s.node ≡ opened (record { id = i; homes = homes })
+  pub node : s.node ≡ opened i homes
   pub rows : s.rows ≡ map.insert map.empty mark_key (mark i 0)
 
 -- new nodes, of which there are no more than have numbers in two bytes, and no frame

@@ -31,7 +31,7 @@ use Rattle.node_work.specs.Held.Bridge.{Gave, written_frame}
 use Rattle.node_work.specs.Passing.{IsPassed}
 use Rattle.message_copies.specs.declared.plain.PlainCopy.{PlainCopy as Copy}
 use Rattle.node_work.specs.Lasting.{lasting, IsWoken}
-use Rattle.node_work.specs.View.{HeldView, fresh, nodes_of}
+use Rattle.node_work.specs.View.{HeldView, fresh}
 use Rattle.node_laws.specs.Lives.{life}
 use Rattle.node_laws.specs.Moves.{Moves}
 use Rattle.cluster_play.specs.declared.fault.PlayFault.{PlayFault}
@@ -132,12 +132,22 @@ AnswerAlike =
     → (filter : List ℕ) (now : ℕ) (out out' : List Message) → IsAnswer filter now (map.entries h.store.retained) out → IsAnswer filter now (map.entries g.store.retained) out'
     → out ≡ out'
 
--- an operation that a step makes is the next one by what its node had taken until then, and is taken from then on
+-- a step makes an operation after these of its acts: it is the next one by what its node had taken until then, and by the version of
+-- the table of homes that the node holds there
+pub record MakesNext (run later : List Played) (m : Played) (w : World) (before : List Act) (o : Operation) : Type 0 where
+  pub world : World
+  pub reached : Reached run world
+  pub path : Run world (m ∷ later) w
+  pub held : HeldView
+  pub there : HoldsAmid world m (site m.fate) before held
+  pub next : IsNext (site m.fate) held.homes.version (operations_amid (site m.fate) run before) o
+
+-- an operation that a step makes is the next one, and is taken from then on
 abbrev pub OperationsOfAStep : Type 0
 OperationsOfAStep =
     (run later : List Played) (m : Played) (w : World) → Reached (run ++ m ∷ later) w
     → (before after : List Act) (o : Operation) → acts_of m.fate ≡ before ++ Store (Made o) ∷ after
-    → IsNext (site m.fate) (operations_amid (site m.fate) run before) o × (taken (site m.fate) (run ++ m ∷ later) (dot_of o) ≡ true)
+    → MakesNext run later m w before o × (taken (site m.fate) (run ++ m ∷ later) (dot_of o) ≡ true)
 
 -- a step gives out a Delta frame, after these of its acts
 pub record Ships (m : Played) (before : List Act) (f : BridgeFrame) : Type 0 where
@@ -215,7 +225,7 @@ SendAlike =
 
 -- a running node holds what the run's acts and losses lead to, from its first opening on
 abbrev pub HoldsWhatItsMovesLeave : Type 0
-HoldsWhatItsMovesLeave = (run : List Played) (w : World) → Reached run w → (i : ℕ) (h : HeldView) (at : Holds w i h) → Moves at.site.node.place (fresh (nodes_of at.site.node.place)) (moves_at i run) h
+HoldsWhatItsMovesLeave = (run : List Played) (w : World) → Reached run w → (i : ℕ) (h : HeldView) (at : Holds w i h) → Moves at.site.node.place (fresh at.site.node.homes) (moves_at i run) h
 
 -- so each of its sessions is what the calls and losses since the session last began make of a new one
 abbrev pub SessionsAreRuns : Type 0
@@ -253,7 +263,8 @@ RowsAreOfTheirNode = (run : List Played) (w : World) → Reached run w → (i : 
 
 -- a node holds this, or held it last: the run's acts and losses lead to it, and the rows are its
 pub record HeldLast (run : List Played) (i : ℕ) (s : Site) (h : HeldView) : Type 0 where
-  pub moves : Moves s.node.place (fresh (nodes_of s.node.place)) (moves_at i run) h
+  pub moves : Moves s.node.place (fresh s.node.homes) (moves_at i run) h
+  pub homes : s.node.homes ≡ h.homes
   pub rows : AreOf s.node.place s.rows h
   pub up : (g : HeldView) → s.node.up ≡ Some g → g ≡ h
 
@@ -263,7 +274,7 @@ pub record WakesFrom (run : List Played) (w : World) (i : ℕ) (h' : HeldView) :
   pub at : slice_get w.sites i ≡ Some site
   pub held : HeldView
   pub last : HeldLast run i site held
-  pub woken : IsWoken (lasting held) h'
+  pub woken : IsWoken held.homes (lasting held) h'
 
 abbrev pub RestartsWithWhatLasts : Type 0
 RestartsWithWhatLasts =

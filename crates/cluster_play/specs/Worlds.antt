@@ -53,7 +53,7 @@ frames_in outputs = flat_map frame_in outputs
 
 -- the node is down, and its rows stay
 abbrev pub stopped : Site → Site
-stopped s = record { node = record { place = s.node.place; up = None }; rows = s.rows }
+stopped s = record { node = record s.node { up = None }; rows = s.rows }
 
 -- one site is another, and frames are released
 abbrev pub changed : World → ℕ → Site → List Frame → World
@@ -67,15 +67,14 @@ pub record Takes (s : Site) (e : Event) (acts : List Act) (outputs : List Output
   pub does : commits.done.acts ≡ acts
   pub place : s'.node.place ≡ s.node.place
 
--- a node is opened from its rows; without rows it is first given its mark
+-- a node is opened from its rows with its table of homes; without rows it is first given its mark
 pub record Reopens (s s' : Site) : Type 0 where
   pub rows : marked s.node.place.id s.rows s'.rows
-  pub node : IsReopened s.node.place s'.rows s'.node
+  pub node : IsReopened s.node.place s.node.homes s'.rows s'.node
 
 -- a node stops, and its rows stay; a restart may have given it its mark, where it had no rows
 pub record Stops (s s' : Site) : Type 0 where
-  pub place : s'.node.place ≡ s.node.place
-  pub up : s'.node.up ≡ None
+  pub node : s'.node ≡ record s.node { up = None }
   pub rows : may_be_marked s.node.place.id s.rows s'.rows
 
 abbrev pub Becomes : World → ℕ → Site → Fate → World → Type 0

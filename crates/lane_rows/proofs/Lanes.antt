@@ -110,21 +110,21 @@ one_pair p x y z w a b c d e = by ((x == 0) && (y == 0)) ((z == 0) && (w == 0)) 
 -- ---- lanes
 module _ (p : ℕ) (messages own : List Plain) where
   pub no_numbers : ((x : ℕ × ℕ) → AreNumbers p own x → ⊥) → (a : Messages) → IsLaneOf p messages own a → ⊥
-  no_numbers none a is = none (last_put a, a.took) (is.numbers, omega (arith, is.sound.below), is.sound.took)
+  no_numbers none a is = none (last_put a, a.took) (is.numbers, omega (arith, is.sound.below), omega (arith, is.sound.took))
 
   module _ (count put took : ℕ) (counted : length messages ≡ count) (numbers : AreNumbers p own (put, took)) where
     -- what any such lanes have
     same_numbers : (a : Messages) → IsLaneOf p messages own a → (last_put a ≡ put) × (a.took ≡ took)
-    same_numbers a is = one_pair p (last_put a) a.took put took (omega (arith, is.sound.below)) is.sound.took numbers.1 numbers.2 (sym is.numbers ∙ numbers.0)
+    same_numbers a is = one_pair p (last_put a) a.took put took (omega (arith, is.sound.below)) (omega (arith, is.sound.took)) numbers.1 numbers.2 (sym is.numbers ∙ numbers.0)
 
     same_count : (a : Messages) → IsLaneOf p messages own a → length a.waiting ≡ count
     same_count a is = sym (count_rows p (suc a.gone) a.waiting) ∙ sym (ap length is.waiting) ∙ counted
 
-    pub cannot_be : ((count ≤ 65536) × (put < 2 ^ 62) × (count ≤ put) → ⊥) → (a : Messages) → IsLaneOf p messages own a → ⊥
+    pub cannot_be : ((count ≤ 65536) × (put < 2 ^ 62) × (count ≤ put) × (took < 2 ^ 62) → ⊥) → (a : Messages) → IsLaneOf p messages own a → ⊥
     cannot_be none a is =
         let n = same_numbers a is in
         let c = same_count a is in
-        none (omega (arith, c, is.sound.few), omega (arith, n.0, is.sound.below), omega (arith, n.0, c))
+        none (omega (arith, c, is.sound.few), omega (arith, n.0, is.sound.below), omega (arith, n.0, c), omega (arith, n.1, is.sound.took))
 
     pub no_messages : ((ms : List Forward) → AreMessages p (suc (put - count)) messages ms → ⊥) → (a : Messages) → IsLaneOf p messages own a → ⊥
     no_messages none a is =
@@ -133,12 +133,12 @@ module _ (p : ℕ) (messages own : List Plain) where
         let gone : suc a.gone ≡ suc (put - count) = omega (arith, n.0, c) in
         none a.waiting (is.waiting ∙ ap (λ k. message_rows p k a.waiting) gone, is.sound.spelled)
 
-    pub lane_is : (ms : List Forward) → (count ≤ 65536) × (put < 2 ^ 62) × (count ≤ put) → AreMessages p (suc (put - count)) messages ms → IsLaneOf p messages own (record { gone = put - count; waiting = ms; took = took })
+    pub lane_is : (ms : List Forward) → (count ≤ 65536) × (put < 2 ^ 62) × (count ≤ put) × (took < 2 ^ 62) → AreMessages p (suc (put - count)) messages ms → IsLaneOf p messages own (record { gone = put - count; waiting = ms; took = took })
     lane_is ms can are =
         let c : length ms ≡ count = sym (count_rows p (suc (put - count)) ms) ∙ sym (ap length are.0) ∙ counted in
         let all : put ≡ put - count + length ms = omega (arith, c, can.2) in
         record {
-          sound = record { few = omega (arith, c, can.0); below = omega (arith, all, can.1); took = numbers.2; spelled = are.1 };
+          sound = record { few = omega (arith, c, can.0); below = omega (arith, all, can.1); took = can.3; spelled = are.1 };
           waiting = are.0;
           numbers = numbers.0 ∙ ap (λ n. numbers_rows p n took) all;
         }

@@ -31,6 +31,27 @@ one_pushed f old new x b left rest all pushed is next so =
 pub all_pushed : {A B : Type 0} (f : A → B) (xs : List A) (left all : List B) → left ≡ [] → map f xs ++ left ≡ all → map f xs ≡ all
 all_pushed f xs left all none so = sym (append-nil (map f xs)) ∙ ap (λ ys. map f xs ++ ys) (sym none) ∙ so
 
+abbrev first_or : {A : Type 0} → A → List A → A
+first_or d [] = d
+first_or d (x ∷ xs) = x
+
+abbrev rest_of : {A : Type 0} → List A → List A
+rest_of [] = []
+rest_of (x ∷ xs) = xs
+
+-- what begins with others still does with more behind
+begins_more : {A : Type 0} (old now more : List A) → take (length old) now ≡ old → take (length old) (now ++ more) ≡ old
+begins_more [] now more begins = refl
+begins_more (x ∷ old) [] more begins = absurd (cc)
+begins_more (x ∷ old) (y ∷ now) more begins =
+    let first : y ≡ x = ap (first_or x) begins in
+    let rest : take (length old) now ≡ old = ap rest_of begins in
+    let later : take (length old) (now ++ more) ≡ old = begins_more old now more rest in
+    λ i. first i ∷ later i
+
+pub still_begins : {A : Type 0} (old now new more : List A) → take (length old) now ≡ old → new ≡ now ++ more → take (length old) new ≡ old
+still_begins old now new more begins is = ap (take (length old)) is ∙ begins_more old now more begins
+
 -- ---- messages and removals one by one
 
 pub next_message : (peer base i : ℕ) (ms : List Forward) (m : Forward) → i < length ms → m ≡ get_or ms i m

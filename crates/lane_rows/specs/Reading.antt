@@ -7,11 +7,11 @@ use Rattle.bridge_frames.specs.Forwards.{forward}
 use Rattle.lane_rows.specs.declared.reading.ReadLane.{ReadLane}
 use Rattle.lane_rows.specs.Rows.{Plain, Messages, last_put, message_row, message_rows, numbers_rows, waiting_of, numbers_of, owner, each, rows_of}
 
--- what can be: at most 65,536 messages wait, each has a spelling, and their numbers are below 2^62
+-- what can be: at most 65,536 messages wait, each has a spelling, and all numbers are below 2^62
 pub record IsLane (l : Messages) : Type 0 where
   pub few : length l.waiting ≤ 65536
   pub below : last_put l < 2 ^ 62
-  pub took : l.took < 2 ^ 64
+  pub took : l.took < 2 ^ 62
   pub spelled : AllByRecursion forward.Fits l.waiting
 
 -- the lanes of a node in a cluster of so many

@@ -141,11 +141,12 @@ fn read_numbers(peer: u16, rows: &[Row]) -> Option<(u64, u64)>
     }
 }
 
-// Whether so many may wait, of which the last has the number.
-fn can_be(count: usize, last_put: u64) -> bool
-    ensures { IsTrue result ↔ (count ≤ 65536) × (last_put < 2 ^ 62) × (count ≤ last_put) }
+// Whether so many may wait, of which the last has the number, and so many may have been taken.
+fn can_be(count: usize, last_put: u64, took: u64) -> bool
+    ensures { IsTrue result ↔ (count ≤ 65536) × (last_put < 2 ^ 62) × (count ≤ last_put) × (took < 2 ^ 62) }
 {
-    count <= ROOM && last_put < NUMBERS_END && count as u64 <= last_put
+    let may_wait = count <= ROOM && last_put < NUMBERS_END && count as u64 <= last_put;
+    may_wait && took < NUMBERS_END
 }
 
 // The lanes of the peer, whose rows these are.
@@ -160,7 +161,7 @@ fn read_lane(
     let Some((last_put, took)) = read_numbers(peer, numbers) else {
         return Err(FieldFault::Malformed);
     };
-    if !can_be(messages.len(), last_put) {
+    if !can_be(messages.len(), last_put, took) {
         return Err(FieldFault::Malformed);
     }
     let gone = last_put - messages.len() as u64;

@@ -1,5 +1,5 @@
 //! The rows of a lane, and changes of them.
-ghost use Rattle.std.specs.Prelude.{◌≡◌, ◌+◌, ◌<◌, ◌≤◌, ◌^◌, ◌++◌, ◌==◌, ◌&&◌, suc, [], ◌∷◌, drop, length, map, Some, None, IfOk, OnOk, if◌then◌else◌};
+ghost use Rattle.std.specs.Prelude.{◌≡◌, ◌+◌, ◌<◌, ◌≤◌, ◌^◌, ◌++◌, ◌==◌, ◌&&◌, suc, [], ◌∷◌, take, drop, length, map, Some, None, IfOk, OnOk, OnErr, if◌then◌else◌};
 ghost use Rattle.std.specs.Int.{w64};
 ghost use Rattle.mqtt_fields.specs.Numbers.{number};
 ghost use Rattle.row_store.specs.Rows.{entry_of};
@@ -68,7 +68,8 @@ fn numbers_row(alloc: Global, peer: u16, last_put: u64, took: u64) -> Result<Row
     })
 }
 
-/// Appends the rows of the messages for the peer from a place on; `base` is the number before that of the first message.
+/// Appends the rows of the messages for the peer from a place on, or the first of them where memory runs out; `base` is the number
+/// before that of the first message.
 pub fn append_rows(
     alloc: Global,
     peer: u16,
@@ -79,8 +80,9 @@ pub fn append_rows(
 ) -> Result<(), NoMemory>
     requires there { from ≤ length messages.now.items }
     requires below { base + length messages.now.items < 2 ^ 62 }
-    ensures { OnOk result (map entry_of out.new.items ≡ map entry_of out.old.items
+    ensures ok { OnOk result (map entry_of out.new.items ≡ map entry_of out.old.items
         ++ spec.message_rows peer (suc (base + from)) (drop from messages.now.items)) }
+    ensures begins { take (length out.old.items) out.new.items ≡ out.old.items }
 {
     for i in from..messages.len() {
         let row = message_row(alloc, peer, base + i as u64 + 1, &messages[i])?;
@@ -89,7 +91,8 @@ pub fn append_rows(
     Ok(())
 }
 
-/// Appends puts of the rows of the messages for the peer from a place on; `base` is the number before that of the first message.
+/// Appends puts of the rows of the messages for the peer from a place on, or the first of them where memory runs out; `base` is the
+/// number before that of the first message.
 pub fn append_puts(
     alloc: Global,
     peer: u16,
@@ -100,8 +103,9 @@ pub fn append_puts(
 ) -> Result<(), NoMemory>
     requires there { from ≤ length messages.now.items }
     requires below { base + length messages.now.items < 2 ^ 62 }
-    ensures { OnOk result (map left_of out.new.items ≡ map left_of out.old.items
+    ensures ok { OnOk result (map left_of out.new.items ≡ map left_of out.old.items
         ++ map put (spec.message_rows peer (suc (base + from)) (drop from messages.now.items))) }
+    ensures begins { take (length out.old.items) out.new.items ≡ out.old.items }
 {
     for i in from..messages.len() {
         let message = message_row(alloc, peer, base + i as u64 + 1, &messages[i])?;
@@ -116,7 +120,8 @@ fn removal(alloc: Global, peer: u16, n: u64) -> Result<Change, NoMemory>
     Ok(Change::Remove(MESSAGE, owner_of(alloc, peer)?, place_of(alloc, n)?))
 }
 
-/// Appends removals of the rows of so many messages for the peer; `base` is the number before that of the first one.
+/// Appends removals of the rows of so many messages for the peer, or the first of them where memory runs out; `base` is the number
+/// before that of the first one.
 pub fn append_removals(
     alloc: Global,
     peer: u16,
@@ -125,7 +130,8 @@ pub fn append_removals(
     out: &mut Vec<Change>,
 ) -> Result<(), NoMemory>
     requires { base + count < 2 ^ 62 }
-    ensures { OnOk result (map left_of out.new.items ≡ map left_of out.old.items ++ removals peer (suc base) count) }
+    ensures ok { OnOk result (map left_of out.new.items ≡ map left_of out.old.items ++ removals peer (suc base) count) }
+    ensures begins { take (length out.old.items) out.new.items ≡ out.old.items }
 {
     for i in 0..count {
         let change = removal(alloc, peer, base + i as u64 + 1)?;
@@ -141,7 +147,7 @@ fn are_equal(told: (u64, u64), now: (u64, u64)) -> bool
 }
 
 /// Appends the row of the numbers of the peer's lanes, unless both are 0: that of the last message that was put in, and of
-/// the last that was taken.
+/// the last that was taken. Where memory runs out `out` stays as it was.
 pub fn append_numbers(
     alloc: Global,
     peer: u16,
@@ -149,7 +155,8 @@ pub fn append_numbers(
     took: u64,
     out: &mut Vec<Row>,
 ) -> Result<(), NoMemory>
-    ensures { OnOk result (map entry_of out.new.items ≡ map entry_of out.old.items ++ spec.numbers_rows peer last_put took) }
+    ensures ok { OnOk result (map entry_of out.new.items ≡ map entry_of out.old.items ++ spec.numbers_rows peer last_put took) }
+    ensures err { OnErr result (out.new.items ≡ out.old.items) }
 {
     if are_equal((last_put, took), (0, 0)) {
         return Ok(());
@@ -159,7 +166,8 @@ pub fn append_numbers(
     Ok(())
 }
 
-/// Appends a put of the row of the numbers of the peer's lanes, unless they were told so.
+/// Appends a put of the row of the numbers of the peer's lanes, unless they were told so. Where memory runs out `out` stays as it
+/// was.
 pub fn append_numbers_change(
     alloc: Global,
     peer: u16,
@@ -167,7 +175,8 @@ pub fn append_numbers_change(
     now: (u64, u64),
     out: &mut Vec<Change>,
 ) -> Result<(), NoMemory>
-    ensures { OnOk result (map left_of out.new.items ≡ map left_of out.old.items
+    ensures err { OnErr result (out.new.items ≡ out.old.items) }
+    ensures ok { OnOk result (map left_of out.new.items ≡ map left_of out.old.items
         ++ (if (told.0 == now.0) && (told.1 == now.1) then [] else (spec.numbers_key peer, Some (spec.numbers_value now.0 now.1)) ∷ [])) }
 {
     if are_equal(told, now) {

@@ -1,6 +1,7 @@
 //! UTF-8 Encoded Strings (MQTT 5.0, 1.5.4).
 
-ghost use Rattle.std.specs.Prelude.{◌≡◌, ◌+◌, ◌<◌, ◌≤◌, ◌^◌, ◌++◌, ◌==◌, ◌↔◌, Contains, IsOk, List, ℕ, length, drop, not, nat_eq, true, false, Some, IfOk, OnOk, OnErr, MatchOption, IsErrOf, IfErr, ◌⊎◌, string_bytes, vec_len, vec_capacity, refl};
+ghost use Rattle.std.specs.Prelude.{◌≡◌, ◌+◌, ◌<◌, ◌≤◌, ◌^◌, ◌++◌, ◌==◌, ◌↔◌, Contains, IsOk, List, ℕ, length, drop, not, nat_eq, true, false, Some, IfOk, OnOk, OnErr, MatchOption, IsErrOf, IfErr, ◌⊎◌, vec_len, vec_capacity, refl};
+ghost use Rattle.std.specs.Rc.{rc_str_bytes};
 ghost use Rattle.std.specs.List.{list_all};
 ghost use Rattle.std.proofs.Common.{rules};
 ghost use Rattle.std.specs.Cmp.{partial_order_from_own_ties};
@@ -16,6 +17,7 @@ use crate::fault::{FieldFault, NoMemory};
 use std::alloc::Global;
 use std::cmp::Ordering;
 use std::marker::Model;
+use std::rc::RcStr;
 
 /// Whether no byte is 0.
 fn has_no_zero(bytes: &[u8]) -> bool
@@ -49,18 +51,18 @@ pub(crate) fn str_at(bytes: &[u8]) -> Result<(&str, &[u8]), FieldFault>
     }
 }
 
-/// A UTF-8 Encoded String: at most 65,535 bytes, without U+0000. Contracts see its bytes.
+/// A UTF-8 Encoded String: at most 65,535 bytes, without U+0000. Copies share its bytes. Contracts see these.
 #[derive(Debug, Drop)]
 pub struct Text {
-    string: String,
+    string: RcStr<Global>,
 }
 
 impl Model for Text {
     ghost Value = { List ℕ };
 
-    ghost view = { λ t. string_bytes t.string };
+    ghost view = { λ t. rc_str_bytes t.string };
 
-    ghost invariant = { λ t. IsText (string_bytes t.string) };
+    ghost invariant = { λ t. IsText (rc_str_bytes t.string) };
 }
 
 impl Text {
@@ -78,7 +80,7 @@ impl Text {
         if !has_no_zero(s.as_bytes()) {
             return Err(FieldFault::Malformed);
         }
-        let string = String::from_str(alloc, s)?;
+        let string = RcStr::from_str(alloc, s)?;
         Ok(Text { string })
     }
 
@@ -87,7 +89,7 @@ impl Text {
         requires { IsText s.now }
         ensures { IfOk result (λ t. t ≡ s.now) }
     {
-        let string = String::from_str(alloc, s)?;
+        let string = RcStr::from_str(alloc, s)?;
         Ok(Text { string })
     }
 
@@ -132,7 +134,7 @@ impl Text {
         ensures len { vec_len out.new ≡ vec_len out.old + length (text.bytes self.now) }
         ensures capacity { vec_capacity out.old ≤ vec_capacity out.new }
     {
-        let bytes = self.string.as_bytes();
+        let bytes = self.as_str().as_bytes();
         out.extend_from_slice(&(bytes.len() as u16).to_be_bytes())
             .unwrap();
         out.extend_from_slice(bytes).unwrap();
@@ -151,11 +153,12 @@ impl Text {
         Ok(())
     }
 
-    /// A text equal to this one.
-    pub fn copy(&self, alloc: Global) -> Result<Text, NoMemory>
+    /// The same text, with one more holder. This copies none of its bytes.
+    pub fn copy(&self, _alloc: Global) -> Result<Text, NoMemory>
         ensures { IfOk result (λ t. t ≡ self.now) }
     {
-        Text::of(alloc, self.as_str())
+        let string = self.string.clone()?;
+        Ok(Text { string })
     }
 }
 

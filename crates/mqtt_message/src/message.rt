@@ -35,6 +35,29 @@ impl Message {
     ghost use Rattle.mqtt_message.specs.Accepted.{IsAcceptable, accepted, IsPublishable, accepted_will};
     ghost use Rattle.mqtt_message.specs.Messages.{is_alive};
 
+    /// The message of a PUBLISH that was accepted from this publisher now, under this topic.
+    fn of_publish(
+        alloc: Global,
+        publish: &Publish,
+        topic: TopicName,
+        publisher: &Text,
+        now: u64,
+    ) -> Result<Message, NoMemory>
+        requires moment { now < 2 ^ 62 }
+        requires acceptable { IsAcceptable (record publish.now { topic = topic }) }
+        ensures { IfOk result (λ m. m ≡ accepted (record publish.now { topic = topic }) publisher.now now) }
+    {
+        Ok(Message {
+            topic,
+            payload: Payload::from_slice(alloc, publish.payload.as_slice())?,
+            properties: MessageProperties::of_publish(alloc, &publish.properties)?,
+            qos: publish.qos,
+            retain: publish.retain,
+            publisher: publisher.copy(alloc)?,
+            deadline: deadline_after(now, publish.properties.four(MESSAGE_EXPIRY_INTERVAL)),
+        })
+    }
+
     /// The message of a PUBLISH that was accepted from this publisher now.
     pub fn accept(
         alloc: Global,
@@ -46,18 +69,27 @@ impl Message {
         requires acceptable { IsAcceptable publish.now }
         ensures { IfOk result (λ m. m ≡ accepted publish.now publisher.now now) }
     {
-        let Ok(topic) = TopicName::parse(alloc, publish.topic.as_str()) else {
+        let Ok(topic) = TopicName::of_text(alloc, &publish.topic) else {
             return Err(NoMemory);
         };
-        Ok(Message {
-            topic,
-            payload: Payload::from_slice(alloc, publish.payload.as_slice())?,
-            properties: MessageProperties::of_publish(alloc, &publish.properties)?,
-            qos: publish.qos,
-            retain: publish.retain,
-            publisher: publisher.copy(alloc)?,
-            deadline: deadline_after(now, publish.properties.four(MESSAGE_EXPIRY_INTERVAL)),
-        })
+        Message::of_publish(alloc, publish, topic, publisher, now)
+    }
+
+    /// The message of a PUBLISH that was accepted from this publisher now, under this topic in place of its own, as under the one
+    /// that its alias stands for (MQTT 5.0, 3.3.2.3.4).
+    pub fn accept_under(
+        alloc: Global,
+        publish: &Publish,
+        topic: &TopicName,
+        publisher: &Text,
+        now: u64,
+    ) -> Result<Message, NoMemory>
+        requires moment { now < 2 ^ 62 }
+        requires acceptable { IsAcceptable (record publish.now { topic = topic.now }) }
+        ensures { IfOk result (λ m. m ≡ accepted (record publish.now { topic = topic.now }) publisher.now now) }
+    {
+        let topic = topic.copy(alloc)?;
+        Message::of_publish(alloc, publish, topic, publisher, now)
     }
 
     /// The message of a will that is published now for this client.
@@ -71,7 +103,7 @@ impl Message {
         requires publishable { IsPublishable will.now }
         ensures { IfOk result (λ m. m ≡ accepted_will will.now publisher.now now) }
     {
-        let Ok(topic) = TopicName::parse(alloc, will.topic.as_str()) else {
+        let Ok(topic) = TopicName::of_text(alloc, &will.topic) else {
             return Err(NoMemory);
         };
         Ok(Message {

@@ -8,7 +8,6 @@ use Rattle.mqtt_packets.specs.declared.packet.Packet.{Packet}
 use Rattle.mqtt_packets.specs.declared.packet.Packet.TheVariants as packets
 use Rattle.mqtt_packets.specs.declared.publish.Publish.{Publish}
 use Rattle.mqtt_packets.specs.declared.subscribe.Subscribe.{Subscribe}
-use Rattle.mqtt_message.specs.Accepted.{accepted}
 use Rattle.mqtt_message.specs.declared.message.Message.{Message}
 use Rattle.qos_handshakes.specs.declared.answers.In.{In}
 use Rattle.qos_handshakes.specs.declared.answers.In.TheVariants.{New, Repeat, InUse, OverMaximum}
@@ -17,12 +16,12 @@ use Rattle.session_rows.specs.Changes.{Told}
 use Rattle.session_rows.specs.Fields.{main}
 use Rattle.mqtt_sessions.specs.declared.reaction.Ask.{Ask}
 use Rattle.mqtt_sessions.specs.Answers.{fits, puback, suback, unsuback}
-use Rattle.mqtt_sessions.specs.Arriving.{refusal, publish_by, passes_by, once_by, arrival_once, is_unwelcome}
+use Rattle.mqtt_sessions.specs.Arriving.{refusal, message_in, setting, publish_by, passes_by, once_by, arrival_once, is_unwelcome}
 use Rattle.mqtt_sessions.specs.Asking.{SubscribeStep, subscribed}
 use Rattle.mqtt_sessions.specs.Packets.{KindStep, PacketIf, PacketStep}
 use Rattle.mqtt_sessions.specs.Reaction.{Reaction, Outcome, answered}
 use Rattle.mqtt_sessions.specs.Saved.{IsFresh, is_single, keeps_main, main_of}
-use Rattle.mqtt_sessions.specs.State.{State, Tracked, heard, limit_of}
+use Rattle.mqtt_sessions.specs.State.{State, Tracked, aliases_of, heard, limit_of}
 
 -- an outcome that leaves it
 abbrev Keeps : State → Outcome → Type 0
@@ -49,7 +48,7 @@ passes_keeps ExactlyOnce p unwelcome limit m s is = absurd (false≢true is)
 
 publish_keeps : (why : Option ℕ) (p : Publish) (now : ℕ) (room : Bool) (limit : ℕ) (s : State) → is_single p.qos ≡ true → Keeps s (publish_by why p now room limit s)
 publish_keeps (Some code) p now room limit s is = refl
-publish_keeps None p now room limit s is = passes_keeps p.qos p (is_unwelcome p room) limit (accepted p s.kept.client now) s is
+publish_keeps None p now room limit s is = passes_keeps p.qos p (is_unwelcome p room) limit (message_in p now (setting p s)) (setting p s) is
 
 subscribe_keeps : (p : Subscribe) (limit : ℕ) (s : State) (r : Reaction) (new : State) → SubscribeStep p limit s r new → main_of new ≡ main_of s
 subscribe_keeps p limit s r new (inl breaks) = ap main_of breaks.1.1
@@ -57,7 +56,7 @@ subscribe_keeps p limit s r new (inr keeps) =
     ap main_of keeps.1.1 ∙ either_keeps (is_some (opened p.identifier s.incoming)) s _ _ (answered_keeps limit (suback p.identifier (replicate (length p.filters) 145)) _ s) refl
 
 kind_keeps : (p : Packet) (now : ℕ) (room : Bool) (limit : ℕ) (s : State) (r : Reaction) (new : State) → keeps_main p ≡ true → KindStep p now room limit s r new → main_of new ≡ main_of s
-kind_keeps (packets.Publish p) now room limit s r new is step = ap main_of step.1 ∙ publish_keeps (refusal p) p now room limit s is
+kind_keeps (packets.Publish p) now room limit s r new is step = ap main_of step.1 ∙ publish_keeps (refusal (aliases_of s.link) p) p now room limit s is
 kind_keeps (packets.Subscribe p) now room limit s r new is step = subscribe_keeps p limit s r new step
 kind_keeps (packets.Unsubscribe p) now room limit s r new is step =
     ap main_of step.1 ∙ either_keeps (is_some (opened p.identifier s.incoming)) s _ _ (answered_keeps limit (unsuback p.identifier (replicate (length p.filters) 145)) _ s) refl

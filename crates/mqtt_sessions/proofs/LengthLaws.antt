@@ -108,17 +108,17 @@ pub unsuback_fit : (id limit : ℕ) (codes : List ℕ) → limit ≤ 268435460 �
 unsuback_fit id limit codes le = list_fit (unsuback id codes) (length codes) limit (unsuback_bytes id codes) le
 
 -- ---- CONNACK
-pub assigned_bytes : (given client : List ℕ) → length (properties_bytes (assigned given client ++ record { id = 33; value = Two 100 } ∷ record { id = 39; value = Four 1048576 } ∷ [])) ≡ 8 + assigned_length given client
-assigned_bytes [] client = omega (arith, length-append (text.bytes client) (properties_bytes (record { id = 33; value = Two 100 } ∷ record { id = 39; value = Four 1048576 } ∷ [])))
+pub assigned_bytes : (given client : List ℕ) → length (properties_bytes (assigned given client ++ record { id = 33; value = Two 100 } ∷ record { id = 34; value = Two 16 } ∷ record { id = 39; value = Four 1048576 } ∷ [])) ≡ 11 + assigned_length given client
+assigned_bytes [] client = omega (arith, length-append (text.bytes client) (properties_bytes (record { id = 33; value = Two 100 } ∷ record { id = 34; value = Two 16 } ∷ record { id = 39; value = Four 1048576 } ∷ [])))
 assigned_bytes (b ∷ bs) client = refl
 
-pub connack_bytes : (present : Bool) (given client : List ℕ) → length (body_bytes (connack present given client)) ≡ 2 + length (vbi.bytes (8 + assigned_length given client)) + (8 + assigned_length given client)
+pub connack_bytes : (present : Bool) (given client : List ℕ) → length (body_bytes (connack present given client)) ≡ 2 + length (vbi.bytes (11 + assigned_length given client)) + (11 + assigned_length given client)
 unfolding body_bytes connack_body properties
 connack_bytes present given client =
-    let ps = assigned given client ++ record { id = 33; value = Two 100 } ∷ record { id = 39; value = Four 1048576 } ∷ [] in
+    let ps = assigned given client ++ record { id = 33; value = Two 100 } ∷ record { id = 34; value = Two 16 } ∷ record { id = 39; value = Four 1048576 } ∷ [] in
     let e = assigned_bytes given client in
-    let v : length (vbi.bytes (length (properties_bytes ps))) ≡ length (vbi.bytes (8 + assigned_length given client)) = ap (λ (n : ℕ). length (vbi.bytes n)) e in
+    let v : length (vbi.bytes (length (properties_bytes ps))) ≡ length (vbi.bytes (11 + assigned_length given client)) = ap (λ (n : ℕ). length (vbi.bytes n)) e in
     omega (arith, length-append (vbi.bytes (length (properties_bytes ps))) (properties_bytes ps), e, v)
 
-pub connack_fit : (present : Bool) (given client : List ℕ) (limit n m : ℕ) → n ≡ 8 + assigned_length given client → m ≡ 2 + length (vbi.bytes n) + n → nat_le (1 + length (vbi.bytes m) + m) limit ≡ fits limit (connack present given client)
+pub connack_fit : (present : Bool) (given client : List ℕ) (limit n m : ℕ) → n ≡ 11 + assigned_length given client → m ≡ 2 + length (vbi.bytes n) + n → nat_le (1 + length (vbi.bytes m) + m) limit ≡ fits limit (connack present given client)
 connack_fit present given client limit n m en em = rw (written_length (connack present given client), connack_bytes present given client, ← en, ← em) refl

@@ -14,7 +14,6 @@ use Rattle.mqtt_packets.specs.declared.ack.Ack.{Ack}
 use Rattle.mqtt_packets.specs.Written.{HasSpelling, written}
 use Rattle.mqtt_message.specs.declared.delivery.Delivery.{Delivery}
 use Rattle.mqtt_message.specs.declared.message.Message.{Message}
-use Rattle.mqtt_message.specs.Accepted.{accepted}
 use Rattle.mqtt_message.specs.Laws.{SentIsSpelled}
 use Rattle.mqtt_message.specs.Sent.{sent, IsSentLength, IsIdentifierAt, IsDupAt}
 use Rattle.mqtt_message.specs.Spellings.{delivery}
@@ -27,11 +26,11 @@ use Rattle.mqtt_sessions.specs.declared.link.Asked.{Asked}
 use Rattle.mqtt_sessions.specs.declared.link.Asked.TheVariants.{Subscribing, Unsubscribing}
 use Rattle.mqtt_sessions.specs.declared.reaction.Ask.{Ask}
 use Rattle.mqtt_sessions.specs.Answers.{puback, pubrec, pubrel, pubcomp, suback, unsuback, fits}
-use Rattle.mqtt_sessions.specs.Arriving.{refusal, publish_by, passes_by, published, once_by, twice_by, arrival_once, arrival_twice, after_twice, is_unwelcome, released, release_code}
+use Rattle.mqtt_sessions.specs.Arriving.{refusal, message_in, setting, publish_by, passes_by, published, once_by, twice_by, arrival_once, arrival_twice, after_twice, is_unwelcome, released, release_code}
 use Rattle.mqtt_sessions.specs.Asking.{SubscribeStep, subscribed, unsubscribed, answer_of}
 use Rattle.mqtt_sessions.specs.Reaction.{Reaction, Outcome, Comes, AreSpelled, answered, pubrels_of}
 use Rattle.mqtt_sessions.specs.Sending.{is_once}
-use Rattle.mqtt_sessions.specs.State.{State}
+use Rattle.mqtt_sessions.specs.State.{State, aliases_of}
 use Rattle.mqtt_sessions.proofs.SpelledLaws.{IsShort, IsIdentifier, IsAnswered, puback_spelled, pubrec_spelled, pubrel_spelled, pubcomp_spelled, pingresp_spelled, suback_spelled, unsuback_spelled, some_codes, publish_identified, pubrel_identified, subscribe_asks, unsubscribe_asks}
 
 -- ---- a copy at QoS 0
@@ -100,11 +99,11 @@ passes_in ExactlyOnce p unwelcome now limit m s most is =
 
 publish_in : (why : Option ℕ) (p : Publish) (now : ℕ) (room : Bool) (limit : ℕ) (s : State) → limit ≤ 268435460 → HasSpelling (packets.Publish p) → AreSpelledIn now (publish_by why p now room limit s)
 publish_in (Some code) p now room limit s most h = tt
-publish_in None p now room limit s most h = passes_in p.qos p (is_unwelcome p room) now limit (accepted p s.kept.client now) s most (publish_identified p h)
+publish_in None p now room limit s most h = passes_in p.qos p (is_unwelcome p room) now limit (message_in p now (setting p s)) (setting p s) most (publish_identified p h)
 
 pub publish_spelled : {E : Type 0} (p : Publish) (now : ℕ) (room : Bool) (limit : ℕ) (s new : State) (result : Result Reaction E) → limit ≤ 268435460 → HasSpelling (packets.Publish p) → IfOk result (λ r. Comes (published p now room limit s) r new)
     → IfOk result (λ r. AreSpelled now r.packets)
-publish_spelled p now room limit s new (Ok r) most h comes = rw comes.0 (publish_in (refusal p) p now room limit s most h)
+publish_spelled p now room limit s new (Ok r) most h comes = rw comes.0 (publish_in (refusal (aliases_of s.link) p) p now room limit s most h)
 publish_spelled p now room limit s new (Err e) most h comes = comes
 
 -- ---- PUBREL

@@ -126,7 +126,7 @@ unsuback_spelled id codes is some short = sound (unsuback id codes) refl ((((ome
 
 -- ---- CONNACK
 abbrev connack_properties : List ℕ → List ℕ → List Property
-connack_properties given client = assigned given client ++ record { id = 33; value = Two 100 } ∷ record { id = 39; value = Four 1048576 } ∷ []
+connack_properties given client = assigned given client ++ record { id = 33; value = Two 100 } ∷ record { id = 34; value = Two 16 } ∷ record { id = 39; value = Four 1048576 } ∷ []
 
 flag_fits : (b : Bool) → (bit b < 256) × IsTrue (nat_lt (bit b) 2)
 flag_fits true = (omega arith, refl)
@@ -142,8 +142,9 @@ assigned_short (b ∷ bs) client is = omega arith
 
 block_fits : (given client : List ℕ) → IsText client → (properties places.Connack).Fits (connack_properties given client)
 unfolding properties property entry_of is_here is_new is_multiple
-block_fits [] client is = (omega (arith, assigned_bytes [] client, is.0), (((((omega arith, refl), refl), refl), is), (((((omega arith, refl), refl), refl), omega arith), (((((omega arith, refl), refl), refl), omega arith), tt))))
-block_fits (b ∷ bs) client is = (omega arith, (((((omega arith, refl), refl), refl), omega arith), (((((omega arith, refl), refl), refl), omega arith), tt)))
+block_fits [] client is =
+    (omega (arith, assigned_bytes [] client, is.0), (((((omega arith, refl), refl), refl), is), (((((omega arith, refl), refl), refl), omega arith), (((((omega arith, refl), refl), refl), omega arith), (((((omega arith, refl), refl), refl), omega arith), tt)))))
+block_fits (b ∷ bs) client is = (omega arith, (((((omega arith, refl), refl), refl), omega arith), (((((omega arith, refl), refl), refl), omega arith), (((((omega arith, refl), refl), refl), omega arith), tt))))
 
 block_valid : (given client : List ℕ) → are_valid (connack_properties given client) ≡ true
 block_valid [] client = refl
@@ -154,7 +155,7 @@ unfolding BodyFits connack_body
 connack_fits present given client is = (((flag_fits present, (omega arith, block_fits given client is)), ap (λ (b : Bool). record { session_present = b; reason = 0; properties = connack_properties given client }) (flag_is present)), block_valid given client)
 
 connack_short : (present : Bool) (given client : List ℕ) → IsText client → IsShort (connack present given client)
-connack_short present given client is = omega (arith, written_length (connack present given client), connack_bytes present given client, assigned_short given client is, vbi_at_most_four (8 + assigned_length given client), vbi_at_most_four (length (body_bytes (connack present given client))))
+connack_short present given client is = omega (arith, written_length (connack present given client), connack_bytes present given client, assigned_short given client is, vbi_at_most_four (11 + assigned_length given client), vbi_at_most_four (length (body_bytes (connack present given client))))
 
 pub connack_spelled : (present : Bool) (given client : List ℕ) → IsText client → HasSpelling (connack present given client)
 unfolding head_of

@@ -36,12 +36,12 @@ abbrev pub assigned : List ℕ → List ℕ → List Property
 assigned [] client = record { id = 18; value = Text client } ∷ []
 assigned (b ∷ bs) client = []
 
--- CONNACK to a client that is accepted (3.2): Receive Maximum 100, Maximum Packet Size 1,048,576
+-- CONNACK to a client that is accepted (3.2): Receive Maximum 100, Topic Alias Maximum 16, Maximum Packet Size 1,048,576
 abbrev pub connack : Bool → List ℕ → List ℕ → Packet
 connack present given client = Connack (record {
   session_present = present;
   reason = 0;
-  properties = assigned given client ++ record { id = 33; value = Two 100 } ∷ record { id = 39; value = Four 1048576 } ∷ [];
+  properties = assigned given client ++ record { id = 33; value = Two 100 } ∷ record { id = 34; value = Two 16 } ∷ record { id = 39; value = Four 1048576 } ∷ [];
 })
 
 -- a packet isn't longer than the client takes (3.1.2.11.4)

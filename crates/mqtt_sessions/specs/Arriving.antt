@@ -1,5 +1,5 @@
 -- What a PUBLISH or a PUBREL of the client comes to (MQTT 5.0, 3.3, 3.6, 4.3.2 and 4.3.3).
-use Rattle.std.specs.Prelude.{ℕ, Bool, true, false, cond, not, ◌&&◌, ◌==◌, nat_le, List, Option, Some, None, is_some}
+use Rattle.std.specs.Prelude.{ℕ, Bool, true, false, cond, not, ◌&&◌, ◌==◌, nat_le, List, Option, Some, None, is_none, is_some}
 use Rattle.std.specs.BTreeMap.{is_at, insert_entry}
 use Rattle.std.specs.List.{list_any}
 use Rattle.std.specs.Map.{remove_entry}
@@ -15,17 +15,31 @@ use Rattle.qos_handshakes.specs.declared.answers.In.{In}
 use Rattle.qos_handshakes.specs.declared.answers.In.TheVariants.{New, Repeat, InUse, OverMaximum}
 use Rattle.qos_handshakes.specs.Incoming.{Received, opened, opened_here}
 use Rattle.mqtt_sessions.specs.declared.reaction.Ask.TheVariants.{Pass}
+use Rattle.mqtt_sessions.specs.Aliases.{Aliases, alias_of, filled, is_beyond, set_in, topic_of}
 use Rattle.mqtt_sessions.specs.Answers.{puback, pubrec, pubcomp}
 use Rattle.mqtt_sessions.specs.Reaction.{Outcome, nothing, answered, refused}
-use Rattle.mqtt_sessions.specs.State.{State}
+use Rattle.mqtt_sessions.specs.State.{Link, State, aliases_of}
 
 abbrev pub has_property : ℕ → List Property → Bool
 has_property id ps = list_any (λ p. p.id == id) ps
 
--- Why a PUBLISH ends its connection, whatever else it is: Topic Alias invalid, since none is allowed (3.3.2.3.4); Protocol
--- Error for a Subscription Identifier from a client (3.3.4); Topic Name invalid for a wildcard (3.3.2.1).
-abbrev pub refusal : Publish → Option ℕ
-refusal p = cond (has_property 35 p.properties) (Some 148) (cond (has_property 11 p.properties) (Some 130) (cond (list_any is_wildcard p.topic) (Some 144) None))
+-- Why a PUBLISH ends its connection, whatever else it is: Topic Alias invalid (3.3.2.3.4); Protocol Error where it has no topic and
+-- its alias stands for none, or for a Subscription Identifier from a client (3.3.4); Topic Name invalid for a wildcard (3.3.2.1).
+abbrev pub refusal : Aliases → Publish → Option ℕ
+refusal known p =
+    cond (is_beyond (alias_of p)) (Some 148) (cond (is_none (topic_of known p)) (Some 130) (cond (has_property 11 p.properties) (Some 130) (cond (list_any is_wildcard p.topic) (Some 144) None)))
+
+-- the alias of one that isn't refused stands for its topic from now on, whatever it is answered
+abbrev pub setting_by : Option Link → Publish → Option Link
+setting_by None p = None
+setting_by (Some l) p = Some (record l { aliases = set_in l.aliases p })
+
+abbrev pub setting : Publish → State → State
+setting p s = record s { link = setting_by s.link p }
+
+-- its message
+abbrev pub message_in : Publish → ℕ → State → Message
+message_in p now s = accepted (filled (aliases_of s.link) p) s.kept.client now
 
 -- no room is left for the topic of a retained message
 abbrev pub is_unwelcome : Publish → Bool → Bool
@@ -85,10 +99,10 @@ passes_by ExactlyOnce p unwelcome limit m s = arrives_twice (arrival_twice s.inc
 
 abbrev pub publish_by : Option ℕ → Publish → ℕ → Bool → ℕ → State → Outcome
 publish_by (Some code) p now room limit s = refused limit code s
-publish_by None p now room limit s = passes_by p.qos p (is_unwelcome p room) limit (accepted p s.kept.client now) s
+publish_by None p now room limit s = passes_by p.qos p (is_unwelcome p room) limit (message_in p now (setting p s)) (setting p s)
 
 abbrev pub published : Publish → ℕ → Bool → ℕ → State → Outcome
-published p now room limit s = publish_by (refusal p) p now room limit s
+published p now room limit s = publish_by (refusal (aliases_of s.link) p) p now room limit s
 
 -- ---- PUBREL: success where it ends an exchange, or Packet Identifier not found
 abbrev pub release_code : Received → ℕ → ℕ

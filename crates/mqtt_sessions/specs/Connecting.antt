@@ -15,8 +15,9 @@ use Rattle.mqtt_sessions.specs.State.{Kept, Link, State, cut, empty_outbox, limi
 abbrev pub kept_by : Kept → Connect → Kept
 kept_by k c = record { client = k.client; expiry = unwrap_or (first_four 17 c.properties) 0; phase = Connected; will = c.will }
 
+-- no alias is set on a new connection (3.3.2.3.4)
 abbrev pub link_by : Connect → ℕ → Link
-link_by c now = record { limit = limit_in c.properties; keep_alive = c.keep_alive; last = now; asked = None }
+link_by c now = record { limit = limit_in c.properties; keep_alive = c.keep_alive; last = now; asked = None; aliases = [] }
 
 -- each exchange without PUBREC is owed a resend, and the quota is the client's Receive Maximum
 abbrev pub resumed_by : Outbox → Connect → Outbox

@@ -1,3 +1,4 @@
+pub mod Aliases
 pub mod State
 pub mod Answers
 pub mod Lengths

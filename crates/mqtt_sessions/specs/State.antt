@@ -7,6 +7,7 @@ pub use Rattle.session_rows.specs.Durable.{IsPublishableIf}
 use Rattle.qos_handshakes.specs.Incoming.{Received}
 use Rattle.qos_handshakes.specs.Outbox.{Outbox}
 use Rattle.qos_handshakes.specs.Touched.{Watched}
+use Rattle.mqtt_sessions.specs.Aliases.{Aliases}
 use Rattle.mqtt_sessions.specs.declared.kept.Phase.{Phase}
 use Rattle.mqtt_sessions.specs.declared.kept.Phase.TheVariants.{Connected, Closed}
 use Rattle.mqtt_sessions.specs.declared.link.Asked.{Asked}
@@ -19,12 +20,13 @@ pub record Kept : Type 0 where
   pub will : Option Will
 
 -- an open connection: the longest packet that the client takes, its Keep Alive in seconds, the moment of its last packet,
--- and what it waits for
+-- what it waits for, and the topics that its aliases stand for
 pub record Link : Type 0 where
   pub limit : ℕ
   pub keep_alive : ℕ
   pub last : ℕ
   pub asked : Option Asked
+  pub aliases : Aliases
 
 -- of the outbox and the incoming exchanges, what was sent and opened on this connection, and its quota, go with it
 pub record State : Type 0 where
@@ -67,6 +69,11 @@ limit_in ps = min 268435460 (unwrap_or (first_four 39 ps) 268435460)
 abbrev pub limit_of : Option Link → Option ℕ
 limit_of None = None
 limit_of (Some l) = Some l.limit
+
+-- the aliases of the connection; without one there are none
+abbrev pub aliases_of : Option Link → Aliases
+aliases_of None = []
+aliases_of (Some l) = l.aliases
 
 -- a packet came
 abbrev pub heard_by : Option Link → ℕ → Option Link

@@ -6,6 +6,7 @@ ghost use Rattle.mqtt_packets.specs.Written.{HasSpelling};
 ghost use Rattle.mqtt_sessions.specs.Answers as specs;
 ghost use Rattle.mqtt_sessions.specs.Lengths.{IsMeasured, ack_length, assigned_length, list_length};
 
+use crate::aliases::TOPIC_ALIAS_MAXIMUM;
 use mqtt_fields::{NoMemory, Properties, Property, Text, Value, identifier, vbi_len};
 use mqtt_packets::{Ack, Bytes, Connack, Ended, Packet, Reasons, reason};
 use std::alloc::Global;
@@ -162,6 +163,10 @@ fn connack_properties(
         value: Value::Two(RECEIVE_MAXIMUM),
     })?;
     properties.push(Property {
+        id: identifier::TOPIC_ALIAS_MAXIMUM,
+        value: Value::Two(TOPIC_ALIAS_MAXIMUM),
+    })?;
+    properties.push(Property {
         id: identifier::MAXIMUM_PACKET_SIZE,
         value: Value::Four(MAXIMUM_PACKET_SIZE),
     })?;
@@ -197,7 +202,7 @@ pub(crate) fn connack(
     ensures measured { IfOk result IsMeasured }
     ensures spelled { IfOk result (λ m. HasSpelling m.packet) }
 {
-    let properties = 8 + assigned_length(given, client);
+    let properties = 11 + assigned_length(given, client);
     let body = 2 + vbi_len(properties as u32) + properties;
     let length = (1 + vbi_len(body as u32) + body) as u64;
     Ok(Measured {

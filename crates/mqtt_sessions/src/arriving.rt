@@ -1,24 +1,29 @@
 //! Messages that a client publishes (MQTT 5.0, 3.3, 3.6, 4.3.2 and 4.3.3).
 
-ghost use Rattle.std.specs.Prelude.{◌≡◌, ◌<◌, ◌≤◌, ◌^◌, IfOk, IfErr, IfSome, None};
+ghost use Rattle.std.specs.Prelude.{◌≡◌, ◌<◌, ◌≤◌, ◌^◌, IfOk, IfErr, IfSome, MatchOption, None, OnOk, is_some};
 ghost use Rattle.std.specs.List.{list_any};
+ghost use Rattle.std.specs.Option.{option_copied};
 ghost use Rattle.mqtt_packets.specs.declared.packet.Packet.TheVariants as packets;
 ghost use Rattle.mqtt_packets.specs.Written.{HasSpelling};
 ghost use Rattle.mqtt_topics.specs.Levels.{is_wildcard};
-ghost use Rattle.mqtt_message.specs.Accepted.{IsAcceptable, accepted};
+ghost use Rattle.mqtt_message.specs.Accepted.{IsAcceptable};
+ghost use Rattle.mqtt_sessions.specs.Aliases.{filled, topic_of};
 ghost use Rattle.mqtt_sessions.specs.Arriving as arriving;
 ghost use Rattle.mqtt_sessions.specs.Reaction.{Comes};
 ghost use Rattle.mqtt_sessions.specs.declared.fault.SessionFault.TheVariants.{NoMemory as OutOfMemory};
-ghost use Rattle.mqtt_sessions.specs.State.{watched};
+ghost use Rattle.mqtt_sessions.specs.State.{aliases_of, watched};
 
+use crate::aliases::is_beyond;
 use crate::answers::{puback, pubcomp, pubrec};
 use crate::fault::SessionFault;
+use crate::link::{Connection, alias_topic, set_alias};
 use crate::reaction::{Ask, Reaction, asks};
 use crate::running::Running;
 use mqtt_fields::identifier::{SUBSCRIPTION_IDENTIFIER, TOPIC_ALIAS};
 use mqtt_fields::{NoMemory, Properties, Qos, Text};
 use mqtt_message::{Message, spelled_is_acceptable};
 use mqtt_packets::{Publish, reason};
+use mqtt_topics::TopicName;
 use qos_handshakes::{Ack, In, Incoming};
 
 fn has(properties: &Properties, id: u8) -> bool
@@ -37,13 +42,37 @@ fn has_wildcard(topic: &Text) -> bool
         .any(|b| *b == b'#' || *b == b'+')
 }
 
+/// Whether a PUBLISH has a topic: its own, or the one that its alias stands for.
+fn has_topic(connection: &Option<Connection>, publish: &Publish) -> bool
+    ensures { result ≡ is_some (topic_of (aliases_of connection.now) publish.now) }
+{
+    if !publish.topic.as_str().is_empty() {
+        return true;
+    }
+    alias_topic(connection, publish).is_some()
+}
+
+/// The topic that its alias stands for, where a PUBLISH has none of its own.
+fn topic_beside<'a>(connection: &'a Option<Connection>, publish: &Publish) -> Option<&'a TopicName>
+    ensures { MatchOption (option_copied result) (filled (aliases_of connection.now) publish.now ≡ publish.now)
+        (λ topic. filled (aliases_of connection.now) publish.now ≡ record publish.now { topic = topic }) }
+{
+    if !publish.topic.as_str().is_empty() {
+        return None;
+    }
+    alias_topic(connection, publish)
+}
+
 /// Why a PUBLISH ends its connection, whatever else it is.
-fn refusal(publish: &Publish) -> Option<u8>
-    ensures code { result ≡ arriving.refusal publish.now }
+fn refusal(connection: &Option<Connection>, publish: &Publish) -> Option<u8>
+    ensures code { result ≡ arriving.refusal (aliases_of connection.now) publish.now }
     ensures told { IfSome result (λ code. 0 < code) }
 {
-    if has(&publish.properties, TOPIC_ALIAS) {
+    if is_beyond(publish.properties.two(TOPIC_ALIAS)) {
         return Some(reason::TOPIC_ALIAS_INVALID);
+    }
+    if !has_topic(connection, publish) {
+        return Some(reason::PROTOCOL_ERROR);
     }
     if has(&publish.properties, SUBSCRIPTION_IDENTIFIER) {
         return Some(reason::PROTOCOL_ERROR);
@@ -54,14 +83,27 @@ fn refusal(publish: &Publish) -> Option<u8>
     None
 }
 
+/// Whether no room is left for the topic of a retained message.
+fn is_unwelcome(publish: &Publish, room: bool) -> bool
+    ensures { result ≡ arriving.is_unwelcome publish.now room }
+{
+    publish.retain && !room
+}
+
 /// A message can be made of a PUBLISH that isn't refused. This does nothing; its contract is a law.
-fn is_acceptable(publish: &Publish)
+fn is_acceptable(connection: &Option<Connection>, publish: &Publish)
     requires spelled { HasSpelling (packets.Publish publish.now) }
-    requires taken { arriving.refusal publish.now ≡ None }
-    ensures { IsAcceptable publish.now }
+    requires taken { arriving.refusal (aliases_of connection.now) publish.now ≡ None }
+    ensures { IsAcceptable (filled (aliases_of (arriving.setting_by connection.now publish.now)) publish.now) }
 {
     spelled_is_acceptable();
-    let _topic = publish.topic.as_str();
+    let _own = publish.topic.as_str();
+    match alias_topic(connection, publish) {
+        Some(topic) => {
+            let _name = topic.as_str();
+        }
+        None => {}
+    }
 }
 
 /// What a PUBLISH at QoS 1 is.
@@ -96,11 +138,15 @@ fn release(incoming: &mut Incoming, id: u16) -> u8
 impl Running {
     /// The message of a PUBLISH, to be passed on.
     fn pass(&self, publish: &Publish, now: u64) -> Result<Option<Ask>, NoMemory>
-        requires acceptable { IsAcceptable publish.now }
+        requires acceptable { IsAcceptable (filled (aliases_of self.now.state.link) publish.now) }
         requires moment { now < 2 ^ 62 }
-        ensures { IfOk result (λ ask. ask ≡ Some (Ask.Pass (accepted publish.now self.now.state.kept.client now))) }
+        ensures { IfOk result (λ ask. ask ≡ Some (Ask.Pass (arriving.message_in publish.now now self.now.state))) }
     {
-        let message = Message::accept(self.alloc, publish, self.kept.client(), now)?;
+        let client = self.kept.client();
+        let message = match topic_beside(&self.connection, publish) {
+            Some(topic) => Message::accept_under(self.alloc, publish, topic, client, now)?,
+            None => Message::accept(self.alloc, publish, client, now)?,
+        };
         Ok(Some(Ask::Pass(message)))
     }
 
@@ -111,9 +157,9 @@ impl Running {
         unwelcome: bool,
         now: u64,
     ) -> Result<Reaction, SessionFault>
-        requires acceptable { IsAcceptable publish.now }
+        requires acceptable { IsAcceptable (filled (aliases_of self.old.state.link) publish.now) }
         requires moment { now < 2 ^ 62 }
-        ensures step { IfOk result (λ r. Comes (arriving.passes_at_most_once unwelcome (accepted publish.now self.old.state.kept.client now) self.old.state) r self.new.state) }
+        ensures step { IfOk result (λ r. Comes (arriving.passes_at_most_once unwelcome (arriving.message_in publish.now now self.old.state) self.old.state) r self.new.state) }
         ensures fault { IfErr result (λ e. e ≡ OutOfMemory) }
         ensures outgoing { watched self.new ≡ watched self.old }
     {
@@ -124,23 +170,24 @@ impl Running {
         Ok(asks(self.alloc, ask, false))
     }
 
-    /// A PUBLISH at QoS 1.
-    fn publish_once(
+    /// Answers a PUBLISH at QoS 1.
+    fn answer_once(
         &mut self,
+        arrival: In,
         publish: &Publish,
         unwelcome: bool,
         limit: u64,
         now: u64,
     ) -> Result<Reaction, SessionFault>
-        requires acceptable { IsAcceptable publish.now }
+        requires acceptable { IsAcceptable (filled (aliases_of self.old.state.link) publish.now) }
         requires moment { now < 2 ^ 62 }
         requires limit { limit ≤ 268435460 }
-        ensures step { IfOk result (λ r. Comes (arriving.once_by (arriving.arrival_once self.old.state.incoming publish.now.identifier) unwelcome limit publish.now.identifier (accepted publish.now self.old.state.kept.client now) self.old.state) r self.new.state) }
+        ensures step { IfOk result (λ r. Comes (arriving.once_by arrival unwelcome limit publish.now.identifier (arriving.message_in publish.now now self.old.state) self.old.state) r self.new.state) }
         ensures fault { IfErr result (λ e. e ≡ OutOfMemory) }
         ensures outgoing { watched self.new ≡ watched self.old }
     {
         let id = publish.identifier;
-        match arrive_once(&self.incoming, id) {
+        match arrival {
             In::OverMaximum => Ok(self.refused(limit, reason::RECEIVE_MAXIMUM_EXCEEDED)),
             In::InUse | In::Repeat => {
                 let answer = puback(self.alloc, id, reason::PACKET_IDENTIFIER_IN_USE);
@@ -157,6 +204,25 @@ impl Running {
         }
     }
 
+    /// A PUBLISH at QoS 1.
+    fn publish_once(
+        &mut self,
+        publish: &Publish,
+        unwelcome: bool,
+        limit: u64,
+        now: u64,
+    ) -> Result<Reaction, SessionFault>
+        requires acceptable { IsAcceptable (filled (aliases_of self.old.state.link) publish.now) }
+        requires moment { now < 2 ^ 62 }
+        requires limit { limit ≤ 268435460 }
+        ensures step { IfOk result (λ r. Comes (arriving.once_by (arriving.arrival_once self.old.state.incoming publish.now.identifier) unwelcome limit publish.now.identifier (arriving.message_in publish.now now self.old.state) self.old.state) r self.new.state) }
+        ensures fault { IfErr result (λ e. e ≡ OutOfMemory) }
+        ensures outgoing { watched self.new ≡ watched self.old }
+    {
+        let arrival = arrive_once(&self.incoming, publish.identifier);
+        self.answer_once(arrival, publish, unwelcome, limit, now)
+    }
+
     /// Answers a PUBLISH at QoS 2, whose exchange is opened.
     fn answer_twice(
         &mut self,
@@ -166,10 +232,10 @@ impl Running {
         limit: u64,
         now: u64,
     ) -> Result<Reaction, SessionFault>
-        requires acceptable { IsAcceptable publish.now }
+        requires acceptable { IsAcceptable (filled (aliases_of self.old.state.link) publish.now) }
         requires moment { now < 2 ^ 62 }
         requires limit { limit ≤ 268435460 }
-        ensures step { IfOk result (λ r. Comes (arriving.twice_by arrival unwelcome limit publish.now.identifier (accepted publish.now self.old.state.kept.client now) self.old.state) r self.new.state) }
+        ensures step { IfOk result (λ r. Comes (arriving.twice_by arrival unwelcome limit publish.now.identifier (arriving.message_in publish.now now self.old.state) self.old.state) r self.new.state) }
         ensures fault { IfErr result (λ e. e ≡ OutOfMemory) }
         ensures outgoing { watched self.new ≡ watched self.old }
     {
@@ -199,15 +265,45 @@ impl Running {
         limit: u64,
         now: u64,
     ) -> Result<Reaction, SessionFault>
-        requires acceptable { IsAcceptable publish.now }
+        requires acceptable { IsAcceptable (filled (aliases_of self.old.state.link) publish.now) }
         requires moment { now < 2 ^ 62 }
         requires limit { limit ≤ 268435460 }
-        ensures step { IfOk result (λ r. Comes (arriving.arrives_twice (arriving.arrival_twice self.old.state.incoming publish.now.identifier) unwelcome limit publish.now.identifier (accepted publish.now self.old.state.kept.client now) self.old.state) r self.new.state) }
+        ensures step { IfOk result (λ r. Comes (arriving.arrives_twice (arriving.arrival_twice self.old.state.incoming publish.now.identifier) unwelcome limit publish.now.identifier (arriving.message_in publish.now now self.old.state) self.old.state) r self.new.state) }
         ensures fault { IfErr result (λ e. e ≡ OutOfMemory) }
         ensures outgoing { watched self.new ≡ watched self.old }
     {
         let arrival = arrive_twice(&mut self.incoming, publish.identifier, unwelcome)?;
         self.answer_twice(arrival, publish, unwelcome, limit, now)
+    }
+
+    /// A PUBLISH that isn't refused, once its alias is set.
+    fn publish_by_level(
+        &mut self,
+        publish: &Publish,
+        unwelcome: bool,
+        limit: u64,
+        now: u64,
+    ) -> Result<Reaction, SessionFault>
+        requires acceptable { IsAcceptable (filled (aliases_of self.old.state.link) publish.now) }
+        requires moment { now < 2 ^ 62 }
+        requires limit { limit ≤ 268435460 }
+        ensures step { IfOk result (λ r. Comes (arriving.passes_by publish.now.qos publish.now unwelcome limit (arriving.message_in publish.now now self.old.state) self.old.state) r self.new.state) }
+        ensures fault { IfErr result (λ e. e ≡ OutOfMemory) }
+        ensures outgoing { watched self.new ≡ watched self.old }
+    {
+        match publish.qos {
+            Qos::AtMostOnce => self.publish_at_most_once(publish, unwelcome, now),
+            Qos::AtLeastOnce => self.publish_once(publish, unwelcome, limit, now),
+            Qos::ExactlyOnce => self.publish_twice(publish, unwelcome, limit, now),
+        }
+    }
+
+    /// The alias of a PUBLISH stands for its topic from now on.
+    fn set(&mut self, publish: &Publish) -> Result<(), NoMemory>
+        ensures step { OnOk result (self.new.state ≡ arriving.setting publish.now self.old.state) }
+        ensures outgoing { watched self.new ≡ watched self.old }
+    {
+        set_alias(self.alloc, &mut self.connection, publish)
     }
 
     /// A PUBLISH. `room` is whether a retained message would be taken.
@@ -225,16 +321,13 @@ impl Running {
         ensures fault { IfErr result (λ e. e ≡ OutOfMemory) }
         ensures outgoing { watched self.new ≡ watched self.old }
     {
-        if let Some(code) = refusal(publish) {
+        if let Some(code) = refusal(&self.connection, publish) {
             return Ok(self.refused(limit, code));
         }
-        is_acceptable(publish);
-        let unwelcome = publish.retain && !room;
-        match publish.qos {
-            Qos::AtMostOnce => self.publish_at_most_once(publish, unwelcome, now),
-            Qos::AtLeastOnce => self.publish_once(publish, unwelcome, limit, now),
-            Qos::ExactlyOnce => self.publish_twice(publish, unwelcome, limit, now),
-        }
+        is_acceptable(&self.connection, publish);
+        self.set(publish)?;
+        let unwelcome = is_unwelcome(publish, room);
+        self.publish_by_level(publish, unwelcome, limit, now)
     }
 
     /// A PUBREL.

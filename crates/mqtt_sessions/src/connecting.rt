@@ -39,7 +39,7 @@ impl Running {
             self.connection = None;
             return Ok(ends(self.alloc, None, 0));
         }
-        self.connection = Some(begin(connect, now));
+        self.connection = Some(begin(self.alloc, connect, now));
         let mut packets = one(self.alloc, Output::Answer(answer.packet))?;
         let ids = self.outgoing.releases(self.alloc)?;
         release(self.alloc, &mut packets, &ids)?;

@@ -1,6 +1,7 @@
 //! One client's side of a server, over all its connections (MQTT 5.0, 4.1).
 #![tactic(auto)]
 
+mod aliases;
 mod answers;
 mod arriving;
 mod asking;

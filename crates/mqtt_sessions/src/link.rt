@@ -1,15 +1,22 @@
 //! An open connection.
 
-ghost use Rattle.std.specs.Prelude.{◌≡◌, ◌≤◌, IfSome};
+ghost use Rattle.std.specs.Prelude.{◌≡◌, ◌≤◌, IfSome, OnOk};
+ghost use Rattle.std.specs.Option.{option_copied};
+ghost use Rattle.mqtt_topics.specs.Topics.{IsName};
+ghost use Rattle.mqtt_sessions.specs.Aliases.{alias_of, alias_topic, topic_for};
+ghost use Rattle.mqtt_sessions.specs.Arriving.{setting_by};
 ghost use Rattle.mqtt_sessions.specs.State as state;
 ghost use Rattle.mqtt_sessions.specs.Ending.{has_run_out, in_time, runs_out_at};
 ghost use Rattle.mqtt_sessions.specs.Asking.{asked_of, waiting_by};
 ghost use Rattle.mqtt_sessions.specs.Connecting.{link_by};
 ghost use Rattle.mqtt_sessions.specs.State.{limit_in};
 
-use mqtt_fields::Properties;
-use mqtt_fields::identifier::MAXIMUM_PACKET_SIZE;
-use mqtt_packets::Connect;
+use crate::aliases::Aliases;
+use mqtt_fields::identifier::{MAXIMUM_PACKET_SIZE, TOPIC_ALIAS};
+use mqtt_fields::{NoMemory, Properties};
+use mqtt_packets::{Connect, Publish};
+use mqtt_topics::TopicName;
+use std::alloc::Global;
 use std::marker::Model;
 
 /// The length of the longest packet there is (MQTT 5.0, 2.1.4).
@@ -22,7 +29,7 @@ pub enum Asked {
     Unsubscribing,
 }
 
-/// What an open connection has, and a table of topic aliases would stand here.
+/// What an open connection has.
 #[derive(Drop)]
 pub(crate) struct Connection {
     /// The longest packet that the client takes.
@@ -32,6 +39,8 @@ pub(crate) struct Connection {
     /// The moment of the last packet.
     last: u64,
     asked: Option<Asked>,
+    /// The topics that the client's aliases stand for.
+    aliases: Aliases,
 }
 
 impl Model for Connection {
@@ -40,7 +49,7 @@ impl Model for Connection {
 
     ghost Value = { Link };
 
-    ghost view = { λ c. record { limit = c.limit; keep_alive = c.keep_alive; last = c.last; asked = c.asked } };
+    ghost view = { λ c. record { limit = c.limit; keep_alive = c.keep_alive; last = c.last; asked = c.asked; aliases = c.aliases } };
 
     ghost invariant = { λ c. c.limit ≤ 268435460 };
 }
@@ -57,7 +66,7 @@ pub(crate) fn limit_in(properties: &Properties) -> u64
 }
 
 /// A connection that begins.
-pub(crate) fn begin(connect: &Connect, now: u64) -> Connection
+pub(crate) fn begin(alloc: Global, connect: &Connect, now: u64) -> Connection
     ensures { result ≡ link_by connect.now now }
 {
     Connection {
@@ -65,6 +74,7 @@ pub(crate) fn begin(connect: &Connect, now: u64) -> Connection
         keep_alive: connect.keep_alive,
         last: now,
         asked: None,
+        aliases: Aliases::new(alloc),
     }
 }
 
@@ -78,6 +88,7 @@ impl Connection {
             keep_alive: self.keep_alive,
             last: now,
             asked: self.asked,
+            aliases: self.aliases,
         }
     }
 
@@ -89,6 +100,7 @@ impl Connection {
             keep_alive: self.keep_alive,
             last: self.last,
             asked,
+            aliases: self.aliases,
         }
     }
 
@@ -139,6 +151,63 @@ pub(crate) fn asked_of(connection: &Option<Connection>) -> Option<Asked>
         Some(open) => open.asked,
         None => None,
     }
+}
+
+/// The topic that an alias stands for on the connection.
+pub(crate) fn topic_for(connection: &Option<Connection>, alias: u16) -> Option<&TopicName>
+    ensures { option_copied result ≡ topic_for alias (state.aliases_of connection.now) }
+{
+    match connection {
+        Some(open) => open.aliases.topic(alias),
+        None => None,
+    }
+}
+
+/// The same as a text.
+pub(crate) fn topic_text(connection: &Option<Connection>, alias: u16) -> Option<&str>
+    ensures topic { option_copied result ≡ topic_for alias (state.aliases_of connection.now) }
+    ensures name { IfSome result (λ topic. IsName topic.now) }
+{
+    match topic_for(connection, alias) {
+        Some(topic) => Some(topic.as_str()),
+        None => None,
+    }
+}
+
+/// The topic that the alias of a PUBLISH stands for.
+pub(crate) fn alias_topic<'a>(
+    connection: &'a Option<Connection>,
+    publish: &Publish,
+) -> Option<&'a TopicName>
+    ensures { option_copied result ≡ alias_topic (alias_of publish.now) (state.aliases_of connection.now) }
+{
+    match publish.properties.two(TOPIC_ALIAS) {
+        Some(alias) => topic_for(connection, alias),
+        None => None,
+    }
+}
+
+/// The alias of a PUBLISH stands for its topic from now on.
+pub(crate) fn set_alias(
+    alloc: Global,
+    connection: &mut Option<Connection>,
+    publish: &Publish,
+) -> Result<(), NoMemory>
+    ensures { OnOk result (connection.new ≡ setting_by connection.old publish.now) }
+{
+    let Some(alias) = publish.properties.two(TOPIC_ALIAS) else {
+        return Ok(());
+    };
+    if publish.topic.as_str().is_empty() {
+        return Ok(());
+    }
+    let Some(open) = connection else {
+        return Ok(());
+    };
+    let Ok(topic) = TopicName::of_text(alloc, &publish.topic) else {
+        return Err(NoMemory);
+    };
+    open.aliases.set(alias, topic)
 }
 
 /// Whether no packet came for one and a half times the Keep Alive (MQTT 5.0, 3.1.2.10).

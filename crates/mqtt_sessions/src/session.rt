@@ -1,7 +1,10 @@
 //! A session over its connections.
 
-ghost use Rattle.std.specs.Prelude.{◌≡◌, ◌≢◌, ◌<◌, ◌≤◌, ◌^◌, ℕ, [], Some, IfOk, IfErr, IfSome, OnOk, MatchOption, false};
+ghost use Rattle.std.specs.Prelude.{◌≡◌, ◌≢◌, ◌<◌, ◌≤◌, ◌^◌, ℕ, [], Some, None, IfOk, IfErr, IfSome, OnOk, MatchOption, false};
+ghost use Rattle.std.specs.Option.{option_copied};
 ghost use Rattle.mqtt_packets.specs.Written.{HasSpelling};
+ghost use Rattle.mqtt_topics.specs.Topics.{IsName};
+ghost use Rattle.mqtt_sessions.specs.Aliases.{topic_for};
 ghost use Rattle.mqtt_sessions.specs.Asking.{AnswerStep};
 ghost use Rattle.mqtt_sessions.specs.Called.{Called, always, never};
 ghost use Rattle.mqtt_sessions.specs.Connecting.{ConnectStep, MayConnectIf};
@@ -12,12 +15,12 @@ ghost use Rattle.mqtt_sessions.specs.Reaction.{AreSpelled};
 ghost use Rattle.mqtt_sessions.specs.Sending.{QueueEnds, QueueStep};
 ghost use Rattle.mqtt_sessions.specs.Removed.{RemovesIf, removed_before};
 ghost use Rattle.mqtt_sessions.specs.Saved.{Appends, ListsIf, NotesIf, OpensFrom, TellsIf, begun_session, durable_of, state_of, told_before, told_of, tracked_in};
-ghost use Rattle.mqtt_sessions.specs.State.{IsPublishableIf, limit_of};
+ghost use Rattle.mqtt_sessions.specs.State.{IsPublishableIf, aliases_of, limit_of};
 ghost use Rattle.mqtt_sessions.specs.declared.fault.SessionFault.TheVariants.{NoMemory as OutOfMemory};
 ghost use Rattle.session_rows.specs.Durable.{IsMomentIf};
 
 use crate::fault::SessionFault;
-use crate::link::runs_out_at;
+use crate::link::{runs_out_at, topic_text};
 use crate::reaction::Reaction;
 use crate::saved::Live;
 use mqtt_fields::Text;
@@ -260,6 +263,17 @@ impl Session {
     {
         match &self.live {
             Some(live) => live.running.limit(),
+            None => None,
+        }
+    }
+
+    /// The topic that an alias of the client stands for on its connection (MQTT 5.0, 3.3.2.3.4).
+    pub fn alias_topic(&self, alias: u16) -> Option<&str>
+        ensures topic { MatchOption (state_of self.now) (result ≡ None) (λ s. option_copied result ≡ topic_for alias (aliases_of s.link)) }
+        ensures name { IfSome result (λ topic. IsName topic.now) }
+    {
+        match &self.live {
+            Some(live) => topic_text(&live.running.connection, alias),
             None => None,
         }
     }

@@ -1,6 +1,6 @@
 //! Topic names.
 
-ghost use Rattle.std.specs.Prelude.{◌≡◌, ◌⊎◌, IfOk, IfErr, List, ℕ};
+ghost use Rattle.std.specs.Prelude.{◌≡◌, ◌⊎◌, IfOk, IfErr, OnOk, List, ℕ};
 ghost use Rattle.mqtt_fields.specs.Numbers.{IsText};
 ghost use Rattle.mqtt_topics.specs.Topics.{IsName, IsNameFault};
 
@@ -26,6 +26,21 @@ impl Model for TopicName {
     ghost inverse = { λ text. record { text = text } };
 }
 
+/// Why a text is no topic name.
+fn check(text: &str) -> Result<(), TopicFault>
+    requires { IsText text.now }
+    ensures name { OnOk result (IsName text.now) }
+    ensures fault { IfErr result (λ e. IsNameFault text.now e) }
+{
+    if text.is_empty() {
+        return Err(TopicFault::Empty);
+    }
+    if has_wildcard(text) {
+        return Err(TopicFault::Wildcard);
+    }
+    Ok(())
+}
+
 impl TopicName {
     /// The text as a topic name. Its fault is found before memory is asked for.
     pub fn parse(alloc: Global, text: &str) -> Result<TopicName, TopicFault>
@@ -33,13 +48,20 @@ impl TopicName {
         ensures name { IfOk result (λ n. (n ≡ text.now) × IsName text.now) }
         ensures fault { IfErr result (λ e. IsNameFault text.now e ⊎ ((e ≡ TopicFault.NoMemory) × IsName text.now)) }
     {
-        if text.is_empty() {
-            return Err(TopicFault::Empty);
-        }
-        if has_wildcard(text) {
-            return Err(TopicFault::Wildcard);
-        }
+        check(text)?;
         let Ok(text) = Text::new(alloc, text) else {
+            return Err(TopicFault::NoMemory);
+        };
+        Ok(TopicName { text })
+    }
+
+    /// The text as a topic name, which shares its bytes. Its fault is found before memory is asked for.
+    pub fn of_text(alloc: Global, text: &Text) -> Result<TopicName, TopicFault>
+        ensures name { IfOk result (λ n. (n ≡ text.now) × IsName text.now) }
+        ensures fault { IfErr result (λ e. IsNameFault text.now e ⊎ ((e ≡ TopicFault.NoMemory) × IsName text.now)) }
+    {
+        check(text.as_str())?;
+        let Ok(text) = text.copy(alloc) else {
             return Err(TopicFault::NoMemory);
         };
         Ok(TopicName { text })
@@ -60,7 +82,7 @@ impl TopicName {
         &self.text
     }
 
-    /// The same name once more.
+    /// The same name once more, which shares its bytes.
     pub fn copy(&self, alloc: Global) -> Result<TopicName, NoMemory>
         ensures { IfOk result (λ n. n ≡ self.now) }
     {

@@ -7,7 +7,7 @@ ghost use Rattle.lane_rows.specs.Reading.{AreLanes};
 ghost use Rattle.node_bridge.specs.View.{IsToShip, LanesTell, believes, gets, is_next, keeps, lane_to, offer_to, offered, takes};
 
 use bridge_deltas::{Links, Offer};
-use bridge_frames::{BridgeFrame, Forward};
+use bridge_frames::{BridgeFrame, Forward, LaneNumber};
 use causal_context::Context;
 use mqtt_fields::NoMemory;
 use replica_store::ReplicaStore;
@@ -125,14 +125,15 @@ impl Bridge {
     }
 
     /// Whether the number is that of the next message to take from the peer.
-    pub fn is_next(&self, peer: u16, number: u64) -> bool
+    pub fn is_next(&self, peer: u16, number: LaneNumber) -> bool
         ensures { result ≡ is_next peer number self.now }
     {
-        peer < self.links.nodes() && number != 0 && number - 1 == self.links.last_taken(peer)
+        let number = number.get();
+        peer < self.links.nodes() && number != 0 && number - 1 == self.links.last_taken(peer).get()
     }
 
     /// The number of the last message that was taken from the peer.
-    pub fn last_taken(&self, peer: u16) -> u64
+    pub fn last_taken(&self, peer: u16) -> LaneNumber
         ensures { result ≡ (lane_to self.now peer).took }
     {
         self.links.last_taken(peer)
@@ -143,7 +144,7 @@ impl Bridge {
     pub fn take(
         &mut self,
         peer: u16,
-        number: u64,
+        number: LaneNumber,
         changes: &mut Vec<Change>,
     ) -> Result<bool, NoMemory>
         ensures next { IfOk result (λ taken. taken ≡ is_next peer number self.old) }
@@ -160,7 +161,12 @@ impl Bridge {
 
     /// The peer has taken the messages up to the number: these no longer wait. Appends the changes of rows. After want of memory
     /// nothing is said of the lanes.
-    pub fn got(&mut self, peer: u16, number: u64, changes: &mut Vec<Change>) -> Result<(), NoMemory>
+    pub fn got(
+        &mut self,
+        peer: u16,
+        number: LaneNumber,
+        changes: &mut Vec<Change>,
+    ) -> Result<(), NoMemory>
         ensures after { OnOk result (self.new ≡ gets peer number self.old) }
         ensures tells { OnOk result (LanesTell self.old.lanes changes.old.items changes.new.items self.new.lanes) }
     {

@@ -12,7 +12,7 @@ use Rattle.node_clients.specs.Passing.{Retains}
 use Rattle.node_work.specs.Doings.{MakesPut}
 use Rattle.node_work.specs.Passing.{IsHomed, content_of, pick_copy}
 use Rattle.replica_store.specs.declared.content.Content.{Content}
-use Rattle.node_work.specs.View.{Place, WorkView}
+use Rattle.node_work.specs.View.{Place, HeldView, WorkView}
 use Rattle.node_work.specs.Working.{Doing, Returns, Each, Did, Comes}
 use Rattle.node_work.proofs.Working.{Reaches, reaches_then, reaches_comes, then_stops, did_nothing, comes_if}
 
@@ -30,9 +30,9 @@ module _ {A : Type 0} (One : A → Option (Unit {0}) → Doing) (w m : WorkView)
   came_ends e h = subst (λ zs. Reaches w P m (Each One zs)) e h (Some tt) m (did_nothing m tt)
 
 -- ---- the picks whose clients have their home here
-module _ (p : Place) (picks : List GroupPick) where
+module _ (p : Place) (h : HeldView) (picks : List GroupPick) where
   abbrev Here : GroupPick → Type 0
-  Here x = IsHome p.homes x.client p.id
+  Here x = IsHome h.homes x.client p.id
 
   abbrev pub AreHere : List Copy → List GroupPick → Type 0
   AreHere out left = (homed : List GroupPick) × Follows Here picks homed left × (out ≡ map_list pick_copy homed)
@@ -40,17 +40,17 @@ module _ (p : Place) (picks : List GroupPick) where
   pub here_begins : (out : List Copy) (left : List GroupPick) → out ≡ [] → left ≡ picks → AreHere out left
   here_begins out left none e = ([], begins Here picks left [] (sym e) refl, none)
 
-  pub here_with : (out new : List Copy) (left rest : List GroupPick) (x : GroupPick) (y : Copy) → left ≡ x ∷ rest → IsHome p.homes x.client p.id → y ≡ pick_copy x → new ≡ out ++ y ∷ [] → AreHere out left → AreHere new rest
+  pub here_with : (out new : List Copy) (left rest : List GroupPick) (x : GroupPick) (y : Copy) → left ≡ x ∷ rest → IsHome h.homes x.client p.id → y ≡ pick_copy x → new ≡ out ++ y ∷ [] → AreHere out left → AreHere new rest
   here_with out new left rest x y e has is added h = (
     h.0 ++ x ∷ [],
     follows_with Here picks x rest h.0 (subst (λ l. Follows Here picks h.0 l) e h.1) has,
     added ∙ ap (λ ys. ys ++ y ∷ []) h.2 ∙ ap (λ z. map_list pick_copy h.0 ++ z ∷ []) is ∙ sym (map-append pick_copy h.0 (x ∷ [])),
   )
 
-  pub here_without : (out : List Copy) (left rest : List GroupPick) (x : GroupPick) → left ≡ x ∷ rest → ¬ IsHome p.homes x.client p.id → AreHere out left → AreHere out rest
+  pub here_without : (out : List Copy) (left rest : List GroupPick) (x : GroupPick) → left ≡ x ∷ rest → ¬ IsHome h.homes x.client p.id → AreHere out left → AreHere out rest
   here_without out left rest x e lacks h = (h.0, follows_without Here picks x rest h.0 (subst (λ l. Follows Here picks h.0 l) e h.1) lacks, h.2)
 
-  pub here_ends : (out : List Copy) (left : List GroupPick) → left ≡ [] → AreHere out left → IsHomed p picks out
+  pub here_ends : (out : List Copy) (left : List GroupPick) → left ≡ [] → AreHere out left → IsHomed p h picks out
   here_ends out left e h = (h.0, ends Here picks left h.0 e h.1, h.2)
 
 pub none_left : {A : Type 0} (xs : List A) → length xs ≡ 0 → xs ≡ []

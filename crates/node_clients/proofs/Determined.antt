@@ -37,14 +37,16 @@ use Rattle.node_work.specs.Held.Sessions.{Called, has_session}
 use Rattle.node_work.specs.Offers.{IsOffered, AreOffered}
 use Rattle.node_work.specs.Passing.{AreRoutes, IsHomed, IsPassed, others, pick_copy, seated, unseated}
 use Rattle.node_work.specs.View.{Place, HeldView}
+use Rattle.node_work.proofs.Homes.{is_table_on}
 use Rattle.node_work.specs.Working.{Doing, Returns, Stops, Acting, Numbered, Looks, Finds, If, Where, Then, InTurn, Each}
+use Rattle.node_clients.specs.Ending.{IsAtHome}
 use Rattle.node_clients.specs.Naming.{IsNextNumber, automatic}
 use Rattle.node_clients.specs.Passing.{AreMade, IsHandedOver}
 use Rattle.node_clients.specs.Subscribing.{AreOffers}
 
 -- it comes to one thing, by one list of acts
 abbrev pub Determined : {A : Type 0} → (Option A → Doing) → Type 0
-Determined {A} P = (x y : Option A) (p : Place) (h : HeldView) (xs ys : List Act) → IsTable p.homes → P x p h xs → P y p h ys → (x ≡ y) × (xs ≡ ys)
+Determined {A} P = (x y : Option A) (p : Place) (h : HeldView) (xs ys : List Act) → IsTable h.homes → P x p h xs → P y p h ys → (x ≡ y) × (xs ≡ ys)
 
 -- ---- how relations are put together
 
@@ -74,7 +76,7 @@ looks_determined see P d x y p h xs ys sound a b = d (see p h) x y p h xs ys sou
 
 -- one thing is found
 abbrev pub IsAlone : {A : Type 0} → (Place → HeldView → A → Type 0) → Type 0
-IsAlone {A} Is = (p : Place) (h : HeldView) (x y : A) → IsTable p.homes → Is p h x → Is p h y → x ≡ y
+IsAlone {A} Is = (p : Place) (h : HeldView) (x y : A) → IsTable h.homes → Is p h x → Is p h y → x ≡ y
 
 pub finds_determined : {A B : Type 0} (Is : Place → HeldView → A → Type 0) (P : A → Option B → Doing) → IsAlone Is → ((x : A) → Determined (P x)) → Determined (Finds Is P)
 finds_determined Is P alone d x y p h xs ys sound a b =
@@ -99,7 +101,7 @@ then_determined P Q d e x y p h xs ys sound (inr a) (inr b) =
     let same : a.0 ≡ b.0 = let z = first.0 in cc in
     let mid : a.2 ≡ b.2 = runs_determined p a.1 h a.2 b.2 a.5 (subst (λ zs. Runs p h zs b.2) (sym first.1) b.5) in
     let rest : Q a.0 y p a.2 b.3 = subst (λ v. Q a.0 y p v b.3) (sym mid) (subst (λ v. Q v y p b.2 b.3) (sym same) b.6) in
-    let second = e a.0 x y p a.2 a.3 b.3 sound a.6 rest in
+    let second = e a.0 x y p a.2 a.3 b.3 (is_table_on p a.1 h a.2 a.5 sound) a.6 rest in
     (second.0, a.7 ∙ ap (λ zs. zs ++ a.3) first.1 ∙ ap (λ zs. b.1 ++ zs) second.1 ∙ sym b.7)
 
 pub in_turn_determined : {A B : Type 0} (One : A → Option B → Doing) → ((x : A) → Determined (One x)) → (xs : List A) (given : List B) → Determined (InTurn One xs given)
@@ -135,8 +137,8 @@ copies_once live m xs ys a b = a.2 ∙ ap (λ es. map_list (plain_copy m) (by_cl
 picks_once : (turn : ℕ) (live : Entries) (m : Message) (xs ys : List GroupPick) → ArePicks turn live m xs → ArePicks turn live m ys → xs ≡ ys
 picks_once turn live m xs ys a b = a.2 ∙ ap (λ es. flat_map (λ g. pick_of m (picked turn g.1)) (by_group es)) (selected_once (IsSharedFor m) (entries_in live) a.0 b.0 a.1 b.1) ∙ sym b.2
 
-homed_once : (p : Place) (picks : List GroupPick) (xs ys : List Copy) → IsHomed p picks xs → IsHomed p picks ys → xs ≡ ys
-homed_once p picks xs ys a b = a.2 ∙ ap (map_list pick_copy) (selected_once (λ (x : GroupPick). IsHome p.homes x.client p.id) picks a.0 b.0 a.1 b.1) ∙ sym b.2
+homed_once : (p : Place) (h : HeldView) (picks : List GroupPick) (xs ys : List Copy) → IsHomed p h picks xs → IsHomed p h picks ys → xs ≡ ys
+homed_once p h picks xs ys a b = a.2 ∙ ap (map_list pick_copy) (selected_once (λ (x : GroupPick). IsHome h.homes x.client p.id) picks a.0 b.0 a.1 b.1) ∙ sym b.2
 
 -- what is paired with a list, place by place
 pairs_once : {A B : Type 0} (P : A → B → Type 0) → ((x : A) (y z : B) → P x y → P x z → y ≡ z) → (xs : List A) (ys zs : List B) → Pairwise P xs ys → Pairwise P xs zs → ys ≡ zs
@@ -158,21 +160,21 @@ module _ (t : Table) (sound : IsTable t) where
   homed_picks_once : (picks : List GroupPick) (xs ys : List HomedPick) → Pairwise (sent.IsHomed t) picks xs → Pairwise (sent.IsHomed t) picks ys → xs ≡ ys
   homed_picks_once picks xs ys a b = pairs_once (sent.IsHomed t) homed_pick_once picks xs ys a b
 
-routes_once : (p : Place) (plain : List Copy) (picks : List GroupPick) (m : Message) (xs ys : List (ℕ × Route)) → IsTable p.homes → AreRoutes p plain picks m xs → AreRoutes p plain picks m ys → xs ≡ ys
-routes_once p plain picks m xs ys sound a b =
-    let homes = homes_once p.homes sound plain a.0.homes.items b.0.homes.items a.1.0 b.1.0 in
-    let at = homed_picks_once p.homes sound picks a.0.picks.items b.0.picks.items a.1.1 b.1.1 in
+routes_once : (p : Place) (h : HeldView) (plain : List Copy) (picks : List GroupPick) (m : Message) (xs ys : List (ℕ × Route)) → IsTable h.homes → AreRoutes p h plain picks m xs → AreRoutes p h plain picks m ys → xs ≡ ys
+routes_once p h plain picks m xs ys sound a b =
+    let homes = homes_once h.homes sound plain a.0.homes.items b.0.homes.items a.1.0 b.1.0 in
+    let at = homed_picks_once h.homes sound picks a.0.picks.items b.0.picks.items a.1.1 b.1.1 in
     a.2 ∙ (λ i. map_list (λ peer. (peer, route_of (record { plain = is_at peer (homes i); picks = picks_at peer (at i); message = m }))) (others p)) ∙ sym b.2
 
-passed_once : (p : Place) (h : HeldView) (m : Message) (xs ys : List Copy) (j k : ℕ) (rs ss : List (ℕ × Route)) → IsTable p.homes → IsPassed p h m xs j rs → IsPassed p h m ys k ss → (xs ≡ ys) × (j ≡ k) × (rs ≡ ss)
+passed_once : (p : Place) (h : HeldView) (m : Message) (xs ys : List Copy) (j k : ℕ) (rs ss : List (ℕ × Route)) → IsTable h.homes → IsPassed p h m xs j rs → IsPassed p h m ys k ss → (xs ≡ ys) × (j ≡ k) × (rs ≡ ss)
 passed_once p h m xs ys j k rs ss sound a b =
     let plain : a.plain ≡ b.plain = copies_once (live h.store.subscriptions) m a.plain b.plain a.are_copies b.are_copies in
     let picks : a.picks ≡ b.picks = picks_once h.turn (live h.store.subscriptions) m a.picks b.picks a.are_picks b.are_picks in
-    let homed : a.homed ≡ b.homed = homed_once p b.picks a.homed b.homed (subst (λ ps. IsHomed p ps a.homed) picks a.are_here) b.are_here in
-    let routes : AreRoutes p b.plain b.picks m rs = subst (λ cs. AreRoutes p cs b.picks m rs) plain (subst (λ ps. AreRoutes p a.plain ps m rs) picks a.routes_are) in (
+    let homed : a.homed ≡ b.homed = homed_once p h b.picks a.homed b.homed (subst (λ ps. IsHomed p h ps a.homed) picks a.are_here) b.are_here in
+    let routes : AreRoutes p h b.plain b.picks m rs = subst (λ cs. AreRoutes p h cs b.picks m rs) plain (subst (λ ps. AreRoutes p h a.plain ps m rs) picks a.routes_are) in (
       a.copies_are ∙ (λ i. seated h (plain i) ++ seated h (homed i)) ∙ sym b.copies_are,
       a.lost_are ∙ ap (λ cs. length (unseated h cs)) homed ∙ sym b.lost_are,
-      routes_once p b.plain b.picks m rs ss sound routes b.routes_are,
+      routes_once p h b.plain b.picks m rs ss sound routes b.routes_are,
     )
 
 pub copies_alone : (m : Message) → IsAlone (AreMade m)
@@ -205,8 +207,8 @@ pub handed_alone : (m : Forward) → IsAlone (IsHandedOver m)
 handed_alone m p h x y sound a b = let same = handed_once h m x.0 y.0 x.1 y.1 a b in λ i. (same.0 i, same.1 i)
 
 -- the home of a client
-pub home_is_alone : (client : List ℕ) → IsAlone (λ p h node. IsHome p.homes client node)
-home_is_alone client p h x y sound a b = home_alone p.homes client x y sound a b
+pub home_is_alone : (client : List ℕ) → IsAlone (IsAtHome client)
+home_is_alone client p h x y sound a b = home_alone h.homes client x y sound a b
 
 -- the next number of a client identifier
 below_free : (named number : ℕ) (has : ℕ → Bool) → ((k : ℕ) → named < k → k < number → has k ≡ true) → (k : ℕ) → named < k → has k ≡ false → k < number → ⊥

@@ -20,7 +20,6 @@ use Rattle.mqtt_topics.specs.Topics.{IsFilter}
 use Rattle.bridge_deltas.specs.declared.offer.Offer.{Offer}
 use Rattle.bridge_deltas.specs.declared.offer.Offer.TheVariants as offers
 use Rattle.bridge_frames.specs.declared.forward.Forward.{Forward}
-use Rattle.home_table.specs.Homes.{IsHome}
 use Rattle.message_copies.specs.declared.plain.PlainCopy.{PlainCopy as Copy}
 use Rattle.message_routes.specs.declared.destinations.Route.{Route}
 use Rattle.message_routes.specs.declared.destinations.Route.TheVariants as routes
@@ -34,23 +33,23 @@ use Rattle.node_work.specs.Acts.{Acknowledged, Bridge, Connection, Dropped, Made
 use Rattle.node_work.specs.Calling.{Calls, Queues, QueuesOne}
 use Rattle.node_work.specs.declared.counts.Missed.{Missed}
 use Rattle.node_work.specs.declared.counts.Missed.TheVariants.{LaneFull}
-use Rattle.node_work.specs.Doings.{Disconnects, MakesPut, MakesRemove, MakesSubscribe, Misses, PutsBy, Removes, Routes, RoutesBy, Sends}
+use Rattle.node_work.specs.Doings.{Disconnects, MakesPut, MakesRemove, MakesRemoveBelow, Misses, PutsBy, Removes, RemovesBelow, Routes, RoutesBy, Sends}
 use Rattle.node_work.specs.Held.Bridge.{Left_out, Put, Took}
 use Rattle.node_work.specs.Held.Connections.{Accepted, Closed, Fed, client_at}
 use Rattle.node_work.specs.Held.Feeding.{cut_of}
-use Rattle.node_work.specs.Held.Making.{number_at_end, put_at_end, removal}
+use Rattle.node_work.specs.Held.Making.{number_at_end, put_at_end, removal, removal_below}
 use Rattle.node_work.specs.Held.Sessions.{Begun, Over}
 use Rattle.node_work.specs.Packets.{refused_packet}
 use Rattle.node_work.specs.Passing.{content_of, turn_at_end}
 use Rattle.node_work.specs.View.{ConnectionView}
 use Rattle.node_work.specs.Working.{Each, Returns, Looks, Finds, Then}
 use Rattle.node_clients.specs.Connecting.{Accepts, AcceptsAs, Begins, Cleans, ComesHome, Connects, ConnectsAt, ConnectsBy, Joins, JoinsBy, Names, NamesBy, Refers, Refuses, SendsIf, TakesOver, TakesOverFrom, WillIsNamed, refusal}
-use Rattle.node_clients.specs.Ending.{Closes, ClosesAfter, ClosesBy, ClosesFor, DoesDueOf, EndsSession, Finishes, Follows, Parts, PassesAsked, Ticks, TicksIf}
+use Rattle.node_clients.specs.Ending.{Closes, ClosesAfter, ClosesBy, ClosesFor, DoesDueOf, EndsSession, Finishes, Follows, IsAtHome, Parts, PassesAsked, RemovesFor, RemovesOwn, Ticks, TicksIf}
 use Rattle.node_clients.specs.Naming.{IsNextNumber}
 use Rattle.node_clients.specs.Passing.{AreMade, Copies, CopiesAt, Drops, IsHandedOver, Made, MakesCopies, Passes, PassesWill, Retains, TakesCopies, TakesForward}
 use Rattle.node_clients.specs.Pieces.{Answers, AnswersBy, AnswersIfOpen, Breaks, BreaksBy, BreaksIfOpen, Feeds, First, Leaves, LeavesBy, PartsBy, Piece, PieceAt, SendsDisconnect, SendsRefusal, Shuts, Takes, TellsBy, connack_code, disconnect_code}
 use Rattle.node_clients.specs.Serving.{DoesAsked, DoesReaction, Serves, ServesIn, SubscribesBy, UnsubscribesBy, is_dropped}
-use Rattle.node_clients.specs.Subscribing.{AreOffers, Grants, GrantsBy, Offers, OffersAfter, OffersEach, OffersOne, Subscribes, entry_of, granted, identifier_of, reasons_of, refused}
+use Rattle.node_clients.specs.Subscribing.{AreOffers, Grants, GrantsBy, Offers, OffersAfter, OffersEach, OffersOne, Subscribes, SubscribesTo, entry_of, granted, identifier_of, reasons_of, refused}
 use Rattle.node_clients.specs.Subscribing as subscribing
 use Rattle.node_clients.specs.Unsubscribing.{Unsubscribed, Unsubscribes}
 use Rattle.node_clients.specs.Unsubscribing as unsubscribing
@@ -129,8 +128,17 @@ passes_asked_determined (Some (asks.Pass m)) = passes_will_determined m
 passes_asked_determined (Some asks.Subscribe) = returns_determined tt
 passes_asked_determined (Some asks.Unsubscribe) = returns_determined tt
 
+removes_below_determined : (client : List ℕ) (version : ℕ) → Determined (RemovesBelow client version)
+removes_below_determined client version =
+    looks_determined _ _
+    (λ stands. if_determined stands (Then (MakesRemoveBelow client version) (λ _. Returns true)) (Returns false)
+    (then_determined (MakesRemoveBelow client version) (λ _. Returns true) (numbered_determined (λ p h. number_at_end p.id h) (λ p h. Store (MadeAct (removal_below p.id client version h.store)))) (λ _. returns_determined true)) (returns_determined false))
+
+removes_own_determined : (client : List ℕ) → Determined (RemovesOwn client)
+removes_own_determined client = finds_determined (IsAtHome client) (RemovesFor client) (home_is_alone client) (λ node. looks_determined _ _ (removes_below_determined client))
+
 ends_session_determined : (client : List ℕ) → Determined (EndsSession client)
-ends_session_determined client = then_determined (Removes client None) _ (removes_determined client None) (λ _. acting_determined (λ p h. Session (Over client)))
+ends_session_determined client = then_determined (RemovesOwn client) _ (removes_own_determined client) (λ _. acting_determined (λ p h. Session (Over client)))
 
 follows_determined : (client : List ℕ) (r : Reaction) → Determined (Follows client r)
 follows_determined client r =
@@ -170,11 +178,10 @@ closes_after_determined (Some code) c client = closes_for_determined c client
 
 grants_by_determined : (client : List ℕ) (identifier : ℕ) (f : SubscribeFilter) (stood : Bool) → Determined (GrantsBy client identifier f stood)
 grants_by_determined client identifier f stood =
-    let entry = entry_of client f identifier in
     let g = granted f (identifiers_of identifier) stood in
     looks_determined _ _
-    (λ full. if_determined full (Returns (refused 151)) (Then (MakesSubscribe entry) (λ _. Returns g)) (returns_determined (refused 151))
-    (then_determined (MakesSubscribe entry) (λ _. Returns g) (numbered_determined (λ p h. number_at_end p.id h) (λ p h. Store (MadeAct (subscribe_of p.id entry h.store)))) (λ _. returns_determined g)))
+    (λ full. if_determined full (Returns (refused 151)) (Then (SubscribesTo client identifier f) (λ _. Returns g)) (returns_determined (refused 151))
+    (then_determined (SubscribesTo client identifier f) (λ _. Returns g) (looks_determined _ _ (λ version. numbered_determined (λ p h. number_at_end p.id h) (λ p h. Store (MadeAct (subscribe_of p.id (entry_of client f identifier version) h.store))))) (λ _. returns_determined g)))
 
 grants_determined : (client : List ℕ) (identifier : ℕ) (f : SubscribeFilter) → Determined (Grants client identifier f)
 grants_determined client identifier f =
@@ -313,7 +320,7 @@ comes_home_determined c p node =
 
 connects_at_determined : (unnamed : Bool) (c : ℕ) (p : Connect) → Determined (ConnectsAt unnamed c p)
 connects_at_determined true c p = names_determined c p
-connects_at_determined false c p = finds_determined (λ place h node. IsHome place.homes p.client node) (ComesHome c p) (home_is_alone p.client) (comes_home_determined c p)
+connects_at_determined false c p = finds_determined (IsAtHome p.client) (ComesHome c p) (home_is_alone p.client) (comes_home_determined c p)
 
 connects_by_determined : (refused : Option ℕ) (c : ℕ) (p : Connect) → Determined (ConnectsBy refused c p)
 connects_by_determined (Some code) c p = refuses_determined c p code None

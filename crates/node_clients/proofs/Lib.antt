@@ -8,4 +8,5 @@ pub mod Homes
 pub mod Offering
 pub mod Parting
 pub mod Routing
+pub mod Topics
 pub mod Wills

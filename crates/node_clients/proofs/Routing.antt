@@ -12,7 +12,7 @@ use Rattle.message_routes.specs.declared.destinations.Route.{Route}
 use Rattle.message_routes.specs.Routes.{AreFor, IsHomeOf, IsHomed, Pairwise, pick_to}
 use Rattle.mqtt_message.specs.declared.message.Message.{Message}
 use Rattle.node_work.specs.Passing.{AreRoutes, others}
-use Rattle.node_work.specs.View.{Place, nodes_of}
+use Rattle.node_work.specs.View.{Place, HeldView, nodes_of}
 use Rattle.node_clients.specs.Passing.{route_to, routes_to}
 use Rattle.node_clients.proofs.Homes.{home_stands}
 
@@ -67,14 +67,14 @@ abbrev with_list : {X Z : Type 0} → Vec X Z → (xs : List X) → length xs < 
 with_list v xs small = record { ptr = v.ptr; len = length xs; cap = length xs; alloc = v.alloc; items = xs; ok = (refl, omega arith); small = small }
 
 -- where there is no other node, nothing goes anywhere
-pub are_routes : (p : Place) (plain : List Copy) (picks : List GroupPick) (m : Message) (d : Destinations) → length plain < 2 ^ 63 → length picks < 2 ^ 63
-    → (others p ≡ []) ⊎ AreFor p.homes plain picks d → AreRoutes p plain picks m (routes_to p m d)
-are_routes p plain picks m d few few_picks (inr for) = (d, for, refl)
-are_routes p plain picks m d few few_picks (inl none) =
-    let h = homes_stand p.homes plain in
-    let k = picks_stand p.homes picks in
+pub are_routes : (p : Place) (h : HeldView) (plain : List Copy) (picks : List GroupPick) (m : Message) (d : Destinations) → length plain < 2 ^ 63 → length picks < 2 ^ 63
+    → (others p ≡ []) ⊎ AreFor h.homes plain picks d → AreRoutes p h plain picks m (routes_to p m d)
+are_routes p h plain picks m d few few_picks (inr for) = (d, for, refl)
+are_routes p h plain picks m d few few_picks (inl none) =
+    let at_homes = homes_stand h.homes plain in
+    let at_picks = picks_stand h.homes picks in
     let at : Destinations = record {
-      homes = with_list d.homes h.0 (let e = h.2 in omega arith);
-      picks = with_list d.picks k.0 (let e = k.2 in omega arith);
+      homes = with_list d.homes at_homes.0 (let e = at_homes.2 in omega arith);
+      picks = with_list d.picks at_picks.0 (let e = at_picks.2 in omega arith);
     } in
-    (at, (h.1, k.1), ap (map_list (route_to m d)) none ∙ sym (ap (map_list (route_to m at)) none))
+    (at, (at_homes.1, at_picks.1), ap (map_list (route_to m d)) none ∙ sym (ap (map_list (route_to m at)) none))

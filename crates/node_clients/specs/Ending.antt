@@ -1,5 +1,6 @@
 -- How connections and sessions end (MQTT 5.0, 3.1.2.5, 3.1.2.11.2 and 3.14).
-use Rattle.std.specs.Prelude.{ℕ, Bool, List, Option, Some, None}
+use Rattle.std.specs.Prelude.{ℕ, ◌+◌, ◌==◌, Bool, cond, List, Option, Some, None}
+use Rattle.home_table.specs.Homes.{IsHome}
 use Rattle.mqtt_sessions.specs.declared.reaction.Ask.{Ask}
 use Rattle.mqtt_sessions.specs.declared.reaction.Ask.TheVariants.{Pass, Subscribe, Unsubscribe}
 use Rattle.mqtt_sessions.specs.Reaction.{Reaction}
@@ -8,10 +9,11 @@ use Rattle.session_table.specs.Calls.{stays, leaves}
 use Rattle.node_work.specs.declared.outcome.Output.TheVariants.{Close}
 use Rattle.node_work.specs.Acts.{Connection, Session, Out}
 use Rattle.node_work.specs.Calling.{Calls}
-use Rattle.node_work.specs.Doings.{Removes}
+use Rattle.node_work.specs.Doings.{RemovesBelow}
 use Rattle.node_work.specs.Held.Connections.{Closed}
 use Rattle.node_work.specs.Held.Sessions.{Over, will_is_due, end_is_due}
-use Rattle.node_work.specs.Working.{Doing, Returns, Acting, Looks, If, Then}
+use Rattle.node_work.specs.View.{Place, HeldView}
+use Rattle.node_work.specs.Working.{Doing, Returns, Acting, Looks, Finds, If, Then}
 use Rattle.node_clients.specs.Passing.{PassesWill}
 
 -- ---- a session
@@ -22,9 +24,24 @@ PassesAsked (Some (Pass m)) = PassesWill m
 PassesAsked (Some Subscribe) = Returns tt
 PassesAsked (Some Unsubscribe) = Returns tt
 
--- one Remove takes the client's subscriptions, and then its session is over
+-- a client's home, by the node's table
+abbrev pub IsAtHome : List ℕ → Place → HeldView → ℕ → Type 0
+IsAtHome client p h node = IsHome h.homes client node
+
+-- the version below which subscriptions end with the session of a client whose home is at a node: those that were made under the
+-- version of the node's table or an older one, and where the home is elsewhere under an older one
+abbrev pub ends_below : ℕ → Place → HeldView → ℕ
+ends_below node p h = cond (node == p.id) (h.homes.version + 1) h.homes.version
+
+abbrev pub RemovesFor : List ℕ → ℕ → Option Bool → Doing
+RemovesFor client node = Looks (ends_below node) (RemovesBelow client)
+
+abbrev pub RemovesOwn : List ℕ → Option Bool → Doing
+RemovesOwn client = Finds (IsAtHome client) (RemovesFor client)
+
+-- one Remove takes these subscriptions of the client, and then its session is over
 abbrev pub EndsSession : List ℕ → Option (Unit {0}) → Doing
-EndsSession client = Then (Removes client None) (λ _. Acting (λ p h. Session (Over client)))
+EndsSession client = Then (RemovesOwn client) (λ _. Acting (λ p h. Session (Over client)))
 
 abbrev pub Follows : List ℕ → Reaction → Option (Unit {0}) → Doing
 Follows client r = Then (PassesAsked r.ask) (λ _. If r.over (EndsSession client) (Returns tt))

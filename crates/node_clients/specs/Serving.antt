@@ -7,13 +7,16 @@ use Rattle.mqtt_packets.specs.declared.packet.Packet.{Packet}
 use Rattle.mqtt_packets.specs.declared.packet.Packet.TheVariants as packets
 use Rattle.mqtt_sessions.specs.declared.reaction.Ask.{Ask}
 use Rattle.mqtt_sessions.specs.declared.reaction.Ask.TheVariants as asks
+use Rattle.mqtt_sessions.specs.Aliases.{filled}
 use Rattle.mqtt_sessions.specs.Reaction.{Reaction}
 use Rattle.mqtt_topics.specs.Levels.{is_wildcard}
 use Rattle.replica_store.specs.States.{State}
 use Rattle.session_laws.specs.Runs.{takes}
 use Rattle.session_table.specs.Calls.{stays}
 use Rattle.node_work.specs.Calling.{Calls}
+use Rattle.node_work.specs.Held.Sessions.{aliases_at}
 use Rattle.node_work.specs.Passing.{has_room}
+use Rattle.node_work.specs.View.{HeldView}
 use Rattle.node_work.specs.Working.{Doing, Returns, Looks, If, Then}
 use Rattle.node_clients.specs.Ending.{ClosesAfter}
 use Rattle.node_clients.specs.Passing.{Passes, Drops}
@@ -33,10 +36,10 @@ IsNameOf topic (Some name) = (is_name topic ≡ true) × (name ≡ topic)
 abbrev pub takes_topic : List ℕ → State → Bool
 takes_topic topic s = cond (is_name topic) (has_room topic s) (nat_lt (map.len s.retained) 100000)
 
--- whether a retained message of the packet would be taken
-abbrev pub room_for : Packet → State → Bool
-room_for (packets.Publish p) s = takes_topic p.topic s
-room_for p s = true
+-- whether a retained message of the client's packet would be taken: a PUBLISH is under its topic, or the one that its alias stands for
+abbrev pub room_for : List ℕ → Packet → HeldView → Bool
+room_for client (packets.Publish p) h = takes_topic (filled (aliases_at client h) p).topic h.store
+room_for client p h = true
 
 -- a retained message at QoS 0 that has no room is dropped, and counted
 abbrev pub is_dropped : Packet → Bool → Option ℕ → Bool
@@ -66,4 +69,4 @@ abbrev pub ServesIn : ℕ → List ℕ → Packet → Bool → Option (Unit {0})
 ServesIn c client p room = Then (Calls client (λ at. takes p at room) stays) (DoesReaction c client p room)
 
 abbrev pub Serves : ℕ → List ℕ → Packet → Option (Unit {0}) → Doing
-Serves c client p = Looks (λ place h. room_for p h.store) (ServesIn c client p)
+Serves c client p = Looks (λ place h. room_for client p h) (ServesIn c client p)

@@ -11,7 +11,7 @@ ghost use Rattle.node_work.specs.declared.fault.NodeFault.TheVariants.{NoMemory}
 ghost use Rattle.subscription_set.specs.Standing.{live};
 
 use crate::passing::{joined, queue_each, seated};
-use bridge_frames::Forward;
+use bridge_frames::{Forward, LaneNumber};
 use message_copies::{PlainCopy, copies};
 use message_routes::picked_copies;
 use node_work::{NodeFault, Work};
@@ -28,7 +28,7 @@ struct Handed {
 pub fn take_forward(
     work: &mut Work,
     from: u16,
-    number: u64,
+    number: LaneNumber,
     message: &Forward,
 ) -> Result<(), NodeFault>
     requires { is_next from number work.old.held.bridge ≡ true }

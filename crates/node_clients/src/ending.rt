@@ -2,7 +2,7 @@
 
 ghost use Rattle.std.specs.Prelude.{◌≡◌, None, Ok};
 ghost use Rattle.std.specs.Option.{option_copied};
-ghost use Rattle.node_clients.specs.Ending.{PassesAsked, EndsSession, Follows, TicksIf, DoesDueOf, Ticks, Finishes, Parts, Closes, ClosesFor, ClosesBy, ClosesAfter};
+ghost use Rattle.node_clients.specs.Ending.{PassesAsked, EndsSession, RemovesFor, RemovesOwn, ends_below, Follows, TicksIf, DoesDueOf, Ticks, Finishes, Parts, Closes, ClosesFor, ClosesBy, ClosesAfter};
 ghost use Rattle.node_work.specs.Held.Sessions.{will_is_due, end_is_due};
 ghost use Rattle.node_work.specs.Working.{Comes, Looks};
 
@@ -23,12 +23,41 @@ fn pass_asked(work: &mut Work, ask: Option<Ask>) -> Result<(), NodeFault>
     }
 }
 
+/// The version below which the subscriptions were made that end with the session of a client whose home is at a
+/// node.
+fn ends_below(work: &Work, node: u16) -> u64
+    ensures { result ≡ ends_below node work.now.place work.now.held }
+{
+    let version = u64::from(work.homes().version());
+    if node == work.id() {
+        version + 1
+    } else {
+        version
+    }
+}
+
+/// Takes the subscriptions that end with the session of a client whose home is at a node.
+fn remove_for(work: &mut Work, client: &Text, node: u16) -> Result<bool, NodeFault>
+    ensures { Comes (λ x. x) result work.old work.new (RemovesFor client.now node) }
+{
+    let below = ends_below(work, node);
+    work.remove_below(client, below)
+}
+
+/// Takes the subscriptions that end with a client's session.
+fn remove_own(work: &mut Work, client: &Text) -> Result<bool, NodeFault>
+    ensures { Comes (λ x. x) result work.old work.new (RemovesOwn client.now) }
+{
+    let node = work.homes().home_of(client.as_str());
+    remove_for(work, client, node)
+}
+
 /// Takes out a client's session, and its subscriptions before it.
 #[tactic(auto, using(crate::proofs::Parting::session_ends, crate::proofs::Parting::session_stays))]
 fn end_session(work: &mut Work, client: &Text) -> Result<(), NodeFault>
     ensures { Comes (λ x. x) result work.old work.new (EndsSession client.now) }
 {
-    let _stood = work.remove(client, None)?;
+    let _stood = remove_own(work, client)?;
     work.end_session(client)
 }
 

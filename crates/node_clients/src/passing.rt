@@ -87,7 +87,7 @@ fn pass_copies(work: &mut Work, message: &SharedMessage) -> Result<(), NodeFault
 fn route_each(work: &mut Work, message: &SharedMessage, to: &Destinations) -> Result<(), NodeFault>
     ensures { Comes (λ x. x) result work.old work.new (Each Routes (routes_to work.old.place message.now to.now)) }
 {
-    for peer in 0..work.homes().nodes() {
+    for peer in 0..work.nodes() {
         if peer != work.id() {
             route_one(work, peer, message, to)?;
         }
@@ -155,7 +155,7 @@ fn destinations_of(
     plain: &[PlainCopy],
     picks: &[GroupPick],
 ) -> Result<Destinations, NodeFault>
-    ensures ok { IfOk result (λ to. (others work.now.place ≡ []) ⊎ AreFor work.now.place.homes plain.now picks.now to) }
+    ensures ok { IfOk result (λ to. (others work.now.place ≡ []) ⊎ AreFor work.now.held.homes plain.now picks.now to) }
     ensures fault { IfErr result (λ e. e ≡ NoMemory) }
 {
     if is_alone(work) {
@@ -172,7 +172,7 @@ fn destinations_of(
 fn is_alone(work: &Work) -> bool
     ensures { IsTrue result → others work.now.place ≡ [] }
 {
-    work.homes().nodes() == 1 && work.id() == 0
+    work.nodes() == 1 && work.id() == 0
 }
 
 /// Those for clients that have a session here.
@@ -201,14 +201,14 @@ pub(crate) fn joined(
 
 /// Whether a client has its home here.
 fn is_home(work: &Work, client: &Text) -> bool
-    ensures { IsTrue result ↔ IsHome work.now.place.homes client.now work.now.place.id }
+    ensures { IsTrue result ↔ IsHome work.now.held.homes client.now work.now.place.id }
 {
     work.homes().home_of(client.as_str()) == work.id()
 }
 
 /// The picks whose clients have their home here, as copies.
 fn homed_of(work: &Work, picks: Vec<GroupPick>) -> Result<Vec<PlainCopy>, NodeFault>
-    ensures ok { IfOk result (λ out. IsHomed work.now.place picks.items out.items) }
+    ensures ok { IfOk result (λ out. IsHomed work.now.place work.now.held picks.items out.items) }
     ensures fault { IfErr result (λ e. e ≡ NoMemory) }
 {
     let mut out = Vec::new(work.alloc());

@@ -1,9 +1,13 @@
 //! The packets of an accepted client.
 
-ghost use Rattle.std.specs.Prelude.{◌≡◌, Some, IfOk, IfErr};
+ghost use Rattle.std.specs.Prelude.{◌≡◌, Some, IfOk, IfErr, IfSome};
+ghost use Rattle.std.specs.Option.{option_copied};
+ghost use Rattle.mqtt_fields.specs.Numbers.{IsText};
 ghost use Rattle.mqtt_packets.specs.Written.{HasSpelling};
+ghost use Rattle.mqtt_sessions.specs.Aliases.{alias_of, alias_topic, filled};
 ghost use Rattle.node_clients.specs.Passing.{Drops};
 ghost use Rattle.node_clients.specs.Serving.{Serves, SubscribesBy, UnsubscribesBy, DoesAsked, DoesReaction, IsNameOf, room_for, takes_topic, is_dropped};
+ghost use Rattle.node_work.specs.Held.Sessions.{aliases_at};
 ghost use Rattle.node_work.specs.Working.{Comes, If, Returns};
 ghost use Rattle.node_work.specs.declared.fault.NodeFault.TheVariants.{NoMemory};
 
@@ -11,11 +15,12 @@ use crate::ending::close_after;
 use crate::passing::pass;
 use crate::subscribe::subscribe;
 use crate::unsubscribe::unsubscribe;
+use mqtt_fields::identifier::TOPIC_ALIAS;
 use mqtt_fields::{Qos, Text};
-use mqtt_packets::Packet;
+use mqtt_packets::{Packet, Publish};
 use mqtt_sessions::{Ask, Reaction};
 use mqtt_topics::{TopicFault, TopicName};
-use node_work::{NodeFault, Work};
+use node_work::{Held, NodeFault, Work};
 use replica_store::ReplicaStore;
 use std::alloc::Global;
 
@@ -32,7 +37,7 @@ pub fn serve(
     requires { HasSpelling packet.now }
     ensures { Comes (λ x. x) result work.old work.new (Serves connection client.now packet.now) }
 {
-    let room = room_for(work.alloc(), packet, work.held().store())?;
+    let room = room_for(work.alloc(), client, packet, work.held())?;
     let reaction = work.packet(client, packet, room)?;
     react(work, connection, client, packet, room, reaction)
 }
@@ -126,19 +131,49 @@ fn is_dropped(packet: &Packet, room: bool, end: Option<u8>) -> bool
     }
 }
 
-/// Whether a retained message of the packet would be taken.
-fn room_for(alloc: Global, packet: &Packet, store: &ReplicaStore) -> Result<bool, NodeFault>
-    ensures ok { IfOk result (λ room. room ≡ room_for packet.now store.now) }
+/// Whether a retained message of the client's packet would be taken.
+fn room_for(alloc: Global, client: &Text, packet: &Packet, held: &Held) -> Result<bool, NodeFault>
+    ensures ok { IfOk result (λ room. room ≡ room_for client.now packet.now held.now) }
     ensures fault { IfErr result (λ e. e ≡ NoMemory) }
 {
     match packet {
-        Packet::Publish(publish) => takes_topic(alloc, &publish.topic, store),
+        Packet::Publish(publish) => {
+            let topic = topic_of(held, client, publish);
+            takes_topic(alloc, topic, held.store())
+        }
         _ => Ok(true),
     }
 }
 
+/// The topic of a PUBLISH: its own, or where that is empty the one that its alias stands for.
+fn topic_of<'a>(held: &'a Held, client: &Text, publish: &'a Publish) -> &'a str
+    ensures topic { result.now ≡ (filled (aliases_at client.now held.now) publish.now).topic }
+    ensures text { IsText result.now }
+{
+    let own = publish.topic.as_str();
+    if !own.is_empty() {
+        return own;
+    }
+    match alias_topic(held, client, publish) {
+        Some(topic) => topic,
+        None => own,
+    }
+}
+
+/// The topic that the alias of a PUBLISH stands for.
+fn alias_topic<'a>(held: &'a Held, client: &Text, publish: &Publish) -> Option<&'a str>
+    ensures topic { option_copied result ≡ alias_topic (alias_of publish.now) (aliases_at client.now held.now) }
+    ensures text { IfSome result (λ topic. IsText topic.now) }
+{
+    match publish.properties.two(TOPIC_ALIAS) {
+        Some(alias) => held.sessions().alias_topic(client, alias),
+        None => None,
+    }
+}
+
 /// Whether a topic is held, or there is room for one more. A text that isn't a topic name isn't held.
-fn takes_topic(alloc: Global, topic: &Text, store: &ReplicaStore) -> Result<bool, NodeFault>
+fn takes_topic(alloc: Global, topic: &str, store: &ReplicaStore) -> Result<bool, NodeFault>
+    requires { IsText topic.now }
     ensures ok { IfOk result (λ room. room ≡ takes_topic topic.now store.now) }
     ensures fault { IfErr result (λ e. e ≡ NoMemory) }
 {
@@ -152,11 +187,12 @@ fn takes_topic(alloc: Global, topic: &Text, store: &ReplicaStore) -> Result<bool
 }
 
 /// The topic name of a text, or none where it isn't one.
-fn name_of(alloc: Global, text: &Text) -> Result<Option<TopicName>, NodeFault>
+fn name_of(alloc: Global, text: &str) -> Result<Option<TopicName>, NodeFault>
+    requires { IsText text.now }
     ensures ok { IfOk result (λ name. IsNameOf text.now name) }
     ensures fault { IfErr result (λ e. e ≡ NoMemory) }
 {
-    match TopicName::parse(alloc, text.as_str()) {
+    match TopicName::parse(alloc, text) {
         Ok(name) => Ok(Some(name)),
         Err(fault) => match fault {
             TopicFault::NoMemory => Err(NodeFault::NoMemory),

@@ -5,7 +5,7 @@ ghost use Rattle.std.specs.List.{AllByRecursion};
 ghost use Rattle.mqtt_packets.specs.declared.packet.Packet.TheVariants as packets;
 ghost use Rattle.mqtt_packets.specs.Written.{HasSpelling};
 ghost use Rattle.node_clients.specs.Parsing.{IsFilterOf};
-ghost use Rattle.node_clients.specs.Subscribing.{Acknowledges, Grants, GrantsBy, Subscribes, entry_of, granted, has_most, identifier_of, reasons_of, stands, wants_retained};
+ghost use Rattle.node_clients.specs.Subscribing.{Acknowledges, Grants, GrantsBy, Subscribes, SubscribesTo, entry_of, granted, has_most, identifier_of, reasons_of, stands, wants_retained};
 ghost use Rattle.node_work.specs.Held.Calling.{MayAnswer};
 ghost use Rattle.node_work.specs.Working.{Comes, InTurn, Looks};
 ghost use Rattle.node_work.specs.declared.fault.NodeFault.TheVariants.{NoMemory};
@@ -155,28 +155,45 @@ fn grant_filter(
             asked: None,
         });
     }
-    let entry = entry_of(work.alloc(), client, asked, &filter, identifier)?;
     let identifiers = Identifiers::of_subscription(work.alloc(), identifier)?;
-    work.subscribe(entry)?;
+    subscribe_to(work, client, asked, &filter, identifier)?;
     Ok(grant_of(filter, asked.options, identifiers, stood))
 }
 
-/// The subscription of a client to a filter.
+/// Makes the subscription of a client to a filter, under the version of the node's table of homes.
+fn subscribe_to(
+    work: &mut Work,
+    client: &Text,
+    asked: &SubscribeFilter,
+    filter: &Filter,
+    identifier: u32,
+) -> Result<(), NodeFault>
+    requires same { filter.now ≡ asked.now.filter }
+    requires asked { can_be_asked asked.now.options identifier ≡ true }
+    ensures { Comes (λ x. x) result work.old work.new (SubscribesTo client.now identifier asked.now) }
+{
+    let version = work.homes().version();
+    let entry = entry_of(work.alloc(), client, asked, filter, identifier, version)?;
+    work.subscribe(entry)
+}
+
+/// The subscription of a client to a filter, under a version of the table of homes.
 fn entry_of(
     alloc: Global,
     client: &Text,
     asked: &SubscribeFilter,
     filter: &Filter,
     identifier: u32,
+    version: u32,
 ) -> Result<Entry, NodeFault>
     requires same { filter.now ≡ asked.now.filter }
     requires asked { can_be_asked asked.now.options identifier ≡ true }
-    ensures ok { IfOk result (λ entry. entry ≡ entry_of client.now asked.now identifier) }
+    ensures ok { IfOk result (λ entry. entry ≡ entry_of client.now asked.now identifier version) }
     ensures fault { IfErr result (λ e. e ≡ NoMemory) }
 {
     let client = client.copy(alloc)?;
     let filter = filter.copy(alloc)?;
-    Ok(Entry::new(client, filter, asked.options, identifier, 0).unwrap())
+    Ok(Entry::new(client, filter, asked.options, identifier, version).unwrap())
 }
 
 /// What a filter is granted, by whether the subscription stood before.

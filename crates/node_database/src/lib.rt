@@ -6,6 +6,14 @@ ghost use Rattle.std.specs.Prelude.{IfOk};
 ghost use Rattle.session_records.specs.Stored.{content_in};
 ghost use Rattle.sqlite_store.specs.Laws.{settled_at};
 
+mod begun;
+mod copied;
+mod fault;
+
+use crate::begun::begin;
+use crate::fault::{fault_of_error, fault_of_rows};
+pub use copied::copied_rows;
+pub use fault::OpenFault;
 use row_store::{Change, Row, RowFault, RowStore};
 use session_records::SqlRows;
 use sqlite::{Alter, Connection, FileFrom, FileStore, Wary};
@@ -49,7 +57,7 @@ impl RowStore for DatabaseRows {
 }
 
 /// The rows of a connection that is in no transaction.
-fn adopt<S: Alter + Drop>(conn: Connection<S>) -> Result<SqlRows<S>, RowFault>
+pub(crate) fn adopt<S: Alter + Drop>(conn: Connection<S>) -> Result<SqlRows<S>, RowFault>
     ensures { IfOk result (λ rows. ⟦<SqlRows<S> as RowStore>⟧.is_clean rows → ⟦<SqlRows<S> as RowStore>⟧.is_open rows) }
 {
     if !conn.is_autocommit() {
@@ -61,17 +69,25 @@ fn adopt<S: Alter + Drop>(conn: Connection<S>) -> Result<SqlRows<S>, RowFault>
     }
 }
 
+/// Whether it is the path of a file, and nothing that a database gives another meaning.
+fn is_file(path: &str) -> bool {
+    path != ":memory:" && !path.starts_with("file:")
+}
+
 /// The rows of the database at a path, which is made where there is none. They are open.
 ///
-/// `Device` where it can't be opened, and else what `SqlRows::adopt` answers.
-pub fn open_rows(rt: &HostRuntime, path: &str) -> Result<DatabaseRows, RowFault>
+/// A fault is that of its files (`fault_of_error`), or else of its rows, as `SqlRows::adopt` answers it (`fault_of_rows`).
+pub fn open_rows(rt: &HostRuntime, path: &str) -> Result<DatabaseRows, OpenFault>
     ensures { IfOk result (λ d. ⟦<DatabaseRows as RowStore>⟧.is_clean d → ⟦<DatabaseRows as RowStore>⟧.is_open d) }
 {
+    if is_file(path) {
+        let _ = begin(rt, path);
+    }
     match Connection::open_from(rt, path, false, Wary) {
         Ok(conn) => match adopt(conn) {
             Ok(rows) => Ok(DatabaseRows { rows }),
-            Err(fault) => Err(fault),
+            Err(fault) => Err(fault_of_rows(fault)),
         },
-        Err(_) => Err(RowFault::Device),
+        Err((error, _)) => Err(fault_of_error(&error)),
     }
 }

@@ -5,6 +5,7 @@ use Rattle.std.specs.Option.{option_map}
 use Rattle.std.specs.FinMap as map
 use Rattle.std.specs.FinMap.{get-insert, get-empty, get-entries, get-from_entries, entries_sorted, empty_of_len, len-entries, same_map}
 use Rattle.broker_node.specs.Opening.{IsOpenedFrom}
+use Rattle.home_table.specs.Table.{Table}
 use Rattle.mqtt_sessions.specs.Saved.{durable_of}
 use Rattle.node_keeper.specs.Keeping.{AreKept, AreLasting, AreOfNone, HaveOneVersion, IsReopened, LastsIn, OpeningKeepsWhatLasts, Opens, are_raised, given_mark, marked, may_be_raised, may_be_marked, only_mark}
 use Rattle.node_rows.specs.Reading.{IsLasting, Say, SayNothing}
@@ -14,7 +15,7 @@ use Rattle.node_rows.proofs.OneNode.{two_marks}
 use Rattle.node_rows.proofs.Raising.{not_both}
 use Rattle.node_rows.specs.Rows.{Lasting, mark, mark_key, node_row}
 use Rattle.node_work.specs.Lasting.{IsWoken, held_row, lasting}
-use Rattle.node_work.specs.View.{HeldView, NodeView, Place, nodes_of, woken}
+use Rattle.node_work.specs.View.{HeldView, NodeView, Place, nodes_of, place_of}
 use Rattle.row_store.specs.declared.row.Row.{Row}
 use Rattle.row_changes.specs.Leading.{left_by, left_or}
 use Rattle.row_changes.proofs.Leaving.{changes_leave}
@@ -32,18 +33,18 @@ again None can = refl
 again (Some d) can = ap Some (durable-again d (can d refl))
 
 -- lasts as it did
-lasts_again : (nodes : ℕ) (x : Lasting) (h : HeldView) → IsLasting nodes x → IsWoken x h → lasting h ≡ x
-lasts_again nodes x h can is =
+lasts_again : (nodes : ℕ) (homes : Table) (x : Lasting) (h : HeldView) → IsLasting nodes x → IsWoken homes x h → lasting h ≡ x
+lasts_again nodes homes x h can is =
     let same : (client : List ℕ) → option_map (λ (s : Seat). durable_of s.session) (map.get is.0 client) ≡ x.sessions client =
     λ client. ap (option_map (λ (s : Seat). durable_of s.session)) (is.1 client) ∙ again (x.sessions client) (λ d at. (can.sessions client d at).0)
     in
     ap lasting is.2 ∙ (λ i. record { named = x.named; sessions = λ client. same client i; store = x.store; lanes = x.lanes })
 
-pub kept_again : (p : Place) (c : Content) (n : NodeView) → IsReopened p c n → AreKept n c
-kept_again p c n r h up key =
+pub kept_again : (p : Place) (homes : Table) (c : Content) (n : NodeView) → IsReopened p homes c n → AreKept n c
+kept_again p homes c n r h up key =
     let same : r.held ≡ h = cc (ap (λ (x : NodeView). x.up) r.is, up) in
     r.are.1 key
-    ∙ ap (λ (x : Lasting). node_row p.id x key) (sym (lasts_again (nodes_of p) r.lasting r.held r.are.0 r.woken))
+    ∙ ap (λ (x : Lasting). node_row p.id x key) (sym (lasts_again (nodes_of p) homes r.lasting r.held r.are.0 r.woken))
     ∙ ap (λ (x : HeldView). held_row p.id x key) same
     ∙ ap (λ (x : NodeView). held_row x.place.id h key) (sym r.is)
 
@@ -130,10 +131,12 @@ say_lasting p rows mid c x some is (inr r) can (inl (inr are)) = (can, λ key. a
 say_lasting p rows mid c x some is (inl r) can (inr first) = (can, λ key. ap (λ (m : Content). map.get m key) r.1 ∙ raised_rows mid rows is key ∙ first.are key)
 say_lasting p rows mid c x some is (inr r) can (inr first) = absurd (r.0 (subst AreFirst is first.first))
 
-pub opens : (p : Place) (rows : List Row) (old mid c : Content) (n : NodeView) → given_mark p.id old mid → map_list entry_of rows ≡ map.entries mid → are_raised mid c → IsOpenedFrom rows p n → Opens p old c n
-opens p rows old mid c n m is r o =
-    let again : IsReopened p c n = record { lasting = o.lasting; held = o.held; are = say_lasting p rows mid c o.lasting (some_row p.id old mid m) is r o.can_last o.say; woken = o.woken; is = o.is } in
-    record { mark = both p.id old mid c m r; reopened = again; kept = kept_again p c n again }
+pub opens : (id : ℕ) (homes : Table) (rows : List Row) (old mid c : Content) (n : NodeView) → given_mark id old mid → map_list entry_of rows ≡ map.entries mid → are_raised mid c → IsOpenedFrom rows id homes n
+    → Opens (place_of id homes) homes old c n
+opens id homes rows old mid c n m is r o =
+    let p = place_of id homes in
+    let again : IsReopened p homes c n = record { lasting = o.lasting; held = o.held; are = say_lasting p rows mid c o.lasting (some_row id old mid m) is r o.can_last o.say; woken = o.woken; is = o.is } in
+    record { mark = both id old mid c m r; reopened = again; kept = kept_again p homes c n again }
 
 pub none_have : (p : Place) (rows : List Row) (c : Content) → map_list entry_of rows ≡ map.entries c → SayNothing rows p.id (nodes_of p) → AreOfNone p c
 none_have p rows c is nothing x (inl are) =

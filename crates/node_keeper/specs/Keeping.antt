@@ -5,6 +5,7 @@ use Rattle.std.specs.declared.alloc.Global.{Global}
 use Rattle.broker_node.specs.declared.event.Event.{Event}
 use Rattle.broker_node.specs.Idle.{IsIdle}
 use Rattle.broker_node.specs.Step.{IsDone, StopsAtEnd}
+use Rattle.home_table.specs.Table.{Table}
 use Rattle.node_keeper.specs.declared.fault.KeeperFault.{KeeperFault}
 use Rattle.node_keeper.specs.declared.fault.KeeperFault.TheVariants.{NoMemory, Rows, NumbersAtEnd, Stopped}
 use Rattle.node_rows.specs.Reading.{IsLasting}
@@ -104,13 +105,13 @@ CannotOpen fault = (fault ≡ NoMemory) ⊎ ((cause : RowFault) × (fault ≡ Ro
 
 -- ---- opening
 
--- a node that is opened from its rows: it runs, and holds what lasts
-pub record IsReopened (p : Place) (rows : Content) (n : NodeView) : Type 0 where
+-- a node that is opened from its rows, with a table of homes: it runs, and holds what lasts
+pub record IsReopened (p : Place) (homes : Table) (rows : Content) (n : NodeView) : Type 0 where
   pub lasting : Lasting
   pub held : HeldView
   pub are : AreLasting p rows lasting
-  pub woken : IsWoken lasting held
-  pub is : n ≡ record { place = p; up = Some held }
+  pub woken : IsWoken homes lasting held
+  pub is : n ≡ record { place = p; homes = homes; up = Some held }
 
 -- the mark of a new node alone
 abbrev pub only_mark : ℕ → Content
@@ -137,9 +138,9 @@ abbrev pub may_be_raised : ℕ → Content → Content → Type 0
 may_be_raised id rows rows' = may_be_marked id rows rows' ⊎ (AreFirst (map.entries rows) × (rows' ≡ raised_content rows))
 
 -- the node is opened: it has the rows in version 2, and its mark where there were none
-pub record Opens (p : Place) (rows rows' : Content) (n : NodeView) : Type 0 where
+pub record Opens (p : Place) (homes : Table) (rows rows' : Content) (n : NodeView) : Type 0 where
   pub mark : marked p.id rows rows'
-  pub reopened : IsReopened p rows' n
+  pub reopened : IsReopened p homes rows' n
   pub kept : AreKept n rows'
 
 -- ---- laws

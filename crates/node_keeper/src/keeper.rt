@@ -5,7 +5,7 @@ ghost use Rattle.broker_node.specs.Idle.{IsIdle};
 ghost use Rattle.broker_node.specs.Step.{IsAtEnd};
 ghost use Rattle.node_keeper.specs.Keeping.{AreOfNone, CannotOpen, Commits, GivesOut, HasCauseAt, IsCounted, KeepsRows, MayBeLeft, Opens, Rests, may_be_raised, may_be_marked};
 ghost use Rattle.node_keeper.specs.declared.fault.KeeperFault.TheVariants as faults;
-ghost use Rattle.node_work.specs.View.{HeldView};
+ghost use Rattle.node_work.specs.View.{HeldView, place_of};
 ghost use Rattle.row_store.specs.Rows.{Content};
 
 use crate::fault::KeeperFault;
@@ -22,7 +22,7 @@ pub struct Keeper<R> {
     alloc: Global,
     rows: R,
     node: Node,
-    ghost among: { node.place.id < length node.place.homes.nodes },
+    ghost among: { node.place.id < node.place.nodes },
 }
 
 impl<R: RowStore> Keeper<R> {
@@ -38,12 +38,13 @@ impl<R: RowStore> Keeper<R> {
         id: u16,
     ) -> Result<Keeper<R>, (KeeperFault, R)>
         requires { id < length homes.nodes }
-        ensures place { IfOk result (λ k. (node_of k).place ≡ record { id = id; homes = homes }) }
+        ensures place { IfOk result (λ k. (node_of k).place ≡ place_of id homes) }
+        ensures homes { IfOk result (λ k. (node_of k).homes ≡ homes) }
         ensures ok { IfOk result (λ k. R.is_clean (rows_of k) → R.is_open rows
-            → R.is_open (rows_of k) × Opens (record { id = id; homes = homes }) (R.content rows) (R.content (rows_of k)) (node_of k)) }
+            → R.is_open (rows_of k) × Opens (place_of id homes) homes (R.content rows) (R.content (rows_of k)) (node_of k)) }
         ensures err { IfErr result (λ e. R.is_clean e.1 → R.is_open e.1 → may_be_marked id (R.content rows) (R.content e.1)) }
         ensures bad { IfErr result (λ e. R.is_clean e.1 → R.is_open rows → e.0 ≡ faults.Rows RowFault.BadRow
-            → AreOfNone (record { id = id; homes = homes }) (R.content e.1)) }
+            → AreOfNone (place_of id homes) (R.content e.1)) }
         ensures crash { IfErr result (λ e. R.is_clean e.1 → R.is_open rows → (c : Content) → R.may_leave e.1 c → may_be_raised id (R.content rows) c) }
         ensures device { IfErr result (λ e. e.0 ≡ faults.Rows RowFault.Device → IsCounted (R.failed rows) (R.failed e.1)) }
         ensures fault { IfErr result (λ e. CannotOpen e.0) }
@@ -57,9 +58,10 @@ impl<R: RowStore> Keeper<R> {
     /// Opens the node again from its rows: a restart, also of a node that runs. After a fault it is down.
     pub fn reopen(&mut self) -> Result<(), KeeperFault>
         ensures place { (node_of self.new).place ≡ (node_of self.old).place }
+        ensures homes { (node_of self.new).homes ≡ (node_of self.old).homes }
         ensures ok { R.is_clean (rows_of self.new) → R.is_open (rows_of self.old)
-            → OnOk result (R.is_open (rows_of self.new) × Opens (node_of self.old).place (R.content (rows_of self.old)) (R.content (rows_of self.new)) (node_of self.new)) }
-        ensures down { OnErr result ((node_of self.new).up ≡ None) }
+            → OnOk result (R.is_open (rows_of self.new) × Opens (node_of self.old).place (node_of self.old).homes (R.content (rows_of self.old)) (R.content (rows_of self.new)) (node_of self.new)) }
+        ensures down { OnErr result ((node_of self.new) ≡ record (node_of self.old) { up = None }) }
         ensures err { R.is_clean (rows_of self.new) → R.is_open (rows_of self.new)
             → OnErr result (may_be_marked (node_of self.old).place.id (R.content (rows_of self.old)) (R.content (rows_of self.new))) }
         ensures bad { R.is_clean (rows_of self.new) → R.is_open (rows_of self.old) → IsErrOf result (faults.Rows RowFault.BadRow)
@@ -70,6 +72,7 @@ impl<R: RowStore> Keeper<R> {
         ensures fault { IfErr result CannotOpen }
     {
         self.node.stop();
+        self.node.has_place();
         let Ok(homes) = self.node.homes().copy() else {
             return Err(KeeperFault::NoMemory);
         };
@@ -86,6 +89,7 @@ impl<R: RowStore> Keeper<R> {
     /// the rows can't be changed nothing is, and the node has stopped.
     pub fn handle(&mut self, event: &Event) -> Result<Vec<Output>, KeeperFault>
         ensures place { (node_of self.new).place ≡ (node_of self.old).place }
+        ensures homes { (node_of self.new).homes ≡ (node_of self.old).homes }
         ensures stopped { (node_of self.old).up ≡ None → (result ≡ Err faults.Stopped) × ((node_of self.new) ≡ (node_of self.old)) × ((rows_of self.new) ≡ (rows_of self.old)) }
         ensures ok { R.is_clean (rows_of self.new) → R.is_open (rows_of self.old)
             → IfOk result (λ outputs. R.is_open (rows_of self.new) × Commits (node_of self.old) (R.content (rows_of self.old)) event.now outputs.items (node_of self.new) (R.content (rows_of self.new))) }
@@ -93,7 +97,7 @@ impl<R: RowStore> Keeper<R> {
         ensures idle { (h : HeldView) → (node_of self.old).up ≡ Some h → event.now.at < 2 ^ 62 → IsIdle (node_of self.old).place h event.now → Rests result × ((rows_of self.new) ≡ (rows_of self.old)) }
         ensures end { is_some (node_of self.old).up ≡ true → 2 ^ 62 ≤ event.now.at → result ≡ Err faults.NumbersAtEnd }
         ensures exactly { IsAtEnd (node_of self.old) event.now → ¬ IsOk result }
-        ensures down { OnErr result ((node_of self.new).up ≡ None) }
+        ensures down { OnErr result ((node_of self.new) ≡ record (node_of self.old) { up = None }) }
         ensures err { R.is_clean (rows_of self.new) → R.is_open (rows_of self.new) → OnErr result (R.content (rows_of self.new) ≡ R.content (rows_of self.old)) }
         ensures kept { IfErr result (KeepsRows (rows_of self.old) (rows_of self.new)) }
         ensures crash { R.is_clean (rows_of self.new) → R.is_open (rows_of self.old) → (c : Content) → R.may_leave (rows_of self.new) c → MayBeLeft (node_of self.old) (R.content (rows_of self.old)) event.now c }

@@ -4,6 +4,7 @@ ghost use Rattle.std.specs.Prelude.{◌≡◌, ◌≢◌, ◌<◌, ◌⊎◌, le
 ghost use Rattle.std.specs.FinMap.{entries, insert};
 ghost use Rattle.node_keeper.specs.Keeping.{AreOfNone, IsCounted, Opens, are_raised, given_mark, may_be_raised, may_be_marked};
 ghost use Rattle.node_rows.specs.Rows.{mark, mark_key};
+ghost use Rattle.node_work.specs.View.{place_of};
 ghost use Rattle.row_store.specs.Rows.{Content, entry_of};
 
 use broker_node::Node;
@@ -82,11 +83,12 @@ pub fn wake<R: RowStore>(
     id: u16,
 ) -> Result<Node, RowFault>
     requires { id < length homes.nodes }
-    ensures place { IfOk result (λ n. n.place ≡ record { id = id; homes = homes }) }
+    ensures place { IfOk result (λ n. n.place ≡ place_of id homes) }
+    ensures homes { IfOk result (λ n. n.homes ≡ homes) }
     ensures ok { R.is_clean rows.new → R.is_open rows.old
-        → IfOk result (λ n. R.is_open rows.new × Opens (record { id = id; homes = homes }) (R.content rows.old) (R.content rows.new) n) }
+        → IfOk result (λ n. R.is_open rows.new × Opens (place_of id homes) homes (R.content rows.old) (R.content rows.new) n) }
     ensures err { R.is_clean rows.new → R.is_open rows.new → OnErr result (may_be_marked id (R.content rows.old) (R.content rows.new)) }
-    ensures bad { R.is_clean rows.new → R.is_open rows.old → IsErrOf result RowFault.BadRow → AreOfNone (record { id = id; homes = homes }) (R.content rows.new) }
+    ensures bad { R.is_clean rows.new → R.is_open rows.old → IsErrOf result RowFault.BadRow → AreOfNone (place_of id homes) (R.content rows.new) }
     ensures crash { R.is_clean rows.new → R.is_open rows.old → (c : Content) → R.may_leave rows.new c → may_be_raised id (R.content rows.old) c }
     ensures device { IsErrOf result RowFault.Device → IsCounted (R.failed rows.old) (R.failed rows.new) }
 {

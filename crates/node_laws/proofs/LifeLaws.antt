@@ -15,7 +15,7 @@ use Rattle.node_work.specs.Held.Bridge.{BridgeAct, Put, Took, Got, Believed, Gav
 use Rattle.node_work.specs.Held.Sessions.{SessionAct, SessionStep, Begun, Called, Over, MayCall, called}
 use Rattle.node_work.specs.Lasting.{lasting, IsWoken}
 use Rattle.node_rows.specs.Sessions.{opened_seat}
-use Rattle.node_work.specs.View.{Place, HeldView, fresh, nodes_of}
+use Rattle.node_work.specs.View.{Place, HeldView, fresh}
 use Rattle.node_laws.specs.Moves.{Move, Did, Lost, Becomes, Moves}
 use Rattle.node_laws.specs.Lives.{is_client, step_in, after_call, after_act, lost_step, after_move, life, IsLived, MovesAreLives, FreshIsLived, SessionsAreRuns}
 
@@ -87,7 +87,7 @@ lived_act p h (Passed m copies lost routes) lives may lived = lived
 lived_act p h Dropped lives may lived = lived
 
 -- each session that is there after a loss was there before
-lived_lost : (h h' : HeldView) (lives : List ℕ → List Step) → IsWoken (lasting h) h' → IsLived lives h → IsLived (λ client. lives client ++ lost_step ∷ []) h'
+lived_lost : (h h' : HeldView) (lives : List ℕ → List Step) → IsWoken h.homes (lasting h) h' → IsLived lives h → IsLived (λ client. lives client ++ lost_step ∷ []) h'
 lived_lost h h' lives woken lived client seat is =
     again (map.get h.sessions client) refl (sym (woken.1 client) ∙ subst (λ (v : HeldView). map.get v.sessions client ≡ Some seat) woken.2 is)
   where
@@ -111,7 +111,7 @@ moves_are_lives = λ p h h' moves lives all lived. go p moves h h' lives all liv
         go p moves all.0 h' (λ client. after_move client m (lives client)) all.2 (lived_move p h m all.0 lives all.1 lived)
 
 pub fresh_is_lived : FreshIsLived
-fresh_is_lived = λ nodes client seat is. absurd (no_seat seat (sym (map.get-empty {X = Seat} (slice_cmp nat_cmp) client) ∙ is))
+fresh_is_lived = λ homes client seat is. absurd (no_seat seat (sym (map.get-empty {X = Seat} (slice_cmp nat_cmp) client) ∙ is))
 
 pub sessions_are_runs : SessionsAreRuns
-sessions_are_runs = λ p h moves all. moves_are_lives p (fresh (nodes_of p)) h moves (λ client. []) all (fresh_is_lived (nodes_of p))
+sessions_are_runs = λ p homes h moves all. moves_are_lives p (fresh homes) h moves (λ client. []) all (fresh_is_lived homes)

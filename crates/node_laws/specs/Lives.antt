@@ -3,13 +3,14 @@ use Rattle.std.specs.Prelude.{◌≡◌, ℕ, Bool, cond, List, [], ◌∷◌, �
 use Rattle.std.specs.Cmp.Lexicographic.{slice_cmp}
 use Rattle.std.specs.FinMap as map
 use Rattle.std.specs.Ordering.{eq_by_cmp, nat_cmp}
+use Rattle.home_table.specs.Table.{Table}
 use Rattle.mqtt_sessions.specs.Reaction.{nothing}
 use Rattle.mqtt_sessions.specs.State.{new_session}
 use Rattle.session_laws.specs.Runs.{Step, Run, loses}
 use Rattle.session_table.specs.Seats.{Seat}
 use Rattle.node_work.specs.Acts.{Act, Moment, Began, Store, Connection, Session, Bridge, Out, Named, Acknowledged, Passed, Dropped}
 use Rattle.node_work.specs.Held.Sessions.{SessionAct, SessionStep, Begun, Called, Over}
-use Rattle.node_work.specs.View.{Place, HeldView, fresh, nodes_of}
+use Rattle.node_work.specs.View.{Place, HeldView, fresh}
 use Rattle.node_laws.specs.Moves.{Move, Did, Lost, Moves}
 
 -- clients are told apart by the bytes of their identifiers
@@ -60,9 +61,9 @@ abbrev pub MovesAreLives : Type 0
 MovesAreLives = (p : Place) (h h' : HeldView) (moves : List Move) (lives : List ℕ → List Step) → Moves p h moves h' → IsLived lives h → IsLived (λ client. life client moves (lives client)) h'
 
 abbrev pub FreshIsLived : Type 0
-FreshIsLived = (nodes : ℕ) → IsLived (λ client. []) (fresh nodes)
+FreshIsLived = (homes : Table) → IsLived (λ client. []) (fresh homes)
 
 abbrev pub SessionsAreRuns : Type 0
 SessionsAreRuns =
-    (p : Place) (h : HeldView) (moves : List Move) → Moves p (fresh (nodes_of p)) moves h → (client : List ℕ) (seat : Seat) → map.get h.sessions client ≡ Some seat
+    (p : Place) (homes : Table) (h : HeldView) (moves : List Move) → Moves p (fresh homes) moves h → (client : List ℕ) (seat : Seat) → map.get h.sessions client ≡ Some seat
     → Run (new_session client) (life client moves []) seat.session

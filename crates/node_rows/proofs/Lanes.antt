@@ -114,7 +114,7 @@ same_messages p n (m ∷ ms) (o ∷ ns) fit also same =
 
 same_lane : (p : ℕ) (a b : Messages) → IsLane a → IsLane b → waiting_of p a ≡ waiting_of p b → numbers_of p a ≡ numbers_of p b → a ≡ b
 same_lane p a b is also waiting numbers =
-    let pair = one_pair p (last_put a) a.took (last_put b) b.took (omega (arith, is.below)) is.took (omega (arith, also.below)) also.took numbers in
+    let pair = one_pair p (last_put a) a.took (last_put b) b.took (omega (arith, is.below)) (omega (arith, is.took)) (omega (arith, also.below)) (omega (arith, also.took)) numbers in
     let count : length a.waiting ≡ length b.waiting = sym (count_rows p (suc a.gone) a.waiting) ∙ ap length waiting ∙ count_rows p (suc b.gone) b.waiting in
     let gone : a.gone ≡ b.gone = omega (arith, pair.0, count) in
     let messages = same_messages p (suc b.gone) a.waiting b.waiting is.spelled also.spelled (ap (λ n. message_rows p (suc n) a.waiting) (sym gone) ∙ waiting) in

@@ -23,7 +23,7 @@ fn stamps_among(nodes: u16, retained: &RetainedMap) -> bool
     ensures { IsTrue result ↔ AllByRecursion (λ e. e.1.stamp.node < nodes) (map.entries retained.now) }
 {
     for (_, kept) in retained.entries() {
-        if kept.stamp.node >= nodes {
+        if kept.stamp.node() >= nodes {
             return false;
         }
     }

@@ -1,12 +1,12 @@
 //! Three events that change rows, whose changes are made at once: a client connects, subscribes and publishes.
 ghost use Rattle.std.specs.Prelude.{◌<◌, length};
 
-use crate::refusing::RefusingRows;
 use broker_node::{Event, EventKind};
 use home_table::HomeTable;
 use mqtt_packets::Bytes;
 use node_batches::BatchKeeper;
 use node_keeper::{Keeper, KeeperFault};
+use refusing_rows::RefusingRows;
 use row_store::{MemoryRows, RowFault};
 use std::alloc::Global;
 use std::process::Abort;
@@ -106,10 +106,17 @@ fn rows_that_refuse_a_commit_stop_the_node_and_stay(rt: HostRuntime) {
 }
 
 #[test]
-fn a_crash_before_the_commit_leaves_nothing_of_the_events(rt: HostRuntime) {
+fn a_crash_leaves_nothing_or_all_of_the_events(rt: HostRuntime) {
     let alloc = rt.alloc();
-    let mut batch = decided(&rt, alloc, 0);
-    batch.crash();
-    assert!(rt; batch.commit() == Ok(()));
-    assert_eq!(rt; left(&rt, alloc, batch), (1, (0, 0)));
+    // before the commit, and after it
+    for (commits, end) in [(0, (1, (0, 0))), (1, (2, (1, 1)))] {
+        let mut batch = decided(&rt, alloc, 0);
+        for _ in 0..commits {
+            assert!(rt; batch.commit() == Ok(()));
+        }
+        batch.crash();
+        assert!(rt; !batch.node().is_up());
+        assert!(rt; batch.commit() == Ok(()));
+        assert_eq!(rt; left(&rt, alloc, batch), end, "{commits} commits");
+    }
 }

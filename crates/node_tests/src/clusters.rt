@@ -11,8 +11,8 @@ use std::process::Abort;
 
 /// CONNACK of connection 2 or 3, whose session was there.
 const CONTINUED: [&str; 2] = [
-    "sent 1 2 200b0100082100642700100000\n",
-    "sent 1 3 200b0100082100642700100000\n",
+    "sent 1 2 200e01000b2100642200102700100000\n",
+    "sent 1 3 200e01000b2100642200102700100000\n",
 ];
 
 /// Why there is no cluster by so many tables for this number of nodes, and one more for another number.
@@ -65,7 +65,7 @@ fn crashed_twice(rt: &impl Abort, alloc: Global) -> Cluster {
     happen(rt, alloc, &mut cluster, 1, EventKind::Started, "");
     let opened = EventKind::Opened { connection: 1 };
     happen(rt, alloc, &mut cluster, 1, opened, "");
-    let accepted = "sent 1 1 200b0000082100642700100000\n";
+    let accepted = "sent 1 1 200e00000b2100642200102700100000\n";
     send(rt, alloc, &mut cluster, 1, ANEW, accepted);
     let event = piece(rt, alloc, 1, SUBSCRIBE);
     let before = Step::CrashBefore { node: 1, event };

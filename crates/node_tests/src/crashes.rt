@@ -17,7 +17,7 @@ fn shipped(rt: &impl Abort, alloc: Global) -> Cluster {
     }
     let opened = EventKind::Opened { connection: 1 };
     happen(rt, alloc, &mut cluster, 1, opened, "");
-    let accepted = "sent 1 1 200b0000082100642700100000\n";
+    let accepted = "sent 1 1 200e00000b2100642200102700100000\n";
     send(rt, alloc, &mut cluster, 1, CONNECT, accepted);
     send(rt, alloc, &mut cluster, 1, ON, "");
     let ship = EventKind::Ship { peer: 0 };

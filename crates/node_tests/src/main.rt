@@ -20,9 +20,9 @@ mod playing;
 #[cfg(test)]
 mod refusals;
 #[cfg(test)]
-mod refusing;
-#[cfg(test)]
 mod retained;
+#[cfg(test)]
+mod tables;
 #[cfg(test)]
 mod trial;
 #[cfg(test)]

@@ -1,11 +1,11 @@
 //! A client's path at a node whose rows refuse one call.
 
 use crate::packets::{AGAIN, SUBSCRIBE};
-use crate::refusing::RefusingRows;
 use broker_node::{Event, EventKind};
 use mqtt_packets::Bytes;
 use node_keeper::{Keeper, KeeperFault};
 use numbered_homes::homes_of;
+use refusing_rows::RefusingRows;
 use row_store::{MemoryRows, RowFault};
 use std::alloc::Global;
 use std::process::Abort;

@@ -1,8 +1,8 @@
 //! Rows of node 1 in version 1, in version 2, and in none.
 
-use crate::refusing::RefusingRows;
 use node_keeper::{Keeper, KeeperFault};
 use numbered_homes::homes_of;
+use refusing_rows::RefusingRows;
 use row_store::{Change, MemoryRows, Row, RowFault, RowStore};
 use std::alloc::Global;
 use std::process::Abort;

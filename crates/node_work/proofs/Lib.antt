@@ -1,5 +1,6 @@
 pub mod Bridging
 pub mod Calling
+pub mod Homes
 pub mod Making
 pub mod Spelled
 pub mod Storing

@@ -1,12 +1,12 @@
 -- What a node does in a step: a list of acts, each of which is one small step of what the node holds. An act says where it
 -- may stand (Allowed), and what it leaves (next).
-use Rattle.std.specs.Prelude.{◌≡◌, ℕ, ◌+◌, ◌<◌, ◌^◌, max, cond, true, List, [], ◌∷◌, ◌++◌, map as map_list, flat_map, Option, Some}
+use Rattle.std.specs.Prelude.{◌≡◌, ◌⊎◌, ℕ, ◌+◌, ◌<◌, ◌^◌, max, cond, true, List, [], ◌∷◌, ◌++◌, map as map_list, flat_map, Option, Some}
 use Rattle.std.specs.FinMap as map
 use Rattle.mqtt_message.specs.declared.delivery.Delivery.{Delivery}
 use Rattle.mqtt_message.specs.declared.message.Message.{Message}
 use Rattle.replica_store.specs.declared.operation.Operation.{Operation}
 use Rattle.replica_store.specs.declared.operation.Operation.TheVariants.{Subscribe, Remove, Put}
-use Rattle.replica_store.specs.Making.{NumberAtEnd, CountAtEnd, subscribe_of, remove_of, put_of}
+use Rattle.replica_store.specs.Making.{NumberAtEnd, CountAtEnd, subscribe_of, remove_of, remove_below_of, put_of}
 use Rattle.replica_store.specs.States.{State, state_join}
 use Rattle.replica_store.specs.StateOf.{delta_of}
 use Rattle.node_work.specs.declared.granted.Granted.{Granted}
@@ -44,15 +44,21 @@ pub data Act : Type 0 where
   Passed : (m : Message) (copies : List Copy) (lost : ℕ) (routes : List (ℕ × Route)) → Act
   Dropped : Act
 
--- the next operation of the node, looking at what was taken before it; a subscription is made under version 0 of the table
-abbrev pub IsMade : ℕ → State → Operation → Type 0
-IsMade id s (Subscribe dot entry cover) = (¬ NumberAtEnd id s) × (Subscribe dot entry cover ≡ subscribe_of id entry s) × (entry.version ≡ 0)
-IsMade id s (Remove dot cover) = (¬ NumberAtEnd id s) × ((client : List ℕ) × (to : Option (List ℕ)) × (Some (Remove dot cover) ≡ remove_of id client to s))
-IsMade id s (Put dot stamp content) = (¬ NumberAtEnd id s) × (¬ CountAtEnd s) × (Put dot stamp content ≡ put_of id content s)
+-- a Remove takes what stands of a client, or of a client to a filter, or of a client and under a version below one
+abbrev pub IsRemove : ℕ → State → Operation → Type 0
+IsRemove id s o =
+    ((client : List ℕ) × (to : Option (List ℕ)) × (Some o ≡ remove_of id client to s))
+    ⊎ ((client : List ℕ) × (version : ℕ) × (Some o ≡ remove_below_of id client version s))
 
-abbrev pub MayStore : ℕ → State → StoreAct → Type 0
-MayStore id s (Made o) = IsMade id s o
-MayStore id s (Merged t) = Unit {0}
+-- the next operation of the node, looking at what was taken before it; a subscription is made under the version of its table of homes
+abbrev pub IsMade : ℕ → ℕ → State → Operation → Type 0
+IsMade id version s (Subscribe dot entry cover) = (¬ NumberAtEnd id s) × (Subscribe dot entry cover ≡ subscribe_of id entry s) × (entry.version ≡ version)
+IsMade id version s (Remove dot cover) = (¬ NumberAtEnd id s) × IsRemove id s (Remove dot cover)
+IsMade id version s (Put dot stamp content) = (¬ NumberAtEnd id s) × (¬ CountAtEnd s) × (Put dot stamp content ≡ put_of id content s)
+
+abbrev pub MayStore : ℕ → ℕ → State → StoreAct → Type 0
+MayStore id version s (Made o) = IsMade id version s o
+MayStore id version s (Merged t) = Unit {0}
 
 -- what is joined to the state
 abbrev pub delta_in : StoreAct → State
@@ -76,7 +82,7 @@ AreAnswers h at grants offers = (at ≡ h.at) × AreOffered h.at (map.entries h.
 abbrev pub Allowed : Place → HeldView → Act → Type 0
 Allowed p h (Moment at) = Unit {0}
 Allowed p h Began = Unit {0}
-Allowed p h (Store a) = MayStore p.id h.store a
+Allowed p h (Store a) = MayStore p.id h.homes.version h.store a
 Allowed p h (Connection a) = MayConnect h a
 Allowed p h (Session a) = MayCall h a
 Allowed p h (Bridge a) = MayBridge p h a

@@ -18,12 +18,12 @@ use Rattle.mqtt_sessions.specs.Answers.{disconnect}
 use Rattle.replica_store.specs.declared.content.Content.{Content}
 use Rattle.replica_store.specs.Making.{put_of, subscribe_of}
 use Rattle.subscription_set.specs.declared.entry.Entry.{Entry}
-use Rattle.subscription_set.specs.Standing.{any_of}
+use Rattle.subscription_set.specs.Standing.{any_of, any_below}
 use Rattle.node_work.specs.declared.outcome.Output.TheVariants.{Send}
 use Rattle.node_work.specs.Acts.{Moment, Store, Made, Connection, Bridge, Out}
 use Rattle.node_work.specs.Held.Bridge.{Put, Gave, Left_out}
 use Rattle.node_work.specs.Held.Connections.{Opened, is_open}
-use Rattle.node_work.specs.Held.Making.{number_at_end, put_at_end, removal}
+use Rattle.node_work.specs.Held.Making.{number_at_end, put_at_end, removal, removal_below}
 use Rattle.node_work.specs.Held.Sessions.{takes_disconnect}
 use Rattle.node_work.specs.Working.{Doing, Returns, Stops, Acting, Numbered, Looks, If, Then}
 
@@ -51,6 +51,15 @@ abbrev pub Removes : List ℕ → Option (List ℕ) → Option Bool → Doing
 Removes client to =
     Looks (λ p h. any_of client to h.store.subscriptions)
     (λ stands. If stands (Then (MakesRemove client to) (λ _. Returns true)) (Returns false))
+
+-- the same of what stands of the client and was made under a version of the table of homes below one
+abbrev pub MakesRemoveBelow : List ℕ → ℕ → Option (Unit {0}) → Doing
+MakesRemoveBelow client version = Numbered (λ p h. number_at_end p.id h) (λ p h. Store (Made (removal_below p.id client version h.store)))
+
+abbrev pub RemovesBelow : List ℕ → ℕ → Option Bool → Doing
+RemovesBelow client version =
+    Looks (λ p h. any_below client version h.store.subscriptions)
+    (λ stands. If stands (Then (MakesRemoveBelow client version) (λ _. Returns true)) (Returns false))
 
 -- ---- one packet: its shortest spelling is sent
 abbrev pub Sends : ℕ → Packet → Option (Unit {0}) → Doing

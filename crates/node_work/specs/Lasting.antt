@@ -3,6 +3,7 @@ use Rattle.std.specs.Prelude.{◌≡◌, ◌==◌, ◌||◌, ◌<◌, ◌^◌, �
 use Rattle.std.specs.FinMap as map
 use Rattle.bridge_deltas.specs.Links.{LinksView, opened_links}
 use Rattle.bridge_frames.specs.declared.forward.Forward.{Forward}
+use Rattle.home_table.specs.Table.{Table}
 use Rattle.lane_rows.specs.Reading.{AreLanes}
 use Rattle.message_lanes.specs.Lanes.{Lanes}
 use Rattle.mqtt_sessions.specs.Saved.{durable_of}
@@ -34,9 +35,9 @@ pub record CanLast (h : HeldView) : Type 0 where
   pub store : IsStore h.store
   pub lanes : AreLanes (length h.bridge.lanes) h.bridge.lanes
 
--- a node that was just opened holds what lasts of it, each session on no connection
-abbrev pub IsWoken : Lasting → HeldView → Type 0
-IsWoken x h = (seats : Seats) × AreOpened x seats × (h ≡ woken x.named seats x.store x.lanes)
+-- a node that was just opened holds its table of homes and what lasts of it, each session on no connection
+abbrev pub IsWoken : Table → Lasting → HeldView → Type 0
+IsWoken homes x h = (seats : Seats) × AreOpened x seats × (h ≡ woken homes x.named seats x.store x.lanes)
 
 -- what a node keeps for its peers is as it is opened with these lanes
 abbrev pub AreOpenedWith : LinksView → Lanes Forward → Type 0

@@ -15,26 +15,31 @@ use Rattle.node_work.specs.declared.counts.Counts.{Counts}
 use Rattle.row_store.specs.declared.row.Change.{Change}
 use Rattle.node_work.specs.declared.outcome.Output.{Output}
 
--- where a node stands in its cluster: its number, and the table of homes
+-- where a node stands in its cluster: its number, and how many nodes there are
 pub record Place : Type 0 where
   pub id : ℕ
-  pub homes : Table
+  pub nodes : ℕ
 
 -- how many nodes the cluster has
 abbrev pub nodes_of : Place → ℕ
-nodes_of p = length p.homes.nodes
+nodes_of p = p.nodes
+
+-- that of a node with this number and this table of homes
+abbrev pub place_of : ℕ → Table → Place
+place_of id homes = record { id = id; nodes = length homes.nodes }
 
 -- a connection: what its framer holds, and its client once that is accepted
 pub record ConnectionView : Type 0 where
   pub stream : Held
   pub client : Option (List ℕ)
 
--- what a running node holds: the greatest moment that it was handed, whether it has started, the replicated state, the open
--- connections by their numbers, the sessions by their clients, what it keeps for the other nodes, how many messages it has passed
--- on, the number of the last client identifier that it gave, and its counts
+-- what a running node holds: the greatest moment that it was handed, whether it has started, its table of homes, the replicated
+-- state, the open connections by their numbers, the sessions by their clients, what it keeps for the other nodes, how many messages
+-- it has passed on, the number of the last client identifier that it gave, and its counts
 pub record HeldView : Type 0 where
   pub at : ℕ
   pub started : Bool
+  pub homes : Table
   pub store : State
   pub connections : FinMap nat_cmp ConnectionView
   pub sessions : Seats
@@ -50,25 +55,26 @@ pub record WorkView : Type 0 where
   pub outputs : List Output
   pub changes : List Change
 
--- a node: its place, and what it holds while it runs
+-- a node: its place, the table of homes that it is opened with again, and what it holds while it runs
 pub record NodeView : Type 0 where
   pub place : Place
+  pub homes : Table
   pub up : Option HeldView
 
 abbrev pub no_counts : Counts
 no_counts = record { queue_full = 0; retained_full = 0; picks_lost = 0; lane_full = 0; bad_frames = 0; frames_too_large = 0 }
 
--- a node that was just opened, with what lasts of it
-abbrev pub woken : ℕ → Seats → State → Lanes Forward → HeldView
-woken named sessions store lanes =
-    record { at = 0; started = false; store = store; connections = map.empty; sessions = sessions; bridge = woken_bridge lanes; turn = 0; named = named; counts = no_counts }
+-- a node that was just opened, with a table of homes and what lasts of it
+abbrev pub woken : Table → ℕ → Seats → State → Lanes Forward → HeldView
+woken homes named sessions store lanes =
+    record { at = 0; started = false; homes = homes; store = store; connections = map.empty; sessions = sessions; bridge = woken_bridge lanes; turn = 0; named = named; counts = no_counts }
 
--- a new one, in a cluster of so many nodes
-abbrev pub fresh : ℕ → HeldView
-fresh nodes = woken 0 map.empty nothing (new_lanes nodes)
+-- a new one, with a table of homes
+abbrev pub fresh : Table → HeldView
+fresh homes = woken homes 0 map.empty nothing (new_lanes (length homes.nodes))
 
-abbrev pub opened : Place → NodeView
-opened place = record { place = place; up = Some (fresh (nodes_of place)) }
+abbrev pub opened : ℕ → Table → NodeView
+opened id homes = record { place = place_of id homes; homes = homes; up = Some (fresh homes) }
 
 -- nothing is said of what a node holds once it has stopped
 abbrev pub up_of : Bool → HeldView → Option HeldView
@@ -76,7 +82,7 @@ up_of stopped h = cond stopped None (Some h)
 
 -- each is stored as its parts
 abbrev pub coded_place : Coded Place
-coded_place = code_by (ℕ × Table) (coded× coded_ℕ coded_table) (λ p. (p.id, p.homes)) (λ p. record { id = p.0; homes = p.1 }) (λ _. refl)
+coded_place = code_by (ℕ × ℕ) (coded× coded_ℕ coded_ℕ) (λ p. (p.id, p.nodes)) (λ p. record { id = p.0; nodes = p.1 }) (λ _. refl)
 
 abbrev pub coded_stream : Coded Held
 coded_stream = code_by (ℕ × (List ℕ × Bool)) (coded× coded_ℕ (coded× (coded_list coded_ℕ) coded_bool)) (λ s. (s.limit, (s.rest, s.failed))) (λ p. record { limit = p.0; rest = p.1.0; failed = p.1.1 }) (λ _. refl)
@@ -92,10 +98,10 @@ coded_counts =
 
 abbrev pub coded_held : Coded HeldView
 coded_held =
-    code_by (ℕ × (Bool × (State × (FinMap nat_cmp ConnectionView × (Seats × (BridgeView × (ℕ × (ℕ × Counts))))))))
-    (coded× coded_ℕ (coded× coded_bool (coded× coded_state (coded× (map.code coded_ℕ coded_connection) (coded× coded_seats (coded× coded_bridge (coded× coded_ℕ (coded× coded_ℕ coded_counts))))))))
-    (λ h. (h.at, (h.started, (h.store, (h.connections, (h.sessions, (h.bridge, (h.turn, (h.named, h.counts)))))))))
-    (λ p. record { at = p.0; started = p.1.0; store = p.1.1.0; connections = p.1.1.1.0; sessions = p.1.1.1.1.0; bridge = p.1.1.1.1.1.0; turn = p.1.1.1.1.1.1.0; named = p.1.1.1.1.1.1.1.0; counts = p.1.1.1.1.1.1.1.1 }) (λ _. refl)
+    code_by (ℕ × (Bool × (Table × (State × (FinMap nat_cmp ConnectionView × (Seats × (BridgeView × (ℕ × (ℕ × Counts)))))))))
+    (coded× coded_ℕ (coded× coded_bool (coded× coded_table (coded× coded_state (coded× (map.code coded_ℕ coded_connection) (coded× coded_seats (coded× coded_bridge (coded× coded_ℕ (coded× coded_ℕ coded_counts)))))))))
+    (λ h. (h.at, (h.started, (h.homes, (h.store, (h.connections, (h.sessions, (h.bridge, (h.turn, (h.named, h.counts))))))))))
+    (λ p. record { at = p.0; started = p.1.0; homes = p.1.1.0; store = p.1.1.1.0; connections = p.1.1.1.1.0; sessions = p.1.1.1.1.1.0; bridge = p.1.1.1.1.1.1.0; turn = p.1.1.1.1.1.1.1.0; named = p.1.1.1.1.1.1.1.1.0; counts = p.1.1.1.1.1.1.1.1.1 }) (λ _. refl)
 
 abbrev pub coded_node : Coded NodeView
-coded_node = code_by (Place × Option HeldView) (coded× coded_place (coded_option coded_held)) (λ n. (n.place, n.up)) (λ p. record { place = p.0; up = p.1 }) (λ _. refl)
+coded_node = code_by (Place × (Table × Option HeldView)) (coded× coded_place (coded× coded_table (coded_option coded_held))) (λ n. (n.place, (n.homes, n.up))) (λ p. record { place = p.0; homes = p.1.0; up = p.1.1 }) (λ _. refl)

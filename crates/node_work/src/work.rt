@@ -11,10 +11,10 @@ ghost use Rattle.mqtt_sessions.specs.State.{IsPublishableIf};
 ghost use Rattle.mqtt_sessions.specs.Reaction.{packet_of};
 ghost use Rattle.mqtt_sessions.specs.Reaction as reactions;
 ghost use Rattle.session_laws.specs.Runs.{connects, queues, takes, answers, closes, ticks, finishes};
-ghost use Rattle.subscription_set.specs.Standing.{any_of};
+ghost use Rattle.subscription_set.specs.Standing.{any_of, any_below};
 ghost use Rattle.node_work.specs.Acts.{Began, Connection, Store, Merged, Session, Out, Named, Acknowledged, Passed, Dropped, AreAnswers};
 ghost use Rattle.node_work.specs.Calling.{Calls};
-ghost use Rattle.node_work.specs.Doings.{TakesMoment, Opens, MakesPut, MakesSubscribe, Removes, Sends, Disconnects};
+ghost use Rattle.node_work.specs.Doings.{TakesMoment, Opens, MakesPut, MakesSubscribe, Removes, RemovesBelow, Sends, Disconnects};
 ghost use Rattle.mqtt_sessions.specs.Answers.{fits};
 ghost use Rattle.node_work.specs.Held.Calling.{MayConnectHere, MayAnswer, Reacted};
 ghost use Rattle.mqtt_sessions.specs.Reaction.{AreSpelled};
@@ -32,7 +32,7 @@ ghost use Rattle.node_work.specs.Lasting.{AreOpenedWith, CanLast};
 ghost use Rattle.bridge_frames.specs.declared.forward.Forward.{Forward};
 ghost use Rattle.message_lanes.specs.Lanes.{Lanes};
 ghost use Rattle.message_routes.specs.declared.destinations.Route.{Route};
-ghost use Rattle.node_work.specs.View.{HeldView, Place, woken};
+ghost use Rattle.node_work.specs.View.{HeldView, place_of, woken};
 ghost use Rattle.node_work.specs.Working.{Comes, Acting, Numbered, Returns, If};
 ghost use Rattle.node_work.specs.declared.granted.Granted.{Granted};
 ghost use Rattle.node_work.specs.declared.fault.NodeFault.TheVariants.{NoMemory, NumbersAtEnd};
@@ -63,7 +63,7 @@ const SESSION: u8 = 2;
 pub struct Work {
     alloc: Global,
     id: u16,
-    homes: HomeTable,
+    nodes: u16,
     held: Held,
     outputs: Vec<Output>,
 
@@ -76,7 +76,7 @@ impl Drop for Work {
         let Work {
             alloc: _alloc,
             id: _id,
-            homes: _homes,
+            nodes: _nodes,
             held: _held,
             outputs: _outputs,
             changes: _changes,
@@ -98,7 +98,7 @@ impl Model for Work {
     ghost coded = { code_by (Place × (HeldView × (List Output × List Change))) (coded× coded_place (coded× coded_held (coded× (coded_list output.the_row.coded) (coded_list change.the_row.coded))))
         (λ w. (w.place, (w.held, (w.outputs, w.changes)))) (λ p. record { place = p.0; held = p.1.0; outputs = p.1.1.0; changes = p.1.1.1 }) (λ _. refl) };
 
-    ghost view = { λ w. record { place = record { id = w.id; homes = w.homes }; held = w.held; outputs = w.outputs.items; changes = w.changes.items } };
+    ghost view = { λ w. record { place = record { id = w.id; nodes = w.nodes }; held = w.held; outputs = w.outputs.items; changes = w.changes.items } };
 }
 
 /// A reaction that says nothing.
@@ -121,13 +121,13 @@ impl Work {
         requires store { IsStore opened.store }
         requires lanes { (lanes : Lanes Forward) × AreOpenedWith opened.links lanes }
         ensures { (lanes : Lanes Forward) → AreOpenedWith opened.links lanes
-            → result ≡ record { place = record { id = id; homes = homes }; held = woken opened.named opened.sessions opened.store lanes; outputs = []; changes = [] } }
+            → result ≡ record { place = place_of id homes; held = woken homes opened.named opened.sessions opened.store lanes; outputs = []; changes = [] } }
     {
         Work {
             alloc,
             id,
-            homes,
-            held: Held::wake(alloc, opened),
+            nodes: homes.nodes(),
+            held: Held::wake(alloc, homes, opened),
             outputs: Vec::new(alloc),
             changes: Vec::new(alloc),
         }
@@ -143,11 +143,18 @@ impl Work {
         self.id
     }
 
+    /// How many nodes the cluster has.
+    pub fn nodes(&self) -> u16
+        ensures { result ≡ self.now.place.nodes }
+    {
+        self.nodes
+    }
+
     /// The table of homes.
     pub fn homes(&self) -> &HomeTable
-        ensures { result.now ≡ self.now.place.homes }
+        ensures { result.now ≡ self.now.held.homes }
     {
-        &self.homes
+        self.held.homes()
     }
 
     pub fn held(&self) -> &Held
@@ -212,9 +219,9 @@ impl Work {
         Ok(())
     }
 
-    /// Makes a Subscribe of the entry, and takes it.
+    /// Makes a Subscribe of the entry, which is made under the version of the table of homes, and takes it.
     pub fn subscribe(&mut self, entry: Entry) -> Result<(), NodeFault>
-        requires { entry.version ≡ 0 }
+        requires { entry.version ≡ self.old.held.homes.version }
         ensures { Comes (λ x. x) result self.old self.new (MakesSubscribe entry) }
     {
         self.held
@@ -233,6 +240,21 @@ impl Work {
         }
         self.held
             .remove(self.alloc, self.id, client, filter, &mut self.changes)?;
+        Ok(true)
+    }
+
+    /// Makes a Remove of what stands of the client and was made under a version of the table of homes
+    /// below this one, and takes it; or makes none where nothing does, and then takes no memory.
+    /// Answers whether something did.
+    pub fn remove_below(&mut self, client: &Text, version: u64) -> Result<bool, NodeFault>
+        ensures comes { Comes (λ x. x) result self.old self.new (RemovesBelow client.now version) }
+        ensures none { any_below client.now version self.old.held.store.subscriptions ≡ false → (result ≡ Ok false) × (self.new ≡ self.old) }
+    {
+        if !self.held.stands_below(client, version) {
+            return Ok(false);
+        }
+        self.held
+            .remove_below(self.alloc, self.id, client, version, &mut self.changes)?;
         Ok(true)
     }
 

@@ -1,5 +1,5 @@
 -- What PUBACK 0x00 and PUBREC 0x00 tell.
-use Rattle.std.proofs.Common.{◌≡◌, ◌⊎◌, inl, inr, ℕ, nat_lt, ◌==◌, ◌&&◌, not, Bool, true, false, cond, is_some, length, replicate, List, [], ◌∷◌, ◌++◌, Option, Some, None, refl, sym, ap, ◌∙◌, subst}
+use Rattle.std.proofs.Common.{◌≡◌, ◌⊎◌, inl, inr, ℕ, nat_lt, ◌==◌, ◌&&◌, not, Bool, true, false, cond, is_some, length, replicate, List, [], ◌∷◌, ◌++◌, Option, Some, None, unwrap_or, refl, sym, ap, ◌∙◌, subst}
 use Rattle.std.proofs.lemmas.List.{append-nil}
 use Rattle.std.specs.List.{AllByRecursion, list_any}
 use Rattle.mqtt_fields.specs.declared.options.Qos.{Qos}
@@ -21,17 +21,20 @@ use Rattle.mqtt_sessions.specs.declared.reaction.Ask.TheVariants as server
 use Rattle.mqtt_sessions.specs.declared.reaction.Output.{Output}
 use Rattle.mqtt_sessions.specs.declared.reaction.Output.TheVariants.{Answer}
 use Rattle.mqtt_sessions.specs.Answers.{puback, pubrec, pubrel, suback, unsuback, connack, fits}
-use Rattle.mqtt_sessions.specs.Arriving.{has_property}
+use Rattle.mqtt_sessions.specs.Aliases.{alias_of, topic_of}
+use Rattle.mqtt_sessions.specs.Arriving.{has_property, message_in}
 use Rattle.mqtt_sessions.specs.Connecting.{OpensIf}
 use Rattle.mqtt_sessions.specs.Asking.{answer_on}
 use Rattle.mqtt_sessions.specs.Reaction.{Reaction, Comes, publishes_of, pubrels_of}
-use Rattle.mqtt_sessions.specs.State.{Link, State, limit_in}
+use Rattle.mqtt_sessions.specs.State.{Link, State, aliases_of, limit_in}
 use Rattle.mqtt_packets.specs.declared.connect.Connect.{Connect}
-use Rattle.session_laws.specs.Replies.{Reply, silent, says, asks, both, ends, leaves, reaction_of, reply_at, reply_publish, reply_exactly_once, reply_pubrec, reply_known, reply_unknown, reply_request, reply_codes, reply_disconnect, has_hundred, IsReply, IsReplied, then_sends}
+use Rattle.session_laws.specs.Replies.{Reply, silent, says, asks, both, ends, leaves, reaction_of, is_invalid, reply_at, reply_under, reply_publish, reply_exactly_once, reply_pubrec, reply_known, reply_unknown, reply_request, reply_codes, reply_disconnect, has_hundred, IsReply, IsReplied, then_sends}
 use Rattle.session_laws.specs.Runs.{Event, connects, queues, takes, answers, closes, ticks, finishes, loses, Reacts}
 use Rattle.session_laws.specs.Silence.{IsPublish}
 use Rattle.session_laws.proofs.ElseLaws.{keeps_nothing_else}
-use Rattle.session_laws.proofs.ReplyLaws.{keeps_replies, keeps_unheard, keeps_codes}
+use Rattle.session_laws.specs.Aliases.{Topics, topic_under}
+use Rattle.session_laws.proofs.AliasLaws.{held}
+use Rattle.session_laws.proofs.ReplyLaws.{replies_by_link, under-is, keeps_unheard, keeps_codes}
 use Rattle.passing_laws.specs.Publishing.{Gives, Publishes, PubackTells, PubrecTells, message_at}
 
 -- ---- packets
@@ -133,7 +136,8 @@ given_by limit leaves p rest lacks g = lacks g
 -- the reply to a packet that comes, where its reaction gives one out
 pub record Replied (p : Packet) (k : Packet) (now : ℕ) (room : Bool) (old : State) (r : Reaction) : Type 0 where
   pub link : Link
-  pub is : IsReplied link.limit k now room old r
+  pub linked : old.link ≡ Some link
+  pub is : IsReplied (held link) link.limit k now room old r
   pub says_it : Says p is.reply
 
 pub replied : (old new : State) (k : Packet) (now : ℕ) (room : Bool) (r : Reaction) (p : Packet) → Reacts old (takes k now room) r new → Gives p r.packets → Replied p k now room old r
@@ -142,8 +146,8 @@ replied old new k now room r p h g = by old.link refl
     by : (o : Option Link) → old.link ≡ o → Replied p k now room old r
     by None e = absurd (subst (λ (x : Reaction). Gives p x.packets) (keeps_unheard old new k now room r e h).0 g)
     by (Some l) e =
-        let x = keeps_replies old new l k now room r e h in
-        record { link = l; is = x; says_it = given_by l.limit x.reply p (publishes_of x.sents) (none_sent p x.sents) (subst (λ (y : Reaction). Gives p y.packets) x.gives g) }
+        let x = replies_by_link old new l k now room r e h in
+        record { link = l; linked = e; is = x; says_it = given_by l.limit x.reply p (publishes_of x.sents) (none_sent p x.sents) (subst (λ (y : Reaction). Gives p y.packets) x.gives g) }
 
 -- ---- replies that say neither
 pub cond_false : (f : Packet → Bool) (b : Bool) (x y : Reply) → tells f x ≡ false → tells f y ≡ false → tells f (cond b x y) ≡ false
@@ -174,23 +178,23 @@ left_false (Some n) expiry = cond_false is_ack ((expiry == 0) && not (n == 0)) (
 abbrev IsPublished : Packet → Reply → Type 0
 IsPublished k x = ((p : Publish) × (k ≡ packets.Publish p)) ⊎ (tells is_ack x ≡ false)
 
-is_published : (k : Packet) (now : ℕ) (room : Bool) (s : State) (x : Reply) → IsReply k now room s x → IsPublished k x
-is_published (packets.Publish p) now room s x e = inl (p, refl)
-is_published (packets.Puback a) now room s x e = inr (ap (tells is_ack) e)
-is_published (packets.Pubrec a) now room s x e = inr (ap (tells is_ack) e ∙ pubrec_false (find_id a.identifier s.outbox.copies) a.identifier a.reason)
-is_published (packets.Pubrel a) now room s x e = inr (ap (tells is_ack) e)
-is_published (packets.Pubcomp a) now room s x e = inr (ap (tells is_ack) e)
-is_published (packets.Subscribe p) now room s x (inl e) = inr (ap (tells is_ack) e.1)
-is_published (packets.Subscribe p) now room s x (inr e) = inr (ap (tells is_ack) e.1 ∙ request_false s.incoming p.identifier (suback p.identifier (replicate (length p.filters) 145)) server.Subscribe refl)
-is_published (packets.Unsubscribe p) now room s x e = inr (ap (tells is_ack) e ∙ request_false s.incoming p.identifier (unsuback p.identifier (replicate (length p.filters) 145)) server.Unsubscribe refl)
-is_published packets.Pingreq now room s x e = inr (ap (tells is_ack) e)
-is_published (packets.Disconnect p) now room s x e = inr (ap (tells is_ack) e ∙ left_false _ s.kept.expiry)
-is_published (packets.Connect p) now room s x e = inr (ap (tells is_ack) e)
-is_published (packets.Connack p) now room s x e = inr (ap (tells is_ack) e)
-is_published (packets.Suback p) now room s x e = inr (ap (tells is_ack) e)
-is_published (packets.Unsuback p) now room s x e = inr (ap (tells is_ack) e)
-is_published packets.Pingresp now room s x e = inr (ap (tells is_ack) e)
-is_published (packets.Auth p) now room s x e = inr (ap (tells is_ack) e)
+is_published : (told : Topics) (k : Packet) (now : ℕ) (room : Bool) (s : State) (x : Reply) → IsReply told k now room s x → IsPublished k x
+is_published told (packets.Publish p) now room s x e = inl (p, refl)
+is_published told (packets.Puback a) now room s x e = inr (ap (tells is_ack) e)
+is_published told (packets.Pubrec a) now room s x e = inr (ap (tells is_ack) e ∙ pubrec_false (find_id a.identifier s.outbox.copies) a.identifier a.reason)
+is_published told (packets.Pubrel a) now room s x e = inr (ap (tells is_ack) e)
+is_published told (packets.Pubcomp a) now room s x e = inr (ap (tells is_ack) e)
+is_published told (packets.Subscribe p) now room s x (inl e) = inr (ap (tells is_ack) e.1)
+is_published told (packets.Subscribe p) now room s x (inr e) = inr (ap (tells is_ack) e.1 ∙ request_false s.incoming p.identifier (suback p.identifier (replicate (length p.filters) 145)) server.Subscribe refl)
+is_published told (packets.Unsubscribe p) now room s x e = inr (ap (tells is_ack) e ∙ request_false s.incoming p.identifier (unsuback p.identifier (replicate (length p.filters) 145)) server.Unsubscribe refl)
+is_published told packets.Pingreq now room s x e = inr (ap (tells is_ack) e)
+is_published told (packets.Disconnect p) now room s x e = inr (ap (tells is_ack) e ∙ left_false _ s.kept.expiry)
+is_published told (packets.Connect p) now room s x e = inr (ap (tells is_ack) e)
+is_published told (packets.Connack p) now room s x e = inr (ap (tells is_ack) e)
+is_published told (packets.Suback p) now room s x e = inr (ap (tells is_ack) e)
+is_published told (packets.Unsuback p) now room s x e = inr (ap (tells is_ack) e)
+is_published told packets.Pingresp now room s x e = inr (ap (tells is_ack) e)
+is_published told (packets.Auth p) now room s x e = inr (ap (tells is_ack) e)
 
 -- ---- the reply to a PUBLISH
 
@@ -246,11 +250,31 @@ twice_by AtLeastOnce r n id refused m x e s = true_is_not_false (sym (said is_pu
 twice_by ExactlyOnce r n id refused m x e s = (let t = twice_at (opened n r) r refused n id m x e s in (refl, t.0, t.1))
 
 -- none of the refusals
-unrefused : (a b c : Bool) (p : Packet) (x y : Reply) → x ≡ cond a (ends 148) (cond b (ends 130) (cond c (ends 144) y)) → Says p x → x ≡ y
-unrefused true b c p x y e s = absurd (subst (Says p) e s)
-unrefused false true c p x y e s = absurd (subst (Says p) e s)
-unrefused false false true p x y e s = absurd (subst (Says p) e s)
-unrefused false false false p x y e s = e
+unrefused : (b c : Bool) (q : Packet) (x y : Reply) → x ≡ cond b (ends 130) (cond c (ends 144) y) → Says q x → x ≡ y
+unrefused true c q x y e s = absurd (subst (Says q) e s)
+unrefused false true q x y e s = absurd (subst (Says q) e s)
+unrefused false false q x y e s = e
+
+valid : (a : Bool) (q : Packet) (x y : Reply) → x ≡ cond a (ends 148) y → Says q x → x ≡ y
+valid true q x y e s = absurd (subst (Says q) e s)
+valid false q x y e s = e
+
+-- a PUBLISH that is answered so has a topic
+abbrev RepliesTo : Option (List ℕ) → State → Publish → ℕ → Bool → Reply → Type 0
+RepliesTo o s p now room x =
+    (topic : List ℕ) × (o ≡ Some topic) × (x ≡ reply_at p.qos s.incoming p.identifier (p.retain && not room) (accepted (record p { topic = topic }) s.kept.client now))
+
+under_so : (o : Option (List ℕ)) (s : State) (p : Publish) (now : ℕ) (room : Bool) (q : Packet) (x : Reply) → x ≡ reply_under o s p now room → Says q x → RepliesTo o s p now room x
+under_so None s p now room q x e said = absurd (subst (Says q) e said)
+under_so (Some topic) s p now room q x e said = (topic, refl, unrefused (has_property 11 p.properties) (list_any is_wildcard p.topic) q x _ e said)
+
+replies_to : (told : Topics) (s : State) (p : Publish) (now : ℕ) (room : Bool) (q : Packet) (x : Reply) → x ≡ reply_publish told s p now room → Says q x → RepliesTo (topic_under told p.topic (alias_of p)) s p now room x
+replies_to told s p now room q x e said = under_so (topic_under told p.topic (alias_of p)) s p now room q x (valid (is_invalid (alias_of p)) q x _ e said) said
+
+-- its message is under the topic that the connection holds for it
+message_is : (old : State) (l : Link) (p : Publish) (now : ℕ) (o : Option (List ℕ)) → old.link ≡ Some l → topic_under (held l) p.topic (alias_of p) ≡ o → accepted (record p { topic = unwrap_or o [] }) old.kept.client now ≡ message_in p now old
+message_is old l p now o e is =
+    sym (ap (λ (t : Option (List ℕ)). accepted (record p { topic = unwrap_or t [] }) old.kept.client now) (ap (λ (k : Option Link). topic_of (aliases_of k) p) e ∙ under-is p.topic (alias_of p) l.aliases ∙ is))
 
 -- what a reaction asks, by its reply
 asked_by : (limit : ℕ) (x : Reply) (p : Packet) (m : Message) (sents : List Sent) (r : Reaction) → Passes p m x → r ≡ then_sends (reaction_of limit x) sents → r.ask ≡ Some (server.Pass m)
@@ -264,19 +288,21 @@ asked_by limit x p m sents r e g = ap (λ (v : Reaction). v.ask) g ∙ ap (λ y.
 module _ (old new : State) (now : ℕ) (room : Bool) (r : Reaction) (id : ℕ) where
   publish_once : (p : Publish) → Replied (puback id 0) (packets.Publish p) now room old r → (q : Publishes AtLeastOnce id (takes (packets.Publish p) now room)) × (r.ask ≡ Some (server.Pass (message_at old q)))
   publish_once p x =
-      let y = unrefused (has_property 35 p.properties) (has_property 11 p.properties) (list_any is_wildcard p.topic) (puback id 0) x.is.reply _ x.is.is x.says_it in
-      let t = once_by p.qos old.incoming p.identifier id _ _ x.is.reply y x.says_it in
-      (record { publish = p; now = now; room = room; event = refl; qos_is = t.0; identifier = t.1 }, asked_by x.link.limit x.is.reply _ _ x.is.sents r t.2 x.is.gives)
+      let y = replies_to (held x.link) old p now room (puback id 0) x.is.reply x.is.is x.says_it in
+      let t = once_by p.qos old.incoming p.identifier id _ _ x.is.reply y.2 x.says_it in (
+        record { publish = p; now = now; room = room; event = refl; qos_is = t.0; identifier = t.1 },
+        asked_by x.link.limit x.is.reply _ _ x.is.sents r t.2 x.is.gives ∙ ap (λ m. Some (server.Pass m)) (message_is old x.link p now (Some y.0) x.linked y.1),
+      )
 
   publish_twice : (p : Publish) → Replied (pubrec id 0) (packets.Publish p) now room old r
       → (q : Publishes ExactlyOnce id (takes (packets.Publish p) now room)) × ((is_some (opened id old.incoming) ≡ true) ⊎ (r.ask ≡ Some (server.Pass (message_at old q))))
   publish_twice p x =
-      let y = unrefused (has_property 35 p.properties) (has_property 11 p.properties) (list_any is_wildcard p.topic) (pubrec id 0) x.is.reply _ x.is.is x.says_it in
-      let t = twice_by p.qos old.incoming p.identifier id _ _ x.is.reply y x.says_it in (
+      let y = replies_to (held x.link) old p now room (pubrec id 0) x.is.reply x.is.is x.says_it in
+      let t = twice_by p.qos old.incoming p.identifier id _ _ x.is.reply y.2 x.says_it in (
         record { publish = p; now = now; room = room; event = refl; qos_is = t.0; identifier = t.1 },
         elim t.2 [
           | inl is ↦ inl (ap (λ n. is_some (opened n old.incoming)) (sym t.1) ∙ is)
-          | inr passes ↦ inr (asked_by x.link.limit x.is.reply _ _ x.is.sents r passes x.is.gives)
+          | inr passes ↦ inr (asked_by x.link.limit x.is.reply _ _ x.is.sents r passes x.is.gives ∙ ap (λ m. Some (server.Pass m)) (message_is old x.link p now (Some y.0) x.linked y.1))
         ],
       )
 
@@ -322,7 +348,7 @@ takes_publish p ack answer old new (connects c continued now) r h g = absurd (co
 takes_publish p ack answer old new (queues d now) r h g = absurd (none_published p r.packets (keeps_nothing_else old new (queues d now) r h) g)
 takes_publish p ack answer old new (takes k now room) r h g =
     let x = replied old new k now room r p h g in
-    elim (is_published k now room old x.is.reply x.is.is) [
+    elim (is_published (held x.link) k now room old x.is.reply x.is.is) [
       | inl q ↦ record { publish = q.0; now = now; room = room; is = ap (λ z. takes z now room) q.1; reply = subst (λ z. Replied p z now room old r) q.1 x }
       | inr f ↦ true_is_not_false (sym ack ∙ sym (said is_ack p x.is.reply x.says_it) ∙ f)
     ]
@@ -397,41 +423,49 @@ at_asked limit ExactlyOnce r n refused m = by (opened n r)
         if_asked limit m (has_hundred r) (ends 147) (cond refused (says (pubrec n 151)) passes) (inl refl)
         (if_asked limit m refused (says (pubrec n 151)) passes (says_asked limit m (pubrec n 151)) (both_asked limit m (pubrec n 0)))
 
-publish_asked : (limit : ℕ) (s : State) (p : Publish) (now : ℕ) (room : Bool) → IsAsked limit (accepted p s.kept.client now) (reply_publish s p now room)
-publish_asked limit s p now room =
-    let m = accepted p s.kept.client now in
+under_asked : (limit : ℕ) (o : Option (List ℕ)) (s : State) (p : Publish) (now : ℕ) (room : Bool) → IsAsked limit (accepted (record p { topic = unwrap_or o [] }) s.kept.client now) (reply_under o s p now room)
+under_asked limit None s p now room = inl refl
+under_asked limit (Some topic) s p now room =
+    let m = accepted (record p { topic = topic }) s.kept.client now in
     let x = reply_at p.qos s.incoming p.identifier (p.retain && not room) m in
     let y = cond (list_any is_wildcard p.topic) (ends 144) x in
-    let z = cond (has_property 11 p.properties) (ends 130) y in
-    if_asked limit m (has_property 35 p.properties) (ends 148) z (inl refl)
-    (if_asked limit m (has_property 11 p.properties) (ends 130) y (inl refl)
-    (if_asked limit m (list_any is_wildcard p.topic) (ends 144) x (inl refl) (at_asked limit p.qos s.incoming p.identifier (p.retain && not room) m)))
+    if_asked limit m (has_property 11 p.properties) (ends 130) y (inl refl)
+    (if_asked limit m (list_any is_wildcard p.topic) (ends 144) x (inl refl) (at_asked limit p.qos s.incoming p.identifier (p.retain && not room) m))
+
+publish_asked : (limit : ℕ) (told : Topics) (s : State) (p : Publish) (now : ℕ) (room : Bool)
+    → IsAsked limit (accepted (record p { topic = unwrap_or (topic_under told p.topic (alias_of p)) [] }) s.kept.client now) (reply_publish told s p now room)
+publish_asked limit told s p now room =
+    let o = topic_under told p.topic (alias_of p) in
+    if_asked limit (accepted (record p { topic = unwrap_or o [] }) s.kept.client now) (is_invalid (alias_of p)) (ends 148) (reply_under o s p now room) (inl refl) (under_asked limit o s p now room)
 
 module _ (old new : State) (p : Publish) (now : ℕ) (room : Bool) (r : Reaction) (h : Reacts old (takes (packets.Publish p) now room) r new) where
-  not_sent : (limit : ℕ) (x : IsReplied limit (packets.Publish p) now room old r) → r.packets ≡ (reaction_of limit x.reply).packets
-  not_sent limit x = ap (λ (v : Reaction). v.packets) x.gives ∙ elim x.queue [ inl none ↦ ap (λ ss. (reaction_of limit x.reply).packets ++ publishes_of ss) none ∙ append-nil _ | inr room_made ↦ absurd room_made.0 ]
+  not_sent : (told : Topics) (limit : ℕ) (x : IsReplied told limit (packets.Publish p) now room old r) → r.packets ≡ (reaction_of limit x.reply).packets
+  not_sent told limit x = ap (λ (v : Reaction). v.packets) x.gives ∙ elim x.queue [ inl none ↦ ap (λ ss. (reaction_of limit x.reply).packets ++ publishes_of ss) none ∙ append-nil _ | inr room_made ↦ absurd room_made.0 ]
 
   pub alone : (q : Packet) → Gives q r.packets → r.packets ≡ Answer q ∷ []
   alone q g =
       let x = replied old new (packets.Publish p) now room r q h g in
-      let same = not_sent x.link.limit x.is in
+      let same = not_sent (held x.link) x.link.limit x.is in
       same ∙ reply_alone x.link.limit x.is.reply q (subst (Gives q) same g)
 
   -- what is asked for is to pass the message on
-  pub asks_pass : is_some r.ask ≡ true → r.ask ≡ Some (server.Pass (accepted p old.kept.client now))
+  pub asks_pass : is_some r.ask ≡ true → r.ask ≡ Some (server.Pass (message_in p now old))
   asks_pass some = by old.link refl
     where
       m : Message
-      m = accepted p old.kept.client now
+      m = message_in p now old
 
-      by_reply : (limit : ℕ) → IsReplied limit (packets.Publish p) now room old r → r.ask ≡ Some (server.Pass m)
-      by_reply limit x =
+      by_reply : (l : Link) → old.link ≡ Some l → IsReplied (held l) l.limit (packets.Publish p) now room old r → r.ask ≡ Some (server.Pass m)
+      by_reply l e x =
+          let limit = l.limit in
+          let o = topic_under (held l) p.topic (alias_of p) in
+          let is : IsAsked limit m (reply_publish (held l) old p now room) = subst (λ (k : Message). IsAsked limit k (reply_publish (held l) old p now room)) (message_is old l p now o e refl) (publish_asked limit (held l) old p now room) in
           let same : r.ask ≡ (reaction_of limit x.reply).ask = ap (λ (v : Reaction). v.ask) x.gives in
-          elim (subst (IsAsked limit m) (sym x.is) (publish_asked limit old p now room)) [
+          elim (subst (IsAsked limit m) (sym x.is) is) [
             | inl none ↦ absurd (let z : false ≡ true = sym (ap is_some (same ∙ none)) ∙ some in cc)
             | inr passes ↦ same ∙ passes
           ]
 
       by : (o : Option Link) → old.link ≡ o → r.ask ≡ Some (server.Pass m)
       by None e = absurd (let z : false ≡ true = sym (ap (λ (v : Reaction). is_some v.ask) (keeps_unheard old new (packets.Publish p) now room r e h).0) ∙ some in cc)
-      by (Some l) e = by_reply l.limit (keeps_replies old new l (packets.Publish p) now room r e h)
+      by (Some l) e = by_reply l e (replies_by_link old new l (packets.Publish p) now room r e h)

@@ -266,7 +266,7 @@ serves_in c client k room x p h acts (inl d) = none_some (sym d.0)
 serves_in c client k room x p h acts (inr (r, own, mid, rest, one, runs, more, is)) = subst (Answered p h) (sym is) (serves_at c client k room (seat_at client h) r x p h mid own rest one runs more)
 
 serves : (c : ℕ) (client : List ℕ) (k : Packet) → Keeps Answered (serving.Serves c client k)
-serves c client k = record { of = λ x p h acts d. serves_in c client k (serving.room_for k h.store) x p h acts d }
+serves c client k = record { of = λ x p h acts d. serves_in c client k (serving.room_for client k h) x p h acts d }
 
 -- ---- the session between a request and its answer
 

@@ -22,12 +22,15 @@ use Rattle.mqtt_sessions.specs.declared.link.Asked.TheVariants.{Subscribing, Uns
 use Rattle.mqtt_sessions.specs.declared.reaction.Ask.{Ask}
 use Rattle.mqtt_sessions.specs.declared.reaction.Ask.TheVariants as server
 use Rattle.mqtt_sessions.specs.Answers.{puback, pubrec, pubrel, suback, unsuback, connack, fits}
+use Rattle.mqtt_sessions.specs.Aliases.{alias_of}
 use Rattle.mqtt_sessions.specs.Arriving.{has_property}
+use Rattle.session_laws.specs.Aliases.{Topics, topic_under}
+use Rattle.session_laws.proofs.AliasLaws.{held}
 use Rattle.mqtt_sessions.specs.Asking.{answer_of, answer_on, asked_of, waiting_by, asking}
 use Rattle.mqtt_sessions.specs.Packets.{PacketIf}
 use Rattle.mqtt_sessions.specs.Reaction.{Reaction, Outcome, Comes, answered}
 use Rattle.mqtt_sessions.specs.State.{Link, State, heard, heard_by, limit_in, limit_of}
-use Rattle.session_laws.specs.Replies.{Reply, silent, says, asks, both, ends, leaves, reply_publish, reply_at, reply_exactly_once, reply_pubrec, reply_known, reply_unknown, reply_codes, reply_disconnect, has_hundred, IsReply}
+use Rattle.session_laws.specs.Replies.{Reply, silent, says, asks, both, ends, leaves, is_invalid, reply_publish, reply_under, reply_at, reply_exactly_once, reply_pubrec, reply_known, reply_unknown, reply_codes, reply_disconnect, has_hundred, IsReply}
 use Rattle.session_laws.specs.Runs.{Event, connects, queues, takes, answers, closes, ticks, finishes, loses, Reacts}
 use Rattle.session_laws.proofs.ElseLaws.{keeps_nothing_else}
 use Rattle.session_laws.proofs.ReplyLaws.{keeps_unheard, keeps_codes}
@@ -89,14 +92,19 @@ at_false AtLeastOnce r n refused m =
     (cond_false is_coded (is_some (opened n r)) (says (puback n 145)) last refl (cond_false is_coded refused (says (puback n 151)) passes refl refl))
 at_false ExactlyOnce r n refused m = twice_false (opened n r) r refused n m
 
-publish_false : (s : State) (p : Publish) (now : ℕ) (room : Bool) → tells is_coded (reply_publish s p now room) ≡ false
-publish_false s p now room =
-    let x = reply_at p.qos s.incoming p.identifier (p.retain && not room) (accepted p s.kept.client now) in
+under_false : (o : Option (List ℕ)) (s : State) (p : Publish) (now : ℕ) (room : Bool) → tells is_coded (reply_under o s p now room) ≡ false
+under_false None s p now room = refl
+under_false (Some topic) s p now room =
+    let m = accepted (record p { topic = topic }) s.kept.client now in
+    let x = reply_at p.qos s.incoming p.identifier (p.retain && not room) m in
     let y = cond (list_any is_wildcard p.topic) (ends 144) x in
-    let z = cond (has_property 11 p.properties) (ends 130) y in
-    cond_false is_coded (has_property 35 p.properties) (ends 148) z refl
-    (cond_false is_coded (has_property 11 p.properties) (ends 130) y refl
-    (cond_false is_coded (list_any is_wildcard p.topic) (ends 144) x refl (at_false p.qos s.incoming p.identifier (p.retain && not room) (accepted p s.kept.client now))))
+    cond_false is_coded (has_property 11 p.properties) (ends 130) y refl
+    (cond_false is_coded (list_any is_wildcard p.topic) (ends 144) x refl (at_false p.qos s.incoming p.identifier (p.retain && not room) m))
+
+publish_false : (told : Topics) (s : State) (p : Publish) (now : ℕ) (room : Bool) → tells is_coded (reply_publish told s p now room) ≡ false
+publish_false told s p now room =
+    let o = topic_under told p.topic (alias_of p) in
+    cond_false is_coded (is_invalid (alias_of p)) (ends 148) (reply_under o s p now room) refl (under_false o s p now room)
 
 pubrec_false : (o : Option Entry) (id reason : ℕ) → tells is_coded (reply_pubrec o id reason) ≡ false
 pubrec_false None id reason = cond_false is_coded (nat_lt reason 128) (says (pubrel id 146)) silent refl refl
@@ -120,25 +128,25 @@ module _ (a : Asked) (id : ℕ) (codes : List ℕ) where
   in_use true n p ask e s = (n, sym (codes_of a id codes) ∙ ap codes_in (sym s) ∙ e)
   in_use false n p ask e s = absurd s
 
-  replied_codes : (k : Packet) (now : ℕ) (room : Bool) (s : State) (x : Reply) → IsReply k now room s x → Says (answer_of a id codes) x → AreInUse codes
-  replied_codes (packets.Publish p) now room s x e t = none_coded x (ap (tells is_coded) e ∙ publish_false s p now room) t
-  replied_codes (packets.Puback k) now room s x e t = none_coded x (ap (tells is_coded) e) t
-  replied_codes (packets.Pubrec k) now room s x e t = none_coded x (ap (tells is_coded) e ∙ pubrec_false (find_id k.identifier s.outbox.copies) k.identifier k.reason) t
-  replied_codes (packets.Pubrel k) now room s x e t = none_coded x (ap (tells is_coded) e) t
-  replied_codes (packets.Pubcomp k) now room s x e t = none_coded x (ap (tells is_coded) e) t
-  replied_codes (packets.Subscribe p) now room s x (inl e) t = none_coded x (ap (tells is_coded) e.1) t
-  replied_codes (packets.Subscribe p) now room s x (inr e) t =
+  replied_codes : (told : Topics) (k : Packet) (now : ℕ) (room : Bool) (s : State) (x : Reply) → IsReply told k now room s x → Says (answer_of a id codes) x → AreInUse codes
+  replied_codes told (packets.Publish p) now room s x e t = none_coded x (ap (tells is_coded) e ∙ publish_false told s p now room) t
+  replied_codes told (packets.Puback k) now room s x e t = none_coded x (ap (tells is_coded) e) t
+  replied_codes told (packets.Pubrec k) now room s x e t = none_coded x (ap (tells is_coded) e ∙ pubrec_false (find_id k.identifier s.outbox.copies) k.identifier k.reason) t
+  replied_codes told (packets.Pubrel k) now room s x e t = none_coded x (ap (tells is_coded) e) t
+  replied_codes told (packets.Pubcomp k) now room s x e t = none_coded x (ap (tells is_coded) e) t
+  replied_codes told (packets.Subscribe p) now room s x (inl e) t = none_coded x (ap (tells is_coded) e.1) t
+  replied_codes told (packets.Subscribe p) now room s x (inr e) t =
       in_use (is_some (opened p.identifier s.incoming)) (length p.filters) (suback p.identifier (replicate (length p.filters) 145)) server.Subscribe refl (subst (Says (answer_of a id codes)) e.1 t)
-  replied_codes (packets.Unsubscribe p) now room s x e t =
+  replied_codes told (packets.Unsubscribe p) now room s x e t =
       in_use (is_some (opened p.identifier s.incoming)) (length p.filters) (unsuback p.identifier (replicate (length p.filters) 145)) server.Unsubscribe refl (subst (Says (answer_of a id codes)) e t)
-  replied_codes packets.Pingreq now room s x e t = none_coded x (ap (tells is_coded) e) t
-  replied_codes (packets.Disconnect p) now room s x e t = none_coded x (ap (tells is_coded) e ∙ left_false (first_four 17 p.properties) s.kept.expiry) t
-  replied_codes (packets.Connect p) now room s x e t = none_coded x (ap (tells is_coded) e) t
-  replied_codes (packets.Connack p) now room s x e t = none_coded x (ap (tells is_coded) e) t
-  replied_codes (packets.Suback p) now room s x e t = none_coded x (ap (tells is_coded) e) t
-  replied_codes (packets.Unsuback p) now room s x e t = none_coded x (ap (tells is_coded) e) t
-  replied_codes packets.Pingresp now room s x e t = none_coded x (ap (tells is_coded) e) t
-  replied_codes (packets.Auth p) now room s x e t = none_coded x (ap (tells is_coded) e) t
+  replied_codes told packets.Pingreq now room s x e t = none_coded x (ap (tells is_coded) e) t
+  replied_codes told (packets.Disconnect p) now room s x e t = none_coded x (ap (tells is_coded) e ∙ left_false (first_four 17 p.properties) s.kept.expiry) t
+  replied_codes told (packets.Connect p) now room s x e t = none_coded x (ap (tells is_coded) e) t
+  replied_codes told (packets.Connack p) now room s x e t = none_coded x (ap (tells is_coded) e) t
+  replied_codes told (packets.Suback p) now room s x e t = none_coded x (ap (tells is_coded) e) t
+  replied_codes told (packets.Unsuback p) now room s x e t = none_coded x (ap (tells is_coded) e) t
+  replied_codes told packets.Pingresp now room s x e t = none_coded x (ap (tells is_coded) e) t
+  replied_codes told (packets.Auth p) now room s x e t = none_coded x (ap (tells is_coded) e) t
 
   -- the codes that were asked for
   abbrev AreGiven : State → Event → Type 0
@@ -165,7 +173,7 @@ answers_it Unsubscribing id codes = refl
 pub codes_tell : (a : Asked) (id : ℕ) (codes : List ℕ) (old new : State) (e : Event) (r : Reaction) → Reacts old e r new → Gives (answer_of a id codes) r.packets → AreInUse codes ⊎ ((e ≡ answers id codes) × (asked_of old.link ≡ Some a))
 codes_tell a id codes old new (connects c continued now) r h g = absurd (connect_none (answer_of a id codes) (answers_it a id codes) (fits (limit_in c.properties) (connack continued c.client old.kept.client)) old c _ now r new refl h.1 g)
 codes_tell a id codes old new (queues d now) r h g = absurd (none_published (answer_of a id codes) r.packets (keeps_nothing_else old new (queues d now) r h) g)
-codes_tell a id codes old new (takes k now room) r h g = let x = replied old new k now room r (answer_of a id codes) h g in inl (replied_codes a id codes k now room old x.is.reply x.is.is x.says_it)
+codes_tell a id codes old new (takes k now room) r h g = let x = replied old new k now room r (answer_of a id codes) h g in inl (replied_codes a id codes (held x.link) k now room old x.is.reply x.is.is x.says_it)
 codes_tell a id codes old new (answers id' codes') r h g = inr (given_at a id codes old.link old new id' codes' r refl h g)
 codes_tell a id codes old new (closes now) r h g = absurd (nothing_given (answer_of a id codes) (answers_it a id codes) r.packets (keeps_nothing_else old new (closes now) r h) g)
 codes_tell a id codes old new (ticks now) r h g = absurd (nothing_given (answer_of a id codes) (answers_it a id codes) r.packets (keeps_nothing_else old new (ticks now) r h) g)

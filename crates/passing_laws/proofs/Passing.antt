@@ -10,7 +10,7 @@ use Rattle.mqtt_message.specs.Expiry.{IsBefore}
 use Rattle.causal_context.specs.Dots.{Dot}
 use Rattle.replica_store.specs.declared.content.Content.{Content}
 use Rattle.replica_store.specs.declared.operation.Operation.TheVariants.{Put}
-use Rattle.replica_store.specs.declared.operation.Stamp.{Stamp}
+use Rattle.replica_store.specs.Stamps.{Stamp}
 use Rattle.replica_store.specs.Making.{put_of}
 use Rattle.bridge_frames.specs.declared.forward.Forward.{Forward}
 use Rattle.message_copies.specs.declared.plain.PlainCopy.{PlainCopy as Copy}
@@ -278,7 +278,7 @@ serves_in c client k room x p h acts (inl d) = none_some (sym d.0)
 serves_in c client k room x p h acts (inr (r, own, mid, rest, one, runs, more, is)) = subst (Followed p h) (sym is) (serves_at c client k room (seat_at client h) r x p h mid own rest one runs more)
 
 serves : (c : ℕ) (client : List ℕ) (k : Packet) → Keeps Followed (serving.Serves c client k)
-serves c client k = record { of = λ x p h acts d. serves_in c client k (serving.room_for k h.store) x p h acts d }
+serves c client k = record { of = λ x p h acts d. serves_in c client k (serving.room_for client k h) x p h acts d }
 
 pub accepted_is_passed_on : AcceptedIsPassedOn
 accepted_is_passed_on = λ e p h held acts d before after s m is ran accepts. (decides Followed followed serves (takes_forward Followed followed took_told) e).of tt p h acts d before after s held is ran m accepts

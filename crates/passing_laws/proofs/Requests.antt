@@ -7,7 +7,7 @@ use Rattle.replica_store.specs.Making.{subscribe_of}
 use Rattle.subscription_set.specs.Standing.{any_of}
 use Rattle.node_work.specs.declared.granted.Granted.{Granted}
 use Rattle.node_work.specs.Acts.{Act, Store, Made}
-use Rattle.node_work.specs.Doings.{MakesSubscribe, MakesRemove}
+use Rattle.node_work.specs.Doings.{MakesRemove}
 use Rattle.node_work.specs.Held.Making.{number_at_end, removal}
 use Rattle.node_work.specs.View.{Place, HeldView}
 use Rattle.node_work.specs.Working.{Returns, If, Then, InTurn}
@@ -21,11 +21,11 @@ use Rattle.passing_laws.proofs.Passing.{numbered}
 
 -- one filter
 granted_by : (client : List ℕ) (identifier : ℕ) (f : SubscribeFilter) (stood full : Bool) (g : Granted) (p : Place) (h : HeldView) (acts : List Act)
-    → If full (Returns (subscribing.refused 151)) (Then (MakesSubscribe (subscribing.entry_of client f identifier)) (λ _. Returns (subscribing.granted f (identifiers_of identifier) stood))) (Some g) p h acts → IsGranted p h client identifier f g.reason acts
+    → If full (Returns (subscribing.refused 151)) (Then (subscribing.SubscribesTo client identifier f) (λ _. Returns (subscribing.granted f (identifiers_of identifier) stood))) (Some g) p h acts → IsGranted p h client identifier f g.reason acts
 granted_by client identifier f stood true g p h acts d = inr (inr (let same : g ≡ subscribing.refused 151 = (let z = d.0 in cc) in ap (λ (x : Granted). x.reason) same), d.1)
 granted_by client identifier f stood false g p h acts (inl d) = none_some (sym d.0)
 granted_by client identifier f stood false g p h acts (inr (y, own, mid, rest, one, runs, more, is)) =
-    let entry = subscribing.entry_of client f identifier in
+    let entry = subscribing.entry_of client f identifier h.homes.version in
     let same : g ≡ subscribing.granted f (identifiers_of identifier) stood = (let z = more.0 in cc) in
     let alone = numbered (number_at_end p.id h) y (Store (Made (subscribe_of p.id entry h.store))) own one in
     inl (ap (λ (x : Granted). x.reason) same, is ∙ (λ i. alone i ++ more.1 i))

@@ -35,12 +35,12 @@ use Rattle.node_work.specs.declared.counts.Missed.{Missed}
 use Rattle.node_work.specs.declared.counts.Missed.TheVariants.{LaneFull}
 use Rattle.node_work.specs.Acts.{Store, Session, Acknowledged, Made, Act, Bridge, Out}
 use Rattle.node_work.specs.Calling.{Calls, Queues, QueuesOne, CallsAt}
-use Rattle.node_work.specs.Doings.{MakesSubscribe, MakesRemove, Removes, Sends, Disconnects, Misses, PutsBy, RoutesBy, Routes}
+use Rattle.node_work.specs.Doings.{MakesSubscribe, MakesRemove, MakesRemoveBelow, Removes, RemovesBelow, Sends, Disconnects, Misses, PutsBy, RoutesBy, Routes}
 use Rattle.node_work.specs.Held.Bridge.{Put, Took, Left_out}
 use Rattle.node_work.specs.Held.Sessions.{Begun, takes_disconnect, will_is_due, end_is_due, SessionStep, Called, seat_at}
-use Rattle.node_work.specs.Held.Making.{number_at_end, removal}
+use Rattle.node_work.specs.Held.Making.{number_at_end, removal, removal_below}
 use Rattle.subscription_set.specs.declared.entry.Entry.{Entry}
-use Rattle.subscription_set.specs.Standing.{any_of}
+use Rattle.subscription_set.specs.Standing.{any_of, any_below}
 use Rattle.node_work.specs.Packets.{refused_packet}
 use Rattle.node_work.specs.Working.{Returns, Acting, Looks, If, Then, Each, InTurn}
 use Rattle.node_clients.specs.Connecting as connecting
@@ -61,6 +61,19 @@ module _ (T : Property) (j : Joins T) where
       k_looks T j (λ p h. any_of client to h.store.subscriptions) (λ stands. If stands (Then (MakesRemove client to) (λ _. Returns true)) (Returns false))
       (λ stands. k_if T j stands (Then (MakesRemove client to) (λ _. Returns true)) (Returns false)
       (k_then T j (MakesRemove client to) (λ _. Returns true) (makes_remove client to) (λ _. k_returns T j true)) (k_returns T j false))
+
+  makes_remove_below : (client : List ℕ) (version : ℕ) → Keeps T (MakesRemoveBelow client version)
+  makes_remove_below client version = k_numbered T j (λ p h. number_at_end p.id h) (λ p h. Store (Made (removal_below p.id client version h.store))) (λ p h. tt)
+
+  removes_below : (client : List ℕ) (version : ℕ) → Keeps T (RemovesBelow client version)
+  removes_below client version =
+      k_looks T j (λ p h. any_below client version h.store.subscriptions) (λ stands. If stands (Then (MakesRemoveBelow client version) (λ _. Returns true)) (Returns false))
+      (λ stands. k_if T j stands (Then (MakesRemoveBelow client version) (λ _. Returns true)) (Returns false)
+      (k_then T j (MakesRemoveBelow client version) (λ _. Returns true) (makes_remove_below client version) (λ _. k_returns T j true)) (k_returns T j false))
+
+  removes_own : (client : List ℕ) → Keeps T (ending.RemovesOwn client)
+  removes_own client =
+      k_finds T j (ending.IsAtHome client) (ending.RemovesFor client) (λ node. k_looks T j (ending.ends_below node) (RemovesBelow client) (removes_below client))
 
   pub sends : (c : ℕ) (packet : Packet) → is_own packet ≡ true → Keeps T (Sends c packet)
   sends c packet own = k_acting T j (λ p h. Out (Send c (written packet))) (λ p h. record { packet = packet; own = own; spelled = refl })
@@ -110,7 +123,7 @@ module _ (T : Property) (j : Joins T) where
   passes_asked (Some asks.Unsubscribe) = k_returns T j _
 
   pub ends_session : (client : List ℕ) → Keeps T (ending.EndsSession client)
-  ends_session client = k_then T j _ _ (removes client None) (λ _. k_acting T j _ (λ p h. tt))
+  ends_session client = k_then T j _ _ (removes_own client) (λ _. k_acting T j _ (λ p h. tt))
 
   pub follows : (client : List ℕ) (r : Reaction) → Keeps T (ending.Follows client r)
   follows client r = k_then T j _ _ (passes_asked r.ask) (λ _. k_if T j r.over _ _ (ends_session client) (k_returns T j _))
@@ -176,7 +189,7 @@ module _ (T : Property) (j : Joins T) where
       k_looks T j (λ place h. node == place.id) (λ here. If here (connecting.AcceptsAs c p p.client) (connecting.Refers c p node))
       (λ here. k_if T j here (connecting.AcceptsAs c p p.client) (connecting.Refers c p node)
       (k_where T j (connecting.WillIsNamed p.will) (connecting.Accepts c p p.client) (connecting.Refuses c p 144 None) (accepts c p p.client) (refuses c p 144 None))
-      (k_looks T j (λ place h. connecting.address_of place node) (λ reference. connecting.Refuses c p 156 reference) (λ reference. refuses c p 156 reference)))
+      (k_looks T j (λ place h. connecting.address_of h node) (λ reference. connecting.Refuses c p 156 reference) (λ reference. refuses c p 156 reference)))
 
   pub connects_at : (bare : Bool) (c : ℕ) (p : Connect) → Keeps T (connecting.ConnectsAt bare c p)
   connects_at true c p = k_where T j (connecting.WillIsNamed p.will) _ _ (k_finds T j _ _ (names_by c p)) (refuses c p 144 None)
@@ -194,9 +207,10 @@ module _ (T : Property) (j : Joins T) where
   granted client identifier f stood =
       let full = Returns (subscribing.refused 151) in
       let given = subscribing.granted f (identifiers_of identifier) stood in
-      let entry = subscribing.entry_of client f identifier in
-      k_looks T j (λ p h. not stood && subscribing.has_most client h.store) (λ is. If is full (Then (MakesSubscribe entry) (λ _. Returns given)))
-      (λ is. k_if T j is full (Then (MakesSubscribe entry) (λ _. Returns given)) (k_returns T j (subscribing.refused 151)) (k_then T j (MakesSubscribe entry) (λ _. Returns given) (subscribed entry) (λ _. k_returns T j given)))
+      let Makes = subscribing.SubscribesTo client identifier f in
+      let subscribes = k_looks T j (λ p h. h.homes.version) (λ version. MakesSubscribe (subscribing.entry_of client f identifier version)) (λ version. subscribed (subscribing.entry_of client f identifier version)) in
+      k_looks T j (λ p h. not stood && subscribing.has_most client h.store) (λ is. If is full (Then Makes (λ _. Returns given)))
+      (λ is. k_if T j is full (Then Makes (λ _. Returns given)) (k_returns T j (subscribing.refused 151)) (k_then T j Makes (λ _. Returns given) subscribes (λ _. k_returns T j given)))
 
   pub grants : (client : List ℕ) (identifier : ℕ) (f : SubscribeFilter) → Keeps T (subscribing.Grants client identifier f)
   grants client identifier f =
@@ -275,7 +289,7 @@ module _ (T : Property) (j : Joins T) (called : (p : Place) (h : HeldView) (s : 
 
   pub serves : (c : ℕ) (client : List ℕ) (k : Packet) → Keeps T (serving.Serves c client k)
   serves c client k =
-      k_looks T j (λ place h. serving.room_for k h.store) (serving.ServesIn c client k)
+      k_looks T j (λ place h. serving.room_for client k h) (serving.ServesIn c client k)
       (λ room. k_then T j (Calls client (λ at. takes k at room) stays) (serving.DoesReaction c client k room) (calls client (λ at. takes k at room)) (λ r. does_reaction T j (λ p h s id codes e. called p h s) c client k room r))
 
 -- ---- a message from another node, where the act that takes it alone keeps it

@@ -9,11 +9,10 @@ use Rattle.mqtt_packets.specs.declared.packet.Packet.{Packet}
 use Rattle.mqtt_packets.specs.declared.packet.Packet.TheVariants as packets
 use Rattle.mqtt_packets.specs.declared.publish.Publish.{Publish}
 use Rattle.mqtt_message.specs.declared.message.Message.{Message}
-use Rattle.mqtt_message.specs.Accepted.{accepted}
 use Rattle.mqtt_message.specs.Expiry.{IsBefore}
 use Rattle.causal_context.specs.Dots.{Dot}
 use Rattle.replica_store.specs.declared.operation.Operation.TheVariants.{Put}
-use Rattle.replica_store.specs.declared.operation.Stamp.{Stamp}
+use Rattle.replica_store.specs.Stamps.{Stamp}
 use Rattle.message_copies.specs.declared.plain.PlainCopy.{PlainCopy as Copy}
 use Rattle.message_routes.specs.declared.destinations.Route.{Route}
 use Rattle.message_routes.specs.declared.destinations.Route.TheVariants.{Nothing, Lane, TooLarge}
@@ -22,6 +21,7 @@ use Rattle.mqtt_sessions.specs.declared.reaction.Ask.TheVariants.{Pass}
 use Rattle.mqtt_sessions.specs.declared.reaction.Output.{Output}
 use Rattle.mqtt_sessions.specs.declared.reaction.Output.TheVariants.{Answer}
 use Rattle.mqtt_sessions.specs.Answers.{puback, pubrec}
+use Rattle.mqtt_sessions.specs.Arriving.{message_in}
 use Rattle.mqtt_sessions.specs.Reaction.{Reaction}
 use Rattle.mqtt_sessions.specs.State.{State}
 use Rattle.session_laws.specs.Runs.{Event, queues, takes, Reacts}
@@ -51,9 +51,10 @@ pub record Publishes (qos : Qos) (id : ℕ) (e : Event) : Type 0 where
   pub qos_is : publish.qos ≡ qos
   pub identifier : publish.identifier ≡ id
 
--- the message of the PUBLISH that the event takes, from the client of the session
+-- the message of the PUBLISH that the event takes, from the client of the session; where its topic is empty, under the one that its
+-- alias stands for
 abbrev pub message_at : {qos : Qos} {id : ℕ} {e : Event} → State → Publishes qos id e → Message
-message_at old p = accepted p.publish old.kept.client p.now
+message_at old p = message_in p.publish p.now old
 
 -- PUBACK 0x00 answers a PUBLISH at QoS 1 whose message the node is asked to pass on
 abbrev pub PubackTells : Type 0

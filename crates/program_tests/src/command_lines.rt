@@ -28,6 +28,13 @@ fn told(rt: &impl Abort, alloc: Global, line: &str) -> String {
                 turns,
             },
         ) => { format!(in alloc; "serve {configuration} {node} {database} {turns}") }
+        Ok(
+            Task::Check {
+                configuration,
+                node,
+                database,
+            },
+        ) => { format!(in alloc; "check {configuration} {node} {database}") }
         Err(stop) => {
             let mut out: Vec<u8> = Vec::new(alloc);
             let mut err: Vec<u8> = Vec::new(alloc);
@@ -60,6 +67,10 @@ fn reads_command_lines(rt: HostRuntime) {
         ("serve c.toml n0 d.db --turns 0", "2 (false, true)"),
         ("serve c.toml n0 d.db --turns 1000000001", "2 (false, true)"),
         ("serve c.toml n0 d.db --turns many", "2 (false, true)"),
+        ("check c.toml n0 d.db", "check c.toml n0 d.db"),
+        ("check c.toml n0", "2 (false, true)"),
+        ("check c.toml n0 d.db --turns 1", "2 (false, true)"),
+        ("check --help", "0 (true, false)"),
         ("--help", "0 (true, false)"),
         ("help", "0 (true, false)"),
         ("serve --help", "0 (true, false)"),

@@ -13,8 +13,15 @@ use std::alloc::Global;
 /// CONNECT of `a` with Session Expiry Interval 100 (MQTT 5.0, 3.1).
 const CONNECT: &str = "10 13 0004 4d515454 05 00 003c 05 11 00000064 0001 61";
 
-/// PUBLISH of `x` to `t` at QoS 2 under 7, its PUBREL, and PINGREQ (MQTT 5.0, 3.3, 3.6 and 3.12).
-const PACKETS: [&str; 3] = ["34 07 0001 74 0007 00 78", "62 02 0007", "c0 00"];
+/// PUBLISH of `x` to `t` at QoS 2 under 7, its PUBREL, at QoS 1 an alias that is set and used, and PINGREQ
+/// (MQTT 5.0, 3.3, 3.6 and 3.12).
+const PACKETS: [&str; 5] = [
+    "34 07 0001 74 0007 00 78",
+    "62 02 0007",
+    "32 0a 0001 74 0008 03 23 0001 78",
+    "32 09 0000 0009 03 23 0001 79",
+    "c0 00",
+];
 
 fn packet(alloc: Global, spelling: &str) -> Result<Packet, Fault> {
     let bytes = bytes_of(alloc, spelling)?;

@@ -26,7 +26,7 @@ use Rattle.replica_store.specs.States.{State}
 use Rattle.subscription_set.specs.Merging.{IsSet}
 use Rattle.replica_bytes.specs.Filters.{is_filter}
 use Rattle.replica_bytes.specs.Spelling.{listed_by}
-use Rattle.replica_bytes.specs.Values.{is_number, dot, filter, asked, subscription_in, entry_in, subscription, entry, has_topic, kept_in, kept, topic_entry, dot_entry}
+use Rattle.replica_bytes.specs.Values.{is_number, dot, filter, asked, subscription_in, entry_in, subscription, entry, has_topic, stamp, kept_in, kept, topic_entry, dot_entry}
 use Rattle.replica_bytes.specs.Stores.{is_set, entries, subscriptions, retained, state}
 use Rattle.replica_bytes.proofs.Sets.{passed_set, set_passes, t_true, true_t}
 
@@ -79,12 +79,14 @@ entry_is = seen_is entry_in (λ e. (e.client, subscription_in e)) (after text (�
 dot_entry_is : IsField dot_entry
 dot_entry_is = after_is dot (λ _. entry) dot_is (λ _. entry_is)
 
+stamp_is : IsField stamp
+stamp_is = seen_is (λ x. record { count = x.0; node = x.1 }) (λ s. (s.count, s.node)) (tested (λ x. is_number x.0) Malformed (after (number w64) (λ _. number w16))) (λ _. refl) (λ _. refl)
+    (tested_is (λ x. is_number x.0) Malformed (after (number w64) (λ _. number w16)) (after_is (number w64) (λ _. number w16) (number_is w64 wide64) (λ _. number_is w16 wide16)))
+
 pub kept_is : (topic : List ℕ) → IsField (kept topic)
 unfolding kept
-kept_is topic = seen_is kept_in (λ k. (k.stamp.count, (k.stamp.node, k.message))) (after (number w64) (λ _. after (number w16) (λ _. tested (has_topic topic) Malformed (optional message)))) (λ _. refl) (λ _. refl)
-    (after_is (number w64) (λ _. after (number w16) (λ _. tested (has_topic topic) Malformed (optional message))) (number_is w64 wide64) (λ _.
-    after_is (number w16) (λ _. tested (has_topic topic) Malformed (optional message)) (number_is w16 wide16) (λ _.
-    tested_is (has_topic topic) Malformed (optional message) (optional_is message message_is))))
+kept_is topic = seen_is kept_in (λ k. (k.stamp, k.message)) (after stamp (λ _. tested (has_topic topic) Malformed (optional message))) (λ _. refl) (λ _. refl)
+    (after_is stamp (λ _. tested (has_topic topic) Malformed (optional message)) stamp_is (λ _. tested_is (has_topic topic) Malformed (optional message) (optional_is message message_is)))
 
 topic_entry_is : IsField topic_entry
 topic_entry_is = after_is name kept (tested_is is_name Malformed text text_is) kept_is

@@ -14,9 +14,10 @@ use Rattle.causal_context.specs.Dots.{Dot}
 use Rattle.subscription_set.specs.declared.entry.Entry.{Entry}
 use Rattle.subscription_set.specs.Entries.{can_be_asked}
 use Rattle.replica_store.specs.declared.kept.Kept.{Kept}
+use Rattle.replica_store.specs.Stamps.{Stamp}
 use Rattle.replica_bytes.specs.Filters.{is_filter}
 
--- a number that dots have
+-- a number that dots have, and counts of stamps
 abbrev pub is_number : ℕ → Bool
 is_number n = nat_le 1 n && nat_lt n (2 ^ 62)
 
@@ -65,12 +66,19 @@ abbrev pub has_topic : List ℕ → Option Message → Bool
 has_topic topic None = true
 has_topic topic (Some m) = bytes_eq m.topic topic
 
-abbrev pub kept_in : ℕ × (ℕ × Option Message) → Kept
-kept_in x = record { stamp = record { count = x.0; node = x.1.0 }; message = x.1.1 }
+abbrev pub stamp_in : ℕ → ℕ → Result Stamp FieldFault
+stamp_in count node = if is_number count then Ok (record { count = count; node = node }) else Err Malformed
 
--- what is kept of a topic: the count of its stamp in eight bytes, the node in two, and the message, if there is one
+-- its count, from 1 to 2^62 - 1, in eight bytes, and its node in two
+abbrev pub stamp : Field Stamp
+stamp = seen (λ x. record { count = x.0; node = x.1 }) (λ s. (s.count, s.node)) (tested (λ x. is_number x.0) Malformed (after (number w64) (λ _. number w16)))
+
+abbrev pub kept_in : Stamp × Option Message → Kept
+kept_in x = record { stamp = x.0; message = x.1 }
+
+-- what is kept of a topic: its stamp, and the message, if there is one
 unfoldable pub kept : List ℕ → Field Kept
-kept topic = seen kept_in (λ k. (k.stamp.count, (k.stamp.node, k.message))) (after (number w64) (λ _. after (number w16) (λ _. tested (has_topic topic) Malformed (optional message))))
+kept topic = seen kept_in (λ k. (k.stamp, k.message)) (after stamp (λ _. tested (has_topic topic) Malformed (optional message)))
 
 -- a topic, and what is kept of it
 abbrev pub topic_entry : Field (List ℕ × Kept)

@@ -52,10 +52,19 @@ fn content_at<'a>(
     Ok((Some(shared), rest))
 }
 
+fn stamp_of(count: u64, node: u16) -> Result<Stamp, FieldFault>
+    ensures { Gives (λ s. s) result (spec.stamp_in count node) }
+{
+    match Stamp::new(count, node) {
+        None => Err(FieldFault::Malformed),
+        Some(stamp) => Ok(stamp),
+    }
+}
+
 /// What is kept of the topic at the front, and the bytes after it.
 ///
-/// Short where the bytes end inside it; Malformed where they spell none, or the message is of
-/// another topic.
+/// Short where the bytes end inside it; Malformed where they spell none, no stamp has the count, or the
+/// message is of another topic.
 #[tactic(auto, unfolding(crate::specs::Values::kept))]
 pub fn kept_at<'a>(
     alloc: Global,
@@ -67,8 +76,8 @@ pub fn kept_at<'a>(
 {
     let (count, rest) = u64_at(bytes)?;
     let (node, rest) = u16_at(rest)?;
+    let stamp = stamp_of(count, node)?;
     let (message, rest) = content_at(alloc, topic, rest)?;
-    let stamp = Stamp { count, node };
     Ok((Kept { stamp, message }, rest))
 }
 
@@ -110,8 +119,8 @@ pub(crate) fn append_kept(topic: &TopicName, kept: &Kept, out: &mut Vec<u8>) -> 
         < vec_len out.old + length ((spec.kept topic.now).bytes kept.now)) }
     ensures capacity { vec_capacity out.old ≤ vec_capacity out.new }
 {
-    put_u64(kept.stamp.count, out)?;
-    put_u16(kept.stamp.node, out)?;
+    put_u64(kept.stamp.count(), out)?;
+    put_u16(kept.stamp.node(), out)?;
     append_message(&kept.message, out)
 }
 
@@ -141,8 +150,8 @@ pub fn kept_fits(topic: &TopicName, kept: &Kept)
     requires { spec.IsOwn (topic.now, kept.now) }
     ensures { (spec.kept topic.now).Fits kept.now }
 {
-    let _count = kept.stamp.count;
-    let _node = kept.stamp.node;
+    let _count = kept.stamp.count();
+    let _node = kept.stamp.node();
     if let Some(message) = &kept.message {
         message.message().has_spelling();
     }

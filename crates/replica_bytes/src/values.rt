@@ -74,7 +74,7 @@ pub(crate) fn filter_at(alloc: Global, bytes: &[u8]) -> Result<(Filter, &[u8]), 
 fn name_of(alloc: Global, text: &Text) -> Result<TopicName, FieldFault>
     ensures { Gives (λ n. n) result (name_in text.now) }
 {
-    match TopicName::parse(alloc, text.as_str()) {
+    match TopicName::of_text(alloc, text) {
         Ok(name) => Ok(name),
         Err(fault) => match fault {
             TopicFault::NoMemory => Err(FieldFault::NoMemory),

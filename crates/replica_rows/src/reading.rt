@@ -55,7 +55,7 @@ fn name_of(alloc: Global, bytes: &[u8]) -> Result<TopicName, FieldFault>
     ensures { Finds (λ n. n) (λ n. (bytes.now ≡ n) × name.Fits n) result }
 {
     let text = text_of(alloc, bytes)?;
-    match TopicName::parse(alloc, text.as_str()) {
+    match TopicName::of_text(alloc, &text) {
         Ok(name) => Ok(name),
         Err(TopicFault::NoMemory) => Err(FieldFault::NoMemory),
         Err(_) => Err(FieldFault::Malformed),

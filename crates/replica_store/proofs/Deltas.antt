@@ -16,7 +16,7 @@ use Rattle.replica_store.specs.declared.operation.Operation.{Operation}
 use Rattle.replica_store.specs.declared.operation.Operation.TheVariants.{Subscribe, Remove, Put}
 use Rattle.replica_store.specs.Operations.{dot_of, cover_of, Among, HaveOwnDots, Covers, Sees, HasStatus, Puts, HasKept}
 use Rattle.replica_store.specs.declared.content.Content.{Content}
-use Rattle.replica_store.specs.declared.operation.Stamp.{Stamp}
+use Rattle.replica_store.specs.Stamps.{Stamp}
 use Rattle.replica_store.specs.Contents.{topic_in, message_in}
 use Rattle.replica_store.specs.declared.kept.Kept.{Kept}
 use Rattle.replica_store.specs.Retained.{one_put, kept_cmp, kept_cmp_total, kept_cmp_antisym, topic_cmp, topic_cmp_antisym}

@@ -19,7 +19,7 @@ use Rattle.subscription_set.proofs.Places.{found_here, first_part, second_part}
 use Rattle.replica_store.specs.declared.content.Content.{Content}
 use Rattle.replica_store.specs.declared.content.Content.TheVariants.{Set, Cleared}
 use Rattle.replica_store.specs.declared.operation.Operation.{Operation}
-use Rattle.replica_store.specs.declared.operation.Stamp.{Stamp}
+use Rattle.replica_store.specs.Stamps.{Stamp}
 use Rattle.replica_store.specs.declared.kept.Kept.{Kept}
 use Rattle.replica_store.specs.Contents.{topic_in, message_in}
 use Rattle.replica_store.specs.Operations.{HasKept}

@@ -16,9 +16,9 @@ use Rattle.std.proofs.lemmas.Map.Keys.{ge_from_not_lt}
 use Rattle.causal_context.specs.Dots.{Dot, dot_cmp, dot_cmp_total, dot_cmp_antisym}
 use Rattle.causal_context.specs.OrderLattice.{NotAbove}
 use Rattle.subscription_set.specs.declared.entry.Entry.{Entry}
-use Rattle.subscription_set.specs.Entries.{is_of, same_subscription, recency_cmp}
+use Rattle.subscription_set.specs.Entries.{is_of, is_of_below, same_subscription, recency_cmp}
 use Rattle.subscription_set.specs.Statuses.{Status}
-use Rattle.subscription_set.specs.Standing.{Entries, find_entry, standing, is_latest, live, dots_of, entry_of}
+use Rattle.subscription_set.specs.Standing.{Entries, find_entry, standing, is_latest, live, dots_in, dots_of, dots_below, entry_of}
 use Rattle.subscription_set.proofs.Lists.{contains-dots_in}
 use Rattle.subscription_set.proofs.Places.{found_none, first_part, second_part}
 use Rattle.subscription_set.proofs.Standings.{find-standing, rises-standing}
@@ -199,18 +199,22 @@ module _ (O : List Operation) (s : State) (own : HaveOwnDots O) (is : IsStateOf 
         λ l. filter_found (is_latest es) d e es (if_stands d e l.stands) (found_all (λ y. not (same_subscription e y.1 && is_lt (recency_cmp (d, e) y))) es rises (λ q f g. and_not _ _ (λ same. l.latest q f (stands_if q f g) same))),
       )
 
-  pub cover_if : (client : List ℕ) (to : Option (List ℕ)) (d : Dot) → (set.contains (dots_of client to s.subscriptions) d ≡ true) ↔ ((e : Entry) × Stands O d e × (is_of client to e ≡ true))
-  cover_if client to d =
+  -- a cover of those that pass a test
+  pub cover_if : (p : Entry → Bool) (d : Dot) → (set.contains (dots_in p (standing s.subscriptions)) d ≡ true) ↔ ((e : Entry) × Stands O d e × (p e ≡ true))
+  cover_if p d =
       let es = standing s.subscriptions in (
-        λ c. (let found = any_found (is_of client to) d es (rises-standing s.subscriptions) (sym (contains-dots_in (is_of client to) es d) ∙ c) in (found.0, stands_if d found.0 found.1, found.2)),
-        λ w. contains-dots_in (is_of client to) es d ∙ found_any (is_of client to) d es w.0 (if_stands d w.0 w.1) w.2,
+        λ c. (let found = any_found p d es (rises-standing s.subscriptions) (sym (contains-dots_in p es d) ∙ c) in (found.0, stands_if d found.0 found.1, found.2)),
+        λ w. contains-dots_in p es d ∙ found_any p d es w.0 (if_stands d w.0 w.1) w.2,
       )
 
 pub live_is : (O : List Operation) (s : State) → HaveOwnDots O → IsStateOf O s → (d : Dot) (e : Entry) → (find_entry d (live s.subscriptions) ≡ Some e) ↔ IsLive O d e
 live_is O s own is d e = live_if O s own is d e
 
 pub cover_is : (O : List Operation) (s : State) → HaveOwnDots O → IsStateOf O s → (client : List ℕ) (to : Option (List ℕ)) (d : Dot) → (set.contains (dots_of client to s.subscriptions) d ≡ true) ↔ ((e : Entry) × Stands O d e × (is_of client to e ≡ true))
-cover_is O s own is client to d = cover_if O s own is client to d
+cover_is O s own is client to d = cover_if O s own is (is_of client to) d
+
+pub cover_below_is : (O : List Operation) (s : State) → HaveOwnDots O → IsStateOf O s → (client : List ℕ) (version : ℕ) (d : Dot) → (set.contains (dots_below client version s.subscriptions) d ≡ true) ↔ ((e : Entry) × Stands O d e × (is_of_below client version e ≡ true))
+cover_below_is O s own is client version d = cover_if O s own is (is_of_below client version) d
 
 -- ---- counts
 

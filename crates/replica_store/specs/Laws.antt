@@ -4,8 +4,8 @@ use Rattle.std.specs.FinSet as set
 use Rattle.std.specs.FinMap as map
 use Rattle.causal_context.specs.Dots.{Dot}
 use Rattle.subscription_set.specs.declared.entry.Entry.{Entry}
-use Rattle.subscription_set.specs.Entries.{is_of}
-use Rattle.subscription_set.specs.Standing.{find_entry, live, dots_of}
+use Rattle.subscription_set.specs.Entries.{is_of, is_of_below}
+use Rattle.subscription_set.specs.Standing.{find_entry, live, dots_of, dots_below}
 use Rattle.replica_store.specs.declared.operation.Operation.{Operation}
 use Rattle.replica_store.specs.Operations.{HaveOwnDots, Stands, IsLive, IsGreatestCount}
 use Rattle.replica_store.specs.Retained.{HaveOwnTopics, greatest_count}
@@ -44,6 +44,12 @@ abbrev pub CoverIsOfTheOperations : Type 0
 CoverIsOfTheOperations = (O : List Operation) (s : State) → HaveOwnDots O → IsStateOf O s
     → (client : List ℕ) (to : Option (List ℕ)) (dot : Dot)
     → (set.contains (dots_of client to s.subscriptions) dot ≡ true) ↔ ((entry : Entry) × Stands O dot entry × (is_of client to entry ≡ true))
+
+-- and one of what was made under a version below this one those that were made so
+abbrev pub CoverBelowIsOfTheOperations : Type 0
+CoverBelowIsOfTheOperations = (O : List Operation) (s : State) → HaveOwnDots O → IsStateOf O s
+    → (client : List ℕ) (version : ℕ) (dot : Dot)
+    → (set.contains (dots_below client version s.subscriptions) dot ≡ true) ↔ ((entry : Entry) × Stands O dot entry × (is_of_below client version entry ≡ true))
 
 -- the greatest count in the state is that of the Puts
 abbrev pub CountIsOfTheOperations : Type 0

@@ -5,5 +5,6 @@ pub mod Making
 pub mod Merging
 pub mod Operations
 pub mod Retained
+pub mod Stamps
 pub mod StateOf
 pub mod States

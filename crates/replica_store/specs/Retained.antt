@@ -18,12 +18,8 @@ use Rattle.mqtt_message.specs.Expiry.{IsBefore}
 use Rattle.mqtt_message.specs.Order.{message_cmp}
 use Rattle.mqtt_message.specs.Codes.{coded_message}
 use Rattle.mqtt_message.proofs.OrderLaws.{message_cmp_total, message_cmp_antisym, both_equal}
-use Rattle.replica_store.specs.declared.operation.Stamp.{Stamp}
+use Rattle.replica_store.specs.Stamps.{Stamp, stamp_cmp, coded_stamp}
 use Rattle.replica_store.specs.declared.kept.Kept.{Kept}
-
--- by the count, and then by the node
-abbrev pub stamp_cmp : Stamp → Stamp → Ordering
-stamp_cmp = then_cmp (on (λ s. s.count) nat_cmp) (on (λ s. s.node) nat_cmp)
 
 -- a tombstone is below each message
 abbrev pub content_cmp : Option Message → Option Message → Ordering
@@ -112,9 +108,6 @@ topic_cmp_antisym = slice_cmp-IsAntisymmetric nat_cmp-IsAntisymmetric
 pub retained_lattice : JoinLaws retained_join RetainedBelow
 unfolding retained_join
 retained_lattice = map_lattice nat_list_cmp_total topic_cmp_antisym (order_lattice kept_cmp_total kept_cmp_antisym)
-
-abbrev pub coded_stamp : Coded Stamp
-coded_stamp = code_by (ℕ × ℕ) (coded× coded_ℕ coded_ℕ) (λ s. (s.count, s.node)) (λ p. record { count = p.0; node = p.1 }) (λ _. refl)
 
 abbrev pub coded_kept : Coded Kept
 coded_kept = code_by (Stamp × Option Message) (coded× coded_stamp (coded_option coded_message)) (λ k. (k.stamp, k.message)) (λ p. record { stamp = p.0; message = p.1 }) (λ _. refl)

@@ -9,8 +9,9 @@ ghost use Rattle.replica_store.specs.StateOf.{removed, uncovered_entry, delta_of
 
 use crate::content::Content;
 use crate::fault::StoreFault;
-use crate::operation::{Operation, Stamp};
+use crate::operation::Operation;
 use crate::retained::RetainedMap;
+use crate::stamp::Stamp;
 use crate::store::ReplicaStore;
 use causal_context::{Context, Dot};
 use mqtt_fields::NoMemory;

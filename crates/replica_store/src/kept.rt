@@ -6,8 +6,8 @@ ghost use Rattle.replica_store.specs.Contents.{topic_in, message_in};
 ghost use Rattle.replica_store.specs.Retained.{kept_cmp, HasAlive};
 
 use crate::content::Content;
-use crate::message::{compare_contents, compare_stamps};
-use crate::operation::Stamp;
+use crate::message::compare_contents;
+use crate::stamp::Stamp;
 use mqtt_fields::NoMemory;
 use mqtt_message::SharedMessage;
 use mqtt_topics::TopicName;
@@ -67,10 +67,8 @@ impl Kept {
     pub fn is_below(&self, other: &Kept) -> bool
         ensures { result ≡ is_lt (kept_cmp self.now other.now) }
     {
-        compare_stamps(self.stamp, other.stamp).then(compare_contents(
-            &self.message,
-            &other.message,
-        )) == Ordering::Less
+        let by_stamp = self.stamp.compare(other.stamp);
+        by_stamp.then(compare_contents(&self.message, &other.message)) == Ordering::Less
     }
 
     /// The message, if there is one and it is alive.

@@ -1,5 +1,5 @@
 //! Laws of operations and their states. Each function does nothing: its contract is the law.
-ghost use Rattle.replica_store.specs.Laws.{DeltasMakeTheState, OrderIsFree, OneState, StateOfBoth, StateOfSome, LiveIsOfTheOperations, CoverIsOfTheOperations, CountIsOfTheOperations, TopicsAreTheMessages, AnswerIsOfTheOperations, OneAnswer};
+ghost use Rattle.replica_store.specs.Laws.{DeltasMakeTheState, OrderIsFree, OneState, StateOfBoth, StateOfSome, LiveIsOfTheOperations, CoverIsOfTheOperations, CoverBelowIsOfTheOperations, CountIsOfTheOperations, TopicsAreTheMessages, AnswerIsOfTheOperations, OneAnswer};
 
 /// Joining the deltas of operations makes their state, in whatever order and however often each
 /// comes.
@@ -27,6 +27,7 @@ pub fn state_of_some()
 pub fn state_shows_the_operations()
     ensures live { LiveIsOfTheOperations }
     ensures cover { CoverIsOfTheOperations }
+    ensures cover_below { CoverBelowIsOfTheOperations }
     ensures count { CountIsOfTheOperations }
     ensures topics { TopicsAreTheMessages }
 {}

@@ -12,6 +12,7 @@ mod merge;
 mod message;
 mod operation;
 mod retained;
+mod stamp;
 mod store;
 mod topics;
 
@@ -19,6 +20,7 @@ pub use content::Content;
 pub use delta::delta_of;
 pub use fault::StoreFault;
 pub use kept::Kept;
-pub use operation::{Operation, Stamp};
+pub use operation::Operation;
 pub use retained::RetainedMap;
+pub use stamp::Stamp;
 pub use store::ReplicaStore;

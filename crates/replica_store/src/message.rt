@@ -2,17 +2,9 @@
 ghost use Rattle.std.specs.Prelude.{◌≡◌};
 ghost use Rattle.std.specs.Option.{option_cmp};
 ghost use Rattle.mqtt_message.specs.Order.{message_cmp};
-ghost use Rattle.replica_store.specs.Retained.{stamp_cmp};
 
-use crate::operation::Stamp;
 use mqtt_message::SharedMessage;
 use std::cmp::Ordering;
-
-pub fn compare_stamps(a: Stamp, b: Stamp) -> Ordering
-    ensures { result ≡ stamp_cmp a b }
-{
-    a.count.cmp(&b.count).then(a.node.cmp(&b.node))
-}
 
 pub fn compare_contents(a: &Option<SharedMessage>, b: &Option<SharedMessage>) -> Ordering
     ensures { result ≡ option_cmp message_cmp a.now b.now }

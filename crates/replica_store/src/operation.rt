@@ -2,17 +2,11 @@
 ghost use Rattle.std.specs.Prelude.{◌≡◌, IfOk};
 
 use crate::content::Content;
+use crate::stamp::Stamp;
 use causal_context::{Context, Dot};
 use mqtt_fields::NoMemory;
 use std::alloc::Global;
 use subscription_set::Entry;
-
-/// The time of a retained message: a count, and the node that gave it.
-#[derive(Clone, Copy, Debug)]
-pub struct Stamp {
-    pub count: u64,
-    pub node: u16,
-}
 
 /// A change of the shared state, under its dot: a delta mutator. (Almeida, Shoker, Baquero,
 /// section 4.)

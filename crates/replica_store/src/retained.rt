@@ -10,7 +10,7 @@ ghost use Rattle.replica_store.specs.Retained.{HaveOwnTopics, retained_join, Ret
 use crate::content::Content;
 use crate::kept::{Kept, entry_of};
 use crate::merge::{add_fresh, are_below, news_of, put_greater, wins};
-use crate::operation::Stamp;
+use crate::stamp::Stamp;
 use crate::topics::Topics;
 use causal_context::Lattice;
 use mqtt_fields::NoMemory;
@@ -94,7 +94,7 @@ impl RetainedMap {
         let (topic, kept) = entry_of(self.alloc, stamp, content)?;
         if wins(self.topics.get(&topic), &kept) {
             self.topics.insert(topic, kept)?;
-            self.greatest = self.greatest.max(stamp.count);
+            self.greatest = self.greatest.max(stamp.count());
         }
         Ok(())
     }

@@ -14,10 +14,11 @@ use crate::answer::answers;
 use crate::content::Content;
 use crate::delta::delta_of;
 use crate::fault::StoreFault;
-use crate::operation::{Operation, Stamp};
+use crate::operation::Operation;
 use crate::retained::RetainedMap;
+use crate::stamp::Stamp;
 use causal_context::{Context, Dot, Lattice};
-use mqtt_fields::{NUMBERS_END, NoMemory, Text};
+use mqtt_fields::{NoMemory, Text};
 use mqtt_message::SharedMessage;
 use mqtt_topics::Filter;
 use std::alloc::Global;
@@ -232,13 +233,9 @@ impl ReplicaStore {
         let Some(dot) = self.next_dot(node) else {
             return Err(StoreFault::NumbersAtEnd);
         };
-        let count = self.retained.greatest_count();
-        if count >= LAST_COUNT {
+        let count = self.retained.greatest_count().saturating_add(1);
+        let Some(stamp) = Stamp::new(count, node) else {
             return Err(StoreFault::NumbersAtEnd);
-        }
-        let stamp = Stamp {
-            count: count + 1,
-            node,
         };
         Ok(Operation::Put {
             dot,
@@ -247,9 +244,6 @@ impl ReplicaStore {
         })
     }
 }
-
-/// The greatest count of a stamp.
-const LAST_COUNT: u64 = NUMBERS_END - 1;
 
 impl Lattice for ReplicaStore {
     ghost joined = { state_join };

@@ -3,7 +3,7 @@
 ghost use Rattle.std.specs.Prelude.{◌≡◌};
 
 use bridge_deltas::{Links, Offer};
-use bridge_frames::{BridgeFrame, Forward, FrameBody, Picks};
+use bridge_frames::{BridgeFrame, Forward, FrameBody, LaneNumber, Picks};
 use causal_context::{Context, Dot, Lattice};
 use mqtt_message::{Message, SharedMessage};
 use replica_store::{Operation, ReplicaStore, delta_of};
@@ -58,7 +58,7 @@ fn forward(rt: &impl Abort, alloc: Global, links: &mut Links) -> Offer
 fn add_numbers(rt: &impl Abort, frames: &[BridgeFrame], numbers: &mut Vec<u64>) {
     for frame in frames {
         if let FrameBody::Forward(number, _) = &frame.body {
-            numbers.push(*number).expect(rt, "memory");
+            numbers.push(number.get()).expect(rt, "memory");
         }
     }
 }
@@ -81,9 +81,9 @@ fn messages_wait_until_they_are_taken(rt: HostRuntime) {
     assert_eq!(rt; forward(&rt, alloc, &mut links), Offer::Queued(1));
     assert_eq!(rt; forward(&rt, alloc, &mut links), Offer::Queued(2));
     assert!(rt; wait(&rt, alloc, &links, &[1, 2]));
-    links.got(1, 1);
+    links.got(1, LaneNumber::of(1));
     assert!(rt; wait(&rt, alloc, &links, &[2]));
-    links.got(1, 9);
+    links.got(1, LaneNumber::of(9));
     assert!(rt; wait(&rt, alloc, &links, &[]));
     assert_eq!(rt; forward(&rt, alloc, &mut links), Offer::Queued(3));
     drop(links);
@@ -139,6 +139,36 @@ fn is_bad(alloc: Global, rows: &[Row]) -> bool {
     is_bad
 }
 
+// The row of the lanes of the other node, of which so many messages were taken.
+fn taken_row(rt: &impl Abort, alloc: Global, took: u64) -> Row {
+    let mut value = Vec::from_slice(alloc, &[0; 8]).expect(rt, "memory");
+    value
+        .extend_from_slice(&took.to_be_bytes())
+        .expect(rt, "memory");
+    Row {
+        kind: 8,
+        owner: Vec::from_slice(alloc, &[0, 1]).expect(rt, "memory"),
+        place: Vec::new(alloc),
+        value,
+    }
+}
+
+fn is_taken_bad(rt: &impl Abort, alloc: Global, took: u64) -> bool {
+    let mut rows = Vec::new(alloc);
+    let row = taken_row(rt, alloc, took);
+    rows.push(row).ok().expect(rt, "memory");
+    let is_bad = is_bad(alloc, &rows);
+    drop(rows);
+    is_bad
+}
+
+#[test]
+fn taken_numbers_are_below_the_end(rt: HostRuntime) {
+    let alloc = rt.alloc();
+    assert!(rt; !is_taken_bad(&rt, alloc, 4_611_686_018_427_387_903));
+    assert!(rt; is_taken_bad(&rt, alloc, 4_611_686_018_427_387_904));
+}
+
 // Whether links that are opened from the rows have those rows.
 fn are_read(rt: &impl Abort, alloc: Global, rows: &[Row]) -> bool {
     let read = Links::from_rows(alloc, 0, 2, rows).expect(rt, "links");
@@ -155,9 +185,9 @@ fn rows_are_told_and_read(rt: HostRuntime) {
     let mut links = two_links(&rt, alloc);
     forward(&rt, alloc, &mut links);
     forward(&rt, alloc, &mut links);
-    links.arrived(1, 1);
+    links.arrived(1, LaneNumber::of(1));
     assert!(rt; tell(&rt, alloc, &mut links, &[7, 7, 8]));
-    links.got(1, 1);
+    links.got(1, LaneNumber::of(1));
     assert!(rt; tell(&rt, alloc, &mut links, &[0]));
     let rows = links.rows().expect(&rt, "memory");
     drop(links);
@@ -171,10 +201,10 @@ fn rows_are_told_and_read(rt: HostRuntime) {
 #[test]
 fn messages_are_taken_in_order(rt: HostRuntime) {
     let mut links = two_links(&rt, rt.alloc());
-    assert!(rt; !links.arrived(1, 2));
-    assert!(rt; links.arrived(1, 1));
-    assert!(rt; !links.arrived(1, 1));
-    assert!(rt; links.arrived(1, 2));
+    assert!(rt; !links.arrived(1, LaneNumber::of(2)));
+    assert!(rt; links.arrived(1, LaneNumber::of(1)));
+    assert!(rt; !links.arrived(1, LaneNumber::of(1)));
+    assert!(rt; links.arrived(1, LaneNumber::of(2)));
     drop(links);
 }
 

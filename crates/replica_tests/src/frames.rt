@@ -37,11 +37,47 @@ fn read(rt: &impl Abort, alloc: Global, bytes: &[u8]) -> BridgeFrame {
     BridgeFrame::read(alloc, bytes).expect(rt, "a frame")
 }
 
+/// Why the bytes can't be read, if they can't.
+fn fault_of(alloc: Global, bytes: &[u8]) -> Option<LinkFault> {
+    match BridgeFrame::read(alloc, bytes) {
+        Ok(frame) => {
+            drop(frame);
+            None
+        }
+        Err(fault) => Some(fault),
+    }
+}
+
 fn is_bad(alloc: Global, bytes: &[u8]) -> bool {
-    let read = BridgeFrame::read(alloc, bytes);
-    let is_bad = matches!(read, Err(LinkFault::BadFrame));
-    drop(read);
-    is_bad
+    fault_of(alloc, bytes) == Some(LinkFault::BadFrame)
+}
+
+#[test]
+fn long_lengths_are_too_large(rt: HostRuntime) {
+    let alloc = rt.alloc();
+    let rows: [(&[u8], LinkFault); 3] = [
+        (&[0x10, 0, 0, 1], LinkFault::TooLarge),
+        (&[0xff, 0xff, 0xff, 0xff, 1], LinkFault::TooLarge),
+        (&[0x10, 0, 0, 0], LinkFault::BadFrame),
+    ];
+    for (bytes, want) in rows {
+        assert!(rt; fault_of(alloc, bytes) == Some(want), "{bytes:?}");
+    }
+}
+
+// Got of the number 2^62 - 1 is read, and written alike; Got of 2^62 is no frame.
+#[test]
+fn got_is_below_the_end(rt: HostRuntime) {
+    let alloc = rt.alloc();
+    let bytes = [
+        0, 0, 0, 13, 5, 0, 1, 0, 0, 63, 255, 255, 255, 255, 255, 255, 255,
+    ];
+    let frame = read(&rt, alloc, &bytes);
+    let copy = frame.copy(alloc).expect(&rt, "memory");
+    assert!(rt; written(&rt, alloc, &copy).as_slice() == bytes.as_slice());
+    let end = [0, 0, 0, 13, 5, 0, 1, 0, 0, 64, 0, 0, 0, 0, 0, 0, 0];
+    assert!(rt; is_bad(alloc, &end));
+    drop((frame, copy));
 }
 
 fn is_hello(frame: &BridgeFrame) -> bool {
@@ -66,7 +102,7 @@ fn hello_both_ways(rt: HostRuntime) {
 /// The number and the message of a Forward.
 fn forward_in(frame: &BridgeFrame) -> Option<(u64, &Forward)> {
     match &frame.body {
-        FrameBody::Forward(number, forward) => Some((*number, forward)),
+        FrameBody::Forward(number, forward) => Some((number.get(), forward)),
         _ => None,
     }
 }

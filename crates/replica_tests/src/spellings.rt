@@ -96,6 +96,44 @@ fn kind_2_is_no_frame(rt: HostRuntime) {
     assert_eq!(rt; is_read(&rt, alloc, &bytes), Err(LinkFault::BadFrame));
 }
 
+// Deltas of no message to t, as (1, 1), with these counts of its stamp, and whether they are frames.
+const COUNTS: [(&str, bool); 4] = [
+    (
+        "00000035 06 0001 0000 00000001 0001 0000000000000001 0000000000000001 00000000 00000000 00000001 \
+         0001 74 0000000000000001 0001 00",
+        true,
+    ),
+    (
+        "00000035 06 0001 0000 00000001 0001 0000000000000001 0000000000000001 00000000 00000000 00000001 \
+         0001 74 3fffffffffffffff 0001 00",
+        true,
+    ),
+    (
+        "00000035 06 0001 0000 00000001 0001 0000000000000001 0000000000000001 00000000 00000000 00000001 \
+         0001 74 0000000000000000 0001 00",
+        false,
+    ),
+    (
+        "00000035 06 0001 0000 00000001 0001 0000000000000001 0000000000000001 00000000 00000000 00000001 \
+         0001 74 4000000000000000 0001 00",
+        false,
+    ),
+];
+
+#[test]
+fn counts_are_from_one_below_the_end(rt: HostRuntime) {
+    let alloc = rt.alloc();
+    for (spelled, is_frame) in COUNTS {
+        let bytes = bytes_of(&rt, alloc, spelled);
+        let wanted = if is_frame {
+            Ok(true)
+        } else {
+            Err(LinkFault::BadFrame)
+        };
+        assert_eq!(rt; is_read(&rt, alloc, &bytes), wanted, "{spelled}");
+    }
+}
+
 // Whether a frame is none while bytes lack, and tells its length by its first four.
 fn is_whole_alone(rt: &impl Abort, alloc: Global, bytes: &[u8]) -> bool {
     for end in 0..bytes.len() {
@@ -108,16 +146,18 @@ fn is_whole_alone(rt: &impl Abort, alloc: Global, bytes: &[u8]) -> bool {
     true
 }
 
-// Whether a frame with another byte at a place is none, or one that is written as it is.
+// Whether a frame with another byte at a place is none, or one that is written as it is; its first byte may make its length too large.
 fn is_told(rt: &impl Abort, alloc: Global, bytes: &[u8], place: usize, byte: u8) -> bool {
     let mut changed = Vec::from_slice(alloc, bytes).expect(rt, "memory");
     if let Some(old) = changed.get_mut(place) {
         *old = byte;
     }
-    matches!(
-        is_read(rt, alloc, &changed),
-        Ok(true) | Err(LinkFault::BadFrame)
-    )
+    match is_read(rt, alloc, &changed) {
+        Ok(same) => same,
+        Err(LinkFault::BadFrame) => true,
+        Err(LinkFault::TooLarge) => place == 0,
+        Err(LinkFault::NoMemory) => false,
+    }
 }
 
 // The same at each place, for the next byte and for one with another highest bit.

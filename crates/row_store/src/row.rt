@@ -1,9 +1,10 @@
 //! Rows, and changes of them.
-ghost use Rattle.std.specs.Prelude.{◌≡◌, ◌↔◌, map, T, IsTrue};
+ghost use Rattle.std.specs.Prelude.{◌≡◌, ◌↔◌, map, IfOk, T, IsTrue};
 ghost use Rattle.std.specs.FinMap.{is_sorted};
 ghost use Rattle.std.specs.declared.cmp.Ordering.TheVariants.{Less};
-ghost use Rattle.row_store.specs.Rows.{entry_of, key_cmp, key_of};
+ghost use Rattle.row_store.specs.Rows.{Content, after, entry_of, key_cmp, key_of};
 
+use std::alloc::{AllocError, Global};
 use std::cmp::Ordering;
 
 /// Bytes under a key, which is a kind, an owner and a place.
@@ -25,6 +26,18 @@ impl Row {
             .then(self.owner.cmp(&other.owner))
             .then(self.place.cmp(&other.place))
     }
+
+    /// An equal row.
+    pub fn copy(&self, alloc: Global) -> Result<Row, AllocError>
+        ensures { IfOk result (λ copy. entry_of copy ≡ entry_of self.now) }
+    {
+        Ok(Row {
+            kind: self.kind,
+            owner: Vec::from_slice(alloc, &self.owner)?,
+            place: Vec::from_slice(alloc, &self.place)?,
+            value: Vec::from_slice(alloc, &self.value)?,
+        })
+    }
 }
 
 /// A change of one row.
@@ -34,6 +47,22 @@ pub enum Change {
     Put(Row),
     /// The row of this kind, owner and place goes, if there is one.
     Remove(u8, Vec<u8>, Vec<u8>),
+}
+
+impl Change {
+    /// An equal change: it makes the same of each content.
+    pub fn copy(&self, alloc: Global) -> Result<Change, AllocError>
+        ensures { IfOk result (λ copy. (c : Content) → after c copy ≡ after c self.now) }
+    {
+        match self {
+            Change::Put(row) => Ok(Change::Put(row.copy(alloc)?)),
+            Change::Remove(kind, owner, place) => {
+                let owner = Vec::from_slice(alloc, owner)?;
+                let place = Vec::from_slice(alloc, place)?;
+                Ok(Change::Remove(*kind, owner, place))
+            }
+        }
+    }
 }
 
 fn is_below(low: &Row, high: &Row) -> bool

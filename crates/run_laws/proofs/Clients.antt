@@ -15,7 +15,6 @@ use Rattle.mqtt_packets.specs.declared.packet.Packet.TheVariants as packets
 use Rattle.mqtt_packets.specs.declared.publish.Publish.{Publish}
 use Rattle.mqtt_packets.specs.declared.subscribe.Subscribe.{Subscribe}
 use Rattle.mqtt_packets.specs.declared.unsubscribe.Unsubscribe.{Unsubscribe}
-use Rattle.mqtt_message.specs.Accepted.{accepted}
 use Rattle.mqtt_message.specs.declared.delivery.Delivery.{Delivery}
 use Rattle.mqtt_message.specs.declared.message.Message.{Message}
 use Rattle.qos_handshakes.specs.declared.answers.In.{In}
@@ -27,14 +26,14 @@ use Rattle.qos_handshakes.specs.Outbox.{Outbox}
 use Rattle.mqtt_sessions.specs.declared.link.Asked.{Asked}
 use Rattle.mqtt_sessions.specs.declared.reaction.Ask.{Ask}
 use Rattle.mqtt_sessions.specs.Answers.{fits}
-use Rattle.mqtt_sessions.specs.Arriving.{refusal, is_unwelcome, arrival_once, arrival_twice, arrives_twice, once_by, passes_by, publish_by}
+use Rattle.mqtt_sessions.specs.Arriving.{refusal, message_in, setting, is_unwelcome, arrival_once, arrival_twice, arrives_twice, once_by, passes_by, publish_by}
 use Rattle.mqtt_sessions.specs.Asking.{SubscribeStep, subscribed, unsubscribed, answer_by, answer_on, answer_of, waiting_for}
 use Rattle.mqtt_sessions.specs.Connecting.{OpensIf}
 use Rattle.mqtt_sessions.specs.Ending.{disconnected_by, ticked_if, timed_out}
 use Rattle.mqtt_sessions.specs.Packets.{KindStep, PacketIf, PubrecBy, SaysUnknown}
 use Rattle.mqtt_sessions.specs.Reaction.{Reaction, Outcome, Comes, answered}
 use Rattle.mqtt_sessions.specs.Sending.{QueueIf, is_once}
-use Rattle.mqtt_sessions.specs.State.{Kept, Link, State, heard, limit_of, new_session}
+use Rattle.mqtt_sessions.specs.State.{Kept, Link, State, aliases_of, heard, limit_of, new_session}
 use Rattle.session_laws.specs.Runs.{Event, connects, queues, takes, answers, closes, ticks, finishes, loses, Reacts, Run, Step}
 
 module _ (client : List ℕ) where
@@ -73,7 +72,7 @@ module _ (client : List ℕ) where
 
   publish-at : (o : Option ℕ) (p : Publish) (now : ℕ) (room : Bool) (limit : ℕ) (s : State) → At s → At (publish_by o p now room limit s).left
   publish-at (Some code) p now room limit s h = h
-  publish-at None p now room limit s h = passes-at p.qos p (is_unwelcome p room) limit (accepted p s.kept.client now) s h
+  publish-at None p now room limit s h = passes-at p.qos p (is_unwelcome p room) limit (message_in p now (setting p s)) (setting p s) h
 
   released-at : (b : Bool) (id limit : ℕ) (answer : Packet) (s : State) → At s → At (answered limit answer None (record s { incoming = cond b (remove_entry (is_at (nat_cmp id)) s.incoming) s.incoming })).left
   released-at true id limit answer s h = answered-at limit answer None (record s { incoming = remove_entry (is_at (nat_cmp id)) s.incoming }) h
@@ -115,7 +114,7 @@ module _ (client : List ℕ) where
   subscribe-at p limit s r new (inr c) h = comes _ r new c.1 (subscribed-at p limit s h)
 
   kind-at : (p : Packet) (now : ℕ) (room : Bool) (limit : ℕ) (s : State) (r : Reaction) (new : State) → KindStep p now room limit s r new → At s → At new
-  kind-at (packets.Publish p) now room limit s r new c h = comes _ r new c (publish-at (refusal p) p now room limit s h)
+  kind-at (packets.Publish p) now room limit s r new c h = comes _ r new c (publish-at (refusal (aliases_of s.link) p) p now room limit s h)
   kind-at (packets.Puback a) now room limit s r new c h = moved _ new c.left h
   kind-at (packets.Pubrec a) now room limit s r new c h = received-at c.answer a.identifier a.reason now limit s c.mid r new c.goes_on h
   kind-at (packets.Pubrel a) now room limit s r new c h = comes _ r new c (released-at (is_some (opened a.identifier s.incoming)) a.identifier limit _ s h)

@@ -53,8 +53,8 @@ module _ (run : List Played) (w : World) (r : Reached run w) where
       let e = explained run w r in
       let x : Seated (past run) (length w.sites) i s = e.sites i s at in
       let place = s.node.place in
-      let can : IsLasting (length place.homes.nodes) (lasting x.held) = subst (λ n. IsLasting n (lasting x.held)) (sym x.homes) (seat_lasts (past run) w e i s at x) in
-      let same : said ≡ lasting x.held = rows_tell_all (length place.homes.nodes) place.id said (lasting x.held) are.0 can (λ key. sym (are.1 key) ∙ x.rows key) in
+      let can : IsLasting place.nodes (lasting x.held) = subst (λ n. IsLasting n (lasting x.held)) (sym x.nodes) (seat_lasts (past run) w e i s at x) in
+      let same : said ≡ lasting x.held = rows_tell_all place.nodes place.id said (lasting x.held) are.0 can (λ key. sym (are.1 key) ∙ x.rows key) in
       subst (λ (l : Lasting). IsKept (lane_of l.lanes j) (put i j run) (took i j run) (took j i run)) (sym same)
       ((lanes_explained run w r).sites i x.held (record { node = s; at = at; moves = x.moves }) j)
 
@@ -140,14 +140,15 @@ module _ (run later : List Played) (m : Played) (w : World) (r : Reached (run ++
   pub joins_as_taken : JoinsHanded run m before s
   joins_as_taken =
       let i = site m.fate in
-      let place = here.there.holds.site.node.place in
+      let node = here.there.holds.site.node in
+      let place = node.place in
       let was = here.there.held in
-      let moves = amid_moves place run i before was here.held (at_moves run here.world here.reached i was here.there.holds) (acts_are_moves place was here.held before here.there.runs) in
+      let moves = amid_moves place (fresh_at node) run i before was here.held (at_moves run here.world here.reached i was here.there.holds) (acts_are_moves place was here.held before here.there.runs) in
       record {
         world = here.world;
         reached = here.reached;
         held = here.held;
         there = here.there;
-        moment = moves_moment place (moves_amid i run before) (fresh_at place) here.held moves;
+        moment = moves_moment place (moves_amid i run before) (fresh_at node) here.held moves;
         joins = handed_is_queued here.event place was here.held (acts_of m.fate) here.decides before s.after s.from s.number s.message s.copies s.lost s.acts here.there.runs;
       }

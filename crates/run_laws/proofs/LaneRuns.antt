@@ -29,11 +29,11 @@ use Rattle.cluster_play.specs.Runs.{Played, IsKnown, IsHonestStep}
 use Rattle.cluster_play.specs.Histories.{site, moves_of, moves_at, IsStart, Reached}
 use Rattle.cluster_play.proofs.Bools.{and_true, nat_is, nat_other, nat_cases, some_is, none-some}
 use Rattle.cluster_play.proofs.Brought.{site_amid}
-use Rattle.cluster_play.proofs.Explaining.{Seated, fresh_at, past}
+use Rattle.cluster_play.proofs.Explaining.{Seated, fresh_at, led_by, past}
 use Rattle.cluster_play.proofs.Giving.{given_out}
 use Rattle.cluster_play.proofs.Kept.{explained}
 use Rattle.cluster_play.proofs.Paths.{along, known_event, moves_more}
-use Rattle.cluster_play.proofs.Rows.{Committed, Rests, Woke, came}
+use Rattle.cluster_play.proofs.Rows.{Committed, Rests, Woke, came, table_again, table_stays}
 use Rattle.cluster_play.proofs.Sites.{get-set_same, get-set_other}
 use Rattle.cluster_play.proofs.Splits.{gather_both, runs_split}
 use Rattle.cluster_play.proofs.Telling.{given_spelled}
@@ -47,7 +47,7 @@ Histories = ℕ → ℕ → List Forward
 pub record HeldLast (run : List Played) (w : World) (i : ℕ) (h : HeldView) : Type 0 where
   pub node : Site
   pub at : slice_get w.sites i ≡ Some node
-  pub moves : Moves node.node.place (fresh_at node.node.place) (moves_at i run) h
+  pub moves : Moves node.node.place (fresh_at node.node) (moves_at i run) h
 
 -- put i j has what node i put into its lane to node j, and took i j what node i took of the lane from node j
 pub record LanesExplain (put took : Histories) (run : List Played) (w : World) : Type 0 where
@@ -155,8 +155,11 @@ module _ (put took : Histories) (run : List Played) (w : World) (x : LanesExplai
   abbrev place : Place
   place = c.was.node.place
 
-  moved : Moves place (fresh_at place) (moves_at i run) c.before
-  moved = subst (Moves place (fresh_at place) (moves_at i run)) (sym (here.up c.before c.up)) here.moves
+  abbrev first : HeldView
+  first = fresh_at c.was.node
+
+  moved : Moves place first (moves_at i run) c.before
+  moved = subst (Moves place first (moves_at i run)) (sym (here.up c.before c.up)) here.moves
 
   own_acts : LanesGrow place.id c.after.bridge.lanes (λ j. put i j ++ gather (by_bridge (put_by j)) acts) (λ j. took i j ++ gather (by_bridge (took_by j)) acts) (λ j. took j i) (λ j. put j i) (gather (by_bridge given_by) acts)
   own_acts =
@@ -168,18 +171,21 @@ module _ (put took : Histories) (run : List Played) (w : World) (x : LanesExplai
   after_is : (h : HeldView) → HeldLast (run ++ m ∷ []) w' i h → h ≡ c.after
   after_is h l =
       let at : slice_get w'.sites i ≡ Some c.later = ap (λ ss. slice_get ss i) c.sites ∙ get-set_same w.sites i c.later c.was c.at in
-      let same : l.node.node.place ≡ place = ap (λ (s : Site). s.node.place) (some_is (sym l.at ∙ at)) ∙ c.place in
+      let there : l.node ≡ c.later = some_is (sym l.at ∙ at) in
+      let same : l.node.node.place ≡ place = ap (λ (s : Site). s.node.place) there ∙ c.place in
+      let table : l.node.node.homes ≡ c.was.node.homes =
+      ap (λ (s : Site). s.node.homes) there ∙ table_stays w i e acts w' c (here.homes ∙ ap (λ (v : HeldView). v.homes) (sym (here.up c.before c.up))) in
       let mine : moves_at i (run ++ m ∷ []) ≡ moves_at i run ++ did acts = own_more i run m own ∙ ap (λ ms. moves_at i run ++ ms) moves in
-      let all : Moves place (fresh_at place) (moves_at i run ++ did acts) c.after = moves_join place (moves_at i run) (did acts) (fresh_at place) c.before c.after moved (acts_are_moves place c.before c.after acts c.steps.runs) in
-      moves_lead_to_one place (fresh_at place) h c.after (moves_at i run ++ did acts)
-      (subst (λ ms. Moves place (fresh_at place) ms h) mine (subst (λ (q : Place). Moves q (fresh_at q) (moves_at i (run ++ m ∷ [])) h) same l.moves)) all
+      let all : Moves place first (moves_at i run ++ did acts) c.after = moves_join place (moves_at i run) (did acts) first c.before c.after moved (acts_are_moves place c.before c.after acts c.steps.runs) in
+      moves_lead_to_one place first h c.after (moves_at i run ++ did acts)
+      (subst (λ ms. Moves place first ms h) mine (led_by l.node.node c.was.node (moves_at i (run ++ m ∷ [])) h (sym same) (sym table) l.moves)) all
 
   -- another node goes on
   other_was : (k : ℕ) (h : HeldView) → i ≢ k → HeldLast (run ++ m ∷ []) w' k h → HeldLast run w k h
   other_was k h ne l = record {
     node = l.node;
     at = sym (get-set_other w.sites i k c.later ne) ∙ ap (λ ss. slice_get ss k) (sym c.sites) ∙ l.at;
-    moves = subst (λ ms. Moves l.node.node.place (fresh_at l.node.node.place) ms h) (other_more k run m (λ q. ne (sym own ∙ q))) l.moves;
+    moves = subst (λ ms. Moves l.node.node.place (fresh_at l.node.node) ms h) (other_more k run m (λ q. ne (sym own ∙ q))) l.moves;
   }
 
   -- a frame that goes out has a spelling
@@ -245,7 +251,7 @@ module _ (put took : Histories) (run : List Played) (w : World) (x : LanesExplai
         x.sites i h (record {
           node = k.0;
           at = k.1;
-          moves = subst (λ ms. Moves k.0.node.place (fresh_at k.0.node.place) ms h) (none_more i run m none) (subst (λ (q : Place). Moves q (fresh_at q) (moves_at i (run ++ m ∷ [])) h) k.2.place l.moves);
+          moves = subst (λ ms. Moves k.0.node.place (fresh_at k.0.node) ms h) (none_more i run m none) (led_by l.node.node k.0.node (moves_at i (run ++ m ∷ [])) h (sym k.2.place) (sym k.2.homes) l.moves);
         }));
     frames = λ n sent f at read. x.frames n sent f (subst (λ fs. slice_get fs n ≡ Some sent) s.frames at) read;
   }
@@ -259,7 +265,7 @@ module _ (put took : Histories) (run : List Played) (w : World) (x : LanesExplai
       | inr ne ↦ x.sites k h (record {
         node = l.node;
         at = sym (get-set_other w.sites i k c.later ne) ∙ ap (λ ss. slice_get ss k) (sym c.sites) ∙ l.at;
-        moves = subst (λ ms. Moves l.node.node.place (fresh_at l.node.node.place) ms h) (other_more k run m (λ q. ne (sym own ∙ q))) l.moves;
+        moves = subst (λ ms. Moves l.node.node.place (fresh_at l.node.node) ms h) (other_more k run m (λ q. ne (sym own ∙ q))) l.moves;
       })
     ];
     frames = λ n sent f at read. x.frames n sent f (subst (λ fs. slice_get fs n ≡ Some sent) c.frames at) read;
@@ -268,10 +274,13 @@ module _ (put took : Histories) (run : List Played) (w : World) (x : LanesExplai
     own_kept h l =
         let place = c.was.node.place in
         let at : slice_get w'.sites i ≡ Some c.later = ap (λ ss. slice_get ss i) c.sites ∙ get-set_same w.sites i c.later c.was c.at in
-        let same : l.node.node.place ≡ place = ap (λ (s : Site). s.node.place) (some_is (sym l.at ∙ at)) ∙ ap (λ (n : NodeView). n.place) c.reopens.node.is in
+        let first = fresh_at c.was.node in
+        let there : l.node ≡ c.later = some_is (sym l.at ∙ at) in
+        let same : l.node.node.place ≡ place = ap (λ (s : Site). s.node.place) there ∙ ap (λ (n : NodeView). n.place) c.reopens.node.is in
+        let table : l.node.node.homes ≡ c.was.node.homes = ap (λ (s : Site). s.node.homes) there ∙ table_again w i w' c in
         let mine : moves_at i (run ++ m ∷ []) ≡ moves_at i run ++ Loses ∷ [] = own_more i run m own ∙ ap (λ ms. moves_at i run ++ ms) moves in
-        let all : Moves place (fresh_at place) (moves_at i run ++ Loses ∷ []) h = subst (λ ms. Moves place (fresh_at place) ms h) mine (subst (λ (q : Place). Moves q (fresh_at q) (moves_at i (run ++ m ∷ [])) h) same l.moves) in
-        let parts = moves_split place (moves_at i run) (Loses ∷ []) (fresh_at place) h all in
+        let all : Moves place first (moves_at i run ++ Loses ∷ []) h = subst (λ ms. Moves place first ms h) mine (led_by l.node.node c.was.node (moves_at i (run ++ m ∷ [])) h (sym same) (sym table) l.moves) in
+        let parts = moves_split place (moves_at i run) (Loses ∷ []) first h all in
         subst (λ ls. AreKept ls (put i) (took i) (λ j. took j i)) (sym (lanes_last place parts.0 h parts.2)) (x.sites i parts.0 (record { node = c.was; at = c.at; moves = parts.1 }))
 
 -- ---- a step
@@ -303,7 +312,7 @@ lanes_start : (w : World) → IsStart w → LanesExplain (λ i j. []) (λ i j. [
 lanes_start w s = record {
   begins = λ i j. ([], refl);
   sites = λ i h l j. subst (λ (v : HeldView). IsKept (lane_of v.bridge.lanes j) [] [] []) (sym l.moves)
-      (subst (λ lane. IsKept {A = Forward} lane [] [] []) (sym (lane_new (nodes_of l.node.node.place) j)) (kept_new []));
+      (subst (λ lane. IsKept {A = Forward} lane [] [] []) (sym (lane_new (length l.node.node.homes.nodes) j)) (kept_new []));
   frames = λ n sent f at read. none-some (subst (λ fs. slice_get fs n ≡ Some sent) s.frames at);
 }
 

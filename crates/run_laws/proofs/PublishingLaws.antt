@@ -1,20 +1,24 @@
 -- What PUBACK and PUBREC tell stays true.
-use Rattle.std.proofs.Common.{◌≡◌, ◌⊎◌, inl, inr, ℕ, ◌==◌, ◌&&◌, Bool, true, false, cond, is_some, List, [], ◌∷◌, ◌++◌, Some, refl, sym, ap, ◌∙◌, subst, append_assoc, eq-eqb, eqb-true}
+use Rattle.std.proofs.Common.{◌≡◌, ◌⊎◌, inl, inr, ℕ, ◌==◌, ◌&&◌, Bool, true, false, cond, is_some, List, [], ◌∷◌, ◌++◌, Option, Some, None, unwrap_or, refl, sym, ap, ◌∙◌, subst, append_assoc, eq-eqb, eqb-true}
 use Rattle.causal_context.specs.Dots.{Dot}
 use Rattle.mqtt_fields.specs.declared.options.Qos.{Qos}
 use Rattle.mqtt_fields.specs.declared.options.Qos.TheVariants.{AtMostOnce, AtLeastOnce, ExactlyOnce}
 use Rattle.mqtt_message.specs.Accepted.{accepted as message_of}
 use Rattle.mqtt_message.specs.declared.message.Message.{Message}
 use Rattle.replica_store.specs.declared.operation.Operation.TheVariants.{Put}
-use Rattle.replica_store.specs.declared.operation.Stamp.{Stamp}
+use Rattle.replica_store.specs.Stamps.{Stamp}
 use Rattle.mqtt_sessions.specs.declared.reaction.Ask.TheVariants.{Pass}
 use Rattle.mqtt_sessions.specs.Answers.{puback, pubrec}
 use Rattle.mqtt_packets.specs.declared.packet.Packet.TheVariants as packets
 use Rattle.mqtt_packets.specs.declared.publish.Publish.{Publish}
-use Rattle.mqtt_sessions.specs.State.{new_session}
+use Rattle.mqtt_sessions.specs.Aliases as aliases
+use Rattle.mqtt_sessions.specs.Reaction.{Reaction}
+use Rattle.mqtt_sessions.specs.State.{Link, aliases_of, new_session}
+use Rattle.session_laws.specs.Aliases.{topics_told}
 use Rattle.session_laws.specs.Arrivals.{is_exactly_once, is_for, PassesBy, PassesOnce}
 use Rattle.session_laws.specs.Runs.{Step, Reacts, takes, loses, Run as SessionRun}
 use Rattle.session_laws.proofs.ArrivalLaws.{keeps_once}
+use Rattle.session_laws.proofs.ReplyLaws.{keeps_unheard, told-under}
 use Rattle.node_laws.specs.Lives.{life, step_in, lost_step}
 use Rattle.node_laws.proofs.LifeLaws.{run_more}
 use Rattle.node_work.specs.Acts.{Act, Store, Session, Made}
@@ -28,7 +32,7 @@ use Rattle.cluster_play.specs.Runs.{Played}
 use Rattle.cluster_play.specs.Histories.{Reached, site, acts_of, moves_amid}
 use Rattle.cluster_play.proofs.Lives.{sessions_are_runs_amid}
 use Rattle.run_laws.specs.Staying.{Calls}
-use Rattle.run_laws.specs.Publishing.{TakesPublish, PutStays, IsPassedOn, WasPassedOn, StaysOpen, connected_over, PubackStaysTrue, PubrecStaysTrue, message_in}
+use Rattle.run_laws.specs.Publishing.{TakesPublish, PutStays, IsPassedOn, WasPassedOn, StaysOpen, connected_over, PubackStaysTrue, PubrecStaysTrue, events_before, filled, message_in}
 use Rattle.run_laws.proofs.Opening.{OpenedIn, last_once, open_over, opened_at, opened_in}
 use Rattle.run_laws.proofs.Staying.{CalledAt, Finds, called_at, stays_made}
 
@@ -63,15 +67,31 @@ module _ (run later : List Played) (m : Played) (w : World) (r : Reached (run ++
   abbrev takes_it : (qos : Qos) (id : ℕ) → Publishes qos id c.step.event → TakesPublish qos id c.step
   takes_it qos id p = record { publish = p.publish; room = p.room; event = p.event ∙ ap (λ n. takes (packets.Publish p.publish) n p.room) (at_moment p); qos_is = p.qos_is; identifier = p.identifier }
 
-  accepted : (qos : Qos) (id : ℕ) (p : Publishes qos id c.step.event) → c.step.reaction.ask ≡ Some (Pass (message_at here.finds.seat.session p)) → IsPassedOn run later m w before c (message_in (takes_it qos id p))
+  -- the events of the session before the call
+  abbrev steps : List Step
+  steps = events_before run m before c
+
+  runs : SessionRun (new_session c.step.client) steps here.finds.seat.session
+  runs = sessions_are_runs_amid run here.finds.world m here.finds.reached (site m.fate) before here.finds.held here.finds.there c.step.client here.finds.seat here.finds.found
+
+  -- by what they told the PUBLISH has its topic
+  under : {qos : Qos} {id : ℕ} (p : Publishes qos id c.step.event) → c.step.reaction.ask ≡ Some (Pass (message_at here.finds.seat.session p)) → (o : Option Link) → here.finds.seat.session.link ≡ o
+      → aliases.filled (aliases_of here.finds.seat.session.link) p.publish ≡ filled (topics_told steps) p.publish
+  under p asks None e =
+      let reacts = subst (λ e. Reacts here.finds.seat.session e c.step.reaction c.step.after) p.event here.reacts in
+      let none = keeps_unheard here.finds.seat.session c.step.after (packets.Publish p.publish) p.now p.room c.step.reaction e reacts in
+      absurd (let z : None ≡ Some (Pass (message_at here.finds.seat.session p)) = sym (ap (λ (v : Reaction). v.ask) none.0) ∙ asks in cc)
+  under p asks (Some l) e = ap (λ (t : Option (List ℕ)). record p.publish { topic = unwrap_or t [] }) (told-under c.step.client steps here.finds.seat.session l p.publish runs e)
+
+  accepted : (qos : Qos) (id : ℕ) (p : Publishes qos id c.step.event) → c.step.reaction.ask ≡ Some (Pass (message_at here.finds.seat.session p)) → IsPassedOn run later m w before c (message_in steps (takes_it qos id p))
   accepted qos id p asks =
-      let x = message_in (takes_it qos id p) in
-      let same : message_at here.finds.seat.session p ≡ x = λ i. message_of p.publish (here.client i) (at_moment p i) in
+      let x = message_in steps (takes_it qos id p) in
+      let same : message_at here.finds.seat.session p ≡ x = λ i. message_of (under p asks here.finds.seat.session.link refl i) (here.client i) (at_moment p i) in
       passed_on run later m w r before c x here.finds
       (accepted_is_passed_on here.event here.finds.there.holds.site.node.place here.finds.there.held here.finds.held (acts_of m.fate) here.decides before c.after c.step x c.acts here.finds.there.runs
       (record { publish = p.publish; now = p.now; room = p.room; event = p.event; asks = asks ∙ ap (λ y. Some (Pass y)) same }))
 
-  pub once : (id : ℕ) → Gives (puback id 0) c.step.reaction.packets → (t : TakesPublish AtLeastOnce id c.step) × IsPassedOn run later m w before c (message_in t)
+  pub once : (id : ℕ) → Gives (puback id 0) c.step.reaction.packets → (t : TakesPublish AtLeastOnce id c.step) × IsPassedOn run later m w before c (message_in steps t)
   once id g =
       let t = puback_tells here.finds.seat.session c.step.after c.step.event c.step.reaction id here.reacts g in
       (takes_it AtLeastOnce id t.0, accepted AtLeastOnce id t.0 t.1)
@@ -119,7 +139,7 @@ opened_by run later m w r before c id o =
     }
 
 twice : (run later : List Played) (m : Played) (w : World) (r : Reached (run ++ m ∷ later) w) (before : List Act) (c : Calls m before) (id : ℕ) → Gives (pubrec id 0) c.step.reaction.packets
-    → (t : TakesPublish ExactlyOnce id c.step) × (IsPassedOn run later m w before c (message_in t) ⊎ WasPassedOn run later m w before c id)
+    → (t : TakesPublish ExactlyOnce id c.step) × (IsPassedOn run later m w before c (message_in (events_before run m before c) t) ⊎ WasPassedOn run later m w before c id)
 twice run later m w r before c id g =
     let here = called_at run later m w r before c in
     let old = here.finds.seat.session in
@@ -139,7 +159,7 @@ twice run later m w r before c id g =
         → Reacts (called_at run later m w r before c).finds.seat.session (takes (packets.Publish p.publish) p.now p.room) c.step.reaction c.step.after
         → PassesOnce (open_over false id false (life c.step.client (moves_amid (site m.fate) run before) [])) id c.step.reaction
         → (b : Bool) → open_over false id false (life c.step.client (moves_amid (site m.fate) run before) []) ≡ b
-        → IsPassedOn run later m w before c (message_in (takes_it run later m w r before c ExactlyOnce id p)) ⊎ WasPassedOn run later m w before c id
+        → IsPassedOn run later m w before c (message_in (events_before run m before c) (takes_it run later m w r before c ExactlyOnce id p)) ⊎ WasPassedOn run later m w before c id
     by p reacts passes true e = inr (opened_by run later m w r before c id (opened_in id (life c.step.client (moves_amid (site m.fate) run before) []) e))
     by p reacts passes false e =
         let old = (called_at run later m w r before c).finds.seat.session in

@@ -32,9 +32,9 @@ pub record IsMadeIn (run later : List Played) (m : Played) (w : World) (acts : L
   pub is : acts ≡ made.first ++ Store (Made o) ∷ rest
 
 -- ---- a SUBSCRIBE
--- the client is subscribed to the filter, with its options and the identifier
+-- the client is subscribed to the filter, with its options and the identifier, under the version of the table of homes that its node held (MakesNext)
 abbrev pub IsSubscribed : List Played → List Played → Played → World → List Act → List ℕ → ℕ → SubscribeFilter → Type 0
-IsSubscribed run later m w acts client identifier f = (dot : Dot) × (cover : Dots) × IsMadeIn run later m w acts (operations.Subscribe dot (entry_of client f identifier) cover)
+IsSubscribed run later m w acts client identifier f = (dot : Dot) × (cover : Dots) × (version : ℕ) × IsMadeIn run later m w acts (operations.Subscribe dot (entry_of client f identifier version) cover)
 
 -- each filter has a code: its QoS, where the client is subscribed to it, or Topic Filter invalid or Quota exceeded
 abbrev pub AreSubscribed : List Played → List Played → Played → World → List Act → List ℕ → ℕ → List SubscribeFilter → List ℕ → Type 0

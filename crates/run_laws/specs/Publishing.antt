@@ -1,15 +1,17 @@
 -- What a PUBACK or a PUBREC tells in a run (MQTT 5.0, 4.3.2 and 4.3.3).
-use Rattle.std.specs.Prelude.{◌≡◌, ◌⊎◌, ℕ, Bool, true, false, List, [], ◌∷◌, ◌++◌}
+use Rattle.std.specs.Prelude.{◌≡◌, ◌⊎◌, ℕ, Bool, true, false, List, [], ◌∷◌, ◌++◌, unwrap_or}
 use Rattle.causal_context.specs.Dots.{Dot}
 use Rattle.mqtt_fields.specs.declared.options.Qos.{Qos}
 use Rattle.mqtt_fields.specs.declared.options.Qos.TheVariants.{AtLeastOnce, ExactlyOnce}
+use Rattle.mqtt_fields.specs.Properties.{first_two}
 use Rattle.mqtt_packets.specs.declared.packet.Packet.TheVariants as packets
 use Rattle.mqtt_packets.specs.declared.publish.Publish.{Publish}
 use Rattle.mqtt_message.specs.Accepted.{accepted}
 use Rattle.mqtt_message.specs.declared.message.Message.{Message}
 use Rattle.replica_store.specs.declared.operation.Operation.TheVariants.{Put}
-use Rattle.replica_store.specs.declared.operation.Stamp.{Stamp}
+use Rattle.replica_store.specs.Stamps.{Stamp}
 use Rattle.mqtt_sessions.specs.Answers.{puback, pubrec}
+use Rattle.session_laws.specs.Aliases.{Topics, topic_under, topics_told}
 use Rattle.session_laws.specs.Arrivals.{is_open_after}
 use Rattle.session_laws.specs.Runs.{Step, connected_after, takes}
 use Rattle.node_laws.specs.Lives.{life, step_in}
@@ -32,9 +34,17 @@ pub record TakesPublish (qos : Qos) (id : ℕ) (s : SessionStep) : Type 0 where
   pub qos_is : publish.qos ≡ qos
   pub identifier : publish.identifier ≡ id
 
--- the message of the PUBLISH, by its client at that moment
-abbrev pub message_in : {qos : Qos} {id : ℕ} {s : SessionStep} → TakesPublish qos id s → Message
-message_in {s = s} t = accepted t.publish s.client s.at
+-- the PUBLISH, where its topic is empty under the one that its alias stands for
+abbrev pub filled : Topics → Publish → Publish
+filled told p = record p { topic = unwrap_or (topic_under told p.topic (first_two 35 p.properties)) [] }
+
+-- the message of the PUBLISH, by its client at that moment, after these events of the client's session
+abbrev pub message_in : {qos : Qos} {id : ℕ} {s : SessionStep} → List Step → TakesPublish qos id s → Message
+message_in {s = s} steps t = accepted (filled (topics_told steps) t.publish) s.client s.at
+
+-- the events of the client's session since it last began, before a call of it
+abbrev pub events_before : (run : List Played) (m : Played) (before : List Act) → Calls m before → List Step
+events_before run m before c = life c.step.client (moves_amid (site m.fate) run before) []
 
 -- directly after the call the topic is given the message, or with an empty payload none, and that stays
 pub record PutStays (run later : List Played) (m : Played) (w : World) (before : List Act) (c : Calls m before) (x : Message) : Type 0 where
@@ -58,7 +68,7 @@ abbrev pub PubackStaysTrue : Type 0
 PubackStaysTrue =
     (run later : List Played) (m : Played) (w : World) → Reached (run ++ m ∷ later) w
     → (before : List Act) (c : Calls m before) (id : ℕ) → Gives (puback id 0) c.step.reaction.packets
-    → (t : TakesPublish AtLeastOnce id c.step) × IsPassedOn run later m w before c (message_in t)
+    → (t : TakesPublish AtLeastOnce id c.step) × IsPassedOn run later m w before c (message_in (events_before run m before c) t)
 
 -- ---- an exchange that is open
 
@@ -84,10 +94,10 @@ pub record WasPassedOn (run later : List Played) (m : Played) (w : World) (befor
   pub call : Calls opening earlier
   pub same : call.step.client ≡ c.step.client
   pub publish : TakesPublish ExactlyOnce id call.step
-  pub passed : IsPassedOn first last opening w earlier call (message_in publish)
+  pub passed : IsPassedOn first last opening w earlier call (message_in (events_before first opening earlier call) publish)
   pub past : List Step
   pub since : List Step
-  pub calls : life c.step.client (moves_amid (site m.fate) run before) [] ≡ past ++ step_in call.step ∷ since
+  pub calls : events_before run m before c ≡ past ++ step_in call.step ∷ since
   pub stays : StaysOpen (connected_over false (past ++ step_in call.step ∷ [])) id since
 
 -- the message of the PUBLISH that PUBREC 0x00 answers is passed on in the step that gives the PUBREC out, or its exchange is open, and
@@ -97,4 +107,4 @@ PubrecStaysTrue =
     (run later : List Played) (m : Played) (w : World) → Reached (run ++ m ∷ later) w
     → (before : List Act) (c : Calls m before) (id : ℕ) → Gives (pubrec id 0) c.step.reaction.packets
     → (t : TakesPublish ExactlyOnce id c.step)
-    × (IsPassedOn run later m w before c (message_in t) ⊎ WasPassedOn run later m w before c id)
+    × (IsPassedOn run later m w before c (message_in (events_before run m before c) t) ⊎ WasPassedOn run later m w before c id)

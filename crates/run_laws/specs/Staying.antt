@@ -10,8 +10,8 @@ use Rattle.node_work.specs.Acts.{Act, Store, Session, Made}
 use Rattle.node_work.specs.Held.Sessions.{SessionStep, Called}
 use Rattle.cluster_play.specs.Worlds.{Site, World}
 use Rattle.cluster_play.specs.Runs.{Played}
-use Rattle.cluster_play.specs.Histories.{site, acts_of, taken, operations_amid}
-use Rattle.cluster_play.specs.NextOperations.{IsNext}
+use Rattle.cluster_play.specs.Histories.{site, acts_of, taken}
+use Rattle.cluster_play.specs.Laws.{MakesNext}
 
 -- the rows of a node list a dot as taken
 pub record Lists (s : Site) (dot : Dot) : Type 0 where
@@ -29,7 +29,7 @@ pub record StaysMade (run later : List Played) (m : Played) (w : World) (o : Ope
   pub first : List Act
   pub last : List Act
   pub acts : acts_of m.fate ≡ first ++ Store (Made o) ∷ last
-  pub next : IsNext (site m.fate) (operations_amid (site m.fate) run first) o
+  pub next : MakesNext run later m w first o
   pub stays : HasTaken (run ++ m ∷ later) w (site m.fate) (dot_of o)
 
 -- a step calls a session after these of its acts

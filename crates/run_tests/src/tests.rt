@@ -2,13 +2,15 @@
 
 use broker_sockets::{RealSockets, Sockets};
 use fake_sockets::{FakeSockets, Manner};
-use script_runs::{loop_text, run_text};
+use loopback_runs::loop_text;
+use script_runs::run_text;
 use std::alloc::Global;
 use std::io::{self, ErrorKind, Write};
 use std::net::Net;
 use std::process::Abort;
 use std::str;
 
+mod aliases;
 mod bridge;
 mod crashes;
 mod faults;
@@ -101,6 +103,11 @@ fn runs_crashes(rt: HostRuntime) {
 #[test]
 fn runs_the_bridge(rt: HostRuntime) {
     check_all(&rt, rt.alloc(), &bridge::EXAMPLES);
+}
+
+#[test]
+fn runs_aliases(rt: HostRuntime) {
+    check_all(&rt, rt.alloc(), &aliases::EXAMPLES);
 }
 
 #[test]

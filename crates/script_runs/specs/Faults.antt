@@ -3,8 +3,6 @@ use Rattle.broker_stop.specs.declared.run_fault.RunFault.{RunFault}
 use Rattle.broker_stop.specs.declared.run_fault.RunFault.TheVariants as runs
 use Rattle.cluster_play.specs.declared.fault.PlayFault.{PlayFault}
 use Rattle.cluster_play.specs.declared.fault.PlayFault.TheVariants as plays
-use Rattle.loopback_wires.specs.declared.fault.WireFault.{WireFault}
-use Rattle.loopback_wires.specs.declared.fault.WireFault.TheVariants as wires
 
 -- a step that is refused
 abbrev pub played : PlayFault → RunFault
@@ -13,9 +11,3 @@ played plays.UnknownNode = runs.UnknownNode
 played plays.UnknownFrame = runs.UnknownFrame
 played plays.NoMemory = runs.NoMemory
 played plays.Spent = runs.Spent
-
--- bytes that don't pass
-abbrev pub wired : WireFault → RunFault
-wired wires.NoMemory = runs.NoMemory
-wired wires.Socket = runs.Socket
-wired wires.Turns = runs.Turns

@@ -1,11 +1,10 @@
 //! What ends a run.
 
 ghost use Rattle.std.specs.Prelude.{◌≡◌};
-ghost use Rattle.script_runs.specs.Faults.{played, wired};
+ghost use Rattle.script_runs.specs.Faults.{played};
 
 use broker_stop::RunFault;
 use cluster_play::PlayFault;
-use loopback_wires::WireFault;
 
 /// A step that is refused.
 pub fn of_step(fault: PlayFault) -> RunFault
@@ -17,16 +16,5 @@ pub fn of_step(fault: PlayFault) -> RunFault
         PlayFault::UnknownFrame => RunFault::UnknownFrame,
         PlayFault::NoMemory => RunFault::NoMemory,
         PlayFault::Spent => RunFault::Spent,
-    }
-}
-
-/// Bytes that don't pass.
-pub fn of_wires(fault: WireFault) -> RunFault
-    ensures { result ≡ wired fault }
-{
-    match fault {
-        WireFault::NoMemory => RunFault::NoMemory,
-        WireFault::Socket => RunFault::Socket,
-        WireFault::Turns => RunFault::Turns,
     }
 }

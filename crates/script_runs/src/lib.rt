@@ -1,11 +1,13 @@
-//! Scripts that are run: in memory, or with clients' bytes and frames through sockets.
+//! Scripts that are run in memory, and what running them over anything else takes: the steps of a script, one after another, over
+//! whatever plays a step.
 #![tactic(auto)]
 
 mod faults;
 mod homes;
-mod loopback;
 mod player;
 mod run;
 mod steps;
 
-pub use run::{loop_script, loop_text, run_script, run_text};
+pub use faults::of_step;
+pub use player::Player;
+pub use run::{Start, begin, run_script, run_steps, run_text};

@@ -2,11 +2,9 @@
 
 use crate::faults::of_step;
 use crate::homes::tables_of;
-use crate::loopback::Loopback;
 use crate::player::{Plain, Player};
 use crate::steps::step_of;
 use broker_script::{Command, parse_script};
-use broker_sockets::Sockets;
 use broker_stop::{RunFault, Stop};
 use cluster_play::Cluster;
 use home_table::HomeTable;
@@ -23,21 +21,6 @@ pub fn run_text<O: Write, E: Write>(alloc: Global, script: &[u8], out: &mut O, e
     }
 }
 
-/// Runs a script as `run_text` does, but clients' bytes and frames pass through sockets of this machine: the same is written,
-/// unless a socket fails or bytes don't come.
-pub fn loop_text<S: Sockets, O: Write, E: Write>(
-    alloc: Global,
-    sockets: &mut S,
-    script: &[u8],
-    out: &mut O,
-    err: &mut E,
-) -> u8 {
-    match loop_script(alloc, sockets, script, out) {
-        Ok(()) => 0,
-        Err(stop) => stop.tell(out, err),
-    }
-}
-
 /// Runs a script in memory.
 pub fn run_script<O: Write>(alloc: Global, script: &[u8], out: &mut O) -> Result<(), Stop> {
     let Start {
@@ -46,34 +29,19 @@ pub fn run_script<O: Write>(alloc: Global, script: &[u8], out: &mut O) -> Result
         cluster,
     } = begin(alloc, script)?;
     let mut player = Plain::new(cluster);
-    run(alloc, commands, nodes, &mut player, out)
-}
-
-/// Runs a script with clients' bytes and frames through sockets.
-pub fn loop_script<S: Sockets, O: Write>(
-    alloc: Global,
-    sockets: &mut S,
-    script: &[u8],
-    out: &mut O,
-) -> Result<(), Stop> {
-    let Start {
-        commands,
-        nodes,
-        cluster,
-    } = begin(alloc, script)?;
-    let mut player = Loopback::new(alloc, cluster, nodes, sockets)?;
-    run(alloc, commands, nodes, &mut player, out)
+    run_steps(alloc, commands, nodes, &mut player, out)
 }
 
 /// A script's lines, the number of its nodes, and the cluster before the first step.
 #[derive(Drop)]
-struct Start {
-    commands: Vec<Command>,
-    nodes: u16,
-    cluster: Cluster,
+pub struct Start {
+    pub commands: Vec<Command>,
+    pub nodes: u16,
+    pub cluster: Cluster,
 }
 
-fn begin(alloc: Global, script: &[u8]) -> Result<Start, Stop> {
+/// What a script begins with: its lines, read whole, and a cluster of its nodes.
+pub fn begin(alloc: Global, script: &[u8]) -> Result<Start, Stop> {
     let commands = parse_script(alloc, script)?;
     let nodes = match commands.first() {
         Some(Command::Nodes { nodes }) => *nodes,
@@ -96,8 +64,8 @@ fn cluster_of(alloc: Global, tables: Vec<HomeTable>) -> Result<Cluster, RunFault
     }
 }
 
-/// Plays the step of each line, and tells what the nodes hold at the end.
-fn run<P: Player, O: Write>(
+/// Plays the step of each line, each step's lines written before the next one, and tells what the nodes hold at the end.
+pub fn run_steps<P: Player, O: Write>(
     alloc: Global,
     commands: Vec<Command>,
     nodes: u16,

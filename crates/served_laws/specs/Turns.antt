@@ -48,7 +48,7 @@ crash_at i = record { step = steps.CrashBefore i (record { at = 0; kind = kinds.
 
 -- the node is down, and these are its rows
 abbrev pub down : NodeView → Content → Site
-down n rows = record { node = record { place = n.place; up = None }; rows = rows }
+down n rows = record { node = record n { up = None }; rows = rows }
 
 -- a crash took the node before all of its events
 abbrev pub CutBefore : World → ℕ → Site → Type 0

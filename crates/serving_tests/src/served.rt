@@ -2,13 +2,10 @@
 
 use broker_serving::serve;
 use broker_stop::{RunFault, Stop};
+use database_examples::HOMES;
 use home_table::TableFault;
+use run_causes::Ending;
 use std::fs;
-
-/// Two nodes, each at any ports that are free.
-pub const HOMES: &str =
-    "[[node]]\nname = \"n0\"\naddress = \"127.0.0.1:0\"\nbridge = \"127.0.0.1:0\"\n\
-    [[node]]\nname = \"n1\"\naddress = \"127.0.0.1:0\"\nbridge = \"127.0.0.1:0\"\n";
 
 /// How many bytes a configuration may have.
 const MOST_BYTES: usize = 16_777_216;
@@ -16,7 +13,15 @@ const MOST_BYTES: usize = 16_777_216;
 /// Whether serving a node of a configuration for one turn, with its rows in this database, ends as told.
 pub fn ends_by(rt: &HostRuntime, names: (&str, &str, &str), end: Result<(), Stop>) -> bool {
     let (configuration, node, database) = names;
-    let ended = serve(rt, configuration, node, database, 1);
+    let ended = match serve(rt, configuration, node, database, 1) {
+        Ok(()) => Ok(()),
+        Err(
+            Ending {
+                stop,
+                cause: _cause,
+            },
+        ) => Err(stop),
+    };
     let ends = ended == end;
     drop((ended, end));
     ends
@@ -57,15 +62,10 @@ fn write_padded(rt: &HostRuntime, path: &str, bytes: usize) -> bool {
 
 #[test]
 fn a_configuration_has_an_end(rt: HostRuntime) {
-    for (bytes, fault) in [
-        (MOST_BYTES, TableFault::UnknownNode),
-        (MOST_BYTES + 1, TableFault::Syntax),
-    ] {
-        assert!(rt; write_padded(&rt, "long.toml", bytes));
-        let end = Err(Stop::Configuration(fault));
-        assert!(rt;
-            ends_by(&rt, ("long.toml", "n2", "no.db"), end),
-            "{bytes} bytes"
-        );
-    }
+    assert!(rt; write_padded(&rt, "long.toml", MOST_BYTES));
+    let unopened = Err(Stop::Run(RunFault::Rows));
+    assert!(rt; ends_by(&rt, ("long.toml", "n0", "nowhere/no.db"), unopened));
+    assert!(rt; write_padded(&rt, "long.toml", MOST_BYTES + 1));
+    let too_long = Err(Stop::Configuration(TableFault::Syntax));
+    assert!(rt; ends_by(&rt, ("long.toml", "n0", "nowhere/no.db"), too_long));
 }

@@ -16,15 +16,15 @@ use std::net::SocketAddr;
 use std::process::Abort;
 
 /// CONNECT of client `a`, whose home of two nodes is the second one, a retained PUBLISH of `on` to `t`, and SUBSCRIBE to `t`.
-const PACKETS: [&[u8]; 3] = [
+pub const PACKETS: [&[u8]; 3] = [
     b"\x10\x0e\x00\x04MQTT\x05\x02\x00\x3c\x00\x00\x01a",
     b"\x31\x06\x00\x01t\x00on",
     b"\x82\x07\x00\x01\x00\x00\x01t\x00",
 ];
 
 /// CONNACK, SUBACK, and the retained message.
-const ANSWERS: &[u8] =
-    b"\x20\x0b\x00\x00\x08\x21\x00\x64\x27\x00\x10\x00\x00\x90\x04\x00\x01\x00\x00\x31\x06\x00\x01t\x00on";
+pub const ANSWERS: &[u8] =
+    b"\x20\x0e\x00\x00\x0b\x21\x00\x64\x22\x00\x10\x27\x00\x10\x00\x00\x90\x04\x00\x01\x00\x00\x31\x06\x00\x01t\x00on";
 
 /// The second of two nodes, which has no rows yet and has started.
 fn started_node(rt: &impl Abort, alloc: Global) -> ServedNode<MemoryRows> {
@@ -128,8 +128,13 @@ fn table(rt: &impl Abort, alloc: Global, address: &str, bridge: &str) -> HomeTab
     HomeTable::parse(alloc, text.as_str()).expect(rt, "a table")
 }
 
-/// Runs a new node of the table for two turns, and answers what ends the run early, if anything does.
-fn serve_two(rt: &HostRuntime, homes: HomeTable, out: &mut Vec<u8>) -> Option<RunFault> {
+/// Runs a new node of the table for so many turns, and answers what ends the run early, if anything does.
+fn serve_for(
+    rt: &HostRuntime,
+    homes: HomeTable,
+    turns: u32,
+    out: &mut Vec<u8>,
+) -> Option<RunFault> {
     if homes.nodes() == 0 {
         drop(homes);
         return None;
@@ -141,24 +146,43 @@ fn serve_two(rt: &HostRuntime, homes: HomeTable, out: &mut Vec<u8>) -> Option<Ru
     };
     let mut clock = RealClock::new(rt);
     let rows = MemoryRows::new(alloc);
-    serve(alloc, &mut sockets, &mut clock, rows, (homes, 0), 2, out).err()
+    serve(
+        alloc,
+        &mut sockets,
+        &mut clock,
+        rows,
+        (homes, 0),
+        turns,
+        out,
+    )
+    .err()
 }
 
 #[test]
 fn a_run_tells_its_turns(rt: HostRuntime) {
-    for (address, bridge, fault, lines) in [
+    let any = "127.0.0.1:0";
+    let socket = Some(RunFault::Socket);
+    for (address, bridge, turns, fault, lines) in [
         (
-            "127.0.0.1:0",
-            "127.0.0.1:0",
+            any,
+            any,
+            1,
+            None,
+            "ready 127.0.0.1:0 127.0.0.1:0\nturns 1\n",
+        ),
+        (
+            any,
+            any,
+            2,
             None,
             "ready 127.0.0.1:0 127.0.0.1:0\nturns 2\n",
         ),
-        ("localhost", "127.0.0.1:0", Some(RunFault::Socket), ""),
-        ("127.0.0.1:0", "127.0.0.1", Some(RunFault::Socket), ""),
+        ("localhost", any, 2, socket, ""),
+        (any, "127.0.0.1", 2, socket, ""),
     ] {
         let mut out = Vec::new(rt.alloc());
         let homes = table(&rt, rt.alloc(), address, bridge);
-        assert!(rt; serve_two(&rt, homes, &mut out) == fault);
+        assert!(rt; serve_for(&rt, homes, turns, &mut out) == fault);
         assert!(rt; out.as_slice() == lines.as_bytes());
     }
 }

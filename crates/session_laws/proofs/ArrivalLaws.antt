@@ -14,7 +14,6 @@ use Rattle.mqtt_packets.specs.declared.packet.Packet.{Packet}
 use Rattle.mqtt_packets.specs.declared.packet.Packet.TheVariants as packets
 use Rattle.mqtt_packets.specs.declared.publish.Publish.{Publish}
 use Rattle.mqtt_packets.specs.declared.subscribe.Subscribe.{Subscribe}
-use Rattle.mqtt_message.specs.Accepted.{accepted}
 use Rattle.mqtt_message.specs.declared.delivery.Delivery.{Delivery}
 use Rattle.mqtt_message.specs.declared.message.Message.{Message}
 use Rattle.mqtt_packets.specs.declared.connect.Connect.{Connect}
@@ -31,14 +30,14 @@ use Rattle.mqtt_sessions.specs.declared.reaction.Ask.{Ask}
 use Rattle.mqtt_sessions.specs.declared.reaction.Ask.TheVariants.{Pass}
 use Rattle.mqtt_sessions.specs.declared.reaction.Output.TheVariants.{Answer}
 use Rattle.mqtt_sessions.specs.Answers.{ack, pubrec, pubrel, connack, fits}
-use Rattle.mqtt_sessions.specs.Arriving.{refusal, is_full, is_unwelcome, arrival_once, arrival_twice, once_by, arrives_twice, passes_by, publish_by, released}
+use Rattle.mqtt_sessions.specs.Arriving.{refusal, message_in, setting, is_full, is_unwelcome, arrival_once, arrival_twice, once_by, arrives_twice, passes_by, publish_by, released}
 use Rattle.mqtt_sessions.specs.Asking.{SubscribeStep, answer_by, answer_on}
 use Rattle.mqtt_sessions.specs.Connecting.{OpensIf}
 use Rattle.mqtt_sessions.specs.Ending.{disconnected_by, timed_out, ticked_if}
 use Rattle.mqtt_sessions.specs.Packets.{PubrecBy, SaysUnknown, KindStep, PacketIf}
 use Rattle.mqtt_sessions.specs.Reaction.{Reaction, Comes, answered, nothing}
 use Rattle.mqtt_sessions.specs.Sending.{is_once, QueueIf}
-use Rattle.mqtt_sessions.specs.State.{State, Link, heard, limit_in, limit_of, new_session}
+use Rattle.mqtt_sessions.specs.State.{State, Link, aliases_of, heard, limit_in, limit_of, new_session}
 use Rattle.session_laws.specs.Runs.{Event, connects, queues, takes, answers, closes, ticks, finishes, loses, Step, Reacts, Run, connected_after, limit_after}
 use Rattle.session_laws.specs.Arrivals.{is_exactly_once, is_for, is_open_after, PassesBy, ComesOnce, KeepsOnce}
 use Rattle.session_laws.proofs.QuietLaws.{HasLimit}
@@ -193,7 +192,7 @@ passes-told ExactlyOnce on unwelcome id limit p now room m s new r twice q c = t
 
 publish-told : (o : Option ℕ) (on : Bool) (id limit : ℕ) (p : Publish) (now : ℕ) (room : Bool) (s new : State) (r : Reaction) → NoneTwice s.incoming → Comes (publish_by o p now room limit s) r new → IsTold on id s.incoming (takes (packets.Publish p) now room) r new.incoming
 publish-told (Some code) on id limit p now room s new r twice c = still-told on id s.incoming new.incoming p now room r twice (rw c.1 refl) (λ f. rw c.0 refl) (λ k f. (let bad : [] ≡ Answer (pubrec id 0) ∷ [] = rw c.0 at k in cc))
-publish-told None on id limit p now room s new r twice c = passes-told p.qos on (is_unwelcome p room) id limit p now room (accepted p s.kept.client now) s new r twice refl c
+publish-told None on id limit p now room s new r twice c = passes-told p.qos on (is_unwelcome p room) id limit p now room (message_in p now (setting p s)) (setting p s) new r twice refl c
 
 -- ---- PUBREL
 pubrel-told : (o : Option Bool) (id i limit : ℕ) (s new : State) (r : Reaction) → opened i s.incoming ≡ o → NoneTwice s.incoming → Comes (released i limit s) r new → (is_some (opened id new.incoming) ≡ cond (i == id) false (is_some (opened id s.incoming))) × NoneTwice new.incoming
@@ -215,7 +214,7 @@ left-told : (on : Bool) (id : ℕ) (old new : Received) (e : Event) (r : Reactio
 left-told on id old new e r twice same is passed = record { is = rw same (sym is); passed = passed; twice = rw same twice }
 
 kind-told : (id : ℕ) (p : Packet) (now : ℕ) (room : Bool) (limit : ℕ) (s new : State) (r : Reaction) → NoneTwice s.incoming → KindStep p now room limit s r new → IsTold true id s.incoming (takes p now room) r new.incoming
-kind-told id (packets.Publish p) now room limit s new r twice h = publish-told (refusal p) true id limit p now room s new r twice h
+kind-told id (packets.Publish p) now room limit s new r twice h = publish-told (refusal (aliases_of s.link) p) true id limit p now room s new r twice h
 kind-told id (packets.Puback a) now room limit s new r twice h = left-told true id s.incoming new.incoming _ r twice (rw h.left refl) refl tt
 kind-told id (packets.Pubrec a) now room limit s new r twice h = left-told true id s.incoming new.incoming _ r twice (pubrec-leaves h.answer a.identifier a.reason now limit s new h.mid r h.goes_on) refl tt
 kind-told id (packets.Pubrel a) now room limit s new r twice h =

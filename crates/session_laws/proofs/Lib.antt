@@ -5,6 +5,7 @@ pub mod ProjectLaws
 pub mod LiftLaws
 pub mod BusyLaws
 pub mod SizeLaws
+pub mod AliasLaws
 pub mod ReplyLaws
 pub mod ArrivalLaws
 pub mod LeastLaws

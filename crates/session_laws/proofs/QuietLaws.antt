@@ -1,5 +1,5 @@
 -- The events that leave the handshakes of what is sent.
-use Rattle.std.proofs.Common.{◌≡◌, ℕ, Bool, true, false, List, [], ◌∷◌, ◌⊎◌, Option, Some, None, IsSome, refl, inl, inr}
+use Rattle.std.proofs.Common.{◌≡◌, ℕ, Bool, true, false, List, [], ◌∷◌, ◌⊎◌, Option, Some, None, IsSome, refl, ◌∙◌, inl, inr}
 use Rattle.std.specs.Prelude.{is_some, cond, not, ◌==◌, ◌&&◌}
 use Rattle.std.specs.List.{AllByRecursion}
 use Rattle.std.proofs.lemmas.Bool.{cases_Bool, false≢true}
@@ -11,7 +11,6 @@ use Rattle.mqtt_packets.specs.declared.publish.Publish.{Publish}
 use Rattle.mqtt_packets.specs.declared.ended.Ended.{Ended}
 use Rattle.mqtt_packets.specs.declared.subscribe.Subscribe.{Subscribe}
 use Rattle.mqtt_packets.specs.declared.unsubscribe.Unsubscribe.{Unsubscribe}
-use Rattle.mqtt_message.specs.Accepted.{accepted}
 use Rattle.mqtt_message.specs.declared.message.Message.{Message}
 use Rattle.qos_handshakes.specs.declared.answers.In.{In}
 use Rattle.qos_handshakes.specs.declared.answers.In.TheVariants.{New, Repeat, InUse, OverMaximum}
@@ -22,12 +21,12 @@ use Rattle.mqtt_sessions.specs.declared.reaction.Output.{Output}
 use Rattle.mqtt_sessions.specs.declared.reaction.Output.TheVariants as out
 use Rattle.mqtt_sessions.specs.Answers as answer_packets
 use Rattle.mqtt_sessions.specs.Answers.{fits}
-use Rattle.mqtt_sessions.specs.Arriving.{refusal, is_unwelcome, arrival_once, arrival_twice, once_by, twice_by, passes_by, publish_by}
+use Rattle.mqtt_sessions.specs.Arriving.{refusal, message_in, setting, setting_by, is_unwelcome, arrival_once, arrival_twice, once_by, twice_by, passes_by, publish_by}
 use Rattle.mqtt_sessions.specs.Asking.{SubscribeStep, subscribed, unsubscribed, asking, answer_of, answer_by, answer_on, waiting_for}
 use Rattle.mqtt_sessions.specs.Ending.{disconnected_by, will_after, passes_will, timed_out, ticked_if, ticked}
 use Rattle.mqtt_sessions.specs.Packets.{PubackStep, PubcompStep, PubrecStep, KindStep}
 use Rattle.mqtt_sessions.specs.Reaction.{Reaction, Outcome, Comes, answered, refused, nothing, packet_of}
-use Rattle.mqtt_sessions.specs.State.{State, Link, cut}
+use Rattle.mqtt_sessions.specs.State.{State, Link, aliases_of, cut}
 use Rattle.session_laws.specs.Sizes.{EndFits}
 use Rattle.session_laws.specs.Sends.{sent_in, sent_once_in, marks_in}
 
@@ -116,9 +115,22 @@ quiet-passes AtMostOnce p unwelcome limit m s is = still limit s s _ false false
 quiet-passes AtLeastOnce p unwelcome limit m s is = quiet-once (arrival_once s.incoming p.identifier) unwelcome limit p.identifier m s is
 quiet-passes ExactlyOnce p unwelcome limit m s is = quiet-twice (arrival_twice s.incoming p.identifier) unwelcome limit p.identifier m s _ refl refl is
 
+-- where the alias of a PUBLISH was set before
+setting-limit : (limit : ℕ) (p : Publish) (o : Option Link) → HasLimit limit o → HasLimit limit (setting_by o p)
+setting-limit limit p None is = tt
+setting-limit limit p (Some l) is = is
+
+setting-open : (p : Publish) (o : Option Link) → is_some (setting_by o p) ≡ is_some o
+setting-open p None = refl
+setting-open p (Some l) = refl
+
+quiet-from : (limit : ℕ) (old s : State) (r : Reaction) (new : State) → s.outbox ≡ old.outbox → is_some s.link ≡ is_some old.link → IsQuiet limit s r new → IsQuiet limit old r new
+quiet-from limit old s r new e link q = record { plain = q.plain; same = q.same ∙ e; limited = q.limited; last = q.last; ends = q.ends; stays = λ t. q.stays t ∙ link }
+
 quiet-publish : (o : Option ℕ) (p : Publish) (now : ℕ) (room : Bool) (limit : ℕ) (s : State) → HasLimit limit s.link → IsQuietly limit s (publish_by o p now room limit s)
 quiet-publish (Some code) p now room limit s is = quiet-refused limit code s s refl
-quiet-publish None p now room limit s is = quiet-passes p.qos p (is_unwelcome p room) limit (accepted p s.kept.client now) s is
+quiet-publish None p now room limit s is =
+    quiet-from limit s (setting p s) _ _ refl (setting-open p s.link) (quiet-passes p.qos p (is_unwelcome p room) limit (message_in p now (setting p s)) (setting p s) (setting-limit limit p s.link is))
 
 -- ---- SUBSCRIBE and UNSUBSCRIBE, and their codes
 quiet-waiting : (limit : ℕ) (asked : Option Asked) (o : Option Link) (s : State) → s.link ≡ o → HasLimit limit o → HasLimit limit (waiting_for asked s).link
@@ -190,7 +202,7 @@ IsHandshake p now limit s r new = ⊥
 
 -- any other leaves the outbox
 pub kinds : (p : Packet) (now : ℕ) (room : Bool) (limit : ℕ) (s : State) (r : Reaction) (new : State) → HasLimit limit s.link → KindStep p now room limit s r new → (IsQuiet limit s r new × (marks_in p ≡ [])) ⊎ IsHandshake p now limit s r new
-kinds (packets.Publish p) now room limit s r new is h = inl (by-comes limit s new _ r h (quiet-publish (refusal p) p now room limit s is), refl)
+kinds (packets.Publish p) now room limit s r new is h = inl (by-comes limit s new _ r h (quiet-publish (refusal (aliases_of s.link) p) p now room limit s is), refl)
 kinds (packets.Puback a) now room limit s r new is h = inr h
 kinds (packets.Pubrec a) now room limit s r new is h = inr h
 kinds (packets.Pubrel a) now room limit s r new is h = inl (by-comes limit s new _ r h (quiet-answered limit _ None s _ refl refl is), refl)

@@ -35,7 +35,7 @@ use Rattle.mqtt_sessions.specs.Answers.{ack, puback, pubrec, pubrel, suback, uns
 use Rattle.mqtt_sessions.specs.Arriving.{has_property}
 use Rattle.mqtt_topics.specs.Levels.{is_wildcard}
 use Rattle.mqtt_message.specs.Accepted.{accepted}
-use Rattle.mqtt_fields.specs.Properties.{first_four}
+use Rattle.mqtt_fields.specs.Properties.{first_two, first_four}
 use Rattle.handshake_laws.specs.Runs.{resumed}
 use Rattle.handshake_laws.proofs.NumberLaws.{numbered-step}
 use Rattle.handshake_laws.proofs.ChosenLaws.{append-nil}
@@ -44,13 +44,15 @@ use Rattle.mqtt_sessions.specs.Ending.{timed_out, ticked_if}
 use Rattle.mqtt_sessions.specs.Reaction.{Reaction, publishes_of, pubrels_of}
 use Rattle.mqtt_sessions.specs.Sending.{is_once, once_of, QueueIf}
 use Rattle.mqtt_sessions.specs.State.{State, Link, limit_in, limit_of, new_session}
+use Rattle.session_laws.specs.Aliases.{Topics, topic_under}
+use Rattle.session_laws.proofs.AliasLaws.{held}
 use Rattle.session_laws.specs.Runs.{Event, connects, queues, takes, answers, closes, ticks, finishes, loses, Reacts}
 use Rattle.session_laws.specs.Sends.{marks_by, all_marks}
-use Rattle.session_laws.specs.Replies.{Reply, silent, says, asks, both, ends, leaves, reaction_of, has_hundred, reply_exactly_once, reply_at, reply_publish, reply_request, reply_disconnect, reply_unknown, reply_known, reply_pubrec, reply_codes, IsReply}
+use Rattle.session_laws.specs.Replies.{Reply, silent, says, asks, both, ends, leaves, reaction_of, has_hundred, is_invalid, reply_under, reply_exactly_once, reply_at, reply_publish, reply_request, reply_disconnect, reply_unknown, reply_known, reply_pubrec, reply_codes, IsReply}
 use Rattle.session_laws.specs.Exchanges.{Exchange, none, released, after_pubrec, exchange_over, Releases, KeepsReleases}
 use Rattle.session_laws.proofs.SilenceLaws.{run-split}
 use Rattle.session_laws.proofs.LiftLaws.{keeps_numbers}
-use Rattle.session_laws.proofs.ReplyLaws.{keeps_replies, keeps_unheard, keeps_codes}
+use Rattle.session_laws.proofs.ReplyLaws.{replies_by_link, keeps_unheard, keeps_codes}
 use Rattle.session_laws.proofs.ExchangeLaws.{exchange_at, IsTold, told-away, released-exchange, received-now, told-whole}
 
 -- ---- packets without PUBREL
@@ -107,9 +109,13 @@ at-none id AtLeastOnce r i refused m = neither id (has_hundred r) (ends 147) _ (
     (neither id (is_some (opened i r)) (says (puback i 145)) _ (λ h. (cc h)) (neither id refused (says (puback i 151)) (both (puback i 0) (server.Pass m)) (λ h. (cc h)) (λ h. (cc h))))
 at-none id ExactlyOnce r i refused m = twice-none id (opened i r) r i refused m
 
-publish-none : (id : ℕ) (s : State) (p : published.Publish) (now : ℕ) (room : Bool) → IsPubrel id (reply_publish s p now room) → ⊥
-publish-none id s p now room = neither id (has_property 35 p.properties) (ends 148) _ (λ h. h) (neither id (has_property 11 p.properties) (ends 130) _ (λ h. h)
-    (neither id (list_any is_wildcard p.topic) (ends 144) _ (λ h. h) (at-none id p.qos s.incoming p.identifier (p.retain && not room) (accepted p s.kept.client now))))
+under-none : (id : ℕ) (o : Option (List ℕ)) (s : State) (p : published.Publish) (now : ℕ) (room : Bool) → IsPubrel id (reply_under o s p now room) → ⊥
+under-none id None s p now room = λ h. h
+under-none id (Some topic) s p now room = neither id (has_property 11 p.properties) (ends 130) _ (λ h. h)
+    (neither id (list_any is_wildcard p.topic) (ends 144) _ (λ h. h) (at-none id p.qos s.incoming p.identifier (p.retain && not room) (accepted (record p { topic = topic }) s.kept.client now)))
+
+publish-none : (id : ℕ) (told : Topics) (s : State) (p : published.Publish) (now : ℕ) (room : Bool) → IsPubrel id (reply_publish told s p now room) → ⊥
+publish-none id told s p now room = neither id (is_invalid (first_two 35 p.properties)) (ends 148) _ (λ h. h) (under-none id (topic_under told p.topic (first_two 35 p.properties)) s p now room)
 
 request-none : (id : ℕ) (r : Received) (i : ℕ) (p : Packet) (a : Ask) → (p ≡ pubrel id 0 → ⊥) → IsPubrel id (reply_request r i p a) → ⊥
 request-none id r i p a not_it = neither id (is_some (opened i r)) (says p) (asks a) not_it (λ h. h)
@@ -148,25 +154,25 @@ pubrec-released (Some e) id i reason x es is told h = elim (cases_Bool (is_relea
   ]
 ]
 
-packet-released : (p : Packet) (id now : ℕ) (room : Bool) (s : State) (x : Exchange) (y : Reply) → IsTold id x s.outbox.copies → IsReply p now room s y → IsPubrel id y → exchange_over id x (marks_by true (takes p now room)) ≡ released
-packet-released (packets.Publish p) id now room s x y told is h = absurd (publish-none id s p now room (rw is at h))
-packet-released (packets.Puback a) id now room s x y told is h = absurd (rw is at h)
-packet-released (packets.Pubrec a) id now room s x y told is h =
+packet-released : (aliases : Topics) (p : Packet) (id now : ℕ) (room : Bool) (s : State) (x : Exchange) (y : Reply) → IsTold id x s.outbox.copies → IsReply aliases p now room s y → IsPubrel id y → exchange_over id x (marks_by true (takes p now room)) ≡ released
+packet-released aliases (packets.Publish p) id now room s x y told is h = absurd (publish-none id aliases s p now room (rw is at h))
+packet-released aliases (packets.Puback a) id now room s x y told is h = absurd (rw is at h)
+packet-released aliases (packets.Pubrec a) id now room s x y told is h =
     let k = pubrec-released (find_id a.identifier s.outbox.copies) id a.identifier a.reason x s.outbox.copies refl told (rw is at h) in
     rw (eq-eqb a.identifier id k.0) k.1
-packet-released (packets.Pubrel a) id now room s x y told is h = absurd (let bad = rw is at h in cc)
-packet-released (packets.Pubcomp a) id now room s x y told is h = absurd (rw is at h)
-packet-released (packets.Subscribe p) id now room s x y told (inl is) h = absurd (rw is.1 at h)
-packet-released (packets.Subscribe p) id now room s x y told (inr is) h = absurd (request-none id s.incoming p.identifier (suback p.identifier (replicate (length p.filters) 145)) server.Subscribe (λ e. (cc e)) (rw is.1 at h))
-packet-released (packets.Unsubscribe p) id now room s x y told is h = absurd (request-none id s.incoming p.identifier (unsuback p.identifier (replicate (length p.filters) 145)) server.Unsubscribe (λ e. (cc e)) (rw is at h))
-packet-released packets.Pingreq id now room s x y told is h = absurd (let bad = rw is at h in cc)
-packet-released (packets.Disconnect p) id now room s x y told is h = absurd (disconnect-none id (first_four 17 p.properties) s.kept.expiry (rw is at h))
-packet-released (packets.Connect p) id now room s x y told is h = absurd (rw is at h)
-packet-released (packets.Connack p) id now room s x y told is h = absurd (rw is at h)
-packet-released (packets.Suback p) id now room s x y told is h = absurd (rw is at h)
-packet-released (packets.Unsuback p) id now room s x y told is h = absurd (rw is at h)
-packet-released packets.Pingresp id now room s x y told is h = absurd (rw is at h)
-packet-released (packets.Auth p) id now room s x y told is h = absurd (rw is at h)
+packet-released aliases (packets.Pubrel a) id now room s x y told is h = absurd (let bad = rw is at h in cc)
+packet-released aliases (packets.Pubcomp a) id now room s x y told is h = absurd (rw is at h)
+packet-released aliases (packets.Subscribe p) id now room s x y told (inl is) h = absurd (rw is.1 at h)
+packet-released aliases (packets.Subscribe p) id now room s x y told (inr is) h = absurd (request-none id s.incoming p.identifier (suback p.identifier (replicate (length p.filters) 145)) server.Subscribe (λ e. (cc e)) (rw is.1 at h))
+packet-released aliases (packets.Unsubscribe p) id now room s x y told is h = absurd (request-none id s.incoming p.identifier (unsuback p.identifier (replicate (length p.filters) 145)) server.Unsubscribe (λ e. (cc e)) (rw is at h))
+packet-released aliases packets.Pingreq id now room s x y told is h = absurd (let bad = rw is at h in cc)
+packet-released aliases (packets.Disconnect p) id now room s x y told is h = absurd (disconnect-none id (first_four 17 p.properties) s.kept.expiry (rw is at h))
+packet-released aliases (packets.Connect p) id now room s x y told is h = absurd (rw is at h)
+packet-released aliases (packets.Connack p) id now room s x y told is h = absurd (rw is at h)
+packet-released aliases (packets.Suback p) id now room s x y told is h = absurd (rw is at h)
+packet-released aliases (packets.Unsuback p) id now room s x y told is h = absurd (rw is at h)
+packet-released aliases packets.Pingresp id now room s x y told is h = absurd (rw is at h)
+packet-released aliases (packets.Auth p) id now room s x y told is h = absurd (rw is at h)
 
 -- ---- the PUBRELs at the beginning of a connection
 part-released : (id : ℕ) (x : Exchange) (s : Stage) (d : Delivery) → (stage_has id s ≡ true → x ≡ exchange_at s d) → AllByRecursion (λ (y : ℕ × ℕ). y.1 ≡ id → x ≡ released) (stage_pair s)
@@ -230,8 +236,8 @@ takes-released : (o : Option Link) (id : ℕ) (old new : State) (p : Packet) (no
     → exchange_over id x (marks_by true (takes p now room)) ≡ released
 takes-released None id old new p now room r x e told h t = absurd (nothing-in id r.packets (rw (keeps_unheard old new p now room r e h).0 refl) t)
 takes-released (Some l) id old new p now room r x e told h t =
-    let k = keeps_replies old new l p now room r e h in
-    packet-released p id now room old x k.reply told k.is (in-reply id l.limit k.reply k.sents (rw k.gives at t))
+    let k = replies_by_link old new l p now room r e h in
+    packet-released (held l) p id now room old x k.reply told k.is (in-reply id l.limit k.reply k.sents (rw k.gives at t))
 
 codes-released : (o : Option Link) (id i : ℕ) (codes : List ℕ) (old new : State) (r : Reaction) → old.link ≡ o → Reacts old (answers i codes) r new → Releases id r.packets → ⊥
 codes-released None id i codes old new r e h t = nothing-in id r.packets (let g = rw e at h in rw g.0 refl) t

@@ -1,11 +1,11 @@
 -- Each packet has its reply.
-use Rattle.std.proofs.Common.{◌≡◌, ℕ, Bool, true, false, cond, List, [], ◌⊎◌, Option, Some, None, refl, sym, ◌∙◌, inl, inr}
-use Rattle.std.specs.Prelude.{◌==◌, ◌&&◌, not, is_some, length, replicate}
+use Rattle.std.proofs.Common.{◌≡◌, ℕ, Bool, true, false, cond, List, [], ◌∷◌, ◌⊎◌, Option, Some, None, refl, sym, subst, ap, ◌∙◌, inl, inr}
+use Rattle.std.specs.Prelude.{◌==◌, ◌&&◌, not, is_none, is_some, length, replicate, unwrap_or}
 use Rattle.std.specs.List.{list_any}
 use Rattle.std.proofs.lemmas.Bool.{cases_Bool, false≢true, lt-ltb, le-ltb}
 use Rattle.mqtt_fields.specs.declared.options.Qos.{Qos}
 use Rattle.mqtt_fields.specs.declared.options.Qos.TheVariants.{AtMostOnce, AtLeastOnce, ExactlyOnce}
-use Rattle.mqtt_fields.specs.Properties.{first_four}
+use Rattle.mqtt_fields.specs.Properties.{first_two, first_four}
 use Rattle.mqtt_packets.specs.declared.ended.Ended.{Ended}
 use Rattle.mqtt_packets.specs.declared.packet.Packet.{Packet}
 use Rattle.mqtt_packets.specs.declared.packet.Packet.TheVariants as packets
@@ -27,20 +27,25 @@ use Rattle.mqtt_sessions.specs.declared.link.Asked.TheVariants.{Subscribing, Uns
 use Rattle.mqtt_sessions.specs.declared.reaction.Ask.{Ask}
 use Rattle.mqtt_sessions.specs.declared.reaction.Ask.TheVariants as server
 use Rattle.mqtt_sessions.specs.Answers.{puback, pubrec, pubrel, suback, unsuback, fits}
-use Rattle.mqtt_sessions.specs.Arriving.{has_property, is_unwelcome, arrival_once, arrival_twice, once_by, arrives_twice, passes_by, published}
+use Rattle.mqtt_sessions.specs.Aliases.{Aliases, alias_of, alias_topic, filled, is_beyond, topic_by, topic_for, topic_of}
+use Rattle.mqtt_sessions.specs.Arriving.{has_property, is_unwelcome, arrival_once, arrival_twice, once_by, arrives_twice, message_in, passes_by, publish_by, published, refusal, setting}
+use Rattle.mqtt_sessions.proofs.ArrivingLaws.{set-topic}
 use Rattle.mqtt_sessions.specs.Asking.{answer_by}
 use Rattle.mqtt_sessions.specs.Ending.{disconnected_by}
 use Rattle.mqtt_sessions.specs.Packets.{PubrecBy, SaysUnknown, KindStep, PacketIf}
 use Rattle.mqtt_sessions.specs.Reaction.{Reaction, answered, refused, nothing}
-use Rattle.mqtt_sessions.specs.State.{State, heard, limit_of}
-use Rattle.session_laws.specs.Replies.{Reply, silent, says, both, ends, reaction_of, has_hundred, reply_at_least_once, reply_exactly_once, reply_at, reply_publish, reply_unknown, reply_pubrec, reply_request, reply_disconnect, IsReply, then_sends, IsReplied, reply_codes, KeepsReplies, KeepsUnheard, KeepsCodes}
+use Rattle.mqtt_sessions.specs.State.{Link, State, aliases_of, heard, heard_by, limit_of, new_session}
+use Rattle.session_laws.specs.Aliases.{KeepsTopics, Topics, topic_under, topics_told}
+use Rattle.session_laws.specs.Replies.{Reply, silent, says, asks, both, ends, leaves, reaction_of, has_hundred, is_invalid, reply_under, reply_at_least_once, reply_exactly_once, reply_at, reply_publish, reply_unknown, reply_pubrec, reply_request, reply_disconnect, IsReply, then_sends, IsReplied, reply_codes, KeepsReplies, KeepsUnheard, KeepsCodes}
+use Rattle.session_laws.specs.Runs.{Step, takes, Reacts, Run}
+use Rattle.session_laws.proofs.AliasLaws.{held, held-told}
 
 -- ---- what a reply without PUBLISHes is
 then-none : (r : Reaction) → then_sends r [] ≡ r
 then-none r = rw (append-nil r.packets) refl
 
-alone : (limit : ℕ) (p : Packet) (now : ℕ) (room : Bool) (s : State) (r : Reaction) (x : Reply) → IsReply p now room s x → r ≡ reaction_of limit x → IsReplied limit p now room s r
-alone limit p now room s r x is gives = record { reply = x; sents = []; is = is; gives = gives ∙ sym (then-none (reaction_of limit x)); queue = inl refl }
+alone : (told : Topics) (limit : ℕ) (p : Packet) (now : ℕ) (room : Bool) (s : State) (r : Reaction) (x : Reply) → IsReply told p now room s x → r ≡ reaction_of limit x → IsReplied told limit p now room s r
+alone told limit p now room s r x is gives = record { reply = x; sents = []; is = is; gives = gives ∙ sym (then-none (reaction_of limit x)); queue = inl refl }
 
 says-so : (limit : ℕ) (p : Packet) (s : State) → (answered limit p None s).reaction ≡ reaction_of limit (says p)
 says-so limit p s = elim (cases_Bool (fits limit p)) [ inl f ↦ rw f refl | inr f ↦ rw f refl ]
@@ -80,17 +85,54 @@ at-replied AtMostOnce p refused limit m s = elim (cases_Bool refused) [ inl t �
 at-replied AtLeastOnce p refused limit m s = once-replied refused limit p.identifier m s
 at-replied ExactlyOnce p refused limit m s = twice-replied (opened p.identifier s.incoming) refused limit p.identifier m s refl
 
-publish-replied : (p : Publish) (now : ℕ) (room : Bool) (limit : ℕ) (s : State) → (published p now room limit s).reaction ≡ reaction_of limit (reply_publish s p now room)
-publish-replied p now room limit s = elim (cases_Bool (has_property 35 p.properties)) [
-  | inl t ↦ rw t refl
-  | inr t ↦ elim (cases_Bool (has_property 11 p.properties)) [
-    | inl u ↦ rw (t, u) refl
-    | inr u ↦ elim (cases_Bool (list_any is_wildcard p.topic)) [
-      | inl v ↦ rw (t, u, v) refl
-      | inr v ↦ rw (t, u, v) (at-replied p.qos p (is_unwelcome p room) limit (accepted p s.kept.client now) s)
-    ]
-  ]
-]
+-- the topics that a session holds
+abbrev topics_in : State → Topics
+topics_in s = λ alias. topic_for alias (aliases_of s.link)
+
+pub under-is : (topic : List ℕ) (a : Option ℕ) (known : Aliases) → topic_by topic a known ≡ topic_under (λ alias. topic_for alias known) topic a
+under-is [] None known = refl
+under-is [] (Some a) known = refl
+under-is (b ∷ bs) a known = refl
+
+invalid-is : (a : Option ℕ) → is_beyond a ≡ is_invalid a
+invalid-is None = refl
+invalid-is (Some a) = refl
+
+-- the message that is passed on is under the topic that the session holds for it
+message-under : (p : Publish) (now : ℕ) (s : State) (topic : List ℕ) → topic_of (aliases_of s.link) p ≡ Some topic → message_in p now (setting p s) ≡ accepted (record p { topic = topic }) s.kept.client now
+message-under p now s topic is = ap (λ (x : Option (List ℕ)). accepted (record p { topic = unwrap_or x [] }) s.kept.client now) (set-topic s.link p ∙ is)
+
+under-some : (b c : Bool) (topic : List ℕ) (p : Publish) (now : ℕ) (room : Bool) (limit : ℕ) (s : State) → topic_of (aliases_of s.link) p ≡ Some topic
+    → (publish_by (cond b (Some 130) (cond c (Some 144) None)) p now room limit s).reaction
+    ≡ reaction_of limit (cond b (ends 130) (cond c (ends 144) (reply_at p.qos s.incoming p.identifier (is_unwelcome p room) (accepted (record p { topic = topic }) s.kept.client now))))
+under-some true c topic p now room limit s is = refl
+under-some false true topic p now room limit s is = refl
+under-some false false topic p now room limit s is =
+    at-replied p.qos p (is_unwelcome p room) limit (message_in p now (setting p s)) (setting p s)
+    ∙ ap (λ (m : Message). reaction_of limit (reply_at p.qos s.incoming p.identifier (is_unwelcome p room) m)) (message-under p now s topic is)
+
+under-replied : (o : Option (List ℕ)) (p : Publish) (now : ℕ) (room : Bool) (limit : ℕ) (s : State) → topic_of (aliases_of s.link) p ≡ o
+    → (publish_by (cond (is_none o) (Some 130) (cond (has_property 11 p.properties) (Some 130) (cond (list_any is_wildcard p.topic) (Some 144) None))) p now room limit s).reaction ≡ reaction_of limit (reply_under o s p now room)
+under-replied None p now room limit s is = refl
+under-replied (Some topic) p now room limit s is = under-some (has_property 11 p.properties) (list_any is_wildcard p.topic) topic p now room limit s is
+
+beyond-replied : (b c : Bool) (o told : Option (List ℕ)) (p : Publish) (now : ℕ) (room : Bool) (limit : ℕ) (s : State) → b ≡ c → o ≡ told → topic_of (aliases_of s.link) p ≡ o
+    → (publish_by (cond b (Some 148) (cond (is_none o) (Some 130) (cond (has_property 11 p.properties) (Some 130) (cond (list_any is_wildcard p.topic) (Some 144) None)))) p now room limit s).reaction
+    ≡ reaction_of limit (cond c (ends 148) (reply_under told s p now room))
+beyond-replied true true o told p now room limit s same under is = refl
+beyond-replied true false o told p now room limit s same under is = absurd (false≢true (sym same))
+beyond-replied false true o told p now room limit s same under is = absurd (false≢true same)
+beyond-replied false false o told p now room limit s same under is = under-replied o p now room limit s is ∙ ap (λ (x : Option (List ℕ)). reaction_of limit (reply_under x s p now room)) under
+
+publish-replied : (p : Publish) (now : ℕ) (room : Bool) (limit : ℕ) (s : State) → (published p now room limit s).reaction ≡ reaction_of limit (reply_publish (topics_in s) s p now room)
+publish-replied p now room limit s =
+    let known = aliases_of s.link in
+    beyond-replied (is_beyond (alias_of p)) (is_invalid (alias_of p)) (topic_of known p) (topic_under (topics_in s) p.topic (alias_of p)) p now room limit s (invalid-is (alias_of p)) (under-is p.topic (alias_of p) known) refl
+
+-- the topic of a PUBLISH that the session holds is the one that was told
+pub told-under : (client : List ℕ) (steps : List Step) (old : State) (l : Link) (p : Publish) → Run (new_session client) steps old → old.link ≡ Some l → topic_of (aliases_of old.link) p ≡ topic_under (topics_told steps) p.topic (first_two 35 p.properties)
+told-under client steps old l p run e =
+    ap (λ (o : Option Link). topic_of (aliases_of o) p) e ∙ under-is p.topic (alias_of p) l.aliases ∙ ap (λ (told : Topics). topic_under told p.topic (alias_of p)) (held-told client steps old l run e)
 
 -- ---- PUBREC
 unknown-replied : (id reason limit : ℕ) (s new : State) (r : Reaction) → SaysUnknown id reason limit s r new → r ≡ reaction_of limit (reply_unknown id reason)
@@ -134,55 +176,70 @@ disconnect-replied : (o : Option ℕ) (p : Ended) (limit : ℕ) (s : State) → 
 disconnect-replied None p limit s = refl
 disconnect-replied (Some new) p limit s = elim (cases_Bool ((s.kept.expiry == 0) && not (new == 0))) [ inl h ↦ rw h refl | inr h ↦ rw h refl ]
 
-kind-replied : (p : Packet) (now : ℕ) (room : Bool) (limit : ℕ) (s : State) (r : Reaction) (new : State) → KindStep p now room limit s r new → IsReplied limit p now room s r
-kind-replied (packets.Publish p) now room limit s r new h = alone limit (packets.Publish p) now room s r _ refl (h.0 ∙ publish-replied p now room limit s)
+kind-replied : (p : Packet) (now : ℕ) (room : Bool) (limit : ℕ) (s : State) (r : Reaction) (new : State) → KindStep p now room limit s r new → IsReplied (topics_in s) limit p now room s r
+kind-replied (packets.Publish p) now room limit s r new h = alone (topics_in s) limit (packets.Publish p) now room s r _ refl (h.0 ∙ publish-replied p now room limit s)
 kind-replied (packets.Puback a) now room limit s r new h = record { reply = silent; sents = h.sents; is = refl; gives = h.reacts; queue = inr (tt, refl) }
 kind-replied (packets.Pubrec a) now room limit s r new h =
     let k = pubrec-replied h.answer (find_id a.identifier s.outbox.copies) a.identifier a.reason now limit s new h.mid r h.takes h.goes_on in
     record { reply = reply_pubrec (find_id a.identifier s.outbox.copies) a.identifier a.reason; sents = k.0; is = refl; gives = k.1; queue = elim k.2 [ inl e ↦ inl e | inr e ↦ inr (tt, e) ] }
-kind-replied (packets.Pubrel a) now room limit s r new h = alone limit (packets.Pubrel a) now room s r _ refl (h.0 ∙ says-so limit _ _)
+kind-replied (packets.Pubrel a) now room limit s r new h = alone (topics_in s) limit (packets.Pubrel a) now room s r _ refl (h.0 ∙ says-so limit _ _)
 kind-replied (packets.Pubcomp a) now room limit s r new h = record { reply = silent; sents = h.sents; is = refl; gives = h.reacts; queue = inr (tt, refl) }
-kind-replied (packets.Subscribe p) now room limit s r new (inl h) = alone limit (packets.Subscribe p) now room s r (ends 130) (inl (h.0, refl)) h.1.0
+kind-replied (packets.Subscribe p) now room limit s r new (inl h) = alone (topics_in s) limit (packets.Subscribe p) now room s r (ends 130) (inl (h.0, refl)) h.1.0
 kind-replied (packets.Subscribe p) now room limit s r new (inr h) =
-    alone limit (packets.Subscribe p) now room s r _ (inr (h.0, refl)) (h.1.0 ∙ subscribed-replied s.incoming p.identifier limit (suback p.identifier (replicate (length p.filters) 145)) server.Subscribe s _ _ refl)
+    alone (topics_in s) limit (packets.Subscribe p) now room s r _ (inr (h.0, refl)) (h.1.0 ∙ subscribed-replied s.incoming p.identifier limit (suback p.identifier (replicate (length p.filters) 145)) server.Subscribe s _ _ refl)
 kind-replied (packets.Unsubscribe p) now room limit s r new h =
-    alone limit (packets.Unsubscribe p) now room s r _ refl (h.0 ∙ subscribed-replied s.incoming p.identifier limit (unsuback p.identifier (replicate (length p.filters) 145)) server.Unsubscribe s _ _ refl)
-kind-replied packets.Pingreq now room limit s r new h = alone limit packets.Pingreq now room s r (says packets.Pingresp) refl (h.0 ∙ says-so limit packets.Pingresp s)
-kind-replied (packets.Disconnect p) now room limit s r new h = alone limit (packets.Disconnect p) now room s r _ refl (h.0 ∙ disconnect-replied (first_four 17 p.properties) p limit s)
-kind-replied (packets.Connect p) now room limit s r new h = alone limit (packets.Connect p) now room s r (ends 130) refl h.0
-kind-replied (packets.Connack p) now room limit s r new h = alone limit (packets.Connack p) now room s r (ends 130) refl h.0
-kind-replied (packets.Suback p) now room limit s r new h = alone limit (packets.Suback p) now room s r (ends 130) refl h.0
-kind-replied (packets.Unsuback p) now room limit s r new h = alone limit (packets.Unsuback p) now room s r (ends 130) refl h.0
-kind-replied packets.Pingresp now room limit s r new h = alone limit packets.Pingresp now room s r (ends 130) refl h.0
-kind-replied (packets.Auth p) now room limit s r new h = alone limit (packets.Auth p) now room s r (ends 130) refl h.0
+    alone (topics_in s) limit (packets.Unsubscribe p) now room s r _ refl (h.0 ∙ subscribed-replied s.incoming p.identifier limit (unsuback p.identifier (replicate (length p.filters) 145)) server.Unsubscribe s _ _ refl)
+kind-replied packets.Pingreq now room limit s r new h = alone (topics_in s) limit packets.Pingreq now room s r (says packets.Pingresp) refl (h.0 ∙ says-so limit packets.Pingresp s)
+kind-replied (packets.Disconnect p) now room limit s r new h = alone (topics_in s) limit (packets.Disconnect p) now room s r _ refl (h.0 ∙ disconnect-replied (first_four 17 p.properties) p limit s)
+kind-replied (packets.Connect p) now room limit s r new h = alone (topics_in s) limit (packets.Connect p) now room s r (ends 130) refl h.0
+kind-replied (packets.Connack p) now room limit s r new h = alone (topics_in s) limit (packets.Connack p) now room s r (ends 130) refl h.0
+kind-replied (packets.Suback p) now room limit s r new h = alone (topics_in s) limit (packets.Suback p) now room s r (ends 130) refl h.0
+kind-replied (packets.Unsuback p) now room limit s r new h = alone (topics_in s) limit (packets.Unsuback p) now room s r (ends 130) refl h.0
+kind-replied packets.Pingresp now room limit s r new h = alone (topics_in s) limit packets.Pingresp now room s r (ends 130) refl h.0
+kind-replied (packets.Auth p) now room limit s r new h = alone (topics_in s) limit (packets.Auth p) now room s r (ends 130) refl h.0
 
 -- what is answered depends on the moment of the last packet in nothing
-same-reply : (p : Packet) (now : ℕ) (room : Bool) (s : State) (x : Reply) → IsReply p now room (heard s now) x → IsReply p now room s x
-same-reply (packets.Publish p) now room s x h = h
-same-reply (packets.Puback a) now room s x h = h
-same-reply (packets.Pubrec a) now room s x h = h
-same-reply (packets.Pubrel a) now room s x h = h
-same-reply (packets.Pubcomp a) now room s x h = h
-same-reply (packets.Subscribe p) now room s x h = h
-same-reply (packets.Unsubscribe p) now room s x h = h
-same-reply packets.Pingreq now room s x h = h
-same-reply (packets.Disconnect p) now room s x h = h
-same-reply (packets.Connect p) now room s x h = h
-same-reply (packets.Connack p) now room s x h = h
-same-reply (packets.Suback p) now room s x h = h
-same-reply (packets.Unsuback p) now room s x h = h
-same-reply packets.Pingresp now room s x h = h
-same-reply (packets.Auth p) now room s x h = h
+under-heard : (o : Option (List ℕ)) (p : Publish) (now : ℕ) (room : Bool) (s : State) → reply_under o (heard s now) p now room ≡ reply_under o s p now room
+under-heard None p now room s = refl
+under-heard (Some topic) p now room s = refl
 
-packet-replied : (o : Option ℕ) (old new : State) (limit : ℕ) (p : Packet) (now : ℕ) (room : Bool) (r : Reaction) → o ≡ Some limit → PacketIf o p now room old r new → IsReplied limit p now room old r
+same-reply : (told : Topics) (p : Packet) (now : ℕ) (room : Bool) (s : State) (x : Reply) → IsReply told p now room (heard s now) x → IsReply told p now room s x
+same-reply told (packets.Publish p) now room s x h =
+    h ∙ ap (λ (y : Reply). cond (is_invalid (alias_of p)) (ends 148) y) (under-heard (topic_under told p.topic (alias_of p)) p now room s)
+same-reply told (packets.Puback a) now room s x h = h
+same-reply told (packets.Pubrec a) now room s x h = h
+same-reply told (packets.Pubrel a) now room s x h = h
+same-reply told (packets.Pubcomp a) now room s x h = h
+same-reply told (packets.Subscribe p) now room s x h = h
+same-reply told (packets.Unsubscribe p) now room s x h = h
+same-reply told packets.Pingreq now room s x h = h
+same-reply told (packets.Disconnect p) now room s x h = h
+same-reply told (packets.Connect p) now room s x h = h
+same-reply told (packets.Connack p) now room s x h = h
+same-reply told (packets.Suback p) now room s x h = h
+same-reply told (packets.Unsuback p) now room s x h = h
+same-reply told packets.Pingresp now room s x h = h
+same-reply told (packets.Auth p) now room s x h = h
+
+heard-topics : (o : Option Link) (now : ℕ) → aliases_of (heard_by o now) ≡ aliases_of o
+heard-topics None now = refl
+heard-topics (Some l) now = refl
+
+packet-replied : (o : Option ℕ) (old new : State) (limit : ℕ) (p : Packet) (now : ℕ) (room : Bool) (r : Reaction) → o ≡ Some limit → PacketIf o p now room old r new → IsReplied (topics_in old) limit p now room old r
 packet-replied None old new limit p now room r e h = (cc e)
 packet-replied (Some k) old new limit p now room r e h =
     let same : k ≡ limit = cc e in
     let x = kind-replied p now room limit (heard old now) r new (rw same at h) in
-    record { reply = x.reply; sents = x.sents; is = same-reply p now room old x.reply x.is; gives = x.gives; queue = x.queue }
+    let is = subst (λ (known : Aliases). IsReply (λ alias. topic_for alias known) p now room (heard old now) x.reply) (heard-topics old.link now) x.is in
+    record { reply = x.reply; sents = x.sents; is = same-reply (topics_in old) p now room old x.reply is; gives = x.gives; queue = x.queue }
+
+-- where aliases stand for what the connection holds
+pub replies_by_link : (old new : State) (l : Link) (p : Packet) (now : ℕ) (room : Bool) (r : Reaction) → old.link ≡ Some l → Reacts old (takes p now room) r new → IsReplied (held l) l.limit p now room old r
+replies_by_link old new l p now room r e h =
+    subst (λ (o : Option Link). IsReplied (λ alias. topic_for alias (aliases_of o)) l.limit p now room old r) e (packet-replied (limit_of old.link) old new l.limit p now room r (rw e refl) h)
 
 pub keeps_replies : KeepsReplies
-keeps_replies = λ old new l p now room r e h. packet-replied (limit_of old.link) old new l.limit p now room r (rw e refl) h
+keeps_replies = λ client steps old new l p now room r run e h. subst (λ (told : Topics). IsReplied told l.limit p now room old r) (held-told client steps old l run e) (replies_by_link old new l p now room r e h)
 
 unheard : (o : Option ℕ) (old new : State) (p : Packet) (now : ℕ) (room : Bool) (r : Reaction) → o ≡ None → PacketIf o p now room old r new → (r ≡ nothing) × (new ≡ old)
 unheard None old new p now room r e h = h
@@ -198,3 +255,68 @@ codes-replied (Some Unsubscribing) limit id codes s = says-so limit (unsuback id
 
 pub keeps_codes : KeepsCodes
 keeps_codes = λ old new l id codes r e h. (rw e at h).0 ∙ codes-replied l.asked l.limit id codes _
+
+-- ---- the topic of a message that is passed on
+abbrev Asks : Message → Reply → Type 0
+Asks m silent = ⊥
+Asks m (says p) = ⊥
+Asks m (asks a) = a ≡ server.Pass m
+Asks m (both p a) = a ≡ server.Pass m
+Asks m (ends code) = ⊥
+Asks m leaves = ⊥
+
+asked : (limit : ℕ) (x : Reply) (m : Message) → (reaction_of limit x).ask ≡ Some (server.Pass m) → Asks m x
+asked limit silent m e = (cc e)
+asked limit (says p) m e = elim (cases_Bool (fits limit p)) [ inl f ↦ (let bad : None ≡ Some (server.Pass m) = rw f at e in cc) | inr f ↦ (let bad : None ≡ Some (server.Pass m) = rw f at e in cc) ]
+asked limit (asks a) m e = (cc e)
+asked limit (both p a) m e = elim (cases_Bool (fits limit p)) [ inl f ↦ (let this : Some a ≡ Some (server.Pass m) = rw f at e in cc) | inr f ↦ (let this : Some a ≡ Some (server.Pass m) = rw f at e in cc) ]
+asked limit (ends code) m e = (cc e)
+asked limit leaves m e = (cc e)
+
+if-asks : (b : Bool) (x y : Reply) (k m : Message) → (Asks m x → k ≡ m) → (Asks m y → k ≡ m) → Asks m (cond b x y) → k ≡ m
+if-asks true x y k m f g h = f h
+if-asks false x y k m f g h = g h
+
+same-pass : (k m : Message) → server.Pass k ≡ server.Pass m → k ≡ m
+same-pass k m e = (cc e)
+
+twice-asks : (o : Option Bool) (r : Received) (id : ℕ) (refused : Bool) (k m : Message) → Asks m (reply_exactly_once o r id refused k) → k ≡ m
+twice-asks (Some true) r id refused k m h = absurd h
+twice-asks (Some false) r id refused k m h = if-asks (has_hundred r) (ends 147) (says (pubrec id 0)) k m (λ z. absurd z) (λ z. absurd z) h
+twice-asks None r id refused k m h =
+    let last = cond refused (says (pubrec id 151)) (both (pubrec id 0) (server.Pass k)) in
+    if-asks (has_hundred r) (ends 147) last k m (λ z. absurd z) (if-asks refused (says (pubrec id 151)) (both (pubrec id 0) (server.Pass k)) k m (λ z. absurd z) (same-pass k m)) h
+
+at-asks : (q : Qos) (r : Received) (id : ℕ) (refused : Bool) (k m : Message) → Asks m (reply_at q r id refused k) → k ≡ m
+at-asks AtMostOnce r id refused k m h = if-asks refused silent (asks (server.Pass k)) k m (λ z. absurd z) (same-pass k m) h
+at-asks AtLeastOnce r id refused k m h =
+    let last = cond refused (says (puback id 151)) (both (puback id 0) (server.Pass k)) in
+    if-asks (has_hundred r) (ends 147) (cond (is_some (opened id r)) (says (puback id 145)) last) k m (λ z. absurd z)
+    (if-asks (is_some (opened id r)) (says (puback id 145)) last k m (λ z. absurd z) (if-asks refused (says (puback id 151)) (both (puback id 0) (server.Pass k)) k m (λ z. absurd z) (same-pass k m))) h
+at-asks ExactlyOnce r id refused k m h = twice-asks (opened id r) r id refused k m h
+
+if-topic : (b : Bool) (x y : Reply) (o : Option (List ℕ)) (m : Message) → (Asks m x → ⊥) → (Asks m y → o ≡ Some m.topic) → Asks m (cond b x y) → o ≡ Some m.topic
+if-topic true x y o m f g h = absurd (f h)
+if-topic false x y o m f g h = g h
+
+under-topic : (o : Option (List ℕ)) (s : State) (p : Publish) (now : ℕ) (room : Bool) (m : Message) → Asks m (reply_under o s p now room) → o ≡ Some m.topic
+under-topic None s p now room m h = absurd h
+under-topic (Some topic) s p now room m h =
+    let k = accepted (record p { topic = topic }) s.kept.client now in
+    let x = reply_at p.qos s.incoming p.identifier (p.retain && not room) k in
+    if-topic (has_property 11 p.properties) (ends 130) (cond (list_any is_wildcard p.topic) (ends 144) x) (Some topic) m (λ z. z)
+    (if-topic (list_any is_wildcard p.topic) (ends 144) x (Some topic) m (λ z. z) (λ z. ap (λ (y : Message). Some y.topic) (at-asks p.qos s.incoming p.identifier (p.retain && not room) k m z))) h
+
+by-reply : (told : Topics) (limit : ℕ) (s : State) (p : Publish) (now : ℕ) (room : Bool) (r : Reaction) (m : Message) → IsReplied told limit (packets.Publish p) now room s r → r.ask ≡ Some (server.Pass m) → topic_under told p.topic (first_two 35 p.properties) ≡ Some m.topic
+by-reply told limit s p now room r m x ask =
+    let o = topic_under told p.topic (first_two 35 p.properties) in
+    let here : Asks m x.reply = asked limit x.reply m (sym (ap (λ (w : Reaction). w.ask) x.gives) ∙ ask) in
+    if-topic (is_invalid (first_two 35 p.properties)) (ends 148) (reply_under o s p now room) o m (λ z. z) (under-topic o s p now room m) (subst (Asks m) x.is here)
+
+by-link : (client : List ℕ) (steps : List Step) (old new : State) (p : Publish) (now : ℕ) (room : Bool) (r : Reaction) (m : Message) → Run (new_session client) steps old → Reacts old (takes (packets.Publish p) now room) r new → r.ask ≡ Some (server.Pass m)
+    → (o : Option Link) → old.link ≡ o → topic_under (topics_told steps) p.topic (first_two 35 p.properties) ≡ Some m.topic
+by-link client steps old new p now room r m run h ask None e = absurd (let bad : None ≡ Some (server.Pass m) = sym (ap (λ (w : Reaction). w.ask) (keeps_unheard old new (packets.Publish p) now room r e h).0) ∙ ask in cc)
+by-link client steps old new p now room r m run h ask (Some l) e = by-reply (topics_told steps) l.limit old p now room r m (keeps_replies client steps old new l (packets.Publish p) now room r run e h) ask
+
+pub keeps_topics : KeepsTopics
+keeps_topics = λ client steps old new p now room r m run h ask. by-link client steps old new p now room r m run h ask old.link refl

@@ -46,7 +46,7 @@ publish-length d now id dup = same-length (packets.Publish (sent d now dup id)) 
 -- where a CONNACK fits, a PUBREL does
 pub pubrel-fits : (present : Bool) (given client : List ℕ) (limit id : ℕ) → fits limit (connack present given client) ≡ true → fits limit (pubrel id 0) ≡ true
 pubrel-fits present given client limit id h =
-    let n = 8 + assigned_length given client in
+    let n = 11 + assigned_length given client in
     let m = 2 + length (vbi.bytes n) + n in
     let t : nat_le (1 + length (vbi.bytes m) + m) limit ≡ true = connack_fit present given client limit n m refl refl ∙ h in
     let le = leb-true (1 + length (vbi.bytes m) + m) limit t in

@@ -5,6 +5,7 @@ pub mod Order
 pub mod Resends
 pub mod Numbers
 pub mod Sizes
+pub mod Aliases
 pub mod Replies
 pub mod Arrivals
 pub mod Exchanges

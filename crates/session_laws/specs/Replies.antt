@@ -3,7 +3,7 @@ use Rattle.std.specs.Prelude.{◌≡◌, ℕ, ◌==◌, ◌&&◌, ◌⊎◌, not
 use Rattle.std.specs.List.{list_any}
 use Rattle.mqtt_fields.specs.declared.options.Qos.{Qos}
 use Rattle.mqtt_fields.specs.declared.options.Qos.TheVariants.{AtMostOnce, AtLeastOnce, ExactlyOnce}
-use Rattle.mqtt_fields.specs.Properties.{first_four}
+use Rattle.mqtt_fields.specs.Properties.{first_two, first_four}
 use Rattle.mqtt_packets.specs.declared.packet.Packet.{Packet}
 use Rattle.mqtt_packets.specs.declared.packet.Packet.TheVariants as packets
 use Rattle.mqtt_packets.specs.declared.publish.Publish.{Publish}
@@ -23,8 +23,9 @@ use Rattle.mqtt_sessions.specs.Answers.{puback, pubrec, pubrel, pubcomp, suback,
 use Rattle.mqtt_sessions.specs.Arriving.{has_property}
 use Rattle.mqtt_sessions.specs.Asking.{AsksNoLocalShare}
 use Rattle.mqtt_sessions.specs.Reaction.{Reaction, nothing, publishes_of}
-use Rattle.mqtt_sessions.specs.State.{Link, State}
-use Rattle.session_laws.specs.Runs.{takes, answers, Reacts}
+use Rattle.mqtt_sessions.specs.State.{Link, State, new_session}
+use Rattle.session_laws.specs.Aliases.{Topics, topic_under, topics_told}
+use Rattle.session_laws.specs.Runs.{Step, takes, answers, Reacts, Run}
 
 -- what a client is answered: nothing; a packet; no packet, but the server is asked; both; the end of its connection, with a
 -- Reason Code; the end that it asked for
@@ -70,11 +71,23 @@ reply_at AtMostOnce r id refused m = reply_at_most_once refused m
 reply_at AtLeastOnce r id refused m = reply_at_least_once r id refused m
 reply_at ExactlyOnce r id refused m = reply_exactly_once (opened id r) r id refused m
 
--- first of all Topic Alias invalid, Protocol Error for a Subscription Identifier, Topic Name invalid for a wildcard
-abbrev pub reply_publish : State → Publish → ℕ → Bool → Reply
-reply_publish s p now room =
-    cond (has_property 35 p.properties) (ends 148) (cond (has_property 11 p.properties) (ends 130) (cond (list_any is_wildcard p.topic) (ends 144)
-    (reply_at p.qos s.incoming p.identifier (p.retain && not room) (accepted p s.kept.client now))))
+-- no alias is 0, and none is above 16 (3.2.2.3.8, 3.3.2.3.4)
+abbrev pub is_invalid : Option ℕ → Bool
+is_invalid None = false
+is_invalid (Some alias) = not (nat_le 1 alias && nat_le alias 16)
+
+-- Protocol Error where it has no topic, or for a Subscription Identifier; Topic Name invalid for a wildcard
+abbrev pub reply_under : Option (List ℕ) → State → Publish → ℕ → Bool → Reply
+reply_under None s p now room = ends 130
+reply_under (Some topic) s p now room =
+    cond (has_property 11 p.properties) (ends 130) (cond (list_any is_wildcard p.topic) (ends 144)
+    (reply_at p.qos s.incoming p.identifier (p.retain && not room) (accepted (record p { topic = topic }) s.kept.client now)))
+
+-- first of all Topic Alias invalid
+abbrev pub reply_publish : Topics → State → Publish → ℕ → Bool → Reply
+reply_publish told s p now room =
+    let alias = first_two 35 p.properties in
+    cond (is_invalid alias) (ends 148) (reply_under (topic_under told p.topic alias) s p now room)
 
 -- ---- PUBREC: PUBREL for an exchange that is released now or was before; Packet Identifier not found for no exchange; nothing
 -- where the code is an error (3.5.2.1, 4.3.3)
@@ -98,20 +111,21 @@ abbrev pub reply_disconnect : Option ℕ → ℕ → Reply
 reply_disconnect None expiry = leaves
 reply_disconnect (Some new) expiry = cond ((expiry == 0) && not (new == 0)) (ends 130) leaves
 
--- ---- each packet; those that a server sends alone, a second CONNECT and AUTH are Protocol Errors
-abbrev pub IsReply : Packet → ℕ → Bool → State → Reply → Type 0
-IsReply (packets.Publish p) now room s x = x ≡ reply_publish s p now room
-IsReply (packets.Puback a) now room s x = x ≡ silent
-IsReply (packets.Pubrec a) now room s x = x ≡ reply_pubrec (find_id a.identifier s.outbox.copies) a.identifier a.reason
-IsReply (packets.Pubrel a) now room s x = x ≡ says (pubcomp a.identifier (cond (is_some (opened a.identifier s.incoming)) 0 146))
-IsReply (packets.Pubcomp a) now room s x = x ≡ silent
-IsReply (packets.Subscribe p) now room s x =
+-- ---- each packet, where aliases stand for these topics; those that a server sends alone, a second CONNECT and AUTH are Protocol
+-- Errors
+abbrev pub IsReply : Topics → Packet → ℕ → Bool → State → Reply → Type 0
+IsReply told (packets.Publish p) now room s x = x ≡ reply_publish told s p now room
+IsReply told (packets.Puback a) now room s x = x ≡ silent
+IsReply told (packets.Pubrec a) now room s x = x ≡ reply_pubrec (find_id a.identifier s.outbox.copies) a.identifier a.reason
+IsReply told (packets.Pubrel a) now room s x = x ≡ says (pubcomp a.identifier (cond (is_some (opened a.identifier s.incoming)) 0 146))
+IsReply told (packets.Pubcomp a) now room s x = x ≡ silent
+IsReply told (packets.Subscribe p) now room s x =
     (AsksNoLocalShare p.filters × (x ≡ ends 130))
     ⊎ ((AsksNoLocalShare p.filters → ⊥) × (x ≡ reply_request s.incoming p.identifier (suback p.identifier (replicate (length p.filters) 145)) server.Subscribe))
-IsReply (packets.Unsubscribe p) now room s x = x ≡ reply_request s.incoming p.identifier (unsuback p.identifier (replicate (length p.filters) 145)) server.Unsubscribe
-IsReply packets.Pingreq now room s x = x ≡ says packets.Pingresp
-IsReply (packets.Disconnect p) now room s x = x ≡ reply_disconnect (first_four 17 p.properties) s.kept.expiry
-IsReply p now room s x = x ≡ ends 130
+IsReply told (packets.Unsubscribe p) now room s x = x ≡ reply_request s.incoming p.identifier (unsuback p.identifier (replicate (length p.filters) 145)) server.Unsubscribe
+IsReply told packets.Pingreq now room s x = x ≡ says packets.Pingresp
+IsReply told (packets.Disconnect p) now room s x = x ≡ reply_disconnect (first_four 17 p.properties) s.kept.expiry
+IsReply told p now room s x = x ≡ ends 130
 
 -- a packet that may end an exchange, so that the queue goes on
 abbrev pub MakesRoom : Packet → Type 0
@@ -124,16 +138,17 @@ abbrev pub then_sends : Reaction → List Sent → Reaction
 then_sends r sents = record r { packets = r.packets ++ publishes_of sents }
 
 -- the reaction to a packet: its reply; or none, but PUBLISHes of the queue, where there may be room
-pub record IsReplied (limit : ℕ) (p : Packet) (now : ℕ) (room : Bool) (s : State) (r : Reaction) : Type 0 where
+pub record IsReplied (told : Topics) (limit : ℕ) (p : Packet) (now : ℕ) (room : Bool) (s : State) (r : Reaction) : Type 0 where
   pub reply : Reply
   pub sents : List Sent
-  pub is : IsReply p now room s reply
+  pub is : IsReply told p now room s reply
   pub gives : r ≡ then_sends (reaction_of limit reply) sents
   pub queue : (sents ≡ []) ⊎ (MakesRoom p × (reply ≡ silent))
 
--- each packet of a connected client has exactly its reply
+-- each packet of a connected client has exactly its reply, where aliases stand for what the packets of its connection told
 abbrev pub KeepsReplies : Type 0
-KeepsReplies = (old new : State) (l : Link) (p : Packet) (now : ℕ) (room : Bool) (r : Reaction) → old.link ≡ Some l → Reacts old (takes p now room) r new → IsReplied l.limit p now room old r
+KeepsReplies = (client : List ℕ) (steps : List Step) (old new : State) (l : Link) (p : Packet) (now : ℕ) (room : Bool) (r : Reaction) → Run (new_session client) steps old → old.link ≡ Some l → Reacts old (takes p now room) r new
+    → IsReplied (topics_told steps) l.limit p now room old r
 
 -- one without a connection has none, and changes nothing
 abbrev pub KeepsUnheard : Type 0

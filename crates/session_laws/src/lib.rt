@@ -2,6 +2,7 @@
 //! where a crash lost one (MQTT 5.0, 4.1). Each function does nothing: its contract is the law.
 #![tactic(auto)]
 
+pub mod aliases;
 pub mod arrivals;
 pub mod events;
 pub mod identifiers;

@@ -1,8 +1,9 @@
 //! Answers to a client's packets.
 ghost use Rattle.session_laws.specs.Replies.{KeepsCodes, KeepsReplies, KeepsUnheard};
 
-/// Each packet of a connected client has exactly its answer of one table, and where PUBACK, PUBREC or PUBCOMP has none the
-/// queue may go on. Without a connection a packet has no answer, and changes nothing.
+/// Each packet of a connected client has exactly its answer of one table, where its aliases stand for the topics that the packets
+/// of its connection told, and where PUBACK, PUBREC or PUBCOMP has none the queue may go on. Without a connection a packet has no
+/// answer, and changes nothing.
 pub fn packets_are_answered()
     ensures connected { KeepsReplies }
     ensures unheard { KeepsUnheard }

@@ -1,13 +1,14 @@
 -- What a call of a client's session comes to.
-use Rattle.std.proofs.Common.{◌≡◌, ℕ, Bool, false, List, [], Option, Some, None, Bor, IfOk, IfSome, is_some, Result, Ok, Err, unwrap_or, refl, sym, ap, subst, ◌∙◌}
+use Rattle.std.proofs.Common.{◌≡◌, ℕ, Bool, false, List, [], Option, Some, None, Bor, IfOk, IfSome, MatchOption, is_some, Result, Ok, Err, unwrap_or, refl, sym, ap, subst, ◌∙◌}
 use Rattle.std.specs.Ordering.{eq_by_cmp}
 use Rattle.std.specs.Option.{option_and_then, option_map}
 use Rattle.std.specs.FinMap as map
+use Rattle.mqtt_sessions.specs.Aliases.{topic_for}
 use Rattle.mqtt_sessions.specs.Called.{Called}
 use Rattle.mqtt_sessions.specs.Ending.{will_due, end_due}
 use Rattle.mqtt_sessions.specs.Reaction.{Reaction, AreSpelled}
 use Rattle.mqtt_sessions.specs.Saved.{Saved, state_of}
-use Rattle.mqtt_sessions.specs.State.{State, limit_of, new_session}
+use Rattle.mqtt_sessions.specs.State.{State, aliases_of, limit_of, new_session}
 use Rattle.mqtt_sessions.specs.declared.fault.SessionFault.{SessionFault}
 use Rattle.mqtt_sessions.specs.declared.fault.SessionFault.TheVariants.{NoMemory, NumbersAtEnd, Spent, BadRow}
 use Rattle.session_laws.specs.Runs.{Event, connects, queues, takes, answers, closes, ticks, finishes, loses, Reacts, step_of, MayCome, wants_of, ends_of}
@@ -284,6 +285,12 @@ pub limit_here : (client : List ℕ) (t : Table) (x : Seated) (n : Option ℕ) �
 limit_here client t x n run is h =
     (let Q : Option State → Type 0 = λ o. IfSome o (λ s. n ≡ limit_of s.link) in
     subst Q run.1 h ∙ ap (λ (s : State). limit_of s.link) (sym (same_state x run.0 run.1)) ∙ ap (option_and_then (λ (s : Seat). limit_of s.session.link)) (sym (seat_here client t x is)))
+
+pub topic_here : (N : Type 0) (client : List ℕ) (t : Table) (x : Seated) (alias : ℕ) (o : Option (List ℕ)) → Runs x → map.get t client ≡ Some x → MatchOption (state_of x.session) N (λ s. o ≡ topic_for alias (aliases_of s.link))
+    → o ≡ option_and_then (λ (s : Seat). topic_for alias (aliases_of s.session.link)) (map.get (seats_in t) client)
+topic_here N client t x alias o run is h =
+    (let Q : Option State → Type 0 = λ w. MatchOption w N (λ s. o ≡ topic_for alias (aliases_of s.link)) in
+    subst Q run.1 h ∙ ap (λ (s : State). topic_for alias (aliases_of s.link)) (sym (same_state x run.0 run.1)) ∙ ap (option_and_then (λ (s : Seat). topic_for alias (aliases_of s.session.link))) (sym (seat_here client t x is)))
 
 pub will_here : (client : List ℕ) (t : Table) (x : Seated) (n : Option ℕ) → Runs x → map.get t client ≡ Some x → IfSome (state_of x.session) (λ s. n ≡ will_due s.kept)
     → n ≡ option_and_then (λ (s : Seat). will_due s.session.kept) (map.get (seats_in t) client)

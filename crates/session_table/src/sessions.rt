@@ -2,10 +2,13 @@
 
 ghost use Rattle.std.specs.Prelude.{◌≡◌, ◌<◌, ◌^◌, [], IfOk, IfSome, IsOk, IsSome, None, OnErr, OnOk, is_some, option_and_then, ◌≤◌, ◌≢◌, ℕ};
 ghost use Rattle.std.specs.FinMap as map;
+ghost use Rattle.std.specs.Option.{option_copied};
 ghost use Rattle.mqtt_packets.specs.Written.{HasSpelling};
+ghost use Rattle.mqtt_topics.specs.Topics.{IsName};
+ghost use Rattle.mqtt_sessions.specs.Aliases.{topic_for};
 ghost use Rattle.mqtt_sessions.specs.Ending as ending;
 ghost use Rattle.mqtt_sessions.specs.Saved.{state_of};
-ghost use Rattle.mqtt_sessions.specs.State.{IsPublishableIf, limit_of};
+ghost use Rattle.mqtt_sessions.specs.State.{IsPublishableIf, aliases_of, limit_of};
 ghost use Rattle.session_laws.specs.Runs.{connects, queues, takes, answers, closes, ticks, finishes};
 ghost use Rattle.session_table.specs.Calls.{GivesSpelled, IsSpelledIf, Asks, IsCalled, MayConnectAt, MayTurnAt, event_of, leaves, moves, on_of, stays};
 ghost use Rattle.session_table.specs.Rows.{AllDurable, IsAllTold, LeadsOn};
@@ -98,6 +101,17 @@ impl Sessions {
     {
         match self.seats.get(client) {
             Some(seated) => seated.session.limit(),
+            None => None,
+        }
+    }
+
+    /// The topic that an alias of the client stands for on its connection: `Session::alias_topic`.
+    pub fn alias_topic(&self, client: &Text, alias: u16) -> Option<&str>
+        ensures topic { option_copied result ≡ option_and_then (λ s. topic_for alias (aliases_of s.session.link)) (map.get self.now client.now) }
+        ensures name { IfSome result (λ topic. IsName topic.now) }
+    {
+        match self.seats.get(client) {
+            Some(seated) => seated.session.alias_topic(alias),
             None => None,
         }
     }

@@ -56,6 +56,40 @@ fn links_that_end_or_lie_are_let_go(rt: HostRuntime) -> Result<(), Fail> {
     Ok(())
 }
 
+/// How often a link, on which two bytes come, one at a time, was asked in so many turns where these names are told.
+fn asked_by(rt: &impl Abort, alloc: Global, names: &[Watched], manner: Manner, turns: u64) -> u32 {
+    let mut network = FakeSockets::new(alloc);
+    let mut hub = hub_of(rt, alloc, &mut network, Vec::new(alloc));
+    let mut talker = Talker::new(alloc, b"hi", b"more", 0);
+    let end = network.client(2, b"", 1, 1).expect(rt, "memory");
+    assert!(rt; make(rt, &mut hub, &mut network, &mut talker, 2) == 0);
+    network.send(end, b"\0\0").expect(rt, "memory");
+    network.manner = manner;
+    for name in names {
+        network.tell(*name).expect(rt, "memory");
+    }
+    assert!(rt; make(rt, &mut hub, &mut network, &mut talker, turns) == 0);
+    // the hub's end
+    network.asked(end.saturating_add(1))
+}
+
+#[test]
+fn only_links_that_are_told_are_read(rt: HostRuntime) -> Result<(), Fail> {
+    let alloc = rt.alloc();
+    // in the turn after the one that is told, and again while there is more
+    for (turns, asked) in [(1, 0), (2, 1), (3, 2), (4, 3), (9, 3)] {
+        assert!(rt; asked_by(&rt, alloc, &[], Manner::Sound, turns) == asked);
+    }
+    // never told, told twice, and told of what isn't there
+    assert!(rt; asked_by(&rt, alloc, &[], Manner::Untold, 9) == 0);
+    let told = [Watched::Link(0), Watched::Link(0)];
+    assert!(rt; asked_by(&rt, alloc, &told, Manner::Untold, 2) == 1);
+    assert!(rt; asked_by(&rt, alloc, &told, Manner::Untold, 9) == 3);
+    let gone = [Watched::Client(0), Watched::Link(7), Watched::Peer(0)];
+    assert!(rt; asked_by(&rt, alloc, &gone, Manner::Untold, 9) == 0);
+    Ok(())
+}
+
 /// So many turns of a node with one peer, each so many milliseconds after the one before.
 fn link(
     rt: &impl Abort,
@@ -114,8 +148,53 @@ fn peers_are_dialled_until_they_answer(rt: HostRuntime) -> Result<(), Fail> {
     is_dialled(&rt, alloc, 2, (10, 500), (3, 1, 1), b"himore");
     is_dialled(&rt, alloc, 2, (11, 500), (3, 1, 2), b"himorem");
     is_dialled(&rt, alloc, 0, (6, 1), (1, 1, 1), b"himore");
-    is_dialled(&rt, alloc, 0, (12, 1), (1, 1, 1), b"himore");
-    is_dialled(&rt, alloc, 0, (13, 1), (1, 1, 2), b"himorem");
+    is_dialled(&rt, alloc, 0, (1002, 1), (1, 1, 1), b"himore");
+    is_dialled(&rt, alloc, 0, (1003, 1), (1, 1, 2), b"himorem");
+    Ok(())
+}
+
+/// How often more was given to a peer in so many turns, a millisecond after each other, where a link brings these bytes after five.
+fn supplied(rt: &impl Abort, alloc: Global, bytes: &[u8], turns: u64) -> u32 {
+    let mut network = FakeSockets::new(alloc);
+    let peer: SocketAddr = "127.0.0.1:9".parse().expect(rt, "an address");
+    let peers = Vec::from_array(alloc, [Some(peer)]).expect(rt, "memory");
+    let mut hub = hub_of(rt, alloc, &mut network, peers);
+    let mut talker = Talker::new(alloc, b"hi", b"more", u32::MAX);
+    let other = network.client(2, b"", 9, 9).expect(rt, "memory");
+    for at in 0..turns {
+        if at == 5 {
+            network.send(other, bytes).expect(rt, "memory");
+        }
+        assert!(rt; hub.turn(&mut network, &mut talker, at).is_ok());
+    }
+    drop(network);
+    talker.shipped
+}
+
+#[test]
+fn a_silent_peer_is_given_more_after_a_second(rt: HostRuntime) -> Result<(), Fail> {
+    let alloc = rt.alloc();
+    // frames of node 0, which is the peer; the second is the shortest that says so
+    let answer = b"\0\0\0\x05\x01\0\0\0\x01".as_slice();
+    let short = b"\0\0\0\x03\x01\0\0".as_slice();
+    // one of node 1, one of node 256, one that says of no node that it is the sender, and one that isn't whole
+    let others = [
+        b"\0\0\0\x05\x01\0\x01\0\0".as_slice(),
+        b"\0\0\0\x05\x01\x01\0\0\0",
+        b"\0\0\0\x02\x01\0",
+        b"\0\0\0\x05\x01\0\0\0",
+    ];
+    for (turns, times) in [(2, 1), (11, 1), (12, 2), (1011, 2), (1012, 3)] {
+        for bytes in [answer, short] {
+            assert_eq!(rt; supplied(&rt, alloc, bytes, turns), times, "{turns} turns");
+        }
+    }
+    for (turns, times) in [(1001, 1), (1002, 2)] {
+        assert_eq!(rt; supplied(&rt, alloc, b"", turns), times, "{turns} turns");
+        for bytes in others {
+            assert_eq!(rt; supplied(&rt, alloc, bytes, turns), times, "{turns} turns");
+        }
+    }
     Ok(())
 }
 
@@ -140,5 +219,28 @@ fn failed_links_are_dialled_again(rt: HostRuntime) -> Result<(), Fail> {
     network.manner = Manner::Unwatched;
     let talker = link(&rt, alloc, &mut network, 3, 500, u64::MAX);
     assert!(rt; talker.linked == 0 && network.connects == 2);
+    Ok(())
+}
+
+/// How often a peer that takes nothing is dialled in two turns, a second after each other, where so many bytes wait for it each time.
+fn dialled_with(rt: &impl Abort, alloc: Global, waiting: usize) -> u32 {
+    let mut network = FakeSockets::new(alloc);
+    network.piece = 0;
+    let peer: SocketAddr = "127.0.0.1:9".parse().expect(rt, "an address");
+    let peers = Vec::from_array(alloc, [Some(peer)]).expect(rt, "memory");
+    let mut hub = hub_of(rt, alloc, &mut network, peers);
+    let mut talker = Talker::new(alloc, b"", b"", 0);
+    talker.long = waiting;
+    for at in [0, 1000] {
+        assert!(rt; hub.turn(&mut network, &mut talker, at).is_ok());
+    }
+    network.connects
+}
+
+#[test]
+fn a_link_that_is_not_read_has_an_end(rt: HostRuntime) -> Result<(), Fail> {
+    let alloc = rt.alloc();
+    assert!(rt; dialled_with(&rt, alloc, 536_870_912) == 1);
+    assert!(rt; dialled_with(&rt, alloc, 536_870_913) == 2);
     Ok(())
 }

@@ -11,12 +11,18 @@ use std::net::{IpAddr, Ipv4Addr, SocketAddr};
 use std::process::Abort;
 use std::test::Fail;
 
-/// What a node hears of another one on a link.
-const ALL: &[u8] = b"\0\0\0\x01+/\0\0\0\x01s/\0\0\0\x01s/\0\0\0\x01s/";
+/// What node 0 hears of node 1 on a link, and node 1 of node 0.
+const ALL: [&[u8]; 2] = [
+    b"\0\0\0\x03+\0\x01/\0\0\0\x03s\0\x01/\0\0\0\x03s\0\x01/\0\0\0\x03s\0\x01/",
+    b"\0\0\0\x03+\0\0/\0\0\0\x03s\0\0/\0\0\0\x03s\0\0/\0\0\0\x03s\0\0/",
+];
 
-/// Says `+` on each link that is begun, and three times `s`.
-fn talker(alloc: Global) -> Talker {
-    Talker::new(alloc, b"\0\0\0\x01+", b"\0\0\0\x01s", 3)
+/// Node 0 and node 1, each of which says `+` on each link that is begun, and three times `s`.
+fn talkers(alloc: Global) -> (Talker, Talker) {
+    (
+        Talker::new(alloc, b"\0\0\0\x03+\0\0", b"\0\0\0\x03s\0\0", 3),
+        Talker::new(alloc, b"\0\0\0\x03+\0\x01", b"\0\0\0\x03s\0\x01", 3),
+    )
 }
 
 /// The address of a port of this machine.
@@ -59,8 +65,7 @@ fn talk(rt: &impl Abort, alloc: Global, reads: u32, writes: u32) -> Talked {
     let mut network = FakeSockets::new(alloc);
     network.reads_left = reads;
     network.writes_left = writes;
-    let mut first = talker(alloc);
-    let mut second = talker(alloc);
+    let (mut first, mut second) = talkers(alloc);
     // the bridges are at the second and the fourth port
     let mut one = hub(rt, alloc, &mut network, [None, Some(local(4))]);
     network.hub = 1;
@@ -85,7 +90,7 @@ fn one_failure_costs_one_link(rt: HostRuntime) -> Result<(), Fail> {
     let alloc = rt.alloc();
     let sound = talk(&rt, alloc, u32::MAX, u32::MAX);
     assert!(rt; sound.links == 2 && sound.reads >= 4);
-    assert!(rt; sound.first.as_slice() == ALL && sound.second.as_slice() == ALL);
+    assert!(rt; sound.first.as_slice() == ALL[0] && sound.second.as_slice() == ALL[1]);
     // each of its reads, and each of its writes
     for call in 0..sound.reads {
         let cut = talk(&rt, alloc, call, u32::MAX);
@@ -113,7 +118,7 @@ fn run<S: Readiness + Drop>(
     for at in 0..10000 {
         assert!(rt; one.turn(&mut sockets, first, at).is_ok());
         assert!(rt; two.turn(&mut others, second, at).is_ok());
-        if first.heard.len() >= ALL.len() && second.heard.len() >= ALL.len() {
+        if first.heard.len() >= ALL[0].len() && second.heard.len() >= ALL[1].len() {
             break;
         }
     }
@@ -130,10 +135,9 @@ fn nodes_talk_over_real_sockets(rt: HostRuntime) -> Result<(), Fail> {
     let back = Vec::from_array(alloc, [sockets.address(&places.1), None]);
     let one = hub_at(&rt, alloc, places, peers.expect(&rt, "memory"));
     let two = hub_at(&rt, alloc, known, back.expect(&rt, "memory"));
-    let mut first = talker(alloc);
-    let mut second = talker(alloc);
+    let (mut first, mut second) = talkers(alloc);
     run(&rt, (one, sockets), (two, others), &mut first, &mut second);
-    assert!(rt; first.heard.as_slice() == ALL);
-    assert!(rt; second.heard.as_slice() == ALL);
+    assert!(rt; first.heard.as_slice() == ALL[0]);
+    assert!(rt; second.heard.as_slice() == ALL[1]);
     Ok(())
 }

@@ -109,6 +109,23 @@ fn what_is_told_late_is_read(rt: HostRuntime) -> Result<(), Fail> {
 }
 
 #[test]
+fn one_that_is_gone_may_be_told(rt: HostRuntime) -> Result<(), Fail> {
+    let alloc = rt.alloc();
+    let mut network = FakeSockets::new(alloc);
+    let mut hub = hub_of(&rt, alloc, &mut network, Vec::new(alloc));
+    let mut echo = Echo::new(alloc);
+    let end = client(&rt, &mut network, b"", 1, 1);
+    assert!(rt; make(&rt, &mut hub, &mut network, &mut echo, 2) == 1);
+    network.close(end);
+    assert!(rt; make(&rt, &mut hub, &mut network, &mut echo, 2) == 0);
+    let reads = network.reads;
+    network.tell(Watched::Client(0)).expect(&rt, "memory");
+    assert!(rt; make(&rt, &mut hub, &mut network, &mut echo, 2) == 0);
+    assert!(rt; network.reads == reads && echo.closed.as_slice() == [0].as_slice());
+    Ok(())
+}
+
+#[test]
 fn a_new_client_may_be_told_under_an_old_number(rt: HostRuntime) -> Result<(), Fail> {
     let alloc = rt.alloc();
     let mut network = FakeSockets::new(alloc);

@@ -12,6 +12,8 @@ pub struct Talker {
     says: &'static [u8],
     more: &'static [u8],
     left: u32,
+    /// So many bytes are said on each link that is begun, behind the rest.
+    pub long: usize,
     pub heard: Vec<u8>,
     pub linked: u32,
     pub shipped: u32,
@@ -24,6 +26,7 @@ impl Drop for Talker {
             says: _,
             more: _,
             left: _,
+            long: _,
             heard: _heard,
             linked: _,
             shipped: _,
@@ -42,6 +45,7 @@ impl Talker {
             says,
             more,
             left,
+            long: 0,
             heard: Vec::new(alloc),
             linked: 0,
             shipped: 0,
@@ -60,6 +64,17 @@ impl Talker {
         let mut given = self.silence();
         let said = given.frames.push(PeerFrame { peer, bytes });
         said.map_err(|_| Refused)?;
+        Ok(given)
+    }
+
+    /// What is said on a link that is begun.
+    fn greets(&self, peer: u16) -> Result<Given, Refused> {
+        let mut given = self.gives(peer, self.says)?;
+        if self.long > 0 {
+            let bytes = vec![in self.alloc; 0; self.long].map_err(|_| Refused)?;
+            let said = given.frames.push(PeerFrame { peer, bytes });
+            said.map_err(|_| Refused)?;
+        }
         Ok(given)
     }
 
@@ -101,7 +116,7 @@ impl BridgeHandler for Talker {
         match event.kind {
             PeerEventKind::Linked { peer } => {
                 self.linked = self.linked.saturating_add(1);
-                self.gives(peer, self.says)
+                self.greets(peer)
             }
             PeerEventKind::Ship { peer } => {
                 if self.shipped >= self.left {

@@ -1,7 +1,7 @@
 -- The operations that a node makes of its own, and when it can't number them.
 use Rattle.std.specs.Prelude.{◌≡◌, ℕ, ◌^◌, ◌||◌, Bool, true, false, not, nat_lt, List, Option, Result, Ok, Err}
 use Rattle.node_bridge.specs.View.{keeps}
-use Rattle.subscription_set.specs.Standing.{dots_of}
+use Rattle.subscription_set.specs.Standing.{dots_of, dots_below}
 use Rattle.replica_store.specs.declared.operation.Operation.{Operation}
 use Rattle.replica_store.specs.declared.operation.Operation.TheVariants.{Remove}
 use Rattle.replica_store.specs.Making.{next_dot, next_count}
@@ -22,6 +22,10 @@ put_at_end id h = number_at_end id h || not (nat_lt (next_count h.store) (2 ^ 62
 -- the Remove that covers what stands of the client and, where one is given, to the filter
 abbrev pub removal : ℕ → List ℕ → Option (List ℕ) → State → Operation
 removal id client to s = Remove (next_dot id s) (dots_of client to s.subscriptions)
+
+-- the Remove that covers what stands of the client and was made under a version of the table of homes below one
+abbrev pub removal_below : ℕ → List ℕ → ℕ → State → Operation
+removal_below id client version s = Remove (next_dot id s) (dots_below client version s.subscriptions)
 
 -- the state after an operation, whose delta is kept for the other nodes
 abbrev pub with_operation : HeldView → Operation → HeldView

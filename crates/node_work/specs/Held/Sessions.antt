@@ -3,10 +3,11 @@ use Rattle.std.specs.Prelude.{◌≡◌, ℕ, ◌==◌, ◌^◌, ◌-◌, ◌+�
 use Rattle.std.specs.FinMap as map
 use Rattle.mqtt_packets.specs.Written.{written}
 use Rattle.mqtt_sessions.specs.declared.reaction.Output.{Output as Packet}
+use Rattle.mqtt_sessions.specs.Aliases.{Aliases}
 use Rattle.mqtt_sessions.specs.Answers.{disconnect, fits}
 use Rattle.mqtt_sessions.specs.Ending.{will_due, end_due, is_due}
 use Rattle.mqtt_sessions.specs.Reaction.{Reaction, packet_of}
-use Rattle.mqtt_sessions.specs.State.{State, limit_of}
+use Rattle.mqtt_sessions.specs.State.{State, aliases_of, limit_of}
 use Rattle.session_laws.specs.Runs.{Event, connects, queues, takes, answers, closes, ticks, finishes, loses, Reacts}
 use Rattle.session_table.specs.Seats.{Seat, begun}
 use Rattle.node_work.specs.declared.counts.Counts.{Counts}
@@ -103,6 +104,14 @@ seat_at client h = map.get h.sessions client
 
 abbrev pub has_session : List ℕ → HeldView → Bool
 has_session client h = is_some (seat_at client h)
+
+-- the aliases of its connection
+abbrev pub aliases_in : Option Seat → Aliases
+aliases_in None = []
+aliases_in (Some seat) = aliases_of seat.session.link
+
+abbrev pub aliases_at : List ℕ → HeldView → Aliases
+aliases_at client h = aliases_in (seat_at client h)
 
 -- the connection that it is on
 abbrev pub connection_at : List ℕ → HeldView → Option ℕ

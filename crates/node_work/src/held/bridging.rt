@@ -10,7 +10,7 @@ use crate::counts::Missed;
 use crate::fault::NodeFault;
 use crate::held::Held;
 use bridge_deltas::Offer;
-use bridge_frames::Forward;
+use bridge_frames::{Forward, LaneNumber};
 use causal_context::Context;
 use row_store::Change;
 
@@ -36,7 +36,7 @@ impl Held {
     pub fn take(
         &mut self,
         peer: u16,
-        number: u64,
+        number: LaneNumber,
         lost: u64,
         changes: &mut Vec<Change>,
     ) -> Result<(), NodeFault>
@@ -54,7 +54,7 @@ impl Held {
     pub fn got(
         &mut self,
         peer: u16,
-        number: u64,
+        number: LaneNumber,
         changes: &mut Vec<Change>,
     ) -> Result<(), NodeFault>
         ensures ok { OnOk result (self.new ≡ record self.old { bridge = gets peer number self.old.bridge }) }

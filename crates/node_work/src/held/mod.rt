@@ -12,7 +12,7 @@ ghost use Rattle.bridge_frames.specs.declared.forward.Forward.{Forward};
 ghost use Rattle.node_bridge.specs.View.{keeps, woken_bridge};
 ghost use Rattle.replica_store.specs.States.{state_join};
 ghost use Rattle.replica_store.specs.Making.{subscribe_of, put_of};
-ghost use Rattle.subscription_set.specs.Standing.{any_of};
+ghost use Rattle.subscription_set.specs.Standing.{any_of, any_below};
 ghost use Rattle.causal_context.specs.Spelling.{HasSpelling};
 ghost use Rattle.mqtt_packets.specs.Written as written;
 ghost use Rattle.subscription_set.specs.Standing.{seen_of};
@@ -26,7 +26,7 @@ ghost use Rattle.node_work.specs.Lasting.{AreOpenedWith, CanLast, StoreTells};
 ghost use Rattle.node_work.specs.Held.Sessions.{Begun, Over, called, counted, more, will_is_due, end_is_due};
 ghost use Rattle.node_work.specs.Held.Connections.{Accepted, is_open, client_at, first_at, new_connection};
 ghost use Rattle.node_work.specs.Held.Feeding.{IsHeldFed};
-ghost use Rattle.node_work.specs.Held.Making.{Makes, number_at_end, put_at_end, removal, with_operation};
+ghost use Rattle.node_work.specs.Held.Making.{Makes, number_at_end, put_at_end, removal, removal_below, with_operation};
 ghost use Rattle.node_work.specs.Packets.{CameSpelled};
 ghost use Rattle.node_work.specs.View.{no_counts, woken};
 ghost use Rattle.replica_rows.specs.Reading.{IsStore};
@@ -37,6 +37,7 @@ use crate::fault::NodeFault;
 use crate::held::connections::{Came, Connections};
 use bridge_deltas::Links;
 use causal_context::Lattice;
+use home_table::HomeTable;
 use mqtt_fields::Text;
 use mqtt_message::Delivery;
 use mqtt_packets::{Connect, Packet};
@@ -57,6 +58,7 @@ use subscription_set::Entry;
 pub struct Held {
     at: u64,
     started: bool,
+    homes: HomeTable,
     store: ReplicaStore,
     connections: Connections,
     sessions: Sessions,
@@ -71,6 +73,7 @@ impl Drop for Held {
         let Held {
             at: _at,
             started: _started,
+            homes: _homes,
             store: _store,
             connections: _connections,
             sessions: _sessions,
@@ -91,7 +94,7 @@ impl Model for Held {
 
     ghost coded = { coded_held };
 
-    ghost view = { λ h. record { at = h.at; started = h.started; store = h.store; connections = h.connections; sessions = h.sessions; bridge = h.bridge; turn = h.turn; named = h.named; counts = h.counts } };
+    ghost view = { λ h. record { at = h.at; started = h.started; homes = h.homes; store = h.store; connections = h.connections; sessions = h.sessions; bridge = h.bridge; turn = h.turn; named = h.named; counts = h.counts } };
 
     ghost invariant = { λ h. (h.at < 2 ^ 62) × (h.turn ≤ 2 ^ 62) × (h.named < 2 ^ 62) × IsStore h.store };
 }
@@ -128,12 +131,12 @@ fn no_counts() -> Counts
 }
 
 impl Held {
-    /// What a node holds that is opened with what lasts of it.
-    pub fn wake(alloc: Global, opened: Opened) -> Held
+    /// What a node holds that is opened with a table of homes and what lasts of it.
+    pub fn wake(alloc: Global, homes: HomeTable, opened: Opened) -> Held
         requires named { opened.named < 2 ^ 62 }
         requires store { IsStore opened.store }
         requires lanes { (lanes : Lanes Forward) × AreOpenedWith opened.links lanes }
-        ensures { (lanes : Lanes Forward) → AreOpenedWith opened.links lanes → result ≡ woken opened.named opened.sessions opened.store lanes }
+        ensures { (lanes : Lanes Forward) → AreOpenedWith opened.links lanes → result ≡ woken homes opened.named opened.sessions opened.store lanes }
     {
         let Opened {
             named,
@@ -144,6 +147,7 @@ impl Held {
         Held {
             at: 0,
             started: false,
+            homes,
             store,
             connections: Connections::new(alloc),
             sessions,
@@ -174,6 +178,13 @@ impl Held {
         ensures { result ≡ self.now.started }
     {
         self.started
+    }
+
+    /// The table of homes.
+    pub fn homes(&self) -> &HomeTable
+        ensures { result.now ≡ self.now.homes }
+    {
+        &self.homes
     }
 
     pub fn store(&self) -> &ReplicaStore
@@ -207,6 +218,14 @@ impl Held {
         ensures { result ≡ any_of client.now (option_copied filter.entry) self.now.store.subscriptions }
     {
         self.store.subscriptions().stands(client, filter)
+    }
+
+    /// Whether something stands of the client that was made under a version of the table of homes below
+    /// this one.
+    pub fn stands_below(&self, client: &Text, version: u64) -> bool
+        ensures { result ≡ any_below client.now version self.now.store.subscriptions }
+    {
+        self.store.subscriptions().stands_below(client, version)
     }
 
     pub fn sessions(&self) -> &Sessions
@@ -326,6 +345,26 @@ impl Held {
     {
         match self.store.make_remove(node, client, filter)? {
             Some(operation) => self.apply(alloc, &operation, changes),
+            None => Ok(()),
+        }
+    }
+
+    /// Makes a Remove of what stands of the client and was made under a version of the table of homes
+    /// below this one, and takes it.
+    pub fn remove_below(
+        &mut self,
+        alloc: Global,
+        node: u16,
+        client: &Text,
+        version: u64,
+        changes: &mut Vec<Change>,
+    ) -> Result<(), NodeFault>
+        requires { any_below client.now version self.old.store.subscriptions ≡ true }
+        ensures makes { Makes (number_at_end node self.old) (removal_below node client.now version self.old.store) self.old self.new result }
+        ensures tells { OnOk result (StoreTells self.old.store changes.old.items changes.new.items self.new.store) }
+    {
+        match self.store.make_remove_below(node, client, version)? {
+            Some(removal) => self.apply(alloc, &removal, changes),
             None => Ok(()),
         }
     }

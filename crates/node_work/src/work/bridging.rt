@@ -16,7 +16,7 @@ use crate::frame::written_frame;
 use crate::outcome::Output;
 use crate::work::Work;
 use bridge_deltas::Offer;
-use bridge_frames::{BridgeFrame, Forward, LinkFault};
+use bridge_frames::{BridgeFrame, Forward, LaneNumber, LinkFault};
 use causal_context::Context;
 use message_routes::Route;
 
@@ -77,7 +77,7 @@ impl Work {
     }
 
     /// Takes the next message of another node's lane, with its copies, of which so many picks are lost.
-    pub fn take(&mut self, peer: u16, number: u64, lost: u64) -> Result<(), NodeFault>
+    pub fn take(&mut self, peer: u16, number: LaneNumber, lost: u64) -> Result<(), NodeFault>
         requires { is_next peer number self.old.held.bridge ≡ true }
         ensures { (m : Forward) (copies : List Copy) → IsHanded self.old.held m copies lost
             → Comes (λ x. x) result self.old self.new (Acting (λ p h. Bridge (Took peer number m copies lost))) }
@@ -86,7 +86,7 @@ impl Work {
     }
 
     /// Another node has taken the messages up to the number.
-    pub fn got(&mut self, peer: u16, number: u64) -> Result<(), NodeFault>
+    pub fn got(&mut self, peer: u16, number: LaneNumber) -> Result<(), NodeFault>
         ensures { Comes (λ x. x) result self.old self.new (Acting (λ p h. Bridge (Got peer number))) }
     {
         self.held.got(peer, number, &mut self.changes)

@@ -7,7 +7,7 @@ use std::process::Abort;
 const STREAM: &str = "100e00044d5154540502003c000001613106000174006f6e820700010000017400";
 
 const ANSWERS: &str =
-    "sent 0 1 200b0000082100642700100000\nsent 0 1 900400010000\nsent 0 1 3106000174006f6e\nnode 0 subscriptions 1 retained 1\n";
+    "sent 0 1 200e00000b2100642200102700100000\nsent 0 1 900400010000\nsent 0 1 3106000174006f6e\nnode 0 subscriptions 1 retained 1\n";
 
 /// A script that sends the stream in two pieces, cut after so many digits.
 fn cut_after(rt: &impl Abort, alloc: Global, digits: usize) -> String {
@@ -62,7 +62,7 @@ fn connected(rt: &impl Abort, alloc: Global) -> String {
 /// What is written of that.
 fn accepted(rt: &impl Abort, alloc: Global) -> String {
     let mut out = String::new(alloc);
-    add(rt, &mut out, "sent 0 1 200b0000082100642700100000\n");
+    add(rt, &mut out, "sent 0 1 200e00000b2100642200102700100000\n");
     out
 }
 

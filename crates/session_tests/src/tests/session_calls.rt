@@ -129,6 +129,27 @@ fn due(rt: &impl Abort, alloc: Global, session: &Session, now: u64) -> String {
     format!(in alloc; "{ran_out} {will} {end} {limit}").expect(rt, "memory")
 }
 
+/// The topic of an alias.
+fn alias(rt: &impl Abort, alloc: Global, session: &Session, alias: u64) -> String {
+    assert!(rt; alias < 65_536);
+    let topic = session.alias_topic(alias as u16).unwrap_or("none");
+    String::from_str(alloc, topic).expect(rt, "memory")
+}
+
+/// Sets so many aliases, each to a letter.
+fn aliases(rt: &impl Abort, alloc: Global, session: &mut Session, count: u64) -> String {
+    let mut last = String::new(alloc);
+    for n in 0..count {
+        let digits = format!(in alloc;
+            "30080001{:02x}032300{:02x}78",
+            n % 16 + 97,
+            n % 16 + 1
+        ).expect(rt, "memory");
+        last = take(rt, alloc, session, digits.as_str(), true);
+    }
+    last
+}
+
 /// Opens so many exchanges from the client.
 fn open(rt: &impl Abort, alloc: Global, session: &mut Session, count: u64) -> String {
     let mut last = String::new(alloc);
@@ -193,6 +214,8 @@ fn of_word(
         "refuse" => take(rt, alloc, session, word, false),
         "kinds" => kinds(rt, alloc, word),
         "open" => open(rt, alloc, session, number(rt, word)),
+        "alias" => alias(rt, alloc, session, number(rt, word)),
+        "aliases" => aliases(rt, alloc, session, number(rt, word)),
         "fill" => fill(rt, alloc, session, number(rt, word)),
         "due" => due(rt, alloc, session, number(rt, word)),
         _ => at(rt, alloc, session, verb, moment(rt, word)),

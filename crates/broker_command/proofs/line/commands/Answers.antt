@@ -13,5 +13,6 @@ returns c =
     let top = ap app_of_fields c.subcommand_required.ensures ∙ ap (on_top (λ s. record s { subcommand_required = true })) unnamed in
     let played = c.in_ok-subcommand.ensures.shape c.in_ok-play.ensures.1 ∙ ap₂ with_subcommand top (ap (λ (a : App). a.top) c.in_ok-play.ensures.0) in
     let looped = c.in_ok-subcommand-2.ensures.shape c.in_ok-loopback.ensures.1 ∙ ap₂ with_subcommand played (ap (λ (a : App). a.top) c.in_ok-loopback.ensures.0) in
-    IfOk-weaker c.subcommand-3.result _ _
-    (λ r added. added.shape c.in_ok-serve.ensures.1 ∙ ap₂ with_subcommand looped (ap (λ (a : App). a.top) c.in_ok-serve.ensures.0)) c.subcommand-3.ensures
+    let served = c.in_ok-subcommand-3.ensures.shape c.in_ok-serve.ensures.1 ∙ ap₂ with_subcommand looped (ap (λ (a : App). a.top) c.in_ok-serve.ensures.0) in
+    IfOk-weaker c.subcommand-4.result _ _
+    (λ r added. added.shape c.in_ok-check.ensures.1 ∙ ap₂ with_subcommand served (ap (λ (a : App). a.top) c.in_ok-check.ensures.0)) c.subcommand-4.ensures

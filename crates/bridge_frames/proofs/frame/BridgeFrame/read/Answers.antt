@@ -3,12 +3,17 @@ use Rattle.std.specs.Prelude.{IfOk}
 use Rattle.mqtt_fields.specs.Field.{IsBytes}
 use Rattle.bridge_frames.specs.declared.fault.LinkFault.{LinkFault}
 use Rattle.bridge_frames.specs.Frames.{Frame, content, frame_in}
-use Rattle.bridge_frames.proofs.FrameLaws.{frame_is, no_frame, no_run, not_content, spells}
+use Rattle.bridge_frames.proofs.FrameLaws.{frame_is, no_frame, no_run, not_content, spells, too_large}
 use Rattle.bridge_frames.proofs.frame.BridgeFrame.read.Goals as goal
 
 if_ok : {P Q : Frame → Type 0} (r : Result Frame LinkFault) → ((f : Frame) → P f → Q f) → IfOk r P → IfOk r Q
 if_ok (Ok f) g p = g f p
 if_ok (Err e) g p = p
+
+pub returns-then-is_too_large-clause-no_frame : goal.returns-then-is_too_large-clause-no_frame
+returns-then-is_too_large-clause-no_frame c = λ _.
+    let bytes : IsBytes c.args.bytes.now = λ i. omega (arith, c.type_inv.bytes i) in
+    too_large c.args.bytes.now bytes (c.is_too_large.ensures.0 c.if-is_too_large.true)
 
 pub returns-in_default-clause-none : goal.returns-in_default-clause-none
 returns-in_default-clause-none c = λ _.

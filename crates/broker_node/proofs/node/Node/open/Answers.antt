@@ -1,6 +1,6 @@
-use Rattle.std.proofs.Common.{Some, subst}
+use Rattle.std.proofs.Common.{◌∙◌, Some, subst}
 use Rattle.node_rows.specs.Reading.{IsLasting}
-use Rattle.node_work.specs.View.{woken}
+use Rattle.node_work.specs.View.{place_of, woken}
 use Rattle.broker_node.proofs.node.Node.open.Goals as goal
 
 pub wake-requires-clause-lanes : goal.wake-requires-clause-lanes
@@ -13,9 +13,10 @@ returns-clause-ok c =
     let work = c.wake.ensures e.0.lanes (c.args.id, c.nodes.result, e.3.links) in
     record {
       lasting = e.0;
-      held = woken o.named o.sessions o.store e.0.lanes;
+      held = woken c.args.homes o.named o.sessions o.store e.0.lanes;
       can_last = subst (λ n. IsLasting n e.0) c.nodes.ensures.count e.1;
       say = e.2;
-      woken = (o.sessions, e.3.sessions, λ i. woken (e.3.named i) o.sessions (e.3.store i) e.0.lanes);
-      is = λ i. record { place = record { id = c.args.id; homes = c.args.homes }; up = Some ((work i).held) };
+      woken = (o.sessions, e.3.sessions, λ i. woken c.args.homes (e.3.named i) o.sessions (e.3.store i) e.0.lanes);
+      is = (λ i. record { place = place_of c.args.id c.args.homes; homes = c.args.homes; up = Some ((work i).held) })
+          ∙ (λ i. record { place = place_of c.args.id c.args.homes; homes = c.args.homes; up = Some (woken (c.in-Ok.ensures i) o.named o.sessions o.store e.0.lanes) });
     }

@@ -59,6 +59,6 @@ returns-in-Err-clause-ok c =
     let e = c.in-Err.ensures in
     let lines = c.args.lines.now.items in
     event_refused nodes.items frames i k below c.index_mut.ensures.value c.args.event.now lines c.tell.new.lines.items c.in-Err.fault c.handle.new.self e.cause (in_memory c.in-Err.fault (λ x. e.bad (ap Err x)) (λ x. e.device (ap Err x)))
-    (λ d. same_site k c.handle.new.self (c.handle.ensures.stopped d).1 (c.handle.ensures.stopped d).2) c.handle.ensures.place e.down (e.err tt tt)
+    (λ d. same_site k c.handle.new.self (c.handle.ensures.stopped d).1 (c.handle.ensures.stopped d).2) e.down (e.err tt tt)
     (λ is. c.tell.ensures.down is ∙ ap (λ xs. xs ++ Down i ∷ []) c.reserve.ensures.items)
     (λ is. c.tell.ensures.fault is ∙ ap (λ xs. xs ++ Fault i c.in-Err.fault ∷ []) c.reserve.ensures.items)

@@ -5,7 +5,7 @@ use Rattle.home_table.specs.Table.{Table}
 use Rattle.node_keeper.specs.Views.{node_of, rows_of}
 use Rattle.node_rows.proofs.OneNode.{rows_tell_all}
 use Rattle.node_rows.specs.Rows.{mark, mark_key}
-use Rattle.node_work.specs.View.{NodeView, Place, opened}
+use Rattle.node_work.specs.View.{NodeView, opened}
 use Rattle.cluster_play.specs.Clusters.{are_tables, site_of}
 use Rattle.cluster_play.specs.Histories.{IsNew}
 use Rattle.cluster_play.proofs.Fresh.{opened_new}
@@ -31,19 +31,18 @@ loop-i-preserved c =
     let taken = sym (length-map sites table_of) ∙ ap length c.loop-i.invariant.homes ∙ length-take i tables in
     let count : i ≡ length sites = omega (arith, taken, below) in
     let copied = c.in_ok-copy.ensures in
-    let place : Place = record { id = i; homes = c.in_ok-copy.field-0 } in
-    let new = opened_new rows_tell_all place c.new.result (rows_of k) (node_of k) c.new.ensures (c.in-Ok.ensures.ok tt tt).1 in
+    let new = opened_new rows_tell_all i c.in_ok-copy.field-0 c.new.result (rows_of k) (node_of k) c.new.ensures (c.in-Ok.ensures.ok tt tt).1 in
     let added = ap (map site_of) c.in_ok-push.ensures.items ∙ map_push site_of nodes k in
     record {
       each = λ j s h. each_added (IsNew (length tables)) sites (site_of k) c.loop-i.invariant.each
           (record {
             homes = c.in_ok-copy.field-0;
             fits = ap (λ (t : Table). length t.nodes) copied ∙ fits_at tables i x fit below is;
-            node = new.0 ∙ ap (λ j. opened (record { id = j; homes = c.in_ok-copy.field-0 })) count;
+            node = new.0 ∙ ap (λ j. opened j c.in_ok-copy.field-0) count;
             rows = new.1 ∙ ap (λ j. fin.insert fin.empty mark_key (mark j 0)) count;
           }) j s (subst (λ ss. slice_get ss j ≡ Some s) added h);
       homes = ap (map table_of) added
-          ∙ homes_more sites tables i (site_of k) x below is (ap (λ (n : NodeView). n.place.homes) new.0 ∙ copied) c.loop-i.invariant.homes;
+          ∙ homes_more sites tables i (site_of k) x below is (ap (λ (n : NodeView). n.homes) new.0 ∙ copied) c.loop-i.invariant.homes;
     }
 
 pub returns-clause-start : goal.returns-clause-start

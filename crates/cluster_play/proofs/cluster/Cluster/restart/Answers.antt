@@ -28,6 +28,6 @@ returns-in-Err-clause-ok c =
     let marks = e.err tt tt in
     let fault = c.in-Err.fault in (
       Faulted i fault,
-      not_restarted nodes.items c.args.self.now.frames.items i k below c.index_mut.ensures.value fault c.reopen.new.self (stays_down (site_of k) (rows_of c.reopen.new.self) fault e.fault marks (λ x. e.bad tt tt (ap Err x)) (λ x. e.device (ap Err x))) c.reopen.ensures.place e.down marks,
+      not_restarted nodes.items c.args.self.now.frames.items i k below c.index_mut.ensures.value fault c.reopen.new.self (stays_down (site_of k) (rows_of c.reopen.new.self) fault e.fault marks (λ x. e.bad tt tt (ap Err x)) (λ x. e.device (ap Err x))) e.down marks,
       c.tell.ensures.fault (never_stopped fault e.fault) ∙ ap (λ xs. xs ++ Fault i fault ∷ []) c.reserve.ensures.items,
     )

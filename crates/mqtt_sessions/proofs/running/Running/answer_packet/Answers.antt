@@ -7,7 +7,7 @@ pubrec-requires-clause-id c = (pubrec_identified c.in-Pubrec.ack (rw c.in-Pubrec
 
 pub returns-in-Publish-clause-spelled : goal.returns-in-Publish-clause-spelled
 returns-in-Publish-clause-spelled c =
-    publish_spelled c.in-Publish.publish c.args.now c.args.room c.args.limit _ _ c.publish.result c.requires.limit (rw c.in-Publish.is at c.requires.spelled) c.publish.ensures.step
+    publish_spelled c.in-Publish.publish c.args.now c.args.room c.args.limit c.args.self.now.state c.publish.new.self.state c.publish.result c.requires.limit (rw c.in-Publish.is at c.requires.spelled) c.publish.ensures.step
 
 pub returns-in-Pubrel-clause-spelled : goal.returns-in-Pubrel-clause-spelled
 returns-in-Pubrel-clause-spelled c = release_spelled c.in-Pubrel.ack c.args.now c.args.limit _ _ c.pubrel.result c.requires.limit (rw c.in-Pubrel.is at c.requires.spelled) c.pubrel.ensures.step

@@ -15,7 +15,7 @@ returns-then-turn-ge-NUMBERS_END-clause-comes c = λ m copies routes is.
 
 pub returns-clause-comes : goal.returns-clause-comes
 returns-clause-comes c = λ m copies routes is.
-    let before : WorkView = record { place = record { id = c.self.inside.id; homes = c.self.inside.homes }; held = c.self.inside.held; outputs = c.self.inside.outputs.items; changes = c.self.inside.changes.items } in
+    let before : WorkView = record { place = record { id = c.self.inside.id; nodes = c.self.inside.nodes }; held = c.self.inside.held; outputs = c.self.inside.outputs.items; changes = c.self.inside.changes.items } in
     let after : WorkView = record before { held = c.pass.new.self } in
     let a = Passed m copies c.args.lost routes in
     let below = subst (λ n. n < 2 ^ 62) c.turn.ensures c.if-turn-ge-NUMBERS_END.false in

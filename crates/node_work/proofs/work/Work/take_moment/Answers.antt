@@ -9,7 +9,7 @@ use Rattle.node_work.proofs.work.Work.take_moment.Goals as goal
 
 pub returns-clause-comes : goal.returns-clause-comes
 returns-clause-comes c =
-    let before : WorkView = record { place = record { id = c.self.inside.id; homes = c.self.inside.homes }; held = c.self.inside.held; outputs = c.self.inside.outputs.items; changes = c.self.inside.changes.items } in
+    let before : WorkView = record { place = record { id = c.self.inside.id; nodes = c.self.inside.nodes }; held = c.self.inside.held; outputs = c.self.inside.outputs.items; changes = c.self.inside.changes.items } in
     let after : WorkView = record before { held = c.take_moment.new.self } in
     let below : not (nat_lt c.args.at (2 ^ 62)) ≡ false = below_moment c.args.at c.if-at-ge-NUMBERS_END.false in
     subst (λ w. Did w after (TakesMoment c.args.at (Some tt))) c.self.view_is

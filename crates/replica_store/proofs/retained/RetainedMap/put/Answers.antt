@@ -1,4 +1,4 @@
-use Rattle.std.proofs.Common.{◌∙◌, sym, ap}
+use Rattle.std.proofs.Common.{◌∙◌, ℕ, max, sym, ap}
 use Rattle.replica_store.specs.Contents.{topic_in}
 use Rattle.replica_store.specs.Retained.{retained_join, one_put}
 use Rattle.replica_store.specs.Merging.{is_newer}
@@ -11,7 +11,7 @@ invariant_of-self-then-wins c =
     let wins = sym (c.wins.ensures ∙ ap (λ x. is_newer x c.in_ok-topic.kept) c.get.ensures) ∙ c.if-wins.true in
     put_kept s c.insert.new.self c.args.stamp c.args.content c.self.invariant.0
     (put_in s c.insert.new.self c.args.stamp c.args.content c.in_ok-topic.topic c.in_ok-topic.kept c.in_ok-topic.ensures.topic c.in_ok-topic.ensures.kept wins c.in_ok-insert.ensures.ok)
-    c.self.inside.greatest c.max-self-inside.result c.self.invariant.1 c.max-self-inside.ensures
+    c.self.inside.greatest c.max-self-inside.result c.self.invariant.1 (c.max-self-inside.ensures ∙ ap (λ (n : ℕ). max c.self.inside.greatest n) c.count.ensures.same)
 
 pub returns-in_ok-insert-clause-ok : goal.returns-in_ok-insert-clause-ok
 returns-in_ok-insert-clause-ok c =

@@ -1,0 +1,40 @@
+//! The numbers of messages in a lane.
+ghost use Rattle.std.specs.Prelude.{◌≡◌, ◌<◌, ◌^◌};
+
+use std::marker::Model;
+
+/// The number of a message in the lane from one node to another, or 0 for none: below 2^62. Contracts see the number.
+#[derive(Clone, Copy, Debug, PartialEq, Eq)]
+pub struct LaneNumber {
+    number: u64,
+}
+
+impl Model for LaneNumber {
+    ghost use Rattle.std.specs.Prelude.{ℕ, ◌<◌, ◌^◌};
+
+    ghost Value = { ℕ };
+
+    ghost view = { λ n. n.number };
+
+    ghost invariant = { λ n. n.number < 2 ^ 62 };
+
+    ghost inverse = { λ n. record { number = n } };
+}
+
+impl LaneNumber {
+    /// A number that is below 2^62.
+    pub fn of(number: u64) -> LaneNumber
+        requires { number < 2 ^ 62 }
+        ensures { result ≡ number }
+    {
+        LaneNumber { number }
+    }
+
+    /// The number.
+    pub fn get(self) -> u64
+        ensures same { result ≡ self }
+        ensures below { result < 2 ^ 62 }
+    {
+        self.number
+    }
+}

@@ -1,0 +1,89 @@
+//! What lies behind the end of a run: the system and the rows are asked once more, after it has ended.
+
+ghost use Rattle.std.specs.Prelude.{◌<◌, length};
+
+use broker_stop::{RunFault, Stop};
+use home_table::HomeTable;
+use node_database::OpenFault;
+use resting_rows::{found_of_open, held, refused};
+use run_causes::{Answer, Cause, Ending, Found, Tried, answer_of, rows_fault};
+use std::net::{SocketAddr, TcpListener};
+
+/// The end of a run whose database at a path isn't opened; the system is asked about the path only where it refused it.
+pub fn unopened(rt: &HostRuntime, path: &str, fault: OpenFault) -> Ending {
+    let answer = match fault {
+        OpenFault::Refused => refused(rt, path),
+        _ => Found::Failed,
+    };
+    let found = found_of_open(fault, answer);
+    Ending {
+        stop: Stop::Run(rows_fault(&found)),
+        cause: Cause::opening(rt.alloc(), path, found),
+    }
+}
+
+/// What is found of rows from which a node isn't opened, or which couldn't be changed.
+fn cause_of_rows(rt: &HostRuntime, path: &str, id: u16, nodes: u16) -> Option<Cause> {
+    match held(rt, path, id, nodes) {
+        Ok(_) => Cause::keeping(rt.alloc(), path, Found::Failed),
+        Err(cause) => cause,
+    }
+}
+
+/// What is found where the node was to wait at an address; nothing where it can wait there.
+fn found_at(rt: &HostRuntime, address: &str) -> Option<Found> {
+    let Ok(place) = address.parse::<SocketAddr>() else {
+        return Some(Found::NoAddress);
+    };
+    match TcpListener::bind(rt, place) {
+        Ok(_) => None,
+        Err(error) => Some(Found::Answered(answer_of(&error))),
+    }
+}
+
+/// The first bridge of another node that isn't an IP address with a port.
+fn unfound_bridge(rt: &HostRuntime, homes: &HomeTable) -> Option<Cause> {
+    for number in 0..homes.nodes() {
+        let bridge = homes.bridge(number);
+        if bridge.parse::<SocketAddr>().is_err() {
+            return Cause::finding(rt.alloc(), bridge, Found::NoAddress);
+        }
+    }
+    None
+}
+
+/// What is found of the addresses of a node, and of the bridges of the others.
+fn cause_of_sockets(rt: &HostRuntime, homes: &HomeTable, id: u16) -> Option<Cause>
+    requires { id < length homes.now.nodes }
+{
+    let address = homes.reference(id);
+    let bridge = homes.bridge(id);
+    if let Some(found) = found_at(rt, address) {
+        return Cause::waiting(rt.alloc(), address, found);
+    }
+    if let Some(found) = found_at(rt, bridge) {
+        return Cause::waiting(rt.alloc(), bridge, found);
+    }
+    unfound_bridge(rt, homes)
+}
+
+/// What lies behind the end of a run of the node, with its rows in the database at a path.
+pub fn cause_of(
+    rt: &HostRuntime,
+    stop: &Stop,
+    homes: &HomeTable,
+    id: u16,
+    path: &str,
+) -> Option<Cause>
+    requires { id < length homes.now.nodes }
+{
+    match stop {
+        Stop::Run(RunFault::Rows) => cause_of_rows(rt, path, id, homes.nodes()),
+        Stop::Run(RunFault::Socket) => cause_of_sockets(rt, homes, id),
+        Stop::Run(RunFault::Output) => Some(Cause {
+            tried: Tried::Printing,
+            found: Found::Answered(Answer::Unnumbered),
+        }),
+        _ => None,
+    }
+}

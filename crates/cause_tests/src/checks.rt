@@ -1,0 +1,96 @@
+//! What is told of the rows of a node that is down.
+
+use broker_checking::check;
+use database_examples::{HOMES, PACKETS, held, write_file};
+use node_database::open_rows;
+use std::{fs, str};
+
+/// What a check of a node's rows prints, or what it leaves on standard error.
+fn checked(rt: &HostRuntime, names: (&str, &str, &str)) -> Option<String> {
+    let (configuration, node, database) = names;
+    let mut out: Vec<u8> = Vec::new(rt.alloc());
+    match check(rt, configuration, node, database, &mut out) {
+        Ok(()) => String::from_str(rt.alloc(), str::from_utf8(&out).ok()?).ok(),
+        Err(ending) => format!(in rt.alloc(); "{ending}").ok(),
+    }
+}
+
+fn is_checked(rt: &HostRuntime, names: (&str, &str, &str), text: &str) -> bool {
+    match checked(rt, names) {
+        Some(found) => found.as_str() == text,
+        None => false,
+    }
+}
+
+/// The bytes of a database's file and of its log.
+fn bytes_of(rt: &HostRuntime, database: &str, log: &str) -> Option<(Vec<u8>, Vec<u8>)> {
+    Some((fs::read(rt, database).ok()?, fs::read(rt, log).ok()?))
+}
+
+/// A client of node 1 has a session, a subscription and a retained message, which are its node's first two operations.
+#[test]
+fn what_rows_hold_is_told(rt: HostRuntime) {
+    fs::write(&rt, "held.toml", HOMES).expect(&rt, "a file");
+    let rows = open_rows(&rt, "held.db").ok().expect(&rt, "a database");
+    assert_eq!(rt; held(&rt, rt.alloc(), rows, &PACKETS), (1, 1));
+    let before = bytes_of(&rt, "held.db", "held.db-wal").expect(&rt, "files");
+    let text =
+        "node n1 number 1\nsessions 1\nsubscriptions 1\nretained 1\nlane 0 waiting 0\ntaken 0 0\ntaken 1 2\n";
+    assert!(rt; is_checked(&rt, ("held.toml", "n1", "held.db"), text));
+    let after = bytes_of(&rt, "held.db", "held.db-wal").expect(&rt, "files");
+    assert!(rt; before == after);
+    drop((before, after));
+}
+
+#[test]
+fn rows_of_version_1_are_told(rt: HostRuntime) {
+    fs::write(&rt, "first.toml", HOMES).expect(&rt, "a file");
+    assert!(rt; write_file(&rt, "first_told.db"));
+    let text =
+        "node n1 number 1\nsessions 1\nsubscriptions 1\nretained 1\nlane 0 waiting 0\ntaken 0 0\ntaken 1 2\n";
+    for _ in 0..2 {
+        assert!(rt; is_checked(&rt, ("first.toml", "n1", "first_told.db"), text));
+    }
+}
+
+#[test]
+fn rows_that_are_none_are_told(rt: HostRuntime) {
+    fs::write(&rt, "none.toml", HOMES).expect(&rt, "a file");
+    assert!(rt; write_file(&rt, "node_1.db"));
+    fs::write(&rt, "blank.db", "").expect(&rt, "a file");
+    for (node, database, text) in [
+        (
+            "n0",
+            "none.db",
+            "broker: run: Rows\nbroker: opening the database none.db: no such file or folder",
+        ),
+        (
+            "n0",
+            "node_1.db",
+            "broker: run: Rows\nbroker: the rows in node_1.db: they are those of node 1 of the table, counted from 0",
+        ),
+        (
+            "n0",
+            "blank.db",
+            "node n0 number 0\nsessions 0\nsubscriptions 0\nretained 0\nlane 1 waiting 0\ntaken 0 0\ntaken 1 0\n",
+        ),
+        (
+            "n2",
+            "node_1.db",
+            "broker: configuration: UnknownNode\nbroker: reading none.toml: it does not name the node n2",
+        ),
+    ] {
+        assert!(rt;
+            is_checked(&rt, ("none.toml", node, database), text),
+            "{text}"
+        );
+    }
+    assert!(rt; fs::metadata(&rt, "none.db").is_err());
+    let rows = open_rows(&rt, "open_told.db")
+        .ok()
+        .expect(&rt, "a database");
+    let open =
+        "broker: run: Rows\nbroker: opening the database open_told.db: a program that runs has it open";
+    assert!(rt; is_checked(&rt, ("none.toml", "n0", "open_told.db"), open));
+    drop(rows);
+}

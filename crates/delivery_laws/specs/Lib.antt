@@ -1,0 +1,11 @@
+pub mod Again
+pub mod Ends
+pub mod Released
+pub mod Queue
+pub mod Wills
+pub mod Codes
+pub mod Unanswered
+pub mod Identifiers
+pub mod Outcomes
+pub mod Overs
+pub mod Busy

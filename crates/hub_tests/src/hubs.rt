@@ -1,0 +1,142 @@
+//! Nodes that are served over sockets in memory: one whose rows refuse a change, and one whose rows are in a database.
+ghost use Rattle.std.specs.Prelude.{◌<◌, length};
+
+use broker_sockets::Clock;
+use broker_stop::RunFault;
+use fake_sockets::FakeSockets;
+use home_table::HomeTable;
+use node_database::open_rows;
+use node_server::serve;
+use numbered_homes::homes_of;
+use refusing_rows::RefusingRows;
+use row_store::{MemoryRows, RowStore};
+use std::alloc::Global;
+use std::process::Abort;
+
+/// CONNECT of client `a`, whose home of two nodes is the second one, a retained PUBLISH of `on` to `t`, and SUBSCRIBE to `t`.
+const PACKETS: [&[u8]; 3] = [
+    b"\x10\x0e\x00\x04MQTT\x05\x02\x00\x3c\x00\x00\x01a",
+    b"\x31\x06\x00\x01t\x00on",
+    b"\x82\x07\x00\x01\x00\x00\x01t\x00",
+];
+
+/// CONNACK, SUBACK, and the retained message.
+const ANSWERS: &[u8] =
+    b"\x20\x0e\x00\x00\x0b\x21\x00\x64\x22\x00\x10\x27\x00\x10\x00\x00\x90\x04\x00\x01\x00\x00\x31\x06\x00\x01t\x00on";
+
+/// CONNECT of three clients, whose sessions stay for 100 s.
+const CONNECTS: [&[u8]; 3] = [
+    b"\x10\x13\x00\x04MQTT\x05\x00\x00\x3c\x05\x11\x00\x00\x00\x64\x00\x01a",
+    b"\x10\x13\x00\x04MQTT\x05\x00\x00\x3c\x05\x11\x00\x00\x00\x64\x00\x01b",
+    b"\x10\x13\x00\x04MQTT\x05\x00\x00\x3c\x05\x11\x00\x00\x00\x64\x00\x01c",
+];
+
+/// How many bytes each has, which a read gives at most.
+const PIECE: usize = 21;
+
+/// SUBSCRIBE to `t`.
+const SUBSCRIBE: &[u8] = b"\x82\x07\x00\x01\x00\x00\x01t\x00";
+
+/// CONNACK, and SUBACK behind it.
+const CONNACK: &[u8] = b"\x20\x0e\x00\x00\x0b\x21\x00\x64\x22\x00\x10\x27\x00\x10\x00\x00";
+
+const BOTH: &[u8] =
+    b"\x20\x0e\x00\x00\x0b\x21\x00\x64\x22\x00\x10\x27\x00\x10\x00\x00\x90\x04\x00\x01\x00\x00";
+
+/// The call in which rows are changed first: an opening loads them, puts the mark, and loads them again.
+const FIRST_CHANGE: u64 = 4;
+
+/// Tells 1, 2, 3 and so on.
+#[derive(Drop)]
+struct Rising {
+    told: u64,
+}
+
+impl Clock for Rising {
+    ghost tells = { λ _ _ _. Unit {0} };
+
+    fn now(&mut self) -> u64 {
+        self.told = self.told.saturating_add(1);
+        self.told
+    }
+}
+
+/// Serves a node for ten turns, and answers what ends the run early, if anything does.
+fn served<R: RowStore + Drop>(
+    alloc: Global,
+    network: &mut FakeSockets,
+    rows: R,
+    place: (HomeTable, u16),
+) -> Option<RunFault>
+    requires { place.1 < length place.0.nodes }
+{
+    let mut clock = Rising { told: 0 };
+    let mut out = Vec::new(alloc);
+    serve(alloc, network, &mut clock, rows, place, 10, &mut out).err()
+}
+
+/// Three clients connect in one turn and subscribe in the next one, at a node whose rows refuse this call: what ends the run, and
+/// whether each client has got just these bytes.
+fn refused(rt: &impl Abort, alloc: Global, call: u64, got: &[u8]) -> (Option<RunFault>, bool) {
+    let mut network = FakeSockets::new(alloc);
+    for connect in CONNECTS {
+        let end = network.client(1, connect, PIECE, 100).expect(rt, "memory");
+        network.send(end, SUBSCRIBE).expect(rt, "memory");
+    }
+    let homes = homes_of(alloc, 1).expect(rt, "a table");
+    let rows = RefusingRows::new(MemoryRows::new(alloc), call);
+    let fault = served(alloc, &mut network, rows, (homes, 0));
+    // the clients' ends are the first, the third and the fifth
+    let all = network.came(0) == got && network.came(2) == got && network.came(4) == got;
+    drop(network);
+    (fault, all)
+}
+
+#[test]
+fn nothing_is_sent_where_rows_refuse_the_changes_of_a_turn(rt: HostRuntime) {
+    let alloc = rt.alloc();
+    let rows = Some(RunFault::Rows);
+    for (call, fault, got) in [
+        (FIRST_CHANGE, rows, b"".as_slice()),
+        (FIRST_CHANGE + 1, rows, CONNACK),
+        (FIRST_CHANGE + 2, None, BOTH),
+    ] {
+        assert!(rt; refused(&rt, alloc, call, got) == (fault, true));
+    }
+}
+
+/// A client sends packets to a node of two with these rows: what ends the run, and whether the client has got just these bytes.
+fn answered<R: RowStore + Drop>(
+    rt: &impl Abort,
+    alloc: Global,
+    rows: R,
+    id: u16,
+    packets: &[&[u8]],
+    got: &[u8],
+) -> (Option<RunFault>, bool) {
+    let mut network = FakeSockets::new(alloc);
+    let end = network.client(1, b"", 100, 100).expect(rt, "memory");
+    for packet in packets {
+        network.send(end, packet).expect(rt, "memory");
+    }
+    let homes = homes_of(alloc, 2).expect(rt, "a table");
+    assert!(rt; id < homes.nodes());
+    let fault = served(alloc, &mut network, rows, (homes, id));
+    let all = network.came(end) == got;
+    drop(network);
+    (fault, all)
+}
+
+#[test]
+fn what_a_run_wrote_is_in_the_database_of_the_next(rt: HostRuntime) {
+    let again = [PACKETS[0], PACKETS[2]];
+    for (id, packets, got, fault) in [
+        (1, PACKETS.as_slice(), ANSWERS, None),
+        (1, again.as_slice(), ANSWERS, None),
+        // as another node
+        (0, PACKETS.as_slice(), b"".as_slice(), Some(RunFault::Rows)),
+    ] {
+        let rows = open_rows(&rt, "hub.db").ok().expect(&rt, "a database");
+        assert!(rt; answered(&rt, rt.alloc(), rows, id, packets, got) == (fault, true));
+    }
+}

@@ -1,0 +1,51 @@
+//! The file of a new database.
+
+use std::alloc::Global;
+use std::fs::{self, File};
+use std::io::{self, Write};
+
+/// How many bytes a page of a new database has. A statement sums up each page that it changes, so small ones are quick.
+const PAGE: usize = 1024;
+
+/// What the one page of an empty database begins with; what follows is 0 (SQLite's file format, 1.3 and 1.6).
+const BEGINNING: &[u8] = b"SQLite format 3\0\x04\0\x02\x02\0\x40\x20\x20\
+    \0\0\0\x01\0\0\0\x01\0\0\0\0\0\0\0\0\
+    \0\0\0\x01\0\0\0\x04\0\0\0\0\0\0\0\0\0\0\0\x01\
+    \0\0\0\0\0\0\0\0\0\0\0\0\0\0\0\0\0\0\0\0\0\0\0\0\0\0\0\0\0\0\0\0\
+    \0\0\0\x01\0\x2e\x76\x88\x0d\0\0\0\0\x04\0\0";
+
+/// The page of an empty database.
+fn empty_page(alloc: Global) -> io::Result<Vec<u8>> {
+    let mut page = Vec::from_slice(alloc, BEGINNING)?;
+    page.resize(PAGE, 0)?;
+    Ok(page)
+}
+
+fn write_new(rt: &HostRuntime, path: &str, page: &[u8]) -> io::Result<()> {
+    let mut file = File::create_new(rt, path)?;
+    file.write_all(page)?;
+    file.sync_all()
+}
+
+/// Takes away the file that an earlier call left, which was stopped.
+fn clear(rt: &HostRuntime, path: &str, page: &[u8]) -> io::Result<()> {
+    match fs::read(rt, path) {
+        Ok(left) if left.as_slice() == page => fs::remove_file(rt, path),
+        _ => Ok(()),
+    }
+}
+
+/// Puts the file of an empty database at a path where there is none; at any moment the file is there whole or not at all. Where that can't be
+/// had nothing is there, and whoever opens the database makes the file, with larger pages.
+pub(crate) fn begin(rt: &HostRuntime, path: &str) -> io::Result<()> {
+    let page = empty_page(rt.alloc())?;
+    let new = format!(in rt.alloc(); "{path}-new")?;
+    clear(rt, new.as_str(), &page)?;
+    if fs::exists(rt, path)? {
+        return Ok(());
+    }
+    write_new(rt, new.as_str(), &page)?;
+    let linked = fs::hard_link(rt, new.as_str(), path);
+    fs::remove_file(rt, new.as_str())?;
+    linked
+}

@@ -1,0 +1,3 @@
+pub mod Figures
+pub mod Flaws
+pub mod Report

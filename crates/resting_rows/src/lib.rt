@@ -1,0 +1,10 @@
+//! The rows of a node that is down, read from copies of its database's files, which are only read. And what is found where a
+//! database isn't opened, or its rows are no node's.
+#![tactic(auto)]
+
+mod files;
+mod found;
+mod rows;
+
+pub use found::{found_of_flaw, found_of_open};
+pub use rows::{held, refused};

@@ -1,0 +1,12 @@
+//! What lies behind an end of the program: what was tried, and what the system, a file or the rows answered.
+#![tactic(auto)]
+
+mod answer;
+mod cause;
+mod ending;
+mod faults;
+
+pub use answer::{Answer, answer_of};
+pub use cause::{Cause, Found, Tried};
+pub use ending::Ending;
+pub use faults::{rows_fault, script_fault, table_fault};

@@ -1,0 +1,77 @@
+#!/usr/bin/env bash
+# A broker with clients and peers that it must bear: one that sends a byte a second, one that never reads, bursts that come and go, more than it
+# may have open, streams with changed bytes, and noise at the port for other nodes. Beside each a witness publishes and is served. Prints what
+# was done and how much memory the broker had before and after, and ends with status 1 where something isn't as it should be.
+#
+#   examples/hostile.sh             runs the program, which is built first where it isn't yet
+#   examples/hostile.sh PROGRAM..   runs these words in its place, with `serve CONFIG NODE DATABASE --turns N` behind them
+#
+# STREAMS says how many streams (10,000), NOISE how many bytes (1,000,000), SEED with which random numbers. It needs python3. The ports 1883 and
+# 2883 must be free.
+set -eu
+
+top=$(cd "$(dirname "${BASH_SOURCE[0]}")/.." && pwd)
+program=("$top/broker")
+if [ "$#" -gt 0 ]; then
+    program=("$@")
+fi
+clients=$top/examples/hostile_clients.py
+port=1883
+bridge=2883
+seed=${SEED:-1}
+failed=0
+work=$(mktemp -d)
+
+clean_up() {
+    jobs -p | xargs -r kill 2> "$work/kill" || true
+    rm -rf "$work"
+}
+trap clean_up EXIT
+
+# Starts a broker that may have so many files open.
+start_broker() {
+    : > "$work/ready"
+    (
+        ulimit -n "$1"
+        exec "${program[@]}" serve "$top/examples/one_node.toml" n0 "$work/$2.db" --turns 1000000000
+    ) > "$work/ready" 2> "$work/err" &
+    broker=$!
+    until grep -q '^ready ' "$work/ready"; do
+        if ! kill -0 "$broker" 2> "$work/kill"; then
+            cat "$work/err" >&2
+            exit 1
+        fi
+        sleep 0.05
+    done
+}
+
+stop_broker() {
+    if ! kill "$broker" 2> "$work/kill"; then
+        echo "the broker has ended: $(cat "$work/err")"
+        failed=1
+    fi
+    wait "$broker" 2> "$work/kill" || true
+}
+
+# The memory of the broker in kilobytes.
+memory() {
+    awk '/^VmRSS/ { print $2 }' "/proc/$broker/status"
+}
+
+try() {
+    python3 "$clients" "$@" || failed=1
+}
+
+start_broker "$(ulimit -n)" all
+before=$(memory)
+try slow "$port"
+try deaf "$port"
+try bursts "$port" 2000
+try streams "$port" "${STREAMS:-10000}" "$seed"
+try noise "$bridge" "${NOISE:-1000000}" "$seed" "$port"
+echo "memory of the broker: $before kB before, $(memory) kB after"
+stop_broker
+start_broker 64 few
+try many "$port" 100
+stop_broker
+exit "$failed"

@@ -1,0 +1,274 @@
+#!/usr/bin/env python3
+"""Clients and peers that a broker must bear, and a witness that is served meanwhile.
+
+    hostile_clients.py slow PORT            a client sends its CONNECT one byte a second
+    hostile_clients.py deaf PORT            a subscriber never reads, until its socket is closed
+    hostile_clients.py bursts PORT COUNT    so many clients come and go, two hundred at once
+    hostile_clients.py many PORT COUNT      so many connect, more than the broker may have open; the first half goes, and the others are answered
+    hostile_clients.py streams PORT COUNT SEED   so many streams of packets with changed bytes
+    hostile_clients.py noise BRIDGE BYTES SEED PORT   so many random bytes at the port for other nodes
+
+Each has a witness beside it, a client that publishes and gets its own message back. It prints what was done, and ends with status 1 where
+something isn't as it should be.
+"""
+import random
+import socket
+import sys
+import time
+
+HOST = "127.0.0.1"
+PATIENCE = 20
+CONNACK, PUBLISH = 2, 3
+
+
+def text(word):
+    return len(word).to_bytes(2, "big") + word.encode()
+
+
+def sized(length):
+    """A length as a Variable Byte Integer (MQTT 5.0, 1.5.5)."""
+    digits = b""
+    while True:
+        length, digit = divmod(length, 128)
+        digits += bytes([digit | (0x80 if length else 0)])
+        if not length:
+            return digits
+
+
+def packet(first, body):
+    return bytes([first]) + sized(len(body)) + body
+
+
+def connect(name, keep_alive=0):
+    return packet(0x10, text("MQTT") + b"\x05\x02" + keep_alive.to_bytes(2, "big") + b"\x00" + text(name))
+
+
+def subscribe(topic):
+    return packet(0x82, b"\x00\x01\x00" + text(topic) + b"\x00")
+
+
+def publish(topic, payload):
+    return packet(0x30, text(topic) + b"\x00" + payload)
+
+
+def opened(port):
+    return socket.create_connection((HOST, port), timeout=PATIENCE)
+
+
+class Client:
+    def __init__(self, port, name):
+        self.socket = opened(port)
+        self.held = b""
+        self.socket.sendall(connect(name))
+        kind, body = self.next()
+        assert kind == CONNACK and body[1] == 0, (kind, body)
+
+    def some(self, count):
+        while len(self.held) < count:
+            came = self.socket.recv(65536)
+            assert came, "closed"
+            self.held += came
+
+    def next(self):
+        """The next packet's type, with its body."""
+        self.some(2)
+        end, length, place = 1, 0, 0
+        while True:
+            self.some(end + 1)
+            byte = self.held[end]
+            length, place, end = length | (byte & 127) << place, place + 7, end + 1
+            if byte < 128:
+                break
+        self.some(end + length)
+        kind, body = self.held[0] >> 4, self.held[end:end + length]
+        self.held = self.held[end + length:]
+        return kind, body
+
+
+class Witness(Client):
+    def __init__(self, port):
+        super().__init__(port, "witness")
+        self.socket.sendall(subscribe("witness"))
+        self.next()
+        self.served = 0
+        self.longest = 0.0
+
+    def look(self):
+        payload = str(self.served).encode()
+        began = time.monotonic()
+        self.socket.sendall(publish("witness", payload))
+        kind, body = self.next()
+        assert (kind, body) == (PUBLISH, text("witness") + b"\x00" + payload), (kind, body)
+        self.served += 1
+        self.longest = max(self.longest, time.monotonic() - began)
+
+    def told(self):
+        return f"the witness was served {self.served} times, within {self.longest * 1000:.0f} ms"
+
+
+def slow(port):
+    witness, came = Witness(port), opened(port)
+    bytes_sent = connect("slow")
+    for byte in bytes_sent:
+        came.sendall(bytes([byte]))
+        witness.look()
+        time.sleep(1)
+    answer = came.recv(100)
+    assert answer[0] >> 4 == CONNACK and answer[3] == 0, answer
+    print(f"a CONNECT of {len(bytes_sent)} bytes, one a second, was answered; {witness.told()}")
+
+
+def deaf(port):
+    witness, sender = Witness(port), Client(port, "sender")
+    listener = opened(port)
+    listener.sendall(connect("deaf") + subscribe("deaf"))
+    listener.recv(1)
+    sent = 0
+    while sent < 64:
+        sender.socket.sendall(publish("deaf", bytes(1_000_000)))
+        witness.look()
+        sent += 1
+    got = 0
+    try:
+        while came := listener.recv(1 << 20):
+            got += len(came)
+    except ConnectionResetError:
+        pass
+    assert got < 40_000_000, got
+    witness.look()
+    print(f"of {sent} messages of a megabyte {got:,} bytes came before the socket was closed; {witness.told()}")
+
+
+def bursts(port, count):
+    witness, done = Witness(port), 0
+    while done < count:
+        some = [opened(port) for _ in range(min(200, count - done))]
+        for place, each in enumerate(some):
+            each.sendall(connect(f"burst-{place}")[: 5 if place % 3 == 0 else None])
+        witness.look()
+        for place, each in enumerate(some):
+            if place % 3 == 1:
+                assert each.recv(4)[0] >> 4 == CONNACK
+            each.close()
+        done += len(some)
+        witness.look()
+    print(f"{done} clients came and went, 200 at once, a third of them within their CONNECT; {witness.told()}")
+
+
+def many(port, count):
+    witness = Witness(port)
+    all_of_them = [opened(port) for _ in range(count)]
+    for place, each in enumerate(all_of_them):
+        each.sendall(connect(f"many-{place}"))
+    time.sleep(1)
+    witness.look()
+    answered = [is_answered(each) for each in all_of_them]
+    first = sum(answered)
+    assert 0 < first < count, f"{first} of {count} were answered at once"
+    for place, each in enumerate(all_of_them):
+        if answered[place]:
+            each.close()
+    time.sleep(1)
+    later = sum(is_answered(each) for place, each in enumerate(all_of_them) if not answered[place])
+    witness.look()
+    assert later > 0, "nobody was answered once there was room"
+    print(f"of {count} clients {first} were answered, and {later} more once these had gone; {witness.told()}")
+
+
+def is_answered(client):
+    client.setblocking(False)
+    try:
+        return client.recv(4)[:1] == b"\x20"
+    except (BlockingIOError, ConnectionResetError):
+        return False
+
+
+# Packets from the standard's tables (MQTT 5.0, 3): what is changed is one of these.
+SEEDS = [
+    connect("a", 60),
+    packet(0x10, text("MQTT") + b"\x05\x06\x00\x3c\x05\x11\x00\x00\x00\x01" + text("b") + b"\x00" + text("will") + b"\x00\x01w"),
+    packet(0x82, b"\x00\x01\x00" + text("t/#") + b"\x01" + text("$share/g/t") + b"\x00"),
+    packet(0x82, b"\x00\x02\x02\x0b\x07" + text("+/u") + b"\x2d"),
+    packet(0xA2, b"\x00\x03\x00" + text("t/#")),
+    publish("t", b"payload"),
+    packet(0x31, text("t") + b"\x05\x02\x00\x00\x00\x01" + b"retained"),
+    packet(0x32, text("t/u") + b"\x00\x04\x03\x23\x00\x01" + b"one"),
+    packet(0x34, text("t/u") + b"\x00\x05\x00" + b"two"),
+    packet(0x62, b"\x00\x05"),
+    packet(0x40, b"\x00\x01"),
+    packet(0x50, b"\x00\x01"),
+    packet(0x70, b"\x00\x01"),
+    b"\xc0\x00",
+    b"\xe0\x00",
+]
+
+
+def changed(seed, chance):
+    """The packet with a few of its bytes changed, left out, put in or said again."""
+    data = bytearray(seed)
+    for _ in range(chance.choice((0, 1, 1, 2, 4))):
+        place = chance.randrange(len(data) + 1)
+        kind = chance.randrange(5)
+        if kind == 0 and place < len(data):
+            data[place] = chance.randrange(256)
+        elif kind == 1 and place < len(data):
+            data[place] ^= 1 << chance.randrange(8)
+        elif kind == 2:
+            del data[place:place + chance.randrange(4)]
+        elif kind == 3:
+            data[place:place] = chance.randbytes(chance.randrange(5))
+        elif kind == 4:
+            data[place:place] = data[place // 2:place]
+    return bytes(data)
+
+
+def streams(port, count, seed):
+    chance, witness = random.Random(seed), Witness(port)
+    for number in range(count):
+        first = SEEDS[0] if chance.randrange(4) else changed(chance.choice(SEEDS), chance)
+        stream = first + b"".join(changed(chance.choice(SEEDS), chance) for _ in range(chance.randrange(6)))
+        with opened(port) as each:
+            try:
+                each.sendall(stream)
+                each.shutdown(socket.SHUT_WR)
+                while each.recv(65536):
+                    pass
+            except (ConnectionResetError, BrokenPipeError, OSError):
+                pass
+        if number % 100 == 0:
+            witness.look()
+    witness.look()
+    print(f"{count} streams with changed bytes were sent and ended (seed {seed}); {witness.told()}")
+
+
+def noise(bridge, count, seed, port):
+    chance, witness, sent = random.Random(seed), Witness(port), 0
+    while sent < count:
+        data = chance.randbytes(chance.randrange(1, 65536))
+        if chance.randrange(2):
+            # a length that is kept, with noise behind it
+            data = len(data).to_bytes(4, "big") + data
+        try:
+            with opened(bridge) as each:
+                each.sendall(data)
+                each.shutdown(socket.SHUT_WR)
+                each.recv(1)
+        except OSError:
+            pass
+        sent += len(data)
+        witness.look()
+    print(f"{sent:,} bytes of noise came at the bridge (seed {seed}); {witness.told()}")
+
+
+def main(words):
+    tasks = {"slow": slow, "deaf": deaf, "bursts": bursts, "many": many, "streams": streams, "noise": noise}
+    if not words or words[0] not in tasks:
+        sys.exit(__doc__)
+    try:
+        tasks[words[0]](*map(int, words[1:]))
+    except (AssertionError, TimeoutError, ConnectionError) as fault:
+        sys.exit(f"{' '.join(words)}: {type(fault).__name__}: {fault}")
+
+
+if __name__ == "__main__":
+    main(sys.argv[1:])
