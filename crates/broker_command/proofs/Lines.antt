@@ -1,15 +1,15 @@
 -- The commands of the program, and the tasks of what follows them.
-use Rattle.std.proofs.Common.{◌≡◌, ◌∙◌, ◌≤◌, ℕ, List, [], Option, Some, None, Result, Ok, Err, true, refl, sym, ap, subst, option_map, codes}
+use Rattle.std.proofs.Common.{◌≡◌, ◌∙◌, ◌≤◌, ℕ, List, [], Option, Some, None, Result, Ok, Err, true, refl, sym, ap, subst, option_map}
 use Rattle.std.specs.Prelude.{IfSome, IsErrAnd, MatchResult}
 use Rattle.std.specs.Borrow.{Bor}
 use Rattle.std.specs.Str.Parse.{ParsesUnsigned}
-use Rattle.clap.specs.Words.{App, HasKind, HasMatchesOf, Row, Text, fault_of, first_of, first_value, is_simple, is_simple_and_free, one_text, rows_of, subcommand_of, subcommand_rows_of}
+use Rattle.clap.specs.Words.{App, HasKind, HasMatchesOf, Row, Text, fault_of, first_of, first_value, is_simple, is_simple_and_free, one_of, one_text, rows_of, subcommand_of, subcommand_rows_of}
 use Rattle.clap.specs.declared.parser.matches.ArgMatches.{ArgMatches}
 use Rattle.clap.specs.declared.parser.matches.Found.{Found}
 use Rattle.clap.specs.declared.error.Error.{Error}
 use Rattle.clap.proofs.OnLiterals.{clap_on_literals}
 use Rattle.clap.proofs.WalkLemmas.{first_value-rows, one_text-rows}
-use Rattle.broker_command.specs.Line.{broker, IsOf, IsTask, IsTurns}
+use Rattle.broker_command.specs.Line.{broker, IsNumber, IsOf, IsTask}
 use Rattle.broker_command.specs.declared.task.Task.{Task}
 
 -- the program's commands are such that what a parse of words gives is stated exactly
@@ -28,23 +28,31 @@ pub word_of : (f : Found) (id : Text) (o : Option (Bor Text)) (s : Bor Text) (w 
 word_of f id o s w e is w_is = sym (first_value-rows f id) ∙ sym e ∙ ap (option_map (λ b. b.now)) is ∙ ap Some (sym w_is)
 
 -- what a getter of a number gives is the number that the row's text spells
-pub turns_read : (E : Type 0) (G : Text → Result ℕ E → Type 0) (f : Found) (turns : ℕ)
+pub number_read : (E : Type 0) (G : Text → Result ℕ E → Type 0) (f : Found) (id : Text) (number : ℕ)
     → ((t : Text) (r : Result ℕ E) → G t r → ParsesUnsigned 32 10 t r)
-    → (one_text f (codes "turns") ≡ None → Some turns ≡ None) → ((t : Text) → one_text f (codes "turns") ≡ Some t → G t (Ok turns))
-    → 1 ≤ turns → turns ≤ 1000000000 → IsTurns (rows_of f) turns
-turns_read E G f turns only none value least most = go (one_text f (codes "turns")) refl
+    → (one_text f id ≡ None → ⊥) → ((t : Text) → one_text f id ≡ Some t → G t (Ok number))
+    → 1 ≤ number → number ≤ 1000000000 → IsNumber (rows_of f) id number
+number_read E G f id number only none value least most = go (one_text f id) refl
   where
-    go : (o : Option Text) → one_text f (codes "turns") ≡ o → IsTurns (rows_of f) turns
-    go None e = let bad : Some turns ≡ None = none e in cc
+    go : (o : Option Text) → one_text f id ≡ o → IsNumber (rows_of f) id number
+    go None e = absurd (none e)
     go (Some t) e =
-        let read = only t (Ok turns) (value t e) in record {
+        let read = only t (Ok number) (value t e) in record {
           text = t;
-          given = sym (one_text-rows f (codes "turns")) ∙ e;
+          given = sym (one_text-rows f id) ∙ e;
           numeral = read.0.0;
-          number = read.1;
+          value = read.1;
           least = least;
           most = most;
         }
+
+-- where it gives none, there is no text
+pub none_read : (f : Found) (id : Text) → ((t : Text) → one_text f id ≡ Some t → ⊥) → one_of id (rows_of f) ≡ None
+none_read f id never = go (one_text f id) refl
+  where
+    go : (o : Option Text) → one_text f id ≡ o → one_of id (rows_of f) ≡ None
+    go None e = sym (one_text-rows f id) ∙ e
+    go (Some t) e = absurd (never t e)
 
 -- a parse that succeeds found no fault, and met the command that the words name
 pub asked : (a : App) (words : List Text) (m : ArgMatches) → a ≡ broker → HasMatchesOf a words m

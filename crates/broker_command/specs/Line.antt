@@ -18,10 +18,30 @@ use Rattle.broker_command.specs.declared.task.Task.TheVariants.{Play, Loopback, 
 abbrev pub word_rule : Text → Rule
 word_rule id = record (new_rule id) { required = true; action = Some Set }
 
+-- an argument that may be there, with one value
+abbrev pub option_rule : Text → Rule
+option_rule id = record (new_rule id) { action = Some Set }
+
 -- `--turns N`, with N from 1 to 1,000,000,000
 abbrev pub turns_rule : Rule
 turns_rule = record (word_rule (codes "turns")) {
   long = Some (codes "turns");
+  value_names = 1;
+  parser = Some (Signed (pos 1) (pos 1000000000));
+}
+
+-- `--most-clients N`, with N from 1 to 1,000,000,000
+abbrev pub most_clients_rule : Rule
+most_clients_rule = record (option_rule (codes "most-clients")) {
+  long = Some (codes "most-clients");
+  value_names = 1;
+  parser = Some (Signed (pos 1) (pos 1000000000));
+}
+
+-- `--connect-within SECONDS`, with SECONDS from 1 to 1,000,000,000
+abbrev pub connect_within_rule : Rule
+connect_within_rule = record (option_rule (codes "connect-within")) {
+  long = Some (codes "connect-within");
   value_names = 1;
   parser = Some (Signed (pos 1) (pos 1000000000));
 }
@@ -34,10 +54,11 @@ play = with_rule (new_app (codes "play")) (word_rule (codes "SCRIPT"))
 abbrev pub loopback : App
 loopback = with_rule (new_app (codes "loopback")) (word_rule (codes "SCRIPT"))
 
--- `serve CONFIG NODE DATABASE --turns N`
+-- `serve CONFIG NODE DATABASE --turns N [--most-clients N] [--connect-within SECONDS]`
 abbrev pub serve : App
-serve = with_rule (with_rule (with_rule (with_rule (new_app (codes "serve"))
-    (word_rule (codes "CONFIG"))) (word_rule (codes "NODE"))) (word_rule (codes "DATABASE"))) turns_rule
+serve = with_rule (with_rule (with_rule (with_rule (with_rule (with_rule (new_app (codes "serve"))
+    (word_rule (codes "CONFIG"))) (word_rule (codes "NODE"))) (word_rule (codes "DATABASE"))) turns_rule)
+    most_clients_rule) connect_within_rule
 
 -- `check CONFIG NODE DATABASE`
 abbrev pub check : App
@@ -58,40 +79,46 @@ IsScript rows script = first_of (codes "SCRIPT") rows ≡ Some script.bytes.item
 abbrev pub IsPlay : List Row → Task → Type 0
 IsPlay rows (Play script) = IsScript rows script
 IsPlay rows (Loopback script) = ⊥
-IsPlay rows (Serve configuration node database turns) = ⊥
+IsPlay rows (Serve configuration node database turns most_clients connect_within) = ⊥
 IsPlay rows (Check configuration node database) = ⊥
 
 -- a script to play over sockets
 abbrev pub IsLoopback : List Row → Task → Type 0
 IsLoopback rows (Play script) = ⊥
 IsLoopback rows (Loopback script) = IsScript rows script
-IsLoopback rows (Serve configuration node database turns) = ⊥
+IsLoopback rows (Serve configuration node database turns most_clients connect_within) = ⊥
 IsLoopback rows (Check configuration node database) = ⊥
 
--- turns to make, in range, as the text spells them
-pub record IsTurns (rows : List Row) (turns : ℕ) : Type 0 where
+-- the number that an option is given, in range, as its text spells it
+pub record IsNumber (rows : List Row) (id : Text) (number : ℕ) : Type 0 where
   pub text : Text
-  pub given : one_of (codes "turns") rows ≡ Some text
+  pub given : one_of id rows ≡ Some text
   pub numeral : IsNumeral 10 (without_leading_plus text)
-  pub number : turns ≡ digits_value 10 (without_leading_plus text)
-  pub least : 1 ≤ turns
-  pub most : turns ≤ 1000000000
+  pub value : number ≡ digits_value 10 (without_leading_plus text)
+  pub least : 1 ≤ number
+  pub most : number ≤ 1000000000
+
+-- none where the option isn't given
+abbrev pub IsNumberIf : List Row → Text → Option ℕ → Type 0
+IsNumberIf rows id None = one_of id rows ≡ None
+IsNumberIf rows id (Some number) = IsNumber rows id number
 
 -- a node to be
 abbrev pub IsServe : List Row → Task → Type 0
 IsServe rows (Play script) = ⊥
 IsServe rows (Loopback script) = ⊥
-IsServe rows (Serve configuration node database turns) =
+IsServe rows (Serve configuration node database turns most_clients connect_within) =
     (first_of (codes "CONFIG") rows ≡ Some configuration.bytes.items)
     × (first_of (codes "NODE") rows ≡ Some node.bytes.items)
-    × (first_of (codes "DATABASE") rows ≡ Some database.bytes.items) × IsTurns rows turns
+    × (first_of (codes "DATABASE") rows ≡ Some database.bytes.items) × IsNumber rows (codes "turns") turns
+    × IsNumberIf rows (codes "most-clients") most_clients × IsNumberIf rows (codes "connect-within") connect_within
 IsServe rows (Check configuration node database) = ⊥
 
 -- a node whose rows are to be told
 abbrev pub IsCheck : List Row → Task → Type 0
 IsCheck rows (Play script) = ⊥
 IsCheck rows (Loopback script) = ⊥
-IsCheck rows (Serve configuration node database turns) = ⊥
+IsCheck rows (Serve configuration node database turns most_clients connect_within) = ⊥
 IsCheck rows (Check configuration node database) =
     (first_of (codes "CONFIG") rows ≡ Some configuration.bytes.items)
     × (first_of (codes "NODE") rows ≡ Some node.bytes.items)
@@ -102,8 +129,8 @@ abbrev pub IsOf : Option (Text × List Row) → Task → Type 0
 IsOf None task = ⊥
 IsOf (Some (name, rows)) (Play script) = (name ≡ codes "play") × IsPlay rows (Play script)
 IsOf (Some (name, rows)) (Loopback script) = (name ≡ codes "loopback") × IsLoopback rows (Loopback script)
-IsOf (Some (name, rows)) (Serve configuration node database turns) =
-    (name ≡ codes "serve") × IsServe rows (Serve configuration node database turns)
+IsOf (Some (name, rows)) (Serve configuration node database turns most_clients connect_within) =
+    (name ≡ codes "serve") × IsServe rows (Serve configuration node database turns most_clients connect_within)
 IsOf (Some (name, rows)) (Check configuration node database) =
     (name ≡ codes "check") × IsCheck rows (Check configuration node database)
 

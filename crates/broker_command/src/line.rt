@@ -1,9 +1,10 @@
 //! The words of a command line.
 
-ghost use Rattle.std.specs.Prelude.{◌≡◌, map, false, IfOk, IfSome, MatchResult};
+ghost use Rattle.std.specs.Prelude.{◌≡◌, map, false, pos, Some, IfOk, IfSome, MatchResult};
+ghost use Rattle.clap.specs.declared.builder.value_parser.ValueParser.TheVariants.{Signed};
 ghost use Rattle.clap.specs.Words.{HasKind, app_of, fault_of, found_of, kind_of, rows_of, rule_of, subcommand_rows_of};
 ghost use Rattle.clap.specs.declared.builder.command.Command.TheViews.{out-Command as fields_of};
-ghost use Rattle.broker_command.specs.Line.{broker, play, loopback, serve, check, word_rule, turns_rule, IsTask, IsOf, IsPlay, IsLoopback, IsServe, IsCheck, IsScript, IsRefusal, IsStopOf};
+ghost use Rattle.broker_command.specs.Line.{broker, play, loopback, serve, check, word_rule, option_rule, turns_rule, most_clients_rule, connect_within_rule, IsNumberIf, IsTask, IsOf, IsPlay, IsLoopback, IsServe, IsCheck, IsScript, IsRefusal, IsStopOf};
 
 use crate::task::Task;
 use broker_stop::{RunFault, Stop};
@@ -11,7 +12,8 @@ use clap::error::ErrorKind;
 use clap::{Arg, ArgAction, ArgMatches, Command, Error, value_parser};
 use std::alloc::{AllocError, Global};
 
-const MOST_TURNS: u32 = 1_000_000_000;
+/// The greatest number that an option may be given.
+const MOST: u32 = 1_000_000_000;
 
 /// The task that the words after the program's name ask for. `Stop::Help` has the help that they ask for
 /// instead; `Stop::CommandLine` says what is wrong with them, and `Stop::Run` that memory ran out.
@@ -70,7 +72,9 @@ fn serve_command<'a>(alloc: Global) -> Result<Command<'a>, AllocError>
         ))?
         .arg(required(alloc, "NODE").help("The name of the node to be"))?
         .arg(required(alloc, "DATABASE").help("The file of the database that keeps what lasts"))?
-        .arg(turns_option(alloc))
+        .arg(turns_option(alloc))?
+        .arg(most_clients_option(alloc))?
+        .arg(connect_within_option(alloc))
 }
 
 fn check_command<'a>(alloc: Global) -> Result<Command<'a>, AllocError>
@@ -89,11 +93,49 @@ fn turns_option<'a>(alloc: Global) -> Arg<'a>
     ensures rule { rule_of result ≡ turns_rule }
     ensures local { result.global ≡ false }
 {
-    required(alloc, "turns")
+    let option = required(alloc, "turns")
         .long("turns")
         .value_name("N")
-        .help("How many turns to make; a turn asks each socket once")
-        .value_parser(value_parser!(u32).range(1..=1_000_000_000))
+        .help("How many turns to make; a turn asks each socket once");
+    numbered(option)
+}
+
+fn most_clients_option<'a>(alloc: Global) -> Arg<'a>
+    ensures rule { rule_of result ≡ most_clients_rule }
+    ensures local { result.global ≡ false }
+{
+    let option = optional(alloc, "most-clients")
+        .long("most-clients")
+        .value_name("N")
+        .help("How many clients may be connected at a time; one more is closed");
+    numbered(option)
+}
+
+fn connect_within_option<'a>(alloc: Global) -> Arg<'a>
+    ensures rule { rule_of result ≡ connect_within_rule }
+    ensures local { result.global ≡ false }
+{
+    let option = optional(alloc, "connect-within")
+        .long("connect-within")
+        .value_name("SECONDS")
+        .help("After how long a client is closed that wasn't accepted");
+    numbered(option)
+}
+
+/// The argument's value is a number from 1 to 1,000,000,000.
+fn numbered<'a>(option: Arg<'a>) -> Arg<'a>
+    ensures rule { rule_of result ≡ record (rule_of option.entry) { parser = Some (Signed (pos 1) (pos 1000000000)) } }
+    ensures local { result.global ≡ option.entry.global }
+{
+    option.value_parser(value_parser!(u32).range(1..=1_000_000_000))
+}
+
+/// An argument that may be there, with one value.
+fn optional<'a>(alloc: Global, name: &'a str) -> Arg<'a>
+    ensures rule { rule_of result ≡ option_rule name.entry.now }
+    ensures local { result.global ≡ false }
+{
+    Arg::new(alloc, name).action(ArgAction::Set)
 }
 
 /// An argument that has to be there, with one value.
@@ -161,6 +203,25 @@ fn loopback_task(alloc: Global, found: &ArgMatches<'_>) -> Result<Option<Task>, 
     Ok(Some(Task::Loopback { script }))
 }
 
+/// The number that an option is given, or none where it isn't given; nothing where it is given anything else.
+fn number_of(found: &ArgMatches<'_>, name: &str) -> Option<Option<u32>>
+    ensures { IfSome result (IsNumberIf (rows_of (found_of found.now)) name.now) }
+{
+    match found.try_get_one::<u32>(name) {
+        Ok(Some(number)) => {
+            if number == 0 {
+                return None;
+            }
+            if MOST < number {
+                return None;
+            }
+            Some(Some(number))
+        }
+        Ok(None) => Some(None),
+        Err(_) => None,
+    }
+}
+
 fn serve_task(alloc: Global, found: &ArgMatches<'_>) -> Result<Option<Task>, AllocError>
     ensures { IfOk result (λ task. IfSome task (IsServe (rows_of (found_of found.now)))) }
 {
@@ -174,14 +235,22 @@ fn serve_task(alloc: Global, found: &ArgMatches<'_>) -> Result<Option<Task>, All
     ) else {
         return Ok(None);
     };
-    if turns == 0 || MOST_TURNS < turns {
+    if turns == 0 || MOST < turns {
         return Ok(None);
     }
+    let Some(most_clients) = number_of(found, "most-clients") else {
+        return Ok(None);
+    };
+    let Some(connect_within) = number_of(found, "connect-within") else {
+        return Ok(None);
+    };
     Ok(Some(Task::Serve {
         configuration: String::from_str(alloc, configuration)?,
         node: String::from_str(alloc, node)?,
         database: String::from_str(alloc, database)?,
         turns,
+        most_clients,
+        connect_within,
     }))
 }
 

@@ -23,6 +23,10 @@ pub enum Task {
         database: String,
         /// How many turns to make, from 1 to 1,000,000,000.
         turns: u32,
+        /// How many clients may be connected at a time, from 1 to 1,000,000,000, or any number.
+        most_clients: Option<u32>,
+        /// Within how many seconds a client has to be accepted, from 1 to 1,000,000,000, or any number.
+        connect_within: Option<u32>,
     },
     /// Tell what the rows of a node that is down hold.
     Check {

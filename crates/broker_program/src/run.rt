@@ -4,6 +4,7 @@ use broker_checking::check;
 use broker_command::Task;
 use broker_serving::serve;
 use broker_sockets::RealSockets;
+use client_limits::Limits;
 use loopback_runs::loop_script;
 use program_files::read_script;
 use run_causes::Ending;
@@ -19,11 +20,14 @@ pub fn run_task(rt: &HostRuntime, task: Task) -> Result<(), Ending> {
             node,
             database,
             turns,
+            most_clients,
+            connect_within,
         } => serve(
             rt,
             configuration.as_str(),
             node.as_str(),
             database.as_str(),
+            Limits::new(most_clients, connect_within),
             turns,
         ),
         Task::Check {

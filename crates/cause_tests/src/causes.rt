@@ -2,6 +2,7 @@
 //! was found.
 
 use broker_serving::serve;
+use client_limits::Limits;
 use database_examples::HOMES;
 use node_database::open_rows;
 use sqlite::Connection;
@@ -20,7 +21,7 @@ fn homes_at(alloc: Global, address: &str, bridge: &str) -> Option<String> {
 /// What serving a node for one turn ends with, and nothing where all went well.
 fn told(rt: &HostRuntime, names: (&str, &str, &str)) -> String {
     let (configuration, node, database) = names;
-    let text = match serve(rt, configuration, node, database, 1) {
+    let text = match serve(rt, configuration, node, database, Limits::none(), 1) {
         Ok(()) => Ok(String::new(rt.alloc())),
         Err(ending) => format!(in rt.alloc(); "{ending}"),
     };

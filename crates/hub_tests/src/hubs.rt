@@ -3,6 +3,7 @@ ghost use Rattle.std.specs.Prelude.{◌<◌, length};
 
 use broker_sockets::Clock;
 use broker_stop::RunFault;
+use client_limits::Limits;
 use fake_sockets::FakeSockets;
 use home_table::HomeTable;
 use node_database::open_rows;
@@ -61,18 +62,22 @@ impl Clock for Rising {
     }
 }
 
-/// Serves a node for ten turns, and answers what ends the run early, if anything does.
+/// Serves a node for ten turns within limits, and answers what ends the run early, if anything does.
 fn served<R: RowStore + Drop>(
     alloc: Global,
     network: &mut FakeSockets,
     rows: R,
     place: (HomeTable, u16),
+    limits: Limits,
 ) -> Option<RunFault>
     requires { place.1 < length place.0.nodes }
 {
     let mut clock = Rising { told: 0 };
     let mut out = Vec::new(alloc);
-    serve(alloc, network, &mut clock, rows, place, 10, &mut out).err()
+    serve(
+        alloc, network, &mut clock, rows, place, limits, 10, &mut out,
+    )
+    .err()
 }
 
 /// Three clients connect in one turn and subscribe in the next one, at a node whose rows refuse this call: what ends the run, and
@@ -85,7 +90,7 @@ fn refused(rt: &impl Abort, alloc: Global, call: u64, got: &[u8]) -> (Option<Run
     }
     let homes = homes_of(alloc, 1).expect(rt, "a table");
     let rows = RefusingRows::new(MemoryRows::new(alloc), call);
-    let fault = served(alloc, &mut network, rows, (homes, 0));
+    let fault = served(alloc, &mut network, rows, (homes, 0), Limits::none());
     // the clients' ends are the first, the third and the fifth
     let all = network.came(0) == got && network.came(2) == got && network.came(4) == got;
     drop(network);
@@ -105,6 +110,44 @@ fn nothing_is_sent_where_rows_refuse_the_changes_of_a_turn(rt: HostRuntime) {
     }
 }
 
+/// Three clients connect in one turn and subscribe in the next one, at a node with these limits: whether each has got just these bytes.
+fn bounded(rt: &impl Abort, alloc: Global, limits: Limits, got: [&[u8]; 3]) -> bool {
+    let mut network = FakeSockets::new(alloc);
+    for connect in CONNECTS {
+        let end = network.client(1, connect, PIECE, 100).expect(rt, "memory");
+        network.send(end, SUBSCRIBE).expect(rt, "memory");
+    }
+    let homes = homes_of(alloc, 1).expect(rt, "a table");
+    let fault = served(
+        alloc,
+        &mut network,
+        MemoryRows::new(alloc),
+        (homes, 0),
+        limits,
+    );
+    let [first, second, third] = got;
+    let all = network.came(0) == first && network.came(2) == second && network.came(4) == third;
+    drop(network);
+    fault.is_none() && all
+}
+
+#[test]
+fn a_node_serves_as_many_clients_as_it_may(rt: HostRuntime) {
+    let alloc = rt.alloc();
+    let nothing = b"".as_slice();
+    for (most, got) in [
+        (1, [BOTH, nothing, nothing]),
+        (2, [BOTH, BOTH, nothing]),
+        (3, [BOTH, BOTH, BOTH]),
+    ] {
+        let limits = Limits {
+            most: Some(most),
+            within: Some(5),
+        };
+        assert!(rt; bounded(&rt, alloc, limits, got));
+    }
+}
+
 /// A client sends packets to a node of two with these rows: what ends the run, and whether the client has got just these bytes.
 fn answered<R: RowStore + Drop>(
     rt: &impl Abort,
@@ -121,7 +164,7 @@ fn answered<R: RowStore + Drop>(
     }
     let homes = homes_of(alloc, 2).expect(rt, "a table");
     assert!(rt; id < homes.nodes());
-    let fault = served(alloc, &mut network, rows, (homes, id));
+    let fault = served(alloc, &mut network, rows, (homes, id), Limits::none());
     let all = network.came(end) == got;
     drop(network);
     (fault, all)

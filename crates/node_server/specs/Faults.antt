@@ -3,6 +3,8 @@ use Rattle.broker_stop.specs.declared.run_fault.RunFault.{RunFault}
 use Rattle.broker_stop.specs.declared.run_fault.RunFault.TheVariants as runs
 use Rattle.broker_turns.specs.declared.turn.TurnFault.{TurnFault}
 use Rattle.broker_turns.specs.declared.turn.TurnFault.TheVariants as turns
+use Rattle.client_limits.specs.declared.fault.LimitedFault.{LimitedFault}
+use Rattle.client_limits.specs.declared.fault.LimitedFault.TheVariants as limits
 use Rattle.node_keeper.specs.declared.fault.KeeperFault.{KeeperFault}
 use Rattle.node_keeper.specs.declared.fault.KeeperFault.TheVariants as keepers
 
@@ -13,7 +15,12 @@ of_node (keepers.Rows fault) = runs.Rows
 of_node keepers.NumbersAtEnd = runs.NumbersAtEnd
 of_node keepers.Stopped = runs.Stopped
 
+-- a fault of the node behind its door
+abbrev pub of_limited : LimitedFault KeeperFault → RunFault
+of_limited limits.NoMemory = runs.NoMemory
+of_limited (limits.Inside fault) = of_node fault
+
 -- a fault of a turn
-abbrev pub of_turn : TurnFault KeeperFault → RunFault
+abbrev pub of_turn : TurnFault (LimitedFault KeeperFault) → RunFault
 of_turn turns.NoMemory = runs.NoMemory
-of_turn (turns.Handler fault) = of_node fault
+of_turn (turns.Handler fault) = of_limited fault

@@ -1,10 +1,11 @@
 //! Why a run of a node ends before its end.
 
 ghost use Rattle.std.specs.Prelude.{◌≡◌};
-ghost use Rattle.node_server.specs.Faults.{of_node, of_turn};
+ghost use Rattle.node_server.specs.Faults.{of_limited, of_node, of_turn};
 
 use broker_stop::RunFault;
 use broker_turns::TurnFault;
+use client_limits::LimitedFault;
 use node_keeper::KeeperFault;
 
 /// A fault of the node, as one of the run.
@@ -19,12 +20,22 @@ pub(crate) fn of_node(fault: KeeperFault) -> RunFault
     }
 }
 
+/// A fault of the node behind its door, as one of the run.
+pub(crate) fn of_limited(fault: LimitedFault<KeeperFault>) -> RunFault
+    ensures { result ≡ of_limited fault }
+{
+    match fault {
+        LimitedFault::NoMemory => RunFault::NoMemory,
+        LimitedFault::Inside(fault) => of_node(fault),
+    }
+}
+
 /// A fault of a turn, as one of the run.
-pub(crate) fn of_turn(fault: TurnFault<KeeperFault>) -> RunFault
+pub(crate) fn of_turn(fault: TurnFault<LimitedFault<KeeperFault>>) -> RunFault
     ensures { result ≡ of_turn fault }
 {
     match fault {
         TurnFault::NoMemory => RunFault::NoMemory,
-        TurnFault::Handler(fault) => of_node(fault),
+        TurnFault::Handler(fault) => of_limited(fault),
     }
 }

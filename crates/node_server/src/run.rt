@@ -11,6 +11,7 @@ use crate::served::ServedNode;
 use broker_sockets::{Clock, Readiness, Sockets, bind};
 use broker_stop::RunFault;
 use broker_turns::{Hub, Setting};
+use client_limits::{Limited, Limits};
 use home_table::HomeTable;
 use node_keeper::Keeper;
 use row_store::RowStore;
@@ -65,13 +66,14 @@ fn tell_turns<W: Write>(out: &mut W, turns: u32) -> Result<(), RunFault>
     }
 }
 
-/// Starts a node, and makes so many turns over the clients that come and the other nodes.
+/// Starts a node behind a door with these limits, and makes so many turns over the clients that come and the other nodes.
 fn run_node<S: Readiness, C: Clock, R: RowStore + Drop>(
     alloc: Global,
     sockets: &mut S,
     clock: &mut C,
     setting: Setting<S::Listener>,
     keeper: Keeper<R>,
+    limits: Limits,
     turns: u32,
 ) -> Result<(), RunFault>
     requires { length setting.peers.items ≤ 64 }
@@ -79,15 +81,15 @@ fn run_node<S: Readiness, C: Clock, R: RowStore + Drop>(
     let Ok(mut hub) = Hub::new(alloc, setting) else {
         return Err(RunFault::NoMemory);
     };
-    let mut node = ServedNode::new(alloc, keeper);
+    let mut node = Limited::new(alloc, limits, ServedNode::new(alloc, keeper));
     match hub.serve(sockets, &mut node, clock, turns) {
         Ok(()) => Ok(()),
         Err(fault) => Err(of_turn(fault)),
     }
 }
 
-/// Opens a node from its rows, waits at its addresses for clients and for other nodes, prints that it is ready, starts it,
-/// makes so many turns, and prints that they were made.
+/// Opens a node from its rows, waits at its addresses for clients and for other nodes, prints that it is ready, starts it behind
+/// a door with these limits, makes so many turns, and prints that they were made.
 ///
 /// The faults in their order: the node's where it can't be opened, `Socket` where one of its addresses or another node's
 /// bridge isn't an IP address with a port, or its own can't be waited at, `Output` where a line can't be printed, and the
@@ -98,6 +100,7 @@ pub fn serve<S: Readiness, C: Clock, R: RowStore + Drop, W: Write>(
     clock: &mut C,
     rows: R,
     place: (HomeTable, u16),
+    limits: Limits,
     turns: u32,
     out: &mut W,
 ) -> Result<(), RunFault>
@@ -112,6 +115,6 @@ pub fn serve<S: Readiness, C: Clock, R: RowStore + Drop, W: Write>(
     let homes = keeper.node().homes();
     let setting = listen(alloc, sockets, homes, id)?;
     tell_ready(out, homes, id)?;
-    run_node(alloc, sockets, clock, setting, keeper, turns)?;
+    run_node(alloc, sockets, clock, setting, keeper, limits, turns)?;
     tell_turns(out, turns)
 }

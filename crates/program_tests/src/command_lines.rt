@@ -26,8 +26,13 @@ fn told(rt: &impl Abort, alloc: Global, line: &str) -> String {
                 node,
                 database,
                 turns,
+                most_clients,
+                connect_within,
             },
-        ) => { format!(in alloc; "serve {configuration} {node} {database} {turns}") }
+        ) => {
+            let limits = (most_clients, connect_within);
+            format!(in alloc; "serve {configuration} {node} {database} {turns} {limits:?}")
+        }
         Ok(
             Task::Check {
                 configuration,
@@ -52,10 +57,21 @@ fn reads_command_lines(rt: HostRuntime) {
     let lines = [
         ("play a.script", "play a.script"),
         ("loopback a.script", "loopback a.script"),
-        ("serve c.toml n0 d.db --turns 1", "serve c.toml n0 d.db 1"),
+        (
+            "serve c.toml n0 d.db --turns 1",
+            "serve c.toml n0 d.db 1 (None, None)",
+        ),
         (
             "serve --turns=1000000000 c.toml n0 d.db",
-            "serve c.toml n0 d.db 1000000000",
+            "serve c.toml n0 d.db 1000000000 (None, None)",
+        ),
+        (
+            "serve c.toml n0 d.db --turns 1 --most-clients 500",
+            "serve c.toml n0 d.db 1 (Some(500), None)",
+        ),
+        (
+            "serve --connect-within=1 c.toml n0 d.db --most-clients=1000000000 --turns 1",
+            "serve c.toml n0 d.db 1 (Some(1000000000), Some(1))",
         ),
         ("", "2 (false, true)"),
         ("play", "2 (false, true)"),
@@ -67,6 +83,31 @@ fn reads_command_lines(rt: HostRuntime) {
         ("serve c.toml n0 d.db --turns 0", "2 (false, true)"),
         ("serve c.toml n0 d.db --turns 1000000001", "2 (false, true)"),
         ("serve c.toml n0 d.db --turns many", "2 (false, true)"),
+        (
+            "serve c.toml n0 d.db --turns 1 --most-clients 0",
+            "2 (false, true)",
+        ),
+        (
+            "serve c.toml n0 d.db --turns 1 --most-clients some",
+            "2 (false, true)",
+        ),
+        (
+            "serve c.toml n0 d.db --turns 1 --most-clients",
+            "2 (false, true)",
+        ),
+        (
+            "serve c.toml n0 d.db --turns 1 --connect-within 0",
+            "2 (false, true)",
+        ),
+        (
+            "serve c.toml n0 d.db --turns 1 --connect-within 1s",
+            "2 (false, true)",
+        ),
+        (
+            "serve c.toml n0 d.db --turns 1 --connect-within 1000000001",
+            "2 (false, true)",
+        ),
+        ("check c.toml n0 d.db --most-clients 1", "2 (false, true)"),
         ("check c.toml n0 d.db", "check c.toml n0 d.db"),
         ("check c.toml n0", "2 (false, true)"),
         ("check c.toml n0 d.db --turns 1", "2 (false, true)"),

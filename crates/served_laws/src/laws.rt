@@ -5,6 +5,7 @@ ghost use Rattle.served_laws.specs.Sockets.{SocketTurnIsRun, StartIsTaken};
 ghost use Rattle.served_laws.specs.Turns.{CrashIsRun, TurnIsRun};
 
 use broker_sockets::{BridgeHandler, Handler, Readiness};
+use client_limits::Limited;
 use node_server::ServedNode;
 use row_store::RowStore;
 
@@ -25,10 +26,10 @@ pub fn served_turns_are_runs<R: RowStore>()
     ensures after { CrashAfterCommit R.is_clean R.is_open R.content R.may_leave }
 {}
 
-/// So a turn over sockets of a served node is a run, and in the world to which it leads the next turn may begin. What the node is told
-/// before the first turn is part of that one's run.
+/// So a turn over sockets of a served node behind its door is a run, whatever the limits, and in the world to which it leads the next turn
+/// may begin. What the node is told before the first turn is part of that one's run.
 pub fn socket_turns_are_runs<S: Readiness, R: RowStore>()
-    ensures start { StartIsTaken R.is_open R.content S S.Stream ⟦<ServedNode<R> as Handler>⟧.handles }
+    ensures start { StartIsTaken R.is_open R.content S S.Stream ⟦<Limited<ServedNode<R>> as Handler>⟧.handles }
     ensures turns { SocketTurnIsRun R.is_clean R.is_open R.content S.accepts S.watches S.connects S.reads S.writes S.finds
-        ⟦<ServedNode<R> as Handler>⟧.handles ⟦<ServedNode<R> as BridgeHandler>⟧.hears ⟦<ServedNode<R> as Handler>⟧.settles }
+        ⟦<Limited<ServedNode<R>> as Handler>⟧.handles ⟦<Limited<ServedNode<R>> as BridgeHandler>⟧.hears ⟦<Limited<ServedNode<R>> as Handler>⟧.settles }
 {}

@@ -2,6 +2,7 @@
 
 use broker_serving::serve;
 use broker_stop::{RunFault, Stop};
+use client_limits::Limits;
 use database_examples::HOMES;
 use home_table::TableFault;
 use run_causes::Ending;
@@ -13,7 +14,7 @@ const MOST_BYTES: usize = 16_777_216;
 /// Whether serving a node of a configuration for one turn, with its rows in this database, ends as told.
 pub fn ends_by(rt: &HostRuntime, names: (&str, &str, &str), end: Result<(), Stop>) -> bool {
     let (configuration, node, database) = names;
-    let ended = match serve(rt, configuration, node, database, 1) {
+    let ended = match serve(rt, configuration, node, database, Limits::none(), 1) {
         Ok(()) => Ok(()),
         Err(
             Ending {

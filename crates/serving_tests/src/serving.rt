@@ -5,6 +5,7 @@ use broker_sockets::{
 };
 use broker_stop::RunFault;
 use broker_turns::{Hub, Setting};
+use client_limits::Limits;
 use home_table::HomeTable;
 use mio::net::{TcpListener, TcpStream};
 use node_keeper::{Keeper, KeeperFault};
@@ -152,6 +153,7 @@ fn serve_for(
         &mut clock,
         rows,
         (homes, 0),
+        Limits::none(),
         turns,
         out,
     )

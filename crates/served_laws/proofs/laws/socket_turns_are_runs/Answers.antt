@@ -1,11 +1,24 @@
+use Rattle.node_server.specs.Events.{event_of, peer_event_of}
+use Rattle.node_server.specs.Serving.{IsAnsweredToAll, IsAnsweredToClients, IsCommitted}
+use Rattle.node_server.specs.Views.{keeper_of}
 use Rattle.served_laws.proofs.Sockets.{socket_turn_is_run, start_is_taken}
 use Rattle.served_laws.proofs.laws.socket_turns_are_runs.Goals as goal
 
 pub returns-clause-start : goal.returns-clause-start
-returns-clause-start g c = let R = g.R.RowStore in start_is_taken R.is_clean R.is_open R.content R.may_leave _ _ _ (λ s e outputs s' is. is) (λ s e given s' is. is) (λ s s' is. is)
+returns-clause-start g c =
+    let R = g.R.RowStore in
+    start_is_taken R.is_clean R.is_open R.content R.may_leave
+    (λ s told handed s'. IsAnsweredToClients (keeper_of s) (event_of told) handed (keeper_of s'))
+    (λ s told given s'. IsAnsweredToAll (keeper_of s) (peer_event_of told) given (keeper_of s'))
+    (λ s s'. IsCommitted R.is_clean R.is_open R.content R.may_leave (keeper_of s) (keeper_of s'))
+    (λ s e outputs s' is. is) (λ s e given s' is. is) (λ s s' is. is)
 
 pub returns-clause-turns : goal.returns-clause-turns
 returns-clause-turns g c =
     let R = g.R.RowStore in
-    socket_turn_is_run R.is_clean R.is_open R.content R.may_leave _ _ _ (λ s e outputs s' is. is) (λ s e given s' is. is) (λ s s' is. is)
+    socket_turn_is_run R.is_clean R.is_open R.content R.may_leave
+    (λ s told handed s'. IsAnsweredToClients (keeper_of s) (event_of told) handed (keeper_of s'))
+    (λ s told given s'. IsAnsweredToAll (keeper_of s) (peer_event_of told) given (keeper_of s'))
+    (λ s s'. IsCommitted R.is_clean R.is_open R.content R.may_leave (keeper_of s) (keeper_of s'))
+    (λ s e outputs s' is. is) (λ s e given s' is. is) (λ s s' is. is)
     g.S.Sockets.accepts g.S.Readiness.watches g.S.Sockets.connects g.S.Sockets.reads g.S.Sockets.writes g.S.Readiness.finds
