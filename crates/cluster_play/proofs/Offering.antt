@@ -131,6 +131,6 @@ send_alike whole run later run' later' m m' w r is is' before before' s s' momen
           let x = part_at s.at kept s.grants p.0 p.2 k g there in
           let y = part_at s'.at _ s'.grants p'.0 p'.2 k' g' there' in
           let y_here : IsOffered s.at kept g'.asked y.0 =
-              subst (λ n. IsOffered n kept g'.asked y.0) (sym at) (subst (λ (t : State). IsOffered s'.at (map_of.entries t.retained) g'.asked y.0) (sym stores) y.2) in
+          subst (λ n. IsOffered n kept g'.asked y.0) (sym at) (subst (λ (t : State). IsOffered s'.at (map_of.entries t.retained) g'.asked y.0) (sym stores) y.2) in
           x.1 ∙ ap Some (one_offer s.at kept g.asked g'.asked x.0 y.0 asked x.2 y_here) ∙ sym y.1);
     }

@@ -2,7 +2,6 @@
 use Rattle.std.proofs.Common.{◌≡◌, ℕ, ◌<◌, ◌+◌, List, [], ◌∷◌, ◌++◌, length, take, get_or, sym, subst}
 use Rattle.mqtt_packets.proofs.MeasureLaws.{front_more}
 use Rattle.message_routes.specs.Routes.{Pairwise}
-
 use Rattle.message_copies.specs.Tables.{referents}
 use denote.Ref.{Bor}
 
