@@ -85,13 +85,13 @@ stays_down s rows' (Rows row_faults.NoMemory) cannot m bad device = inl refl
 stays_down s rows' (Rows row_faults.Device) cannot m bad device = no_count (device refl)
 stays_down s rows' (Rows row_faults.BadRow) cannot m bad device = inr (refl, none_before s.node.place s.rows rows' m (bad refl))
 stays_down s rows' NumbersAtEnd (inl e) m bad device = cc
-stays_down s rows' NumbersAtEnd (inr e) m bad device = absurd (let no = e.1 in cc)
+stays_down s rows' NumbersAtEnd (inr e) m bad device = absurd (let no = e.2 in cc)
 stays_down s rows' Stopped (inl e) m bad device = cc
-stays_down s rows' Stopped (inr e) m bad device = absurd (let no = e.1 in cc)
+stays_down s rows' Stopped (inr e) m bad device = absurd (let no = e.2 in cc)
 
 pub never_stopped : (fault : KeeperFault) → CannotOpen fault → fault ≢ Stopped
 never_stopped fault (inl e) is = (let no : NoMemory ≡ Stopped = sym e ∙ is in cc)
-never_stopped fault (inr e) is = (let no : Rows e.0 ≡ Stopped = sym e.1 ∙ is in cc)
+never_stopped fault (inr e) is = (let no : Rows e.0 ≡ Stopped = sym e.2 ∙ is in cc)
 
 module _ (nodes : List (Keeper MemoryRows)) (frames : List Frame) (i : ℕ) (k : Keeper MemoryRows) (below : i < length nodes) (there : k ≡ get_or nodes i k) where
   abbrev before : World

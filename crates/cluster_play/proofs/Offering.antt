@@ -4,22 +4,24 @@ use Rattle.std.specs.List.{slice_get}
 use Rattle.std.specs.FinMap as map_of
 use Rattle.causal_context.specs.Dots.{Dot}
 use Rattle.mqtt_message.specs.declared.delivery.Delivery.{Delivery}
+use Rattle.mqtt_message.specs.declared.message.Message.{Message}
 use Rattle.replica_store.specs.declared.kept.Kept.{Kept}
 use Rattle.replica_store.specs.declared.operation.Operation.{Operation}
 use Rattle.replica_store.specs.Operations.{dot_of, HaveOwnDots}
 use Rattle.replica_store.specs.States.{State}
 use Rattle.replica_store.specs.StateOf.{IsStateOf}
+use Rattle.replica_store.specs.Answers.{IsAnswer}
 use Rattle.replica_store.proofs.Answered.{answer_is, one_answer}
 use Rattle.node_work.specs.declared.granted.Asked.{Asked}
 use Rattle.node_work.specs.declared.granted.Granted.{Granted}
 use Rattle.node_work.specs.Acts.{Act, Acknowledged}
 use Rattle.node_work.specs.Offers.{IsOffered, AreOffered}
-use Rattle.message_copies.specs.Deliveries.{offer_of}
+use Rattle.message_copies.specs.Deliveries.{least_qos, offer_of}
 use Rattle.cluster_play.specs.declared.step.Step.{Step}
 use Rattle.cluster_play.specs.Worlds.{World, Fate, Happens}
 use Rattle.cluster_play.specs.Runs.{Played}
 use Rattle.cluster_play.specs.Histories.{Reached, site, acts_of, taken_amid, operations_amid, moment_amid}
-use Rattle.cluster_play.specs.Answering.{BeginsWithOffers, IsOfferedBy, AreOfferedBy, Acknowledges, FallsInto, SendsAnswers, OffersAlike}
+use Rattle.cluster_play.specs.Answering.{BeginsWithOffers, IsOfferedBy, AreOfferedBy, Acknowledges, AskAlike, FallsInto, SendsAnswers, OffersAlike}
 use Rattle.cluster_play.proofs.Bools.{some_is, none-some}
 use Rattle.cluster_play.proofs.Operations.{own_some}
 use Rattle.cluster_play.proofs.Paths.{commits_acts, midway}
@@ -54,9 +56,14 @@ module _ (O : List Operation) (s : State) (own : HaveOwnDots O) (state : IsState
   parts_by [] parts h = h
   parts_by (g ∷ gs) parts h = (h.0, h.1, h.2, offered_by g.asked h.0 h.3, parts_by gs h.1 h.4)
 
-one_offer : (at : ℕ) (kept : List (List ℕ × Kept)) (a : Option Asked) (own other : List Delivery) → IsOffered at kept a own → IsOffered at kept a other → own ≡ other
-one_offer at kept None own other h k = h ∙ sym k
-one_offer at kept (Some a) own other h k = h.2 ∙ ap (map (offer_of a.options a.identifiers)) (one_answer a.filter at kept h.0 k.0 h.1 k.1) ∙ sym k.2
+one_offer : (at : ℕ) (kept : List (List ℕ × Kept)) (a b : Option Asked) (own other : List Delivery) → AskAlike a b → IsOffered at kept a own → IsOffered at kept b other → own ≡ other
+one_offer at kept None None own other alike h k = h ∙ sym k
+one_offer at kept None (Some b) own other alike h k = absurd alike
+one_offer at kept (Some a) None own other alike h k = absurd alike
+one_offer at kept (Some a) (Some b) own other alike h k =
+    let answer = subst (λ (f : List ℕ). IsAnswer f at kept k.0) (sym alike.0) k.1 in
+    h.2 ∙ ap (map (offer_of a.options a.identifiers)) (one_answer a.filter at kept h.0 k.0 h.1 answer)
+    ∙ (λ i. map (λ (m : Message). record { message = m; qos = least_qos (alike.1 i) m.qos; retain = true; identifiers = alike.2 i }) k.0) ∙ sym k.2
 
 -- directly after an answer to a SUBSCRIBE the session is offered what is told
 followed : (w : World) (step : Step) (fate : Fate) (w' : World) → Happens w step fate w' → (before after : List Act) (client : List ℕ) (packet at : ℕ) (grants : List Granted) (offers : List Delivery)
@@ -123,7 +130,7 @@ send_alike whole run later run' later' m m' w r is is' before before' s s' momen
       alike = λ k k' g g' there there' asked. (
           let x = part_at s.at kept s.grants p.0 p.2 k g there in
           let y = part_at s'.at _ s'.grants p'.0 p'.2 k' g' there' in
-          let y_here : IsOffered s.at kept g.asked y.0 = subst (λ (z : Option Asked). IsOffered s.at kept z y.0) (sym asked)
-          (subst (λ n. IsOffered n kept g'.asked y.0) (sym at) (subst (λ (t : State). IsOffered s'.at (map_of.entries t.retained) g'.asked y.0) (sym stores) y.2)) in
-          x.1 ∙ ap Some (one_offer s.at kept g.asked x.0 y.0 x.2 y_here) ∙ sym y.1);
+          let y_here : IsOffered s.at kept g'.asked y.0 =
+          subst (λ n. IsOffered n kept g'.asked y.0) (sym at) (subst (λ (t : State). IsOffered s'.at (map_of.entries t.retained) g'.asked y.0) (sym stores) y.2) in
+          x.1 ∙ ap Some (one_offer s.at kept g.asked g'.asked x.0 y.0 asked x.2 y_here) ∙ sym y.1);
     }

@@ -1,5 +1,6 @@
 -- What is offered to new subscriptions, by the operations that their node has taken (MQTT 5.0, 3.3.1.3 and 3.8.4).
 use Rattle.std.specs.Prelude.{◌≡◌, ℕ, List, [], ◌∷◌, ◌++◌, Option, Some, None, flat_map, map, slice_get}
+use Rattle.mqtt_fields.specs.Options.{qos_of}
 use Rattle.mqtt_message.specs.declared.delivery.Delivery.{Delivery}
 use Rattle.mqtt_message.specs.declared.message.Message.{Message}
 use Rattle.replica_store.specs.declared.operation.Operation.{Operation}
@@ -58,10 +59,17 @@ pub record SendsAnswers (O : List Operation) (m : Played) (before : List Act) (s
   pub parts : List (List Delivery)
   pub answers : FallsInto O s.at s.grants s.offers parts
 
--- the parts of two answers are one wherever the filter, its options and its identifier are
+-- two subscriptions ask for the retained messages of one filter, at one QoS and under one Subscription Identifier, or neither asks for any
+abbrev pub AskAlike : Option Asked → Option Asked → Type 0
+AskAlike None None = Unit {0}
+AskAlike None (Some b) = ⊥
+AskAlike (Some a) None = ⊥
+AskAlike (Some a) (Some b) = (a.filter ≡ b.filter) × (qos_of a.options ≡ qos_of b.options) × (a.identifiers ≡ b.identifiers)
+
+-- the parts of two answers are one wherever two ask alike
 pub record OffersAlike (O O' : List Operation) (at : ℕ) (grants grants' : List Granted) (offers offers' : List Delivery) : Type 0 where
   pub parts : List (List Delivery)
   pub parts' : List (List Delivery)
   pub first : FallsInto O at grants offers parts
   pub second : FallsInto O' at grants' offers' parts'
-  pub alike : (k k' : ℕ) (g g' : Granted) → slice_get grants k ≡ Some g → slice_get grants' k' ≡ Some g' → g.asked ≡ g'.asked → slice_get parts k ≡ slice_get parts' k'
+  pub alike : (k k' : ℕ) (g g' : Granted) → slice_get grants k ≡ Some g → slice_get grants' k' ≡ Some g' → AskAlike g.asked g'.asked → slice_get parts k ≡ slice_get parts' k'

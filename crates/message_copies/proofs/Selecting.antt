@@ -9,7 +9,7 @@ use Rattle.subscription_set.specs.Entries.{Entry}
 use Rattle.subscription_set.specs.Standing.{Entries}
 use Rattle.message_copies.specs.declared.plain.PlainCopy.{PlainCopy}
 use Rattle.message_copies.specs.declared.groups.GroupPick.{GroupPick}
-use Rattle.message_copies.specs.Copies.{AreCopies, AreCopiesAmong, AreLive, Counts, MayCount, IsFor, entries_in}
+use Rattle.message_copies.specs.Copies.{AreCopies, AreCopiesAmong, AreLive, Counts, MayCount, IsFor, IsPlainFor, entries_in}
 use Rattle.message_copies.specs.Picks.{ArePicks, ArePicksAmong, IsSharedFor}
 use Rattle.message_copies.specs.Tables.{referents}
 use Rattle.filter_trie.specs.Selected.{IsSelected}
@@ -46,6 +46,10 @@ selected_within P Q f = selected_both P Q Q (λ x p q. q) (λ x q. (f x q, q))
 -- copies among what was found are copies by what is live
 pub copies_found : (live : Entries) (m : Message) (found : List Entry) (out : List PlainCopy) → AreLive (IsFor m) live found → AreCopiesAmong found m out → AreCopies live m out
 copies_found live m found out h a = (a.0, selected_both (IsFor m) (MayCount m) (Counts m) (λ e p q. ((q.0, p), q.1)) (λ e k. (k.0.1, (k.0.0, k.1))) (entries_in live) found a.0 h a.1, a.2)
+
+-- and what is plain of it is what is live, plain, and matches
+pub plain_found : (live : Entries) (m : Message) (found out : List Entry) → AreLive (IsFor m) live found → IsSelected (λ e. IsShared e.filter → ⊥) found out → AreLive (IsPlainFor m) live out
+plain_found live m found out h a = selected_both (IsFor m) (λ e. IsShared e.filter → ⊥) (IsPlainFor m) (λ e p q. (q, p)) (λ e k. (k.1, k.0)) (entries_in live) found out h a
 
 -- and so are picks
 pub picks_found : (turn : ℕ) (live : Entries) (m : Message) (found : List Entry) (out : List GroupPick) → AreLive (IsFor m) live found → ArePicksAmong turn found m out → ArePicks turn live m out

@@ -1,6 +1,6 @@
 //! The live subscriptions that a message is for.
 
-ghost use Rattle.std.specs.Prelude.{◌↔◌, [], IfOk, IsOk, IsTrue};
+ghost use Rattle.std.specs.Prelude.{◌↔◌, ◌<◌, [], length, IfOk, IsOk, IsTrue, OnErr};
 ghost use Rattle.filter_trie.specs.Selected.{IsSelected};
 ghost use Rattle.message_copies.specs.Copies.{AreLive, IsFor, MayCount};
 ghost use Rattle.message_copies.specs.Tables.{referents};
@@ -26,6 +26,12 @@ fn is_shared(entry: &Entry) -> bool
     ensures { IsTrue result ↔ IsShared entry.now.filter }
 {
     entry.filter().group().is_some()
+}
+
+fn is_plain(entry: &Entry) -> bool
+    ensures { IsTrue result ↔ (IsShared entry.now.filter → ⊥) }
+{
+    !is_shared(entry)
 }
 
 /// The live subscriptions that match. Only these take memory.
@@ -56,6 +62,21 @@ pub fn shared_among<'a>(alloc: Global, found: &[&'a Entry]) -> Result<Vec<&'a En
     let mut out = Vec::new(alloc);
     for entry in found {
         if is_shared(*entry) {
+            out.push(*entry)?;
+        }
+    }
+    Ok(out)
+}
+
+/// Those of the subscriptions that are plain.
+pub fn plain_among<'a>(alloc: Global, found: &[&'a Entry]) -> Result<Vec<&'a Entry>, NoMemory>
+    ensures selected { IfOk result (λ out.
+        IsSelected (λ e. IsShared e.filter → ⊥) (referents found.now) (referents out.items)) }
+    ensures memory { OnErr result (0 < length found.now) }
+{
+    let mut out = Vec::new(alloc);
+    for entry in found {
+        if is_plain(*entry) {
             out.push(*entry)?;
         }
     }

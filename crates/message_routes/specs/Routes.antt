@@ -1,5 +1,5 @@
 -- Which other nodes get a message, and what of it: the message itself, whether clients there have plain subscriptions that
--- match, and which of their clients are picked for shared groups.
+-- match, with No Local too, and which of their clients are picked for shared groups.
 use Rattle.std.specs.Prelude.{◌≡◌, ℕ, ◌+◌, ◌&&◌, ◌||◌, nat_eq, nat_le, Bool, true, false, if◌then◌else◌, List, [], ◌∷◌, length}
 use Rattle.std.specs.List.{list_any}
 use Rattle.bridge_frames.specs.declared.forward.Forward.{Forward}
@@ -8,12 +8,12 @@ use Rattle.bridge_frames.specs.Forwards.{forward}
 use Rattle.home_table.specs.Homes.{IsHome}
 use Rattle.home_table.specs.Table.{Table}
 use Rattle.message_copies.specs.declared.groups.GroupPick.{GroupPick}
-use Rattle.message_copies.specs.declared.plain.PlainCopy.{PlainCopy}
 use Rattle.mqtt_message.specs.declared.message.Message.{Message}
 use Rattle.message_routes.specs.declared.destinations.Destinations.{Destinations}
 use Rattle.message_routes.specs.declared.destinations.HomedPick.{HomedPick}
 use Rattle.message_routes.specs.declared.destinations.Route.{Route}
 use Rattle.message_routes.specs.declared.destinations.Route.TheVariants.{Nothing, Lane, TooLarge}
+use Rattle.subscription_set.specs.Entries.{Entry}
 
 -- two lists of one length, with a relation at each place
 abbrev pub Pairwise : {A B : Type 0} → (A → B → Type 0) → List A → List B → Type 0
@@ -22,9 +22,9 @@ Pairwise P [] (y ∷ ys) = ⊥
 Pairwise P (x ∷ xs) [] = ⊥
 Pairwise P (x ∷ xs) (y ∷ ys) = P x y × Pairwise P xs ys
 
--- the home of a copy's client
-abbrev pub IsHomeOf : Table → PlainCopy → ℕ → Type 0
-IsHomeOf t copy home = IsHome t copy.client home
+-- the home of a subscription's client
+abbrev pub IsHomeOf : Table → Entry → ℕ → Type 0
+IsHomeOf t e home = IsHome t e.client home
 
 -- a pick as another node is told of it: the client, and the whole filter of its shared subscription
 abbrev pub pick_to : GroupPick → Pick
@@ -33,9 +33,9 @@ pick_to x = record { client = x.client; filter = x.filter }
 abbrev pub IsHomed : Table → GroupPick → HomedPick → Type 0
 IsHomed t x y = (y.pick ≡ pick_to x) × IsHome t x.client y.home
 
--- the homes of the clients that are to have a copy, and of those that are picked
-abbrev pub AreFor : Table → List PlainCopy → List GroupPick → Destinations → Type 0
-AreFor t plain picks d = Pairwise (IsHomeOf t) plain d.homes.items × Pairwise (IsHomed t) picks d.picks.items
+-- the homes of the clients of plain subscriptions that match, and of the clients that are picked
+abbrev pub AreFor : Table → List Entry → List GroupPick → Destinations → Type 0
+AreFor t matching picks d = Pairwise (IsHomeOf t) matching d.homes.items × Pairwise (IsHomed t) picks d.picks.items
 
 -- one of the homes is the node
 abbrev pub is_at : ℕ → List ℕ → Bool

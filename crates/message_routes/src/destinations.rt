@@ -1,15 +1,17 @@
-//! Where the clients are at home that are to have a copy of a message.
+//! Where the clients are at home that a message is for.
 
 ghost use Rattle.std.specs.Prelude.{◌≡◌, ◌<◌, ◌+◌, ◌||◌, false, nat_le, length, if◌then◌else◌, IfOk, OnErr, IsOk};
+ghost use Rattle.message_copies.specs.Tables.{referents};
 ghost use Rattle.message_routes.specs.Routes.{AreFor, IsHomeOf, IsHomed, Pairwise, forward_at, frame_length, has_pick, is_at, is_wanted, picks_at, route_of};
 
 use crate::length::frame_length;
 use bridge_frames::{Forward, Pick, Picks};
 use home_table::HomeTable;
-use message_copies::{GroupPick, PlainCopy};
+use message_copies::GroupPick;
 use mqtt_fields::NoMemory;
 use mqtt_message::SharedMessage;
 use std::alloc::Global;
+use subscription_set::Entry;
 
 /// The most bytes of a frame after its length.
 const FRAME_ROOM: usize = 2_097_152;
@@ -21,7 +23,7 @@ pub struct HomedPick {
     pub home: u16,
 }
 
-/// The homes of the clients that are to have a copy of a message by their plain subscriptions, and the picks of shared groups
+/// The homes of the clients of plain subscriptions that match a message, one for each of these, and the picks of shared groups
 /// with theirs.
 #[derive(Drop)]
 pub struct Destinations {
@@ -40,14 +42,14 @@ pub enum Route {
     TooLarge,
 }
 
-// The homes of the clients of copies.
-fn homes_of(alloc: Global, table: &HomeTable, plain: &[PlainCopy]) -> Result<Vec<u16>, NoMemory>
-    ensures homes { IfOk result (λ homes. Pairwise (IsHomeOf table.now) plain.now homes.items) }
-    ensures memory { OnErr result (0 < length plain.now) }
+// The homes of the clients of subscriptions.
+fn homes_of(alloc: Global, table: &HomeTable, matching: &[&Entry]) -> Result<Vec<u16>, NoMemory>
+    ensures homes { IfOk result (λ homes. Pairwise (IsHomeOf table.now) (referents matching.now) homes.items) }
+    ensures memory { OnErr result (0 < length matching.now) }
 {
     let mut homes = Vec::new(alloc);
-    for copy in plain {
-        homes.push(table.home_of(copy.client.as_str()))?;
+    for entry in matching {
+        homes.push(table.home_of(entry.client().as_str()))?;
     }
     Ok(homes)
 }
@@ -125,24 +127,24 @@ fn fitting(forward: Forward) -> Route
 }
 
 impl Destinations {
-    /// Where the clients of these copies and picks are at home. Only they take memory.
+    /// Where the clients of these subscriptions and picks are at home. Only they take memory.
     pub fn of(
         alloc: Global,
         table: &HomeTable,
-        plain: &[PlainCopy],
+        matching: &[&Entry],
         picks: &[GroupPick],
     ) -> Result<Destinations, NoMemory>
-        ensures homes { IfOk result (λ d. AreFor table.now plain.now picks.now d) }
-        ensures memory { OnErr result (0 < length plain.now + length picks.now) }
+        ensures homes { IfOk result (λ d. AreFor table.now (referents matching.now) picks.now d) }
+        ensures memory { OnErr result (0 < length matching.now + length picks.now) }
     {
         Ok(Destinations {
-            homes: homes_of(alloc, table, plain)?,
+            homes: homes_of(alloc, table, matching)?,
             picks: homed_picks(alloc, table, picks)?,
         })
     }
 
-    /// What becomes of the message at the node: nothing, where no client there is to have it, which takes no memory; else it
-    /// goes there with a flag, where plain copies are due there, and with the picks there, unless these are more than 65,535 or
+    /// What becomes of the message at the node: nothing, where it is for no client there, which takes no memory; else it
+    /// goes there with a flag, where plain subscriptions of clients there match, and with the picks there, unless these are more than 65,535 or
     /// its frame would have more than 2,097,152 bytes after its length.
     #[tactic(auto, using(crate::proofs::Routing::route_wanted))]
     pub fn route(

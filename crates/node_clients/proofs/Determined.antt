@@ -9,7 +9,7 @@ use Rattle.home_table.specs.Table.{IsTable, Table}
 use Rattle.home_table.proofs.HomeLaws.{home_alone}
 use Rattle.message_copies.specs.declared.plain.PlainCopy.{PlainCopy as Copy}
 use Rattle.message_copies.specs.declared.groups.GroupPick.{GroupPick}
-use Rattle.message_copies.specs.Copies.{AreCopies, Counts, plain_copy, entries_in}
+use Rattle.message_copies.specs.Copies.{AreCopies, Counts, IsPlainFor, plain_copy, entries_in}
 use Rattle.message_copies.specs.Deliveries.{offer_of}
 use Rattle.message_copies.specs.Gathered.{by_client, by_group}
 use Rattle.message_copies.specs.Picks.{ArePicks, IsSharedFor, pick_of, picked}
@@ -27,6 +27,7 @@ use Rattle.session_laws.specs.Runs.{Event}
 use Rattle.session_laws.proofs.OutcomeLaws.{one_outcome, ends_or_reacts}
 use Rattle.session_table.specs.Seats.{Seat}
 use Rattle.std.specs.List.{flat_map}
+use Rattle.subscription_set.specs.Entries.{Entry}
 use Rattle.subscription_set.specs.Standing.{Entries, live}
 use Rattle.node_work.specs.declared.granted.Asked.{Asked}
 use Rattle.node_work.specs.declared.granted.Granted.{Granted}
@@ -149,10 +150,10 @@ pairs_once P one (x ∷ xs) [] zs a b = absurd a
 pairs_once P one (x ∷ xs) (y ∷ ys) [] a b = absurd b
 pairs_once P one (x ∷ xs) (y ∷ ys) (z ∷ zs) a b = λ i. one x y z a.0 b.0 i ∷ pairs_once P one xs ys zs a.1 b.1 i
 
--- where the clients of copies and picks are at home, and what goes there
+-- where the clients of subscriptions and picks are at home, and what goes there
 module _ (t : Table) (sound : IsTable t) where
-  homes_once : (plain : List Copy) (xs ys : List ℕ) → Pairwise (IsHomeOf t) plain xs → Pairwise (IsHomeOf t) plain ys → xs ≡ ys
-  homes_once plain xs ys a b = pairs_once (IsHomeOf t) (λ x y z. home_alone t x.client y z sound) plain xs ys a b
+  homes_once : (matching : List Entry) (xs ys : List ℕ) → Pairwise (IsHomeOf t) matching xs → Pairwise (IsHomeOf t) matching ys → xs ≡ ys
+  homes_once matching xs ys a b = pairs_once (IsHomeOf t) (λ x y z. home_alone t x.client y z sound) matching xs ys a b
 
   homed_pick_once : (x : GroupPick) (y z : HomedPick) → sent.IsHomed t x y → sent.IsHomed t x z → y ≡ z
   homed_pick_once x y z a b = let home = home_alone t x.client y.home z.home sound a.1 b.1 in λ i. record { pick = (a.0 ∙ sym b.0) i; home = home i }
@@ -160,9 +161,9 @@ module _ (t : Table) (sound : IsTable t) where
   homed_picks_once : (picks : List GroupPick) (xs ys : List HomedPick) → Pairwise (sent.IsHomed t) picks xs → Pairwise (sent.IsHomed t) picks ys → xs ≡ ys
   homed_picks_once picks xs ys a b = pairs_once (sent.IsHomed t) homed_pick_once picks xs ys a b
 
-routes_once : (p : Place) (h : HeldView) (plain : List Copy) (picks : List GroupPick) (m : Message) (xs ys : List (ℕ × Route)) → IsTable h.homes → AreRoutes p h plain picks m xs → AreRoutes p h plain picks m ys → xs ≡ ys
-routes_once p h plain picks m xs ys sound a b =
-    let homes = homes_once h.homes sound plain a.0.homes.items b.0.homes.items a.1.0 b.1.0 in
+routes_once : (p : Place) (h : HeldView) (matching : List Entry) (picks : List GroupPick) (m : Message) (xs ys : List (ℕ × Route)) → IsTable h.homes → AreRoutes p h matching picks m xs → AreRoutes p h matching picks m ys → xs ≡ ys
+routes_once p h matching picks m xs ys sound a b =
+    let homes = homes_once h.homes sound matching a.0.homes.items b.0.homes.items a.1.0 b.1.0 in
     let at = homed_picks_once h.homes sound picks a.0.picks.items b.0.picks.items a.1.1 b.1.1 in
     a.2 ∙ (λ i. map_list (λ peer. (peer, route_of (record { plain = is_at peer (homes i); picks = picks_at peer (at i); message = m }))) (others p)) ∙ sym b.2
 
@@ -171,10 +172,11 @@ passed_once p h m xs ys j k rs ss sound a b =
     let plain : a.plain ≡ b.plain = copies_once (live h.store.subscriptions) m a.plain b.plain a.are_copies b.are_copies in
     let picks : a.picks ≡ b.picks = picks_once h.turn (live h.store.subscriptions) m a.picks b.picks a.are_picks b.are_picks in
     let homed : a.homed ≡ b.homed = homed_once p h b.picks a.homed b.homed (subst (λ ps. IsHomed p h ps a.homed) picks a.are_here) b.are_here in
-    let routes : AreRoutes p h b.plain b.picks m rs = subst (λ cs. AreRoutes p h cs b.picks m rs) plain (subst (λ ps. AreRoutes p h a.plain ps m rs) picks a.routes_are) in (
+    let matching : a.matching ≡ b.matching = selected_once (IsPlainFor m) (entries_in (live h.store.subscriptions)) a.matching b.matching a.are_matching b.are_matching in
+    let routes : AreRoutes p h b.matching b.picks m rs = subst (λ es. AreRoutes p h es b.picks m rs) matching (subst (λ ps. AreRoutes p h a.matching ps m rs) picks a.routes_are) in (
       a.copies_are ∙ (λ i. seated h (plain i) ++ seated h (homed i)) ∙ sym b.copies_are,
       a.lost_are ∙ ap (λ cs. length (unseated h cs)) homed ∙ sym b.lost_are,
-      routes_once p h b.plain b.picks m rs ss sound routes b.routes_are,
+      routes_once p h b.matching b.picks m rs ss sound routes b.routes_are,
     )
 
 pub copies_alone : (m : Message) → IsAlone (AreMade m)

@@ -1,11 +1,11 @@
 -- What becomes of a message at the other nodes.
-use Rattle.std.proofs.Common.{◌≡◌, ℕ, ◌+◌, ◌-◌, ◌<◌, ◌≤◌, ◌^◌, ◌⊎◌, suc, arith, Bool, true, false, not, cond, List, [], ◌∷◌, length, filter, map as map_list, Vec, inl, inr, refl, sym, ap, ◌∙◌}
+use Rattle.std.proofs.Common.{Bor, ◌≡◌, ℕ, ◌+◌, ◌-◌, ◌<◌, ◌≤◌, ◌^◌, ◌⊎◌, suc, arith, Bool, true, false, not, cond, List, [], ◌∷◌, length, filter, map as map_list, Vec, inl, inr, refl, sym, ap, ◌∙◌}
 use Rattle.std.specs.Prelude.{nat_eq}
 use Rattle.std.specs.List.{range_with_len}
 use Rattle.std.proofs.lemmas.Bool.Decides.{nat_tests}
 use Rattle.home_table.specs.Table.{Table}
 use Rattle.message_copies.specs.declared.groups.GroupPick.{GroupPick}
-use Rattle.message_copies.specs.declared.plain.PlainCopy.{PlainCopy as Copy}
+use Rattle.message_copies.specs.Tables.{referents}
 use Rattle.message_routes.specs.declared.destinations.Destinations.{Destinations}
 use Rattle.message_routes.specs.declared.destinations.HomedPick.{HomedPick}
 use Rattle.message_routes.specs.declared.destinations.Route.{Route}
@@ -15,6 +15,7 @@ use Rattle.node_work.specs.Passing.{AreRoutes, others}
 use Rattle.node_work.specs.View.{Place, HeldView, nodes_of}
 use Rattle.node_clients.specs.Passing.{route_to, routes_to}
 use Rattle.node_clients.proofs.Homes.{home_stands}
+use Rattle.subscription_set.specs.Entries.{Entry}
 
 pub is_itself : (i j k : ℕ) → i ≡ j → j ≡ k → nat_eq i k ≡ true
 is_itself i j k e f = grind (arith, nat_tests)
@@ -53,9 +54,9 @@ module _ (p : Place) (m : Message) (d : Destinations) where
   pub routes_end : (i : ℕ) → nodes_of p ≤ i → routes_from i ≡ []
   routes_end i end = ap (λ k. map_list (route_to m d) (filter (λ n. not (nat_eq n p.id)) (range_with_len i k))) (let e : nodes_of p - i ≡ 0 = omega arith in e)
 
--- ---- where the clients of copies and picks are at home
+-- ---- where the clients of subscriptions and picks are at home
 module _ (t : Table) where
-  homes_stand : (plain : List Copy) → (homes : List ℕ) × Pairwise (IsHomeOf t) plain homes × (length homes ≡ length plain)
+  homes_stand : (matching : List Entry) → (homes : List ℕ) × Pairwise (IsHomeOf t) matching homes × (length homes ≡ length matching)
   homes_stand [] = ([], tt, refl)
   homes_stand (x ∷ xs) = let h = home_stands t x.client in let r = homes_stand xs in (h.0 ∷ r.0, (h.1, r.1), ap suc r.2)
 
@@ -66,12 +67,16 @@ module _ (t : Table) where
 abbrev with_list : {X Z : Type 0} → Vec X Z → (xs : List X) → length xs < 2 ^ 63 → Vec X Z
 with_list v xs small = record { ptr = v.ptr; len = length xs; cap = length xs; alloc = v.alloc; items = xs; ok = (refl, omega arith); small = small }
 
+pub as_many : {X : Type 0} (rs : List (Bor X)) → length (referents rs) ≡ length rs
+as_many [] = refl
+as_many (r ∷ rs) = ap suc (as_many rs)
+
 -- where there is no other node, nothing goes anywhere
-pub are_routes : (p : Place) (h : HeldView) (plain : List Copy) (picks : List GroupPick) (m : Message) (d : Destinations) → length plain < 2 ^ 63 → length picks < 2 ^ 63
-    → (others p ≡ []) ⊎ AreFor h.homes plain picks d → AreRoutes p h plain picks m (routes_to p m d)
-are_routes p h plain picks m d few few_picks (inr for) = (d, for, refl)
-are_routes p h plain picks m d few few_picks (inl none) =
-    let at_homes = homes_stand h.homes plain in
+pub are_routes : (p : Place) (h : HeldView) (matching : List Entry) (picks : List GroupPick) (m : Message) (d : Destinations) → length matching < 2 ^ 63 → length picks < 2 ^ 63
+    → (others p ≡ []) ⊎ AreFor h.homes matching picks d → AreRoutes p h matching picks m (routes_to p m d)
+are_routes p h matching picks m d few few_picks (inr for) = (d, for, refl)
+are_routes p h matching picks m d few few_picks (inl none) =
+    let at_homes = homes_stand h.homes matching in
     let at_picks = picks_stand h.homes picks in
     let at : Destinations = record {
       homes = with_list d.homes at_homes.0 (let e = at_homes.2 in omega arith);

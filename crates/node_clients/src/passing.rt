@@ -1,6 +1,7 @@
 //! How a message is passed on.
 
 ghost use Rattle.std.specs.Prelude.{◌≡◌, ◌⊎◌, ◌+◌, ◌++◌, ◌↔◌, [], length, true, IfOk, IfErr, IsOk, IsTrue};
+ghost use Rattle.message_copies.specs.Tables.{referents};
 ghost use Rattle.message_routes.specs.Routes.{AreFor};
 ghost use Rattle.node_clients.specs.Passing.{Copies, CopiesAt, Passes, PassesWill, Retains, lacks_room, route_to, routes_to};
 ghost use Rattle.node_work.specs.Calling.{Queues, QueuesOne};
@@ -17,6 +18,7 @@ use mqtt_message::{Message, SharedMessage};
 use node_work::{Held, NodeFault, Work};
 use replica_store::Content;
 use std::alloc::Global;
+use subscription_set::Entry;
 
 /// At most as many topics are held.
 const TOPICS_HELD: usize = 100_000;
@@ -139,8 +141,9 @@ fn made_of(work: &Work, message: &SharedMessage) -> Result<Made, NodeFault>
     let CopiesAndPicks {
         copies: plain,
         picks,
+        matching,
     } = both;
-    let to = destinations_of(work, &plain, &picks)?;
+    let to = destinations_of(work, matching.as_slice(), &picks)?;
     let homed = homed_of(work, picks)?;
     let count = homed.len();
     let homed = seated(held, homed);
@@ -149,13 +152,13 @@ fn made_of(work: &Work, message: &SharedMessage) -> Result<Made, NodeFault>
     Ok(Made { copies, lost, to })
 }
 
-/// Where the clients of copies and picks are at home, where the cluster has another node.
+/// Where the clients of subscriptions and picks are at home, where the cluster has another node.
 fn destinations_of(
     work: &Work,
-    plain: &[PlainCopy],
+    matching: &[&Entry],
     picks: &[GroupPick],
 ) -> Result<Destinations, NodeFault>
-    ensures ok { IfOk result (λ to. (others work.now.place ≡ []) ⊎ AreFor work.now.held.homes plain.now picks.now to) }
+    ensures ok { IfOk result (λ to. (others work.now.place ≡ []) ⊎ AreFor work.now.held.homes (referents matching.now) picks.now to) }
     ensures fault { IfErr result (λ e. e ≡ NoMemory) }
 {
     if is_alone(work) {
@@ -164,7 +167,7 @@ fn destinations_of(
             picks: Vec::new(work.alloc()),
         });
     }
-    Ok(Destinations::of(work.alloc(), work.homes(), plain, picks)?)
+    Ok(Destinations::of(work.alloc(), work.homes(), matching, picks)?)
 }
 
 /// Whether the cluster has no other node.

@@ -1,5 +1,5 @@
 -- A node and its rows.
-use Rattle.std.specs.Prelude.{◌≡◌, ℕ, ◌<◌, ◌^◌, ◌-◌, ◌⊎◌, List, [], Option, Some, None, Result, Ok, Vec}
+use Rattle.std.specs.Prelude.{◌≡◌, ◌≢◌, ℕ, ◌<◌, ◌^◌, ◌-◌, ◌⊎◌, List, [], Option, Some, None, Result, Ok, Vec}
 use Rattle.std.specs.FinMap as map
 use Rattle.std.specs.declared.alloc.Global.{Global}
 use Rattle.broker_node.specs.declared.event.Event.{Event}
@@ -16,6 +16,7 @@ use Rattle.node_work.specs.View.{HeldView, NodeView, Place, nodes_of}
 use Rattle.node_work.specs.declared.outcome.Output.{Output}
 use Rattle.row_store.specs.declared.row.Change.{Change}
 use Rattle.row_store.specs.declared.store.RowFault.{RowFault}
+use Rattle.row_store.specs.declared.store.RowFault.TheVariants as row_faults
 use Rattle.row_store.specs.Rows.{Content, Key, after_all}
 
 -- ---- rows and what a node holds
@@ -99,9 +100,9 @@ KeepsRows rows rows' Stopped = rows' ≡ rows
 abbrev pub IsCounted : ℕ → ℕ → Type 0
 IsCounted before after = (before < after) ⊎ (after ≡ 2 ^ 64 - 1)
 
--- an opening fails by want of memory or by its rows
+-- an opening fails by want of memory, whoever wants it, or by its rows for another cause
 abbrev pub CannotOpen : KeeperFault → Type 0
-CannotOpen fault = (fault ≡ NoMemory) ⊎ ((cause : RowFault) × (fault ≡ Rows cause))
+CannotOpen fault = (fault ≡ NoMemory) ⊎ ((cause : RowFault) × (cause ≢ row_faults.NoMemory) × (fault ≡ Rows cause))
 
 -- ---- opening
 

@@ -51,6 +51,7 @@ impl<R: RowStore> Keeper<R> {
     {
         match wake(alloc, &mut rows, homes, id) {
             Ok(node) => Ok(Keeper { alloc, rows, node }),
+            Err(RowFault::NoMemory) => Err((KeeperFault::NoMemory, rows)),
             Err(fault) => Err((KeeperFault::Rows(fault), rows)),
         }
     }
@@ -81,6 +82,7 @@ impl<R: RowStore> Keeper<R> {
                 self.node = node;
                 Ok(())
             }
+            Err(RowFault::NoMemory) => Err(KeeperFault::NoMemory),
             Err(fault) => Err(KeeperFault::Rows(fault)),
         }
     }

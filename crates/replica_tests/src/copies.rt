@@ -15,7 +15,7 @@ const MESSAGE: [u8; 17] = [
 ];
 
 /// Clients with a filter, options and an identifier.
-type Row = (&'static str, &'static str, u8, u32);
+pub type Row = (&'static str, &'static str, u8, u32);
 
 /// QoS 1 and 2, No Local and Retain As Published.
 const SUBSCRIPTIONS: [Row; 12] = [
@@ -53,18 +53,23 @@ fn seen(rt: &impl Abort, alloc: Global) -> Context {
     seen
 }
 
-fn entries(rt: &impl Abort, alloc: Global) -> Vec<(Dot, Entry)> {
+fn entries(rt: &impl Abort, alloc: Global, rows: &[Row]) -> Vec<(Dot, Entry)> {
     let mut entries = Vec::new(alloc);
-    for (number, row) in SUBSCRIPTIONS.iter().enumerate() {
+    for (number, row) in rows.iter().enumerate() {
         let entry = (dot(rt, number), entry(rt, alloc, row));
         entries.push(entry).expect(rt, "memory");
     }
     entries
 }
 
-pub fn subscriptions(rt: &impl Abort, alloc: Global) -> SubscriptionSet {
-    let set = SubscriptionSet::new(seen(rt, alloc), entries(rt, alloc));
+// At most as many as `SUBSCRIPTIONS`.
+pub fn subscriptions_of(rt: &impl Abort, alloc: Global, rows: &[Row]) -> SubscriptionSet {
+    let set = SubscriptionSet::new(seen(rt, alloc), entries(rt, alloc, rows));
     set.expect(rt, "memory").expect(rt, "a set")
+}
+
+pub fn subscriptions(rt: &impl Abort, alloc: Global) -> SubscriptionSet {
+    subscriptions_of(rt, alloc, &SUBSCRIPTIONS)
 }
 
 pub fn message(rt: &impl Abort, alloc: Global) -> SharedMessage {
@@ -100,7 +105,11 @@ fn clients_get_one_copy(rt: HostRuntime) {
 fn told_picks(rt: &impl Abort, alloc: Global, set: &SubscriptionSet, turn: u64) -> String {
     let message = message(rt, alloc);
     let both = copies_and_picks(alloc, set, &message, turn).expect(rt, "memory");
-    let CopiesAndPicks { copies, picks } = both;
+    let CopiesAndPicks {
+        copies,
+        picks,
+        matching,
+    } = both;
     let mut told = String::new(alloc);
     for pick in picks.as_slice() {
         let (client, filter) = (pick.client.as_str(), pick.filter.as_str());
@@ -110,7 +119,7 @@ fn told_picks(rt: &impl Abort, alloc: Global, set: &SubscriptionSet, turn: u64) 
         );
         writeln!(told, "{client} {filter} {qos} {identifiers:?}").expect(rt, "memory");
     }
-    drop((message, copies, picks));
+    drop((message, copies, picks, matching));
     told
 }
 

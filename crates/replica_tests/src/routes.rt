@@ -1,6 +1,6 @@
 //! What other nodes of a cluster of three get of one message.
 
-use crate::copies::{message, subscriptions};
+use crate::copies::{message, subscriptions, subscriptions_of};
 use crate::values::{filter, text};
 use bridge_frames::Pick;
 use message_copies::{CopiesAndPicks, copies_and_picks};
@@ -42,10 +42,14 @@ fn destinations(
 ) -> Destinations {
     let table = homes_of(alloc, 3).expect(rt, "a table");
     let both = copies_and_picks(alloc, set, message, turn).expect(rt, "memory");
-    let CopiesAndPicks { copies, picks } = both;
-    let found = Destinations::of(alloc, &table, copies.as_slice(), picks.as_slice());
+    let CopiesAndPicks {
+        copies,
+        picks,
+        matching,
+    } = both;
+    let found = Destinations::of(alloc, &table, matching.as_slice(), picks.as_slice());
     let found = found.expect(rt, "memory");
-    drop((table, copies, picks));
+    drop((table, copies, picks, matching));
     found
 }
 
@@ -83,6 +87,16 @@ fn homes_get_a_message(rt: HostRuntime) {
         let found = told_routes(&rt, rt.alloc(), &set, &message, turn);
         assert_eq!(rt; found.as_str(), routes, "at {turn}");
     }
+    drop((set, message));
+}
+
+// The only one that matches is of the publisher itself, with No Local: its home gets the message, and finds what it is for.
+#[test]
+fn no_local_leaves_no_home_out(rt: HostRuntime) {
+    let set = subscriptions_of(&rt, rt.alloc(), &[("p", "t/u", 0x06, 4)]);
+    let message = message(&rt, rt.alloc());
+    let found = told_routes(&rt, rt.alloc(), &set, &message, 0);
+    assert_eq!(rt; found.as_str(), "0 nothing\n1 true\n2 nothing\n");
     drop((set, message));
 }
 

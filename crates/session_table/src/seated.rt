@@ -1,9 +1,9 @@
 //! Sessions as a table keeps them.
 
-ghost use Rattle.std.specs.Prelude.{◌≡◌, IfOk, IfSome, None, OnOk};
+ghost use Rattle.std.specs.Prelude.{◌≡◌, IfErr, IfOk, IfSome, None, OnOk};
 ghost use Rattle.mqtt_sessions.specs.Saved.{state_of};
 ghost use Rattle.session_table.specs.Calls.{Asks, GivesSpelled, IsSeated, MayTurn, event_of, on_of};
-ghost use Rattle.session_table.specs.Listing.{IsListedAt, Relists, no_moments};
+ghost use Rattle.session_table.specs.Listing.{IsListedAt, Relists, no_moments, was_connected};
 ghost use Rattle.session_table.specs.Rows.{IsAllTold, TellsAgain};
 
 use crate::call::{Call, On, land};
@@ -14,6 +14,8 @@ use mqtt_fields::Text;
 use mqtt_sessions::{Reaction, Session, SessionFault};
 use row_store::Change;
 use std::alloc::Global;
+use std::marker::Model;
+use std::ops::Deref;
 
 /// A session, the connection that its client is on, and the moments at which it is listed.
 #[derive(Drop)]
@@ -23,6 +25,58 @@ pub struct Seated {
     pub listed: Moments,
     /// The client, with a number that is written before a look-up in a list.
     pub key: (u64, Text),
+}
+
+/// The same in a block of its own. A node of a map keeps room for more entries than it has, so they are small.
+#[derive(Drop)]
+pub struct BoxedSeat {
+    block: Box<Seated>,
+}
+
+impl Model for BoxedSeat {
+    ghost use Rattle.session_table.specs.declared.seated.Seated.{Seated};
+
+    ghost Value = { Seated };
+
+    ghost view = { λ b. b.block.value };
+}
+
+impl Deref for BoxedSeat {
+    type Target = Seated;
+
+    ghost deref_gives = { λ b x. x ≡ b };
+
+    fn deref(&self) -> &Seated
+        ensures { result.now ≡ self.now }
+    {
+        &self.block
+    }
+}
+
+impl BoxedSeat {
+    /// Where memory is refused, this gives the session back.
+    pub(crate) fn new(alloc: Global, seated: Seated) -> Result<BoxedSeat, Seated>
+        ensures ok { IfOk result (λ b. b ≡ seated) }
+        ensures err { IfErr result (λ back. back ≡ seated) }
+    {
+        match Box::new(alloc, seated) {
+            Ok(block) => Ok(BoxedSeat { block }),
+            Err(refused) => Err(refused.value),
+        }
+    }
+
+    /// Whether its session was connected.
+    pub(crate) fn was_connected(&self) -> bool
+        ensures { result ≡ was_connected self.now }
+    {
+        self.session.is_connected()
+    }
+
+    pub(crate) fn into_inner(self) -> Seated
+        ensures { result ≡ self }
+    {
+        Box::into_inner(self.block)
+    }
 }
 
 /// A session of a client that is on no connection, and isn't listed.
@@ -64,7 +118,7 @@ pub(crate) fn unlist_seated(listing: &mut Listing, seated: Seated)
 /// One call of a session, whose changes of rows are appended, and which is listed at its moments then. After a fault it is
 /// listed as it says.
 pub(crate) fn call_seated(
-    seated: &mut Seated,
+    seated: &mut BoxedSeat,
     listing: &mut Listing,
     alloc: Global,
     call: Call<'_>,
@@ -83,6 +137,7 @@ pub(crate) fn call_seated(
     ensures spelled { IfOk result (GivesSpelled (event_of call.entry)) }
     ensures tells { OnOk result (TellsAgain seated.old.key.1 seated.old.session changes.old.items changes.new.items seated.new.session) }
 {
+    let seated = &mut *seated.block;
     let reaction = turn_and_tell(&mut seated.session, call, changes)?;
     let connection = land(on, seated.connection);
     let moments = moments_of(&seated.session, connection);

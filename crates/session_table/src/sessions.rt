@@ -16,7 +16,7 @@ ghost use Rattle.session_table.specs.Seats.{begun, connected, ends_due, run_outs
 
 use crate::call::{Call, On};
 use crate::listing::Listing;
-use crate::seated::Seated;
+use crate::seated::BoxedSeat;
 use crate::table::{by_connection, call_in, connected_in, connection_of, put_in, take_out};
 use crate::telling::{begin_told, leave};
 use due_times::DueTimes;
@@ -34,7 +34,7 @@ use std::marker::Model;
 /// at all of them.
 pub struct Sessions {
     alloc: Global,
-    seats: BTreeMap<Text, Seated>,
+    seats: BTreeMap<Text, BoxedSeat>,
     listing: Listing,
 }
 

@@ -1,6 +1,6 @@
 //! What is done to a table and its lists.
 
-ghost use Rattle.std.specs.Prelude.{◌≡◌, [], IfOk, IfSome, IsOk, IsSome, None, OnErr, OnOk, flat_map};
+ghost use Rattle.std.specs.Prelude.{◌≡◌, [], IfErr, IfOk, IfSome, IsOk, IsSome, None, OnErr, OnOk, flat_map};
 ghost use Rattle.std.specs.FinMap as map;
 ghost use Rattle.due_times.specs.Dues.{in_order};
 ghost use Rattle.mqtt_sessions.specs.Saved.{state_of};
@@ -12,7 +12,7 @@ ghost use Rattle.session_table.specs.Listing.{IsBroken, IsKept, IsKeyed, IsListe
 use crate::call::{Call, On};
 use crate::listing::{Listing, relist};
 use crate::moments::moments_of;
-use crate::seated::{Seated, call_seated, seat, unlist_seated, unseat};
+use crate::seated::{BoxedSeat, Seated, call_seated, seat, unlist_seated, unseat};
 use due_times::DueTimes;
 use mqtt_fields::{NoMemory, Text};
 use mqtt_sessions::{Reaction, Session, SessionFault};
@@ -22,7 +22,7 @@ use std::collections::BTreeMap;
 
 /// One call of a client's session, if it has one.
 pub(crate) fn call_in(
-    seats: &mut BTreeMap<Text, Seated>,
+    seats: &mut BTreeMap<Text, BoxedSeat>,
     listing: &mut Listing,
     alloc: Global,
     client: &Text,
@@ -50,7 +50,7 @@ pub(crate) fn call_in(
 
 /// Takes a client out, and gives its session.
 pub(crate) fn take_out(
-    seats: &mut BTreeMap<Text, Seated>,
+    seats: &mut BTreeMap<Text, BoxedSeat>,
     listing: &mut Listing,
     client: &Text,
 ) -> Option<Session>
@@ -63,12 +63,33 @@ pub(crate) fn take_out(
     let Some(seated) = seats.remove(client) else {
         return None;
     };
-    Some(unseat(listing, seated))
+    Some(unseat(listing, seated.into_inner()))
+}
+
+/// Puts a client's seat into the map. Where memory is refused, this gives it back.
+fn insert_boxed(
+    seats: &mut BTreeMap<Text, BoxedSeat>,
+    alloc: Global,
+    client: Text,
+    seated: Seated,
+) -> Result<(), Seated>
+    ensures ok { OnOk result (table seats.new.entries ≡ map.insert (table seats.old.entries) client seated) }
+    ensures err { OnErr result (table seats.new.entries ≡ table seats.old.entries) }
+    ensures back { IfErr result (λ back. back ≡ seated) }
+{
+    let boxed = BoxedSeat::new(alloc, seated)?;
+    match seats.insert(client, boxed) {
+        Ok(_) => Ok(()),
+        Err(refused) => {
+            let (_, back) = refused.value;
+            Err(back.into_inner())
+        }
+    }
 }
 
 /// Puts in a client that isn't there.
 pub(crate) fn put_in(
-    seats: &mut BTreeMap<Text, Seated>,
+    seats: &mut BTreeMap<Text, BoxedSeat>,
     listing: &mut Listing,
     alloc: Global,
     client: Text,
@@ -89,10 +110,9 @@ pub(crate) fn put_in(
         unlist_seated(listing, seated);
         return Err(refused);
     }
-    match seats.insert(client, seated) {
-        Ok(_) => Ok(()),
-        Err(refused) => {
-            let (_, back) = refused.value;
+    match insert_boxed(seats, alloc, client, seated) {
+        Ok(()) => Ok(()),
+        Err(back) => {
             unlist_seated(listing, back);
             Err(NoMemory)
         }
@@ -101,7 +121,7 @@ pub(crate) fn put_in(
 
 /// Those of the clients that are on a connection, each with it, rising.
 pub(crate) fn by_connection(
-    seats: &BTreeMap<Text, Seated>,
+    seats: &BTreeMap<Text, BoxedSeat>,
     alloc: Global,
     dues: Vec<(u64, Text)>,
 ) -> Result<Vec<(u64, Text)>, NoMemory>
@@ -119,7 +139,7 @@ pub(crate) fn by_connection(
 }
 
 /// The connection that a client is on.
-pub(crate) fn connection_of(seats: &BTreeMap<Text, Seated>, client: &Text) -> Option<u64>
+pub(crate) fn connection_of(seats: &BTreeMap<Text, BoxedSeat>, client: &Text) -> Option<u64>
     ensures { result ≡ connection_in (map.get (table seats.now.entries) client.now) }
 {
     match seats.get(client) {
@@ -130,7 +150,7 @@ pub(crate) fn connection_of(seats: &BTreeMap<Text, Seated>, client: &Text) -> Op
 
 /// The clients whose session was connected.
 pub(crate) fn connected_in(
-    seats: &BTreeMap<Text, Seated>,
+    seats: &BTreeMap<Text, BoxedSeat>,
     alloc: Global,
 ) -> Result<Vec<Text>, NoMemory>
     ensures clients { IfOk result (λ out. out.items ≡ connected (seats_in (table seats.now.entries))) }
@@ -138,7 +158,7 @@ pub(crate) fn connected_in(
 {
     let mut out = Vec::new(alloc);
     for (client, seated) in seats.iter() {
-        if seated.session.is_connected() {
+        if seated.was_connected() {
             out.push(client.copy(alloc)?)?;
         }
     }

@@ -2,7 +2,7 @@ use Rattle.std.proofs.Common.{sym, subst, arith}
 use Rattle.subscription_set.specs.Standing.{live}
 use Rattle.message_copies.specs.Copies.{AreLive, IsFor}
 use Rattle.message_copies.specs.Tables.{referents}
-use Rattle.message_copies.proofs.Selecting.{copies_found, picks_found, nothing_found}
+use Rattle.message_copies.proofs.Selecting.{copies_found, picks_found, plain_found, nothing_found}
 use Rattle.message_copies.proofs.together.copies_and_picks.Goals as goal
 
 pub returns-in_err-copies-clause-none : goal.returns-in_err-copies-clause-none
@@ -24,3 +24,14 @@ pub returns-clause-picks : goal.returns-clause-picks
 returns-clause-picks c =
     let found = subst (λ rs. AreLive (IsFor c.args.message.now) (live c.args.subscriptions.now) (referents rs)) (sym c.as_slice.ensures.value) c.in_ok-found.ensures.found in
     picks_found c.args.turn (live c.args.subscriptions.now) c.args.message.now (referents c.as_slice.result.now) c.in_ok-picks.picks.items found c.in_ok-picks.ensures.picks
+
+pub returns-clause-matching : goal.returns-clause-matching
+returns-clause-matching c =
+    let found = subst (λ rs. AreLive (IsFor c.args.message.now) (live c.args.subscriptions.now) (referents rs)) (sym c.as_slice-2.ensures.value) c.in_ok-found.ensures.found in
+    plain_found (live c.args.subscriptions.now) c.args.message.now (referents c.as_slice-2.result.now) (referents c.in_ok-matching.matching.items) found c.in_ok-matching.ensures.selected
+
+pub returns-in_err-matching-clause-none : goal.returns-in_err-matching-clause-none
+returns-in_err-matching-clause-none c = λ none.
+    let found = subst (λ rs. AreLive (IsFor c.args.message.now) (live c.args.subscriptions.now) (referents rs)) (sym c.as_slice-2.ensures.value) c.in_ok-found.ensures.found in
+    let zero = nothing_found (live c.args.subscriptions.now) c.args.message.now c.as_slice-2.result.now found none in
+    absurd (omega (arith, zero, c.in_err-matching.ensures.memory))

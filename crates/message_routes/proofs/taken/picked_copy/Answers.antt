@@ -1,9 +1,8 @@
-use Rattle.std.proofs.Common.{rules, ◌≡◌, ◌∙◌, ℕ, List, [], ◌∷◌, ◌==◌, Bor, Some, length, sym, ap, subst, false}
+use Rattle.std.proofs.Common.{◌≡◌, ◌∙◌, ℕ, List, [], ◌∷◌, ◌==◌, Bor, Some, length, sym, ap, subst, false}
 use Rattle.bridge_frames.specs.declared.pick.Pick.{Pick}
 use Rattle.message_copies.specs.Copies.{AreLive}
 use Rattle.message_copies.specs.Deliveries.{copy_for}
 use Rattle.message_copies.specs.Tables.{referents}
-use Rattle.message_copies.specs.declared.plain.PlainCopy.{PlainCopy}
 use Rattle.mqtt_message.specs.declared.delivery.Delivery.{Delivery}
 use Rattle.mqtt_message.specs.declared.message.Message.{Message}
 use Rattle.subscription_set.specs.Entries.{Entry}

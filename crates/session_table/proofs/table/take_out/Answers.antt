@@ -15,20 +15,20 @@ returns-in_default-clause-listed c =
 
 pub unseat-requires : goal.unseat-requires
 unseat-requires c =
-    listed_here c.args.client.now (table c.args.seats.now.entries) c.args.listing.now c.in-Some.seated c.requires.listed c.requires.keyed
-    (get_table c.args.seats.now.entries c.args.client.now ∙ sym c.remove.ensures.value ∙ c.in-Some.is)
+    listed_here c.args.client.now (table c.args.seats.now.entries) c.args.listing.now c.into_inner.result c.requires.listed c.requires.keyed
+    (get_table c.args.seats.now.entries c.args.client.now ∙ sym c.remove.ensures.value ∙ c.in-Some.is ∙ ap Some (sym c.into_inner.ensures))
 
 pub returns-clause-gone : goal.returns-clause-gone
 returns-clause-gone c = remove_table c.args.seats.now.entries c.remove.new.self.entries c.args.client.now c.remove.ensures.updates.0
 
 pub returns-clause-listed : goal.returns-clause-listed
 returns-clause-listed c =
-    out_listed c.args.client.now (table c.args.seats.now.entries) (table c.remove.new.self.entries) c.args.listing.now c.unseat.new.listing c.in-Some.seated c.requires.listed c.requires.keyed
-    (get_table c.args.seats.now.entries c.args.client.now ∙ sym c.remove.ensures.value ∙ c.in-Some.is)
+    out_listed c.args.client.now (table c.args.seats.now.entries) (table c.remove.new.self.entries) c.args.listing.now c.unseat.new.listing c.into_inner.result c.requires.listed c.requires.keyed
+    (get_table c.args.seats.now.entries c.args.client.now ∙ sym c.remove.ensures.value ∙ c.in-Some.is ∙ ap Some (sym c.into_inner.ensures))
     (remove_table c.args.seats.now.entries c.remove.new.self.entries c.args.client.now c.remove.ensures.updates.0) c.unseat.ensures.at c.unseat.ensures.others
 
 pub returns-in_default-clause-session : goal.returns-in_default-clause-session
 returns-in_default-clause-session c = sym (ap session_in (get_table c.args.seats.now.entries c.args.client.now ∙ sym c.remove.ensures.value ∙ c.in_default.is))
 
 pub returns-clause-session : goal.returns-clause-session
-returns-clause-session c = ap Some c.unseat.ensures.session ∙ sym (ap session_in (get_table c.args.seats.now.entries c.args.client.now ∙ sym c.remove.ensures.value ∙ c.in-Some.is))
+returns-clause-session c = ap Some c.unseat.ensures.session ∙ sym (ap session_in (get_table c.args.seats.now.entries c.args.client.now ∙ sym c.remove.ensures.value ∙ c.in-Some.is ∙ ap Some (sym c.into_inner.ensures)))

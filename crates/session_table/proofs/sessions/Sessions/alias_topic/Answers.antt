@@ -12,8 +12,8 @@ use Rattle.session_table.proofs.sessions.Sessions.alias_topic.Goals as goal
 
 pub returns-in-Some-clause-topic : goal.returns-in-Some-clause-topic
 returns-in-Some-clause-topic c =
-    let is : map.get (table c.self.inside.seats.entries) c.args.client.now ≡ Some c.in-Some.seated.now = get_table c.self.inside.seats.entries c.args.client.now ∙ sym c.get.ensures.value ∙ ap option_copied c.in-Some.is in
-    topic_here (c.alias_topic.result ≡ None) c.args.client.now (table c.self.inside.seats.entries) c.in-Some.seated.now c.args.alias (option_copied c.alias_topic.result) (c.self.invariant.run c.args.client.now c.in-Some.seated.now is) is
+    let is : map.get (table c.self.inside.seats.entries) c.args.client.now ≡ Some c.deref.result.now = get_table c.self.inside.seats.entries c.args.client.now ∙ sym c.get.ensures.value ∙ ap option_copied c.in-Some.is ∙ ap Some (sym c.deref.ensures) in
+    topic_here (c.alias_topic.result ≡ None) c.args.client.now (table c.self.inside.seats.entries) c.deref.result.now c.args.alias (option_copied c.alias_topic.result) (c.self.invariant.run c.args.client.now c.deref.result.now is) is
     c.alias_topic.ensures.topic
     ∙ ap (λ m. option_and_then (λ (s : Seat). topic_for c.args.alias (aliases_of s.session.link)) (map.get m c.args.client.now)) c.self.view_is
 

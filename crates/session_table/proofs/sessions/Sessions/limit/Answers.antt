@@ -11,8 +11,8 @@ use Rattle.session_table.proofs.sessions.Sessions.limit.Goals as goal
 
 pub returns-in-Some : goal.returns-in-Some
 returns-in-Some c =
-    let is : map.get (table c.self.inside.seats.entries) c.args.client.now ≡ Some c.in-Some.seated.now = get_table c.self.inside.seats.entries c.args.client.now ∙ sym c.get.ensures.value ∙ ap option_copied c.in-Some.is in
-    limit_here c.args.client.now (table c.self.inside.seats.entries) c.in-Some.seated.now c.limit.result (c.self.invariant.run c.args.client.now c.in-Some.seated.now is) is c.limit.ensures
+    let is : map.get (table c.self.inside.seats.entries) c.args.client.now ≡ Some c.deref.result.now = get_table c.self.inside.seats.entries c.args.client.now ∙ sym c.get.ensures.value ∙ ap option_copied c.in-Some.is ∙ ap Some (sym c.deref.ensures) in
+    limit_here c.args.client.now (table c.self.inside.seats.entries) c.deref.result.now c.limit.result (c.self.invariant.run c.args.client.now c.deref.result.now is) is c.limit.ensures
     ∙ ap (λ m. option_and_then (λ (s : Seat). limit_of s.session.link) (map.get m c.args.client.now)) c.self.view_is
 
 pub returns-in-None : goal.returns-in-None
