@@ -1,0 +1,5 @@
+pub mod Bounding
+pub mod Counting
+pub mod Letting
+pub mod Sweeping
+pub mod Waiting
