@@ -1,5 +1,5 @@
 -- What is offered to a new subscription.
-use Rattle.std.proofs.Common.{◌≡◌, ℕ, zero, suc, List, [], ◌∷◌, ◌++◌, Option, Some, None, refl, sym, ap, ◌∙◌, subst, flat_map, map}
+use Rattle.std.proofs.Common.{◌≡◌, ℕ, zero, suc, true, List, [], ◌∷◌, ◌++◌, Option, Some, None, refl, sym, ap, ◌∙◌, subst, flat_map, map}
 use Rattle.std.specs.List.{slice_get}
 use Rattle.std.specs.FinMap as map_of
 use Rattle.causal_context.specs.Dots.{Dot}

@@ -2,10 +2,6 @@
 #![tactic(auto)]
 
 #[cfg(test)]
-mod database;
-#[cfg(test)]
-mod disk;
-#[cfg(test)]
 mod samples;
 #[cfg(test)]
 mod stops;

@@ -1,25 +1,16 @@
 //! A run over a database file and its log, either of which stops, or refuses a call: it is opened again,
 //! and has the rows of before the change that failed, or those of after it.
 
-use crate::database::{Left, adopted, files_of, left, opened};
-use crate::disk::CountedDisk;
 use crate::samples::{Sample, apply, holds};
 use row_store::{RowFault, RowStore};
 use sqlite::{Alter, Connection, Files};
-use sqlite_disk::{Disk, Fuse, Memory};
+use sqlite_disk::Disk;
 use std::alloc::Global;
 use std::process::Abort;
-
-type File = CountedDisk<Fuse<Memory>>;
-
-/// What befalls one of the files after so many calls of it.
-#[derive(Clone, Copy)]
-struct Trouble {
-    is_of_log: bool,
-    /// No later call is answered either.
-    is_stop: bool,
-    calls: u64,
-}
+use trial_files::{
+    Left, StoppingFile, Trouble, adopted, calls_of, files_of, leavings, left, opened,
+    stopping_files,
+};
 
 // The changes of a run, one step after the other.
 const STEPS: usize = 3;
@@ -182,41 +173,7 @@ fn done_with<D: Disk + Drop>(
             let (left, outcome) = done_in(rt, alloc, conn, task);
             (files_of(left), outcome)
         }
-        Err(files) => (files, undone(task, RowFault::Device)),
-    }
-}
-
-// A disk with these bytes, all of them synced, which stops after so many calls.
-fn disk(rt: &impl Abort, alloc: Global, bytes: &[u8], stop: u64) -> Fuse<Memory> {
-    let mut memory = Memory::new(alloc);
-    memory.write_at(0, bytes).expect(rt, "memory");
-    memory.sync().expect(rt, "memory");
-    Fuse::new(memory, stop)
-}
-
-fn file(rt: &impl Abort, alloc: Global, bytes: &[u8], trouble: Option<Trouble>) -> File {
-    let (stop, refusal) = match trouble {
-        None => (u64::MAX, None),
-        Some(trouble) if trouble.is_stop => (trouble.calls, None),
-        Some(trouble) => (u64::MAX, Some(trouble.calls)),
-    };
-    CountedDisk::new(disk(rt, alloc, bytes, stop), refusal)
-}
-
-// A log and a database file with these bytes.
-fn files(
-    rt: &impl Abort,
-    alloc: Global,
-    (log, db): (&[u8], &[u8]),
-    trouble: Option<Trouble>,
-) -> Files<File> {
-    let (of_log, of_db) = match trouble {
-        Some(it) if it.is_of_log => (trouble, None),
-        _ => (None, trouble),
-    };
-    Files {
-        log: file(rt, alloc, log, of_log),
-        db: file(rt, alloc, db, of_db),
+        Err((fault, files)) => (files, undone(task, fault)),
     }
 }
 
@@ -224,36 +181,23 @@ fn files(
 fn run(
     rt: &impl Abort,
     alloc: Global,
-    files: Files<File>,
+    files: Files<StoppingFile>,
     seed: u64,
     task: Task,
-) -> (Files<File>, Option<Outcome>) {
+) -> (Files<StoppingFile>, Option<Outcome>) {
     done_with(rt, alloc, files, seed, task)
 }
 
-fn let_go(files: Files<File>) {
+fn let_go(files: Files<StoppingFile>) {
     drop(files);
-}
-
-// How many calls were made of the log, and of the database file.
-fn calls_of(files: &Files<File>) -> (u64, u64) {
-    (files.log.calls(), files.db.calls())
 }
 
 // Whether files with these bytes go on from an outcome.
 fn is_there(rt: &impl Abort, alloc: Global, log: &[u8], db: &[u8], outcome: Outcome) -> bool {
-    let files = files(rt, alloc, (log, db), None);
+    let files = stopping_files(alloc, (log, db), None).expect(rt, "memory");
     let (files, found) = run(rt, alloc, files, 2, Task::GoOn(outcome));
     let_go(files);
     found.is_some()
-}
-
-// All that was written, and what of it was synced.
-fn leavings(rt: &impl Abort, alloc: Global, file: &mut File) -> [Vec<u8>; 2] {
-    let written = Vec::from_slice(alloc, file.inner().inner().bytes()).expect(rt, "memory");
-    file.crash();
-    let synced = Vec::from_slice(alloc, file.inner().inner().bytes()).expect(rt, "memory");
-    [written, synced]
 }
 
 fn are_there(
@@ -274,9 +218,14 @@ fn are_there(
 }
 
 // Whether the files of a run can be opened again, whichever of them lost what was not synced.
-fn is_left(rt: &impl Abort, alloc: Global, files: &mut Files<File>, outcome: Outcome) -> bool {
-    let logs = leavings(rt, alloc, &mut files.log);
-    let dbs = leavings(rt, alloc, &mut files.db);
+fn is_left(
+    rt: &impl Abort,
+    alloc: Global,
+    files: &mut Files<StoppingFile>,
+    outcome: Outcome,
+) -> bool {
+    let logs = leavings(alloc, &mut files.log).expect(rt, "memory");
+    let dbs = leavings(alloc, &mut files.db).expect(rt, "memory");
     let is_left = are_there(rt, alloc, &logs, &dbs, outcome);
     drop((logs, dbs));
     is_left
@@ -284,7 +233,7 @@ fn is_left(rt: &impl Abort, alloc: Global, files: &mut Files<File>, outcome: Out
 
 // Whether a run meets its trouble.
 fn meets(rt: &impl Abort, alloc: Global, trouble: Trouble) -> bool {
-    let files = files(rt, alloc, (&[], &[]), Some(trouble));
+    let files = stopping_files(alloc, (&[], &[]), Some(trouble)).expect(rt, "memory");
     let (mut files, outcome) = run(rt, alloc, files, 1, Task::Make);
     let outcome = outcome.expect(rt, "another fault than the disk's");
     let (log, db) = calls_of(&files);
@@ -323,7 +272,7 @@ fn each_stop_and_refusal_leaves_the_rows_before_or_after(rt: HostRuntime) {
 
 // How many calls of both files it takes to make a store, and to make no changes so many times.
 fn calls_for_no_changes(rt: &impl Abort, alloc: Global, times: u64) -> Option<u64> {
-    let files = files(rt, alloc, (&[], &[]), None);
+    let files = stopping_files(alloc, (&[], &[]), None).expect(rt, "memory");
     let (files, outcome) = run(rt, alloc, files, 1, Task::Nothing(times));
     let (log, db) = calls_of(&files);
     let_go(files);

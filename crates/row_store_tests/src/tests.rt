@@ -1,6 +1,5 @@
 //! The example of docs/rows.md in memory and in a database, the databases that aren't adopted, and changes that are gathered.
 
-use crate::database::adopted;
 use crate::samples::{Sample, apply, are_changes, changes, holds};
 use row_changes::gather;
 use row_store::{MemoryRows, RowFault, RowStore};
@@ -8,6 +7,7 @@ use sqlite::{Alter, Connection};
 use sqlite_trees::memory::MemStore;
 use std::alloc::Global;
 use std::process::Abort;
+use trial_files::adopted;
 
 // Put (5, `t`, empty) with 01 and then with 02, and remove (2, `a`, empty).
 const CHANGES: [Sample; 3] = [(5, "t", Some(1)), (5, "t", Some(2)), (2, "a", None)];

@@ -4,7 +4,7 @@
 
 use row_store::RowFault;
 use session_records::SqlRows;
-use sqlite::{Alter, Connection, FileStore, Files, Options};
+use sqlite::{Alter, Connection, Error, ErrorCode, FileStore, Files, Options};
 use sqlite_disk::Disk;
 use std::alloc::Global;
 
@@ -16,18 +16,25 @@ fn options(seed: u64) -> Options {
     }
 }
 
-/// A connection to a database on these files.
+fn fault_of(error: &Error) -> RowFault {
+    match error {
+        Error::SqliteFailure(ErrorCode::OutOfMemory) => RowFault::NoMemory,
+        _ => RowFault::Device,
+    }
+}
+
+/// A connection to a database on these files. A fault gives them back.
 pub fn opened<D: Disk + Drop>(
     alloc: Global,
     files: Files<D>,
     seed: u64,
-) -> Result<Connection<FileStore<D>>, Files<D>> {
+) -> Result<Connection<FileStore<D>>, (RowFault, Files<D>)> {
     if !files.may_be_used() {
-        return Err(files);
+        return Err((RowFault::Device, files));
     }
     match Connection::open_files(alloc, files, options(seed)) {
         Ok(conn) => Ok(conn),
-        Err((_, left)) => Err(left.into_files()),
+        Err((error, left)) => Err((fault_of(&error), left.into_files())),
     }
 }
 
