@@ -32,7 +32,7 @@ fn bytes_of(rt: &HostRuntime, database: &str, log: &str) -> Option<(Vec<u8>, Vec
 fn what_rows_hold_is_told(rt: HostRuntime) {
     fs::write(&rt, "held.toml", HOMES).expect(&rt, "a file");
     let rows = open_rows(&rt, "held.db").ok().expect(&rt, "a database");
-    assert_eq!(rt; held(&rt, rt.alloc(), rows, &PACKETS), (1, 1));
+    assert_eq!(rt; held(rt.alloc(), rows, &PACKETS), Some((1, 1)));
     let before = bytes_of(&rt, "held.db", "held.db-wal").expect(&rt, "files");
     let text =
         "node n1 number 1\nsessions 1\nsubscriptions 1\nretained 1\nlane 0 waiting 0\ntaken 0 0\ntaken 1 2\n";

@@ -6,7 +6,6 @@ use node_keeper::Keeper;
 use numbered_homes::homes_of;
 use row_store::RowStore;
 use std::alloc::Global;
-use std::process::Abort;
 
 /// CONNECT of `a`, whose session stays for 100 s; SUBSCRIBE to `t`; and PUBLISH of `on` to `t` with RETAIN.
 pub const PACKETS: [&[u8]; 3] = [
@@ -15,41 +14,59 @@ pub const PACKETS: [&[u8]; 3] = [
     b"\x31\x06\x00\x01t\x00on",
 ];
 
-/// Hands the node an event, and answers how many outputs it comes to.
-fn outputs<R: RowStore>(rt: &impl Abort, keeper: &mut Keeper<R>, kind: EventKind) -> usize {
+/// Hands the node an event, and answers how many outputs it comes to, or none where the node has a fault.
+fn outputs<R: RowStore>(keeper: &mut Keeper<R>, kind: EventKind) -> Option<usize> {
     let event = Event { at: 0, kind };
-    let outputs = keeper.handle(&event).expect(rt, "no fault");
-    drop(event);
-    outputs.len()
+    match keeper.handle(&event) {
+        Ok(outputs) => Some(outputs.len()),
+        Err(_) => None,
+    }
+}
+
+/// Has a client connect and send these packets, and answers whether each of them comes to one output.
+fn are_answered<R: RowStore>(
+    alloc: Global,
+    keeper: &mut Keeper<R>,
+    packets: &[&[u8]],
+) -> Option<bool> {
+    let connection = 1;
+    let started = outputs(keeper, EventKind::Started)?;
+    let opened = outputs(keeper, EventKind::Opened { connection })?;
+    let mut are_answered = started == 0 && opened == 0;
+    for packet in packets {
+        let bytes = Bytes::from_slice(alloc, packet).ok()?;
+        let answers = outputs(keeper, EventKind::Piece { connection, bytes })?;
+        are_answered = are_answered && answers == 1;
+    }
+    Some(are_answered)
+}
+
+/// What `held` tells of a node that is opened.
+fn held_by<R: RowStore + Drop>(
+    alloc: Global,
+    mut keeper: Keeper<R>,
+    packets: &[&[u8]],
+) -> Option<(usize, usize)> {
+    if are_answered(alloc, &mut keeper, packets) != Some(true) {
+        return None;
+    }
+    let store = keeper.node().store();
+    let subscriptions = store.subscriptions().live_count();
+    let messages = store.retained().messages();
+    drop(keeper);
+    Some((subscriptions, messages))
 }
 
 /// How many subscriptions stand at a node of these rows, and how many topics have a message, once its client has sent these
-/// packets, each of which comes to one output.
+/// packets. None where the node isn't opened, has a fault, or comes to more or less than one output at a packet.
 pub fn held<R: RowStore + Drop>(
-    rt: &impl Abort,
     alloc: Global,
     rows: R,
     packets: &[&[u8]],
-) -> (usize, usize) {
-    let homes = homes_of(alloc, 2).expect(rt, "a table");
-    let opened = Keeper::open(alloc, rows, homes, 1);
-    let mut keeper = opened.ok().expect(rt, "a node");
-    assert_eq!(rt; outputs(rt, &mut keeper, EventKind::Started), 0);
-    let connection = 1;
-    assert_eq!(rt;
-        outputs(rt, &mut keeper, EventKind::Opened { connection }),
-        0
-    );
-    for packet in packets {
-        let bytes = Bytes::from_slice(alloc, packet).expect(rt, "memory");
-        let kind = EventKind::Piece { connection, bytes };
-        assert_eq!(rt; outputs(rt, &mut keeper, kind), 1);
+) -> Option<(usize, usize)> {
+    let homes = homes_of(alloc, 2)?;
+    match Keeper::open(alloc, rows, homes, 1) {
+        Ok(keeper) => held_by(alloc, keeper, packets),
+        Err(_) => None,
     }
-    let store = keeper.node().store();
-    let held = (
-        store.subscriptions().live_count(),
-        store.retained().messages(),
-    );
-    drop(keeper);
-    held
 }
