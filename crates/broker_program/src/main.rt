@@ -23,14 +23,14 @@ fn words(rt: &HostRuntime) -> Result<Vec<String>, Stop> {
 }
 
 /// Runs what the words ask for.
-fn run(rt: &HostRuntime) -> Result<(), Ending> {
+fn run_words(rt: &HostRuntime) -> Result<(), Ending> {
     let words = words(rt)?;
     let task = task_of(rt.alloc(), &words)?;
     run_task(rt, task)
 }
 
 fn main(rt: HostRuntime) -> io::Result<ExitCode> {
-    let status = match run(&rt) {
+    let status = match run_words(&rt) {
         Ok(()) => 0,
         Err(ending) => ending.tell(&mut rt.stdout(), &mut rt.stderr()),
     };
