@@ -6,8 +6,8 @@
 #   examples/hostile.sh             runs the program, which is built first where it isn't yet
 #   examples/hostile.sh PROGRAM..   runs these words in its place, with `serve CONFIG NODE DATABASE --turns N` behind them
 #
-# STREAMS says how many streams (10,000), NOISE how many bytes (1,000,000), SEED with which random numbers. It needs python3. The ports 1883 and
-# 2883 must be free.
+# STREAMS says how many streams (10,000), NOISE how many bytes (10,000,000), SEED with which random numbers. It needs python3. The ports 1883,
+# 2883 and 2884 must be free.
 set -eu
 
 top=$(cd "$(dirname "${BASH_SOURCE[0]}")/.." && pwd)
@@ -18,6 +18,7 @@ fi
 clients=$top/examples/hostile_clients.py
 port=1883
 bridge=2883
+peer=2884
 seed=${SEED:-1}
 failed=0
 work=$(mktemp -d)
@@ -28,12 +29,12 @@ clean_up() {
 }
 trap clean_up EXIT
 
-# Starts a broker that may have so many files open.
+# Starts a broker that may have so many files open: a node n0 of the table $2.
 start_broker() {
     : > "$work/ready"
     (
         ulimit -n "$1"
-        exec "${program[@]}" serve "$top/examples/one_node.toml" n0 "$work/$2.db" --turns 1000000000
+        exec "${program[@]}" serve "$top/examples/$2.toml" n0 "$work/$1.$2.db" --turns 1000000000
     ) > "$work/ready" 2> "$work/err" &
     broker=$!
     until grep -q '^ready ' "$work/ready"; do
@@ -62,16 +63,20 @@ try() {
     python3 "$clients" "$@" || failed=1
 }
 
-start_broker "$(ulimit -n)" all
+start_broker "$(ulimit -n)" one_node
 before=$(memory)
 try slow "$port"
 try deaf "$port"
 try bursts "$port" 2000
 try streams "$port" "${STREAMS:-10000}" "$seed"
-try noise "$bridge" "${NOISE:-1000000}" "$seed" "$port"
 echo "memory of the broker: $before kB before, $(memory) kB after"
 stop_broker
-start_broker 64 few
+start_broker "$(ulimit -n)" cluster
+before=$(memory)
+try noise "$bridge" "${NOISE:-10000000}" "$seed" "$port" "$peer"
+echo "memory of the broker: $before kB before, $(memory) kB after"
+stop_broker
+start_broker 64 one_node
 try many "$port" 100
 stop_broker
 exit "$failed"

@@ -6,7 +6,8 @@
     hostile_clients.py bursts PORT COUNT    so many clients come and go, two hundred at once
     hostile_clients.py many PORT COUNT      so many connect, more than the broker may have open; the first half goes, and the others are answered
     hostile_clients.py streams PORT COUNT SEED   so many streams of packets with changed bytes
-    hostile_clients.py noise BRIDGE BYTES SEED PORT   so many random bytes at the port for other nodes
+    hostile_clients.py noise BRIDGE BYTES SEED PORT PEER   so many random bytes at the port for other nodes, while node 1 of the
+                                            cluster, which listens at PEER, has its link
 
 Each has a witness beside it, a client that publishes and gets its own message back. It prints what was done, and ends with status 1 where
 something isn't as it should be.
@@ -19,6 +20,7 @@ import time
 HOST = "127.0.0.1"
 PATIENCE = 20
 CONNACK, PUBLISH = 2, 3
+KNOW = 3
 
 
 def text(word):
@@ -87,7 +89,7 @@ class Client:
 
 class Witness(Client):
     def __init__(self, port):
-        super().__init__(port, "witness")
+        super().__init__(port, "a witness")
         self.socket.sendall(subscribe("witness"))
         self.next()
         self.served = 0
@@ -241,13 +243,49 @@ def streams(port, count, seed):
     print(f"{count} streams with changed bytes were sent and ended (seed {seed}); {witness.told()}")
 
 
-def noise(bridge, count, seed, port):
-    chance, witness, sent = random.Random(seed), Witness(port), 0
+class Peer:
+    """Node 1 of the cluster: its link to node 0, and the one that node 0 has dialled."""
+
+    def __init__(self, bridge, port):
+        listener = socket.create_server((HOST, port))
+        listener.settimeout(PATIENCE)
+        self.to, (self.back, _) = opened(bridge), listener.accept()
+        self.back.settimeout(PATIENCE)
+        self.served = 0
+
+    def some(self, count):
+        data = b""
+        while len(data) < count:
+            came = self.back.recv(count - len(data))
+            assert came, "the link was closed"
+            data += came
+        return data
+
+    def look(self):
+        """Hello is answered by Know (docs/bridge.md)."""
+        self.to.sendall(frame(1, 1, 0, b""))
+        while self.some(int.from_bytes(self.some(4), "big"))[0] != KNOW:
+            pass
+        self.served += 1
+
+
+def frame(kind, sender, receiver, body):
+    data = bytes([kind]) + sender.to_bytes(2, "big") + receiver.to_bytes(2, "big") + body
+    return len(data).to_bytes(4, "big") + data
+
+
+def noise(bridge, count, seed, port, listens):
+    chance, witness, peer, sent = random.Random(seed), Witness(port), Peer(bridge, listens), 0
+    peer.look()
     while sent < count:
         data = chance.randbytes(chance.randrange(1, 65536))
-        if chance.randrange(2):
+        kind = chance.randrange(3)
+        if kind == 1:
             # a length that is kept, with noise behind it
             data = len(data).to_bytes(4, "big") + data
+        elif kind == 2:
+            # the head of a frame of node 1 for node 0, with noise behind it
+            data = frame(chance.randrange(1, 7), 1, 0, data)
         try:
             with opened(bridge) as each:
                 each.sendall(data)
@@ -257,7 +295,8 @@ def noise(bridge, count, seed, port):
             pass
         sent += len(data)
         witness.look()
-    print(f"{sent:,} bytes of noise came at the bridge (seed {seed}); {witness.told()}")
+        peer.look()
+    print(f"{sent:,} bytes of noise came at the bridge (seed {seed}); another node was answered {peer.served} times; {witness.told()}")
 
 
 def main(words):

@@ -1,0 +1,83 @@
+//! What a stream of a client says.
+
+use mqtt_fields::Qos;
+use mqtt_packets::{Fed, Framer, Packet, PacketFault};
+use std::alloc::Global;
+
+/// The longest packet that a node takes.
+const LIMIT: usize = 1_048_576;
+
+/// A packet of a client, as far as its answers go.
+#[derive(Clone, Copy, PartialEq, Eq)]
+pub enum Heard {
+    Connect,
+    Publish(Qos),
+    /// PUBACK or PUBCOMP.
+    Done,
+    Pubrec,
+    Pubrel,
+    Subscribe,
+    Unsubscribe,
+    Pingreq,
+    Disconnect,
+    /// What no client may send, or AUTH.
+    Other,
+}
+
+/// What a stream says: its whole packets, the fault behind them, and the first byte of what isn't whole or is at fault.
+#[derive(Drop)]
+pub struct Stream {
+    pub packets: Vec<Heard>,
+    pub fault: Option<PacketFault>,
+    pub first: Option<u8>,
+}
+
+fn heard_of(packet: &Packet) -> Heard {
+    match packet {
+        Packet::Connect(_) => Heard::Connect,
+        Packet::Publish(publish) => Heard::Publish(publish.qos),
+        Packet::Puback(_) | Packet::Pubcomp(_) => Heard::Done,
+        Packet::Pubrec(_) => Heard::Pubrec,
+        Packet::Pubrel(_) => Heard::Pubrel,
+        Packet::Subscribe(_) => Heard::Subscribe,
+        Packet::Unsubscribe(_) => Heard::Unsubscribe,
+        Packet::Pingreq => Heard::Pingreq,
+        Packet::Disconnect(_) => Heard::Disconnect,
+        Packet::Connack(_)
+        | Packet::Suback(_)
+        | Packet::Unsuback(_)
+        | Packet::Pingresp
+        | Packet::Auth(_) => Heard::Other,
+    }
+}
+
+fn each_of(alloc: Global, packets: &[Packet]) -> Option<Vec<Heard>> {
+    let mut heard = Vec::new(alloc);
+    for packet in packets {
+        heard.push(heard_of(packet)).ok()?;
+    }
+    Some(heard)
+}
+
+fn stream_of(alloc: Global, fed: &Fed, first: Option<u8>) -> Option<Stream> {
+    let packets = each_of(alloc, fed.packets.as_slice())?;
+    let fault = fed.fault;
+    Some(Stream {
+        packets,
+        fault,
+        first,
+    })
+}
+
+/// What a stream says; none without memory.
+pub fn read_stream(alloc: Global, bytes: &[u8]) -> Option<Stream> {
+    let mut framer = Framer::new(alloc, LIMIT);
+    match framer.feed(bytes) {
+        Ok(fed) => {
+            let stream = stream_of(alloc, &fed, framer.first());
+            drop(fed);
+            stream
+        }
+        Err(_) => None,
+    }
+}

@@ -1,0 +1,12 @@
+//! A node to which any bytes may come, from clients and from another node, and what it gives out then.
+#![tactic(auto)]
+
+mod failure;
+mod packets;
+mod stage;
+mod told;
+
+pub use failure::Failure;
+pub use packets::PACKETS;
+pub use stage::{Holdings, Stage, WITNESS};
+pub use told::{Said, Told};
