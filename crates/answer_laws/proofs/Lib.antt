@@ -1,0 +1,11 @@
+pub mod Granting
+pub mod Stores
+pub mod Answering
+pub mod InUse
+pub mod Showing
+pub mod SubackLaws
+pub mod Rooming
+pub mod Quotas
+pub mod RoomLaws
+pub mod HoldingLaws
+pub mod FirstConnect

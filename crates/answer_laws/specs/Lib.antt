@@ -1,0 +1,5 @@
+pub mod Filters
+pub mod Subacks
+pub mod Rooms
+pub mod Holdings
+pub mod Connects

@@ -1,0 +1,9 @@
+//! What is answered to the first CONNECT of a connection.
+ghost use Rattle.answer_laws.specs.Connects.{FirstConnectIsAnswered};
+
+/// In each step of a node that has started, whatever it holds, where nothing is due: the first CONNECT of a connection is refused with the
+/// first of 0x8C, 0x85, 0x9C and 0x90 that applies, by one CONNACK that fits and a close; or its client is accepted, and its session, which
+/// is continued where there is one, gives CONNACK 0x00 first, with Session Present exactly then.
+pub fn first_connect_is_answered()
+    ensures { FirstConnectIsAnswered }
+{}

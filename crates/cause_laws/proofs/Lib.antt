@@ -1,0 +1,9 @@
+pub mod Stores
+pub mod Walk
+pub mod Causing
+pub mod CauseLaws
+pub mod Lower
+pub mod Ending
+pub mod Overs
+pub mod EndLaws
+pub mod Evicting

@@ -1,0 +1,42 @@
+-- Where a node stops since it can't have a number: each is below 2^62.
+use Rattle.std.specs.Prelude.{◌≡◌, ◌⊎◌, ℕ, ◌<◌, ◌≤◌, ◌^◌, true, List, Some}
+use Rattle.std.specs.FinMap as map
+use Rattle.replica_store.specs.Making.{NumberAtEnd, CountAtEnd}
+use Rattle.bridge_deltas.specs.Lane.{next_number}
+use Rattle.node_bridge.specs.View.{lane_to}
+use Rattle.session_table.specs.Seats.{Seat}
+use Rattle.node_work.specs.Acts.{Act, Runs}
+use Rattle.node_work.specs.Held.Sessions.{has_session}
+use Rattle.node_work.specs.View.{Place, HeldView}
+use Rattle.node_clients.specs.Naming.{automatic}
+use Rattle.broker_node.specs.declared.event.Event.{Event}
+use Rattle.broker_node.specs.Step.{StopsAtEnd}
+
+-- a session's next place in its queue, or its next order of release, is 2^62
+pub record SessionIsAtEnd (h : HeldView) : Type 0 where
+  pub client : List ℕ
+  pub seat : Seat
+  pub found : map.get h.sessions client ≡ Some seat
+  pub number : (2 ^ 62 ≤ seat.session.outbox.next_place) ⊎ (2 ^ 62 ≤ seat.session.outbox.next_order)
+
+-- the numbers: of the node's next operation, of its next stamp, of the next message that it passes on, of the next client identifier that
+-- it gives, of the next message of a lane, or one of a session
+abbrev pub HasNumberAtEnd : Place → HeldView → Type 0
+HasNumberAtEnd p h =
+    NumberAtEnd p.id h.store
+    ⊎ CountAtEnd h.store
+    ⊎ (2 ^ 62 ≤ h.turn)
+    ⊎ ((number : ℕ) → h.named < number → number < 2 ^ 62 → has_session (automatic p.id number) h ≡ true)
+    ⊎ ((peer : ℕ) × (2 ^ 62 ≤ next_number (lane_to h.bridge peer)))
+    ⊎ SessionIsAtEnd h
+
+-- after these acts of the event one of them is
+pub record ComesToAnEnd (p : Place) (h : HeldView) : Type 0 where
+  pub acts : List Act
+  pub held : HeldView
+  pub runs : Runs p h acts held
+  pub end : HasNumberAtEnd p held
+
+-- a node that stops at a number was handed a moment of 2^62 or later, or comes to an end of one of its own
+abbrev pub StopsHaveNumbers : Type 0
+StopsHaveNumbers = (p : Place) (h : HeldView) (e : Event) → StopsAtEnd p h e → (2 ^ 62 ≤ e.at) ⊎ ComesToAnEnd p h
