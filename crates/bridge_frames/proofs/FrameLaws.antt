@@ -24,6 +24,7 @@ use Rattle.bridge_frames.specs.declared.kind.Kind.{Kind}
 use Rattle.bridge_frames.specs.declared.kind.Kind.TheVariants as kinds
 use Rattle.bridge_frames.specs.Kinds.{kind, kind_in, kind_number}
 use Rattle.bridge_frames.specs.Forwards.{Numbered, got_number, numbered}
+use Rattle.bridge_frames.specs.Memory.{head}
 use Rattle.bridge_frames.proofs.ForwardLaws.{got_number_is, numbered_is}
 use Rattle.bridge_frames.specs.Frames.{Frame, limit, length_by, length_in, as_delta, as_know, as_forward, as_got, kind_of, hello, body, Parts, frame_of, frame_parts, content, HasSpelling, Spells, spelling, whole_of, whole, frame_of_run, frame_in}
 
@@ -253,3 +254,11 @@ too_large bs bytes e = no_run bs bytes (λ run small is.
     let within : ltb limit (length run) ≡ false = le-ltb limit (length run) small in
     let fine : length_in bs ≡ Ok (Some (4 + length run)) = ap length_by read ∙ cond-false (ltb limit (length run)) (Err TooLarge) (Ok (Some (4 + length run))) within in
     absurd (let no : Err TooLarge ≡ Ok (Some (4 + length run)) = sym e ∙ fine in cc))
+
+-- ---- what is read of the head, before the body
+after_read : {A B : Type 0} (f : Field A) (g : A → Field B) (bs r s : List ℕ) (a : A) (b : B) → f.at bs ≡ Ok (a, r) → (g a).at r ≡ Ok (b, s) → (after f g).at bs ≡ Ok ((a, b), s)
+after_read f g bs r s a b one two = rw (one, two) refl
+
+pub head_read : (bs one two rest : List ℕ) (k : Kind) (from to : ℕ) → kind.at bs ≡ Ok (k, one) → (number w16).at one ≡ Ok (from, two) → (number w16).at two ≡ Ok (to, rest) → head.at bs ≡ Ok ((k, (from, to)), rest)
+head_read bs one two rest k from to a b c =
+    after_read kind (λ _. after (number w16) (λ _. number w16)) bs one rest k (from, to) a (after_read (number w16) (λ _. number w16) one two rest from to b c)

@@ -2,3 +2,4 @@ pub mod Kinds
 pub mod Forwards
 pub mod Frames
 pub mod Laws
+pub mod Memory

@@ -1,8 +1,11 @@
 //! What a frame says.
-ghost use Rattle.std.specs.Prelude.{◌≡◌, ◌<◌, ◌++◌, ◌^◌, IfOk, OnOk};
+ghost use Rattle.std.specs.Prelude.{◌≡◌, ◌<◌, ◌++◌, ◌^◌, IfOk, IsErrOf, IsOk, OnOk};
 ghost use Rattle.mqtt_fields.specs.Reading.{Gives};
 ghost use Rattle.bridge_frames.specs.Forwards.{got_number, lane_number, numbered};
 ghost use Rattle.bridge_frames.specs.Frames as spec;
+ghost use Rattle.bridge_frames.specs.Memory.{BodyWants};
+ghost use Rattle.causal_context.specs.Spelling as contexts;
+ghost use Rattle.replica_bytes.specs.Memory as states;
 
 use crate::forward::Forward;
 use crate::kind::Kind;
@@ -32,6 +35,7 @@ pub enum FrameBody {
 fn number_at(bytes: &[u8]) -> Result<(u64, &[u8]), FieldFault>
     ensures exact { Gives (λ x. (x.0, x.1.now)) result (got_number.at bytes.now) }
     ensures below { IfOk result (λ x. x.0 < 2 ^ 62) }
+    ensures no_memory { IsErrOf result FieldFault.NoMemory → ⊥ }
 {
     let (number, rest) = u64_at(bytes)?;
     if number >= NUMBERS_END {
@@ -44,6 +48,7 @@ fn number_at(bytes: &[u8]) -> Result<(u64, &[u8]), FieldFault>
 fn lane_number_at(bytes: &[u8]) -> Result<(u64, &[u8]), FieldFault>
     ensures exact { Gives (λ x. (x.0, x.1.now)) result (lane_number.at bytes.now) }
     ensures below { IfOk result (λ x. x.0 < 2 ^ 62) }
+    ensures no_memory { IsErrOf result FieldFault.NoMemory → ⊥ }
 {
     let (number, rest) = u64_at(bytes)?;
     if number == 0 || number >= NUMBERS_END {
@@ -115,21 +120,24 @@ impl FrameBody {
 }
 
 fn delta_at(alloc: Global, bytes: &[u8]) -> Result<(FrameBody, &[u8]), FieldFault>
-    ensures { Gives (λ x. (x.0, x.1.now)) result (spec.delta.at bytes.now) }
+    ensures exact { Gives (λ x. (x.0, x.1.now)) result (spec.delta.at bytes.now) }
+    ensures no_memory { IsErrOf result FieldFault.NoMemory → states.WantsMemory bytes.now }
 {
     let (state, used) = read_store(alloc, bytes)?;
     Ok((FrameBody::Delta(state), &bytes[used..]))
 }
 
 fn know_at(alloc: Global, bytes: &[u8]) -> Result<(FrameBody, &[u8]), FieldFault>
-    ensures { Gives (λ x. (x.0, x.1.now)) result (spec.know.at bytes.now) }
+    ensures exact { Gives (λ x. (x.0, x.1.now)) result (spec.know.at bytes.now) }
+    ensures no_memory { IsErrOf result FieldFault.NoMemory → contexts.WantsMemory bytes.now }
 {
     let (dots, rest) = Context::at(alloc, bytes)?;
     Ok((FrameBody::Know(dots), rest))
 }
 
 fn forward_at(alloc: Global, bytes: &[u8]) -> Result<(FrameBody, &[u8]), FieldFault>
-    ensures { Gives (λ x. (x.0, x.1.now)) result (spec.forward.at bytes.now) }
+    ensures exact { Gives (λ x. (x.0, x.1.now)) result (spec.forward.at bytes.now) }
+    ensures no_memory { IsErrOf result FieldFault.NoMemory → IsOk (lane_number.at bytes.now) }
 {
     let (number, rest) = lane_number_at(bytes)?;
     let (forward, rest) = Forward::at(alloc, rest)?;
@@ -137,7 +145,8 @@ fn forward_at(alloc: Global, bytes: &[u8]) -> Result<(FrameBody, &[u8]), FieldFa
 }
 
 fn got_at(bytes: &[u8]) -> Result<(FrameBody, &[u8]), FieldFault>
-    ensures { Gives (λ x. (x.0, x.1.now)) result (spec.got.at bytes.now) }
+    ensures exact { Gives (λ x. (x.0, x.1.now)) result (spec.got.at bytes.now) }
+    ensures no_memory { IsErrOf result FieldFault.NoMemory → ⊥ }
 {
     let (number, rest) = number_at(bytes)?;
     Ok((FrameBody::Got(LaneNumber::of(number)), rest))
@@ -149,7 +158,8 @@ pub(crate) fn body_at(
     kind: Kind,
     bytes: &[u8],
 ) -> Result<(FrameBody, &[u8]), FieldFault>
-    ensures { Gives (λ x. (x.0, x.1.now)) result ((spec.body kind).at bytes.now) }
+    ensures exact { Gives (λ x. (x.0, x.1.now)) result ((spec.body kind).at bytes.now) }
+    ensures no_memory { IsErrOf result FieldFault.NoMemory → BodyWants kind bytes.now }
 {
     match kind {
         Kind::Hello => Ok((FrameBody::Hello, bytes)),

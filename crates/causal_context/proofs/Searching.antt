@@ -1,16 +1,16 @@
 -- Where a dot is among sound ranges.
 use Rattle.std.proofs.Common.{◌≡◌, ℕ, ◌+◌, ◌-◌, ◌<◌, ◌≤◌, Bool, true, false, ◌||◌, ◌&&◌, ◌==◌, List, length, get_or, refl, sym, ap, subst, ◌∙◌, inl, inr, arith}
-use Rattle.std.specs.Prelude.{nat_le, nat_lt}
+use Rattle.std.specs.Prelude.{◌⊎◌, nat_le, nat_lt}
 use Rattle.std.specs.Cmp.{both_ways, first_so, second_so}
 use Rattle.std.specs.List.Sorted.{IsPartitionedBy, IsPartitionPoint}
 use Rattle.std.proofs.lemmas.Bool.{leb-true, le-leb, eq-eqb, eqb-true, cases_order}
 use Rattle.std.proofs.lemmas.Bool.Decides.{nat_tests}
 use Rattle.std.proofs.lemmas.List.{get_or_default}
-use Rattle.std.proofs.lemmas.List.Folds.{list_any_at, list_any_none}
+use Rattle.std.proofs.lemmas.List.Folds.{list_any_at, list_any_none, Any-from_list_any}
 use Rattle.causal_context.specs.Dots.{Dot}
 use Rattle.causal_context.specs.declared.ranges.Range.{Range}
 use Rattle.causal_context.specs.Ranges.{covers, covered, IsSound, IsApart}
-use Rattle.causal_context.specs.RangeSteps.{StartsBy, StartsAfter, IsStarted, ReachesAt}
+use Rattle.causal_context.specs.RangeSteps.{StartsBy, StartsAfter, IsStarted, ReachesAt, FollowsAt}
 use Rattle.causal_context.proofs.RangeLemmas.{in_from_covers, or_cases, or_left, or_right}
 
 -- the test that the code makes
@@ -103,3 +103,65 @@ covered_reaches rs d i sound s e = elim (cases_order i 0) [
         number = λ x. (let last = ap (λ (y : Range). y.last) (get_or_default rs (i - 1) x r there ∙ sym at) in let to = i_n.to in omega (arith, last, to));
       })
 ]
+
+-- a range with a number next to the dot's is the one before its place, or follows the dot
+beside_at : (rs : List Range) (d : Dot) (m i k : ℕ) (e : Range) → IsSound rs → IsStarted rs d i → m ≤ d.number + 1 → d.number ≤ m + 1
+    → k < length rs → covers (record { node = d.node; number = m }) (get_or rs k e) ≡ true → ReachesAt rs i d ⊎ FollowsAt rs i d
+beside_at rs d m i k e sound s low high within has =
+    let q : Dot = record { node = d.node; number = m } in
+    let r = get_or rs k e in
+    let found = in_from_covers q r has in
+    let node : r.node ≡ d.node = found.node in
+    let from : r.first ≤ m = found.from in
+    let to : m ≤ r.last = found.to in
+    elim (cases_order (k + 1) i) [
+      | inl last ↦ inl (record {
+        positive = omega (arith, last);
+        node = λ x. ap (λ (y : Range). y.node) (here x last) ∙ node;
+        number = λ x. (let is : (get_or rs (i - 1) x).last ≡ r.last = ap (λ (y : Range). y.last) (here x last) in omega (arith, is, to, high));
+      })
+      | inr (inl below) ↦ (
+          let in_range = s.in_range in
+          let p = sound.apart k (i - 1) e (omega (arith, below)) (omega (arith, below, in_range)) in
+          let by = s.by (i - 1) e (omega (arith, below)) in
+          let one = p.nodes in
+          let two = by.nodes in
+          let same : (get_or rs k e).node ≡ (get_or rs (i - 1) e).node = omega (arith, one, two, node) in
+          let gap = p.numbers same in
+          let start = by.numbers (omega (arith, same, node)) in
+          absurd (omega (arith, gap, start, to, high)))
+      | inr (inr above) ↦ (
+          let after = s.after k e (omega (arith, above)) within in
+          let start = after.numbers node in
+          elim (cases_order i k) [
+            | inl at ↦ inr (record {
+              in_range = omega (arith, at, within);
+              node = λ x. ap (λ (y : Range). y.node) (same_at x at) ∙ node;
+              number = λ x. (let is : (get_or rs i x).first ≡ r.first = ap (λ (y : Range). y.first) (same_at x at) in omega (arith, is, start, from, low));
+            })
+            | inr (inl later) ↦ (
+                let p = sound.apart i k e later within in
+                let own = s.after i e (omega arith) (omega (arith, later, within)) in
+                let one = p.nodes in
+                let two = own.nodes in
+                let same : (get_or rs i e).node ≡ (get_or rs k e).node = omega (arith, one, two, node) in
+                let gap = p.numbers same in
+                let begins = own.numbers (omega (arith, same, node)) in
+                let fine = (sound.fine i e (omega (arith, later, within))).not_empty in
+                absurd (omega (arith, gap, begins, fine, from, low)))
+            | inr (inr less) ↦ absurd (omega (arith, less, above))
+          ])
+    ]
+  where
+    here : (x : Range) → k + 1 ≡ i → get_or rs (i - 1) x ≡ get_or rs k e
+    here x last = (let is : i - 1 ≡ k = omega (arith, last) in ap (λ n. get_or rs n x) is ∙ get_or_default rs k x e within)
+
+    same_at : (x : Range) → i ≡ k → get_or rs i x ≡ get_or rs k e
+    same_at x at = ap (λ n. get_or rs n x) at ∙ get_or_default rs k x e within
+
+pub covered_beside : (rs : List Range) (d : Dot) (m i : ℕ) → IsSound rs → IsStarted rs d i → m ≤ d.number + 1 → d.number ≤ m + 1
+    → covered (record { node = d.node; number = m }) rs ≡ true → ReachesAt rs i d ⊎ FollowsAt rs i d
+covered_beside rs d m i sound s low high there =
+    let q : Dot = record { node = d.node; number = m } in
+    let f = Any-from_list_any (covers q) rs there in
+    beside_at rs d m i f.0 f.1 sound s low high f.2 (subst (λ r. covers q r ≡ true) (sym f.3) f.4)

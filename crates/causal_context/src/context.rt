@@ -79,11 +79,14 @@ impl Context {
     }
 
     /// Puts the dot into the set: in place, where it falls into a range or extends one. Where memory
-    /// runs out the set stays as it was; a dot that is there takes none.
+    /// runs out the set stays as it was; a dot that is there takes none, nor does one that is next to a
+    /// dot of its node that is there.
     pub fn insert(&mut self, dot: Dot) -> Result<(), NoMemory>
         ensures ok { OnOk result (self.new ≡ set.insert self.old dot) }
         ensures err { OnErr result (self.new ≡ self.old) }
         ensures there { set.contains self.old dot ≡ true → IsOk result }
+        ensures beside { (m : ℕ) → m ≤ dot.number + 1 → dot.number ≤ m + 1
+            → set.contains self.old (record { node = dot.node; number = m }) ≡ true → IsOk result }
     {
         put(&mut self.ranges, dot.node(), dot.number())
     }

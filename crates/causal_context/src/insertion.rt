@@ -1,5 +1,5 @@
 //! One more dot among sorted ranges, in place.
-ghost use Rattle.std.specs.Prelude.{◌≡◌, ◌≤◌, ◌<◌, ◌^◌, ◌↔◌, OnOk, OnErr, IsOk, IsTrue, true, [], ◌∷◌, length};
+ghost use Rattle.std.specs.Prelude.{◌≡◌, ℕ, ◌+◌, ◌≤◌, ◌<◌, ◌^◌, ◌↔◌, OnOk, OnErr, IsOk, IsTrue, true, [], ◌∷◌, length};
 ghost use Rattle.causal_context.specs.Ranges.{covered, IsSound, IsContext};
 ghost use Rattle.causal_context.specs.RangeSteps.{one_number, IsUnion, ReachesAt, FollowsAt};
 
@@ -41,6 +41,8 @@ pub fn put(ranges: &mut Vec<Range>, node: u16, number: u64) -> Result<(), NoMemo
     ensures err { OnErr result (ranges.new.items ≡ ranges.old.items) }
     ensures there { covered (record { node = node; number = number }) ranges.old.items ≡ true
         → IsOk result }
+    ensures beside { (m : ℕ) → m ≤ number + 1 → number ≤ m + 1
+        → covered (record { node = node; number = m }) ranges.old.items ≡ true → IsOk result }
     ensures few { length ranges.new.items < 2 ^ 32 }
 {
     let next = started(ranges, node, number);

@@ -103,7 +103,7 @@ PacketEndsIf (Some limit) p s = KindEnds p s
 abbrev pub PacketEnds : Packet → State → Type 0
 PacketEnds p s = PacketEndsIf (limit_of s.link) p s
 
--- the end of a connection takes no memory
+-- these packets take no memory; of the others nothing is said
 abbrev pub WantsMemory : Packet → Type 0
 WantsMemory (packets.Disconnect p) = ⊥
 WantsMemory (packets.Connect p) = ⊥

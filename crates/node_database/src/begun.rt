@@ -4,7 +4,7 @@ use std::alloc::Global;
 use std::fs::{self, File};
 use std::io::{self, Write};
 
-/// How many bytes a page of a new database has. A statement sums up each page that it changes, so small ones are quick.
+/// How many bytes a page of a new database has. A statement lays out a page of zeros for each that it changes, so small ones are quick.
 const PAGE: usize = 1024;
 
 /// What the one page of an empty database begins with; what follows is 0 (SQLite's file format, 1.3 and 1.6).

@@ -3,7 +3,9 @@
 
 ghost use Rattle.std.proofs.Common.{ap, inl, refl, ◌∙◌};
 ghost use Rattle.std.specs.Prelude.{IfOk};
+ghost use Rattle.session_records.specs.Connections.{Adopts};
 ghost use Rattle.session_records.specs.Stored.{content_in};
+ghost use Rattle.sqlite.specs.Held.{state};
 ghost use Rattle.sqlite_store.specs.Laws.{settled_at};
 
 mod begun;
@@ -56,9 +58,10 @@ impl RowStore for DatabaseRows {
     ghost settled = { λ d c up left. left.2 ∙ ap (λ trees. content_in (trees 0)) (settled_at d.rows.0.store (λ _. inl refl) left.0 up left.1) };
 }
 
-/// The rows of a connection that is in no transaction.
+/// The rows of a connection that is in no transaction, as they are; an empty database has none.
 pub(crate) fn adopt<S: Alter + Drop>(conn: Connection<S>) -> Result<SqlRows<S>, RowFault>
-    ensures { IfOk result (λ rows. ⟦<SqlRows<S> as RowStore>⟧.is_clean rows → ⟦<SqlRows<S> as RowStore>⟧.is_open rows) }
+    ensures open { IfOk result (λ rows. ⟦<SqlRows<S> as RowStore>⟧.is_clean rows → ⟦<SqlRows<S> as RowStore>⟧.is_open rows) }
+    ensures adopts { IfOk result (λ rows. ⟦<SqlRows<S> as RowStore>⟧.is_clean rows → Adopts (state S.Store conn) (state S.Store rows.0)) }
 {
     if !conn.is_autocommit() {
         return Err(RowFault::Device);

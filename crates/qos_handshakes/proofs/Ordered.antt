@@ -1,11 +1,12 @@
 -- The released exchanges, from the last entry to the first.
 use Rattle.std.proofs.Common.{◌≡◌, ℕ, ◌+◌, ◌<◌, ◌≤◌, cond, arith, List, [], ◌∷◌, ◌++◌, refl, sym, ◌∙◌, ap}
-use Rattle.std.specs.Prelude.{nat_lt}
+use Rattle.std.specs.Prelude.{◌≢◌, nat_lt, Result, Ok, Err, OnErr}
 use Rattle.std.specs.List.{AllByRecursion}
 use Rattle.std.proofs.lemmas.Bool.Decides.{nat_tests}
 use Rattle.std.specs.BTreeMap.{insert_entry}
 use Rattle.std.specs.Map.{values_of}
-use Rattle.std.specs.Ordering.{nat_cmp}
+use Rattle.std.specs.Ordering.{nat_cmp, match_ordering}
+use Rattle.std.specs.declared.cmp.Ordering.TheVariants.{Less, Equal, Greater}
 use Rattle.qos_handshakes.specs.declared.copies.Entry.{Entry}
 use Rattle.qos_handshakes.specs.declared.copies.Stage.{Stage}
 use Rattle.qos_handshakes.specs.declared.copies.Stage.TheVariants.{Waiting, Published, Released}
@@ -43,6 +44,34 @@ into-other (Released id order) orders h = absurd (h id order refl)
 -- one entry from the end
 pub onto-turn : (left rest : List Entry) (x : Entry) (orders next all : List (ℕ × ℕ)) → onto left orders ≡ all → left ≡ rest ++ x ∷ [] → next ≡ into x.stage orders → onto rest next ≡ all
 onto-turn left rest x orders next all so is more = ap (onto rest) more ∙ sym (onto-last rest x orders) ∙ ap (λ (l : List Entry). onto l orders) (sym is) ∙ so
+
+pub on-err : {T E P : Type 0} (r : Result T E) → P → OnErr r P
+on-err (Ok v) p = tt
+on-err (Err e) p = p
+
+-- an order that is put in stands there
+some-put : (ys : List (ℕ × ℕ)) (k v : ℕ) → insert_entry nat_cmp ys k v ≢ []
+some-put [] k v = λ e. cc
+some-put (y ∷ ys) k v = elim (nat_cmp k y.0) as (λ o. match_ordering o ((k, v) ∷ y ∷ ys) ((y.0, v) ∷ ys) (y ∷ insert_entry nat_cmp ys k v) ≢ []) [
+  | Less ↦ λ e. cc
+  | Equal ↦ λ e. cc
+  | Greater ↦ λ e. cc
+]
+
+some-into : (s : Stage) (ys : List (ℕ × ℕ)) → ys ≢ [] → into s ys ≢ []
+some-into Waiting ys some = some
+some-into (Published id) ys some = some
+some-into (Released id order) ys some = some-put ys order id
+
+some-onto : (xs : List Entry) (ys : List (ℕ × ℕ)) → ys ≢ [] → onto xs ys ≢ []
+some-onto [] ys some = some
+some-onto (x ∷ xs) ys some = some-into x.stage (onto xs ys) (some-onto xs ys some)
+
+-- where one of the entries is released, there are orders
+pub some-released : (left rest : List Entry) (x : Entry) (orders all : List (ℕ × ℕ)) (id order : ℕ) → onto left orders ≡ all → left ≡ rest ++ x ∷ [] → x.stage ≡ Released id order → all ≢ []
+some-released left rest x orders all id order so is released none =
+    let there : onto rest (into x.stage orders) ≡ [] = onto-turn left rest x orders (into x.stage orders) all so is refl ∙ none in
+    some-onto rest (into x.stage orders) (rw released (some-put orders order id)) there
 
 -- ---- the greatest order
 abbrev pub above_of : Stage → ℕ → ℕ

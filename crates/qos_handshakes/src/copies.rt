@@ -100,7 +100,8 @@ fn released_by_order(
     alloc: Global,
     entries: &BTreeMap<u64, Entry>,
 ) -> Result<BTreeMap<u64, u16>, NoMemory>
-    ensures { IfOk result (λ orders. orders.entries ≡ by_release entries.now.entries) }
+    ensures orders { IfOk result (λ orders. orders.entries ≡ by_release entries.now.entries) }
+    ensures need { OnErr result (by_release entries.now.entries ≢ []) }
 {
     let mut orders = BTreeMap::new(alloc);
     let mut left = entries.values();
@@ -353,7 +354,8 @@ impl Copies {
 
     /// The identifiers of the released exchanges, by the order of their release.
     pub fn releases(&self, alloc: Global) -> Result<Vec<u16>, NoMemory>
-        ensures { IfOk result (λ ids. ids.items ≡ values_of (by_release self.now.entries)) }
+        ensures ids { IfOk result (λ ids. ids.items ≡ values_of (by_release self.now.entries)) }
+        ensures need { OnErr result (by_release self.now.entries ≢ []) }
     {
         let orders = released_by_order(alloc, &self.entries)?;
         let mut ids = Vec::new(alloc);

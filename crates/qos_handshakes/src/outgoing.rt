@@ -1,5 +1,5 @@
 //! What is owed to one client at QoS 1 and QoS 2, over all connections of its session (MQTT 5.0, 4.3 and 4.4).
-ghost use Rattle.std.specs.Prelude.{◌≡◌, ◌≢◌, ◌+◌, ◌<◌, ◌≤◌, ◌^◌, ◌++◌, ◌∷◌, [], ℕ, true, false, Some, MatchResult, IfErr, OnErr, IfOk, OnOk, MatchOption, None, IsSome, IfSome, IsSomeAnd};
+ghost use Rattle.std.specs.Prelude.{◌≡◌, ◌≢◌, ◌+◌, ◌<◌, ◌≤◌, ◌^◌, ◌++◌, ◌∷◌, [], ℕ, length, true, false, Some, MatchResult, IfErr, OnErr, IfOk, OnOk, MatchOption, None, IsSome, IfSome, IsSomeAnd};
 ghost use Rattle.std.specs.Borrow.{sem};
 ghost use Rattle.std.specs.List.{AllByRecursion};
 ghost use Rattle.std.specs.Map.{keys_of};
@@ -13,7 +13,7 @@ ghost use Rattle.qos_handshakes.specs.Restored.{agree, restored};
 ghost use Rattle.qos_handshakes.specs.Lending.{LeavesNext};
 ghost use Rattle.qos_handshakes.specs.Length.{length_of};
 ghost use Rattle.qos_handshakes.specs.Touched.{ArePlaced, AreListed, Marks, TouchesChanged, credits};
-ghost use Rattle.qos_handshakes.specs.Outbox.{CanBeSent, in_flight, stage_id, ResumeStep, LostStep, ReleasesStep, NextStep, ChoosesAt, AreOwedWithin, IsFirstOwed, is_owed, without_large, OfferStep, AcknowledgeStep, CompleteStep, ReceivedStep, takes_puback, takes_pubrec, is_released, is_sendable, IsQueued, without_left_out, first_waiting};
+ghost use Rattle.qos_handshakes.specs.Outbox.{CanBeSent, in_flight, by_release, waiting, stage_id, ResumeStep, LostStep, ReleasesStep, NextStep, ChoosesAt, AreOwedWithin, IsFirstOwed, is_owed, without_large, OfferStep, AcknowledgeStep, CompleteStep, ReceivedStep, takes_puback, takes_pubrec, is_released, is_sendable, IsQueued, without_left_out, first_waiting};
 
 use crate::answers::{Ack, Offer, Rec};
 use crate::copies::{Copies, Entry, Stage, id_of};
@@ -308,13 +308,15 @@ impl Outgoing {
         self.log.take(alloc)
     }
 
-    /// Adds a delivery at QoS 1 or 2 to the queue. For want of memory it comes back, and nothing has changed.
+    /// Adds a delivery at QoS 1 or 2 to the queue. For want of memory, of which there is none where the delivery isn't to be
+    /// queued, it comes back, and nothing has changed.
     pub fn offer(&mut self, delivery: Delivery) -> Result<Offer, Delivery>
         requires { delivery.qos ≢ AtMostOnce }
         ensures offered { IfOk result (λ answer. OfferStep self.old.box delivery answer self.new.box) }
         ensures touched { OnOk result (TouchesChanged self.old self.new) }
         ensures back { IfErr result (λ d. d ≡ delivery) }
         ensures err { OnErr result (self.new ≡ self.old) }
+        ensures need { OnErr result ((length (waiting self.old.box.copies) < 65536) × (self.old.box.next_place < 2 ^ 62)) }
     {
         if self.next_place - self.first_waiting >= QUEUE {
             return Ok(Offer::Full);
@@ -352,8 +354,10 @@ impl Outgoing {
     }
 
     /// The identifiers of the exchanges whose PUBREC came, in the order of the first PUBRECs. They are from 1 to 65,535.
+    /// Where there are none they take no memory.
     pub fn releases(&self, alloc: Global) -> Result<Vec<u16>, NoMemory>
         ensures step { IfOk result (λ ids. ReleasesStep self.now.box ids.items self.now.box) }
+        ensures need { OnErr result (by_release self.now.box.copies ≢ []) }
         ensures identifiers { IfOk result (λ ids. AllByRecursion (λ id. (1 ≤ id) × (id ≤ 65535)) ids.items) }
     {
         self.copies.are_in_range();
@@ -365,9 +369,13 @@ impl Outgoing {
         ensures touched { TouchesChanged self.old self.new }
         ensures err { OnErr result (self.new ≡ self.old) }
         ensures need { OnErr result (in_flight self.old.box.copies < self.old.box.maximum) }
+        ensures some { OnErr result (self.old.box.copies ≢ []) }
         ensures sent { IfOk result (λ o. IfSome o (λ c. IsSomeAnd (at_place c.place self.new.box.copies) (λ x. CanBeSent now limit (stage_id x.stage) x.delivery))) }
     {
         if self.in_flight >= self.maximum as usize {
+            return Ok(None);
+        }
+        if self.copies.count() == 0 {
             return Ok(None);
         }
         self.copies.are_ordered();
@@ -421,13 +429,15 @@ impl Outgoing {
 
     /// The next PUBLISH: while quota is free the resends owed, in order, and then, while an identifier is free, the
     /// queue. `limit` is the client's Maximum Packet Size, at most 268,435,460, the length of the longest packet there is
-    /// (MQTT 5.0, 1.5.5). For want of memory, of which there is none while the quota is full, nothing changes.
+    /// (MQTT 5.0, 1.5.5). For want of memory, of which there is none while the quota is full, nor where nothing is kept, nothing
+    /// changes.
     pub fn next(&mut self, now: u64, limit: u64) -> Result<Option<Sending<'_>>, NoMemory>
         requires { limit ≤ 268435460 }
         ensures* after { sem 𝓛 (LeavesNext now limit self.entry result) }
         ensures fits { IfOk result (λ o. IfSome o (λ s. CanBeSent now limit s.id s.delivery.now)) }
         ensures spelled { IfOk result (λ o. IfSome o (λ s. HasSpelling (Publish (sent s.delivery.now now s.dup s.id)))) }
         ensures need { OnErr result (in_flight self.old.box.copies < self.old.box.maximum) }
+        ensures some { OnErr result (self.old.box.copies ≢ []) }
     {
         match self.advance(now, limit)? {
             None => Ok(None),

@@ -1,6 +1,6 @@
-use Rattle.std.proofs.Common.{refl}
+use Rattle.std.proofs.Common.{inl, inr, refl}
 use Rattle.causal_context.proofs.RangeLemmas.{not_so}
-use Rattle.causal_context.proofs.Searching.{covered_reaches}
+use Rattle.causal_context.proofs.Searching.{covered_beside, covered_reaches}
 use Rattle.causal_context.proofs.Inserting.{put_alone, put_first, put_nothing, put_last, put_between}
 use Rattle.causal_context.proofs.insertion.put.Goals as goal
 
@@ -54,3 +54,23 @@ returns-in_err-insert-clause-there c =
     let started = rw c.deref.ensures.value at c.started-next.ensures in
     let reaches = rw c.deref-3.ensures.value at c.reaches_at.ensures in
     λ there. absurd (not_so c.reaches_at.result reaches c.if-not-reaches_at.true (covered_reaches c.args.ranges.now.items _ c.started-next.result c.requires.context.sound started there))
+
+pub returns-then-len-eq-MOST_RANGES-clause-beside : goal.returns-then-len-eq-MOST_RANGES-clause-beside
+returns-then-len-eq-MOST_RANGES-clause-beside c =
+    let started = rw c.deref.ensures.value at c.started-next.ensures in
+    let follows = rw c.deref-2.ensures.value at c.follows_at-follows.ensures in
+    let reaches = rw c.deref-3.ensures.value at c.reaches_at.ensures in
+    λ m low high there. elim (covered_beside c.args.ranges.now.items (record { node = c.args.node; number = c.args.number }) m c.started-next.result c.requires.context.sound started low high there) [
+      | inl before ↦ absurd (not_so c.reaches_at.result reaches c.if-not-reaches_at.true before)
+      | inr after ↦ absurd (not_so c.follows_at-follows.result follows c.if-follows.false after)
+    ]
+
+pub returns-in_err-insert-clause-beside : goal.returns-in_err-insert-clause-beside
+returns-in_err-insert-clause-beside c =
+    let started = rw c.deref.ensures.value at c.started-next.ensures in
+    let follows = rw c.deref-2.ensures.value at c.follows_at-follows.ensures in
+    let reaches = rw c.deref-3.ensures.value at c.reaches_at.ensures in
+    λ m low high there. elim (covered_beside c.args.ranges.now.items (record { node = c.args.node; number = c.args.number }) m c.started-next.result c.requires.context.sound started low high there) [
+      | inl before ↦ absurd (not_so c.reaches_at.result reaches c.if-not-reaches_at.true before)
+      | inr after ↦ absurd (not_so c.follows_at-follows.result follows c.if-follows.false after)
+    ]

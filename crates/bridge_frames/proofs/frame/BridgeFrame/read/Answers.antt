@@ -30,3 +30,8 @@ returns-clause-none c = λ bad.
     let bytes : IsBytes c.args.bytes.now = λ i. omega (arith, c.type_inv.bytes i) in
     let run = c.in-Some.ensures.some in
     no_frame c.args.bytes.now bytes (λ f s. c.content_of.ensures.bad bad f s.has.fits (not_content c.args.bytes.now c.in-Some.run'.now f run.0 run.1 s))
+
+pub returns-clause-no_memory : goal.returns-clause-no_memory
+returns-clause-no_memory c = λ wanting.
+    let run = c.in-Some.ensures.some in
+    record { run = c.in-Some.run'.now; is = run.0; wants = c.content_of.ensures.no_memory wanting }

@@ -14,3 +14,8 @@ pub returns-clause-there : goal.returns-clause-there
 returns-clause-there c = λ there. c.put.ensures.there
     ((λ i. covered (record { node = c.node.ensures i; number = c.number.ensures.same i }) c.self.inside.ranges.items)
     ∙ sym (contains-set_of c.self.inside.ranges.items c.args.dot) ∙ ap (λ s. set.contains s c.args.dot) c.self.view_is ∙ there)
+
+pub returns-clause-beside : goal.returns-clause-beside
+returns-clause-beside c = λ m low high there. c.put.ensures.beside m (rw c.number.ensures.same low) (rw c.number.ensures.same high)
+    ((λ i. covered (record { node = c.node.ensures i; number = m }) c.self.inside.ranges.items)
+    ∙ sym (contains-set_of c.self.inside.ranges.items (record { node = c.args.dot.node; number = m })) ∙ ap (λ s. set.contains s (record { node = c.args.dot.node; number = m })) c.self.view_is ∙ there)

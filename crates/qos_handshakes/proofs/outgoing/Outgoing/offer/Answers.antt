@@ -1,7 +1,9 @@
-use Rattle.std.proofs.Common.{ℕ, List, [], ◌∷◌, ◌++◌, ap, refl, ◌∙◌, arith}
+use Rattle.std.proofs.Common.{ℕ, ◌<◌, List, [], ◌∷◌, ◌++◌, length, ap, refl, ◌∙◌, arith}
 use Rattle.qos_handshakes.specs.Entries.{Held}
+use Rattle.qos_handshakes.specs.Outbox.{waiting}
 use Rattle.qos_handshakes.proofs.Counted.{counted-pushed, queue-length}
 use Rattle.qos_handshakes.proofs.Marking.{credits-pushed, credits-most, watched-pushed}
+use Rattle.qos_handshakes.proofs.Ordered.{on-err}
 use Rattle.qos_handshakes.proofs.outgoing.Outgoing.offer.Goals as goal
 
 pub overflow_sub-self-inside : goal.overflow_sub-self-inside
@@ -27,3 +29,12 @@ returns-then-self-ge-NUMBERS_END-clause-offered c = rw (← c.self.view_is) (ome
 
 pub returns-clause-offered : goal.returns-clause-offered
 returns-clause-offered c = rw (← c.self.view_is) (omega (arith, queue-length _ _ _ c.self.invariant.counted.queued), c.if-self-ge-NUMBERS_END.false, rw c.in_ok-push.ensures.ok refl)
+
+pub returns-in_default-clause-need : goal.returns-in_default-clause-need
+returns-in_default-clause-need c = rw (← c.self.view_is) (omega (arith, queue-length _ _ _ c.self.invariant.counted.queued), c.if-self-ge-NUMBERS_END.false)
+
+pub returns-in_err-push-clause-need : goal.returns-in_err-push-clause-need
+returns-in_err-push-clause-need c =
+    let need : (length (waiting c.args.self.now.box.copies) < 65536) × (c.args.self.now.box.next_place < 4611686018427387904) =
+    rw (← c.self.view_is) (omega (arith, queue-length _ _ _ c.self.invariant.counted.queued), c.if-self-ge-NUMBERS_END.false) in
+    on-err c.from_residual.result need
