@@ -1,10 +1,11 @@
 //! How many rows a second a store of rows takes, one by one and a thousand at once, and how long it is to load: over memory, where
-//! an argument is `memory`, and over a database, where one is `file`, followed by the path of a database that isn't there yet.
+//! an argument is `memory`, and over a database, where one is `file`, followed by the path of a database that isn't there yet; and how
+//! many messages of a broker it takes, where one is `turns`, followed by such a path.
 #![tactic(auto)]
 
 mod measure;
 
-use crate::measure::{fill_and_load, load_again};
+use crate::measure::{fill_and_load, load_again, make_turns};
 use bench_clock::Failure;
 use node_database::open_rows;
 use row_store::MemoryRows;
@@ -30,6 +31,13 @@ fn file_again(rt: &HostRuntime, path: &str) -> Result<(), Failure> {
     load_again(rt, &mut rows)
 }
 
+fn turns(rt: &HostRuntime, path: &str) -> Result<(), Failure> {
+    let Ok(mut rows) = open_rows(rt, path) else {
+        return Err(Failure::Outside);
+    };
+    make_turns(rt, &mut rows)
+}
+
 fn run(rt: &HostRuntime) -> Result<(), Failure> {
     let mut words = std::env::args(rt)?.skip(1);
     while let Some(word) = words.next() {
@@ -39,6 +47,10 @@ fn run(rt: &HostRuntime) -> Result<(), Failure> {
                 let path = words.next().ok_or(Failure::Part)?;
                 file(rt, path.as_str())?;
                 file_again(rt, path.as_str())?;
+            }
+            "turns" => {
+                let path = words.next().ok_or(Failure::Part)?;
+                turns(rt, path.as_str())?;
             }
             _ => return Err(Failure::Part),
         }

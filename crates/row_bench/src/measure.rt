@@ -10,6 +10,12 @@ const ROWS: u64 = 20_000;
 /// How many rows a large step puts.
 const STEP: u64 = 1_000;
 
+/// How many clients take part in a turn, each with a copy of its own.
+const CLIENTS: u64 = 100;
+
+/// How many turns are made.
+const TURNS: u64 = 50;
+
 /// The bytes of a value.
 const VALUE: [u8; 64] = [0x78; 64];
 
@@ -75,4 +81,47 @@ pub fn fill_and_load<R: RowStore>(
     fill(rt.alloc(), rows, ROWS, STEP)?;
     watch.print(rt, "rows put a thousand at once", ROWS)?;
     load_again(rt, rows)
+}
+
+/// A row of a client at a place.
+fn row_of(alloc: Global, kind: u8, client: u64, place: &[u8]) -> Result<Row, Failure> {
+    Ok(Row {
+        kind,
+        owner: Vec::from_slice(alloc, &client.to_be_bytes())?,
+        place: Vec::from_slice(alloc, place)?,
+        value: Vec::from_slice(alloc, &VALUE)?,
+    })
+}
+
+/// What a turn makes of a client: the copy that it had goes, and the next one comes.
+fn copies(changes: &mut Vec<Change>, alloc: Global, client: u64, turn: u64) -> Result<(), Failure> {
+    if turn > 0 {
+        let gone = row_of(alloc, 3, client, &(turn - 1).to_be_bytes())?;
+        changes.push(Change::Remove(gone.kind, gone.owner, gone.place))?;
+    }
+    changes.push(Change::Put(row_of(alloc, 3, client, &turn.to_be_bytes())?))?;
+    Ok(())
+}
+
+/// The changes of a turn, in the order of their keys: each client's session is put again, and its copies follow.
+fn turn_of(alloc: Global, turn: u64) -> Result<Vec<Change>, Failure> {
+    let mut changes = Vec::new(alloc);
+    for client in 0..CLIENTS {
+        changes.push(Change::Put(row_of(alloc, 2, client, &[])?))?;
+    }
+    for client in 0..CLIENTS {
+        copies(&mut changes, alloc, client, turn)?;
+    }
+    Ok(changes)
+}
+
+/// Makes turns of a hundred messages.
+pub fn make_turns<R: RowStore>(rt: &HostRuntime, rows: &mut R) -> Result<(), Failure> {
+    let watch = Stopwatch::start(rt)?;
+    for turn in 0..TURNS {
+        let changes = turn_of(rt.alloc(), turn)?;
+        ensure(rows.apply(&changes).is_ok())?;
+    }
+    watch.print(rt, "messages in turns of a hundred", TURNS * CLIENTS)?;
+    Ok(())
 }

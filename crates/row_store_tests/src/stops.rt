@@ -21,7 +21,7 @@ const MOST_CALLS: u64 = 1000;
 fn step(at: usize) -> &'static [Sample] {
     match at {
         0 => &[(2, "a", Some(1)), (5, "t", Some(1))],
-        1 => &[(3, "n", Some(1)), (5, "t", Some(2)), (2, "a", None)],
+        1 => &[(5, "t", Some(2)), (2, "a", None), (3, "n", Some(1))],
         _ => &[(3, "n", None)],
     }
 }

@@ -13,8 +13,9 @@ use trial_files::adopted;
 const CHANGES: [Sample; 3] = [(5, "t", Some(1)), (5, "t", Some(2)), (2, "a", None)];
 
 // Changes, and the rows after them: rows with a number as their place and without are put where none is, where one
-// stands from before, where one was put just now, and where one was removed just now.
-const PUTS: [(&[Sample], &[Sample]); 4] = [
+// stands from before, where one was put just now, and where one was removed just now; and after a removal of another row, where
+// both are there, one of them, or none.
+const PUTS: [(&[Sample], &[Sample]); 6] = [
     (
         &[(3, "n", Some(1)), (5, "t", Some(1))],
         &[(3, "n", Some(1)), (5, "t", Some(1))],
@@ -51,6 +52,26 @@ const PUTS: [(&[Sample], &[Sample]); 4] = [
             (5, "t", None),
         ],
         &[(2, "a", Some(5)), (3, "m", Some(5))],
+    ),
+    (
+        &[
+            (3, "m", None),
+            (3, "n", Some(6)),
+            (3, "k", None),
+            (3, "o", Some(7)),
+        ],
+        &[(2, "a", Some(5)), (3, "n", Some(6)), (3, "o", Some(7))],
+    ),
+    (
+        &[
+            (3, "n", None),
+            (3, "o", Some(8)),
+            (3, "k", None),
+            (3, "o", Some(9)),
+            (2, "a", None),
+            (3, "p", Some(1)),
+        ],
+        &[(3, "o", Some(9)), (3, "p", Some(1))],
     ),
 ];
 

@@ -1,5 +1,5 @@
 -- What the statements do to the content.
-use Rattle.std.proofs.Common.{◌≡◌, ◌⊎◌, inl, inr, ℕ, ◌<◌, pos, List, [], ◌∷◌, Bool, true, false, not, cond, Some, None, Ok, Err, Result, OnOk, IfErr, OnErr, refl, sym, ap, subst, ◌∙◌}
+use Rattle.std.proofs.Common.{◌≡◌, ◌⊎◌, inl, inr, ℕ, zero, suc, take, drop, ◌<◌, pos, List, [], ◌∷◌, Bool, true, false, not, cond, Some, None, Ok, Err, Result, OnOk, IfErr, OnErr, refl, sym, ap, subst, ◌∙◌}
 use Rattle.std.proofs.lemmas.Bool.{and_parts, not-true}
 use Rattle.std.specs.FinMap.{get, insert, remove}
 use Rattle.sqlite.specs.declared.types.Value.{Value}
@@ -45,7 +45,8 @@ use Rattle.session_records.proofs.Means.{erase_text, erase_is, erase_plain, hits
 use Rattle.session_records.proofs.Lists.{given_key, hit, erased, taken_out, rows_left, rows_put, put_in}
 use Rattle.session_records.proofs.Unique.{stored, free_key}
 use Rattle.session_records.specs.Connections.{GoesOn, StaysOrEnds}
-use Rattle.row_store.specs.Rows.{key_cmp, Key, Content}
+use Rattle.row_store.specs.Rows.{key_cmp, Key, Content, after, after_all}
+use Rattle.row_store.specs.declared.row.Change.{Change}
 use Rattle.session_records.specs.Stored.{content_in, AreRows, IsFormed, held}
 
 -- a part that gave a value did not stop on the way
@@ -259,3 +260,10 @@ creates_inside old new (Ok count) true was ended runs has =
 pub create_goes : (old new : State) (r : Result ℕ Error) → (old.in_transaction ≡ false → Refused old new r) → (IsTrue old.in_transaction → ExecutesInside 0 create_text [] old new r) → old.now.schema ≡ no_schema
     → OnOk r (GoesOn old new empty)
 create_goes old new r = creates_inside old new r old.in_transaction refl
+
+-- ---- changes in turn
+
+pub all_after : (c : Content) (n : ℕ) (xs : List Change) → after_all (after_all c (take n xs)) (drop n xs) ≡ after_all c xs
+all_after c zero xs = refl
+all_after c (suc n) [] = refl
+all_after c (suc n) (x ∷ xs) = all_after (after c x) n xs

@@ -110,15 +110,15 @@ pub numbered_plain : IsPlain (understood rows_schema numbered_text)
 unfolding understood everything
 numbered_plain = (refl, refl)
 
-abbrev pub update_text : List ℕ
-update_text = codes "UPDATE rows SET value = ?4 WHERE kind = ?1 AND owner = ?2 AND place = ?3"
+abbrev pub move_text : List ℕ
+move_text = codes "UPDATE rows SET kind = ?4, owner = ?5, place = ?6, value = ?7 WHERE kind = ?1 AND owner = ?2 AND place = ?3"
 
 abbrev pub changed : Query
 changed = record {
   from = inner 0 end;
   filter = tests;
   group = None;
-  project = col 1 0 ∷ col 1 0 ∷ col 1 1 ∷ col 1 2 ∷ col 1 3 ∷ col 0 3 ∷ [];
+  project = col 1 0 ∷ col 1 0 ∷ col 0 3 ∷ col 0 4 ∷ col 0 5 ∷ col 0 6 ∷ [];
   distinct = false;
   collations = [];
   order = [];
@@ -126,10 +126,10 @@ changed = record {
   offset = lit (Int (pos 0));
 }
 
-pub update_is : command_of (understood rows_schema update_text) ≡ Update 0 (record { lets = []; body = changed })
+pub move_is : command_of (understood rows_schema move_text) ≡ Update 0 (record { lets = []; body = changed })
 unfolding understood everything
-update_is = refl
+move_is = refl
 
-pub update_plain : IsPlain (understood rows_schema update_text)
+pub move_plain : IsPlain (understood rows_schema move_text)
 unfolding understood everything
-update_plain = (refl, refl)
+move_plain = (refl, refl)

@@ -1,6 +1,6 @@
 -- What a connection to a database of rows holds, and what the statements of a store of rows do to it.
 use Rattle.std.specs.Prelude.{◌≡◌, ◌≢◌, ◌⊎◌, ℕ, List, None, false, true, IsTrue}
-use Rattle.std.specs.FinMap.{empty, get, insert}
+use Rattle.std.specs.FinMap.{empty, get, insert, remove}
 use Rattle.sqlite_trees.specs.Tree.{Trees}
 use Rattle.sqlite.specs.Effect.{Database}
 use Rattle.sqlite.specs.State.{State, HasCleanDisk, IsUnchanged, Shows}
@@ -21,6 +21,11 @@ pub record GoesOn (old new : State) (content : Content) : Type 0 where
   pub formed : IsFormed new.now
   pub holds : held new.now ≡ content
   pub shown : Shows old new new.now old.committed true
+
+-- inside a transaction, what moving the row at a key to another has done: there is none, or it is at the other one with this value
+pub record HasMoved (old new : State) (from to : Key) (value : List ℕ) (count : ℕ) : Type 0 where
+  pub none : count ≡ 0 → (get (held old.now) from ≡ None) × GoesOn old new (held old.now)
+  pub some : count ≢ 0 → GoesOn old new (insert (remove (held old.now) from) to value)
 
 -- inside a transaction, what an update of the row at a key has done: there is none, or it has this value
 pub record HasUpdated (old new : State) (key : Key) (value : List ℕ) (count : ℕ) : Type 0 where

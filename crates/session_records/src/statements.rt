@@ -1,5 +1,5 @@
 //! The statements that a store of rows runs.
-ghost use Rattle.std.specs.Prelude.{◌≡◌, ◌≤◌, ◌↔◌, [], false, true, map, T, IsTrue, IfOk, OnOk, OnErr};
+ghost use Rattle.std.specs.Prelude.{◌≡◌, ◌≤◌, ◌<◌, ◌↔◌, [], false, true, length, map, take, T, IsTrue, IfOk, OnOk, OnErr};
 ghost use Rattle.std.specs.FinMap.{empty, insert, remove, is_sorted};
 ghost use Rattle.std.specs.List.{All};
 ghost use Rattle.std.specs.List.Sorted.{IsPermutation};
@@ -8,7 +8,7 @@ ghost use Rattle.sqlite.specs.Held.{state};
 ghost use Rattle.sqlite.specs.Listing.{understood};
 ghost use Rattle.sqlite.specs.State.{HasCleanDisk, KeepsCommit, Shown, Survives};
 ghost use Rattle.sqlite.specs.View.{doubt};
-ghost use Rattle.session_records.specs.Connections.{Becomes, Commits, GoesOn, HasUpdated, IsBegun, IsSameAs, Stays, StaysOrEnds};
+ghost use Rattle.session_records.specs.Connections.{Becomes, Commits, GoesOn, HasMoved, HasUpdated, IsBegun, IsSameAs, Stays, StaysOrEnds};
 ghost use Rattle.row_store.specs.Rows.{after, after_all, key_cmp, key_of};
 ghost use Rattle.session_records.specs.Stored.{AreTyped, IsFormed, IsShown, entry_in, entry_shown, held};
 ghost use Rattle.session_records.specs.Table.{no_schema, rows_schema};
@@ -26,6 +26,7 @@ fn erase_row<S: Alter>(
     ensures same_reference { tx.new.conn.ghost_name ≡ tx.old.conn.ghost_name }
     ensures goes { HasCleanDisk (state S.Store tx.new.conn.now) → IsFormed (state S.Store tx.old.conn.now).now
         → OnOk result (GoesOn (state S.Store tx.old.conn.now) (state S.Store tx.new.conn.now) (remove (held (state S.Store tx.old.conn.now).now) (kind, (owner.now, place.now)))) }
+    ensures begun { OnOk result (IsTrue (state S.Store tx.old.conn.now).in_transaction) }
     ensures kept { HasCleanDisk (state S.Store tx.new.conn.now) → KeepsCommit (state S.Store tx.old.conn.now) (state S.Store tx.new.conn.now) }
     ensures survives { Survives (state S.Store tx.old.conn.now) (state S.Store tx.new.conn.now) (λ _. ⊥) }
 {
@@ -56,6 +57,40 @@ fn insert_row<S: Alter>(
     )
 }
 
+/// How many rows were at the first key: one, which is at the second one now, with the value, or none. It is refused where another row
+/// is at the second key.
+fn move_row<S: Alter>(
+    tx: &mut Transaction<'_, S>,
+    kind: u8,
+    owner: &[u8],
+    place: &[u8],
+    new_kind: u8,
+    new_owner: &[u8],
+    new_place: &[u8],
+    value: &[u8],
+) -> Result<usize, Error>
+    ensures same_reference { tx.new.conn.ghost_name ≡ tx.old.conn.ghost_name }
+    ensures goes { HasCleanDisk (state S.Store tx.new.conn.now) → IsFormed (state S.Store tx.old.conn.now).now
+        → IfOk result (HasMoved (state S.Store tx.old.conn.now) (state S.Store tx.new.conn.now) (kind, (owner.now, place.now)) (new_kind, (new_owner.now, new_place.now)) value.now) }
+    ensures begun { OnOk result (IsTrue (state S.Store tx.old.conn.now).in_transaction) }
+    ensures refused { HasCleanDisk (state S.Store tx.new.conn.now) → OnErr result (StaysOrEnds (state S.Store tx.old.conn.now) (state S.Store tx.new.conn.now)) }
+    ensures kept { HasCleanDisk (state S.Store tx.new.conn.now) → KeepsCommit (state S.Store tx.old.conn.now) (state S.Store tx.new.conn.now) }
+    ensures survives { Survives (state S.Store tx.old.conn.now) (state S.Store tx.new.conn.now) (λ _. ⊥) }
+{
+    tx.execute(
+        "UPDATE rows SET kind = ?4, owner = ?5, place = ?6, value = ?7 WHERE kind = ?1 AND owner = ?2 AND place = ?3",
+        params![
+            u32::from(kind),
+            owner,
+            place,
+            u32::from(new_kind),
+            new_owner,
+            new_place,
+            value
+        ],
+    )
+}
+
 /// How many rows were at the key: one, which has the value now, or none.
 fn update_row<S: Alter>(
     tx: &mut Transaction<'_, S>,
@@ -71,10 +106,7 @@ fn update_row<S: Alter>(
     ensures kept { HasCleanDisk (state S.Store tx.new.conn.now) → KeepsCommit (state S.Store tx.old.conn.now) (state S.Store tx.new.conn.now) }
     ensures survives { Survives (state S.Store tx.old.conn.now) (state S.Store tx.new.conn.now) (λ _. ⊥) }
 {
-    tx.execute(
-        "UPDATE rows SET value = ?4 WHERE kind = ?1 AND owner = ?2 AND place = ?3",
-        params![u32::from(kind), owner, place, value],
-    )
+    move_row(tx, kind, owner, place, kind, owner, place, value)
 }
 
 /// Whether a row is at the key of the one that was to be put in.
@@ -159,6 +191,60 @@ fn make_change<S: Alter>(tx: &mut Transaction<'_, S>, change: &Change) -> Result
     }
 }
 
+/// Takes the row at a key out, and puts one in. Where a row is at the first key and none at the other one it is one UPDATE, which changes
+/// a page of the table and one of its index once, and not twice.
+fn replace_row<S: Alter>(
+    tx: &mut Transaction<'_, S>,
+    kind: u8,
+    owner: &[u8],
+    place: &[u8],
+    row: &Row,
+) -> Result<(), Error>
+    ensures same_reference { tx.new.conn.ghost_name ≡ tx.old.conn.ghost_name }
+    ensures goes { HasCleanDisk (state S.Store tx.new.conn.now) → IsFormed (state S.Store tx.old.conn.now).now
+        → OnOk result (GoesOn (state S.Store tx.old.conn.now) (state S.Store tx.new.conn.now) (insert (remove (held (state S.Store tx.old.conn.now).now) (kind, (owner.now, place.now))) (key_of row.now) row.now.value.items)) }
+    ensures kept { HasCleanDisk (state S.Store tx.new.conn.now) → KeepsCommit (state S.Store tx.old.conn.now) (state S.Store tx.new.conn.now) }
+    ensures survives { Survives (state S.Store tx.old.conn.now) (state S.Store tx.new.conn.now) (λ _. ⊥) }
+{
+    match move_row(
+        tx, kind, owner, place, row.kind, &row.owner, &row.place, &row.value,
+    ) {
+        Ok(0) => {}
+        Ok(_) => return Ok(()),
+        Err(error) => {
+            if !is_taken(&error) {
+                return Err(error);
+            }
+        }
+    }
+    erase_row(tx, kind, owner, place)?;
+    put_row(tx, row)
+}
+
+/// Makes the first change, and the second one with it where a row goes and one comes that is mostly new. How many it made.
+fn make_first<S: Alter>(tx: &mut Transaction<'_, S>, changes: &[Change]) -> Result<usize, Error>
+    requires { 0 < length changes.now }
+    ensures made { IfOk result (λ made. (0 < made) × (made ≤ length changes.now)) }
+    ensures same_reference { tx.new.conn.ghost_name ≡ tx.old.conn.ghost_name }
+    ensures goes { HasCleanDisk (state S.Store tx.new.conn.now) → IsFormed (state S.Store tx.old.conn.now).now
+        → IfOk result (λ made. GoesOn (state S.Store tx.old.conn.now) (state S.Store tx.new.conn.now) (after_all (held (state S.Store tx.old.conn.now).now) (take made changes.now))) }
+    ensures kept { HasCleanDisk (state S.Store tx.new.conn.now) → KeepsCommit (state S.Store tx.old.conn.now) (state S.Store tx.new.conn.now) }
+    ensures survives { Survives (state S.Store tx.old.conn.now) (state S.Store tx.new.conn.now) (λ _. ⊥) }
+{
+    match changes {
+        [Change::Remove(kind, owner, place), Change::Put(row), ..] if row.place.len() >= NUMBERED =>
+            {
+                replace_row(tx, *kind, owner, place, row)?;
+                Ok(2)
+            }
+        [change, ..] => {
+            make_change(tx, change)?;
+            Ok(1)
+        }
+        [] => unreachable!(),
+    }
+}
+
 fn make_changes<S: Alter>(tx: &mut Transaction<'_, S>, changes: &[Change]) -> Result<(), Error>
     ensures same_reference { tx.new.conn.ghost_name ≡ tx.old.conn.ghost_name }
     ensures goes { HasCleanDisk (state S.Store tx.new.conn.now) → IsBegun (state S.Store tx.old.conn.now) → IsFormed (state S.Store tx.old.conn.now).now
@@ -166,8 +252,9 @@ fn make_changes<S: Alter>(tx: &mut Transaction<'_, S>, changes: &[Change]) -> Re
     ensures kept { HasCleanDisk (state S.Store tx.new.conn.now) → KeepsCommit (state S.Store tx.old.conn.now) (state S.Store tx.new.conn.now) }
     ensures survives { Survives (state S.Store tx.old.conn.now) (state S.Store tx.new.conn.now) (λ _. ⊥) }
 {
-    for change in changes {
-        make_change(tx, change)?;
+    let mut made = 0;
+    while made < changes.len() {
+        made += make_first(tx, &changes[made..])?;
     }
     Ok(())
 }

@@ -1,6 +1,6 @@
 use Rattle.std.proofs.Common.{refl}
 use Rattle.sqlite.specs.Held.{state}
-use Rattle.session_records.proofs.Effects.{erase_goes, keeps_run}
+use Rattle.session_records.proofs.Effects.{erase_goes, keeps_run, begun_of}
 use Rattle.session_records.proofs.statements.erase_row.Goals as goal
 
 pub returns-clause-goes : goal.returns-clause-goes
@@ -9,3 +9,6 @@ returns-clause-goes g c clean is =
 
 pub returns-clause-kept : goal.returns-clause-kept
 returns-clause-kept g c clean = keeps_run g.S.Store c.args.tx.now.conn.now c.execute.new.self.conn.now _ _ c.execute.result c.args.tx.now.conn.now.in_transaction refl (λ was. (c.execute.ensures.ended was).1) (λ was. c.execute.ensures.runs clean was)
+
+pub returns-clause-begun : goal.returns-clause-begun
+returns-clause-begun g c = begun_of c.args.tx.now.conn.now.in_transaction c.execute.result (λ was. (_, (c.execute.ensures.ended was).0))
