@@ -1,5 +1,5 @@
 -- Each event of a node is determined.
-use Rattle.std.proofs.Common.{ℕ, List, Option, Some, None, inl, inr, refl, sym, ap, ◌∙◌, true≢false}
+use Rattle.std.proofs.Common.{ℕ, List, map as map_list, Option, Some, None, inl, inr, refl, sym, ap, ◌∙◌, true≢false}
 use Rattle.bridge_deltas.proofs.Shipping.{shipped_one}
 use Rattle.bridge_frames.specs.declared.body.FrameBody.{FrameBody}
 use Rattle.bridge_frames.specs.declared.body.FrameBody.TheVariants.{Hello, Delta, Know, Forward, Got}
@@ -12,17 +12,23 @@ use Rattle.session_laws.specs.Runs.{closes, ticks}
 use Rattle.session_table.specs.Calls.{leaves, stays}
 use Rattle.node_bridge.specs.View.{belief_of, lane_to}
 use Rattle.node_work.specs.declared.counts.Missed.{Missed}
-use Rattle.node_work.specs.declared.counts.Missed.TheVariants.{BadFrame, FrameTooLarge}
-use Rattle.node_work.specs.Acts.{Began, Bridge, Connection, Merged, Store}
+use Rattle.node_work.specs.declared.counts.Missed.TheVariants.{BadFrame, FrameTooLarge, TableRefused}
+use Rattle.home_table.specs.Table.{Table}
+use Rattle.message_copies.proofs.Selecting.{selected_once}
+use Rattle.session_table.specs.Seats.{IsElsewhere}
+use Rattle.std.specs.FinMap as map
+use Rattle.node_clients.specs.Moving.{MovesAway}
+use Rattle.broker_node.specs.Moving.{AreAway, Moves, SendsAway, TakesTable}
+use Rattle.node_work.specs.Acts.{Moved, Began, Bridge, Connection, Merged, Store}
 use Rattle.node_work.specs.Doings.{Gives, GivesFrame, Misses, Opens, Removes, TakesMoment, is_small}
 use Rattle.node_work.specs.Held.Bridge.{Believed, Gave, Got as GotBy, Left_out}
 use Rattle.node_work.specs.Held.Connections.{Opened}
 use Rattle.node_work.specs.View.{HeldView}
-use Rattle.node_work.specs.Working.{Returns, Acting, Then}
+use Rattle.node_work.specs.Working.{Returns, Acting, Each, Then}
 use Rattle.node_clients.specs.Ending.{Closes}
 use Rattle.node_clients.specs.Passing.{TakesForward}
 use Rattle.node_clients.proofs.Determined.{Determined, IsAlone, returns_determined, acting_determined, numbered_determined, looks_determined, finds_determined, if_determined, then_determined, each_determined, calls_determined}
-use Rattle.node_clients.proofs.DeterminedClients.{removes_determined, ticks_determined, closes_determined, piece_determined, leaves_determined, takes_forward_determined}
+use Rattle.node_clients.proofs.DeterminedClients.{moves_away_determined, removes_determined, ticks_determined, closes_determined, piece_determined, leaves_determined, takes_forward_determined}
 use Rattle.broker_node.specs.declared.event.Event.{Event}
 use Rattle.broker_node.specs.declared.event.EventKind.{EventKind}
 use Rattle.broker_node.specs.declared.event.EventKind.TheVariants as kinds
@@ -110,10 +116,21 @@ does_due_determined =
     (λ _. then_determined PublishesWills (λ _. EndsSessions) (looks_determined _ _ (each_determined TicksOf ticks_of_determined))
     (λ _. looks_determined _ _ (each_determined TicksOf ticks_of_determined)))
 
+away_alone : IsAlone AreAway
+away_alone p h x y sound a b = selected_once (IsElsewhere h.homes p.id) (map_list (λ e. e.0) (map.entries h.sessions)) x y a b
+
+sends_away_determined : Determined SendsAway
+sends_away_determined = finds_determined AreAway (Each MovesAway) away_alone (each_determined MovesAway moves_away_determined)
+
+takes_table_determined : (homes : Table) → Determined (TakesTable homes)
+takes_table_determined homes =
+    looks_determined _ _ (λ newer. if_determined newer (Moves homes) (Misses TableRefused) (then_determined _ (λ _. SendsAway) (acting_determined (λ p h. Moved homes)) (λ _. sends_away_determined)) (misses_determined TableRefused))
+
 starts_determined : Determined Starts
 starts_determined =
-    then_determined _ (λ _. Then ClosesStored (λ _. DoesDue)) (acting_determined (λ p h. Began))
-    (λ _. then_determined ClosesStored (λ _. DoesDue) (looks_determined _ _ (each_determined PartsFrom parts_from_determined)) (λ _. does_due_determined))
+    then_determined _ (λ _. Then ClosesStored (λ _. Then DoesDue (λ _. SendsAway))) (acting_determined (λ p h. Began))
+    (λ _. then_determined ClosesStored (λ _. Then DoesDue (λ _. SendsAway)) (looks_determined _ _ (each_determined PartsFrom parts_from_determined))
+    (λ _. then_determined DoesDue (λ _. SendsAway) does_due_determined (λ _. sends_away_determined)))
 
 -- ---- events
 
@@ -135,6 +152,7 @@ first_determined (kinds.Linked peer) = returns_determined tt
 first_determined (kinds.Ship peer) = returns_determined tt
 first_determined kinds.Tick = returns_determined tt
 first_determined (kinds.Evict client) = returns_determined tt
+first_determined (kinds.Table homes) = returns_determined tt
 
 answers_determined : (kind : EventKind) → Determined (Answers kind)
 answers_determined kinds.Started = returns_determined tt
@@ -146,6 +164,7 @@ answers_determined (kinds.Linked peer) = greets_determined peer
 answers_determined (kinds.Ship peer) = ships_determined peer
 answers_determined kinds.Tick = returns_determined tt
 answers_determined (kinds.Evict client) = evicts_determined client
+answers_determined (kinds.Table homes) = takes_table_determined homes
 
 due_and_answers_determined : (kind : EventKind) → Determined (Then DoesDue (λ _. Answers kind))
 due_and_answers_determined kind = then_determined DoesDue (λ _. Answers kind) does_due_determined (λ _. answers_determined kind)
@@ -160,6 +179,7 @@ goes_on_determined (kinds.Linked peer) = due_and_answers_determined (kinds.Linke
 goes_on_determined (kinds.Ship peer) = due_and_answers_determined (kinds.Ship peer)
 goes_on_determined kinds.Tick = due_and_answers_determined kinds.Tick
 goes_on_determined (kinds.Evict client) = due_and_answers_determined (kinds.Evict client)
+goes_on_determined (kinds.Table homes) = due_and_answers_determined (kinds.Table homes)
 
 turn_determined : (kind : EventKind) → Determined (Turn kind)
 turn_determined kind = looks_determined _ _ (λ started. if_determined started (GoesOn kind) (First kind) (goes_on_determined kind) (first_determined kind))

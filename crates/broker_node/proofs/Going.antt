@@ -1,13 +1,14 @@
 -- What a node that has started does.
-use Rattle.std.proofs.Common.{◌≡◌, List, Option, refl}
+use Rattle.std.proofs.Common.{◌≡◌, List, Option, Some, refl}
 use Rattle.broker_node.specs.declared.event.EventKind.{EventKind}
 use Rattle.broker_node.specs.declared.event.EventKind.TheVariants as kinds
 use Rattle.broker_node.specs.Due.{DoesDue}
 use Rattle.broker_node.specs.Idle.{NothingDue, AsksNothing, GoesIdle}
-use Rattle.broker_node.specs.Turns.{Answers, GoesOn}
+use Rattle.broker_node.specs.Turns.{Answers, First, GoesOn}
 use Rattle.node_work.specs.Acts.{Act}
-use Rattle.node_work.specs.View.{Place, HeldView}
-use Rattle.node_work.specs.Working.{Then}
+use Rattle.node_work.specs.View.{Place, HeldView, WorkView}
+use Rattle.node_work.specs.Working.{Did, Then}
+use Rattle.node_work.proofs.Working.{did_nothing}
 
 -- at another event than Started: what is due, and then what it asks for
 pub goes : (kind : EventKind) → ¬ (kind ≡ kinds.Started) → (out : Option (Unit {0})) (p : Place) (h : HeldView) (acts : List Act) → Then DoesDue (λ _. Answers kind) out p h acts → GoesOn kind out p h acts
@@ -20,6 +21,7 @@ goes (kinds.Linked peer) other out p h acts d = d
 goes (kinds.Ship peer) other out p h acts d = d
 goes kinds.Tick other out p h acts d = d
 goes (kinds.Evict client) other out p h acts d = d
+goes (kinds.Table homes) other out p h acts d = d
 
 pub goes_idle : (kind : EventKind) → ¬ (kind ≡ kinds.Started) → (p : Place) (h : HeldView) → GoesIdle p h kind → NothingDue h × AsksNothing p h kind
 goes_idle kinds.Started other p h i = absurd (other refl)
@@ -31,3 +33,17 @@ goes_idle (kinds.Linked peer) other p h i = i
 goes_idle (kinds.Ship peer) other p h i = i
 goes_idle kinds.Tick other p h i = i
 goes_idle (kinds.Evict client) other p h i = i
+goes_idle (kinds.Table homes) other p h i = i
+
+-- before it has started: nothing
+pub waits : (kind : EventKind) → ¬ (kind ≡ kinds.Started) → (w : WorkView) → Did w w (First kind (Some tt))
+waits kinds.Started other w = absurd (other refl)
+waits (kinds.Opened connection) other w = did_nothing w tt
+waits (kinds.Piece connection bytes) other w = did_nothing w tt
+waits (kinds.Closed connection) other w = did_nothing w tt
+waits (kinds.Frame bytes) other w = did_nothing w tt
+waits (kinds.Linked peer) other w = did_nothing w tt
+waits (kinds.Ship peer) other w = did_nothing w tt
+waits kinds.Tick other w = did_nothing w tt
+waits (kinds.Evict client) other w = did_nothing w tt
+waits (kinds.Table homes) other w = did_nothing w tt

@@ -34,15 +34,15 @@ use Rattle.subscription_set.specs.Standing.{any_of, any_below}
 use Rattle.node_bridge.specs.View.{offer_to}
 use Rattle.node_work.specs.declared.counts.Missed.{Missed}
 use Rattle.node_work.specs.declared.counts.Missed.TheVariants.{FrameTooLarge, LaneFull}
-use Rattle.node_work.specs.Acts.{Act, Acknowledged, Began, Bridge, Connection, Dropped, Made, Merged, Moment, Named, Out, Passed, Session, Store, StoreAct, gather}
+use Rattle.node_work.specs.Acts.{Act, Acknowledged, Began, Bridge, Connection, Dropped, Made, Merged, Moment, Moved, Named, Out, Passed, Session, Store, StoreAct, gather}
 use Rattle.node_work.specs.Calling.{Calls, CallsAt, Queues, QueuesOne}
-use Rattle.node_work.specs.Doings.{Disconnects, Gives, GivesFrame, MakesPut, MakesRemove, MakesRemoveBelow, MakesSubscribe, Misses, Opens, PutsBy, Removes, RemovesBelow, Routes, RoutesBy, Sends, is_small}
+use Rattle.node_work.specs.Doings.{Disconnects, Gives, GivesFrame, MakesPut, MakesRemove, MakesRemoveBelow, MakesSubscribe, Misses, Opens, PutsBy, Redirects, Removes, RemovesBelow, Routes, RoutesBy, Sends, is_small}
 use Rattle.node_work.specs.Held.Bridge.{Gave, Left_out, Put, heard_of}
 use Rattle.node_work.specs.Held.Connections.{Accepted, Closed, Fed, Opened, client_at, first_at, is_open}
 use Rattle.node_work.specs.Held.Feeding.{cut_of}
 use Rattle.node_work.specs.Held.Making.{number_at_end, put_at_end, removal, removal_below}
-use Rattle.node_work.specs.Held.Sessions.{Begun, Over, connection_at, end_is_due, has_session, seat_at, takes_disconnect, will_is_due}
-use Rattle.node_work.specs.Packets.{refused_packet}
+use Rattle.node_work.specs.Held.Sessions.{Begun, Over, connection_at, end_is_due, has_session, seat_at, takes_disconnect, takes_packet, will_is_due}
+use Rattle.node_work.specs.Packets.{moved_packet, refused_packet}
 use Rattle.node_work.specs.Passing.{content_of, turn_at_end}
 use Rattle.node_work.specs.View.{ConnectionView, HeldView, Place}
 use Rattle.node_work.specs.Working.{Acting, Doing, Each, Finds, If, InTurn, Looks, Numbered, Returns, Stops, Then, Where}
@@ -52,12 +52,14 @@ use Rattle.message_copies.specs.declared.plain.PlainCopy.{PlainCopy as Copy}
 use Rattle.node_work.proofs.Working.{gather-append}
 use Rattle.node_clients.specs.Connecting as connecting
 use Rattle.node_clients.specs.Ending as ending
+use Rattle.node_clients.specs.Moving as moving
 use Rattle.node_clients.specs.Naming.{IsNextNumber, automatic}
 use Rattle.node_clients.specs.Passing as passing
 use Rattle.node_clients.specs.Pieces as pieces
 use Rattle.node_clients.specs.Serving as serving
 use Rattle.node_clients.specs.Subscribing as subscribing
 use Rattle.node_clients.specs.Unsubscribing as unsubscribing
+use Rattle.broker_node.specs.Moving.{AreAway, SendsAway}
 use Rattle.broker_node.specs.Due.{ClosesStored, DoesDue, EndsConnections, EndsSessions, PartsFrom, PublishesWills, RunsOut, Starts, TicksOf}
 
 -- ---- what a step takes from another node: the states that it merges, and what it hears beside them
@@ -68,6 +70,7 @@ handed_store (Merged s) = Store (Merged s) ∷ []
 abbrev pub handed_in : Act → List Act
 handed_in (Moment at) = []
 handed_in Began = []
+handed_in (Moved homes) = Moved homes ∷ []
 handed_in (Store a) = handed_store a
 handed_in (Connection a) = []
 handed_in (Session a) = []
@@ -154,6 +157,11 @@ removes_quiet client to =
     looks_quiet (λ p h. any_of client to h.store.subscriptions) (λ stands. If stands (Then (MakesRemove client to) (λ _. Returns true)) (Returns false))
     (λ stands. if_quiet stands (Then (MakesRemove client to) (λ _. Returns true)) (Returns false)
     (then_quiet (MakesRemove client to) (λ _. Returns true) (numbered_quiet (λ p h. number_at_end p.id h) (λ p h. Store (Made (removal p.id client to h.store))) (λ p h. refl)) (λ _. returns_quiet true)) (returns_quiet false))
+
+redirects_quiet : (c : ℕ) (client address : List ℕ) → Quiet (Redirects c client address)
+redirects_quiet c client address =
+    looks_quiet (λ p h. takes_packet client (moved_packet address) h) (λ taken. If taken (Sends c (moved_packet address)) (Returns tt))
+    (λ taken. if_quiet taken (Sends c (moved_packet address)) (Returns tt) (sends_quiet c (moved_packet address)) (returns_quiet tt))
 
 removes_below_quiet : (client : List ℕ) (version : ℕ) → Quiet (RemovesBelow client version)
 removes_below_quiet client version =
@@ -518,7 +526,29 @@ does_due_quiet =
     (λ _. then_quiet PublishesWills (λ _. EndsSessions) (looks_quiet (λ p h. wills_due h.sessions h.at) (Each TicksOf) (each_quiet TicksOf (λ d. ticks_quiet d.1)))
     (λ _. looks_quiet (λ p h. ends_due h.sessions h.at) (Each TicksOf) (each_quiet TicksOf (λ d. ticks_quiet d.1))))
 
+-- ---- clients whose home is elsewhere
+
+redirects_by_quiet : (c : ℕ) (client : List ℕ) (address : Option (List ℕ)) → Quiet (moving.RedirectsBy c client address)
+redirects_by_quiet c client None = returns_quiet tt
+redirects_by_quiet c client (Some address) = redirects_quiet c client address
+
+redirects_home_quiet : (c : ℕ) (client : List ℕ) → Quiet (moving.RedirectsHome c client)
+redirects_home_quiet c client =
+    finds_quiet (ending.IsAtHome client) (moving.RedirectsTo c client) (λ node. looks_quiet (λ p h. connecting.address_of h node) (moving.RedirectsBy c client) (redirects_by_quiet c client))
+
+parts_on_quiet : (client : List ℕ) (on : Option ℕ) → Quiet (moving.PartsOn client on)
+parts_on_quiet client None = returns_quiet tt
+parts_on_quiet client (Some c) = then_quiet (moving.RedirectsHome c client) (λ _. ending.ClosesFor c client) (redirects_home_quiet c client) (λ _. closes_for_quiet c client)
+
+moves_away_quiet : (client : List ℕ) → Quiet (moving.MovesAway client)
+moves_away_quiet client =
+    then_quiet (moving.PartsWays client) (λ _. ending.Finishes client) (looks_quiet (λ p h. connection_at client h) (moving.PartsOn client) (parts_on_quiet client)) (λ _. finishes_quiet client)
+
+pub sends_away_quiet : Quiet SendsAway
+sends_away_quiet = finds_quiet AreAway (Each moving.MovesAway) (each_quiet moving.MovesAway moves_away_quiet)
+
 pub starts_quiet : Quiet Starts
 starts_quiet =
-    then_quiet (Acting (λ p h. Began)) (λ _. Then ClosesStored (λ _. DoesDue)) (acting_quiet (λ p h. Began) (λ p h. refl))
-    (λ _. then_quiet ClosesStored (λ _. DoesDue) (looks_quiet (λ p h. connected h.sessions) (Each PartsFrom) (each_quiet PartsFrom parts_from_quiet)) (λ _. does_due_quiet))
+    then_quiet (Acting (λ p h. Began)) (λ _. Then ClosesStored (λ _. Then DoesDue (λ _. SendsAway))) (acting_quiet (λ p h. Began) (λ p h. refl))
+    (λ _. then_quiet ClosesStored (λ _. Then DoesDue (λ _. SendsAway)) (looks_quiet (λ p h. connected h.sessions) (Each PartsFrom) (each_quiet PartsFrom parts_from_quiet))
+    (λ _. then_quiet DoesDue (λ _. SendsAway) does_due_quiet (λ _. sends_away_quiet)))

@@ -1,17 +1,16 @@
 -- A step of a node, from its work.
-use Rattle.std.proofs.Common.{◌≡◌, ℕ, ◌<◌, ◌≤◌, ◌^◌, max, not, nat_lt, Bool, true, false, cond, List, [], ◌∷◌, ◌++◌, Option, Some, None, Result, Ok, Err, inl, inr, refl, sym, ap, subst, ◌∙◌, arith}
-use Rattle.std.specs.Result.{IfErr, IfOk, IsErrAnd, IsOk, OnOk}
+use Rattle.std.proofs.Common.{◌≡◌, ℕ, ◌<◌, ◌≤◌, ◌^◌, max, not, nat_lt, Bool, true, false, cond, List, [], ◌∷◌, ◌++◌, length, Option, Some, None, Result, Ok, Err, inl, inr, refl, sym, ap, subst, ◌∙◌, arith}
+use Rattle.std.specs.Result.{IfErr, IfOk, IsErrAnd, IsOk}
 use Rattle.std.proofs.lemmas.Bool.Decides.{nat_tests}
 use Rattle.home_table.specs.Table.{IsTable, Table}
 use Rattle.node_work.specs.declared.fault.NodeFault.{NodeFault}
 use Rattle.node_work.specs.declared.fault.NodeFault.TheVariants.{NoMemory, NumbersAtEnd, Stopped}
 use Rattle.node_work.specs.declared.outcome.Outcome.{Outcome}
 use Rattle.node_work.specs.declared.outcome.Output.{Output}
-use Rattle.node_work.specs.Acts.{Act, Moment, Runs, gather, heard_in, merge_in, output_in}
-use Rattle.node_work.specs.View.{Place, HeldView, WorkView, NodeView, up_of}
+use Rattle.node_work.specs.Acts.{Act, Moment, Runs, gather, heard_in, merge_in, moved_in, output_in}
+use Rattle.node_work.specs.View.{Place, HeldView, WorkView, NodeView, nodes_of, place_of, up_of}
 use Rattle.node_work.specs.Lasting.{CanLast, held_row}
 use Rattle.node_work.specs.Working.{Did, Comes, Doing}
-use Rattle.node_work.proofs.Homes.{homes_stay}
 use Rattle.row_changes.specs.Gathered.{AreOnce, Settle}
 use Rattle.row_changes.specs.Leading.{Lead, Begin, Differ}
 use Rattle.row_changes.proofs.Leaving.{settled_lead}
@@ -19,10 +18,11 @@ use Rattle.row_store.specs.declared.row.Change.{Change}
 use Rattle.session_table.specs.Rows.{own_kind}
 use Rattle.broker_node.specs.declared.event.Event.{Event}
 use Rattle.broker_node.specs.Idle.{IsIdle, Keeps, Rests, RestsWhereIdle}
-use Rattle.broker_node.specs.Step.{IsDone, IsAtEnd, IsHeard, HasCause, HasCauseAt, Settles, begun, brought}
+use Rattle.broker_node.specs.Step.{AreTaken, IsDone, IsAtEnd, IsHeard, HasCause, HasCauseAt, Settles, begun, brought, may_move}
 use Rattle.broker_node.specs.Turns.{Decides}
 use Rattle.broker_node.proofs.Determined.{decides_determined}
 use Rattle.broker_node.proofs.Handing.{turn_brings}
+use Rattle.broker_node.proofs.Tables.{nodes_stay, table_stays}
 
 is_below : (n : ℕ) → not (nat_lt n (2 ^ 62)) ≡ false → n < 2 ^ 62
 is_below n h = grind (arith, nat_tests)
@@ -37,6 +37,7 @@ record Follows (e : Event) (p : Place) (h : HeldView) (acts : List Act) : Type 0
   moment : e.at < 2 ^ 62
   merged : gather merge_in acts ≡ cond h.started (brought p e.kind) []
   heard : cond h.started (IsHeard p e.kind (gather heard_in acts)) (gather heard_in acts ≡ [])
+  moved : cond h.started (AreTaken e.kind (gather moved_in acts)) (gather moved_in acts ≡ [])
 
 follows : (e : Event) (p : Place) (h : HeldView) (acts : List Act) → Decides e (Some tt) p h acts → Follows e p h acts
 follows e p h acts (inl d) = absurd (let z : Some tt ≡ None = d.0 in cc)
@@ -52,6 +53,8 @@ follows e p h acts (inr d) =
       merged = ap (gather merge_in) whole ∙ turn.merged ∙ ap (λ b. cond b (brought p e.kind) []) started;
       heard = subst (λ b. cond b (IsHeard p e.kind (gather heard_in acts)) (gather heard_in acts ≡ [])) started
           (subst (λ bs. cond d.2.started (IsHeard p e.kind bs) (bs ≡ [])) (sym (ap (gather heard_in) whole)) turn.heard);
+      moved = subst (λ b. cond b (AreTaken e.kind (gather moved_in acts)) (gather moved_in acts ≡ [])) started
+          (subst (λ ts. cond d.2.started (AreTaken e.kind ts) (ts ≡ [])) (sym (ap (gather moved_in) whole)) turn.moved);
     }
 
 -- ---- what the work comes to
@@ -99,11 +102,6 @@ pub failed_comes : (r : Result Outcome NodeFault) (f : NodeFault) (w start a b :
 failed_comes (Ok o) f w start a b P is at d = tt
 failed_comes (Err g) f w start a b P is at d = subst (λ h. Comes {T = Unit {0}} (λ x. x) (Err h) (begun w) b P) (sym is) (comes_elsewhere f (begun w) a b P (subst (λ (v : WorkView). Comes {T = Unit {0}} (λ x. x) (Err f) v a P) at d))
 
--- the table stays
-pub settled_homes : (e : Event) (r : Result Outcome NodeFault) (w w' : WorkView) → IfOk r (λ o. Settles w e o w') → OnOk r (w'.held.homes ≡ w.held.homes)
-settled_homes e (Ok o) w w' s = ap (λ (v : WorkView). v.held.homes) s.rest ∙ homes_stay w.place s.did.acts w.held s.last.held s.did.runs
-settled_homes e (Err f) w w' s = tt
-
 -- ---- a step
 module _ (n : NodeView) (place : Place) (homes : Table) (w : WorkView) (stopped : Bool) (e : Event) (view : record { place = place; homes = homes; up = up_of stopped w.held } ≡ n) (kept : stopped ≡ false → (w.place ≡ place) × (w.held.homes ≡ homes)) (runs : stopped ≡ false) where
   up : n.up ≡ Some w.held
@@ -116,8 +114,8 @@ module _ (n : NodeView) (place : Place) (homes : Table) (w : WorkView) (stopped 
   here : (P : Place → HeldView → Type 0) → P w.place w.held → P n.place w.held
   here P d = subst (λ (p : Place). P p w.held) (sym places) d
 
-  pub done : (o : Outcome) (w' : WorkView) → Settles w e o w' → IsDone n e o.outputs.items o.changes.items (record { place = place; homes = homes; up = up_of stopped w'.held })
-  done o w' s =
+  pub done : (o : Outcome) (w' : WorkView) (after : Table) → Settles w e o w' → after ≡ w'.held.homes → IsDone n e o.outputs.items o.changes.items (record { place = place; homes = after; up = up_of stopped w'.held })
+  done o w' table s held =
       let d = s.did in
       let last = s.last in
       let does = here (λ p h. Decides e (Some tt) p h d.acts) d.does in
@@ -135,7 +133,7 @@ module _ (n : NodeView) (place : Place) (homes : Table) (w : WorkView) (stopped 
         acts = d.acts;
         was = up;
         is = ap (λ b. up_of b w'.held) runs ∙ ap (λ (v : WorkView). Some v.held) s.rest;
-        homes = sym (kept runs).1 ∙ sym (homes_stay w.place d.acts w.held last.held d.runs);
+        homes = held ∙ ap (λ (v : WorkView). v.held.homes) s.rest;
         steps = record {
           does = does;
           runs = here (λ p h. Runs p h d.acts last.held) d.runs;
@@ -143,12 +141,35 @@ module _ (n : NodeView) (place : Place) (homes : Table) (w : WorkView) (stopped 
           moment = after.moment;
           merged = after.merged;
           heard = after.heard;
+          moved = after.moved;
         };
         once = s.once;
         lasts = s.lasts;
         leads = final.0;
         differ = final.1;
       }
+
+  -- where the event can bring no table, the one stays that there was
+  pub same_table : (o : Outcome) (w' : WorkView) → Settles w e o w' → may_move w.held.started e.kind ≡ false → homes ≡ w'.held.homes
+  same_table o w' s none =
+      let d = s.did in
+      let does = here (λ p h. Decides e (Some tt) p h d.acts) d.does in
+      let after = follows e n.place w.held d.acts does in
+      sym (kept runs).1 ∙ sym (table_stays n.place w.held s.last.held e.kind d.acts none after.moved (here (λ p h. Runs p h d.acts s.last.held) d.runs)) ∙ sym (ap (λ (v : WorkView). v.held.homes) s.rest)
+
+  pub place_stays : (o : Outcome) (w' : WorkView) → Settles w e o w' → w'.place ≡ place
+  place_stays o w' s = ap (λ (v : WorkView). v.place) s.rest ∙ s.did.place ∙ (kept runs).0
+
+  -- the table after it is for as many nodes
+  pub for_as_many : (o : Outcome) (w' : WorkView) (id : ℕ) (after : Table) → Settles w e o w' → place ≡ place_of id homes → after ≡ w'.held.homes → place_of id after ≡ place
+  for_as_many o w' id after s is same =
+      let d = s.did in
+      let of : nodes_of w.place ≡ length homes.nodes = ap (λ (p : Place). p.nodes) ((kept runs).0 ∙ is) in
+      let first : length w.held.homes.nodes ≡ nodes_of w.place = ap (λ (t : Table). length t.nodes) (kept runs).1 ∙ sym of in
+      let last : length s.last.held.homes.nodes ≡ nodes_of w.place = nodes_stay w.place d.acts w.held s.last.held d.runs first in
+      let count : length after.nodes ≡ length homes.nodes = ap (λ (t : Table). length t.nodes) (same ∙ ap (λ (v : WorkView). v.held.homes) s.rest) ∙ last ∙ of in
+      let there : place_of id after ≡ place_of id homes = λ i. record { id = id; nodes = count i } in
+      there ∙ sym is
 
   pub not_at_end : IsTable w.held.homes → (o : Outcome) (w' : WorkView) → Settles w e o w' → IsAtEnd n e → ⊥
   not_at_end table o w' s a =

@@ -10,6 +10,7 @@ use Rattle.node_work.specs.View.{Place, HeldView, WorkView, NodeView}
 use Rattle.broker_node.specs.declared.event.Event.{Event}
 use Rattle.broker_node.specs.declared.event.EventKind.{EventKind}
 use Rattle.broker_node.specs.declared.event.EventKind.TheVariants as kinds
+use Rattle.broker_node.specs.Moving.{AreAway}
 
 -- no Keep Alive has run out, and no will and no end is due
 pub record NothingDue (h : HeldView) : Type 0 where
@@ -29,11 +30,13 @@ AsksNothing p h (kinds.Linked peer) = is_other p peer ≡ false
 AsksNothing p h (kinds.Ship peer) = is_other p peer ≡ false
 AsksNothing p h kinds.Tick = Unit {0}
 AsksNothing p h (kinds.Evict client) = any_of client None h.store.subscriptions ≡ false
+AsksNothing p h (kinds.Table homes) = ⊥
 
--- before a node has started, Started where no stored session was connected and nothing is due, and any other event
-abbrev pub WaitsFor : HeldView → EventKind → Type 0
-WaitsFor h kinds.Started = (connected h.sessions ≡ []) × NothingDue h
-WaitsFor h kind = Unit {0}
+-- before a node has started, Started where no stored session was connected, nothing is due and no client's home is elsewhere, and any
+-- other event
+abbrev pub WaitsFor : Place → HeldView → EventKind → Type 0
+WaitsFor p h kinds.Started = (connected h.sessions ≡ []) × NothingDue h × AreAway p h []
+WaitsFor p h kind = Unit {0}
 
 -- afterwards a second Started, and where nothing is due what asks for nothing
 abbrev pub GoesIdle : Place → HeldView → EventKind → Type 0
@@ -41,7 +44,7 @@ GoesIdle p h kinds.Started = Unit {0}
 GoesIdle p h kind = NothingDue h × AsksNothing p h kind
 
 abbrev pub IsIdleAt : Place → HeldView → EventKind → Type 0
-IsIdleAt p h kind = ((h.started ≡ false) × WaitsFor h kind) ⊎ ((h.started ≡ true) × GoesIdle p h kind)
+IsIdleAt p h kind = ((h.started ≡ false) × WaitsFor p h kind) ⊎ ((h.started ≡ true) × GoesIdle p h kind)
 
 -- at the node's moment, once it took the event's
 abbrev pub IsIdle : Place → HeldView → Event → Type 0

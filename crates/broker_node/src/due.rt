@@ -4,8 +4,10 @@ ghost use Rattle.std.specs.Prelude.{◌≡◌, Ok, []};
 ghost use Rattle.session_table.specs.Seats.{connected, run_outs, wills_due, ends_due};
 ghost use Rattle.broker_node.specs.Due.{ClosesStored, DoesDue, EndsConnections, EndsSessions, PartsFrom, PublishesWills, RunsOut, Starts, TicksOf};
 ghost use Rattle.broker_node.specs.Idle.{NothingDue, Keeps};
-ghost use Rattle.node_work.specs.Working.{Comes, Each};
+ghost use Rattle.broker_node.specs.Moving.{AreAway, SendsAway};
+ghost use Rattle.node_work.specs.Working.{Comes, Each, Then};
 
+use crate::moving::send_away;
 use mqtt_fields::Text;
 use node_clients::{close, tick};
 use node_work::{NodeFault, Work};
@@ -80,14 +82,24 @@ fn tick_each(work: &mut Work, dues: &[(u64, Text)]) -> Result<(), NodeFault>
     Ok(())
 }
 
-/// Begins the node's work: stored sessions that were connected are closed, and what is due is done.
+/// Begins the node's work: stored sessions that were connected are closed, what is due is done, and clients go whose home is
+/// elsewhere.
 pub fn start(work: &mut Work) -> Result<(), NodeFault>
-    ensures idle { connected work.old.held.sessions ≡ [] → NothingDue work.old.held → Keeps result work.old work.new }
+    ensures idle { connected work.old.held.sessions ≡ [] → NothingDue work.old.held → AreAway work.old.place work.old.held [] → Keeps result work.old work.new }
     ensures comes { Comes (λ x. x) result work.old work.new Starts }
 {
     work.begin()?;
     close_stored(work)?;
-    do_due(work)
+    settle(work)
+}
+
+/// What is due is done, and then clients go whose home is elsewhere.
+fn settle(work: &mut Work) -> Result<(), NodeFault>
+    ensures idle { NothingDue work.old.held → AreAway work.old.place work.old.held [] → (result ≡ Ok tt) × (work.new ≡ work.old) }
+    ensures comes { Comes (λ x. x) result work.old work.new (Then DoesDue (λ _. SendsAway)) }
+{
+    do_due(work)?;
+    send_away(work)
 }
 
 /// Closes the stored sessions that were connected.

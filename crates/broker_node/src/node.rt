@@ -1,17 +1,17 @@
 //! A node, and what it makes of each event.
 
-ghost use Rattle.std.specs.Prelude.{◌≡◌, ◌<◌, ◌≤◌, ◌^◌, ◌⊎◌, length, OnOk, IfOk, IfErr, IsErrOf, IsOk, OnErr, None, Some, MatchOption, Err, is_some, true};
+ghost use Rattle.std.specs.Prelude.{◌≡◌, ◌<◌, ◌≤◌, ◌^◌, ◌⊎◌, length, OnOk, IfOk, IfErr, IsErrOf, IsOk, OnErr, None, Some, MatchOption, Ok, Err, cond, is_some, true, false};
 ghost use Rattle.broker_node.specs.Idle.{IsIdle, Rests, RestsWhereIdle};
 ghost use Rattle.broker_node.specs.Opening.{IsOpenedFrom};
-ghost use Rattle.broker_node.specs.Step.{IsDone, IsAtEnd, HasCauseAt, Settles, begun};
+ghost use Rattle.broker_node.specs.Step.{IsDone, IsAtEnd, HasCauseAt, Settles, begun, may_move, may_move_in};
 ghost use Rattle.broker_node.specs.Turns.{Decides};
 ghost use Rattle.node_rows.specs.Reading.{SayNothing};
 ghost use Rattle.node_work.specs.Held.Connections.{is_open};
 ghost use Rattle.node_work.specs.View.{place_of};
 ghost use Rattle.node_work.specs.Working.{Comes};
-ghost use Rattle.node_work.specs.declared.fault.NodeFault.TheVariants.{NumbersAtEnd, Stopped};
+ghost use Rattle.node_work.specs.declared.fault.NodeFault.TheVariants.{NoMemory, NumbersAtEnd, Stopped};
 
-use crate::event::Event;
+use crate::event::{Event, EventKind};
 use crate::turn::decide;
 use home_table::HomeTable;
 use node_work::{Counts, NodeFault, Outcome, Work};
@@ -57,13 +57,38 @@ fn settle(work: &mut Work, event: &Event) -> Result<Outcome, NodeFault>
     ensures idle { event.now.at < 2 ^ 62 → IsIdle work.old.place work.old.held event.now → Rests result }
     ensures end { 2 ^ 62 ≤ event.now.at → result ≡ Err NumbersAtEnd }
     ensures ok { IfOk result (λ o. Settles work.old event.now o work.new) }
-    ensures homes { OnOk result (work.new.held.homes ≡ work.old.held.homes) }
     ensures err { IfErr result (λ f. Comes {T = Unit {0}} (λ x. x) (Err f) (begun work.old) work.new (Decides event.now)) }
 {
     work.start();
     decide(work, event)?;
     work.can_last();
     work.finish()
+}
+
+/// Whether the event may bring a node another table of homes.
+fn may_move(work: &Work, event: &Event) -> bool
+    ensures { result ≡ may_move work.now.held.started event.now.kind }
+{
+    if !work.held().is_started() {
+        return false;
+    }
+    match event.kind {
+        EventKind::Table { .. } => true,
+        _ => false,
+    }
+}
+
+/// The table of homes that a node holds, where it may be another one.
+fn moved(work: &Work, moves: bool) -> Result<Option<HomeTable>, NodeFault>
+    ensures some { IfOk result (λ o. cond moves (o ≡ Some work.now.held.homes) (o ≡ None)) }
+    ensures none { moves ≡ false → result ≡ Ok None }
+    ensures fault { IfErr result (λ e. e ≡ NoMemory) }
+{
+    if moves {
+        let homes = work.homes().copy()?;
+        return Ok(Some(homes));
+    }
+    Ok(None)
 }
 
 impl Node {
@@ -88,7 +113,7 @@ impl Node {
         })
     }
 
-    /// The table of homes, with which it is opened again.
+    /// The table of homes: the one that it took last, with which it is opened again.
     pub fn homes(&self) -> &HomeTable
         ensures { result.now ≡ self.now.homes }
     {
@@ -102,11 +127,22 @@ impl Node {
         self.id
     }
 
-    /// Its place is that of its number and its table. This does nothing; its contract is the law.
+    /// Its place is one for the nodes of its table, which it holds while it runs. This does nothing; its contract is a law.
     pub fn has_place(&self)
-        ensures { self.now.place ≡ place_of self.now.place.id self.now.homes }
+        ensures place { self.now.place ≡ place_of self.now.place.id self.now.homes }
+        ensures held { MatchOption self.now.up (Unit {0}) (λ h. self.now.homes ≡ h.homes) }
     {
         let _id = self.id;
+    }
+
+    /// Whether the event may bring it another table of homes.
+    pub fn may_move(&self, event: &Event) -> bool
+        ensures { result ≡ may_move_in self.now.up event.now.kind }
+    {
+        if self.stopped {
+            return false;
+        }
+        may_move(&self.work, event)
     }
 
     /// Stops the node.
@@ -114,6 +150,15 @@ impl Node {
         ensures { self.new ≡ record self.old { up = None } }
     {
         self.stopped = true;
+    }
+
+    /// Stops the node, which is opened again with another table for as many nodes.
+    pub fn stop_with(&mut self, homes: HomeTable)
+        requires { length homes.nodes ≡ length self.old.homes.nodes }
+        ensures { self.new ≡ record self.old { homes = homes; up = None } }
+    {
+        self.stopped = true;
+        self.homes = homes;
     }
 
     /// Whether the node runs: it hasn't stopped.
@@ -150,7 +195,7 @@ impl Node {
     /// 2^62 or more; and such an event never succeeds. An idle event asks for no memory.
     pub fn step(&mut self, event: &Event) -> Result<Outcome, NodeFault>
         ensures place { self.new.place ≡ self.old.place }
-        ensures homes { self.new.homes ≡ self.old.homes }
+        ensures homes { may_move_in self.old.up event.now.kind ≡ false → self.new.homes ≡ self.old.homes }
         ensures stopped { self.old.up ≡ None → (result ≡ Err Stopped) × (self.new ≡ self.old) }
         ensures idle { RestsWhereIdle self.old event.now result }
         ensures end { is_some self.old.up ≡ true → 2 ^ 62 ≤ event.now.at → result ≡ Err NumbersAtEnd }
@@ -163,8 +208,19 @@ impl Node {
             return Err(NodeFault::Stopped);
         }
         self.work.homes().is_table();
+        let moves = may_move(&self.work, event);
         match settle(&mut self.work, event) {
-            Ok(outcome) => Ok(outcome),
+            Ok(outcome) => match moved(&self.work, moves) {
+                Ok(None) => Ok(outcome),
+                Ok(Some(homes)) => {
+                    self.homes = homes;
+                    Ok(outcome)
+                }
+                Err(fault) => {
+                    self.stopped = true;
+                    Err(fault)
+                }
+            },
             Err(fault) => {
                 self.stopped = true;
                 Err(fault)

@@ -10,6 +10,7 @@ ghost use Rattle.node_work.specs.declared.fault.NodeFault.TheVariants.{NumbersAt
 use crate::bridge::{greet, hear, ship};
 use crate::due::{do_due, start};
 use crate::event::{Event, EventKind};
+use crate::moving::take_table;
 use mqtt_fields::Text;
 use node_clients::{leave, take_piece};
 use node_work::{NodeFault, Work};
@@ -37,7 +38,7 @@ fn turn(work: &mut Work, kind: &EventKind) -> Result<(), NodeFault>
 
 /// Before it has started, a node begins its work at Started and does nothing at another event.
 fn wait(work: &mut Work, kind: &EventKind) -> Result<(), NodeFault>
-    ensures idle { WaitsFor work.old.held kind.now → Keeps result work.old work.new }
+    ensures idle { WaitsFor work.old.place work.old.held kind.now → Keeps result work.old work.new }
     ensures comes { Comes (λ x. x) result work.old work.new (First kind.now) }
 {
     match kind {
@@ -73,6 +74,7 @@ fn answer(work: &mut Work, kind: &EventKind) -> Result<(), NodeFault>
         EventKind::Ship { peer } => ship(work, *peer),
         EventKind::Tick => Ok(()),
         EventKind::Evict { client } => evict(work, client),
+        EventKind::Table { homes } => take_table(work, homes),
     }
 }
 

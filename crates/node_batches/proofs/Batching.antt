@@ -30,7 +30,7 @@ steps_from n n' rows (a ∷ more) waiting waiting' decided =
       (
         m,
         between,
-        record { commits = commits n rows a.0 a.1 first.changes m between first.done first.place refl; place = first.place; homes = first.homes },
+        record { commits = commits n rows a.0 a.1 first.changes m between first.done first.place refl; place = first.place },
         subst Handled (sym (after-append rows first.changes rest.0)) rest.2,
       ),
     )

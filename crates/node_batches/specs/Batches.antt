@@ -17,14 +17,12 @@ pub record IsDecided (n : NodeView) (waiting : List Change) (e : Event) (outputs
   pub changes : List Change
   pub done : IsDone n e outputs changes n'
   pub place : n'.place ≡ n.place
-  pub homes : n'.homes ≡ n.homes
   pub waits : waiting' ≡ waiting ++ changes
 
 -- an event is handled: it is taken, its changes are written, and then its outputs are given out
 pub record IsHandled (n : NodeView) (rows : Content) (e : Event) (outputs : List Output) (n' : NodeView) (rows' : Content) : Type 0 where
   pub commits : Commits n rows e outputs n' rows'
   pub place : n'.place ≡ n.place
-  pub homes : n'.homes ≡ n.homes
 
 -- an event, and what was given out at it
 abbrev pub Answered : Type 0

@@ -33,18 +33,19 @@ use Rattle.node_work.specs.Acts.{Acknowledged, Bridge, Connection, Dropped, Made
 use Rattle.node_work.specs.Calling.{Calls, Queues, QueuesOne}
 use Rattle.node_work.specs.declared.counts.Missed.{Missed}
 use Rattle.node_work.specs.declared.counts.Missed.TheVariants.{LaneFull}
-use Rattle.node_work.specs.Doings.{Disconnects, MakesPut, MakesRemove, MakesRemoveBelow, Misses, PutsBy, Removes, RemovesBelow, Routes, RoutesBy, Sends}
+use Rattle.node_work.specs.Doings.{Disconnects, MakesPut, MakesRemove, MakesRemoveBelow, Misses, PutsBy, Redirects, Removes, RemovesBelow, Routes, RoutesBy, Sends}
 use Rattle.node_work.specs.Held.Bridge.{Left_out, Put, Took}
 use Rattle.node_work.specs.Held.Connections.{Accepted, Closed, Fed, client_at}
 use Rattle.node_work.specs.Held.Feeding.{cut_of}
 use Rattle.node_work.specs.Held.Making.{number_at_end, put_at_end, removal, removal_below}
 use Rattle.node_work.specs.Held.Sessions.{Begun, Over}
-use Rattle.node_work.specs.Packets.{refused_packet}
+use Rattle.node_work.specs.Packets.{moved_packet, refused_packet}
 use Rattle.node_work.specs.Passing.{content_of, turn_at_end}
 use Rattle.node_work.specs.View.{ConnectionView}
 use Rattle.node_work.specs.Working.{Each, Returns, Looks, Finds, Then}
 use Rattle.node_clients.specs.Connecting.{Accepts, AcceptsAs, Begins, Cleans, ComesHome, Connects, ConnectsAt, ConnectsBy, Joins, JoinsBy, Names, NamesBy, Refers, Refuses, SendsIf, TakesOver, TakesOverFrom, WillIsNamed, refusal}
 use Rattle.node_clients.specs.Ending.{Closes, ClosesAfter, ClosesBy, ClosesFor, DoesDueOf, EndsSession, Finishes, Follows, IsAtHome, Parts, PassesAsked, RemovesFor, RemovesOwn, Ticks, TicksIf}
+use Rattle.node_clients.specs.Moving.{MovesAway, PartsOn, PartsWays, RedirectsBy, RedirectsHome, RedirectsTo}
 use Rattle.node_clients.specs.Naming.{IsNextNumber}
 use Rattle.node_clients.specs.Passing.{AreMade, Copies, CopiesAt, Drops, IsHandedOver, Made, MakesCopies, Passes, PassesWill, Retains, TakesCopies, TakesForward}
 use Rattle.node_clients.specs.Pieces.{Answers, AnswersBy, AnswersIfOpen, Breaks, BreaksBy, BreaksIfOpen, Feeds, First, Leaves, LeavesBy, PartsBy, Piece, PieceAt, SendsDisconnect, SendsRefusal, Shuts, Takes, TellsBy, connack_code, disconnect_code}
@@ -63,6 +64,10 @@ sends_determined c packet = acting_determined (λ p h. Out (Send c (written pack
 disconnects_determined : (c : ℕ) (client : List ℕ) (code : ℕ) → Determined (Disconnects c client code)
 disconnects_determined c client code =
     looks_determined _ _ (λ taken. if_determined taken (Sends c (disconnect code)) (Returns tt) (sends_determined c (disconnect code)) (returns_determined tt))
+
+redirects_determined : (c : ℕ) (client address : List ℕ) → Determined (Redirects c client address)
+redirects_determined c client address =
+    looks_determined _ _ (λ taken. if_determined taken (Sends c (moved_packet address)) (Returns tt) (sends_determined c (moved_packet address)) (returns_determined tt))
 
 pub removes_determined : (client : List ℕ) (to : Option (List ℕ)) → Determined (Removes client to)
 removes_determined client to =
@@ -405,3 +410,19 @@ pub leaves_determined : (c : ℕ) → Determined (Leaves c)
 leaves_determined c =
     looks_determined _ _
     (λ is_there. if_determined is_there (Looks (λ p h. client_at c h) (LeavesBy c)) (Returns tt) (looks_determined _ (LeavesBy c) (leaves_by_determined c)) (returns_determined tt))
+
+-- ---- a client goes whose home is elsewhere
+
+redirects_by_determined : (c : ℕ) (client : List ℕ) (address : Option (List ℕ)) → Determined (RedirectsBy c client address)
+redirects_by_determined c client None = returns_determined tt
+redirects_by_determined c client (Some address) = redirects_determined c client address
+
+redirects_home_determined : (c : ℕ) (client : List ℕ) → Determined (RedirectsHome c client)
+redirects_home_determined c client = finds_determined (IsAtHome client) (RedirectsTo c client) (home_is_alone client) (λ node. looks_determined _ (RedirectsBy c client) (redirects_by_determined c client))
+
+parts_on_determined : (client : List ℕ) (on : Option ℕ) → Determined (PartsOn client on)
+parts_on_determined client None = returns_determined tt
+parts_on_determined client (Some c) = then_determined (RedirectsHome c client) (λ _. ClosesFor c client) (redirects_home_determined c client) (λ _. closes_for_determined c client)
+
+pub moves_away_determined : (client : List ℕ) → Determined (MovesAway client)
+moves_away_determined client = then_determined (PartsWays client) (λ _. Finishes client) (looks_determined _ (PartsOn client) (parts_on_determined client)) (λ _. finishes_determined client)

@@ -4,6 +4,7 @@
 mod arriving;
 mod connect;
 mod ending;
+mod moving;
 mod naming;
 mod offer;
 mod passing;
@@ -15,4 +16,5 @@ mod unsubscribe;
 
 pub use arriving::take_forward;
 pub use ending::{close, tick};
+pub use moving::move_away;
 pub use piece::{leave, take_piece};

@@ -1,10 +1,10 @@
 -- A node and its rows.
-use Rattle.std.specs.Prelude.{◌≡◌, ◌≢◌, ℕ, ◌<◌, ◌^◌, ◌-◌, ◌⊎◌, List, [], Option, Some, None, Result, Ok, Vec}
+use Rattle.std.specs.Prelude.{◌≡◌, ◌≢◌, ℕ, ◌<◌, ◌≤◌, ◌^◌, ◌-◌, ◌⊎◌, false, List, [], length, Option, Some, None, Result, Ok, Vec}
 use Rattle.std.specs.FinMap as map
 use Rattle.std.specs.declared.alloc.Global.{Global}
 use Rattle.broker_node.specs.declared.event.Event.{Event}
 use Rattle.broker_node.specs.Idle.{IsIdle}
-use Rattle.broker_node.specs.Step.{IsDone, StopsAtEnd}
+use Rattle.broker_node.specs.Step.{IsDone, StopsAtEnd, may_move_in}
 use Rattle.home_table.specs.Table.{Table}
 use Rattle.node_keeper.specs.declared.fault.KeeperFault.{KeeperFault}
 use Rattle.node_keeper.specs.declared.fault.KeeperFault.TheVariants.{NoMemory, Rows, NumbersAtEnd, Stopped}
@@ -69,6 +69,11 @@ pub record AreStepped (n : NodeView) (rows : Content) (e : Event) (rows' : Conte
 -- what a crash leaves of the rows: those before the event, or those after a step of it
 abbrev pub MayBeLeft : NodeView → Content → Event → Content → Type 0
 MayBeLeft n rows e c = (c ≡ rows) ⊎ AreStepped n rows e c
+
+-- the table of homes that is kept for a node whose step isn't written: the one that it has, where the event may bring it another one
+abbrev pub KeepsTable : NodeView → Event → Option Table → Type 0
+KeepsTable n e (Some homes) = (homes ≡ n.homes) × (length homes.nodes ≡ n.place.nodes)
+KeepsTable n e None = (may_move_in n.up e.kind ≡ false) ⊎ (2 ^ 62 ≤ e.at)
 
 -- an event comes to nothing: nothing is given out, and nothing fails
 abbrev pub Rests : Result (Vec Output Global) KeeperFault → Type 0

@@ -1,9 +1,10 @@
 //! A node and its rows.
 
-ghost use Rattle.std.specs.Prelude.{◌≡◌, ◌≢◌, ◌<◌, ◌≤◌, ◌^◌, length, OnOk, IfOk, IfErr, OnErr, IsOk, IsErrOf, is_some, Err, None, Some, true};
+ghost use Rattle.std.specs.Prelude.{◌≡◌, ◌≢◌, ◌<◌, ◌≤◌, ◌^◌, length, OnOk, IfOk, IfErr, IfSome, OnErr, IsErr, IsOk, IsErrOf, is_some, Err, None, Some, true};
+ghost use Rattle.std.specs.Option.{unwrap_or};
 ghost use Rattle.broker_node.specs.Idle.{IsIdle};
-ghost use Rattle.broker_node.specs.Step.{IsAtEnd};
-ghost use Rattle.node_keeper.specs.Keeping.{AreOfNone, CannotOpen, Commits, GivesOut, HasCauseAt, IsCounted, KeepsRows, MayBeLeft, Opens, Rests, may_be_raised, may_be_marked};
+ghost use Rattle.broker_node.specs.Step.{IsAtEnd, may_move_in};
+ghost use Rattle.node_keeper.specs.Keeping.{AreOfNone, CannotOpen, Commits, GivesOut, HasCauseAt, IsCounted, KeepsRows, KeepsTable, MayBeLeft, Opens, Rests, may_be_raised, may_be_marked};
 ghost use Rattle.node_keeper.specs.declared.fault.KeeperFault.TheVariants as faults;
 ghost use Rattle.node_work.specs.View.{HeldView, place_of};
 ghost use Rattle.row_store.specs.Rows.{Content};
@@ -12,6 +13,7 @@ use crate::fault::KeeperFault;
 use crate::waking::wake;
 use broker_node::{Event, Node};
 use home_table::HomeTable;
+use mqtt_fields::NUMBERS_END;
 use node_work::{Outcome, Output};
 use row_store::{RowFault, RowStore};
 use std::alloc::Global;
@@ -23,6 +25,35 @@ pub struct Keeper<R> {
     rows: R,
     node: Node,
     ghost among: { node.place.id < node.place.nodes },
+}
+
+/// The table of homes that a node has before an event which may bring it another one.
+fn table_before(node: &Node, event: &Event) -> Result<Option<HomeTable>, KeeperFault>
+    ensures ok { IfOk result (λ o. KeepsTable node.now event.now o) }
+    ensures fault { IfErr result (λ e. e ≡ faults.NoMemory) }
+    ensures cause { IsErr result → may_move_in node.now.up event.now.kind ≡ true }
+    ensures end { 2 ^ 62 ≤ event.now.at → IsOk result }
+{
+    node.has_place();
+    if event.at >= NUMBERS_END || !node.may_move(event) {
+        return Ok(None);
+    }
+    match node.homes().copy() {
+        Ok(homes) => Ok(Some(homes)),
+        Err(_) => Err(KeeperFault::NoMemory),
+    }
+}
+
+/// Stops a node whose step isn't written, with the table that it had before it.
+fn lose(node: &mut Node, before: Option<HomeTable>)
+    requires { IfSome before (λ t. length t.nodes ≡ node.old.place.nodes) }
+    ensures { node.new ≡ record node.old { homes = unwrap_or before node.old.homes; up = None } }
+{
+    node.has_place();
+    match before {
+        Some(homes) => node.stop_with(homes),
+        None => node.stop(),
+    }
 }
 
 impl<R: RowStore> Keeper<R> {
@@ -88,10 +119,9 @@ impl<R: RowStore> Keeper<R> {
     }
 
     /// Takes one event: the node decides it, its rows are changed as it tells, and only then is anything given out. Where
-    /// the rows can't be changed nothing is, and the node has stopped.
+    /// the rows can't be changed nothing is, and the node has stopped, with the table of homes that it had.
     pub fn handle(&mut self, event: &Event) -> Result<Vec<Output>, KeeperFault>
         ensures place { (node_of self.new).place ≡ (node_of self.old).place }
-        ensures homes { (node_of self.new).homes ≡ (node_of self.old).homes }
         ensures stopped { (node_of self.old).up ≡ None → (result ≡ Err faults.Stopped) × ((node_of self.new) ≡ (node_of self.old)) × ((rows_of self.new) ≡ (rows_of self.old)) }
         ensures ok { R.is_clean (rows_of self.new) → R.is_open (rows_of self.old)
             → IfOk result (λ outputs. R.is_open (rows_of self.new) × Commits (node_of self.old) (R.content (rows_of self.old)) event.now outputs.items (node_of self.new) (R.content (rows_of self.new))) }
@@ -108,6 +138,13 @@ impl<R: RowStore> Keeper<R> {
         ensures device { IsErrOf result (faults.Rows RowFault.Device) → IsCounted (R.failed (rows_of self.old)) (R.failed (rows_of self.new)) }
         ensures counts { result ≢ Err (faults.Rows RowFault.Device) → R.failed (rows_of self.new) ≡ R.failed (rows_of self.old) }
     {
+        let before = match table_before(&self.node, event) {
+            Ok(before) => before,
+            Err(fault) => {
+                self.node.stop();
+                return Err(fault);
+            }
+        };
         let Outcome { outputs, changes } = match self.node.step(event) {
             Ok(outcome) => outcome,
             Err(fault) => return Err(KeeperFault::from(fault)),
@@ -115,7 +152,7 @@ impl<R: RowStore> Keeper<R> {
         match self.rows.apply(&changes) {
             Ok(()) => Ok(outputs),
             Err(fault) => {
-                self.node.stop();
+                lose(&mut self.node, before);
                 Err(KeeperFault::Rows(fault))
             }
         }

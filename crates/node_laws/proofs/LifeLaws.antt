@@ -9,7 +9,7 @@ use Rattle.session_laws.specs.Runs.{Step, Reacts, Run}
 use Rattle.session_laws.proofs.ReopenedLaws.{reopens}
 use Rattle.session_table.specs.Seats.{Seat, Seats, begun}
 use Rattle.finite_maps.proofs.Texts.{same_text, get_inserted, get_apart, get_removed, get_left}
-use Rattle.node_work.specs.Acts.{Act, Moment, Began, Store, Connection, Session, Bridge, Out, Named, Acknowledged, Passed, Dropped, Allowed, next}
+use Rattle.node_work.specs.Acts.{Act, Moment, Began, Moved, Store, Connection, Session, Bridge, Out, Named, Acknowledged, Passed, Dropped, Allowed, next}
 use Rattle.node_work.specs.Held.Connections.{ConnectionAct, Opened, Fed, Accepted, Closed}
 use Rattle.node_work.specs.Held.Bridge.{BridgeAct, Put, Took, Got, Believed, Gave, Left_out, bridged}
 use Rattle.node_work.specs.Held.Sessions.{SessionAct, SessionStep, Begun, Called, Over, MayCall, called}
@@ -76,6 +76,7 @@ lived_bridge h (Left_out what) lives lived = lived
 pub lived_act : (p : Place) (h : HeldView) (a : Act) (lives : List ℕ → List Step) → Allowed p h a → IsLived lives h → IsLived (λ client. after_act client a (lives client)) (next h a)
 lived_act p h (Moment at) lives may lived = lived
 lived_act p h Began lives may lived = lived
+lived_act p h (Moved homes) lives may lived = lived
 lived_act p h (Store a) lives may lived = lived
 lived_act p h (Connection a) lives may lived = lived_connection h a lives lived
 lived_act p h (Session a) lives may lived = lived_call h a lives may lived

@@ -28,7 +28,7 @@ use Rattle.mqtt_packets.proofs.WrittenLaws.{sound_of, spelling_of}
 use Rattle.mqtt_sessions.specs.Answers.{disconnect}
 use Rattle.node_work.specs.Acts.{Act}
 use Rattle.node_work.specs.Held.Calling.{MayAnswer}
-use Rattle.node_work.specs.Packets.{AreSpelled, reference_of, refused_packet}
+use Rattle.node_work.specs.Packets.{AreSpelled, moved_packet, reference_of, refused_packet}
 use Rattle.node_work.specs.View.{Place, HeldView}
 use Rattle.node_work.specs.Working.{Doing, InTurn}
 
@@ -139,4 +139,20 @@ disconnect_spelled code below = spelling_of (disconnect code) record {
   begins = refl;
   fits = (((omega (arith, below), (omega arith, tt)), refl), refl);
   short = short_form (is_success (code, [])) ((number w8).bytes code ++ []) (omega arith);
+}
+
+-- ---- DISCONNECT with the address of another server
+
+moved_short : (address : List ℕ) → IsText address → length (body_bytes (moved_packet address)) < 2 ^ 28
+unfolding body_bytes ended reason properties
+moved_short address is =
+    let block = properties_bytes (reference_of (Some address)) in
+    omega (arith, length-append (vbi.bytes (length block)) block, vbi_at_most_four (length block), address_bytes address, is.0)
+
+pub moved_spelled : (address : List ℕ) → IsText address → HasSpelling (moved_packet address)
+unfolding head_of BodyFits body_bytes ended reason properties property entry_of is_here is_new is_multiple
+moved_spelled address is = spelling_of (moved_packet address) record {
+  begins = refl;
+  fits = (((omega arith, (omega (arith, address_bytes address, is.0), (((((omega arith, refl), refl), refl), is), tt))), refl), refl);
+  short = moved_short address is;
 }

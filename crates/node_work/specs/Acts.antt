@@ -1,7 +1,8 @@
 -- What a node does in a step: a list of acts, each of which is one small step of what the node holds. An act says where it
 -- may stand (Allowed), and what it leaves (next).
-use Rattle.std.specs.Prelude.{◌≡◌, ◌⊎◌, ℕ, ◌+◌, ◌<◌, ◌^◌, max, cond, true, List, [], ◌∷◌, ◌++◌, map as map_list, flat_map, Option, Some}
+use Rattle.std.specs.Prelude.{◌≡◌, ◌⊎◌, ℕ, ◌+◌, ◌<◌, ◌^◌, max, cond, true, List, [], ◌∷◌, ◌++◌, length, map as map_list, flat_map, Option, Some}
 use Rattle.std.specs.FinMap as map
+use Rattle.home_table.specs.Table.{Table, IsTable}
 use Rattle.mqtt_message.specs.declared.delivery.Delivery.{Delivery}
 use Rattle.mqtt_message.specs.declared.message.Message.{Message}
 use Rattle.replica_store.specs.declared.operation.Operation.{Operation}
@@ -20,20 +21,21 @@ use Rattle.node_work.specs.Held.Sessions.{SessionAct, MayCall, called, session_o
 use Rattle.node_work.specs.Offers.{AreOffered}
 use Rattle.message_copies.specs.declared.plain.PlainCopy.{PlainCopy as Copy}
 use Rattle.node_work.specs.Passing.{IsPassed}
-use Rattle.node_work.specs.View.{Place, HeldView}
+use Rattle.node_work.specs.View.{Place, HeldView, nodes_of}
 
 -- what is done to the replicated state
 pub data StoreAct : Type 0 where
   Made : (o : Operation) → StoreAct
   Merged : (s : State) → StoreAct
 
--- one thing that a node does: it takes a moment, begins its work, changes the replicated state, its connections, its
--- sessions or what it keeps for the other nodes, gives something out, or gives a client its identifier by a number; it begins to
--- offer the retained messages that answer a SUBSCRIBE, or to make the copies of a message, each of which is a call of a session
--- after it, and to hand it to other nodes; or it drops a retained message for want of room
+-- one thing that a node does: it takes a moment, begins its work, takes a newer table of homes, changes the replicated state, its
+-- connections, its sessions or what it keeps for the other nodes, gives something out, or gives a client its identifier by a number; it
+-- begins to offer the retained messages that answer a SUBSCRIBE, or to make the copies of a message, each of which is a call of a
+-- session after it, and to hand it to other nodes; or it drops a retained message for want of room
 pub data Act : Type 0 where
   Moment : (at : ℕ) → Act
   Began : Act
+  Moved : (homes : Table) → Act
   Store : (a : StoreAct) → Act
   Connection : (a : ConnectionAct) → Act
   Session : (a : SessionAct) → Act
@@ -60,6 +62,12 @@ abbrev pub MayStore : ℕ → ℕ → State → StoreAct → Type 0
 MayStore id version s (Made o) = IsMade id version s o
 MayStore id version s (Merged t) = Unit {0}
 
+-- a table of homes that a node may take: for as many nodes, and newer than the one that it holds
+pub record MayMove (p : Place) (h : HeldView) (homes : Table) : Type 0 where
+  pub table : IsTable homes
+  pub nodes : length homes.nodes ≡ nodes_of p
+  pub newer : h.homes.version < homes.version
+
 -- what is joined to the state
 abbrev pub delta_in : StoreAct → State
 delta_in (Made o) = delta_of o
@@ -82,6 +90,7 @@ AreAnswers h at grants offers = (at ≡ h.at) × AreOffered h.at (map.entries h.
 abbrev pub Allowed : Place → HeldView → Act → Type 0
 Allowed p h (Moment at) = Unit {0}
 Allowed p h Began = Unit {0}
+Allowed p h (Moved homes) = MayMove p h homes
 Allowed p h (Store a) = MayStore p.id h.homes.version h.store a
 Allowed p h (Connection a) = MayConnect h a
 Allowed p h (Session a) = MayCall h a
@@ -96,6 +105,7 @@ Allowed p h Dropped = Unit {0}
 abbrev pub next : HeldView → Act → HeldView
 next h (Moment at) = record h { at = max h.at at }
 next h Began = record h { started = true }
+next h (Moved homes) = record h { homes = homes }
 next h (Store a) = record h { store = stored h.store a; bridge = keeps (delta_in a) h.bridge }
 next h (Connection a) = connected h a
 next h (Session a) = called h a
@@ -123,6 +133,7 @@ gather f (a ∷ rest) = f a ++ gather f rest
 abbrev pub op_in : Act → List Operation
 op_in (Moment at) = []
 op_in Began = []
+op_in (Moved homes) = []
 op_in (Store (Made o)) = o ∷ []
 op_in (Store (Merged s)) = []
 op_in (Connection a) = []
@@ -138,6 +149,7 @@ op_in Dropped = []
 abbrev pub merge_in : Act → List State
 merge_in (Moment at) = []
 merge_in Began = []
+merge_in (Moved homes) = []
 merge_in (Store (Made o)) = []
 merge_in (Store (Merged s)) = s ∷ []
 merge_in (Connection a) = []
@@ -149,10 +161,26 @@ merge_in (Acknowledged client packet at grants offers) = []
 merge_in (Passed m copies lost routes) = []
 merge_in Dropped = []
 
+-- the tables of homes that were taken
+abbrev pub moved_in : Act → List Table
+moved_in (Moment at) = []
+moved_in Began = []
+moved_in (Moved homes) = homes ∷ []
+moved_in (Store a) = []
+moved_in (Connection a) = []
+moved_in (Session a) = []
+moved_in (Bridge a) = []
+moved_in (Out o) = []
+moved_in (Named number) = []
+moved_in (Acknowledged client packet at grants offers) = []
+moved_in (Passed m copies lost routes) = []
+moved_in Dropped = []
+
 -- what was taken from another node but states: a message of its lane, how many of this node's it has taken, and its dots
 abbrev pub heard_in : Act → List BridgeAct
 heard_in (Moment at) = []
 heard_in Began = []
+heard_in (Moved homes) = []
 heard_in (Store a) = []
 heard_in (Connection a) = []
 heard_in (Session a) = []
@@ -167,6 +195,7 @@ heard_in Dropped = []
 abbrev pub output_in : Act → List Output
 output_in (Moment at) = []
 output_in Began = []
+output_in (Moved homes) = []
 output_in (Store a) = []
 output_in (Connection a) = []
 output_in (Session a) = session_outputs a

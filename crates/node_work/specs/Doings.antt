@@ -24,7 +24,8 @@ use Rattle.node_work.specs.Acts.{Moment, Store, Made, Connection, Bridge, Out}
 use Rattle.node_work.specs.Held.Bridge.{Put, Gave, Left_out}
 use Rattle.node_work.specs.Held.Connections.{Opened, is_open}
 use Rattle.node_work.specs.Held.Making.{number_at_end, put_at_end, removal, removal_below}
-use Rattle.node_work.specs.Held.Sessions.{takes_disconnect}
+use Rattle.node_work.specs.Held.Sessions.{takes_disconnect, takes_packet}
+use Rattle.node_work.specs.Packets.{moved_packet}
 use Rattle.node_work.specs.Working.{Doing, Returns, Stops, Acting, Numbered, Looks, If, Then}
 
 -- a moment of 2^62 or later can't be had
@@ -68,6 +69,10 @@ Sends c packet = Acting (λ p h. Out (Send c (written packet)))
 -- the server's DISCONNECT, unless it is longer than the client takes (MQTT 5.0, 3.14)
 abbrev pub Disconnects : ℕ → List ℕ → ℕ → Option (Unit {0}) → Doing
 Disconnects c client code = Looks (λ p h. takes_disconnect client code h) (λ taken. If taken (Sends c (disconnect code)) (Returns tt))
+
+-- the same with Server moved, and the address of the server (4.11)
+abbrev pub Redirects : ℕ → List ℕ → List ℕ → Option (Unit {0}) → Doing
+Redirects c client address = Looks (λ p h. takes_packet client (moved_packet address) h) (λ taken. If taken (Sends c (moved_packet address)) (Returns tt))
 
 -- ---- other nodes
 

@@ -33,7 +33,7 @@ pub record ConnectionView : Type 0 where
   pub stream : Held
   pub client : Option (List ℕ)
 
--- what a running node holds: the greatest moment that it was handed, whether it has started, its table of homes, the replicated
+-- what a running node holds: the greatest moment that it was handed, whether it has started, the table of homes that it took last, the replicated
 -- state, the open connections by their numbers, the sessions by their clients, what it keeps for the other nodes, how many messages
 -- it has passed on, the number of the last client identifier that it gave, and its counts
 pub record HeldView : Type 0 where
@@ -62,7 +62,7 @@ pub record NodeView : Type 0 where
   pub up : Option HeldView
 
 abbrev pub no_counts : Counts
-no_counts = record { queue_full = 0; retained_full = 0; picks_lost = 0; lane_full = 0; bad_frames = 0; frames_too_large = 0 }
+no_counts = record { queue_full = 0; retained_full = 0; picks_lost = 0; lane_full = 0; bad_frames = 0; frames_too_large = 0; tables_refused = 0 }
 
 -- a node that was just opened, with a table of homes and what lasts of it
 abbrev pub woken : Table → ℕ → Seats → State → Lanes Forward → HeldView
@@ -92,9 +92,9 @@ coded_connection = code_by (Held × Option (List ℕ)) (coded× coded_stream (co
 
 abbrev pub coded_counts : Coded Counts
 coded_counts =
-    code_by (ℕ × (ℕ × (ℕ × (ℕ × (ℕ × ℕ))))) (coded× coded_ℕ (coded× coded_ℕ (coded× coded_ℕ (coded× coded_ℕ (coded× coded_ℕ coded_ℕ)))))
-    (λ c. (c.queue_full, (c.retained_full, (c.picks_lost, (c.lane_full, (c.bad_frames, c.frames_too_large))))))
-    (λ p. record { queue_full = p.0; retained_full = p.1.0; picks_lost = p.1.1.0; lane_full = p.1.1.1.0; bad_frames = p.1.1.1.1.0; frames_too_large = p.1.1.1.1.1 }) (λ _. refl)
+    code_by (ℕ × (ℕ × (ℕ × (ℕ × (ℕ × (ℕ × ℕ)))))) (coded× coded_ℕ (coded× coded_ℕ (coded× coded_ℕ (coded× coded_ℕ (coded× coded_ℕ (coded× coded_ℕ coded_ℕ))))))
+    (λ c. (c.queue_full, (c.retained_full, (c.picks_lost, (c.lane_full, (c.bad_frames, (c.frames_too_large, c.tables_refused)))))))
+    (λ p. record { queue_full = p.0; retained_full = p.1.0; picks_lost = p.1.1.0; lane_full = p.1.1.1.0; bad_frames = p.1.1.1.1.0; frames_too_large = p.1.1.1.1.1.0; tables_refused = p.1.1.1.1.1.1 }) (λ _. refl)
 
 abbrev pub coded_held : Coded HeldView
 coded_held =

@@ -15,9 +15,11 @@ pub struct Counts {
     pub bad_frames: u64,
     /// Frames that were too large to be sent.
     pub frames_too_large: u64,
+    /// Tables of homes that weren't newer than the node's, or were for another number of nodes.
+    pub tables_refused: u64,
 }
 
-/// What was left out for another node, or from one.
+/// What was left out for another node, or from one, or a table of homes that wasn't taken.
 #[derive(Clone, Copy, Debug, PartialEq, Eq)]
 pub enum Missed {
     /// A message for whose node too many wait, or that is too large for a frame.
@@ -26,4 +28,6 @@ pub enum Missed {
     BadFrame,
     /// A frame to be sent in which more would follow the length than may.
     FrameTooLarge,
+    /// A table of homes that isn't newer than the node's, or is for another number of nodes.
+    TableRefused,
 }

@@ -4,7 +4,7 @@ ghost use Rattle.std.specs.Prelude.{◌≡◌, IfOk, IfErr, IfSome};
 ghost use Rattle.mqtt_fields.specs.Numbers.{IsText};
 ghost use Rattle.mqtt_packets.specs.Written.{written, HasSpelling};
 ghost use Rattle.mqtt_sessions.specs.Answers.{disconnect};
-ghost use Rattle.node_work.specs.Packets.{reference_of, refused_packet};
+ghost use Rattle.node_work.specs.Packets.{moved_packet, reference_of, refused_packet};
 ghost use Rattle.node_work.specs.declared.fault.NodeFault.TheVariants.{NoMemory};
 
 use crate::fault::NodeFault;
@@ -53,6 +53,20 @@ pub fn refused(alloc: Global, reason: u8, reference: Option<Text>) -> Result<Pac
         reason,
         properties,
     }))
+}
+
+/// DISCONNECT to a client whose home is at another server from now on, with its address (MQTT 5.0, 3.14.2.1 and 4.11).
+pub fn moved(alloc: Global, address: Text) -> Result<Packet, NodeFault>
+    ensures ok { IfOk result (λ p. p ≡ moved_packet address) }
+    ensures spelled { IfOk result (λ p. HasSpelling p) }
+    ensures fault { IfErr result (λ e. e ≡ NoMemory) }
+{
+    let properties = reference_in(alloc, Some(address))?;
+    let ended = Ended {
+        reason: 157,
+        properties,
+    };
+    Ok(Packet::Disconnect(ended))
 }
 
 /// The server's DISCONNECT (MQTT 5.0, 3.14).

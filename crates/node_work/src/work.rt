@@ -12,9 +12,9 @@ ghost use Rattle.mqtt_sessions.specs.Reaction.{packet_of};
 ghost use Rattle.mqtt_sessions.specs.Reaction as reactions;
 ghost use Rattle.session_laws.specs.Runs.{connects, queues, takes, answers, closes, ticks, finishes};
 ghost use Rattle.subscription_set.specs.Standing.{any_of, any_below};
-ghost use Rattle.node_work.specs.Acts.{Began, Connection, Store, Merged, Session, Out, Named, Acknowledged, Passed, Dropped, AreAnswers};
+ghost use Rattle.node_work.specs.Acts.{Began, Connection, Store, Merged, Session, Out, Named, Acknowledged, Passed, Dropped, Moved, MayMove, AreAnswers};
 ghost use Rattle.node_work.specs.Calling.{Calls};
-ghost use Rattle.node_work.specs.Doings.{TakesMoment, Opens, MakesPut, MakesSubscribe, Removes, RemovesBelow, Sends, Disconnects};
+ghost use Rattle.node_work.specs.Doings.{TakesMoment, Opens, MakesPut, MakesSubscribe, Removes, RemovesBelow, Sends, Disconnects, Redirects};
 ghost use Rattle.mqtt_sessions.specs.Answers.{fits};
 ghost use Rattle.node_work.specs.Held.Calling.{MayConnectHere, MayAnswer, Reacted};
 ghost use Rattle.mqtt_sessions.specs.Reaction.{AreSpelled};
@@ -41,7 +41,7 @@ use crate::fault::NodeFault;
 use crate::held::Held;
 use crate::held::connections::Came;
 use crate::outcome::{Outcome, Output};
-use crate::packets::{disconnect, written};
+use crate::packets::{disconnect, moved, written};
 use home_table::HomeTable;
 use mqtt_fields::{NUMBERS_END, Text};
 use mqtt_message::Delivery;
@@ -150,7 +150,7 @@ impl Work {
         self.nodes
     }
 
-    /// The table of homes.
+    /// The table of homes that was taken last.
     pub fn homes(&self) -> &HomeTable
         ensures { result.now ≡ self.now.held.homes }
     {
@@ -216,6 +216,17 @@ impl Work {
         ensures done { result ≡ Ok tt }
     {
         self.held.begin();
+        Ok(())
+    }
+
+    /// Takes another table of homes, which is newer and for as many nodes. It takes no memory.
+    pub fn move_to(&mut self, homes: HomeTable) -> Result<(), NodeFault>
+        requires { MayMove self.old.place self.old.held homes }
+        ensures comes { Comes (λ x. x) result self.old self.new (Acting (λ p h. Moved homes)) }
+        ensures same { self.new.changes ≡ self.old.changes }
+        ensures done { result ≡ Ok tt }
+    {
+        self.held.move_to(homes);
         Ok(())
     }
 
@@ -359,6 +370,24 @@ impl Work {
         };
         let packet = disconnect(self.alloc, reason);
         self.send(connection, &packet, limit)
+    }
+
+    /// Sends the server's DISCONNECT with Server moved and the address of another server to a connection of the client, unless it is
+    /// longer than the client takes.
+    pub fn redirect(
+        &mut self,
+        connection: u64,
+        client: &Text,
+        address: Text,
+    ) -> Result<(), NodeFault>
+        ensures comes { Comes (λ x. x) result self.old self.new (Redirects connection client.now address) }
+        ensures same { self.new.changes ≡ self.old.changes }
+    {
+        let Some(limit) = self.held.sessions().limit(client) else {
+            return Ok(());
+        };
+        let redirection = moved(self.alloc, address)?;
+        self.send(connection, &redirection, limit)
     }
 
     /// Gives a client the number of its identifier.

@@ -1,5 +1,5 @@
 -- Walks over the table and over what is due.
-use Rattle.std.proofs.Common.{◌≡◌, ℕ, Bool, true, false, cond, ◌||◌, List, [], ◌∷◌, ◌++◌, map as map_list, Option, Some, None, is_some, MatchOption, unwrap_or, refl, sym, ap, ◌∙◌}
+use Rattle.std.proofs.Common.{◌≡◌, ℕ, Bool, true, false, cond, ◌||◌, List, [], ◌∷◌, ◌++◌, map as map_list, Option, Some, None, is_some, MatchOption, unwrap_or, refl, sym, ap, subst, ◌∙◌}
 use Rattle.std.proofs.lemmas.List.{append-nil}
 use Rattle.std.specs.List.{filter, flat_map, list_any}
 use Rattle.std.specs.List.Sorted.{IsStrictlySortedBy}
@@ -7,10 +7,13 @@ use Rattle.std.specs.Ordering.{eq_by_cmp}
 use Rattle.std.specs.FinMap as map
 use Rattle.due_times.specs.Dues.{Due, Dues, due_cmp, in_order, set_of}
 use Rattle.due_times.proofs.Tables.{has_inserted, has_of, keys_of_set, same_dues}
+use Rattle.filter_trie.specs.Selected.{IsSelected}
+use Rattle.filter_trie.proofs.Selecting.{Follows, begins, ends, follows_with, goes_without, silent_here, silent_later}
+use Rattle.home_table.specs.Table.{Table as HomeTable}
 use Rattle.mqtt_sessions.specs.Ending.{is_connected}
 use Rattle.mqtt_sessions.specs.Saved.{state_of}
 use Rattle.mqtt_sessions.specs.State.{State, new_session}
-use Rattle.session_table.specs.Seats.{at_number, connected}
+use Rattle.session_table.specs.Seats.{AreElsewhere, IsElsewhere, at_number, connected}
 use Rattle.session_table.specs.Listing.{Table, connected_of, connection_in, on_connection, seat_of, seats_in, table, was_connected}
 use Rattle.session_table.specs.declared.seated.Seated.{Seated}
 use Rattle.session_table.proofs.SeatMaps.{entries_of_seats, seat_entries}
@@ -51,6 +54,47 @@ filter_seats (e ∷ es) = by (was_connected e.1) (filter_seats es)
 
 pub connected_are : (es : List (List ℕ × Seated)) → map.entries (table es) ≡ es → connected_of es ≡ connected (seats_in (table es))
 connected_are es whole = filter_seats es ∙ ap (λ xs. map_list (λ e. e.0) (filter (λ e. is_connected e.1.session.kept.phase) xs)) (sym (entries_of_seats (table es) ∙ ap seat_entries whole))
+
+-- ---- clients whose home is elsewhere
+abbrev pub clients_of : List (List ℕ × Seated) → List (List ℕ)
+clients_of es = map_list (λ e. e.0) es
+
+clients_are : (es : List (List ℕ × Seated)) → map.entries (table es) ≡ es → clients_of es ≡ map_list (λ e. e.0) (map.entries (seats_in (table es)))
+clients_are es whole = names es ∙ ap (λ xs. map_list (λ e. e.0) xs) (sym (entries_of_seats (table es) ∙ ap seat_entries whole))
+  where
+    names : (xs : List (List ℕ × Seated)) → clients_of xs ≡ map_list (λ e. e.0) (seat_entries xs)
+    names [] = refl
+    names (x ∷ xs) = ap (λ ys. x.0 ∷ ys) (names xs)
+
+-- a walk from the front: who has been found, and where nobody is, nobody is left
+abbrev pub Seeks : HomeTable → ℕ → List (List ℕ × Seated) → List (List ℕ) → List (List ℕ × Seated) → Type 0
+Seeks homes node all out left =
+    Follows (IsElsewhere homes node) (clients_of all) out (clients_of left) × (IsSelected (IsElsewhere homes node) (clients_of all) [] → IsSelected (IsElsewhere homes node) (clients_of left) [])
+
+module _ (homes : HomeTable) (node : ℕ) (all : List (List ℕ × Seated)) where
+  pub seeks : (out : List (List ℕ)) → out ≡ [] → Seeks homes node all out all
+  seeks out none = (begins (IsElsewhere homes node) (clients_of all) (clients_of all) out refl none, λ h. h)
+
+  module _ (left rest : List (List ℕ × Seated)) (out : List (List ℕ)) (client : List ℕ) (x : Seated) (step : left ≡ (client, x) ∷ rest) (so : Seeks homes node all out left) where
+    later : IsSelected (IsElsewhere homes node) (clients_of all) [] → IsSelected (IsElsewhere homes node) (clients_of rest) []
+    later none = silent_later (IsElsewhere homes node) (clients_of left) (clients_of rest) client (ap clients_of step) (so.1 none)
+
+    pub found : (new : List (List ℕ)) → new ≡ out ++ client ∷ [] → IsElsewhere homes node client → Seeks homes node all new rest
+    found new added away =
+        let before = subst (λ es. Follows (IsElsewhere homes node) (clients_of all) out es) (ap clients_of step) so.0 in
+        (subst (λ o. Follows (IsElsewhere homes node) (clients_of all) o (clients_of rest)) (sym added) (follows_with (IsElsewhere homes node) (clients_of all) client (clients_of rest) out before away), later)
+
+    pub not_found : ¬ (IsElsewhere homes node client) → Seeks homes node all out rest
+    not_found here = (goes_without (IsElsewhere homes node) (clients_of all) (clients_of left) (clients_of rest) out client (ap clients_of step) here so.0, later)
+
+    pub none_found : map.entries (table all) ≡ all → IsElsewhere homes node client → AreElsewhere homes node (seats_in (table all)) [] → ⊥
+    none_found whole away none =
+        silent_here (IsElsewhere homes node) (clients_of left) (clients_of rest) client (ap clients_of step)
+        (so.1 (subst (λ xs. IsSelected (IsElsewhere homes node) xs []) (sym (clients_are all whole)) none)) away
+
+  pub all_found : (left : List (List ℕ × Seated)) (out : List (List ℕ)) → left ≡ [] → map.entries (table all) ≡ all → Seeks homes node all out left → AreElsewhere homes node (seats_in (table all)) out
+  all_found left out over whole so =
+      subst (λ xs. IsSelected (IsElsewhere homes node) xs out) (clients_are all whole) (ends (IsElsewhere homes node) (clients_of all) (clients_of left) out (ap clients_of over) so.0)
 
 -- ---- connections of what is due
 -- a walk from the front: `order` has what came before `left`

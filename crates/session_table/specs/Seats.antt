@@ -7,6 +7,9 @@ use Rattle.std.specs.FinMap.{FinMap}
 use Rattle.std.specs.FinMap as map
 use Rattle.std.specs.Ordering.{nat_cmp}
 use Rattle.due_times.specs.Dues.{Due, in_order}
+use Rattle.filter_trie.specs.Selected.{IsSelected}
+use Rattle.home_table.specs.Homes.{IsHome}
+use Rattle.home_table.specs.Table.{Table}
 use Rattle.mqtt_sessions.specs.Ending.{end_due, has_run_out, is_connected, will_due}
 use Rattle.mqtt_sessions.specs.Saved.{Saved, state_of}
 use Rattle.mqtt_sessions.specs.State.{State, new_session}
@@ -68,3 +71,12 @@ ends_due seats now = by_number (λ s. come now (end_due s.session.kept)) seats
 -- clients whose session was connected, by their bytes
 abbrev pub connected : Seats → List (List ℕ)
 connected seats = map_list (λ e. e.0) (filter (λ e. is_connected e.1.session.kept.phase) (map.entries seats))
+
+-- ---- by a table of homes
+-- a client's home is at another node than this
+abbrev pub IsElsewhere : Table → ℕ → List ℕ → Type 0
+IsElsewhere homes node client = ¬ (IsHome homes client node)
+
+-- the clients whose home is, by their bytes
+abbrev pub AreElsewhere : Table → ℕ → Seats → List (List ℕ) → Type 0
+AreElsewhere homes node seats away = IsSelected (IsElsewhere homes node) (map_list (λ e. e.0) (map.entries seats)) away

@@ -12,14 +12,17 @@ ghost use Rattle.mqtt_sessions.specs.State.{IsPublishableIf, aliases_of, limit_o
 ghost use Rattle.session_laws.specs.Runs.{connects, queues, takes, answers, closes, ticks, finishes};
 ghost use Rattle.session_table.specs.Calls.{GivesSpelled, IsSpelledIf, Asks, IsCalled, MayConnectAt, MayTurnAt, event_of, leaves, moves, on_of, stays};
 ghost use Rattle.session_table.specs.Rows.{AllDurable, IsAllTold, LeadsOn};
-ghost use Rattle.session_table.specs.Seats.{begun, connected, ends_due, run_outs, wills_due};
+ghost use Rattle.session_table.specs.Seats.{AreElsewhere, begun, connected, ends_due, run_outs, wills_due};
 
 use crate::call::{Call, On};
 use crate::listing::Listing;
 use crate::seated::BoxedSeat;
-use crate::table::{by_connection, call_in, connected_in, connection_of, put_in, take_out};
+use crate::table::{
+    by_connection, call_in, connected_in, connection_of, elsewhere_in, put_in, take_out,
+};
 use crate::telling::{begin_told, leave};
 use due_times::DueTimes;
+use home_table::HomeTable;
 use mqtt_fields::{NoMemory, Text};
 use mqtt_message::Delivery;
 use mqtt_packets::{Connect, Packet};
@@ -385,5 +388,19 @@ impl Sessions {
         ensures none { connected self.now ≡ [] → IsOk result }
     {
         connected_in(&self.seats, alloc)
+    }
+
+    /// The clients with sessions whose home is at another node than this, by their bytes. This looks at each session, and takes
+    /// memory only where there are some.
+    pub fn elsewhere(
+        &self,
+        alloc: Global,
+        homes: &HomeTable,
+        node: u16,
+    ) -> Result<Vec<Text>, NoMemory>
+        ensures clients { IfOk result (λ out. AreElsewhere homes.now node self.now out.items) }
+        ensures none { AreElsewhere homes.now node self.now [] → IsOk result }
+    {
+        elsewhere_in(&self.seats, alloc, homes, node)
     }
 }

@@ -1,11 +1,11 @@
 //! What is done to a table and its lists.
 
-ghost use Rattle.std.specs.Prelude.{◌≡◌, [], IfErr, IfOk, IfSome, IsOk, IsSome, None, OnErr, OnOk, flat_map};
+ghost use Rattle.std.specs.Prelude.{◌≡◌, ◌↔◌, [], IfErr, IfOk, IfSome, IsOk, IsSome, IsTrue, None, OnErr, OnOk, flat_map};
 ghost use Rattle.std.specs.FinMap as map;
 ghost use Rattle.due_times.specs.Dues.{in_order};
 ghost use Rattle.mqtt_sessions.specs.Saved.{state_of};
 ghost use Rattle.session_table.specs.Calls.{Asks, GivesSpelled, IsCalled, MayTurnAt, event_of, on_of};
-ghost use Rattle.session_table.specs.Seats.{connected};
+ghost use Rattle.session_table.specs.Seats.{AreElsewhere, IsElsewhere, connected};
 ghost use Rattle.session_table.specs.Rows.{IsAllTold, LeadsOn};
 ghost use Rattle.session_table.specs.Listing.{IsBroken, IsKept, IsKeyed, IsListed, connection_in, on_connection, seats_in, session_in, table};
 
@@ -14,6 +14,7 @@ use crate::listing::{Listing, relist};
 use crate::moments::moments_of;
 use crate::seated::{BoxedSeat, Seated, call_seated, seat, unlist_seated, unseat};
 use due_times::DueTimes;
+use home_table::HomeTable;
 use mqtt_fields::{NoMemory, Text};
 use mqtt_sessions::{Reaction, Session, SessionFault};
 use row_store::Change;
@@ -146,6 +147,32 @@ pub(crate) fn connection_of(seats: &BTreeMap<Text, BoxedSeat>, client: &Text) ->
         Some(seated) => seated.connection,
         None => None,
     }
+}
+
+/// Whether a client's home is at another node than this.
+fn is_elsewhere(homes: &HomeTable, node: u16, client: &Text) -> bool
+    ensures { IsTrue result ↔ IsElsewhere homes.now node client.now }
+{
+    homes.home_of(client.as_str()) != node
+}
+
+/// The clients whose home is at another node than this.
+pub(crate) fn elsewhere_in(
+    seats: &BTreeMap<Text, BoxedSeat>,
+    alloc: Global,
+    homes: &HomeTable,
+    node: u16,
+) -> Result<Vec<Text>, NoMemory>
+    ensures clients { IfOk result (λ out. AreElsewhere homes.now node (seats_in (table seats.now.entries)) out.items) }
+    ensures none { AreElsewhere homes.now node (seats_in (table seats.now.entries)) [] → IsOk result }
+{
+    let mut out = Vec::new(alloc);
+    for (client, _) in seats.iter() {
+        if is_elsewhere(homes, node, client) {
+            out.push(client.copy(alloc)?)?;
+        }
+    }
+    Ok(out)
 }
 
 /// The clients whose session was connected.

@@ -1,6 +1,7 @@
 -- What is done to a node's sessions.
 use Rattle.std.specs.Prelude.{◌≡◌, ℕ, ◌==◌, ◌^◌, ◌-◌, ◌+◌, min, cond, Bool, true, false, is_some, List, [], ◌∷◌, ◌++◌, map as map_list, Option, Some, None, option_and_then}
 use Rattle.std.specs.FinMap as map
+use Rattle.mqtt_packets.specs.declared.packet.Packet.{Packet as Packets}
 use Rattle.mqtt_packets.specs.Written.{written}
 use Rattle.mqtt_sessions.specs.declared.reaction.Output.{Output as Packet}
 use Rattle.mqtt_sessions.specs.Aliases.{Aliases}
@@ -117,13 +118,17 @@ aliases_at client h = aliases_in (seat_at client h)
 abbrev pub connection_at : List ℕ → HeldView → Option ℕ
 connection_at client h = option_and_then (λ s. s.connection) (seat_at client h)
 
--- a DISCONNECT with the code isn't longer than the client takes
-abbrev pub fits_in : Option ℕ → ℕ → Bool
-fits_in None code = false
-fits_in (Some limit) code = fits limit (disconnect code)
+-- a packet isn't longer than the client takes
+abbrev pub fits_in : Option ℕ → Packets → Bool
+fits_in None packet = false
+fits_in (Some limit) packet = fits limit packet
 
+abbrev pub takes_packet : List ℕ → Packets → HeldView → Bool
+takes_packet client packet h = fits_in (option_and_then (λ s. limit_of s.session.link) (seat_at client h)) packet
+
+-- nor is a DISCONNECT with the code
 abbrev pub takes_disconnect : List ℕ → ℕ → HeldView → Bool
-takes_disconnect client code h = fits_in (option_and_then (λ s. limit_of s.session.link) (seat_at client h)) code
+takes_disconnect client code h = takes_packet client (disconnect code) h
 
 -- its will, and its end, is due
 abbrev pub will_is_due : List ℕ → HeldView → Bool

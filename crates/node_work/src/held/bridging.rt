@@ -85,6 +85,9 @@ impl Held {
             Missed::FrameTooLarge => {
                 counts.frames_too_large = counts.frames_too_large.saturating_add(1)
             }
+            Missed::TableRefused => {
+                counts.tables_refused = counts.tables_refused.saturating_add(1)
+            }
         }
     }
 }

@@ -127,6 +127,7 @@ fn no_counts() -> Counts
         lane_full: 0,
         bad_frames: 0,
         frames_too_large: 0,
+        tables_refused: 0,
     }
 }
 
@@ -180,7 +181,7 @@ impl Held {
         self.started
     }
 
-    /// The table of homes.
+    /// The table of homes that was taken last.
     pub fn homes(&self) -> &HomeTable
         ensures { result.now ≡ self.now.homes }
     {
@@ -294,6 +295,13 @@ impl Held {
         ensures { self.new ≡ record self.old { started = true } }
     {
         self.started = true;
+    }
+
+    /// Takes another table of homes.
+    pub fn move_to(&mut self, homes: HomeTable)
+        ensures { self.new ≡ record self.old { homes = homes } }
+    {
+        self.homes = homes;
     }
 
     /// Takes an operation that the node made.

@@ -6,6 +6,7 @@ use crate::tests::told::{clients, counted, number, pairs};
 use crate::tests::words::{connect, moment, packet, text};
 use mqtt_fields::{NoMemory, Text};
 use mqtt_sessions::{Reaction, SessionFault};
+use numbered_homes::homes_of;
 use session_table::Sessions;
 use std::alloc::Global;
 use std::process::Abort;
@@ -108,6 +109,16 @@ fn remove(sessions: &mut Sessions, alloc: Global, client: &Text) -> Result<(), N
     removed
 }
 
+/// The clients whose home isn't at this one of two nodes.
+fn elsewhere(rt: &impl Abort, alloc: Global, sessions: &Sessions, node: u64) -> String {
+    let homes = homes_of(alloc, 2).expect(rt, "a table");
+    let away = sessions
+        .elsewhere(alloc, &homes, (node % 65_536) as u16)
+        .expect(rt, "memory");
+    drop(homes);
+    clients(rt, alloc, &away)
+}
+
 fn count(rt: &impl Abort, alloc: Global, sessions: &Sessions) -> String {
     number(rt, alloc, Some(sessions.count() as u64))
 }
@@ -134,6 +145,7 @@ fn of_word(
             alloc,
             &sessions.were_connected(alloc).expect(rt, "memory"),
         ),
+        "elsewhere" => elsewhere(rt, alloc, sessions, moment(rt, word)),
         "connection" => number(rt, alloc, sessions.connection(&text(rt, alloc, word))),
         "limit" => number(rt, alloc, sessions.limit(&text(rt, alloc, word))),
         _ => due(rt, alloc, sessions, verb, moment(rt, word)),

@@ -2,7 +2,7 @@
 
 use super::Line;
 
-pub const LINES: [Line; 58] = [
+pub const LINES: [Line; 62] = [
     // Keep Alive 60 s: a client `b` on connection 3, and `a` on 7
     ("begin b", "1"),
     ("begin a", "2"),
@@ -13,6 +13,10 @@ pub const LINES: [Line; 58] = [
     ("connection a", "7"),
     ("limit a", "268435460"),
     ("connected", "a;b;"),
+    // the byte of `a` is 97, and that of `b` is 98
+    ("elsewhere 0", "a;"),
+    ("elsewhere 1", "b;"),
+    ("elsewhere 2", "a;b;"),
     ("run_out 89999", ""),
     ("run_out 90000", "3 b;7 a;"),
     ("packet a c000 1000", "1 sent"),
@@ -70,4 +74,5 @@ pub const LINES: [Line; 58] = [
     ("run_out 90000", ""),
     ("ends 51000", ""),
     ("connected", ""),
+    ("elsewhere 0", ""),
 ];

@@ -1,16 +1,11 @@
 use Rattle.broker_node.specs.Turns.{Decides}
-use Rattle.broker_node.proofs.Stepping.{settles, settled_homes, settled_idle, settled_wanting, failed_idle, failed_comes}
+use Rattle.broker_node.proofs.Stepping.{settles, settled_idle, settled_wanting, failed_idle, failed_comes}
 use Rattle.broker_node.specs.Step.{begun}
 use Rattle.broker_node.proofs.node.settle.Goals as goal
 
 pub returns-clause-ok : goal.returns-clause-ok
 returns-clause-ok c =
     settles c.args.event.now c.finish.result c.args.work.now c.start.new.self c.decide.new.work c.finish.new.self c.start.ensures c.in_ok-decide.ensures.comes c.finish.ensures.given c.finish.ensures.once c.finish.ensures.settled c.can_last.ensures c.finish.ensures.rest
-
-pub returns-clause-homes : goal.returns-clause-homes
-returns-clause-homes c =
-    settled_homes c.args.event.now c.finish.result c.args.work.now c.finish.new.self
-    (settles c.args.event.now c.finish.result c.args.work.now c.start.new.self c.decide.new.work c.finish.new.self c.start.ensures c.in_ok-decide.ensures.comes c.finish.ensures.given c.finish.ensures.once c.finish.ensures.settled c.can_last.ensures c.finish.ensures.rest)
 
 pub returns-clause-idle : goal.returns-clause-idle
 returns-clause-idle c =

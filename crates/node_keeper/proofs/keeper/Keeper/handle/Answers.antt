@@ -8,24 +8,24 @@ pub returns-in-Ok-apply-clause-ok : goal.returns-in-Ok-apply-clause-ok
 returns-in-Ok-apply-clause-ok g c clean up =
     let ok = c.in-Ok-apply.ensures.ok clean up in (
       ok.0,
-      commits c.args.self.now.node (g.R.RowStore.content c.args.self.now.rows) c.args.event.now c.in-Ok.outcome.outputs.items c.in-Ok.outcome.changes.items c.step.new.self (g.R.RowStore.content c.apply.new.self)
-          c.in-Ok.ensures.ok c.step.ensures.place
+      commits c.args.self.now.node (g.R.RowStore.content c.args.self.now.rows) c.args.event.now c.in-Ok-step.outcome.outputs.items c.in-Ok-step.outcome.changes.items c.step.new.self (g.R.RowStore.content c.apply.new.self)
+          c.in-Ok-step.ensures.ok c.step.ensures.place
           (ok.1 ∙ ap (λ (changes : List Change). after_all (g.R.RowStore.content c.args.self.now.rows) changes) c.deref.ensures.value),
     )
 
 pub returns-in-Ok-apply-clause-idle : goal.returns-in-Ok-apply-clause-idle
 returns-in-Ok-apply-clause-idle g c h up below idle =
-    let none = idle_changes c.args.self.now.node h c.args.event.now c.in-Ok.outcome c.in-Ok.ensures.idle up below idle in
-    ((c.in-Ok.outcome.outputs, refl, none.0), (c.in-Ok-apply.ensures.nothing (c.deref.ensures.value ∙ none.1)).1)
+    let none = idle_changes c.args.self.now.node h c.args.event.now c.in-Ok-step.outcome c.in-Ok-step.ensures.idle up below idle in
+    ((c.in-Ok-step.outcome.outputs, refl, none.0), (c.in-Ok-apply.ensures.nothing (c.deref.ensures.value ∙ none.1)).1)
 
 pub returns-in-Ok-apply-clause-crash : goal.returns-in-Ok-apply-clause-crash
 returns-in-Ok-apply-clause-crash g c clean up left may =
     let ok = c.in-Ok-apply.ensures.ok clean up in
     inr (record {
-      outputs = c.in-Ok.outcome.outputs.items;
-      changes = c.in-Ok.outcome.changes.items;
+      outputs = c.in-Ok-step.outcome.outputs.items;
+      changes = c.in-Ok-step.outcome.changes.items;
       after = c.step.new.self;
-      done = c.in-Ok.ensures.ok;
+      done = c.in-Ok-step.ensures.ok;
       written = g.met.R.RowStore.settled c.apply.new.self left ok.0 may ∙ ok.1 ∙ ap (λ (changes : List Change). after_all (g.R.RowStore.content c.args.self.now.rows) changes) c.deref.ensures.value;
     })
 
@@ -34,15 +34,15 @@ returns-in-Err-apply-clause-crash g c clean up left may =
     elim (c.in-Err-apply.ensures.crash clean up left may) [
       | inl same ↦ inl same
       | inr made ↦ inr (record {
-        outputs = c.in-Ok.outcome.outputs.items;
-        changes = c.in-Ok.outcome.changes.items;
+        outputs = c.in-Ok-step.outcome.outputs.items;
+        changes = c.in-Ok-step.outcome.changes.items;
         after = c.step.new.self;
-        done = c.in-Ok.ensures.ok;
+        done = c.in-Ok-step.ensures.ok;
         written = made ∙ ap (λ (changes : List Change). after_all (g.R.RowStore.content c.args.self.now.rows) changes) c.deref.ensures.value;
       })
     ]
 
 pub returns-in-Err-apply-clause-cause : goal.returns-in-Err-apply-clause-cause
 returns-in-Err-apply-clause-cause g c =
-    write_cause c.args.self.now.node c.args.event.now c.in-Ok.outcome c.step.new.self c.in-Err-apply.fault c.in-Ok.ensures.idle c.in-Ok.ensures.ok
+    write_cause c.args.self.now.node c.args.event.now c.in-Ok-step.outcome c.step.new.self c.in-Err-apply.fault c.in-Ok-step.ensures.idle c.in-Ok-step.ensures.ok
     (λ none. refused (c.in-Err-apply.ensures.nothing (c.deref.ensures.value ∙ none)).0)

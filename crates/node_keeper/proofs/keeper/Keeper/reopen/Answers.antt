@@ -13,7 +13,7 @@ returns-in-Ok-wake-clause-ok g c clean up =
     let ok = c.in-Ok-wake.ensures.ok clean up in
     let homes = c.in-Ok.ensures ∙ c.homes.ensures ∙ ap (λ (m : NodeView). m.homes) c.stop.ensures in
     let id = c.id.ensures ∙ ap (λ (m : NodeView). m.place.id) c.stop.ensures in
-    let place = subst (λ (m : NodeView). m.place ≡ place_of m.place.id m.homes) c.stop.ensures c.has_place.ensures in (
+    let place = subst (λ (m : NodeView). m.place ≡ place_of m.place.id m.homes) c.stop.ensures c.has_place.ensures.place in (
       ok.0,
       subst (λ (p : Place). Opens p n.homes before after c.in-Ok-wake.node) (sym place)
           (subst (λ (t : Table). Opens (place_of n.place.id t) t before after c.in-Ok-wake.node) homes

@@ -21,4 +21,4 @@ returns-in_default-clause-comes c =
     subst (λ seats. option_and_then (λ s. limit_of s.session.link) (map.get seats client) ≡ None) c.sessions.ensures (sym c.limit.ensures ∙ c.in_default.is) in
     let answer : Result (Unit {0}) NodeFault = Ok tt in
     subst (λ w. Did w w (Disconnects c.args.connection client code (Some tt))) c.self.view_is
-    (comes_unless (λ x. x) answer before before test (Sends c.args.connection (disconnect code)) (Returns tt) (ap (λ l. fits_in l code) gone) (did_nothing before tt))
+    (comes_unless (λ x. x) answer before before test (Sends c.args.connection (disconnect code)) (Returns tt) (ap (λ l. fits_in l (disconnect code)) gone) (did_nothing before tt))
