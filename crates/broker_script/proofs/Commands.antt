@@ -1,6 +1,6 @@
 -- A command's line: the words that spell it, and no other command. A new event adds a case to `same_event_words`, `event_keywords`,
 -- `not_event`, `no_event` and `event_length`, and another line one to `same_words` and `no_other`.
-use Rattle.std.proofs.Common.{◌≡◌, ◌<◌, ◌^◌, ℕ, List, [], ◌∷◌, ◌++◌, length, map, refl, sym, ap, arith, codes, Bool, true, false, ◌&&◌}
+use Rattle.std.proofs.Common.{◌≡◌, ◌<◌, ◌^◌, ℕ, List, [], ◌∷◌, ◌++◌, length, map, refl, sym, subst, ap, arith, codes, Bool, true, false, ◌&&◌}
 use Rattle.std.specs.Prelude.{not}
 use Rattle.std.proofs.lemmas.Bool.{false≢true}
 use Rattle.std.specs.List.{All, AllByRecursion, list_all}
@@ -8,11 +8,11 @@ use Rattle.std.specs.Str.{bytes_eq}
 use Rattle.std.specs.Fmt.{decimal}
 use Rattle.std.proofs.lemmas.List.{same_from_push}
 use Rattle.hex.specs.Hex.{encode_lower, IsBytes}
-use Rattle.broker_script.specs.Line.{event_words, line_words, event_spelling, spelling, IsEventInRange, IsInRange}
+use Rattle.broker_script.specs.Line.{event_words, line_words, event_spelling, spelling, IsEventInRange, IsInRange, IsPlain}
 use Rattle.broker_script.specs.declared.command.Command.{Command}
 use Rattle.broker_script.specs.declared.command.Command.TheVariants.{Nodes, Home, Event, CrashBefore, CrashAfter, Restart, Deliver}
 use Rattle.broker_script.specs.declared.event.NodeEvent.{NodeEvent}
-use Rattle.broker_script.specs.declared.event.NodeEvent.TheVariants.{Start, Open, Bytes, Close, Ship, Link, Tick, Evict}
+use Rattle.broker_script.specs.declared.event.NodeEvent.TheVariants.{Start, Open, Bytes, Close, Ship, Link, Tick, Evict, Move}
 use Rattle.broker_script.proofs.Words.{apart, heads, tails, same_line, all_none, all_cons}
 
 -- an event's spelling tells what the event says
@@ -34,11 +34,13 @@ same_event_words (Link _ _ _) (Link _ _ _) h k e = same_line _ _ h k (refl, (ref
 same_event_words (Link _ _ _) _ h k e = absurd (apart _ _ _ _ refl e)
 same_event_words (Evict _ _ _) (Evict _ _ _) h k e = same_line _ _ h k (refl, (refl, (refl, (refl, tt)))) e
 same_event_words (Evict _ _ _) _ h k e = absurd (apart _ _ _ _ refl e)
+same_event_words (Move _ _ _ _ _) (Move _ _ _ _ _) h k e = same_line _ _ h k (refl, (refl, (refl, (refl, (refl, (refl, tt)))))) e
+same_event_words (Move _ _ _ _ _) _ h k e = absurd (apart _ _ _ _ refl e)
 
 -- the keywords of events
 abbrev pub event_keywords : List (List ℕ)
 event_keywords =
-    codes "start" ∷ codes "open" ∷ codes "bytes" ∷ codes "close" ∷ codes "tick" ∷ codes "ship" ∷ codes "evict" ∷ codes "link" ∷ []
+    codes "start" ∷ codes "open" ∷ codes "bytes" ∷ codes "close" ∷ codes "tick" ∷ codes "ship" ∷ codes "evict" ∷ codes "link" ∷ codes "move" ∷ []
 
 apart_first : (a b : Bool) → (not a && b) ≡ true → (a ≡ false) × (b ≡ true)
 apart_first false b h = (refl, h)
@@ -62,6 +64,7 @@ not_event word rest (Tick _ _) n h = apart _ _ _ _ (apart_each word event_keywor
 not_event word rest (Ship _ _ _) n h = apart _ _ _ _ (apart_each word event_keywords n).1.1.1.1.1.0 h
 not_event word rest (Evict _ _ _) n h = apart _ _ _ _ (apart_each word event_keywords n).1.1.1.1.1.1.0 h
 not_event word rest (Link _ _ _) n h = apart _ _ _ _ (apart_each word event_keywords n).1.1.1.1.1.1.1.0 h
+not_event word rest (Move _ _ _ _ _) n h = apart _ _ _ _ (apart_each word event_keywords n).1.1.1.1.1.1.1.1.0 h
 
 -- a spelling tells what its command says
 pub same_words : (a b : Command) → IsInRange a → IsInRange b → spelling a ≡ spelling b → line_words a ≡ line_words b
@@ -125,6 +128,13 @@ not_bytes ws w none _ r h = absurd (apart _ _ _ _ refl h)
 abbrev pub SpellsNoEvent : List ℕ → List (List ℕ) → Type 0
 SpellsNoEvent keyword rest = (e : NodeEvent) → IsEventInRange e → keyword ∷ rest ≡ event_spelling e → ⊥
 
+-- the third of the words after `move` is a prefix
+pub not_move : (a b w : List ℕ) (rest : List (List ℕ)) → (IsPlain 255 w → ⊥) → SpellsNoEvent (codes "move") (a ∷ b ∷ w ∷ rest)
+not_move a b w rest none (Move _ _ p _ _) r h =
+    let same = heads _ _ _ _ (tails _ _ _ _ (tails _ _ _ _ (tails _ _ _ _ h))) in
+    none (subst (IsPlain 255) (sym same) r.1.1.1.0)
+not_move a b w rest none _ r h = absurd (apart _ _ _ _ refl h)
+
 -- the events of nodes and numbers alone: where their words aren't those, they spell nothing
 pub no_start : (rest : List (List ℕ)) → NoFields 1 1 rest → SpellsNoEvent (codes "start") rest
 no_start rest none (Start a b) r h = none (a ∷ []) (b ∷ []) refl (one_in _ a r.1.0) refl (one_in _ b r.1.1.0) (tails _ _ _ _ h)
@@ -157,15 +167,16 @@ no_link rest none _ r h = absurd (apart _ _ _ _ refl h)
 -- another keyword spells no event
 pub no_event : (word : List ℕ) (rest : List (List ℕ)) → (word ≡ codes "start" → ⊥) → (word ≡ codes "open" → ⊥)
     → (word ≡ codes "ship" → ⊥) → (word ≡ codes "bytes" → ⊥) → (word ≡ codes "evict" → ⊥) → (word ≡ codes "close" → ⊥)
-    → (word ≡ codes "tick" → ⊥) → (word ≡ codes "link" → ⊥) → SpellsNoEvent word rest
-no_event word rest s o h b v q t l (Start _ _) r e = s (heads _ _ _ _ e)
-no_event word rest s o h b v q t l (Open _ _ _) r e = o (heads _ _ _ _ e)
-no_event word rest s o h b v q t l (Ship _ _ _) r e = h (heads _ _ _ _ e)
-no_event word rest s o h b v q t l (Bytes _ _ _ _) r e = b (heads _ _ _ _ e)
-no_event word rest s o h b v q t l (Evict _ _ _) r e = v (heads _ _ _ _ e)
-no_event word rest s o h b v q t l (Close _ _ _) r e = q (heads _ _ _ _ e)
-no_event word rest s o h b v q t l (Tick _ _) r e = t (heads _ _ _ _ e)
-no_event word rest s o h b v q t l (Link _ _ _) r e = l (heads _ _ _ _ e)
+    → (word ≡ codes "tick" → ⊥) → (word ≡ codes "link" → ⊥) → (word ≡ codes "move" → ⊥) → SpellsNoEvent word rest
+no_event word rest s o h b v q t l m (Start _ _) r e = s (heads _ _ _ _ e)
+no_event word rest s o h b v q t l m (Open _ _ _) r e = o (heads _ _ _ _ e)
+no_event word rest s o h b v q t l m (Ship _ _ _) r e = h (heads _ _ _ _ e)
+no_event word rest s o h b v q t l m (Bytes _ _ _ _) r e = b (heads _ _ _ _ e)
+no_event word rest s o h b v q t l m (Evict _ _ _) r e = v (heads _ _ _ _ e)
+no_event word rest s o h b v q t l m (Close _ _ _) r e = q (heads _ _ _ _ e)
+no_event word rest s o h b v q t l m (Tick _ _) r e = t (heads _ _ _ _ e)
+no_event word rest s o h b v q t l m (Link _ _ _) r e = l (heads _ _ _ _ e)
+no_event word rest s o h b v q t l m (Move _ _ _ _ _) r e = m (heads _ _ _ _ e)
 
 -- the keyword and the words after it spell no command
 abbrev pub SpellsNone : List ℕ → List (List ℕ) → Type 0
@@ -198,6 +209,7 @@ event_length (Ship _ _ _) = omega arith
 event_length (Link _ _ _) = omega arith
 event_length (Tick _ _) = omega arith
 event_length (Evict _ _ _) = omega arith
+event_length (Move _ _ _ _ _) = omega arith
 
 -- a crash line has the side and an event after its keyword
 pub no_crash_of_few : (rest : List (List ℕ)) → length rest < 2 → SpellsNone (codes "crash") rest

@@ -10,7 +10,7 @@ use Rattle.broker_script.specs.Script.{IsText, count_in, FitsAll, prefix_in, may
 use Rattle.broker_script.specs.declared.command.Command.{Command}
 use Rattle.broker_script.specs.declared.command.Command.TheVariants.{Nodes, Home, Event, CrashBefore, CrashAfter, Restart, Deliver}
 use Rattle.broker_script.specs.declared.event.NodeEvent.{NodeEvent}
-use Rattle.broker_script.specs.declared.event.NodeEvent.TheVariants.{Start, Open, Bytes, Close, Ship, Link, Tick, Evict}
+use Rattle.broker_script.specs.declared.event.NodeEvent.TheVariants.{Start, Open, Bytes, Close, Ship, Link, Tick, Evict, Move}
 use Rattle.broker_script.specs.declared.fault.ScriptFault.{ScriptFault}
 use Rattle.broker_script.specs.declared.fault.ScriptFault.TheVariants.{Line, NoMemory}
 use Rattle.broker_script.proofs.Words.{heads, tails}
@@ -93,6 +93,7 @@ event_has_no_prefix (Ship _ _ _) = refl
 event_has_no_prefix (Link _ _ _) = refl
 event_has_no_prefix (Tick _ _) = refl
 event_has_no_prefix (Evict _ _ _) = refl
+event_has_no_prefix (Move _ _ _ _ _) = refl
 
 pub no_home : (c : Command) → ((prefix : _) (node : ℕ) → c ≡ Home prefix node → ⊥) → prefix_in (line_words c) ≡ None
 no_home (Nodes _) h = refl

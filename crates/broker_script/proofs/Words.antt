@@ -11,7 +11,7 @@ use Rattle.std.specs.Fmt.{decimal}
 use Rattle.std.specs.Str.Parse.{ParsesUnsigned, AllDigits, digits_value}
 use Rattle.std.proofs.lemmas.Fmt.{decimal_digit, first_decimal, decimal_nonempty, parse-decimal, decimal-digits_value, decimal_injective}
 use Rattle.std.proofs.lemmas.Str.Parse.{IsNumeralModel, numerals_by_value, tells_digits, parse_plain}
-use Rattle.broker_script.specs.Line.{Word, literal, node_count, node_number, whole_number, hex_bytes, client_identifier, home_prefix, spelled, IsWordInRange}
+use Rattle.broker_script.specs.Line.{Word, literal, node_count, node_number, whole_number, hex_bytes, client_identifier, home_prefix, table_version, spelled, IsWordInRange}
 
 plain : IsNumeralModel (AllDigits 10) (digits_value 10)
 plain = numerals_by_value _ tells_digits
@@ -118,6 +118,7 @@ of_a_kind (whole_number _) (whole_number _) = true
 of_a_kind (hex_bytes _) (hex_bytes _) = true
 of_a_kind (client_identifier _) (client_identifier _) = true
 of_a_kind (home_prefix _) (home_prefix _) = true
+of_a_kind (table_version _) (table_version _) = true
 of_a_kind _ _ = false
 
 -- a word is known by its kind and its text
@@ -136,6 +137,8 @@ same_word (client_identifier x) (client_identifier y) h k s e = ap client_identi
 same_word (client_identifier x) _ h k s e = absurd (false≢true s)
 same_word (home_prefix x) (home_prefix y) h k s e = ap home_prefix e
 same_word (home_prefix x) _ h k s e = absurd (false≢true s)
+same_word (table_version x) (table_version y) h k s e = ap table_version (same_number (2 ^ 32) x y (omega arith) h k e)
+same_word (table_version x) _ h k s e = absurd (false≢true s)
 
 -- the kinds of two lists of words are the same
 abbrev pub AreAlike : List Word → List Word → Type 0

@@ -6,7 +6,7 @@ use Rattle.hex.specs.Hex.{encode_lower, IsBytes}
 use Rattle.broker_script.specs.declared.command.Command.{Command}
 use Rattle.broker_script.specs.declared.command.Command.TheVariants.{Nodes, Home, Event, CrashBefore, CrashAfter, Restart, Deliver}
 use Rattle.broker_script.specs.declared.event.NodeEvent.{NodeEvent}
-use Rattle.broker_script.specs.declared.event.NodeEvent.TheVariants.{Start, Open, Bytes, Close, Ship, Link, Tick, Evict}
+use Rattle.broker_script.specs.declared.event.NodeEvent.TheVariants.{Start, Open, Bytes, Close, Ship, Link, Tick, Evict, Move}
 
 -- a word of a line, by what it says
 pub data Word : Type 0 where
@@ -17,6 +17,7 @@ pub data Word : Type 0 where
   hex_bytes : List ℕ → Word
   client_identifier : List ℕ → Word
   home_prefix : List ℕ → Word
+  table_version : ℕ → Word
 
 -- the words of an event's line: a case for each event that a script may have
 abbrev pub event_words : NodeEvent → List Word
@@ -32,6 +33,8 @@ event_words (Link node peer moment) = literal (codes "link") ∷ node_number nod
 event_words (Tick node moment) = literal (codes "tick") ∷ node_number node ∷ whole_number moment ∷ []
 event_words (Evict node client moment) =
     literal (codes "evict") ∷ node_number node ∷ client_identifier (string_bytes client) ∷ whole_number moment ∷ []
+event_words (Move node version prefix home moment) =
+    literal (codes "move") ∷ node_number node ∷ table_version version ∷ home_prefix (string_bytes prefix) ∷ node_number home ∷ whole_number moment ∷ []
 
 -- the words of a command's line: a case for each line that a script may have
 abbrev pub line_words : Command → List Word
@@ -53,6 +56,7 @@ spelled (whole_number n) = decimal n
 spelled (hex_bytes bytes) = encode_lower bytes
 spelled (client_identifier bytes) = bytes
 spelled (home_prefix bytes) = bytes
+spelled (table_version n) = decimal n
 
 -- the texts of an event's words
 abbrev pub event_spelling : NodeEvent → List (List ℕ)
@@ -67,7 +71,7 @@ abbrev pub IsPlain : ℕ → List ℕ → Type 0
 IsPlain most bytes = (0 < length bytes) × (length bytes ≤ most) × All (λ b. (33 ≤ b) × (b ≤ 126)) bytes
 
 -- what a word may say: nodes below 2^16, whole numbers below 2^64, one byte at least, a client identifier of at most 256
--- bytes, a prefix of at most 255
+-- bytes, a prefix of at most 255, versions below 2^32
 abbrev pub IsWordInRange : Word → Type 0
 IsWordInRange (literal _) = Unit {0}
 IsWordInRange (node_count n) = n < 2 ^ 16
@@ -76,6 +80,7 @@ IsWordInRange (whole_number n) = n < 2 ^ 64
 IsWordInRange (hex_bytes bytes) = (0 < length bytes) × IsBytes bytes
 IsWordInRange (client_identifier bytes) = IsPlain 256 bytes
 IsWordInRange (home_prefix bytes) = IsPlain 255 bytes
+IsWordInRange (table_version n) = n < 2 ^ 32
 
 -- each word of an event's line may say what it does
 abbrev pub IsEventInRange : NodeEvent → Type 0

@@ -59,6 +59,16 @@ pub enum NodeEvent {
         client: String,
         moment: u64,
     },
+    /// `move NODE VERSION PREFIX HOME MOMENT`: the node is handed another table of homes, the script's with
+    /// this version, in which the home of the client identifiers that begin with the prefix is the node HOME.
+    /// PREFIX has 1 to 255 bytes, each from 33 to 126.
+    Move {
+        node: u16,
+        version: u32,
+        prefix: String,
+        home: u16,
+        moment: u64,
+    },
 }
 
 impl NodeEvent {
@@ -75,6 +85,7 @@ impl NodeEvent {
             NodeEvent::Ship { node, peer, .. } => *node < nodes && *peer < nodes,
             NodeEvent::Link { node, peer, .. } => *node < nodes && *peer < nodes,
             NodeEvent::Evict { node, .. } => *node < nodes,
+            NodeEvent::Move { node, home, .. } => *node < nodes && *home < nodes,
         }
     }
 }
@@ -112,6 +123,13 @@ impl fmt::Display for NodeEvent {
                 client,
                 moment,
             } => { write!(f, "evict {node} {client} {moment}") }
+            NodeEvent::Move {
+                node,
+                version,
+                prefix,
+                home,
+                moment,
+            } => { write!(f, "move {node} {version} {prefix} {home} {moment}") }
         }
     }
 }

@@ -7,14 +7,15 @@ use crate::command::Command;
 use crate::event::NodeEvent;
 use crate::word::{
     MOST_CLIENT_BYTES, MOST_PREFIX_BYTES, parse_fields, parse_hex, parse_name, parse_node,
-    parse_number, words_of,
+    parse_number, parse_version, words_of,
 };
 use std::alloc::{AllocError, Global};
 
-/// The event that a keyword and the words after it spell, but for `bytes` and `evict`.
+/// The event that a keyword and the words after it spell, but for `bytes`, `evict` and `move`.
 fn parse_plain(keyword: &str, rest: &[&str]) -> Option<NodeEvent>
     requires not_bytes { keyword.now ≢ codes "bytes" }
     requires not_evict { keyword.now ≢ codes "evict" }
+    requires not_move { keyword.now ≢ codes "move" }
     ensures some { IfSome result (λ event. IsEventInRange event
         × (keyword.now ∷ map (λ word. word.now) rest.now ≡ event_spelling event)) }
     ensures none { IfNone result ((event : _) → IsEventInRange event →
@@ -108,6 +109,40 @@ fn parse_evict(alloc: Global, rest: &[&str]) -> Result<Option<NodeEvent>, AllocE
     }
 }
 
+/// The event that `move` and the words after it spell.
+fn parse_move(alloc: Global, rest: &[&str]) -> Result<Option<NodeEvent>, AllocError>
+    ensures some { IfOk result (λ r. IfSome r (λ event. IsEventInRange event
+        × (codes "move" ∷ map (λ word. word.now) rest.now ≡ event_spelling event))) }
+    ensures none { IfOk result (λ r. IfNone r ((event : _) → IsEventInRange event →
+        codes "move" ∷ map (λ word. word.now) rest.now ≡ event_spelling event → ⊥)) }
+{
+    let [node, version, prefix, home, moment] = rest else {
+        return Ok(None);
+    };
+    let Some(node) = parse_node(node) else {
+        return Ok(None);
+    };
+    let Some(version) = parse_version(version) else {
+        return Ok(None);
+    };
+    let Some(home) = parse_node(home) else {
+        return Ok(None);
+    };
+    let Some(moment) = parse_number(moment) else {
+        return Ok(None);
+    };
+    match parse_name(alloc, MOST_PREFIX_BYTES, prefix)? {
+        Some(prefix) => Ok(Some(NodeEvent::Move {
+            node,
+            version,
+            prefix,
+            home,
+            moment,
+        })),
+        None => Ok(None),
+    }
+}
+
 /// The event that a keyword and the words after it spell.
 fn parse_event(alloc: Global, keyword: &str, rest: &[&str]) -> Result<Option<NodeEvent>, AllocError>
     ensures some { IfOk result (λ r. IfSome r (λ event. IsEventInRange event
@@ -118,6 +153,7 @@ fn parse_event(alloc: Global, keyword: &str, rest: &[&str]) -> Result<Option<Nod
     match keyword {
         "bytes" => parse_bytes(alloc, rest),
         "evict" => parse_evict(alloc, rest),
+        "move" => parse_move(alloc, rest),
         _ => Ok(parse_plain(keyword, rest)),
     }
 }

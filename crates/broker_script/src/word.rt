@@ -65,6 +65,18 @@ pub(crate) fn parse_node(word: &str) -> Option<u16>
     Some(number as u16)
 }
 
+/// The version of a table of homes that a word spells.
+pub(crate) fn parse_version(word: &str) -> Option<u32>
+    ensures some { IfSome result (λ n. (n < 2 ^ 32) × (word.now ≡ decimal n)) }
+    ensures none { IfNone result ((n : ℕ) → n < 2 ^ 32 → word.now ≡ decimal n → ⊥) }
+{
+    let number = parse_number(word)?;
+    if number > 0xffff_ffff {
+        return None;
+    }
+    Some(number as u32)
+}
+
 /// The bytes, one at least, that a word spells in lower case hexadecimal.
 pub(crate) fn parse_hex(alloc: Global, word: &str) -> Result<Option<Vec<u8>>, AllocError>
     ensures some { IfOk result (λ r. IfSome r (λ v.

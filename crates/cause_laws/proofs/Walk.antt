@@ -21,6 +21,7 @@ use Rattle.bridge_frames.specs.Frames.{frame_in}
 use Rattle.message_copies.specs.declared.plain.PlainCopy.{PlainCopy as Copy}
 use Rattle.message_routes.specs.declared.destinations.Route.{Route}
 use Rattle.message_routes.specs.declared.destinations.Route.TheVariants.{Nothing, Lane, TooLarge}
+use Rattle.home_table.specs.Table.{Table}
 use Rattle.node_bridge.specs.View.{is_next, lane_to}
 use Rattle.replica_store.specs.States.{State}
 use Rattle.due_times.specs.Dues.{Due}
@@ -29,22 +30,23 @@ use Rattle.session_table.specs.Calls.{stays, leaves, moves}
 use Rattle.session_table.specs.Seats.{run_outs, wills_due, ends_due, connected}
 use Rattle.node_work.specs.declared.counts.Missed.{Missed}
 use Rattle.node_work.specs.declared.granted.Granted.{Granted}
-use Rattle.node_work.specs.declared.counts.Missed.TheVariants.{LaneFull, BadFrame, FrameTooLarge}
+use Rattle.node_work.specs.declared.counts.Missed.TheVariants.{LaneFull, BadFrame, FrameTooLarge, TableRefused}
 use Rattle.node_work.specs.declared.outcome.Output.TheVariants.{Send, Close}
-use Rattle.node_work.specs.Acts.{Act, StoreAct, Began, Store, Made, Merged, Connection, Session, Bridge, Out, Acknowledged, Passed, Dropped}
+use Rattle.node_work.specs.Acts.{Act, StoreAct, Began, Moved, Store, Made, Merged, Connection, Session, Bridge, Out, Acknowledged, Passed, Dropped}
 use Rattle.node_work.specs.Calling.{Calls, Queues, QueuesOne}
-use Rattle.node_work.specs.Doings.{Sends, Disconnects, Misses, Puts, RoutesBy, Routes, TakesMoment, Gives, GivesFrame, is_small}
+use Rattle.node_work.specs.Doings.{Sends, Disconnects, Redirects, Misses, Puts, RoutesBy, Routes, TakesMoment, Gives, GivesFrame, is_small}
 use Rattle.node_work.specs.Held.Bridge.{Took, Gave, Got as GotBy, Believed, Left_out}
 use Rattle.node_work.specs.Held.Connections.{Opened, Accepted, Closed, Fed, is_open, client_at, first_at}
 use Rattle.node_work.specs.Held.Feeding.{cut_of}
-use Rattle.node_work.specs.Held.Sessions.{SessionAct, Begun, Called, Over, takes_disconnect, will_is_due, end_is_due, connection_at, has_session}
+use Rattle.node_work.specs.Held.Sessions.{SessionAct, Begun, Called, Over, takes_disconnect, takes_packet, will_is_due, end_is_due, connection_at, has_session}
 use Rattle.node_work.specs.Frames.{is_for, is_other}
-use Rattle.node_work.specs.Packets.{refused_packet}
+use Rattle.node_work.specs.Packets.{moved_packet, refused_packet}
 use Rattle.node_work.specs.Passing.{turn_at_end}
 use Rattle.node_work.specs.View.{Place, HeldView, ConnectionView}
 use Rattle.node_work.specs.Working.{Doing, Returns, Acting, Numbered, Looks, Finds, If, Where, Then, Each}
 use Rattle.node_clients.specs.Connecting as connecting
 use Rattle.node_clients.specs.Ending as ending
+use Rattle.node_clients.specs.Moving as moving
 use Rattle.node_clients.specs.Naming.{IsNextNumber}
 use Rattle.node_clients.specs.Passing as passing
 use Rattle.node_clients.specs.Pieces as pieces
@@ -56,6 +58,7 @@ use Rattle.broker_node.specs.declared.event.EventKind.{EventKind}
 use Rattle.broker_node.specs.declared.event.EventKind.TheVariants as kinds
 use Rattle.broker_node.specs.Bridge as bridge
 use Rattle.broker_node.specs.Due as due
+use Rattle.broker_node.specs.Moving as tables
 use Rattle.broker_node.specs.Turns as turns
 
 -- an act that makes no operation, and neither calls a session nor ends one
@@ -317,10 +320,42 @@ module _ (K : (A : Type 0) → (Option A → Doing) → Type 0) (w : Walks K) wh
         parts_from : (client : List ℕ) → Does (due.PartsFrom client)
         parts_from client = w.join (Calls client closes leaves) (λ _. Returns tt) (w.calls client closes leaves) (λ _. w.returns tt)
 
+        -- ---- clients whose home is elsewhere
+        redirects : (c : ℕ) (client address : List ℕ) → Does (Redirects c client address)
+        redirects c client address =
+            w.looks (λ p h. takes_packet client (moved_packet address) h) (λ taken. If taken (Sends c (moved_packet address)) (Returns tt))
+            (λ taken. w.by_test taken (Sends c (moved_packet address)) (Returns tt) (sends c (moved_packet address)) (w.returns tt))
+
+        redirects_by : (c : ℕ) (client : List ℕ) (address : Option (List ℕ)) → Does (moving.RedirectsBy c client address)
+        redirects_by c client None = w.returns tt
+        redirects_by c client (Some address) = redirects c client address
+
+        redirects_home : (c : ℕ) (client : List ℕ) → Does (moving.RedirectsHome c client)
+        redirects_home c client =
+            w.finds (ending.IsAtHome client) (moving.RedirectsTo c client) (λ node. w.looks (λ p h. connecting.address_of h node) (moving.RedirectsBy c client) (redirects_by c client))
+
+        parts_on : (client : List ℕ) (on : Option ℕ) → Does (moving.PartsOn client on)
+        parts_on client None = w.returns tt
+        parts_on client (Some c) = w.join (moving.RedirectsHome c client) (λ _. ending.ClosesFor c client) (redirects_home c client) (λ _. closes_for c client)
+
+        moves_away : (client : List ℕ) → Does (moving.MovesAway client)
+        moves_away client =
+            w.join (moving.PartsWays client) (λ _. ending.Finishes client) (w.looks (λ p h. connection_at client h) (moving.PartsOn client) (parts_on client)) (λ _. finishes_of client)
+
+        sends_away : Does tables.SendsAway
+        sends_away = w.finds tables.AreAway (Each moving.MovesAway) (λ away. each moving.MovesAway away moves_away)
+
+        takes_table : (homes : Table) → Does (tables.TakesTable homes)
+        takes_table homes =
+            w.looks (tables.is_newer homes) (λ newer. If newer (tables.Moves homes) (Misses TableRefused))
+            (λ newer. w.by_test newer (tables.Moves homes) (Misses TableRefused)
+            (w.join (Acting (λ p h. Moved homes)) (λ _. tables.SendsAway) (w.acting (λ p h. Moved homes) (λ p h. tt)) (λ _. sends_away)) (misses TableRefused))
+
         starts : Does due.Starts
         starts =
-            w.join (Acting (λ p h. Began)) (λ _. Then due.ClosesStored (λ _. due.DoesDue)) (w.acting (λ p h. Began) (λ p h. tt)) (λ _.
-            w.join due.ClosesStored (λ _. due.DoesDue) (w.looks (λ p h. connected h.sessions) (Each due.PartsFrom) (λ cs. each due.PartsFrom cs parts_from)) (λ _. does_due))
+            w.join (Acting (λ p h. Began)) (λ _. Then due.ClosesStored (λ _. Then due.DoesDue (λ _. tables.SendsAway))) (w.acting (λ p h. Began) (λ p h. tt)) (λ _.
+            w.join due.ClosesStored (λ _. Then due.DoesDue (λ _. tables.SendsAway)) (w.looks (λ p h. connected h.sessions) (Each due.PartsFrom) (λ cs. each due.PartsFrom cs parts_from)) (λ _.
+            w.join due.DoesDue (λ _. tables.SendsAway) does_due (λ _. sends_away)))
 
         -- ---- frames
         gives_frame : (f : BridgeFrame) → Does (GivesFrame f)
@@ -383,6 +418,7 @@ module _ (K : (A : Type 0) → (Option A → Doing) → Type 0) (w : Walks K) wh
         answers_kind (kinds.Ship peer) is = ships peer
         answers_kind kinds.Tick is = w.returns tt
         answers_kind (kinds.Evict client) is = evicts client is
+        answers_kind (kinds.Table homes) is = takes_table homes
 
         after_due : (kind : EventKind) → e.kind ≡ kind → Does (Then due.DoesDue (λ _. turns.Answers kind))
         after_due kind is = w.join due.DoesDue (λ _. turns.Answers kind) does_due (λ _. answers_kind kind is)
@@ -397,6 +433,7 @@ module _ (K : (A : Type 0) → (Option A → Doing) → Type 0) (w : Walks K) wh
         goes_on (kinds.Ship peer) is = after_due (kinds.Ship peer) is
         goes_on kinds.Tick is = after_due kinds.Tick is
         goes_on (kinds.Evict client) is = after_due (kinds.Evict client) is
+        goes_on (kinds.Table homes) is = after_due (kinds.Table homes) is
 
         first_turn : (kind : EventKind) → Does (turns.First kind)
         first_turn kinds.Started = starts
@@ -408,6 +445,7 @@ module _ (K : (A : Type 0) → (Option A → Doing) → Type 0) (w : Walks K) wh
         first_turn (kinds.Ship peer) = w.returns tt
         first_turn kinds.Tick = w.returns tt
         first_turn (kinds.Evict client) = w.returns tt
+        first_turn (kinds.Table homes) = w.returns tt
 
         pub decides : Does (turns.Decides e)
         decides =

@@ -4,7 +4,7 @@ use Rattle.std.specs.FinSet as set
 use Rattle.causal_context.specs.Dots.{Dot}
 use Rattle.replica_store.specs.StateOf.{IsStateOf}
 use Rattle.node_work.specs.Acts.{Act, Runs, gather, op_in}
-use Rattle.node_work.specs.View.{Place, HeldView}
+use Rattle.node_work.specs.View.{Place, HeldView, fresh}
 use Rattle.node_laws.specs.Moves.{Moves, did}
 use Rattle.node_laws.proofs.MoveLaws.{moves_join, acts_are_moves}
 use Rattle.cluster_play.specs.Worlds.{World}
@@ -16,7 +16,7 @@ use Rattle.cluster_play.proofs.Bridging.{IsKept}
 use Rattle.cluster_play.proofs.Sites.{get_within}
 use Rattle.cluster_play.proofs.Sound.{Grown, state_by}
 use Rattle.cluster_play.proofs.Brought.{site_amid}
-use Rattle.cluster_play.proofs.Explaining.{fresh_at, past}
+use Rattle.cluster_play.proofs.Explaining.{past}
 use Rattle.cluster_play.proofs.Kept.{explained}
 use Rattle.cluster_play.proofs.Moments.{moves_moment}
 use Rattle.cluster_play.proofs.Parts.{AreParts}
@@ -51,8 +51,8 @@ amid_acts run later m w r before rest a is =
     let place = c.was.node.place in
     let same : here.held ≡ c.before = sym (here.up c.before c.up) in
     let parts = runs_split place before (a ∷ rest) c.before c.after (subst (λ acts. Runs place c.before acts c.after) is c.steps.runs) in
-    let g = site_amid (past run) half.mid x i e.0 (acts_of m.fate) half.path.0 c known before (a ∷ rest) parts.0 is parts.1 in
-    let first = fresh_at c.was.node in
+    let g = site_amid (past half.reached.start run) half.mid x i e.0 (acts_of m.fate) half.path.0 c known before (a ∷ rest) parts.0 is parts.1 in
+    let first = fresh here.first in
     let moves : Moves place first (moves_at i run) c.before = subst (Moves place first (moves_at i run)) same here.moves in
     let many : length half.mid.sites ≡ length w.sites = sym (run_sites (m ∷ later) half.mid w half.path) in
     record {

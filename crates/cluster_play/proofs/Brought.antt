@@ -67,6 +67,7 @@ module _ (p : Past) (w : World) (e : Explains p w) where
   all_brought q (kinds.Ship peer) known = tt
   all_brought q kinds.Tick known = tt
   all_brought q (kinds.Evict client) known = tt
+  all_brought q (kinds.Table homes) known = tt
 
   pub all_merged : (q : Place) (h h' : HeldView) (v : Event) (acts : List Act) (outputs : List Output) → IsKnown w.frames v.kind → Steps q h v acts outputs h' → AllSound p.ops (gather merge_in acts)
   all_merged q h h' v acts outputs known s = subst (AllSound p.ops) (sym s.merged) (all_if h.started (brought q v.kind) (all_brought q v.kind known))
@@ -99,6 +100,7 @@ module _ (p : Past) (w : World) (e : Explains p w) where
   so_brought q (kinds.Ship peer) bs known h = none_so bs h
   so_brought q kinds.Tick bs known h = none_so bs h
   so_brought q (kinds.Evict client) bs known h = none_so bs h
+  so_brought q (kinds.Table homes) bs known h = none_so bs h
 
   pub all_so : (q : Place) (h h' : HeldView) (v : Event) (acts : List Act) (outputs : List Output) → IsKnown w.frames v.kind → Steps q h v acts outputs h' → AreSo p.took (gather heard_in acts)
   all_so q h h' v acts outputs known s = so_if h.started (IsHeard q v.kind (gather heard_in acts)) (gather heard_in acts) (so_brought q v.kind (gather heard_in acts) known) s.heard

@@ -11,7 +11,7 @@ use Rattle.bridge_frames.specs.declared.body.FrameBody.TheVariants.{Delta}
 use Rattle.bridge_frames.specs.declared.frame.BridgeFrame.{BridgeFrame}
 use Rattle.bridge_frames.specs.Frames.{HasSpelling, spelling}
 use Rattle.bridge_frames.proofs.FrameLaws.{read_again}
-use Rattle.node_work.specs.Acts.{Act, Moment, Began, Store, Connection, Session, Bridge, Out, Named, Acknowledged, Passed, Dropped, Made, Merged, IsMade, Runs, gather, merge_in}
+use Rattle.node_work.specs.Acts.{Act, Moment, Began, Moved, Store, Connection, Session, Bridge, Out, Named, Acknowledged, Passed, Dropped, Made, Merged, IsMade, Runs, gather, merge_in}
 use Rattle.node_work.specs.Held.Bridge.{Carries, Gave}
 use Rattle.broker_node.specs.Step.{brought, brought_in}
 use Rattle.bridge_deltas.proofs.Shipping.{shipped_enough}
@@ -104,6 +104,7 @@ merges_gain : (acts : List Act) (d : Dot) → any_lists (gather merge_in acts) d
 merges_gain [] d h = h
 merges_gain (Moment at ∷ acts) d h = merges_gain acts d h
 merges_gain (Began ∷ acts) d h = merges_gain acts d h
+merges_gain (Moved homes ∷ acts) d h = merges_gain acts d h
 merges_gain (Store (Made o) ∷ acts) d h = or_right (same_dot (dot_of o) d) (gained acts d) (merges_gain acts d h)
 merges_gain (Store (Merged t) ∷ acts) d h = elim (or_true (set.contains t.taken d) (any_lists (gather merge_in acts) d) h) [
   | inl a ↦ or_left (set.contains t.taken d) (gained acts d) a

@@ -16,7 +16,7 @@ use Rattle.node_work.specs.declared.frame.Frame.{Frame}
 use Rattle.node_work.specs.Acts.{Act, Bridge, Runs, gather, op_in, merge_in}
 use Rattle.node_work.specs.Held.Bridge.{Gave}
 use Rattle.node_work.specs.Lasting.{lasting}
-use Rattle.node_work.specs.View.{Place, HeldView}
+use Rattle.node_work.specs.View.{Place, HeldView, fresh}
 use Rattle.node_laws.specs.Moves.{Move, Moves, Lost as Loses, did}
 use Rattle.node_laws.proofs.MoveLaws.{moves_join, acts_are_moves}
 use Rattle.cluster_play.specs.declared.step.Step.{Step}
@@ -28,7 +28,7 @@ use Rattle.cluster_play.proofs.Bridging.{IsKept, kept_more, woken_kept}
 use Rattle.cluster_play.proofs.Giving.{given_out}
 use Rattle.cluster_play.proofs.Sites.{each_changed, get_within}
 use Rattle.cluster_play.proofs.Paths.{known_event, step_sites}
-use Rattle.cluster_play.proofs.Rows.{Committed, Rests, Stays, Woke, came, table_again, table_stays}
+use Rattle.cluster_play.proofs.Rows.{Committed, Rests, Stays, Woke, came}
 use Rattle.cluster_play.proofs.Sound.{Sound, Grown}
 use Rattle.cluster_play.proofs.Growing.{AllSound, Grows, Holding, acts_grow}
 use Rattle.cluster_play.proofs.Parts.{AreParts, parts_stay}
@@ -36,7 +36,7 @@ use Rattle.cluster_play.proofs.Plain.{AllPlain}
 use Rattle.cluster_play.proofs.Lasts.{may_be_same, reopened}
 use Rattle.cluster_play.proofs.Splits.{all_front, all_weaker, gained_both, gather_both, runs_split}
 use Rattle.cluster_play.proofs.Telling.{WasGiven, given_more, told}
-use Rattle.cluster_play.proofs.Explaining.{Past, past_and, fresh_at, led_by, Seated, Explains, seat_lasts}
+use Rattle.cluster_play.proofs.Explaining.{Past, past_and, led_by, Seated, Explains, seat_lasts}
 use Rattle.cluster_play.proofs.Brought.{all_merged, Acted, site_amid}
 
 -- ---- another node than the one of the fate
@@ -66,8 +66,10 @@ seat_stays p count i fate s s' x stays holding none idle = record {
   nodes = ap (λ (q : Place). q.nodes) stays.place ∙ x.nodes;
   held = x.held;
   homes = stays.homes ∙ x.homes;
-  moves = led_by s.node s'.node (p.moves i ++ own_moves i fate) x.held stays.place stays.homes
-      (subst (λ ms. Moves s.node.place (fresh_at s.node) ms x.held) (sym (ap (λ ms. p.moves i ++ ms) none ∙ append-nil (p.moves i))) x.moves);
+  first = x.first;
+  was = x.was;
+  moves = led_by s.node.place s'.node.place x.first (p.moves i ++ own_moves i fate) x.held stays.place
+      (subst (λ ms. Moves s.node.place (fresh x.first) ms x.held) (sym (ap (λ ms. p.moves i ++ ms) none ∙ append-nil (p.moves i))) x.moves);
   rows = subst (λ (q : Place). AreOf q s'.rows x.held) (sym stays.place) (subst (λ rows. AreOf s.node.place rows x.held) (sym (may_be_same s.node.place s.rows s'.rows x.held x.rows stays.rows)) x.rows);
   lasts = x.lasts;
   up = λ h u. x.up h (stays.up h u);
@@ -101,8 +103,7 @@ module _ (p : Past) (w : World) (x : Explains p w) (i : ℕ) (e : Event) (acts :
   seat_committed g =
       let mine : own_moves i fate ≡ did acts = ap (λ b. cond b (moves_of fate) []) (eq-eqb (site fate) i own) ∙ moves in
       let place = c.was.node.place in
-      let first = fresh_at c.was.node in
-      let table = table_stays w i e acts w' c (here.homes ∙ ap (λ (v : HeldView). v.homes) held_before) in
+      let first = fresh here.first in
       let all : Moves place first (p.moves i ++ did acts) c.after =
       moves_join place (p.moves i) (did acts) first c.before c.after (subst (Moves place first (p.moves i)) held_before here.moves) (acts_are_moves place c.before c.after acts c.steps.runs) in
       record {
@@ -110,7 +111,9 @@ module _ (p : Past) (w : World) (x : Explains p w) (i : ℕ) (e : Event) (acts :
         nodes = ap (λ (q : Place). q.nodes) c.place ∙ here.nodes;
         held = c.after;
         homes = c.homes;
-        moves = led_by c.was.node c.later.node (p.moves i ++ own_moves i fate) c.after c.place table (subst (λ ms. Moves place first (p.moves i ++ ms) c.after) (sym mine) all);
+        first = here.first;
+        was = here.was;
+        moves = led_by place c.later.node.place here.first (p.moves i ++ own_moves i fate) c.after c.place (subst (λ ms. Moves place first (p.moves i ++ ms) c.after) (sym mine) all);
         rows = subst (λ (q : Place). AreOf q c.later.rows c.after) (sym c.place) (c.rows (subst (AreOf place c.was.rows) held_before here.rows));
         lasts = c.lasts;
         up = c.is;
@@ -209,7 +212,7 @@ module _ (p : Past) (w w' : World) (x : Explains p w) (fate : Fate) (idle : acts
       let y = x.sites i c.was c.at in
       let o = c.reopens.node in
       let place = c.was.node.place in
-      let first = fresh_at c.was.node in
+      let first = fresh y.first in
       let can : IsLasting place.nodes (lasting y.held) = subst (λ n. IsLasting n (lasting y.held)) (sym y.nodes) (seat_lasts p w x i c.was c.at y) in
       let again = reopened tell place c.was.node.homes c.was.rows c.later.rows y.held o.held o.lasting y.homes can y.rows c.reopens.rows o.are o.woken in
       let at : c.later.node.place ≡ place = ap (λ n. n.place) o.is in
@@ -220,7 +223,9 @@ module _ (p : Past) (w w' : World) (x : Explains p w) (fate : Fate) (idle : acts
         nodes = ap (λ (q : Place). q.nodes) at ∙ y.nodes;
         held = o.held;
         homes = ap (λ n. n.homes) o.is ∙ sym (ap (λ (v : HeldView). v.homes) o.woken.2);
-        moves = led_by c.was.node c.later.node (p.moves i ++ own_moves i fate) o.held at (table_again w i w' c) (subst (λ ms. Moves place first (p.moves i ++ ms) o.held) (sym mine) all);
+        first = y.first;
+        was = y.was;
+        moves = led_by place c.later.node.place y.first (p.moves i ++ own_moves i fate) o.held at (subst (λ ms. Moves place first (p.moves i ++ ms) o.held) (sym mine) all);
         rows = subst (λ (q : Place). AreOf q c.later.rows o.held) (sym at) again.are;
         lasts = again.lasts;
         up = λ h u. some_is (sym u ∙ ap (λ n. n.up) o.is);

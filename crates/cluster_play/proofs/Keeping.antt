@@ -21,7 +21,7 @@ use Rattle.cluster_play.specs.Laws.{Holds, KeepsIts, WakesFrom}
 use Rattle.cluster_play.proofs.Bools.{or_true, or_left, or_right, some_is}
 use Rattle.cluster_play.proofs.Sites.{get-set_same}
 use Rattle.cluster_play.proofs.Amid.{amid_acts, taken_step}
-use Rattle.cluster_play.proofs.Explaining.{Seated, past, seat_lasts}
+use Rattle.cluster_play.proofs.Explaining.{Seated, is_first, past, seat_lasts}
 use Rattle.cluster_play.proofs.Kept.{explained}
 use Rattle.cluster_play.proofs.Lasts.{may_be_same, reopened}
 use Rattle.cluster_play.proofs.Paths.{Befell, befell}
@@ -30,11 +30,11 @@ use Rattle.cluster_play.proofs.Sound.{state_by}
 use Rattle.cluster_play.proofs.Splits.{gained_both}
 
 module _ (run : List Played) (w : World) (r : Reached run w) (i : ℕ) (s : Site) (at : slice_get w.sites i ≡ Some s) where
-  seat : Seated (past run) (length w.sites) i s
+  seat : Seated (past r.start run) (length w.sites) i s
   seat = (explained run w r).sites i s at
 
   can : IsLasting (length w.sites) (lasting seat.held)
-  can = seat_lasts (past run) w (explained run w r) i s at seat
+  can = seat_lasts (past r.start run) w (explained run w r) i s at seat
 
   can_here : IsLasting s.node.place.nodes (lasting seat.held)
   can_here = subst (λ n. IsLasting n (lasting seat.held)) (sym seat.nodes) can
@@ -56,7 +56,7 @@ rows_of_held run w r i h at =
     let same : x.held ≡ h = sym (x.up h at.up) in
     (subst (AreOf at.site.node.place at.site.rows) same x.rows, subst (λ (v : HeldView). IsLasting (length w.sites) (lasting v)) same (can run w r i at.site at.at))
 
-restarted_seat : (run : List Played) (w w' : World) → Reached run w → (i : ℕ) → Woke w i w' → (h' : HeldView) → Holds w' i h' → WakesFrom run w i h'
+restarted_seat : (run : List Played) (w w' : World) (r : Reached run w) (i : ℕ) → Woke w i w' → (h' : HeldView) → Holds w' i h' → WakesFrom run r.start w i h'
 restarted_seat run w w' r i c h' holds =
     let x = seat run w r i c.was c.at in
     let o = c.reopens.node in
@@ -68,11 +68,11 @@ restarted_seat run w w' r i c h' holds =
       site = c.was;
       at = c.at;
       held = x.held;
-      last = record { moves = x.moves; homes = x.homes; rows = x.rows; up = x.up };
+      last = record { first = x.first; is_first = is_first r.start i x.first x.was; moves = x.moves; homes = x.homes; rows = x.rows; up = x.up };
       woken = subst (IsWoken x.held.homes (lasting x.held)) same again.woken;
     }
 
-pub restarts_with_what_lasts : (run : List Played) (w w' : World) (m : Played) → Reached run w → Happens w m.step m.fate w' → (i : ℕ) → m.fate ≡ Restarted i → (h' : HeldView) → Holds w' i h' → WakesFrom run w i h'
+pub restarts_with_what_lasts : (run : List Played) (w w' : World) (m : Played) (r : Reached run w) → Happens w m.step m.fate w' → (i : ℕ) → m.fate ≡ Restarted i → (h' : HeldView) → Holds w' i h' → WakesFrom run r.start w i h'
 restarts_with_what_lasts run w w' m r h i is h' holds =
     restarted_seat run w w' r i (came w m.step (Restarted i) w' (subst (λ (f : Fate). Happens w m.step f w') is h)) h' holds
 

@@ -1,5 +1,5 @@
 -- The invariant over whole runs.
-use Rattle.std.proofs.Common.{◌≡◌, ℕ, false, List, [], Some, sym, ap, ◌∙◌, subst, length}
+use Rattle.std.proofs.Common.{◌≡◌, ℕ, false, List, [], Some, option_map, sym, ap, ◌∙◌, subst, length}
 use Rattle.std.proofs.lemmas.List.{length-replicate}
 use Rattle.std.specs.List.{slice_get}
 use Rattle.std.specs.FinSet as set
@@ -12,26 +12,28 @@ use Rattle.cluster_play.specs.Worlds.{Site, World}
 use Rattle.cluster_play.specs.Runs.{Played}
 use Rattle.cluster_play.specs.Histories.{IsNew, IsStart, Reached}
 use Rattle.cluster_play.proofs.Bools.{some_is, none-some}
-use Rattle.cluster_play.proofs.Paths.{along}
+use Rattle.cluster_play.proofs.Paths.{along_from}
 use Rattle.cluster_play.proofs.Bridging.{new_below, woken_kept}
 use Rattle.cluster_play.proofs.Fresh.{fresh_can_last, fresh_rows}
-use Rattle.cluster_play.proofs.Explaining.{Explains, Past, Seated, fresh_at, past, past_more}
+use Rattle.cluster_play.proofs.Explaining.{Explains, Past, Seated, past, past_more}
 use Rattle.cluster_play.proofs.Invariant.{step_explains}
 use Rattle.cluster_play.proofs.Parts.{sound_nothing}
 
 -- at the start nothing is made or taken, and each node holds nothing
-new_seat : (count i : ℕ) (s : Site) → IsNew count i s → Seated (past []) count i s
-new_seat count i s is =
+new_seat : (start : World) (count i : ℕ) (s : Site) → slice_get start.sites i ≡ Some s → IsNew count i s → Seated (past start []) count i s
+new_seat start count i s there is =
     let place : s.node.place ≡ place_of i is.homes = ap (λ (n : NodeView). n.place) is.node in
     let table : s.node.homes ≡ is.homes = ap (λ (n : NodeView). n.homes) is.node in
     let first : HeldView = fresh is.homes in
     let rows : AreOf (place_of i is.homes) s.rows first = fresh_rows (place_of i is.homes) is.homes s.rows is.rows in
-    let at : fresh_at s.node ≡ first = ap fresh table in
+    let at : fresh s.node.homes ≡ first = ap fresh table in
     record {
       id = ap (λ (p : Place). p.id) place;
       nodes = ap (λ (p : Place). p.nodes) place ∙ is.fits;
       held = first;
       homes = table;
+      first = s.node.homes;
+      was = ap (option_map (λ (t : Site). t.node.homes)) there;
       moves = sym at;
       rows = subst (λ (p : Place). AreOf p s.rows first) (sym place) rows;
       lasts = fresh_can_last is.homes;
@@ -41,16 +43,16 @@ new_seat count i s is =
       listed = λ d. set.contains-empty dot_cmp d;
     }
 
-start_explained : (w : World) → IsStart w → Explains (past []) w
+start_explained : (w : World) → IsStart w → Explains (past w []) w
 start_explained w s = record {
   few = s.few;
   own_dots = λ o p a b e. absurd a;
   plain = λ o a. absurd a;
-  sites = λ i n at. new_seat (length w.sites) i n (s.sites i n at);
+  sites = λ i n at. new_seat w (length w.sites) i n at (s.sites i n at);
   frames = λ n f a. none-some (subst (λ fs. slice_get fs n ≡ Some f) s.frames a);
 }
 
-pub explained : (run : List Played) (w : World) → Reached run w → Explains (past run) w
-explained = along (λ run w. Explains (past run) w)
-    (λ run m w w' r x honest h. subst (λ (p : Past). Explains p w') (past_more run m) (step_explains rows_tell_all (past run) w w' m.step x m.fate honest h))
+pub explained : (run : List Played) (w : World) (r : Reached run w) → Explains (past r.start run) w
+explained = along_from (λ start run w. Explains (past start run) w)
+    (λ run m w w' r x honest h. subst (λ (p : Past). Explains p w') (past_more r.start run m) (step_explains rows_tell_all (past r.start run) w w' m.step x m.fate honest h))
     start_explained

@@ -1,6 +1,6 @@
 -- The moment of a node is the greatest that it was handed since it was last opened.
 use Rattle.std.proofs.Common.{◌≡◌, max, List, [], ◌∷◌, refl, ap, ◌∙◌, arith}
-use Rattle.node_work.specs.Acts.{Act, Moment, Began, Store, Connection, Session, Bridge, Out, Named, Acknowledged, Passed, Dropped, next}
+use Rattle.node_work.specs.Acts.{Act, Moment, Began, Moved, Store, Connection, Session, Bridge, Out, Named, Acknowledged, Passed, Dropped, next}
 use Rattle.node_work.specs.Held.Bridge.{BridgeAct, Put, Took, Got, Believed, Gave, Left_out, bridged}
 use Rattle.node_work.specs.Held.Connections.{ConnectionAct, Opened, Fed, Accepted, Closed, connected}
 use Rattle.node_work.specs.Held.Sessions.{SessionAct, Begun, Called, Over, called}
@@ -30,6 +30,7 @@ bridge_moment h (Left_out what) = refl
 next_moment : (h : HeldView) (a : Act) → (next h a).at ≡ max h.at (moment_in a)
 next_moment h (Moment at) = refl
 next_moment h Began = omega arith
+next_moment h (Moved homes) = omega arith
 next_moment h (Store a) = omega arith
 next_moment h (Connection a) = connection_moment h a ∙ omega arith
 next_moment h (Session a) = session_moment h a ∙ omega arith

@@ -40,6 +40,7 @@ known_free sent (kinds.Linked peer) h = tt
 known_free sent (kinds.Ship peer) h = tt
 known_free sent kinds.Tick h = tt
 known_free sent (kinds.Evict client) h = tt
+known_free sent (kinds.Table homes) h = tt
 
 honest_step : (sent : List Frame) (step : Step) → BringsNoFrame step → IsHonestStep sent step
 honest_step sent (steps.Event i e) h = known_free sent e.kind h

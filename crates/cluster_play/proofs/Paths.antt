@@ -116,20 +116,27 @@ reached_more run m w w' r s h = record {
 }
 
 -- what holds at the start, and after a step where it held before, holds in each world that is reached
-module _ (P : List Played → World → Type 0)
-    (kept : (run : List Played) (m : Played) (w w' : World) → Reached run w → P run w → IsHonestStep w.frames m.step → Happens w m.step m.fate w' → P (run ++ m ∷ []) w') where
-  walk : (done run : List Played) (w w' : World) → Reached done w → P done w → IsHonest w.frames run → Run w run w' → P (done ++ run) w'
-  walk done [] w w' r p honest path = subst (P (done ++ [])) (sym path) (subst (λ ms. P ms w) (sym (append-nil done)) p)
+module _ (P : World → List Played → World → Type 0)
+    (kept : (run : List Played) (m : Played) (w w' : World) (r : Reached run w) → P r.start run w → IsHonestStep w.frames m.step → Happens w m.step m.fate w' → P r.start (run ++ m ∷ []) w') where
+  walk : (done run : List Played) (w w' : World) (r : Reached done w) → P r.start done w → IsHonest w.frames run → Run w run w' → P r.start (done ++ run) w'
+  unfolding reached_more
+  walk done [] w w' r p honest path = subst (P r.start (done ++ [])) (sym path) (subst (λ ms. P r.start ms w) (sym (append-nil done)) p)
   walk done (m ∷ run) w w' r p honest path =
       let mid = path.0 in
-      subst (λ ms. P ms w') (append_assoc done (m ∷ []) run)
+      subst (λ ms. P r.start ms w') (append_assoc done (m ∷ []) run)
       (walk (done ++ m ∷ []) run mid w' (reached_more done m w mid r honest.0 path.1) (kept done m w mid r p honest.0 path.1)
       (subst (λ fs. IsHonest fs run) (sym (step_frames w m.step m.fate mid path.1)) honest.1) path.2)
 
-  pub along : ((w : World) → IsStart w → P [] w) → (run : List Played) (w : World) → Reached run w → P run w
-  along start run w r =
+  pub along_from : ((w : World) → IsStart w → P w [] w) → (run : List Played) (w : World) (r : Reached run w) → P r.start run w
+  along_from start run w r =
       walk [] run r.start w (record { start = r.start; is_start = r.is_start; path = refl; honest = tt }) (start r.start r.is_start)
       (subst (λ fs. IsHonest fs run) (sym r.is_start.frames) r.honest) r.path
+
+-- the same of what doesn't name the start
+pub along : (P : List Played → World → Type 0)
+    → ((run : List Played) (m : Played) (w w' : World) → Reached run w → P run w → IsHonestStep w.frames m.step → Happens w m.step m.fate w' → P (run ++ m ∷ []) w')
+    → ((w : World) → IsStart w → P [] w) → (run : List Played) (w : World) → Reached run w → P run w
+along P kept start run w r = along_from (λ _. P) kept start run w r
 
 -- ---- a run that is reached, up to a moment of it and from there
 pub record Midway (run rest : List Played) (w : World) : Type 0 where

@@ -15,7 +15,7 @@ use Rattle.replica_store.specs.States.{State}
 use Rattle.replica_store.specs.StateOf.{IsStateOf}
 use Rattle.replica_store.proofs.Unions.{among_cases}
 use Rattle.node_rows.specs.Reading.{IsAmong}
-use Rattle.node_work.specs.Acts.{Act, Moment, Began, Store, Connection, Session, Bridge, Out, Named, Acknowledged, Passed, Dropped, Made, Merged, Allowed, IsMade, Runs, gather, op_in, merge_in}
+use Rattle.node_work.specs.Acts.{Act, Moment, Began, Moved, Store, Connection, Session, Bridge, Out, Named, Acknowledged, Passed, Dropped, Made, Merged, Allowed, IsMade, Runs, gather, op_in, merge_in}
 use Rattle.node_work.specs.View.{Place, HeldView}
 use Rattle.cluster_play.specs.NextOperations.{CoversWhatStands, IsRemoval, IsNext}
 use Rattle.cluster_play.proofs.Operations.{among_some, own_some}
@@ -79,6 +79,7 @@ module _ (i count : ℕ) (ms : List Operation) (s : State) (g : Grown i ms s) (l
 op_of_act : (a : Act) (o : Operation) → Among o (op_in a) → a ≡ Store (Made o)
 op_of_act (Moment at) o x = absurd x
 op_of_act Began o x = absurd x
+op_of_act (Moved homes) o x = absurd x
 op_of_act (Store (Made p)) o (inl e) = ap (λ q. Store (Made q)) (sym e)
 op_of_act (Store (Made p)) o (inr x) = absurd x
 op_of_act (Store (Merged s)) o x = absurd x

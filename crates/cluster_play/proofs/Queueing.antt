@@ -27,6 +27,7 @@ use Rattle.replica_store.specs.States.{State}
 use Rattle.session_laws.specs.Runs.{Event, connects, queues, takes, answers, closes, ticks, finishes}
 use Rattle.session_table.specs.Calls.{stays, leaves, moves}
 use Rattle.session_table.specs.Seats.{Seat, run_outs, wills_due, ends_due, connected}
+use Rattle.home_table.specs.Table.{Table}
 use Rattle.finite_maps.proofs.Texts.{get_inserted}
 use Rattle.node_work.specs.declared.granted.Granted.{Granted}
 use Rattle.bridge_deltas.specs.declared.offer.Offer.{Offer}
@@ -40,23 +41,24 @@ use Rattle.message_routes.specs.declared.destinations.Route.{Route}
 use Rattle.message_routes.specs.declared.destinations.Route.TheVariants.{Nothing, Lane, TooLarge}
 use Rattle.node_bridge.specs.View.{lane_to, offer_to}
 use Rattle.node_work.specs.declared.counts.Missed.{Missed}
-use Rattle.node_work.specs.declared.counts.Missed.TheVariants.{LaneFull, BadFrame, FrameTooLarge}
+use Rattle.node_work.specs.declared.counts.Missed.TheVariants.{LaneFull, BadFrame, FrameTooLarge, TableRefused}
 use Rattle.node_work.specs.Held.Bridge.{BridgeAct, Put as PutIn, Took, Got as GotBy, Believed, Gave, Left_out}
-use Rattle.node_work.specs.Acts.{Act, Moment, Began, Store, Connection, Session, Bridge, Out, Named, Acknowledged, Passed, Dropped, Made, Merged, Runs}
+use Rattle.node_work.specs.Acts.{Act, Moment, Began, Moved, Store, Connection, Session, Bridge, Out, Named, Acknowledged, Passed, Dropped, Made, Merged, Runs}
 use Rattle.node_work.specs.Calling.{CallsAt, Calls, Queues, QueuesOne}
-use Rattle.node_work.specs.Doings.{TakesMoment, MakesSubscribe, MakesRemove, MakesRemoveBelow, Removes, RemovesBelow, Sends, Disconnects, Misses, PutsBy, Routes, RoutesBy, Gives, GivesFrame, is_small}
-use Rattle.node_work.specs.Held.Sessions.{SessionStep, Begun, Called, seat_at, takes_disconnect, will_is_due, end_is_due}
+use Rattle.node_work.specs.Doings.{TakesMoment, MakesSubscribe, MakesRemove, MakesRemoveBelow, Removes, RemovesBelow, Sends, Disconnects, Redirects, Misses, PutsBy, Routes, RoutesBy, Gives, GivesFrame, is_small}
+use Rattle.node_work.specs.Held.Sessions.{SessionStep, Begun, Called, connection_at, seat_at, takes_disconnect, takes_packet, will_is_due, end_is_due}
 use Rattle.node_work.specs.Held.Feeding.{cut_of}
 use Rattle.node_work.specs.Held.Connections.{Closed, Fed, Opened, is_open, client_at, first_at}
 use Rattle.node_work.specs.Held.Making.{number_at_end, removal, removal_below}
 use Rattle.node_work.specs.Frames.{is_for, is_other}
 use Rattle.subscription_set.specs.declared.entry.Entry.{Entry}
 use Rattle.subscription_set.specs.Standing.{any_of, any_below}
-use Rattle.node_work.specs.Packets.{refused_packet}
+use Rattle.node_work.specs.Packets.{moved_packet, refused_packet}
 use Rattle.node_work.specs.View.{Place, HeldView, ConnectionView}
 use Rattle.node_work.specs.Working.{Doing, Returns, Stops, Acting, Numbered, Looks, Finds, If, Where, Then, InTurn, Each}
 use Rattle.node_clients.specs.Connecting as connecting
 use Rattle.node_clients.specs.Ending as ending
+use Rattle.node_clients.specs.Moving as moving
 use Rattle.node_clients.specs.Passing as passing
 use Rattle.node_clients.specs.Pieces as pieces
 use Rattle.node_clients.specs.Serving as serving
@@ -67,6 +69,7 @@ use Rattle.broker_node.specs.declared.event.EventKind.{EventKind}
 use Rattle.broker_node.specs.declared.event.EventKind.TheVariants as kinds
 use Rattle.broker_node.specs.Bridge as bridge
 use Rattle.broker_node.specs.Due as due
+use Rattle.broker_node.specs.Moving as tables
 use Rattle.broker_node.specs.Turns as turns
 use Rattle.cluster_play.specs.Answering.{AreQueued, BeginsWithOffers}
 use Rattle.cluster_play.proofs.Amid.{runs_split}
@@ -145,6 +148,7 @@ module _ (T : List Act → Type 0) (c : Joined T) where
 abbrev pub Follows : Act → List Act → Type 0
 Follows (Moment at) rest = Unit {0}
 Follows Began rest = Unit {0}
+Follows (Moved homes) rest = Unit {0}
 Follows (Store a) rest = Unit {0}
 Follows (Connection a) rest = Unit {0}
 Follows (Session a) rest = Unit {0}
@@ -162,6 +166,7 @@ Answered (a ∷ rest) = Follows a rest × Answered rest
 follows_more : (a : Act) (xs ys : List Act) → Follows a xs → Follows a (xs ++ ys)
 follows_more (Moment at) xs ys f = tt
 follows_more Began xs ys f = tt
+follows_more (Moved homes) xs ys f = tt
 follows_more (Store a) xs ys f = tt
 follows_more (Connection a) xs ys f = tt
 follows_more (Session a) xs ys f = tt
@@ -313,6 +318,11 @@ disconnects : (c : ℕ) (client : List ℕ) (code : ℕ) → Keeps Answered (Dis
 disconnects c client code =
     k_looks Answered answered (λ p h. takes_disconnect client code h) (λ taken. If taken (Sends c (disconnect code)) (Returns tt))
     (λ taken. k_if Answered answered taken (Sends c (disconnect code)) (Returns tt) (sends c (disconnect code)) (k_returns Answered answered tt))
+
+redirects : (c : ℕ) (client address : List ℕ) → Keeps Answered (Redirects c client address)
+redirects c client address =
+    k_looks Answered answered (λ p h. takes_packet client (moved_packet address) h) (λ taken. If taken (Sends c (moved_packet address)) (Returns tt))
+    (λ taken. k_if Answered answered taken (Sends c (moved_packet address)) (Returns tt) (sends c (moved_packet address)) (k_returns Answered answered tt))
 
 queues_one : (x : Copy) → Keeps Answered (QueuesOne x)
 queues_one x = k_then Answered answered (Calls x.client (queues x.delivery) stays) (λ _. Returns tt) (calls x.client (queues x.delivery) stays) (λ _. k_returns Answered answered tt)
@@ -591,10 +601,39 @@ does_due =
 parts_from : (client : List ℕ) → Keeps Answered (due.PartsFrom client)
 parts_from client = k_then Answered answered (Calls client closes leaves) (λ _. Returns tt) (calls client closes leaves) (λ _. k_returns Answered answered tt)
 
+-- ---- clients whose home is elsewhere
+redirects_by : (c : ℕ) (client : List ℕ) (address : Option (List ℕ)) → Keeps Answered (moving.RedirectsBy c client address)
+redirects_by c client None = k_returns Answered answered tt
+redirects_by c client (Some address) = redirects c client address
+
+redirects_home : (c : ℕ) (client : List ℕ) → Keeps Answered (moving.RedirectsHome c client)
+redirects_home c client =
+    k_finds Answered answered (ending.IsAtHome client) (moving.RedirectsTo c client)
+    (λ node. k_looks Answered answered (λ p h. connecting.address_of h node) (moving.RedirectsBy c client) (redirects_by c client))
+
+parts_on : (client : List ℕ) (on : Option ℕ) → Keeps Answered (moving.PartsOn client on)
+parts_on client None = k_returns Answered answered tt
+parts_on client (Some c) = k_then Answered answered (moving.RedirectsHome c client) (λ _. ending.ClosesFor c client) (redirects_home c client) (λ _. closes_for c client)
+
+moves_away : (client : List ℕ) → Keeps Answered (moving.MovesAway client)
+moves_away client =
+    k_then Answered answered (moving.PartsWays client) (λ _. ending.Finishes client)
+    (k_looks Answered answered (λ p h. connection_at client h) (moving.PartsOn client) (parts_on client)) (λ _. finishes_of client)
+
+sends_away : Keeps Answered tables.SendsAway
+sends_away = k_finds Answered answered tables.AreAway (Each moving.MovesAway) (λ away. k_each Answered answered moving.MovesAway away moves_away)
+
+takes_table : (homes : Table) → Keeps Answered (tables.TakesTable homes)
+takes_table homes =
+    k_looks Answered answered (tables.is_newer homes) (λ newer. If newer (tables.Moves homes) (Misses TableRefused))
+    (λ newer. k_if Answered answered newer (tables.Moves homes) (Misses TableRefused)
+    (k_then Answered answered (Acting (λ p h. Moved homes)) (λ _. tables.SendsAway) (k_acting Answered answered (λ p h. Moved homes) (λ p h. (tt, tt))) (λ _. sends_away)) (misses TableRefused))
+
 starts : Keeps Answered due.Starts
 starts =
-    k_then Answered answered (Acting (λ p h. Began)) (λ _. Then due.ClosesStored (λ _. due.DoesDue)) (k_acting Answered answered (λ p h. Began) (λ p h. (tt, tt))) (λ _.
-    k_then Answered answered due.ClosesStored (λ _. due.DoesDue) (k_looks Answered answered (λ p h. connected h.sessions) (Each due.PartsFrom) (λ cs. k_each Answered answered due.PartsFrom cs parts_from)) (λ _. does_due))
+    k_then Answered answered (Acting (λ p h. Began)) (λ _. Then due.ClosesStored (λ _. Then due.DoesDue (λ _. tables.SendsAway))) (k_acting Answered answered (λ p h. Began) (λ p h. (tt, tt))) (λ _.
+    k_then Answered answered due.ClosesStored (λ _. Then due.DoesDue (λ _. tables.SendsAway)) (k_looks Answered answered (λ p h. connected h.sessions) (Each due.PartsFrom) (λ cs. k_each Answered answered due.PartsFrom cs parts_from)) (λ _.
+    k_then Answered answered due.DoesDue (λ _. tables.SendsAway) does_due (λ _. sends_away)))
 
 -- ---- frames
 gives_frame : (f : BridgeFrame) → Keeps Answered (GivesFrame f)
@@ -655,6 +694,7 @@ answers_kind (kinds.Linked peer) = greets peer
 answers_kind (kinds.Ship peer) = ships peer
 answers_kind kinds.Tick = k_returns Answered answered _
 answers_kind (kinds.Evict client) = k_then Answered answered (Removes client None) (λ _. Returns tt) (removes client None) (λ _. k_returns Answered answered tt)
+answers_kind (kinds.Table homes) = takes_table homes
 
 after_due : (kind : EventKind) → Keeps Answered (Then due.DoesDue (λ _. turns.Answers kind))
 after_due kind = k_then Answered answered due.DoesDue (λ _. turns.Answers kind) does_due (λ _. answers_kind kind)
@@ -669,6 +709,7 @@ goes_on (kinds.Linked peer) = after_due (kinds.Linked peer)
 goes_on (kinds.Ship peer) = after_due (kinds.Ship peer)
 goes_on kinds.Tick = after_due kinds.Tick
 goes_on (kinds.Evict client) = after_due (kinds.Evict client)
+goes_on (kinds.Table homes) = after_due (kinds.Table homes)
 
 first_turn : (kind : EventKind) → Keeps Answered (turns.First kind)
 first_turn kinds.Started = starts
@@ -680,6 +721,7 @@ first_turn (kinds.Linked peer) = k_returns Answered answered _
 first_turn (kinds.Ship peer) = k_returns Answered answered _
 first_turn kinds.Tick = k_returns Answered answered _
 first_turn (kinds.Evict client) = k_returns Answered answered _
+first_turn (kinds.Table homes) = k_returns Answered answered _
 
 decides : (e : NodeEvent) → Keeps Answered (turns.Decides e)
 decides e =

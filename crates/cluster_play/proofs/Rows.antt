@@ -11,7 +11,6 @@ use Rattle.node_work.specs.declared.outcome.Output.{Output}
 use Rattle.node_work.specs.Acts.{Act}
 use Rattle.node_work.specs.Lasting.{CanLast}
 use Rattle.node_work.specs.View.{Place, HeldView, NodeView}
-use Rattle.node_work.proofs.Homes.{homes_stay}
 use Rattle.cluster_play.specs.declared.step.Step.{Step}
 use Rattle.cluster_play.specs.Worlds.{Site, World, Fate, Released, Lost, Cut, Faulted, Was_down, Restarted, Takes, Reopens, Stops, Becomes, Happens, changed, stopped, frames_in}
 use Rattle.cluster_play.specs.Histories.{event_of, acts_of, site}
@@ -57,13 +56,6 @@ pub record Woke (w : World) (i : ℕ) (w' : World) : Type 0 where
   pub reopens : Reopens was later
   pub sites : w'.sites ≡ set w.sites i later
   pub frames : w'.frames ≡ w.frames
-
--- the table of homes stays
-pub table_stays : (w : World) (i : ℕ) (e : Event) (acts : List Act) (w' : World) (c : Committed w i e acts w') → c.was.node.homes ≡ c.before.homes → c.later.node.homes ≡ c.was.node.homes
-table_stays w i e acts w' c is = c.homes ∙ homes_stay c.was.node.place acts c.before c.after c.steps.runs ∙ sym is
-
-pub table_again : (w : World) (i : ℕ) (w' : World) (c : Woke w i w') → c.later.node.homes ≡ c.was.node.homes
-table_again w i w' c = ap (λ (n : NodeView). n.homes) c.reopens.node.is
 
 abbrev pub Came : World → Fate → World → Type 0
 Came w (Released i e acts outputs) w' = Committed w i e acts w'

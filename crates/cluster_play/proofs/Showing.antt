@@ -47,11 +47,11 @@ node_holds_amid run w w' m r honest happens i before mid a =
     let here = x.sites i a.holds.site a.holds.at in
     let same : here.held ≡ a.held = sym (here.up a.held a.holds.up) in
     let place = c.was.node.place in
-    let all = all_merged (past run) w x place c.before c.after a.event (acts_of m.fate) c.outputs known c.steps in
-    let so = all_so (past run) w x place c.before c.after a.event (acts_of m.fate) c.outputs known c.steps in
+    let all = all_merged (past r.start run) w x place c.before c.after a.event (acts_of m.fate) c.outputs known c.steps in
+    let so = all_so (past r.start run) w x place c.before c.after a.event (acts_of m.fate) c.outputs known c.steps in
     let own_acts = (all_front (Sound (made run)) (gather merge_in before) (gather merge_in a.rest) (subst (AllSound (made run)) (ap (gather merge_in) a.acts ∙ gather_both merge_in before a.rest) all)).0 in
-    let own_so = (all_front (IsSo (past run).took) (gather heard_in before) (gather heard_in a.rest) (subst (AreSo (past run).took) (ap (gather heard_in) a.acts ∙ gather_both heard_in before a.rest) so)).0 in
-    let g = (site_acts (past run) w x i a.holds.site a.holds.at a.held mid before a.holds.up a.runs own_acts own_so).grows in
+    let own_so = (all_front (IsSo (past r.start run).took) (gather heard_in before) (gather heard_in a.rest) (subst (AreSo (past r.start run).took) (ap (gather heard_in) a.acts ∙ gather_both heard_in before a.rest) so)).0 in
+    let g = (site_acts (past r.start run) w x i a.holds.site a.holds.at a.held mid before a.holds.up a.runs own_acts own_so).grows in
     let listed : (d : Dot) → set.contains mid.store.taken d ≡ taken_amid i run before d =
     λ d. g.takes d ∙ ap (λ (v : HeldView). set.contains v.store.taken d || gained before d) (sym same) ∙ ap (λ b. b || gained before d) (here.listed d) in
     let state = state_by (made run ++ gather op_in before) mid.store (taken_amid i run before) g.holding.grown.sound listed in

@@ -16,7 +16,7 @@ use Rattle.broker_node.specs.declared.event.Event.{Event}
 use Rattle.broker_node.specs.declared.event.EventKind.{EventKind}
 use Rattle.broker_node.specs.declared.event.EventKind.TheVariants as kinds
 use Rattle.node_work.specs.declared.frame.Frame.{Frame}
-use Rattle.node_work.specs.Acts.{Act, Moment, Began, Store, Connection, Session, Bridge, Out, Named, Acknowledged, Passed, Dropped, Made, Merged, gather, op_in, merge_in}
+use Rattle.node_work.specs.Acts.{Act, Moment, Began, Moved, Store, Connection, Session, Bridge, Out, Named, Acknowledged, Passed, Dropped, Made, Merged, gather, op_in, merge_in}
 use Rattle.broker_node.specs.Step.{brought, brought_in}
 use Rattle.node_work.specs.Frames.{is_for, states_in}
 use Rattle.node_work.specs.View.{Place, nodes_of}
@@ -38,6 +38,7 @@ gained_from : (acts : List Act) (d : Dot) → gained acts d ≡ true → ((o : O
 gained_from [] d h = cc
 gained_from (Moment at ∷ acts) d h = gained_from acts d h
 gained_from (Began ∷ acts) d h = gained_from acts d h
+gained_from (Moved homes ∷ acts) d h = gained_from acts d h
 gained_from (Store (Made o) ∷ acts) d h = elim (or_true (same_dot (dot_of o) d) (gained acts d) h) [
   | inl a ↦ inl (o, inl refl, dot_is (dot_of o) d a)
   | inr b ↦ elim (gained_from acts d b) [ inl r ↦ inl (r.0, inr r.1, r.2) | inr r ↦ inr r ]
@@ -59,6 +60,7 @@ made_gains : (acts : List Act) (o : Operation) (d : Dot) → Among o (gather op_
 made_gains [] o d a e = absurd a
 made_gains (Moment at ∷ acts) o d a e = made_gains acts o d a e
 made_gains (Began ∷ acts) o d a e = made_gains acts o d a e
+made_gains (Moved homes ∷ acts) o d a e = made_gains acts o d a e
 made_gains (Store (Made p) ∷ acts) o d (inl s) e = or_left (same_dot (dot_of p) d) (gained acts d) (dot_same (dot_of p) d (ap dot_of (sym s) ∙ e))
 made_gains (Store (Made p) ∷ acts) o d (inr b) e = or_right (same_dot (dot_of p) d) (gained acts d) (made_gains acts o d b e)
 made_gains (Store (Merged t) ∷ acts) o d a e = or_right (set.contains t.taken d) (gained acts d) (made_gains acts o d a e)
@@ -135,6 +137,7 @@ frame_lists p (kinds.Linked peer) d h = cc
 frame_lists p (kinds.Ship peer) d h = cc
 frame_lists p kinds.Tick d h = cc
 frame_lists p (kinds.Evict client) d h = cc
+frame_lists p (kinds.Table homes) d h = cc
 
 -- a frame that bytes which were released are read as is one that was given out
 pub record IsGivenOut (p : Past) (count : ℕ) (bytes : List ℕ) (f : BridgeFrame) : Type 0 where
@@ -160,7 +163,7 @@ brings_dot run before later m w is r i d at gain merged =
     let f = frame_lists place e.0.kind d came.1 in
     let x = explained before half.mid half.reached in
     let known = known_event half.mid m.step m.fate half.path.0 e.0 half.honest.0 half.path.1 e.1 in
-    let g = given_out (past before) half.mid x f.bytes f.frame (subst (IsKnown half.mid.frames) f.brings known) f.reads in
+    let g = given_out (past half.reached.start before) half.mid x f.bytes f.frame (subst (IsKnown half.mid.frames) f.brings known) f.reads in
     let here : place.id ≡ j = (x.sites j c.was c.at).id in
     let to : f.frame.to ≡ j = f.to ∙ here in
     record {
@@ -211,7 +214,7 @@ dot_brought run w r i d b =
     let a = b.arrives in
     let known : IsKnown half.mid.frames a.event.kind = known_event half.mid b.m.step b.m.fate half.path.0 a.event half.honest.0 half.path.1 a.commits in
     let there : IsKnown b.mid.frames a.event.kind = subst (λ fs. IsKnown fs a.event.kind) (same_frames b.before half.mid b.mid half.reached b.reached) known in
-    let g = given_out (past b.before) b.mid (explained b.before b.mid b.reached) (spelling b.frame) b.frame (subst (IsKnown b.mid.frames) a.brings there) (read_again b.frame b.spelled) in
+    let g = given_out (past b.reached.start b.before) b.mid (explained b.before b.mid b.reached) (spelling b.frame) b.frame (subst (IsKnown b.mid.frames) a.brings there) (read_again b.frame b.spelled) in
     let had : taken b.frame.from b.before d ≡ true = g.told.lists d (ap (λ body. set.contains (dots_in body) d) b.is_delta ∙ b.lists) in
     let has = takes_all b.before b.mid b.after b.reached b.m b.frame a b.state b.is_delta b.later b.spelled g.told.from d had b.lists in
     subst (λ ms. taken i ms d ≡ true) (sym b.run_is) (subst (λ k. taken k (b.before ++ b.m ∷ b.later) d ≡ true) b.to has)

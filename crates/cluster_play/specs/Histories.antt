@@ -5,7 +5,7 @@ use Rattle.std.specs.FinSet as set
 use Rattle.causal_context.specs.Dots.{Dot}
 use Rattle.broker_node.specs.declared.event.Event.{Event}
 use Rattle.node_work.specs.declared.outcome.Output.{Output}
-use Rattle.node_work.specs.Acts.{Act, Moment, Began, Store, Connection, Session, Bridge, Out, Named, Acknowledged, Passed, Dropped, Made, Merged, gather, op_in}
+use Rattle.node_work.specs.Acts.{Act, Moment, Began, Moved, Store, Connection, Session, Bridge, Out, Named, Acknowledged, Passed, Dropped, Made, Merged, gather, moved_in, op_in}
 use Rattle.node_work.specs.View.{opened}
 use Rattle.node_laws.specs.Moves.{Move, Did, Lost as Loses, did}
 use Rattle.node_rows.specs.Rows.{mark, mark_key}
@@ -67,6 +67,7 @@ same_dot d e = nat_eq d.node e.node && nat_eq d.number e.number
 abbrev pub gain_in : Act → Dot → Bool
 gain_in (Moment at) d = false
 gain_in Began d = false
+gain_in (Moved homes) d = false
 gain_in (Store (Made o)) d = same_dot (dot_of o) d
 gain_in (Store (Merged s)) d = set.contains s.taken d
 gain_in (Connection a) d = false
@@ -106,6 +107,7 @@ operations_amid i run acts = filter (λ o. taken_amid i run acts (dot_of o)) (ma
 abbrev pub moment_in : Act → ℕ
 moment_in (Moment at) = at
 moment_in Began = 0
+moment_in (Moved homes) = 0
 moment_in (Store a) = 0
 moment_in (Connection a) = 0
 moment_in (Session a) = 0
@@ -137,6 +139,11 @@ moves_at i (m ∷ ms) = own_moves i m.fate ++ moves_at i ms
 abbrev pub moves_amid : ℕ → List Played → List Act → List Move
 moves_amid i run acts = moves_at i run ++ did acts
 
+-- the last of some tables, if there is one
+abbrev pub last_of : Table → List Table → Table
+last_of t [] = t
+last_of t (u ∷ us) = last_of u us
+
 -- the moment that a node is at after moves, from one on: the greatest that it was handed since it was last opened
 abbrev pub moment_after : ℕ → List Move → ℕ
 moment_after at [] = at
@@ -145,6 +152,12 @@ moment_after at (Loses ∷ moves) = moment_after 0 moves
 
 abbrev pub moment_amid : ℕ → List Played → List Act → ℕ
 moment_amid i run acts = moment_after 0 (moves_amid i run acts)
+
+-- the table of homes that a node has after moves, from one on: the one that it took last
+abbrev pub homes_after : Table → List Move → Table
+homes_after t [] = t
+homes_after t (Did a ∷ moves) = homes_after (last_of t (moved_in a)) moves
+homes_after t (Loses ∷ moves) = homes_after t moves
 
 -- the node of a seat is new, with a table of homes for so many nodes, and its rows are its mark
 pub record IsNew (nodes i : ℕ) (s : Site) : Type 0 where
@@ -158,6 +171,10 @@ pub record IsStart (w : World) : Type 0 where
   pub few : length w.sites ≤ 2 ^ 16
   pub sites : (i : ℕ) (s : Site) → slice_get w.sites i ≡ Some s → IsNew (length w.sites) i s
   pub frames : w.frames ≡ []
+
+-- the table of homes with which a node was first opened
+abbrev pub IsFirst : World → ℕ → Table → Type 0
+IsFirst start i homes = (s : Site) × (slice_get start.sites i ≡ Some s) × (homes ≡ s.node.homes)
 
 -- the world after a run from the start in which no frame is forged
 pub record Reached (run : List Played) (w : World) : Type 0 where

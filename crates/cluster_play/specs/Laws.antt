@@ -4,6 +4,7 @@ use Rattle.std.specs.List.{AllByRecursion}
 use Rattle.std.specs.FinMap as map
 use Rattle.std.specs.FinSet as set
 use Rattle.causal_context.specs.Dots.{Dot, Dots}
+use Rattle.home_table.specs.Table.{Table}
 use Rattle.mqtt_message.specs.declared.message.Message.{Message}
 use Rattle.mqtt_sessions.specs.State.{new_session}
 use Rattle.session_laws.specs.Runs.{Run as SessionRun}
@@ -39,7 +40,7 @@ use Rattle.cluster_play.specs.declared.line.Line.{Line}
 use Rattle.cluster_play.specs.declared.step.Step.{Step}
 use Rattle.cluster_play.specs.Worlds.{Site, World, Fate, Faulted, Restarted, Happens, Lacks, numbered, stopped}
 use Rattle.cluster_play.specs.Runs.{Played, Run, BringsNoFrame, IsHonestStep, IsHonest, steps_of, printed}
-use Rattle.cluster_play.specs.Histories.{IsStart, Reached, site, event_of, acts_of, ops_of, made, taken, operations, taken_amid, operations_amid, moment_amid, moves_at, moves_amid}
+use Rattle.cluster_play.specs.Histories.{IsFirst, IsStart, Reached, homes_after, site, event_of, acts_of, ops_of, made, taken, operations, taken_amid, operations_amid, moment_amid, moves_at, moves_amid}
 use Rattle.cluster_play.specs.Answering.{Acknowledges, SendsAnswers, OffersAlike}
 use Rattle.cluster_play.specs.NextOperations.{IsNext}
 use Rattle.cluster_play.specs.Playing.{IsPlayed}
@@ -225,7 +226,9 @@ SendAlike =
 
 -- a running node holds what the run's acts and losses lead to, from its first opening on
 abbrev pub HoldsWhatItsMovesLeave : Type 0
-HoldsWhatItsMovesLeave = (run : List Played) (w : World) → Reached run w → (i : ℕ) (h : HeldView) (at : Holds w i h) → Moves at.site.node.place (fresh at.site.node.homes) (moves_at i run) h
+HoldsWhatItsMovesLeave =
+    (run : List Played) (w : World) (r : Reached run w) (i : ℕ) (h : HeldView) (at : Holds w i h)
+    → (first : Table) × IsFirst r.start i first × Moves at.site.node.place (fresh first) (moves_at i run) h
 
 -- so each of its sessions is what the calls and losses since the session last began make of a new one
 abbrev pub SessionsAreRuns : Type 0
@@ -262,24 +265,32 @@ abbrev pub RowsAreOfTheirNode : Type 0
 RowsAreOfTheirNode = (run : List Played) (w : World) → Reached run w → (i : ℕ) (s : Site) → slice_get w.sites i ≡ Some s → ¬ AreOfNone s.node.place s.rows
 
 -- a node holds this, or held it last: the run's acts and losses lead to it, and the rows are its
-pub record HeldLast (run : List Played) (i : ℕ) (s : Site) (h : HeldView) : Type 0 where
-  pub moves : Moves s.node.place (fresh s.node.homes) (moves_at i run) h
+pub record HeldLast (run : List Played) (start : World) (i : ℕ) (s : Site) (h : HeldView) : Type 0 where
+  pub first : Table
+  pub is_first : IsFirst start i first
+  pub moves : Moves s.node.place (fresh first) (moves_at i run) h
   pub homes : s.node.homes ≡ h.homes
   pub rows : AreOf s.node.place s.rows h
   pub up : (g : HeldView) → s.node.up ≡ Some g → g ≡ h
 
 -- a node that is restarted holds what lasts of what it held last
-pub record WakesFrom (run : List Played) (w : World) (i : ℕ) (h' : HeldView) : Type 0 where
+pub record WakesFrom (run : List Played) (start w : World) (i : ℕ) (h' : HeldView) : Type 0 where
   pub site : Site
   pub at : slice_get w.sites i ≡ Some site
   pub held : HeldView
-  pub last : HeldLast run i site held
+  pub last : HeldLast run start i site held
   pub woken : IsWoken held.homes (lasting held) h'
 
 abbrev pub RestartsWithWhatLasts : Type 0
 RestartsWithWhatLasts =
-    (run : List Played) (w w' : World) (m : Played) → Reached run w → Happens w m.step m.fate w' → (i : ℕ) → m.fate ≡ Restarted i
-    → (h' : HeldView) → Holds w' i h' → WakesFrom run w i h'
+    (run : List Played) (w w' : World) (m : Played) (r : Reached run w) → Happens w m.step m.fate w' → (i : ℕ) → m.fate ≡ Restarted i
+    → (h' : HeldView) → Holds w' i h' → WakesFrom run r.start w i h'
+
+-- the table of homes of a node, also of one that is down, is the one that a committed step last gave it, or the one that it was first opened with
+abbrev pub KeepsItsTable : Type 0
+KeepsItsTable =
+    (run : List Played) (w : World) (r : Reached run w) (i : ℕ) (s : Site) → slice_get w.sites i ≡ Some s
+    → (first : Table) × IsFirst r.start i first × (s.node.homes ≡ homes_after first (moves_at i run))
 
 -- a fault leaves the rows of its node as they were
 abbrev pub FaultsLeaveRows : Type 0

@@ -74,6 +74,7 @@ IsKnown sent (kinds.Linked peer) = Unit {0}
 IsKnown sent (kinds.Ship peer) = Unit {0}
 IsKnown sent kinds.Tick = Unit {0}
 IsKnown sent (kinds.Evict client) = Unit {0}
+IsKnown sent (kinds.Table homes) = Unit {0}
 
 -- an event that brings no frame
 abbrev pub BringsNone : EventKind → Type 0
@@ -86,6 +87,7 @@ BringsNone (kinds.Linked peer) = Unit {0}
 BringsNone (kinds.Ship peer) = Unit {0}
 BringsNone kinds.Tick = Unit {0}
 BringsNone (kinds.Evict client) = Unit {0}
+BringsNone (kinds.Table homes) = Unit {0}
 
 -- a step that brings no frame of its own: a delivery brings one that was released, and a crash before an event none
 abbrev pub BringsNoFrame : Step → Type 0

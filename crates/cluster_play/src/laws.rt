@@ -1,5 +1,5 @@
 //! What holds in every run of a cluster. Each function does nothing: its contract is the law.
-ghost use Rattle.cluster_play.specs.Laws.{HoldsItsOperations, LiveIsOfItsOperations, AnswerIsOfItsOperations, HoldsItsOperationsAmid, OwnDots, DeltaFrames, FramesAreSpelled, SameTaken, AgreeWhereTheyTookTheSame, AnswerAlike, OperationsOfAStep, CatchUp, TakesWhatItMakesOrIsBrought, AnswersAsSent, SendAlike, CopiesAsTaken, HoldsWhatItsMovesLeave, SessionsAreRuns, SessionsAreRunsAmid, RowsAreOfWhatIsHeld, RowsKeepItsOperations, RowsAreOfTheirNode, RestartsWithWhatLasts, FaultsLeaveRows, KnowsWhatIsTaken, FramesStay, LacksNothing, RunsCompose, StartIsReached, RunsGoOn, FramelessStepsAreHonest, PlayedIsReached};
+ghost use Rattle.cluster_play.specs.Laws.{HoldsItsOperations, LiveIsOfItsOperations, AnswerIsOfItsOperations, HoldsItsOperationsAmid, OwnDots, DeltaFrames, FramesAreSpelled, SameTaken, AgreeWhereTheyTookTheSame, AnswerAlike, OperationsOfAStep, CatchUp, TakesWhatItMakesOrIsBrought, AnswersAsSent, SendAlike, CopiesAsTaken, HoldsWhatItsMovesLeave, SessionsAreRuns, SessionsAreRunsAmid, RowsAreOfWhatIsHeld, RowsKeepItsOperations, RowsAreOfTheirNode, RestartsWithWhatLasts, KeepsItsTable, FaultsLeaveRows, KnowsWhatIsTaken, FramesStay, LacksNothing, RunsCompose, StartIsReached, RunsGoOn, FramelessStepsAreHonest, PlayedIsReached};
 
 /// Each running node holds the state of the operations that it has taken, no dot has two
 /// operations, and what a Delta frame carries is the state of the operations that it lists.
@@ -78,6 +78,12 @@ pub fn rows_keep_what_lasts()
     ensures node { RowsAreOfTheirNode }
     ensures restarts { RestartsWithWhatLasts }
     ensures faults { FaultsLeaveRows }
+{}
+
+/// The table of homes of a node, also of one that is down, is the one that an event of a committed step gave it last, or
+/// the one with which it was first opened. With it the node is opened again.
+pub fn nodes_keep_their_tables()
+    ensures { KeepsItsTable }
 {}
 
 /// What a Know tells is taken at its sender, then and in every later world.

@@ -14,10 +14,11 @@ use Rattle.bridge_frames.specs.declared.body.FrameBody.TheVariants.{Hello, Delta
 use Rattle.bridge_frames.specs.declared.forward.Forward.{Forward as Message}
 use Rattle.bridge_frames.specs.declared.frame.BridgeFrame.{BridgeFrame}
 use Rattle.bridge_frames.specs.Frames.{frame_in}
+use Rattle.home_table.specs.Table.{Table}
 use Rattle.node_bridge.specs.View.{is_next, lane_to}
 use Rattle.replica_store.specs.States.{State}
-use Rattle.node_work.specs.declared.counts.Missed.TheVariants.{BadFrame, FrameTooLarge}
-use Rattle.node_work.specs.Acts.{Moment, Began, Store, Connection, Bridge, Merged}
+use Rattle.node_work.specs.declared.counts.Missed.TheVariants.{BadFrame, FrameTooLarge, TableRefused}
+use Rattle.node_work.specs.Acts.{Moment, Began, Moved, Store, Connection, Bridge, Merged}
 use Rattle.node_work.specs.Calling.{Calls}
 use Rattle.node_work.specs.Doings.{TakesMoment, Removes, Misses, Gives, GivesFrame, is_small}
 use Rattle.node_work.specs.Held.Bridge.{Gave, Got as GotBy, Believed}
@@ -28,6 +29,7 @@ use Rattle.node_work.specs.Packets.{refused_packet}
 use Rattle.node_work.specs.View.{HeldView, ConnectionView}
 use Rattle.node_work.specs.Working.{Doing, Returns, Acting, Looks, If, Then, Each}
 use Rattle.node_clients.specs.Ending as ending
+use Rattle.node_clients.specs.Moving as moving
 use Rattle.node_clients.specs.Passing as passing
 use Rattle.node_clients.specs.Pieces as pieces
 use Rattle.node_clients.specs.Serving as serving
@@ -36,9 +38,10 @@ use Rattle.broker_node.specs.declared.event.EventKind.{EventKind}
 use Rattle.broker_node.specs.declared.event.EventKind.TheVariants as kinds
 use Rattle.broker_node.specs.Bridge as bridge
 use Rattle.broker_node.specs.Due as due
+use Rattle.broker_node.specs.Moving as tables
 use Rattle.broker_node.specs.Turns as turns
 use Rattle.passing_laws.proofs.Keeping.{Property, Joins, Keeps, k_returns, k_acting, k_numbered, k_looks, k_finds, k_if, k_then, k_each, k_calls}
-use Rattle.passing_laws.proofs.Work.{removes, sends, disconnects, misses, ticks_of, parts, closes_of, closes_by, connects_by}
+use Rattle.passing_laws.proofs.Work.{removes, sends, disconnects, misses, moves_away, ticks_of, parts, closes_of, closes_by, connects_by}
 
 -- by what it makes of each packet of an accepted client, and of each message that it takes of a lane
 module _ (T : Property) (j : Joins T) (serves : (c : ℕ) (client : List ℕ) (k : Packet) → Keeps T (serving.Serves c client k)) (takes_forward : (from number : ℕ) (m : Message) → Keeps T (passing.TakesForward from number m)) where
@@ -121,10 +124,21 @@ module _ (T : Property) (j : Joins T) (serves : (c : ℕ) (client : List ℕ) (k
   parts_from : (client : List ℕ) → Keeps T (due.PartsFrom client)
   parts_from client = k_then T j (Calls client closes leaves) (λ _. Returns tt) (k_calls T j client closes leaves (λ at. tt)) (λ _. k_returns T j tt)
 
+  -- ---- clients whose home is elsewhere
+  sends_away : Keeps T tables.SendsAway
+  sends_away = k_finds T j tables.AreAway (Each moving.MovesAway) (λ away. k_each T j moving.MovesAway away (moves_away T j))
+
+  takes_table : (homes : Table) → Keeps T (tables.TakesTable homes)
+  takes_table homes =
+      k_looks T j (tables.is_newer homes) (λ newer. If newer (tables.Moves homes) (Misses TableRefused))
+      (λ newer. k_if T j newer (tables.Moves homes) (Misses TableRefused)
+      (k_then T j (Acting (λ p h. Moved homes)) (λ _. tables.SendsAway) (k_acting T j (λ p h. Moved homes) (λ p h. tt)) (λ _. sends_away)) (misses T j TableRefused))
+
   starts : Keeps T due.Starts
   starts =
-      k_then T j (Acting (λ p h. Began)) (λ _. Then due.ClosesStored (λ _. due.DoesDue)) (k_acting T j (λ p h. Began) (λ p h. tt)) (λ _.
-      k_then T j due.ClosesStored (λ _. due.DoesDue) (k_looks T j (λ p h. connected h.sessions) (Each due.PartsFrom) (λ cs. k_each T j due.PartsFrom cs parts_from)) (λ _. does_due))
+      k_then T j (Acting (λ p h. Began)) (λ _. Then due.ClosesStored (λ _. Then due.DoesDue (λ _. tables.SendsAway))) (k_acting T j (λ p h. Began) (λ p h. tt)) (λ _.
+      k_then T j due.ClosesStored (λ _. Then due.DoesDue (λ _. tables.SendsAway)) (k_looks T j (λ p h. connected h.sessions) (Each due.PartsFrom) (λ cs. k_each T j due.PartsFrom cs parts_from)) (λ _.
+      k_then T j due.DoesDue (λ _. tables.SendsAway) does_due (λ _. sends_away)))
 
   -- ---- frames
   gives_frame : (f : BridgeFrame) → Keeps T (GivesFrame f)
@@ -187,6 +201,7 @@ module _ (T : Property) (j : Joins T) (serves : (c : ℕ) (client : List ℕ) (k
   answers_kind (kinds.Ship peer) = ships peer
   answers_kind kinds.Tick = k_returns T j _
   answers_kind (kinds.Evict client) = k_then T j (Removes client None) (λ _. Returns tt) (removes T j client None) (λ _. k_returns T j tt)
+  answers_kind (kinds.Table homes) = takes_table homes
 
   after_due : (kind : EventKind) → Keeps T (Then due.DoesDue (λ _. turns.Answers kind))
   after_due kind = k_then T j due.DoesDue (λ _. turns.Answers kind) does_due (λ _. answers_kind kind)
@@ -201,6 +216,7 @@ module _ (T : Property) (j : Joins T) (serves : (c : ℕ) (client : List ℕ) (k
   goes_on (kinds.Ship peer) = after_due (kinds.Ship peer)
   goes_on kinds.Tick = after_due kinds.Tick
   goes_on (kinds.Evict client) = after_due (kinds.Evict client)
+  goes_on (kinds.Table homes) = after_due (kinds.Table homes)
 
   first_turn : (kind : EventKind) → Keeps T (turns.First kind)
   first_turn kinds.Started = starts
@@ -212,6 +228,7 @@ module _ (T : Property) (j : Joins T) (serves : (c : ℕ) (client : List ℕ) (k
   first_turn (kinds.Ship peer) = k_returns T j _
   first_turn kinds.Tick = k_returns T j _
   first_turn (kinds.Evict client) = k_returns T j _
+  first_turn (kinds.Table homes) = k_returns T j _
 
   pub decides : (e : NodeEvent) → Keeps T (turns.Decides e)
   decides e =

@@ -5,7 +5,7 @@ use Rattle.session_table.specs.Seats.{Seat}
 use Rattle.mqtt_sessions.specs.Reaction.{Reaction}
 use Rattle.node_work.specs.declared.outcome.Output.{Output}
 use Rattle.node_work.specs.declared.outcome.Output.TheVariants.{Send, Close, Frame as Release}
-use Rattle.node_work.specs.Acts.{Act, Moment, Began, Store, Connection, Session, Bridge, Out, Named, Acknowledged, Passed, Dropped, Runs}
+use Rattle.node_work.specs.Acts.{Act, Moment, Began, Moved, Store, Connection, Session, Bridge, Out, Named, Acknowledged, Passed, Dropped, Runs}
 use Rattle.node_work.specs.Calling.{Calls, CallsAt}
 use Rattle.node_work.specs.Held.Bridge.{BridgeAct, Put, Took, Got, Believed, Gave, Left_out}
 use Rattle.node_work.specs.Held.Sessions.{SessionAct, SessionStep, Begun, Called, Over, seat_at}
@@ -52,6 +52,7 @@ IsPlainBridge (Left_out what) = Unit {0}
 abbrev pub IsPlain : Act → Type 0
 IsPlain (Moment at) = Unit {0}
 IsPlain Began = Unit {0}
+IsPlain (Moved homes) = Unit {0}
 IsPlain (Store a) = Unit {0}
 IsPlain (Connection a) = Unit {0}
 IsPlain (Session a) = IsOtherCall a

@@ -8,7 +8,7 @@ use Rattle.mqtt_sessions.specs.Reaction.{packet_of}
 use Rattle.bridge_frames.specs.declared.forward.Forward.{Forward}
 use Rattle.message_copies.specs.declared.plain.PlainCopy.{PlainCopy as Copy}
 use Rattle.node_work.specs.declared.outcome.Output.TheVariants.{Send, Close, Frame as Release}
-use Rattle.node_work.specs.Acts.{Act, Moment, Began, Store, Connection, Session, Bridge, Out, Named, Acknowledged, Passed, Dropped, Runs, gather, output_in}
+use Rattle.node_work.specs.Acts.{Act, Moment, Began, Moved, Store, Connection, Session, Bridge, Out, Named, Acknowledged, Passed, Dropped, Runs, gather, output_in}
 use Rattle.node_work.specs.Held.Bridge.{Put, Took, Got, Believed, Gave, Left_out}
 use Rattle.node_work.specs.Held.Sessions.{SessionStep, Begun, Called, Over, last_of, outputs_on, packet_output}
 use Rattle.node_work.specs.View.{Place, HeldView}
@@ -67,6 +67,7 @@ sent_call p h s connection bytes i =
 sent_one : (p : Place) (h : HeldView) (a : Act) → IsPlain a → Sent p h (a ∷ [])
 sent_one p h (Moment at) plain connection bytes i = absurd i
 sent_one p h Began plain connection bytes i = absurd i
+sent_one p h (Moved homes) plain connection bytes i = absurd i
 sent_one p h (Store a) plain connection bytes i = absurd i
 sent_one p h (Connection a) plain connection bytes i = absurd i
 sent_one p h (Session (Begun client)) plain connection bytes i = absurd i

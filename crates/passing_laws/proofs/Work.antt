@@ -35,16 +35,17 @@ use Rattle.node_work.specs.declared.counts.Missed.{Missed}
 use Rattle.node_work.specs.declared.counts.Missed.TheVariants.{LaneFull}
 use Rattle.node_work.specs.Acts.{Store, Session, Acknowledged, Made, Act, Bridge, Out}
 use Rattle.node_work.specs.Calling.{Calls, Queues, QueuesOne, CallsAt}
-use Rattle.node_work.specs.Doings.{MakesSubscribe, MakesRemove, MakesRemoveBelow, Removes, RemovesBelow, Sends, Disconnects, Misses, PutsBy, RoutesBy, Routes}
+use Rattle.node_work.specs.Doings.{MakesSubscribe, MakesRemove, MakesRemoveBelow, Removes, RemovesBelow, Sends, Disconnects, Redirects, Misses, PutsBy, RoutesBy, Routes}
 use Rattle.node_work.specs.Held.Bridge.{Put, Took, Left_out}
-use Rattle.node_work.specs.Held.Sessions.{Begun, takes_disconnect, will_is_due, end_is_due, SessionStep, Called, seat_at}
+use Rattle.node_work.specs.Held.Sessions.{Begun, connection_at, takes_disconnect, takes_packet, will_is_due, end_is_due, SessionStep, Called, seat_at}
 use Rattle.node_work.specs.Held.Making.{number_at_end, removal, removal_below}
 use Rattle.subscription_set.specs.declared.entry.Entry.{Entry}
 use Rattle.subscription_set.specs.Standing.{any_of, any_below}
-use Rattle.node_work.specs.Packets.{refused_packet}
+use Rattle.node_work.specs.Packets.{moved_packet, refused_packet}
 use Rattle.node_work.specs.Working.{Returns, Acting, Looks, If, Then, Each, InTurn}
 use Rattle.node_clients.specs.Connecting as connecting
 use Rattle.node_clients.specs.Ending as ending
+use Rattle.node_clients.specs.Moving as moving
 use Rattle.node_clients.specs.Passing as passing
 use Rattle.node_clients.specs.Serving as serving
 use Rattle.node_clients.specs.Subscribing as subscribing
@@ -82,6 +83,11 @@ module _ (T : Property) (j : Joins T) where
   disconnects c client code =
       k_looks T j (λ p h. takes_disconnect client code h) (λ taken. If taken (Sends c (disconnect code)) (Returns tt))
       (λ taken. k_if T j taken (Sends c (disconnect code)) (Returns tt) (sends c (disconnect code) refl) (k_returns T j tt))
+
+  redirects : (c : ℕ) (client address : List ℕ) → Keeps T (Redirects c client address)
+  redirects c client address =
+      k_looks T j (λ p h. takes_packet client (moved_packet address) h) (λ taken. If taken (Sends c (moved_packet address)) (Returns tt))
+      (λ taken. k_if T j taken (Sends c (moved_packet address)) (Returns tt) (sends c (moved_packet address) refl) (k_returns T j tt))
 
   pub queues_one : (x : Copy) → Keeps T (QueuesOne x)
   queues_one x = k_then T j (Calls x.client (queues x.delivery) stays) (λ _. Returns tt) (k_calls T j x.client (queues x.delivery) stays (λ at. tt)) (λ _. k_returns T j tt)
@@ -156,6 +162,23 @@ module _ (T : Property) (j : Joins T) where
   pub closes_after : (end : Option ℕ) (c : ℕ) (client : List ℕ) → Keeps T (ending.ClosesAfter end c client)
   closes_after None c client = k_returns T j _
   closes_after (Some code) c client = closes_for c client
+
+  -- ---- a client whose home is elsewhere
+  redirects_by : (c : ℕ) (client : List ℕ) (address : Option (List ℕ)) → Keeps T (moving.RedirectsBy c client address)
+  redirects_by c client None = k_returns T j tt
+  redirects_by c client (Some address) = redirects c client address
+
+  redirects_home : (c : ℕ) (client : List ℕ) → Keeps T (moving.RedirectsHome c client)
+  redirects_home c client =
+      k_finds T j (ending.IsAtHome client) (moving.RedirectsTo c client) (λ node. k_looks T j (λ p h. connecting.address_of h node) (moving.RedirectsBy c client) (redirects_by c client))
+
+  parts_on : (client : List ℕ) (on : Option ℕ) → Keeps T (moving.PartsOn client on)
+  parts_on client None = k_returns T j tt
+  parts_on client (Some c) = k_then T j (moving.RedirectsHome c client) (λ _. ending.ClosesFor c client) (redirects_home c client) (λ _. closes_for c client)
+
+  pub moves_away : (client : List ℕ) → Keeps T (moving.MovesAway client)
+  moves_away client =
+      k_then T j (moving.PartsWays client) (λ _. ending.Finishes client) (k_looks T j (λ p h. connection_at client h) (moving.PartsOn client) (parts_on client)) (λ _. finishes_of client)
 
   -- ---- CONNECT
   pub refuses : (c : ℕ) (p : Connect) (code : ℕ) (reference : Option (List ℕ)) → Keeps T (connecting.Refuses c p code reference)

@@ -28,10 +28,11 @@ fn told(rt: &impl Abort, alloc: Global, line: &str) -> String {
                 turns,
                 most_clients,
                 connect_within,
+                log,
             },
         ) => {
-            let limits = (most_clients, connect_within);
-            format!(in alloc; "serve {configuration} {node} {database} {turns} {limits:?}")
+            let options = (most_clients, connect_within, log);
+            format!(in alloc; "serve {configuration} {node} {database} {turns} {options:?}")
         }
         Ok(
             Task::Check {
@@ -59,19 +60,23 @@ fn reads_command_lines(rt: HostRuntime) {
         ("loopback a.script", "loopback a.script"),
         (
             "serve c.toml n0 d.db --turns 1",
-            "serve c.toml n0 d.db 1 (None, None)",
+            "serve c.toml n0 d.db 1 (None, None, false)",
         ),
         (
             "serve --turns=1000000000 c.toml n0 d.db",
-            "serve c.toml n0 d.db 1000000000 (None, None)",
+            "serve c.toml n0 d.db 1000000000 (None, None, false)",
         ),
         (
             "serve c.toml n0 d.db --turns 1 --most-clients 500",
-            "serve c.toml n0 d.db 1 (Some(500), None)",
+            "serve c.toml n0 d.db 1 (Some(500), None, false)",
         ),
         (
             "serve --connect-within=1 c.toml n0 d.db --most-clients=1000000000 --turns 1",
-            "serve c.toml n0 d.db 1 (Some(1000000000), Some(1))",
+            "serve c.toml n0 d.db 1 (Some(1000000000), Some(1), false)",
+        ),
+        (
+            "serve c.toml --log n0 d.db --turns 1 --most-clients 2",
+            "serve c.toml n0 d.db 1 (Some(2), None, true)",
         ),
         ("", "2 (false, true)"),
         ("play", "2 (false, true)"),
@@ -107,7 +112,16 @@ fn reads_command_lines(rt: HostRuntime) {
             "serve c.toml n0 d.db --turns 1 --connect-within 1000000001",
             "2 (false, true)",
         ),
+        (
+            "serve c.toml n0 d.db --turns 1 --log yes",
+            "2 (false, true)",
+        ),
+        (
+            "serve c.toml n0 d.db --turns 1 --log=yes",
+            "2 (false, true)",
+        ),
         ("check c.toml n0 d.db --most-clients 1", "2 (false, true)"),
+        ("check c.toml n0 d.db --log", "2 (false, true)"),
         ("check c.toml n0 d.db", "check c.toml n0 d.db"),
         ("check c.toml n0", "2 (false, true)"),
         ("check c.toml n0 d.db --turns 1", "2 (false, true)"),

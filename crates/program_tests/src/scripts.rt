@@ -129,6 +129,31 @@ fn reads_homes(rt: HostRuntime) {
     assert!(rt; fault_of(rt.alloc(), script.as_str().as_bytes()) == Some(ScriptFault::Line(2)));
 }
 
+#[test]
+fn reads_moves(rt: HostRuntime) {
+    let longest = "a".repeat(rt.alloc(), 255).expect(&rt, "memory");
+    let script = format!(in rt.alloc(); "nodes 2\nmove 0 4294967295 {longest} 1 7\n").expect(
+        &rt, "memory",
+    );
+    let commands = read(&rt, rt.alloc(), script.as_str().as_bytes());
+    assert_eq!(rt; commands.len(), 2);
+    assert!(rt;
+        is(
+            &commands[1],
+            Command::Event(NodeEvent::Move {
+                node: 0,
+                version: 4294967295,
+                prefix: longest,
+                home: 1,
+                moment: 7
+            })
+        )
+    );
+    let longer = "a".repeat(rt.alloc(), 256).expect(&rt, "memory");
+    let script = format!(in rt.alloc(); "nodes 2\nmove 0 1 {longer} 1 7\n").expect(&rt, "memory");
+    assert!(rt; fault_of(rt.alloc(), script.as_str().as_bytes()) == Some(ScriptFault::Line(2)));
+}
+
 /// Each event, also in a crash line: the same event before and after it.
 #[test]
 fn reads_crashes(rt: HostRuntime) {
@@ -141,6 +166,7 @@ fn reads_crashes(rt: HostRuntime) {
         "link 0 1 0",
         "tick 0 0",
         "evict 0 a 0",
+        "move 0 1 a 1 0",
     ] {
         let script = format!(in rt.alloc();
             "nodes 2\n{event}\ncrash before {event}\ncrash after {event}\n"
@@ -210,6 +236,13 @@ fn names_faults(rt: HostRuntime) {
         ("nodes 2\nevict 0  0", 2),
         ("nodes 2\nevict 0 a", 2),
         ("nodes 2\nevict 0 a b 0", 2),
+        ("nodes 2\nmove 2 1 a 0 0", 2),
+        ("nodes 2\nmove 0 1 a 2 0", 2),
+        ("nodes 2\ncrash before move 0 1 a 2 0", 2),
+        ("nodes 2\nmove 0 4294967296 a 0 0", 2),
+        ("nodes 2\nmove 0 01 a 0 0", 2),
+        ("nodes 2\nmove 0 1 \x7f 0 0", 2),
+        ("nodes 2\nmove 0 1 a 0", 2),
         ("nodes 2\nhome a 2", 2),
         ("nodes 2\nhome a 0 0", 2),
         ("nodes 2\nhome  0", 2),
@@ -257,7 +290,7 @@ fn names_faults(rt: HostRuntime) {
 #[test]
 fn prints_commands(rt: HostRuntime) {
     let script =
-        b"nodes 2\nhome d 1\nopen 1 10 0\nbytes 1 10 5 00ff7a\nclose 1 10 6\ntick 0 7\nship 0 1 7\nlink 1 0 7\ndeliver 3 9\nevict 1 c-1 8\nstart 0 20\n\
+        b"nodes 2\nhome d 1\nopen 1 10 0\nbytes 1 10 5 00ff7a\nclose 1 10 6\ntick 0 7\nship 0 1 7\nlink 1 0 7\ndeliver 3 9\nevict 1 c-1 8\nmove 0 4294967295 d 1 9\nstart 0 20\n\
         crash before bytes 1 10 5 00ff7a\ncrash after ship 0 1 7\ncrash before link 1 0 7\nrestart 1\n";
     let mut printed = String::new(rt.alloc());
     for command in read(&rt, rt.alloc(), script).iter() {

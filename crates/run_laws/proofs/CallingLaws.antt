@@ -5,7 +5,7 @@ use Rattle.session_laws.specs.Runs.{Step}
 use Rattle.finite_maps.proofs.Texts.{itself, same_text}
 use Rattle.node_laws.specs.Lives.{is_client, step_in, after_act, after_move, life, lost_step}
 use Rattle.node_laws.specs.Moves.{Move, Did, Lost as Loses, did}
-use Rattle.node_work.specs.Acts.{Act, Moment, Began, Store, Connection, Session, Bridge, Out, Named, Acknowledged, Passed, Dropped}
+use Rattle.node_work.specs.Acts.{Act, Moment, Began, Moved, Store, Connection, Session, Bridge, Out, Named, Acknowledged, Passed, Dropped}
 use Rattle.node_work.specs.Held.Sessions.{Begun, Called, Over}
 use Rattle.cluster_play.specs.Worlds.{World, Fate, Released, Lost, Cut, Faulted, Was_down, Restarted}
 use Rattle.cluster_play.specs.Runs.{Played}
@@ -41,6 +41,7 @@ calls false s given = same given
 adds_act : (client : List ℕ) (a : Act) (given : List Step) → Ends client (Did a) ⊎ Adds given (after_act client a given)
 adds_act client (Moment at) given = inr (same given)
 adds_act client Began given = inr (same given)
+adds_act client (Moved homes) given = inr (same given)
 adds_act client (Store a) given = inr (same given)
 adds_act client (Connection a) given = inr (same given)
 adds_act client (Session (Begun other)) given = begins client other (is_client client other) refl given

@@ -16,7 +16,7 @@ use Rattle.node_work.specs.Acts.{Act, Bridge, Runs}
 use Rattle.node_work.specs.Handed.{IsHanded}
 use Rattle.node_work.specs.Held.Bridge.{Took}
 use Rattle.node_work.specs.Lasting.{lasting}
-use Rattle.node_work.specs.View.{HeldView}
+use Rattle.node_work.specs.View.{HeldView, fresh}
 use Rattle.node_laws.proofs.MoveLaws.{acts_are_moves}
 use Rattle.broker_node.specs.declared.event.Event.{Event}
 use Rattle.broker_node.specs.Turns.{Decides}
@@ -28,9 +28,9 @@ use Rattle.cluster_play.specs.Runs.{Played, IsHonestStep}
 use Rattle.cluster_play.specs.Histories.{Reached, site, acts_of, taken_amid, operations_amid, moves_amid}
 use Rattle.cluster_play.specs.Laws.{HoldsAmid, AnswersBy}
 use Rattle.cluster_play.proofs.Amid.{amid_acts}
-use Rattle.cluster_play.proofs.Explaining.{Seated, fresh_at, past, seat_lasts}
+use Rattle.cluster_play.proofs.Explaining.{Seated, past, seat_lasts}
 use Rattle.cluster_play.proofs.Kept.{explained}
-use Rattle.cluster_play.proofs.Lives.{at_moves, amid_moves}
+use Rattle.cluster_play.proofs.Lives.{amid_moves, led}
 use Rattle.cluster_play.proofs.Moments.{moves_moment}
 use Rattle.cluster_play.proofs.Operations.{own_some}
 use Rattle.cluster_play.proofs.Paths.{commits_acts, midway}
@@ -51,12 +51,12 @@ module _ (run : List Played) (w : World) (r : Reached run w) where
   own_lane : (i j : ℕ) (s : Site) (said : Lasting) → slice_get w.sites i ≡ Some s → AreLasting s.node.place s.rows said → IsKept (lane_of said.lanes j) (put i j run) (took i j run) (took j i run)
   own_lane i j s said at are =
       let e = explained run w r in
-      let x : Seated (past run) (length w.sites) i s = e.sites i s at in
+      let x : Seated (past r.start run) (length w.sites) i s = e.sites i s at in
       let place = s.node.place in
-      let can : IsLasting place.nodes (lasting x.held) = subst (λ n. IsLasting n (lasting x.held)) (sym x.nodes) (seat_lasts (past run) w e i s at x) in
+      let can : IsLasting place.nodes (lasting x.held) = subst (λ n. IsLasting n (lasting x.held)) (sym x.nodes) (seat_lasts (past r.start run) w e i s at x) in
       let same : said ≡ lasting x.held = rows_tell_all place.nodes place.id said (lasting x.held) are.0 can (λ key. sym (are.1 key) ∙ x.rows key) in
       subst (λ (l : Lasting). IsKept (lane_of l.lanes j) (put i j run) (took i j run) (took j i run)) (sym same)
-      ((lanes_explained run w r).sites i x.held (record { node = s; at = at; moves = x.moves }) j)
+      ((lanes_explained run w r).sites i x.held (record { node = s; at = at; first = x.first; was = x.was; moves = x.moves }) j)
 
   pub waits_past : (i j : ℕ) (s : Site) (said : Lasting) → slice_get w.sites i ≡ Some s → AreLasting s.node.place s.rows said
       → (k : ℕ) × (k ≤ length (took j i run)) × ((lane_of said.lanes j).waiting ≡ drop k (put i j run)) × ((lane_of said.lanes j).gone ≡ k)
@@ -143,12 +143,14 @@ module _ (run later : List Played) (m : Played) (w : World) (r : Reached (run ++
       let node = here.there.holds.site.node in
       let place = node.place in
       let was = here.there.held in
-      let moves = amid_moves place (fresh_at node) run i before was here.held (at_moves run here.world here.reached i was here.there.holds) (acts_are_moves place was here.held before here.there.runs) in
+      let l = led run here.world here.reached i was here.there.holds in
+      let first = fresh l.first in
+      let moves = amid_moves place first run i before was here.held l.moves (acts_are_moves place was here.held before here.there.runs) in
       record {
         world = here.world;
         reached = here.reached;
         held = here.held;
         there = here.there;
-        moment = moves_moment place (moves_amid i run before) (fresh_at node) here.held moves;
+        moment = moves_moment place (moves_amid i run before) first here.held moves;
         joins = handed_is_queued here.event place was here.held (acts_of m.fate) here.decides before s.after s.from s.number s.message s.copies s.lost s.acts here.there.runs;
       }

@@ -6,7 +6,7 @@ use Rattle.mqtt_sessions.specs.Reaction.{Reaction}
 use Rattle.session_laws.specs.Arrivals.{is_for, is_open_after, PassesBy, ComesOnce}
 use Rattle.session_laws.specs.Runs.{Event, connects, queues, takes, answers, closes, ticks, finishes, loses, Step, connected_after}
 use Rattle.finite_maps.proofs.Texts.{same_text}
-use Rattle.node_work.specs.Acts.{Act, Moment, Began, Store, Connection, Session, Bridge, Out, Named, Acknowledged, Passed, Dropped}
+use Rattle.node_work.specs.Acts.{Act, Moment, Began, Moved, Store, Connection, Session, Bridge, Out, Named, Acknowledged, Passed, Dropped}
 use Rattle.node_work.specs.Held.Sessions.{SessionStep, Begun, Called, Over}
 use Rattle.node_laws.specs.Lives.{is_client, step_in, after_act, after_move, life, lost_step}
 use Rattle.node_laws.specs.Moves.{Move, Did, Lost as Loses, did}
@@ -140,6 +140,7 @@ module _ (client : List ℕ) (past since : List Step) (s : Step) (kept : lost_st
   by_act : (a : Act) (given : List Step) → after_act client a given ≡ past ++ s ∷ since → InGiven past s given ⊎ ((t : SessionStep) × (a ≡ Session (Called t)) × (t.client ≡ client) × (step_in t ≡ s))
   by_act (Moment at) given e = inl (since, e)
   by_act Began given e = inl (since, e)
+  by_act (Moved homes) given e = inl (since, e)
   by_act (Store a) given e = inl (since, e)
   by_act (Connection a) given e = inl (since, e)
   by_act (Session (Begun other)) given e = inl (emptied (is_client client other) given past since s e)

@@ -1,7 +1,7 @@
 -- What nodes put into their lanes and took of them in a run, read off its moments.
 use Rattle.std.specs.Prelude.{ℕ, cond, nat_eq, List, [], ◌∷◌, ◌++◌}
 use Rattle.bridge_frames.specs.declared.forward.Forward.{Forward}
-use Rattle.node_work.specs.Acts.{Act, Moment, Began, Store, Connection, Session, Bridge, Out, Named, Acknowledged, Passed, Dropped, gather}
+use Rattle.node_work.specs.Acts.{Act, Moment, Began, Moved, Store, Connection, Session, Bridge, Out, Named, Acknowledged, Passed, Dropped, gather}
 use Rattle.node_work.specs.Held.Bridge.{BridgeAct, Put, Took, Got, Believed, Gave, Left_out}
 use Rattle.cluster_play.specs.Worlds.{Fate}
 use Rattle.cluster_play.specs.Runs.{Played}
@@ -27,6 +27,7 @@ took_by j (Left_out what) = []
 abbrev pub by_bridge : {A : Type 0} → (BridgeAct → List A) → Act → List A
 by_bridge f (Moment at) = []
 by_bridge f Began = []
+by_bridge f (Moved homes) = []
 by_bridge f (Store a) = []
 by_bridge f (Connection a) = []
 by_bridge f (Session a) = []

@@ -15,6 +15,7 @@ mod bridge;
 mod crashes;
 mod faults;
 mod first_path;
+mod moves;
 mod operations;
 mod sessions;
 mod streams;
@@ -98,6 +99,11 @@ fn runs_operations(rt: HostRuntime) {
 #[test]
 fn runs_crashes(rt: HostRuntime) {
     check_all(&rt, rt.alloc(), &crashes::EXAMPLES);
+}
+
+#[test]
+fn runs_moves(rt: HostRuntime) {
+    check_all(&rt, rt.alloc(), &moves::EXAMPLES);
 }
 
 #[test]

@@ -17,19 +17,48 @@ pub fn tables_of(alloc: Global, nodes: u16, commands: &[Command]) -> Result<Vec<
     Ok(tables)
 }
 
+/// The home of the client identifiers that begin with a prefix.
+#[derive(Drop)]
+pub struct Home {
+    pub prefix: String,
+    pub node: u16,
+}
+
+/// A script's table with another version, in which a home takes the place of that of the same prefix, or is one more.
+pub fn moved_table(
+    alloc: Global,
+    nodes: u16,
+    homes: &[Home],
+    version: u32,
+    moved: &Home,
+) -> Result<HomeTable, Stop> {
+    let rows = nodes_text(alloc, nodes)?;
+    let mut text = format!(in alloc; "version = {version}\n{rows}")?;
+    for home in homes {
+        if home.prefix != moved.prefix {
+            push_home(alloc, &mut text, home.prefix.as_str(), home.node)?;
+        }
+    }
+    push_home(alloc, &mut text, moved.prefix.as_str(), moved.node)?;
+    Ok(HomeTable::parse(alloc, text.as_str()).map_err(RunFault::from)?)
+}
+
 /// The rows of the table: nodes `n0` and so on, each with ports of its own, and the homes.
 fn table_text(alloc: Global, nodes: u16, commands: &[Command]) -> Result<String, Stop> {
     let mut text = nodes_text(alloc, nodes)?;
     for command in commands {
         if let Command::Home { prefix, node } = command {
-            let prefix = escaped(alloc, prefix.as_str())?;
-            writeln!(
-                &mut text,
-                "[[home]]\nprefix = \"{prefix}\"\nnode = \"n{node}\""
-            )?;
+            push_home(alloc, &mut text, prefix.as_str(), *node)?;
         }
     }
     Ok(text)
+}
+
+/// Adds the row of a home.
+fn push_home(alloc: Global, text: &mut String, prefix: &str, node: u16) -> Result<(), Stop> {
+    let prefix = escaped(alloc, prefix)?;
+    writeln!(text, "[[home]]\nprefix = \"{prefix}\"\nnode = \"n{node}\"")?;
+    Ok(())
 }
 
 /// A text as it stands between the quotes of TOML.

@@ -3,7 +3,7 @@
 use crate::faults::of_step;
 use crate::homes::tables_of;
 use crate::player::{Plain, Player};
-use crate::steps::step_of;
+use crate::steps::Scene;
 use broker_script::{Command, parse_script};
 use broker_stop::{RunFault, Stop};
 use cluster_play::Cluster;
@@ -72,8 +72,9 @@ pub fn run_steps<P: Player, O: Write>(
     player: &mut P,
     out: &mut O,
 ) -> Result<(), Stop> {
+    let mut scene = Scene::new(alloc, nodes);
     for command in commands {
-        if let Some(step) = step_of(alloc, command)? {
+        if let Some(step) = scene.step_of(alloc, command)? {
             let trace = player.step(step)?;
             write_lines(alloc, trace.lines.as_slice(), out)?;
         }

@@ -29,4 +29,4 @@ returns-in_err-node-in-link-clause-none c = rw c.from_residual-in_err-node-in-li
 pub returns-in_default-clause-none : goal.returns-in_default-clause-none
 returns-in_default-clause-none c =
     let n = c.in_default in
-    no_event _ _ n.not-start n.not-open n.not-ship c.requires.not_bytes c.requires.not_evict n.not-close n.not-tick n.not-link
+    no_event _ _ n.not-start n.not-open n.not-ship c.requires.not_bytes c.requires.not_evict n.not-close n.not-tick n.not-link c.requires.not_move
