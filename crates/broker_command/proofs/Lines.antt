@@ -1,5 +1,5 @@
 -- The commands of the program, and the tasks of what follows them.
-use Rattle.std.proofs.Common.{◌≡◌, ◌∙◌, ◌≤◌, ℕ, List, [], Option, Some, None, Result, Ok, Err, true, refl, sym, ap, subst, option_map}
+use Rattle.std.proofs.Common.{◌≡◌, ◌∙◌, ◌≤◌, ℕ, List, [], Option, Some, None, Result, Ok, Err, Bool, true, false, codes, refl, sym, ap, subst, option_map}
 use Rattle.std.specs.Prelude.{IfSome, IsErrAnd, MatchResult}
 use Rattle.std.specs.Borrow.{Bor}
 use Rattle.std.specs.Str.Parse.{ParsesUnsigned}
@@ -9,7 +9,7 @@ use Rattle.clap.specs.declared.parser.matches.Found.{Found}
 use Rattle.clap.specs.declared.error.Error.{Error}
 use Rattle.clap.proofs.OnLiterals.{clap_on_literals}
 use Rattle.clap.proofs.WalkLemmas.{first_value-rows, one_text-rows}
-use Rattle.broker_command.specs.Line.{broker, IsNumber, IsOf, IsTask}
+use Rattle.broker_command.specs.Line.{broker, IsFlag, IsNumber, IsOf, IsTask}
 use Rattle.broker_command.specs.declared.task.Task.{Task}
 
 -- the program's commands are such that what a parse of words gives is stated exactly
@@ -53,6 +53,15 @@ none_read f id never = go (one_text f id) refl
     go : (o : Option Text) → one_text f id ≡ o → one_of id (rows_of f) ≡ None
     go None e = sym (one_text-rows f id) ∙ e
     go (Some t) e = absurd (never t e)
+
+-- a flag that a getter reads
+pub flag_read : (f : Found) (id : Text) (given : Bool) → (one_text f id ≡ None → given ≡ false) → (one_text f id ≡ Some (codes "false") → given ≡ false)
+    → (one_text f id ≡ Some (codes "true") → given ≡ true) → IsFlag (rows_of f) id given
+flag_read f id given absent off on = record {
+  absent = λ e. absent (one_text-rows f id ∙ e);
+  off = λ e. off (one_text-rows f id ∙ e);
+  on = λ e. on (one_text-rows f id ∙ e);
+}
 
 -- a parse that succeeds found no fault, and met the command that the words name
 pub asked : (a : App) (words : List Text) (m : ArgMatches) → a ≡ broker → HasMatchesOf a words m

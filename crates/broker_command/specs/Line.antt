@@ -1,10 +1,10 @@
 -- The command lines of the program, and what each asks for.
-use Rattle.std.specs.Prelude.{◌≡◌, ◌≢◌, ◌≤◌, ℕ, List, [], Some, None, Option, String, true, pos, codes}
+use Rattle.std.specs.Prelude.{◌≡◌, ◌≢◌, ◌≤◌, ℕ, List, [], Some, None, Option, String, Bool, true, false, pos, codes}
 use Rattle.std.specs.declared.alloc.Global.{Global}
 use Rattle.std.specs.Str.Parse.{IsNumeral, digits_value, without_leading_plus}
 use Rattle.clap.specs.Words.{App, IsAmong, Row, Rule, Text, fault_of, first_of, new_app, new_rule, one_of, subcommand_of, with_rule, with_subcommand}
 use Rattle.clap.specs.Simple.{on_top}
-use Rattle.clap.specs.declared.builder.action.ArgAction.TheVariants.{Set}
+use Rattle.clap.specs.declared.builder.action.ArgAction.TheVariants.{Set, SetTrue}
 use Rattle.clap.specs.declared.builder.value_parser.ValueParser.TheVariants.{Signed}
 use Rattle.clap.specs.declared.error.kind.ErrorKind.{ErrorKind}
 use Rattle.clap.specs.declared.error.kind.ErrorKind.TheVariants.{DisplayHelp, OutOfMemory}
@@ -54,11 +54,18 @@ play = with_rule (new_app (codes "play")) (word_rule (codes "SCRIPT"))
 abbrev pub loopback : App
 loopback = with_rule (new_app (codes "loopback")) (word_rule (codes "SCRIPT"))
 
--- `serve CONFIG NODE DATABASE --turns N [--most-clients N] [--connect-within SECONDS]`
+-- `--log`
+abbrev pub log_rule : Rule
+log_rule = record (new_rule (codes "log")) {
+  long = Some (codes "log");
+  action = Some SetTrue;
+}
+
+-- `serve CONFIG NODE DATABASE --turns N [--most-clients N] [--connect-within SECONDS] [--log]`
 abbrev pub serve : App
-serve = with_rule (with_rule (with_rule (with_rule (with_rule (with_rule (new_app (codes "serve"))
+serve = with_rule (with_rule (with_rule (with_rule (with_rule (with_rule (with_rule (new_app (codes "serve"))
     (word_rule (codes "CONFIG"))) (word_rule (codes "NODE"))) (word_rule (codes "DATABASE"))) turns_rule)
-    most_clients_rule) connect_within_rule
+    most_clients_rule) connect_within_rule) log_rule
 
 -- `check CONFIG NODE DATABASE`
 abbrev pub check : App
@@ -79,14 +86,14 @@ IsScript rows script = first_of (codes "SCRIPT") rows ≡ Some script.bytes.item
 abbrev pub IsPlay : List Row → Task → Type 0
 IsPlay rows (Play script) = IsScript rows script
 IsPlay rows (Loopback script) = ⊥
-IsPlay rows (Serve configuration node database turns most_clients connect_within) = ⊥
+IsPlay rows (Serve configuration node database turns most_clients connect_within log) = ⊥
 IsPlay rows (Check configuration node database) = ⊥
 
 -- a script to play over sockets
 abbrev pub IsLoopback : List Row → Task → Type 0
 IsLoopback rows (Play script) = ⊥
 IsLoopback rows (Loopback script) = IsScript rows script
-IsLoopback rows (Serve configuration node database turns most_clients connect_within) = ⊥
+IsLoopback rows (Serve configuration node database turns most_clients connect_within log) = ⊥
 IsLoopback rows (Check configuration node database) = ⊥
 
 -- the number that an option is given, in range, as its text spells it
@@ -103,22 +110,28 @@ abbrev pub IsNumberIf : List Row → Text → Option ℕ → Type 0
 IsNumberIf rows id None = one_of id rows ≡ None
 IsNumberIf rows id (Some number) = IsNumber rows id number
 
+-- whether a flag is given, as its row says
+pub record IsFlag (rows : List Row) (id : Text) (given : Bool) : Type 0 where
+  pub absent : one_of id rows ≡ None → given ≡ false
+  pub off : one_of id rows ≡ Some (codes "false") → given ≡ false
+  pub on : one_of id rows ≡ Some (codes "true") → given ≡ true
+
 -- a node to be
 abbrev pub IsServe : List Row → Task → Type 0
 IsServe rows (Play script) = ⊥
 IsServe rows (Loopback script) = ⊥
-IsServe rows (Serve configuration node database turns most_clients connect_within) =
+IsServe rows (Serve configuration node database turns most_clients connect_within log) =
     (first_of (codes "CONFIG") rows ≡ Some configuration.bytes.items)
     × (first_of (codes "NODE") rows ≡ Some node.bytes.items)
     × (first_of (codes "DATABASE") rows ≡ Some database.bytes.items) × IsNumber rows (codes "turns") turns
-    × IsNumberIf rows (codes "most-clients") most_clients × IsNumberIf rows (codes "connect-within") connect_within
+    × IsNumberIf rows (codes "most-clients") most_clients × IsNumberIf rows (codes "connect-within") connect_within × IsFlag rows (codes "log") log
 IsServe rows (Check configuration node database) = ⊥
 
 -- a node whose rows are to be told
 abbrev pub IsCheck : List Row → Task → Type 0
 IsCheck rows (Play script) = ⊥
 IsCheck rows (Loopback script) = ⊥
-IsCheck rows (Serve configuration node database turns most_clients connect_within) = ⊥
+IsCheck rows (Serve configuration node database turns most_clients connect_within log) = ⊥
 IsCheck rows (Check configuration node database) =
     (first_of (codes "CONFIG") rows ≡ Some configuration.bytes.items)
     × (first_of (codes "NODE") rows ≡ Some node.bytes.items)
@@ -129,8 +142,8 @@ abbrev pub IsOf : Option (Text × List Row) → Task → Type 0
 IsOf None task = ⊥
 IsOf (Some (name, rows)) (Play script) = (name ≡ codes "play") × IsPlay rows (Play script)
 IsOf (Some (name, rows)) (Loopback script) = (name ≡ codes "loopback") × IsLoopback rows (Loopback script)
-IsOf (Some (name, rows)) (Serve configuration node database turns most_clients connect_within) =
-    (name ≡ codes "serve") × IsServe rows (Serve configuration node database turns most_clients connect_within)
+IsOf (Some (name, rows)) (Serve configuration node database turns most_clients connect_within log) =
+    (name ≡ codes "serve") × IsServe rows (Serve configuration node database turns most_clients connect_within log)
 IsOf (Some (name, rows)) (Check configuration node database) =
     (name ≡ codes "check") × IsCheck rows (Check configuration node database)
 

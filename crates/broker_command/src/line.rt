@@ -4,7 +4,7 @@ ghost use Rattle.std.specs.Prelude.{◌≡◌, map, false, pos, Some, IfOk, IfSo
 ghost use Rattle.clap.specs.declared.builder.value_parser.ValueParser.TheVariants.{Signed};
 ghost use Rattle.clap.specs.Words.{HasKind, app_of, fault_of, found_of, kind_of, rows_of, rule_of, subcommand_rows_of};
 ghost use Rattle.clap.specs.declared.builder.command.Command.TheViews.{out-Command as fields_of};
-ghost use Rattle.broker_command.specs.Line.{broker, play, loopback, serve, check, word_rule, option_rule, turns_rule, most_clients_rule, connect_within_rule, IsNumberIf, IsTask, IsOf, IsPlay, IsLoopback, IsServe, IsCheck, IsScript, IsRefusal, IsStopOf};
+ghost use Rattle.broker_command.specs.Line.{broker, play, loopback, serve, check, word_rule, option_rule, turns_rule, most_clients_rule, connect_within_rule, log_rule, IsFlag, IsNumberIf, IsTask, IsOf, IsPlay, IsLoopback, IsServe, IsCheck, IsScript, IsRefusal, IsStopOf};
 
 use crate::task::Task;
 use broker_stop::{RunFault, Stop};
@@ -74,7 +74,8 @@ fn serve_command<'a>(alloc: Global) -> Result<Command<'a>, AllocError>
         .arg(required(alloc, "DATABASE").help("The file of the database that keeps what lasts"))?
         .arg(turns_option(alloc))?
         .arg(most_clients_option(alloc))?
-        .arg(connect_within_option(alloc))
+        .arg(connect_within_option(alloc))?
+        .arg(log_option(alloc))
 }
 
 fn check_command<'a>(alloc: Global) -> Result<Command<'a>, AllocError>
@@ -120,6 +121,16 @@ fn connect_within_option<'a>(alloc: Global) -> Arg<'a>
         .value_name("SECONDS")
         .help("After how long a client is closed that wasn't accepted");
     numbered(option)
+}
+
+fn log_option<'a>(alloc: Global) -> Arg<'a>
+    ensures rule { rule_of result ≡ log_rule }
+    ensures local { result.global ≡ false }
+{
+    Arg::new(alloc, "log")
+        .long("log")
+        .action(ArgAction::SetTrue)
+        .help("Tells on standard error which clients come and go, and which links are up")
 }
 
 /// The argument's value is a number from 1 to 1,000,000,000.
@@ -251,6 +262,7 @@ fn serve_task(alloc: Global, found: &ArgMatches<'_>) -> Result<Option<Task>, All
         turns,
         most_clients,
         connect_within,
+        log: found.get_flag("log"),
     }))
 }
 

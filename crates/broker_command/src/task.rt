@@ -27,6 +27,8 @@ pub enum Task {
         most_clients: Option<u32>,
         /// Within how many seconds a client has to be accepted, from 1 to 1,000,000,000, or any number.
         connect_within: Option<u32>,
+        /// Whether a log is written to standard error.
+        log: bool,
     },
     /// Tell what the rows of a node that is down hold.
     Check {

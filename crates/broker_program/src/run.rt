@@ -22,12 +22,14 @@ pub fn run_task(rt: &HostRuntime, task: Task) -> Result<(), Ending> {
             turns,
             most_clients,
             connect_within,
+            log,
         } => serve(
             rt,
             configuration.as_str(),
             node.as_str(),
             database.as_str(),
             Limits::new(most_clients, connect_within),
+            log,
             turns,
         ),
         Task::Check {

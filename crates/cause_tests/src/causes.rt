@@ -21,7 +21,7 @@ fn homes_at(alloc: Global, address: &str, bridge: &str) -> Option<String> {
 /// What serving a node for one turn ends with, and nothing where all went well.
 fn told(rt: &HostRuntime, names: (&str, &str, &str)) -> String {
     let (configuration, node, database) = names;
-    let text = match serve(rt, configuration, node, database, Limits::none(), 1) {
+    let text = match serve(rt, configuration, node, database, Limits::none(), false, 1) {
         Ok(()) => Ok(String::new(rt.alloc())),
         Err(ending) => format!(in rt.alloc(); "{ending}"),
     };

@@ -62,20 +62,21 @@ impl Clock for Rising {
     }
 }
 
-/// Serves a node for ten turns within limits, and answers what ends the run early, if anything does.
+/// Serves a node for ten turns within limits and with a log, if there is one, and answers what ends the run early, if anything does.
 fn served<R: RowStore + Drop>(
     alloc: Global,
     network: &mut FakeSockets,
     rows: R,
     place: (HomeTable, u16),
     limits: Limits,
+    log: Option<&mut Vec<u8>>,
 ) -> Option<RunFault>
     requires { place.1 < length place.0.nodes }
 {
     let mut clock = Rising { told: 0 };
     let mut out = Vec::new(alloc);
     serve(
-        alloc, network, &mut clock, rows, place, limits, 10, &mut out,
+        alloc, network, &mut clock, rows, place, limits, log, 10, &mut out,
     )
     .err()
 }
@@ -90,7 +91,7 @@ fn refused(rt: &impl Abort, alloc: Global, call: u64, got: &[u8]) -> (Option<Run
     }
     let homes = homes_of(alloc, 1).expect(rt, "a table");
     let rows = RefusingRows::new(MemoryRows::new(alloc), call);
-    let fault = served(alloc, &mut network, rows, (homes, 0), Limits::none());
+    let fault = served(alloc, &mut network, rows, (homes, 0), Limits::none(), None);
     // the clients' ends are the first, the third and the fifth
     let all = network.came(0) == got && network.came(2) == got && network.came(4) == got;
     drop(network);
@@ -110,8 +111,10 @@ fn nothing_is_sent_where_rows_refuse_the_changes_of_a_turn(rt: HostRuntime) {
     }
 }
 
-/// Three clients connect in one turn and subscribe in the next one, at a node with these limits: whether each has got just these bytes.
-fn bounded(rt: &impl Abort, alloc: Global, limits: Limits, got: [&[u8]; 3]) -> bool {
+/// Three clients connect in one turn and subscribe in the next one, at a node with these limits: whether each has got just these bytes, and
+/// the log is just these lines.
+fn bounded(rt: &impl Abort, alloc: Global, limits: Limits, got: [&[u8]; 3], lines: &[u8]) -> bool {
+    let mut log = Vec::new(alloc);
     let mut network = FakeSockets::new(alloc);
     for connect in CONNECTS {
         let end = network.client(1, connect, PIECE, 100).expect(rt, "memory");
@@ -124,27 +127,42 @@ fn bounded(rt: &impl Abort, alloc: Global, limits: Limits, got: [&[u8]; 3]) -> b
         MemoryRows::new(alloc),
         (homes, 0),
         limits,
+        Some(&mut log),
     );
+    let told = log.as_slice() == lines;
+    drop(log);
     let [first, second, third] = got;
     let all = network.came(0) == first && network.came(2) == second && network.came(4) == third;
     drop(network);
-    fault.is_none() && all
+    fault.is_none() && all && told
 }
 
 #[test]
 fn a_node_serves_as_many_clients_as_it_may(rt: HostRuntime) {
     let alloc = rt.alloc();
     let nothing = b"".as_slice();
-    for (most, got) in [
-        (1, [BOTH, nothing, nothing]),
-        (2, [BOTH, BOTH, nothing]),
-        (3, [BOTH, BOTH, BOTH]),
+    for (most, got, lines) in [
+        (
+            1,
+            [BOTH, nothing, nothing],
+            "2 client closed unanswered\n2 client closed unanswered\n3 client accepted: a\n",
+        ),
+        (
+            2,
+            [BOTH, BOTH, nothing],
+            "2 client closed unanswered\n3 client accepted: a\n3 client accepted: b\n",
+        ),
+        (
+            3,
+            [BOTH, BOTH, BOTH],
+            "3 client accepted: a\n3 client accepted: b\n3 client accepted: c\n",
+        ),
     ] {
         let limits = Limits {
             most: Some(most),
             within: Some(5),
         };
-        assert!(rt; bounded(&rt, alloc, limits, got));
+        assert!(rt; bounded(&rt, alloc, limits, got, lines.as_bytes()));
     }
 }
 
@@ -164,7 +182,7 @@ fn answered<R: RowStore + Drop>(
     }
     let homes = homes_of(alloc, 2).expect(rt, "a table");
     assert!(rt; id < homes.nodes());
-    let fault = served(alloc, &mut network, rows, (homes, id), Limits::none());
+    let fault = served(alloc, &mut network, rows, (homes, id), Limits::none(), None);
     let all = network.came(end) == got;
     drop(network);
     (fault, all)

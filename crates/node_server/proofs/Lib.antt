@@ -1,3 +1,4 @@
 pub mod Finding
 pub mod Halting
+pub mod Losing
 pub mod Printed

@@ -5,6 +5,8 @@ use Rattle.broker_turns.specs.declared.turn.TurnFault.{TurnFault}
 use Rattle.broker_turns.specs.declared.turn.TurnFault.TheVariants as turns
 use Rattle.client_limits.specs.declared.fault.LimitedFault.{LimitedFault}
 use Rattle.client_limits.specs.declared.fault.LimitedFault.TheVariants as limits
+use Rattle.client_log.specs.declared.fault.LoggedFault.{LoggedFault}
+use Rattle.client_log.specs.declared.fault.LoggedFault.TheVariants as logs
 use Rattle.node_keeper.specs.declared.fault.KeeperFault.{KeeperFault}
 use Rattle.node_keeper.specs.declared.fault.KeeperFault.TheVariants as keepers
 
@@ -20,7 +22,12 @@ abbrev pub of_limited : LimitedFault KeeperFault → RunFault
 of_limited limits.NoMemory = runs.NoMemory
 of_limited (limits.Inside fault) = of_node fault
 
+-- a fault of the node behind both doors
+abbrev pub of_logged : LoggedFault (LimitedFault KeeperFault) → RunFault
+of_logged logs.NoMemory = runs.NoMemory
+of_logged (logs.Inside fault) = of_limited fault
+
 -- a fault of a turn
-abbrev pub of_turn : TurnFault (LimitedFault KeeperFault) → RunFault
+abbrev pub of_turn : TurnFault (LoggedFault (LimitedFault KeeperFault)) → RunFault
 of_turn turns.NoMemory = runs.NoMemory
-of_turn (turns.Handler fault) = of_limited fault
+of_turn (turns.Handler fault) = of_logged fault

@@ -1,5 +1,6 @@
 pub mod Events
 pub mod Faults
+pub mod Losses
 pub mod Outputs
 pub mod Peers
 pub mod Printing

@@ -1,11 +1,12 @@
 //! Why a run of a node ends before its end.
 
 ghost use Rattle.std.specs.Prelude.{◌≡◌};
-ghost use Rattle.node_server.specs.Faults.{of_limited, of_node, of_turn};
+ghost use Rattle.node_server.specs.Faults.{of_limited, of_logged, of_node, of_turn};
 
 use broker_stop::RunFault;
 use broker_turns::TurnFault;
 use client_limits::LimitedFault;
+use client_log::LoggedFault;
 use node_keeper::KeeperFault;
 
 /// A fault of the node, as one of the run.
@@ -30,12 +31,22 @@ pub(crate) fn of_limited(fault: LimitedFault<KeeperFault>) -> RunFault
     }
 }
 
+/// A fault of the node behind both doors, as one of the run.
+pub(crate) fn of_logged(fault: LoggedFault<LimitedFault<KeeperFault>>) -> RunFault
+    ensures { result ≡ of_logged fault }
+{
+    match fault {
+        LoggedFault::NoMemory => RunFault::NoMemory,
+        LoggedFault::Inside(fault) => of_limited(fault),
+    }
+}
+
 /// A fault of a turn, as one of the run.
-pub(crate) fn of_turn(fault: TurnFault<LimitedFault<KeeperFault>>) -> RunFault
+pub(crate) fn of_turn(fault: TurnFault<LoggedFault<LimitedFault<KeeperFault>>>) -> RunFault
     ensures { result ≡ of_turn fault }
 {
     match fault {
         TurnFault::NoMemory => RunFault::NoMemory,
-        TurnFault::Handler(fault) => of_limited(fault),
+        TurnFault::Handler(fault) => of_logged(fault),
     }
 }

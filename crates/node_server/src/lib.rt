@@ -3,6 +3,7 @@
 
 mod convert;
 mod fault;
+mod losses;
 mod peers;
 mod run;
 mod served;

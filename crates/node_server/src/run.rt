@@ -2,17 +2,21 @@
 
 ghost use Rattle.std.specs.Prelude.{◌++◌, ◌<◌, ◌≤◌, length, IfOk, OnOk};
 ghost use Rattle.std.specs.Io.KnownBytes.{Appends};
+ghost use Rattle.node_server.specs.Losses.{ToldLosses};
 ghost use Rattle.node_server.specs.Peers.{ArePeers};
 ghost use Rattle.node_server.specs.Printing.{ready_line, turns_line};
 
 use crate::fault::{of_node, of_turn};
+use crate::losses::losses_of;
 use crate::peers::peers_of;
 use crate::served::ServedNode;
 use broker_sockets::{Clock, Readiness, Sockets, bind};
 use broker_stop::RunFault;
 use broker_turns::{Hub, Setting};
 use client_limits::{Limited, Limits};
+use client_log::Logged;
 use home_table::HomeTable;
+use mqtt_fields::NoMemory;
 use node_keeper::Keeper;
 use row_store::RowStore;
 use std::alloc::Global;
@@ -66,14 +70,28 @@ fn tell_turns<W: Write>(out: &mut W, turns: u32) -> Result<(), RunFault>
     }
 }
 
-/// Starts a node behind a door with these limits, and makes so many turns over the clients that come and the other nodes.
-fn run_node<S: Readiness, C: Clock, R: RowStore + Drop>(
+/// Tells what the node has left out, where there is a log.
+fn tell_losses<R: RowStore, C: Clock, E: Write>(
+    node: &mut Logged<Limited<ServedNode<R>>, E>,
+    clock: &mut C,
+) -> Result<(), NoMemory>
+    ensures { OnOk result (ToldLosses C.tells E.contents node.old clock.old node.new clock.new) }
+{
+    let at = clock.now();
+    let losses = losses_of(&node.inside().inside().counts());
+    node.finish(at, &losses)
+}
+
+/// Starts a node behind a door with these limits and one with a log, if there is a writer for that, and makes so many turns over the
+/// clients that come and the other nodes. Where all were made the log tells what the node has left out.
+fn run_node<S: Readiness, C: Clock, R: RowStore + Drop, E: Write + Drop>(
     alloc: Global,
     sockets: &mut S,
     clock: &mut C,
     setting: Setting<S::Listener>,
     keeper: Keeper<R>,
     limits: Limits,
+    error: Option<E>,
     turns: u32,
 ) -> Result<(), RunFault>
     requires { length setting.peers.items ≤ 64 }
@@ -81,26 +99,31 @@ fn run_node<S: Readiness, C: Clock, R: RowStore + Drop>(
     let Ok(mut hub) = Hub::new(alloc, setting) else {
         return Err(RunFault::NoMemory);
     };
-    let mut node = Limited::new(alloc, limits, ServedNode::new(alloc, keeper));
+    let limited = Limited::new(alloc, limits, ServedNode::new(alloc, keeper));
+    let mut node = Logged::new(alloc, error, limited);
     match hub.serve(sockets, &mut node, clock, turns) {
-        Ok(()) => Ok(()),
+        Ok(()) => {
+            let _ = tell_losses(&mut node, clock);
+            Ok(())
+        }
         Err(fault) => Err(of_turn(fault)),
     }
 }
 
 /// Opens a node from its rows, waits at its addresses for clients and for other nodes, prints that it is ready, starts it behind
-/// a door with these limits, makes so many turns, and prints that they were made.
+/// a door with these limits, makes so many turns, and prints that they were made. Where a writer is given for it a log is written there.
 ///
 /// The faults in their order: the node's where it can't be opened, `Socket` where one of its addresses or another node's
 /// bridge isn't an IP address with a port, or its own can't be waited at, `Output` where a line can't be printed, and the
 /// node's where a turn stops.
-pub fn serve<S: Readiness, C: Clock, R: RowStore + Drop, W: Write>(
+pub fn serve<S: Readiness, C: Clock, R: RowStore + Drop, E: Write + Drop, W: Write>(
     alloc: Global,
     sockets: &mut S,
     clock: &mut C,
     rows: R,
     place: (HomeTable, u16),
     limits: Limits,
+    error: Option<E>,
     turns: u32,
     out: &mut W,
 ) -> Result<(), RunFault>
@@ -115,6 +138,6 @@ pub fn serve<S: Readiness, C: Clock, R: RowStore + Drop, W: Write>(
     let homes = keeper.node().homes();
     let setting = listen(alloc, sockets, homes, id)?;
     tell_ready(out, homes, id)?;
-    run_node(alloc, sockets, clock, setting, keeper, limits, turns)?;
+    run_node(alloc, sockets, clock, setting, keeper, limits, error, turns)?;
     tell_turns(out, turns)
 }

@@ -1,6 +1,6 @@
 //! A node behind sockets.
 
-ghost use Rattle.std.specs.Prelude.{◌≡◌, ◌≢◌, [], IfErr, IfOk};
+ghost use Rattle.std.specs.Prelude.{◌≡◌, ◌≢◌, [], IfErr, IfOk, MatchOption};
 ghost use Rattle.node_keeper.specs.declared.fault.KeeperFault.TheVariants.{NoMemory};
 ghost use Rattle.node_server.specs.Outputs.{AreForClients, AreForPeers};
 ghost use Rattle.node_server.specs.Serving.{IsCrashed};
@@ -9,7 +9,7 @@ use crate::convert::{event_of, for_all, for_clients, peer_event_of};
 use broker_sockets::{BridgeHandler, Event, Given, Handler, Output, PeerEvent};
 use node_batches::BatchKeeper;
 use node_keeper::{Keeper, KeeperFault};
-use node_work::Output as Made;
+use node_work::{Counts, Output as Made};
 use row_store::RowStore;
 use std::alloc::Global;
 
@@ -34,6 +34,13 @@ impl<R: RowStore> ServedNode<R> {
             alloc,
             keeper: BatchKeeper::new(alloc, keeper),
         }
+    }
+
+    /// How often the node has left something out. Nothing is said of it once the node has stopped.
+    pub fn counts(&self) -> Counts
+        ensures { MatchOption (node_in self.now.keeper).up (Unit {0}) (λ h. result ≡ h.counts) }
+    {
+        self.keeper.node().counts()
     }
 }
 

@@ -52,6 +52,7 @@ known_later sent more (kinds.Linked peer) h = tt
 known_later sent more (kinds.Ship peer) h = tt
 known_later sent more kinds.Tick h = tt
 known_later sent more (kinds.Evict client) h = tt
+known_later sent more (kinds.Table homes) h = tt
 
 pub all_later : (sent more : List Frame) (answered : List Answered) → AreKnown sent answered → AreKnown (sent ++ more) answered
 all_later sent more [] h = tt
@@ -95,10 +96,6 @@ pub runs_on : (n n' : NodeView) (rows rows' : Content) (answered : List Answered
 runs_on n n' rows rows' [] h up same = (h, ap (λ (m : NodeView). m.up) same.0 ∙ up)
 runs_on n n' rows rows' (a ∷ more) h up handled = runs_on handled.0 n' handled.1 rows' more handled.2.commits.done.after handled.2.commits.done.is handled.3
 
-stays_there : (n n' : NodeView) (rows rows' : Content) (answered : List Answered) → AreHandled n rows answered n' rows' → (n'.place ≡ n.place) × (n'.homes ≡ n.homes)
-stays_there n n' rows rows' [] same = (ap (λ (m : NodeView). m.place) same.0, ap (λ (m : NodeView). m.homes) same.0)
-stays_there n n' rows rows' (a ∷ more) handled = let later = stays_there handled.0 n' handled.1 rows' more handled.3 in (later.0 ∙ handled.2.place, later.1 ∙ handled.2.homes)
-
 cut : (w : World) (i : ℕ) (s : Site) (h : HeldView) → slice_get w.sites i ≡ Some s → s.node.up ≡ Some h → CutBefore w i (down s.node s.rows)
 cut w i s h at up = (changed w i (down s.node s.rows) [], (s, at, tt, (refl, (h, up), refl)), refl)
 
@@ -107,24 +104,21 @@ honest_end sent i [] h = (tt, tt)
 honest_end sent i (m ∷ run) h = (h.0, honest_end _ i run h.1)
 
 cut_after : (w : World) (i : ℕ) (s : Site) (h : HeldView) (answered : List Answered) (n : NodeView) (rows : Content)
-    → slice_get w.sites i ≡ Some s → s.node.up ≡ Some h → AreHandled s.node s.rows answered n rows → CutAfter w i answered (down s.node rows)
+    → slice_get w.sites i ≡ Some s → s.node.up ≡ Some h → AreHandled s.node s.rows answered n rows → CutAfter w i answered (down n rows)
 cut_after w i s h answered n rows at up handled =
     let turn = turn_is_run w i s answered n rows at handled in
     let end : Site = record { node = n; rows = rows } in
     let led = changed w i end (frames_of answered) in
     let on = runs_on s.node n s.rows rows answered h up handled in
     let last = cut led i end on.0 (get-set_same w.sites i end s at) on.1 in
-    let stays = stays_there s.node n s.rows rows answered handled in
-    let same : ◌≡◌ {A = NodeView} (record n { up = None }) (record s.node { up = None }) = λ j. record { place = stays.0 j; homes = stays.1 j; up = None } in
     let gone = down n rows in
     let Led : World → Type 0 = λ v. Run w (turn.run ++ crash_at i ∷ []) v in
-    let Gone : NodeView → Type 0 = λ m. Led (changed w i (record { node = m; rows = rows }) (frames_of answered)) in
     let twice : changed led i gone [] ≡ changed w i gone (frames_of answered) =
     changed_twice w i end gone (frames_of answered) [] ∙ ap (λ fs. changed w i gone fs) (append-nil (frames_of answered)) in
     record {
       run = turn.run;
       released = turn.released;
-      leads = subst Gone same (subst Led twice (run_join turn.run (crash_at i ∷ []) w led (changed led i gone []) turn.leads last));
+      leads = subst Led twice (run_join turn.run (crash_at i ∷ []) w led (changed led i gone []) turn.leads last);
       honest = λ known. honest_end w.frames i turn.run (turn.honest known);
     }
 

@@ -60,7 +60,7 @@ module _ {R : Type 0} (is_clean is_open : R → Type 0) (content : R → Content
   -- ---- a crash
 
   crashes : (w : World) (i : ℕ) (k k' : BatchKeeper R) (answered : List Answered) → Begins is_open content w i k → AreTaken k answered k'
-      → CutBefore w i (down (node_in k) (content (rows_in k))) × CutAfter w i answered (down (node_in k) (committed content k'))
+      → CutBefore w i (down (node_in k) (content (rows_in k))) × CutAfter w i answered (down (node_in k') (committed content k'))
   crashes w i k k' answered b taken =
       crash_is_run w i (site_of content k) b.held answered (node_in k') (committed content k') b.at b.up (taken_handled w i k k' answered b taken)
 
@@ -71,9 +71,9 @@ module _ {R : Type 0} (is_clean is_open : R → Type 0) (content : R → Content
       subst Cut (sym (is ∙ ap content (taken_rows k k' answered taken))) (crashes w i k k' answered b taken).0
 
   was_after : (w : World) (i : ℕ) (k k' : BatchKeeper R) (answered : List Answered) → Begins is_open content w i k → AreTaken k answered k'
-      → (c : Content) → c ≡ committed content k' → CutAfter w i answered (down (node_in k) c)
+      → (c : Content) → c ≡ committed content k' → CutAfter w i answered (down (node_in k') c)
   was_after w i k k' answered b taken c is =
-      let Cut : Content → Type 0 = λ x. CutAfter w i answered (down (node_in k) x) in
+      let Cut : Content → Type 0 = λ x. CutAfter w i answered (down (node_in k') x) in
       subst Cut (sym is) (crashes w i k k' answered b taken).1
 
   -- while rows are open a crash leaves what they hold

@@ -1,4 +1,4 @@
--- A turn over sockets of a served node behind its door is a run.
+-- A turn over sockets of a served node behind its doors is a run.
 use Rattle.std.proofs.Common.{◌≡◌, ℕ, List, [], ◌∷◌, ◌++◌, Bool, true, false, Option, Some, refl, sym, ap, subst, ◌∙◌}
 use Rattle.std.specs.declared.net.socket_addr.SocketAddr.{SocketAddr}
 use Rattle.broker_sockets.specs.declared.bridge.Given.{Given}
@@ -15,6 +15,8 @@ use Rattle.broker_turns.specs.Turns.{IsStart, IsTurn, Site as Seat}
 use Rattle.client_limits.specs.Answering.{AreCut, AreCutIf, Cut, IsAnswered, IsAnsweredBy, IsAnsweredIf, IsHeard, IsSettled, gone, is_tick, is_told}
 use Rattle.client_limits.specs.Limits.{are_none}
 use Rattle.client_limits.specs.Views.{connections_of, inside_of, limits_of}
+use Rattle.client_log.specs.Answering.{IsAnswered as IsNoted, IsHeard as IsNotedOfPeers, IsSettled as IsSettledBefore}
+use Rattle.client_log.specs.Views.{inside_of as bounded_in}
 use Rattle.cluster_play.proofs.Sites.{get-set_same}
 use Rattle.cluster_play.specs.Worlds.{World, changed}
 use Rattle.node_batches.specs.declared.batch.BatchKeeper.{BatchKeeper}
@@ -29,7 +31,7 @@ use Rattle.served_laws.proofs.Joining.{changed_over, run_over, taken_join}
 use Rattle.served_laws.proofs.Running.{turn_is_run}
 use Rattle.served_laws.proofs.Settling.{settled_is_run, taken_rows}
 use Rattle.served_laws.specs.Settling.{AreTaken, Begins, site_of}
-use Rattle.served_laws.specs.Sockets.{Door, Settles, SocketTurnIsRun, Stands, StartIsTaken, served_in}
+use Rattle.served_laws.specs.Sockets.{Bounded, Door, Settles, SocketTurnIsRun, Stands, StartIsTaken, served_in}
 use Rattle.served_laws.specs.Turns.{IsRunOf, frames_of}
 
 -- ---- what is taken
@@ -107,65 +109,85 @@ module _ {R : Type 0} (is_clean is_open : R → Type 0) (content : R → Content
 
     -- ---- behind the door
 
-    taken_cuts : (at : ℕ) (cuts : List Cut) (d d' : Door R) → AreCut handles at cuts d d' → Taken (inside_of d) (inside_of d')
-    taken_cuts at [] d d' same = taken_none (inside_of d) (inside_of d') (ap (λ (x : Door R). inside_of x) same)
+    taken_cuts : (at : ℕ) (cuts : List Cut) (d d' : Bounded R) → AreCut handles at cuts d d' → Taken (inside_of d) (inside_of d')
+    taken_cuts at [] d d' same = taken_none (inside_of d) (inside_of d') (ap (λ (x : Bounded R). inside_of x) same)
     taken_cuts at (cut ∷ more) d d' all =
         taken_over (inside_of d) (inside_of all.0) (inside_of d') (taken_handled (inside_of d) (gone at cut.0) cut.1 (inside_of all.0) all.1.told.answered) (taken_cuts at more all.0 d' all.2)
 
-    taken_swept : (ticks : Bool) (at : ℕ) (cuts : List Cut) (d d' : Door R) → AreCutIf handles ticks at cuts d d' → Taken (inside_of d) (inside_of d')
+    taken_swept : (ticks : Bool) (at : ℕ) (cuts : List Cut) (d d' : Bounded R) → AreCutIf handles ticks at cuts d d' → Taken (inside_of d) (inside_of d')
     taken_swept true at cuts d d' swept = taken_cuts at cuts d d' swept.each
-    taken_swept false at cuts d d' swept = taken_none (inside_of d) (inside_of d') (ap (λ (x : Door R). inside_of x) swept.1)
+    taken_swept false at cuts d d' swept = taken_none (inside_of d) (inside_of d') (ap (λ (x : Bounded R). inside_of x) swept.1)
 
-    taken_by : (told : Bool) (e : Told) (outputs : List Handed) (d d' : Door R) → IsAnsweredBy handles told e outputs d d' → Taken (inside_of d) (inside_of d')
+    taken_by : (told : Bool) (e : Told) (outputs : List Handed) (d d' : Bounded R) → IsAnsweredBy handles told e outputs d d' → Taken (inside_of d) (inside_of d')
     taken_by true e outputs d d' is =
         taken_over (inside_of d) (inside_of is.between) (inside_of d') (taken_handled (inside_of d) e is.given (inside_of is.between) is.told.answered)
         (taken_swept (is_tick e.kind) e.at is.cuts is.between d' is.swept)
-    taken_by false e outputs d d' is = taken_none (inside_of d) (inside_of d') (ap (λ (x : Door R). inside_of x) is.1)
+    taken_by false e outputs d d' is = taken_none (inside_of d) (inside_of d') (ap (λ (x : Bounded R). inside_of x) is.1)
 
-    taken_if : (free : Bool) (e : Told) (outputs : List Handed) (d d' : Door R) → IsAnsweredIf handles free e outputs d d' → Taken (inside_of d) (inside_of d')
+    taken_if : (free : Bool) (e : Told) (outputs : List Handed) (d d' : Bounded R) → IsAnsweredIf handles free e outputs d d' → Taken (inside_of d) (inside_of d')
     taken_if true e outputs d d' is = taken_handled (inside_of d) e outputs (inside_of d') is.answered
     taken_if false e outputs d d' is = taken_by (is_told (limits_of d) (connections_of d) e.kind) e outputs d d' is
 
-    taken_answered : (d : Door R) (e : Told) (outputs : List Handed) (d' : Door R) → IsAnswered handles d e outputs d' → Taken (inside_of d) (inside_of d')
+    taken_answered : (d : Bounded R) (e : Told) (outputs : List Handed) (d' : Bounded R) → IsAnswered handles d e outputs d' → Taken (inside_of d) (inside_of d')
     taken_answered d e outputs d' is = taken_if (are_none (limits_of d)) e outputs d d' is
 
-    taken_all : (told : List Heard) (d d' : Door R) → AreTold (IsAnswered handles) (IsHeard hears) told d d' → Taken (inside_of d) (inside_of d')
-    taken_all [] d d' same = taken_none (inside_of d) (inside_of d') (ap (λ (x : Door R). inside_of x) same)
+    taken_all : (told : List Heard) (d d' : Bounded R) → AreTold (IsAnswered handles) (IsHeard hears) told d d' → Taken (inside_of d) (inside_of d')
+    taken_all [] d d' same = taken_none (inside_of d) (inside_of d') (ap (λ (x : Bounded R). inside_of x) same)
     taken_all (Of_client e outputs ∷ more) d d' all =
         taken_over (inside_of d) (inside_of all.0) (inside_of d') (taken_answered d e outputs all.0 all.1) (taken_all more all.0 d' all.2)
     taken_all (Of_peer e given ∷ more) d d' all =
         taken_over (inside_of d) (inside_of all.0) (inside_of d') (taken_heard (inside_of d) e given (inside_of all.0) all.1.heard) (taken_all more all.0 d' all.2)
 
-    runs_all : (lost : List (Told × List Handed)) (d d' : Door R) → AreSettled (IsAnswered handles) (IsSettled settles) lost d d' → Runs (inside_of d) (inside_of d')
-    runs_all [] d d' same = runs_none (inside_of d) (inside_of d') (ap (λ (x : Door R). inside_of x) same)
+    runs_all : (lost : List (Told × List Handed)) (d d' : Bounded R) → AreSettled (IsAnswered handles) (IsSettled settles) lost d d' → Runs (inside_of d) (inside_of d')
+    runs_all [] d d' same = runs_none (inside_of d) (inside_of d') (ap (λ (x : Bounded R). inside_of x) same)
     runs_all (t ∷ more) d d' all =
         runs_over (inside_of d) (inside_of all.1) (inside_of d')
         (runs_once (inside_of d) (inside_of all.0) (inside_of all.1) (taken_answered d t.0 t.1 all.0 all.2) (by_commit (inside_of all.0) (inside_of all.1) all.3.settled)) (runs_all more all.1 d' all.4)
 
-    pub start_is_taken : {S T : Type 0} (at : ℕ) (old new : Seat S (Door R) T) → IsStart (IsAnswered handles) at old new
+    -- ---- and behind the log
+
+    told_within : {E : Type 0} (told : List Heard) (d d' : Door R E) → AreTold (IsNoted (IsAnswered handles)) (IsNotedOfPeers (IsHeard hears)) told d d'
+        → AreTold (IsAnswered handles) (IsHeard hears) told (bounded_in d) (bounded_in d')
+    told_within {E = E} [] d d' same = ap (λ (x : Door R E). bounded_in x) same
+    told_within (Of_client e outputs ∷ more) d d' all = (bounded_in all.0, all.1.answered, told_within more all.0 d' all.2)
+    told_within (Of_peer e given ∷ more) d d' all = (bounded_in all.0, all.1.heard, told_within more all.0 d' all.2)
+
+    settled_within : {E : Type 0} (contents : E → Option (List ℕ)) (lost : List (Told × List Handed)) (d d' : Door R E)
+        → AreSettled (IsNoted (IsAnswered handles)) (IsSettledBefore (IsSettled settles) contents) lost d d'
+        → AreSettled (IsAnswered handles) (IsSettled settles) lost (bounded_in d) (bounded_in d')
+    settled_within {E = E} contents [] d d' same = ap (λ (x : Door R E). bounded_in x) same
+    settled_within contents (t ∷ more) d d' all = (bounded_in all.0, bounded_in all.1, all.2.answered, all.3.settled, settled_within contents more all.1 d' all.4)
+
+    pub start_is_taken : {S T E : Type 0} (at : ℕ) (old new : Seat S (Door R E) T) → IsStart (IsNoted (IsAnswered handles)) at old new
         → (w : World) (i : ℕ) (pending : List Answered) → Stands is_open content w i pending (served_in old) → (more : List Answered) × Stands is_open content w i more (served_in new)
     start_is_taken at old new start w i pending stands =
         let first = start.told.does.does.handled in
-        let taken = taken_answered old.place.reach.near.handler _ first.outputs new.place.reach.near.handler first.answered in
+        let taken = taken_answered (bounded_in old.place.reach.near.handler) _ first.outputs (bounded_in new.place.reach.near.handler) first.answered.answered in
         (pending ++ taken.0, record { before = stands.before; begins = stands.begins; taken = taken_join stands.before (keeper_of (served_in old)) (keeper_of (served_in new)) pending taken.0 stands.taken taken.1 })
 
-    module _ {S L T : Type 0}
+    module _ {S L T E : Type 0}
         (accepts : S → L → Option T → S → Type 0) (watches : S → T → Watched → Bool → S → Type 0) (connects : S → SocketAddr → Option T → S → Type 0)
-        (reads : S → T → Answer → List ℕ → S → T → Type 0) (writes : S → T → List ℕ → Answer → S → T → Type 0) (finds : S → Ready → S → Type 0) where
-      pub socket_turn_is_run : SocketTurnIsRun is_clean is_open content accepts watches connects reads writes finds (IsAnswered handles) (IsHeard hears) (IsSettled settles)
+        (reads : S → T → Answer → List ℕ → S → T → Type 0) (writes : S → T → List ℕ → Answer → S → T → Type 0) (finds : S → Ready → S → Type 0)
+        (contents : E → Option (List ℕ)) where
+      pub socket_turn_is_run : SocketTurnIsRun is_clean is_open content accepts watches connects reads writes finds
+          (IsNoted (IsAnswered handles)) (IsNotedOfPeers (IsHeard hears)) (IsSettledBefore (IsSettled settles) contents)
       socket_turn_is_run setting at old new turn w i pending stands clean =
-          let t = turn_settles (IsAnswered handles) (IsHeard hears) (IsSettled settles) accepts watches connects reads writes finds setting at old new turn in
+          let t = turn_settles (IsNoted (IsAnswered handles)) (IsNotedOfPeers (IsHeard hears)) (IsSettledBefore (IsSettled settles) contents) accepts watches connects reads writes finds setting at old new turn in
           let s = served_in old in
-          let all = taken_all t.told old.place.reach.near.handler t.last t.all in
-          let commit = by_commit (inside_of t.last) (inside_of t.settled) t.first.settled in
-          let on = runs_all t.lost t.settled new.place.reach.near.handler t.then in
+          let before_all = old.place.reach.near.handler in
+          let after_all = new.place.reach.near.handler in
+          let all = taken_all t.told (bounded_in before_all) (bounded_in t.last) (told_within t.told before_all t.last t.all) in
+          let last = inside_of (bounded_in t.last) in
+          let settled = inside_of (bounded_in t.settled) in
+          let commit = by_commit last settled t.first.settled.settled in
+          let on = runs_all t.lost (bounded_in t.settled) (bounded_in after_all) (settled_within contents t.lost t.settled after_all t.then) in
           let was = on.0 clean in
           let answered = pending ++ all.0 in
-          let before = taken_join stands.before (keeper_of s) (keeper_of (inside_of t.last)) pending all.0 stands.taken all.1 in
-          let one = settled_is_run is_clean is_open content may_leave w i stands.before (keeper_of (inside_of t.last)) (keeper_of (inside_of t.settled)) answered stands.begins before commit was in
-          let done : Settles is_open content w i answered (inside_of t.settled) = record { run = one.0; begins = one.1 } in
-          let more = on.1 (changed w i (site_of content (keeper_of (inside_of t.settled))) (frames_of answered)) i one.1 clean in (
+          let before = taken_join stands.before (keeper_of s) (keeper_of last) pending all.0 stands.taken all.1 in
+          let one = settled_is_run is_clean is_open content may_leave w i stands.before (keeper_of last) (keeper_of settled) answered stands.begins before commit was in
+          let done : Settles is_open content w i answered settled = record { run = one.0; begins = one.1 } in
+          let more = on.1 (changed w i (site_of content (keeper_of settled)) (frames_of answered)) i one.1 clean in (
             answered ++ more.0,
-            settles_over w i (inside_of t.settled) (served_in new) answered more.0 done more.1,
-            (runs_once s (inside_of t.last) (inside_of t.settled) all commit).0 was,
+            settles_over w i settled (served_in new) answered more.0 done more.1,
+            (runs_once s last settled all commit).0 was,
           )

@@ -55,11 +55,11 @@ module _ {R : Type 0} (is_clean is_open : R → Type 0) (content : R → Content
   CrashAmidCommit =
       (w : World) (i : ℕ) (k k' k'' : BatchKeeper R) (answered : List Answered) (fault : KeeperFault) → Begins is_open content w i k → AreTaken k answered k'
       → IsCutOff is_clean is_open content may_leave k' fault k'' → is_clean (rows_in k'')
-      → (c : Content) → may_leave (rows_in k'') c → CutBefore w i (down (node_in k) c) ⊎ CutAfter w i answered (down (node_in k) c)
+      → (c : Content) → may_leave (rows_in k'') c → CutBefore w i (down (node_in k) c) ⊎ CutAfter w i answered (down (node_in k') c)
 
   -- a crash after the commit leaves the rows of after them all, whatever of their outputs was sent
   abbrev pub CrashAfterCommit : Type 0
   CrashAfterCommit =
       (w : World) (i : ℕ) (k k' k'' : BatchKeeper R) (answered : List Answered) → Begins is_open content w i k → AreTaken k answered k'
       → IsCommitted is_clean is_open content may_leave k' k'' → is_clean (rows_in k'')
-      → (c : Content) → may_leave (rows_in k'') c → CutAfter w i answered (down (node_in k) c)
+      → (c : Content) → may_leave (rows_in k'') c → CutAfter w i answered (down (node_in k') c)

@@ -1,4 +1,4 @@
--- A turn over sockets of a node that is served behind a door, in a world of nodes.
+-- A turn over sockets of a node that is served behind its doors, in a world of nodes.
 use Rattle.std.specs.Prelude.{◌≡◌, ℕ, List, Bool, Option}
 use Rattle.std.specs.declared.net.socket_addr.SocketAddr.{SocketAddr}
 use Rattle.broker_sockets.specs.declared.bridge.Given.{Given}
@@ -12,6 +12,8 @@ use Rattle.broker_turns.specs.declared.setting.Setting.{Setting}
 use Rattle.broker_turns.specs.Turns.{IsStart, IsTurn, Site as Seat}
 use Rattle.client_limits.specs.Views.{inside_of}
 use Rattle.client_limits.specs.declared.limited.Limited.{Limited}
+use Rattle.client_log.specs.Views.{inside_of as bounded_in}
+use Rattle.client_log.specs.declared.logged.Logged.{Logged}
 use Rattle.cluster_play.specs.Worlds.{World, changed}
 use Rattle.node_batches.specs.declared.batch.BatchKeeper.{BatchKeeper}
 use Rattle.node_batches.specs.Batches.{Answered}
@@ -22,13 +24,17 @@ use Rattle.row_store.specs.Rows.{Content}
 use Rattle.served_laws.specs.Settling.{AreTaken, Begins, site_of}
 use Rattle.served_laws.specs.Turns.{IsRunOf, frames_of}
 
--- a served node behind its door
-abbrev pub Door : Type 0 → Type 0
-Door R = Limited (ServedNode R)
+-- a served node behind a door with limits on its clients
+abbrev pub Bounded : Type 0 → Type 0
+Bounded R = Limited (ServedNode R)
+
+-- and that behind one with a log
+abbrev pub Door : Type 0 → Type 0 → Type 0
+Door R E = Logged (Bounded R) E
 
 -- the served node among the sockets
-abbrev pub served_in : {S R T : Type 0} → Seat S (Door R) T → ServedNode R
-served_in v = inside_of v.place.reach.near.handler
+abbrev pub served_in : {S R E T : Type 0} → Seat S (Door R E) T → ServedNode R
+served_in v = inside_of (bounded_in v.place.reach.near.handler)
 
 module _ {R : Type 0} (is_open : R → Type 0) (content : R → Content) where
   -- node i of the world is the served node as it was at its last commit, and it has taken these events since
@@ -43,19 +49,19 @@ module _ {R : Type 0} (is_open : R → Type 0) (content : R → Content) where
     pub begins : Begins is_open content (changed w i (site_of content (keeper_of s)) (frames_of answered)) i (keeper_of s)
 
   -- before the first turn a node that stands is told that it has started, which waits for the first commit
-  abbrev pub StartIsTaken : (S T : Type 0) → (Door R → Event → List Output → Door R → Type 0) → Type 0
-  StartIsTaken S T handles =
-      (at : ℕ) (old new : Seat S (Door R) T) → IsStart handles at old new
+  abbrev pub StartIsTaken : (S T E : Type 0) → (Door R E → Event → List Output → Door R E → Type 0) → Type 0
+  StartIsTaken S T E handles =
+      (at : ℕ) (old new : Seat S (Door R E) T) → IsStart handles at old new
       → (w : World) (i : ℕ) (pending : List Answered) → Stands w i pending (served_in old) → (more : List Answered) × Stands w i more (served_in new)
 
-module _ {R S L T : Type 0} (is_clean is_open : R → Type 0) (content : R → Content)
+module _ {R E S L T : Type 0} (is_clean is_open : R → Type 0) (content : R → Content)
     (accepts : S → L → Option T → S → Type 0) (watches : S → T → Watched → Bool → S → Type 0) (connects : S → SocketAddr → Option T → S → Type 0)
     (reads : S → T → Answer → List ℕ → S → T → Type 0) (writes : S → T → List ℕ → Answer → S → T → Type 0) (finds : S → Ready → S → Type 0)
-    (handles : Door R → Event → List Output → Door R → Type 0) (hears : Door R → PeerEvent → Given → Door R → Type 0)
-    (settles : Door R → Door R → Type 0) where
+    (handles : Door R E → Event → List Output → Door R E → Type 0) (hears : Door R E → PeerEvent → Given → Door R E → Type 0)
+    (settles : Door R E → Door R E → Type 0) where
   -- a turn, with what was taken before it, is a run, and all of it is committed; where the rows are clean after it, they were before it
   abbrev pub SocketTurnIsRun : Type 0
   SocketTurnIsRun =
-      (setting : Setting L) (at : ℕ) (old new : Seat S (Door R) T) → IsTurn accepts watches connects reads writes finds handles hears settles setting at old new
+      (setting : Setting L) (at : ℕ) (old new : Seat S (Door R E) T) → IsTurn accepts watches connects reads writes finds handles hears settles setting at old new
       → (w : World) (i : ℕ) (pending : List Answered) → Stands is_open content w i pending (served_in old) → is_clean (rows_in (keeper_of (served_in new)))
       → (answered : List Answered) × Settles is_open content w i answered (served_in new) × is_clean (rows_in (keeper_of (served_in old)))

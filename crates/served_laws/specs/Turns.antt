@@ -66,4 +66,4 @@ abbrev pub CrashIsRun : Type 0
 CrashIsRun =
     (w : World) (i : ℕ) (s : Site) (h : HeldView) (answered : List Answered) (n : NodeView) (rows : Content)
     → slice_get w.sites i ≡ Some s → s.node.up ≡ Some h → AreHandled s.node s.rows answered n rows
-    → CutBefore w i (down s.node s.rows) × CutAfter w i answered (down s.node rows)
+    → CutBefore w i (down s.node s.rows) × CutAfter w i answered (down n rows)

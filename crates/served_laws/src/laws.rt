@@ -6,8 +6,10 @@ ghost use Rattle.served_laws.specs.Turns.{CrashIsRun, TurnIsRun};
 
 use broker_sockets::{BridgeHandler, Handler, Readiness};
 use client_limits::Limited;
+use client_log::Logged;
 use node_server::ServedNode;
 use row_store::RowStore;
+use std::io::Write;
 
 /// Events that are handled one after another are a run, and so is a crash with the rows of before them or of after them.
 pub fn turns_are_runs()
@@ -26,10 +28,11 @@ pub fn served_turns_are_runs<R: RowStore>()
     ensures after { CrashAfterCommit R.is_clean R.is_open R.content R.may_leave }
 {}
 
-/// So a turn over sockets of a served node behind its door is a run, whatever the limits, and in the world to which it leads the next turn
-/// may begin. What the node is told before the first turn is part of that one's run.
-pub fn socket_turns_are_runs<S: Readiness, R: RowStore>()
-    ensures start { StartIsTaken R.is_open R.content S S.Stream ⟦<Limited<ServedNode<R>> as Handler>⟧.handles }
+/// So a turn over sockets of a served node behind its doors is a run, whatever the limits and with a log or without, and in the world to which
+/// it leads the next turn may begin. What the node is told before the first turn is part of that one's run.
+pub fn socket_turns_are_runs<S: Readiness, R: RowStore, E: Write>()
+    ensures start { StartIsTaken R.is_open R.content S S.Stream E ⟦<Logged<Limited<ServedNode<R>>, E> as Handler>⟧.handles }
     ensures turns { SocketTurnIsRun R.is_clean R.is_open R.content S.accepts S.watches S.connects S.reads S.writes S.finds
-        ⟦<Limited<ServedNode<R>> as Handler>⟧.handles ⟦<Limited<ServedNode<R>> as BridgeHandler>⟧.hears ⟦<Limited<ServedNode<R>> as Handler>⟧.settles }
+        ⟦<Logged<Limited<ServedNode<R>>, E> as Handler>⟧.handles ⟦<Logged<Limited<ServedNode<R>>, E> as BridgeHandler>⟧.hears
+        ⟦<Logged<Limited<ServedNode<R>>, E> as Handler>⟧.settles }
 {}

@@ -147,6 +147,7 @@ fn serve_for(
     };
     let mut clock = RealClock::new(rt);
     let rows = MemoryRows::new(alloc);
+    let silent: Option<Vec<u8>> = None;
     serve(
         alloc,
         &mut sockets,
@@ -154,6 +155,7 @@ fn serve_for(
         rows,
         (homes, 0),
         Limits::none(),
+        silent,
         turns,
         out,
     )

@@ -17,8 +17,9 @@ returns c =
     let three = c.in_ok-arg-3.ensures.shape (search rules) ∙ ap₂ with_rule two database in
     let four = c.in_ok-arg-4.ensures.shape c.turns_option.ensures.local ∙ ap₂ with_rule three c.turns_option.ensures.rule in
     let five = c.in_ok-arg-5.ensures.shape c.most_clients_option.ensures.local ∙ ap₂ with_rule four c.most_clients_option.ensures.rule in
-    let local : (out-Command c.in_ok-arg-5.field-0).has_globals ≡ false = search rules in
-    IfOk-weaker c.arg-6.result _ _ (λ r added. (
-      added.shape c.connect_within_option.ensures.local ∙ ap₂ with_rule five c.connect_within_option.ensures.rule,
-      added.globals ∙ ap₂ (λ (x y : Bool). x || y) local c.connect_within_option.ensures.local,
-    )) c.arg-6.ensures
+    let six = c.in_ok-arg-6.ensures.shape c.connect_within_option.ensures.local ∙ ap₂ with_rule five c.connect_within_option.ensures.rule in
+    let local : (out-Command c.in_ok-arg-6.field-0).has_globals ≡ false = search rules in
+    IfOk-weaker c.arg-7.result _ _ (λ r added. (
+      added.shape c.log_option.ensures.local ∙ ap₂ with_rule six c.log_option.ensures.rule,
+      added.globals ∙ ap₂ (λ (x y : Bool). x || y) local c.log_option.ensures.local,
+    )) c.arg-7.ensures

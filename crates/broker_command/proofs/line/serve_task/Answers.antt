@@ -1,7 +1,7 @@
 use Rattle.std.proofs.Common.{◌≡◌, ℕ, Option, Some, None, arith, codes}
 use Rattle.std.specs.Str.Parse.{ParsesUnsigned, ExplainsUnsignedError, HasUnsignedDigitsIfOk}
 use Rattle.clap.specs.Words.{found_of}
-use Rattle.broker_command.proofs.Lines.{number_read, word_of}
+use Rattle.broker_command.proofs.Lines.{flag_read, number_read, word_of}
 use Rattle.broker_command.proofs.line.serve_task.Goals as goal
 
 pub returns : goal.returns
@@ -13,4 +13,5 @@ returns c = (
       (λ t r g. g.0) (λ e. let bad : ◌≡◌ {A = Option ℕ} (Some c.in-Some.turns) None = c.in-Some.ensures.none e in cc) c.in-Some.ensures.value (omega arith) (omega arith),
   c.in-Some-number_of.ensures,
   c.in-Some-number_of-2.ensures,
+  flag_read (found_of c.args.found.now) (codes "log") c.get_flag.result c.get_flag.ensures.none c.get_flag.ensures.other c.get_flag.ensures.value,
 )

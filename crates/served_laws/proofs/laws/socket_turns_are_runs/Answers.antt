@@ -21,4 +21,4 @@ returns-clause-turns g c =
     (λ s told given s'. IsAnsweredToAll (keeper_of s) (peer_event_of told) given (keeper_of s'))
     (λ s s'. IsCommitted R.is_clean R.is_open R.content R.may_leave (keeper_of s) (keeper_of s'))
     (λ s e outputs s' is. is) (λ s e given s' is. is) (λ s s' is. is)
-    g.S.Sockets.accepts g.S.Readiness.watches g.S.Sockets.connects g.S.Sockets.reads g.S.Sockets.writes g.S.Readiness.finds
+    g.S.Sockets.accepts g.S.Readiness.watches g.S.Sockets.connects g.S.Sockets.reads g.S.Sockets.writes g.S.Readiness.finds g.E.Write.contents

@@ -1,0 +1,45 @@
+-- The text of what a log tells.
+use Rattle.std.specs.Prelude.{ℕ, List, [], ◌∷◌, ◌++◌, Option, Some, None, codes}
+use Rattle.std.specs.Fmt.{decimal}
+use Rattle.log_lines.specs.Escaping.{escaped, reason_text}
+use Rattle.log_lines.specs.declared.line.Departure.{Departure}
+use Rattle.log_lines.specs.declared.line.Departure.TheVariants.{Closed, Lost, KeepAlive, TakenOver, Fault}
+use Rattle.log_lines.specs.declared.line.LogEntry.{LogEntry}
+use Rattle.log_lines.specs.declared.line.LogLine.{LogLine}
+use Rattle.log_lines.specs.declared.line.LogLine.TheVariants.{ClientAccepted, ClientRefused, ClientUnanswered, ClientGone, LinkUp, LinkDown, LeftOut}
+use Rattle.log_lines.specs.declared.line.Loss.{Loss}
+use Rattle.log_lines.specs.declared.line.Loss.TheVariants.{QueueFull, RetainedFull, PicksLost, LaneFull, BadFrames, FramesTooLarge}
+
+abbrev pub departure_text : Departure → List ℕ
+departure_text Closed = codes "closed"
+departure_text Lost = codes "lost"
+departure_text KeepAlive = codes "keep alive"
+departure_text TakenOver = codes "taken over"
+departure_text (Fault code) = codes "fault " ++ reason_text code
+
+abbrev pub loss_text : Loss → List ℕ
+loss_text QueueFull = codes "queue_full"
+loss_text RetainedFull = codes "retained_full"
+loss_text PicksLost = codes "picks_lost"
+loss_text LaneFull = codes "lane_full"
+loss_text BadFrames = codes "bad_frames"
+loss_text FramesTooLarge = codes "frames_too_large"
+
+abbrev pub line_text : LogLine → List ℕ
+line_text (ClientAccepted name) = codes "client accepted: " ++ escaped name
+line_text (ClientRefused code (Some name)) = codes "client refused " ++ reason_text code ++ codes ": " ++ escaped name
+line_text (ClientRefused code None) = codes "client refused " ++ reason_text code
+line_text ClientUnanswered = codes "client closed unanswered"
+line_text (ClientGone departure name) = codes "client gone, " ++ departure_text departure ++ codes ": " ++ escaped name
+line_text (LinkUp peer) = codes "link " ++ decimal peer ++ codes " up"
+line_text (LinkDown peer) = codes "link " ++ decimal peer ++ codes " down"
+line_text (LeftOut loss number) = codes "left out " ++ loss_text loss ++ codes " " ++ decimal number
+
+-- the moment first
+abbrev pub entry_text : LogEntry → List ℕ
+entry_text entry = decimal entry.at ++ codes " " ++ line_text entry.line
+
+-- each behind the other, with a newline after each
+abbrev pub log_text : List LogEntry → List ℕ
+log_text [] = []
+log_text (entry ∷ more) = entry_text entry ++ 10 ∷ log_text more

@@ -1,0 +1,10 @@
+//! The lines of a log, as text in which no identifier of a client can forge a line.
+#![tactic(auto)]
+
+mod escaped;
+mod laws;
+mod line;
+
+pub use escaped::{Escaped, ReasonText};
+pub use laws::{identifiers_read_back, lines_stay_apart};
+pub use line::{Departure, LogEntry, LogLine, Loss};

@@ -1,0 +1,16 @@
+use Rattle.std.proofs.Common.{◌∙◌, ap, subst, sym}
+use Rattle.std.proofs.lemmas.Result.{on_ok_weaker}
+use Rattle.client_limits.specs.Views.{inside_of as node_behind}
+use Rattle.node_server.proofs.Losing.{counted_in, finished_with}
+use Rattle.node_server.proofs.run.tell_losses.Goals as goal
+
+pub returns : goal.returns
+returns g c =
+    on_ok_weaker c.finish.result
+    (λ is. record {
+      at = c.now-at.result;
+      told = c.now-at.ensures;
+      counts = c.counts.result;
+      counted = counted_in c.args.node.now c.inside-2.result.now c.counts.result (c.inside-2.ensures ∙ ap node_behind c.inside.ensures) c.counts.ensures;
+      finished = finished_with g.E.Write.contents c.now-at.result c.counts.result c.losses_of-losses.result c.args.node.now c.finish.new.self c.losses_of-losses.ensures is;
+    }) c.finish.ensures
