@@ -1,0 +1,69 @@
+//! What answers requests.
+
+ghost use Rattle.std.specs.Prelude.{◌≡◌, ◌⊎◌, ◌↔◌, codes, IsTrue};
+
+use crate::answer::{forbid, miss, show};
+use crate::resource::Resource;
+use bytes::Bytes;
+use http::Request;
+use http_server::{Response, Service};
+use status_figures::Figures;
+use std::alloc::{AllocError, Global};
+
+/// Answers requests by the figures of a node, and knows whether it was asked.
+#[derive(Drop)]
+pub struct Pages<'a> {
+    alloc: Global,
+    figures: &'a Figures,
+    asked: bool,
+}
+
+impl<'a> Pages<'a> {
+    /// Pages by these figures, for which nobody has asked.
+    pub fn new(alloc: Global, figures: &'a Figures) -> Pages<'a>
+        ensures figures { result.figures.now ≡ figures.now }
+        ensures asked { IsTrue result.asked → ⊥ }
+    {
+        Pages {
+            alloc,
+            figures,
+            asked: false,
+        }
+    }
+
+    /// Whether a request was answered.
+    pub fn asked(&self) -> bool
+        ensures { result ≡ self.now.asked }
+    {
+        self.asked
+    }
+}
+
+/// Whether a method only reads.
+fn reads(method: &str) -> bool
+    ensures { IsTrue result ↔ ((method.now ≡ codes "GET") ⊎ (method.now ≡ codes "HEAD")) }
+{
+    method == "GET" || method == "HEAD"
+}
+
+impl Service for Pages<'_> {
+    ghost use Rattle.status_pages.specs.Answers.{IsAnswered};
+
+    ghost answers = { IsAnswered };
+
+    fn call(
+        &mut self,
+        request: &Request<Bytes>,
+        response: &mut Response,
+    ) -> Result<(), AllocError> {
+        match Resource::at(request.uri().path()) {
+            Some(resource) if reads(request.method().as_str()) => {
+                show(self.alloc, resource, self.figures, response)?;
+            }
+            Some(_) => forbid(response)?,
+            None => miss(response)?,
+        }
+        self.asked = true;
+        Ok(())
+    }
+}

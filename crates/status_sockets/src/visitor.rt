@@ -1,0 +1,123 @@
+//! One connection.
+
+ghost use Rattle.std.specs.Prelude.{◌≡◌, ◌≤◌, ◌↔◌, ◌-◌, ◌<◌, length, IsTrue};
+ghost use Rattle.http_server.specs.Connection.{history};
+ghost use Rattle.status_sockets.specs.Waiting.{IsInTime};
+
+use broker_sockets::{Answer, Sockets};
+use http_server::{Config, Connection};
+use http1::Limits;
+use status_figures::Figures;
+use status_pages::Pages;
+use std::alloc::Global;
+use std::hash::RandomState;
+
+/// The most bytes that one read takes.
+pub(crate) const PIECE: usize = 4096;
+
+/// For so many milliseconds a connection may be open without a whole request.
+pub(crate) const PATIENCE: u64 = 10_000;
+
+/// A head has 8 KiB at most, and nobody has to send a body.
+const CONFIG: Config = Config {
+    limits: Limits {
+        max_head_len: 8192,
+        max_extensions_len: 1024,
+        max_trailers_len: 1024,
+    },
+    max_body_len: 0,
+    max_pending: 65_536,
+    read_size: 4096,
+};
+
+/// Somebody who is connected, and since when there was no whole request.
+#[derive(Drop)]
+pub(crate) struct Visitor<T: Drop> {
+    stream: T,
+    connection: Connection,
+    pub(crate) since: u64,
+}
+
+impl<T: Drop> Visitor<T> {
+    /// Somebody who has connected at this moment.
+    pub(crate) fn new(alloc: Global, keys: RandomState, stream: T, at: u64) -> Visitor<T>
+        ensures { result.since ≡ at }
+    {
+        Visitor {
+            stream,
+            connection: Connection::new(alloc, keys, CONFIG),
+            since: at,
+        }
+    }
+
+    /// Whether there was a whole request within ten seconds.
+    fn is_in_time(&self, at: u64) -> bool
+        ensures { IsTrue result ↔ IsInTime at self.now.since }
+    {
+        at.saturating_sub(self.since) < PATIENCE
+    }
+
+    /// Takes what has come, at most once. `false`: nothing more can come.
+    fn read<S: Sockets<Stream = T>>(&mut self, sockets: &mut S, buffer: &mut [u8]) -> bool
+        ensures { self.new.since ≡ self.old.since }
+    {
+        if !self.connection.wants_read() {
+            return true;
+        }
+        match sockets.read(&mut self.stream, buffer) {
+            Answer::Later => true,
+            Answer::Gone => false,
+            Answer::Bytes(count) => {
+                let mut piece = &buffer[..count];
+                match self.connection.read_from(&mut piece) {
+                    Ok(taken) => taken == count,
+                    Err(_) => false,
+                }
+            }
+        }
+    }
+
+    /// Answers what was asked, by these figures.
+    fn answer(&mut self, alloc: Global, figures: &Figures, at: u64) {
+        let mut pages = Pages::new(alloc, figures);
+        self.connection.advance(&mut pages);
+        if pages.asked() {
+            self.since = at;
+        }
+    }
+
+    /// Writes what waits, at most once. `false`: nothing more can be written.
+    fn write<S: Sockets<Stream = T>>(&mut self, sockets: &mut S) -> bool
+        ensures { self.new.since ≡ self.old.since }
+    {
+        if !self.connection.wants_write() {
+            return true;
+        }
+        match sockets.write(&mut self.stream, self.connection.output()) {
+            Answer::Later => true,
+            Answer::Gone => false,
+            Answer::Bytes(count) => {
+                self.connection.sent(count);
+                true
+            }
+        }
+    }
+
+    /// Reads, answers and writes, each at most once. `false`: the connection is done, gone, or late.
+    pub(crate) fn visit<S: Sockets<Stream = T>>(
+        &mut self,
+        alloc: Global,
+        sockets: &mut S,
+        buffer: &mut [u8],
+        figures: &Figures,
+        at: u64,
+    ) -> bool
+        ensures { IsTrue result → IsInTime at self.new.since }
+    {
+        if !self.read(sockets, buffer) {
+            return false;
+        }
+        self.answer(alloc, figures, at);
+        self.write(sockets) && !self.connection.is_done() && self.is_in_time(at)
+    }
+}

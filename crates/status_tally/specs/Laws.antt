@@ -1,0 +1,29 @@
+-- Any calls of a handler, one after another.
+use Rattle.std.specs.Prelude.{◌≡◌, List, [], ◌∷◌}
+use Rattle.broker_sockets.specs.declared.bridge.Given.{Given}
+use Rattle.broker_sockets.specs.declared.bridge.PeerEvent.{PeerEvent}
+use Rattle.broker_sockets.specs.declared.events.Event.{Event}
+use Rattle.broker_sockets.specs.declared.events.Output.{Output}
+use Rattle.status_tally.specs.declared.tallied.Tallied.{Tallied}
+
+-- a call, with what was given out
+pub data Call : Type 0 where
+  handled : Event → List Output → Call
+  heard : PeerEvent → Given → Call
+  settled : Call
+
+module _ {H : Type 0} (handles : H → Event → List Output → H → Type 0) (hears : H → PeerEvent → Given → H → Type 0) (settles : H → H → Type 0) where
+  abbrev pub Takes : H → Call → H → Type 0
+  Takes h (handled e outputs) h' = handles h e outputs h'
+  Takes h (heard e given) h' = hears h e given h'
+  Takes h settled h' = settles h h'
+
+  abbrev pub Take : H → List Call → H → Type 0
+  Take h [] h' = h' ≡ h
+  Take h (call ∷ calls) h' = (m : H) × Takes h call m × Take m calls h'
+
+-- what calls of the door come to is what the same calls of the handler inside come to
+abbrev pub ChangesNothing : {H : Type 0} → (H → Event → List Output → H → Type 0) → (H → PeerEvent → Given → H → Type 0) → (H → H → Type 0)
+    → (Tallied H → Event → List Output → Tallied H → Type 0) → (Tallied H → PeerEvent → Given → Tallied H → Type 0) → (Tallied H → Tallied H → Type 0) → Type 0
+ChangesNothing {H} handles hears settles door_handles door_hears door_settles =
+    (calls : List Call) (d d' : Tallied H) → Take door_handles door_hears door_settles d calls d' → Take handles hears settles d.inside calls d'.inside

@@ -1,0 +1,11 @@
+//! Laws of the door.
+ghost use Rattle.status_tally.specs.Laws.{ChangesNothing};
+
+use crate::tallied::Tallied;
+use broker_sockets::{BridgeHandler, Handler};
+
+/// Whatever calls are made of the door, the handler inside is told just these, and just what it gives out goes out.
+pub fn tally_changes_nothing<H: BridgeHandler>()
+    ensures { ChangesNothing H.handles H.hears H.settles
+        ⟦<Tallied<H> as Handler>⟧.handles ⟦<Tallied<H> as BridgeHandler>⟧.hears ⟦<Tallied<H> as Handler>⟧.settles }
+{}

@@ -1,0 +1,6 @@
+pub mod Escapes
+pub mod Lines
+pub mod Metrics
+pub mod Page
+pub mod Peers
+pub mod Rows

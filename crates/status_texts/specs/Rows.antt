@@ -1,0 +1,29 @@
+-- Lines of the tables of the page.
+use Rattle.std.specs.Prelude.{ℕ, ◌/◌, ◌%◌, List, ◌++◌, codes}
+use Rattle.std.specs.Fmt.{decimal}
+
+unfoldable pub label_cell : List ℕ → List ℕ
+label_cell label = codes "<tr><th>" ++ label ++ codes "</th>"
+
+unfoldable pub cell : List ℕ → List ℕ
+cell value = codes "<td>" ++ value ++ codes "</td>"
+
+unfoldable pub number_cell : ℕ → List ℕ
+number_cell n = codes "<td>" ++ decimal n ++ codes "</td>"
+
+-- a text, and then a line of a label and what it is of
+unfoldable pub with_row : List ℕ → List ℕ → List ℕ → List ℕ
+with_row label value text = text ++ label_cell label ++ cell value ++ codes "</tr>\n"
+
+unfoldable pub with_number : List ℕ → ℕ → List ℕ → List ℕ
+with_number label n text = text ++ label_cell label ++ number_cell n ++ codes "</tr>\n"
+
+unfoldable pub days_text : ℕ → List ℕ
+days_text seconds = decimal (seconds / 86400) ++ codes " d " ++ decimal (seconds / 3600 % 24) ++ codes " h "
+
+unfoldable pub minutes_text : ℕ → List ℕ
+minutes_text seconds = decimal (seconds / 60 % 60) ++ codes " min " ++ decimal (seconds % 60) ++ codes " s"
+
+-- so many seconds, in days, hours, minutes and seconds
+abbrev pub uptime_text : ℕ → List ℕ
+uptime_text seconds = days_text seconds ++ minutes_text seconds

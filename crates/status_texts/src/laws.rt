@@ -1,0 +1,13 @@
+//! Laws of the texts.
+ghost use Rattle.std.specs.Prelude.{List, ℕ};
+ghost use Rattle.status_texts.specs.Escapes.{IsNoMarkup, IsWithinQuotes, escaped, label};
+
+/// Whatever a node is called, its name is no markup in the page.
+pub fn names_are_no_markup()
+    ensures { (name : List ℕ) → IsNoMarkup (escaped name) }
+{}
+
+/// Whatever a node is called, its name stays within the quotes of a label.
+pub fn labels_stay_in_their_quotes()
+    ensures { (name : List ℕ) → IsWithinQuotes (label name) }
+{}

@@ -1,0 +1,14 @@
+//! The status of a node as texts: a page for people, and metrics for Prometheus.
+#![tactic(auto)]
+
+mod escape;
+mod laws;
+mod lines;
+mod metrics;
+mod page;
+mod peers;
+mod rows;
+
+pub use laws::{labels_stay_in_their_quotes, names_are_no_markup};
+pub use metrics::metrics_of;
+pub use page::page_of;

@@ -1,0 +1,155 @@
+//! The page of a node: one document that asks for nothing but itself, and is read without its script.
+
+ghost use Rattle.std.specs.Prelude.{◌≡◌, ◌++◌, string_bytes, IfOk, OnOk};
+ghost use Rattle.status_texts.specs.Page.{page_text, verdict_text, with_clients, with_dropped, with_frames_dropped, with_head, with_links, with_node, with_tail};
+
+use crate::escape::escaped;
+use crate::peers::push_peers;
+use crate::rows::{push_number, push_row, uptime_text};
+use status_figures::{Figures, LeftOut, Traffic};
+use std::alloc::{AllocError, Global};
+
+/// What stands before the title.
+pub(crate) const HEAD: &str =
+    "<!DOCTYPE html>\n<html lang=\"en\">\n<head>\n<meta charset=\"utf-8\">\n<meta name=\"viewport\" content=\"width=device-width\">\n<link rel=\"icon\" href=\"data:,\">\n<title>";
+
+/// How the page looks.
+pub(crate) const STYLE: &str =
+    "body{font:16px/1.5 system-ui,sans-serif;max-width:46rem;margin:2rem auto;padding:0 1rem;color-scheme:light dark}table{border-collapse:collapse;width:100%;margin:0 0 1.5rem}th,td{text-align:left;padding:.25rem .75rem;border-bottom:1px solid #8884}th{font-weight:normal}td{font-variant-numeric:tabular-nums}p{padding:.75rem;border-radius:.4rem}.agrees{background:#2a82}.apart{background:#d322}.old{opacity:.4}";
+
+/// Asks every two seconds for the page again, and shows it; it is pale where no answer comes.
+pub(crate) const SCRIPT: &str =
+    "setInterval(async()=>{const shown=document.querySelector('main');try{const answer=await fetch('/',{cache:'no-store'});const page=new DOMParser().parseFromString(await answer.text(),'text/html');shown.replaceWith(page.querySelector('main'))}catch(e){shown.className='old'}},2000)";
+
+/// What stands before the lines of the peers.
+pub(crate) const PEERS: &str =
+    "<h2>Peers</h2>\n<table>\n<tr><th>Name</th><th>Number</th><th>Link</th><th>State</th><th>Messages that wait</th></tr>\n";
+
+/// The head of the page, and the name of the node, as it stands in HTML.
+#[tactic(auto, unfolding(crate::specs::Page::with_head))]
+fn push_head(text: &mut String, name: &str) -> Result<(), AllocError>
+    ensures { OnOk result (string_bytes text.new ≡ with_head name.now (string_bytes text.old)) }
+{
+    text.push_str(HEAD)?;
+    text.push_str(name)?;
+    text.push_str("</title>\n<style>")?;
+    text.push_str(STYLE)?;
+    text.push_str("</style>\n</head>\n<body>\n<main>\n<h1>Node ")?;
+    text.push_str(name)?;
+    text.push_str("</h1>\n")
+}
+
+/// Whether the cluster agrees, as far as the node knows: how many of so many peers aren't linked, or lack operations.
+#[tactic(auto, unfolding(crate::specs::Page::verdict_text))]
+fn push_verdict(text: &mut String, apart: usize, peers: usize) -> Result<(), AllocError>
+    ensures { OnOk result (string_bytes text.new ≡ string_bytes text.old ++ verdict_text apart peers) }
+{
+    if peers == 0 {
+        text.push_str("<p class=\"agrees\">This node has no peers.</p>\n")
+    } else if apart == 0 {
+        text.push_str(
+            "<p class=\"agrees\">Each peer is linked, and has all that this node has.</p>\n",
+        )
+    } else {
+        write!(
+            text,
+            "<p class=\"apart\">{apart} of {peers} peers are not linked, or lack operations.</p>\n"
+        )
+    }
+}
+
+/// What the node holds.
+#[tactic(auto, unfolding(crate::specs::Page::with_node))]
+fn push_node(alloc: Global, text: &mut String, figures: &Figures) -> Result<(), AllocError>
+    ensures { OnOk result (string_bytes text.new ≡ with_node figures.now (string_bytes text.old)) }
+{
+    let uptime = uptime_text(alloc, figures.uptime)?;
+    text.push_str("<table>\n")?;
+    push_number(text, "Number", u64::from(figures.number))?;
+    push_row(text, "Uptime", &uptime)?;
+    push_number(text, "Clients", figures.clients)?;
+    push_number(text, "Sessions", figures.sessions)?;
+    push_number(text, "Subscriptions", figures.subscriptions)?;
+    push_number(text, "Retained topics", figures.retained)?;
+    text.push_str("</table>\n")
+}
+
+/// What went through the node for clients in the last ten seconds.
+#[tactic(auto, unfolding(crate::specs::Page::with_clients))]
+fn push_clients(text: &mut String, recent: &Traffic) -> Result<(), AllocError>
+    ensures { OnOk result (string_bytes text.new ≡ with_clients recent.now (string_bytes text.old)) }
+{
+    text.push_str("<h2>In the last ten seconds</h2>\n<table>\n")?;
+    push_number(text, "Clients that connected", recent.opened)?;
+    push_number(text, "Bytes from clients", recent.bytes_received)?;
+    push_number(text, "Packets to clients", recent.packets_sent)?;
+    push_number(text, "Bytes to clients", recent.bytes_sent)
+}
+
+/// The same for its links.
+#[tactic(auto, unfolding(crate::specs::Page::with_links))]
+fn push_links(text: &mut String, recent: &Traffic) -> Result<(), AllocError>
+    ensures { OnOk result (string_bytes text.new ≡ with_links recent.now (string_bytes text.old)) }
+{
+    push_number(text, "Frames from peers", recent.frames_received)?;
+    push_number(text, "Bytes from peers", recent.frame_bytes_received)?;
+    push_number(text, "Frames to peers", recent.frames_sent)?;
+    push_number(text, "Bytes to peers", recent.frame_bytes_sent)?;
+    text.push_str("</table>\n")
+}
+
+/// The messages that the node left out.
+#[tactic(auto, unfolding(crate::specs::Page::with_dropped))]
+fn push_dropped(text: &mut String, left_out: &LeftOut) -> Result<(), AllocError>
+    ensures { OnOk result (string_bytes text.new ≡ with_dropped left_out.now (string_bytes text.old)) }
+{
+    text.push_str("<h2>Left out since the start</h2>\n<table>\n")?;
+    push_number(text, "Copies for a full queue", left_out.queue_full)?;
+    push_number(
+        text,
+        "Retained messages without room",
+        left_out.retained_full,
+    )?;
+    push_number(text, "Lost picks of shared groups", left_out.picks_lost)?;
+    push_number(text, "Messages for a full lane", left_out.lane_full)
+}
+
+/// The frames that it left out.
+#[tactic(auto, unfolding(crate::specs::Page::with_frames_dropped))]
+fn push_frames_dropped(text: &mut String, left_out: &LeftOut) -> Result<(), AllocError>
+    ensures { OnOk result (string_bytes text.new ≡ with_frames_dropped left_out.now (string_bytes text.old)) }
+{
+    push_number(text, "Frames that can not be read", left_out.bad_frames)?;
+    push_number(text, "Frames that are too large", left_out.frames_too_large)?;
+    text.push_str("</table>\n")
+}
+
+/// The end of the page, with its script.
+#[tactic(auto, unfolding(crate::specs::Page::with_tail))]
+fn push_tail(text: &mut String) -> Result<(), AllocError>
+    ensures { OnOk result (string_bytes text.new ≡ with_tail (string_bytes text.old)) }
+{
+    text.push_str("</main>\n<script>")?;
+    text.push_str(SCRIPT)?;
+    text.push_str("</script>\n</body>\n</html>\n")
+}
+
+/// The page of a node, in HTML.
+pub fn page_of(alloc: Global, figures: &Figures) -> Result<String, AllocError>
+    ensures { IfOk result (λ text. string_bytes text ≡ page_text figures.now) }
+{
+    let name = escaped(alloc, &figures.name)?;
+    let mut text = String::new(alloc);
+    push_head(&mut text, &name)?;
+    push_verdict(&mut text, figures.apart(), figures.peers.len())?;
+    push_node(alloc, &mut text, figures)?;
+    text.push_str(PEERS)?;
+    push_peers(alloc, &mut text, &figures.peers)?;
+    text.push_str("</table>\n")?;
+    push_clients(&mut text, &figures.recent)?;
+    push_links(&mut text, &figures.recent)?;
+    push_dropped(&mut text, &figures.left_out)?;
+    push_frames_dropped(&mut text, &figures.left_out)?;
+    push_tail(&mut text)?;
+    Ok(text)
+}

@@ -1,0 +1,81 @@
+//! Lines of the tables of the page.
+
+ghost use Rattle.std.specs.Prelude.{◌≡◌, ◌++◌, ◌/◌, string_bytes, IfOk, OnOk};
+ghost use Rattle.status_texts.specs.Rows.{cell, days_text, label_cell, minutes_text, number_cell, uptime_text, with_number, with_row};
+
+use std::alloc::{AllocError, Global};
+
+/// The label of a line.
+#[tactic(auto, unfolding(crate::specs::Rows::label_cell))]
+fn push_label_cell(text: &mut String, label: &str) -> Result<(), AllocError>
+    ensures { OnOk result (string_bytes text.new ≡ string_bytes text.old ++ label_cell label.now) }
+{
+    write!(text, "<tr><th>{label}</th>")
+}
+
+/// A label and what it is of.
+#[tactic(auto, unfolding(crate::specs::Rows::with_row))]
+pub(crate) fn push_row(text: &mut String, label: &str, value: &str) -> Result<(), AllocError>
+    ensures { OnOk result (string_bytes text.new ≡ with_row label.now value.now (string_bytes text.old)) }
+{
+    push_label_cell(text, label)?;
+    push_cell(text, value)?;
+    text.push_str("</tr>\n")
+}
+
+/// A label and a number.
+#[tactic(auto, unfolding(crate::specs::Rows::with_number))]
+pub(crate) fn push_number(text: &mut String, label: &str, number: u64) -> Result<(), AllocError>
+    ensures { OnOk result (string_bytes text.new ≡ with_number label.now number (string_bytes text.old)) }
+{
+    push_label_cell(text, label)?;
+    push_number_cell(text, number)?;
+    text.push_str("</tr>\n")
+}
+
+/// The days and hours in so many seconds.
+#[tactic(auto, unfolding(crate::specs::Rows::days_text))]
+fn push_days(text: &mut String, seconds: u64) -> Result<(), AllocError>
+    ensures { OnOk result (string_bytes text.new ≡ string_bytes text.old ++ days_text seconds) }
+{
+    let days = seconds / 86400;
+    let hours = seconds / 3600 % 24;
+    write!(text, "{days} d {hours} h ")
+}
+
+/// The minutes and seconds beside them.
+#[tactic(auto, unfolding(crate::specs::Rows::minutes_text))]
+fn push_minutes(text: &mut String, seconds: u64) -> Result<(), AllocError>
+    ensures { OnOk result (string_bytes text.new ≡ string_bytes text.old ++ minutes_text seconds) }
+{
+    let minutes = seconds / 60 % 60;
+    let rest = seconds % 60;
+    write!(text, "{minutes} min {rest} s")
+}
+
+/// So many milliseconds, in days, hours, minutes and seconds.
+pub(crate) fn uptime_text(alloc: Global, uptime: u64) -> Result<String, AllocError>
+    ensures { IfOk result (λ text. string_bytes text ≡ uptime_text (uptime / 1000)) }
+{
+    let seconds = uptime / 1000;
+    let mut text = String::new(alloc);
+    push_days(&mut text, seconds)?;
+    push_minutes(&mut text, seconds)?;
+    Ok(text)
+}
+
+/// A text between the others of a line.
+#[tactic(auto, unfolding(crate::specs::Rows::cell))]
+pub(crate) fn push_cell(text: &mut String, value: &str) -> Result<(), AllocError>
+    ensures { OnOk result (string_bytes text.new ≡ string_bytes text.old ++ cell value.now) }
+{
+    write!(text, "<td>{value}</td>")
+}
+
+/// A number between the others of a line.
+#[tactic(auto, unfolding(crate::specs::Rows::number_cell))]
+pub(crate) fn push_number_cell(text: &mut String, number: u64) -> Result<(), AllocError>
+    ensures { OnOk result (string_bytes text.new ≡ string_bytes text.old ++ number_cell number) }
+{
+    write!(text, "<td>{number}</td>")
+}
