@@ -1,0 +1,3 @@
+pub mod GotLaws
+pub mod Going
+pub mod CopyLaws

@@ -1,0 +1,78 @@
+-- What becomes of a copy at QoS 1 or 2 once its session has it (MQTT 5.0, 4.1, 4.3 and 4.6).
+use Rattle.std.specs.Prelude.{◌≡◌, ◌⊎◌, ℕ, Bool, false, List, [], ◌∷◌, ◌++◌, Some, slice_get}
+use Rattle.handshake_laws.specs.Resends.{Publication, published}
+use Rattle.mqtt_message.specs.declared.delivery.Delivery.{Delivery}
+use Rattle.mqtt_sessions.specs.Saved.{durable_of}
+use Rattle.mqtt_sessions.specs.Sending.{is_once}
+use Rattle.mqtt_sessions.specs.State.{State, new_session}
+use Rattle.qos_handshakes.specs.Entries.{Entries}
+use Rattle.qos_handshakes.specs.Outbox.{waiting}
+use Rattle.session_laws.specs.Order.{LeftOutIn, firsts}
+use Rattle.session_laws.specs.Resends.{EndsIt, EndedIn}
+use Rattle.session_laws.specs.Runs.{Step, Run, queues, connected_after, limit_after}
+use Rattle.session_laws.specs.Sends.{marks_of}
+use Rattle.session_rows.specs.Durable.{Durable}
+use Rattle.node_keeper.specs.Keeping.{AreLasting}
+use Rattle.node_laws.specs.Lives.{life}
+use Rattle.node_rows.specs.Rows.{Lasting}
+use Rattle.node_work.specs.Acts.{Act}
+use Rattle.passing_laws.specs.Sending.{IsIn}
+use Rattle.cluster_play.specs.Worlds.{Site, World}
+use Rattle.cluster_play.specs.Runs.{Played}
+use Rattle.cluster_play.specs.Histories.{Reached, site, moves_at}
+use Rattle.run_laws.specs.Calling.{IsOver, StaysCalled}
+use Rattle.run_laws.specs.Staying.{Calls}
+
+-- ---- the sessions that rows have
+-- what the rows of a node say of a client's session is what lasts of it, as its calls and losses since it last began make it of a new one
+pub record IsOfItsLife (run : List Played) (i : ℕ) (client : List ℕ) (d : Durable) : Type 0 where
+  pub session : State
+  pub lived : Run (new_session client) (life client (moves_at i run) []) session
+  pub lasts : d ≡ durable_of session
+
+-- also at a node that is down
+abbrev pub SessionsOfRowsAreRuns : Type 0
+SessionsOfRowsAreRuns =
+    (run : List Played) (w : World) → Reached run w → (i : ℕ) (s : Site) (said : Lasting) → slice_get w.sites i ≡ Some s → AreLasting s.node.place s.rows said
+    → (client : List ℕ) (d : Durable) → said.sessions client ≡ Some d → IsOfItsLife run i client d
+
+-- ---- copies
+-- an event sends it first, under this identifier; then a later event answers it, or finds it too long to be sent again, as this event may
+-- itself, whatever the identifier
+abbrev pub EndedOnceSent : Bool → ℕ → List Step → Publication → Type 0
+EndedOnceSent on limit [] x = ⊥
+EndedOnceSent on limit (s ∷ ss) x =
+    (IsIn x (firsts (marks_of on s)) × (((id : ℕ) → EndsIt on (limit_after limit s.event) s.event (id, x.1)) ⊎ EndedIn (connected_after on s.event s.reaction) (limit_after limit s.event) ss x))
+    ⊎ EndedOnceSent (connected_after on s.event s.reaction) (limit_after limit s.event) ss x
+
+-- it waits, or was sent under an identifier and is unanswered; or it was sent, and then answered or too long to be sent again, or it was
+-- left out of the queue, by the delivery rules
+abbrev pub GoesOn : List Step → Entries → Delivery → Type 0
+GoesOn steps copies x =
+    IsIn x (waiting copies)
+    ⊎ ((id : ℕ) × IsIn (id, x) (published copies))
+    ⊎ ((id : ℕ) × EndedOnceSent false 0 steps (id, x))
+    ⊎ LeftOutIn false 0 steps x
+
+-- the rows of a node have the session of a client, with the copy if it hasn't gone so
+pub record RowsHaveCopy (run : List Played) (i : ℕ) (s : Site) (client : List ℕ) (x : Delivery) : Type 0 where
+  pub said : Lasting
+  pub are : AreLasting s.node.place s.rows said
+  pub durable : Durable
+  pub found : said.sessions client ≡ Some durable
+  pub life_is : IsOfItsLife run i client durable
+  pub goes : GoesOn (life client (moves_at i run) []) durable.copies x
+
+-- a call of a client's session queues a copy at QoS 1 or 2
+pub record QueuesCopy (m : Played) (before : List Act) (x : Delivery) : Type 0 where
+  pub call : Calls m before
+  pub now : ℕ
+  pub event : call.step.event ≡ queues x now
+  pub twice : is_once x.qos ≡ false
+
+-- in every later world, running or down, until the session is over or begins anew
+abbrev pub CopyStays : Type 0
+CopyStays =
+    (run later : List Played) (m : Played) (w : World) → Reached (run ++ m ∷ later) w
+    → (before : List Act) (x : Delivery) (q : QueuesCopy m before x) (s : Site) → slice_get w.sites (site m.fate) ≡ Some s
+    → (c : StaysCalled run later m before q.call) × (IsOver q.call.step.client c.after ⊎ RowsHaveCopy (run ++ m ∷ later) (site m.fate) s q.call.step.client x)

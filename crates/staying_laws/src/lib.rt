@@ -1,0 +1,5 @@
+//! What was told to other nodes, and what sessions were given, stays so: each function does nothing, and its contract is a law.
+#![tactic(auto)]
+
+pub mod copies;
+pub mod gots;
