@@ -9,43 +9,20 @@
 # It needs mosquitto's clients: apt-get install mosquitto-clients. The ports 1883 to 1885 and 2883 to 2885 must be free.
 set -eu
 
-top=$(cd "$(dirname "${BASH_SOURCE[0]}")/.." && pwd)
-program=("$top/broker")
-if [ "$#" -gt 0 ]; then
-    program=("$@")
-fi
-host=127.0.0.1
+source "$(dirname "${BASH_SOURCE[0]}")/nodes.sh"
+run_by "$@"
+need mosquitto_pub mosquitto_sub
 seconds=600
-failed=0
-work=$(mktemp -d)
-nodes=()
 
-clean_up() {
-    jobs -p | xargs -r kill 2> "$work/kill" || true
-    rm -rf "$work"
-}
-trap clean_up EXIT
-
-# Starts the node of a number, and waits until it is ready.
-start_node() {
-    : > "$work/n$1"
-    "${program[@]}" serve "$top/examples/cluster.toml" "n$1" "$work/n$1.db" --turns 1000000000 \
-        > "$work/n$1" 2> "$work/n$1.err" &
-    nodes[$1]=$!
-    until grep -q '^ready ' "$work/n$1"; do
-        if ! kill -0 "${nodes[$1]}" 2> "$work/kill"; then
-            cat "$work/n$1.err" >&2
-            exit 1
-        fi
-        sleep 0.1
-    done
-    echo "n$1: $(cat "$work/n$1")"
+# Starts the node of a name.
+start() {
+    start_node "$1" "$top/examples/cluster.toml" "$work/$1.db"
+    echo "$1: $(cat "$work/$1")"
 }
 
-kill_node() {
-    kill -9 "${nodes[$1]}"
-    wait "${nodes[$1]}" 2> "$work/kill" || true
-    echo "n$1: killed"
+stop() {
+    kill_node "$1"
+    echo "$1: killed"
 }
 
 # Publishes at n0, and returns once it is acknowledged.
@@ -123,14 +100,8 @@ numbers() {
     seq "$1" "$2" | sed 's/^/0 /' | tr '\n' ',' | sed 's/,$//'
 }
 
-for client in mosquitto_pub mosquitto_sub; do
-    if ! command -v "$client" > "$work/found"; then
-        echo "$client isn't installed: apt-get install mosquitto-clients" >&2
-        exit 1
-    fi
-done
-for node in 0 1 2; do
-    start_node "$node"
+for node in n0 n1 n2; do
+    start "$node"
 done
 
 # A client whose home is elsewhere is told so.
@@ -165,12 +136,12 @@ kept=$!
 await cluster/kept b-kept
 kill "$kept"
 wait "$kept" 2> "$work/kill" || true
-kill_node 1
+stop n1
 publish_numbers cluster/kept 1 10
-kill_node 0
-start_node 0
+stop n0
+start n0
 publish_numbers cluster/kept 11 20
-start_node 1
+start n1
 listen 1 b-kept cluster/kept -c -x 3600
 compare 'kept at n1' "$(numbers 1 20)" b-kept
 

@@ -58,7 +58,7 @@ take_steps() {
 import sys
 sys.path.insert(0, sys.argv[1])
 sys.dont_write_bytecode = True
-from kill_client import Connection, packet, text
+from kill_client import Connection, Refused, packet, text
 
 PUBACK, SUBACK, UNSUBACK = 4, 9, 11
 STEPS = [
@@ -78,7 +78,7 @@ try:
         if came is None or came[0] != kind:
             break
         made += 1
-except (OSError, EOFError, SystemExit):
+except (OSError, EOFError, Refused, SystemExit):
     pass
 print(made)
 END

@@ -10,45 +10,31 @@
 # 2883 and 2884 must be free.
 set -eu
 
-top=$(cd "$(dirname "${BASH_SOURCE[0]}")/.." && pwd)
-program=("$top/broker")
-if [ "$#" -gt 0 ]; then
-    program=("$@")
-fi
+source "$(dirname "${BASH_SOURCE[0]}")/nodes.sh"
+run_by "$@"
+need python3
 clients=$top/examples/hostile_clients.py
 port=1883
 bridge=2883
 peer=2884
 seed=${SEED:-1}
-failed=0
-work=$(mktemp -d)
 
-clean_up() {
-    jobs -p | xargs -r kill 2> "$work/kill" || true
-    rm -rf "$work"
+# Runs the words behind $1 in a process that may have so many files open.
+limited() {
+    ulimit -n "$1"
+    shift
+    exec "$@"
 }
-trap clean_up EXIT
 
 # Starts a broker that may have so many files open: a node n0 of the table $2.
 start_broker() {
-    : > "$work/ready"
-    (
-        ulimit -n "$1"
-        exec "${program[@]}" serve "$top/examples/$2.toml" n0 "$work/$1.$2.db" --turns 1000000000
-    ) > "$work/ready" 2> "$work/err" &
-    broker=$!
-    until grep -q '^ready ' "$work/ready"; do
-        if ! kill -0 "$broker" 2> "$work/kill"; then
-            cat "$work/err" >&2
-            exit 1
-        fi
-        sleep 0.05
-    done
+    start_node n0 "$top/examples/$2.toml" "$work/$1.$2.db" limited "$1"
+    broker=${nodes[n0]}
 }
 
 stop_broker() {
     if ! kill "$broker" 2> "$work/kill"; then
-        echo "the broker has ended: $(cat "$work/err")"
+        echo "the broker has ended: $(cat "$work/n0.err")"
         failed=1
     fi
     wait "$broker" 2> "$work/kill" || true

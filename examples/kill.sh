@@ -10,44 +10,17 @@
 # must be free.
 set -eu
 
-top=$(cd "$(dirname "${BASH_SOURCE[0]}")/.." && pwd)
-program=("$top/broker")
-if [ "$#" -gt 0 ]; then
-    program=("$@")
-fi
+source "$(dirname "${BASH_SOURCE[0]}")/nodes.sh"
+run_by "$@"
+need python3
 client=$top/examples/kill_client.py
 port=1883
 kills=5
 most=${MESSAGES:-2000}
-failed=0
-work=$(mktemp -d)
 
-clean_up() {
-    jobs -p | xargs -r kill 2> "$work/kill" || true
-    rm -rf "$work"
-}
-trap clean_up EXIT
-
-start_node() {
-    : > "$work/ready"
-    "${program[@]}" serve "$top/examples/one_node.toml" n0 "$work/qos$1.db" --turns 1000000000 > "$work/ready" 2> "$work/err" &
-    node=$!
-    until grep -q '^ready ' "$work/ready"; do
-        if ! kill -0 "$node" 2> "$work/kill"; then
-            cat "$work/err" >&2
-            exit 1
-        fi
-        sleep 0.05
-    done
-}
-
-kill_node() {
-    kill -9 "$node"
-    wait "$node" 2> "$work/kill" || true
-}
-
-lines() {
-    wc -l < "$1"
+# Starts the node over the database for this QoS.
+start() {
+    start_node n0 "$top/examples/one_node.toml" "$work/qos$1.db"
 }
 
 # Waits until a file has so many lines, or the process $3 has ended.
@@ -76,15 +49,15 @@ judge() {
 # Kills the node while it is published to, and while it delivers.
 try_at() {
     local qos=$1 publisher receiver total number
-    start_node "$qos"
+    start "$qos"
     "$client" subscribe "$port" "$qos"
     : > "$work/acknowledged"
     "$client" publish "$port" "$qos" "$work/acknowledged" > "$work/published" &
     publisher=$!
     for number in $(seq "$kills"); do
         await_lines "$work/acknowledged" $(($(lines "$work/acknowledged") + RANDOM % most + 1)) "$publisher"
-        kill_node
-        start_node "$qos"
+        kill_node n0
+        start "$qos"
     done
     kill "$publisher" 2> "$work/kill" || true
     wait "$publisher"
@@ -95,12 +68,12 @@ try_at() {
     receiver=$!
     for number in $(seq "$kills"); do
         await_lines "$work/came" $((total * number / (kills + 1))) "$receiver"
-        kill_node
-        start_node "$qos"
+        kill_node n0
+        start "$qos"
     done
     wait "$receiver"
     judge "$work/acknowledged" "$work/came" "$qos"
-    kill_node
+    kill_node n0
 }
 
 for qos in 1 2; do

@@ -1,8 +1,9 @@
 #!/usr/bin/env python3
 """A publisher and a subscriber of MQTT 5.0 that go on when their broker is killed, and write down what they were told.
 
-    kill_client.py subscribe PORT QOS             subscribes to `kill` in a session that lasts, and ends
-    kill_client.py publish PORT QOS FILE          publishes 1, 2, 3 .. until it is told to stop (TERM) and all is acknowledged
+    kill_client.py subscribe PORT QOS             subscribes to `numbers` in a session that lasts, and ends
+    kill_client.py publish PORT QOS [PAUSE] FILE  publishes 1, 2, 3 .. until it is told to stop (TERM) and all is acknowledged, so many
+                                                  seconds apart
     kill_client.py receive PORT QOS COUNT FILE    receives in that session until COUNT numbers and then nothing for a second have come,
                                                   or nothing for a minute
 
@@ -14,7 +15,7 @@ import socket
 import sys
 import time
 
-HOST, AHEAD, MOST = "127.0.0.1", 16, 50_000
+HOST, TOPIC, AHEAD, MOST = "127.0.0.1", "numbers", 16, 50_000
 CONNACK, PUBLISH, PUBACK, PUBREC, PUBREL, PUBCOMP, SUBACK = 2, 3, 4, 5, 6, 7, 9
 
 
@@ -31,6 +32,10 @@ def text(word):
     return len(word).to_bytes(2, "big") + word.encode()
 
 
+class Refused(Exception):
+    """A CONNECT that wasn't accepted, with the body of the CONNACK."""
+
+
 class Connection:
     """A connection of a client whose session lasts an hour."""
 
@@ -41,8 +46,10 @@ class Connection:
         properties = b"\x11" + (3600).to_bytes(4, "big") + b"\x21\x00\x0a"
         self.send(packet(0x10, text("MQTT") + b"\x05\x00\x00\x00" + bytes([len(properties)]) + properties + text(client)))
         kind, body = self.await_next()
-        if kind != CONNACK or body[1] != 0:
+        if kind != CONNACK:
             sys.exit(f"no CONNACK: {kind} {body.hex()}")
+        if body[1] != 0:
+            raise Refused(body)
         self.continues = body[0] == 1
 
     def send(self, sent):
@@ -98,14 +105,19 @@ class Client:
                     sys.exit(f"{self.name}: its session is lost")
                 self.known = True
                 return self.work(connection)
+            except Refused as refused:
+                self.turn_to(refused)
             except OSError:
                 time.sleep(0.05)
 
+    def turn_to(self, refused):
+        sys.exit(f"{self.name} is refused: {refused.args[0].hex()}")
+
 
 class Publisher(Client):
-    def __init__(self, port, qos, file):
+    def __init__(self, port, qos, pause, file):
         super().__init__(port, qos, "k-publishes")
-        self.file, self.last, self.waiting, self.stops, self.again = file, 0, {}, False, 0
+        self.pause, self.file, self.last, self.waiting, self.stops, self.again = pause, file, 0, {}, False, 0
 
     def work(self, connection):
         self.again += len(self.waiting)
@@ -117,13 +129,14 @@ class Publisher(Client):
                 identifier = next(i for i in range(1, AHEAD + 1) if i not in self.waiting)
                 self.waiting[identifier] = (self.last, False)
                 connection.send(self.publish(identifier, self.last, 0))
+                time.sleep(self.pause)
             self.hear(connection, *connection.await_next())
 
     def is_done(self):
         return self.stops or self.last >= MOST
 
     def publish(self, identifier, number, dup):
-        body = text("kill") + identifier.to_bytes(2, "big") + b"\x00" + str(number).encode()
+        body = text(TOPIC) + identifier.to_bytes(2, "big") + b"\x00" + str(number).encode()
         return packet(0x30 | dup | self.qos << 1, body)
 
     def release(self, identifier):
@@ -176,7 +189,7 @@ class Receiver(Client):
 
 def subscribe(port, qos):
     connection = Connection(port, "k-receives")
-    connection.send(packet(0x82, b"\x00\x01\x00" + text("kill") + bytes([qos])))
+    connection.send(packet(0x82, b"\x00\x01\x00" + text(TOPIC) + bytes([qos])))
     kind, body = connection.await_next()
     if kind != SUBACK or body[3] != qos:
         sys.exit("no subscription")
@@ -190,7 +203,7 @@ def main():
         return
     with open(sys.argv[-1], "w", encoding="ascii") as file:
         if command == "publish":
-            publisher = Publisher(port, qos, file)
+            publisher = Publisher(port, qos, float(sys.argv[4]) if len(sys.argv) > 5 else 0, file)
             signal.signal(signal.SIGTERM, publisher.stop)
             publisher.run()
             print(f"published {publisher.last}, {publisher.again} of them sent again")

@@ -3,39 +3,16 @@
 # Prints what came, and exits 1 where that isn't what was sent.
 #
 #   examples/pub_sub.sh [HOST [PORT]]   asks a broker that runs, at 127.0.0.1 and 1883 where nothing else is given
-#   examples/pub_sub.sh --start         starts one node with an empty database, asks it, and ends it
+#   examples/pub_sub.sh --start         starts one node with an empty database, asks it, and ends it; the program is built first where it
+#                                       isn't yet, or the words that follow run in its place
 #
 # It needs mosquitto's clients: apt-get install mosquitto-clients. The broker may be any one of MQTT 5.0.
 set -eu
 
-top=$(cd "$(dirname "${BASH_SOURCE[0]}")/.." && pwd)
-host=127.0.0.1
+source "$(dirname "${BASH_SOURCE[0]}")/nodes.sh"
+need mosquitto_pub mosquitto_sub
 port=1883
 seconds=10
-failed=0
-work=$(mktemp -d)
-
-clean_up() {
-    jobs -p | xargs -r kill 2> "$work/kill" || true
-    rm -rf "$work"
-}
-trap clean_up EXIT
-
-# Starts a node, and waits until it is ready. The program is built first where it isn't yet.
-start_broker() {
-    touch "$work/broker"
-    "$top/broker" serve "$top/examples/one_node.toml" n0 "$work/broker.db" --turns 1000000000 \
-        > "$work/broker" 2> "$work/broker.err" &
-    local broker=$!
-    until grep -q '^ready ' "$work/broker"; do
-        if ! kill -0 "$broker" 2> "$work/kill"; then
-            cat "$work/broker.err" >&2
-            exit 1
-        fi
-        sleep 0.1
-    done
-    cat "$work/broker"
-}
 
 publish() {
     mosquitto_pub -V 5 -h "$host" -p "$port" "$@"
@@ -77,14 +54,10 @@ compare() {
     fi
 }
 
-for client in mosquitto_pub mosquitto_sub; do
-    if ! command -v "$client" > "$work/found"; then
-        echo "$client isn't installed: apt-get install mosquitto-clients" >&2
-        exit 1
-    fi
-done
 if [ "${1-}" = --start ]; then
-    start_broker
+    run_by "${@:2}"
+    start_node n0 "$top/examples/one_node.toml" "$work/n0.db"
+    cat "$work/n0"
 else
     host=${1-$host}
     port=${2-$port}

@@ -13,36 +13,12 @@
 # 3884 must be free.
 set -eu
 
-top=$(cd "$(dirname "${BASH_SOURCE[0]}")/.." && pwd)
-program=("$top/broker")
-if [ "$#" -gt 0 ]; then
-    program=("$@")
-fi
-host=127.0.0.1
+source "$(dirname "${BASH_SOURCE[0]}")/nodes.sh"
+run_by "$@"
+need mosquitto_pub mosquitto_sub python3
 seconds=3600
 still=${STILL:-20}
 patience=${PATIENCE:-60}
-failed=0
-work=$(mktemp -d)
-nodes=()
-
-clean_up() {
-    kill -CONT "${nodes[@]}" 2> "$work/kill" || true
-    jobs -p | xargs -r kill 2> "$work/kill" || true
-    rm -rf "$work"
-}
-trap clean_up EXIT
-
-# Waits until a line of the file $2 begins with $1, while the process $3 runs.
-await_line() {
-    until grep -q "^$1" "$2"; do
-        if ! kill -0 "$3" 2> "$work/kill"; then
-            cat "$2" "$2.err" >&2
-            exit 1
-        fi
-        sleep 0.1
-    done
-}
 
 # The table of homes as a node sees it: the bridges of n0 and n1 are at the ports $1 and $2.
 write_table() {
@@ -73,12 +49,9 @@ start_proxy() {
     await_line ready "$work/proxy" "$proxy"
 }
 
-start_node() {
-    : > "$work/n$1"
-    "${program[@]}" serve "$work/n$1.toml" "n$1" "$work/n$1.db" --turns 1000000000 > "$work/n$1" 2> "$work/n$1.err" &
-    nodes[$1]=$!
-    await_line ready "$work/n$1" "${nodes[$1]}"
-    echo "n$1: $(cat "$work/n$1")"
+start() {
+    start_node "$1" "$work/$1.toml" "$work/$1.db"
+    echo "$1: $(cat "$work/$1")"
 }
 
 # Publishes at node $1, and returns once it is acknowledged.
@@ -152,17 +125,11 @@ received() {
     { grep -v '^ready' "$work/$1" || true; } | tr '\n' ' ' | sed 's/ $//'
 }
 
-for client in mosquitto_pub mosquitto_sub python3; do
-    if ! command -v "$client" > "$work/found"; then
-        echo "$client isn't installed: apt-get install mosquitto-clients python3" >&2
-        exit 1
-    fi
-done
 write_table 2883 3884 > "$work/n0.toml"
 write_table 3883 2884 > "$work/n1.toml"
 start_proxy
-start_node 0
-start_node 1
+start n0
+start n1
 
 # Together: three topics, and a client of n1 of which n0 knows.
 retain 0 one old
@@ -215,7 +182,7 @@ done
 listen 0 a-still still
 listen 1 b-still still
 await 0 still a-still b-still
-kill -STOP "${nodes[1]}"
+kill -STOP "${nodes[n1]}"
 compare 'n1 stands still' '' ask 1
 for number in $(seq "$still"); do
     timeout 5 mosquitto_pub -V 5 -h "$host" -p 1883 -i a-publisher -q 1 -t still -m "$number" || failed=1
@@ -223,7 +190,7 @@ for number in $(seq "$still"); do
 done
 compare "meanwhile, a-still" "$(seq -s ' ' "$still")" received a-still
 compare "meanwhile, b-still" '' received b-still
-kill -CONT "${nodes[1]}"
+kill -CONT "${nodes[n1]}"
 compare "afterwards, b-still" "$(seq -s ' ' "$still")" received b-still
 
 if [ "$failed" -eq 0 ]; then

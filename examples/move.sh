@@ -1,0 +1,132 @@
+#!/usr/bin/env bash
+# Moves a client from node n0 to node n1 by a new table of homes, node by node, each by a restart, while the client receives and a publisher
+# at n2 publishes for it at QoS 1. The client follows the server that it is told. Prints what the client was told, how many messages were
+# acknowledged, how many came at which node, and which were lost with the session, and exits 1 where any other was lost.
+#
+#   examples/move.sh             runs the program, which is built first where it isn't yet
+#   examples/move.sh PROGRAM..   runs these words in its place, with `serve CONFIG NODE DATABASE --turns N` behind them
+#
+# It needs python3. The ports 1883 to 1885 and 2883 to 2885 must be free.
+set -eu
+
+source "$(dirname "${BASH_SOURCE[0]}")/nodes.sh"
+run_by "$@"
+need python3
+client=$top/examples/kill_client.py
+follower=$top/examples/move_client.py
+
+# The table of homes of version $1, by which clients whose identifiers begin with `m` have their home at $2.
+write_table() {
+    local number
+    echo "version = $1"
+    for number in 0 1 2; do
+        cat << TOML
+
+[[node]]
+name = "n$number"
+address = "$host:$((1883 + number))"
+bridge = "$host:$((2883 + number))"
+TOML
+    done
+    cat << TOML
+
+[[home]]
+prefix = "m"
+node = "$2"
+
+[[home]]
+prefix = "k"
+node = "n2"
+TOML
+}
+
+# Starts the node $1 with the table of version $2.
+start() {
+    start_node "$1" "$work/$2.toml" "$work/$1.db"
+    echo "$1 serves by the table of version $2"
+}
+
+restart() {
+    kill_node "$1"
+    start "$1" 1
+}
+
+# Waits until the client has been told a line that begins so.
+await_told() {
+    await_line "$1" "$work/told" "$following"
+}
+
+# Waits until so many more messages have come.
+await_more() {
+    local count=$(($(lines "$work/came") + $1))
+    for _ in $(seq 600); do
+        if [ "$(lines "$work/came")" -ge "$count" ]; then
+            return
+        fi
+        sleep 0.1
+    done
+    echo 'no more messages come'
+    exit 1
+}
+
+# Waits until a number has come, or one behind it.
+await_number() {
+    for _ in $(seq 1200); do
+        if [ "$(tail -n 1 "$work/came")" -ge "$1" ]; then
+            return
+        fi
+        sleep 0.1
+    done
+    echo "$1 doesn't come"
+    exit 1
+}
+
+write_table 0 n0 > "$work/0.toml"
+write_table 1 n1 > "$work/1.toml"
+for node in n0 n1 n2; do
+    start "$node" 0
+done
+: > "$work/came"
+: > "$work/told"
+: > "$work/acknowledged"
+"$follower" 1883 "$work/came" > "$work/told" 2> "$work/told.err" &
+following=$!
+await_told '1883: subscribed'
+"$client" publish 1885 1 0.005 "$work/acknowledged" > "$work/published" &
+publishing=$!
+await_more 200
+
+# The new home first, then the old one, and then the others.
+restart n1
+await_more 200
+sure=$(lines "$work/acknowledged")
+await_number "$sure"
+restart n0
+await_told '1884: subscribed'
+at_home=$(lines "$work/came")
+restart n2
+await_more 200
+again=$(tail -n 1 "$work/came")
+await_more 200
+kill "$publishing"
+wait "$publishing"
+await_number "$(tail -n 1 "$work/acknowledged")"
+
+sort "$work/acknowledged" > "$work/all"
+sort -u "$work/came" > "$work/found"
+comm -23 "$work/all" "$work/found" | sort -n > "$work/lost"
+echo 'the client was told:'
+sed 's/^/    /' "$work/told"
+echo "$(lines "$work/acknowledged") acknowledged, $at_home came at n0, $(($(lines "$work/came") - at_home)) at n1"
+if [ -s "$work/lost" ]; then
+    echo "with the session $(lines "$work/lost") were lost, of $(head -n 1 "$work/lost") to $(tail -n 1 "$work/lost")"
+fi
+# Numbers are acknowledged in order: `sure` of them were, and had come, before n0 was restarted.
+if awk -v sure="$sure" -v again="$again" '$1 <= sure || $1 >= again { lost = 1 } END { exit !lost }' "$work/lost"; then
+    echo "some were lost that were acknowledged long before n0 was restarted, up to $sure, or once messages came at n1, from $again"
+    failed=1
+fi
+if [ "$failed" -eq 0 ]; then
+    echo 'nothing else that was acknowledged was lost'
+fi
+exit "$failed"
