@@ -144,6 +144,13 @@ impl Lane {
         Ok(out)
     }
 
+    /// How many messages wait.
+    pub fn count(&self) -> usize
+        ensures { result ≡ length self.now.lane.waiting }
+    {
+        self.messages.len() - self.gone
+    }
+
     /// Whether a number is that of the next message to take; then it counts as taken.
     pub fn take_next(&mut self, number: LaneNumber) -> bool
         ensures next { result ≡ nat_eq number (suc self.old.lane.took) }

@@ -324,6 +324,24 @@ impl Links {
         }
     }
 
+    /// How many messages wait for the peer: none for a node that the cluster lacks.
+    pub fn waiting_count(&self, peer: u16) -> usize
+        ensures { result ≡ length (kept_of self.now peer).lane.waiting }
+    {
+        match self.lanes.get(peer as usize) {
+            Some(lane) => lane.count(),
+            None => 0,
+        }
+    }
+
+    /// The dots that the peer is known to have taken.
+    pub fn belief(&self, peer: u16) -> &Context
+        requires { peer < self.now.nodes }
+        ensures { result.now ≡ belief_of self.now peer }
+    {
+        &self.beliefs[peer as usize]
+    }
+
     /// The number of the last message that was taken from the peer: 0 of a node that the cluster lacks.
     pub fn last_taken(&self, peer: u16) -> LaneNumber
         ensures { result ≡ (kept_of self.now peer).lane.took }

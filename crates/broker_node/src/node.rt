@@ -1,10 +1,13 @@
 //! A node, and what it makes of each event.
 
 ghost use Rattle.std.specs.Prelude.{◌≡◌, ◌<◌, ◌≤◌, ◌^◌, ◌⊎◌, length, OnOk, IfOk, IfErr, IsErrOf, IsOk, OnErr, None, Some, MatchOption, Ok, Err, cond, is_some, true, false};
+ghost use Rattle.std.specs.FinMap as map;
+ghost use Rattle.std.specs.Option.{option_copied};
 ghost use Rattle.broker_node.specs.Idle.{IsIdle, Rests, RestsWhereIdle};
 ghost use Rattle.broker_node.specs.Opening.{IsOpenedFrom};
 ghost use Rattle.broker_node.specs.Step.{IsDone, IsAtEnd, HasCauseAt, Settles, begun, may_move, may_move_in};
 ghost use Rattle.broker_node.specs.Turns.{Decides};
+ghost use Rattle.node_bridge.specs.View.{known_of, lane_to};
 ghost use Rattle.node_rows.specs.Reading.{SayNothing};
 ghost use Rattle.node_work.specs.Held.Connections.{is_open};
 ghost use Rattle.node_work.specs.View.{place_of};
@@ -13,6 +16,7 @@ ghost use Rattle.node_work.specs.declared.fault.NodeFault.TheVariants.{NoMemory,
 
 use crate::event::{Event, EventKind};
 use crate::turn::decide;
+use causal_context::Context;
 use home_table::HomeTable;
 use node_work::{Counts, NodeFault, Outcome, Work};
 use replica_store::ReplicaStore;
@@ -187,6 +191,27 @@ impl Node {
         ensures { MatchOption self.now.up (Unit {0}) (λ h. result ≡ h.counts) }
     {
         self.work.held().counts()
+    }
+
+    /// How many clients have a session. Nothing is said of it once the node has stopped.
+    pub fn sessions(&self) -> usize
+        ensures { MatchOption self.now.up (Unit {0}) (λ h. result ≡ map.len h.sessions) }
+    {
+        self.work.held().sessions().count()
+    }
+
+    /// How many messages wait for another node. Nothing is said of it once the node has stopped.
+    pub fn waiting(&self, peer: u16) -> usize
+        ensures { MatchOption self.now.up (Unit {0}) (λ h. result ≡ length (lane_to h.bridge peer).waiting) }
+    {
+        self.work.held().bridge().waiting_count(peer)
+    }
+
+    /// The dots that another node is known to have taken, where the cluster has it. Nothing is said of them once the node has stopped.
+    pub fn belief(&self, peer: u16) -> Option<&Context>
+        ensures { MatchOption self.now.up (Unit {0}) (λ h. option_copied result ≡ known_of h.bridge peer) }
+    {
+        self.work.held().bridge().belief(peer)
     }
 
     /// Decides one event. After a fault the node has stopped.

@@ -39,6 +39,10 @@ lane_to b peer = lane_of b.lanes peer
 abbrev pub has_lanes : BridgeView → ℕ → Bool
 has_lanes b peer = nat_lt peer (length b.lanes)
 
+-- what is known of a node of the cluster
+abbrev pub known_of : BridgeView → ℕ → Option Dots
+known_of b peer = if has_lanes b peer then Some (belief_of b peer) else None
+
 -- ---- deltas and beliefs
 
 -- one more delta is kept

@@ -1,10 +1,11 @@
 //! What a node keeps for the other nodes.
 ghost use Rattle.std.specs.Prelude.{◌≡◌, length, nat_lt, IfOk, OnErr, OnOk, if◌then◌else◌};
+ghost use Rattle.std.specs.Option.{option_copied};
 ghost use Rattle.bridge_deltas.specs.Lane.{first_frames};
 ghost use Rattle.bridge_deltas.specs.Links.{all_told};
 ghost use Rattle.lane_rows.specs.Changes.{now_of, told_of};
 ghost use Rattle.lane_rows.specs.Reading.{AreLanes};
-ghost use Rattle.node_bridge.specs.View.{IsToShip, LanesTell, believes, gets, is_next, keeps, lane_to, offer_to, offered, takes};
+ghost use Rattle.node_bridge.specs.View.{IsToShip, LanesTell, believes, gets, is_next, keeps, known_of, lane_to, offer_to, offered, takes};
 
 use bridge_deltas::{Links, Offer};
 use bridge_frames::{BridgeFrame, Forward, LaneNumber};
@@ -122,6 +123,23 @@ impl Bridge {
         ensures { IfOk result (λ out. out.items ≡ first_frames from peer (lane_to self.now peer)) }
     {
         self.links.waiting_from(from, peer)
+    }
+
+    /// How many messages wait for the peer.
+    pub fn waiting_count(&self, peer: u16) -> usize
+        ensures { result ≡ length (lane_to self.now peer).waiting }
+    {
+        self.links.waiting_count(peer)
+    }
+
+    /// The dots that the peer is known to have taken, where the cluster has it.
+    pub fn belief(&self, peer: u16) -> Option<&Context>
+        ensures { option_copied result ≡ known_of self.now peer }
+    {
+        if peer >= self.links.nodes() {
+            return None;
+        }
+        Some(self.links.belief(peer))
     }
 
     /// Whether the number is that of the next message to take from the peer.
