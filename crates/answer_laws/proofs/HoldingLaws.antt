@@ -13,7 +13,7 @@ use Rattle.node_work.specs.View.{HeldView}
 use Rattle.cluster_play.specs.Worlds.{World}
 use Rattle.cluster_play.specs.Runs.{Played}
 use Rattle.cluster_play.specs.Histories.{Reached, operations}
-use Rattle.cluster_play.specs.Laws.{Holds}
+use Rattle.cluster_play.specs.Agreement.{Holds}
 use Rattle.cluster_play.specs.Clusters.{holdings_of}
 use Rattle.cluster_play.proofs.Agreeing.{node_holds}
 use Rattle.cluster_play.proofs.Showing.{node_shows}

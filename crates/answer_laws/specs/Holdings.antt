@@ -12,7 +12,7 @@ use Rattle.node_work.specs.View.{HeldView}
 use Rattle.cluster_play.specs.Worlds.{World}
 use Rattle.cluster_play.specs.Runs.{Played}
 use Rattle.cluster_play.specs.Histories.{Reached, operations}
-use Rattle.cluster_play.specs.Laws.{Holds}
+use Rattle.cluster_play.specs.Agreement.{Holds}
 use Rattle.cluster_play.specs.Clusters.{holdings_of}
 use Rattle.answer_laws.specs.Filters.{AreAllLive}
 

@@ -20,7 +20,7 @@ use Rattle.node_work.specs.View.{HeldView}
 use Rattle.cluster_play.specs.Worlds.{World, numbered}
 use Rattle.cluster_play.specs.Runs.{Played}
 use Rattle.cluster_play.specs.Histories.{Reached, made, taken, operations}
-use Rattle.cluster_play.specs.Laws.{Holds, AreAlike}
+use Rattle.cluster_play.specs.Agreement.{Holds, AreAlike}
 use Rattle.cluster_play.proofs.Bools.{some_is}
 use Rattle.cluster_play.proofs.Sites.{number_is}
 use Rattle.cluster_play.proofs.Telling.{given_read}

@@ -21,7 +21,9 @@ use Rattle.node_work.specs.View.{Place, nodes_of}
 use Rattle.cluster_play.specs.Worlds.{Site, World}
 use Rattle.cluster_play.specs.Runs.{Played}
 use Rattle.cluster_play.specs.Histories.{Reached, site, acts_of, gained, gain_in, gains, taken, taken_amid, operations_amid, same_dot}
-use Rattle.cluster_play.specs.Laws.{AnswersBy, Arrives, HoldsAmid, MakesNext, Ships}
+use Rattle.cluster_play.specs.Agreement.{AnswersBy, HoldsAmid}
+use Rattle.cluster_play.specs.CatchingUp.{Arrives, Ships}
+use Rattle.cluster_play.specs.MadeOperations.{MakesNext}
 use Rattle.cluster_play.proofs.Bools.{or_true, or_left, or_right, nat_cases, nat_other, some_is, dot_same}
 use Rattle.cluster_play.proofs.Operations.{own_some}
 use Rattle.cluster_play.proofs.Kept.{explained}

@@ -17,7 +17,8 @@ use Rattle.node_work.specs.View.{HeldView}
 use Rattle.cluster_play.specs.Worlds.{Site, World, Fate, Faulted, Restarted, Happens, stopped}
 use Rattle.cluster_play.specs.Runs.{Played}
 use Rattle.cluster_play.specs.Histories.{Reached, site, acts_of, gained, made, taken, taken_amid}
-use Rattle.cluster_play.specs.Laws.{Holds, KeepsIts, WakesFrom}
+use Rattle.cluster_play.specs.Agreement.{Holds}
+use Rattle.cluster_play.specs.Lasting.{KeepsIts, WakesFrom}
 use Rattle.cluster_play.proofs.Bools.{or_true, or_left, or_right, some_is}
 use Rattle.cluster_play.proofs.Sites.{get-set_same}
 use Rattle.cluster_play.proofs.Amid.{amid_acts, taken_step}

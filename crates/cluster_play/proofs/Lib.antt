@@ -1,6 +1,7 @@
 pub mod Agreeing
 pub mod Alike
 pub mod Amid
+pub mod Believing
 pub mod Bools
 pub mod Bridging
 pub mod Brought

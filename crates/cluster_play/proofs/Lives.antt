@@ -16,7 +16,7 @@ use Rattle.node_laws.proofs.MoveLaws.{moves_join, acts_are_moves}
 use Rattle.cluster_play.specs.Worlds.{Site, World}
 use Rattle.cluster_play.specs.Runs.{Played}
 use Rattle.cluster_play.specs.Histories.{IsFirst, homes_after, last_of, moves_at, moves_amid, Reached}
-use Rattle.cluster_play.specs.Laws.{Holds, HoldsAmid}
+use Rattle.cluster_play.specs.Agreement.{Holds, HoldsAmid}
 use Rattle.cluster_play.proofs.Explaining.{first_in, is_first}
 use Rattle.cluster_play.proofs.Kept.{explained}
 

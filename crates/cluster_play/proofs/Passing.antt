@@ -6,7 +6,8 @@ use Rattle.node_work.specs.Acts.{Act, Passed, Runs}
 use Rattle.cluster_play.specs.Worlds.{World}
 use Rattle.cluster_play.specs.Runs.{Played}
 use Rattle.cluster_play.specs.Histories.{Reached, site, taken_amid, operations_amid}
-use Rattle.cluster_play.specs.Laws.{HoldsAmid, AnswersBy, PassesOn, MakesCopies}
+use Rattle.cluster_play.specs.Agreement.{HoldsAmid, AnswersBy}
+use Rattle.cluster_play.specs.Copying.{PassesOn, MakesCopies}
 use Rattle.cluster_play.proofs.Operations.{own_some}
 use Rattle.cluster_play.proofs.Paths.{commits_acts, midway}
 use Rattle.cluster_play.proofs.Rows.{committed}

@@ -15,7 +15,7 @@ use Rattle.node_work.specs.View.{HeldView}
 use Rattle.cluster_play.specs.Worlds.{World, Happens}
 use Rattle.cluster_play.specs.Runs.{Played, IsHonestStep}
 use Rattle.cluster_play.specs.Histories.{Reached, acts_of, made, taken, gained, operations, taken_amid, operations_amid}
-use Rattle.cluster_play.specs.Laws.{Holds, HoldsAmid, AnswersBy}
+use Rattle.cluster_play.specs.Agreement.{Holds, HoldsAmid, AnswersBy}
 use Rattle.cluster_play.proofs.Agreeing.{node_holds, own_dots}
 use Rattle.cluster_play.proofs.Bridging.{AreSo, IsSo}
 use Rattle.cluster_play.proofs.Growing.{AllSound}

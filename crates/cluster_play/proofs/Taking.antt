@@ -23,7 +23,7 @@ use Rattle.node_work.specs.View.{Place, nodes_of}
 use Rattle.cluster_play.specs.Worlds.{World, Fate, Released, Lost, Cut, Faulted, Was_down, Restarted}
 use Rattle.cluster_play.specs.Runs.{Played, Run, released, IsKnown}
 use Rattle.cluster_play.specs.Histories.{Reached, site, event_of, acts_of, gained, gains, taken, same_dot}
-use Rattle.cluster_play.specs.Laws.{MakesDot, BringsDot}
+use Rattle.cluster_play.specs.MadeOperations.{MakesDot, BringsDot}
 use Rattle.cluster_play.proofs.Bools.{or_true, or_left, or_right, and_true, nat_is, dot_is, dot_same, some_is}
 use Rattle.cluster_play.proofs.Brought.{brings}
 use Rattle.cluster_play.proofs.Explaining.{Explains, Past, past}

@@ -5,7 +5,7 @@ use Rattle.std.specs.FinSet as set
 use Rattle.causal_context.specs.Dots.{Dot}
 use Rattle.broker_node.specs.declared.event.Event.{Event}
 use Rattle.node_work.specs.declared.outcome.Output.{Output}
-use Rattle.node_work.specs.Acts.{Act, Moment, Began, Moved, Store, Connection, Session, Bridge, Out, Named, Acknowledged, Passed, Dropped, Made, Merged, gather, moved_in, op_in}
+use Rattle.node_work.specs.Acts.{Act, Moment, Store, Made, Merged, gather, moved_in, op_in}
 use Rattle.node_work.specs.View.{opened}
 use Rattle.node_laws.specs.Moves.{Move, Did, Lost as Loses, did}
 use Rattle.node_rows.specs.Rows.{mark, mark_key}
@@ -28,28 +28,18 @@ site (Restarted i) = i
 abbrev pub event_of : Fate → Option Event
 event_of (Released i e acts outputs) = Some e
 event_of (Lost i e acts) = Some e
-event_of (Cut i) = None
-event_of (Faulted i fault) = None
-event_of (Was_down i) = None
-event_of (Restarted i) = None
+event_of fate = None
 
 -- the acts that a step committed
 abbrev pub acts_of : Fate → List Act
 acts_of (Released i e acts outputs) = acts
 acts_of (Lost i e acts) = acts
-acts_of (Cut i) = []
-acts_of (Faulted i fault) = []
-acts_of (Was_down i) = []
-acts_of (Restarted i) = []
+acts_of fate = []
 
 -- what it gave out
 abbrev pub outputs_of : Fate → List Output
 outputs_of (Released i e acts outputs) = outputs
-outputs_of (Lost i e acts) = []
-outputs_of (Cut i) = []
-outputs_of (Faulted i fault) = []
-outputs_of (Was_down i) = []
-outputs_of (Restarted i) = []
+outputs_of fate = []
 
 -- the operations that it made
 abbrev pub ops_of : Fate → List Operation
@@ -65,19 +55,9 @@ same_dot d e = nat_eq d.node e.node && nat_eq d.number e.number
 
 -- an act takes the dot: of the operation that it makes, or listed as taken in the state that it merges
 abbrev pub gain_in : Act → Dot → Bool
-gain_in (Moment at) d = false
-gain_in Began d = false
-gain_in (Moved homes) d = false
 gain_in (Store (Made o)) d = same_dot (dot_of o) d
 gain_in (Store (Merged s)) d = set.contains s.taken d
-gain_in (Connection a) d = false
-gain_in (Session a) d = false
-gain_in (Bridge a) d = false
-gain_in (Out o) d = false
-gain_in (Named number) d = false
-gain_in (Acknowledged client packet at grants offers) d = false
-gain_in (Passed m copies lost routes) d = false
-gain_in Dropped d = false
+gain_in a d = false
 
 abbrev pub gained : List Act → Dot → Bool
 gained [] d = false
@@ -106,26 +86,14 @@ operations_amid i run acts = filter (λ o. taken_amid i run acts (dot_of o)) (ma
 -- the moment that an act takes
 abbrev pub moment_in : Act → ℕ
 moment_in (Moment at) = at
-moment_in Began = 0
-moment_in (Moved homes) = 0
-moment_in (Store a) = 0
-moment_in (Connection a) = 0
-moment_in (Session a) = 0
-moment_in (Bridge a) = 0
-moment_in (Out o) = 0
-moment_in (Named number) = 0
-moment_in (Acknowledged client packet at grants offers) = 0
-moment_in (Passed m copies lost routes) = 0
-moment_in Dropped = 0
+moment_in a = 0
 
 -- what a step made of what its node holds: the acts that it committed, and at a restart the loss of what doesn't last
 abbrev pub moves_of : Fate → List Move
 moves_of (Released i e acts outputs) = did acts
 moves_of (Lost i e acts) = did acts
-moves_of (Cut i) = []
-moves_of (Faulted i fault) = []
-moves_of (Was_down i) = []
 moves_of (Restarted i) = Loses ∷ []
+moves_of fate = []
 
 abbrev pub own_moves : ℕ → Fate → List Move
 own_moves i fate = cond (nat_eq (site fate) i) (moves_of fate) []

@@ -1,5 +1,13 @@
 //! What holds in every run of a cluster. Each function does nothing: its contract is the law.
-ghost use Rattle.cluster_play.specs.Laws.{HoldsItsOperations, LiveIsOfItsOperations, AnswerIsOfItsOperations, HoldsItsOperationsAmid, OwnDots, DeltaFrames, FramesAreSpelled, SameTaken, AgreeWhereTheyTookTheSame, AnswerAlike, OperationsOfAStep, CatchUp, TakesWhatItMakesOrIsBrought, AnswersAsSent, SendAlike, CopiesAsTaken, HoldsWhatItsMovesLeave, SessionsAreRuns, SessionsAreRunsAmid, RowsAreOfWhatIsHeld, RowsKeepItsOperations, RowsAreOfTheirNode, RestartsWithWhatLasts, KeepsItsTable, FaultsLeaveRows, KnowsWhatIsTaken, FramesStay, LacksNothing, RunsCompose, StartIsReached, RunsGoOn, FramelessStepsAreHonest, PlayedIsReached};
+ghost use Rattle.cluster_play.specs.Agreement.{HoldsItsOperations, LiveIsOfItsOperations, AnswerIsOfItsOperations, HoldsItsOperationsAmid, OwnDots, SameTaken, AgreeWhereTheyTookTheSame, AnswerAlike};
+ghost use Rattle.cluster_play.specs.Believing.{BelievesWhatIsTaken, LacksNothingThere};
+ghost use Rattle.cluster_play.specs.CatchingUp.{DeltaFrames, FramesAreSpelled, CatchUp, KnowsWhatIsTaken};
+ghost use Rattle.cluster_play.specs.Copying.{CopiesAsTaken};
+ghost use Rattle.cluster_play.specs.GoingOn.{FramesStay, LacksNothing, RunsCompose, StartIsReached, RunsGoOn, FramelessStepsAreHonest, PlayedIsReached};
+ghost use Rattle.cluster_play.specs.Lasting.{RowsAreOfWhatIsHeld, RowsKeepItsOperations, RowsAreOfTheirNode, RestartsWithWhatLasts, KeepsItsTable, FaultsLeaveRows};
+ghost use Rattle.cluster_play.specs.Living.{HoldsWhatItsMovesLeave, SessionsAreRuns, SessionsAreRunsAmid};
+ghost use Rattle.cluster_play.specs.MadeOperations.{OperationsOfAStep, TakesWhatItMakesOrIsBrought};
+ghost use Rattle.cluster_play.specs.Offering.{AnswersAsSent, SendAlike};
 
 /// Each running node holds the state of the operations that it has taken, no dot has two
 /// operations, and what a Delta frame carries is the state of the operations that it lists.
@@ -89,6 +97,13 @@ pub fn nodes_keep_their_tables()
 /// What a Know tells is taken at its sender, then and in every later world.
 pub fn knows_stay_true()
     ensures { KnowsWhatIsTaken }
+{}
+
+/// What a running node believes another one to have taken, that one has taken. So one that it believes to lack nothing has
+/// taken all that it has taken.
+pub fn beliefs_are_true()
+    ensures beliefs { BelievesWhatIsTaken }
+    ensures nothing { LacksNothingThere }
 {}
 
 /// The laws hold however a run is played: new nodes are reached, an honest run goes on from what is

@@ -1,6 +1,6 @@
 -- What a node does in a step: a list of acts, each of which is one small step of what the node holds. An act says where it
 -- may stand (Allowed), and what it leaves (next).
-use Rattle.std.specs.Prelude.{◌≡◌, ◌⊎◌, ℕ, ◌+◌, ◌<◌, ◌^◌, max, cond, true, List, [], ◌∷◌, ◌++◌, length, map as map_list, flat_map, Option, Some}
+use Rattle.std.specs.Prelude.{◌≡◌, ◌⊎◌, ℕ, ◌+◌, ◌<◌, ◌^◌, max, true, List, [], ◌∷◌, ◌++◌, length, Option, Some}
 use Rattle.std.specs.FinMap as map
 use Rattle.home_table.specs.Table.{Table, IsTable}
 use Rattle.mqtt_message.specs.declared.delivery.Delivery.{Delivery}
@@ -131,77 +131,27 @@ gather f (a ∷ rest) = f a ++ gather f rest
 
 -- the operations that were made
 abbrev pub op_in : Act → List Operation
-op_in (Moment at) = []
-op_in Began = []
-op_in (Moved homes) = []
 op_in (Store (Made o)) = o ∷ []
-op_in (Store (Merged s)) = []
-op_in (Connection a) = []
-op_in (Session a) = []
-op_in (Bridge a) = []
-op_in (Out o) = []
-op_in (Named number) = []
-op_in (Acknowledged client packet at grants offers) = []
-op_in (Passed m copies lost routes) = []
-op_in Dropped = []
+op_in a = []
 
 -- the states that were merged
 abbrev pub merge_in : Act → List State
-merge_in (Moment at) = []
-merge_in Began = []
-merge_in (Moved homes) = []
-merge_in (Store (Made o)) = []
 merge_in (Store (Merged s)) = s ∷ []
-merge_in (Connection a) = []
-merge_in (Session a) = []
-merge_in (Bridge a) = []
-merge_in (Out o) = []
-merge_in (Named number) = []
-merge_in (Acknowledged client packet at grants offers) = []
-merge_in (Passed m copies lost routes) = []
-merge_in Dropped = []
+merge_in a = []
 
 -- the tables of homes that were taken
 abbrev pub moved_in : Act → List Table
-moved_in (Moment at) = []
-moved_in Began = []
 moved_in (Moved homes) = homes ∷ []
-moved_in (Store a) = []
-moved_in (Connection a) = []
-moved_in (Session a) = []
-moved_in (Bridge a) = []
-moved_in (Out o) = []
-moved_in (Named number) = []
-moved_in (Acknowledged client packet at grants offers) = []
-moved_in (Passed m copies lost routes) = []
-moved_in Dropped = []
+moved_in a = []
 
 -- what was taken from another node but states: a message of its lane, how many of this node's it has taken, and its dots
 abbrev pub heard_in : Act → List BridgeAct
-heard_in (Moment at) = []
-heard_in Began = []
-heard_in (Moved homes) = []
-heard_in (Store a) = []
-heard_in (Connection a) = []
-heard_in (Session a) = []
 heard_in (Bridge a) = heard_of a
-heard_in (Out o) = []
-heard_in (Named number) = []
-heard_in (Acknowledged client packet at grants offers) = []
-heard_in (Passed m copies lost routes) = []
-heard_in Dropped = []
+heard_in a = []
 
 -- what was given out
 abbrev pub output_in : Act → List Output
-output_in (Moment at) = []
-output_in Began = []
-output_in (Moved homes) = []
-output_in (Store a) = []
-output_in (Connection a) = []
 output_in (Session a) = session_outputs a
 output_in (Bridge a) = bridge_outputs a
 output_in (Out o) = o ∷ []
-output_in (Named number) = []
-output_in (Acknowledged client packet at grants offers) = []
-output_in (Passed m copies lost routes) = []
-output_in Dropped = []
+output_in a = []

@@ -12,7 +12,7 @@ use Rattle.broker_node.proofs.Determined.{decides_determined}
 use Rattle.cluster_play.specs.Worlds.{Site, World, Fate, Released, Lost, Cut, Faulted, Was_down, Restarted, Becomes}
 use Rattle.cluster_play.specs.Runs.{Played}
 use Rattle.cluster_play.specs.Histories.{site, acts_of}
-use Rattle.cluster_play.specs.Laws.{Holds}
+use Rattle.cluster_play.specs.Agreement.{Holds}
 use Rattle.cluster_play.proofs.Bools.{some_is, none-some}
 use Rattle.cluster_play.proofs.Paths.{befell}
 use Rattle.cluster_play.proofs.Rows.{Committed, committed}

@@ -15,7 +15,7 @@ use Rattle.node_work.specs.View.{Place, HeldView, nodes_of}
 use Rattle.cluster_play.specs.Worlds.{Site, World, numbered}
 use Rattle.cluster_play.specs.Runs.{Played}
 use Rattle.cluster_play.specs.Histories.{Reached, site, acts_of}
-use Rattle.cluster_play.specs.Laws.{Arrives}
+use Rattle.cluster_play.specs.CatchingUp.{Arrives}
 use Rattle.cluster_play.proofs.Bools.{nat_other, not_true, and_true, nat_is, some_is}
 use Rattle.cluster_play.proofs.Explaining.{Seated, past}
 use Rattle.cluster_play.proofs.Kept.{explained}

@@ -9,7 +9,7 @@ use Rattle.broker_node.specs.Step.{Steps, StopsAtEnd}
 use Rattle.cluster_play.specs.Worlds.{World, Released}
 use Rattle.cluster_play.specs.Runs.{Played}
 use Rattle.cluster_play.specs.Histories.{site, event_of, acts_of}
-use Rattle.cluster_play.specs.Laws.{Holds}
+use Rattle.cluster_play.specs.Agreement.{Holds}
 use Rattle.cluster_play.specs.Worlds.{Happens}
 
 -- two steps of a node that holds the same, at the same event: the same acts, the same given out, and the same left

@@ -17,7 +17,7 @@ use Rattle.broker_node.specs.Turns.{Decides}
 use Rattle.cluster_play.specs.Worlds.{World, numbered}
 use Rattle.cluster_play.specs.Runs.{Played}
 use Rattle.cluster_play.specs.Histories.{Reached, acts_of}
-use Rattle.cluster_play.specs.Laws.{Arrives}
+use Rattle.cluster_play.specs.CatchingUp.{Arrives}
 use Rattle.run_laws.specs.LaneHistories.{took}
 use Rattle.output_laws.specs.Frames.{frame_to, frames_given}
 

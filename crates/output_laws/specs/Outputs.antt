@@ -22,7 +22,7 @@ use Rattle.broker_node.specs.Turns.{Decides}
 use Rattle.cluster_play.specs.Worlds.{World}
 use Rattle.cluster_play.specs.Runs.{Played}
 use Rattle.cluster_play.specs.Histories.{Reached, site, acts_of}
-use Rattle.cluster_play.specs.Laws.{Holds, HoldsAmid}
+use Rattle.cluster_play.specs.Agreement.{Holds, HoldsAmid}
 
 -- each session that is on a connection is on an open one, whose client is its own
 abbrev pub SessionsAreOnTheirs : HeldView → Type 0

@@ -13,7 +13,7 @@ use Rattle.passing_laws.specs.Publishing.{PassesOn}
 use Rattle.cluster_play.specs.Worlds.{World}
 use Rattle.cluster_play.specs.Runs.{Played}
 use Rattle.cluster_play.specs.Histories.{Reached, site}
-use Rattle.cluster_play.specs.Laws.{HoldsAmid}
+use Rattle.cluster_play.specs.Agreement.{HoldsAmid}
 use Rattle.run_laws.specs.Publishing.{PutStays}
 use Rattle.run_laws.specs.Staying.{Calls}
 

@@ -26,7 +26,7 @@ use Rattle.replica_store.proofs.Views.{live_is}
 use Rattle.cluster_play.specs.Worlds.{Site, World, Happens, numbered}
 use Rattle.cluster_play.specs.Runs.{Played, IsHonestStep}
 use Rattle.cluster_play.specs.Histories.{Reached, site, acts_of, taken_amid, operations_amid, moves_amid}
-use Rattle.cluster_play.specs.Laws.{HoldsAmid, AnswersBy}
+use Rattle.cluster_play.specs.Agreement.{HoldsAmid, AnswersBy}
 use Rattle.cluster_play.proofs.Amid.{amid_acts}
 use Rattle.cluster_play.proofs.Explaining.{Seated, past, seat_lasts}
 use Rattle.cluster_play.proofs.Kept.{explained}

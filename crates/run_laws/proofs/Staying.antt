@@ -15,7 +15,7 @@ use Rattle.broker_node.specs.declared.event.Event.{Event}
 use Rattle.broker_node.specs.Turns.{Decides}
 use Rattle.cluster_play.specs.Worlds.{World, Happens}
 use Rattle.cluster_play.specs.Runs.{Played, IsHonestStep}
-use Rattle.cluster_play.specs.Laws.{HoldsAmid}
+use Rattle.cluster_play.specs.Agreement.{HoldsAmid}
 use Rattle.cluster_play.specs.Histories.{Reached, site, acts_of, taken, moves_amid}
 use Rattle.cluster_play.proofs.Amid.{runs_split}
 use Rattle.cluster_play.proofs.Catching.{operations_of_a_step}

@@ -1,8 +1,8 @@
 -- What nodes put into their lanes and took of them in a run, read off its moments.
 use Rattle.std.specs.Prelude.{ℕ, cond, nat_eq, List, [], ◌∷◌, ◌++◌}
 use Rattle.bridge_frames.specs.declared.forward.Forward.{Forward}
-use Rattle.node_work.specs.Acts.{Act, Moment, Began, Moved, Store, Connection, Session, Bridge, Out, Named, Acknowledged, Passed, Dropped, gather}
-use Rattle.node_work.specs.Held.Bridge.{BridgeAct, Put, Took, Got, Believed, Gave, Left_out}
+use Rattle.node_work.specs.Acts.{Act, Bridge, gather}
+use Rattle.node_work.specs.Held.Bridge.{BridgeAct, Put, Took}
 use Rattle.cluster_play.specs.Worlds.{Fate}
 use Rattle.cluster_play.specs.Runs.{Played}
 use Rattle.cluster_play.specs.Histories.{site, acts_of}
@@ -10,33 +10,15 @@ use Rattle.cluster_play.specs.Histories.{site, acts_of}
 -- the message that an act puts into the lane to node j, and the one that it takes of the lane from it
 abbrev pub put_by : ℕ → BridgeAct → List Forward
 put_by j (Put peer m) = cond (nat_eq peer j) (m ∷ []) []
-put_by j (Took peer number m copies lost) = []
-put_by j (Got peer number) = []
-put_by j (Believed peer dots) = []
-put_by j (Gave f) = []
-put_by j (Left_out what) = []
+put_by j a = []
 
 abbrev pub took_by : ℕ → BridgeAct → List Forward
-took_by j (Put peer m) = []
 took_by j (Took peer number m copies lost) = cond (nat_eq peer j) (m ∷ []) []
-took_by j (Got peer number) = []
-took_by j (Believed peer dots) = []
-took_by j (Gave f) = []
-took_by j (Left_out what) = []
+took_by j a = []
 
 abbrev pub by_bridge : {A : Type 0} → (BridgeAct → List A) → Act → List A
-by_bridge f (Moment at) = []
-by_bridge f Began = []
-by_bridge f (Moved homes) = []
-by_bridge f (Store a) = []
-by_bridge f (Connection a) = []
-by_bridge f (Session a) = []
 by_bridge f (Bridge a) = f a
-by_bridge f (Out o) = []
-by_bridge f (Named number) = []
-by_bridge f (Acknowledged client packet at grants offers) = []
-by_bridge f (Passed m copies lost routes) = []
-by_bridge f Dropped = []
+by_bridge f a = []
 
 -- what the acts that a step committed at node i give
 abbrev pub at_node : {A : Type 0} → ℕ → (Act → List A) → Fate → List A

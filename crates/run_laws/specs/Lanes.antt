@@ -21,7 +21,7 @@ use Rattle.passing_laws.specs.Handing.{JoinAtOnce}
 use Rattle.cluster_play.specs.Worlds.{Site, World, numbered}
 use Rattle.cluster_play.specs.Runs.{Played}
 use Rattle.cluster_play.specs.Histories.{Reached, site, acts_of, operations_amid, moment_amid}
-use Rattle.cluster_play.specs.Laws.{HoldsAmid}
+use Rattle.cluster_play.specs.Agreement.{HoldsAmid}
 use Rattle.run_laws.specs.LaneHistories.{put, took}
 
 -- what node j took of the lane from node i is a beginning of what i put in: each message whole, in order, and once

@@ -23,7 +23,7 @@ use Rattle.passing_laws.specs.Publishing.{Gives, PassesOn}
 use Rattle.cluster_play.specs.Worlds.{World}
 use Rattle.cluster_play.specs.Runs.{Played}
 use Rattle.cluster_play.specs.Histories.{Reached, site, moves_amid}
-use Rattle.cluster_play.specs.Laws.{HoldsAmid}
+use Rattle.cluster_play.specs.Agreement.{HoldsAmid}
 use Rattle.run_laws.specs.Staying.{Calls, StaysMade}
 
 -- a call takes a PUBLISH of this QoS and identifier, at its moment

@@ -11,7 +11,7 @@ use Rattle.node_work.specs.Held.Sessions.{SessionStep, Called}
 use Rattle.cluster_play.specs.Worlds.{Site, World}
 use Rattle.cluster_play.specs.Runs.{Played}
 use Rattle.cluster_play.specs.Histories.{site, acts_of, taken}
-use Rattle.cluster_play.specs.Laws.{MakesNext}
+use Rattle.cluster_play.specs.MadeOperations.{MakesNext}
 
 -- the rows of a node list a dot as taken
 pub record Lists (s : Site) (dot : Dot) : Type 0 where
