@@ -37,6 +37,7 @@ use Rattle.saved_laws.specs.Histories.{Point, Move, calls, tells, Moves, History
 use Rattle.saved_laws.specs.Sound.{IsSoundEvent, IsSoundMove, BeginsSound, StaysDurable, DurableOpens}
 use Rattle.handshake_laws.proofs.AgreeLaws.{past, Faces, IsSound, agrees}
 use Rattle.saved_laws.proofs.AgreedLaws.{next-past}
+use Rattle.saved_laws.proofs.ReachLaws.{AreReached, calls-reach, reached-away}
 use Rattle.saved_laws.proofs.RestLaws.{Rest, rest-after, rest-begun, rest-opened, main-fits, main-sound}
 use Rattle.saved_laws.proofs.SinceLaws.{AreSound, calls-of, sound-after, sound-begun, sound-opened}
 
@@ -154,6 +155,7 @@ queued-fit loses s = tt
 record HasRows (s : State) : Type 0 where
   sound : AreSound s.outbox
   spelled : AreSpelled s.outbox.copies
+  reached : AreReached s.outbox.copies
   rest : Rest s.kept s.incoming
 
 rows-after : (e : Event) (old : State) (r : Reaction) (new : State) → IsSoundEvent e → Reacts old e r new → HasRows old → HasRows new
@@ -162,6 +164,7 @@ rows-after e old r new q h s =
     record {
       sound = sound-after e old r new h s.sound;
       spelled = calls-keep old.outbox p.calls new.outbox (offers-all (queued_by e) p.calls (queued-fit e q) p.shows.offers) p.runs s.spelled;
+      reached = calls-reach old.outbox p.calls new.outbox p.runs s.reached;
       rest = rest-after e old r new q h s.rest;
     }
 
@@ -189,6 +192,7 @@ durable-is s h =
       sound = main-sound s h.rest;
       rise = h.rest.rises;
       agree = agrees 0 t.first s.outbox.next_place s.outbox.next_order s.outbox.copies t.end t.most h.sound.numbered t.sound;
+      reachable = (let r = reached-away s.outbox.copies h.reached in record { identifiers = h.rest.counted; released = r.released; waiting = r.waiting });
     }
 
 -- ---- over a history
@@ -216,8 +220,10 @@ form-spelled [] h = tt
 form-spelled (e ∷ es) h = (h.0.2.1, form-spelled es h.1)
 
 lasts-start : (p : Point) → BeginsSound p → Lasts p
-lasts-start p (inl b) = subst Lasts (sym b.2) (record { rows = record { sound = sound-begun b.0; spelled = tt; rest = rest-begun b.0 b.1 }; last = tt })
-lasts-start p (inr b) = subst Lasts (sym b.2) (record { rows = record { sound = sound-opened b.0 b.1; spelled = form-spelled b.0.copies b.1.form.copies; rest = rest-opened b.0 b.1 }; last = b.1 })
+lasts-start p (inl b) = subst Lasts (sym b.2) (record { rows = record { sound = sound-begun b.0; spelled = tt; reached = record { released = tt; waiting = omega arith }; rest = rest-begun b.0 b.1 }; last = tt })
+lasts-start p (inr b) =
+    let reached : AreReached b.0.copies = record { released = b.1.reachable.released; waiting = b.1.reachable.waiting } in
+    subst Lasts (sym b.2) (record { rows = record { sound = sound-opened b.0 b.1; spelled = form-spelled b.0.copies b.1.form.copies; reached = reached; rest = rest-opened b.0 b.1 }; last = b.1 })
 
 pub stays-durable : StaysDurable
 stays-durable start moves end b q h =

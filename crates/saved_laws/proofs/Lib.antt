@@ -4,6 +4,7 @@ mod TurnLaws
 mod SinceLaws
 mod ToldLaws
 mod SpelledLaws
+mod ReachLaws
 mod RestLaws
 mod DurableLaws
 mod MoveLaws

@@ -31,7 +31,7 @@ use Rattle.session_rows.specs.Durable.{Durable, IsDurable, IsMomentIf, IsSound}
 use Rattle.session_rows.specs.Fields.{Main, main, will, closed}
 use Rattle.session_rows.proofs.RiseLaws.{rise-length}
 use Rattle.saved_laws.specs.Sound.{IsSoundEvent}
-use Rattle.saved_laws.proofs.SpelledLaws.{disconnect-four, publish-small}
+use Rattle.saved_laws.proofs.SpelledLaws.{disconnect-four, publish-counted, publish-small}
 use Rattle.saved_laws.proofs.TurnLaws.{Turns, TurnsPacket, turned, expiry_by}
 
 -- a will that has rows, and can be published
@@ -39,12 +39,17 @@ pub record HasRow (o : Option Will) : Type 0 where
   pub publishable : IsPublishableIf o
   pub fits : OptionalFits will o
 
+-- identifiers are from 1 on
+abbrev pub AreCounted : List ℕ → Type 0
+AreCounted ids = AllByRecursion (λ (id : ℕ). 1 ≤ id) ids
+
 pub record Rest (k : Kept) (i : Received) : Type 0 where
   pub client : IsText k.client
   pub expiry : k.expiry < 2 ^ 32
   pub moment : IsMoment k.phase
   pub will : HasRow k.will
   pub rises : rise (identifiers_of i) ≡ true
+  pub counted : AreCounted (identifiers_of i)
 
 -- ---- identifiers that rise
 put-first : (k id : ℕ) (is : Received) → k < id → k < first_identifier (identifiers_of is) → k < first_identifier (identifiers_of (insert_entry nat_cmp is id true))
@@ -104,6 +109,20 @@ before-same : (is : Received) → identifiers_of (of_before is) ≡ identifiers_
 before-same [] = refl
 before-same (e ∷ es) = ap (λ (r : List ℕ). e.0 ∷ r) (before-same es)
 
+-- ---- identifiers from 1 on
+counted-put : (id : ℕ) (is : Received) → 1 ≤ id → AreCounted (identifiers_of is) → AreCounted (identifiers_of (insert_entry nat_cmp is id true))
+counted-put id [] least c = (least, tt)
+counted-put id (e ∷ es) least c = by (nat_cmp id e.0) refl (counted-put id es least c.1)
+  where
+    by : (o : Ordering) → nat_cmp id e.0 ≡ o → AreCounted (identifiers_of (insert_entry nat_cmp es id true)) → AreCounted (identifiers_of (insert_entry nat_cmp (e ∷ es) id true))
+    by Less is more = rw is (least, c)
+    by Equal is more = rw is c
+    by Greater is more = rw is (c.0, more)
+
+counted-left : (test : ℕ → Bool) (is : Received) → AreCounted (identifiers_of is) → AreCounted (identifiers_of (remove_entry test is))
+counted-left test [] c = tt
+counted-left test (e ∷ es) c = elim (cases_Bool (test e.0)) [ inl t ↦ rw t c.1 | inr f ↦ rw f (c.0, counted-left test es c.1) ]
+
 -- ---- a will's row
 qos-fits : (q : Qos) → qos.Fits q
 qos-fits AtMostOnce = omega arith
@@ -138,10 +157,24 @@ expiry-by None before h b = b
 expiry-by (Some n) before h b = h
 
 packets-keep : (p : Packet) → HasSpelling p → TurnsPacket Rest p
-packets-keep (packets.Publish p) s = λ k i h. record { client = h.client; expiry = h.expiry; moment = h.moment; will = h.will; rises = rise-put p.identifier i (publish-small p s) h.rises }
+packets-keep (packets.Publish p) s = λ k i h twice. record {
+  client = h.client;
+  expiry = h.expiry;
+  moment = h.moment;
+  will = h.will;
+  rises = rise-put p.identifier i (publish-small p s) h.rises;
+  counted = counted-put p.identifier i (publish-counted p s twice) h.counted;
+}
 packets-keep (packets.Puback a) s = tt
 packets-keep (packets.Pubrec a) s = tt
-packets-keep (packets.Pubrel a) s = λ k i h. record { client = h.client; expiry = h.expiry; moment = h.moment; will = h.will; rises = rise-left (is_at (nat_cmp a.identifier)) i h.rises }
+packets-keep (packets.Pubrel a) s = λ k i h. record {
+  client = h.client;
+  expiry = h.expiry;
+  moment = h.moment;
+  will = h.will;
+  rises = rise-left (is_at (nat_cmp a.identifier)) i h.rises;
+  counted = counted-left (is_at (nat_cmp a.identifier)) i h.counted;
+}
 packets-keep (packets.Pubcomp a) s = tt
 packets-keep (packets.Subscribe p) s = tt
 packets-keep (packets.Unsubscribe p) s = tt
@@ -152,6 +185,7 @@ packets-keep (packets.Disconnect p) s = λ k i h. record {
   moment = h.moment;
   will = row-after p.reason k.will h.will;
   rises = h.rises;
+  counted = h.counted;
 }
 packets-keep (packets.Connect p) s = tt
 packets-keep (packets.Connack p) s = tt
@@ -161,14 +195,14 @@ packets-keep packets.Pingresp s = tt
 packets-keep (packets.Auth p) s = tt
 
 events-keep : (e : Event) → IsSoundEvent e → Turns Rest e
-events-keep (connects c continued now) s = λ k i h. record { client = h.client; expiry = expiry-or (first_four 17 c.properties) s.expiry; moment = tt; will = row-of c.will s.publishable s.payload; rises = rw (before-same i) h.rises }
+events-keep (connects c continued now) s = λ k i h. record { client = h.client; expiry = expiry-or (first_four 17 c.properties) s.expiry; moment = tt; will = row-of c.will s.publishable s.payload; rises = rw (before-same i) h.rises; counted = rw (before-same i) h.counted }
 events-keep (queues d now) s = tt
 events-keep (takes p now room) s = packets-keep p s
 events-keep (answers id codes) s = tt
-events-keep (closes now) s = λ k i h. record { client = h.client; expiry = h.expiry; moment = s; will = h.will; rises = h.rises }
-events-keep (ticks now) s = λ k i h. record { client = h.client; expiry = h.expiry; moment = h.moment; will = no-row; rises = h.rises }
-events-keep (finishes now) s = λ k i h. record { client = h.client; expiry = h.expiry; moment = h.moment; will = no-row; rises = h.rises }
-events-keep loses s = λ k i h. record { client = h.client; expiry = h.expiry; moment = h.moment; will = h.will; rises = rw (before-same i) h.rises }
+events-keep (closes now) s = λ k i h. record { client = h.client; expiry = h.expiry; moment = s; will = h.will; rises = h.rises; counted = h.counted }
+events-keep (ticks now) s = λ k i h. record { client = h.client; expiry = h.expiry; moment = h.moment; will = no-row; rises = h.rises; counted = h.counted }
+events-keep (finishes now) s = λ k i h. record { client = h.client; expiry = h.expiry; moment = h.moment; will = no-row; rises = h.rises; counted = h.counted }
+events-keep loses s = λ k i h. record { client = h.client; expiry = h.expiry; moment = h.moment; will = h.will; rises = rw (before-same i) h.rises; counted = rw (before-same i) h.counted }
 
 pub rest-after : (e : Event) (old : State) (r : _) (new : State) → IsSoundEvent e → Reacts old e r new → Rest old.kept old.incoming → Rest new.kept new.incoming
 rest-after e old r new s h p = turned Rest e old r new (events-keep e s) h p
@@ -209,7 +243,7 @@ main-sound s r = record { publishable = r.will.publishable; moment = moment-if s
 
 -- ---- where it begins
 pub rest-begun : (client : List ℕ) → IsText client → Rest (record { client = client; expiry = 0; phase = Closed 0; will = None }) []
-rest-begun client t = record { client = t; expiry = omega arith; moment = omega arith; will = no-row; rises = refl }
+rest-begun client t = record { client = t; expiry = omega arith; moment = omega arith; will = no-row; rises = refl; counted = tt }
 
 if-moment : (o : Option ℕ) → IsMomentIf o → IsMoment (phase_of o)
 if-moment None m = tt
@@ -226,4 +260,4 @@ main-parts m f = (f.0, f.1.1.0)
 pub rest-opened : (d : Durable) → IsDurable d → Rest (record { client = d.client; expiry = d.main.expiry; phase = phase_of d.main.closed; will = d.main.will }) (of_identifiers d.main.incoming)
 rest-opened d i =
     let p = main-parts d.main i.form.main in
-    record { client = i.form.client; expiry = p.0; moment = if-moment d.main.closed i.sound.moment; will = record { publishable = i.sound.publishable; fits = p.1 }; rises = rw (identifiers-back d.main.incoming) i.rise }
+    record { client = i.form.client; expiry = p.0; moment = if-moment d.main.closed i.sound.moment; will = record { publishable = i.sound.publishable; fits = p.1 }; rises = rw (identifiers-back d.main.incoming) i.rise; counted = rw (identifiers-back d.main.incoming) i.reachable.identifiers }

@@ -47,7 +47,7 @@ module _ (client : List ℕ) where
   IsOf k i = k.client ≡ client
 
   packets-stay : (p : Packet) → TurnsPacket IsOf p
-  packets-stay (packets.Publish p) = λ k i h. h
+  packets-stay (packets.Publish p) = λ k i h twice. h
   packets-stay (packets.Puback a) = tt
   packets-stay (packets.Pubrec a) = tt
   packets-stay (packets.Pubrel a) = λ k i h. h

@@ -1,7 +1,9 @@
 -- What packets that have a spelling hold.
-use Rattle.std.proofs.Common.{ℕ, ◌<◌, ◌^◌, ◌++◌, Bool, true, false, List, [], ◌∷◌, Option, arith, inl, inr}
-use Rattle.std.specs.Prelude.{◌==◌, IfSome, not}
-use Rattle.std.proofs.lemmas.Bool.{cases_Bool}
+use Rattle.std.proofs.Common.{◌≡◌, ◌≢◌, ℕ, ◌<◌, ◌≤◌, ◌^◌, ◌++◌, Bool, true, false, List, [], ◌∷◌, Option, sym, ◌∙◌, arith, inl, inr}
+use Rattle.std.specs.Prelude.{◌==◌, ◌||◌, IfSome, not}
+use Rattle.std.proofs.lemmas.Bool.{cases_Bool, and_parts, eq-eqb, false≢true}
+use Rattle.mqtt_fields.specs.declared.options.Qos.{Qos}
+use Rattle.mqtt_fields.specs.declared.options.Qos.TheVariants.{AtMostOnce, AtLeastOnce, ExactlyOnce}
 use Rattle.mqtt_fields.specs.declared.table.Place.{Place}
 use Rattle.mqtt_fields.specs.declared.table.Place.TheVariants as places
 use Rattle.mqtt_fields.specs.declared.table.ValueKind.{ValueKind}
@@ -73,3 +75,21 @@ published-small p f = identifier-fits (not (is_at_most_once p.qos)) p.identifier
 
 pub publish-small : (p : Publish) → HasSpelling (packets.Publish p) → p.identifier < 65536
 publish-small p h = published-small p (sound_of (packets.Publish p) h).fits
+
+counted : (id : ℕ) → not (id == 0) ≡ true → 1 ≤ id
+counted id h = elim (cases_Bool (id == 0)) [
+  | inl t ↦ (let bad : false ≡ true = rw t at h in absurd (false≢true bad))
+  | inr f ↦ (let apart : id ≢ 0 = λ z. false≢true (sym f ∙ eq-eqb id 0 z) in omega (arith, apart))
+]
+
+counted-twice : (q : Qos) (id : ℕ) → q ≡ ExactlyOnce → (is_at_most_once q || not (id == 0)) ≡ true → 1 ≤ id
+counted-twice AtMostOnce id e h = absurd (cc e)
+counted-twice AtLeastOnce id e h = counted id h
+counted-twice ExactlyOnce id e h = counted id h
+
+published-counted : (p : Publish) → BodyFits (packets.Publish p) → p.qos ≡ ExactlyOnce → 1 ≤ p.identifier
+unfolding BodyFits publish
+published-counted p f e = counted-twice p.qos p.identifier e (and_parts (is_at_most_once p.qos || not (p.identifier == 0)) _ f.1).0
+
+pub publish-counted : (p : Publish) → HasSpelling (packets.Publish p) → p.qos ≡ ExactlyOnce → 1 ≤ p.identifier
+publish-counted p h e = published-counted p (sound_of (packets.Publish p) h).fits e

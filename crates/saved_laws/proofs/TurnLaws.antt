@@ -1,5 +1,5 @@
 -- What an event makes of what outlives a session's connections, beside its copies.
-use Rattle.std.proofs.Common.{◌≡◌, ℕ, Bool, true, false, List, Option, Some, None, sym, subst, inl, inr}
+use Rattle.std.proofs.Common.{◌≡◌, ℕ, Bool, true, false, List, Option, Some, None, refl, sym, subst, inl, inr}
 use Rattle.std.specs.Prelude.{cond, not, ◌==◌, ◌&&◌, is_some}
 use Rattle.std.specs.BTreeMap.{is_at, insert_entry}
 use Rattle.std.specs.Map.{remove_entry}
@@ -44,7 +44,7 @@ expiry_by (Some n) before = n
 
 -- what holds of it stays so
 abbrev pub TurnsPacket : (Kept → Received → Type 0) → Packet → Type 0
-TurnsPacket P (packets.Publish p) = (k : Kept) (i : Received) → P k i → P k (insert_entry nat_cmp i p.identifier true)
+TurnsPacket P (packets.Publish p) = (k : Kept) (i : Received) → P k i → p.qos ≡ ExactlyOnce → P k (insert_entry nat_cmp i p.identifier true)
 TurnsPacket P (packets.Pubrel a) = (k : Kept) (i : Received) → P k i → P k (remove_entry (is_at (nat_cmp a.identifier)) i)
 TurnsPacket P (packets.Disconnect p) = (k : Kept) (i : Received) → P k i → P (record k { expiry = expiry_by (first_four 17 p.properties) k.expiry; will = will_after p.reason k.will }) i
 TurnsPacket P p = Unit {0}
@@ -88,12 +88,12 @@ module _ (P : Kept → Received → Type 0) where
   twice-at New true limit id m s k h = answered-at limit _ None s h
   twice-at New false limit id m s k h = answered-at limit _ _ (record s { incoming = insert_entry nat_cmp s.incoming id true }) k
 
-  passes-at : (q : Qos) (p : Publish) (unwelcome : Bool) (limit : ℕ) (m : Message) (s : State) → P s.kept (insert_entry nat_cmp s.incoming p.identifier true) → At s → At (passes_by q p unwelcome limit m s).left
+  passes-at : (q : Qos) (p : Publish) (unwelcome : Bool) (limit : ℕ) (m : Message) (s : State) → (q ≡ ExactlyOnce → P s.kept (insert_entry nat_cmp s.incoming p.identifier true)) → At s → At (passes_by q p unwelcome limit m s).left
   passes-at AtMostOnce p unwelcome limit m s k h = h
   passes-at AtLeastOnce p unwelcome limit m s k h = once-at (arrival_once s.incoming p.identifier) unwelcome limit p.identifier m s h
-  passes-at ExactlyOnce p unwelcome limit m s k h = twice-at (arrival_twice s.incoming p.identifier) unwelcome limit p.identifier m s k h
+  passes-at ExactlyOnce p unwelcome limit m s k h = twice-at (arrival_twice s.incoming p.identifier) unwelcome limit p.identifier m s (k refl) h
 
-  publish-at : (o : Option ℕ) (p : Publish) (now : ℕ) (room : Bool) (limit : ℕ) (s : State) → P s.kept (insert_entry nat_cmp s.incoming p.identifier true) → At s → At (publish_by o p now room limit s).left
+  publish-at : (o : Option ℕ) (p : Publish) (now : ℕ) (room : Bool) (limit : ℕ) (s : State) → (p.qos ≡ ExactlyOnce → P s.kept (insert_entry nat_cmp s.incoming p.identifier true)) → At s → At (publish_by o p now room limit s).left
   publish-at (Some code) p now room limit s k h = h
   publish-at None p now room limit s k h = passes-at p.qos p (is_unwelcome p room) limit (message_in p now (setting p s)) (setting p s) k h
 

@@ -21,6 +21,7 @@ use Rattle.session_rows.specs.Fields.{Main, main, Copy, copy, copy_of, entry_of,
 use Rattle.row_store.specs.declared.store.RowFault.{RowFault}
 use Rattle.row_store.specs.declared.store.RowFault.TheVariants.{NoMemory, Device, BadRow}
 use Rattle.std.specs.Prelude.{IsErrOf, IfOk}
+use Rattle.session_rows.specs.Reachable.{IsReachable}
 use Rattle.session_rows.specs.Reading.{Opens, whole_of, whole, text_in, client_in, place_in, main_in, copy_in, copies_in, durable_in, HasBytes}
 use Rattle.session_rows.specs.Rows.{main_key, copy_key, copy_row, copy_rows, rows_of}
 use Rattle.session_rows.proofs.FieldLaws.{main_is, copy_is}
@@ -150,13 +151,13 @@ and_both : (a b : Bool) → a ≡ true → b ≡ true → (a && b) ≡ true
 and_both true b x y = y
 and_both false b x y = absurd cc
 
-pub made : (es : List (Key × List ℕ)) (d : Durable) (o : Opened) → AllByRecursion HasBytes es → durable_in es ≡ Some d → IsSound d.main → opened_if d ≡ Some o
+pub made : (es : List (Key × List ℕ)) (d : Durable) (o : Opened) → AllByRecursion HasBytes es → durable_in es ≡ Some d → IsSound d.main → IsReachable d.main.incoming d.copies → opened_if d ≡ Some o
     → (x : Durable) × IsDurable x × (rows_of x ≡ es) × (o ≡ opened x)
-made es d o bytes said sound is =
+made es d o bytes said sound reachable is =
     let s = durable_said es d bytes said in
     let c = cond_some (rise d.main.incoming && agree d.main.next_place d.copies) (Some (opened d)) o is in
     let both = and_parts (rise d.main.incoming) (agree d.main.next_place d.copies) c.0 in
-    (d, record { form = s.1; sound = sound; rise = both.0; agree = both.1 }, s.0, (let same : opened d ≡ o = (let e = c.1 in cc) in sym same))
+    (d, record { form = s.1; sound = sound; rise = both.0; agree = both.1; reachable = reachable }, s.0, (let same : opened d ≡ o = (let e = c.1 in cc) in sym same))
 
 -- rows that say nothing are no session's
 pub none_said : (es : List (Key × List ℕ)) (d : Durable) → IsDurable d → rows_of d ≡ es → durable_in es ≡ None → ⊥
@@ -174,6 +175,9 @@ same_said es d x durable is said =
 pub not_sound : (es : List (Key × List ℕ)) (d x : Durable) → IsDurable d → rows_of d ≡ es → durable_in es ≡ Some x → (IsSound x.main → ⊥) → ⊥
 not_sound es d x durable is said none = none (subst (λ (y : Durable). IsSound y.main) (sym (same_said es d x durable is said)) durable.sound)
 
+pub not_reachable : (es : List (Key × List ℕ)) (d x : Durable) → IsDurable d → rows_of d ≡ es → durable_in es ≡ Some x → (IsReachable x.main.incoming x.copies → ⊥) → ⊥
+not_reachable es d x durable is said none = none (subst (λ (y : Durable). IsReachable y.main.incoming y.copies) (sym (same_said es d x durable is said)) durable.reachable)
+
 pub not_made : (es : List (Key × List ℕ)) (d x : Durable) → IsDurable d → rows_of d ≡ es → durable_in es ≡ Some x → opened_if x ≡ None → ⊥
 not_made es d x durable is said none =
     let same = same_said es d x durable is said in
@@ -185,9 +189,9 @@ not_made es d x durable is said none =
 abbrev IsMade : List (Key × List ℕ) → Opened → Type 0
 IsMade es o = (x : Durable) × IsDurable x × (rows_of x ≡ es) × (o ≡ opened x)
 
-pub made_ok : (r : Result Opened RowFault) (es : List (Key × List ℕ)) (d : Durable) → AllByRecursion HasBytes es → durable_in es ≡ Some d → IsSound d.main → Opens {X = Opened} (λ o. o) r (opened_if d) → IfOk r (IsMade es)
-made_ok (Ok o) es d bytes said sound is = made es d o bytes said sound is
-made_ok (Err e) es d bytes said sound is = tt
+pub made_ok : (r : Result Opened RowFault) (es : List (Key × List ℕ)) (d : Durable) → AllByRecursion HasBytes es → durable_in es ≡ Some d → IsSound d.main → IsReachable d.main.incoming d.copies → Opens {X = Opened} (λ o. o) r (opened_if d) → IfOk r (IsMade es)
+made_ok (Ok o) es d bytes said sound reachable is = made es d o bytes said sound reachable is
+made_ok (Err e) es d bytes said sound reachable is = tt
 
 pub made_bad : (r : Result Opened RowFault) (es : List (Key × List ℕ)) (d : Durable) → durable_in es ≡ Some d → Opens {X = Opened} (λ o. o) r (opened_if d) → IsErrOf r BadRow → (x : Durable) → IsDurable x → rows_of x ≡ es → ⊥
 made_bad (Ok o) es d said is bad x durable rows = absurd cc

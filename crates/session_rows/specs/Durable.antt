@@ -9,6 +9,7 @@ use Rattle.qos_handshakes.specs.Incoming.{of_identifiers, rise}
 use Rattle.qos_handshakes.specs.Restored.{agree, restored}
 use Rattle.session_rows.specs.declared.session.Opened.{Opened}
 use Rattle.session_rows.specs.Fields.{Main, main, copy, copy_of}
+use Rattle.session_rows.specs.Reachable.{IsReachable}
 
 -- the client, what there is beside the copies, and the copies by place
 pub record Durable : Type 0 where
@@ -35,12 +36,14 @@ pub record IsSound (m : Main) : Type 0 where
   pub publishable : IsPublishableIf m.will
   pub moment : IsMomentIf m.closed
 
--- what no session contradicts: the incoming identifiers rise, and the copies agree with each other and the next place
+-- what no session contradicts: the incoming identifiers rise, the copies agree with each other and the next place, and calls can lead to
+-- both
 pub record IsDurable (d : Durable) : Type 0 where
   pub form : HasForm d
   pub sound : IsSound d.main
   pub rise : rise d.main.incoming ≡ true
   pub agree : agree d.main.next_place d.copies ≡ true
+  pub reachable : IsReachable d.main.incoming d.copies
 
 -- ---- a session that is made again of it: the exchanges are open, and there is no connection
 abbrev pub opened : Durable → Opened

@@ -4,6 +4,7 @@
 mod copy;
 mod field;
 mod main_row;
+mod reachable;
 mod session;
 mod told;
 mod will;

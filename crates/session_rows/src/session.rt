@@ -6,11 +6,13 @@ ghost use Rattle.mqtt_fields.specs.Field.{IsBytes};
 ghost use Rattle.row_store.specs.Rows as store;
 ghost use Rattle.row_store.specs.Rows.{key_of};
 ghost use Rattle.session_rows.specs.Durable.{Durable, IsDurable, IsMomentIf, IsPublishableIf, IsSound, opened, opened_if};
+ghost use Rattle.session_rows.specs.Reachable.{IsReachable};
 ghost use Rattle.session_rows.specs.Reading.{HasBytes, Opens, client_in, copies_in, copy_in, durable_in, place_in, text_in};
 ghost use Rattle.session_rows.specs.Rows.{rows_of};
 
 use crate::copy::read_copy;
 use crate::main_row::{MainRow, read_main};
+use crate::reachable::is_reachable;
 use mqtt_fields::{FieldFault, NUMBERS_END, Text, u64_at};
 use mqtt_message::{Message, Will};
 use qos_handshakes::{Entry, Incoming, Outgoing};
@@ -174,6 +176,12 @@ fn is_sound(main: &MainRow) -> bool
     is_moment(main.closed) && is_publishable(&main.will)
 }
 
+fn are_reachable(parts: &Parts) -> bool
+    ensures { IsTrue result ↔ IsReachable parts.now.main.incoming parts.now.copies }
+{
+    is_reachable(&parts.main.incoming, &parts.copies)
+}
+
 fn open_parts(alloc: Global, parts: Parts) -> Result<Opened, RowFault>
     ensures { Opens (λ o. o) result (opened_if parts) }
 {
@@ -206,7 +214,7 @@ fn open_parts(alloc: Global, parts: Parts) -> Result<Opened, RowFault>
 
 /// The session whose rows these are: its own, and then those of its copies by rising place.
 ///
-/// BadRow where no session has just these rows.
+/// BadRow where no session has just these rows: one isn't of its form, they contradict each other, or no calls lead to them.
 pub fn read_session(alloc: Global, rows: &[Row]) -> Result<Opened, RowFault>
     ensures ok { IfOk result (λ o. (d : Durable) × IsDurable d × (rows_of d ≡ map store.entry_of rows.now) × (o ≡ opened d)) }
     ensures bad { IsErrOf result RowFault.BadRow → (d : Durable) → IsDurable d → rows_of d ≡ map store.entry_of rows.now → ⊥ }
@@ -214,6 +222,9 @@ pub fn read_session(alloc: Global, rows: &[Row]) -> Result<Opened, RowFault>
 {
     let parts = read_parts(alloc, rows)?;
     if !is_sound(&parts.main) {
+        return Err(RowFault::BadRow);
+    }
+    if !are_reachable(&parts) {
         return Err(RowFault::BadRow);
     }
     open_parts(alloc, parts)

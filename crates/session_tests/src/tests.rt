@@ -2,6 +2,7 @@
 
 mod copies;
 mod handshakes;
+mod kept_rows;
 mod rows;
 mod session_calls;
 mod session_scripts;

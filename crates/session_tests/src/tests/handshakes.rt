@@ -147,6 +147,30 @@ fn queue_is_full_and_expires(rt: HostRuntime) {
     drop(out);
 }
 
+/// How many are sent before one has to wait.
+fn count_sent(rt: &impl Abort, out: &mut Outgoing) -> usize {
+    let mut count: usize = 0;
+    for _ in 0..65_536 {
+        if out.next(0, LONGEST).expect(rt, "memory").is_none() {
+            return count;
+        }
+        count = count.saturating_add(1);
+    }
+    count
+}
+
+#[test]
+fn as_many_as_65535_are_open(rt: HostRuntime) {
+    let alloc = rt.alloc();
+    let mut out = Outgoing::new(alloc);
+    fill(&rt, alloc, &mut out);
+    out.resume(65_535);
+    assert_eq!(rt; count_sent(&rt, &mut out), 65_535);
+    assert!(rt; matches!(out.acknowledge(65_535), Ack::Done));
+    assert_eq!(rt; count_sent(&rt, &mut out), 1);
+    drop(out);
+}
+
 /// An entry at QoS 2.
 fn entry(rt: &impl Abort, alloc: Global, stage: Stage) -> Entry {
     Entry {
