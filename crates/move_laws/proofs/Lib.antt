@@ -1,0 +1,14 @@
+pub mod EachAct
+pub mod Calm
+pub mod Ending
+pub mod Going
+pub mod Keys
+pub mod Turn
+pub mod Still
+pub mod Beginning
+pub mod TableLaws
+pub mod Having
+pub mod SessionRuns
+pub mod Removing
+pub mod StandingLaws
+pub mod TellingLaws
