@@ -13,7 +13,7 @@ use Rattle.broker_node.specs.declared.event.EventKind.{EventKind}
 use Rattle.cluster_play.specs.Worlds.{World}
 use Rattle.cluster_play.specs.Runs.{Played}
 use Rattle.cluster_play.specs.Histories.{Reached, site, acts_of, taken_amid, operations_amid}
-use Rattle.cluster_play.specs.Laws.{HoldsAmid}
+use Rattle.cluster_play.specs.Agreement.{HoldsAmid}
 use Rattle.cluster_play.proofs.Amid.{amid_acts, runs_split}
 use Rattle.cluster_play.proofs.Operations.{own_some}
 use Rattle.cluster_play.proofs.Paths.{commits_acts, midway}

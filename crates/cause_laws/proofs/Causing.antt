@@ -53,7 +53,7 @@ use Rattle.passing_laws.proofs.Requests.{are_granted, are_removed}
 use Rattle.passing_laws.proofs.Splits.{head_is, tail_is, none_there, alone_is, splits, runs_split}
 use Rattle.cause_laws.specs.Causes.{AreOperations, AfterCall, DirectlyAfter}
 use Rattle.cause_laws.proofs.Stores.{front, granted, removed}
-use Rattle.cause_laws.proofs.Walk.{IsSimple, Walks, decides, copies_at, drops, closes_after, acknowledges, unacknowledges}
+use Rattle.cause_laws.proofs.Walk.{IsSimple, simple, Walks, decides, copies_at, drops, closes_after, acknowledges, unacknowledges}
 
 -- ---- causes, by what the node holds
 pub record BySubscribe (call : SessionStep) (p : Place) (held : HeldView) (o : Operation) : Type 0 where
@@ -205,7 +205,7 @@ module _ (kind : EventKind) where
   walks : Walks Keeps
   walks = record {
     returns = k_returns;
-    acting = k_acting;
+    acting = λ a plain. k_acting a (λ p h. simple (a p h) (plain p h));
     looks = k_looks;
     finds = k_finds;
     by_test = k_if;

@@ -24,7 +24,7 @@ use Rattle.node_clients.specs.Ending.{ends_below}
 use Rattle.cluster_play.specs.Worlds.{World}
 use Rattle.cluster_play.specs.Runs.{Played}
 use Rattle.cluster_play.specs.Histories.{Reached, site, acts_of, taken_amid, operations_amid}
-use Rattle.cluster_play.specs.Laws.{HoldsAmid}
+use Rattle.cluster_play.specs.Agreement.{HoldsAmid}
 use Rattle.cluster_play.specs.NextOperations.{CoversWhatStandsBelow}
 use Rattle.cluster_play.proofs.Amid.{amid_acts, runs_split}
 use Rattle.cluster_play.proofs.Operations.{own_some}

@@ -41,7 +41,7 @@ use Rattle.broker_node.specs.declared.event.Event.{Event as NodeEvent}
 use Rattle.broker_node.specs.Turns as turns
 use Rattle.passing_laws.proofs.Keeping.{none_some}
 use Rattle.cause_laws.specs.Stops.{HasNumberAtEnd, ComesToAnEnd, StopsHaveNumbers}
-use Rattle.cause_laws.proofs.Walk.{IsSimple, Walks, decides}
+use Rattle.cause_laws.proofs.Walk.{IsSimple, simple, Walks, decides}
 use Rattle.cause_laws.proofs.Lower.{Makes, ticks_of, finishes_of, serves, evicts}
 
 -- ---- each number
@@ -210,7 +210,7 @@ module _ (e : NodeEvent) where
   walks : Walks (Halts e.at)
   walks = record {
     returns = k_returns e.at;
-    acting = k_acting e.at;
+    acting = λ a plain. k_acting e.at a (λ p h. simple (a p h) (plain p h));
     looks = k_looks e.at;
     finds = k_finds e.at;
     by_test = k_if e.at;

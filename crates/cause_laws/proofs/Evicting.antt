@@ -29,7 +29,7 @@ use Rattle.passing_laws.proofs.Splits.{left_by}
 use Rattle.cluster_play.specs.Worlds.{World}
 use Rattle.cluster_play.specs.Runs.{Played}
 use Rattle.cluster_play.specs.Histories.{Reached, site, event_of, acts_of, made, taken_amid, operations_amid}
-use Rattle.cluster_play.specs.Laws.{HoldsAmid}
+use Rattle.cluster_play.specs.Agreement.{HoldsAmid}
 use Rattle.cluster_play.proofs.Agreeing.{own_dots}
 use Rattle.cluster_play.proofs.Amid.{amid_acts}
 use Rattle.cluster_play.proofs.Operations.{own_some}

@@ -7,3 +7,4 @@ pub mod Ending
 pub mod Overs
 pub mod EndLaws
 pub mod Evicting
+pub mod Having

@@ -32,7 +32,7 @@ use Rattle.broker_node.specs.Turns as turns
 use Rattle.passing_laws.proofs.Keeping.{none_some, calling_by}
 use Rattle.passing_laws.proofs.Passing.{numbered}
 use Rattle.passing_laws.proofs.Splits.{head_is, tail_is, none_there, alone_is, splits, runs_split}
-use Rattle.cause_laws.proofs.Walk.{IsSimple, Walks, decides}
+use Rattle.cause_laws.proofs.Walk.{IsSimple, simple, Walks, decides}
 use Rattle.cause_laws.proofs.Lower.{Makes, ticks_of, finishes_of, serves, evicts}
 
 -- the last act is its Remove, by what the node held before that
@@ -146,7 +146,7 @@ k_names_by c q f (Some number) =
 walks : Walks Keeps
 walks = record {
   returns = k_returns;
-  acting = k_acting;
+  acting = λ a plain. k_acting a (λ p h. simple (a p h) (plain p h));
   looks = k_looks;
   finds = k_finds;
   by_test = k_if;

@@ -32,7 +32,7 @@ use Rattle.node_work.specs.declared.counts.Missed.{Missed}
 use Rattle.node_work.specs.declared.granted.Granted.{Granted}
 use Rattle.node_work.specs.declared.counts.Missed.TheVariants.{LaneFull, BadFrame, FrameTooLarge, TableRefused}
 use Rattle.node_work.specs.declared.outcome.Output.TheVariants.{Send, Close}
-use Rattle.node_work.specs.Acts.{Act, StoreAct, Began, Moved, Store, Made, Merged, Connection, Session, Bridge, Out, Acknowledged, Passed, Dropped}
+use Rattle.node_work.specs.Acts.{Act, StoreAct, Moment, Began, Moved, Store, Made, Merged, Connection, Session, Bridge, Out, Named, Acknowledged, Passed, Dropped}
 use Rattle.node_work.specs.Calling.{Calls, Queues, QueuesOne}
 use Rattle.node_work.specs.Doings.{Sends, Disconnects, Redirects, Misses, Puts, RoutesBy, Routes, TakesMoment, Gives, GivesFrame, is_small}
 use Rattle.node_work.specs.Held.Bridge.{Took, Gave, Got as GotBy, Believed, Left_out}
@@ -76,10 +76,21 @@ IsSimple (Store a) = IsSimpleStore a
 IsSimple (Session a) = IsSimpleSession a
 IsSimple a = Unit {0}
 
+-- one that neither takes a moment nor gives a client its identifier
+abbrev pub IsUnnumbered : Act → Type 0
+IsUnnumbered (Moment at) = ⊥
+IsUnnumbered (Named number) = ⊥
+IsUnnumbered a = IsSimple a
+
+pub simple : (a : Act) → IsUnnumbered a → IsSimple a
+simple (Moment at) u = tt
+simple (Named number) u = tt
+simple a u = u
+
 -- what holds of the parts, and of what is put together of them
 pub record Walks (K : (A : Type 0) → (Option A → Doing) → Type 0) : Type 1 where
   pub returns : {A : Type 0} (y : A) → K A (Returns y)
-  pub acting : (a : Place → HeldView → Act) → ((p : Place) (h : HeldView) → IsSimple (a p h)) → K (Unit {0}) (Acting a)
+  pub acting : (a : Place → HeldView → Act) → ((p : Place) (h : HeldView) → IsUnnumbered (a p h)) → K (Unit {0}) (Acting a)
   pub looks : {A B : Type 0} (see : Place → HeldView → A) (P : A → Option B → Doing) → ((y : A) → K B (P y)) → K B (Looks see P)
   pub finds : {A B : Type 0} (Is : Place → HeldView → A → Type 0) (P : A → Option B → Doing) → ((y : A) → K B (P y)) → K B (Finds Is P)
   pub by_test : {A : Type 0} (b : Bool) (P Q : Option A → Doing) → K A P → K A Q → K A (If b P Q)

@@ -27,7 +27,7 @@ use Rattle.cluster_play.specs.Worlds.{World}
 use Rattle.cluster_play.specs.Runs.{Played}
 use Rattle.cluster_play.specs.Histories.{Reached, site, acts_of, operations_amid}
 use Rattle.cluster_play.specs.NextOperations.{CoversWhatStands, CoversWhatStandsBelow}
-use Rattle.cluster_play.specs.Laws.{HoldsAmid}
+use Rattle.cluster_play.specs.Agreement.{HoldsAmid}
 
 -- ---- acts that only make operations
 abbrev pub IsOperation : Act → Type 0

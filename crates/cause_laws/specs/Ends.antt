@@ -14,7 +14,7 @@ use Rattle.cluster_play.specs.Worlds.{World}
 use Rattle.cluster_play.specs.Runs.{Played}
 use Rattle.cluster_play.specs.Histories.{Reached, site, event_of, acts_of, operations_amid}
 use Rattle.cluster_play.specs.NextOperations.{CoversWhatStands, CoversWhatStandsBelow}
-use Rattle.cluster_play.specs.Laws.{HoldsAmid}
+use Rattle.cluster_play.specs.Agreement.{HoldsAmid}
 use Rattle.cause_laws.specs.Causes.{EndsBelow}
 
 -- a step makes one Remove last before these of its acts end: of exactly what stands of the client and was made under a version below one

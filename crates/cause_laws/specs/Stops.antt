@@ -1,16 +1,21 @@
 -- Where a node stops since it can't have a number: each is below 2^62.
-use Rattle.std.specs.Prelude.{◌≡◌, ◌⊎◌, ℕ, ◌<◌, ◌≤◌, ◌^◌, true, List, Some}
+use Rattle.std.specs.Prelude.{◌≡◌, ◌⊎◌, ℕ, ◌<◌, ◌≤◌, ◌^◌, true, List, ◌∷◌, ◌++◌, Some}
 use Rattle.std.specs.FinMap as map
+use Rattle.replica_store.specs.declared.operation.Operation.{Operation}
+use Rattle.replica_store.specs.declared.operation.Operation.TheVariants.{Subscribe, Remove, Put}
 use Rattle.replica_store.specs.Making.{NumberAtEnd, CountAtEnd}
 use Rattle.bridge_deltas.specs.Lane.{next_number}
 use Rattle.node_bridge.specs.View.{lane_to}
+use Rattle.session_laws.specs.Runs.{ends_of}
 use Rattle.session_table.specs.Seats.{Seat}
-use Rattle.node_work.specs.Acts.{Act, Runs}
-use Rattle.node_work.specs.Held.Sessions.{has_session}
+use Rattle.node_work.specs.Acts.{Act, Moment, Store, Made, Session, Bridge, Named, Passed, Runs}
+use Rattle.node_work.specs.Held.Bridge.{Put as Join}
+use Rattle.node_work.specs.Held.Sessions.{SessionStep, Called, has_session}
 use Rattle.node_work.specs.View.{Place, HeldView}
 use Rattle.node_clients.specs.Naming.{automatic}
 use Rattle.broker_node.specs.declared.event.Event.{Event}
 use Rattle.broker_node.specs.Step.{StopsAtEnd}
+use Rattle.broker_node.specs.Turns.{Decides}
 
 -- a session's next place in its queue, or its next order of release, is 2^62
 pub record SessionIsAtEnd (h : HeldView) : Type 0 where
@@ -40,3 +45,31 @@ pub record ComesToAnEnd (p : Place) (h : HeldView) : Type 0 where
 -- a node that stops at a number was handed a moment of 2^62 or later, or comes to an end of one of its own
 abbrev pub StopsHaveNumbers : Type 0
 StopsHaveNumbers = (p : Place) (h : HeldView) (e : Event) → StopsAtEnd p h e → (2 ^ 62 ≤ e.at) ⊎ ComesToAnEnd p h
+
+-- ---- what is done has its numbers
+
+-- an operation that is made lacks its number, or a Put the count of its stamp
+abbrev pub LacksOne : ℕ → HeldView → Operation → Type 0
+LacksOne id h (Subscribe dot entry cover) = NumberAtEnd id h.store
+LacksOne id h (Remove dot cover) = NumberAtEnd id h.store
+LacksOne id h (Put dot stamp content) = NumberAtEnd id h.store ⊎ CountAtEnd h.store
+
+-- a call of a session lacks a place in its queue, or an order of release
+abbrev pub LacksPlace : HeldView → SessionStep → Type 0
+LacksPlace h s = (seat : Seat) × (map.get h.sessions s.client ≡ Some seat) × ends_of s.event seat.session
+
+-- an act lacks a number that it needs: it would be 2^62 or more
+abbrev pub LacksNumber : Place → HeldView → Act → Type 0
+LacksNumber p h (Moment at) = 2 ^ 62 ≤ at
+LacksNumber p h (Store (Made o)) = LacksOne p.id h o
+LacksNumber p h (Session (Called s)) = LacksPlace h s
+LacksNumber p h (Bridge (Join peer m)) = 2 ^ 62 ≤ next_number (lane_to h.bridge peer)
+LacksNumber p h (Named number) = 2 ^ 62 ≤ number
+LacksNumber p h (Passed m copies lost routes) = 2 ^ 62 ≤ h.turn
+LacksNumber p h a = ⊥
+
+-- no step does an act that lacks its number: where an event needs one that can't be had, it isn't done
+abbrev pub StepsHaveNumbers : Type 0
+StepsHaveNumbers =
+    (e : Event) (p : Place) (h h' mid : HeldView) (acts : List Act) → Decides e (Some tt) p h acts → Runs p h acts h'
+    → (before after : List Act) (a : Act) → acts ≡ before ++ a ∷ after → Runs p h before mid → ¬ LacksNumber p mid a

@@ -19,3 +19,5 @@ mod BeginningLaws
 mod ApartLaws
 mod BusyLaws
 mod OwedLaws
+mod SentLaws
+mod CopyLaws

@@ -67,7 +67,7 @@ not-answered (packets.Unsuback p) x h = h
 not-answered packets.Pingresp x h = h
 not-answered (packets.Auth p) x h = h
 
-long-ends : (on : Bool) (limit : ℕ) (e : Event) (x : Publication) → ((k : ℕ) → EndsIt on limit e (k, x.1)) → IsTooLong on limit e x
+pub long-ends : (on : Bool) (limit : ℕ) (e : Event) (x : Publication) → ((k : ℕ) → EndsIt on limit e (k, x.1)) → IsTooLong on limit e x
 long-ends on limit (connects c continued now) x h = h 0
 long-ends on limit (queues d now) x h = h 0
 long-ends on limit (takes p now room) x h = let k = h (other p) in (k.0, elim k.1 [ inl a ↦ absurd (not-answered p x a) | inr l ↦ l ])
@@ -209,7 +209,7 @@ exchange-then : (id : ℕ) (x : Exchange) (ms ns : List Mark) → exchange_over 
 exchange-then id x [] ns = refl
 exchange-then id x (m ∷ ms) ns = exchange-then id (exchange_after id x m) ms ns
 
-told-calls : (x : ℕ → Exchange) (sent : ℕ → Bool) (start : Outbox) (calls : List Call) (end : Outbox) → low.Run start calls end → AllByRecursion HasNumbers calls → AreNumbered start.copies → AllTold x sent start.copies → AllTold (x_over x (call_marks calls)) (all_sent_over sent (call_marks calls)) end.copies
+pub told-calls : (x : ℕ → Exchange) (sent : ℕ → Bool) (start : Outbox) (calls : List Call) (end : Outbox) → low.Run start calls end → AllByRecursion HasNumbers calls → AreNumbered start.copies → AllTold x sent start.copies → AllTold (x_over x (call_marks calls)) (all_sent_over sent (call_marks calls)) end.copies
 told-calls x sent start [] end r numbers n h = rw r h
 told-calls x sent start (c ∷ cs) end r numbers n h =
     let ms = call_marks (c ∷ []) in
@@ -222,7 +222,7 @@ told-calls x sent start (c ∷ cs) end r numbers n h =
     })
 
 -- ---- what goes on, over all events
-going-run : (on : Bool) (limit : ℕ) (x : ℕ → Exchange) (sent : ℕ → Bool) (old : State) (steps : List Step) (end : State) → HasLimit limit old.link → on ≡ is_some old.link → AreNumbered old.outbox.copies → AreLaid old.outbox.copies → AllTold x sent old.outbox.copies → Run old steps end
+pub going-run : (on : Bool) (limit : ℕ) (x : ℕ → Exchange) (sent : ℕ → Bool) (old : State) (steps : List Step) (end : State) → HasLimit limit old.link → on ≡ is_some old.link → AreNumbered old.outbox.copies → AreLaid old.outbox.copies → AllTold x sent old.outbox.copies → Run old steps end
     → OpenOver on limit sent (published old.outbox.copies) steps (published end.outbox.copies)
 going-run on limit x sent old [] end is opens n h told r = rw r refl
 going-run on limit x sent old (s ∷ ss) end is opens n h told r =

@@ -9,3 +9,4 @@ pub mod Identifiers
 pub mod Outcomes
 pub mod Overs
 pub mod Busy
+pub mod Copies

@@ -3,6 +3,7 @@
 #![tactic(auto)]
 
 pub mod codes;
+pub mod copies;
 pub mod ends;
 pub mod events;
 pub mod identifiers;

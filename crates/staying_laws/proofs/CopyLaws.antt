@@ -3,12 +3,16 @@ use Rattle.std.specs.FinMap as map
 use Rattle.std.specs.List.{slice_get}
 use Rattle.std.specs.Option.{option_map}
 use Rattle.std.specs.Ordering.{eq_by_cmp}
-use Rattle.std.proofs.Common.{◌≡◌, ◌⊎◌, inl, inr, ℕ, Bool, true, false, List, [], ◌∷◌, ◌++◌, Option, Some, None, refl, sym, ap, ◌∙◌, subst, length}
+use Rattle.std.proofs.Common.{◌≡◌, ◌⊎◌, inl, inr, ℕ, Bool, true, false, cond, List, [], ◌∷◌, ◌++◌, Option, Some, None, refl, sym, ap, ◌∙◌, subst, length}
 use Rattle.finite_maps.proofs.Texts.{same_text, get_inserted, get_apart, get_left}
 use Rattle.mqtt_message.specs.declared.delivery.Delivery.{Delivery}
 use Rattle.mqtt_sessions.specs.Saved.{durable_of}
-use Rattle.session_laws.specs.Order.{all_queued}
-use Rattle.session_laws.specs.Runs.{Step}
+use Rattle.mqtt_sessions.specs.State.{new_session}
+use Rattle.qos_handshakes.specs.Entries.{Entries}
+use Rattle.qos_handshakes.specs.Outbox.{away, waiting, waits}
+use Rattle.delivery_laws.specs.Copies.{GoesFrom, KeepsCopies, channel_over, no_channel}
+use Rattle.handshake_laws.specs.Resends.{published, published_part}
+use Rattle.session_laws.specs.Runs.{Run, Step}
 use Rattle.session_rows.specs.Durable.{Durable}
 use Rattle.session_table.specs.Listing.{text_cmp}
 use Rattle.session_table.specs.Seats.{Seat}
@@ -26,7 +30,6 @@ use Rattle.node_work.specs.Held.Connections.{ConnectionAct, Opened, Fed, Accepte
 use Rattle.node_work.specs.Held.Sessions.{Begun, Called, Over}
 use Rattle.node_work.specs.Lasting.{lasting, IsWoken}
 use Rattle.node_work.specs.View.{Place, HeldView, fresh}
-use Rattle.passing_laws.specs.Sending.{IsIn}
 use Rattle.cluster_play.specs.Worlds.{Site, World}
 use Rattle.cluster_play.specs.Runs.{Played}
 use Rattle.cluster_play.specs.Histories.{Reached, site, moves_at}
@@ -35,7 +38,15 @@ use Rattle.cluster_play.proofs.Kept.{explained}
 use Rattle.run_laws.specs.Calling.{IsOver, StaysCalled}
 use Rattle.run_laws.proofs.CallingLaws.{calls_stay}
 use Rattle.staying_laws.specs.Copies.{IsOfItsLife, SessionsOfRowsAreRuns, RowsHaveCopy, QueuesCopy, CopyStays}
-use Rattle.staying_laws.proofs.Going.{goes_on, queued_in}
+
+-- ---- what lasts of the copies
+waits_away : (es : Entries) → waiting (away es) ≡ waiting es
+waits_away [] = refl
+waits_away (e ∷ es) = ap (λ ds. cond (waits e.1.stage) (e.1.delivery ∷ ds) ds) (waits_away es)
+
+published_away : (es : Entries) → published (away es) ≡ published es
+published_away [] = refl
+published_away (e ∷ es) = ap (λ ps. published_part e.1 ++ ps) (published_away es)
 
 -- ---- a session stays until it is over
 abbrev HasSeat : List ℕ → HeldView → Type 0
@@ -152,26 +163,30 @@ module _ (run later : List Played) (m : Played) (w : World) (r : Reached (run ++
       let there : HasSeat client parts.2.0 = (after, ap (λ (v : HeldView). map.get v.sessions client) parts.2.1.1 ∙ get_inserted parts.0.sessions client after) in
       seat_stays client place stays.after parts.2.0 held parts.2.2 there
 
-  among : (since : List Step) → life client (moves_at (site m.fate) whole) [] ≡ life client stays.earlier [] ++ step_in q.call.step ∷ since → IsIn d (all_queued (life client (moves_at (site m.fate) whole) []))
-  among since is = subst (λ steps. IsIn d (all_queued steps)) (sym is) (queued_in (life client stays.earlier []) since (step_in q.call.step) d q.now q.event q.twice)
-
-  in_rows : HasSeat client held → IsIn d (all_queued (life client (moves_at (site m.fate) whole) [])) → RowsHaveCopy whole (site m.fate) s client d
-  in_rows seat queued =
+  in_rows : KeepsCopies → HasSeat client held → (since : List Step) → life client (moves_at (site m.fate) whole) [] ≡ life client stays.earlier [] ++ step_in q.call.step ∷ since → RowsHaveCopy whole (site m.fate) s stays.earlier q.call.step d
+  in_rows law seat since is =
       let of = of_life whole w r (site m.fate) s at client seat.0 seat.1 in
+      let end = seat.0.session in
+      let past = life client stays.earlier [] in
+      let lived = lives.sessions_are_runs s.node.place (x whole w r (site m.fate) s at).first held (moves_at (site m.fate) whole) (x whole w r (site m.fate) s at).moves client seat.0 seat.1 in
+      let goes = law client past since (step_in q.call.step) d q.now end q.event q.twice (subst (λ steps. Run (new_session client) steps end) is lived) in
       record {
         said = lasting held;
         are = are whole w r (site m.fate) s at;
-        durable = durable_of seat.0.session;
+        durable = durable_of end;
         found = ap (option_map (λ (v : Seat). durable_of v.session)) seat.1;
         life_is = of;
-        goes = goes_on client (life client (moves_at (site m.fate) whole) []) seat.0.session d (lives.sessions_are_runs s.node.place (x whole w r (site m.fate) s at).first held (moves_at (site m.fate) whole) (x whole w r (site m.fate) s at).moves client seat.0 seat.1) queued;
+        since = since;
+        calls = is;
+        goes = subst (λ ds. (q.call.step.reaction.full ≡ true) ⊎ GoesFrom (channel_over no_channel past) (step_in q.call.step ∷ since) d ds (published (durable_of end).copies)) (sym (waits_away end.outbox.copies))
+            (subst (λ ps. (q.call.step.reaction.full ≡ true) ⊎ GoesFrom (channel_over no_channel past) (step_in q.call.step ∷ since) d (waiting end.outbox.copies) ps) (sym (published_away end.outbox.copies)) goes);
       }
 
-  copy_stays_here : IsOver client stays.after ⊎ RowsHaveCopy whole (site m.fate) s client d
-  copy_stays_here = elim stays.stays [
+  copy_stays_here : KeepsCopies → IsOver client stays.after ⊎ RowsHaveCopy whole (site m.fate) s stays.earlier q.call.step d
+  copy_stays_here law = elim stays.stays [
     | inl over ↦ inl over
-    | inr since ↦ elim has [ inl over ↦ inl over | inr seat ↦ inr (in_rows seat (among since.0 since.1)) ]
+    | inr since ↦ elim has [ inl over ↦ inl over | inr seat ↦ inr (in_rows law seat since.0 since.1) ]
   ]
 
-pub copy_stays : CopyStays
-copy_stays = λ run later m w r before d q s at. (stays run later m w r before d q s at, copy_stays_here run later m w r before d q s at)
+pub copy_stays : KeepsCopies → CopyStays
+copy_stays law = λ run later m w r before d q s at. (stays run later m w r before d q s at, copy_stays_here run later m w r before d q s at law)

@@ -1,3 +1,2 @@
 pub mod GotLaws
-pub mod Going
 pub mod CopyLaws

@@ -1,22 +1,20 @@
 -- What becomes of a copy at QoS 1 or 2 once its session has it (MQTT 5.0, 4.1, 4.3 and 4.6).
-use Rattle.std.specs.Prelude.{◌≡◌, ◌⊎◌, ℕ, Bool, false, List, [], ◌∷◌, ◌++◌, Some, slice_get}
-use Rattle.handshake_laws.specs.Resends.{Publication, published}
+use Rattle.std.specs.Prelude.{◌≡◌, ◌⊎◌, ℕ, true, false, List, [], ◌∷◌, ◌++◌, Some, slice_get}
+use Rattle.delivery_laws.specs.Copies.{GoesFrom, channel_over, no_channel}
+use Rattle.handshake_laws.specs.Resends.{published}
 use Rattle.mqtt_message.specs.declared.delivery.Delivery.{Delivery}
 use Rattle.mqtt_sessions.specs.Saved.{durable_of}
 use Rattle.mqtt_sessions.specs.Sending.{is_once}
 use Rattle.mqtt_sessions.specs.State.{State, new_session}
-use Rattle.qos_handshakes.specs.Entries.{Entries}
 use Rattle.qos_handshakes.specs.Outbox.{waiting}
-use Rattle.session_laws.specs.Order.{LeftOutIn, firsts}
-use Rattle.session_laws.specs.Resends.{EndsIt, EndedIn}
-use Rattle.session_laws.specs.Runs.{Step, Run, queues, connected_after, limit_after}
-use Rattle.session_laws.specs.Sends.{marks_of}
+use Rattle.session_laws.specs.Runs.{Step, Run, queues}
 use Rattle.session_rows.specs.Durable.{Durable}
 use Rattle.node_keeper.specs.Keeping.{AreLasting}
-use Rattle.node_laws.specs.Lives.{life}
+use Rattle.node_laws.specs.Lives.{life, step_in}
+use Rattle.node_laws.specs.Moves.{Move}
 use Rattle.node_rows.specs.Rows.{Lasting}
 use Rattle.node_work.specs.Acts.{Act}
-use Rattle.passing_laws.specs.Sending.{IsIn}
+use Rattle.node_work.specs.Held.Sessions.{SessionStep}
 use Rattle.cluster_play.specs.Worlds.{Site, World}
 use Rattle.cluster_play.specs.Runs.{Played}
 use Rattle.cluster_play.specs.Histories.{Reached, site, moves_at}
@@ -37,31 +35,20 @@ SessionsOfRowsAreRuns =
     → (client : List ℕ) (d : Durable) → said.sessions client ≡ Some d → IsOfItsLife run i client d
 
 -- ---- copies
--- an event sends it first, under this identifier; then a later event answers it, or finds it too long to be sent again, as this event may
--- itself, whatever the identifier
-abbrev pub EndedOnceSent : Bool → ℕ → List Step → Publication → Type 0
-EndedOnceSent on limit [] x = ⊥
-EndedOnceSent on limit (s ∷ ss) x =
-    (IsIn x (firsts (marks_of on s)) × (((id : ℕ) → EndsIt on (limit_after limit s.event) s.event (id, x.1)) ⊎ EndedIn (connected_after on s.event s.reaction) (limit_after limit s.event) ss x))
-    ⊎ EndedOnceSent (connected_after on s.event s.reaction) (limit_after limit s.event) ss x
-
--- it waits, or was sent under an identifier and is unanswered; or it was sent, and then answered or too long to be sent again, or it was
--- left out of the queue, by the delivery rules
-abbrev pub GoesOn : List Step → Entries → Delivery → Type 0
-GoesOn steps copies x =
-    IsIn x (waiting copies)
-    ⊎ ((id : ℕ) × IsIn (id, x) (published copies))
-    ⊎ ((id : ℕ) × EndedOnceSent false 0 steps (id, x))
-    ⊎ LeftOutIn false 0 steps x
-
--- the rows of a node have the session of a client, with the copy if it hasn't gone so
-pub record RowsHaveCopy (run : List Played) (i : ℕ) (s : Site) (client : List ℕ) (x : Delivery) : Type 0 where
+-- the rows of a node have the session of a client, where the copy has gone by the delivery rules since a call of it: the call said that the
+-- queue is full; or from the call on the copy waits until an event sends it first or leaves it out, and once sent it is unfinished until
+-- it is answered or too long to be sent again (GoesFrom)
+pub record RowsHaveCopy (run : List Played) (i : ℕ) (s : Site) (earlier : List Move) (call : SessionStep) (x : Delivery) : Type 0 where
   pub said : Lasting
   pub are : AreLasting s.node.place s.rows said
   pub durable : Durable
-  pub found : said.sessions client ≡ Some durable
-  pub life_is : IsOfItsLife run i client durable
-  pub goes : GoesOn (life client (moves_at i run) []) durable.copies x
+  pub found : said.sessions call.client ≡ Some durable
+  pub life_is : IsOfItsLife run i call.client durable
+  pub since : List Step
+  pub calls : life call.client (moves_at i run) [] ≡ life call.client earlier [] ++ step_in call ∷ since
+  pub goes :
+      (call.reaction.full ≡ true)
+      ⊎ GoesFrom (channel_over no_channel (life call.client earlier [])) (step_in call ∷ since) x (waiting durable.copies) (published durable.copies)
 
 -- a call of a client's session queues a copy at QoS 1 or 2
 pub record QueuesCopy (m : Played) (before : List Act) (x : Delivery) : Type 0 where
@@ -75,4 +62,4 @@ abbrev pub CopyStays : Type 0
 CopyStays =
     (run later : List Played) (m : Played) (w : World) → Reached (run ++ m ∷ later) w
     → (before : List Act) (x : Delivery) (q : QueuesCopy m before x) (s : Site) → slice_get w.sites (site m.fate) ≡ Some s
-    → (c : StaysCalled run later m before q.call) × (IsOver q.call.step.client c.after ⊎ RowsHaveCopy (run ++ m ∷ later) (site m.fate) s q.call.step.client x)
+    → (c : StaysCalled run later m before q.call) × (IsOver q.call.step.client c.after ⊎ RowsHaveCopy (run ++ m ∷ later) (site m.fate) s c.earlier q.call.step x)

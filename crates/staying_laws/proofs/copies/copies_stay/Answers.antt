@@ -5,4 +5,4 @@ pub returns-clause-rows : goal.returns-clause-rows
 returns-clause-rows c = sessions_of_rows_are_runs
 
 pub returns-clause-copy : goal.returns-clause-copy
-returns-clause-copy c = copy_stays
+returns-clause-copy c = copy_stays c.copies_go_by_the_rules.ensures

@@ -1,0 +1,6 @@
+mod Opened
+mod UsedCodes
+mod Requesting
+mod InUseLaws
+mod Equals
+mod RequestLaws
