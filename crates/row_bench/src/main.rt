@@ -1,11 +1,12 @@
 //! How many rows a second a store of rows takes, one by one and a thousand at once, and how long it is to load: over memory, where
 //! an argument is `memory`, and over a database, where one is `file`, followed by the path of a database that isn't there yet; and how
-//! many messages of a broker it takes, where one is `turns`, followed by such a path.
+//! many messages of a broker it takes, where one is `turns` or `runs`, followed by such a path: in turns of a hundred clients with one
+//! message each, or of ten with sixteen each.
 #![tactic(auto)]
 
 mod measure;
 
-use crate::measure::{fill_and_load, load_again, make_turns};
+use crate::measure::{RUNS, SINGLE, Turns, fill_and_load, load_again, make_turns};
 use bench_clock::Failure;
 use node_database::open_rows;
 use row_store::MemoryRows;
@@ -31,11 +32,11 @@ fn file_again(rt: &HostRuntime, path: &str) -> Result<(), Failure> {
     load_again(rt, &mut rows)
 }
 
-fn turns(rt: &HostRuntime, path: &str) -> Result<(), Failure> {
+fn turns(rt: &HostRuntime, path: &str, turns: Turns) -> Result<(), Failure> {
     let Ok(mut rows) = open_rows(rt, path) else {
         return Err(Failure::Outside);
     };
-    make_turns(rt, &mut rows)
+    make_turns(rt, &mut rows, turns)
 }
 
 fn run(rt: &HostRuntime) -> Result<(), Failure> {
@@ -50,7 +51,11 @@ fn run(rt: &HostRuntime) -> Result<(), Failure> {
             }
             "turns" => {
                 let path = words.next().ok_or(Failure::Part)?;
-                turns(rt, path.as_str())?;
+                turns(rt, path.as_str(), SINGLE)?;
+            }
+            "runs" => {
+                let path = words.next().ok_or(Failure::Part)?;
+                turns(rt, path.as_str(), RUNS)?;
             }
             _ => return Err(Failure::Part),
         }

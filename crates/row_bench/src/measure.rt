@@ -10,11 +10,27 @@ const ROWS: u64 = 20_000;
 /// How many rows a large step puts.
 const STEP: u64 = 1_000;
 
-/// How many clients take part in a turn, each with a copy of its own.
-const CLIENTS: u64 = 100;
+/// Turns of a broker: how many clients take part in each, how many copies each of them has, and how many turns there are.
+#[derive(Clone, Copy)]
+pub struct Turns {
+    clients: u64,
+    copies: u64,
+    count: u64,
+}
 
-/// How many turns are made.
-const TURNS: u64 = 50;
+/// Turns of a hundred clients with one copy each.
+pub const SINGLE: Turns = Turns {
+    clients: 100,
+    copies: 1,
+    count: 50,
+};
+
+/// Turns of ten clients with sixteen copies each.
+pub const RUNS: Turns = Turns {
+    clients: 10,
+    copies: 16,
+    count: 32,
+};
 
 /// The bytes of a value.
 const VALUE: [u8; 64] = [0x78; 64];
@@ -93,35 +109,49 @@ fn row_of(alloc: Global, kind: u8, client: u64, place: &[u8]) -> Result<Row, Fai
     })
 }
 
-/// What a turn makes of a client: the copy that it had goes, and the next one comes.
-fn copies(changes: &mut Vec<Change>, alloc: Global, client: u64, turn: u64) -> Result<(), Failure> {
-    if turn > 0 {
-        let gone = row_of(alloc, 3, client, &(turn - 1).to_be_bytes())?;
+/// What a turn makes of a client: the copies that it had go, and as many come after them.
+fn copies(
+    changes: &mut Vec<Change>,
+    alloc: Global,
+    client: u64,
+    turn: u64,
+    count: u64,
+) -> Result<(), Failure> {
+    let next = turn.saturating_mul(count);
+    for place in next.saturating_sub(count)..next {
+        let gone = row_of(alloc, 3, client, &place.to_be_bytes())?;
         changes.push(Change::Remove(gone.kind, gone.owner, gone.place))?;
     }
-    changes.push(Change::Put(row_of(alloc, 3, client, &turn.to_be_bytes())?))?;
+    for place in next..next.saturating_add(count) {
+        changes.push(Change::Put(row_of(alloc, 3, client, &place.to_be_bytes())?))?;
+    }
     Ok(())
 }
 
 /// The changes of a turn, in the order of their keys: each client's session is put again, and its copies follow.
-fn turn_of(alloc: Global, turn: u64) -> Result<Vec<Change>, Failure> {
+fn turn_of(alloc: Global, turns: Turns, turn: u64) -> Result<Vec<Change>, Failure> {
     let mut changes = Vec::new(alloc);
-    for client in 0..CLIENTS {
+    for client in 0..turns.clients {
         changes.push(Change::Put(row_of(alloc, 2, client, &[])?))?;
     }
-    for client in 0..CLIENTS {
-        copies(&mut changes, alloc, client, turn)?;
+    for client in 0..turns.clients {
+        copies(&mut changes, alloc, client, turn, turns.copies)?;
     }
     Ok(changes)
 }
 
-/// Makes turns of a hundred messages.
-pub fn make_turns<R: RowStore>(rt: &HostRuntime, rows: &mut R) -> Result<(), Failure> {
+/// Makes the turns, with a message for each copy that comes.
+pub fn make_turns<R: RowStore>(
+    rt: &HostRuntime,
+    rows: &mut R,
+    turns: Turns,
+) -> Result<(), Failure> {
     let watch = Stopwatch::start(rt)?;
-    for turn in 0..TURNS {
-        let changes = turn_of(rt.alloc(), turn)?;
+    for turn in 0..turns.count {
+        let changes = turn_of(rt.alloc(), turns, turn)?;
         ensure(rows.apply(&changes).is_ok())?;
     }
-    watch.print(rt, "messages in turns of a hundred", TURNS * CLIENTS)?;
+    let each = turns.clients.saturating_mul(turns.copies);
+    watch.print(rt, "messages in turns", turns.count.saturating_mul(each))?;
     Ok(())
 }

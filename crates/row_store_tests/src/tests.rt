@@ -13,9 +13,10 @@ use trial_files::adopted;
 const CHANGES: [Sample; 3] = [(5, "t", Some(1)), (5, "t", Some(2)), (2, "a", None)];
 
 // Changes, and the rows after them: rows with a number as their place and without are put where none is, where one
-// stands from before, where one was put just now, and where one was removed just now; and after a removal of another row, where
-// both are there, one of them, or none.
-const PUTS: [(&[Sample], &[Sample]); 6] = [
+// stands from before, where one was put just now, and where one was removed just now; after a removal of another row, where
+// both are there, one of them, or none; and after removals, with more puts than these, fewer, one at the key of a removal, and one
+// where a row stands.
+const PUTS: [(&[Sample], &[Sample]); 10] = [
     (
         &[(3, "n", Some(1)), (5, "t", Some(1))],
         &[(3, "n", Some(1)), (5, "t", Some(1))],
@@ -72,6 +73,40 @@ const PUTS: [(&[Sample], &[Sample]); 6] = [
             (3, "p", Some(1)),
         ],
         &[(3, "o", Some(9)), (3, "p", Some(1))],
+    ),
+    (
+        &[
+            (3, "o", None),
+            (3, "p", None),
+            (3, "q", Some(1)),
+            (3, "r", Some(2)),
+            (3, "s", Some(3)),
+        ],
+        &[(3, "q", Some(1)), (3, "r", Some(2)), (3, "s", Some(3))],
+    ),
+    (
+        &[
+            (3, "q", None),
+            (3, "r", None),
+            (3, "s", None),
+            (3, "r", Some(4)),
+            (3, "t", Some(5)),
+        ],
+        &[(3, "r", Some(4)), (3, "t", Some(5))],
+    ),
+    (
+        &[
+            (3, "k", None),
+            (3, "r", None),
+            (3, "t", None),
+            (3, "u", Some(6)),
+            (3, "v", Some(7)),
+        ],
+        &[(3, "u", Some(6)), (3, "v", Some(7))],
+    ),
+    (
+        &[(3, "u", None), (3, "v", Some(8)), (3, "w", Some(9))],
+        &[(3, "v", Some(8)), (3, "w", Some(9))],
     ),
 ];
 

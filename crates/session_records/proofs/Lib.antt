@@ -7,3 +7,4 @@ pub mod Loads
 pub mod Orders
 pub mod Adopts
 pub mod Ids
+pub mod Interleaving

@@ -1,3 +1,4 @@
+pub mod Apart
 pub mod Connections
 pub mod Stored
 pub mod Table

@@ -2,6 +2,7 @@
 #![tactic(auto)]
 
 mod found;
+mod runs;
 mod schema;
 pub mod sql;
 mod statements;

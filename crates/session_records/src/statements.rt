@@ -8,12 +8,14 @@ ghost use Rattle.sqlite.specs.Held.{state};
 ghost use Rattle.sqlite.specs.Listing.{understood};
 ghost use Rattle.sqlite.specs.State.{HasCleanDisk, KeepsCommit, Shown, Survives};
 ghost use Rattle.sqlite.specs.View.{doubt};
+ghost use Rattle.session_records.specs.Apart.{AreApart, after_at};
 ghost use Rattle.session_records.specs.Connections.{Becomes, Commits, GoesOn, HasMoved, HasUpdated, IsBegun, IsSameAs, Stays, StaysOrEnds};
 ghost use Rattle.row_store.specs.Rows.{after, after_all, key_cmp, key_of};
 ghost use Rattle.session_records.specs.Stored.{AreTyped, IsFormed, IsShown, entry_in, entry_shown, held};
 ghost use Rattle.session_records.specs.Table.{no_schema, rows_schema};
 
 use crate::found::are_rows;
+use crate::runs::{NUMBERED, puts_in, removals_in};
 use row_store::{Change, Row};
 use sqlite::{Alter, Connection, Constraint, Error, ErrorCode, Row as Found, Transaction, params};
 
@@ -157,9 +159,6 @@ fn put_again<S: Alter>(
     Ok(())
 }
 
-/// The bytes of a place that is a number, or begins with one.
-const NUMBERED: usize = 8;
-
 /// The row takes the place of the one at its key, if there is one. A row whose place is a number is mostly new, and any other mostly there.
 fn put_row<S: Alter>(tx: &mut Transaction<'_, S>, row: &Row) -> Result<(), Error>
     ensures same_reference { tx.new.conn.ghost_name ≡ tx.old.conn.ghost_name }
@@ -221,28 +220,110 @@ fn replace_row<S: Alter>(
     put_row(tx, row)
 }
 
-/// Makes the first change, and the second one with it where a row goes and one comes that is mostly new. How many it made.
+/// Makes two changes, which are one UPDATE where a row goes and one comes that is mostly new.
+fn make_pair<S: Alter>(
+    tx: &mut Transaction<'_, S>,
+    change: &Change,
+    next: &Change,
+) -> Result<(), Error>
+    ensures same_reference { tx.new.conn.ghost_name ≡ tx.old.conn.ghost_name }
+    ensures goes { HasCleanDisk (state S.Store tx.new.conn.now) → IsFormed (state S.Store tx.old.conn.now).now
+        → OnOk result (GoesOn (state S.Store tx.old.conn.now) (state S.Store tx.new.conn.now) (after (after (held (state S.Store tx.old.conn.now).now) change.now) next.now)) }
+    ensures kept { HasCleanDisk (state S.Store tx.new.conn.now) → KeepsCommit (state S.Store tx.old.conn.now) (state S.Store tx.new.conn.now) }
+    ensures survives { Survives (state S.Store tx.old.conn.now) (state S.Store tx.new.conn.now) (λ _. ⊥) }
+{
+    match (change, next) {
+        (Change::Remove(kind, owner, place), Change::Put(row)) => {
+            replace_row(tx, *kind, owner, place, row)
+        }
+        _ => {
+            make_change(tx, change)?;
+            make_change(tx, next)
+        }
+    }
+}
+
+/// Makes the change at a place of the first list, and then the one at that place of the second, if there is one.
+fn make_at<S: Alter>(
+    tx: &mut Transaction<'_, S>,
+    first: &[Change],
+    second: &[Change],
+    place: usize,
+) -> Result<(), Error>
+    requires { place < length first.now }
+    ensures same_reference { tx.new.conn.ghost_name ≡ tx.old.conn.ghost_name }
+    ensures goes { HasCleanDisk (state S.Store tx.new.conn.now) → IsFormed (state S.Store tx.old.conn.now).now
+        → OnOk result (GoesOn (state S.Store tx.old.conn.now) (state S.Store tx.new.conn.now) (after_at (after_at (held (state S.Store tx.old.conn.now).now) first.now place) second.now place)) }
+    ensures kept { HasCleanDisk (state S.Store tx.new.conn.now) → KeepsCommit (state S.Store tx.old.conn.now) (state S.Store tx.new.conn.now) }
+    ensures survives { Survives (state S.Store tx.old.conn.now) (state S.Store tx.new.conn.now) (λ _. ⊥) }
+{
+    let change = &first[place];
+    if place < second.len() {
+        make_pair(tx, change, &second[place])
+    } else {
+        make_change(tx, change)
+    }
+}
+
+/// Makes the changes of two lists that have no key in common. They are made in pairs, one of each list, and leave what the second list
+/// leaves after the first.
+fn make_both<S: Alter>(
+    tx: &mut Transaction<'_, S>,
+    first: &[Change],
+    second: &[Change],
+) -> Result<(), Error>
+    requires few { length second.now ≤ length first.now }
+    requires apart { AreApart first.now second.now }
+    ensures same_reference { tx.new.conn.ghost_name ≡ tx.old.conn.ghost_name }
+    ensures goes { HasCleanDisk (state S.Store tx.new.conn.now) → IsBegun (state S.Store tx.old.conn.now) → IsFormed (state S.Store tx.old.conn.now).now
+        → OnOk result (GoesOn (state S.Store tx.old.conn.now) (state S.Store tx.new.conn.now) (after_all (after_all (held (state S.Store tx.old.conn.now).now) first.now) second.now)) }
+    ensures kept { HasCleanDisk (state S.Store tx.new.conn.now) → KeepsCommit (state S.Store tx.old.conn.now) (state S.Store tx.new.conn.now) }
+    ensures survives { Survives (state S.Store tx.old.conn.now) (state S.Store tx.new.conn.now) (λ _. ⊥) }
+{
+    for i in 0..first.len() {
+        make_at(tx, first, second, i)?;
+    }
+    Ok(())
+}
+
+/// Makes the changes of two lists that have no key in common, and leaves what the second list leaves after the first. The last of the
+/// second list are made in pairs with those of the first. Where the keys of puts rise, the last ones are the likeliest to be new.
+fn make_run<S: Alter>(
+    tx: &mut Transaction<'_, S>,
+    first: &[Change],
+    second: &[Change],
+) -> Result<(), Error>
+    requires { AreApart first.now second.now }
+    ensures same_reference { tx.new.conn.ghost_name ≡ tx.old.conn.ghost_name }
+    ensures goes { HasCleanDisk (state S.Store tx.new.conn.now) → IsBegun (state S.Store tx.old.conn.now) → IsFormed (state S.Store tx.old.conn.now).now
+        → OnOk result (GoesOn (state S.Store tx.old.conn.now) (state S.Store tx.new.conn.now) (after_all (after_all (held (state S.Store tx.old.conn.now).now) first.now) second.now)) }
+    ensures kept { HasCleanDisk (state S.Store tx.new.conn.now) → KeepsCommit (state S.Store tx.old.conn.now) (state S.Store tx.new.conn.now) }
+    ensures survives { Survives (state S.Store tx.old.conn.now) (state S.Store tx.new.conn.now) (λ _. ⊥) }
+{
+    let (alone, paired) = second.split_at(second.len().saturating_sub(first.len()));
+    make_both(tx, alone, &[])?;
+    make_both(tx, first, paired)
+}
+
+/// Makes the first change, or the removals in front together with puts right after them. How many changes it made.
 fn make_first<S: Alter>(tx: &mut Transaction<'_, S>, changes: &[Change]) -> Result<usize, Error>
     requires { 0 < length changes.now }
     ensures made { IfOk result (λ made. (0 < made) × (made ≤ length changes.now)) }
     ensures same_reference { tx.new.conn.ghost_name ≡ tx.old.conn.ghost_name }
-    ensures goes { HasCleanDisk (state S.Store tx.new.conn.now) → IsFormed (state S.Store tx.old.conn.now).now
+    ensures goes { HasCleanDisk (state S.Store tx.new.conn.now) → IsBegun (state S.Store tx.old.conn.now) → IsFormed (state S.Store tx.old.conn.now).now
         → IfOk result (λ made. GoesOn (state S.Store tx.old.conn.now) (state S.Store tx.new.conn.now) (after_all (held (state S.Store tx.old.conn.now).now) (take made changes.now))) }
     ensures kept { HasCleanDisk (state S.Store tx.new.conn.now) → KeepsCommit (state S.Store tx.old.conn.now) (state S.Store tx.new.conn.now) }
     ensures survives { Survives (state S.Store tx.old.conn.now) (state S.Store tx.new.conn.now) (λ _. ⊥) }
 {
-    match changes {
-        [Change::Remove(kind, owner, place), Change::Put(row), ..] if row.place.len() >= NUMBERED =>
-            {
-                replace_row(tx, *kind, owner, place, row)?;
-                Ok(2)
-            }
-        [change, ..] => {
-            make_change(tx, change)?;
-            Ok(1)
-        }
-        [] => unreachable!(),
+    let removals = removals_in(changes);
+    if removals == 0 {
+        make_change(tx, &changes[0])?;
+        return Ok(1);
     }
+    let (gone, rest) = changes.split_at(removals);
+    let puts = &rest[..puts_in(gone, rest)];
+    make_run(tx, gone, puts)?;
+    Ok(gone.len() + puts.len())
 }
 
 fn make_changes<S: Alter>(tx: &mut Transaction<'_, S>, changes: &[Change]) -> Result<(), Error>

@@ -3,6 +3,7 @@ use Rattle.std.proofs.lemmas.List.{drop-drop, length-drop, take_all}
 use Rattle.sqlite.specs.Held.{state}
 use Rattle.sqlite.specs.State.{HasCleanDisk}
 use Rattle.row_store.specs.Rows.{after_all}
+use Rattle.session_records.specs.Connections.{IsBegun}
 use Rattle.session_records.specs.Stored.{held}
 use Rattle.session_records.proofs.Effects.{goes_then, all_after}
 use Rattle.session_records.proofs.statements.make_changes.Goals as goal
@@ -25,11 +26,13 @@ loop-made-preserved g c =
       kept = search rules;
       goes = λ clean begun is.
           let until = before.goes (back clean) begun is in
-          let step = c.in_ok-made.ensures.goes clean until.formed in
+          let still : IsBegun mid = record { is_open = until.shown.is_open; mode = until.shown.mode } in
+          let step = c.in_ok-made.ensures.goes clean still until.formed in
           goes_then old mid new (held mid.now) (held new.now) until (record { formed = step.formed; holds = refl; shown = step.shown });
       left = λ clean begun is.
           let until = before.goes (back clean) begun is in
-          let step = c.in_ok-made.ensures.goes clean until.formed in
+          let still : IsBegun mid = record { is_open = until.shown.is_open; mode = until.shown.mode } in
+          let step = c.in_ok-made.ensures.goes clean still until.formed in
           ap (λ h. after_all h (drop (c.loop-made.made + made) changes)) (step.holds ∙ ap (λ xs. after_all (held mid.now) (take made xs)) whole)
           ∙ ap (after_all (after_all (held mid.now) (take made rest))) (sym (drop-drop made c.loop-made.made changes))
           ∙ all_after (held mid.now) made rest ∙ before.left (back clean) begun is;
