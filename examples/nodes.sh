@@ -1,11 +1,13 @@
 # What the scripts beside it have in common, which read it by `source`: `top` is the top of the repository, `work` a folder that is gone at the
-# end, `program` the words that run the broker, and `nodes` has the process of each node by its name. What a script has started ends with it.
+# end, `program` the words that run the broker, `options` what a node is given beside its turns, and `nodes` has the process of each node by its
+# name. What a script has started ends with it.
 
 top=$(cd "$(dirname "${BASH_SOURCE[0]}")/.." && pwd)
 host=127.0.0.1
 failed=0
 work=$(mktemp -d)
 declare -A nodes=()
+declare -a options=()
 
 # What is killed here, bash would tell.
 clean_up() {
@@ -52,7 +54,7 @@ start_node() {
     local name=$1 table=$2 database=$3
     shift 3
     : > "$work/$name"
-    "$@" "${program[@]}" serve "$table" "$name" "$database" --turns 1000000000 > "$work/$name" 2> "$work/$name.err" &
+    "$@" "${program[@]}" serve "$table" "$name" "$database" --turns 1000000000 "${options[@]}" > "$work/$name" 2> "$work/$name.err" &
     nodes[$name]=$!
     await_line 'ready ' "$work/$name" "${nodes[$name]}"
 }

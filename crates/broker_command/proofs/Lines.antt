@@ -27,6 +27,10 @@ pub word_of : (f : Found) (id : Text) (o : Option (Bor Text)) (s : Bor Text) (w 
     → o ≡ Some s → w ≡ s.now → first_of id (rows_of f) ≡ Some w
 word_of f id o s w e is w_is = sym (first_value-rows f id) ∙ sym e ∙ ap (option_map (λ b. b.now)) is ∙ ap Some (sym w_is)
 
+-- where it gives none, the row has none
+pub absent_word : (f : Found) (id : Text) (o : Option (Bor Text)) → option_map (λ b. b.now) o ≡ first_value f id → o ≡ None → first_of id (rows_of f) ≡ None
+absent_word f id o e is = sym (first_value-rows f id) ∙ sym e ∙ ap (option_map (λ b. b.now)) is
+
 -- what a getter of a number gives is the number that the row's text spells
 pub number_read : (E : Type 0) (G : Text → Result ℕ E → Type 0) (f : Found) (id : Text) (number : ℕ)
     → ((t : Text) (r : Result ℕ E) → G t r → ParsesUnsigned 32 10 t r)

@@ -61,11 +61,20 @@ log_rule = record (new_rule (codes "log")) {
   action = Some SetTrue;
 }
 
--- `serve CONFIG NODE DATABASE --turns N [--most-clients N] [--connect-within SECONDS] [--log]`
+-- `--status ADDRESS`
+abbrev pub status_rule : Rule
+status_rule = record (option_rule (codes "status")) {
+  long = Some (codes "status");
+  value_names = 1;
+}
+
+-- `serve CONFIG NODE DATABASE`, and its options behind that:
+-- `--turns N [--most-clients N] [--connect-within SECONDS] [--log] [--status ADDRESS]`
+abbrev pub serve_words : App
+serve_words = with_rule (with_rule (with_rule (new_app (codes "serve")) (word_rule (codes "CONFIG"))) (word_rule (codes "NODE"))) (word_rule (codes "DATABASE"))
+
 abbrev pub serve : App
-serve = with_rule (with_rule (with_rule (with_rule (with_rule (with_rule (with_rule (new_app (codes "serve"))
-    (word_rule (codes "CONFIG"))) (word_rule (codes "NODE"))) (word_rule (codes "DATABASE"))) turns_rule)
-    most_clients_rule) connect_within_rule) log_rule
+serve = with_rule (with_rule (with_rule (with_rule (with_rule serve_words turns_rule) most_clients_rule) connect_within_rule) log_rule) status_rule
 
 -- `check CONFIG NODE DATABASE`
 abbrev pub check : App
@@ -86,14 +95,14 @@ IsScript rows script = first_of (codes "SCRIPT") rows ≡ Some script.bytes.item
 abbrev pub IsPlay : List Row → Task → Type 0
 IsPlay rows (Play script) = IsScript rows script
 IsPlay rows (Loopback script) = ⊥
-IsPlay rows (Serve configuration node database turns most_clients connect_within log) = ⊥
+IsPlay rows (Serve configuration node database turns most_clients connect_within log status) = ⊥
 IsPlay rows (Check configuration node database) = ⊥
 
 -- a script to play over sockets
 abbrev pub IsLoopback : List Row → Task → Type 0
 IsLoopback rows (Play script) = ⊥
 IsLoopback rows (Loopback script) = IsScript rows script
-IsLoopback rows (Serve configuration node database turns most_clients connect_within log) = ⊥
+IsLoopback rows (Serve configuration node database turns most_clients connect_within log status) = ⊥
 IsLoopback rows (Check configuration node database) = ⊥
 
 -- the number that an option is given, in range, as its text spells it
@@ -116,22 +125,27 @@ pub record IsFlag (rows : List Row) (id : Text) (given : Bool) : Type 0 where
   pub off : one_of id rows ≡ Some (codes "false") → given ≡ false
   pub on : one_of id rows ≡ Some (codes "true") → given ≡ true
 
+-- the text that an option is given, and none where it isn't given
+abbrev pub IsTextIf : List Row → Text → Option (String Global) → Type 0
+IsTextIf rows id None = first_of id rows ≡ None
+IsTextIf rows id (Some text) = first_of id rows ≡ Some text.bytes.items
+
 -- a node to be
 abbrev pub IsServe : List Row → Task → Type 0
 IsServe rows (Play script) = ⊥
 IsServe rows (Loopback script) = ⊥
-IsServe rows (Serve configuration node database turns most_clients connect_within log) =
+IsServe rows (Serve configuration node database turns most_clients connect_within log status) =
     (first_of (codes "CONFIG") rows ≡ Some configuration.bytes.items)
     × (first_of (codes "NODE") rows ≡ Some node.bytes.items)
     × (first_of (codes "DATABASE") rows ≡ Some database.bytes.items) × IsNumber rows (codes "turns") turns
-    × IsNumberIf rows (codes "most-clients") most_clients × IsNumberIf rows (codes "connect-within") connect_within × IsFlag rows (codes "log") log
+    × IsNumberIf rows (codes "most-clients") most_clients × IsNumberIf rows (codes "connect-within") connect_within × IsFlag rows (codes "log") log × IsTextIf rows (codes "status") status
 IsServe rows (Check configuration node database) = ⊥
 
 -- a node whose rows are to be told
 abbrev pub IsCheck : List Row → Task → Type 0
 IsCheck rows (Play script) = ⊥
 IsCheck rows (Loopback script) = ⊥
-IsCheck rows (Serve configuration node database turns most_clients connect_within log) = ⊥
+IsCheck rows (Serve configuration node database turns most_clients connect_within log status) = ⊥
 IsCheck rows (Check configuration node database) =
     (first_of (codes "CONFIG") rows ≡ Some configuration.bytes.items)
     × (first_of (codes "NODE") rows ≡ Some node.bytes.items)
@@ -142,8 +156,8 @@ abbrev pub IsOf : Option (Text × List Row) → Task → Type 0
 IsOf None task = ⊥
 IsOf (Some (name, rows)) (Play script) = (name ≡ codes "play") × IsPlay rows (Play script)
 IsOf (Some (name, rows)) (Loopback script) = (name ≡ codes "loopback") × IsLoopback rows (Loopback script)
-IsOf (Some (name, rows)) (Serve configuration node database turns most_clients connect_within log) =
-    (name ≡ codes "serve") × IsServe rows (Serve configuration node database turns most_clients connect_within log)
+IsOf (Some (name, rows)) (Serve configuration node database turns most_clients connect_within log status) =
+    (name ≡ codes "serve") × IsServe rows (Serve configuration node database turns most_clients connect_within log status)
 IsOf (Some (name, rows)) (Check configuration node database) =
     (name ≡ codes "check") × IsCheck rows (Check configuration node database)
 

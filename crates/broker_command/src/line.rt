@@ -4,7 +4,7 @@ ghost use Rattle.std.specs.Prelude.{◌≡◌, map, false, pos, Some, IfOk, IfSo
 ghost use Rattle.clap.specs.declared.builder.value_parser.ValueParser.TheVariants.{Signed};
 ghost use Rattle.clap.specs.Words.{HasKind, app_of, fault_of, found_of, kind_of, rows_of, rule_of, subcommand_rows_of};
 ghost use Rattle.clap.specs.declared.builder.command.Command.TheViews.{out-Command as fields_of};
-ghost use Rattle.broker_command.specs.Line.{broker, play, loopback, serve, check, word_rule, option_rule, turns_rule, most_clients_rule, connect_within_rule, log_rule, IsFlag, IsNumberIf, IsTask, IsOf, IsPlay, IsLoopback, IsServe, IsCheck, IsScript, IsRefusal, IsStopOf};
+ghost use Rattle.broker_command.specs.Line.{broker, play, loopback, serve, serve_words, check, word_rule, option_rule, turns_rule, most_clients_rule, connect_within_rule, log_rule, status_rule, IsFlag, IsNumberIf, IsTextIf, IsTask, IsOf, IsPlay, IsLoopback, IsServe, IsCheck, IsScript, IsRefusal, IsStopOf};
 
 use crate::task::Task;
 use broker_stop::{RunFault, Stop};
@@ -62,8 +62,9 @@ fn loopback_command<'a>(alloc: Global) -> Result<Command<'a>, AllocError>
         .arg(required(alloc, "SCRIPT").help("The file of the script"))
 }
 
-fn serve_command<'a>(alloc: Global) -> Result<Command<'a>, AllocError>
-    ensures { IfOk result (λ c. (app_of c ≡ serve) × ((fields_of c).has_globals ≡ false)) }
+/// The command to serve, before its options.
+fn serve_words<'a>(alloc: Global) -> Result<Command<'a>, AllocError>
+    ensures { IfOk result (λ c. (app_of c ≡ serve_words) × ((fields_of c).has_globals ≡ false)) }
 {
     Command::new(alloc, "serve")
         .about("Serves MQTT clients as one node of a cluster")
@@ -71,11 +72,18 @@ fn serve_command<'a>(alloc: Global) -> Result<Command<'a>, AllocError>
             "The file that names the nodes and their homes, in TOML",
         ))?
         .arg(required(alloc, "NODE").help("The name of the node to be"))?
-        .arg(required(alloc, "DATABASE").help("The file of the database that keeps what lasts"))?
+        .arg(required(alloc, "DATABASE").help("The file of the database that keeps what lasts"))
+}
+
+fn serve_command<'a>(alloc: Global) -> Result<Command<'a>, AllocError>
+    ensures { IfOk result (λ c. (app_of c ≡ serve) × ((fields_of c).has_globals ≡ false)) }
+{
+    serve_words(alloc)?
         .arg(turns_option(alloc))?
         .arg(most_clients_option(alloc))?
         .arg(connect_within_option(alloc))?
-        .arg(log_option(alloc))
+        .arg(log_option(alloc))?
+        .arg(status_option(alloc))
 }
 
 fn check_command<'a>(alloc: Global) -> Result<Command<'a>, AllocError>
@@ -131,6 +139,16 @@ fn log_option<'a>(alloc: Global) -> Arg<'a>
         .long("log")
         .action(ArgAction::SetTrue)
         .help("Tells on standard error which clients come and go, and which links are up")
+}
+
+fn status_option<'a>(alloc: Global) -> Arg<'a>
+    ensures rule { rule_of result ≡ status_rule }
+    ensures local { result.global ≡ false }
+{
+    optional(alloc, "status")
+        .long("status")
+        .value_name("ADDRESS")
+        .help("Tells over HTTP at an IP address with a port how the node is")
 }
 
 /// The argument's value is a number from 1 to 1,000,000,000.
@@ -233,6 +251,16 @@ fn number_of(found: &ArgMatches<'_>, name: &str) -> Option<Option<u32>>
     }
 }
 
+/// The text that an option is given, or none where it isn't given.
+fn text_of(alloc: Global, found: &ArgMatches<'_>, name: &str) -> Result<Option<String>, AllocError>
+    ensures { IfOk result (IsTextIf (rows_of (found_of found.now)) name.now) }
+{
+    match found.get_str(name) {
+        Some(text) => Ok(Some(String::from_str(alloc, text)?)),
+        None => Ok(None),
+    }
+}
+
 fn serve_task(alloc: Global, found: &ArgMatches<'_>) -> Result<Option<Task>, AllocError>
     ensures { IfOk result (λ task. IfSome task (IsServe (rows_of (found_of found.now)))) }
 {
@@ -263,6 +291,7 @@ fn serve_task(alloc: Global, found: &ArgMatches<'_>) -> Result<Option<Task>, All
         most_clients,
         connect_within,
         log: found.get_flag("log"),
+        status: text_of(alloc, found, "status")?,
     }))
 }
 

@@ -29,6 +29,8 @@ pub enum Task {
         connect_within: Option<u32>,
         /// Whether a log is written to standard error.
         log: bool,
+        /// Where its status is told, if anywhere.
+        status: Option<String>,
     },
     /// Tell what the rows of a node that is down hold.
     Check {

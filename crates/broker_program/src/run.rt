@@ -23,6 +23,7 @@ pub fn run_task(rt: &HostRuntime, task: Task) -> Result<(), Ending> {
             most_clients,
             connect_within,
             log,
+            status,
         } => serve(
             rt,
             configuration.as_str(),
@@ -30,6 +31,7 @@ pub fn run_task(rt: &HostRuntime, task: Task) -> Result<(), Ending> {
             database.as_str(),
             Limits::new(most_clients, connect_within),
             log,
+            status.as_ref().map(|address| address.as_str()),
             turns,
         ),
         Task::Check {

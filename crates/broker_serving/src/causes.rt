@@ -52,8 +52,20 @@ fn unfound_bridge(rt: &HostRuntime, homes: &HomeTable) -> Option<Cause> {
     None
 }
 
-/// What is found of the addresses of a node, and of the bridges of the others.
-fn cause_of_sockets(rt: &HostRuntime, homes: &HomeTable, id: u16) -> Option<Cause>
+/// What is found where a node's status was to be told, if anywhere.
+fn unfound_status(rt: &HostRuntime, status: Option<&str>) -> Option<Cause> {
+    let address = status?;
+    let found = found_at(rt, address)?;
+    Cause::waiting(rt.alloc(), address, found)
+}
+
+/// What is found of the addresses of a node and of its status, and of the bridges of the others.
+fn cause_of_sockets(
+    rt: &HostRuntime,
+    homes: &HomeTable,
+    id: u16,
+    status: Option<&str>,
+) -> Option<Cause>
     requires { id < length homes.now.nodes }
 {
     let address = homes.reference(id);
@@ -64,22 +76,26 @@ fn cause_of_sockets(rt: &HostRuntime, homes: &HomeTable, id: u16) -> Option<Caus
     if let Some(found) = found_at(rt, bridge) {
         return Cause::waiting(rt.alloc(), bridge, found);
     }
-    unfound_bridge(rt, homes)
+    if let Some(cause) = unfound_bridge(rt, homes) {
+        return Some(cause);
+    }
+    unfound_status(rt, status)
 }
 
-/// What lies behind the end of a run of the node, with its rows in the database at a path.
+/// What lies behind the end of a run of the node, with its rows in the database at a path, and its status at an address or nowhere.
 pub fn cause_of(
     rt: &HostRuntime,
     stop: &Stop,
     homes: &HomeTable,
     id: u16,
     path: &str,
+    status: Option<&str>,
 ) -> Option<Cause>
     requires { id < length homes.now.nodes }
 {
     match stop {
         Stop::Run(RunFault::Rows) => cause_of_rows(rt, path, id, homes.nodes()),
-        Stop::Run(RunFault::Socket) => cause_of_sockets(rt, homes, id),
+        Stop::Run(RunFault::Socket) => cause_of_sockets(rt, homes, id, status),
         Stop::Run(RunFault::Output) => Some(Cause {
             tried: Tried::Printing,
             found: Found::Answered(Answer::Unnumbered),

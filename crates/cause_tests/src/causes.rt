@@ -18,10 +18,11 @@ fn homes_at(alloc: Global, address: &str, bridge: &str) -> Option<String> {
     text.ok()
 }
 
-/// What serving a node for one turn ends with, and nothing where all went well.
-fn told(rt: &HostRuntime, names: (&str, &str, &str)) -> String {
+/// What serving a node for one turn ends with, with its status told at an address or nowhere, and nothing where all went well.
+fn told_at(rt: &HostRuntime, names: (&str, &str, &str), status: Option<&str>) -> String {
     let (configuration, node, database) = names;
-    let text = match serve(rt, configuration, node, database, Limits::none(), false, 1) {
+    let none = Limits::none();
+    let text = match serve(rt, configuration, node, database, none, false, status, 1) {
         Ok(()) => Ok(String::new(rt.alloc())),
         Err(ending) => format!(in rt.alloc(); "{ending}"),
     };
@@ -32,7 +33,7 @@ fn told(rt: &HostRuntime, names: (&str, &str, &str)) -> String {
 }
 
 fn is_told(rt: &HostRuntime, names: (&str, &str, &str), text: &str) -> bool {
-    told(rt, names).as_str() == text
+    told_at(rt, names, None).as_str() == text
 }
 
 /// Writes a database that has a table of another program.
@@ -170,5 +171,26 @@ fn an_address_that_is_none_is_told(rt: HostRuntime) {
             is_told(&rt, ("taken.toml", "n0", "taken.db"), text.as_str()),
             "{cause}"
         );
+    }
+}
+
+#[test]
+fn an_address_for_the_status_that_is_none_is_told(rt: HostRuntime) {
+    let listener = TcpListener::bind(&rt, "127.0.0.1:0").expect(&rt, "a listener");
+    let taken = listener.local_addr().expect(&rt, "its address");
+    let taken = format!(in rt.alloc(); "{taken}").expect(&rt, "memory");
+    let any = "127.0.0.1:0";
+    let homes = homes_at(rt.alloc(), any, any).expect(&rt, "memory");
+    fs::write(&rt, "status.toml", homes.as_str()).expect(&rt, "a file");
+    let names = ("status.toml", "n0", "status.db");
+    assert!(rt; told_at(&rt, names, Some(any)).is_empty());
+    for (status, cause) in [
+        (taken.as_str(), "the address is in use"),
+        ("localhost", "it is no IP address with a port"),
+    ] {
+        let text = format!(in rt.alloc();
+            "broker: run: Socket\nbroker: waiting at {status}: {cause}"
+        ).expect(&rt, "memory");
+        assert!(rt; told_at(&rt, names, Some(status)) == text, "{cause}");
     }
 }

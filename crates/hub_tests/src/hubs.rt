@@ -7,7 +7,7 @@ use client_limits::Limits;
 use fake_sockets::FakeSockets;
 use home_table::HomeTable;
 use node_database::open_rows;
-use node_server::serve;
+use node_server::{StatusPlace, serve};
 use numbered_homes::homes_of;
 use refusing_rows::RefusingRows;
 use row_store::{MemoryRows, RowStore};
@@ -75,8 +75,9 @@ fn served<R: RowStore + Drop>(
 {
     let mut clock = Rising { told: 0 };
     let mut out = Vec::new(alloc);
+    let nowhere: Option<StatusPlace<'_, FakeSockets>> = None;
     serve(
-        alloc, network, &mut clock, rows, place, limits, log, 10, &mut out,
+        alloc, network, &mut clock, rows, place, limits, log, nowhere, 10, &mut out,
     )
     .err()
 }

@@ -3,6 +3,10 @@
 
 #[cfg(test)]
 mod hubs;
+#[cfg(test)]
+mod lent;
+#[cfg(test)]
+mod statuses;
 
 /// Does nothing: the examples are the tests.
 fn main() {}

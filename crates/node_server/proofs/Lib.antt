@@ -2,3 +2,4 @@ pub mod Finding
 pub mod Halting
 pub mod Losing
 pub mod Printed
+pub mod Telling

@@ -5,4 +5,5 @@ pub mod Outputs
 pub mod Peers
 pub mod Printing
 pub mod Serving
+pub mod Status
 pub mod Views

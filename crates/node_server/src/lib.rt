@@ -7,6 +7,8 @@ mod losses;
 mod peers;
 mod run;
 mod served;
+mod status;
 
 pub use run::serve;
 pub use served::ServedNode;
+pub use status::{NodeTeller, StatusPlace};

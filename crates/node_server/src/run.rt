@@ -1,6 +1,6 @@
 //! A run of a node over sockets.
 
-ghost use Rattle.std.specs.Prelude.{◌++◌, ◌<◌, ◌≤◌, length, IfOk, OnOk};
+ghost use Rattle.std.specs.Prelude.{◌≡◌, ◌++◌, ◌<◌, ◌≤◌, length, is_some, IfOk, OnOk};
 ghost use Rattle.std.specs.Io.KnownBytes.{Appends};
 ghost use Rattle.node_server.specs.Losses.{ToldLosses};
 ghost use Rattle.node_server.specs.Peers.{ArePeers};
@@ -10,6 +10,7 @@ use crate::fault::{of_node, of_turn};
 use crate::losses::losses_of;
 use crate::peers::peers_of;
 use crate::served::ServedNode;
+use crate::status::{NodeTeller, StatusPlace, open_desk};
 use broker_sockets::{Clock, Readiness, Sockets, bind};
 use broker_stop::RunFault;
 use broker_turns::{Hub, Setting};
@@ -19,6 +20,8 @@ use home_table::HomeTable;
 use mqtt_fields::NoMemory;
 use node_keeper::Keeper;
 use row_store::RowStore;
+use status_door::{OpenDesk, Told};
+use status_tally::{Tallied, Tally};
 use std::alloc::Global;
 use std::io::Write;
 
@@ -82,9 +85,37 @@ fn tell_losses<R: RowStore, C: Clock, E: Write>(
     node.finish(at, &losses)
 }
 
-/// Starts a node behind a door with these limits and one with a log, if there is a writer for that, and makes so many turns over the
-/// clients that come and the other nodes. Where all were made the log tells what the node has left out.
-fn run_node<S: Readiness, C: Clock, R: RowStore + Drop, E: Write + Drop>(
+/// A desk at which the status is told, where there is a place for it.
+fn desk_at<C: Clock, Z: Sockets + Drop>(
+    alloc: Global,
+    status: Option<StatusPlace<'_, Z>>,
+    clock: &mut C,
+) -> Result<Option<OpenDesk<Z, NodeTeller>>, RunFault> {
+    match status {
+        Some(status) => {
+            let since = clock.now();
+            Ok(Some(open_desk(alloc, status, since)?))
+        }
+        None => Ok(None),
+    }
+}
+
+/// A tally for a cluster of so many nodes, where one is wanted.
+fn tally_if(alloc: Global, wanted: bool, nodes: u16) -> Result<Option<Tally>, RunFault>
+    ensures { IfOk result (λ tally. is_some tally ≡ wanted) }
+{
+    if !wanted {
+        return Ok(None);
+    }
+    match Tally::new(alloc, nodes) {
+        Ok(tally) => Ok(Some(tally)),
+        Err(_) => Err(RunFault::NoMemory),
+    }
+}
+
+/// Starts a node behind a door with these limits, one with a log, if there is a writer for that, and those of a status, if there is a desk for
+/// it, and makes so many turns over the clients that come and the other nodes. Where all were made the log tells what the node has left out.
+fn run_node<S: Readiness, C: Clock, R: RowStore + Drop, E: Write + Drop, Z: Sockets + Drop>(
     alloc: Global,
     sockets: &mut S,
     clock: &mut C,
@@ -92,18 +123,22 @@ fn run_node<S: Readiness, C: Clock, R: RowStore + Drop, E: Write + Drop>(
     keeper: Keeper<R>,
     limits: Limits,
     error: Option<E>,
+    desk: Option<OpenDesk<Z, NodeTeller>>,
     turns: u32,
 ) -> Result<(), RunFault>
     requires { length setting.peers.items ≤ 64 }
 {
+    let tally = tally_if(alloc, desk.is_some(), keeper.node().homes().nodes())?;
     let Ok(mut hub) = Hub::new(alloc, setting) else {
         return Err(RunFault::NoMemory);
     };
     let limited = Limited::new(alloc, limits, ServedNode::new(alloc, keeper));
-    let mut node = Logged::new(alloc, error, limited);
+    let logged = Logged::new(alloc, error, limited);
+    let mut node = Told::new(Tallied::new(logged, tally), desk);
     match hub.serve(sockets, &mut node, clock, turns) {
         Ok(()) => {
-            let _ = tell_losses(&mut node, clock);
+            let mut logged = node.into_inside().into_inside();
+            let _ = tell_losses(&mut logged, clock);
             Ok(())
         }
         Err(fault) => Err(of_turn(fault)),
@@ -111,12 +146,20 @@ fn run_node<S: Readiness, C: Clock, R: RowStore + Drop, E: Write + Drop>(
 }
 
 /// Opens a node from its rows, waits at its addresses for clients and for other nodes, prints that it is ready, starts it behind
-/// a door with these limits, makes so many turns, and prints that they were made. Where a writer is given for it a log is written there.
+/// a door with these limits, makes so many turns, and prints that they were made. Where a writer is given for it a log is written there,
+/// and where a place is given its status is told there.
 ///
-/// The faults in their order: the node's where it can't be opened, `Socket` where one of its addresses or another node's
-/// bridge isn't an IP address with a port, or its own can't be waited at, `Output` where a line can't be printed, and the
+/// The faults in their order: the node's where it can't be opened, `Socket` where one of its addresses, another node's
+/// bridge or the status's address isn't an IP address with a port, or can't be waited at, `Output` where a line can't be printed, and the
 /// node's where a turn stops.
-pub fn serve<S: Readiness, C: Clock, R: RowStore + Drop, E: Write + Drop, W: Write>(
+pub fn serve<
+    S: Readiness,
+    C: Clock,
+    R: RowStore + Drop,
+    E: Write + Drop,
+    Z: Sockets + Drop,
+    W: Write,
+>(
     alloc: Global,
     sockets: &mut S,
     clock: &mut C,
@@ -124,6 +167,7 @@ pub fn serve<S: Readiness, C: Clock, R: RowStore + Drop, E: Write + Drop, W: Wri
     place: (HomeTable, u16),
     limits: Limits,
     error: Option<E>,
+    status: Option<StatusPlace<'_, Z>>,
     turns: u32,
     out: &mut W,
 ) -> Result<(), RunFault>
@@ -137,7 +181,10 @@ pub fn serve<S: Readiness, C: Clock, R: RowStore + Drop, E: Write + Drop, W: Wri
     };
     let homes = keeper.node().homes();
     let setting = listen(alloc, sockets, homes, id)?;
+    let desk = desk_at(alloc, status, clock)?;
     tell_ready(out, homes, id)?;
-    run_node(alloc, sockets, clock, setting, keeper, limits, error, turns)?;
+    run_node(
+        alloc, sockets, clock, setting, keeper, limits, error, desk, turns,
+    )?;
     tell_turns(out, turns)
 }

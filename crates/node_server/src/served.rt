@@ -6,6 +6,7 @@ ghost use Rattle.node_server.specs.Outputs.{AreForClients, AreForPeers};
 ghost use Rattle.node_server.specs.Serving.{IsCrashed};
 
 use crate::convert::{event_of, for_all, for_clients, peer_event_of};
+use broker_node::Node;
 use broker_sockets::{BridgeHandler, Event, Given, Handler, Output, PeerEvent};
 use node_batches::BatchKeeper;
 use node_keeper::{Keeper, KeeperFault};
@@ -34,6 +35,13 @@ impl<R: RowStore> ServedNode<R> {
             alloc,
             keeper: BatchKeeper::new(alloc, keeper),
         }
+    }
+
+    /// The node.
+    pub fn node(&self) -> &Node
+        ensures { result.now ≡ node_in self.now.keeper }
+    {
+        self.keeper.node()
     }
 
     /// How often the node has left something out. Nothing is said of it once the node has stopped.

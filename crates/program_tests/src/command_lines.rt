@@ -29,9 +29,10 @@ fn told(rt: &impl Abort, alloc: Global, line: &str) -> String {
                 most_clients,
                 connect_within,
                 log,
+                status,
             },
         ) => {
-            let options = (most_clients, connect_within, log);
+            let options = (most_clients, connect_within, log, status);
             format!(in alloc; "serve {configuration} {node} {database} {turns} {options:?}")
         }
         Ok(
@@ -60,23 +61,31 @@ fn reads_command_lines(rt: HostRuntime) {
         ("loopback a.script", "loopback a.script"),
         (
             "serve c.toml n0 d.db --turns 1",
-            "serve c.toml n0 d.db 1 (None, None, false)",
+            "serve c.toml n0 d.db 1 (None, None, false, None)",
         ),
         (
             "serve --turns=1000000000 c.toml n0 d.db",
-            "serve c.toml n0 d.db 1000000000 (None, None, false)",
+            "serve c.toml n0 d.db 1000000000 (None, None, false, None)",
         ),
         (
             "serve c.toml n0 d.db --turns 1 --most-clients 500",
-            "serve c.toml n0 d.db 1 (Some(500), None, false)",
+            "serve c.toml n0 d.db 1 (Some(500), None, false, None)",
         ),
         (
             "serve --connect-within=1 c.toml n0 d.db --most-clients=1000000000 --turns 1",
-            "serve c.toml n0 d.db 1 (Some(1000000000), Some(1), false)",
+            "serve c.toml n0 d.db 1 (Some(1000000000), Some(1), false, None)",
         ),
         (
             "serve c.toml --log n0 d.db --turns 1 --most-clients 2",
-            "serve c.toml n0 d.db 1 (Some(2), None, true)",
+            "serve c.toml n0 d.db 1 (Some(2), None, true, None)",
+        ),
+        (
+            "serve c.toml n0 d.db --status 127.0.0.1:8080 --turns 1",
+            "serve c.toml n0 d.db 1 (None, None, false, Some(\"127.0.0.1:8080\"))",
+        ),
+        (
+            "serve c.toml n0 d.db --turns 1 --status=here --log",
+            "serve c.toml n0 d.db 1 (None, None, true, Some(\"here\"))",
         ),
         ("", "2 (false, true)"),
         ("play", "2 (false, true)"),
@@ -112,6 +121,7 @@ fn reads_command_lines(rt: HostRuntime) {
             "serve c.toml n0 d.db --turns 1 --connect-within 1000000001",
             "2 (false, true)",
         ),
+        ("serve c.toml n0 d.db --turns 1 --status", "2 (false, true)"),
         (
             "serve c.toml n0 d.db --turns 1 --log yes",
             "2 (false, true)",

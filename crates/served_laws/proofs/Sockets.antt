@@ -17,6 +17,9 @@ use Rattle.client_limits.specs.Limits.{are_none}
 use Rattle.client_limits.specs.Views.{connections_of, inside_of, limits_of}
 use Rattle.client_log.specs.Answering.{IsAnswered as IsNoted, IsHeard as IsNotedOfPeers, IsSettled as IsSettledBefore}
 use Rattle.client_log.specs.Views.{inside_of as bounded_in}
+use Rattle.status_door.specs.Views.{inside_of as looked_at}
+use Rattle.status_tally.specs.Doors.{IsAnswered as IsCounted, IsHeard as IsCountedOfPeers, IsSettled as IsSettledBehind}
+use Rattle.status_tally.specs.Views.{inside_of as logged_in}
 use Rattle.cluster_play.proofs.Sites.{get-set_same}
 use Rattle.cluster_play.specs.Worlds.{World, changed}
 use Rattle.node_batches.specs.declared.batch.BatchKeeper.{BatchKeeper}
@@ -31,7 +34,7 @@ use Rattle.served_laws.proofs.Joining.{changed_over, run_over, taken_join}
 use Rattle.served_laws.proofs.Running.{turn_is_run}
 use Rattle.served_laws.proofs.Settling.{settled_is_run, taken_rows}
 use Rattle.served_laws.specs.Settling.{AreTaken, Begins, site_of}
-use Rattle.served_laws.specs.Sockets.{Bounded, Door, Settles, SocketTurnIsRun, Stands, StartIsTaken, served_in}
+use Rattle.served_laws.specs.Sockets.{Bounded, Counted, Door, Settles, SocketTurnIsRun, Stands, StartIsTaken, served_in}
 use Rattle.served_laws.specs.Turns.{IsRunOf, frames_of}
 
 -- ---- what is taken
@@ -44,6 +47,25 @@ taken_none s s' same = ([], ap (λ x. keeper_of x) same)
 
 taken_over : {R : Type 0} (a b c : ServedNode R) → Taken a b → Taken b c → Taken a c
 taken_over a b c p q = (p.0 ++ q.0, taken_join (keeper_of a) (keeper_of b) (keeper_of c) p.0 q.0 p.1 q.1)
+
+-- ---- what goes on behind a door
+
+module _ {A B : Type 0} (within : A → B) (handles : B → Told → List Handed → B → Type 0) (door_handles : A → Told → List Handed → A → Type 0)
+    (by_handles : (d : A) (e : Told) (outputs : List Handed) (d' : A) → door_handles d e outputs d' → handles (within d) e outputs (within d')) where
+  told_behind : (hears : B → PeerEvent → Given → B → Type 0) (door_hears : A → PeerEvent → Given → A → Type 0)
+      → ((d : A) (e : PeerEvent) (given : Given) (d' : A) → door_hears d e given d' → hears (within d) e given (within d'))
+      → (told : List Heard) (d d' : A) → AreTold door_handles door_hears told d d' → AreTold handles hears told (within d) (within d')
+  told_behind hears door_hears by_hears [] d d' same = ap within same
+  told_behind hears door_hears by_hears (Of_client e outputs ∷ more) d d' all =
+      (within all.0, by_handles d e outputs all.0 all.1, told_behind hears door_hears by_hears more all.0 d' all.2)
+  told_behind hears door_hears by_hears (Of_peer e given ∷ more) d d' all =
+      (within all.0, by_hears d e given all.0 all.1, told_behind hears door_hears by_hears more all.0 d' all.2)
+
+  settled_behind : (settles : B → B → Type 0) (door_settles : A → A → Type 0) → ((d d' : A) → door_settles d d' → settles (within d) (within d'))
+      → (lost : List (Told × List Handed)) (d d' : A) → AreSettled door_handles door_settles lost d d' → AreSettled handles settles lost (within d) (within d')
+  settled_behind settles door_settles by_settles [] d d' same = ap within same
+  settled_behind settles door_settles by_settles (t ∷ more) d d' all =
+      (within all.0, within all.1, by_handles d t.0 t.1 all.0 all.2, by_settles all.0 all.1 all.3, settled_behind settles door_settles by_settles more all.1 d' all.4)
 
 module _ {R : Type 0} (is_clean is_open : R → Type 0) (content : R → Content) (may_leave : R → Content → Type 0) where
   -- ---- what is committed
@@ -144,43 +166,59 @@ module _ {R : Type 0} (is_clean is_open : R → Type 0) (content : R → Content
         runs_over (inside_of d) (inside_of all.1) (inside_of d')
         (runs_once (inside_of d) (inside_of all.0) (inside_of all.1) (taken_answered d t.0 t.1 all.0 all.2) (by_commit (inside_of all.0) (inside_of all.1) all.3.settled)) (runs_all more all.1 d' all.4)
 
-    -- ---- and behind the log
+    -- ---- and behind the others: the log, the tally, and whoever looks
 
-    told_within : {E : Type 0} (told : List Heard) (d d' : Door R E) → AreTold (IsNoted (IsAnswered handles)) (IsNotedOfPeers (IsHeard hears)) told d d'
-        → AreTold (IsAnswered handles) (IsHeard hears) told (bounded_in d) (bounded_in d')
-    told_within {E = E} [] d d' same = ap (λ (x : Door R E). bounded_in x) same
-    told_within (Of_client e outputs ∷ more) d d' all = (bounded_in all.0, all.1.answered, told_within more all.0 d' all.2)
-    told_within (Of_peer e given ∷ more) d d' all = (bounded_in all.0, all.1.heard, told_within more all.0 d' all.2)
+    abbrev DoorHandles : (E W : Type 0) → Door R E W → Told → List Handed → Door R E W → Type 0
+    DoorHandles E W d e outputs d' = IsCounted (IsNoted (IsAnswered handles)) (looked_at d) e outputs (looked_at d')
 
-    settled_within : {E : Type 0} (contents : E → Option (List ℕ)) (lost : List (Told × List Handed)) (d d' : Door R E)
-        → AreSettled (IsNoted (IsAnswered handles)) (IsSettledBefore (IsSettled settles) contents) lost d d'
-        → AreSettled (IsAnswered handles) (IsSettled settles) lost (bounded_in d) (bounded_in d')
-    settled_within {E = E} contents [] d d' same = ap (λ (x : Door R E). bounded_in x) same
-    settled_within contents (t ∷ more) d d' all = (bounded_in all.0, bounded_in all.1, all.2.answered, all.3.settled, settled_within contents more all.1 d' all.4)
+    abbrev DoorHears : (E W : Type 0) → Door R E W → PeerEvent → Given → Door R E W → Type 0
+    DoorHears E W d e given d' = IsCountedOfPeers (IsNotedOfPeers (IsHeard hears)) (looked_at d) e given (looked_at d')
 
-    pub start_is_taken : {S T E : Type 0} (at : ℕ) (old new : Seat S (Door R E) T) → IsStart (IsNoted (IsAnswered handles)) at old new
+    abbrev DoorSettles : (E W : Type 0) → (E → Option (List ℕ)) → Door R E W → Door R E W → Type 0
+    DoorSettles E W contents d d' = IsSettledBehind (IsSettledBefore (IsSettled settles) contents) (looked_at d) (looked_at d')
+
+    told_within : {E W : Type 0} (told : List Heard) (d d' : Door R E W) → AreTold (DoorHandles E W) (DoorHears E W) told d d'
+        → AreTold (IsAnswered handles) (IsHeard hears) told (bounded_in (logged_in (looked_at d))) (bounded_in (logged_in (looked_at d')))
+    told_within {E = E} {W = W} told d d' all =
+        told_behind (λ (x : Door R E W). bounded_in (logged_in (looked_at x))) (IsAnswered handles) (DoorHandles E W) (λ a e outputs b is. is.answered.answered)
+        (IsHeard hears) (DoorHears E W) (λ a e given b is. is.heard.heard) told d d' all
+
+    settled_within : {E W : Type 0} (contents : E → Option (List ℕ)) (lost : List (Told × List Handed)) (d d' : Door R E W)
+        → AreSettled (DoorHandles E W) (DoorSettles E W contents) lost d d'
+        → AreSettled (IsAnswered handles) (IsSettled settles) lost (bounded_in (logged_in (looked_at d))) (bounded_in (logged_in (looked_at d')))
+    settled_within {E = E} {W = W} contents lost d d' all =
+        settled_behind (λ (x : Door R E W). bounded_in (logged_in (looked_at x))) (IsAnswered handles) (DoorHandles E W) (λ a e outputs b is. is.answered.answered)
+        (IsSettled settles) (DoorSettles E W contents) (λ a b is. is.settled.settled) lost d d' all
+
+    pub start_is_taken : {S T E W : Type 0} (at : ℕ) (old new : Seat S (Door R E W) T) → IsStart (DoorHandles E W) at old new
         → (w : World) (i : ℕ) (pending : List Answered) → Stands is_open content w i pending (served_in old) → (more : List Answered) × Stands is_open content w i more (served_in new)
     start_is_taken at old new start w i pending stands =
         let first = start.told.does.does.handled in
-        let taken = taken_answered (bounded_in old.place.reach.near.handler) _ first.outputs (bounded_in new.place.reach.near.handler) first.answered.answered in
+        let was = bounded_in (logged_in (looked_at old.place.reach.near.handler)) in
+        let is = bounded_in (logged_in (looked_at new.place.reach.near.handler)) in
+        let taken = taken_answered was _ first.outputs is first.answered.answered.answered in
         (pending ++ taken.0, record { before = stands.before; begins = stands.begins; taken = taken_join stands.before (keeper_of (served_in old)) (keeper_of (served_in new)) pending taken.0 stands.taken taken.1 })
 
-    module _ {S L T E : Type 0}
+    module _ {S L T E W : Type 0}
         (accepts : S → L → Option T → S → Type 0) (watches : S → T → Watched → Bool → S → Type 0) (connects : S → SocketAddr → Option T → S → Type 0)
         (reads : S → T → Answer → List ℕ → S → T → Type 0) (writes : S → T → List ℕ → Answer → S → T → Type 0) (finds : S → Ready → S → Type 0)
         (contents : E → Option (List ℕ)) where
       pub socket_turn_is_run : SocketTurnIsRun is_clean is_open content accepts watches connects reads writes finds
-          (IsNoted (IsAnswered handles)) (IsNotedOfPeers (IsHeard hears)) (IsSettledBefore (IsSettled settles) contents)
+          (DoorHandles E W) (DoorHears E W) (DoorSettles E W contents)
       socket_turn_is_run setting at old new turn w i pending stands clean =
-          let t = turn_settles (IsNoted (IsAnswered handles)) (IsNotedOfPeers (IsHeard hears)) (IsSettledBefore (IsSettled settles) contents) accepts watches connects reads writes finds setting at old new turn in
+          let t = turn_settles (DoorHandles E W) (DoorHears E W) (DoorSettles E W contents) accepts watches connects reads writes finds setting at old new turn in
           let s = served_in old in
           let before_all = old.place.reach.near.handler in
           let after_all = new.place.reach.near.handler in
-          let all = taken_all t.told (bounded_in before_all) (bounded_in t.last) (told_within t.told before_all t.last t.all) in
-          let last = inside_of (bounded_in t.last) in
-          let settled = inside_of (bounded_in t.settled) in
-          let commit = by_commit last settled t.first.settled.settled in
-          let on = runs_all t.lost (bounded_in t.settled) (bounded_in after_all) (settled_within contents t.lost t.settled after_all t.then) in
+          let was_bounded = bounded_in (logged_in (looked_at before_all)) in
+          let is_bounded = bounded_in (logged_in (looked_at after_all)) in
+          let last_bounded = bounded_in (logged_in (looked_at t.last)) in
+          let settled_bounded = bounded_in (logged_in (looked_at t.settled)) in
+          let all = taken_all t.told was_bounded last_bounded (told_within t.told before_all t.last t.all) in
+          let last = inside_of last_bounded in
+          let settled = inside_of settled_bounded in
+          let commit = by_commit last settled t.first.settled.settled.settled in
+          let on = runs_all t.lost settled_bounded is_bounded (settled_within contents t.lost t.settled after_all t.then) in
           let was = on.0 clean in
           let answered = pending ++ all.0 in
           let before = taken_join stands.before (keeper_of s) (keeper_of last) pending all.0 stands.taken all.1 in

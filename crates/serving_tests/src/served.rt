@@ -14,7 +14,16 @@ const MOST_BYTES: usize = 16_777_216;
 /// Whether serving a node of a configuration for one turn, with its rows in this database, ends as told.
 pub fn ends_by(rt: &HostRuntime, names: (&str, &str, &str), end: Result<(), Stop>) -> bool {
     let (configuration, node, database) = names;
-    let ended = match serve(rt, configuration, node, database, Limits::none(), false, 1) {
+    let ended = match serve(
+        rt,
+        configuration,
+        node,
+        database,
+        Limits::none(),
+        false,
+        None,
+        1,
+    ) {
         Ok(()) => Ok(()),
         Err(
             Ending {

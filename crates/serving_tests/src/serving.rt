@@ -1,7 +1,7 @@
 //! A node with its rows in memory, and a client of it over the sockets of the system.
 
 use broker_sockets::{
-    Answer, Event, EventKind, Handler, PolledSockets, Readiness, RealClock, Sockets,
+    Answer, Event, EventKind, Handler, PolledSockets, Readiness, RealClock, RealSockets, Sockets,
 };
 use broker_stop::RunFault;
 use broker_turns::{Hub, Setting};
@@ -9,7 +9,7 @@ use client_limits::Limits;
 use home_table::HomeTable;
 use mio::net::{TcpListener, TcpStream};
 use node_keeper::{Keeper, KeeperFault};
-use node_server::{ServedNode, serve};
+use node_server::{ServedNode, StatusPlace, serve};
 use numbered_homes::homes_of;
 use row_store::MemoryRows;
 use std::alloc::Global;
@@ -148,6 +148,7 @@ fn serve_for(
     let mut clock = RealClock::new(rt);
     let rows = MemoryRows::new(alloc);
     let silent: Option<Vec<u8>> = None;
+    let nowhere: Option<StatusPlace<'_, RealSockets<'_, HostRuntime>>> = None;
     serve(
         alloc,
         &mut sockets,
@@ -156,6 +157,7 @@ fn serve_for(
         (homes, 0),
         Limits::none(),
         silent,
+        nowhere,
         turns,
         out,
     )

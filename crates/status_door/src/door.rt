@@ -1,41 +1,29 @@
 //! The door.
 
-ghost use Rattle.std.specs.Prelude.{◌≡◌, ◌↔◌, IsTrue};
+ghost use Rattle.std.specs.Prelude.{◌≡◌};
 
-use crate::teller::Teller;
-use broker_sockets::{BridgeHandler, Event, EventKind, Given, Handler, Output, PeerEvent, Sockets};
-use status_sockets::Desk;
-use std::alloc::Global;
+use broker_sockets::{BridgeHandler, Event, EventKind, Given, Handler, Output, PeerEvent};
 
-/// A handler behind a door at which its status is told, or isn't. The handler inside is told all, and just what it gives out goes
-/// out. Those who ask come over sockets of the door's own, to which it looks at each tick.
-#[derive(Drop)]
-pub struct Told<H, S: Sockets, T> {
-    alloc: Global,
-    inside: H,
-    sockets: S,
-    teller: T,
-    desk: Option<Desk<S::Listener, S::Stream>>,
+/// Looks at a handler, which it can't change.
+pub trait Watcher<H> {
+    /// Looks at the handler at a moment in milliseconds.
+    fn watch(&mut self, handler: &H, at: u64);
 }
 
-impl<H, S: Sockets, T> Told<H, S, T> {
-    /// A door with this desk, or with none, at which nothing is told.
-    pub fn new(
-        alloc: Global,
-        inside: H,
-        sockets: S,
-        teller: T,
-        desk: Option<Desk<S::Listener, S::Stream>>,
-    ) -> Told<H, S, T>
+/// A handler behind a door with somebody who looks at it at each tick, or with nobody. The handler inside is told all, and just what it
+/// gives out goes out.
+#[derive(Drop)]
+pub struct Told<H, W> {
+    inside: H,
+    watcher: Option<W>,
+}
+
+impl<H, W> Told<H, W> {
+    /// A door with this watcher, or with none.
+    pub fn new(inside: H, watcher: Option<W>) -> Told<H, W>
         ensures { result.inside ≡ inside }
     {
-        Told {
-            alloc,
-            inside,
-            sockets,
-            teller,
-            desk,
-        }
+        Told { inside, watcher }
     }
 
     /// The handler inside.
@@ -46,6 +34,19 @@ impl<H, S: Sockets, T> Told<H, S, T> {
     }
 }
 
+impl<H, W: Drop> Told<H, W> {
+    /// Takes the door away from the handler inside.
+    pub fn into_inside(self) -> H
+        ensures { result ≡ self.inside }
+    {
+        let Told {
+            inside,
+            watcher: _watcher,
+        } = self;
+        inside
+    }
+}
+
 fn is_tick(kind: &EventKind) -> bool {
     match kind {
         EventKind::Tick => true,
@@ -53,43 +54,18 @@ fn is_tick(kind: &EventKind) -> bool {
     }
 }
 
-/// Looks to those who ask, at a moment. Nothing is asked of the teller while nobody is there.
-fn look<H, S: Sockets, T: Teller<H>>(
-    alloc: Global,
-    inside: &H,
-    sockets: &mut S,
-    teller: &mut T,
-    desk: &mut Desk<S::Listener, S::Stream>,
-    at: u64,
-) {
-    desk.let_in(sockets, at);
-    if desk.visitors() == 0 {
-        return;
-    }
-    if let Ok(figures) = teller.tell(alloc, inside, at) {
-        desk.attend(sockets, &figures, at);
-    }
-}
-
-impl<H, S: Sockets, T: Teller<H>> Told<H, S, T> {
-    /// Looks to those who ask, where there is a desk.
+impl<H, W: Watcher<H>> Told<H, W> {
+    /// Whoever looks at the handler does, where there is somebody.
     fn look(&mut self, at: u64)
         ensures { self.new.inside ≡ self.old.inside }
     {
-        if let Some(desk) = &mut self.desk {
-            look(
-                self.alloc,
-                &self.inside,
-                &mut self.sockets,
-                &mut self.teller,
-                desk,
-                at,
-            );
+        if let Some(watcher) = &mut self.watcher {
+            watcher.watch(&self.inside, at);
         }
     }
 }
 
-impl<H: Handler, S: Sockets, T: Teller<H>> Handler for Told<H, S, T> {
+impl<H: Handler, W: Watcher<H>> Handler for Told<H, W> {
     type Fault = H::Fault;
 
     ghost handles = { λ d e outputs d'. H.handles d.inside e outputs d'.inside };
@@ -100,7 +76,7 @@ impl<H: Handler, S: Sockets, T: Teller<H>> Handler for Told<H, S, T> {
 
     ghost stops = { λ d fault d'. H.stops d.inside fault d'.inside };
 
-    /// Tells the handler inside. At a tick, those who ask are looked to.
+    /// Tells the handler inside, which is looked at after a tick.
     fn handle(&mut self, event: Event) -> Result<Vec<Output>, H::Fault> {
         let at = event.at;
         let ticks = is_tick(&event.kind);
@@ -121,7 +97,7 @@ impl<H: Handler, S: Sockets, T: Teller<H>> Handler for Told<H, S, T> {
     }
 }
 
-impl<H: BridgeHandler, S: Sockets, T: Teller<H>> BridgeHandler for Told<H, S, T> {
+impl<H: BridgeHandler, W: Watcher<H>> BridgeHandler for Told<H, W> {
     ghost hears = { λ d e given d'. H.hears d.inside e given d'.inside };
 
     ghost declines = { λ d e fault d'. H.declines d.inside e fault d'.inside };

@@ -1,8 +1,12 @@
 //! A door at which the status of what stands behind it is told.
 #![tactic(auto)]
 
+mod desk;
 mod door;
+mod laws;
 mod teller;
 
-pub use door::Told;
+pub use desk::OpenDesk;
+pub use door::{Told, Watcher};
+pub use laws::told_changes_nothing;
 pub use teller::Teller;

@@ -35,7 +35,7 @@ fn free_places<T: Drop>(alloc: Global) -> Result<Vec<Option<Visitor<T>>>, AllocE
     Ok(places)
 }
 
-/// Lets somebody in who has come, where a place is free.
+/// Lets somebody in who has come, where the place is free. `false`: it is, and nobody has.
 fn let_in<S: Sockets>(
     alloc: Global,
     keys: RandomState,
@@ -43,11 +43,16 @@ fn let_in<S: Sockets>(
     sockets: &mut S,
     listener: &S::Listener,
     at: u64,
-) {
-    if place.is_none() {
-        if let Some(stream) = sockets.accept(listener) {
+) -> bool {
+    if place.is_some() {
+        return true;
+    }
+    match sockets.accept(listener) {
+        Some(stream) => {
             *place = Some(Visitor::new(alloc, keys, stream, at));
+            true
         }
+        None => false,
     }
 }
 
@@ -81,7 +86,9 @@ fn let_in_all<S: Sockets>(
     at: u64,
 ) {
     for place in places.iter_mut() {
-        let_in(alloc, keys, place, sockets, listener, at);
+        if !let_in(alloc, keys, place, sockets, listener, at) {
+            return;
+        }
     }
 }
 

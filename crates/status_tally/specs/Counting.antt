@@ -48,3 +48,17 @@ with_frame frame t = record t {
 abbrev pub with_frames : List PeerFrame → Traffic → Traffic
 with_frames [] t = t
 with_frames (frame ∷ frames) t = with_frames frames (with_frame frame t)
+
+-- how many connections of clients are open after an event
+abbrev pub open_after : EventKind → ℕ → ℕ
+open_after Started count = count
+open_after (Opened connection) count = more 1 count
+open_after (Piece connection bytes) count = count
+open_after (Closed connection) count = count - 1
+open_after Tick count = count
+
+-- and after outputs
+abbrev pub open_with : List Output → ℕ → ℕ
+open_with [] count = count
+open_with (Send connection bytes ∷ outputs) count = open_with outputs count
+open_with (Close connection ∷ outputs) count = open_with outputs (count - 1)

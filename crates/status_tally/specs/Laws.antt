@@ -1,5 +1,5 @@
 -- Any calls of a handler, one after another.
-use Rattle.std.specs.Prelude.{◌≡◌, List, [], ◌∷◌}
+use Rattle.std.specs.Prelude.{◌≡◌, ◌↔◌, List, [], ◌∷◌, None}
 use Rattle.broker_sockets.specs.declared.bridge.Given.{Given}
 use Rattle.broker_sockets.specs.declared.bridge.PeerEvent.{PeerEvent}
 use Rattle.broker_sockets.specs.declared.events.Event.{Event}
@@ -27,3 +27,12 @@ abbrev pub ChangesNothing : {H : Type 0} → (H → Event → List Output → H 
     → (Tallied H → Event → List Output → Tallied H → Type 0) → (Tallied H → PeerEvent → Given → Tallied H → Type 0) → (Tallied H → Tallied H → Type 0) → Type 0
 ChangesNothing {H} handles hears settles door_handles door_hears door_settles =
     (calls : List Call) (d d' : Tallied H) → Take door_handles door_hears door_settles d calls d' → Take handles hears settles d.inside calls d'.inside
+
+-- where the door doesn't count, each call of it is just that call of the handler inside
+module _ {H : Type 0} (handles : H → Event → List Output → H → Type 0) (hears : H → PeerEvent → Given → H → Type 0) (settles : H → H → Type 0)
+    (door_handles : Tallied H → Event → List Output → Tallied H → Type 0) (door_hears : Tallied H → PeerEvent → Given → Tallied H → Type 0)
+    (door_settles : Tallied H → Tallied H → Type 0) where
+  pub record IdleChangesNothing : Type 0 where
+    pub handled : (d d' : Tallied H) (e : Event) (outputs : List Output) → d.tally ≡ None → door_handles d e outputs d' ↔ (handles d.inside e outputs d'.inside × (d'.tally ≡ None))
+    pub heard : (d d' : Tallied H) (e : PeerEvent) (given : Given) → d.tally ≡ None → door_hears d e given d' ↔ (hears d.inside e given d'.inside × (d'.tally ≡ None))
+    pub settled : (d d' : Tallied H) → d.tally ≡ None → door_settles d d' ↔ (settles d.inside d'.inside × (d'.tally ≡ None))

@@ -1,7 +1,7 @@
 //! What an event and what is given out add.
 
 ghost use Rattle.std.specs.Prelude.{◌≡◌};
-ghost use Rattle.status_tally.specs.Counting.{more, with_event, with_frame, with_frames, with_output, with_outputs, with_peer_event};
+ghost use Rattle.status_tally.specs.Counting.{more, open_after, open_with, with_event, with_frame, with_frames, with_output, with_outputs, with_peer_event};
 
 use broker_sockets::{EventKind, Output, PeerEventKind, PeerFrame};
 use status_figures::Traffic;
@@ -78,4 +78,28 @@ pub(crate) fn count_frames(total: &mut Traffic, frames: &[PeerFrame])
     for frame in frames {
         count_frame(total, frame);
     }
+}
+
+/// How many connections of clients are open after an event, of so many before it.
+pub(crate) fn open_after(kind: &EventKind, count: u64) -> u64
+    ensures { result ≡ open_after kind.now count }
+{
+    match kind {
+        EventKind::Opened { connection: _ } => more(count, 1),
+        EventKind::Closed { connection: _ } => count.saturating_sub(1),
+        EventKind::Started | EventKind::Piece { .. } | EventKind::Tick => count,
+    }
+}
+
+/// How many connections of clients are open after these outputs, of so many before them.
+pub(crate) fn open_with(outputs: &[Output], count: u64) -> u64
+    ensures { result ≡ open_with outputs.now count }
+{
+    let mut left = count;
+    for output in outputs {
+        if let Output::Close { connection: _ } = output {
+            left = left.saturating_sub(1);
+        }
+    }
+    left
 }

@@ -1,55 +1,28 @@
 //! The door.
 
-ghost use Rattle.std.specs.Prelude.{◌≡◌, None, Some, option_map};
-ghost use Rattle.status_tally.specs.Counting.{with_event, with_frames, with_outputs, with_peer_event};
-ghost use Rattle.status_tally.specs.declared.tallied.TheConstants.{NOTHING};
+ghost use Rattle.std.specs.Prelude.{◌≡◌, option_map};
+ghost use Rattle.std.specs.Option.{option_copied};
+ghost use Rattle.status_tally.specs.Tallying.{gave, gave_frames, heard, met};
 
-use crate::count::{count_event, count_frames, count_outputs, count_peer_event};
+use crate::tally::Tally;
 use broker_sockets::{
     BridgeHandler, Event, EventKind, Given, Handler, Output, PeerEvent, PeerEventKind, PeerFrame,
-};
-use status_figures::Traffic;
-
-/// Nothing has gone through.
-const NOTHING: Traffic = Traffic {
-    opened: 0,
-    bytes_received: 0,
-    packets_sent: 0,
-    bytes_sent: 0,
-    frames_received: 0,
-    frame_bytes_received: 0,
-    frames_sent: 0,
-    frame_bytes_sent: 0,
 };
 
 /// A handler behind a door that counts, or that doesn't. The handler inside is told all, and just what it gives out goes out.
 #[derive(Drop)]
 pub struct Tallied<H> {
     inside: H,
-    total: Option<Traffic>,
+    tally: Option<Tally>,
 }
 
 impl<H> Tallied<H> {
-    /// A door that counts from now on.
-    pub fn new(inside: H) -> Tallied<H>
+    /// A door that counts into this tally, or one that doesn't count.
+    pub fn new(inside: H, tally: Option<Tally>) -> Tallied<H>
         ensures inside { result.inside ≡ inside }
-        ensures none { result.total ≡ Some NOTHING }
+        ensures tally { result.tally ≡ tally }
     {
-        Tallied {
-            inside,
-            total: Some(NOTHING),
-        }
-    }
-
-    /// A door that doesn't count.
-    pub fn idle(inside: H) -> Tallied<H>
-        ensures inside { result.inside ≡ inside }
-        ensures none { result.total ≡ None }
-    {
-        Tallied {
-            inside,
-            total: None,
-        }
+        Tallied { inside, tally }
     }
 
     /// The handler inside.
@@ -59,51 +32,62 @@ impl<H> Tallied<H> {
         &self.inside
     }
 
-    /// What has gone through, where it counts.
-    pub fn total(&self) -> Option<Traffic>
-        ensures { result ≡ self.now.total }
+    /// Takes the door away from the handler inside.
+    pub fn into_inside(self) -> H
+        ensures { result ≡ self.inside }
     {
-        self.total
+        let Tallied {
+            inside,
+            tally: _tally,
+        } = self;
+        inside
+    }
+
+    /// What the door has counted, if it counts.
+    pub fn tally(&self) -> Option<&Tally>
+        ensures { option_copied result ≡ self.now.tally }
+    {
+        self.tally.as_ref()
     }
 }
 
 /// Counts an event, where the door counts.
-fn tell(total: &mut Option<Traffic>, kind: &EventKind)
-    ensures { total.new ≡ option_map (with_event kind.now) total.old }
+fn meet(tally: &mut Option<Tally>, at: u64, kind: &EventKind)
+    ensures { tally.new ≡ option_map (met at kind.now) tally.old }
 {
-    if let Some(mut counted) = *total {
-        count_event(&mut counted, kind);
-        *total = Some(counted);
+    match tally {
+        Some(tally) => tally.meet(at, kind),
+        None => {}
     }
 }
 
 /// Counts what is given out for clients.
-fn give(total: &mut Option<Traffic>, outputs: &[Output])
-    ensures { total.new ≡ option_map (with_outputs outputs.now) total.old }
+fn give(tally: &mut Option<Tally>, outputs: &[Output])
+    ensures { tally.new ≡ option_map (gave outputs.now) tally.old }
 {
-    if let Some(mut counted) = *total {
-        count_outputs(&mut counted, outputs);
-        *total = Some(counted);
+    match tally {
+        Some(tally) => tally.give(outputs),
+        None => {}
     }
 }
 
 /// Counts an event of other nodes.
-fn tell_peers(total: &mut Option<Traffic>, kind: &PeerEventKind)
-    ensures { total.new ≡ option_map (with_peer_event kind.now) total.old }
+fn hear(tally: &mut Option<Tally>, kind: &PeerEventKind)
+    ensures { tally.new ≡ option_map (heard kind.now) tally.old }
 {
-    if let Some(mut counted) = *total {
-        count_peer_event(&mut counted, kind);
-        *total = Some(counted);
+    match tally {
+        Some(tally) => tally.hear(kind),
+        None => {}
     }
 }
 
 /// Counts what is given out for other nodes.
-fn give_peers(total: &mut Option<Traffic>, frames: &[PeerFrame])
-    ensures { total.new ≡ option_map (with_frames frames.now) total.old }
+fn give_frames(tally: &mut Option<Tally>, frames: &[PeerFrame])
+    ensures { tally.new ≡ option_map (gave_frames frames.now) tally.old }
 {
-    if let Some(mut counted) = *total {
-        count_frames(&mut counted, frames);
-        *total = Some(counted);
+    match tally {
+        Some(tally) => tally.give_frames(frames),
+        None => {}
     }
 }
 
@@ -122,10 +106,10 @@ impl<H: Handler> Handler for Tallied<H> {
 
     /// Tells the handler inside.
     fn handle(&mut self, event: Event) -> Result<Vec<Output>, H::Fault> {
-        tell(&mut self.total, &event.kind);
+        meet(&mut self.tally, event.at, &event.kind);
         match self.inside.handle(event) {
             Ok(outputs) => {
-                give(&mut self.total, &outputs);
+                give(&mut self.tally, &outputs);
                 Ok(outputs)
             }
             Err(fault) => Err(fault),
@@ -147,11 +131,11 @@ impl<H: BridgeHandler> BridgeHandler for Tallied<H> {
 
     /// Tells the handler inside.
     fn hear(&mut self, event: PeerEvent) -> Result<Given, H::Fault> {
-        tell_peers(&mut self.total, &event.kind);
+        hear(&mut self.tally, &event.kind);
         match self.inside.hear(event) {
             Ok(given) => {
-                give(&mut self.total, &given.outputs);
-                give_peers(&mut self.total, &given.frames);
+                give(&mut self.tally, &given.outputs);
+                give_frames(&mut self.tally, &given.frames);
                 Ok(given)
             }
             Err(fault) => Err(fault),

@@ -1,25 +1,17 @@
-use Rattle.std.proofs.Common.{◌≡◌, ◌∙◌, ◌||◌, Bool, false, ap, ap₂, rules, codes}
+use Rattle.std.proofs.Common.{◌≡◌, ◌∙◌, ◌||◌, Bool, false, ap₂, rules}
 use Rattle.std.proofs.lemmas.Result.{IfOk-weaker}
-use Rattle.clap.specs.Words.{app_of, new_app, rule_of, with_rule}
-use Rattle.clap.specs.Simple.{app_of_fields}
+use Rattle.clap.specs.Words.{with_rule}
 use Rattle.clap.specs.declared.builder.command.Command.TheViews.{out-Command}
-use Rattle.broker_command.specs.Line.{word_rule}
 use Rattle.broker_command.proofs.line.serve_command.Goals as goal
 
 pub returns : goal.returns
 returns c =
-    let configuration : rule_of c.help.result ≡ word_rule (codes "CONFIG") = search rules in
-    let node : rule_of c.help-2.result ≡ word_rule (codes "NODE") = search rules in
-    let database : rule_of c.help-3.result ≡ word_rule (codes "DATABASE") = search rules in
-    let none : app_of c.about.result ≡ new_app (codes "serve") = ap app_of_fields c.about.ensures ∙ c.new.ensures.app in
-    let one = c.in_ok-arg.ensures.shape (search rules) ∙ ap₂ with_rule none configuration in
-    let two = c.in_ok-arg-2.ensures.shape (search rules) ∙ ap₂ with_rule one node in
-    let three = c.in_ok-arg-3.ensures.shape (search rules) ∙ ap₂ with_rule two database in
-    let four = c.in_ok-arg-4.ensures.shape c.turns_option.ensures.local ∙ ap₂ with_rule three c.turns_option.ensures.rule in
-    let five = c.in_ok-arg-5.ensures.shape c.most_clients_option.ensures.local ∙ ap₂ with_rule four c.most_clients_option.ensures.rule in
-    let six = c.in_ok-arg-6.ensures.shape c.connect_within_option.ensures.local ∙ ap₂ with_rule five c.connect_within_option.ensures.rule in
-    let local : (out-Command c.in_ok-arg-6.field-0).has_globals ≡ false = search rules in
-    IfOk-weaker c.arg-7.result _ _ (λ r added. (
-      added.shape c.log_option.ensures.local ∙ ap₂ with_rule six c.log_option.ensures.rule,
-      added.globals ∙ ap₂ (λ (x y : Bool). x || y) local c.log_option.ensures.local,
-    )) c.arg-7.ensures
+    let one = c.in_ok-arg.ensures.shape c.turns_option.ensures.local ∙ ap₂ with_rule c.in_ok-serve_words.ensures.0 c.turns_option.ensures.rule in
+    let two = c.in_ok-arg-2.ensures.shape c.most_clients_option.ensures.local ∙ ap₂ with_rule one c.most_clients_option.ensures.rule in
+    let three = c.in_ok-arg-3.ensures.shape c.connect_within_option.ensures.local ∙ ap₂ with_rule two c.connect_within_option.ensures.rule in
+    let four = c.in_ok-arg-4.ensures.shape c.log_option.ensures.local ∙ ap₂ with_rule three c.log_option.ensures.rule in
+    let local : (out-Command c.in_ok-arg-4.field-0).has_globals ≡ false = search rules in
+    IfOk-weaker c.arg-5.result _ _ (λ r added. (
+      added.shape c.status_option.ensures.local ∙ ap₂ with_rule four c.status_option.ensures.rule,
+      added.globals ∙ ap₂ (λ (x y : Bool). x || y) local c.status_option.ensures.local,
+    )) c.arg-5.ensures

@@ -14,4 +14,5 @@ returns c = (
   c.in-Some-number_of.ensures,
   c.in-Some-number_of-2.ensures,
   flag_read (found_of c.args.found.now) (codes "log") c.get_flag.result c.get_flag.ensures.none c.get_flag.ensures.other c.get_flag.ensures.value,
+  c.in_ok-text_of.ensures,
 )

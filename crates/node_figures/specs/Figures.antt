@@ -1,0 +1,37 @@
+-- The figures of a node.
+use Rattle.std.specs.Prelude.{◌≡◌, ℕ, ◌-◌, List, length, map, string_bytes}
+use Rattle.std.specs.FinMap as fin_map
+use Rattle.node_figures.specs.Peers.{others, peer_at, seen}
+use Rattle.node_work.specs.View.{HeldView, NodeView}
+use Rattle.node_work.specs.declared.counts.Counts.{Counts}
+use Rattle.replica_store.specs.Retained.{with_message}
+use Rattle.subscription_set.specs.Standing.{live}
+use Rattle.status_figures.specs.declared.figures.Figures.{Figures}
+use Rattle.status_figures.specs.declared.figures.LeftOut.{LeftOut}
+use Rattle.status_tally.specs.Tallying.{recent}
+use Rattle.status_tally.specs.Views.{clients_of, total_of}
+use Rattle.status_tally.specs.declared.tally.Tally.{Tally}
+
+abbrev pub left_out : Counts → LeftOut
+left_out counts = record {
+  queue_full = counts.queue_full;
+  retained_full = counts.retained_full;
+  picks_lost = counts.picks_lost;
+  lane_full = counts.lane_full;
+  bad_frames = counts.bad_frames;
+  frames_too_large = counts.frames_too_large;
+}
+
+-- the figures of a node of this name that runs since a moment, at another one, by what it holds and what was counted before it
+pub record AreFigures (own_name : List ℕ) (since at : ℕ) (n : NodeView) (h : HeldView) (tally : Tally) (f : Figures) : Type 0 where
+  pub name : string_bytes f.name ≡ own_name
+  pub number : f.number ≡ n.place.id
+  pub uptime : f.uptime ≡ at - since
+  pub clients : f.clients ≡ clients_of tally
+  pub sessions : f.sessions ≡ fin_map.len h.sessions
+  pub subscriptions : f.subscriptions ≡ length (live h.store.subscriptions)
+  pub retained : f.retained ≡ length (with_message (fin_map.entries h.store.retained))
+  pub missed : f.left_out ≡ left_out h.counts
+  pub total : f.total ≡ total_of tally
+  pub last_seconds : f.recent ≡ recent at tally
+  pub peers : map seen f.peers.items ≡ map (peer_at n.homes h tally) (others n.place.id (length n.homes.nodes))

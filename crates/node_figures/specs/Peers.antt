@@ -1,0 +1,52 @@
+-- What is told of the other nodes.
+use Rattle.std.specs.Prelude.{ℕ, zero, suc, ◌==◌, Bool, List, [], ◌∷◌, ◌++◌, Option, Some, None, length, option_map, slice_get, string_bytes, unwrap_or, if◌then◌else◌}
+use Rattle.std.specs.FinSet as set
+use Rattle.causal_context.specs.Dots.{Dots}
+use Rattle.dot_counts.specs.Counts.{lacking}
+use Rattle.home_table.specs.Table.{Table}
+use Rattle.node_bridge.specs.View.{known_of, lane_to}
+use Rattle.node_work.specs.View.{HeldView}
+use Rattle.status_figures.specs.declared.peer.Peer.{Peer}
+use Rattle.status_tally.specs.Tallying.{is_linked}
+use Rattle.status_tally.specs.declared.tally.Tally.{Tally}
+
+-- what is seen of another node in figures
+pub record Seen : Type 0 where
+  pub name : List ℕ
+  pub number : ℕ
+  pub linked : Bool
+  pub lacking : ℕ
+  pub waiting : ℕ
+
+abbrev pub seen : Peer → Seen
+seen peer = record { name = string_bytes peer.name; number = peer.number; linked = peer.linked; lacking = peer.lacking; waiting = peer.waiting }
+
+-- the operations that a node isn't known to have; of whom nothing is known has none
+abbrev pub lacking_by : Dots → Option Dots → ℕ
+lacking_by taken None = lacking taken set.empty
+lacking_by taken (Some known) = lacking taken known
+
+abbrev pub lacking_of : HeldView → ℕ → ℕ
+lacking_of h peer = lacking_by h.store.taken (known_of h.bridge peer)
+
+-- the messages that wait for it
+abbrev pub waiting_of : HeldView → ℕ → ℕ
+waiting_of h peer = length (lane_to h.bridge peer).waiting
+
+-- the address of its bridge
+abbrev pub bridge_of : Table → ℕ → List ℕ
+bridge_of homes number = unwrap_or (option_map (λ n. n.bridge) (slice_get homes.nodes number)) []
+
+abbrev pub peer_at : Table → HeldView → Tally → ℕ → Seen
+peer_at homes h tally number = record {
+  name = bridge_of homes number;
+  number = number;
+  linked = is_linked number tally;
+  lacking = lacking_of h number;
+  waiting = waiting_of h number;
+}
+
+-- the numbers below one, but for a node's own
+abbrev pub others : ℕ → ℕ → List ℕ
+others own zero = []
+others own (suc n) = others own n ++ (if n == own then [] else n ∷ [])

@@ -1,0 +1,56 @@
+//! What is told of a node.
+
+ghost use Rattle.std.specs.Prelude.{◌≡◌, Some, IfOk};
+ghost use Rattle.node_figures.specs.Figures.{AreFigures, left_out};
+ghost use Rattle.node_work.specs.View.{HeldView};
+
+use crate::peers::peers_of;
+use broker_node::Node;
+use mqtt_fields::NoMemory;
+use node_work::Counts;
+use status_figures::{Figures, LeftOut};
+use status_tally::Tally;
+use std::alloc::Global;
+
+fn left_out(counts: &Counts) -> LeftOut
+    ensures { result ≡ left_out counts.now }
+{
+    LeftOut {
+        queue_full: counts.queue_full,
+        retained_full: counts.retained_full,
+        picks_lost: counts.picks_lost,
+        lane_full: counts.lane_full,
+        bad_frames: counts.bad_frames,
+        frames_too_large: counts.frames_too_large,
+    }
+}
+
+/// The figures of a node of this name that runs since a moment, at another moment, both in milliseconds, with what a door before it has
+/// counted. Nothing is said of them once the node has stopped.
+pub fn figures_of(
+    alloc: Global,
+    name: &str,
+    since: u64,
+    node: &Node,
+    tally: &Tally,
+    at: u64,
+) -> Result<Figures, NoMemory>
+    ensures { IfOk result (λ figures. (h : HeldView) → node.now.up ≡ Some h → AreFigures name.now since at node.now h tally.now figures) }
+{
+    let name = String::from_str(alloc, name)?;
+    let peers = peers_of(alloc, node, tally)?;
+    let store = node.store();
+    Ok(Figures {
+        name,
+        number: node.id(),
+        uptime: at.saturating_sub(since),
+        clients: tally.clients(),
+        sessions: node.sessions() as u64,
+        subscriptions: store.subscriptions().live_count() as u64,
+        retained: store.retained().messages() as u64,
+        left_out: left_out(&node.counts()),
+        total: tally.total(),
+        recent: tally.recent(at),
+        peers,
+    })
+}

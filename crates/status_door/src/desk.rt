@@ -1,0 +1,75 @@
+//! A desk at which a handler's figures are told.
+
+ghost use Rattle.std.specs.Prelude.{◌≡◌, ◌<◌, IfSome};
+
+use crate::door::Watcher;
+use crate::teller::Teller;
+use broker_sockets::Sockets;
+use status_figures::Figures;
+use status_sockets::Desk;
+use std::alloc::Global;
+
+/// In milliseconds, how long nobody looks to the desk again.
+const PAUSE: u64 = 20;
+
+/// A desk, over sockets of its own, and who knows the figures that are told there.
+#[derive(Drop)]
+pub struct OpenDesk<S: Sockets, T> {
+    alloc: Global,
+    sockets: S,
+    desk: Desk<S::Listener, S::Stream>,
+    teller: T,
+    looked: u64,
+}
+
+impl<S: Sockets, T> OpenDesk<S, T> {
+    /// A desk to which nobody has looked yet.
+    pub fn new(
+        alloc: Global,
+        sockets: S,
+        desk: Desk<S::Listener, S::Stream>,
+        teller: T,
+    ) -> OpenDesk<S, T>
+        ensures { result.teller ≡ teller }
+    {
+        OpenDesk {
+            alloc,
+            sockets,
+            desk,
+            teller,
+            looked: 0,
+        }
+    }
+
+    /// Whether the desk is to be looked to.
+    fn is_due(&self, at: u64) -> bool {
+        PAUSE <= self.looked.abs_diff(at)
+    }
+}
+
+/// The figures of a handler at a moment, where there are some and memory for them.
+fn figures_of<H, T: Teller<H>>(alloc: Global, teller: &T, handler: &H, at: u64) -> Option<Figures>
+    ensures { IfSome result (T.tells teller.now handler.now at) }
+{
+    match teller.tell(alloc, handler, at) {
+        Ok(told) => told,
+        Err(_) => None,
+    }
+}
+
+impl<H, S: Sockets, T: Teller<H>> Watcher<H> for OpenDesk<S, T> {
+    /// Attends to those who ask, with the handler's figures; not again within twenty milliseconds. No figures are made while nobody is there.
+    fn watch(&mut self, handler: &H, at: u64) {
+        if !self.is_due(at) {
+            return;
+        }
+        self.looked = at;
+        self.desk.let_in(&mut self.sockets, at);
+        if self.desk.visitors() == 0 {
+            return;
+        }
+        if let Some(figures) = figures_of(self.alloc, &self.teller, handler, at) {
+            self.desk.attend(&mut self.sockets, &figures, at);
+        }
+    }
+}

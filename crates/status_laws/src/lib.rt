@@ -1,0 +1,4 @@
+//! What the status of a node says of its cluster, in every run. Each function does nothing: its contract is the law.
+#![tactic(auto)]
+
+pub mod laws;
