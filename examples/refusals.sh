@@ -7,6 +7,8 @@
 #   NoMemory, of the node or of its rows, the rows are those of before, the next call is answered by Stopped or Spent, and opened again from
 #   its rows the node goes on as after a crash. Rows whose changes are made one by one, and nodes that go on after want of memory, have to
 #   be found there.
+# - refused_records opens databases, as the first two make calls, and plays the scripts of crates/refused_records/data over nodes whose rows
+#   are in a database, as the third does; what such a node goes on from is what the database's files have.
 #
 # Prints a line for each call and each run with how many allocations were refused; the last line is 'N passed, M failed', and the status is
 # 1 where one failed.
@@ -70,7 +72,7 @@ find_out() {
     fi
 }
 
-for crate in refused_calls refused_states refused_runs; do
+for crate in refused_calls refused_states refused_runs refused_records; do
     if [ ! -x "$top/crates/$crate/out/$crate" ]; then
         echo "refusals: crates/$crate/out has no program: run rt ci first, or rt run in crates/$crate"
         exit 2

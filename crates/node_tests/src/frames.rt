@@ -1,8 +1,7 @@
 //! Frames that can't be read, and frames that aren't for the node to which they come.
 
-use crate::keepers::{opened, outputs};
+use crate::keepers::{frame, opened, outputs};
 use broker_node::EventKind;
-use mqtt_packets::Bytes;
 use node_keeper::Keeper;
 use row_store::MemoryRows;
 use std::alloc::Global;
@@ -35,10 +34,9 @@ fn taken(
     rt: &impl Abort,
     alloc: Global,
     keeper: &mut Keeper<MemoryRows>,
-    frame: &[u8],
+    bytes: &[u8],
 ) -> (usize, u64) {
-    let bytes = Bytes::from_slice(alloc, frame).expect(rt, "memory");
-    let outputs = outputs(rt, keeper, EventKind::Frame { bytes });
+    let outputs = outputs(rt, keeper, frame(rt, alloc, bytes));
     (outputs, keeper.node().counts().bad_frames)
 }
 
@@ -47,8 +45,8 @@ fn a_frame_for_another_node_is_counted_and_changes_nothing(rt: HostRuntime) {
     let alloc = rt.alloc();
     let mut keeper = opened(&rt, alloc, MemoryRows::new(alloc), 0);
     assert_eq!(rt; outputs(&rt, &mut keeper, EventKind::Started), 0);
-    for (count, (name, frame)) in (1..).zip(BAD) {
-        let found = taken(&rt, alloc, &mut keeper, frame);
+    for (count, (name, bytes)) in (1..).zip(BAD) {
+        let found = taken(&rt, alloc, &mut keeper, bytes);
         assert_eq!(rt; found, (0, count), "{name}");
     }
     assert_eq!(rt; taken(&rt, alloc, &mut keeper, HELLO), (1, 9));

@@ -40,6 +40,12 @@ pub fn piece(rt: &impl Abort, alloc: Global, connection: u64, bytes: &[u8]) -> E
     EventKind::Piece { connection, bytes }
 }
 
+/// A frame of another node.
+pub fn frame(rt: &impl Abort, alloc: Global, bytes: &[u8]) -> EventKind {
+    let bytes = Bytes::from_slice(alloc, bytes).expect(rt, "memory");
+    EventKind::Frame { bytes }
+}
+
 /// The node has started, and its client `a` is connected.
 pub fn connect(rt: &impl Abort, alloc: Global, keeper: &mut Keeper<MemoryRows>, bytes: &[u8]) {
     assert_eq!(rt; outputs(rt, keeper, EventKind::Started), 0);

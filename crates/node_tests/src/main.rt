@@ -12,6 +12,8 @@ mod frames;
 #[cfg(test)]
 mod keepers;
 #[cfg(test)]
+mod limits;
+#[cfg(test)]
 mod numbers;
 #[cfg(test)]
 mod packets;

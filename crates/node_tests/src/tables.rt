@@ -129,3 +129,23 @@ fn an_end_leaves_what_a_newer_table_made(rt: HostRuntime) {
         );
     }
 }
+
+/// How many tables were refused once this one has come.
+fn refused(rt: &impl Abort, alloc: Global, keeper: &mut Keeper<MemoryRows>, version: u32) -> u64 {
+    let homes = homes_of(alloc, version, 1).expect(rt, "a table");
+    let table = EventKind::Table { homes };
+    assert_eq!(rt; outputs(rt, keeper, table), 0);
+    keeper.node().counts().tables_refused
+}
+
+#[test]
+fn a_table_that_is_not_newer_is_refused_and_counted(rt: HostRuntime) {
+    let alloc = rt.alloc();
+    let mut keeper = opened(&rt, alloc, MemoryRows::new(alloc), 1, 1);
+    connect(&rt, alloc, &mut keeper, CONNECT);
+    for (version, count) in [(0, 1), (1, 2), (2, 2), (2, 3)] {
+        let found = refused(&rt, alloc, &mut keeper, version);
+        assert_eq!(rt; found, count, "at {version}");
+    }
+    drop(keeper);
+}

@@ -9,15 +9,22 @@ use run_trials::{Came, Failure, Notes, Played, Run, came_of, wants_memory};
 use std::alloc::Global;
 use std::mem;
 
-/// A store of rows that is made without rows.
+/// A store of rows that is made without rows, and opened again where a node is.
 pub trait Rows: RowStore {
     /// No rows; none where they can't be had.
     fn none(alloc: Global) -> Option<Self>;
+
+    /// Opens the store again, from what it has stored. Whether it is open.
+    fn open_again(&mut self) -> bool;
 }
 
 impl Rows for MemoryRows {
     fn none(alloc: Global) -> Option<MemoryRows> {
         Some(MemoryRows::new(alloc))
+    }
+
+    fn open_again(&mut self) -> bool {
+        true
     }
 }
 
@@ -96,6 +103,14 @@ fn lay_down<R: RowStore + Drop>(place: &mut Place<R>) {
     match mem::replace(place, Place::Empty) {
         Place::Node(keeper) => *place = Place::Rows(keeper.into_rows()),
         other => *place = other,
+    }
+}
+
+/// Opens the store again whose rows are at a place. Whether it is open.
+fn open_again<R: Rows>(place: &mut Place<R>) -> bool {
+    match place {
+        Place::Rows(rows) => rows.open_again(),
+        _ => false,
     }
 }
 
@@ -318,6 +333,9 @@ impl<R: Rows + Drop> Played for Nodes<R> {
     fn reopen(&mut self, node: u16, held: &mut Notes) -> Option<usize> {
         let place = self.places.get_mut(node as usize)?;
         lay_down(place);
+        if !open_again(place) {
+            return None;
+        }
         let count = note_rows(place, node, held)?;
         if open_place(self.alloc, place, &self.homes, node).is_some() {
             return None;

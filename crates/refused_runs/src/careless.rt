@@ -17,6 +17,10 @@ impl Rows for CarelessRows {
         let rows = MemoryRows::new(alloc);
         Some(CarelessRows { rows })
     }
+
+    fn open_again(&mut self) -> bool {
+        true
+    }
 }
 
 impl RowStore for CarelessRows {

@@ -14,10 +14,8 @@ use crate::careless::CarelessRows;
 use crate::clusters::Together;
 use played_nodes::Nodes;
 use row_store::MemoryRows;
-use run_trials::{Failure, read_run, sweep};
-use std::alloc::Global;
-use std::fs;
-use std::io::{self, Read};
+use run_trials::tell;
+use std::io;
 use std::process::ExitCode;
 
 /// What plays the runs.
@@ -40,39 +38,14 @@ impl Player {
     }
 }
 
-/// How many allocations of the run of a script were refused.
-fn refused(alloc: Global, player: Player, script: &[u8]) -> Result<usize, Failure> {
-    let run = read_run(alloc, script, player == Player::CarelessNodes)?;
-    let refused = match player {
-        Player::Nodes | Player::CarelessNodes => sweep::<Nodes<MemoryRows>>(alloc, &run),
-        Player::Cluster => sweep::<Together>(alloc, &run),
-        Player::CarelessRows => sweep::<Nodes<CarelessRows>>(alloc, &run),
-    };
-    drop(run);
-    refused
-}
-
-fn read_file(rt: &HostRuntime, path: &str) -> io::Result<Vec<u8>> {
-    let mut bytes = Vec::new(rt.alloc());
-    let mut file = fs::open(rt, path)?;
-    file.read_to_end(&mut bytes)?;
-    Ok(bytes)
-}
-
 /// Tells of the run of a script. Whether it is as it should be.
-fn tell(rt: &HostRuntime, player: Player, path: &str) -> io::Result<bool> {
-    let script = read_file(rt, path)?;
+fn tell_of(rt: &HostRuntime, player: Player, path: &str) -> io::Result<bool> {
     let name = player.name();
-    match refused(rt.alloc(), player, &script) {
-        Ok(refused) => {
-            println!(rt; "{path}, {name}: {refused} refused")?;
-            Ok(true)
-        }
-        Err(failure) => {
-            let text = failure.text();
-            println!(rt; "{path}, {name}: FAILED: {text}")?;
-            Ok(false)
-        }
+    match player {
+        Player::Nodes => tell::<Nodes<MemoryRows>>(rt, path, name, false),
+        Player::Cluster => tell::<Together>(rt, path, name, false),
+        Player::CarelessRows => tell::<Nodes<CarelessRows>>(rt, path, name, false),
+        Player::CarelessNodes => tell::<Nodes<MemoryRows>>(rt, path, name, true),
     }
 }
 
@@ -81,7 +54,7 @@ fn tell_all(rt: &HostRuntime, players: &[Player], paths: &[String]) -> io::Resul
     let mut are_right = true;
     for path in paths {
         for player in players {
-            are_right = tell(rt, *player, path.as_str())? && are_right;
+            are_right = tell_of(rt, *player, path.as_str())? && are_right;
         }
     }
     Ok(are_right)

@@ -294,3 +294,36 @@ fn what_is_in_no_delta_is_shipped_with_the_whole_store(rt: HostRuntime) {
     assert!(rt; has(&whole, 1, 1));
     drop(whole);
 }
+
+// The change of this number is made, and the other one of two nodes has it.
+fn pass(rt: &impl Abort, alloc: Global, links: &mut Links, store: &mut ReplicaStore, number: u64) {
+    assert!(rt; links.nodes() == 2);
+    keep(rt, alloc, links, store, number);
+    confirm(rt, alloc, links, number);
+}
+
+// Of the changes 1 to `last` the other node has all but the first; what is shipped to it.
+fn shipped_of(rt: &impl Abort, alloc: Global, last: u64) -> ReplicaStore {
+    let mut links = two_links(rt, alloc);
+    let mut store = ReplicaStore::new(alloc);
+    keep(rt, alloc, &mut links, &mut store, 1);
+    for number in 2..last.saturating_add(1) {
+        pass(rt, alloc, &mut links, &mut store, number);
+    }
+    assert!(rt; links.nodes() == 2);
+    let shipped = ship(rt, &links, &store).expect(rt, "a delta");
+    drop((links, store));
+    shipped
+}
+
+#[test]
+fn what_is_in_none_of_the_last_4096_deltas_is_shipped_with_the_whole_store(rt: HostRuntime) {
+    for (last, is_whole) in [(4_096, false), (4_097, true)] {
+        let shipped = shipped_of(&rt, rt.alloc(), last);
+        assert!(rt;
+            has(&shipped, 0, 1) && has(&shipped, 0, 2) == is_whole,
+            "{last}"
+        );
+        drop(shipped);
+    }
+}

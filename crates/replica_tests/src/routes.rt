@@ -4,7 +4,7 @@ use crate::copies::{message, subscriptions, subscriptions_of};
 use crate::values::{filter, text};
 use bridge_frames::Pick;
 use message_copies::{CopiesAndPicks, copies_and_picks};
-use message_routes::{Destinations, Route, picked_copies};
+use message_routes::{Destinations, HomedPick, Route, picked_copies};
 use mqtt_message::{Message, SharedMessage};
 use numbered_homes::homes_of;
 use std::alloc::Global;
@@ -169,4 +169,29 @@ fn picks_are_taken_where_they_stand(rt: HostRuntime) {
     let told = told_picked(&rt, rt.alloc(), &set);
     assert_eq!(rt; told.as_str(), "c 1 false [5]\nnone\na 2 false []\nnone\n");
     drop((set, told));
+}
+
+// A message for so many picks at node 2, and for no plain subscription: how many picks it goes there with; none where it is too large.
+fn routed(rt: &impl Abort, alloc: Global, count: u32) -> Option<usize> {
+    let mut picks = Vec::new(alloc);
+    for _ in 0..count {
+        let pick = pick(rt, alloc, "b", "$share/g/t/u");
+        picks.push(HomedPick { pick, home: 2 }).expect(rt, "memory");
+    }
+    let homes = Vec::new(alloc);
+    let found = Destinations { homes, picks };
+    let message = message(rt, alloc);
+    let route = found.route(alloc, 2, &message).expect(rt, "memory");
+    drop((found, message));
+    match route {
+        Route::Lane(forward) => Some(forward.picks.as_slice().len()),
+        _ => None,
+    }
+}
+
+#[test]
+fn a_message_has_as_many_as_65535_picks(rt: HostRuntime) {
+    for (count, found) in [(65_535, Some(65_535)), (65_536, None)] {
+        assert_eq!(rt; routed(&rt, rt.alloc(), count), found);
+    }
 }

@@ -5,9 +5,11 @@ mod failure;
 mod notes;
 mod recovery;
 mod run;
+mod telling;
 mod trial;
 
 pub use failure::Failure;
 pub use notes::Notes;
-pub use run::{Run, read_run};
-pub use trial::{Came, Played, came_of, sweep, wants_memory};
+pub use run::Run;
+pub use telling::tell;
+pub use trial::{Came, Played, came_of, wants_memory};
