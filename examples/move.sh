@@ -114,7 +114,9 @@ await_number "$(tail -n 1 "$work/acknowledged")"
 
 sort "$work/acknowledged" > "$work/all"
 sort -u "$work/came" > "$work/found"
-comm -23 "$work/all" "$work/found" | sort -n > "$work/lost"
+# Those before the first that came were published at n2 before the subscription had come there from n0.
+first=$(head -n 1 "$work/came")
+comm -23 "$work/all" "$work/found" | sort -n | awk -v first="$first" '$1 > first' > "$work/lost"
 echo 'the client was told:'
 sed 's/^/    /' "$work/told"
 echo "$(lines "$work/acknowledged") acknowledged, $at_home came at n0, $(($(lines "$work/came") - at_home)) at n1"
