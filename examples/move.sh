@@ -56,29 +56,35 @@ await_told() {
     await_line "$1" "$work/told" "$following"
 }
 
-# Waits until so many more messages have come.
-await_more() {
-    local count=$(($(lines "$work/came") + $1))
-    for _ in $(seq 600); do
-        if [ "$(lines "$work/came")" -ge "$count" ]; then
+# Waits until the command after the first two words answers that it is so, at most $2 tenths of a second; else ends, and says $1.
+await() {
+    local otherwise=$1 times=$2
+    shift 2
+    for _ in $(seq "$times"); do
+        if "$@"; then
             return
         fi
         sleep 0.1
     done
-    echo 'no more messages come'
+    echo "$otherwise"
     exit 1
 }
 
-# Waits until a number has come, or one behind it.
+have_come() {
+    [ "$(lines "$work/came")" -ge "$1" ]
+}
+
+# A number has come, or one behind it.
+is_past() {
+    [ "$(tail -n 1 "$work/came")" -ge "$1" ]
+}
+
+await_more() {
+    await 'no more messages come' 600 have_come $(($(lines "$work/came") + $1))
+}
+
 await_number() {
-    for _ in $(seq 1200); do
-        if [ "$(tail -n 1 "$work/came")" -ge "$1" ]; then
-            return
-        fi
-        sleep 0.1
-    done
-    echo "$1 doesn't come"
-    exit 1
+    await "$1 doesn't come" 1200 is_past "$1"
 }
 
 write_table 0 n0 > "$work/0.toml"
