@@ -1,16 +1,16 @@
 -- What a SUBSCRIBE asks for, and what answers it.
-use Rattle.std.proofs.Common.{◌≡◌, ℕ, suc, zero, ◌+◌, ◌<◌, true, List, [], ◌∷◌, ◌++◌, length, get_or, take, drop, drop-cons, refl, sym, ap, subst, ◌∙◌, ◌⊎◌, inl, inr}
+use Rattle.std.proofs.Common.{◌≡◌, ℕ, suc, zero, ◌+◌, ◌<◌, true, false, List, [], ◌∷◌, ◌++◌, length, get_or, take, drop, drop-cons, refl, sym, ap, subst, ◌∙◌, ◌⊎◌, inl, inr}
 use Rattle.std.proofs.lemmas.List.{take_more}
 use Rattle.mqtt_packets.specs.declared.subscribe.SubscribeFilter.{SubscribeFilter}
-use Rattle.std.specs.Prelude.{Result, None, IfOk, is_some, replicate}
+use Rattle.std.specs.Prelude.{Result, None, Some, IfOk, is_some, replicate}
 use Rattle.mqtt_packets.specs.declared.subscribe.Subscribe.{Subscribe}
 use Rattle.mqtt_packets.specs.declared.unsubscribe.Unsubscribe.{Unsubscribe}
 use Rattle.qos_handshakes.specs.Incoming.{opened}
-use Rattle.mqtt_sessions.specs.Answers.{suback, unsuback}
+use Rattle.mqtt_sessions.specs.Answers.{fits, suback, unsuback}
 use Rattle.mqtt_packets.specs.declared.packet.Packet.{Packet}
 use Rattle.mqtt_sessions.specs.declared.fault.SessionFault.{SessionFault}
-use Rattle.mqtt_sessions.specs.Reaction.{Reaction, Comes, answered}
-use Rattle.mqtt_sessions.specs.State.{State}
+use Rattle.mqtt_sessions.specs.Reaction.{Reaction, Comes, answered, gives_out, nothing}
+use Rattle.mqtt_sessions.specs.State.{State, cut}
 use Rattle.mqtt_sessions.specs.Asking.{AsksNoLocalShare, IsNoLocalShare, subscribed, unsubscribed}
 
 asks_in : (fs : List SubscribeFilter) (f : SubscribeFilter) (gs : List SubscribeFilter) → IsNoLocalShare f → AsksNoLocalShare (fs ++ f ∷ gs)
@@ -46,3 +46,21 @@ pub subscribe-in_use : (p : Subscribe) (limit : ℕ) (s : State) (answer : Packe
     → true ≡ is_some (opened p.identifier s.incoming) → answer ≡ suback p.identifier codes → codes ≡ replicate n 145 → n ≡ length p.filters
     → IfOk result (λ r. Comes (answered limit answer None s) r new) → IfOk result (λ r. Comes (subscribed p limit s) r new)
 subscribe-in_use p limit s answer codes n result new used is each count h = rw (← used, ← count, ← each, ← is) h
+
+-- where the client takes no answer so long, its connection closes; else memory is wanted for it
+pub unsubscribe-closed : (p : Unsubscribe) (limit : ℕ) (s : State) (r : Reaction) (new : State) → true ≡ is_some (opened p.identifier s.incoming)
+    → fits limit (unsuback p.identifier (replicate (length p.filters) 145)) ≡ false → r ≡ record nothing { ask = None; end = Some 0 } → new ≡ cut s → Comes (unsubscribed p limit s) r new
+unsubscribe-closed p limit s r new used long is left = rw (← used, long) (is, left)
+
+pub unsubscribe-wants : (p : Unsubscribe) (limit : ℕ) (s : State) → true ≡ is_some (opened p.identifier s.incoming) → fits limit (unsuback p.identifier (replicate (length p.filters) 145)) ≡ true
+    → gives_out (unsubscribed p limit s).reaction ≡ true
+unsubscribe-wants p limit s used fit = rw (← used, fit) refl
+
+-- where the client takes no answer so long, its connection closes; else memory is wanted for it
+pub subscribe-closed : (p : Subscribe) (limit : ℕ) (s : State) (r : Reaction) (new : State) → true ≡ is_some (opened p.identifier s.incoming)
+    → fits limit (suback p.identifier (replicate (length p.filters) 145)) ≡ false → r ≡ record nothing { ask = None; end = Some 0 } → new ≡ cut s → Comes (subscribed p limit s) r new
+subscribe-closed p limit s r new used long is left = rw (← used, long) (is, left)
+
+pub subscribe-wants : (p : Subscribe) (limit : ℕ) (s : State) → true ≡ is_some (opened p.identifier s.incoming) → fits limit (suback p.identifier (replicate (length p.filters) 145)) ≡ true
+    → gives_out (subscribed p limit s).reaction ≡ true
+subscribe-wants p limit s used fit = rw (← used, fit) refl

@@ -1,5 +1,6 @@
 -- A run of sends, with the packets that they write.
-use Rattle.std.proofs.Common.{◌≡◌, ℕ, ◌+◌, ◌<◌, ◌≤◌, Bool, true, cond, List, [], ◌∷◌, ◌++◌, Some, None, refl, ap, sym, arith, inl, inr, append_assoc}
+use Rattle.std.proofs.Common.{◌≡◌, ◌≢◌, ℕ, ◌+◌, ◌<◌, ◌≤◌, Bool, true, cond, List, [], ◌∷◌, ◌++◌, Some, None, Result, Ok, Err, refl, ap, sym, subst, arith, inl, inr, append_assoc}
+use Rattle.std.specs.Result.{OnErr}
 use Rattle.std.proofs.lemmas.Bool.{cases_Bool, false≢true}
 use Rattle.mqtt_packets.specs.Written.{HasSpelling}
 use Rattle.mqtt_message.specs.declared.delivery.Delivery.{Delivery}
@@ -13,7 +14,7 @@ use Rattle.mqtt_sessions.specs.declared.reaction.Output.{Output}
 use Rattle.mqtt_sessions.specs.declared.reaction.Output.TheVariants.{Answer}
 use Rattle.mqtt_sessions.specs.Answers.{pubrel}
 use Rattle.mqtt_sessions.specs.Reaction.{AreSpelled, packet_of, publish_of, publishes_of, pubrels_of}
-use Rattle.mqtt_sessions.specs.Sending.{SendsAll, Flushes}
+use Rattle.mqtt_sessions.specs.Sending.{SendsAll, Flushes, MayFlush}
 
 -- ---- each send leaves less to be sent
 abbrev pub weight : Entry → ℕ
@@ -101,6 +102,33 @@ sent-more now limit start before mid new packets s h n is = record {
 pub sent-all : (now limit : ℕ) (start : Outbox) (before : List Output) (last new : Outbox) (packets : List Output) → HasSent now limit start before last packets → NextStep now limit last None new
     → (sents : List Sent) × Flushes now limit start sents new × (packets ≡ before ++ publishes_of sents)
 sent-all now limit start before last new packets h stops = (h.sents, record { last = last; sends = h.sends; stops = stops }, h.written)
+
+-- ---- where something may be sent
+pub on-err : {A E : Type 0} (r : Result A E) (P : Type 0) → P → OnErr r P
+on-err (Ok a) P p = tt
+on-err (Err e) P p = p
+
+some-owed : (now limit : ℕ) (s : Sent) (es : Entries) → first_owed now limit es ≡ Some s → es ≢ []
+some-owed now limit s [] is = λ n. (cc is)
+some-owed now limit s (e ∷ es) is = λ n. (cc n)
+
+some-waits : (now limit : ℕ) (d : Delivery) (es : Entries) → first_waiting now limit (after_resend now limit es) ≡ Some d → es ≢ []
+some-waits now limit d [] is = λ n. (cc is)
+some-waits now limit d (e ∷ es) is = λ n. (cc n)
+
+may-send : (now limit : ℕ) (old new : Outbox) (s : Sent) → NextStep now limit old (Some s) new → MayFlush old
+may-send now limit old new s (inl n) = (n.quota, some-owed now limit s old.copies n.sent)
+may-send now limit old new s (inr n) = (n.quota, some-waits now limit s.copy old.copies n.sent)
+
+may-from : (now limit : ℕ) (start mid : Outbox) (sents : List Sent) → SendsAll now limit start sents mid → MayFlush mid → MayFlush start
+may-from now limit start mid [] all may = subst (λ (o : Outbox). MayFlush o) all may
+may-from now limit start mid (s ∷ sents) all may = may-send now limit start all.0 s all.1
+
+pub may-flush : (now limit : ℕ) (start : Outbox) (before : List Output) (mid : Outbox) (packets : List Output) → HasSent now limit start before mid packets → MayFlush mid → MayFlush start
+may-flush now limit start before mid packets h may = may-from now limit start mid h.sents h.sends may
+
+pub may-flush-more : (now limit : ℕ) (start : Outbox) (before : List Output) (mid new : Outbox) (packets : List Output) (s : Sent) → HasSent now limit start before mid packets → NextStep now limit mid (Some s) new → MayFlush start
+may-flush-more now limit start before mid new packets s h n = may-flush now limit start before mid packets h (may-send now limit mid new s n)
 
 pub pubrels-more : (ids : List ℕ) (id : ℕ) → pubrels_of (ids ++ id ∷ []) ≡ pubrels_of ids ++ Answer (pubrel id 0) ∷ []
 pubrels-more [] id = refl

@@ -8,3 +8,4 @@ pub mod ReactionLaws
 pub mod SavedLaws
 pub mod RemovedLaws
 pub mod KeepingLaws
+pub mod EndingLaws

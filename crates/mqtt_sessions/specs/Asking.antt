@@ -12,7 +12,7 @@ use Rattle.mqtt_sessions.specs.declared.link.Asked.TheVariants.{Subscribing, Uns
 use Rattle.mqtt_sessions.specs.declared.reaction.Ask.{Ask}
 use Rattle.mqtt_sessions.specs.declared.reaction.Ask.TheVariants as asks
 use Rattle.mqtt_sessions.specs.Answers.{suback, unsuback}
-use Rattle.mqtt_sessions.specs.Reaction.{Reaction, Outcome, Comes, nothing, answered, refused}
+use Rattle.mqtt_sessions.specs.Reaction.{Reaction, Outcome, Comes, nothing, answered, refused, gives_out}
 use Rattle.mqtt_sessions.specs.State.{Link, State}
 
 -- a shared filter is asked for with No Local (3.8.3.1)
@@ -70,3 +70,7 @@ answer_on (Some l) id codes s = answer_by l.asked l.limit id codes s
 
 abbrev pub AnswerStep : ℕ → List ℕ → State → Reaction → State → Type 0
 AnswerStep id codes s r new = Comes (answer_on s.link id codes s) r new
+
+-- memory is wanted for an answer that is sent
+abbrev pub AnswerWants : ℕ → List ℕ → State → Type 0
+AnswerWants id codes s = gives_out (answer_on s.link id codes s).reaction ≡ true

@@ -10,7 +10,7 @@ use Rattle.mqtt_sessions.specs.declared.kept.Phase.{Phase}
 use Rattle.mqtt_sessions.specs.declared.kept.Phase.TheVariants.{Connected, Closed}
 use Rattle.mqtt_sessions.specs.declared.reaction.Ask.{Ask}
 use Rattle.mqtt_sessions.specs.declared.reaction.Ask.TheVariants.{Pass}
-use Rattle.mqtt_sessions.specs.Reaction.{Reaction, Outcome, Comes, nothing, refused}
+use Rattle.mqtt_sessions.specs.Reaction.{Reaction, Outcome, Comes, nothing, refused, gives_out}
 use Rattle.mqtt_sessions.specs.State.{Kept, Link, State, cut}
 
 -- ---- DISCONNECT
@@ -119,6 +119,9 @@ TickStep now s r new = Comes (ticked now s) r new
 abbrev pub FinishStep : ℕ → State → Reaction → State → Type 0
 FinishStep now s r new = Comes (finished now s) r new
 
--- only a will wants memory
+-- memory is wanted for a will that is published now, and at the end for any
+abbrev pub TickWants : ℕ → State → Type 0
+TickWants now s = gives_out (ticked now s).reaction ≡ true
+
 abbrev pub HasWill : State → Type 0
 HasWill s = IsSome s.kept.will

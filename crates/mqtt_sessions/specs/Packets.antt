@@ -1,18 +1,20 @@
 -- What each packet of a client comes to.
-use Rattle.std.specs.Prelude.{◌≡◌, ℕ, ◌<◌, ◌≤◌, Bool, List, [], ◌⊎◌, Option, Some, None}
+use Rattle.std.specs.Prelude.{◌≡◌, ◌≢◌, ℕ, ◌<◌, ◌≤◌, Bool, true, List, [], ◌⊎◌, Option, Some, None, IsSome}
 use Rattle.mqtt_packets.specs.declared.packet.Packet.{Packet}
 use Rattle.mqtt_packets.specs.declared.packet.Packet.TheVariants as packets
+use Rattle.mqtt_packets.specs.declared.publish.Publish.{Publish}
 use Rattle.qos_handshakes.specs.declared.answers.Ack.{Ack as Ended}
 use Rattle.qos_handshakes.specs.declared.answers.Ack.TheVariants.{Done, Unknown}
 use Rattle.qos_handshakes.specs.declared.answers.Rec.{Rec}
 use Rattle.qos_handshakes.specs.declared.answers.Rec.TheVariants as rec
 use Rattle.qos_handshakes.specs.Outbox.{Outbox, Sent, AcknowledgeStep, CompleteStep, ReceivedStep}
-use Rattle.mqtt_sessions.specs.Answers.{pubrel}
+use Rattle.mqtt_sessions.specs.Aliases.{alias_of}
+use Rattle.mqtt_sessions.specs.Answers.{fits, pubrel}
 use Rattle.mqtt_sessions.specs.Arriving.{published, released}
-use Rattle.mqtt_sessions.specs.Asking.{SubscribeStep, unsubscribed}
+use Rattle.mqtt_sessions.specs.Asking.{AsksNoLocalShare, SubscribeStep, subscribed, unsubscribed}
 use Rattle.mqtt_sessions.specs.Ending.{disconnected}
-use Rattle.mqtt_sessions.specs.Reaction.{Reaction, Comes, nothing, says, publishes_of, answered, refused}
-use Rattle.mqtt_sessions.specs.Sending.{Flushes}
+use Rattle.mqtt_sessions.specs.Reaction.{Reaction, Outcome, Comes, nothing, says, publishes_of, answered, refused, gives_out}
+use Rattle.mqtt_sessions.specs.Sending.{Flushes, MayFlush}
 use Rattle.mqtt_sessions.specs.State.{State, limit_of, heard, with_outbox}
 
 -- ---- PUBACK and PUBCOMP (MQTT 5.0, 3.4 and 3.7): an exchange that ends makes room, and nothing is answered
@@ -103,13 +105,56 @@ PacketEndsIf (Some limit) p s = KindEnds p s
 abbrev pub PacketEnds : Packet → State → Type 0
 PacketEnds p s = PacketEndsIf (limit_of s.link) p s
 
--- these packets take no memory; of the others nothing is said
-abbrev pub WantsMemory : Packet → Type 0
-WantsMemory (packets.Disconnect p) = ⊥
-WantsMemory (packets.Connect p) = ⊥
-WantsMemory (packets.Connack p) = ⊥
-WantsMemory (packets.Suback p) = ⊥
-WantsMemory (packets.Unsuback p) = ⊥
-WantsMemory packets.Pingresp = ⊥
-WantsMemory (packets.Auth p) = ⊥
-WantsMemory p = Unit {0}
+-- ---- where a packet wants memory
+-- a PUBLISH: for its answer, for a message that is passed on, and for an alias that is set
+abbrev pub SetsAlias : Publish → State → Type 0
+SetsAlias p s = (p.topic ≢ []) × IsSome (alias_of p) × IsSome s.link
+
+abbrev pub WantsFor : Publish → Outcome → Type 0
+WantsFor p o = (gives_out o.reaction ≡ true) ⊎ SetsAlias p o.left
+
+-- a PUBACK or a PUBCOMP: where an exchange ends, and the queue may go on
+abbrev pub AcknowledgeWants : ℕ → State → Type 0
+AcknowledgeWants id s = (mid : Outbox) × AcknowledgeStep s.outbox id Done mid × MayFlush mid
+
+abbrev pub CompleteWants : ℕ → State → Type 0
+CompleteWants id s = (mid : Outbox) × CompleteStep s.outbox id Done mid × MayFlush mid
+
+-- a PUBREC: for the PUBREL that is sent, or where an exchange ends, and the queue may go on
+abbrev pub PubrecWantsBy : Rec → ℕ → ℕ → ℕ → Outbox → Type 0
+PubrecWantsBy rec.Release id reason limit mid = fits limit (pubrel id 0) ≡ true
+PubrecWantsBy rec.Ended id reason limit mid = MayFlush mid
+PubrecWantsBy rec.Unknown id reason limit mid = (reason < 128) × (fits limit (pubrel id 146) ≡ true)
+PubrecWantsBy rec.AtEnd id reason limit mid = ⊥
+
+pub record PubrecWants (id reason limit : ℕ) (s : State) : Type 0 where
+  pub answer : Rec
+  pub mid : Outbox
+  pub takes : ReceivedStep s.outbox id reason answer mid
+  pub wants : PubrecWantsBy answer id reason limit mid
+
+-- a packet that breaks a rule wants none, nor does a DISCONNECT; the others want it for the packet that is sent
+abbrev pub KindWants : Packet → ℕ → Bool → ℕ → State → Type 0
+KindWants (packets.Publish p) now room limit s = WantsFor p (published p now room limit s)
+KindWants (packets.Puback a) now room limit s = AcknowledgeWants a.identifier s
+KindWants (packets.Pubrec a) now room limit s = PubrecWants a.identifier a.reason limit s
+KindWants (packets.Pubrel a) now room limit s = gives_out (released a.identifier limit s).reaction ≡ true
+KindWants (packets.Pubcomp a) now room limit s = CompleteWants a.identifier s
+KindWants (packets.Subscribe p) now room limit s = (AsksNoLocalShare p.filters → ⊥) × (gives_out (subscribed p limit s).reaction ≡ true)
+KindWants (packets.Unsubscribe p) now room limit s = gives_out (unsubscribed p limit s).reaction ≡ true
+KindWants packets.Pingreq now room limit s = gives_out (answered limit packets.Pingresp None s).reaction ≡ true
+KindWants (packets.Disconnect p) now room limit s = ⊥
+KindWants (packets.Connect p) now room limit s = ⊥
+KindWants (packets.Connack p) now room limit s = ⊥
+KindWants (packets.Suback p) now room limit s = ⊥
+KindWants (packets.Unsuback p) now room limit s = ⊥
+KindWants packets.Pingresp now room limit s = ⊥
+KindWants (packets.Auth p) now room limit s = ⊥
+
+-- without a connection none is wanted
+abbrev pub WantsIf : Option ℕ → Packet → ℕ → Bool → State → Type 0
+WantsIf None p now room s = ⊥
+WantsIf (Some limit) p now room s = KindWants p now room limit (heard s now)
+
+abbrev pub WantsMemory : Packet → ℕ → Bool → State → Type 0
+WantsMemory p now room s = WantsIf (limit_of s.link) p now room s

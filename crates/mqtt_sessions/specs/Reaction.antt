@@ -1,5 +1,5 @@
 -- What a call of a session answers.
-use Rattle.std.specs.Prelude.{◌≡◌, ℕ, Bool, false, cond, List, [], ◌∷◌, Option, Some, None}
+use Rattle.std.specs.Prelude.{◌≡◌, ◌||◌, ℕ, Bool, true, false, cond, List, [], ◌∷◌, Option, Some, None}
 use Rattle.std.specs.List.{AllByRecursion}
 use Rattle.mqtt_packets.specs.declared.packet.Packet.{Packet}
 use Rattle.mqtt_packets.specs.declared.packet.Packet.TheVariants as packets
@@ -7,6 +7,7 @@ use Rattle.mqtt_packets.specs.Written.{HasSpelling}
 use Rattle.mqtt_message.specs.Sent.{sent}
 use Rattle.qos_handshakes.specs.Outbox.{Sent}
 use Rattle.mqtt_sessions.specs.declared.reaction.Ask.{Ask}
+use Rattle.mqtt_sessions.specs.declared.reaction.Ask.TheVariants as asks
 use Rattle.mqtt_sessions.specs.declared.reaction.Output.{Output}
 use Rattle.mqtt_sessions.specs.declared.reaction.Output.TheVariants.{Publish, Answer}
 use Rattle.mqtt_sessions.specs.Answers.{fits, pubrel, disconnect}
@@ -37,6 +38,20 @@ packet_of now (Answer p) = p
 -- each packet has a spelling, where it is sent at this moment
 abbrev pub AreSpelled : ℕ → List Output → Type 0
 AreSpelled now os = AllByRecursion (λ o. HasSpelling (packet_of now o)) os
+
+-- ---- what goes out: a packet, or a message that is passed on
+abbrev pub sends : List Output → Bool
+sends [] = false
+sends (o ∷ os) = true
+
+abbrev pub passes : Option Ask → Bool
+passes None = false
+passes (Some (asks.Pass m)) = true
+passes (Some asks.Subscribe) = false
+passes (Some asks.Unsubscribe) = false
+
+abbrev pub gives_out : Reaction → Bool
+gives_out r = sends r.packets || passes r.ask
 
 -- ---- PUBLISHes at QoS 1 and 2, and PUBRELs
 abbrev pub publish_of : Sent → Output

@@ -1,14 +1,14 @@
 -- Copies for the client (MQTT 5.0, 4.3, 4.6 and 4.9): those sent at once, and those of the queue.
-use Rattle.std.specs.Prelude.{◌≡◌, ℕ, Bool, true, false, cond, List, [], ◌∷◌, ◌⊎◌, Option, Some, None}
+use Rattle.std.specs.Prelude.{◌≡◌, ◌≢◌, ◌<◌, ℕ, Bool, true, false, cond, List, [], ◌∷◌, ◌⊎◌, Option, Some, None}
 use Rattle.mqtt_fields.specs.declared.options.Qos.{Qos}
 use Rattle.mqtt_fields.specs.declared.options.Qos.TheVariants.{AtMostOnce, AtLeastOnce, ExactlyOnce}
 use Rattle.mqtt_message.specs.declared.delivery.Delivery.{Delivery}
 use Rattle.qos_handshakes.specs.declared.answers.Offer.TheVariants.{Queued, Full, AtEnd}
 use Rattle.qos_handshakes.specs.Outbox as outbox
-use Rattle.qos_handshakes.specs.Outbox.{Outbox, Sent, OfferStep, NextStep}
+use Rattle.qos_handshakes.specs.Outbox.{Outbox, Sent, OfferStep, NextStep, in_flight}
 use Rattle.mqtt_sessions.specs.declared.reaction.Output.{Output}
 use Rattle.mqtt_sessions.specs.declared.reaction.Output.TheVariants.{Publish}
-use Rattle.mqtt_sessions.specs.Reaction.{Reaction, nothing, says, publishes_of}
+use Rattle.mqtt_sessions.specs.Reaction.{Reaction, nothing, says, sends, publishes_of}
 use Rattle.mqtt_sessions.specs.State.{State, limit_of, with_outbox}
 
 abbrev pub SendsAll : ℕ → ℕ → Outbox → List Sent → Outbox → Type 0
@@ -58,6 +58,18 @@ QueueIf false old d now r new = Queues old d now r new ⊎ Overflows old d r new
 
 abbrev pub QueueStep : Delivery → ℕ → State → Reaction → State → Type 0
 QueueStep d now old r new = QueueIf (is_once d.qos) old d now r new
+
+-- something may be sent: quota is free, and copies are kept
+abbrev pub MayFlush : Outbox → Type 0
+MayFlush o = (in_flight o.copies < o.maximum) × (o.copies ≢ [])
+
+-- a copy wants memory where it is sent at once, or joins the queue
+abbrev pub QueueWantsIf : Bool → Delivery → ℕ → State → Type 0
+QueueWantsIf true d now s = sends (once_of (limit_of s.link) now d) ≡ true
+QueueWantsIf false d now s = (mid : Outbox) × OfferStep s.outbox d Queued mid
+
+abbrev pub QueueWants : Delivery → ℕ → State → Type 0
+QueueWants d now s = QueueWantsIf (is_once d.qos) d now s
 
 -- no place is left for it below 2^62
 abbrev pub QueueEnds : Delivery → State → Type 0

@@ -1,6 +1,6 @@
 //! The packets by which a server answers its client, and their lengths.
 
-ghost use Rattle.std.specs.Prelude.{◌≡◌, ◌<◌, ◌^◌, [], IfOk};
+ghost use Rattle.std.specs.Prelude.{◌≡◌, ◌<◌, ◌≤◌, ◌^◌, List, [], ℕ, IfOk, length};
 ghost use Rattle.mqtt_fields.specs.Numbers.{IsText};
 ghost use Rattle.mqtt_packets.specs.Written.{HasSpelling};
 ghost use Rattle.mqtt_sessions.specs.Answers as specs;
@@ -90,6 +90,15 @@ fn list_length(count: usize) -> u64
     }
     let body = 3 + count;
     (1 + vbi_len(body as u32) + body) as u64
+}
+
+/// Whether a client takes a SUBACK or an UNSUBACK with so many codes.
+pub(crate) fn list_fits(limit: u64, count: usize) -> bool
+    requires { limit ≤ 268435460 }
+    ensures suback { (id : ℕ) (codes : List ℕ) → length codes ≡ count → result ≡ specs.fits limit (specs.suback id codes) }
+    ensures unsuback { (id : ℕ) (codes : List ℕ) → length codes ≡ count → result ≡ specs.fits limit (specs.unsuback id codes) }
+{
+    list_length(count) <= limit
 }
 
 fn reasons(alloc: Global, id: u16, codes: Vec<u8>) -> Reasons

@@ -1,6 +1,6 @@
 //! Messages that a client publishes (MQTT 5.0, 3.3, 3.6, 4.3.2 and 4.3.3).
 
-ghost use Rattle.std.specs.Prelude.{◌≡◌, ◌<◌, ◌≤◌, ◌^◌, IfOk, IfErr, IfSome, MatchOption, None, OnOk, is_some};
+ghost use Rattle.std.specs.Prelude.{◌≡◌, ◌<◌, ◌≤◌, ◌^◌, IfOk, IfErr, IfSome, MatchOption, None, OnErr, OnOk, false, is_some, true};
 ghost use Rattle.std.specs.List.{list_any};
 ghost use Rattle.std.specs.Option.{option_copied};
 ghost use Rattle.mqtt_packets.specs.declared.packet.Packet.TheVariants as packets;
@@ -9,7 +9,9 @@ ghost use Rattle.mqtt_topics.specs.Levels.{is_wildcard};
 ghost use Rattle.mqtt_message.specs.Accepted.{IsAcceptable};
 ghost use Rattle.mqtt_sessions.specs.Aliases.{filled, topic_of};
 ghost use Rattle.mqtt_sessions.specs.Arriving as arriving;
-ghost use Rattle.mqtt_sessions.specs.Reaction.{Comes};
+ghost use Rattle.mqtt_sessions.specs.Called.{IsFault};
+ghost use Rattle.mqtt_sessions.specs.Packets.{SetsAlias, WantsFor};
+ghost use Rattle.mqtt_sessions.specs.Reaction.{Comes, gives_out};
 ghost use Rattle.mqtt_sessions.specs.declared.fault.SessionFault.TheVariants.{NoMemory as OutOfMemory};
 ghost use Rattle.mqtt_sessions.specs.State.{aliases_of, watched};
 
@@ -94,7 +96,7 @@ fn is_unwelcome(publish: &Publish, room: bool) -> bool
 fn is_acceptable(connection: &Option<Connection>, publish: &Publish)
     requires spelled { HasSpelling (packets.Publish publish.now) }
     requires taken { arriving.refusal (aliases_of connection.now) publish.now ≡ None }
-    ensures { IsAcceptable (filled (aliases_of (arriving.setting_by connection.now publish.now)) publish.now) }
+    ensures { IsAcceptable (filled (aliases_of connection.now) publish.now) }
 {
     spelled_is_acceptable();
     let _own = publish.topic.as_str();
@@ -117,6 +119,7 @@ fn arrive_once(incoming: &Incoming, id: u16) -> In
 fn arrive_twice(incoming: &mut Incoming, id: u16, unwelcome: bool) -> Result<In, NoMemory>
     ensures answer { IfOk result (λ answer. answer ≡ arriving.arrival_twice incoming.old id) }
     ensures left { IfOk result (λ answer. incoming.new ≡ arriving.after_twice answer unwelcome id incoming.old) }
+    ensures new { OnErr result ((arriving.arrival_twice incoming.old id ≡ In.New) × (unwelcome ≡ false)) }
 {
     if unwelcome && matches!(incoming.publish1(id), In::New) {
         return Ok(In::New);
@@ -161,6 +164,7 @@ impl Running {
         requires moment { now < 2 ^ 62 }
         ensures step { IfOk result (λ r. Comes (arriving.passes_at_most_once unwelcome (arriving.message_in publish.now now self.old.state) self.old.state) r self.new.state) }
         ensures fault { IfErr result (λ e. e ≡ OutOfMemory) }
+        ensures want { OnErr result (gives_out (arriving.passes_at_most_once unwelcome (arriving.message_in publish.now now self.old.state) self.old.state).reaction ≡ true) }
         ensures outgoing { watched self.new ≡ watched self.old }
     {
         if unwelcome {
@@ -184,6 +188,7 @@ impl Running {
         requires limit { limit ≤ 268435460 }
         ensures step { IfOk result (λ r. Comes (arriving.once_by arrival unwelcome limit publish.now.identifier (arriving.message_in publish.now now self.old.state) self.old.state) r self.new.state) }
         ensures fault { IfErr result (λ e. e ≡ OutOfMemory) }
+        ensures want { OnErr result (gives_out (arriving.once_by arrival unwelcome limit publish.now.identifier (arriving.message_in publish.now now self.old.state) self.old.state).reaction ≡ true) }
         ensures outgoing { watched self.new ≡ watched self.old }
     {
         let id = publish.identifier;
@@ -217,6 +222,7 @@ impl Running {
         requires limit { limit ≤ 268435460 }
         ensures step { IfOk result (λ r. Comes (arriving.once_by (arriving.arrival_once self.old.state.incoming publish.now.identifier) unwelcome limit publish.now.identifier (arriving.message_in publish.now now self.old.state) self.old.state) r self.new.state) }
         ensures fault { IfErr result (λ e. e ≡ OutOfMemory) }
+        ensures want { OnErr result (gives_out (arriving.once_by (arriving.arrival_once self.old.state.incoming publish.now.identifier) unwelcome limit publish.now.identifier (arriving.message_in publish.now now self.old.state) self.old.state).reaction ≡ true) }
         ensures outgoing { watched self.new ≡ watched self.old }
     {
         let arrival = arrive_once(&self.incoming, publish.identifier);
@@ -237,6 +243,7 @@ impl Running {
         requires limit { limit ≤ 268435460 }
         ensures step { IfOk result (λ r. Comes (arriving.twice_by arrival unwelcome limit publish.now.identifier (arriving.message_in publish.now now self.old.state) self.old.state) r self.new.state) }
         ensures fault { IfErr result (λ e. e ≡ OutOfMemory) }
+        ensures want { OnErr result (gives_out (arriving.twice_by arrival unwelcome limit publish.now.identifier (arriving.message_in publish.now now self.old.state) self.old.state).reaction ≡ true) }
         ensures outgoing { watched self.new ≡ watched self.old }
     {
         let id = publish.identifier;
@@ -270,13 +277,14 @@ impl Running {
         requires limit { limit ≤ 268435460 }
         ensures step { IfOk result (λ r. Comes (arriving.arrives_twice (arriving.arrival_twice self.old.state.incoming publish.now.identifier) unwelcome limit publish.now.identifier (arriving.message_in publish.now now self.old.state) self.old.state) r self.new.state) }
         ensures fault { IfErr result (λ e. e ≡ OutOfMemory) }
+        ensures want { OnErr result (gives_out (arriving.arrives_twice (arriving.arrival_twice self.old.state.incoming publish.now.identifier) unwelcome limit publish.now.identifier (arriving.message_in publish.now now self.old.state) self.old.state).reaction ≡ true) }
         ensures outgoing { watched self.new ≡ watched self.old }
     {
         let arrival = arrive_twice(&mut self.incoming, publish.identifier, unwelcome)?;
         self.answer_twice(arrival, publish, unwelcome, limit, now)
     }
 
-    /// A PUBLISH that isn't refused, once its alias is set.
+    /// A PUBLISH that isn't refused, before its alias is set.
     fn publish_by_level(
         &mut self,
         publish: &Publish,
@@ -289,6 +297,7 @@ impl Running {
         requires limit { limit ≤ 268435460 }
         ensures step { IfOk result (λ r. Comes (arriving.passes_by publish.now.qos publish.now unwelcome limit (arriving.message_in publish.now now self.old.state) self.old.state) r self.new.state) }
         ensures fault { IfErr result (λ e. e ≡ OutOfMemory) }
+        ensures want { OnErr result (gives_out (arriving.passes_by publish.now.qos publish.now unwelcome limit (arriving.message_in publish.now now self.old.state) self.old.state).reaction ≡ true) }
         ensures outgoing { watched self.new ≡ watched self.old }
     {
         match publish.qos {
@@ -301,6 +310,7 @@ impl Running {
     /// The alias of a PUBLISH stands for its topic from now on.
     fn set(&mut self, publish: &Publish) -> Result<(), NoMemory>
         ensures step { OnOk result (self.new.state ≡ arriving.setting publish.now self.old.state) }
+        ensures want { OnErr result (SetsAlias publish.now self.old.state) }
         ensures outgoing { watched self.new ≡ watched self.old }
     {
         set_alias(self.alloc, &mut self.connection, publish)
@@ -318,23 +328,24 @@ impl Running {
         requires moment { now < 2 ^ 62 }
         requires limit { limit ≤ 268435460 }
         ensures step { IfOk result (λ r. Comes (arriving.published publish.now now room limit self.old.state) r self.new.state) }
-        ensures fault { IfErr result (λ e. e ≡ OutOfMemory) }
+        ensures fault { IfErr result (λ e. IsFault (WantsFor publish.now (arriving.published publish.now now room limit self.old.state)) ⊥ e) }
         ensures outgoing { watched self.new ≡ watched self.old }
     {
         if let Some(code) = refusal(&self.connection, publish) {
             return Ok(self.refused(limit, code));
         }
         is_acceptable(&self.connection, publish);
-        self.set(publish)?;
         let unwelcome = is_unwelcome(publish, room);
-        self.publish_by_level(publish, unwelcome, limit, now)
+        let reaction = self.publish_by_level(publish, unwelcome, limit, now)?;
+        self.set(publish)?;
+        Ok(reaction)
     }
 
     /// A PUBREL.
     pub(crate) fn pubrel(&mut self, id: u16, limit: u64) -> Result<Reaction, SessionFault>
         requires { limit ≤ 268435460 }
         ensures step { IfOk result (λ r. Comes (arriving.released id limit self.old.state) r self.new.state) }
-        ensures fault { IfErr result (λ e. e ≡ OutOfMemory) }
+        ensures fault { IfErr result (λ e. IsFault (gives_out (arriving.released id limit self.old.state).reaction ≡ true) ⊥ e) }
         ensures outgoing { watched self.new ≡ watched self.old }
     {
         let code = release(&mut self.incoming, id);

@@ -3,7 +3,7 @@
 ghost use Rattle.std.specs.Prelude.{◌≡◌, ◌<◌, ◌^◌, [], IfOk, IfErr};
 ghost use Rattle.mqtt_sessions.specs.Called.{IsFault};
 ghost use Rattle.mqtt_sessions.specs.Ending as ending;
-ghost use Rattle.mqtt_sessions.specs.Ending.{ClosedStep, FinishStep, TickStep, HasWill};
+ghost use Rattle.mqtt_sessions.specs.Ending.{ClosedStep, FinishStep, TickStep, TickWants, HasWill};
 ghost use Rattle.mqtt_sessions.specs.Reaction.{AreSpelled, Comes};
 ghost use Rattle.mqtt_sessions.specs.State.{watched, cut};
 
@@ -80,7 +80,7 @@ impl Running {
         requires { now < 2 ^ 62 }
         ensures step { IfOk result (λ r. TickStep now self.old.state r self.new.state) }
         ensures spelled { IfOk result (λ r. AreSpelled now r.packets) }
-        ensures fault { IfErr result (λ e. IsFault (HasWill self.old.state) ⊥ e) }
+        ensures fault { IfErr result (λ e. IsFault (TickWants now self.old.state) ⊥ e) }
         ensures outgoing { watched self.new ≡ watched self.old }
     {
         if self.has_run_out(now) {

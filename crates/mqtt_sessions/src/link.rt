@@ -1,6 +1,6 @@
 //! An open connection.
 
-ghost use Rattle.std.specs.Prelude.{◌≡◌, ◌≤◌, IfSome, OnOk};
+ghost use Rattle.std.specs.Prelude.{◌≡◌, ◌≢◌, ◌≤◌, [], IfSome, IsSome, OnErr, OnOk};
 ghost use Rattle.std.specs.Option.{option_copied};
 ghost use Rattle.mqtt_topics.specs.Topics.{IsName};
 ghost use Rattle.mqtt_sessions.specs.Aliases.{alias_of, alias_topic, topic_for};
@@ -193,7 +193,8 @@ pub(crate) fn set_alias(
     connection: &mut Option<Connection>,
     publish: &Publish,
 ) -> Result<(), NoMemory>
-    ensures { OnOk result (connection.new ≡ setting_by connection.old publish.now) }
+    ensures set { OnOk result (connection.new ≡ setting_by connection.old publish.now) }
+    ensures want { OnErr result ((publish.now.topic ≢ []) × IsSome (alias_of publish.now) × IsSome connection.old) }
 {
     let Some(alias) = publish.properties.two(TOPIC_ALIAS) else {
         return Ok(());

@@ -4,9 +4,8 @@ ghost use Rattle.std.specs.Prelude.{◌≡◌, ◌<◌, ◌≤◌, ◌^◌, IfOk
 ghost use Rattle.mqtt_packets.specs.Written.{HasSpelling};
 ghost use Rattle.mqtt_sessions.specs.Called.{IsFault};
 ghost use Rattle.mqtt_sessions.specs.Ending as ending;
-ghost use Rattle.mqtt_sessions.specs.Packets.{KindEnds, KindStep, PacketEnds, PacketStep, PubackStep, PubcompStep, PubrecStep, WantsMemory};
+ghost use Rattle.mqtt_sessions.specs.Packets.{AcknowledgeWants, CompleteWants, KindEnds, KindStep, KindWants, PacketEnds, PacketStep, PubackStep, PubcompStep, PubrecStep, PubrecWants, WantsMemory};
 ghost use Rattle.mqtt_sessions.specs.Reaction.{AreSpelled, Comes};
-ghost use Rattle.mqtt_sessions.specs.declared.fault.SessionFault.TheVariants.{NoMemory as OutOfMemory};
 ghost use Rattle.qos_handshakes.specs.Outbox.{ReceivedStep};
 ghost use Rattle.qos_handshakes.specs.declared.answers.Rec.TheVariants.{AtEnd};
 ghost use Rattle.session_rows.specs.Changes.{Follows};
@@ -27,7 +26,7 @@ impl Running {
         requires { limit ≤ 268435460 }
         ensures step { IfOk result (λ r. PubackStep id now limit self.old.state r self.new.state) }
         ensures spelled { IfOk result (λ r. AreSpelled now r.packets) }
-        ensures fault { IfErr result (λ e. e ≡ OutOfMemory) }
+        ensures fault { IfErr result (λ e. IsFault (AcknowledgeWants id self.old.state) ⊥ e) }
         ensures follows { OnOk result (Follows (watched self.old) (watched self.new)) }
     {
         let mut packets = Vec::new(self.alloc);
@@ -43,7 +42,7 @@ impl Running {
         requires { limit ≤ 268435460 }
         ensures step { IfOk result (λ r. PubcompStep id now limit self.old.state r self.new.state) }
         ensures spelled { IfOk result (λ r. AreSpelled now r.packets) }
-        ensures fault { IfErr result (λ e. e ≡ OutOfMemory) }
+        ensures fault { IfErr result (λ e. IsFault (CompleteWants id self.old.state) ⊥ e) }
         ensures follows { OnOk result (Follows (watched self.old) (watched self.new)) }
     {
         let mut packets = Vec::new(self.alloc);
@@ -60,7 +59,7 @@ impl Running {
         requires limit { limit ≤ 268435460 }
         ensures step { IfOk result (λ r. PubrecStep id code now limit self.old.state r self.new.state) }
         ensures spelled { IfOk result (λ r. AreSpelled now r.packets) }
-        ensures fault { IfErr result (λ e. IsFault (Unit {0}) (ReceivedStep self.old.state.outbox id code AtEnd self.old.state.outbox) e) }
+        ensures fault { IfErr result (λ e. IsFault (PubrecWants id code limit self.old.state) (ReceivedStep self.old.state.outbox id code AtEnd self.old.state.outbox) e) }
         ensures follows { OnOk result (Follows (watched self.old) (watched self.new)) }
     {
         let mut packets = Vec::new(self.alloc);
@@ -114,7 +113,7 @@ impl Running {
         requires limit { limit ≤ 268435460 }
         ensures step { IfOk result (λ r. KindStep packet.now now room limit self.old.state r self.new.state) }
         ensures spelled { IfOk result (λ r. AreSpelled now r.packets) }
-        ensures fault { IfErr result (λ e. IsFault (WantsMemory packet.now) (KindEnds packet.now self.old.state) e) }
+        ensures fault { IfErr result (λ e. IsFault (KindWants packet.now now room limit self.old.state) (KindEnds packet.now self.old.state) e) }
         ensures follows { OnOk result (Follows (watched self.old) (watched self.new)) }
     {
         match packet {
@@ -147,7 +146,7 @@ impl Running {
         requires moment { now < 2 ^ 62 }
         ensures step { IfOk result (λ r. PacketStep packet.now now room self.old.state r self.new.state) }
         ensures spelled { IfOk result (λ r. AreSpelled now r.packets) }
-        ensures fault { IfErr result (λ e. IsFault (WantsMemory packet.now) (PacketEnds packet.now self.old.state) e) }
+        ensures fault { IfErr result (λ e. IsFault (WantsMemory packet.now now room self.old.state) (PacketEnds packet.now self.old.state) e) }
         ensures follows { OnOk result (Follows (watched self.old) (watched self.new)) }
     {
         let Some(limit) = self.hear(now) else {

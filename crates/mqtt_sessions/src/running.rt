@@ -1,9 +1,9 @@
 //! A session that isn't spent.
 
-ghost use Rattle.std.specs.Prelude.{◌≡◌, ◌<◌, ◌≤◌, [], IfOk, IfErr, IfSome};
+ghost use Rattle.std.specs.Prelude.{◌≡◌, ◌<◌, ◌≤◌, [], Some, true, IfOk, IfErr, IfSome, OnErr};
 ghost use Rattle.mqtt_sessions.specs.Lengths.{IsMeasured};
-ghost use Rattle.mqtt_sessions.specs.Reaction.{Comes, answered, refused};
-ghost use Rattle.mqtt_sessions.specs.State.{new_session, limit_of, heard, watched};
+ghost use Rattle.mqtt_sessions.specs.Reaction.{Comes, answered, gives_out, nothing, refused};
+ghost use Rattle.mqtt_sessions.specs.State.{cut, new_session, limit_of, heard, watched};
 ghost use Rattle.mqtt_sessions.specs.declared.fault.SessionFault.TheVariants.{NoMemory as OutOfMemory};
 
 use crate::answers::{Measured, disconnect_fits};
@@ -66,6 +66,16 @@ impl Running {
         limit
     }
 
+    /// Closes the connection of a client that doesn't take an answer.
+    pub(crate) fn close(&mut self, ask: Option<Ask>) -> Reaction
+        ensures reacts { result ≡ record nothing { ask = ask; end = Some 0 } }
+        ensures left { self.new.state ≡ cut self.old.state }
+        ensures outgoing { watched self.new ≡ watched self.old }
+    {
+        self.connection = None;
+        ends(self.alloc, ask, 0)
+    }
+
     /// Sends an answer, or closes the connection where the client doesn't take it.
     pub(crate) fn answered(
         &mut self,
@@ -77,6 +87,7 @@ impl Running {
         requires measured { IsMeasured answer }
         ensures step { IfOk result (λ r. Comes (answered limit answer.packet ask self.old.state) r self.new.state) }
         ensures fault { IfErr result (λ e. e ≡ OutOfMemory) }
+        ensures want { OnErr result (gives_out (answered limit answer.packet ask self.old.state).reaction ≡ true) }
         ensures outgoing { watched self.new ≡ watched self.old }
     {
         let Measured { packet, length } = answer;
@@ -90,8 +101,7 @@ impl Running {
                 full: false,
             });
         }
-        self.connection = None;
-        Ok(ends(self.alloc, ask, 0))
+        Ok(self.close(ask))
     }
 
     /// Closes the connection of a client that breaks a rule, or is silent.

@@ -15,7 +15,7 @@ ghost use Rattle.mqtt_sessions.specs.Called.{IsFault};
 ghost use Rattle.mqtt_packets.specs.Written.{HasSpelling};
 ghost use Rattle.mqtt_sessions.specs.Packets.{PacketEnds, PacketStep, WantsMemory};
 ghost use Rattle.mqtt_sessions.specs.Reaction.{AreSpelled};
-ghost use Rattle.mqtt_sessions.specs.Sending.{QueueEnds, QueueStep};
+ghost use Rattle.mqtt_sessions.specs.Sending.{QueueEnds, QueueStep, QueueWants};
 ghost use Rattle.mqtt_sessions.specs.Saved.{Appends, Notes, Tells, begun_session, durable_of, main_of, keeps_main, own_before, told_before, told_of, tracked_in};
 
 use crate::fault::SessionFault;
@@ -205,7 +205,7 @@ impl Live {
     pub(crate) fn queue(&mut self, delivery: Delivery, now: u64) -> Result<Reaction, SessionFault>
         ensures step { IfOk result (λ r. QueueStep delivery now self.old.tracked.state r self.new.tracked.state) }
         ensures spelled { IfOk result (λ r. AreSpelled now r.packets) }
-        ensures fault { IfErr result (λ e. IsFault (Unit {0}) (QueueEnds delivery self.old.tracked.state) e) }
+        ensures fault { IfErr result (λ e. IsFault (QueueWants delivery now self.old.tracked.state) (QueueEnds delivery self.old.tracked.state) e) }
         ensures notes { OnOk result (Notes self.old self.new) }
     {
         let stale = self.stale || !is_once(delivery.qos);
@@ -227,7 +227,7 @@ impl Live {
         requires moment { now < 2 ^ 62 }
         ensures step { IfOk result (λ r. PacketStep packet.now now room self.old.tracked.state r self.new.tracked.state) }
         ensures spelled { IfOk result (λ r. AreSpelled now r.packets) }
-        ensures fault { IfErr result (λ e. IsFault (WantsMemory packet.now) (PacketEnds packet.now self.old.tracked.state) e) }
+        ensures fault { IfErr result (λ e. IsFault (WantsMemory packet.now now room self.old.tracked.state) (PacketEnds packet.now self.old.tracked.state) e) }
         ensures notes { OnOk result (Notes self.old self.new) }
     {
         let stale = self.stale || !keeps_own_row(packet);

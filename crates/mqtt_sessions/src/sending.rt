@@ -1,6 +1,6 @@
 //! Copies for the client (MQTT 5.0, 4.3, 4.6 and 4.9).
 
-ghost use Rattle.std.specs.Prelude.{◌≡◌, ◌≤◌, ◌++◌, List, true, false, IfOk, OnOk, IfErr};
+ghost use Rattle.std.specs.Prelude.{◌≡◌, ◌≤◌, ◌++◌, List, true, false, IfOk, OnOk, IfErr, OnErr};
 ghost use Rattle.mqtt_packets.specs.declared.packet.Packet.TheVariants.{Publish};
 ghost use Rattle.mqtt_packets.specs.Written.{HasSpelling};
 ghost use Rattle.mqtt_message.specs.Sent.{sent};
@@ -9,7 +9,7 @@ ghost use Rattle.qos_handshakes.specs.Outbox.{Sent};
 ghost use Rattle.mqtt_sessions.specs.Reaction.{AreSpelled, publishes_of, pubrels_of};
 ghost use Rattle.mqtt_sessions.specs.Reaction as reactions;
 ghost use Rattle.mqtt_sessions.specs.Sending as sending;
-ghost use Rattle.mqtt_sessions.specs.Sending.{Flushes, QueueEnds, QueueStep};
+ghost use Rattle.mqtt_sessions.specs.Sending.{Flushes, MayFlush, QueueEnds, QueueStep, QueueWants};
 ghost use Rattle.mqtt_sessions.specs.State.{watched, limit_of};
 ghost use Rattle.mqtt_sessions.specs.Called.{IsFault};
 ghost use Rattle.mqtt_sessions.specs.declared.fault.SessionFault.TheVariants.{NoMemory as OutOfMemory};
@@ -36,6 +36,7 @@ pub(crate) fn flush(
     requires spelled { AreSpelled now packets.old.items }
     ensures step { IfOk result (λ _. (sents : List Sent) × Flushes now limit outgoing.old.box sents outgoing.new.box × (packets.new.items ≡ packets.old.items ++ publishes_of sents)) }
     ensures spelled { IfOk result (λ _. AreSpelled now packets.new.items) }
+    ensures want { OnErr result (MayFlush outgoing.old.box) }
     ensures follows { OnOk result (Follows outgoing.old outgoing.new) }
 {
     while let Some(sending) = outgoing.next(now, limit)? {
@@ -96,6 +97,7 @@ impl Running {
         ensures step { IfOk result (λ r. (r ≡ reactions.says (sending.once_of (limit_of self.old.state.link) now delivery)) × (self.new.state ≡ self.old.state)) }
         ensures spelled { IfOk result (λ r. AreSpelled now r.packets) }
         ensures fault { IfErr result (λ e. e ≡ OutOfMemory) }
+        ensures want { OnErr result (reactions.sends (sending.once_of (limit_of self.old.state.link) now delivery) ≡ true) }
         ensures outgoing { watched self.new ≡ watched self.old }
     {
         let Some(limit) = self.limit() else {
@@ -120,7 +122,7 @@ impl Running {
     pub(crate) fn queue(&mut self, delivery: Delivery, now: u64) -> Result<Reaction, SessionFault>
         ensures step { IfOk result (λ r. QueueStep delivery now self.old.state r self.new.state) }
         ensures spelled { IfOk result (λ r. AreSpelled now r.packets) }
-        ensures fault { IfErr result (λ e. IsFault (Unit {0}) (QueueEnds delivery self.old.state) e) }
+        ensures fault { IfErr result (λ e. IsFault (QueueWants delivery now self.old.state) (QueueEnds delivery self.old.state) e) }
         ensures follows { OnOk result (Follows (watched self.old) (watched self.new)) }
     {
         if is_once(delivery.qos) {

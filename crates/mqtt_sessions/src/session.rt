@@ -5,14 +5,14 @@ ghost use Rattle.std.specs.Option.{option_copied};
 ghost use Rattle.mqtt_packets.specs.Written.{HasSpelling};
 ghost use Rattle.mqtt_topics.specs.Topics.{IsName};
 ghost use Rattle.mqtt_sessions.specs.Aliases.{topic_for};
-ghost use Rattle.mqtt_sessions.specs.Asking.{AnswerStep};
+ghost use Rattle.mqtt_sessions.specs.Asking.{AnswerStep, AnswerWants};
 ghost use Rattle.mqtt_sessions.specs.Called.{Called, always, never};
 ghost use Rattle.mqtt_sessions.specs.Connecting.{ConnectStep, MayConnectIf};
 ghost use Rattle.mqtt_sessions.specs.Ending as ending;
-ghost use Rattle.mqtt_sessions.specs.Ending.{ClosedStep, FinishStep, TickStep, HasWill};
+ghost use Rattle.mqtt_sessions.specs.Ending.{ClosedStep, FinishStep, TickStep, TickWants, HasWill};
 ghost use Rattle.mqtt_sessions.specs.Packets.{PacketEnds, PacketStep, WantsMemory};
 ghost use Rattle.mqtt_sessions.specs.Reaction.{AreSpelled};
-ghost use Rattle.mqtt_sessions.specs.Sending.{QueueEnds, QueueStep};
+ghost use Rattle.mqtt_sessions.specs.Sending.{QueueEnds, QueueStep, QueueWants};
 ghost use Rattle.mqtt_sessions.specs.Removed.{RemovesIf, removed_before};
 ghost use Rattle.mqtt_sessions.specs.Saved.{Appends, ListsIf, NotesIf, OpensFrom, TellsIf, begun_session, durable_of, state_of, told_before, told_of, tracked_in};
 ghost use Rattle.mqtt_sessions.specs.State.{IsPublishableIf, aliases_of, limit_of};
@@ -96,9 +96,9 @@ impl Session {
         Ok(reaction)
     }
 
-    /// A copy of a message for the client.
+    /// A copy of a message for the client. It takes memory only where it is sent at once, or joins the queue.
     pub fn queue(&mut self, delivery: Delivery, now: u64) -> Result<Reaction, SessionFault>
-        ensures called { Called (QueueStep delivery now) always (QueueEnds delivery) (state_of self.old) result (state_of self.new) }
+        ensures called { Called (QueueStep delivery now) (QueueWants delivery now) (QueueEnds delivery) (state_of self.old) result (state_of self.new) }
         ensures spelled { IfOk result (λ r. AreSpelled now r.packets) }
         ensures notes { NotesIf self.old self.new }
     {
@@ -114,7 +114,8 @@ impl Session {
         }
     }
 
-    /// A packet that came. `room` is whether a retained message for a new topic would be taken.
+    /// A packet that came. `room` is whether a retained message for a new topic would be taken. One that breaks a rule takes no
+    /// memory, nor does a DISCONNECT, nor any without a connection.
     pub fn packet(
         &mut self,
         packet: &Packet,
@@ -123,7 +124,7 @@ impl Session {
     ) -> Result<Reaction, SessionFault>
         requires spelled { HasSpelling packet.now }
         requires moment { now < 2 ^ 62 }
-        ensures called { Called (PacketStep packet.now now room) (λ _. WantsMemory packet.now) (PacketEnds packet.now) (state_of self.old) result (state_of self.new) }
+        ensures called { Called (PacketStep packet.now now room) (WantsMemory packet.now now room) (PacketEnds packet.now) (state_of self.old) result (state_of self.new) }
         ensures spelled { IfOk result (λ r. AreSpelled now r.packets) }
         ensures notes { NotesIf self.old self.new }
     {
@@ -140,11 +141,11 @@ impl Session {
     }
 
     /// The codes of the SUBSCRIBE or UNSUBSCRIBE that was asked for last, one for each filter in order: SUBACK or
-    /// UNSUBACK.
+    /// UNSUBACK. They take memory only where it is sent.
     pub fn answer(&mut self, id: u16, codes: &[u8]) -> Result<Reaction, SessionFault>
         requires identifier { 1 ≤ id }
         requires codes { codes.now ≢ [] }
-        ensures called { Called (AnswerStep id codes.now) always never (state_of self.old) result (state_of self.new) }
+        ensures called { Called (AnswerStep id codes.now) (AnswerWants id codes.now) never (state_of self.old) result (state_of self.new) }
         ensures spelled { IfOk result (λ r. (now : ℕ) → AreSpelled now r.packets) }
         ensures notes { NotesIf self.old self.new }
     {
@@ -174,10 +175,10 @@ impl Session {
         Ok(reaction)
     }
 
-    /// Does one thing that is due: the Keep Alive, else the will, else the end. Only a will wants memory.
+    /// Does one thing that is due: the Keep Alive, else the will, else the end. Only a will that is published wants memory.
     pub fn tick(&mut self, now: u64) -> Result<Reaction, SessionFault>
         requires { now < 2 ^ 62 }
-        ensures called { Called (TickStep now) HasWill never (state_of self.old) result (state_of self.new) }
+        ensures called { Called (TickStep now) (TickWants now) never (state_of self.old) result (state_of self.new) }
         ensures spelled { IfOk result (λ r. AreSpelled now r.packets) }
         ensures notes { NotesIf self.old self.new }
     {

@@ -5,13 +5,13 @@ use Rattle.mqtt_packets.specs.declared.packet.Packet.{Packet}
 use Rattle.mqtt_message.specs.declared.delivery.Delivery.{Delivery}
 use Rattle.qos_handshakes.specs.Incoming.{of_before}
 use Rattle.qos_handshakes.specs.Outbox as outbox
-use Rattle.mqtt_sessions.specs.Asking.{AnswerStep}
+use Rattle.mqtt_sessions.specs.Asking.{AnswerStep, AnswerWants}
 use Rattle.mqtt_sessions.specs.Called.{Called, always, never}
 use Rattle.mqtt_sessions.specs.Connecting.{ConnectStep, MayConnect}
-use Rattle.mqtt_sessions.specs.Ending.{ClosedStep, TickStep, FinishStep, HasWill}
+use Rattle.mqtt_sessions.specs.Ending.{ClosedStep, TickStep, TickWants, FinishStep, HasWill}
 use Rattle.mqtt_sessions.specs.Packets.{PacketEnds, PacketStep, WantsMemory}
 use Rattle.mqtt_sessions.specs.Reaction.{Reaction, nothing}
-use Rattle.mqtt_sessions.specs.Sending.{QueueEnds, QueueStep}
+use Rattle.mqtt_sessions.specs.Sending.{QueueEnds, QueueStep, QueueWants}
 use Rattle.mqtt_sessions.specs.State.{State, limit_in}
 
 -- a call, or `loses`: a crash, after which the session is made again of what was kept
@@ -67,11 +67,11 @@ MayCome e s = Unit {0}
 -- where it may want memory, and where a number is at its end
 abbrev pub wants_of : Event → State → Type 0
 wants_of (connects c continued now) = always
-wants_of (queues d now) = always
-wants_of (takes p now room) = λ s. WantsMemory p
-wants_of (answers id codes) = always
+wants_of (queues d now) = QueueWants d now
+wants_of (takes p now room) = WantsMemory p now room
+wants_of (answers id codes) = AnswerWants id codes
 wants_of (closes now) = never
-wants_of (ticks now) = HasWill
+wants_of (ticks now) = TickWants now
 wants_of (finishes now) = HasWill
 wants_of loses = never
 

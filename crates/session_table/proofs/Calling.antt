@@ -24,7 +24,7 @@ use Rattle.session_table.specs.declared.listing.Listing.{Listing}
 use Rattle.session_table.specs.declared.moments.Moments.{Moments}
 use Rattle.session_table.specs.declared.seated.Seated.{Seated}
 use Rattle.due_times.specs.Dues.{Dues, due_cmp}
-use Rattle.finite_maps.proofs.Texts.{remove_absent, get_apart, get_removed, get_left}
+use Rattle.finite_maps.proofs.Texts.{remove_absent, get_apart, get_inserted, get_removed, get_left}
 use Rattle.session_table.proofs.SeatMaps.{get_seat, seats_insert}
 use Rattle.session_table.proofs.Lists.{listed_again, relists_then, listed_put, listed_out, each_put, each_out, each_but}
 
@@ -168,6 +168,18 @@ module _ (e : Event) (on : Option ℕ → Option ℕ) (client : List ℕ) (t u :
 pub called_none : (e : Event) (on : Option ℕ → Option ℕ) (client : List ℕ) (t u : Table) → map.get t client ≡ None → u ≡ t → IsCalled client e on (seats_in t) (Ok None) (seats_in u)
 called_none e on client t u none same = (get_seat t client ∙ ap (option_map seat_of) none, ap seats_in same)
 
+-- ---- its connection
+pub connection_here : (client : List ℕ) (t : Table) → connection_in (map.get t client) ≡ option_and_then (λ (s : Seat). s.connection) (map.get (seats_in t) client)
+connection_here client t = by (map.get t client) ∙ ap (option_and_then (λ (s : Seat). s.connection)) (sym (get_seat t client))
+  where
+    by : (g : Option Seated) → connection_in g ≡ option_and_then (λ (s : Seat). s.connection) (option_map seat_of g)
+    by None = refl
+    by (Some x) = refl
+
+-- of a seat that was written
+pub goes_here : (client : List ℕ) (t u : Table) (y : Seated) (to : Option ℕ) → u ≡ map.insert t client y → to ≡ y.connection → to ≡ option_and_then (λ (s : Seat). s.connection) (map.get (seats_in u) client)
+goes_here client t u y to written is = is ∙ ap connection_in (sym (ap (λ m. map.get m client) written ∙ get_inserted t client y)) ∙ connection_here client u
+
 -- ---- a client that is taken out
 pub kept_out : (client : List ℕ) (t u : Table) (k l : Listing) → IsKept t k → u ≡ map.remove t client → IsListed u l → IsKept u l
 kept_out client t u k l kept gone listed = record {
@@ -273,13 +285,6 @@ kept_empty t l none a b c = record {
     empty_at dues client e at = ap (λ m. map.contains_key m (at, client)) e ∙ ap is_some (map.get-empty due_cmp (at, client))
 
 -- ---- answers
-pub connection_here : (client : List ℕ) (t : Table) → connection_in (map.get t client) ≡ option_and_then (λ (s : Seat). s.connection) (map.get (seats_in t) client)
-connection_here client t = by (map.get t client) ∙ ap (option_and_then (λ (s : Seat). s.connection)) (sym (get_seat t client))
-  where
-    by : (g : Option Seated) → connection_in g ≡ option_and_then (λ (s : Seat). s.connection) (option_map seat_of g)
-    by None = refl
-    by (Some x) = refl
-
 pub limit_here : (client : List ℕ) (t : Table) (x : Seated) (n : Option ℕ) → Runs x → map.get t client ≡ Some x → IfSome (state_of x.session) (λ s. n ≡ limit_of s.link)
     → n ≡ option_and_then (λ (s : Seat). limit_of s.session.link) (map.get (seats_in t) client)
 limit_here client t x n run is h =

@@ -1,5 +1,5 @@
 -- What a telling leads to.
-use Rattle.std.proofs.Common.{◌≡◌, ◌<◌, ◌^◌, ℕ, Vec, Bool, true, false, List, [], ◌∷◌, ◌++◌, map as map_list, Option, Some, None, Ok, IfSome, unwrap_or, refl, sym, ap, subst, ◌∙◌, inl, inr, arith}
+use Rattle.std.proofs.Common.{◌≡◌, ◌≢◌, ◌<◌, ◌^◌, ℕ, Vec, Bool, true, false, cond, List, [], ◌∷◌, ◌++◌, map as map_list, Option, Some, None, Ok, IfSome, unwrap_or, refl, sym, ap, subst, ◌∙◌, inl, inr, arith}
 use Rattle.std.specs.Prelude.{nat_lt}
 use Rattle.std.specs.FinMap as map
 use Rattle.std.specs.List.{AllByRecursion}
@@ -17,13 +17,13 @@ use Rattle.row_store.specs.declared.row.Change.{Change}
 use Rattle.row_store.specs.declared.row.Change.TheVariants.{Put, Remove}
 use Rattle.row_store.specs.Rows.{Key, Content, key_cmp}
 use Rattle.row_store.proofs.Keys.{keys_total, exact_keys, equal_is}
-use Rattle.row_changes.specs.Leading.{Rows, Begin, Lead, LeadWithin, first_by, key_in, left_by, left_by_one, left_or, or_else, value_in}
-use Rattle.row_changes.proofs.Leaving.{begin_on, changes_leave, lead_on, lead_on_within}
+use Rattle.row_changes.specs.Leading.{Rows, Begin, Lead, LeadWithin, OthersDiffer, first_by, key_in, left_by, left_by_one, left_or, or_else, value_in}
+use Rattle.row_changes.proofs.Leaving.{begin_on, changes_leave, lead_on, lead_on_within, named_either}
 use Rattle.session_rows.specs.Changes.{Plain, Told, plain_of, own_change, own_change_by, is_told, copy_change, copy_changes, changes_of}
 use Rattle.session_rows.specs.Durable.{Durable, IsDurable}
 use Rattle.session_rows.specs.Fields.{Main, main, copy, copy_of}
 use Rattle.session_rows.specs.Rows.{main_key, rows_of}
-use Rattle.saved_laws.specs.Leading.{ChangesAreMade, after_plains, told_rows}
+use Rattle.saved_laws.specs.Leading.{AreDifferent, ChangesAreMade, after_plains, told_rows}
 use Rattle.mqtt_sessions.specs.Reaction.{Reaction}
 use Rattle.mqtt_sessions.specs.Removed.{RemovesIf, gone_of, own_removal, own_told, removals_of, removed_before}
 use Rattle.mqtt_sessions.specs.Saved.{Appends, Saved, NotesIf, Tells, TellsIf, begun_session, durable_of, main_of, own_before, reopened, state_in, state_of, told_before}
@@ -167,12 +167,32 @@ begins client false value rows [] own was is mine key kind = absurd (cc is)
 begins client false value rows (c ∷ []) own was is mine key kind = (let same : plain_of c ≡ (main_key client, value) = cc in one-begins client value rows c was same own mine key kind)
 begins client false value rows (c ∷ d ∷ cs) own was is mine key kind = absurd (cc is)
 
+-- and names no other row
+no-other : (client : List ℕ) (b : Bool) (value : Option (List ℕ)) (first : List Change) (key : Key) → map_list plain_of first ≡ own_before b client value → key.0 ≢ own_kind → left_by first key ≡ None
+no-other client true value [] key is kind = refl
+no-other client true value (c ∷ cs) key is kind = absurd (cc is)
+no-other client false value [] key is kind = absurd (cc is)
+no-other client false value (c ∷ []) key is kind = elim (cases_Bool (eq_by_cmp key_cmp key (key_in c))) [
+  | inl t ↦
+      let same : plain_of c ≡ (main_key client, value) = cc in
+      absurd (kind (ap (λ (k : Key). k.0) (named-key key c t ∙ plain-key c ∙ ap (λ (p : Plain). p.0) same)))
+  | inr f ↦ rw f refl
+]
+no-other client false value (c ∷ d ∷ cs) key is kind = absurd (cc is)
+
+differ-after : (client : List ℕ) (b : Bool) (value : Option (List ℕ)) (old new : Rows) (first own : List Change) → map_list plain_of first ≡ own_before b client value → OthersDiffer own_kind old new own → OthersDiffer own_kind old new (first ++ own)
+differ-after client b value old new first own is differ key kind named = elim (named_either first own key named) [
+  | inl before ↦ absurd (before (no-other client b value first key is kind))
+  | inr here ↦ differ key kind here
+]
+
 after-before : (client : List ℕ) (b : Bool) (value : Option (List ℕ)) (old new : Rows) (first own : List Change) → old (main_key client) ≡ value → map_list plain_of first ≡ own_before b client value → AllByRecursion (IsMine client b) (map_list plain_of own) → Lead old new own
-    → OwnLead client old new (first ++ own)
-after-before client b value old new first own was is mine lead = record {
+    → OthersDiffer own_kind old new own → OwnLead client old new (first ++ own)
+after-before client b value old new first own was is mine lead differ = record {
   own = all-both (IsOf client) first own (are-of client b first (subst (λ (ps : List Plain). AllByRecursion (IsMine client b) ps) (sym is) (mine-before client b value))) (are-of client b own mine);
   lead = lead_on old old new first own (stays client b value old first was is) lead;
   begins = begins client b value old first own was is mine;
+  differ = differ-after client b value old new first own is differ;
 }
 
 -- ---- rows
@@ -221,12 +241,44 @@ unfolding rows-before
 made-lead last own rows h key =
     ap (λ (c : Content). map.get c key) (sym (made (map.from_entries (told_rows last)) own ∙ h)) ∙ changes_leave (map.from_entries (told_rows last)) own key
 
+-- changes that differ from what is there leave other rows
+left-other : (c : Content) (cs : List Change) (key : Key) (l : Option (List ℕ)) → AreDifferent c (map_list plain_of cs) → left_by cs key ≡ Some l → map.get c key ≢ l
+left-other c [] key l h e = absurd (let z : None ≡ Some l = e in cc)
+left-other c (x ∷ xs) key l h e = by (left_by xs key) refl (left-other c xs key l h.1) e
+  where
+    by : (last : Option (Option (List ℕ))) → left_by xs key ≡ last → (left_by xs key ≡ Some l → map.get c key ≢ l) → or_else last (left_by_one x key) ≡ Some l → map.get c key ≢ l
+    by (Some v) is rest f = rest (is ∙ f)
+    by None is rest f = elim (cases_Bool (eq_by_cmp key_cmp key (key_in x))) [
+      | inl t ↦
+          let s : Some (value_in x) ≡ Some l = sym (ap (λ b. cond b (Some (value_in x)) None) t) ∙ f in
+          let value : value_in x ≡ l = cc in
+          λ same. h.0 (ap (map.get c) (sym (named-key key x t ∙ plain-key x)) ∙ same ∙ sym value ∙ plain-value x)
+      | inr n ↦ absurd (let s : None ≡ Some l = sym (ap (λ b. cond b (Some (value_in x)) None) n) ∙ f in cc)
+    ]
+
+made-differ : (last : Option Durable) (own : List Change) (new : Rows) → AreDifferent (map.from_entries (told_rows last)) (map_list plain_of own) → Lead (rows-before last) new own → OthersDiffer own_kind (rows-before last) new own
+unfolding rows-before
+made-differ last own new differ lead key kind named same = by (left_by own key) refl
+  where
+    by : (left : Option (Option (List ℕ))) → left_by own key ≡ left → ⊥
+    by None e = named e
+    by (Some l) e = left-other (map.from_entries (told_rows last)) own key l differ e (sym same ∙ lead key ∙ ap (λ o. left_or o (rows-before last key)) e)
+
+-- what differs from some rows differs from the same
+differs-from : (a b new : Rows) (own : List Change) → ((key : Key) → a key ≡ b key) → OthersDiffer own_kind a new own → OthersDiffer own_kind b new own
+differs-from a b new own same differ key kind named e = differ key kind named (e ∙ sym (same key))
+
 module _ (lead : ToldChangesLead) where
   lead-next : (start : Point) (moves : List Move) (old : Point) (own : List Change) (new : Saved) → Begins start → History start moves old → Tells old.session own new → Lead (rows-before old.last) (rows_for new.tracked.state) own
   lead-next start moves old own new b h t =
       let at : TellsAt old own (told_point new) = record { tells = t; last = ap (λ s. Some (durable_of s)) (same-tracked old.session own new t) } in
       let led = (lead start moves old own (told_point new) b h at).lead in
       subst (λ (s : State). Lead (rows-before old.last) (rows_for s) own) (sym (same-tracked old.session own new t)) (made-lead old.last own (rows_of (durable_at old)) led)
+
+  differ-next : (start : Point) (moves : List Move) (old : Point) (own : List Change) (new : Saved) → Begins start → History start moves old → Tells old.session own new → OthersDiffer own_kind (rows-before old.last) (rows_for new.tracked.state) own
+  differ-next start moves old own new b h t =
+      let at : TellsAt old own (told_point new) = record { tells = t; last = ap (λ s. Some (durable_of s)) (same-tracked old.session own new t) } in
+      made-differ old.last own (rows_for new.tracked.state) (lead start moves old own (told_point new) b h at).exact.differ (lead-next start moves old own new b h t)
 
   -- after a call
   pub call-tells : StaysSince → CallTells
@@ -243,7 +295,7 @@ module _ (lead : ToldChangesLead) where
       let b = is_told mid.told.value (main.bytes (main_of mid.tracked.state)) in (
         subst (λ (c : List ℕ). IsTold c new) is (told-next told.start ms p own new told.begins (sound-then told.moves (calls e r) told.sound sound) h t),
         subst (λ (c : List ℕ). OwnLead c (rows_for old.tracked.state) (rows_for new.tracked.state) (first ++ own)) is
-            (after-before k b mid.told.value (rows_for old.tracked.state) (rows_for new.tracked.state) first own was before (own-next mid own new t) (lead-next told.start ms p own new began h t)),
+            (after-before k b mid.told.value (rows_for old.tracked.state) (rows_for new.tracked.state) first own was before (own-next mid own new t) (lead-next told.start ms p own new began h t) (differ-next told.start ms p own new began h t)),
       )
 
   -- its making
@@ -251,7 +303,8 @@ module _ (lead : ToldChangesLead) where
   begin-tells client first own new text before t = (
     told-next (begun client) [] (begun client) own new (inl (client, text, refl)) tt refl t,
     after-before client false None no_row (rows_for new.tracked.state) first own refl before (own-next (begun_session client) own new t)
-        (λ key. lead-next (begun client) [] (begun client) own new (inl (client, refl)) refl t key ∙ ap (left_or (left_by own key)) (none-before key)),
+        (λ key. lead-next (begun client) [] (begun client) own new (inl (client, refl)) refl t key ∙ ap (left_or (left_by own key)) (none-before key))
+        (differs-from (rows-before None) no_row (rows_for new.tracked.state) own none-before (differ-next (begun client) [] (begun client) own new (inl (client, refl)) refl t)),
   )
 
 -- its end
@@ -268,9 +321,10 @@ removal-leaves removal since client s first own told before r =
     let now = since told.start told.moves (told_point s) began told.history in
     let named = mine-removals s.told k s.tracked.state.outbox.copies r.places in
     let mine = subst (λ (ps : List Plain). AllByRecursion (IsMine k false) ps) (sym r.named) named in
+    let leaves-none : Lead (rows-before (Some (durable_of s.tracked.state))) no_row own = λ key. sym (none-before key) ∙ made-lead (Some (durable_of s.tracked.state)) own [] e.none key in
     subst (λ (c : List ℕ). OwnLead c (rows_for s.tracked.state) no_row (first ++ own)) told.owner
     (after-before k false s.told.value (rows_for s.tracked.state) no_row first own (own-row s.tracked.state ∙ sym now.value) (before ∙ there k (main.bytes (main_of s.tracked.state)) s.told.value now.value) mine
-    (λ key. sym (none-before key) ∙ made-lead (Some (durable_of s.tracked.state)) own [] e.none key))
+    leaves-none (made-differ (Some (durable_of s.tracked.state)) own no_row e.exact.differ leaves-none))
 
 -- ---- rows of all sessions
 unnamed : (client : List ℕ) (key : Key) (cs : List Change) → AllByRecursion (IsOf client) cs → ((c : Change) → IsOf client c → key ≡ key_in c → ⊥) → left_by cs key ≡ None
@@ -315,21 +369,46 @@ begin-within client old a b own lead was key kind = by (eq_by_cmp text_cmp key.1
         (let apart : (c : Change) → IsOf client c → key ≡ key_in c → ⊥ = λ c of e. false≢true (sym f ∙ ap (λ (q : List ℕ). eq_by_cmp text_cmp q client) (ap (λ (k : Key). k.1.0) e ∙ of.owner) ∙ itself client) in
         rw (unnamed-first client key own lead.own apart) tt)
 
+differ-within : (client : List ℕ) (old new : Seats) (a b : Rows) (own : List Change) → OwnLead client a b own → ((key : Key) → row_in (map.get old client) key ≡ a key) → ((key : Key) → row_in (map.get new client) key ≡ b key)
+    → OthersDiffer own_kind (seat_row old) (seat_row new) own
+differ-within client old new a b own lead was is key kind named = by (eq_by_cmp text_cmp key.1.0 client) refl
+  where
+    by : (same : Bool) → eq_by_cmp text_cmp key.1.0 client ≡ same → seat_row new key ≢ seat_row old key
+    by true t =
+        (let P : List ℕ → Type 0 = λ q. row_in (map.get new q) key ≢ row_in (map.get old q) key in
+        subst P (sym (same_text key.1.0 client t)) (λ e. lead.differ key kind named (sym (is key) ∙ e ∙ was key)))
+    by false f =
+        (let apart : (c : Change) → IsOf client c → key ≡ key_in c → ⊥ = λ c of e. false≢true (sym f ∙ ap (λ (q : List ℕ). eq_by_cmp text_cmp q client) (ap (λ (k : Key). k.1.0) e ∙ of.owner) ∙ itself client) in
+        absurd (named (unnamed client key own lead.own apart)))
+
 within-on : (client : List ℕ) (old new : Seats) (a b : Rows) (before after : List Change) → OwnLeadsOn client a before after b → ((key : Key) → row_in (map.get old client) key ≡ a key) → ((key : Key) → row_in (map.get new client) key ≡ b key)
     → ((q : List ℕ) → eq_by_cmp text_cmp q client ≡ false → map.get new q ≡ map.get old q) → LeadsOn old before after new
-within-on client old new a b before after l was is others = (l.0, l.1, within client old new a b l.0 l.2 was is others, begin-within client old a b l.0 l.2 was)
+within-on client old new a b before after l was is others = (l.0, l.1, within client old new a b l.0 l.2 was is others, begin-within client old a b l.0 l.2 was, differ-within client old new a b l.0 l.2 was is)
 
 -- where nothing changes
 pub still : (old new : Seats) (xs : List Change) → new ≡ old → LeadsOn old xs xs new
-still old new xs same = ([], sym (append-nil xs), record { own = λ key kind. ap (λ s. seat_row s key) same; others = λ key not. refl }, λ key kind. tt)
+still old new xs same = ([], sym (append-nil xs), record { own = λ key kind. ap (λ s. seat_row s key) same; others = λ key not. refl }, λ key kind. tt, λ key kind named. absurd (named refl))
+
+-- of two one after the other the second names no other row
+differ-then : (a b c : Seats) (xs ys zs : List Change) (first : LeadsOn a xs ys b) (second : LeadsOn b ys zs c) → ((key : Key) → key.0 ≢ own_kind → left_by second.0 key ≡ None) → OthersDiffer own_kind (seat_row a) (seat_row c) (first.0 ++ second.0)
+differ-then a b c xs ys zs first second quiet key kind named = elim (named_either first.0 second.0 key named) [
+  | inr after ↦ absurd (after (quiet key kind))
+  | inl before ↦ elim (cases_Bool (is_session_kind key.0)) [
+    | inl own ↦
+        let same : seat_row c key ≡ seat_row b key = second.2.own key own ∙ ap (λ o. left_or o (seat_row b key)) (quiet key kind) in
+        λ e. first.4 key kind before (sym same ∙ e)
+    | inr not ↦ absurd (before (first.2.others key not))
+  ]
+]
 
 -- one after the other
-pub leads-then : (a b c : Seats) (xs ys zs : List Change) → LeadsOn a xs ys b → LeadsOn b ys zs c → LeadsOn a xs zs c
-leads-then a b c xs ys zs first second = (
+leads-then : (a b c : Seats) (xs ys zs : List Change) (first : LeadsOn a xs ys b) (second : LeadsOn b ys zs c) → ((key : Key) → key.0 ≢ own_kind → left_by second.0 key ≡ None) → LeadsOn a xs zs c
+leads-then a b c xs ys zs first second quiet = (
   first.0 ++ second.0,
   second.1 ∙ ap (λ l. l ++ second.0) first.1 ∙ append_assoc xs first.0 second.0,
   lead_on_within is_session_kind (seat_row a) (seat_row b) (seat_row c) first.0 second.0 first.2 second.2,
   begin_on own_kind (seat_row a) (seat_row b) first.0 second.0 (λ key kind. first.2.own key (ap is_session_kind kind)) first.3 second.3,
+  differ-then a b c xs ys zs first second quiet,
 )
 
 row-state : (o : Option Saved) (s : State) → state_of o ≡ Some s → (key : Key) → saved_row o key ≡ rows_for s key
@@ -392,14 +471,30 @@ gone-leads client t u session before after is gone all leads = by (map.get t cli
         within-on client (seats_in t) (seats_in u) (saved_row x.session) no_row before after led (row-here client t x here (all client x here)) none
         (λ q apart. ap (λ m. map.get (seats_in m) q) gone ∙ ap (λ m. map.get m q) (seats_remove t client) ∙ get_left (seats_in t) client q apart))
 
+-- a new session has a row of its own alone
+one-row : (client : List ℕ) (key : Key) → key.0 ≢ own_kind → rows_for (new_session client) key ≡ None
+one-row client key kind = map.get-from_entries keys_total (rows_of (durable_of (new_session client))) key ∙ elim (cases_Bool (eq_by_cmp key_cmp key (main_key client))) [
+  | inl t ↦ absurd (kind (ap (λ (k : Key). k.0) (exact_keys key (main_key client) (equal_is (key_cmp key (main_key client)) t))))
+  | inr f ↦ rw f refl
+]
+
+begun-names : (client : List ℕ) (session : Option Saved) (own : List Change) → OwnLead client no_row (saved_row session) own → state_of session ≡ Some (new_session client) → (key : Key) → key.0 ≢ own_kind → left_by own key ≡ None
+begun-names client session own lead is key kind = by (left_by own key) refl
+  where
+    by : (left : Option (Option (List ℕ))) → left_by own key ≡ left → left_by own key ≡ None
+    by None e = e
+    by (Some l) e = absurd (lead.differ key kind (λ none. absurd (let z : Some l ≡ None = sym e ∙ none in cc)) (row-state session (new_session client) is key ∙ one-row client key kind))
+
 -- a session is put in after the one before it is taken out
 pub begun-leads : (client : List ℕ) (old mid new : Seats) (session : Option Saved) (a b c : List Change) → mid ≡ map.remove old client → LeadsOn old a b mid → OwnLeadsOn client no_row b c (saved_row session)
     → state_of session ≡ Some (new_session client) → new ≡ map.insert mid client (begun_seat client) → LeadsOn old a c new
+unfolding within-on
 begun-leads client old mid new session a b c gone first own is put =
     leads-then old mid new a b c first
     (within-on client mid new no_row (saved_row session) b c own (λ key. ap (λ m. row_in (map.get m client) key) gone ∙ ap (λ g. row_in g key) (get_removed old client))
     (λ key. ap (λ m. row_in (map.get m client) key) put ∙ ap (λ g. row_in g key) (get_inserted mid client (begun_seat client)) ∙ sym (row-state session (new_session client) is key))
     (λ q apart. ap (λ m. map.get m q) put ∙ get_apart mid client (begun_seat client) q apart))
+    (begun-names client session own.0 own.2 is)
 
 -- ---- one session's calls
 module _ (call : CallTells) where

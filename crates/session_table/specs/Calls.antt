@@ -1,5 +1,5 @@
 -- What a call of a client's session comes to.
-use Rattle.std.specs.Prelude.{◌≡◌, ◌<◌, ◌^◌, ℕ, Bool, List, Option, Some, None, Result, Ok, Err, IfSome, IsSome, ◌≤◌, ◌≢◌, []}
+use Rattle.std.specs.Prelude.{◌≡◌, ◌<◌, ◌^◌, ℕ, Bool, List, Option, Some, None, Result, Ok, Err, IfSome, IsSome, ◌≤◌, ◌≢◌, [], option_and_then, option_map}
 use Rattle.std.specs.Option.{ForSome}
 use Rattle.std.specs.FinMap as map
 use Rattle.mqtt_packets.specs.Written.{HasSpelling}
@@ -12,6 +12,7 @@ use Rattle.mqtt_sessions.specs.declared.fault.SessionFault.TheVariants.{NoMemory
 use Rattle.session_laws.specs.Runs.{Event, connects, queues, takes, answers, closes, ticks, finishes, loses, MayCome, Reacts, ends_of}
 use Rattle.session_table.specs.Listing.{moments_of}
 use Rattle.session_table.specs.Seats.{Seat, Seats}
+use Rattle.session_table.specs.declared.call.Addressed.{Addressed}
 use Rattle.session_table.specs.declared.call.Call.{Call}
 use Rattle.session_table.specs.declared.call.Call.TheVariants.{Connect, Queue, Packet, Answer, Closed, Tick, Finish}
 use Rattle.session_table.specs.declared.call.On.{On}
@@ -68,6 +69,15 @@ Asks (Answer id codes) = (1 ≤ id) × (codes.now ≢ [])
 Asks (Closed now) = now < 2 ^ 62
 Asks (Tick now) = now < 2 ^ 62
 Asks (Finish now) = now < 2 ^ 62
+
+-- what it gives, without its address
+abbrev pub reaction_of : Result (Option Addressed) SessionFault → Result (Option Reaction) SessionFault
+reaction_of (Ok given) = Ok (option_map (λ x. x.reaction) given)
+reaction_of (Err fault) = Err fault
+
+-- and it goes to the connection that the client is on then
+abbrev pub GoesTo : List ℕ → Seats → Option Addressed → Type 0
+GoesTo client seats given = IfSome given (λ x. x.to ≡ option_and_then (λ s. s.connection) (map.get seats client))
 
 -- what it gives has spellings; SUBACK and UNSUBACK at any moment
 abbrev pub GivesSpelled : Event → Reaction → Type 0

@@ -7,7 +7,7 @@ use Rattle.mqtt_sessions.specs.Reaction.{Reaction}
 use Rattle.mqtt_sessions.specs.Removed.{Removes, removed_before}
 use Rattle.mqtt_sessions.specs.Saved.{Saved, Notes, Tells, begun_session, durable_of, told_before}
 use Rattle.mqtt_sessions.specs.State.{State}
-use Rattle.row_changes.specs.Leading.{Rows, Begin, Lead, LeadWithin, key_in}
+use Rattle.row_changes.specs.Leading.{Rows, Begin, Lead, LeadWithin, OthersDiffer, key_in}
 use Rattle.row_store.specs.declared.row.Change.{Change}
 use Rattle.row_store.specs.Rows.{key_cmp}
 use Rattle.saved_laws.specs.Histories.{Point, Move, History}
@@ -39,9 +39,10 @@ is_session_kind n = n == 2 || n == 3
 abbrev pub own_kind : ℕ
 own_kind = 2
 
--- changes are appended that lead from the rows before to those after; those of a session's own row begin with what was there
+-- changes are appended that lead from the rows before to those after; those of a session's own row begin with what was there, and
+-- each other row that is named differs
 abbrev pub LeadsOn : Seats → List Change → List Change → Seats → Type 0
-LeadsOn old before after new = (own : List Change) × (after ≡ before ++ own) × LeadWithin is_session_kind (seat_row old) (seat_row new) own × Begin own_kind (seat_row old) own
+LeadsOn old before after new = (own : List Change) × (after ≡ before ++ own) × LeadWithin is_session_kind (seat_row old) (seat_row new) own × Begin own_kind (seat_row old) own × OthersDiffer own_kind (seat_row old) (seat_row new) own
 
 -- ---- one session
 -- all its rows were told
@@ -83,6 +84,7 @@ pub record OwnLead (client : List ℕ) (old new : Rows) (changes : List Change) 
   pub own : AllByRecursion (IsOf client) changes
   pub lead : Lead old new changes
   pub begins : Begin own_kind old changes
+  pub differ : OthersDiffer own_kind old new changes
 
 -- the same of changes that are appended
 abbrev pub OwnLeadsOn : List ℕ → Rows → List Change → List Change → Rows → Type 0

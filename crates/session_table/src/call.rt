@@ -44,6 +44,13 @@ pub enum On {
     Leaves,
 }
 
+/// What a call of a session gave, and the connection that this goes to: the one that the client is on then.
+#[derive(Drop)]
+pub struct Addressed {
+    pub reaction: Reaction,
+    pub to: Option<u64>,
+}
+
 /// The connection that a client is on, by the one before.
 pub(crate) fn land(on: On, before: Option<u64>) -> Option<u64>
     ensures { result ≡ on_of on before }

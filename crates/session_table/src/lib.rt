@@ -10,4 +10,5 @@ mod sessions;
 mod table;
 mod telling;
 
+pub use call::Addressed;
 pub use sessions::Sessions;

@@ -1,6 +1,6 @@
 //! Which clients are due when.
 
-ghost use Rattle.std.specs.Prelude.{◌≡◌, IfSome, IsTrue, None, OnOk};
+ghost use Rattle.std.specs.Prelude.{◌≡◌, ◌≢◌, ◌↔◌, IfSome, IsTrue, None, OnErr, OnOk};
 ghost use Rattle.session_table.specs.Listing as spec;
 ghost use Rattle.session_table.specs.Listing.{IsAt, IsListedAt, KeepsOthers, Relists};
 
@@ -18,7 +18,7 @@ pub struct Listing {
 }
 
 fn is_same(a: Option<u64>, b: Option<u64>) -> bool
-    ensures { IsTrue result → a ≡ b }
+    ensures { IsTrue result ↔ a ≡ b }
 {
     match (a, b) {
         (Some(a), Some(b)) => a == b,
@@ -46,7 +46,7 @@ fn withdraw(list: &mut DueTimes, key: &mut (u64, Text), listed: &mut Option<u64>
     }
 }
 
-/// Puts a client into a list at another moment. Where memory is refused, it isn't there.
+/// Puts a client into a list at another moment. Where memory is refused, it isn't there; at the same moment none is asked for.
 fn change(
     list: &mut DueTimes,
     alloc: Global,
@@ -59,6 +59,7 @@ fn change(
     ensures others { KeepsOthers key.old.1 list.old list.new }
     ensures key { key.new.1 ≡ key.old.1 }
     ensures ok { OnOk result (listed.new ≡ moment) }
+    ensures want { OnErr result (listed.old ≢ moment) }
 {
     if is_same(*listed, moment) {
         return Ok(());
@@ -89,6 +90,7 @@ pub(crate) fn relist(
     ensures others { Relists key.old.1 listing.old listing.new }
     ensures key { key.new.1 ≡ key.old.1 }
     ensures ok { OnOk result (listed.new ≡ moments) }
+    ensures want { OnErr result (listed.old ≢ moments) }
 {
     change(
         &mut listing.run_outs,

@@ -10,11 +10,11 @@ ghost use Rattle.mqtt_sessions.specs.Ending as ending;
 ghost use Rattle.mqtt_sessions.specs.Saved.{state_of};
 ghost use Rattle.mqtt_sessions.specs.State.{IsPublishableIf, aliases_of, limit_of};
 ghost use Rattle.session_laws.specs.Runs.{connects, queues, takes, answers, closes, ticks, finishes};
-ghost use Rattle.session_table.specs.Calls.{GivesSpelled, IsSpelledIf, Asks, IsCalled, MayConnectAt, MayTurnAt, event_of, leaves, moves, on_of, stays};
+ghost use Rattle.session_table.specs.Calls.{GivesSpelled, GoesTo, IsSpelledIf, Asks, IsCalled, MayConnectAt, MayTurnAt, event_of, leaves, moves, on_of, reaction_of, stays};
 ghost use Rattle.session_table.specs.Rows.{AllDurable, IsAllTold, LeadsOn};
 ghost use Rattle.session_table.specs.Seats.{AreElsewhere, begun, connected, ends_due, run_outs, wills_due};
 
-use crate::call::{Call, On};
+use crate::call::{Addressed, Call, On};
 use crate::listing::Listing;
 use crate::seated::BoxedSeat;
 use crate::table::{
@@ -26,7 +26,7 @@ use home_table::HomeTable;
 use mqtt_fields::{NoMemory, Text};
 use mqtt_message::Delivery;
 use mqtt_packets::{Connect, Packet};
-use mqtt_sessions::{Reaction, Session, SessionFault};
+use mqtt_sessions::{Session, SessionFault};
 use row_store::Change;
 use saved_laws::stays_durable;
 use std::alloc::Global;
@@ -206,11 +206,12 @@ impl Sessions {
         call: Call<'_>,
         on: On,
         changes: &mut Vec<Change>,
-    ) -> Result<Option<Reaction>, SessionFault>
+    ) -> Result<Option<Addressed>, SessionFault>
         requires asks { Asks call }
         requires may { MayTurnAt (event_of call) (map.get self.old client.now) }
-        ensures called { IsCalled client.now (event_of call.entry) (on_of on) self.old result self.new }
-        ensures spelled { IfOk result (λ o. IfSome o (GivesSpelled (event_of call.entry))) }
+        ensures called { IsCalled client.now (event_of call.entry) (on_of on) self.old (reaction_of result) self.new }
+        ensures goes { IfOk result (GoesTo client.now self.new) }
+        ensures spelled { IfOk (reaction_of result) (λ o. IfSome o (GivesSpelled (event_of call.entry))) }
         ensures leads { OnOk result (LeadsOn self.old changes.old.items changes.new.items self.new) }
     {
         match call_in(
@@ -240,11 +241,12 @@ impl Sessions {
         continued: bool,
         now: u64,
         changes: &mut Vec<Change>,
-    ) -> Result<Option<Reaction>, SessionFault>
+    ) -> Result<Option<Addressed>, SessionFault>
         requires continued { MayConnectAt continued (map.get self.old client.now) }
         requires will { IsPublishableIf connect.now.will }
-        ensures called { IsCalled client.now (connects connect.now continued now) (moves connection) self.old result self.new }
-        ensures spelled { IfOk result (IsSpelledIf now) }
+        ensures called { IsCalled client.now (connects connect.now continued now) (moves connection) self.old (reaction_of result) self.new }
+        ensures goes { IfOk result (GoesTo client.now self.new) }
+        ensures spelled { IfOk (reaction_of result) (IsSpelledIf now) }
         ensures leads { OnOk result (LeadsOn self.old changes.old.items changes.new.items self.new) }
     {
         let call = Call::Connect {
@@ -262,9 +264,10 @@ impl Sessions {
         delivery: Delivery,
         now: u64,
         changes: &mut Vec<Change>,
-    ) -> Result<Option<Reaction>, SessionFault>
-        ensures called { IsCalled client.now (queues delivery now) stays self.old result self.new }
-        ensures spelled { IfOk result (IsSpelledIf now) }
+    ) -> Result<Option<Addressed>, SessionFault>
+        ensures called { IsCalled client.now (queues delivery now) stays self.old (reaction_of result) self.new }
+        ensures goes { IfOk result (GoesTo client.now self.new) }
+        ensures spelled { IfOk (reaction_of result) (IsSpelledIf now) }
         ensures leads { OnOk result (LeadsOn self.old changes.old.items changes.new.items self.new) }
     {
         self.call(client, Call::Queue { delivery, now }, On::Stays, changes)
@@ -278,11 +281,12 @@ impl Sessions {
         now: u64,
         room: bool,
         changes: &mut Vec<Change>,
-    ) -> Result<Option<Reaction>, SessionFault>
+    ) -> Result<Option<Addressed>, SessionFault>
         requires spelled { HasSpelling packet.now }
         requires moment { now < 2 ^ 62 }
-        ensures called { IsCalled client.now (takes packet.now now room) stays self.old result self.new }
-        ensures spelled { IfOk result (IsSpelledIf now) }
+        ensures called { IsCalled client.now (takes packet.now now room) stays self.old (reaction_of result) self.new }
+        ensures goes { IfOk result (GoesTo client.now self.new) }
+        ensures spelled { IfOk (reaction_of result) (IsSpelledIf now) }
         ensures leads { OnOk result (LeadsOn self.old changes.old.items changes.new.items self.new) }
     {
         self.call(
@@ -300,11 +304,12 @@ impl Sessions {
         id: u16,
         codes: &[u8],
         changes: &mut Vec<Change>,
-    ) -> Result<Option<Reaction>, SessionFault>
+    ) -> Result<Option<Addressed>, SessionFault>
         requires identifier { 1 ≤ id }
         requires codes { codes.now ≢ [] }
-        ensures called { IsCalled client.now (answers id codes.now) stays self.old result self.new }
-        ensures spelled { (now : ℕ) → IfOk result (IsSpelledIf now) }
+        ensures called { IsCalled client.now (answers id codes.now) stays self.old (reaction_of result) self.new }
+        ensures goes { IfOk result (GoesTo client.now self.new) }
+        ensures spelled { (now : ℕ) → IfOk (reaction_of result) (IsSpelledIf now) }
         ensures leads { OnOk result (LeadsOn self.old changes.old.items changes.new.items self.new) }
     {
         self.call(client, Call::Answer { id, codes }, On::Stays, changes)
@@ -316,10 +321,11 @@ impl Sessions {
         client: &Text,
         now: u64,
         changes: &mut Vec<Change>,
-    ) -> Result<Option<Reaction>, SessionFault>
+    ) -> Result<Option<Addressed>, SessionFault>
         requires { now < 2 ^ 62 }
-        ensures called { IsCalled client.now (closes now) leaves self.old result self.new }
-        ensures spelled { IfOk result (IsSpelledIf now) }
+        ensures called { IsCalled client.now (closes now) leaves self.old (reaction_of result) self.new }
+        ensures goes { IfOk result (GoesTo client.now self.new) }
+        ensures spelled { IfOk (reaction_of result) (IsSpelledIf now) }
         ensures leads { OnOk result (LeadsOn self.old changes.old.items changes.new.items self.new) }
     {
         self.call(client, Call::Closed(now), On::Leaves, changes)
@@ -331,10 +337,11 @@ impl Sessions {
         client: &Text,
         now: u64,
         changes: &mut Vec<Change>,
-    ) -> Result<Option<Reaction>, SessionFault>
+    ) -> Result<Option<Addressed>, SessionFault>
         requires { now < 2 ^ 62 }
-        ensures called { IsCalled client.now (ticks now) stays self.old result self.new }
-        ensures spelled { IfOk result (IsSpelledIf now) }
+        ensures called { IsCalled client.now (ticks now) stays self.old (reaction_of result) self.new }
+        ensures goes { IfOk result (GoesTo client.now self.new) }
+        ensures spelled { IfOk (reaction_of result) (IsSpelledIf now) }
         ensures leads { OnOk result (LeadsOn self.old changes.old.items changes.new.items self.new) }
     {
         self.call(client, Call::Tick(now), On::Stays, changes)
@@ -346,10 +353,11 @@ impl Sessions {
         client: &Text,
         now: u64,
         changes: &mut Vec<Change>,
-    ) -> Result<Option<Reaction>, SessionFault>
+    ) -> Result<Option<Addressed>, SessionFault>
         requires { now < 2 ^ 62 }
-        ensures called { IsCalled client.now (finishes now) stays self.old result self.new }
-        ensures spelled { IfOk result (IsSpelledIf now) }
+        ensures called { IsCalled client.now (finishes now) stays self.old (reaction_of result) self.new }
+        ensures goes { IfOk result (GoesTo client.now self.new) }
+        ensures spelled { IfOk (reaction_of result) (IsSpelledIf now) }
         ensures leads { OnOk result (LeadsOn self.old changes.old.items changes.new.items self.new) }
     {
         self.call(client, Call::Finish(now), On::Stays, changes)

@@ -4,19 +4,19 @@ ghost use Rattle.std.specs.Prelude.{◌≡◌, ◌↔◌, [], IfErr, IfOk, IfSom
 ghost use Rattle.std.specs.FinMap as map;
 ghost use Rattle.due_times.specs.Dues.{in_order};
 ghost use Rattle.mqtt_sessions.specs.Saved.{state_of};
-ghost use Rattle.session_table.specs.Calls.{Asks, GivesSpelled, IsCalled, MayTurnAt, event_of, on_of};
+ghost use Rattle.session_table.specs.Calls.{Asks, GivesSpelled, GoesTo, IsCalled, MayTurnAt, event_of, on_of, reaction_of};
 ghost use Rattle.session_table.specs.Seats.{AreElsewhere, IsElsewhere, connected};
 ghost use Rattle.session_table.specs.Rows.{IsAllTold, LeadsOn};
 ghost use Rattle.session_table.specs.Listing.{IsBroken, IsKept, IsKeyed, IsListed, connection_in, on_connection, seats_in, session_in, table};
 
-use crate::call::{Call, On};
+use crate::call::{Addressed, Call, On};
 use crate::listing::{Listing, relist};
 use crate::moments::moments_of;
 use crate::seated::{BoxedSeat, Seated, call_seated, seat, unlist_seated, unseat};
 use due_times::DueTimes;
 use home_table::HomeTable;
 use mqtt_fields::{NoMemory, Text};
-use mqtt_sessions::{Reaction, Session, SessionFault};
+use mqtt_sessions::{Session, SessionFault};
 use row_store::Change;
 use std::alloc::Global;
 use std::collections::BTreeMap;
@@ -30,12 +30,13 @@ pub(crate) fn call_in(
     call: Call<'_>,
     on: On,
     changes: &mut Vec<Change>,
-) -> Result<Option<Reaction>, SessionFault>
+) -> Result<Option<Addressed>, SessionFault>
     requires kept { IsKept (table seats.old.entries) listing.old }
     requires asks { Asks call }
     requires may { MayTurnAt (event_of call) (map.get (seats_in (table seats.old.entries)) client.now) }
-    ensures called { IsCalled client.now (event_of call.entry) (on_of on) (seats_in (table seats.old.entries)) result (seats_in (table seats.new.entries)) }
-    ensures spelled { IfOk result (λ o. IfSome o (GivesSpelled (event_of call.entry))) }
+    ensures called { IsCalled client.now (event_of call.entry) (on_of on) (seats_in (table seats.old.entries)) (reaction_of result) (seats_in (table seats.new.entries)) }
+    ensures goes { IfOk result (GoesTo client.now (seats_in (table seats.new.entries))) }
+    ensures spelled { IfOk (reaction_of result) (λ o. IfSome o (GivesSpelled (event_of call.entry))) }
     ensures leads { OnOk result (LeadsOn (seats_in (table seats.old.entries)) changes.old.items changes.new.items (seats_in (table seats.new.entries))) }
     ensures ok { OnOk result (IsKept (table seats.new.entries) listing.new) }
     ensures err { OnErr result (IsBroken client.now (table seats.old.entries) (table seats.new.entries) listing.new) }
@@ -44,7 +45,10 @@ pub(crate) fn call_in(
         return Ok(None);
     };
     match call_seated(seated, listing, alloc, call, on, changes) {
-        Ok(reaction) => Ok(Some(reaction)),
+        Ok(reaction) => {
+            let to = seated.connection;
+            Ok(Some(Addressed { reaction, to }))
+        }
         Err(fault) => Err(fault),
     }
 }

@@ -186,8 +186,9 @@ const KINDS: [Line; 23] = [
     ("kinds f000", "|| end 130| end 130| end 130"),
 ];
 
-/// Keep Alive, a will after 60 s, and sessions that end at once or after 30 s.
-const MOMENTS: [Line; 23] = [
+/// Keep Alive, a will after 60 s, and sessions that end at once or after 30 s; the longest interval after which a session ends, the one
+/// after which it never does, and the longest delay of a will.
+const MOMENTS: [Line; 32] = [
     (
         "new a 101a00044d5154540506003c0000016105180000003c000177000178",
         "200e00000b2100642200102700100000",
@@ -223,6 +224,24 @@ const MOMENTS: [Line; 23] = [
     ("take e00700051100000001", " end 130"),
     ("closed 0", ""),
     ("due 0", "false 0 0 none"),
+    (
+        "new a 101300044d5154540502003c0511fffffffe000161",
+        "200e00000b2100642200102700100000",
+    ),
+    ("closed 10000", ""),
+    ("due 0", "false none 4294967304000 none"),
+    (
+        "new a 101300044d5154540502003c0511ffffffff000161",
+        "200e00000b2100642200102700100000",
+    ),
+    ("closed 10000", ""),
+    ("due 0", "false none none none"),
+    (
+        "new a 101f00044d5154540506003c0511ffffffff0001610518ffffffff000177000178",
+        "200e00000b2100642200102700100000",
+    ),
+    ("closed 10000", ""),
+    ("due 0", "false 4294967305000 none none"),
 ];
 
 /// Clients that take 15 and 16 bytes.

@@ -5,9 +5,9 @@ ghost use Rattle.std.specs.Prelude.{◌<◌, ◌^◌};
 use crate::tests::told::{clients, counted, number, pairs};
 use crate::tests::words::{connect, moment, packet, text};
 use mqtt_fields::{NoMemory, Text};
-use mqtt_sessions::{Reaction, SessionFault};
+use mqtt_sessions::SessionFault;
 use numbered_homes::homes_of;
-use session_table::Sessions;
+use session_table::{Addressed, Sessions};
 use std::alloc::Global;
 use std::process::Abort;
 
@@ -15,13 +15,13 @@ use std::process::Abort;
 fn tell(
     rt: &impl Abort,
     alloc: Global,
-    answered: Result<Option<Reaction>, SessionFault>,
+    answered: Result<Option<Addressed>, SessionFault>,
 ) -> String {
-    let Some(reaction) = answered.ok().expect(rt, "no fault") else {
+    let Some(answer) = answered.ok().expect(rt, "no fault") else {
         return String::from_str(alloc, "no session").expect(rt, "memory");
     };
-    let text = counted(rt, alloc, &reaction);
-    drop(reaction);
+    let text = counted(rt, alloc, &answer);
+    drop(answer);
     text
 }
 

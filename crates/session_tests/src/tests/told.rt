@@ -3,6 +3,7 @@
 use mqtt_fields::Text;
 use mqtt_packets::{Packet, write_packet};
 use mqtt_sessions::{Ask, Output, Reaction};
+use session_table::Addressed;
 use std::alloc::Global;
 use std::process::Abort;
 
@@ -72,11 +73,15 @@ pub fn told(rt: &impl Abort, alloc: Global, reaction: &Reaction, now: u64) -> St
     text
 }
 
-/// How many packets are sent, and what is asked and ended.
-pub fn counted(rt: &impl Abort, alloc: Global, reaction: &Reaction) -> String {
-    let count = reaction.packets.len();
-    let end = ended(rt, alloc, reaction);
-    format!(in alloc; "{count} sent{end}").expect(rt, "memory")
+/// How many packets are sent and to which connection, and what is asked and ended.
+pub fn counted(rt: &impl Abort, alloc: Global, answer: &Addressed) -> String {
+    let count = answer.reaction.packets.len();
+    let end = ended(rt, alloc, &answer.reaction);
+    let text = match answer.to {
+        Some(connection) => format!(in alloc; "{count} sent to {connection}{end}"),
+        None => format!(in alloc; "{count} sent{end}"),
+    };
+    text.expect(rt, "memory")
 }
 
 /// Numbers with their clients, in order.

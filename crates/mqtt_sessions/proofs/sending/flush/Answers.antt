@@ -1,5 +1,5 @@
 use Rattle.session_rows.proofs.FollowLaws.{follows_then, follows_touched}
-use Rattle.mqtt_sessions.proofs.Flushed.{sent-more, sends-less}
+use Rattle.mqtt_sessions.proofs.Flushed.{may-flush, may-flush-more, on-err, sent-more, sends-less}
 use Rattle.mqtt_sessions.proofs.sending.flush.Goals as goal
 
 pub loop-sending-smaller : goal.loop-sending-smaller
@@ -17,3 +17,16 @@ loop-sending-preserved c =
           (sent-more c.args.now c.args.limit c.args.outgoing.now.box c.args.packets.now.items _ _ _ _ c.loop-sending.invariant.sent h.0 is);
       follows = follows_then _ _ _ c.loop-sending.invariant.follows (follows_touched _ _ h.1);
     }
+
+pub returns-in_err-sending-clause-want : goal.returns-in_err-sending-clause-want
+returns-in_err-sending-clause-want c = on-err _ _ (may-flush c.args.now c.args.limit _ _ _ _ c.loop-sending.invariant.sent (c.in_err-sending.ensures.need, c.in_err-sending.ensures.some))
+
+pub returns-in_err-delivery-clause-want : goal.returns-in_err-delivery-clause-want
+returns-in_err-delivery-clause-want c =
+    let h = rw c.in-Some.is at (rw c.in_ok-sending.was at c.next.follows.holds-at-none) in
+    on-err _ _ (may-flush-more c.args.now c.args.limit _ _ _ _ _ _ c.loop-sending.invariant.sent h.0)
+
+pub returns-in_err-push-clause-want : goal.returns-in_err-push-clause-want
+returns-in_err-push-clause-want c =
+    let h = rw c.in-Some.is at (rw c.in_ok-sending.was at c.next.follows.holds-at-none) in
+    on-err _ _ (may-flush-more c.args.now c.args.limit _ _ _ _ _ _ c.loop-sending.invariant.sent h.0)

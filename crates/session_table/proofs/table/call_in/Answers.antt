@@ -3,9 +3,10 @@ use Rattle.std.specs.FinMap as map
 use Rattle.std.specs.Option.{option_copied_mut}
 use Rattle.session_table.specs.Calls.{event_of, on_of}
 use Rattle.session_table.specs.Listing.{seats_in, table}
+use Rattle.session_table.specs.declared.seated.Seated.{Seated}
 use Rattle.finite_maps.proofs.Texts.{get_table, insert_table}
 use Rattle.session_table.proofs.RowLaws.{called-leads, still}
-use Rattle.session_table.proofs.Calling.{told_here, called_none, called_ok, called_err, kept_ok, broken, listed_here, may_here}
+use Rattle.session_table.proofs.Calling.{told_here, called_none, called_ok, goes_here, called_err, kept_ok, broken, listed_here, may_here}
 use Rattle.session_table.proofs.table.call_in.Goals as goal
 
 pub returns-in_default-clause-called : goal.returns-in_default-clause-called
@@ -30,6 +31,12 @@ returns-in-Ok-clause-called c =
     let written = insert_table c.args.seats.now.entries (c.get_mut.follows.lender y).entries c.args.client.now y ((c.get_mut.follows.holds y).3 (search rules)).0 in
     called_ok (event_of c.args.call) (on_of c.args.on) c.args.client.now (table c.args.seats.now.entries) (table (c.get_mut.follows.lender y).entries) c.in-Some.seated.now y
     (c.requires.kept.run c.args.client.now c.in-Some.seated.now is) is written c.in-Ok.reaction c.in-Ok.ensures.turned
+
+pub returns-in-Ok-clause-goes : goal.returns-in-Ok-clause-goes
+returns-in-Ok-clause-goes c =
+    let y = c.call_seated.new.seated in
+    let written = insert_table c.args.seats.now.entries (c.get_mut.follows.lender y).entries c.args.client.now y ((c.get_mut.follows.holds y).3 (search rules)).0 in
+    goes_here c.args.client.now (table c.args.seats.now.entries) (table (c.get_mut.follows.lender y).entries) y c.deref.result.now.connection written (ap (λ (x : Seated). x.connection) c.deref.ensures)
 
 pub returns-in-Ok-clause-ok : goal.returns-in-Ok-clause-ok
 returns-in-Ok-clause-ok c =

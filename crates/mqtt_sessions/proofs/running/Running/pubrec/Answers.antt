@@ -1,6 +1,6 @@
 use Rattle.std.proofs.Common.{refl, arith}
 use Rattle.mqtt_sessions.proofs.ReactionLaws.{pubrec_answered}
-use Rattle.mqtt_sessions.proofs.ReceivedLaws.{released, unknown, ignored}
+use Rattle.mqtt_sessions.proofs.ReceivedLaws.{released, unknown, ignored, released-fault, unknown-fault}
 use Rattle.mqtt_sessions.proofs.running.Running.pubrec.Goals as goal
 
 pub returns-in-Release-clause-step : goal.returns-in-Release-clause-step
@@ -25,3 +25,14 @@ returns-in-Release-clause-spelled c =
 pub returns-in-Unknown-clause-spelled : goal.returns-in-Unknown-clause-spelled
 returns-in-Unknown-clause-spelled c =
     pubrec_answered c.args.id 146 c.args.now c.args.limit _ _ c.answered-in-Unknown.result c.requires.limit (c.requires.id, omega (arith, c.ranges.id.fits)) (omega arith) (rw c.pubrel-answer-in-Unknown.ensures.packet at c.answered-in-Unknown.ensures.step)
+
+pub returns-in-Release-clause-fault : goal.returns-in-Release-clause-fault
+returns-in-Release-clause-fault c =
+    rw (← c.self.view_is)
+    (released-fault c.args.id c.args.code c.args.now c.args.limit _ c.received.new.self.box c.answered.result _ c.in-Release.ensures.step c.answered.ensures.fault (rw c.pubrel-answer.ensures.packet at c.answered.ensures.want))
+
+pub returns-in-Unknown-clause-fault : goal.returns-in-Unknown-clause-fault
+returns-in-Unknown-clause-fault c =
+    rw (← c.self.view_is)
+    (unknown-fault c.args.id c.args.code c.args.now c.args.limit _ c.received.new.self.box c.answered-in-Unknown.result _ c.if-code-ge-UNSPECIFIED_ERROR.false c.in-Unknown.ensures.step c.answered-in-Unknown.ensures.fault
+    (rw c.pubrel-answer-in-Unknown.ensures.packet at c.answered-in-Unknown.ensures.want))
