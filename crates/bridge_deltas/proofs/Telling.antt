@@ -1,12 +1,13 @@
 -- Rows and changes of lanes, one lane after the other.
-use Rattle.std.proofs.Common.{◌≡◌, inl, inr, ℕ, zero, suc, ◌+◌, ◌-◌, ◌<◌, ◌≤◌, ◌^◌, min, max, List, [], ◌∷◌, ◌++◌, map, length, take, drop, get_or, append-nil, append_assoc, length-drop, refl, sym, ap, subst, ◌∙◌, arith}
+use Rattle.std.proofs.Common.{◌≡◌, inl, inr, Result, Ok, Err, ℕ, zero, suc, ◌+◌, ◌-◌, ◌<◌, ◌≤◌, ◌^◌, min, max, List, [], ◌∷◌, ◌++◌, map, length, take, drop, get_or, append-nil, append_assoc, length-drop, refl, sym, ap, subst, ◌∙◌, arith}
 use Rattle.std.specs.List.{AllByRecursion}
 use Rattle.std.proofs.lemmas.Bool.{cases_lt}
 use Rattle.std.proofs.lemmas.List.{drop-drop, take_all, take_more}
+use Rattle.std.proofs.lemmas.List.Elements.{All-from_recursion}
 use Rattle.bridge_frames.specs.declared.forward.Forward.{Forward}
-use Rattle.lane_rows.specs.Rows.{Plain, each, message_rows, numbers_of, rows_of, waiting_of}
+use Rattle.lane_rows.specs.Rows.{Messages, Plain, each, message_rows, numbers_of, rows_of, waiting_of}
 use Rattle.lane_rows.specs.Reading.{AreLanes, IsLane}
-use Rattle.lane_rows.specs.Changes.{IsLater, KeptLane, Left, gone_count, changes_of, message_changes, now_of, numbers_changes, put, removals, told_count}
+use Rattle.lane_rows.specs.Changes.{IsLater, KeptLane, Left, gone_count, changes_of, message_changes, now_of, numbers_changes, put, removals, told_count, told_of}
 use Rattle.lane_rows.proofs.Cuts.{each_last}
 use Rattle.lane_rows.proofs.Leading.{each_map}
 use Rattle.lane_rows.proofs.Order.{all_both}
@@ -129,3 +130,27 @@ rows_made ks first mid last none one two =
 
 pub changes_all : (ks : List KeptLane) (first mid last : List Left) → first ≡ [] → mid ≡ first ++ each message_changes 0 ks → last ≡ mid ++ each numbers_changes 0 ks → last ≡ changes_of ks
 changes_all ks first mid last none one two = two ∙ ap (λ xs. xs ++ each numbers_changes 0 ks) (one ∙ ap (λ xs. xs ++ each message_changes 0 ks) none)
+
+-- ---- lanes that were told as they are
+
+all_told_so : (ks : List KeptLane) → told_of ks ≡ now_of ks → AllByRecursion (λ k. k.told ≡ k.lane) ks
+all_told_so [] e = tt
+all_told_so (k ∷ ks) e = (ap (λ (ls : List Messages). get_or ls 0 k.told) e, all_told_so ks (ap (λ (ls : List Messages). drop 1 ls) e))
+
+pub told_at : (ks : List KeptLane) (i : ℕ) (k : KeptLane) → i < length ks → k ≡ get_or ks i k → told_of ks ≡ now_of ks → k.told ≡ k.lane
+told_at ks i k lt at e = subst (λ (x : KeptLane). x.told ≡ x.lane) (sym at) (All-from_recursion (λ (x : KeptLane). x.told ≡ x.lane) ks (all_told_so ks e) i k lt)
+
+-- none of its messages is gone, and all were told
+pub none_gone : (base : ℕ) (all : List Forward) (gone told took told_took : ℕ) → (kept base all gone told took told_took).told ≡ (kept base all gone told took told_took).lane → gone ≡ 0
+none_gone base all gone told took told_took e =
+    let same : base ≡ base + gone = ap (λ (l : Messages). l.gone) e in
+    omega (arith, same)
+
+pub told_all : (base : ℕ) (all : List Forward) (gone told took told_took : ℕ) → told ≤ length all → (kept base all gone told took told_took).told ≡ (kept base all gone told took told_took).lane → told ≡ length all
+told_all base all gone told took told_took some e =
+    let none = none_gone base all gone told took told_took e in
+    let same : length (take told all) ≡ length (drop gone all) = ap (λ (l : Messages). length l.waiting) e in
+    omega (arith, none, same, count_taken all told some, length-drop gone all)
+
+pub told_took_is : (base : ℕ) (all : List Forward) (gone told took told_took : ℕ) → (kept base all gone told took told_took).told ≡ (kept base all gone told took told_took).lane → told_took ≡ took
+told_took_is base all gone told took told_took e = ap (λ (l : Messages). l.took) e

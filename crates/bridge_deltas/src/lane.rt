@@ -1,5 +1,5 @@
 //! The lanes to and from one other node.
-ghost use Rattle.std.specs.Prelude.{◌≡◌, ◌<◌, ◌≤◌, ◌+◌, ◌++◌, ◌^◌, suc, nat_eq, if◌then◌else◌, take, drop, length, map, OnOk, OnErr, IfOk};
+ghost use Rattle.std.specs.Prelude.{◌≡◌, ◌<◌, ◌≤◌, ◌+◌, ◌++◌, ◌^◌, suc, nat_eq, if◌then◌else◌, take, drop, length, map, OnOk, OnErr, IfOk, IsOk};
 ghost use Rattle.row_store.specs.Rows.{entry_of};
 ghost use Rattle.lane_rows.specs.Changes.{left_of, message_changes, new_kept, numbers_changes, told_now};
 ghost use Rattle.lane_rows.specs.Laws.{IsSoundLane};
@@ -73,8 +73,9 @@ fn frames_of(
 ) -> Result<Vec<BridgeFrame>, NoMemory>
     requires there { place ≤ length messages.now.items }
     requires numbers { gone + length messages.now.items < 2 ^ 62 + place }
-    ensures { IfOk result (λ out. out.items
+    ensures frames { IfOk result (λ out. out.items
         ≡ frames_from from to (suc gone) (take 64 (drop place messages.now.items))) }
+    ensures memory { OnErr result (place < length messages.now.items) }
 {
     let count = (messages.len() - place).min(FIRST);
     let mut out = Vec::new(alloc);
@@ -135,9 +136,10 @@ impl Lane {
         Ok(Offer::Queued(number))
     }
 
-    /// Frames with the first messages that wait.
+    /// Frames with the first messages that wait. Only these take memory.
     pub fn first(&self, alloc: Global, from: u16, to: u16) -> Result<Vec<BridgeFrame>, NoMemory>
-        ensures { IfOk result (λ out. out.items ≡ first_frames from to self.now.lane) }
+        ensures frames { IfOk result (λ out. out.items ≡ first_frames from to self.now.lane) }
+        ensures memory { OnErr result (0 < length self.now.lane.waiting) }
     {
         let gone = self.base + self.gone as u64;
         let out = frames_of(alloc, from, to, gone, &self.messages, self.gone)?;
@@ -252,28 +254,30 @@ impl Lane {
         let _base = self.base;
     }
 
-    /// Appends what has changed of the rows of messages since they were told.
+    /// Appends what has changed of the rows of messages since they were told: where nothing has, no memory is taken.
     pub fn message_changes(
         &self,
         alloc: Global,
         peer: u16,
         out: &mut Vec<Change>,
     ) -> Result<(), NoMemory>
-        ensures { OnOk result (map left_of out.new.items ≡ map left_of out.old.items ++ message_changes peer self.now) }
+        ensures ok { OnOk result (map left_of out.new.items ≡ map left_of out.old.items ++ message_changes peer self.now) }
+        ensures told { self.now.told ≡ self.now.lane → IsOk result }
     {
         append_removals(alloc, peer, self.base, self.gone.min(self.told), out)?;
         let from = self.gone.max(self.told);
         append_puts(alloc, peer, self.base, &self.messages, from, out)
     }
 
-    /// Appends what has changed of the row of the numbers since it was told.
+    /// Appends what has changed of the row of the numbers since it was told: where nothing has, no memory is taken.
     pub fn numbers_change(
         &self,
         alloc: Global,
         peer: u16,
         out: &mut Vec<Change>,
     ) -> Result<(), NoMemory>
-        ensures { OnOk result (map left_of out.new.items ≡ map left_of out.old.items ++ numbers_changes peer self.now) }
+        ensures ok { OnOk result (map left_of out.new.items ≡ map left_of out.old.items ++ numbers_changes peer self.now) }
+        ensures told { self.now.told ≡ self.now.lane → IsOk result }
     {
         let told = (self.base + self.told as u64, self.told_took);
         let now = (self.base + self.messages.len() as u64, self.took);

@@ -8,7 +8,7 @@ ghost use Rattle.bridge_deltas.specs.Buffer.{with_delta};
 ghost use Rattle.bridge_frames.specs.declared.forward.Forward.{Forward};
 ghost use Rattle.message_lanes.specs.Lanes.{Lanes};
 ghost use Rattle.row_changes.specs.Gathered.{AreOnce};
-ghost use Rattle.row_changes.specs.Leading.{LeadWithin};
+ghost use Rattle.row_changes.specs.Leading.{AllDiffer, LeadWithin};
 ghost use Rattle.row_store.specs.declared.store.RowFault.TheVariants as faults;
 ghost use Rattle.row_store.specs.Rows.{entry_of};
 ghost use Rattle.lane_rows.specs.Changes.{changes_of, is_lane_kind, left_of, message_changes, new_kept, now_of, numbers_changes, told_now, told_of};
@@ -159,7 +159,8 @@ fn add_message_changes(
     out: &mut Vec<Change>,
 ) -> Result<(), NoMemory>
     requires { length lanes.now.items ≡ nodes }
-    ensures { OnOk result (map left_of out.new.items ≡ map left_of out.old.items ++ each message_changes 0 lanes.now.items) }
+    ensures ok { OnOk result (map left_of out.new.items ≡ map left_of out.old.items ++ each message_changes 0 lanes.now.items) }
+    ensures told { told_of lanes.now.items ≡ now_of lanes.now.items → IsOk result }
 {
     for peer in 0..nodes {
         lanes[peer as usize].message_changes(alloc, peer, out)?;
@@ -174,7 +175,8 @@ fn add_numbers_changes(
     out: &mut Vec<Change>,
 ) -> Result<(), NoMemory>
     requires { length lanes.now.items ≡ nodes }
-    ensures { OnOk result (map left_of out.new.items ≡ map left_of out.old.items ++ each numbers_changes 0 lanes.now.items) }
+    ensures ok { OnOk result (map left_of out.new.items ≡ map left_of out.old.items ++ each numbers_changes 0 lanes.now.items) }
+    ensures told { told_of lanes.now.items ≡ now_of lanes.now.items → IsOk result }
 {
     for peer in 0..nodes {
         lanes[peer as usize].numbers_change(alloc, peer, out)?;
@@ -303,20 +305,22 @@ impl Links {
         self.lanes[peer as usize].put(message)
     }
 
-    /// Frames of the node with the first 64 messages that wait for the peer.
+    /// Frames of the node with the first 64 messages that wait for the peer. Only these take memory.
     pub fn waiting(&self, peer: u16) -> Result<Vec<BridgeFrame>, NoMemory>
         requires { peer < self.now.nodes }
-        ensures { IfOk result (λ out. out.items
+        ensures frames { IfOk result (λ out. out.items
             ≡ first_frames self.now.node peer (kept_of self.now peer).lane) }
+        ensures memory { OnErr result (0 < length (kept_of self.now peer).lane.waiting) }
     {
         self.waiting_from(self.node, peer)
     }
 
     /// Frames with the first 64 messages that wait for the peer, with this node as their sender: none for a node that the cluster
-    /// lacks.
+    /// lacks. Only these take memory.
     pub fn waiting_from(&self, from: u16, peer: u16) -> Result<Vec<BridgeFrame>, NoMemory>
-        ensures { IfOk result (λ out. out.items
+        ensures frames { IfOk result (λ out. out.items
             ≡ first_frames from peer (kept_of self.now peer).lane) }
+        ensures memory { OnErr result (0 < length (kept_of self.now peer).lane.waiting) }
     {
         match self.lanes.get(peer as usize) {
             Some(lane) => lane.first(self.alloc, from, peer),
@@ -405,13 +409,16 @@ impl Links {
     }
 
     /// The changes that lead from the rows that were told last to those of the lanes, which count as told then. Each key is
-    /// named once, in the order of the keys, and a row that is as it was told isn't named. Where memory runs out nothing changes.
+    /// named once, in the order of the keys, and a row that is as it was told isn't named. Where memory runs out nothing changes;
+    /// where all is as it was told none is taken.
     pub fn changes(&mut self) -> Result<Vec<Change>, NoMemory>
         ensures lead { IfOk result (λ out. LeadWithin is_lane_kind (row_at (told_of self.old.lanes)) (row_at (now_of self.old.lanes)) out.items) }
         ensures once { IfOk result (λ out. AreOnce out.items) }
         ensures made { IfOk result (λ out. map left_of out.items ≡ changes_of self.old.lanes) }
         ensures ok { OnOk result (self.new ≡ all_told self.old) }
         ensures err { OnErr result (self.new ≡ self.old) }
+        ensures nothing { told_of self.old.lanes ≡ now_of self.old.lanes → IsOk result }
+        ensures differ { IfOk result (λ out. AllDiffer (row_at (told_of self.old.lanes)) (row_at (now_of self.old.lanes)) out.items) }
     {
         changes_lead();
         are_sound(&self.lanes);

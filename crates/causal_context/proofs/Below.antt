@@ -1,5 +1,5 @@
 -- When the dots of ranges are among those of others.
-use Rattle.std.proofs.Common.{◌≡◌, ℕ, ◌+◌, ◌<◌, ◌≤◌, true, false, ◌||◌, List, length, get_or, take, refl, sym, ap, subst, ◌∙◌, inl, inr, arith}
+use Rattle.std.proofs.Common.{◌≡◌, ℕ, ◌+◌, ◌<◌, ◌≤◌, true, false, ◌||◌, List, [], ◌∷◌, length, get_or, take, refl, sym, ap, subst, ◌∙◌, inl, inr, arith}
 use Rattle.std.specs.Cmp.{both_ways}
 use Rattle.std.proofs.lemmas.Bool.{cases_order}
 use Rattle.std.proofs.lemmas.List.{get_or_default, take_all}
@@ -8,7 +8,7 @@ use Rattle.causal_context.specs.Dots.{Dot}
 use Rattle.causal_context.specs.declared.ranges.Range.{Range}
 use Rattle.causal_context.specs.Ranges.{covers, covered, IsFine, IsSound, IsApart, AreBelow}
 use Rattle.causal_context.specs.RangeSteps.{StartsAfter, EndsBefore, LiesIn}
-use Rattle.causal_context.proofs.RangeLemmas.{IsIn, in_from_covers, covers_from_in, or_cases}
+use Rattle.causal_context.proofs.RangeLemmas.{IsIn, in_from_covers, covers_from_in, or_cases, or_left}
 
 not_covered : (q : Dot) (r : Range) → (IsIn q r → ⊥) → covers q r ≡ false
 not_covered q r n = both_ways (covers q r) false (λ e. absurd (n (in_from_covers q r e))) (λ e. cc)
@@ -132,3 +132,10 @@ none_below a b = record { i_in = omega arith; j_in = omega arith; below = λ q e
 
 pub all_below : (a b : List Range) (i j : ℕ) → IsBelowUpTo a b i j → length a ≤ i → AreBelow a b
 all_below a b i j up_to past q e = up_to.below q (ap (covered q) (take_all i a past) ∙ e)
+
+-- ranges without a dot are none
+pub none_covered : (rs : List Range) → IsSound rs → ((q : Dot) → covered q rs ≡ true → ⊥) → length rs ≡ 0
+none_covered [] sound none = refl
+none_covered (r ∷ rs) sound none =
+    let q : Dot = record { node = r.node; number = r.first } in
+    absurd (none q (or_left (covers q r) (covered q rs) (covers_from_in q r (record { node = refl; from = omega arith; to = (sound.fine 0 r (omega arith)).not_empty }))))

@@ -1,15 +1,15 @@
 -- The steps of a cut.
-use Rattle.std.proofs.Common.{◌≡◌, ℕ, ◌+◌, ◌-◌, ◌<◌, ◌≤◌, Bool, true, false, not, ◌||◌, ◌&&◌, List, [], length, get_or, take, refl, sym, ap, subst, ◌∙◌, inl, inr, ◌⊎◌, arith}
+use Rattle.std.proofs.Common.{◌≡◌, ℕ, ◌+◌, ◌-◌, ◌<◌, ◌≤◌, Bool, true, false, not, ◌||◌, ◌&&◌, List, [], ◌∷◌, length, get_or, take, refl, sym, ap, subst, ◌∙◌, inl, inr, ◌⊎◌, arith}
 use Rattle.std.specs.Cmp.{both_ways, first_so, second_so}
 use Rattle.std.proofs.lemmas.Bool.{cases_order}
 use Rattle.std.proofs.lemmas.List.{take_all, get_or_default}
 use Rattle.std.proofs.lemmas.List.Folds.{list_any_more, list_any_at}
 use Rattle.causal_context.specs.Dots.{Dot}
 use Rattle.causal_context.specs.declared.ranges.Range.{Range}
-use Rattle.causal_context.specs.Ranges.{covers, covered, IsFine, IsSound, IsApart}
+use Rattle.causal_context.specs.Ranges.{covers, covered, IsFine, IsSound, IsApart, AreBelow}
 use Rattle.causal_context.specs.RangeSteps.{StartsBy, StartsAfter, EndsBefore, ArePassed, AllStartUpTo, IsJoined, IsCutBy, AreCut}
 use Rattle.causal_context.proofs.RangeLemmas.{IsIn, in_from_covers, covers_from_in, or_cases, or_left, or_right, or_false, or_group}
-use Rattle.causal_context.proofs.Below.{between_free}
+use Rattle.causal_context.proofs.Below.{between_free, none_covered}
 
 not_true : (b : Bool) → b ≡ false → not b ≡ true
 not_true b e = ap not e
@@ -113,6 +113,13 @@ module _ (old : List Range) (range : Range) (cuts : List Range) (sound : IsSound
           | inr (inr more) ↦ absurd (let there = rest q (omega (arith, i.node)) from more (omega (arith, i.to)) in cc)
         ]
 
+    -- a piece that is not empty is free of cuts
+    pub left_uncut : (to : ℕ) → first ≤ to → to ≤ range.last → ((e : Range) → place < length cuts → StartsAfter (record { node = range.node; number = to }) (get_or cuts place e)) → AreBelow (range ∷ []) cuts → ⊥
+    left_uncut to some within next below =
+        let q : Dot = record { node = range.node; number = first } in
+        let there = below q (or_left (covers q range) false (covers_from_in q range (record { node = refl; from = c.from; to = omega arith }))) in
+        let free = free_piece to next q (record { node = refl; from = omega arith; to = some }) in cc
+
     -- no cut is left that could reach into the range
     pub no_more_cuts : (new : List Range) → ((e : Range) → place < length cuts → StartsAfter (record { node = range.node; number = range.last }) (get_or cuts place e))
         → IsJoined out (record { node = range.node; first = first; last = range.last }) new → IsCutBy old range cuts place new
@@ -151,7 +158,7 @@ module _ (old : List Range) (range : Range) (cuts : List Range) (sound : IsSound
         members = c.members;
       }
 
-      module _ (by : StartsBy (record { node = range.node; number = range.last }) cut) (late : EndsBefore (record { node = range.node; number = first }) cut → ⊥) (mid : List Range) (joined : IsJoined out (record { node = range.node; first = first; last = cut.first - 1 }) mid) where
+      module _ (by : StartsBy (record { node = range.node; number = range.last }) cut) (late : EndsBefore (record { node = range.node; number = first }) cut → ⊥) where
         same_node : cut.node ≡ range.node
         same_node = elim (cases_order cut.node range.node) [
           | inl same ↦ same
@@ -172,44 +179,49 @@ module _ (old : List Range) (range : Range) (cuts : List Range) (sound : IsSound
         is_cut : (q : Dot) → range.node ≡ q.node → cut.first - 1 < q.number → q.number ≤ cut.last → covered q cuts ≡ true
         is_cut q node above to = list_any_at (covers q) cuts place cut lt (subst (λ (x : Range). covers q x ≡ true) is (covers_from_in q cut (record { node = omega (arith, same_node); from = omega arith; to = to })))
 
-        -- a cut that ends within the range
-        pub cut_within : cut.last < range.last → IsCutting old range cuts (place + 1) (cut.last + 1) mid
-        cut_within short = record {
-          sound = joined.sound;
-          from = omega (arith, c.from, reaches);
-          to = omega arith;
-          starts = starts_later mid (record { node = range.node; first = first; last = cut.first - 1 }) (record { node = range.node; first = cut.last + 1; last = range.last }) joined.starts (omega arith) (λ h. omega (arith, reaches));
-          passed = passed_one (record { node = range.node; number = cut.last + 1 }) (passed_later cuts place (record { node = range.node; number = first }) (record { node = range.node; number = cut.last + 1 }) c.passed (omega arith) (λ h. omega (arith, reaches)))
-              (record { nodes = omega (arith, same_node); numbers = λ h. omega arith });
-          members = λ q. grown (cut.first - 1) cut.last (head_of range (cut.last + 1)) mid q (λ i. record { node = range.node; first = range.first; last = back i }) (omega (arith, reaches)) (omega (arith, cut_fine.not_empty)) next_cut
-              (λ p node from above to. is_cut p node above to) joined;
-        }
-          where
-            back : cut.last + 1 - 1 ≡ cut.last
-            back = omega arith
+        -- what is left before the cut is in no cut
+        pub left_of_cut : first ≤ cut.first - 1 → AreBelow (range ∷ []) cuts → ⊥
+        left_of_cut some = left_uncut (cut.first - 1) some (omega (arith, by.numbers same_node)) next_cut
 
-        -- a cut that reaches to the end of the range or past it
-        pub cut_past : range.last ≤ cut.last → IsCutBy old range cuts place mid
-        cut_past past = record {
-          sound = joined.sound;
-          starts = starts_later mid (record { node = range.node; first = first; last = cut.first - 1 }) (record { node = range.node; first = range.last; last = range.last }) joined.starts (omega arith) (λ h. omega (arith, c.to));
-          passed = passed_later cuts place (record { node = range.node; number = first }) (record { node = range.node; number = range.last + 1 }) c.passed (omega arith) (λ h. omega (arith, c.to));
-          members = λ q. grown (cut.first - 1) cut.last (record { node = range.node; first = range.first; last = cut.last }) mid q refl (omega (arith, reaches)) (omega (arith, cut_fine.not_empty)) next_cut
-              (λ p node from above to. is_cut p node above to) joined ∙ ap (λ b. covered q old || b) (same_left q);
-        }
-          where
-            same_left : (q : Dot) → (covers q (record { node = range.node; first = range.first; last = cut.last }) && not (covered q cuts)) ≡ (covers q range && not (covered q cuts))
-            same_left q =
-                let longer : Range = record { node = range.node; first = range.first; last = cut.last } in
-                both_ways (covers q longer && not (covered q cuts)) (covers q range && not (covered q cuts))
-                (λ e. (let i = in_from_covers q longer (first_so (covers q longer) (not (covered q cuts)) e) in let n = second_so (covers q longer) (not (covered q cuts)) e in
-                elim (cases_order q.number range.last) [
-                  | inr (inr more) ↦ absurd (not_false (covered q cuts) n (is_cut q i.node (omega (arith, by.numbers same_node)) i.to))
-                  | inl at ↦ both_true (covers q range) (not (covered q cuts)) (covers_from_in q range (record { node = i.node; from = i.from; to = omega arith })) n
-                  | inr (inl less) ↦ both_true (covers q range) (not (covered q cuts)) (covers_from_in q range (record { node = i.node; from = i.from; to = omega arith })) n
-                ]))
-                (λ e. (let i = in_from_covers q range (first_so (covers q range) (not (covered q cuts)) e) in
-                both_true (covers q longer) (not (covered q cuts)) (covers_from_in q longer (record { node = i.node; from = i.from; to = omega (arith, i.to) })) (second_so (covers q range) (not (covered q cuts)) e)))
+        module _ (mid : List Range) (joined : IsJoined out (record { node = range.node; first = first; last = cut.first - 1 }) mid) where
+          -- a cut that ends within the range
+          pub cut_within : cut.last < range.last → IsCutting old range cuts (place + 1) (cut.last + 1) mid
+          cut_within short = record {
+            sound = joined.sound;
+            from = omega (arith, c.from, reaches);
+            to = omega arith;
+            starts = starts_later mid (record { node = range.node; first = first; last = cut.first - 1 }) (record { node = range.node; first = cut.last + 1; last = range.last }) joined.starts (omega arith) (λ h. omega (arith, reaches));
+            passed = passed_one (record { node = range.node; number = cut.last + 1 }) (passed_later cuts place (record { node = range.node; number = first }) (record { node = range.node; number = cut.last + 1 }) c.passed (omega arith) (λ h. omega (arith, reaches)))
+                (record { nodes = omega (arith, same_node); numbers = λ h. omega arith });
+            members = λ q. grown (cut.first - 1) cut.last (head_of range (cut.last + 1)) mid q (λ i. record { node = range.node; first = range.first; last = back i }) (omega (arith, reaches)) (omega (arith, cut_fine.not_empty)) next_cut
+                (λ p node from above to. is_cut p node above to) joined;
+          }
+            where
+              back : cut.last + 1 - 1 ≡ cut.last
+              back = omega arith
+
+          -- a cut that reaches to the end of the range or past it
+          pub cut_past : range.last ≤ cut.last → IsCutBy old range cuts place mid
+          cut_past past = record {
+            sound = joined.sound;
+            starts = starts_later mid (record { node = range.node; first = first; last = cut.first - 1 }) (record { node = range.node; first = range.last; last = range.last }) joined.starts (omega arith) (λ h. omega (arith, c.to));
+            passed = passed_later cuts place (record { node = range.node; number = first }) (record { node = range.node; number = range.last + 1 }) c.passed (omega arith) (λ h. omega (arith, c.to));
+            members = λ q. grown (cut.first - 1) cut.last (record { node = range.node; first = range.first; last = cut.last }) mid q refl (omega (arith, reaches)) (omega (arith, cut_fine.not_empty)) next_cut
+                (λ p node from above to. is_cut p node above to) joined ∙ ap (λ b. covered q old || b) (same_left q);
+          }
+            where
+              same_left : (q : Dot) → (covers q (record { node = range.node; first = range.first; last = cut.last }) && not (covered q cuts)) ≡ (covers q range && not (covered q cuts))
+              same_left q =
+                  let longer : Range = record { node = range.node; first = range.first; last = cut.last } in
+                  both_ways (covers q longer && not (covered q cuts)) (covers q range && not (covered q cuts))
+                  (λ e. (let i = in_from_covers q longer (first_so (covers q longer) (not (covered q cuts)) e) in let n = second_so (covers q longer) (not (covered q cuts)) e in
+                  elim (cases_order q.number range.last) [
+                    | inr (inr more) ↦ absurd (not_false (covered q cuts) n (is_cut q i.node (omega (arith, by.numbers same_node)) i.to))
+                    | inl at ↦ both_true (covers q range) (not (covered q cuts)) (covers_from_in q range (record { node = i.node; from = i.from; to = omega arith })) n
+                    | inr (inl less) ↦ both_true (covers q range) (not (covered q cuts)) (covers_from_in q range (record { node = i.node; from = i.from; to = omega arith })) n
+                  ]))
+                  (λ e. (let i = in_from_covers q range (first_so (covers q range) (not (covered q cuts)) e) in
+                  both_true (covers q longer) (not (covered q cuts)) (covers_from_in q longer (record { node = i.node; from = i.from; to = omega (arith, i.to) })) (second_so (covers q range) (not (covered q cuts)) e)))
 
 -- out has what the first i ranges have and the cuts have not; what comes next is past the cuts before the place
 pub record IsCutUpTo (ranges cuts : List Range) (i place : ℕ) (out : List Range) : Type 0 where
@@ -250,3 +262,9 @@ all_cut ranges cuts i place out c past = record {
   sound = c.sound;
   members = λ q. c.members q ∙ ap (λ rs. covered q rs && not (covered q cuts)) (take_all i ranges past);
 }
+
+-- nothing is left of ranges whose dots are all cut
+pub none_left_of : (ranges cuts out : List Range) → AreCut ranges cuts out → AreBelow ranges cuts → length out ≡ 0
+none_left_of ranges cuts out c below = none_covered out c.sound (λ q e.
+    (let left = sym (c.members q) ∙ e in
+    not_false (covered q cuts) (second_so (covered q ranges) (not (covered q cuts)) left) (below q (first_so (covered q ranges) (not (covered q cuts)) left))))

@@ -3,6 +3,7 @@ pub mod Cutting
 pub mod Greatest
 pub mod Inserting
 pub mod Touching
+pub mod Within
 pub mod Merging
 pub mod OneSpelling
 pub mod RangeLemmas

@@ -11,7 +11,7 @@ use Rattle.causal_context.specs.Dots.{Dot, dot_cmp, dot_cmp_total, dot_cmp_antis
 use Rattle.causal_context.specs.declared.ranges.Range.{Range}
 use Rattle.causal_context.specs.Ranges.{dots_from, dots_in, set_of, covers, covered, AreBelow}
 use Rattle.causal_context.specs.RangeSteps.{IsUnion, AreCut}
-use Rattle.causal_context.specs.SetLattice.{IsSubset}
+use Rattle.causal_context.specs.SetLattice.{IsSubset, set_lattice}
 use Rattle.causal_context.proofs.RangeLemmas.{in_from_covers, covers_from_in, or_cases, or_left, or_right, or_false}
 
 pub tied_is : (q d : Dot) → eq_by_cmp dot_cmp q d ≡ true → q ≡ d
@@ -93,6 +93,15 @@ subset-below a b s t is_s is_t = (subset_from_below a b s t is_s is_t, below_fro
 pub set_of_cut : (a b out : List Range) (s t : set.FinSet dot_cmp) → AreCut a b out → set_of a ≡ s → set_of b ≡ t → set_of out ≡ set.difference s t
 set_of_cut a b out s t u is_s is_t = set.same_set dot_cmp_total dot_cmp_antisym _ _ (λ q.
     contains-set_of out q ∙ u.members q ∙ (λ i. (sym (contains-set_of a q) ∙ ap (λ x. set.contains x q) is_s) i && not ((sym (contains-set_of b q) ∙ ap (λ x. set.contains x q) is_t) i)) ∙ sym (set.contains-difference dot_cmp_total s t q))
+
+-- with one that is below, the union is the set
+pub with_below : (s t : set.FinSet dot_cmp) → IsSubset t s → set.union s t ≡ s
+with_below s t below =
+    let laws = set_lattice dot_cmp_total dot_cmp_antisym in
+    laws.commutative s t ∙ laws.from_order t s below
+
+pub with_none : (s : set.FinSet dot_cmp) (rs : List Range) → rs ≡ [] → set.union s (set_of rs) ≡ s
+with_none s rs e = with_below s (set_of rs) (λ q h. (let no = ap (covered q) (sym e) ∙ sym (contains-set_of rs q) ∙ h in cc))
 
 pub same_sets : (s t : set.FinSet dot_cmp) → IsSubset s t → IsSubset t s → s ≡ t
 same_sets s t a b = set.same_set dot_cmp_total dot_cmp_antisym s t (λ q. both_ways (set.contains s q) (set.contains t q) (a q) (b q))

@@ -1,12 +1,15 @@
 -- Ranges of equal fields are one.
-use Rattle.std.proofs.Common.{◌≡◌, ◌==◌, Bool, true, ◌&&◌, List, [], ◌∷◌, length, ◌↔◌, refl, sym, ap, subst, ◌∙◌, arith}
+use Rattle.std.proofs.Common.{◌≡◌, ◌==◌, Bool, true, ◌&&◌, List, [], ◌∷◌, length, ◌↔◌, refl, sym, ap, subst, ◌∙◌, inl, inr, arith}
 use Rattle.std.specs.Cmp.{first_so, second_so}
 use Rattle.std.specs.Cmp.Lexicographic.{pointwise}
 use Rattle.std.proofs.lemmas.Bool.{eq-eqb, eqb-true}
 use Rattle.std.specs.FinSet as set
 use Rattle.causal_context.specs.Dots.{Dots}
 use Rattle.causal_context.specs.declared.ranges.Range.{Range}
-use Rattle.causal_context.specs.Ranges.{IsSound, set_of}
+use Rattle.causal_context.specs.Ranges.{covered, IsSound, set_of}
+use Rattle.causal_context.specs.RangeSteps.{IsUnion}
+use Rattle.causal_context.proofs.RangeLemmas.{or_cases}
+use Rattle.causal_context.proofs.Below.{none_covered}
 use Rattle.causal_context.proofs.OneSpelling.{one_spelling}
 use Rattle.causal_context.proofs.RangeSets.{below_from_same, set_of_none}
 use Rattle.causal_context.proofs.Runs.{sound_none}
@@ -57,3 +60,10 @@ empty_test rs s sound is = (
   λ e. (let same : set_of rs ≡ set_of [] = is ∙ e ∙ sym (set_of_none [] refl) in
       ap length (one_spelling rs [] sound sound_none (below_from_same rs [] same) (below_from_same [] rs (sym same)))),
 )
+
+-- the union of no ranges has none
+pub none_of_both : (a b out : List Range) → IsUnion a b out → length a ≡ 0 → length b ≡ 0 → length out ≡ 0
+none_of_both a b out u no_a no_b = none_covered out u.sound (λ q e. elim (or_cases (covered q a) (covered q b) (sym (u.members q) ∙ e)) [
+  | inl x ↦ (let no = ap (covered q) (sym (none_of a no_a)) ∙ x in cc)
+  | inr y ↦ (let no = ap (covered q) (sym (none_of b no_b)) ∙ y in cc)
+])

@@ -46,7 +46,8 @@ impl Model for Context {
 // The set of the ranges, where there are no more of them than four bytes can count.
 fn context_of(ranges: Vec<Range>) -> Result<Context, NoMemory>
     requires { IsSound ranges.items }
-    ensures { IfOk result (λ context. context ≡ set_of ranges.items) }
+    ensures set { IfOk result (λ context. context ≡ set_of ranges.items) }
+    ensures few { length ranges.items < 2 ^ 32 → IsOk result }
 {
     if ranges.len() > MOST_RANGES {
         return Err(NoMemory);
@@ -100,22 +101,33 @@ impl Context {
         last_of(&self.ranges, node)
     }
 
-    /// The dots of both, in one pass over both.
+    /// The dots of both, in one pass over both. Where there are none it takes no memory.
     pub fn joined(&self, other: &Context) -> Result<Context, NoMemory>
-        ensures { IfOk result (λ both. both ≡ set.union self.now other.now) }
+        ensures both { IfOk result (λ both. both ≡ set.union self.now other.now) }
+        ensures none { self.now ≡ set.empty → other.now ≡ set.empty → IsOk result }
     {
         let ranges = merged(*self.ranges.allocator(), &self.ranges, &other.ranges)?;
         context_of(ranges)
     }
 
     /// The join with the other, with memory for it: a few ranges go in among those that are there,
-    /// others in one pass over both. Or the set as it was, where there is no memory.
+    /// others in one pass over both. Or the set as it was, where there is no memory; with one that is
+    /// below it takes none.
     pub fn prepare(self, other: &Context) -> Result<Joining, Context>
         ensures ok { IfOk result (λ joining.
             (joining.0 ≡ self) × (joining.1 ≡ set.union self other.now)) }
         ensures err { IfErr result (λ back. back ≡ self) }
+        ensures below { IsSubset other.now self → IsOk result }
     {
         let Context { mut ranges } = self;
+        if are_below(&other.ranges, &ranges) {
+            let more = Vec::new(*ranges.allocator());
+            return Ok(Joining {
+                ranges,
+                more,
+                in_place: true,
+            });
+        }
         let in_place = goes_in_place(ranges.len(), other.ranges.len());
         match more_of(&mut ranges, &other.ranges, in_place) {
             Ok(more) => Ok(Joining {
@@ -127,9 +139,10 @@ impl Context {
         }
     }
 
-    /// The dots that the other lacks, in one pass over both.
+    /// The dots that the other lacks, in one pass over both. Where it lacks none it takes no memory.
     pub fn minus(&self, other: &Context) -> Result<Context, NoMemory>
-        ensures { IfOk result (λ left. left ≡ set.difference self.now other.now) }
+        ensures left { IfOk result (λ left. left ≡ set.difference self.now other.now) }
+        ensures below { IsSubset self.now other.now → IsOk result }
     {
         let ranges = without(*self.ranges.allocator(), &self.ranges, &other.ranges)?;
         context_of(ranges)
@@ -227,9 +240,6 @@ impl Lattice for Context {
         ensures err { OnErr result (self.new ≡ self.old) }
         ensures below { IsSubset other.now self.old → IsOk result }
     {
-        if other.is_below(self) {
-            return Ok(());
-        }
         let none = Context::new(*self.ranges.allocator());
         match mem::replace(self, none).prepare(other) {
             Ok(joining) => {

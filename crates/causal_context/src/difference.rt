@@ -1,6 +1,6 @@
 //! The dots of sorted ranges that others lack.
-ghost use Rattle.std.specs.Prelude.{IfOk};
-ghost use Rattle.causal_context.specs.Ranges.{IsFine, IsSound};
+ghost use Rattle.std.specs.Prelude.{[], ◌∷◌, IfOk, OnErr, IsOk};
+ghost use Rattle.causal_context.specs.Ranges.{IsFine, IsSound, AreBelow};
 ghost use Rattle.causal_context.specs.RangeSteps.{AllStartUpTo, ArePassed, IsCutBy, AreCut};
 
 use crate::ranges::{Range, ends_before, starts_by};
@@ -21,7 +21,8 @@ fn push_cut(
     requires after { AllStartUpTo out.old.items range }
     requires cuts { IsSound cuts.now }
     requires passed { ArePassed cuts.now from (record { node = range.node; number = range.first }) }
-    ensures { IfOk result (λ place. IsCutBy out.old.items range cuts.now place out.new.items) }
+    ensures cut { IfOk result (λ place. IsCutBy out.old.items range cuts.now place out.new.items) }
+    ensures memory { OnErr result (AreBelow (range ∷ []) cuts.now → ⊥) }
 {
     let mut place = from;
     let mut first = range.first;
@@ -45,11 +46,12 @@ fn push_cut(
     Ok(place)
 }
 
-/// The ranges without the dots of the cuts, in one pass over both.
+/// The ranges without the dots of the cuts, in one pass over both. Only dots that are left take memory.
 pub fn without(alloc: Global, ranges: &[Range], cuts: &[Range]) -> Result<Vec<Range>, NoMemory>
     requires ranges { IsSound ranges.now }
     requires cuts { IsSound cuts.now }
-    ensures { IfOk result (λ out. AreCut ranges.now cuts.now out.items) }
+    ensures cut { IfOk result (λ out. AreCut ranges.now cuts.now out.items) }
+    ensures below { AreBelow ranges.now cuts.now → IsOk result }
 {
     let mut out = Vec::new(alloc);
     let mut place = 0;

@@ -7,13 +7,10 @@ ghost use Rattle.causal_context.specs.Ranges.{IsContext, set_of};
 use crate::context::Context;
 use crate::dot::Dot;
 use crate::placing::put_ranges;
-use crate::ranges::{MOST_RANGES, Range, has};
+use crate::ranges::{FEW, MOST_RANGES, Range, has};
 use crate::union::merged;
 use mqtt_fields::NoMemory;
 use std::marker::Model;
-
-/// As many ranges as go in one by one rather than in one pass over all.
-const FEW: usize = 8;
 
 /// Whether the other ranges are to go in one by one.
 pub fn goes_in_place(own: usize, others: usize) -> bool

@@ -6,6 +6,9 @@ ghost use Rattle.causal_context.specs.RangeSteps.{IsStarted, IsLastOf, StartsBy,
 /// As many ranges as four bytes can count.
 pub const MOST_RANGES: usize = u32::MAX as usize;
 
+/// As many ranges as are looked for one by one rather than in one pass over all.
+pub const FEW: usize = 8;
+
 /// The dots of one node from the first number to the last.
 #[derive(Clone, Copy, Debug, PartialEq, Eq)]
 pub struct Range {

@@ -1,5 +1,5 @@
 //! The dots of two lists of sorted ranges.
-ghost use Rattle.std.specs.Prelude.{◌≡◌, ◌≤◌, ◌<◌, ◌^◌, ◌↔◌, OnOk, IfOk, IsTrue};
+ghost use Rattle.std.specs.Prelude.{◌≡◌, ◌+◌, ◌≤◌, ◌<◌, ◌^◌, ◌↔◌, OnOk, OnErr, IfOk, IsTrue, length};
 ghost use Rattle.causal_context.specs.Ranges.{IsFine, IsSound};
 ghost use Rattle.causal_context.specs.RangeSteps.{AllStartUpTo, StartsUpTo, IsJoined, IsUnion};
 
@@ -43,6 +43,7 @@ pub fn push_some(out: &mut Vec<Range>, range: Range) -> Result<(), NoMemory>
     requires below { range.last < 2 ^ 62 }
     requires after { AllStartUpTo out.old.items range }
     ensures ok { OnOk result (IsJoined out.old.items range out.new.items) }
+    ensures memory { OnErr result (range.first ≤ range.last) }
 {
     if range.first > range.last {
         return Ok(());
@@ -56,11 +57,12 @@ fn starts_up_to(a: Range, b: Range) -> bool
     a.node < b.node || a.node == b.node && a.first <= b.first
 }
 
-/// The ranges of the dots of both, in one pass over both.
+/// The ranges of the dots of both, in one pass over both. No ranges take no memory.
 pub fn merged(alloc: Global, a: &[Range], b: &[Range]) -> Result<Vec<Range>, NoMemory>
     requires a { IsSound a.now }
     requires b { IsSound b.now }
-    ensures { IfOk result (λ out. IsUnion a.now b.now out.items) }
+    ensures union { IfOk result (λ out. IsUnion a.now b.now out.items) }
+    ensures memory { OnErr result (0 < length a.now + length b.now) }
 {
     let mut out = Vec::new(alloc);
     let mut i = 0;

@@ -76,7 +76,7 @@ module _ (p : ℕ) (k : KeptLane) (later : IsLater k) (below : last_put k.lane <
     | inr none ↦ ap (message_rows p (a + length later.gone)) none.0 ∙ ap (message_rows p b) (sym none.0)
   ]
 
-  told_rows : waiting_of p k.told ≡ message_rows p a later.gone ++ message_rows p b later.kept
+  pub told_rows : waiting_of p k.told ≡ message_rows p a later.gone ++ message_rows p b later.kept
   told_rows = ap (message_rows p a) later.were ∙ message_both p a later.gone later.kept ∙ ap (λ rs. message_rows p a later.gone ++ rs) kept_at
 
   now_rows : waiting_of p k.lane ≡ message_rows p b later.kept ++ message_rows p c later.fresh
@@ -176,7 +176,7 @@ each_apart f own p b (x ∷ xs) low few =
     (all_turned (IsOwn b) (λ e. e.0.1.0 ≢ owner p) (f b x) (λ e is same. (let tie = one_owner b p (omega (arith, few)) (omega (arith, low, few)) (sym is ∙ same) in omega (arith, tie, low))) (own b x))
     (each_apart f own p (suc b) xs (omega (arith, low)) (omega (arith, few)))
 
-by_owner : (bs cs : List ℕ) {P : Type 0} → (bs ≡ cs → P) → (bs ≢ cs → P) → P
+pub by_owner : (bs cs : List ℕ) {P : Type 0} → (bs ≡ cs → P) → (bs ≢ cs → P) → P
 by_owner bs cs same apart = elim (cases_Bool (bytes_eq bs cs)) [
   | inl t ↦ same ((bytes_eq-Decides bs cs).0 t)
   | inr f ↦ apart (λ e. true≢false (sym ((bytes_eq-Decides bs cs).1 e) ∙ f))

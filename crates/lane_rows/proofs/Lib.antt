@@ -7,3 +7,4 @@ pub mod Cuts
 pub mod Readers
 pub mod Lanes
 pub mod Rising
+pub mod Differing

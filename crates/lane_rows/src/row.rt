@@ -1,5 +1,5 @@
 //! The rows of a lane, and changes of them.
-ghost use Rattle.std.specs.Prelude.{◌≡◌, ◌+◌, ◌<◌, ◌≤◌, ◌^◌, ◌++◌, ◌==◌, ◌&&◌, suc, [], ◌∷◌, take, drop, length, map, Some, None, IfOk, OnOk, OnErr, if◌then◌else◌};
+ghost use Rattle.std.specs.Prelude.{◌≡◌, ◌+◌, ◌<◌, ◌≤◌, ◌^◌, ◌++◌, ◌==◌, ◌&&◌, suc, [], ◌∷◌, take, drop, length, map, Some, None, IfOk, IsOk, OnOk, OnErr, if◌then◌else◌};
 ghost use Rattle.std.specs.Int.{w64};
 ghost use Rattle.mqtt_fields.specs.Numbers.{number};
 ghost use Rattle.row_store.specs.Rows.{entry_of};
@@ -92,7 +92,7 @@ pub fn append_rows(
 }
 
 /// Appends puts of the rows of the messages for the peer from a place on, or the first of them where memory runs out; `base` is the
-/// number before that of the first message.
+/// number before that of the first message. Where there is none it takes no memory.
 pub fn append_puts(
     alloc: Global,
     peer: u16,
@@ -106,6 +106,7 @@ pub fn append_puts(
     ensures ok { OnOk result (map left_of out.new.items ≡ map left_of out.old.items
         ++ map put (spec.message_rows peer (suc (base + from)) (drop from messages.now.items))) }
     ensures begins { take (length out.old.items) out.new.items ≡ out.old.items }
+    ensures memory { OnErr result (from < length messages.now.items) }
 {
     for i in from..messages.len() {
         let message = message_row(alloc, peer, base + i as u64 + 1, &messages[i])?;
@@ -121,7 +122,7 @@ fn removal(alloc: Global, peer: u16, n: u64) -> Result<Change, NoMemory>
 }
 
 /// Appends removals of the rows of so many messages for the peer, or the first of them where memory runs out; `base` is the number
-/// before that of the first one.
+/// before that of the first one. Of none it takes no memory.
 pub fn append_removals(
     alloc: Global,
     peer: u16,
@@ -132,6 +133,7 @@ pub fn append_removals(
     requires { base + count < 2 ^ 62 }
     ensures ok { OnOk result (map left_of out.new.items ≡ map left_of out.old.items ++ removals peer (suc base) count) }
     ensures begins { take (length out.old.items) out.new.items ≡ out.old.items }
+    ensures memory { OnErr result (0 < count) }
 {
     for i in 0..count {
         let change = removal(alloc, peer, base + i as u64 + 1)?;
@@ -166,8 +168,8 @@ pub fn append_numbers(
     Ok(())
 }
 
-/// Appends a put of the row of the numbers of the peer's lanes, unless they were told so. Where memory runs out `out` stays as it
-/// was.
+/// Appends a put of the row of the numbers of the peer's lanes, unless they were told so, which takes no memory. Where memory runs out
+/// `out` stays as it was.
 pub fn append_numbers_change(
     alloc: Global,
     peer: u16,
@@ -176,6 +178,7 @@ pub fn append_numbers_change(
     out: &mut Vec<Change>,
 ) -> Result<(), NoMemory>
     ensures err { OnErr result (out.new.items ≡ out.old.items) }
+    ensures same { told.0 ≡ now.0 → told.1 ≡ now.1 → IsOk result }
     ensures ok { OnOk result (map left_of out.new.items ≡ map left_of out.old.items
         ++ (if (told.0 == now.0) && (told.1 == now.1) then [] else (spec.numbers_key peer, Some (spec.numbers_value now.0 now.1)) ∷ [])) }
 {

@@ -5,7 +5,7 @@ use Rattle.std.specs.FinSet as set
 use Rattle.causal_context.specs.Dots.{Dots, coded_dot}
 use Rattle.causal_context.specs.SetLattice.{IsSubset}
 use Rattle.replica_store.specs.States.{State, coded_state}
-use Rattle.row_changes.specs.Leading.{LeadWithin}
+use Rattle.row_changes.specs.Leading.{AllDiffer, LeadWithin}
 use Rattle.row_store.specs.declared.row.Change.{Change}
 use Rattle.message_lanes.specs.Lanes.{Lanes, lane_of, with_put, with_took, with_got}
 use Rattle.bridge_frames.specs.declared.forward.Forward.{Forward}
@@ -86,9 +86,9 @@ takes peer number b = with_lane peer (with_took number (lane_to b peer)) b
 abbrev pub gets : ℕ → ℕ → BridgeView → BridgeView
 gets peer number b = with_lane peer (with_got number (lane_to b peer)) b
 
--- changes are appended that lead from the rows of lanes before to those after
+-- changes are appended that lead from the rows of lanes before to those after, and name none that doesn't differ
 abbrev pub LanesTell : Lanes Forward → List Change → List Change → Lanes Forward → Type 0
-LanesTell old before after new = (own : List Change) × (after ≡ before ++ own) × LeadWithin is_lane_kind (row_at old) (row_at new) own
+LanesTell old before after new = (own : List Change) × (after ≡ before ++ own) × LeadWithin is_lane_kind (row_at old) (row_at new) own × AllDiffer (row_at old) (row_at new) own
 
 -- it is stored as its parts
 abbrev pub coded_bridge : Coded BridgeView

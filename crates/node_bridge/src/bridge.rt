@@ -1,5 +1,5 @@
 //! What a node keeps for the other nodes.
-ghost use Rattle.std.specs.Prelude.{◌≡◌, length, nat_lt, IfOk, OnErr, OnOk, if◌then◌else◌};
+ghost use Rattle.std.specs.Prelude.{◌≡◌, ◌<◌, length, nat_lt, IfOk, OnErr, OnOk, if◌then◌else◌};
 ghost use Rattle.std.specs.Option.{option_copied};
 ghost use Rattle.bridge_deltas.specs.Lane.{first_frames};
 ghost use Rattle.bridge_deltas.specs.Links.{all_told};
@@ -118,9 +118,10 @@ impl Bridge {
         Ok(offer)
     }
 
-    /// Frames from this node with the first 64 messages that wait for the peer.
+    /// Frames from this node with the first 64 messages that wait for the peer. Only these take memory.
     pub fn waiting(&self, from: u16, peer: u16) -> Result<Vec<BridgeFrame>, NoMemory>
-        ensures { IfOk result (λ out. out.items ≡ first_frames from peer (lane_to self.now peer)) }
+        ensures frames { IfOk result (λ out. out.items ≡ first_frames from peer (lane_to self.now peer)) }
+        ensures memory { OnErr result (0 < length (lane_to self.now peer).waiting) }
     {
         self.links.waiting_from(from, peer)
     }

@@ -1,5 +1,5 @@
 -- The state of no operation has no rows.
-use Rattle.std.proofs.Common.{◌≡◌, ℕ, Bool, true, false, ◌||◌, if◌then◌else◌, List, [], ◌∷◌, Option, Some, None, Result, Ok, Err, refl, sym, ap, subst, ◌∙◌}
+use Rattle.std.proofs.Common.{◌≡◌, ℕ, Bool, true, false, ◌||◌, if◌then◌else◌, List, [], ◌∷◌, Option, Some, None, Result, Ok, Err, inl, refl, sym, ap, subst, ◌∙◌}
 use Rattle.std.specs.Prelude.{◌==◌, IfOk, Vec}
 use Rattle.std.specs.declared.alloc.Global.{Global}
 use Rattle.mqtt_fields.specs.declared.fault.NoMemory.{NoMemory}
@@ -13,13 +13,15 @@ use Rattle.subscription_set.specs.Standing.{seen_of, contains-seen_of}
 use Rattle.subscription_set.specs.Statuses.{Status, Statuses, status_join, statuses_join}
 use Rattle.replica_store.specs.declared.kept.Kept.{Kept}
 use Rattle.replica_store.specs.Retained.{topic_cmp}
-use Rattle.replica_store.specs.States.{State, nothing, state_join}
+use Rattle.replica_store.specs.States.{State, StateBelow, nothing, state_join, state_lattice}
 use Rattle.replica_store.proofs.Keeping.{empty-join}
 use Rattle.row_store.specs.declared.row.Change.{Change}
+use Rattle.row_store.specs.declared.row.Row.{Row}
 use Rattle.row_store.specs.Rows.{Key, key_cmp, after_all}
 use Rattle.replica_bytes.specs.Values.{dot}
 use Rattle.replica_rows.specs.Rows.{AreRowsOf, spelled, subscription_of, subscription_at, kept_of, retained_at, context_at, dots_value, row_at}
-use Rattle.replica_rows.specs.Changes.{Lead}
+use Rattle.replica_rows.specs.Changes.{AreChanges, Lead}
+use Rattle.replica_rows.specs.Reading.{AreAllRowsOf}
 
 no_seen : seen_of nothing.subscriptions ≡ set.empty
 no_seen = set.same_set dot_cmp_total dot_cmp_antisym _ _ (λ q. contains-seen_of nothing.subscriptions q ∙ ap is_there (map.get-empty {X = Status} dot_cmp q) ∙ sym (set.contains-empty dot_cmp q))
@@ -75,3 +77,19 @@ joined_nothing s = (let taken = none_union s.taken in let subs = none_join s.sub
 pub puts_lead : (none s : State) (r : Result (Vec Change Global) NoMemory) → none ≡ nothing → IfOk r (λ out. Lead none (state_join none s) out.items) → IfOk r (λ out. AreRowsOf (after_all map.empty out.items) s)
 puts_lead none s (Ok out) is lead = subst (AreRowsOf (after_all map.empty out.items)) (joined_nothing s) (subst (λ u. Lead u (state_join u s) out.items) is lead map.empty no_rows)
 puts_lead none s (Err e) is lead = tt
+
+-- ---- what is below the state of no operation, and what brings nothing
+
+pub nothing_listed : (rows : List Row) (s : State) → rows ≡ [] → s ≡ nothing → AreAllRowsOf rows s
+nothing_listed rows s none is = subst (λ xs. AreAllRowsOf xs s) (sym none) (subst (AreAllRowsOf []) (sym is) (record { rise = tt; are = no_rows }))
+
+pub below_nothing : (s none : State) → none ≡ nothing → s ≡ nothing → StateBelow s none
+below_nothing s none is same = state_lattice.to_order s none (ap (state_join s) (is ∙ sym same) ∙ state_lattice.idempotent s ∙ same ∙ sym is)
+
+pub nothing_below : (s none : State) → none ≡ nothing → StateBelow s none → s ≡ nothing
+nothing_below s none is below = sym (joined_nothing s) ∙ ap (λ x. state_join x s) (sym is) ∙ state_lattice.commutative none s ∙ state_lattice.from_order s none below ∙ is
+
+pub nothing_changes : (s d : State) (out : List Change) → out ≡ [] → StateBelow d s → AreChanges s (state_join s d) out
+nothing_changes s d out none below =
+    let same = state_lattice.commutative s d ∙ state_lattice.from_order d s below in
+    subst (AreChanges s (state_join s d)) (sym none) (subst (λ t. AreChanges s t []) (sym same) (record { needed = tt; complete = λ key. inl refl }))

@@ -1,9 +1,9 @@
 //! The changes of rows that a merge makes.
-ghost use Rattle.std.specs.Prelude.{◌≡◌, [], ◌∷◌, IfOk, OnOk, Some, None, true};
+ghost use Rattle.std.specs.Prelude.{◌≡◌, [], ◌∷◌, IfOk, IsOk, OnOk, Some, None, true};
 ghost use Rattle.std.specs.FinMap as map;
 ghost use Rattle.subscription_set.specs.Joining.{is_leaving};
 ghost use Rattle.replica_store.specs.Merging.{is_newer};
-ghost use Rattle.replica_store.specs.States.{state_join};
+ghost use Rattle.replica_store.specs.States.{StateBelow, state_join};
 ghost use Rattle.replica_bytes.specs.Values.{IsOwn, dot};
 ghost use Rattle.row_store.specs.Rows.{after_all};
 ghost use Rattle.replica_rows.specs.Changes.{AreChanges, Lead};
@@ -156,7 +156,7 @@ fn add_context(
 }
 
 /// The changes that lead from the store's rows to those after its join with the delta, in a time that
-/// goes by the delta: each is needed.
+/// goes by the delta: each is needed. A delta that is below makes none, and takes no memory.
 pub fn changes_by(
     alloc: Global,
     store: &ReplicaStore,
@@ -166,8 +166,12 @@ pub fn changes_by(
         AreChanges store.now (state_join store.now delta.now) out.items) }
     ensures lead { IfOk result (λ out.
         Lead store.now (state_join store.now delta.now) out.items) }
+    ensures below { StateBelow delta.now store.now → IsOk result }
 {
     let mut out = Vec::new(alloc);
+    if delta.is_below(store) {
+        return Ok(out);
+    }
     add_subscriptions(alloc, store, delta, &mut out)?;
     add_removals(alloc, store, delta, &mut out)?;
     add_topics(alloc, store, delta, &mut out)?;

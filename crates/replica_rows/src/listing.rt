@@ -1,11 +1,13 @@
 //! The rows of a store in the order of their keys.
-ghost use Rattle.std.specs.Prelude.{◌≡◌, IfOk, OnOk, map as map_list};
+ghost use Rattle.std.specs.Prelude.{◌≡◌, IfOk, IsOk, OnOk, map as map_list};
 ghost use Rattle.std.specs.FinMap as map;
+ghost use Rattle.replica_store.specs.States.{nothing};
 ghost use Rattle.row_store.specs.Cells.{fill, plain_key, shown};
 ghost use Rattle.row_store.specs.Rows.{after, after_all, entry_of};
 ghost use Rattle.replica_rows.specs.Reading.{AreAllRowsOf};
 
 use crate::changes::puts_of;
+use causal_context::Lattice;
 use mqtt_fields::NoMemory;
 use replica_store::ReplicaStore;
 use row_store::memory::RowKey;
@@ -71,10 +73,16 @@ fn rows_in(alloc: Global, cells: Cells) -> Result<Vec<Row>, NoMemory>
     Ok(rows)
 }
 
-/// The rows of the store, in the order of their keys, each once.
+/// The rows of the store, in the order of their keys, each once. The store of no operation has none, which
+/// takes no memory.
 pub fn rows(alloc: Global, store: &ReplicaStore) -> Result<Vec<Row>, NoMemory>
-    ensures { IfOk result (λ rows. AreAllRowsOf rows.items store.now) }
+    ensures rows { IfOk result (λ rows. AreAllRowsOf rows.items store.now) }
+    ensures none { store.now ≡ nothing → IsOk result }
 {
+    let none = ReplicaStore::new(alloc);
+    if store.is_below(&none) {
+        return Ok(Vec::new(alloc));
+    }
     let puts = puts_of(alloc, store)?;
     let cells = cells_of(alloc, puts)?;
     rows_in(alloc, cells)

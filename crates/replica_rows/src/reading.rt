@@ -1,5 +1,5 @@
 //! A store that is read from its rows.
-ghost use Rattle.std.specs.Prelude.{◌≡◌, ◌⊎◌, map as map_list, T, None, [], ◌∷◌, OnOk, IfOk, IfErr, IsErrOf, IsTrue};
+ghost use Rattle.std.specs.Prelude.{◌≡◌, ◌⊎◌, map as map_list, T, None, [], ◌∷◌, length, OnOk, IfOk, IfErr, IsErrOf, IsOk, IsTrue};
 ghost use Rattle.std.specs.FinMap as map;
 ghost use Rattle.causal_context.specs.Dots.{dot_cmp};
 ghost use Rattle.causal_context.specs.Spelling.{context, HasSpelling};
@@ -13,6 +13,7 @@ ghost use Rattle.replica_bytes.specs.Values.{dot, subscription, subscription_in,
 ghost use Rattle.mqtt_fields.specs.Reading.{Finds};
 ghost use Rattle.replica_rows.specs.Reading.{AreAllRowsOf, AreOfNone, AreSaid, Contradicts, IsDots, IsStore, IsSubscription, IsTopic, NoDots, NoSubscription, SaysMore, TakesDots, TakesSubscription, TakesTopic, Topic, AreSeenThere, row_of, said, state_of};
 
+use crate::laws::is_store;
 use crate::row::{CONTEXT, RETAINED, SEEN, SUBSCRIPTION, TAKEN};
 use causal_context::{Context, Dot};
 use mqtt_fields::{FieldFault, NoMemory, Text};
@@ -298,13 +299,19 @@ fn store_in(alloc: Global, rows: &[Row]) -> Result<ReplicaStore, FieldFault>
 
 /// The store whose rows these are, in the order of their keys.
 ///
-/// BadRow where no store has just these rows.
+/// BadRow where no store has just these rows. No rows take no memory.
 pub fn from_rows(alloc: Global, rows: &[Row]) -> Result<ReplicaStore, StoreFault>
     ensures ok { IfOk result (AreAllRowsOf rows.now) }
     ensures store { IfOk result IsStore }
     ensures bad { IsErrOf result StoreFault.BadRow → AreOfNone rows.now }
     ensures fault { IfErr result (λ e. (e ≡ StoreFault.NoMemory) ⊎ (e ≡ StoreFault.BadRow)) }
+    ensures none { length rows.now ≡ 0 → IsOk result }
 {
+    if rows.is_empty() {
+        let none = ReplicaStore::new(alloc);
+        is_store(&none);
+        return Ok(none);
+    }
     match store_in(alloc, rows) {
         Ok(store) => Ok(store),
         Err(FieldFault::NoMemory) => Err(StoreFault::NoMemory),

@@ -1,5 +1,5 @@
 //! Retained messages.
-ghost use Rattle.std.specs.Prelude.{◌≡◌, IfOk, IfSome, MatchOption, OnOk, OnErr, length};
+ghost use Rattle.std.specs.Prelude.{◌≡◌, IfOk, IfSome, IsOk, MatchOption, OnOk, OnErr, length};
 ghost use Rattle.std.specs.FinMap as map;
 ghost use Rattle.std.specs.Option.{option_copied};
 ghost use Rattle.causal_context.specs.Lattices.{lattice_from_join};
@@ -165,7 +165,16 @@ impl Lattice for RetainedMap {
 
     ghost laws = { lattice_from_join retained_lattice };
 
-    fn join(&mut self, other: &RetainedMap) -> Result<(), NoMemory> {
+    /// Takes in the other map. Where memory runs out it stays as it was; with one that is below it
+    /// takes none.
+    fn join(&mut self, other: &RetainedMap) -> Result<(), NoMemory>
+        ensures ok { OnOk result (self.new ≡ retained_join self.old other.now) }
+        ensures err { OnErr result (self.new ≡ self.old) }
+        ensures below { RetainedBelow other.now self.old → IsOk result }
+    {
+        if other.is_below(self) {
+            return Ok(());
+        }
         let news = news_of(self.alloc, &self.topics, &other.topics)?;
         add_fresh(self.alloc, &mut self.topics, &news.fresh)?;
         put_greater(&mut self.topics, news.greater);

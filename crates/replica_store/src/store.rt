@@ -1,5 +1,5 @@
 //! The shared state of a node.
-ghost use Rattle.std.specs.Prelude.{◌≡◌, ◌≢◌, ◌↔◌, ◌+◌, ◌≤◌, ◌^◌, OnOk, OnErr, IfOk, IfErr, IfSome, IsNone, IsOk, [], IsErrOf, ◌⊎◌, true, false, Ok, None, map as map_list};
+ghost use Rattle.std.specs.Prelude.{◌≡◌, ◌≢◌, ◌↔◌, ◌+◌, ◌≤◌, ◌^◌, OnOk, OnErr, IfOk, IfErr, IfSome, IsNone, IsOk, [], IsErrOf, ◌⊎◌, true, false, Ok, Some, None, map as map_list};
 ghost use Rattle.std.specs.Option.{option_copied};
 ghost use Rattle.causal_context.specs.Lattices.{lattice_from_join};
 ghost use Rattle.subscription_set.specs.Standing.{any_of, any_below};
@@ -158,10 +158,12 @@ impl ReplicaStore {
     }
 
     /// A Subscribe of the entry that covers what stands of its client to its filter. The store
-    /// doesn't change. At the end of the numbers it takes no memory.
+    /// doesn't change. Only what stands takes memory.
     pub fn make_subscribe(&self, node: u16, entry: Entry) -> Result<Operation, StoreFault>
         ensures ok { IfOk result (λ o. o ≡ subscribe_of node entry self.now) }
         ensures at_end { IsErrOf result NumbersAtEnd ↔ NumberAtEnd node self.now }
+        ensures memory { IsErrOf result StoreFault.NoMemory
+            → any_of entry.client (Some entry.filter) self.now.subscriptions ≡ true }
         ensures fault { IfErr result (λ e. (e ≡ NumbersAtEnd) ⊎ (e ≡ StoreFault.NoMemory)) }
     {
         let Some(dot) = self.next_dot(node) else {
@@ -252,7 +254,16 @@ impl Lattice for ReplicaStore {
 
     ghost laws = { lattice_from_join state_lattice };
 
-    fn join(&mut self, other: &ReplicaStore) -> Result<(), NoMemory> {
+    /// Takes in the other state. Where memory runs out it stays as it was; with one that is below it
+    /// takes none.
+    fn join(&mut self, other: &ReplicaStore) -> Result<(), NoMemory>
+        ensures ok { OnOk result (self.new ≡ state_join self.old other.now) }
+        ensures err { OnErr result (self.new ≡ self.old) }
+        ensures below { StateBelow other.now self.old → IsOk result }
+    {
+        if other.is_below(self) {
+            return Ok(());
+        }
         let taken = match mem::replace(&mut self.taken, Context::new(self.alloc)).prepare(
             &other.taken,
         ) {

@@ -114,7 +114,7 @@ fn is_the_forward(forward: &Forward) -> bool {
     forward.plain
         && forward.message.message().topic.as_str() == "t"
         && pick.client.as_str() == "a"
-        && pick.filter.as_str() == "$share/g/t"
+        && pick.filter.as_filter().as_str() == "$share/g/t"
 }
 
 #[test]
@@ -137,6 +137,19 @@ fn numbers_are_from_one_below_the_end(rt: HostRuntime) {
     let mut end = FORWARD;
     end[9] = 64;
     assert!(rt; is_bad(rt.alloc(), &end));
+}
+
+// A pick of `share/g/t`, or of `a$hare/g/t`, is of no shared subscription.
+#[test]
+fn picks_are_of_shared_filters(rt: HostRuntime) {
+    let mut plain = FORWARD;
+    plain[25] = 97;
+    assert!(rt; is_bad(rt.alloc(), &plain));
+    let mut other = FORWARD;
+    other[26] = 83;
+    assert!(rt; is_bad(rt.alloc(), &other));
+    let shared = read(&rt, rt.alloc(), &FORWARD);
+    drop(shared);
 }
 
 #[test]

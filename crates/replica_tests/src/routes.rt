@@ -2,7 +2,7 @@
 
 use crate::copies::{message, subscriptions, subscriptions_of};
 use crate::values::{filter, text};
-use bridge_frames::Pick;
+use bridge_frames::{Pick, SharedFilter};
 use message_copies::{CopiesAndPicks, copies_and_picks};
 use message_routes::{Destinations, HomedPick, Route, picked_copies};
 use mqtt_message::{Message, SharedMessage};
@@ -24,7 +24,7 @@ fn tell(rt: &impl Abort, told: &mut String, node: u16, route: Route) {
             let plain = forward.plain;
             write!(told, "{node} {plain}").expect(rt, "memory");
             for pick in forward.picks.as_slice() {
-                let (client, to) = (pick.client.as_str(), pick.filter.as_str());
+                let (client, to) = (pick.client.as_str(), pick.filter.as_filter().as_str());
                 write!(told, " {client} {to}").expect(rt, "memory");
             }
             writeln!(told).expect(rt, "memory");
@@ -131,7 +131,8 @@ fn a_frame_has_an_end(rt: HostRuntime) {
 }
 
 fn pick(rt: &impl Abort, alloc: Global, client: &str, to: &str) -> Pick {
-    let (client, filter) = (text(rt, alloc, client), filter(rt, alloc, to));
+    let filter = SharedFilter::of(filter(rt, alloc, to)).expect(rt, "a shared filter");
+    let client = text(rt, alloc, client);
     Pick { client, filter }
 }
 

@@ -1,6 +1,6 @@
 -- What changes leave at each key.
 use Rattle.std.proofs.Common.{◌≡◌, ◌≢◌, inl, inr, ℕ, Bool, true, false, cond, List, [], ◌∷◌, ◌++◌, Option, Some, None, refl, sym, ap, subst, ◌∙◌, eq-eqb, eqb-true}
-use Rattle.std.specs.Prelude.{◌==◌, IfSome}
+use Rattle.std.specs.Prelude.{◌==◌, ◌⊎◌, IfSome}
 use Rattle.std.specs.Cmp.{tied_itself}
 use Rattle.std.specs.Ordering.{eq_by_cmp, is_eq}
 use Rattle.std.specs.FinMap.{get, get-insert, get-remove}
@@ -8,7 +8,7 @@ use Rattle.row_store.specs.declared.row.Change.{Change}
 use Rattle.row_store.specs.declared.row.Change.TheVariants.{Put, Remove}
 use Rattle.row_store.specs.Rows.{Key, Content, key_cmp, after}
 use Rattle.row_store.proofs.Keys.{keys_total}
-use Rattle.row_changes.specs.Leading.{or_else, first_by, left_by, left_by_one, left_or, key_in, value_in}
+use Rattle.row_changes.specs.Leading.{IsNamed, or_else, first_by, left_by, left_by_one, left_or, key_in, value_in}
 use Rattle.row_changes.specs.Gathered.{IsSettled, Settle, first_in}
 use Rattle.row_changes.specs.Laws.{ChangesLeave, SecondIsLast, LeadOn, LeadOnWithin, ContentFollows, BeginOn, SettledLead}
 
@@ -133,3 +133,20 @@ itself_left change = ap (λ b. cond b (Some (value_in change)) None) (ap is_eq (
 pub settle_none : (kind : ℕ) (cs : List Change) → Settle kind cs [] → cs ≡ []
 settle_none kind [] settle = refl
 settle_none kind (c ∷ cs) settle = absurd (let none = (else_none (left_by cs (key_in c)) (left_by_one c (key_in c)) (none_at ((key_in c).0 == kind) _ (settle (key_in c)))).1 in let z : None ≡ Some (value_in c) = sym none ∙ itself_left c in cc)
+
+-- ---- which rows are named
+
+pub named_either : (xs ys : List Change) (key : Key) → IsNamed (xs ++ ys) key → IsNamed xs key ⊎ IsNamed ys key
+named_either xs ys key named = by (left_by ys key) refl
+  where
+    by : (last : Option (Option (List ℕ))) → left_by ys key ≡ last → IsNamed xs key ⊎ IsNamed ys key
+    by (Some value) e = inr (λ none. absurd (let z : Some value ≡ None = sym e ∙ none in cc))
+    by None e = inl (λ none. named (second_is_last xs ys key ∙ λ i. or_else (e i) (none i)))
+
+-- what settles others names no row that they don't
+pub settled_named : (kind : ℕ) (these those : List Change) → Settle kind these those → (key : Key) → IsNamed these key → IsNamed those key
+settled_named kind these those settle key named = by (settle key)
+  where
+    by : IsSettled (first_in kind those key) (left_by those key) (left_by these key) → IsNamed those key
+    by (inl same) = absurd (named same.1)
+    by (inr other) = λ none. named (other.1 ∙ none)

@@ -56,3 +56,15 @@ Begin kind old changes = (key : Key) → key.0 ≡ kind → IfSome (first_by cha
 -- a row of a kind is named only where it changes
 abbrev pub Differ : ℕ → Rows → List Change → Type 0
 Differ kind old changes = (key : Key) → key.0 ≡ kind → IfSome (left_by changes key) (λ left. left ≢ old key)
+
+-- a change names the row at the key
+abbrev pub IsNamed : List Change → Key → Type 0
+IsNamed changes key = left_by changes key ≢ None
+
+-- each row that is named is another one in the new rows than in the old: what is put wasn't there, and what is removed was
+abbrev pub AllDiffer : Rows → Rows → List Change → Type 0
+AllDiffer old new changes = (key : Key) → IsNamed changes key → new key ≢ old key
+
+-- each of another kind than this
+abbrev pub OthersDiffer : ℕ → Rows → Rows → List Change → Type 0
+OthersDiffer kind old new changes = (key : Key) → key.0 ≢ kind → IsNamed changes key → new key ≢ old key

@@ -16,7 +16,7 @@ loop-i-preserved c =
     more_frames c.args.from c.args.to (suc c.args.gone) c.of.result c.args.messages.now.items c.args.place c.loop-i.i c.index.result.now c.in_ok-message.message c.loop-i.out.items c.push.new.self.items
     (omega (arith, c.of.ensures)) inside c.loop-i.invariant c.index.ensures c.in_ok-message.ensures c.in_ok-push.ensures.items
 
-pub returns : goal.returns
-returns c =
+pub returns-clause-frames : goal.returns-clause-frames
+returns-clause-frames c =
     let all : c.loop-i.i ≡ min (length (drop c.args.place c.args.messages.now.items)) 64 = first_of (omega (arith, length-drop c.args.place c.args.messages.now.items), grind (arith, common_steps)) in
     c.loop-i.invariant ∙ ap (λ ms. frames_from c.args.from c.args.to (suc c.args.gone) ms) (first_taken 64 c.loop-i.i (drop c.args.place c.args.messages.now.items) all)

@@ -15,4 +15,4 @@ loop-range-preserved c =
     let ranges = c.args.ranges.now in
     let i = c.loop-range.range-index in
     one_more_cut ranges c.args.cuts.now i c.loop-range.place c.in_ok-place.place (get_or ranges i zero_range) c.loop-range.out.items c.push_cut.new.out.items
-    c.requires.ranges c.loop-range-test.true (read_at ranges i zero_range c.loop-range-test.true) c.loop-range.invariant c.in_ok-place.ensures
+    c.requires.ranges c.loop-range-test.true (read_at ranges i zero_range c.loop-range-test.true) c.loop-range.invariant c.in_ok-place.ensures.cut

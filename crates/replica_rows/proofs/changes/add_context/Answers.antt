@@ -11,7 +11,7 @@ returns c = inr (record {
   more = something_more c.args.own.now c.args.other.now (λ below. true≢false (sym (c.is_below.ensures.1 below) ∙ c.if-is_below.false));
   spelled = record { ranges = c.ranges-own.result.now; context = c.ranges-own.ensures.ranges; set = c.ranges-own.ensures.set };
   row = c.in_ok-row.row;
-  is = c.in_ok-row.ensures ∙ ap (λ x. ((6, ([], c.args.at ∷ [])), context.bytes x)) c.in_ok-joined.ensures;
+  is = c.in_ok-row.ensures ∙ ap (λ x. ((6, ([], c.args.at ∷ [])), context.bytes x)) c.in_ok-joined.ensures.both;
   pushed = c.in_ok-push.ensures.items;
-  joined = record { ranges = c.joined-2.inside.ranges.items; context = c.joined-2.invariant; set = c.joined-2.view_is ∙ c.in_ok-joined.ensures };
+  joined = record { ranges = c.joined-2.inside.ranges.items; context = c.joined-2.invariant; set = c.joined-2.view_is ∙ c.in_ok-joined.ensures.both };
 })

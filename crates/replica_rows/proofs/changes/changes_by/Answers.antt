@@ -6,6 +6,7 @@ use Rattle.replica_rows.specs.Changes.{AreChanges}
 use Rattle.replica_rows.specs.Steps.{AddsContext, AddsSubscriptions}
 use Rattle.replica_rows.proofs.Naming.{changes_lead}
 use Rattle.replica_rows.proofs.Completed.{changes_are}
+use Rattle.replica_rows.proofs.Empty.{nothing_changes}
 use Rattle.replica_rows.proofs.changes.changes_by.Goals as goal
 
 they_are : (c : goal.In_ok-add_context-2) → AreChanges c.args.store.now (state_join c.args.store.now c.args.delta.now) c.add_context-2.new.out.items
@@ -24,3 +25,12 @@ returns-clause-changes c = they_are c
 
 pub returns-clause-lead : goal.returns-clause-lead
 returns-clause-lead c = changes_lead c.args.store.now (state_join c.args.store.now c.args.delta.now) c.add_context-2.new.out.items (they_are c)
+
+none_are : (c : goal.Then-is_below) → AreChanges c.args.store.now (state_join c.args.store.now c.args.delta.now) c.new-out.result.items
+none_are c = nothing_changes c.args.store.now c.args.delta.now c.new-out.result.items c.new-out.ensures.items (c.is_below.ensures.0 c.if-is_below.true)
+
+pub returns-then-is_below-clause-changes : goal.returns-then-is_below-clause-changes
+returns-then-is_below-clause-changes c = none_are c
+
+pub returns-then-is_below-clause-lead : goal.returns-then-is_below-clause-lead
+returns-then-is_below-clause-lead c = changes_lead c.args.store.now (state_join c.args.store.now c.args.delta.now) c.new-out.result.items (none_are c)

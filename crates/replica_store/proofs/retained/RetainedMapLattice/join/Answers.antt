@@ -1,7 +1,7 @@
 use Rattle.std.proofs.Common.{◌∙◌, ap, subst, sym, map as map_list}
 use Rattle.std.specs.FinMap as map
 use Rattle.std.specs.Map.Iter.{deref_pair}
-use Rattle.replica_store.specs.Retained.{retained_join}
+use Rattle.replica_store.specs.Retained.{retained_join, retained_lattice}
 use Rattle.replica_store.specs.Merging.{NoneHeld, AllHeld, with_all}
 use Rattle.replica_store.proofs.Keeping.{none_held, greater_held, all_joined, joined_kept}
 use Rattle.replica_store.proofs.retained.RetainedMapLattice.join.Goals as goal
@@ -31,3 +31,6 @@ returns-clause-ok c =
     let mid = c.in_ok-add_fresh.ensures.ok ∙ ap (with_all s) (ap (map_list deref_pair) c.deref.ensures.value ∙ c.in_ok-news.ensures.fresh) in
     c.put_greater.ensures ∙ (λ i. with_all (mid i) (c.in_ok-news.ensures.greater i)) ∙ all_joined s c.other.inside.topics
     ∙ (λ i. retained_join (c.self.view_is i) (c.other.view_is i))
+
+pub returns-then-is_below-clause-ok : goal.returns-then-is_below-clause-ok
+returns-then-is_below-clause-ok c = sym (retained_lattice.commutative c.args.self.now c.args.other.now ∙ retained_lattice.from_order c.args.other.now c.args.self.now (c.is_below.ensures.0 c.if-is_below.true))

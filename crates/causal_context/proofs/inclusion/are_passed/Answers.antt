@@ -2,7 +2,7 @@ use Rattle.std.proofs.Common.{◌≡◌, ◌<◌, arith, length, get_or, true, f
 use Rattle.causal_context.specs.declared.ranges.Range.{Range}
 use Rattle.causal_context.proofs.RangeLemmas.{not_so, read_at}
 use Rattle.causal_context.proofs.Below.{none_left, take_one, sticks_out}
-use Rattle.causal_context.proofs.inclusion.are_below.Goals as goal
+use Rattle.causal_context.proofs.inclusion.are_passed.Goals as goal
 
 abbrev zero_range : Range
 zero_range = record { node = 0; first = 0; last = 0 }
