@@ -12,13 +12,16 @@ use Rattle.mqtt_message.proofs.SpellingLaws.{flag_is, listed_is}
 use Rattle.mqtt_message.proofs.WholeLaws.{message_is}
 use Rattle.replica_bytes.specs.Filters.{is_filter}
 use Rattle.replica_bytes.specs.Values.{filter}
-use Rattle.bridge_frames.specs.Forwards.{pick, forward_of, forward_parts, forward, got_number, is_lane_number, lane_number, numbered}
+use Rattle.bridge_frames.specs.Forwards.{is_shared, shared_filter, pick, forward_of, forward_parts, forward, got_number, is_lane_number, lane_number, numbered}
 
 filter_is : IsField filter
 filter_is = tested_is is_filter Malformed text text_is
 
+shared_filter_is : IsField shared_filter
+shared_filter_is = tested_is is_shared Malformed filter filter_is
+
 pub pick_is : IsField pick
-pick_is = seen_is (λ x. record { client = x.0; filter = x.1 }) (λ p. (p.client, p.filter)) (after text (λ _. filter)) (λ _. refl) (λ _. refl) (after_is text (λ _. filter) text_is (λ _. filter_is))
+pick_is = seen_is (λ x. record { client = x.0; filter = x.1 }) (λ p. (p.client, p.filter)) (after text (λ _. shared_filter)) (λ _. refl) (λ _. refl) (after_is text (λ _. shared_filter) text_is (λ _. shared_filter_is))
 
 pub forward_is : IsField forward
 unfolding forward

@@ -1,6 +1,7 @@
 -- The bytes of messages for clients of another node.
-use Rattle.std.specs.Prelude.{ℕ, ◌^◌, ◌&&◌, nat_le, nat_lt, List, Bool}
+use Rattle.std.specs.Prelude.{ℕ, ◌^◌, ◌&&◌, nat_eq, nat_le, nat_lt, codes, List, Bool}
 use Rattle.std.specs.Int.{w64}
+use Rattle.std.specs.List.{starts_with}
 use Rattle.mqtt_fields.specs.declared.fault.FieldFault.TheVariants.{Malformed}
 use Rattle.mqtt_fields.specs.Field.{Field, after, tested, seen}
 use Rattle.mqtt_fields.specs.Numbers.{number, text}
@@ -11,9 +12,17 @@ use Rattle.replica_bytes.specs.Values.{filter}
 use Rattle.bridge_frames.specs.declared.forward.Forward.{Forward}
 use Rattle.bridge_frames.specs.declared.pick.Pick.{Pick}
 
+-- a filter that begins as those of shared subscriptions do (MQTT 5.0, 4.8.2)
+abbrev pub is_shared : List ℕ → Bool
+is_shared text = starts_with nat_eq text (codes "$share/")
+
+-- the whole filter of a shared subscription
+abbrev pub shared_filter : Field (List ℕ)
+shared_filter = tested is_shared Malformed filter
+
 -- a client, and the whole filter of its shared subscription
 abbrev pub pick : Field Pick
-pick = seen (λ x. record { client = x.0; filter = x.1 }) (λ p. (p.client, p.filter)) (after text (λ _. filter))
+pick = seen (λ x. record { client = x.0; filter = x.1 }) (λ p. (p.client, p.filter)) (after text (λ _. shared_filter))
 
 abbrev pub ForwardParts : Type 0
 ForwardParts = Bool × (List Pick × Message)

@@ -10,6 +10,7 @@ pub mod laws;
 mod length;
 mod number;
 mod pick;
+mod shared;
 
 pub use body::FrameBody;
 pub use fault::LinkFault;
@@ -18,3 +19,4 @@ pub use frame::BridgeFrame;
 pub use length::frame_length;
 pub use number::LaneNumber;
 pub use pick::{Pick, Picks};
+pub use shared::SharedFilter;

@@ -3,11 +3,10 @@ ghost use Rattle.std.specs.Prelude.{◌≡◌, ◌↔◌, ◌<◌, ◌^◌, ◌+
 ghost use Rattle.std.specs.List.{AllByRecursion};
 ghost use Rattle.mqtt_fields.specs.Reading.{Gives};
 ghost use Rattle.mqtt_message.specs.Spelling.{listed, values_at};
-ghost use Rattle.replica_bytes.specs.Values.{filter, filter_in};
 ghost use Rattle.bridge_frames.specs.Forwards as spec;
 
+use crate::shared::SharedFilter;
 use mqtt_fields::{FieldFault, NoMemory, Text, put_u16, u16_at};
-use mqtt_topics::{Filter, TopicFault};
 use std::alloc::Global;
 use std::marker::Model;
 
@@ -16,27 +15,7 @@ use std::marker::Model;
 #[derive(Drop)]
 pub struct Pick {
     pub client: Text,
-    pub filter: Filter,
-}
-
-fn filter_of(alloc: Global, text: &Text) -> Result<Filter, FieldFault>
-    ensures { Gives (λ f. f) result (filter_in text.now) }
-{
-    match Filter::parse(alloc, text.as_str()) {
-        Ok(filter) => Ok(filter),
-        Err(fault) => match fault {
-            TopicFault::NoMemory => Err(FieldFault::NoMemory),
-            _ => Err(FieldFault::Malformed),
-        },
-    }
-}
-
-fn filter_at(alloc: Global, bytes: &[u8]) -> Result<(Filter, &[u8]), FieldFault>
-    ensures { Gives (λ x. (x.0, x.1.now)) result (filter.at bytes.now) }
-{
-    let (text, rest) = Text::at(alloc, bytes)?;
-    let filter = filter_of(alloc, &text)?;
-    Ok((filter, rest))
+    pub filter: SharedFilter,
 }
 
 impl Pick {
@@ -44,7 +23,7 @@ impl Pick {
         ensures { Gives (λ x. (x.0, x.1.now)) result (spec.pick.at bytes.now) }
     {
         let (client, rest) = Text::at(alloc, bytes)?;
-        let (filter, rest) = filter_at(alloc, rest)?;
+        let (filter, rest) = SharedFilter::at(alloc, rest)?;
         Ok((Pick { client, filter }, rest))
     }
 
@@ -53,7 +32,7 @@ impl Pick {
         ensures begins { take (length out.old.items) out.new.items ≡ out.old.items }
     {
         self.client.write(out)?;
-        self.filter.as_text().write(out)
+        self.filter.as_filter().as_text().write(out)
     }
 
     // Each pick has a spelling. This does nothing; its contract is a law.
@@ -62,7 +41,7 @@ impl Pick {
         ensures { spec.pick.Fits self.now }
     {
         let _client = self.client.as_str();
-        let _filter = self.filter.as_str();
+        let _filter = self.filter.as_filter().as_str();
     }
 
     /// An equal pick.

@@ -1,3 +1,5 @@
 pub mod Selecting
 pub mod Gathering
 pub mod InOrder
+pub mod Sharing
+pub mod Ascending

@@ -1,5 +1,5 @@
 -- How a client gets a message by its subscriptions (MQTT 5.0, 3.3.1.3, 3.3.4 and 3.8.4).
-use Rattle.std.specs.Prelude.{ℕ, max, ◌==◌, ◌&&◌, nat_lt, nat_le, if◌then◌else◌, Bool, true, List, [], ◌∷◌}
+use Rattle.std.specs.Prelude.{ℕ, max, ◌==◌, ◌&&◌, nat_lt, if◌then◌else◌, Bool, true, List, [], ◌∷◌}
 use Rattle.std.specs.List.{flat_map, list_any}
 use Rattle.mqtt_fields.specs.declared.options.Qos.{Qos}
 use Rattle.mqtt_fields.specs.declared.options.Qos.TheVariants.{AtMostOnce, AtLeastOnce}
@@ -8,6 +8,7 @@ use Rattle.mqtt_message.specs.declared.delivery.Delivery.{Delivery}
 use Rattle.mqtt_message.specs.declared.message.Message.{Message}
 use Rattle.mqtt_message.specs.Identifiers.{identifiers_of}
 use Rattle.subscription_set.specs.Entries.{Entry}
+use Rattle.message_copies.specs.Ascending.{ascending}
 
 -- the message's QoS, or the granted one where that is less (3.8.4)
 abbrev pub least_qos : ℕ → Qos → Qos
@@ -22,19 +23,9 @@ greatest_qos (e ∷ es) = max (qos_of e.options) (greatest_qos es)
 abbrev pub any_as_published : List Entry → Bool
 any_as_published es = list_any (λ e. retain_as_published_of e.options) es
 
--- a number in its place: before the first that isn't less
-abbrev pub put_number : ℕ → List ℕ → List ℕ
-put_number n [] = n ∷ []
-put_number n (x ∷ xs) = if nat_le n x then n ∷ x ∷ xs else x ∷ put_number n xs
-
--- numbers put, one after the other, in their places among others
-abbrev pub put_numbers : List ℕ → List ℕ → List ℕ
-put_numbers [] xs = xs
-put_numbers (n ∷ ns) xs = put_numbers ns (put_number n xs)
-
 -- the Subscription Identifiers of all of them, ascending, repeats kept (3.3.4)
 abbrev pub identifiers_in : List Entry → List ℕ
-identifiers_in es = put_numbers (flat_map (λ e. identifiers_of e.identifier) es) []
+identifiers_in es = (ascending (flat_map (λ e. identifiers_of e.identifier) es)).0
 
 -- the one copy for a client with these subscriptions
 abbrev pub copy_for : Message → List Entry → Delivery

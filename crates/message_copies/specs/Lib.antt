@@ -1,3 +1,4 @@
+pub mod Ascending
 pub mod Deliveries
 pub mod Gathered
 pub mod Copies

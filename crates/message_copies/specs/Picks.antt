@@ -1,6 +1,6 @@
 -- Which member of each shared group gets a message (MQTT 5.0, 4.8.2).
 use Rattle.std.specs.Prelude.{◌≡◌, ℕ, ◌%◌, List, [], ◌∷◌, length, slice_get, Option, Some, None}
-use Rattle.std.specs.List.{flat_map}
+use Rattle.std.specs.List.{flat_map, AllByRecursion}
 use Rattle.mqtt_message.specs.declared.message.Message.{Message}
 use Rattle.mqtt_topics.specs.Topics.{IsShared}
 use Rattle.filter_trie.specs.Selected.{IsSelected}
@@ -27,6 +27,10 @@ pick_of m (Some x) = pick_by m x.0 x.1
 -- of a group's members, in the order of their clients' bytes, the one in the place `turn mod size`
 abbrev pub picked : ℕ → List Entry → Option (List ℕ × List Entry)
 picked turn es = slice_get (by_client es) (turn % length (by_client es))
+
+-- the filters are those of shared subscriptions
+abbrev pub AreShared : List GroupPick → Type 0
+AreShared picks = AllByRecursion (λ x. IsShared x.filter) picks
 
 -- one pick for each group with a shared one of some subscriptions that match, in the order of the groups
 abbrev pub ArePicksAmong : ℕ → List Entry → Message → List GroupPick → Type 0

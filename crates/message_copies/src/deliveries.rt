@@ -3,7 +3,8 @@
 ghost use Rattle.std.specs.Prelude.{◌≡◌, ◌≤◌, length, IfOk, OnOk};
 ghost use Rattle.std.specs.List.{insert};
 ghost use Rattle.mqtt_message.specs.Identifiers.{identifiers_of};
-ghost use Rattle.message_copies.specs.Deliveries.{least_qos, greatest_qos, any_as_published, put_number, put_numbers, identifiers_in, copy_for, offer_of};
+ghost use Rattle.message_copies.specs.Ascending.{put_number, put_numbers};
+ghost use Rattle.message_copies.specs.Deliveries.{least_qos, greatest_qos, any_as_published, identifiers_in, copy_for, offer_of};
 ghost use Rattle.message_copies.specs.Tables.{referents};
 
 use mqtt_fields::{NoMemory, Qos, SubscriptionOptions};

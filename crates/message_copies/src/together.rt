@@ -3,7 +3,7 @@
 ghost use Rattle.std.specs.Prelude.{[], IfOk, IsOk};
 ghost use Rattle.subscription_set.specs.Standing.{live};
 ghost use Rattle.message_copies.specs.Copies.{AreCopies, AreLive, IsFor, IsPlainFor};
-ghost use Rattle.message_copies.specs.Picks.{ArePicks};
+ghost use Rattle.message_copies.specs.Picks.{ArePicks, AreShared};
 ghost use Rattle.message_copies.specs.Tables.{referents};
 
 use crate::groups::{GroupPick, picks_among};
@@ -35,6 +35,7 @@ pub fn copies_and_picks<'a>(
 ) -> Result<CopiesAndPicks<'a>, NoMemory>
     ensures copies { IfOk result (λ out. AreCopies (live subscriptions.now) message.now out.copies.items) }
     ensures picks { IfOk result (λ out. ArePicks turn (live subscriptions.now) message.now out.picks.items) }
+    ensures shared { IfOk result (λ out. AreShared out.picks.items) }
     ensures matching { IfOk result (λ out. AreLive (IsPlainFor message.now) (live subscriptions.now) (referents out.matching.items)) }
     ensures none { AreLive (IsFor message.now) (live subscriptions.now) [] → IsOk result }
 {

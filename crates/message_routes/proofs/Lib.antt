@@ -1,2 +1,3 @@
+pub mod LatestLive
 pub mod Pairs
 pub mod Routing

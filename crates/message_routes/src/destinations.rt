@@ -1,15 +1,18 @@
 //! Where the clients are at home that a message is for.
 
 ghost use Rattle.std.specs.Prelude.{◌≡◌, ◌<◌, ◌+◌, ◌||◌, false, nat_le, length, if◌then◌else◌, IfOk, OnErr, IsOk};
+ghost use Rattle.message_copies.specs.Picks.{AreShared};
 ghost use Rattle.message_copies.specs.Tables.{referents};
+ghost use Rattle.mqtt_topics.specs.Topics.{IsShared};
 ghost use Rattle.message_routes.specs.Routes.{AreFor, IsHomeOf, IsHomed, Pairwise, forward_at, frame_length, has_pick, is_at, is_wanted, picks_at, route_of};
 
 use crate::length::frame_length;
-use bridge_frames::{Forward, Pick, Picks};
+use bridge_frames::{Forward, Pick, Picks, SharedFilter};
 use home_table::HomeTable;
 use message_copies::GroupPick;
 use mqtt_fields::NoMemory;
 use mqtt_message::SharedMessage;
+use mqtt_topics::Filter;
 use std::alloc::Global;
 use subscription_set::Entry;
 
@@ -54,14 +57,24 @@ fn homes_of(alloc: Global, table: &HomeTable, matching: &[&Entry]) -> Result<Vec
     Ok(homes)
 }
 
+// The filter of a shared subscription once more.
+fn shared(alloc: Global, filter: &Filter) -> Result<SharedFilter, NoMemory>
+    requires { IsShared filter.now }
+    ensures { IfOk result (λ shared. shared ≡ filter.now) }
+{
+    let copy = filter.copy(alloc)?;
+    Ok(SharedFilter::of(copy).unwrap())
+}
+
 // A pick as it is named to its client's home, and that home.
 fn homed(alloc: Global, table: &HomeTable, pick: &GroupPick) -> Result<HomedPick, NoMemory>
+    requires { IsShared pick.now.filter }
     ensures { IfOk result (λ homed. IsHomed table.now pick.now homed) }
 {
     Ok(HomedPick {
         pick: Pick {
             client: pick.client.copy(alloc)?,
-            filter: pick.filter.copy(alloc)?,
+            filter: shared(alloc, &pick.filter)?,
         },
         home: table.home_of(pick.client.as_str()),
     })
@@ -73,6 +86,7 @@ fn homed_picks(
     table: &HomeTable,
     picks: &[GroupPick],
 ) -> Result<Vec<HomedPick>, NoMemory>
+    requires { AreShared picks.now }
     ensures picks { IfOk result (λ out. Pairwise (IsHomed table.now) picks.now out.items) }
     ensures memory { OnErr result (0 < length picks.now) }
 {
@@ -134,6 +148,7 @@ impl Destinations {
         matching: &[&Entry],
         picks: &[GroupPick],
     ) -> Result<Destinations, NoMemory>
+        requires { AreShared picks.now }
         ensures homes { IfOk result (λ d. AreFor table.now (referents matching.now) picks.now d) }
         ensures memory { OnErr result (0 < length matching.now + length picks.now) }
     {

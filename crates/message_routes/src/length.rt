@@ -57,7 +57,7 @@ fn pick_length(of: &Pick) -> usize
     ensures exact { result ≡ length (pick.bytes of.now) }
     ensures small { result < 2 ^ 18 }
 {
-    4 + of.client.as_str().len() + of.filter.as_str().len()
+    4 + of.client.as_str().len() + of.filter.as_filter().as_str().len()
 }
 
 fn picks_length(picks: &[Pick]) -> usize

@@ -2,6 +2,7 @@
 #![tactic(auto)]
 
 mod destinations;
+mod latest;
 mod length;
 mod taken;
 

@@ -7,6 +7,7 @@ ghost use Rattle.subscription_set.specs.Standing.{live};
 ghost use Rattle.message_routes.specs.Routes.{Pairwise};
 ghost use Rattle.message_routes.specs.Taken.{IsPicked, IsPickedCopy};
 
+use crate::latest::latest_at;
 use bridge_frames::Pick;
 use message_copies::{PlainCopy, copy_for};
 use mqtt_fields::NoMemory;
@@ -14,16 +15,7 @@ use mqtt_message::{Message, SharedMessage};
 use std::alloc::Global;
 use subscription_set::{Entry, SubscriptionSet};
 
-// Whether a subscription is the one that was picked.
-fn is_picked(message: &Message, pick: &Pick, entry: &Entry) -> bool
-    ensures { IsTrue result ↔ IsPicked message.now pick.now entry.now }
-{
-    entry.has_client(&pick.client)
-        && entry.has_filter(&pick.filter)
-        && entry.filter().matches(&message.topic)
-}
-
-// What is live of a pick.
+// What is live of a pick: the latest of what stands of its client to its filter, where that matches.
 fn own_of<'a>(
     alloc: Global,
     subscriptions: &'a SubscriptionSet,
@@ -33,12 +25,14 @@ fn own_of<'a>(
     ensures { IfOk result (λ out.
         AreLive (IsPicked message.now pick.now) (live subscriptions.now) (referents out.items)) }
 {
-    let found = subscriptions.matching(&message.topic)?;
     let mut out = Vec::new(alloc);
-    for entry in &found {
-        if is_picked(message, pick, *entry) {
-            out.push(*entry)?;
-        }
+    let filter = pick.filter.as_filter();
+    if !filter.matches(&message.topic) {
+        return Ok(out);
+    }
+    let dots = subscriptions.dots_of(&pick.client, Some(filter))?;
+    if let Some(entry) = latest_at(subscriptions, &dots) {
+        out.push(entry)?;
     }
     Ok(out)
 }

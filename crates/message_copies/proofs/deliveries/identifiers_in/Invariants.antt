@@ -1,6 +1,7 @@
 use Rattle.std.proofs.Common.{◌≡◌, drop, flat_map}
 use Rattle.mqtt_message.specs.Identifiers.{identifiers_of}
-use Rattle.message_copies.specs.Deliveries.{put_numbers, identifiers_in}
+use Rattle.message_copies.specs.Ascending.{put_numbers}
+use Rattle.message_copies.specs.Deliveries.{identifiers_in}
 use Rattle.message_copies.specs.Tables.{referents}
 use Rattle.message_copies.proofs.deliveries.identifiers_in.Given as goal
 

@@ -1,5 +1,5 @@
 use Rattle.std.proofs.Common.{◌≡◌, ◌++◌, take, drop}
-use Rattle.message_copies.specs.Deliveries.{put_number}
+use Rattle.message_copies.specs.Ascending.{put_number}
 use Rattle.message_copies.proofs.deliveries.place_of.Given as goal
 
 abbrev pub invariant-loop-i : goal.invariant-loop-i

@@ -2,6 +2,7 @@ use Rattle.std.proofs.Common.{sym, subst, arith}
 use Rattle.subscription_set.specs.Standing.{live}
 use Rattle.message_copies.specs.Copies.{AreLive, IsFor}
 use Rattle.message_copies.specs.Tables.{referents}
+use Rattle.message_copies.proofs.Sharing.{picks_shared}
 use Rattle.message_copies.proofs.Selecting.{copies_found, picks_found, plain_found, nothing_found}
 use Rattle.message_copies.proofs.together.copies_and_picks.Goals as goal
 
@@ -24,6 +25,9 @@ pub returns-clause-picks : goal.returns-clause-picks
 returns-clause-picks c =
     let found = subst (λ rs. AreLive (IsFor c.args.message.now) (live c.args.subscriptions.now) (referents rs)) (sym c.as_slice.ensures.value) c.in_ok-found.ensures.found in
     picks_found c.args.turn (live c.args.subscriptions.now) c.args.message.now (referents c.as_slice.result.now) c.in_ok-picks.picks.items found c.in_ok-picks.ensures.picks
+
+pub returns-clause-shared : goal.returns-clause-shared
+returns-clause-shared c = picks_shared c.args.turn (live c.args.subscriptions.now) c.args.message.now c.in_ok-picks.picks.items (returns-clause-picks c)
 
 pub returns-clause-matching : goal.returns-clause-matching
 returns-clause-matching c =
