@@ -18,23 +18,23 @@ use Rattle.message_copies.proofs.Selecting.{selected_once}
 use Rattle.session_table.specs.Seats.{IsElsewhere}
 use Rattle.std.specs.FinMap as map
 use Rattle.node_clients.specs.Moving.{MovesAway}
-use Rattle.broker_node.specs.Moving.{AreAway, Moves, SendsAway, TakesTable}
+use Rattle.broker_node.specs.Moving.{AreAway, TakesNewerTable, SendsAway, TakesTable}
 use Rattle.node_work.specs.Acts.{Moved, Began, Bridge, Connection, Merged, Store}
-use Rattle.node_work.specs.Doings.{Gives, GivesFrame, Misses, Opens, Removes, TakesMoment, is_small}
+use Rattle.node_work.specs.Doings.{GivesBody, GivesFrame, Misses, OpensConnection, Removes, TakesMoment, is_small}
 use Rattle.node_work.specs.Held.Bridge.{Believed, Gave, Got as GotBy, Left_out}
 use Rattle.node_work.specs.Held.Connections.{Opened}
 use Rattle.node_work.specs.View.{HeldView}
 use Rattle.node_work.specs.Working.{Returns, Acting, Each, Then}
-use Rattle.node_clients.specs.Ending.{Closes}
+use Rattle.node_clients.specs.Ending.{ClosesConnection}
 use Rattle.node_clients.specs.Passing.{TakesForward}
 use Rattle.node_clients.proofs.Determined.{Determined, IsAlone, returns_determined, acting_determined, numbered_determined, looks_determined, finds_determined, if_determined, then_determined, each_determined, calls_determined}
 use Rattle.node_clients.proofs.DeterminedClients.{moves_away_determined, removes_determined, ticks_determined, closes_determined, piece_determined, leaves_determined, takes_forward_determined}
 use Rattle.broker_node.specs.declared.event.Event.{Event}
 use Rattle.broker_node.specs.declared.event.EventKind.{EventKind}
 use Rattle.broker_node.specs.declared.event.EventKind.TheVariants as kinds
-use Rattle.broker_node.specs.Bridge.{AreShipped, GivesState, Greets, HearsFrame, Merges, Ships, ShipsMessages, ShipsState, ShipsTo, Takes, TakesMessage, TakesNext, TellsTaken}
+use Rattle.broker_node.specs.Bridge.{AreShipped, GivesState, Greets, HearsFrame, Merges, Ships, ShipsMessages, ShipsState, ShipsTo, TakesBody, TakesMessage, TakesNext, TellsTaken}
 use Rattle.broker_node.specs.Due.{ClosesStored, DoesDue, EndsConnections, EndsSessions, PartsFrom, PublishesWills, RunsOut, Starts, TicksOf}
-use Rattle.broker_node.specs.Turns.{Answers, Decides, Evicts, First, GoesOn, Turn}
+use Rattle.broker_node.specs.Turns.{AnswersEvent, Decides, Evicts, AwaitsStart, AnswersAfterDue, Turn}
 
 -- ---- what nodes tell one another
 
@@ -45,12 +45,12 @@ gives_frame_determined : (f : BridgeFrame) → Determined (GivesFrame f)
 gives_frame_determined f =
     if_determined (is_small f) (Acting (λ p h. Bridge (Gave f))) (Misses FrameTooLarge) (acting_determined (λ p h. Bridge (Gave f))) (misses_determined FrameTooLarge)
 
-gives_determined : (peer : ℕ) (body : HeldView → FrameBody) → Determined (Gives peer body)
+gives_determined : (peer : ℕ) (body : HeldView → FrameBody) → Determined (GivesBody peer body)
 gives_determined peer body = looks_determined _ _ gives_frame_determined
 
 greets_determined : (peer : ℕ) → Determined (Greets peer)
 greets_determined peer =
-    looks_determined _ _ (λ other. if_determined other (Gives peer (λ h. Hello)) (Returns tt) (gives_determined peer (λ h. Hello)) (returns_determined tt))
+    looks_determined _ _ (λ other. if_determined other (GivesBody peer (λ h. Hello)) (Returns tt) (gives_determined peer (λ h. Hello)) (returns_determined tt))
 
 shipped_alone : (peer : ℕ) → IsAlone (AreShipped peer)
 shipped_alone peer p h None None sound a b = refl
@@ -84,7 +84,7 @@ takes_message_determined from number m =
     (looks_determined _ _ (λ next. if_determined next (TakesForward from number m) (Returns tt) (takes_forward_determined from number m) (returns_determined tt)))
     (λ _. gives_determined from (λ h. Got (lane_to h.bridge from).took))
 
-takes_determined : (from : ℕ) (body : FrameBody) → Determined (Takes from body)
+takes_determined : (from : ℕ) (body : FrameBody) → Determined (TakesBody from body)
 takes_determined from Hello = tells_taken_determined from
 takes_determined from (Delta s) = merges_determined from s
 takes_determined from (Know dots) = acting_determined (λ p h. Bridge (Believed from dots))
@@ -95,7 +95,7 @@ hears_frame_determined : (frame : Option BridgeFrame) → Determined (HearsFrame
 hears_frame_determined None = misses_determined BadFrame
 hears_frame_determined (Some frame) =
     looks_determined _ _
-    (λ here. if_determined here (Takes frame.from frame.body) (Misses BadFrame) (takes_determined frame.from frame.body) (misses_determined BadFrame))
+    (λ here. if_determined here (TakesBody frame.from frame.body) (Misses BadFrame) (takes_determined frame.from frame.body) (misses_determined BadFrame))
 
 -- ---- what is due
 
@@ -104,8 +104,8 @@ parts_from_determined client = then_determined _ _ (calls_determined client clos
 
 runs_out_determined : (d : Due) → Determined (RunsOut d)
 runs_out_determined d =
-    then_determined _ (λ _. Then (Closes d.0) (λ _. PartsFrom d.1)) (calls_determined d.1 ticks stays)
-    (λ _. then_determined (Closes d.0) (λ _. PartsFrom d.1) (closes_determined d.0) (λ _. parts_from_determined d.1))
+    then_determined _ (λ _. Then (ClosesConnection d.0) (λ _. PartsFrom d.1)) (calls_determined d.1 ticks stays)
+    (λ _. then_determined (ClosesConnection d.0) (λ _. PartsFrom d.1) (closes_determined d.0) (λ _. parts_from_determined d.1))
 
 ticks_of_determined : (d : Due) → Determined (TicksOf d)
 ticks_of_determined d = ticks_determined d.1
@@ -124,7 +124,7 @@ sends_away_determined = finds_determined AreAway (Each MovesAway) away_alone (ea
 
 takes_table_determined : (homes : Table) → Determined (TakesTable homes)
 takes_table_determined homes =
-    looks_determined _ _ (λ newer. if_determined newer (Moves homes) (Misses TableRefused) (then_determined _ (λ _. SendsAway) (acting_determined (λ p h. Moved homes)) (λ _. sends_away_determined)) (misses_determined TableRefused))
+    looks_determined _ _ (λ newer. if_determined newer (TakesNewerTable homes) (Misses TableRefused) (then_determined _ (λ _. SendsAway) (acting_determined (λ p h. Moved homes)) (λ _. sends_away_determined)) (misses_determined TableRefused))
 
 starts_determined : Determined Starts
 starts_determined =
@@ -134,7 +134,7 @@ starts_determined =
 
 -- ---- events
 
-opens_determined : (c : ℕ) → Determined (Opens c)
+opens_determined : (c : ℕ) → Determined (OpensConnection c)
 opens_determined c =
     looks_determined _ _
     (λ is. if_determined is (Returns tt) (Acting (λ p h. Connection (Opened c))) (returns_determined tt) (acting_determined (λ p h. Connection (Opened c))))
@@ -142,7 +142,7 @@ opens_determined c =
 evicts_determined : (client : List ℕ) → Determined (Evicts client)
 evicts_determined client = then_determined (Removes client None) _ (removes_determined client None) (λ _. returns_determined tt)
 
-first_determined : (kind : EventKind) → Determined (First kind)
+first_determined : (kind : EventKind) → Determined (AwaitsStart kind)
 first_determined kinds.Started = starts_determined
 first_determined (kinds.Opened connection) = returns_determined tt
 first_determined (kinds.Piece connection bytes) = returns_determined tt
@@ -154,7 +154,7 @@ first_determined kinds.Tick = returns_determined tt
 first_determined (kinds.Evict client) = returns_determined tt
 first_determined (kinds.Table homes) = returns_determined tt
 
-answers_determined : (kind : EventKind) → Determined (Answers kind)
+answers_determined : (kind : EventKind) → Determined (AnswersEvent kind)
 answers_determined kinds.Started = returns_determined tt
 answers_determined (kinds.Opened connection) = opens_determined connection
 answers_determined (kinds.Piece connection bytes) = piece_determined connection bytes
@@ -166,10 +166,10 @@ answers_determined kinds.Tick = returns_determined tt
 answers_determined (kinds.Evict client) = evicts_determined client
 answers_determined (kinds.Table homes) = takes_table_determined homes
 
-due_and_answers_determined : (kind : EventKind) → Determined (Then DoesDue (λ _. Answers kind))
-due_and_answers_determined kind = then_determined DoesDue (λ _. Answers kind) does_due_determined (λ _. answers_determined kind)
+due_and_answers_determined : (kind : EventKind) → Determined (Then DoesDue (λ _. AnswersEvent kind))
+due_and_answers_determined kind = then_determined DoesDue (λ _. AnswersEvent kind) does_due_determined (λ _. answers_determined kind)
 
-goes_on_determined : (kind : EventKind) → Determined (GoesOn kind)
+goes_on_determined : (kind : EventKind) → Determined (AnswersAfterDue kind)
 goes_on_determined kinds.Started = returns_determined tt
 goes_on_determined (kinds.Opened connection) = due_and_answers_determined (kinds.Opened connection)
 goes_on_determined (kinds.Piece connection bytes) = due_and_answers_determined (kinds.Piece connection bytes)
@@ -182,7 +182,7 @@ goes_on_determined (kinds.Evict client) = due_and_answers_determined (kinds.Evic
 goes_on_determined (kinds.Table homes) = due_and_answers_determined (kinds.Table homes)
 
 turn_determined : (kind : EventKind) → Determined (Turn kind)
-turn_determined kind = looks_determined _ _ (λ started. if_determined started (GoesOn kind) (First kind) (goes_on_determined kind) (first_determined kind))
+turn_determined kind = looks_determined _ _ (λ started. if_determined started (AnswersAfterDue kind) (AwaitsStart kind) (goes_on_determined kind) (first_determined kind))
 
 pub decides_determined : (e : Event) → Determined (Decides e)
 decides_determined e = then_determined (TakesMoment e.at) (λ _. Turn e.kind) (numbered_determined _ _) (λ _. turn_determined e.kind)

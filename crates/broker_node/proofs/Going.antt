@@ -4,14 +4,14 @@ use Rattle.broker_node.specs.declared.event.EventKind.{EventKind}
 use Rattle.broker_node.specs.declared.event.EventKind.TheVariants as kinds
 use Rattle.broker_node.specs.Due.{DoesDue}
 use Rattle.broker_node.specs.Idle.{NothingDue, AsksNothing, GoesIdle}
-use Rattle.broker_node.specs.Turns.{Answers, First, GoesOn}
+use Rattle.broker_node.specs.Turns.{AnswersEvent, AwaitsStart, AnswersAfterDue}
 use Rattle.node_work.specs.Acts.{Act}
 use Rattle.node_work.specs.View.{Place, HeldView, WorkView}
 use Rattle.node_work.specs.Working.{Did, Then}
 use Rattle.node_work.proofs.Working.{did_nothing}
 
 -- at another event than Started: what is due, and then what it asks for
-pub goes : (kind : EventKind) → ¬ (kind ≡ kinds.Started) → (out : Option (Unit {0})) (p : Place) (h : HeldView) (acts : List Act) → Then DoesDue (λ _. Answers kind) out p h acts → GoesOn kind out p h acts
+pub goes : (kind : EventKind) → ¬ (kind ≡ kinds.Started) → (out : Option (Unit {0})) (p : Place) (h : HeldView) (acts : List Act) → Then DoesDue (λ _. AnswersEvent kind) out p h acts → AnswersAfterDue kind out p h acts
 goes kinds.Started other out p h acts d = absurd (other refl)
 goes (kinds.Opened connection) other out p h acts d = d
 goes (kinds.Piece connection bytes) other out p h acts d = d
@@ -36,7 +36,7 @@ goes_idle (kinds.Evict client) other p h i = i
 goes_idle (kinds.Table homes) other p h i = i
 
 -- before it has started: nothing
-pub waits : (kind : EventKind) → ¬ (kind ≡ kinds.Started) → (w : WorkView) → Did w w (First kind (Some tt))
+pub waits : (kind : EventKind) → ¬ (kind ≡ kinds.Started) → (w : WorkView) → Did w w (AwaitsStart kind (Some tt))
 waits kinds.Started other w = absurd (other refl)
 waits (kinds.Opened connection) other w = did_nothing w tt
 waits (kinds.Piece connection bytes) other w = did_nothing w tt

@@ -4,5 +4,7 @@ pub mod Handing
 pub mod Tables
 pub mod Quiet
 pub mod Shipping
+pub mod Altering
 pub mod Stepping
+pub mod Changing
 pub mod Turning

@@ -34,9 +34,9 @@ use Rattle.subscription_set.specs.Standing.{any_of, any_below}
 use Rattle.node_bridge.specs.View.{offer_to}
 use Rattle.node_work.specs.declared.counts.Missed.{Missed}
 use Rattle.node_work.specs.declared.counts.Missed.TheVariants.{FrameTooLarge, LaneFull}
-use Rattle.node_work.specs.Acts.{Act, Acknowledged, Began, Bridge, Connection, Dropped, Made, Merged, Moment, Moved, Named, Out, Passed, Session, Store, StoreAct, gather}
+use Rattle.node_work.specs.Acts.{Act, Acknowledged, Began, Bridge, Connection, Dropped, Made, Merged, MomentTaken, Moved, Named, Out, Passed, Session, Store, StoreAct, gather}
 use Rattle.node_work.specs.Calling.{Calls, CallsAt, Queues, QueuesOne}
-use Rattle.node_work.specs.Doings.{Disconnects, Gives, GivesFrame, MakesPut, MakesRemove, MakesRemoveBelow, MakesSubscribe, Misses, Opens, PutsBy, Redirects, Removes, RemovesBelow, Routes, RoutesBy, Sends, is_small}
+use Rattle.node_work.specs.Doings.{Disconnects, GivesBody, GivesFrame, MakesPut, MakesRemove, MakesRemoveBelow, MakesSubscribe, Misses, OpensConnection, PutsBy, Redirects, Removes, RemovesBelow, Routes, RoutesBy, Sends, is_small}
 use Rattle.node_work.specs.Held.Bridge.{Gave, Left_out, Put, heard_of}
 use Rattle.node_work.specs.Held.Connections.{Accepted, Closed, Fed, Opened, client_at, first_at, is_open}
 use Rattle.node_work.specs.Held.Feeding.{cut_of}
@@ -45,7 +45,7 @@ use Rattle.node_work.specs.Held.Sessions.{Begun, Over, connection_at, end_is_due
 use Rattle.node_work.specs.Packets.{moved_packet, refused_packet}
 use Rattle.node_work.specs.Passing.{content_of, turn_at_end}
 use Rattle.node_work.specs.View.{ConnectionView, HeldView, Place}
-use Rattle.node_work.specs.Working.{Acting, Doing, Each, Finds, If, InTurn, Looks, Numbered, Returns, Stops, Then, Where}
+use Rattle.node_work.specs.Working.{Acting, Doing, Each, FindsWhere, If, InTurn, Looks, Numbered, Returns, Stops, Then, Where}
 use Rattle.node_work.specs.declared.granted.Granted.{Granted}
 use Rattle.node_work.specs.declared.outcome.Output.TheVariants.{Close, Send}
 use Rattle.message_copies.specs.declared.plain.PlainCopy.{PlainCopy as Copy}
@@ -68,7 +68,7 @@ handed_store (Made o) = []
 handed_store (Merged s) = Store (Merged s) ∷ []
 
 abbrev pub handed_in : Act → List Act
-handed_in (Moment at) = []
+handed_in (MomentTaken at) = []
 handed_in Began = []
 handed_in (Moved homes) = Moved homes ∷ []
 handed_in (Store a) = handed_store a
@@ -115,7 +115,7 @@ where_quiet X P Q p q x place h acts (inr a) = q x place h acts a.1
 pub looks_quiet : {A B : Type 0} (see : Place → HeldView → A) (P : A → Option B → Doing) → ((x : A) → Quiet (P x)) → Quiet (Looks see P)
 looks_quiet see P q x p h acts d = q (see p h) x p h acts d
 
-pub finds_quiet : {A B : Type 0} (Is : Place → HeldView → A → Type 0) (P : A → Option B → Doing) → ((x : A) → Quiet (P x)) → Quiet (Finds Is P)
+pub finds_quiet : {A B : Type 0} (Is : Place → HeldView → A → Type 0) (P : A → Option B → Doing) → ((x : A) → Quiet (P x)) → Quiet (FindsWhere Is P)
 finds_quiet Is P q x p h acts d = q d.0 x p h acts d.2
 
 pub then_quiet : {A B : Type 0} (P : Option A → Doing) (Q : A → Option B → Doing) → Quiet P → ((x : A) → Quiet (Q x)) → Quiet (Then P Q)
@@ -173,7 +173,7 @@ removes_own_quiet : (client : List ℕ) → Quiet (ending.RemovesOwn client)
 removes_own_quiet client =
     finds_quiet (ending.IsAtHome client) (ending.RemovesFor client) (λ node. looks_quiet (ending.ends_below node) (RemovesBelow client) (removes_below_quiet client))
 
-pub opens_quiet : (c : ℕ) → Quiet (Opens c)
+pub opens_quiet : (c : ℕ) → Quiet (OpensConnection c)
 opens_quiet c =
     looks_quiet (λ p h. is_open c h) (λ is. If is (Returns tt) (Acting (λ p h. Connection (Opened c))))
     (λ is. if_quiet is (Returns tt) (Acting (λ p h. Connection (Opened c))) (returns_quiet tt) (acting_quiet (λ p h. Connection (Opened c)) (λ p h. refl)))
@@ -200,7 +200,7 @@ pub gives_frame_quiet : (f : BridgeFrame) → Quiet (GivesFrame f)
 gives_frame_quiet f =
     if_quiet (is_small f) (Acting (λ p h. Bridge (Gave f))) (Misses FrameTooLarge) (acting_quiet (λ p h. Bridge (Gave f)) (λ p h. refl)) (misses_quiet FrameTooLarge)
 
-pub gives_quiet : (peer : ℕ) (body : HeldView → FrameBody) → Quiet (Gives peer body)
+pub gives_quiet : (peer : ℕ) (body : HeldView → FrameBody) → Quiet (GivesBody peer body)
 gives_quiet peer body = looks_quiet (λ p h. record { from = p.id; to = peer; body = body h }) GivesFrame gives_frame_quiet
 
 -- ---- messages
@@ -241,16 +241,16 @@ ends_session_quiet : (client : List ℕ) → Quiet (ending.EndsSession client)
 ends_session_quiet client =
     then_quiet (ending.RemovesOwn client) (λ _. Acting (λ p h. Session (Over client))) (removes_own_quiet client) (λ _. acting_quiet (λ p h. Session (Over client)) (λ p h. refl))
 
-follows_quiet : (client : List ℕ) (r : Reaction) → Quiet (ending.Follows client r)
+follows_quiet : (client : List ℕ) (r : Reaction) → Quiet (ending.FollowsReaction client r)
 follows_quiet client r =
     then_quiet (ending.PassesAsked r.ask) (λ _. If r.over (ending.EndsSession client) (Returns tt)) (passes_asked_quiet r.ask)
     (λ _. if_quiet r.over (ending.EndsSession client) (Returns tt) (ends_session_quiet client) (returns_quiet tt))
 
 ticks_quiet : (client : List ℕ) → Quiet (ending.Ticks client)
-ticks_quiet client = then_quiet (Calls client ticks stays) (ending.Follows client) (calls_quiet client ticks stays) (follows_quiet client)
+ticks_quiet client = then_quiet (Calls client ticks stays) (ending.FollowsReaction client) (calls_quiet client ticks stays) (follows_quiet client)
 
 finishes_quiet : (client : List ℕ) → Quiet (ending.Finishes client)
-finishes_quiet client = then_quiet (Calls client finishes stays) (ending.Follows client) (calls_quiet client finishes stays) (follows_quiet client)
+finishes_quiet client = then_quiet (Calls client finishes stays) (ending.FollowsReaction client) (calls_quiet client finishes stays) (follows_quiet client)
 
 ticks_if_quiet : (see : HeldView → Bool) (client : List ℕ) → Quiet (Looks (λ p h. see h) (λ due. ending.TicksIf due client))
 ticks_if_quiet see client =
@@ -262,12 +262,12 @@ parts_quiet client =
     (λ _. then_quiet (Looks (λ p h. will_is_due client h) (λ due. ending.TicksIf due client)) (λ _. Looks (λ p h. end_is_due client h) (λ due. ending.TicksIf due client))
     (ticks_if_quiet (will_is_due client) client) (λ _. ticks_if_quiet (end_is_due client) client))
 
-closes_quiet : (c : ℕ) → Quiet (ending.Closes c)
+closes_quiet : (c : ℕ) → Quiet (ending.ClosesConnection c)
 closes_quiet c =
     then_quiet (Acting (λ p h. Connection (Closed c))) (λ _. Acting (λ p h. Out (Close c))) (acting_quiet (λ p h. Connection (Closed c)) (λ p h. refl)) (λ _. acting_quiet (λ p h. Out (Close c)) (λ p h. refl))
 
 closes_for_quiet : (c : ℕ) (client : List ℕ) → Quiet (ending.ClosesFor c client)
-closes_for_quiet c client = then_quiet (ending.Closes c) (λ _. ending.Parts client) (closes_quiet c) (λ _. parts_quiet client)
+closes_for_quiet c client = then_quiet (ending.ClosesConnection c) (λ _. ending.Parts client) (closes_quiet c) (λ _. parts_quiet client)
 
 closes_by_quiet : (c : ℕ) (client : Option (List ℕ)) → Quiet (ending.ClosesBy c client)
 closes_by_quiet c None = closes_quiet c
@@ -306,24 +306,24 @@ offers_after_quiet : (end : Option ℕ) (c : ℕ) (client : List ℕ) (packet : 
 offers_after_quiet None c client packet grants = finds_quiet (subscribing.AreOffers grants) (subscribing.OffersEach client packet grants) (offers_each_quiet client packet grants)
 offers_after_quiet (Some code) c client packet grants = closes_for_quiet c client
 
-acknowledges_quiet : (c : ℕ) (client : List ℕ) (packet : ℕ) (grants : List Granted) → Quiet (subscribing.Acknowledges c client packet grants)
+acknowledges_quiet : (c : ℕ) (client : List ℕ) (packet : ℕ) (grants : List Granted) → Quiet (subscribing.SendsSuback c client packet grants)
 acknowledges_quiet c client packet grants =
     then_quiet (Calls client (λ at. answers packet (subscribing.reasons_of grants)) stays) (λ r. subscribing.OffersAfter r.end c client packet grants)
     (calls_quiet client (λ at. answers packet (subscribing.reasons_of grants)) stays) (λ r. offers_after_quiet r.end c client packet grants)
 
-subscribes_quiet : (c : ℕ) (client : List ℕ) (p : Subscribe) → Quiet (subscribing.Subscribes c client p)
+subscribes_quiet : (c : ℕ) (client : List ℕ) (p : Subscribe) → Quiet (subscribing.ServesSubscribe c client p)
 subscribes_quiet c client p =
     let one = subscribing.Grants client (subscribing.identifier_of p) in
-    then_quiet (InTurn one p.filters []) (subscribing.Acknowledges c client p.identifier) (in_turn_quiet one (grants_quiet client (subscribing.identifier_of p)) p.filters []) (acknowledges_quiet c client p.identifier)
+    then_quiet (InTurn one p.filters []) (subscribing.SendsSuback c client p.identifier) (in_turn_quiet one (grants_quiet client (subscribing.identifier_of p)) p.filters []) (acknowledges_quiet c client p.identifier)
 
 unsubscribed_quiet : (client text : List ℕ) → Quiet (unsubscribing.Unsubscribed client text)
 unsubscribed_quiet client text =
     where_quiet (IsFilter text) (Then (Removes client (Some text)) (λ stood. Returns (cond stood 0 17))) (Returns 143)
     (then_quiet (Removes client (Some text)) (λ stood. Returns (cond stood 0 17)) (removes_quiet client (Some text)) (λ stood. returns_quiet (cond stood 0 17))) (returns_quiet 143)
 
-unsubscribes_quiet : (c : ℕ) (client : List ℕ) (p : Unsubscribe) → Quiet (unsubscribing.Unsubscribes c client p)
+unsubscribes_quiet : (c : ℕ) (client : List ℕ) (p : Unsubscribe) → Quiet (unsubscribing.ServesUnsubscribe c client p)
 unsubscribes_quiet c client p =
-    then_quiet (InTurn (unsubscribing.Unsubscribed client) p.filters []) (unsubscribing.Acknowledges c client p.identifier) (in_turn_quiet (unsubscribing.Unsubscribed client) (unsubscribed_quiet client) p.filters [])
+    then_quiet (InTurn (unsubscribing.Unsubscribed client) p.filters []) (unsubscribing.SendsUnsuback c client p.identifier) (in_turn_quiet (unsubscribing.Unsubscribed client) (unsubscribed_quiet client) p.filters [])
     (λ codes. then_quiet (Calls client (λ at. answers p.identifier codes) stays) (λ r. ending.ClosesAfter r.end c client) (calls_quiet client (λ at. answers p.identifier codes) stays) (λ r. closes_after_quiet r.end c client))
 
 -- ---- packets
@@ -373,18 +373,18 @@ does_reaction_quiet c client p room r =
     let dropped = serving.is_dropped p room r.end in
     then_quiet (serving.DoesAsked r.ask dropped c client p) (λ _. ending.ClosesAfter r.end c client) (does_asked_quiet r.ask dropped c client p) (λ _. closes_after_quiet r.end c client)
 
-serves_quiet : (c : ℕ) (client : List ℕ) (p : Packet) → Quiet (serving.Serves c client p)
+serves_quiet : (c : ℕ) (client : List ℕ) (p : Packet) → Quiet (serving.ServesPacket c client p)
 serves_quiet c client p =
     looks_quiet (λ place h. serving.room_for client p h) (serving.ServesIn c client p)
     (λ room. then_quiet (Calls client (λ at. takes p at room) stays) (serving.DoesReaction c client p room) (calls_quiet client (λ at. takes p at room) stays) (does_reaction_quiet c client p room))
 
 -- ---- CONNECT
 
-refuses_quiet : (c : ℕ) (p : Connect) (code : ℕ) (reference : Option (List ℕ)) → Quiet (connecting.Refuses c p code reference)
+refuses_quiet : (c : ℕ) (p : Connect) (code : ℕ) (reference : Option (List ℕ)) → Quiet (connecting.RefusesConnect c p code reference)
 refuses_quiet c p code reference =
     let packet = refused_packet code reference in
     let fitting = fits (limit_in p.properties) packet in
-    then_quiet (connecting.SendsIf fitting c packet) (λ _. ending.Closes c) (if_quiet fitting (Sends c packet) (Returns tt) (sends_quiet c packet) (returns_quiet tt)) (λ _. closes_quiet c)
+    then_quiet (connecting.SendsIf fitting c packet) (λ _. ending.ClosesConnection c) (if_quiet fitting (Sends c packet) (Returns tt) (sends_quiet c packet) (returns_quiet tt)) (λ _. closes_quiet c)
 
 takes_over_from_quiet : (client : List ℕ) (older : Option ℕ) → Quiet (connecting.TakesOverFrom client older)
 takes_over_from_quiet client None = returns_quiet tt
@@ -401,7 +401,7 @@ joins_by_quiet true c client p = calls_quiet client (connects p true) (moves c)
 joins_by_quiet false c client p =
     then_quiet (Acting (λ place h. Session (Begun client))) (λ _. Calls client (connects p false) (moves c)) (acting_quiet (λ place h. Session (Begun client)) (λ place h. refl)) (λ _. calls_quiet client (connects p false) (moves c))
 
-begins_quiet : (c : ℕ) (client : List ℕ) (p : Connect) → Quiet (connecting.Begins c client p)
+begins_quiet : (c : ℕ) (client : List ℕ) (p : Connect) → Quiet (connecting.BeginsSession c client p)
 begins_quiet c client p =
     then_quiet (Acting (λ place h. Connection (Accepted c client))) (λ _. Then (connecting.Joins c client p) (λ r. ending.ClosesAfter r.end c client)) (acting_quiet (λ place h. Connection (Accepted c client)) (λ place h. refl))
     (λ _. then_quiet (connecting.Joins c client p) (λ r. ending.ClosesAfter r.end c client)
@@ -409,12 +409,12 @@ begins_quiet c client p =
 
 accepts_quiet : (c : ℕ) (p : Connect) (client : List ℕ) → Quiet (connecting.Accepts c p client)
 accepts_quiet c p client =
-    then_quiet (connecting.TakesOver client) (λ _. Then (connecting.Cleans p.clean_start client) (λ _. connecting.Begins c client p))
+    then_quiet (connecting.TakesOver client) (λ _. Then (connecting.Cleans p.clean_start client) (λ _. connecting.BeginsSession c client p))
     (looks_quiet (λ place h. connection_at client h) (connecting.TakesOverFrom client) (takes_over_from_quiet client))
-    (λ _. then_quiet (connecting.Cleans p.clean_start client) (λ _. connecting.Begins c client p) (cleans_quiet p.clean_start client) (λ _. begins_quiet c client p))
+    (λ _. then_quiet (connecting.Cleans p.clean_start client) (λ _. connecting.BeginsSession c client p) (cleans_quiet p.clean_start client) (λ _. begins_quiet c client p))
 
 accepts_as_quiet : (c : ℕ) (p : Connect) (client : List ℕ) → Quiet (connecting.AcceptsAs c p client)
-accepts_as_quiet c p client = where_quiet _ (connecting.Accepts c p client) (connecting.Refuses c p 144 None) (accepts_quiet c p client) (refuses_quiet c p 144 None)
+accepts_as_quiet c p client = where_quiet _ (connecting.Accepts c p client) (connecting.RefusesConnect c p 144 None) (accepts_quiet c p client) (refuses_quiet c p 144 None)
 
 names_by_quiet : (c : ℕ) (p : Connect) (number : Option ℕ) → Quiet (connecting.NamesBy c p number)
 names_by_quiet c p None = stops_quiet
@@ -426,11 +426,11 @@ comes_home_quiet : (c : ℕ) (p : Connect) (node : ℕ) → Quiet (connecting.Co
 comes_home_quiet c p node =
     looks_quiet (λ place h. node == place.id) (λ here. If here (connecting.AcceptsAs c p p.client) (connecting.Refers c p node))
     (λ here. if_quiet here (connecting.AcceptsAs c p p.client) (connecting.Refers c p node) (accepts_as_quiet c p p.client)
-    (looks_quiet (λ place h. connecting.address_of h node) (λ reference. connecting.Refuses c p 156 reference) (refuses_quiet c p 156)))
+    (looks_quiet (λ place h. connecting.address_of h node) (λ reference. connecting.RefusesConnect c p 156 reference) (refuses_quiet c p 156)))
 
 connects_at_quiet : (unnamed : Bool) (c : ℕ) (p : Connect) → Quiet (connecting.ConnectsAt unnamed c p)
 connects_at_quiet true c p =
-    where_quiet _ (Finds IsNextNumber (connecting.NamesBy c p)) (connecting.Refuses c p 144 None) (finds_quiet IsNextNumber (connecting.NamesBy c p) (names_by_quiet c p)) (refuses_quiet c p 144 None)
+    where_quiet _ (FindsWhere IsNextNumber (connecting.NamesBy c p)) (connecting.RefusesConnect c p 144 None) (finds_quiet IsNextNumber (connecting.NamesBy c p) (names_by_quiet c p)) (refuses_quiet c p 144 None)
 connects_at_quiet false c p = finds_quiet (ending.IsAtHome p.client) (connecting.ComesHome c p) (comes_home_quiet c p)
 
 connects_by_quiet : (code : Option ℕ) (c : ℕ) (p : Connect) → Quiet (connecting.ConnectsBy code c p)
@@ -439,7 +439,7 @@ connects_by_quiet None c p = connects_at_quiet (length p.client == 0) c p
 
 -- ---- pieces
 
-first_quiet : (c : ℕ) (p : Packet) → Quiet (pieces.First c p)
+first_quiet : (c : ℕ) (p : Packet) → Quiet (pieces.AnswersFirstPacket c p)
 first_quiet c (packets.Connect p) = connects_by_quiet (connecting.refusal p) c p
 first_quiet c (packets.Connack p) = closes_quiet c
 first_quiet c (packets.Publish p) = closes_quiet c
@@ -456,14 +456,14 @@ first_quiet c packets.Pingresp = closes_quiet c
 first_quiet c (packets.Disconnect p) = closes_quiet c
 first_quiet c (packets.Auth p) = closes_quiet c
 
-answers_by_quiet : (c : ℕ) (p : Packet) (client : Option (List ℕ)) → Quiet (pieces.AnswersBy c p client)
+answers_by_quiet : (c : ℕ) (p : Packet) (client : Option (List ℕ)) → Quiet (pieces.AnswersPacketBy c p client)
 answers_by_quiet c p None = first_quiet c p
 answers_by_quiet c p (Some client) = serves_quiet c client p
 
 answers_if_open_quiet : (c : ℕ) (p : Packet) → Quiet (pieces.AnswersIfOpen c p)
 answers_if_open_quiet c p =
-    looks_quiet (λ place h. is_open c h) (λ is_there. If is_there (pieces.Answers c p) (Returns tt))
-    (λ is_there. if_quiet is_there (pieces.Answers c p) (Returns tt) (looks_quiet (λ place h. client_at c h) (pieces.AnswersBy c p) (answers_by_quiet c p)) (returns_quiet tt))
+    looks_quiet (λ place h. is_open c h) (λ is_there. If is_there (pieces.AnswersPacket c p) (Returns tt))
+    (λ is_there. if_quiet is_there (pieces.AnswersPacket c p) (Returns tt) (looks_quiet (λ place h. client_at c h) (pieces.AnswersPacketBy c p) (answers_by_quiet c p)) (returns_quiet tt))
 
 sends_refusal_quiet : (c : ℕ) (code : Option ℕ) → Quiet (pieces.SendsRefusal c code)
 sends_refusal_quiet c None x p h acts d = absurd d
@@ -494,7 +494,7 @@ piece_at_quiet c piece (Some found) =
     let ps = (cut_of found.stream piece).packets in
     let fault = (cut_of found.stream piece).fault in
     if_quiet found.stream.failed (pieces.Shuts c) (pieces.Feeds c piece found) (looks_quiet (λ p h. client_at c h) (ending.ClosesBy c) (closes_by_quiet c))
-    (then_quiet (Acting (λ p h. Connection (Fed c piece))) (λ _. pieces.Takes c ps fault) (acting_quiet (λ p h. Connection (Fed c piece)) (λ p h. refl))
+    (then_quiet (Acting (λ p h. Connection (Fed c piece))) (λ _. pieces.TakesPackets c ps fault) (acting_quiet (λ p h. Connection (Fed c piece)) (λ p h. refl))
     (λ _. then_quiet (Each (pieces.AnswersIfOpen c) ps) (λ _. pieces.BreaksIfOpen c fault) (each_quiet (pieces.AnswersIfOpen c) (answers_if_open_quiet c) ps) (λ _. breaks_if_open_quiet c fault)))
 
 parts_by_quiet : (client : Option (List ℕ)) → Quiet (pieces.PartsBy client)
@@ -517,8 +517,8 @@ parts_from_quiet client = then_quiet (Calls client closes leaves) (λ _. Returns
 
 runs_out_quiet : (d : ℕ × List ℕ) → Quiet (RunsOut d)
 runs_out_quiet d =
-    then_quiet (Calls d.1 ticks stays) (λ _. Then (ending.Closes d.0) (λ _. PartsFrom d.1)) (calls_quiet d.1 ticks stays)
-    (λ _. then_quiet (ending.Closes d.0) (λ _. PartsFrom d.1) (closes_quiet d.0) (λ _. parts_from_quiet d.1))
+    then_quiet (Calls d.1 ticks stays) (λ _. Then (ending.ClosesConnection d.0) (λ _. PartsFrom d.1)) (calls_quiet d.1 ticks stays)
+    (λ _. then_quiet (ending.ClosesConnection d.0) (λ _. PartsFrom d.1) (closes_quiet d.0) (λ _. parts_from_quiet d.1))
 
 pub does_due_quiet : Quiet DoesDue
 does_due_quiet =

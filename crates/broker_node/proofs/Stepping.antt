@@ -7,19 +7,20 @@ use Rattle.node_work.specs.declared.fault.NodeFault.{NodeFault}
 use Rattle.node_work.specs.declared.fault.NodeFault.TheVariants.{NoMemory, NumbersAtEnd, Stopped}
 use Rattle.node_work.specs.declared.outcome.Outcome.{Outcome}
 use Rattle.node_work.specs.declared.outcome.Output.{Output}
-use Rattle.node_work.specs.Acts.{Act, Moment, Runs, gather, heard_in, merge_in, moved_in, output_in}
+use Rattle.node_work.specs.Acts.{Act, MomentTaken, Runs, gather, heard_in, merge_in, moved_in, output_in}
 use Rattle.node_work.specs.View.{Place, HeldView, WorkView, NodeView, nodes_of, place_of, up_of}
-use Rattle.node_work.specs.Lasting.{CanLast, held_row}
-use Rattle.node_work.specs.Working.{Did, Comes, Doing}
+use Rattle.node_work.specs.Lasting.{AreAltered, CanLast, held_row}
+use Rattle.node_work.specs.Working.{Did, ComesTo, Doing}
 use Rattle.row_changes.specs.Gathered.{AreOnce, Settle}
 use Rattle.row_changes.specs.Leading.{Lead, Begin, Differ}
-use Rattle.row_changes.proofs.Leaving.{settled_lead}
+use Rattle.row_changes.proofs.Leaving.{settled_lead, settled_named}
 use Rattle.row_store.specs.declared.row.Change.{Change}
 use Rattle.session_table.specs.Rows.{own_kind}
 use Rattle.broker_node.specs.declared.event.Event.{Event}
 use Rattle.broker_node.specs.Idle.{IsIdle, Keeps, Rests, RestsWhereIdle}
-use Rattle.broker_node.specs.Step.{AreTaken, IsDone, IsAtEnd, IsHeard, HasCause, HasCauseAt, Settles, begun, brought, may_move}
+use Rattle.broker_node.specs.Step.{MayBringTables, IsDone, IsAtEnd, IsHeard, HasCause, HasCauseAt, Settles, begun, brought, may_move}
 use Rattle.broker_node.specs.Turns.{Decides}
+use Rattle.broker_node.proofs.Altering.{alter_cases}
 use Rattle.broker_node.proofs.Determined.{decides_determined}
 use Rattle.broker_node.proofs.Handing.{turn_brings}
 use Rattle.broker_node.proofs.Tables.{nodes_stay, table_stays}
@@ -28,7 +29,7 @@ is_below : (n : ℕ) → not (nat_lt n (2 ^ 62)) ≡ false → n < 2 ^ 62
 is_below n h = grind (arith, nat_tests)
 
 -- the moment that was taken
-taken_by : (b : Bool) (at : ℕ) (x : Option (Unit {0})) (acts : List Act) → x ≡ Some tt → cond b ((x ≡ None) × (acts ≡ [])) ((x ≡ Some tt) × (acts ≡ Moment at ∷ [])) → (b ≡ false) × (acts ≡ Moment at ∷ [])
+taken_by : (b : Bool) (at : ℕ) (x : Option (Unit {0})) (acts : List Act) → x ≡ Some tt → cond b ((x ≡ None) × (acts ≡ [])) ((x ≡ Some tt) × (acts ≡ MomentTaken at ∷ [])) → (b ≡ false) × (acts ≡ MomentTaken at ∷ [])
 taken_by true at x acts is d = absurd (let z : Some tt ≡ None = sym is ∙ d.0 in cc)
 taken_by false at x acts is d = (refl, d.1)
 
@@ -37,7 +38,7 @@ record Follows (e : Event) (p : Place) (h : HeldView) (acts : List Act) : Type 0
   moment : e.at < 2 ^ 62
   merged : gather merge_in acts ≡ cond h.started (brought p e.kind) []
   heard : cond h.started (IsHeard p e.kind (gather heard_in acts)) (gather heard_in acts ≡ [])
-  moved : cond h.started (AreTaken e.kind (gather moved_in acts)) (gather moved_in acts ≡ [])
+  moved : cond h.started (MayBringTables e.kind (gather moved_in acts)) (gather moved_in acts ≡ [])
 
 follows : (e : Event) (p : Place) (h : HeldView) (acts : List Act) → Decides e (Some tt) p h acts → Follows e p h acts
 follows e p h acts (inl d) = absurd (let z : Some tt ≡ None = d.0 in cc)
@@ -46,15 +47,15 @@ follows e p h acts (inr d) =
     let r = subst (λ xs. Runs p h xs d.2) t.1 d.5 in
     let mid : d.2 ≡ record h { at = max h.at e.at } = r.2 ∙ r.1.1 in
     let started : d.2.started ≡ h.started = ap (λ (v : HeldView). v.started) mid in
-    let whole : acts ≡ Moment e.at ∷ d.3 = d.7 ∙ ap (λ xs. xs ++ d.3) t.1 in
+    let whole : acts ≡ MomentTaken e.at ∷ d.3 = d.7 ∙ ap (λ xs. xs ++ d.3) t.1 in
     let turn = turn_brings d.2.started e.kind p d.2 d.3 d.6 in
     record {
       moment = is_below e.at t.0;
       merged = ap (gather merge_in) whole ∙ turn.merged ∙ ap (λ b. cond b (brought p e.kind) []) started;
       heard = subst (λ b. cond b (IsHeard p e.kind (gather heard_in acts)) (gather heard_in acts ≡ [])) started
           (subst (λ bs. cond d.2.started (IsHeard p e.kind bs) (bs ≡ [])) (sym (ap (gather heard_in) whole)) turn.heard);
-      moved = subst (λ b. cond b (AreTaken e.kind (gather moved_in acts)) (gather moved_in acts ≡ [])) started
-          (subst (λ ts. cond d.2.started (AreTaken e.kind ts) (ts ≡ [])) (sym (ap (gather moved_in) whole)) turn.moved);
+      moved = subst (λ b. cond b (MayBringTables e.kind (gather moved_in acts)) (gather moved_in acts ≡ [])) started
+          (subst (λ ts. cond d.2.started (MayBringTables e.kind ts) (ts ≡ [])) (sym (ap (gather moved_in) whole)) turn.moved);
     }
 
 -- ---- what the work comes to
@@ -83,24 +84,24 @@ settled_idle e r w start last is idle given none below i =
 pub failed_idle : (e : Event) (r : Result Outcome NodeFault) (f : NodeFault) (w start last : WorkView) → start ≡ begun w → (e.at < 2 ^ 62 → IsIdle start.place start.held e → Keeps (Err f) start last) → e.at < 2 ^ 62 → IsIdle w.place w.held e → Rests r
 failed_idle e r f w start last is idle below i = absurd (let z : failed f ≡ Ok tt = (idle below (begun_idle w start e is i)).0 in cc)
 
-wanting_comes : (r : Result Outcome NodeFault) (w w' : WorkView) (P : Option (Unit {0}) → Doing) → IfErr r (λ f. f ≡ NoMemory) → IfErr r (λ f. Comes {T = Unit {0}} (λ x. x) (Err f) w w' P)
+wanting_comes : (r : Result Outcome NodeFault) (w w' : WorkView) (P : Option (Unit {0}) → Doing) → IfErr r (λ f. f ≡ NoMemory) → IfErr r (λ f. ComesTo {T = Unit {0}} (λ x. x) (Err f) w w' P)
 wanting_comes (Ok o) w w' P e = tt
 wanting_comes (Err NoMemory) w w' P e = tt
 wanting_comes (Err NumbersAtEnd) w w' P e = absurd (let z : NumbersAtEnd ≡ NoMemory = e in cc)
 wanting_comes (Err Stopped) w w' P e = absurd (let z : Stopped ≡ NoMemory = e in cc)
 
-pub settled_wanting : (r : Result Outcome NodeFault) (w w' : WorkView) (P : Option (Unit {0}) → Doing) → IfErr r (λ f. f ≡ NoMemory) → IfErr r (λ f. Comes {T = Unit {0}} (λ x. x) (Err f) w w' P)
+pub settled_wanting : (r : Result Outcome NodeFault) (w w' : WorkView) (P : Option (Unit {0}) → Doing) → IfErr r (λ f. f ≡ NoMemory) → IfErr r (λ f. ComesTo {T = Unit {0}} (λ x. x) (Err f) w w' P)
 settled_wanting = wanting_comes
 
-comes_elsewhere : (f : NodeFault) (w a b : WorkView) (P : Option (Unit {0}) → Doing) → Comes {T = Unit {0}} (λ x. x) (Err f) w a P → Comes {T = Unit {0}} (λ x. x) (Err f) w b P
+comes_elsewhere : (f : NodeFault) (w a b : WorkView) (P : Option (Unit {0}) → Doing) → ComesTo {T = Unit {0}} (λ x. x) (Err f) w a P → ComesTo {T = Unit {0}} (λ x. x) (Err f) w b P
 comes_elsewhere NoMemory w a b P d = tt
 comes_elsewhere NumbersAtEnd w a b P d = d
 comes_elsewhere Stopped w a b P d = d
 
-pub failed_comes : (r : Result Outcome NodeFault) (f : NodeFault) (w start a b : WorkView) (P : Option (Unit {0}) → Doing) → IsErrAnd r (λ e. e ≡ f) → start ≡ begun w → Comes {T = Unit {0}} (λ x. x) (Err f) start a P
-    → IfErr r (λ g. Comes {T = Unit {0}} (λ x. x) (Err g) (begun w) b P)
+pub failed_comes : (r : Result Outcome NodeFault) (f : NodeFault) (w start a b : WorkView) (P : Option (Unit {0}) → Doing) → IsErrAnd r (λ e. e ≡ f) → start ≡ begun w → ComesTo {T = Unit {0}} (λ x. x) (Err f) start a P
+    → IfErr r (λ g. ComesTo {T = Unit {0}} (λ x. x) (Err g) (begun w) b P)
 failed_comes (Ok o) f w start a b P is at d = tt
-failed_comes (Err g) f w start a b P is at d = subst (λ h. Comes {T = Unit {0}} (λ x. x) (Err h) (begun w) b P) (sym is) (comes_elsewhere f (begun w) a b P (subst (λ (v : WorkView). Comes {T = Unit {0}} (λ x. x) (Err f) v a P) at d))
+failed_comes (Err g) f w start a b P is at d = subst (λ h. ComesTo {T = Unit {0}} (λ x. x) (Err h) (begun w) b P) (sym is) (comes_elsewhere f (begun w) a b P (subst (λ (v : WorkView). ComesTo {T = Unit {0}} (λ x. x) (Err f) v a P) at d))
 
 -- ---- a step
 module _ (n : NodeView) (place : Place) (homes : Table) (w : WorkView) (stopped : Bool) (e : Event) (view : record { place = place; homes = homes; up = up_of stopped w.held } ≡ n) (kept : stopped ≡ false → (w.place ≡ place) × (w.held.homes ≡ homes)) (runs : stopped ≡ false) where
@@ -126,6 +127,7 @@ module _ (n : NodeView) (place : Place) (homes : Table) (w : WorkView) (stopped 
       here (λ p h. Lead (held_row p.id h) (held_row p.id last.held) last.changes) (subst (λ (p : Place). Lead (held_row w.place.id w.held) (held_row p.id last.held) last.changes) d.place told) in
       let begun_told : Begin own_kind (held_row w.place.id w.held) last.changes = d.begins (held_row w.place.id w.held) (λ key. refl) (λ key own. tt) in
       let begins : Begin own_kind (held_row n.place.id w.held) last.changes = here (λ p h. Begin own_kind (held_row p.id h) last.changes) begun_told in
+      let altered : AreAltered w.place.id w.held d.acts o.changes.items = λ key kind named. elim (alter_cases w.place.id d.acts w.held key) [ inl a ↦ a | inr still ↦ absurd (d.names key kind still (settled_named own_kind o.changes.items last.changes s.settled key named) refl) ] in
       let final = settled_lead own_kind (held_row n.place.id w.held) (held_row n.place.id last.held) o.changes.items last.changes s.settled begins lead in
       record {
         before = w.held;
@@ -147,6 +149,7 @@ module _ (n : NodeView) (place : Place) (homes : Table) (w : WorkView) (stopped 
         lasts = s.lasts;
         leads = final.0;
         differ = final.1;
+        altered = here (λ p h. AreAltered p.id h d.acts o.changes.items) altered;
       }
 
   -- where the event can bring no table, the one stays that there was
@@ -183,7 +186,7 @@ module _ (n : NodeView) (place : Place) (homes : Table) (w : WorkView) (stopped 
   faulted f = Err f
 
   cause_of : (f : NodeFault) (w' : WorkView) → (e.at < 2 ^ 62 → IsIdle w.place w.held e → Rests (Err f)) → (2 ^ 62 ≤ e.at → faulted f ≡ faulted NumbersAtEnd)
-      → Comes {T = Unit {0}} (λ x. x) (Err f) (begun w) w' (Decides e) → HasCause n.place w.held e f
+      → ComesTo {T = Unit {0}} (λ x. x) (Err f) (begun w) w' (Decides e) → HasCause n.place w.held e f
   cause_of NoMemory w' idle end k = (below, busy)
     where
       below : e.at < 2 ^ 62
@@ -199,7 +202,7 @@ module _ (n : NodeView) (place : Place) (homes : Table) (w : WorkView) (stopped 
   cause_of Stopped w' idle end k = k
 
   pub cause : (f : NodeFault) (w' : WorkView) → (e.at < 2 ^ 62 → IsIdle w.place w.held e → Rests (Err f)) → (2 ^ 62 ≤ e.at → faulted f ≡ faulted NumbersAtEnd)
-      → Comes {T = Unit {0}} (λ x. x) (Err f) (begun w) w' (Decides e) → HasCauseAt n.up n.place e f
+      → ComesTo {T = Unit {0}} (λ x. x) (Err f) (begun w) w' (Decides e) → HasCauseAt n.up n.place e f
   cause f w' idle end k = subst (λ u. HasCauseAt u n.place e f) (sym up) (cause_of f w' idle end k)
 
   -- an event that brings nothing to do

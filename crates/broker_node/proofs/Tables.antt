@@ -15,7 +15,7 @@ use Rattle.broker_node.specs.declared.event.EventKind.{EventKind}
 use Rattle.broker_node.specs.declared.event.EventKind.TheVariants as kinds
 use Rattle.broker_node.specs.Moving.{AreAway, is_newer}
 use Rattle.broker_node.specs.Idle.{IsIdle, IsIdleAt}
-use Rattle.broker_node.specs.Step.{AreTaken, may_move}
+use Rattle.broker_node.specs.Step.{MayBringTables, may_move}
 
 pub may_be_taken : (homes : Table) (p : Place) (h : HeldView) → IsTable homes → is_newer homes p h ≡ true → MayMove p h homes
 may_be_taken homes p h table newer =
@@ -29,7 +29,7 @@ may_be_taken homes p h table newer =
     below a b e = grind (arith, nat_tests)
 
 -- an event that brings no table, or comes before the node has started, takes none
-not_taken : (started : Bool) (kind : EventKind) (ts : List Table) → may_move started kind ≡ false → cond started (AreTaken kind ts) (ts ≡ []) → ts ≡ []
+not_taken : (started : Bool) (kind : EventKind) (ts : List Table) → may_move started kind ≡ false → cond started (MayBringTables kind ts) (ts ≡ []) → ts ≡ []
 not_taken false kind ts e d = d
 not_taken true kinds.Started ts e d = d
 not_taken true (kinds.Opened connection) ts e d = d
@@ -42,7 +42,7 @@ not_taken true kinds.Tick ts e d = d
 not_taken true (kinds.Evict client) ts e d = d
 not_taken true (kinds.Table homes) ts e d = absurd (let z : true ≡ false = e in cc)
 
-pub table_stays : (p : Place) (h h' : HeldView) (kind : EventKind) (acts : List Act) → may_move h.started kind ≡ false → cond h.started (AreTaken kind (gather moved_in acts)) (gather moved_in acts ≡ []) → Runs p h acts h' → h'.homes ≡ h.homes
+pub table_stays : (p : Place) (h h' : HeldView) (kind : EventKind) (acts : List Act) → may_move h.started kind ≡ false → cond h.started (MayBringTables kind (gather moved_in acts)) (gather moved_in acts ≡ []) → Runs p h acts h' → h'.homes ≡ h.homes
 table_stays p h h' kind acts e d ran = homes_stay p acts h h' ran (not_taken h.started kind (gather moved_in acts) e d)
 
 -- what was looked at is what the work holds

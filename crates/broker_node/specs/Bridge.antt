@@ -10,18 +10,18 @@ use Rattle.node_bridge.specs.View.{IsToShip, is_next, lane_to}
 use Rattle.replica_store.specs.States.{State}
 use Rattle.node_work.specs.declared.counts.Missed.TheVariants.{BadFrame}
 use Rattle.node_work.specs.Acts.{Store, Merged, Bridge}
-use Rattle.node_work.specs.Doings.{Gives, GivesFrame, Misses}
+use Rattle.node_work.specs.Doings.{GivesBody, GivesFrame, Misses}
 use Rattle.node_work.specs.Frames.{is_for, is_other}
 use Rattle.node_work.specs.Held.Bridge.{Believed, Got as GotBy}
 use Rattle.node_work.specs.View.{Place, HeldView}
-use Rattle.node_work.specs.Working.{Doing, Returns, Acting, Looks, Finds, If, Then, Each}
+use Rattle.node_work.specs.Working.{Doing, Returns, Acting, Looks, FindsWhere, If, Then, Each}
 use Rattle.node_clients.specs.Passing.{TakesForward}
 
 -- ---- of its own accord
 
 -- a new link to another node of the cluster begins with Hello
 abbrev pub Greets : ℕ → Option (Unit {0}) → Doing
-Greets peer = Looks (λ p h. is_other p peer) (λ other. If other (Gives peer (λ h. Hello)) (Returns tt))
+Greets peer = Looks (λ p h. is_other p peer) (λ other. If other (GivesBody peer (λ h. Hello)) (Returns tt))
 
 -- what another node may lack of the state goes to it, if there is any
 abbrev pub AreShipped : ℕ → Place → HeldView → Option State → Type 0
@@ -29,10 +29,10 @@ AreShipped peer p h s = IsToShip peer h.bridge h.store s
 
 abbrev pub GivesState : ℕ → Option State → Option (Unit {0}) → Doing
 GivesState peer None = Returns tt
-GivesState peer (Some s) = Gives peer (λ h. Delta s)
+GivesState peer (Some s) = GivesBody peer (λ h. Delta s)
 
 abbrev pub ShipsState : ℕ → Option (Unit {0}) → Doing
-ShipsState peer = Finds (AreShipped peer) (GivesState peer)
+ShipsState peer = FindsWhere (AreShipped peer) (GivesState peer)
 
 -- and then the first 64 messages that wait for it
 abbrev pub ShipsMessages : ℕ → Option (Unit {0}) → Doing
@@ -48,7 +48,7 @@ Ships peer = Looks (λ p h. is_other p peer) (λ other. If other (ShipsTo peer) 
 
 -- the dots that are taken now are told
 abbrev pub TellsTaken : ℕ → Option (Unit {0}) → Doing
-TellsTaken from = Gives from (λ h. Know h.store.taken)
+TellsTaken from = GivesBody from (λ h. Know h.store.taken)
 
 -- a delta is merged, and answered with the dots that are taken then
 abbrev pub Merges : ℕ → State → Option (Unit {0}) → Doing
@@ -59,19 +59,20 @@ abbrev pub TakesNext : ℕ → ℕ → Message → Option (Unit {0}) → Doing
 TakesNext from number m = Looks (λ p h. is_next from number h.bridge) (λ next. If next (TakesForward from number m) (Returns tt))
 
 abbrev pub TakesMessage : ℕ → ℕ → Message → Option (Unit {0}) → Doing
-TakesMessage from number m = Then (TakesNext from number m) (λ _. Gives from (λ h. Got (lane_to h.bridge from).took))
+TakesMessage from number m = Then (TakesNext from number m) (λ _. GivesBody from (λ h. Got (lane_to h.bridge from).took))
 
-abbrev pub Takes : ℕ → FrameBody → Option (Unit {0}) → Doing
-Takes from Hello = TellsTaken from
-Takes from (Delta s) = Merges from s
-Takes from (Know dots) = Acting (λ p h. Bridge (Believed from dots))
-Takes from (Forward number m) = TakesMessage from number m
-Takes from (Got number) = Acting (λ p h. Bridge (GotBy from number))
+abbrev pub TakesBody : ℕ → FrameBody → Option (Unit {0}) → Doing
+TakesBody from Hello = TellsTaken from
+TakesBody from (Delta s) = Merges from s
+TakesBody from (Know dots) = Acting (λ p h. Bridge (Believed from dots))
+TakesBody from (Forward number m) = TakesMessage from number m
+TakesBody from (Got number) = Acting (λ p h. Bridge (GotBy from number))
 
--- a frame for this node from another one is taken; another frame, and bytes that are no frame, are dropped and counted
+-- a frame for this node from another one is taken; another frame, also one that names a node that the cluster lacks, and bytes that are no
+-- frame, are dropped and counted
 abbrev pub HearsFrame : Option BridgeFrame → Option (Unit {0}) → Doing
 HearsFrame None = Misses BadFrame
-HearsFrame (Some frame) = Looks (λ p h. is_for p frame) (λ here. If here (Takes frame.from frame.body) (Misses BadFrame))
+HearsFrame (Some frame) = Looks (λ p h. is_for p frame) (λ here. If here (TakesBody frame.from frame.body) (Misses BadFrame))
 
 abbrev pub Hears : List ℕ → Option (Unit {0}) → Doing
 Hears bytes = HearsFrame (frame_in bytes)

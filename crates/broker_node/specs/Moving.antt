@@ -6,7 +6,7 @@ use Rattle.node_work.specs.declared.counts.Missed.TheVariants.{TableRefused}
 use Rattle.node_work.specs.Acts.{Moved}
 use Rattle.node_work.specs.Doings.{Misses}
 use Rattle.node_work.specs.View.{Place, HeldView, nodes_of}
-use Rattle.node_work.specs.Working.{Doing, Acting, Looks, Finds, If, Then, Each}
+use Rattle.node_work.specs.Working.{Doing, Acting, Looks, FindsWhere, If, Then, Each}
 use Rattle.node_clients.specs.Moving.{MovesAway}
 
 -- the clients with sessions here whose home is elsewhere, in the order of their bytes
@@ -15,16 +15,16 @@ AreAway p h away = AreElsewhere h.homes p.id h.sessions away
 
 -- they go one by one
 abbrev pub SendsAway : Option (Unit {0}) → Doing
-SendsAway = Finds AreAway (Each MovesAway)
+SendsAway = FindsWhere AreAway (Each MovesAway)
 
 -- a table that is newer than the node's, and for as many nodes
 abbrev pub is_newer : Table → Place → HeldView → Bool
 is_newer homes p h = nat_eq (length homes.nodes) (nodes_of p) && nat_lt h.homes.version homes.version
 
 -- it is the node's from then on, and clients go by it
-abbrev pub Moves : Table → Option (Unit {0}) → Doing
-Moves homes = Then (Acting (λ p h. Moved homes)) (λ _. SendsAway)
+abbrev pub TakesNewerTable : Table → Option (Unit {0}) → Doing
+TakesNewerTable homes = Then (Acting (λ p h. Moved homes)) (λ _. SendsAway)
 
 -- another one is dropped, and counted
 abbrev pub TakesTable : Table → Option (Unit {0}) → Doing
-TakesTable homes = Looks (is_newer homes) (λ newer. If newer (Moves homes) (Misses TableRefused))
+TakesTable homes = Looks (is_newer homes) (λ newer. If newer (TakesNewerTable homes) (Misses TableRefused))

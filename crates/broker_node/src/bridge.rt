@@ -1,17 +1,18 @@
 //! What nodes tell one another.
 
 ghost use Rattle.std.specs.Prelude.{◌≡◌, false, Ok};
-ghost use Rattle.broker_node.specs.Bridge.{Greets, Ships, ShipsState, ShipsMessages, Hears, HearsFrame, Takes, TellsTaken, Merges, TakesMessage, TakesNext};
+ghost use Rattle.broker_node.specs.Bridge.{Greets, Ships, ShipsState, ShipsMessages, Hears, HearsFrame, TakesBody, TellsTaken, Merges, TakesMessage, TakesNext};
 ghost use Rattle.node_bridge.specs.View.{lane_to};
-ghost use Rattle.node_work.specs.Doings.{Gives};
-ghost use Rattle.node_work.specs.Frames.{is_for, is_other};
+ghost use Rattle.node_work.specs.Doings.{GivesBody};
+ghost use Rattle.node_work.specs.Frames.{is_for, is_other, names_nodes};
 ghost use Rattle.node_work.specs.Held.Bridge.{Carries};
 ghost use Rattle.node_work.specs.View.{HeldView};
-ghost use Rattle.node_work.specs.Working.{Comes};
+ghost use Rattle.node_work.specs.Working.{ComesTo};
 ghost use Rattle.std.specs.Prelude.{Some};
 
 use bridge_frames::{BridgeFrame, Forward, FrameBody, LaneNumber, LinkFault};
 use node_clients::take_forward;
+use node_rows::{are_dots_among, is_state_among};
 use node_work::{Missed, NodeFault, Work};
 use replica_store::ReplicaStore;
 
@@ -21,10 +22,10 @@ fn is_other(work: &Work, peer: u16) -> bool
     peer != work.id() && peer < work.nodes()
 }
 
-/// Gives another node a frame of what the node holds.
+/// GivesBody another node a frame of what the node holds.
 fn give(work: &mut Work, peer: u16, body: FrameBody) -> Result<(), NodeFault>
     requires { Carries work.old.held peer body }
-    ensures { (said : HeldView → FrameBody) → body ≡ said work.old.held → Comes (λ x. x) result work.old work.new (Gives peer said) }
+    ensures { (said : HeldView → FrameBody) → body ≡ said work.old.held → ComesTo (λ x. x) result work.old work.new (GivesBody peer said) }
 {
     let from = work.id();
     work.release(BridgeFrame {
@@ -37,7 +38,7 @@ fn give(work: &mut Work, peer: u16, body: FrameBody) -> Result<(), NodeFault>
 /// Begins a new link to another node of the cluster.
 pub fn greet(work: &mut Work, peer: u16) -> Result<(), NodeFault>
     ensures idle { is_other work.old.place peer ≡ false → (result ≡ Ok tt) × (work.new ≡ work.old) }
-    ensures comes { Comes (λ x. x) result work.old work.new (Greets peer) }
+    ensures comes { ComesTo (λ x. x) result work.old work.new (Greets peer) }
 {
     if !is_other(work, peer) {
         return Ok(());
@@ -48,7 +49,7 @@ pub fn greet(work: &mut Work, peer: u16) -> Result<(), NodeFault>
 /// Sends another node of the cluster what it may lack: of the state, and then of the messages that wait for it.
 pub fn ship(work: &mut Work, peer: u16) -> Result<(), NodeFault>
     ensures idle { is_other work.old.place peer ≡ false → (result ≡ Ok tt) × (work.new ≡ work.old) }
-    ensures comes { Comes (λ x. x) result work.old work.new (Ships peer) }
+    ensures comes { ComesTo (λ x. x) result work.old work.new (Ships peer) }
 {
     if !is_other(work, peer) {
         return Ok(());
@@ -58,7 +59,7 @@ pub fn ship(work: &mut Work, peer: u16) -> Result<(), NodeFault>
 }
 
 fn ship_state(work: &mut Work, peer: u16) -> Result<(), NodeFault>
-    ensures { Comes (λ x. x) result work.old work.new (ShipsState peer) }
+    ensures { ComesTo (λ x. x) result work.old work.new (ShipsState peer) }
 {
     let held = work.held();
     let found = held.bridge().to_ship(peer, held.store())?;
@@ -69,7 +70,7 @@ fn ship_state(work: &mut Work, peer: u16) -> Result<(), NodeFault>
 }
 
 fn ship_messages(work: &mut Work, peer: u16) -> Result<(), NodeFault>
-    ensures { Comes (λ x. x) result work.old work.new (ShipsMessages peer) }
+    ensures { ComesTo (λ x. x) result work.old work.new (ShipsMessages peer) }
 {
     let frames = work.held().bridge().waiting(work.id(), peer)?;
     for frame in frames {
@@ -78,10 +79,10 @@ fn ship_messages(work: &mut Work, peer: u16) -> Result<(), NodeFault>
     Ok(())
 }
 
-/// Takes the bytes of a frame. Bytes that are no frame, and a frame that isn't for this node from another one of the cluster, are
-/// dropped and counted.
+/// TakesBody the bytes of a frame. Bytes that are no frame, a frame that isn't for this node from another one of the cluster, and one that
+/// names a node that the cluster lacks, are dropped and counted.
 pub fn hear(work: &mut Work, bytes: &[u8]) -> Result<(), NodeFault>
-    ensures { Comes (λ x. x) result work.old work.new (Hears bytes.now) }
+    ensures { ComesTo (λ x. x) result work.old work.new (Hears bytes.now) }
 {
     match BridgeFrame::read(work.alloc(), bytes) {
         Ok(frame) => hear_frame(work, frame),
@@ -91,14 +92,27 @@ pub fn hear(work: &mut Work, bytes: &[u8]) -> Result<(), NodeFault>
     }
 }
 
+/// Whether what a frame says names none but nodes of a cluster of so many.
+fn names_nodes(nodes: u16, body: &FrameBody) -> bool
+    ensures { result ≡ names_nodes nodes body.now }
+{
+    match body {
+        FrameBody::Delta(state) => is_state_among(nodes, state),
+        FrameBody::Know(dots) => are_dots_among(nodes, dots),
+        FrameBody::Hello => true,
+        FrameBody::Forward(..) => true,
+        FrameBody::Got(_) => true,
+    }
+}
+
 fn is_for(work: &Work, frame: &BridgeFrame) -> bool
     ensures { result ≡ is_for work.now.place frame.now }
 {
-    frame.to == work.id() && is_other(work, frame.from)
+    frame.to == work.id() && is_other(work, frame.from) && names_nodes(work.nodes(), &frame.body)
 }
 
 fn hear_frame(work: &mut Work, frame: BridgeFrame) -> Result<(), NodeFault>
-    ensures { Comes (λ x. x) result work.old work.new (HearsFrame (Some frame)) }
+    ensures { ComesTo (λ x. x) result work.old work.new (HearsFrame (Some frame)) }
 {
     if is_for(work, &frame) {
         let BridgeFrame { from, body, .. } = frame;
@@ -108,9 +122,9 @@ fn hear_frame(work: &mut Work, frame: BridgeFrame) -> Result<(), NodeFault>
     }
 }
 
-/// Takes what another node says.
+/// TakesBody what another node says.
 fn take(work: &mut Work, from: u16, body: FrameBody) -> Result<(), NodeFault>
-    ensures { Comes (λ x. x) result work.old work.new (Takes from body) }
+    ensures { ComesTo (λ x. x) result work.old work.new (TakesBody from body) }
 {
     match body {
         FrameBody::Hello => tell_taken(work, from),
@@ -123,7 +137,7 @@ fn take(work: &mut Work, from: u16, body: FrameBody) -> Result<(), NodeFault>
 
 /// Tells another node which dots are taken now.
 fn tell_taken(work: &mut Work, to: u16) -> Result<(), NodeFault>
-    ensures { Comes (λ x. x) result work.old work.new (TellsTaken to) }
+    ensures { ComesTo (λ x. x) result work.old work.new (TellsTaken to) }
 {
     let taken = work.held().store().taken().copy()?;
     give(work, to, FrameBody::Know(taken))
@@ -131,20 +145,20 @@ fn tell_taken(work: &mut Work, to: u16) -> Result<(), NodeFault>
 
 /// Merges a delta, and answers with the dots that are taken now.
 fn merge(work: &mut Work, from: u16, state: ReplicaStore) -> Result<(), NodeFault>
-    ensures { Comes (λ x. x) result work.old work.new (Merges from state) }
+    ensures { ComesTo (λ x. x) result work.old work.new (Merges from state) }
 {
     work.merge(state)?;
     tell_taken(work, from)
 }
 
-/// Takes a message where it is the next of its lane, and answers with the number of the last one that was taken.
+/// TakesBody a message where it is the next of its lane, and answers with the number of the last one that was taken.
 fn take_message(
     work: &mut Work,
     from: u16,
     number: LaneNumber,
     message: &Forward,
 ) -> Result<(), NodeFault>
-    ensures { Comes (λ x. x) result work.old work.new (TakesMessage from number message.now) }
+    ensures { ComesTo (λ x. x) result work.old work.new (TakesMessage from number message.now) }
 {
     take_next(work, from, number, message)?;
     tell_got(work, from)
@@ -156,7 +170,7 @@ fn take_next(
     number: LaneNumber,
     message: &Forward,
 ) -> Result<(), NodeFault>
-    ensures { Comes (λ x. x) result work.old work.new (TakesNext from number message.now) }
+    ensures { ComesTo (λ x. x) result work.old work.new (TakesNext from number message.now) }
 {
     if work.held().bridge().is_next(from, number) {
         take_forward(work, from, number, message)
@@ -166,7 +180,7 @@ fn take_next(
 }
 
 fn tell_got(work: &mut Work, to: u16) -> Result<(), NodeFault>
-    ensures { Comes (λ x. x) result work.old work.new (Gives to (λ h. FrameBody.Got (lane_to h.bridge to).took)) }
+    ensures { ComesTo (λ x. x) result work.old work.new (GivesBody to (λ h. FrameBody.Got (lane_to h.bridge to).took)) }
 {
     let number = work.held().bridge().last_taken(to);
     give(work, to, FrameBody::Got(number))

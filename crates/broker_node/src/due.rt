@@ -5,7 +5,7 @@ ghost use Rattle.session_table.specs.Seats.{connected, run_outs, wills_due, ends
 ghost use Rattle.broker_node.specs.Due.{ClosesStored, DoesDue, EndsConnections, EndsSessions, PartsFrom, PublishesWills, RunsOut, Starts, TicksOf};
 ghost use Rattle.broker_node.specs.Idle.{NothingDue, Keeps};
 ghost use Rattle.broker_node.specs.Moving.{AreAway, SendsAway};
-ghost use Rattle.node_work.specs.Working.{Comes, Each, Then};
+ghost use Rattle.node_work.specs.Working.{ComesTo, Each, Then};
 
 use crate::moving::send_away;
 use mqtt_fields::Text;
@@ -16,7 +16,7 @@ use node_work::{NodeFault, Work};
 /// due it takes no memory.
 pub fn do_due(work: &mut Work) -> Result<(), NodeFault>
     ensures idle { NothingDue work.old.held → (result ≡ Ok tt) × (work.new ≡ work.old) }
-    ensures comes { Comes (λ x. x) result work.old work.new DoesDue }
+    ensures comes { ComesTo (λ x. x) result work.old work.new DoesDue }
 {
     end_connections(work)?;
     publish_wills(work)?;
@@ -26,7 +26,7 @@ pub fn do_due(work: &mut Work) -> Result<(), NodeFault>
 /// Ends the connections whose Keep Alive has run out.
 fn end_connections(work: &mut Work) -> Result<(), NodeFault>
     ensures idle { run_outs work.old.held.sessions work.old.held.at ≡ [] → (result ≡ Ok tt) × (work.new ≡ work.old) }
-    ensures comes { Comes (λ x. x) result work.old work.new EndsConnections }
+    ensures comes { ComesTo (λ x. x) result work.old work.new EndsConnections }
 {
     let held = work.held();
     let dues = held.sessions().run_out(work.alloc(), held.at())?;
@@ -35,7 +35,7 @@ fn end_connections(work: &mut Work) -> Result<(), NodeFault>
 
 fn end_each(work: &mut Work, dues: &[(u64, Text)]) -> Result<(), NodeFault>
     ensures idle { dues.now ≡ [] → (result ≡ Ok tt) × (work.new ≡ work.old) }
-    ensures comes { Comes (λ x. x) result work.old work.new (Each RunsOut dues.now) }
+    ensures comes { ComesTo (λ x. x) result work.old work.new (Each RunsOut dues.now) }
 {
     for due in dues {
         end_connection(work, due)?;
@@ -45,7 +45,7 @@ fn end_each(work: &mut Work, dues: &[(u64, Text)]) -> Result<(), NodeFault>
 
 /// Ends a connection whose Keep Alive has run out: Keep Alive timeout.
 fn end_connection(work: &mut Work, due: &(u64, Text)) -> Result<(), NodeFault>
-    ensures { Comes (λ x. x) result work.old work.new (RunsOut due.now) }
+    ensures { ComesTo (λ x. x) result work.old work.new (RunsOut due.now) }
 {
     work.tick(&due.1)?;
     close(work, due.0)?;
@@ -55,7 +55,7 @@ fn end_connection(work: &mut Work, due: &(u64, Text)) -> Result<(), NodeFault>
 /// Publishes the wills that are due.
 fn publish_wills(work: &mut Work) -> Result<(), NodeFault>
     ensures idle { wills_due work.old.held.sessions work.old.held.at ≡ [] → (result ≡ Ok tt) × (work.new ≡ work.old) }
-    ensures comes { Comes (λ x. x) result work.old work.new PublishesWills }
+    ensures comes { ComesTo (λ x. x) result work.old work.new PublishesWills }
 {
     let held = work.held();
     let dues = held.sessions().wills(work.alloc(), held.at())?;
@@ -65,7 +65,7 @@ fn publish_wills(work: &mut Work) -> Result<(), NodeFault>
 /// Ends the sessions whose end has come.
 fn end_sessions(work: &mut Work) -> Result<(), NodeFault>
     ensures idle { ends_due work.old.held.sessions work.old.held.at ≡ [] → (result ≡ Ok tt) × (work.new ≡ work.old) }
-    ensures comes { Comes (λ x. x) result work.old work.new EndsSessions }
+    ensures comes { ComesTo (λ x. x) result work.old work.new EndsSessions }
 {
     let held = work.held();
     let dues = held.sessions().ends(work.alloc(), held.at())?;
@@ -74,7 +74,7 @@ fn end_sessions(work: &mut Work) -> Result<(), NodeFault>
 
 fn tick_each(work: &mut Work, dues: &[(u64, Text)]) -> Result<(), NodeFault>
     ensures idle { dues.now ≡ [] → (result ≡ Ok tt) × (work.new ≡ work.old) }
-    ensures comes { Comes (λ x. x) result work.old work.new (Each TicksOf dues.now) }
+    ensures comes { ComesTo (λ x. x) result work.old work.new (Each TicksOf dues.now) }
 {
     for due in dues {
         tick(work, &due.1)?;
@@ -86,7 +86,7 @@ fn tick_each(work: &mut Work, dues: &[(u64, Text)]) -> Result<(), NodeFault>
 /// elsewhere.
 pub fn start(work: &mut Work) -> Result<(), NodeFault>
     ensures idle { connected work.old.held.sessions ≡ [] → NothingDue work.old.held → AreAway work.old.place work.old.held [] → Keeps result work.old work.new }
-    ensures comes { Comes (λ x. x) result work.old work.new Starts }
+    ensures comes { ComesTo (λ x. x) result work.old work.new Starts }
 {
     work.begin()?;
     close_stored(work)?;
@@ -96,7 +96,7 @@ pub fn start(work: &mut Work) -> Result<(), NodeFault>
 /// What is due is done, and then clients go whose home is elsewhere.
 fn settle(work: &mut Work) -> Result<(), NodeFault>
     ensures idle { NothingDue work.old.held → AreAway work.old.place work.old.held [] → (result ≡ Ok tt) × (work.new ≡ work.old) }
-    ensures comes { Comes (λ x. x) result work.old work.new (Then DoesDue (λ _. SendsAway)) }
+    ensures comes { ComesTo (λ x. x) result work.old work.new (Then DoesDue (λ _. SendsAway)) }
 {
     do_due(work)?;
     send_away(work)
@@ -105,7 +105,7 @@ fn settle(work: &mut Work) -> Result<(), NodeFault>
 /// Closes the stored sessions that were connected.
 fn close_stored(work: &mut Work) -> Result<(), NodeFault>
     ensures idle { connected work.old.held.sessions ≡ [] → (result ≡ Ok tt) × (work.new ≡ work.old) }
-    ensures comes { Comes (λ x. x) result work.old work.new ClosesStored }
+    ensures comes { ComesTo (λ x. x) result work.old work.new ClosesStored }
 {
     let clients = work.held().sessions().were_connected(work.alloc())?;
     part_each(work, &clients)
@@ -113,7 +113,7 @@ fn close_stored(work: &mut Work) -> Result<(), NodeFault>
 
 fn part_each(work: &mut Work, clients: &[Text]) -> Result<(), NodeFault>
     ensures idle { clients.now ≡ [] → (result ≡ Ok tt) × (work.new ≡ work.old) }
-    ensures comes { Comes (λ x. x) result work.old work.new (Each PartsFrom clients.now) }
+    ensures comes { ComesTo (λ x. x) result work.old work.new (Each PartsFrom clients.now) }
 {
     for client in clients {
         part(work, client)?;
@@ -123,7 +123,7 @@ fn part_each(work: &mut Work, clients: &[Text]) -> Result<(), NodeFault>
 
 /// The connection of a client's session is gone.
 fn part(work: &mut Work, client: &Text) -> Result<(), NodeFault>
-    ensures { Comes (λ x. x) result work.old work.new (PartsFrom client.now) }
+    ensures { ComesTo (λ x. x) result work.old work.new (PartsFrom client.now) }
 {
     work.part(client)?;
     Ok(())

@@ -2,8 +2,8 @@
 
 ghost use Rattle.std.specs.Prelude.{◌≡◌, [], Ok, true};
 ghost use Rattle.node_clients.specs.Moving.{MovesAway};
-ghost use Rattle.node_work.specs.Working.{Comes, Each};
-ghost use Rattle.broker_node.specs.Moving.{AreAway, Moves, SendsAway, TakesTable, is_newer};
+ghost use Rattle.node_work.specs.Working.{ComesTo, Each};
+ghost use Rattle.broker_node.specs.Moving.{AreAway, TakesNewerTable, SendsAway, TakesTable, is_newer};
 
 use home_table::HomeTable;
 use mqtt_fields::Text;
@@ -13,7 +13,7 @@ use node_work::{Missed, NodeFault, Work};
 /// The clients with sessions here go whose home is elsewhere. Where there are none it takes no memory.
 pub fn send_away(work: &mut Work) -> Result<(), NodeFault>
     ensures idle { AreAway work.old.place work.old.held [] → (result ≡ Ok tt) × (work.new ≡ work.old) }
-    ensures comes { Comes (λ x. x) result work.old work.new SendsAway }
+    ensures comes { ComesTo (λ x. x) result work.old work.new SendsAway }
 {
     let held = work.held();
     let away = held
@@ -24,7 +24,7 @@ pub fn send_away(work: &mut Work) -> Result<(), NodeFault>
 
 fn send_each(work: &mut Work, away: &[Text]) -> Result<(), NodeFault>
     ensures idle { away.now ≡ [] → (result ≡ Ok tt) × (work.new ≡ work.old) }
-    ensures comes { Comes (λ x. x) result work.old work.new (Each MovesAway away.now) }
+    ensures comes { ComesTo (λ x. x) result work.old work.new (Each MovesAway away.now) }
 {
     for client in away {
         move_away(work, client)?;
@@ -42,7 +42,7 @@ fn is_newer(work: &Work, homes: &HomeTable) -> bool
 /// Takes a table that is newer than the node's, and for as many nodes.
 fn move_to(work: &mut Work, homes: &HomeTable) -> Result<(), NodeFault>
     requires { is_newer homes.now work.old.place work.old.held ≡ true }
-    ensures { Comes (λ x. x) result work.old work.new (Moves homes.now) }
+    ensures { ComesTo (λ x. x) result work.old work.new (TakesNewerTable homes.now) }
 {
     homes.is_table();
     work.move_to(homes.copy()?)?;
@@ -51,7 +51,7 @@ fn move_to(work: &mut Work, homes: &HomeTable) -> Result<(), NodeFault>
 
 /// Takes a table of homes, unless it isn't newer than the node's or is for another number of nodes.
 pub fn take_table(work: &mut Work, homes: &HomeTable) -> Result<(), NodeFault>
-    ensures { Comes (λ x. x) result work.old work.new (TakesTable homes.now) }
+    ensures { ComesTo (λ x. x) result work.old work.new (TakesTable homes.now) }
 {
     if !is_newer(work, homes) {
         return work.miss(Missed::TableRefused);

@@ -11,7 +11,7 @@ ghost use Rattle.node_bridge.specs.View.{known_of, lane_to};
 ghost use Rattle.node_rows.specs.Reading.{SayNothing};
 ghost use Rattle.node_work.specs.Held.Connections.{is_open};
 ghost use Rattle.node_work.specs.View.{place_of};
-ghost use Rattle.node_work.specs.Working.{Comes};
+ghost use Rattle.node_work.specs.Working.{ComesTo};
 ghost use Rattle.node_work.specs.declared.fault.NodeFault.TheVariants.{NoMemory, NumbersAtEnd, Stopped};
 
 use crate::event::{Event, EventKind};
@@ -61,7 +61,7 @@ fn settle(work: &mut Work, event: &Event) -> Result<Outcome, NodeFault>
     ensures idle { event.now.at < 2 ^ 62 → IsIdle work.old.place work.old.held event.now → Rests result }
     ensures end { 2 ^ 62 ≤ event.now.at → result ≡ Err NumbersAtEnd }
     ensures ok { IfOk result (λ o. Settles work.old event.now o work.new) }
-    ensures err { IfErr result (λ f. Comes {T = Unit {0}} (λ x. x) (Err f) (begun work.old) work.new (Decides event.now)) }
+    ensures err { IfErr result (λ f. ComesTo {T = Unit {0}} (λ x. x) (Err f) (begun work.old) work.new (Decides event.now)) }
 {
     work.start();
     decide(work, event)?;

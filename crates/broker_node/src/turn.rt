@@ -3,8 +3,8 @@
 ghost use Rattle.std.specs.Prelude.{◌≡◌, ◌<◌, ◌≤◌, ◌^◌, Err, Ok, true, false, None};
 ghost use Rattle.subscription_set.specs.Standing.{any_of};
 ghost use Rattle.broker_node.specs.Idle.{Keeps, IsIdle, IsIdleAt, AsksNothing, GoesIdle, WaitsFor};
-ghost use Rattle.broker_node.specs.Turns.{Decides, Turn, Answers, GoesOn, First, Evicts};
-ghost use Rattle.node_work.specs.Working.{Comes};
+ghost use Rattle.broker_node.specs.Turns.{Decides, Turn, AnswersEvent, AnswersAfterDue, AwaitsStart, Evicts};
+ghost use Rattle.node_work.specs.Working.{ComesTo};
 ghost use Rattle.node_work.specs.declared.fault.NodeFault.TheVariants.{NumbersAtEnd};
 
 use crate::bridge::{greet, hear, ship};
@@ -19,7 +19,7 @@ use node_work::{NodeFault, Work};
 pub fn decide(work: &mut Work, event: &Event) -> Result<(), NodeFault>
     ensures idle { event.now.at < 2 ^ 62 → IsIdle work.old.place work.old.held event.now → Keeps result work.old work.new }
     ensures end { 2 ^ 62 ≤ event.now.at → result ≡ Err NumbersAtEnd }
-    ensures comes { Comes (λ x. x) result work.old work.new (Decides event.now) }
+    ensures comes { ComesTo (λ x. x) result work.old work.new (Decides event.now) }
 {
     work.take_moment(event.at)?;
     turn(work, &event.kind)
@@ -27,7 +27,7 @@ pub fn decide(work: &mut Work, event: &Event) -> Result<(), NodeFault>
 
 fn turn(work: &mut Work, kind: &EventKind) -> Result<(), NodeFault>
     ensures idle { IsIdleAt work.old.place work.old.held kind.now → Keeps result work.old work.new }
-    ensures comes { Comes (λ x. x) result work.old work.new (Turn kind.now) }
+    ensures comes { ComesTo (λ x. x) result work.old work.new (Turn kind.now) }
 {
     if work.held().is_started() {
         go_on(work, kind)
@@ -39,7 +39,7 @@ fn turn(work: &mut Work, kind: &EventKind) -> Result<(), NodeFault>
 /// Before it has started, a node begins its work at Started and does nothing at another event.
 fn wait(work: &mut Work, kind: &EventKind) -> Result<(), NodeFault>
     ensures idle { WaitsFor work.old.place work.old.held kind.now → Keeps result work.old work.new }
-    ensures comes { Comes (λ x. x) result work.old work.new (First kind.now) }
+    ensures comes { ComesTo (λ x. x) result work.old work.new (AwaitsStart kind.now) }
 {
     match kind {
         EventKind::Started => start(work),
@@ -50,7 +50,7 @@ fn wait(work: &mut Work, kind: &EventKind) -> Result<(), NodeFault>
 /// What a node that has started does.
 fn go_on(work: &mut Work, kind: &EventKind) -> Result<(), NodeFault>
     ensures idle { GoesIdle work.old.place work.old.held kind.now → Keeps result work.old work.new }
-    ensures comes { Comes (λ x. x) result work.old work.new (GoesOn kind.now) }
+    ensures comes { ComesTo (λ x. x) result work.old work.new (AnswersAfterDue kind.now) }
 {
     if let EventKind::Started = kind {
         return Ok(());
@@ -62,7 +62,7 @@ fn go_on(work: &mut Work, kind: &EventKind) -> Result<(), NodeFault>
 /// What an event asks for, once what is due is done.
 fn answer(work: &mut Work, kind: &EventKind) -> Result<(), NodeFault>
     ensures idle { AsksNothing work.old.place work.old.held kind.now → Keeps result work.old work.new }
-    ensures comes { Comes (λ x. x) result work.old work.new (Answers kind.now) }
+    ensures comes { ComesTo (λ x. x) result work.old work.new (AnswersEvent kind.now) }
 {
     match kind {
         EventKind::Started => Ok(()),
@@ -81,7 +81,7 @@ fn answer(work: &mut Work, kind: &EventKind) -> Result<(), NodeFault>
 /// Removes the client's subscriptions, if there are any.
 fn evict(work: &mut Work, client: &Text) -> Result<(), NodeFault>
     ensures idle { any_of client.now None work.old.held.store.subscriptions ≡ false → (result ≡ Ok tt) × (work.new ≡ work.old) }
-    ensures comes { Comes (λ x. x) result work.old work.new (Evicts client.now) }
+    ensures comes { ComesTo (λ x. x) result work.old work.new (Evicts client.now) }
 {
     work.remove(client, None)?;
     Ok(())

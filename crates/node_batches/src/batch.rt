@@ -4,7 +4,7 @@ ghost use Rattle.std.specs.Prelude.{◌≡◌, ◌≢◌, ◌<◌, ◌≤◌, �
 ghost use Rattle.broker_node.specs.Idle.{IsIdle};
 ghost use Rattle.broker_node.specs.Step.{IsAtEnd};
 ghost use Rattle.node_batches.specs.Batches.{IsDecided, IsOfNode, IsOfRows};
-ghost use Rattle.node_keeper.specs.Keeping.{HasCauseAt, IsCounted, Rests};
+ghost use Rattle.node_keeper.specs.Keeping.{KeeperHasCauseAt, IsCounted, KeeperRests};
 ghost use Rattle.node_keeper.specs.declared.fault.KeeperFault.TheVariants as faults;
 ghost use Rattle.node_work.specs.View.{HeldView};
 ghost use Rattle.row_store.specs.Rows.{Content, after_all};
@@ -50,11 +50,11 @@ fn take(
     ensures place { node.new.place ≡ node.old.place }
     ensures stopped { node.old.up ≡ None → (result ≡ Err faults.Stopped) × (node.new ≡ node.old) }
     ensures ok { IfOk result (λ outputs. IsDecided node.old waiting.old.items event.now outputs.items node.new waiting.new.items) }
-    ensures idle { (h : HeldView) → node.old.up ≡ Some h → event.now.at < 2 ^ 62 → IsIdle node.old.place h event.now → Rests result × (waiting.new.items ≡ waiting.old.items) }
+    ensures idle { (h : HeldView) → node.old.up ≡ Some h → event.now.at < 2 ^ 62 → IsIdle node.old.place h event.now → KeeperRests result × (waiting.new.items ≡ waiting.old.items) }
     ensures end { is_some node.old.up ≡ true → 2 ^ 62 ≤ event.now.at → result ≡ Err faults.NumbersAtEnd }
     ensures exactly { IsAtEnd node.old event.now → ¬ IsOk result }
     ensures down { OnErr result (node.new.up ≡ None) }
-    ensures cause { IfErr result (HasCauseAt node.old.up node.old.place event.now) }
+    ensures cause { IfErr result (KeeperHasCauseAt node.old.up node.old.place event.now) }
     ensures kind { IfErr result IsOfNode }
 {
     let Outcome { outputs, changes } = match node.step(event) {
@@ -114,12 +114,12 @@ impl<R: RowStore> BatchKeeper<R> {
         ensures rows { rows_in self.new ≡ rows_in self.old }
         ensures stopped { (node_in self.old).up ≡ None → (result ≡ Err faults.Stopped) × (node_in self.new ≡ node_in self.old) }
         ensures ok { IfOk result (λ outputs. IsDecided (node_in self.old) (waiting_in self.old) event.now outputs.items (node_in self.new) (waiting_in self.new)) }
-        ensures idle { (h : HeldView) → (node_in self.old).up ≡ Some h → event.now.at < 2 ^ 62 → IsIdle (node_in self.old).place h event.now → Rests result × (waiting_in self.new ≡ waiting_in self.old) }
+        ensures idle { (h : HeldView) → (node_in self.old).up ≡ Some h → event.now.at < 2 ^ 62 → IsIdle (node_in self.old).place h event.now → KeeperRests result × (waiting_in self.new ≡ waiting_in self.old) }
         ensures end { is_some (node_in self.old).up ≡ true → 2 ^ 62 ≤ event.now.at → result ≡ Err faults.NumbersAtEnd }
         ensures exactly { IsAtEnd (node_in self.old) event.now → ¬ IsOk result }
         ensures down { OnErr result ((node_in self.new).up ≡ None) }
         ensures dropped { OnErr result (waiting_in self.new ≡ []) }
-        ensures cause { IfErr result (HasCauseAt (node_in self.old).up (node_in self.old).place event.now) }
+        ensures cause { IfErr result (KeeperHasCauseAt (node_in self.old).up (node_in self.old).place event.now) }
         ensures kind { IfErr result IsOfNode }
     {
         let taken = take(&mut self.node, &mut self.waiting, event);

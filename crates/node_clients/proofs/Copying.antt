@@ -10,10 +10,10 @@ use Rattle.node_work.specs.declared.fault.NodeFault.{NodeFault}
 use Rattle.mqtt_message.specs.declared.message.Message.{Message}
 use Rattle.node_clients.specs.Passing.{Retains}
 use Rattle.node_work.specs.Doings.{MakesPut}
-use Rattle.node_work.specs.Passing.{IsHomed, content_of, pick_copy}
+use Rattle.node_work.specs.Passing.{PicksAreHomed, content_of, pick_copy}
 use Rattle.replica_store.specs.declared.content.Content.{Content}
 use Rattle.node_work.specs.View.{Place, HeldView, WorkView}
-use Rattle.node_work.specs.Working.{Doing, Returns, Each, Did, Comes}
+use Rattle.node_work.specs.Working.{Doing, Returns, Each, Did, ComesTo}
 use Rattle.node_work.proofs.Working.{Reaches, reaches_then, reaches_comes, then_stops, did_nothing, comes_if}
 
 -- ---- each of those that are still to come
@@ -22,7 +22,7 @@ module _ {A : Type 0} (One : A → Option (Unit {0}) → Doing) (w m : WorkView)
   came_next m' x rest e h did = reaches_then w m m' P (One x) (λ _. Each One rest) tt (subst (λ zs. Reaches w P m (Each One zs)) e h) did
 
   pub came_stops : {S T : Type 0} (look : S → Unit {0}) (see : T → Unit {0}) (m' : WorkView) (x : A) (rest : List A) → left ≡ x ∷ rest → Reaches w P m (Each One left)
-      → (r : Result T NodeFault) (f : NodeFault) → IsErrAnd r (λ e. e ≡ f) → Comes look (Err f) m m' (One x) → Comes see r w m' P
+      → (r : Result T NodeFault) (f : NodeFault) → IsErrAnd r (λ e. e ≡ f) → ComesTo look (Err f) m m' (One x) → ComesTo see r w m' P
   came_stops look see m' x rest e h r f is comes =
       reaches_comes see r w m m' P (Each One (x ∷ rest)) (subst (λ zs. Reaches w P m (Each One zs)) e h) (then_stops (One x) (λ _. Each One rest) look see r f m m' is comes)
 
@@ -50,7 +50,7 @@ module _ (p : Place) (h : HeldView) (picks : List GroupPick) where
   pub here_without : (out : List Copy) (left rest : List GroupPick) (x : GroupPick) → left ≡ x ∷ rest → ¬ IsHome h.homes x.client p.id → AreHere out left → AreHere out rest
   here_without out left rest x e lacks h = (h.0, follows_without Here picks x rest h.0 (subst (λ l. Follows Here picks h.0 l) e h.1) lacks, h.2)
 
-  pub here_ends : (out : List Copy) (left : List GroupPick) → left ≡ [] → AreHere out left → IsHomed p h picks out
+  pub here_ends : (out : List Copy) (left : List GroupPick) → left ≡ [] → AreHere out left → PicksAreHomed p h picks out
   here_ends out left e h = (h.0, ends Here picks left h.0 e h.1, h.2)
 
 pub none_left : {A : Type 0} (xs : List A) → length xs ≡ 0 → xs ≡ []
@@ -58,5 +58,5 @@ none_left [] e = refl
 none_left (x ∷ xs) e = absurd (omega arith)
 
 -- ---- a message with RETAIN is put
-pub message_retained : (m : Message) (content : Content) (r : Result (Unit {0}) NodeFault) (w w' : WorkView) → m.retain ≡ true → content ≡ content_of m → Comes (λ x. x) r w w' (MakesPut content) → Comes (λ x. x) r w w' (Retains m)
-message_retained m content r w w' kept is d = comes_if (λ x. x) r w w' m.retain (MakesPut (content_of m)) (Returns tt) kept (subst (λ x. Comes (λ x. x) r w w' (MakesPut x)) is d)
+pub message_retained : (m : Message) (content : Content) (r : Result (Unit {0}) NodeFault) (w w' : WorkView) → m.retain ≡ true → content ≡ content_of m → ComesTo (λ x. x) r w w' (MakesPut content) → ComesTo (λ x. x) r w w' (Retains m)
+message_retained m content r w w' kept is d = comes_if (λ x. x) r w w' m.retain (MakesPut (content_of m)) (Returns tt) kept (subst (λ x. ComesTo (λ x. x) r w w' (MakesPut x)) is d)

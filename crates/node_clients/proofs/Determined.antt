@@ -36,10 +36,10 @@ use Rattle.node_work.specs.Calling.{CallsAt, Calls}
 use Rattle.node_work.specs.Handed.{AreHanded, IsHanded, found, gone}
 use Rattle.node_work.specs.Held.Sessions.{Called, has_session}
 use Rattle.node_work.specs.Offers.{IsOffered, AreOffered}
-use Rattle.node_work.specs.Passing.{AreRoutes, IsHomed, IsPassed, others, pick_copy, seated, unseated}
+use Rattle.node_work.specs.Passing.{AreRoutes, PicksAreHomed, IsPassed, others, pick_copy, seated, unseated}
 use Rattle.node_work.specs.View.{Place, HeldView}
 use Rattle.node_work.proofs.Homes.{is_table_on}
-use Rattle.node_work.specs.Working.{Doing, Returns, Stops, Acting, Numbered, Looks, Finds, If, Where, Then, InTurn, Each}
+use Rattle.node_work.specs.Working.{Doing, Returns, Stops, Acting, Numbered, Looks, FindsWhere, If, Where, Then, InTurn, Each}
 use Rattle.node_clients.specs.Ending.{IsAtHome}
 use Rattle.node_clients.specs.Naming.{IsNextNumber, automatic}
 use Rattle.node_clients.specs.Passing.{AreMade, IsHandedOver}
@@ -79,7 +79,7 @@ looks_determined see P d x y p h xs ys sound a b = d (see p h) x y p h xs ys sou
 abbrev pub IsAlone : {A : Type 0} → (Place → HeldView → A → Type 0) → Type 0
 IsAlone {A} Is = (p : Place) (h : HeldView) (x y : A) → IsTable h.homes → Is p h x → Is p h y → x ≡ y
 
-pub finds_determined : {A B : Type 0} (Is : Place → HeldView → A → Type 0) (P : A → Option B → Doing) → IsAlone Is → ((x : A) → Determined (P x)) → Determined (Finds Is P)
+pub finds_determined : {A B : Type 0} (Is : Place → HeldView → A → Type 0) (P : A → Option B → Doing) → IsAlone Is → ((x : A) → Determined (P x)) → Determined (FindsWhere Is P)
 finds_determined Is P alone d x y p h xs ys sound a b =
     d a.0 x y p h xs ys sound a.2 (subst (λ v. P v y p h ys) (sym (alone p h a.0 b.0 sound a.1 b.1)) b.2)
 
@@ -138,7 +138,7 @@ copies_once live m xs ys a b = a.2 ∙ ap (λ es. map_list (plain_copy m) (by_cl
 picks_once : (turn : ℕ) (live : Entries) (m : Message) (xs ys : List GroupPick) → ArePicks turn live m xs → ArePicks turn live m ys → xs ≡ ys
 picks_once turn live m xs ys a b = a.2 ∙ ap (λ es. flat_map (λ g. pick_of m (picked turn g.1)) (by_group es)) (selected_once (IsSharedFor m) (entries_in live) a.0 b.0 a.1 b.1) ∙ sym b.2
 
-homed_once : (p : Place) (h : HeldView) (picks : List GroupPick) (xs ys : List Copy) → IsHomed p h picks xs → IsHomed p h picks ys → xs ≡ ys
+homed_once : (p : Place) (h : HeldView) (picks : List GroupPick) (xs ys : List Copy) → PicksAreHomed p h picks xs → PicksAreHomed p h picks ys → xs ≡ ys
 homed_once p h picks xs ys a b = a.2 ∙ ap (map_list pick_copy) (selected_once (λ (x : GroupPick). IsHome h.homes x.client p.id) picks a.0 b.0 a.1 b.1) ∙ sym b.2
 
 -- what is paired with a list, place by place
@@ -171,7 +171,7 @@ passed_once : (p : Place) (h : HeldView) (m : Message) (xs ys : List Copy) (j k 
 passed_once p h m xs ys j k rs ss sound a b =
     let plain : a.plain ≡ b.plain = copies_once (live h.store.subscriptions) m a.plain b.plain a.are_copies b.are_copies in
     let picks : a.picks ≡ b.picks = picks_once h.turn (live h.store.subscriptions) m a.picks b.picks a.are_picks b.are_picks in
-    let homed : a.homed ≡ b.homed = homed_once p h b.picks a.homed b.homed (subst (λ ps. IsHomed p h ps a.homed) picks a.are_here) b.are_here in
+    let homed : a.homed ≡ b.homed = homed_once p h b.picks a.homed b.homed (subst (λ ps. PicksAreHomed p h ps a.homed) picks a.are_here) b.are_here in
     let matching : a.matching ≡ b.matching = selected_once (IsPlainFor m) (entries_in (live h.store.subscriptions)) a.matching b.matching a.are_matching b.are_matching in
     let routes : AreRoutes p h b.matching b.picks m rs = subst (λ es. AreRoutes p h es b.picks m rs) matching (subst (λ ps. AreRoutes p h a.matching ps m rs) picks a.routes_are) in (
       a.copies_are ∙ (λ i. seated h (plain i) ++ seated h (homed i)) ∙ sym b.copies_are,

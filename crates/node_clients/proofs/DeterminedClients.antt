@@ -42,17 +42,17 @@ use Rattle.node_work.specs.Held.Sessions.{Begun, Over}
 use Rattle.node_work.specs.Packets.{moved_packet, refused_packet}
 use Rattle.node_work.specs.Passing.{content_of, turn_at_end}
 use Rattle.node_work.specs.View.{ConnectionView}
-use Rattle.node_work.specs.Working.{Each, Returns, Looks, Finds, Then}
-use Rattle.node_clients.specs.Connecting.{Accepts, AcceptsAs, Begins, Cleans, ComesHome, Connects, ConnectsAt, ConnectsBy, Joins, JoinsBy, Names, NamesBy, Refers, Refuses, SendsIf, TakesOver, TakesOverFrom, WillIsNamed, refusal}
-use Rattle.node_clients.specs.Ending.{Closes, ClosesAfter, ClosesBy, ClosesFor, DoesDueOf, EndsSession, Finishes, Follows, IsAtHome, Parts, PassesAsked, RemovesFor, RemovesOwn, Ticks, TicksIf}
+use Rattle.node_work.specs.Working.{Each, Returns, Looks, FindsWhere, Then}
+use Rattle.node_clients.specs.Connecting.{Accepts, AcceptsAs, BeginsSession, Cleans, ComesHome, Connects, ConnectsAt, ConnectsBy, Joins, JoinsBy, Names, NamesBy, Refers, RefusesConnect, SendsIf, TakesOver, TakesOverFrom, WillIsNamed, refusal}
+use Rattle.node_clients.specs.Ending.{ClosesConnection, ClosesAfter, ClosesBy, ClosesFor, DoesDueOf, EndsSession, Finishes, FollowsReaction, IsAtHome, Parts, PassesAsked, RemovesFor, RemovesOwn, Ticks, TicksIf}
 use Rattle.node_clients.specs.Moving.{MovesAway, PartsOn, PartsWays, RedirectsBy, RedirectsHome, RedirectsTo}
 use Rattle.node_clients.specs.Naming.{IsNextNumber}
 use Rattle.node_clients.specs.Passing.{AreMade, Copies, CopiesAt, Drops, IsHandedOver, Made, MakesCopies, Passes, PassesWill, Retains, TakesCopies, TakesForward}
-use Rattle.node_clients.specs.Pieces.{Answers, AnswersBy, AnswersIfOpen, Breaks, BreaksBy, BreaksIfOpen, Feeds, First, Leaves, LeavesBy, PartsBy, Piece, PieceAt, SendsDisconnect, SendsRefusal, Shuts, Takes, TellsBy, connack_code, disconnect_code}
-use Rattle.node_clients.specs.Serving.{DoesAsked, DoesReaction, Serves, ServesIn, SubscribesBy, UnsubscribesBy, is_dropped}
-use Rattle.node_clients.specs.Subscribing.{AreOffers, Grants, GrantsBy, Offers, OffersAfter, OffersEach, OffersOne, Subscribes, SubscribesTo, entry_of, granted, identifier_of, reasons_of, refused}
+use Rattle.node_clients.specs.Pieces.{AnswersPacket, AnswersPacketBy, AnswersIfOpen, Breaks, BreaksBy, BreaksIfOpen, Feeds, AnswersFirstPacket, Leaves, LeavesBy, PartsBy, Piece, PieceAt, SendsDisconnect, SendsRefusal, Shuts, TakesPackets, TellsBy, connack_code, disconnect_code}
+use Rattle.node_clients.specs.Serving.{DoesAsked, DoesReaction, ServesPacket, ServesIn, SubscribesBy, UnsubscribesBy, is_dropped}
+use Rattle.node_clients.specs.Subscribing.{AreOffers, Grants, GrantsBy, Offers, OffersAfter, OffersEach, OffersOne, ServesSubscribe, SubscribesTo, entry_of, granted, identifier_of, reasons_of, refused}
 use Rattle.node_clients.specs.Subscribing as subscribing
-use Rattle.node_clients.specs.Unsubscribing.{Unsubscribed, Unsubscribes}
+use Rattle.node_clients.specs.Unsubscribing.{Unsubscribed, ServesUnsubscribe}
 use Rattle.node_clients.specs.Unsubscribing as unsubscribing
 use Rattle.node_clients.proofs.Determined.{Determined, returns_determined, stops_determined, acting_determined, numbered_determined, looks_determined, finds_determined, if_determined, where_determined, then_determined, in_turn_determined, each_determined, calls_determined, copies_alone, handed_alone, home_is_alone, number_alone, offers_alone}
 
@@ -145,15 +145,15 @@ removes_own_determined client = finds_determined (IsAtHome client) (RemovesFor c
 ends_session_determined : (client : List ℕ) → Determined (EndsSession client)
 ends_session_determined client = then_determined (RemovesOwn client) _ (removes_own_determined client) (λ _. acting_determined (λ p h. Session (Over client)))
 
-follows_determined : (client : List ℕ) (r : Reaction) → Determined (Follows client r)
+follows_determined : (client : List ℕ) (r : Reaction) → Determined (FollowsReaction client r)
 follows_determined client r =
     then_determined (PassesAsked r.ask) _ (passes_asked_determined r.ask) (λ _. if_determined r.over (EndsSession client) (Returns tt) (ends_session_determined client) (returns_determined tt))
 
 pub ticks_determined : (client : List ℕ) → Determined (Ticks client)
-ticks_determined client = then_determined _ (Follows client) (calls_determined client ticks stays) (follows_determined client)
+ticks_determined client = then_determined _ (FollowsReaction client) (calls_determined client ticks stays) (follows_determined client)
 
 finishes_determined : (client : List ℕ) → Determined (Finishes client)
-finishes_determined client = then_determined _ (Follows client) (calls_determined client finishes stays) (follows_determined client)
+finishes_determined client = then_determined _ (FollowsReaction client) (calls_determined client finishes stays) (follows_determined client)
 
 ticks_if_determined : (due : Bool) (client : List ℕ) → Determined (TicksIf due client)
 ticks_if_determined due client = if_determined due (Ticks client) (Returns tt) (ticks_determined client) (returns_determined tt)
@@ -165,11 +165,11 @@ does_due_of_determined client =
 parts_determined : (client : List ℕ) → Determined (Parts client)
 parts_determined client = then_determined _ (λ _. DoesDueOf client) (calls_determined client closes leaves) (λ _. does_due_of_determined client)
 
-pub closes_determined : (c : ℕ) → Determined (Closes c)
+pub closes_determined : (c : ℕ) → Determined (ClosesConnection c)
 closes_determined c = then_determined _ _ (acting_determined (λ p h. Connection (Closed c))) (λ _. acting_determined (λ p h. Out (Close c)))
 
 closes_for_determined : (c : ℕ) (client : List ℕ) → Determined (ClosesFor c client)
-closes_for_determined c client = then_determined (Closes c) (λ _. Parts client) (closes_determined c) (λ _. parts_determined client)
+closes_for_determined c client = then_determined (ClosesConnection c) (λ _. Parts client) (closes_determined c) (λ _. parts_determined client)
 
 closes_by_determined : (c : ℕ) (client : Option (List ℕ)) → Determined (ClosesBy c client)
 closes_by_determined c None = closes_determined c
@@ -203,25 +203,25 @@ offers_after_determined : (end : Option ℕ) (c : ℕ) (client : List ℕ) (pack
 offers_after_determined None c client packet grants = finds_determined (AreOffers grants) (OffersEach client packet grants) (offers_alone grants) (offers_each_determined client packet grants)
 offers_after_determined (Some code) c client packet grants = closes_for_determined c client
 
-suback_determined : (c : ℕ) (client : List ℕ) (packet : ℕ) (grants : List Granted) → Determined (subscribing.Acknowledges c client packet grants)
+suback_determined : (c : ℕ) (client : List ℕ) (packet : ℕ) (grants : List Granted) → Determined (subscribing.SendsSuback c client packet grants)
 suback_determined c client packet grants =
     then_determined _ (λ r. OffersAfter r.end c client packet grants) (calls_determined client (λ at. answers packet (reasons_of grants)) stays) (λ r. offers_after_determined r.end c client packet grants)
 
-subscribes_determined : (c : ℕ) (client : List ℕ) (p : Subscribe) → Determined (Subscribes c client p)
+subscribes_determined : (c : ℕ) (client : List ℕ) (p : Subscribe) → Determined (ServesSubscribe c client p)
 subscribes_determined c client p =
-    then_determined _ (subscribing.Acknowledges c client p.identifier) (in_turn_determined (Grants client (identifier_of p)) (grants_determined client (identifier_of p)) p.filters []) (suback_determined c client p.identifier)
+    then_determined _ (subscribing.SendsSuback c client p.identifier) (in_turn_determined (Grants client (identifier_of p)) (grants_determined client (identifier_of p)) p.filters []) (suback_determined c client p.identifier)
 
 unsubscribed_determined : (client text : List ℕ) → Determined (Unsubscribed client text)
 unsubscribed_determined client text =
     where_determined (IsFilter text) _ (Returns 143) (then_determined (Removes client (Some text)) (λ stood. Returns (cond stood 0 17)) (removes_determined client (Some text)) (λ stood. returns_determined (cond stood 0 17))) (returns_determined 143)
 
-unsuback_determined : (c : ℕ) (client : List ℕ) (packet : ℕ) (codes : List ℕ) → Determined (unsubscribing.Acknowledges c client packet codes)
+unsuback_determined : (c : ℕ) (client : List ℕ) (packet : ℕ) (codes : List ℕ) → Determined (unsubscribing.SendsUnsuback c client packet codes)
 unsuback_determined c client packet codes =
     then_determined _ (λ r. ClosesAfter r.end c client) (calls_determined client (λ at. answers packet codes) stays) (λ r. closes_after_determined r.end c client)
 
-unsubscribes_determined : (c : ℕ) (client : List ℕ) (p : Unsubscribe) → Determined (Unsubscribes c client p)
+unsubscribes_determined : (c : ℕ) (client : List ℕ) (p : Unsubscribe) → Determined (ServesUnsubscribe c client p)
 unsubscribes_determined c client p =
-    then_determined _ (unsubscribing.Acknowledges c client p.identifier) (in_turn_determined (Unsubscribed client) (unsubscribed_determined client) p.filters []) (unsuback_determined c client p.identifier)
+    then_determined _ (unsubscribing.SendsUnsuback c client p.identifier) (in_turn_determined (Unsubscribed client) (unsubscribed_determined client) p.filters []) (unsuback_determined c client p.identifier)
 
 -- ---- the packets of an accepted client
 
@@ -273,16 +273,16 @@ does_reaction_determined c client p room r =
 serves_in_determined : (c : ℕ) (client : List ℕ) (p : Packet) (room : Bool) → Determined (ServesIn c client p room)
 serves_in_determined c client p room = then_determined _ (DoesReaction c client p room) (calls_determined client (λ at. takes p at room) stays) (does_reaction_determined c client p room)
 
-serves_determined : (c : ℕ) (client : List ℕ) (p : Packet) → Determined (Serves c client p)
+serves_determined : (c : ℕ) (client : List ℕ) (p : Packet) → Determined (ServesPacket c client p)
 serves_determined c client p = looks_determined _ (ServesIn c client p) (serves_in_determined c client p)
 
 -- ---- CONNECT
 
-refuses_determined : (c : ℕ) (p : Connect) (code : ℕ) (reference : Option (List ℕ)) → Determined (Refuses c p code reference)
+refuses_determined : (c : ℕ) (p : Connect) (code : ℕ) (reference : Option (List ℕ)) → Determined (RefusesConnect c p code reference)
 refuses_determined c p code reference =
     let packet = refused_packet code reference in
     let fitting = fits (limit_in p.properties) packet in
-    then_determined (SendsIf fitting c packet) (λ _. Closes c) (if_determined fitting (Sends c packet) (Returns tt) (sends_determined c packet) (returns_determined tt)) (λ _. closes_determined c)
+    then_determined (SendsIf fitting c packet) (λ _. ClosesConnection c) (if_determined fitting (Sends c packet) (Returns tt) (sends_determined c packet) (returns_determined tt)) (λ _. closes_determined c)
 
 takes_over_from_determined : (client : List ℕ) (older : Option ℕ) → Determined (TakesOverFrom client older)
 takes_over_from_determined client None = returns_determined tt
@@ -297,18 +297,18 @@ joins_by_determined true c client p = calls_determined client (connects p true) 
 joins_by_determined false c client p =
     then_determined _ (λ _. Calls client (connects p false) (moves c)) (acting_determined (λ place h. Session (Begun client))) (λ _. calls_determined client (connects p false) (moves c))
 
-begins_determined : (c : ℕ) (client : List ℕ) (p : Connect) → Determined (Begins c client p)
+begins_determined : (c : ℕ) (client : List ℕ) (p : Connect) → Determined (BeginsSession c client p)
 begins_determined c client p =
     then_determined _ (λ _. Then (Joins c client p) (λ r. ClosesAfter r.end c client)) (acting_determined (λ place h. Connection (Accepted c client)))
     (λ _. then_determined (Joins c client p) (λ r. ClosesAfter r.end c client) (looks_determined _ (λ has. JoinsBy has c client p) (λ has. joins_by_determined has c client p)) (λ r. closes_after_determined r.end c client))
 
 accepts_determined : (c : ℕ) (p : Connect) (client : List ℕ) → Determined (Accepts c p client)
 accepts_determined c p client =
-    then_determined (TakesOver client) (λ _. Then (Cleans p.clean_start client) (λ _. Begins c client p)) (looks_determined _ (TakesOverFrom client) (takes_over_from_determined client))
-    (λ _. then_determined (Cleans p.clean_start client) (λ _. Begins c client p) (cleans_determined p.clean_start client) (λ _. begins_determined c client p))
+    then_determined (TakesOver client) (λ _. Then (Cleans p.clean_start client) (λ _. BeginsSession c client p)) (looks_determined _ (TakesOverFrom client) (takes_over_from_determined client))
+    (λ _. then_determined (Cleans p.clean_start client) (λ _. BeginsSession c client p) (cleans_determined p.clean_start client) (λ _. begins_determined c client p))
 
 accepts_as_determined : (c : ℕ) (p : Connect) (client : List ℕ) → Determined (AcceptsAs c p client)
-accepts_as_determined c p client = where_determined (WillIsNamed p.will) (Accepts c p client) (Refuses c p 144 None) (accepts_determined c p client) (refuses_determined c p 144 None)
+accepts_as_determined c p client = where_determined (WillIsNamed p.will) (Accepts c p client) (RefusesConnect c p 144 None) (accepts_determined c p client) (refuses_determined c p 144 None)
 
 names_by_determined : (c : ℕ) (p : Connect) (number : Option ℕ) → Determined (NamesBy c p number)
 names_by_determined c p None = stops_determined
@@ -316,12 +316,12 @@ names_by_determined c p (Some number) = then_determined _ _ (acting_determined (
 
 names_determined : (c : ℕ) (p : Connect) → Determined (Names c p)
 names_determined c p =
-    where_determined (WillIsNamed p.will) (Finds IsNextNumber (NamesBy c p)) (Refuses c p 144 None) (finds_determined IsNextNumber (NamesBy c p) number_alone (names_by_determined c p)) (refuses_determined c p 144 None)
+    where_determined (WillIsNamed p.will) (FindsWhere IsNextNumber (NamesBy c p)) (RefusesConnect c p 144 None) (finds_determined IsNextNumber (NamesBy c p) number_alone (names_by_determined c p)) (refuses_determined c p 144 None)
 
 comes_home_determined : (c : ℕ) (p : Connect) (node : ℕ) → Determined (ComesHome c p node)
 comes_home_determined c p node =
     looks_determined _ _
-    (λ here. if_determined here (AcceptsAs c p p.client) (Refers c p node) (accepts_as_determined c p p.client) (looks_determined _ (λ reference. Refuses c p 156 reference) (refuses_determined c p 156)))
+    (λ here. if_determined here (AcceptsAs c p p.client) (Refers c p node) (accepts_as_determined c p p.client) (looks_determined _ (λ reference. RefusesConnect c p 156 reference) (refuses_determined c p 156)))
 
 connects_at_determined : (unnamed : Bool) (c : ℕ) (p : Connect) → Determined (ConnectsAt unnamed c p)
 connects_at_determined true c p = names_determined c p
@@ -336,7 +336,7 @@ connects_determined c p = connects_by_determined (refusal p) c p
 
 -- ---- pieces
 
-first_determined : (c : ℕ) (p : Packet) → Determined (First c p)
+first_determined : (c : ℕ) (p : Packet) → Determined (AnswersFirstPacket c p)
 first_determined c (packets.Connect p) = connects_determined c p
 first_determined c (packets.Connack p) = closes_determined c
 first_determined c (packets.Publish p) = closes_determined c
@@ -353,13 +353,13 @@ first_determined c packets.Pingresp = closes_determined c
 first_determined c (packets.Disconnect p) = closes_determined c
 first_determined c (packets.Auth p) = closes_determined c
 
-answers_by_determined : (c : ℕ) (p : Packet) (client : Option (List ℕ)) → Determined (AnswersBy c p client)
+answers_by_determined : (c : ℕ) (p : Packet) (client : Option (List ℕ)) → Determined (AnswersPacketBy c p client)
 answers_by_determined c p None = first_determined c p
 answers_by_determined c p (Some client) = serves_determined c client p
 
 answers_if_open_determined : (c : ℕ) (p : Packet) → Determined (AnswersIfOpen c p)
 answers_if_open_determined c p =
-    looks_determined _ _ (λ is_there. if_determined is_there (Answers c p) (Returns tt) (looks_determined _ (AnswersBy c p) (answers_by_determined c p)) (returns_determined tt))
+    looks_determined _ _ (λ is_there. if_determined is_there (AnswersPacket c p) (Returns tt) (looks_determined _ (AnswersPacketBy c p) (answers_by_determined c p)) (returns_determined tt))
 
 sends_refusal_determined : (c : ℕ) (code : Option ℕ) → Determined (SendsRefusal c code)
 sends_refusal_determined c None x y p h xs ys sound a b = absurd a
@@ -383,13 +383,13 @@ breaks_if_open_determined c None = returns_determined tt
 breaks_if_open_determined c (Some fault) =
     looks_determined _ _ (λ is_there. if_determined is_there (Breaks c fault) (Returns tt) (looks_determined _ (BreaksBy c fault) (breaks_by_determined c fault)) (returns_determined tt))
 
-takes_determined : (c : ℕ) (ps : List Packet) (fault : Option PacketFault) → Determined (Takes c ps fault)
+takes_determined : (c : ℕ) (ps : List Packet) (fault : Option PacketFault) → Determined (TakesPackets c ps fault)
 takes_determined c ps fault = then_determined _ (λ _. BreaksIfOpen c fault) (each_determined (AnswersIfOpen c) (answers_if_open_determined c) ps) (λ _. breaks_if_open_determined c fault)
 
 feeds_determined : (c : ℕ) (piece : List ℕ) (found : ConnectionView) → Determined (Feeds c piece found)
 feeds_determined c piece found =
     let cut = cut_of found.stream piece in
-    then_determined _ (λ _. Takes c cut.packets cut.fault) (acting_determined (λ p h. Connection (Fed c piece))) (λ _. takes_determined c cut.packets cut.fault)
+    then_determined _ (λ _. TakesPackets c cut.packets cut.fault) (acting_determined (λ p h. Connection (Fed c piece))) (λ _. takes_determined c cut.packets cut.fault)
 
 piece_at_determined : (c : ℕ) (piece : List ℕ) (found : Option ConnectionView) → Determined (PieceAt c piece found)
 piece_at_determined c piece None = returns_determined tt

@@ -8,5 +8,6 @@ pub mod Homes
 pub mod Offering
 pub mod Parting
 pub mod Routing
+pub mod Seating
 pub mod Topics
 pub mod Wills

@@ -13,7 +13,7 @@ use Rattle.node_work.specs.Doings.{RemovesBelow}
 use Rattle.node_work.specs.Held.Connections.{Closed}
 use Rattle.node_work.specs.Held.Sessions.{Over, will_is_due, end_is_due}
 use Rattle.node_work.specs.View.{Place, HeldView}
-use Rattle.node_work.specs.Working.{Doing, Returns, Acting, Looks, Finds, If, Then}
+use Rattle.node_work.specs.Working.{Doing, Returns, Acting, Looks, FindsWhere, If, Then}
 use Rattle.node_clients.specs.Passing.{PassesWill}
 
 -- ---- a session
@@ -37,22 +37,22 @@ abbrev pub RemovesFor : List ℕ → ℕ → Option Bool → Doing
 RemovesFor client node = Looks (ends_below node) (RemovesBelow client)
 
 abbrev pub RemovesOwn : List ℕ → Option Bool → Doing
-RemovesOwn client = Finds (IsAtHome client) (RemovesFor client)
+RemovesOwn client = FindsWhere (IsAtHome client) (RemovesFor client)
 
 -- one Remove takes these subscriptions of the client, and then its session is over
 abbrev pub EndsSession : List ℕ → Option (Unit {0}) → Doing
 EndsSession client = Then (RemovesOwn client) (λ _. Acting (λ p h. Session (Over client)))
 
-abbrev pub Follows : List ℕ → Reaction → Option (Unit {0}) → Doing
-Follows client r = Then (PassesAsked r.ask) (λ _. If r.over (EndsSession client) (Returns tt))
+abbrev pub FollowsReaction : List ℕ → Reaction → Option (Unit {0}) → Doing
+FollowsReaction client r = Then (PassesAsked r.ask) (λ _. If r.over (EndsSession client) (Returns tt))
 
 -- one thing that is due of a session: its will, else its end
 abbrev pub Ticks : List ℕ → Option (Unit {0}) → Doing
-Ticks client = Then (Calls client ticks stays) (Follows client)
+Ticks client = Then (Calls client ticks stays) (FollowsReaction client)
 
 -- a session ends now: its will is published first
 abbrev pub Finishes : List ℕ → Option (Unit {0}) → Doing
-Finishes client = Then (Calls client finishes stays) (Follows client)
+Finishes client = Then (Calls client finishes stays) (FollowsReaction client)
 
 -- ---- a close: what is due at this moment is done at once, the will and then the end
 abbrev pub TicksIf : Bool → List ℕ → Option (Unit {0}) → Doing
@@ -65,15 +65,15 @@ abbrev pub Parts : List ℕ → Option (Unit {0}) → Doing
 Parts client = Then (Calls client closes leaves) (λ _. DoesDueOf client)
 
 -- the node closes a connection
-abbrev pub Closes : ℕ → Option (Unit {0}) → Doing
-Closes c = Then (Acting (λ p h. Connection (Closed c))) (λ _. Acting (λ p h. Out (Close c)))
+abbrev pub ClosesConnection : ℕ → Option (Unit {0}) → Doing
+ClosesConnection c = Then (Acting (λ p h. Connection (Closed c))) (λ _. Acting (λ p h. Out (Close c)))
 
 abbrev pub ClosesFor : ℕ → List ℕ → Option (Unit {0}) → Doing
-ClosesFor c client = Then (Closes c) (λ _. Parts client)
+ClosesFor c client = Then (ClosesConnection c) (λ _. Parts client)
 
 -- before a client was accepted, or after
 abbrev pub ClosesBy : ℕ → Option (List ℕ) → Option (Unit {0}) → Doing
-ClosesBy c None = Closes c
+ClosesBy c None = ClosesConnection c
 ClosesBy c (Some client) = ClosesFor c client
 
 -- where a reaction says so

@@ -14,7 +14,7 @@ use Rattle.node_work.specs.Handed.{IsHanded}
 use Rattle.node_work.specs.Held.Bridge.{Took}
 use Rattle.node_work.specs.Passing.{IsPassed, others, turn_at_end, content_of, has_room}
 use Rattle.node_work.specs.View.{Place, HeldView}
-use Rattle.node_work.specs.Working.{Doing, Returns, Acting, Numbered, Looks, Finds, If, Where, Then, Each}
+use Rattle.node_work.specs.Working.{Doing, Returns, Acting, Numbered, Looks, FindsWhere, If, Where, Then, Each}
 
 -- with RETAIN its topic is given the message, or with an empty payload none
 abbrev pub Retains : Message → Option (Unit {0}) → Doing
@@ -39,7 +39,7 @@ abbrev pub MakesCopies : Message → Made → Option (Unit {0}) → Doing
 MakesCopies m x = Then (Numbered turn_at_end (λ p h. Passed m x.0 x.1.0 x.1.1)) (λ _. Then (Queues x.0) (λ _. Each Routes x.1.1))
 
 abbrev pub Copies : Message → Option (Unit {0}) → Doing
-Copies m = Finds (AreMade m) (MakesCopies m)
+Copies m = FindsWhere (AreMade m) (MakesCopies m)
 
 -- a message whose deadline has passed goes no further
 abbrev pub CopiesAt : Message → ℕ → Option (Unit {0}) → Doing
@@ -67,4 +67,4 @@ abbrev pub TakesCopies : ℕ → ℕ → Forward → List Copy × ℕ → Option
 TakesCopies from number m x = Then (Acting (λ p h. Bridge (Took from number m x.0 x.1))) (λ _. Queues x.0)
 
 abbrev pub TakesForward : ℕ → ℕ → Forward → Option (Unit {0}) → Doing
-TakesForward from number m = Finds (IsHandedOver m) (TakesCopies from number m)
+TakesForward from number m = FindsWhere (IsHandedOver m) (TakesCopies from number m)

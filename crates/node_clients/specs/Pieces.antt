@@ -14,26 +14,26 @@ use Rattle.node_work.specs.Packets.{refused_packet}
 use Rattle.node_work.specs.View.{ConnectionView}
 use Rattle.node_work.specs.Working.{Doing, Returns, Acting, Looks, If, Then, Each}
 use Rattle.node_clients.specs.Connecting.{Connects}
-use Rattle.node_clients.specs.Ending.{Closes, ClosesBy, Parts}
-use Rattle.node_clients.specs.Serving.{Serves}
+use Rattle.node_clients.specs.Ending.{ClosesConnection, ClosesBy, Parts}
+use Rattle.node_clients.specs.Serving.{ServesPacket}
 
 -- ---- packets
 -- the first packet of a connection is a CONNECT; another one closes it
-abbrev pub First : ℕ → Packet → Option (Unit {0}) → Doing
-First c (packets.Connect p) = Connects c p
-First c p = Closes c
+abbrev pub AnswersFirstPacket : ℕ → Packet → Option (Unit {0}) → Doing
+AnswersFirstPacket c (packets.Connect p) = Connects c p
+AnswersFirstPacket c p = ClosesConnection c
 
 -- by whether the client of the connection is accepted
-abbrev pub AnswersBy : ℕ → Packet → Option (List ℕ) → Option (Unit {0}) → Doing
-AnswersBy c p None = First c p
-AnswersBy c p (Some client) = Serves c client p
+abbrev pub AnswersPacketBy : ℕ → Packet → Option (List ℕ) → Option (Unit {0}) → Doing
+AnswersPacketBy c p None = AnswersFirstPacket c p
+AnswersPacketBy c p (Some client) = ServesPacket c client p
 
-abbrev pub Answers : ℕ → Packet → Option (Unit {0}) → Doing
-Answers c p = Looks (λ place h. client_at c h) (AnswersBy c p)
+abbrev pub AnswersPacket : ℕ → Packet → Option (Unit {0}) → Doing
+AnswersPacket c p = Looks (λ place h. client_at c h) (AnswersPacketBy c p)
 
 -- what follows the close of a connection is dropped
 abbrev pub AnswersIfOpen : ℕ → Packet → Option (Unit {0}) → Doing
-AnswersIfOpen c p = Looks (λ place h. is_open c h) (λ is_there. If is_there (Answers c p) (Returns tt))
+AnswersIfOpen c p = Looks (λ place h. is_open c h) (λ is_there. If is_there (AnswersPacket c p) (Returns tt))
 
 -- ---- faults
 -- a packet with this first byte is a CONNECT
@@ -81,12 +81,12 @@ BreaksIfOpen c None = Returns tt
 BreaksIfOpen c (Some fault) = Looks (λ p h. is_open c h) (λ is_there. If is_there (Breaks c fault) (Returns tt))
 
 -- ---- a piece
-abbrev pub Takes : ℕ → List Packet → Option PacketFault → Option (Unit {0}) → Doing
-Takes c packets fault = Then (Each (AnswersIfOpen c) packets) (λ _. BreaksIfOpen c fault)
+abbrev pub TakesPackets : ℕ → List Packet → Option PacketFault → Option (Unit {0}) → Doing
+TakesPackets c packets fault = Then (Each (AnswersIfOpen c) packets) (λ _. BreaksIfOpen c fault)
 
 -- of an open connection's stream whose fault hasn't come
 abbrev pub Feeds : ℕ → List ℕ → ConnectionView → Option (Unit {0}) → Doing
-Feeds c piece found = Then (Acting (λ p h. Connection (Fed c piece))) (λ _. Takes c (cut_of found.stream piece).packets (cut_of found.stream piece).fault)
+Feeds c piece found = Then (Acting (λ p h. Connection (Fed c piece))) (λ _. TakesPackets c (cut_of found.stream piece).packets (cut_of found.stream piece).fault)
 
 -- a stream that has failed closes its connection
 abbrev pub Shuts : ℕ → Option (Unit {0}) → Doing

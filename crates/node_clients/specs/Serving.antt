@@ -20,8 +20,8 @@ use Rattle.node_work.specs.View.{HeldView}
 use Rattle.node_work.specs.Working.{Doing, Returns, Looks, If, Then}
 use Rattle.node_clients.specs.Ending.{ClosesAfter}
 use Rattle.node_clients.specs.Passing.{Passes, Drops}
-use Rattle.node_clients.specs.Subscribing.{Subscribes}
-use Rattle.node_clients.specs.Unsubscribing.{Unsubscribes}
+use Rattle.node_clients.specs.Subscribing.{ServesSubscribe}
+use Rattle.node_clients.specs.Unsubscribing.{ServesUnsubscribe}
 
 -- a topic name has at least one character, and no wildcard (4.7.3)
 abbrev pub is_name : List ℕ → Bool
@@ -47,11 +47,11 @@ is_dropped (packets.Publish p) room end = p.retain && (not room && (qos_number p
 is_dropped p room end = false
 
 abbrev pub SubscribesBy : ℕ → List ℕ → Packet → Option (Unit {0}) → Doing
-SubscribesBy c client (packets.Subscribe p) = Subscribes c client p
+SubscribesBy c client (packets.Subscribe p) = ServesSubscribe c client p
 SubscribesBy c client p = Returns tt
 
 abbrev pub UnsubscribesBy : ℕ → List ℕ → Packet → Option (Unit {0}) → Doing
-UnsubscribesBy c client (packets.Unsubscribe p) = Unsubscribes c client p
+UnsubscribesBy c client (packets.Unsubscribe p) = ServesUnsubscribe c client p
 UnsubscribesBy c client p = Returns tt
 
 -- what the session asks for
@@ -68,5 +68,5 @@ DoesReaction c client p room r = Then (DoesAsked r.ask (is_dropped p room r.end)
 abbrev pub ServesIn : ℕ → List ℕ → Packet → Bool → Option (Unit {0}) → Doing
 ServesIn c client p room = Then (Calls client (λ at. takes p at room) stays) (DoesReaction c client p room)
 
-abbrev pub Serves : ℕ → List ℕ → Packet → Option (Unit {0}) → Doing
-Serves c client p = Looks (λ place h. room_for client p h) (ServesIn c client p)
+abbrev pub ServesPacket : ℕ → List ℕ → Packet → Option (Unit {0}) → Doing
+ServesPacket c client p = Looks (λ place h. room_for client p h) (ServesIn c client p)

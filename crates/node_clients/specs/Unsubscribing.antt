@@ -15,9 +15,9 @@ abbrev pub Unsubscribed : List ℕ → List ℕ → Option ℕ → Doing
 Unsubscribed client text = Where (IsFilter text) (Then (Removes client (Some text)) (λ stood. Returns (cond stood 0 17))) (Returns 143)
 
 -- UNSUBACK; one that is longer than the client takes isn't sent, and closes the connection
-abbrev pub Acknowledges : ℕ → List ℕ → ℕ → List ℕ → Option (Unit {0}) → Doing
-Acknowledges c client packet codes = Then (Calls client (λ at. answers packet codes) stays) (λ r. ClosesAfter r.end c client)
+abbrev pub SendsUnsuback : ℕ → List ℕ → ℕ → List ℕ → Option (Unit {0}) → Doing
+SendsUnsuback c client packet codes = Then (Calls client (λ at. answers packet codes) stays) (λ r. ClosesAfter r.end c client)
 
 -- each filter in turn, and then UNSUBACK with their reasons
-abbrev pub Unsubscribes : ℕ → List ℕ → Unsubscribe → Option (Unit {0}) → Doing
-Unsubscribes c client p = Then (InTurn (Unsubscribed client) p.filters []) (Acknowledges c client p.identifier)
+abbrev pub ServesUnsubscribe : ℕ → List ℕ → Unsubscribe → Option (Unit {0}) → Doing
+ServesUnsubscribe c client p = Then (InTurn (Unsubscribed client) p.filters []) (SendsUnsuback c client p.identifier)

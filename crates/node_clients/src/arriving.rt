@@ -6,18 +6,19 @@ ghost use Rattle.mqtt_message.specs.Expiry.{IsBefore};
 ghost use Rattle.node_bridge.specs.View.{is_next};
 ghost use Rattle.node_clients.specs.Passing.{TakesForward};
 ghost use Rattle.node_work.specs.Handed.{IsHanded, found};
-ghost use Rattle.node_work.specs.Working.{Comes};
+ghost use Rattle.node_work.specs.Passing.{seated};
+ghost use Rattle.node_work.specs.Working.{ComesTo};
 ghost use Rattle.node_work.specs.declared.fault.NodeFault.TheVariants.{NoMemory};
 ghost use Rattle.subscription_set.specs.Standing.{live};
 
-use crate::passing::{joined, queue_each, seated};
+use crate::passing::{joined, queue_seated, seated};
 use bridge_frames::{Forward, LaneNumber};
 use message_copies::{PlainCopy, copies};
 use message_routes::picked_copies;
 use node_work::{NodeFault, Work};
 use std::alloc::Global;
 
-/// The copies of a message for sessions here, and how many picks have none.
+/// The copies of a message, of which those for clients that have no session here go nowhere, and how many picks have none.
 #[derive(Drop)]
 struct Handed {
     copies: Vec<PlainCopy>,
@@ -32,16 +33,16 @@ pub fn take_forward(
     message: &Forward,
 ) -> Result<(), NodeFault>
     requires { is_next from number work.old.held.bridge ≡ true }
-    ensures { Comes (λ x. x) result work.old work.new (TakesForward from number message.now) }
+    ensures { ComesTo (λ x. x) result work.old work.new (TakesForward from number message.now) }
 {
     let handed = handed_of(work, message)?;
     work.take(from, number, handed.lost)?;
-    queue_each(work, handed.copies)
+    queue_seated(work, handed.copies)
 }
 
 /// The copies of a message until its deadline.
 fn handed_of(work: &Work, message: &Forward) -> Result<Handed, NodeFault>
-    ensures ok { IfOk result (λ handed. IsHanded work.now.held message.now handed.copies.items handed.lost) }
+    ensures ok { IfOk result (λ handed. IsHanded work.now.held message.now (seated work.now.held handed.copies.items) handed.lost) }
     ensures fault { IfErr result (λ e. e ≡ NoMemory) }
 {
     if message.message.message().alive(work.held().at()) {
@@ -56,7 +57,7 @@ fn handed_of(work: &Work, message: &Forward) -> Result<Handed, NodeFault>
 /// The copies of a message whose deadline hasn't passed.
 fn alive_of(work: &Work, message: &Forward) -> Result<Handed, NodeFault>
     requires { IsBefore work.now.held.at message.now.message.deadline }
-    ensures ok { IfOk result (λ handed. IsHanded work.now.held message.now handed.copies.items handed.lost) }
+    ensures ok { IfOk result (λ handed. IsHanded work.now.held message.now (seated work.now.held handed.copies.items) handed.lost) }
     ensures fault { IfErr result (λ e. e ≡ NoMemory) }
 {
     let held = work.held();
@@ -71,7 +72,7 @@ fn alive_of(work: &Work, message: &Forward) -> Result<Handed, NodeFault>
     let found = found_of(work.alloc(), picked)?;
     let found = seated(held, found);
     let lost = (count - found.len()) as u64;
-    let copies = joined(seated(held, plain), found)?;
+    let copies = joined(plain, found)?;
     Ok(Handed { copies, lost })
 }
 

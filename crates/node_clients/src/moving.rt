@@ -3,7 +3,7 @@
 ghost use Rattle.std.specs.Prelude.{◌<◌, length};
 ghost use Rattle.node_clients.specs.Ending.{IsAtHome};
 ghost use Rattle.node_clients.specs.Moving.{MovesAway, PartsWays, RedirectsHome, RedirectsTo};
-ghost use Rattle.node_work.specs.Working.{Comes};
+ghost use Rattle.node_work.specs.Working.{ComesTo};
 
 use crate::ending::{close_for, finish};
 use mqtt_fields::Text;
@@ -12,7 +12,7 @@ use node_work::{NodeFault, Work};
 /// Tells a client the address of a node.
 fn redirect_to(work: &mut Work, connection: u64, client: &Text, node: u16) -> Result<(), NodeFault>
     requires { node < length work.old.held.homes.nodes }
-    ensures { Comes (λ x. x) result work.old work.new (RedirectsTo connection client.now node) }
+    ensures { ComesTo (λ x. x) result work.old work.new (RedirectsTo connection client.now node) }
 {
     let address = work.homes().address(node).copy(work.alloc())?;
     work.redirect(connection, client, address)
@@ -20,7 +20,7 @@ fn redirect_to(work: &mut Work, connection: u64, client: &Text, node: u16) -> Re
 
 /// Tells a client the address of its home.
 fn redirect_home(work: &mut Work, connection: u64, client: &Text) -> Result<(), NodeFault>
-    ensures { Comes (λ x. x) result work.old work.new (RedirectsHome connection client.now) }
+    ensures { ComesTo (λ x. x) result work.old work.new (RedirectsHome connection client.now) }
 {
     let node = work.homes().home_of(client.as_str());
     redirect_to(work, connection, client, node)
@@ -28,7 +28,7 @@ fn redirect_home(work: &mut Work, connection: u64, client: &Text) -> Result<(), 
 
 /// Tells a client that is connected where its home is, and closes its connection.
 fn part_ways(work: &mut Work, client: &Text) -> Result<(), NodeFault>
-    ensures { Comes (λ x. x) result work.old work.new (PartsWays client.now) }
+    ensures { ComesTo (λ x. x) result work.old work.new (PartsWays client.now) }
 {
     let Some(connection) = work.held().sessions().connection(client) else {
         return Ok(());
@@ -39,7 +39,7 @@ fn part_ways(work: &mut Work, client: &Text) -> Result<(), NodeFault>
 
 /// Ends the session of a client whose home is at another node from now on.
 pub fn move_away(work: &mut Work, client: &Text) -> Result<(), NodeFault>
-    ensures { Comes (λ x. x) result work.old work.new (MovesAway client.now) }
+    ensures { ComesTo (λ x. x) result work.old work.new (MovesAway client.now) }
 {
     part_ways(work, client)?;
     finish(work, client)

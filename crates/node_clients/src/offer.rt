@@ -6,7 +6,7 @@ ghost use Rattle.mqtt_message.specs.declared.delivery.Delivery.{Delivery as Deli
 ghost use Rattle.node_clients.specs.Subscribing.{Offers, OffersOne};
 ghost use Rattle.node_work.specs.Acts.{AreAnswers};
 ghost use Rattle.node_work.specs.Offers.{IsOffered};
-ghost use Rattle.node_work.specs.Working.{Comes, Each};
+ghost use Rattle.node_work.specs.Working.{ComesTo, Each};
 ghost use Rattle.node_work.specs.declared.fault.NodeFault.TheVariants.{NoMemory};
 
 use message_copies::offer_of;
@@ -21,7 +21,7 @@ pub fn offer_each(
     packet: u16,
     grants: &[Granted],
 ) -> Result<(), NodeFault>
-    ensures { Comes (λ x. x) result work.old work.new (Offers client.now packet grants.now) }
+    ensures { ComesTo (λ x. x) result work.old work.new (Offers client.now packet grants.now) }
 {
     let offers = offers_of(work, grants)?;
     work.acknowledge()?;
@@ -71,7 +71,7 @@ fn add_offers(work: &Work, asked: &Asked, offers: &mut Vec<Delivery>) -> Result<
 
 /// Offers join the client's session in turn.
 fn queue_each(work: &mut Work, client: &Text, offers: Vec<Delivery>) -> Result<(), NodeFault>
-    ensures { Comes (λ x. x) result work.old work.new (Each (OffersOne client.now) offers.items) }
+    ensures { ComesTo (λ x. x) result work.old work.new (Each (OffersOne client.now) offers.items) }
 {
     for offer in offers {
         queue_one(work, client, offer)?;
@@ -81,7 +81,7 @@ fn queue_each(work: &mut Work, client: &Text, offers: Vec<Delivery>) -> Result<(
 
 /// An offer joins the client's session, and goes out where it can.
 fn queue_one(work: &mut Work, client: &Text, offer: Delivery) -> Result<(), NodeFault>
-    ensures { Comes (λ x. x) result work.old work.new (OffersOne client.now offer) }
+    ensures { ComesTo (λ x. x) result work.old work.new (OffersOne client.now offer) }
 {
     let _reaction = work.queue(client, offer)?;
     Ok(())

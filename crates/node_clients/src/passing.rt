@@ -1,13 +1,14 @@
 //! How a message is passed on.
 
 ghost use Rattle.std.specs.Prelude.{◌≡◌, ◌⊎◌, ◌+◌, ◌++◌, ◌↔◌, [], length, true, IfOk, IfErr, IsOk, IsTrue};
+ghost use Rattle.message_copies.specs.Picks.{AreShared};
 ghost use Rattle.message_copies.specs.Tables.{referents};
 ghost use Rattle.message_routes.specs.Routes.{AreFor};
 ghost use Rattle.node_clients.specs.Passing.{Copies, CopiesAt, Passes, PassesWill, Retains, lacks_room, route_to, routes_to};
 ghost use Rattle.node_work.specs.Calling.{Queues, QueuesOne};
 ghost use Rattle.node_work.specs.Doings.{Routes};
-ghost use Rattle.node_work.specs.Passing.{IsHomed, IsPassed, content_of, others, pick_copy, seated, unseated};
-ghost use Rattle.node_work.specs.Working.{Comes, Each, Looks};
+ghost use Rattle.node_work.specs.Passing.{PicksAreHomed, IsPassed, content_of, others, pick_copy, seated, unseated};
+ghost use Rattle.node_work.specs.Working.{ComesTo, Each, Looks};
 ghost use Rattle.node_work.specs.declared.fault.NodeFault.TheVariants.{NoMemory};
 ghost use Rattle.home_table.specs.Homes.{IsHome};
 
@@ -23,7 +24,8 @@ use subscription_set::Entry;
 /// At most as many topics are held.
 const TOPICS_HELD: usize = 100_000;
 
-/// What is made of a message: the copies for sessions here, how many picks have none, and where it goes to other nodes.
+/// What is made of a message: the copies, of which those for clients that have no session here go nowhere, how many picks have
+/// none, and where it goes to other nodes.
 #[derive(Drop)]
 struct Made {
     copies: Vec<PlainCopy>,
@@ -33,7 +35,7 @@ struct Made {
 
 /// Passes a message on: with RETAIN it is put into the store, and until its deadline each session that it is for gets a copy.
 pub fn pass(work: &mut Work, message: Message) -> Result<(), NodeFault>
-    ensures { Comes (λ x. x) result work.old work.new (Passes message) }
+    ensures { ComesTo (λ x. x) result work.old work.new (Passes message) }
 {
     let message = SharedMessage::new(work.alloc(), message)?;
     retain(work, &message)?;
@@ -43,7 +45,7 @@ pub fn pass(work: &mut Work, message: Message) -> Result<(), NodeFault>
 /// Puts a message with RETAIN into the store.
 #[tactic(auto, using(crate::proofs::Copying::message_retained))]
 fn retain(work: &mut Work, message: &SharedMessage) -> Result<(), NodeFault>
-    ensures { Comes (λ x. x) result work.old work.new (Retains message.now) }
+    ensures { ComesTo (λ x. x) result work.old work.new (Retains message.now) }
 {
     if !message.message().retain {
         return Ok(());
@@ -65,7 +67,7 @@ fn content_of(alloc: Global, message: &SharedMessage) -> Result<Content, NodeFau
 
 /// Makes a message's copies until its deadline.
 fn pass_alive(work: &mut Work, message: &SharedMessage) -> Result<(), NodeFault>
-    ensures { Comes (λ x. x) result work.old work.new (Looks (λ p h. h.at) (CopiesAt message.now)) }
+    ensures { ComesTo (λ x. x) result work.old work.new (Looks (λ p h. h.at) (CopiesAt message.now)) }
 {
     if message.message().alive(work.held().at()) {
         pass_copies(work, message)
@@ -76,18 +78,18 @@ fn pass_alive(work: &mut Work, message: &SharedMessage) -> Result<(), NodeFault>
 
 /// Makes a message's copies, which join their sessions one by one, and hands it to the other nodes that it is for.
 fn pass_copies(work: &mut Work, message: &SharedMessage) -> Result<(), NodeFault>
-    ensures { Comes (λ x. x) result work.old work.new (Copies message.now) }
+    ensures { ComesTo (λ x. x) result work.old work.new (Copies message.now) }
 {
     let made = made_of(work, message)?;
     let Made { copies, lost, to } = made;
     work.pass(lost)?;
-    queue_each(work, copies)?;
+    queue_seated(work, copies)?;
     route_each(work, message, &to)
 }
 
 /// What goes to the other nodes joins their lanes.
 fn route_each(work: &mut Work, message: &SharedMessage, to: &Destinations) -> Result<(), NodeFault>
-    ensures { Comes (λ x. x) result work.old work.new (Each Routes (routes_to work.old.place message.now to.now)) }
+    ensures { ComesTo (λ x. x) result work.old work.new (Each Routes (routes_to work.old.place message.now to.now)) }
 {
     for peer in 0..work.nodes() {
         if peer != work.id() {
@@ -104,15 +106,23 @@ fn route_one(
     message: &SharedMessage,
     to: &Destinations,
 ) -> Result<(), NodeFault>
-    ensures { Comes (λ x. x) result work.old work.new (Routes (route_to message.now to.now peer)) }
+    ensures { ComesTo (λ x. x) result work.old work.new (Routes (route_to message.now to.now peer)) }
 {
     let route = to.route(work.alloc(), peer, message)?;
     work.route(peer, route)
 }
 
+/// The copies for clients that have a session here join it.
+#[tactic(auto, using(crate::proofs::Seating::comes_seated))]
+pub(crate) fn queue_seated(work: &mut Work, copies: Vec<PlainCopy>) -> Result<(), NodeFault>
+    ensures { ComesTo (λ x. x) result work.old work.new (Queues (seated work.old.held copies.items)) }
+{
+    queue_each(work, copies)
+}
+
 /// The copies join their sessions.
-pub(crate) fn queue_each(work: &mut Work, copies: Vec<PlainCopy>) -> Result<(), NodeFault>
-    ensures { Comes (λ x. x) result work.old work.new (Queues copies.items) }
+fn queue_each(work: &mut Work, copies: Vec<PlainCopy>) -> Result<(), NodeFault>
+    ensures { ComesTo (λ x. x) result work.old work.new (Queues copies.items) }
 {
     for copy in copies {
         queue_one(work, copy)?;
@@ -122,7 +132,7 @@ pub(crate) fn queue_each(work: &mut Work, copies: Vec<PlainCopy>) -> Result<(), 
 
 /// A copy joins its session.
 fn queue_one(work: &mut Work, copy: PlainCopy) -> Result<(), NodeFault>
-    ensures { Comes (λ x. x) result work.old work.new (QueuesOne copy) }
+    ensures { ComesTo (λ x. x) result work.old work.new (QueuesOne copy) }
 {
     let PlainCopy { client, delivery } = copy;
     let _reaction = work.queue(&client, delivery)?;
@@ -132,7 +142,7 @@ fn queue_one(work: &mut Work, copy: PlainCopy) -> Result<(), NodeFault>
 /// What is made of a message.
 fn made_of(work: &Work, message: &SharedMessage) -> Result<Made, NodeFault>
     ensures ok { IfOk result (λ made.
-        IsPassed work.now.place work.now.held message.now made.copies.items made.lost (routes_to work.now.place message.now made.to)) }
+        IsPassed work.now.place work.now.held message.now (seated work.now.held made.copies.items) made.lost (routes_to work.now.place message.now made.to)) }
     ensures fault { IfErr result (λ e. e ≡ NoMemory) }
 {
     let held = work.held();
@@ -148,7 +158,7 @@ fn made_of(work: &Work, message: &SharedMessage) -> Result<Made, NodeFault>
     let count = homed.len();
     let homed = seated(held, homed);
     let lost = (count - homed.len()) as u64;
-    let copies = joined(seated(held, plain), homed)?;
+    let copies = joined(plain, homed)?;
     Ok(Made { copies, lost, to })
 }
 
@@ -158,6 +168,7 @@ fn destinations_of(
     matching: &[&Entry],
     picks: &[GroupPick],
 ) -> Result<Destinations, NodeFault>
+    requires { AreShared picks.now }
     ensures ok { IfOk result (λ to. (others work.now.place ≡ []) ⊎ AreFor work.now.held.homes (referents matching.now) picks.now to) }
     ensures fault { IfErr result (λ e. e ≡ NoMemory) }
 {
@@ -211,7 +222,7 @@ fn is_home(work: &Work, client: &Text) -> bool
 
 /// The picks whose clients have their home here, as copies.
 fn homed_of(work: &Work, picks: Vec<GroupPick>) -> Result<Vec<PlainCopy>, NodeFault>
-    ensures ok { IfOk result (λ out. IsHomed work.now.place work.now.held picks.items out.items) }
+    ensures ok { IfOk result (λ out. PicksAreHomed work.now.place work.now.held picks.items out.items) }
     ensures fault { IfErr result (λ e. e ≡ NoMemory) }
 {
     let mut out = Vec::new(work.alloc());
@@ -248,7 +259,7 @@ fn lacks_room(work: &Work, message: &Message) -> bool
 /// Passes a will on, unless it is retained and there is no room for its topic: then it takes no memory.
 pub fn pass_will(work: &mut Work, message: Message) -> Result<(), NodeFault>
     ensures memory { lacks_room message work.old.held ≡ true → IsOk result }
-    ensures comes { Comes (λ x. x) result work.old work.new (PassesWill message) }
+    ensures comes { ComesTo (λ x. x) result work.old work.new (PassesWill message) }
 {
     if lacks_room(work, &message) {
         work.drop_retained()

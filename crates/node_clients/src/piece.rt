@@ -2,10 +2,10 @@
 
 ghost use Rattle.std.specs.Prelude.{◌≡◌, false, IsOk, None, Ok};
 ghost use Rattle.mqtt_packets.specs.Written.{HasSpelling};
-ghost use Rattle.node_clients.specs.Pieces.{Piece, Leaves, LeavesBy, Takes, First, Answers, AnswersIfOpen, BreaksIfOpen, Shuts};
+ghost use Rattle.node_clients.specs.Pieces.{Piece, Leaves, LeavesBy, TakesPackets, AnswersFirstPacket, AnswersPacket, AnswersIfOpen, BreaksIfOpen, Shuts};
 ghost use Rattle.node_work.specs.Held.Connections.{is_open, client_at};
 ghost use Rattle.node_work.specs.Packets.{AreSpelled};
-ghost use Rattle.node_work.specs.Working.{Comes, Each, Looks};
+ghost use Rattle.node_work.specs.Working.{ComesTo, Each, Looks};
 
 use crate::connect::connect;
 use crate::ending::{close, close_by, part};
@@ -14,10 +14,10 @@ use crate::stream_fault::{break_off, client_of};
 use mqtt_packets::{Fed, Packet, PacketFault};
 use node_work::{Came, NodeFault, Work};
 
-/// Takes in a piece of a connection's stream, and answers its packets. For a connection that isn't open nothing is done.
+/// TakesPackets in a piece of a connection's stream, and answers its packets. For a connection that isn't open nothing is done.
 pub fn take_piece(work: &mut Work, connection: u64, bytes: &[u8]) -> Result<(), NodeFault>
     ensures idle { is_open connection work.old.held ≡ false → (result ≡ Ok tt) × (work.new ≡ work.old) }
-    ensures comes { Comes (λ x. x) result work.old work.new (Piece connection bytes.now) }
+    ensures comes { ComesTo (λ x. x) result work.old work.new (Piece connection bytes.now) }
 {
     match work.feed(connection, bytes)? {
         Came::Nothing => Ok(()),
@@ -28,13 +28,13 @@ pub fn take_piece(work: &mut Work, connection: u64, bytes: &[u8]) -> Result<(), 
 
 /// Closes a connection whose stream has failed.
 fn shut(work: &mut Work, connection: u64) -> Result<(), NodeFault>
-    ensures { Comes (λ x. x) result work.old work.new (Shuts connection) }
+    ensures { ComesTo (λ x. x) result work.old work.new (Shuts connection) }
 {
     let client = client_of(work, connection)?;
     close_by(work, connection, client.as_ref())
 }
 
-/// Answers packets, and then the fault.
+/// AnswersPacket packets, and then the fault.
 fn take(
     work: &mut Work,
     connection: u64,
@@ -42,16 +42,16 @@ fn take(
     fault: Option<PacketFault>,
 ) -> Result<(), NodeFault>
     requires { AreSpelled packets.now }
-    ensures { Comes (λ x. x) result work.old work.new (Takes connection packets.now fault) }
+    ensures { ComesTo (λ x. x) result work.old work.new (TakesPackets connection packets.now fault) }
 {
     answer_each(work, connection, packets)?;
     break_if_open(work, connection, fault)
 }
 
-/// Answers the packets in turn. What follows the close of the connection is dropped.
+/// AnswersPacket the packets in turn. What follows the close of the connection is dropped.
 fn answer_each(work: &mut Work, connection: u64, packets: &[Packet]) -> Result<(), NodeFault>
     requires { AreSpelled packets.now }
-    ensures { Comes (λ x. x) result work.old work.new (Each (AnswersIfOpen connection) packets.now) }
+    ensures { ComesTo (λ x. x) result work.old work.new (Each (AnswersIfOpen connection) packets.now) }
 {
     for packet in packets {
         answer_if_open(work, connection, packet)?;
@@ -59,10 +59,10 @@ fn answer_each(work: &mut Work, connection: u64, packets: &[Packet]) -> Result<(
     Ok(())
 }
 
-/// Answers a packet, while its connection is open.
+/// AnswersPacket a packet, while its connection is open.
 fn answer_if_open(work: &mut Work, connection: u64, packet: &Packet) -> Result<(), NodeFault>
     requires { HasSpelling packet.now }
-    ensures { Comes (λ x. x) result work.old work.new (AnswersIfOpen connection packet.now) }
+    ensures { ComesTo (λ x. x) result work.old work.new (AnswersIfOpen connection packet.now) }
 {
     if !work.held().is_open(connection) {
         return Ok(());
@@ -70,10 +70,10 @@ fn answer_if_open(work: &mut Work, connection: u64, packet: &Packet) -> Result<(
     answer(work, connection, packet)
 }
 
-/// Answers a packet, by whether the client of its connection is accepted.
+/// AnswersPacket a packet, by whether the client of its connection is accepted.
 fn answer(work: &mut Work, connection: u64, packet: &Packet) -> Result<(), NodeFault>
     requires { HasSpelling packet.now }
-    ensures { Comes (λ x. x) result work.old work.new (Answers connection packet.now) }
+    ensures { ComesTo (λ x. x) result work.old work.new (AnswersPacket connection packet.now) }
 {
     match client_of(work, connection)? {
         Some(client) => serve(work, connection, &client, packet),
@@ -81,10 +81,10 @@ fn answer(work: &mut Work, connection: u64, packet: &Packet) -> Result<(), NodeF
     }
 }
 
-/// Answers the first packet of a connection. One that isn't a CONNECT closes it.
+/// AnswersPacket the first packet of a connection. One that isn't a CONNECT closes it.
 fn answer_first(work: &mut Work, connection: u64, packet: &Packet) -> Result<(), NodeFault>
     requires { HasSpelling packet.now }
-    ensures { Comes (λ x. x) result work.old work.new (First connection packet.now) }
+    ensures { ComesTo (λ x. x) result work.old work.new (AnswersFirstPacket connection packet.now) }
 {
     match packet {
         Packet::Connect(request) => connect(work, connection, request),
@@ -92,13 +92,13 @@ fn answer_first(work: &mut Work, connection: u64, packet: &Packet) -> Result<(),
     }
 }
 
-/// Answers the fault of a stream, while its connection is open.
+/// AnswersPacket the fault of a stream, while its connection is open.
 fn break_if_open(
     work: &mut Work,
     connection: u64,
     fault: Option<PacketFault>,
 ) -> Result<(), NodeFault>
-    ensures { Comes (λ x. x) result work.old work.new (BreaksIfOpen connection fault) }
+    ensures { ComesTo (λ x. x) result work.old work.new (BreaksIfOpen connection fault) }
 {
     let Some(fault) = fault else {
         return Ok(());
@@ -114,7 +114,7 @@ fn break_if_open(
 pub fn leave(work: &mut Work, connection: u64) -> Result<(), NodeFault>
     ensures idle { is_open connection work.old.held ≡ false → (result ≡ Ok tt) × (work.new ≡ work.old) }
     ensures memory { client_at connection work.old.held ≡ None → IsOk result }
-    ensures comes { Comes (λ x. x) result work.old work.new (Leaves connection) }
+    ensures comes { ComesTo (λ x. x) result work.old work.new (Leaves connection) }
 {
     if !work.held().is_open(connection) {
         return Ok(());
@@ -125,7 +125,7 @@ pub fn leave(work: &mut Work, connection: u64) -> Result<(), NodeFault>
 /// The client of an open connection has closed it.
 fn leave_open(work: &mut Work, connection: u64) -> Result<(), NodeFault>
     ensures memory { client_at connection work.old.held ≡ None → IsOk result }
-    ensures comes { Comes (λ x. x) result work.old work.new (Looks (λ p h. client_at connection h) (LeavesBy connection)) }
+    ensures comes { ComesTo (λ x. x) result work.old work.new (Looks (λ p h. client_at connection h) (LeavesBy connection)) }
 {
     let client = client_of(work, connection)?;
     work.close(connection)?;

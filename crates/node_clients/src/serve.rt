@@ -6,9 +6,9 @@ ghost use Rattle.mqtt_fields.specs.Numbers.{IsText};
 ghost use Rattle.mqtt_packets.specs.Written.{HasSpelling};
 ghost use Rattle.mqtt_sessions.specs.Aliases.{alias_of, alias_topic, filled};
 ghost use Rattle.node_clients.specs.Passing.{Drops};
-ghost use Rattle.node_clients.specs.Serving.{Serves, SubscribesBy, UnsubscribesBy, DoesAsked, DoesReaction, IsNameOf, room_for, takes_topic, is_dropped};
+ghost use Rattle.node_clients.specs.Serving.{ServesPacket, SubscribesBy, UnsubscribesBy, DoesAsked, DoesReaction, IsNameOf, room_for, takes_topic, is_dropped};
 ghost use Rattle.node_work.specs.Held.Sessions.{aliases_at};
-ghost use Rattle.node_work.specs.Working.{Comes, If, Returns};
+ghost use Rattle.node_work.specs.Working.{ComesTo, If, Returns};
 ghost use Rattle.node_work.specs.declared.fault.NodeFault.TheVariants.{NoMemory};
 
 use crate::ending::close_after;
@@ -35,7 +35,7 @@ pub fn serve(
     packet: &Packet,
 ) -> Result<(), NodeFault>
     requires { HasSpelling packet.now }
-    ensures { Comes (λ x. x) result work.old work.new (Serves connection client.now packet.now) }
+    ensures { ComesTo (λ x. x) result work.old work.new (ServesPacket connection client.now packet.now) }
 {
     let room = room_for(work.alloc(), client, packet, work.held())?;
     let reaction = work.packet(client, packet, room)?;
@@ -52,7 +52,7 @@ fn react(
     reaction: Reaction,
 ) -> Result<(), NodeFault>
     requires { HasSpelling packet.now }
-    ensures { Comes (λ x. x) result work.old work.new (DoesReaction connection client.now packet.now room reaction) }
+    ensures { ComesTo (λ x. x) result work.old work.new (DoesReaction connection client.now packet.now room reaction) }
 {
     let end = reaction.end;
     let dropped = is_dropped(packet, room, end);
@@ -70,7 +70,7 @@ fn do_asked(
     packet: &Packet,
 ) -> Result<(), NodeFault>
     requires { HasSpelling packet.now }
-    ensures { Comes (λ x. x) result work.old work.new (DoesAsked ask dropped connection client.now packet.now) }
+    ensures { ComesTo (λ x. x) result work.old work.new (DoesAsked ask dropped connection client.now packet.now) }
 {
     match ask {
         None => drop_if(work, dropped),
@@ -81,7 +81,7 @@ fn do_asked(
 }
 
 fn drop_if(work: &mut Work, dropped: bool) -> Result<(), NodeFault>
-    ensures { Comes (λ x. x) result work.old work.new (If dropped Drops (Returns tt)) }
+    ensures { ComesTo (λ x. x) result work.old work.new (If dropped Drops (Returns tt)) }
 {
     if dropped {
         return work.drop_retained();
@@ -96,7 +96,7 @@ fn subscribe_by(
     packet: &Packet,
 ) -> Result<(), NodeFault>
     requires { HasSpelling packet.now }
-    ensures { Comes (λ x. x) result work.old work.new (SubscribesBy connection client.now packet.now) }
+    ensures { ComesTo (λ x. x) result work.old work.new (SubscribesBy connection client.now packet.now) }
 {
     match packet {
         Packet::Subscribe(request) => subscribe(work, connection, client, request),
@@ -111,7 +111,7 @@ fn unsubscribe_by(
     packet: &Packet,
 ) -> Result<(), NodeFault>
     requires { HasSpelling packet.now }
-    ensures { Comes (λ x. x) result work.old work.new (UnsubscribesBy connection client.now packet.now) }
+    ensures { ComesTo (λ x. x) result work.old work.new (UnsubscribesBy connection client.now packet.now) }
 {
     match packet {
         Packet::Unsubscribe(request) => unsubscribe(work, connection, client, request),

@@ -4,7 +4,7 @@ ghost use Rattle.std.specs.Prelude.{◌≡◌, None, Some, IfOk, IfErr, IsOk};
 ghost use Rattle.std.specs.Option.{option_copied};
 ghost use Rattle.node_clients.specs.Pieces.{Breaks, TellsBy, SendsRefusal, SendsDisconnect, is_connect, disconnect_code, connack_code};
 ghost use Rattle.node_work.specs.Held.Connections.{client_at};
-ghost use Rattle.node_work.specs.Working.{Comes};
+ghost use Rattle.node_work.specs.Working.{ComesTo};
 ghost use Rattle.node_work.specs.declared.fault.NodeFault.TheVariants.{NoMemory};
 
 use crate::ending::close_by;
@@ -17,7 +17,7 @@ const CONNECT: u8 = 1;
 
 /// Tells a client which fault its stream has, and closes its connection.
 pub fn break_off(work: &mut Work, connection: u64, fault: PacketFault) -> Result<(), NodeFault>
-    ensures { Comes (λ x. x) result work.old work.new (Breaks connection fault) }
+    ensures { ComesTo (λ x. x) result work.old work.new (Breaks connection fault) }
 {
     let client = client_of(work, connection)?;
     tell(work, connection, fault, client.as_ref())?;
@@ -44,7 +44,7 @@ fn tell(
     fault: PacketFault,
     client: Option<&Text>,
 ) -> Result<(), NodeFault>
-    ensures { Comes (λ x. x) result work.old work.new (TellsBy connection fault (option_copied client.entry)) }
+    ensures { ComesTo (λ x. x) result work.old work.new (TellsBy connection fault (option_copied client.entry)) }
 {
     if let Some(client) = client {
         return send_disconnect(work, connection, client, fault);
@@ -72,7 +72,7 @@ fn send_disconnect(
     client: &Text,
     fault: PacketFault,
 ) -> Result<(), NodeFault>
-    ensures { Comes (λ x. x) result work.old work.new (SendsDisconnect connection client.now (disconnect_code fault)) }
+    ensures { ComesTo (λ x. x) result work.old work.new (SendsDisconnect connection client.now (disconnect_code fault)) }
 {
     let reason = disconnect_reason(fault)?;
     work.disconnect(connection, client, reason)
@@ -80,7 +80,7 @@ fn send_disconnect(
 
 /// Sends the CONNACK of a fault.
 fn send_refusal(work: &mut Work, connection: u64, fault: PacketFault) -> Result<(), NodeFault>
-    ensures { Comes (λ x. x) result work.old work.new (SendsRefusal connection (connack_code fault)) }
+    ensures { ComesTo (λ x. x) result work.old work.new (SendsRefusal connection (connack_code fault)) }
 {
     let reason = connack_reason(fault)?;
     let packet = refused(work.alloc(), reason, None)?;

@@ -5,9 +5,9 @@ ghost use Rattle.std.specs.List.{AllByRecursion};
 ghost use Rattle.mqtt_packets.specs.declared.packet.Packet.TheVariants as packets;
 ghost use Rattle.mqtt_packets.specs.Written.{HasSpelling};
 ghost use Rattle.node_clients.specs.Parsing.{IsFilterOf};
-ghost use Rattle.node_clients.specs.Subscribing.{Acknowledges, Grants, GrantsBy, Subscribes, SubscribesTo, entry_of, granted, has_most, identifier_of, reasons_of, stands, wants_retained};
+ghost use Rattle.node_clients.specs.Subscribing.{SendsSuback, Grants, GrantsBy, ServesSubscribe, SubscribesTo, entry_of, granted, has_most, identifier_of, reasons_of, stands, wants_retained};
 ghost use Rattle.node_work.specs.Held.Calling.{MayAnswer};
-ghost use Rattle.node_work.specs.Working.{Comes, InTurn, Looks};
+ghost use Rattle.node_work.specs.Working.{ComesTo, InTurn, Looks};
 ghost use Rattle.node_work.specs.declared.fault.NodeFault.TheVariants.{NoMemory};
 ghost use Rattle.subscription_set.specs.Entries.{can_be_asked};
 
@@ -41,7 +41,7 @@ pub fn subscribe(
     request: &Subscribe,
 ) -> Result<(), NodeFault>
     requires { HasSpelling (packets.Subscribe request.now) }
-    ensures { Comes (λ x. x) result work.old work.new (Subscribes connection client.now request.now) }
+    ensures { ComesTo (λ x. x) result work.old work.new (ServesSubscribe connection client.now request.now) }
 {
     let identifier = identifier_of(request);
     let grants = grant_each(work, client, request.filters.as_slice(), identifier)?;
@@ -57,7 +57,7 @@ fn acknowledge(
     grants: &[Granted],
 ) -> Result<(), NodeFault>
     requires { MayAnswer packet (reasons_of grants.now) }
-    ensures { Comes (λ x. x) result work.old work.new (Acknowledges connection client.now packet grants.now) }
+    ensures { ComesTo (λ x. x) result work.old work.new (SendsSuback connection client.now packet grants.now) }
 {
     let reasons = reasons_of(work.alloc(), grants)?;
     let reaction = work.answer(client, packet, &reasons)?;
@@ -107,7 +107,7 @@ fn grant_each(
     identifier: u32,
 ) -> Result<Vec<Granted>, NodeFault>
     requires { AllByRecursion (λ f. can_be_asked f.options identifier ≡ true) filters.now }
-    ensures { Comes (λ v. v.items) result work.old work.new (InTurn (Grants client.now identifier) filters.now []) }
+    ensures { ComesTo (λ v. v.items) result work.old work.new (InTurn (Grants client.now identifier) filters.now []) }
 {
     let mut grants = Vec::new(work.alloc());
     for each in filters {
@@ -125,7 +125,7 @@ fn grant(
     identifier: u32,
 ) -> Result<Granted, NodeFault>
     requires { can_be_asked asked.now.options identifier ≡ true }
-    ensures { Comes (λ x. x) result work.old work.new (Grants client.now identifier asked.now) }
+    ensures { ComesTo (λ x. x) result work.old work.new (Grants client.now identifier asked.now) }
 {
     match filter_of(work.alloc(), &asked.filter)? {
         Some(filter) => grant_filter(work, client, filter, asked, identifier),
@@ -146,7 +146,7 @@ fn grant_filter(
 ) -> Result<Granted, NodeFault>
     requires same { filter ≡ asked.now.filter }
     requires asked { can_be_asked asked.now.options identifier ≡ true }
-    ensures { Comes (λ x. x) result work.old work.new (Looks (λ p h. stands client.now asked.now.filter h) (GrantsBy client.now identifier asked.now)) }
+    ensures { ComesTo (λ x. x) result work.old work.new (Looks (λ p h. stands client.now asked.now.filter h) (GrantsBy client.now identifier asked.now)) }
 {
     let stood = work.held().stands(client, Some(&filter));
     if is_full(work.held().store(), client, stood) {
@@ -170,7 +170,7 @@ fn subscribe_to(
 ) -> Result<(), NodeFault>
     requires same { filter.now ≡ asked.now.filter }
     requires asked { can_be_asked asked.now.options identifier ≡ true }
-    ensures { Comes (λ x. x) result work.old work.new (SubscribesTo client.now identifier asked.now) }
+    ensures { ComesTo (λ x. x) result work.old work.new (SubscribesTo client.now identifier asked.now) }
 {
     let version = work.homes().version();
     let entry = entry_of(work.alloc(), client, asked, filter, identifier, version)?;

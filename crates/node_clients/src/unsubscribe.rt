@@ -3,9 +3,9 @@
 ghost use Rattle.std.specs.Prelude.{◌≡◌, cond, []};
 ghost use Rattle.mqtt_packets.specs.declared.packet.Packet.TheVariants as packets;
 ghost use Rattle.mqtt_packets.specs.Written.{HasSpelling};
-ghost use Rattle.node_clients.specs.Unsubscribing.{Acknowledges, Unsubscribed, Unsubscribes};
+ghost use Rattle.node_clients.specs.Unsubscribing.{SendsUnsuback, Unsubscribed, ServesUnsubscribe};
 ghost use Rattle.node_work.specs.Held.Calling.{MayAnswer};
-ghost use Rattle.node_work.specs.Working.{Comes, InTurn};
+ghost use Rattle.node_work.specs.Working.{ComesTo, InTurn};
 
 use crate::ending::close_after;
 use crate::subscribe::filter_of;
@@ -21,7 +21,7 @@ pub fn unsubscribe(
     request: &Unsubscribe,
 ) -> Result<(), NodeFault>
     requires { HasSpelling (packets.Unsubscribe request.now) }
-    ensures { Comes (λ x. x) result work.old work.new (Unsubscribes connection client.now request.now) }
+    ensures { ComesTo (λ x. x) result work.old work.new (ServesUnsubscribe connection client.now request.now) }
 {
     let reasons = remove_each(work, client, request.filters.as_slice())?;
     acknowledge(work, connection, client, request.identifier, &reasons)
@@ -36,7 +36,7 @@ fn acknowledge(
     reasons: &[u8],
 ) -> Result<(), NodeFault>
     requires { MayAnswer packet reasons.now }
-    ensures { Comes (λ x. x) result work.old work.new (Acknowledges connection client.now packet reasons.now) }
+    ensures { ComesTo (λ x. x) result work.old work.new (SendsUnsuback connection client.now packet reasons.now) }
 {
     let reaction = work.answer(client, packet, reasons)?;
     close_after(work, reaction.end, connection, client)
@@ -44,7 +44,7 @@ fn acknowledge(
 
 /// Removes the client's subscriptions to each filter in turn, and answers the reasons.
 fn remove_each(work: &mut Work, client: &Text, filters: &[Text]) -> Result<Vec<u8>, NodeFault>
-    ensures { Comes (λ v. v.items) result work.old work.new (InTurn (Unsubscribed client.now) filters.now []) }
+    ensures { ComesTo (λ v. v.items) result work.old work.new (InTurn (Unsubscribed client.now) filters.now []) }
 {
     let mut reasons = Vec::new(work.alloc());
     for text in filters {
@@ -56,7 +56,7 @@ fn remove_each(work: &mut Work, client: &Text, filters: &[Text]) -> Result<Vec<u
 
 /// Removes the client's subscription to a filter, and answers the reason.
 fn remove(work: &mut Work, client: &Text, text: &Text) -> Result<u8, NodeFault>
-    ensures { Comes (λ x. x) result work.old work.new (Unsubscribed client.now text.now) }
+    ensures { ComesTo (λ x. x) result work.old work.new (Unsubscribed client.now text.now) }
 {
     let Some(filter) = filter_of(work.alloc(), text)? else {
         return Ok(reason::TOPIC_FILTER_INVALID);

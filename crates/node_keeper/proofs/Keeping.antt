@@ -7,7 +7,7 @@ use Rattle.broker_node.specs.Idle.{IsIdle, RestsWhereIdle}
 use Rattle.broker_node.specs.Step.{IsDone, may_move_in}
 use Rattle.broker_node.proofs.Tables.{moves_not_idle}
 use Rattle.home_table.specs.Table.{Table}
-use Rattle.node_keeper.specs.Keeping.{Commits, HasCauseAt, KeepsTable}
+use Rattle.node_keeper.specs.Keeping.{Commits, KeeperHasCauseAt, KeepsTable}
 use Rattle.node_keeper.specs.declared.fault.KeeperFault.TheVariants.{NoMemory, Rows}
 use Rattle.node_work.specs.Lasting.{held_row}
 use Rattle.node_work.specs.View.{HeldView, NodeView, Place}
@@ -44,9 +44,9 @@ idle_changes n h e o rests up below idle =
     (ap (λ (x : Outcome). x.outputs.items) same ∙ r.2, ap (λ (x : Outcome). x.changes.items) same ∙ r.3)
 
 -- so rows that can't be changed aren't met by an idle event
-pub write_cause : (n : NodeView) (e : Event) (o : Outcome) (n' : NodeView) (fault : RowFault) → RestsWhereIdle n e (Ok o) → IsDone n e o.outputs.items o.changes.items n' → ¬ (o.changes.items ≡ []) → HasCauseAt n.up n.place e (Rows fault)
+pub write_cause : (n : NodeView) (e : Event) (o : Outcome) (n' : NodeView) (fault : RowFault) → RestsWhereIdle n e (Ok o) → IsDone n e o.outputs.items o.changes.items n' → ¬ (o.changes.items ≡ []) → KeeperHasCauseAt n.up n.place e (Rows fault)
 write_cause n e o n' fault rests done some =
-    subst (λ (up : Option HeldView). HasCauseAt up n.place e (Rows fault)) (sym done.was) (done.steps.moment, λ idle. some (idle_changes n done.before e o rests done.was done.steps.moment idle).1)
+    subst (λ (up : Option HeldView). KeeperHasCauseAt up n.place e (Rows fault)) (sym done.was) (done.steps.moment, λ idle. some (idle_changes n done.before e o rests done.was done.steps.moment idle).1)
 
 -- a node whose step isn't written has the table that it had before it
 pub kept_table : (n n' : NodeView) (e : Event) (before : Option Table) → KeepsTable n e before → n'.place ≡ n.place → (may_move_in n.up e.kind ≡ false → n'.homes ≡ n.homes) → e.at < 2 ^ 62
@@ -56,6 +56,6 @@ kept_table n n' e None (inl none) place stays below = λ i. record { place = pla
 kept_table n n' e None (inr end) place stays below = absurd (omega (arith, end, below))
 
 -- where memory is wanting for it, the node has a cause to stop: the event isn't idle
-pub table_cause : (up : Option HeldView) (p : Place) (e : Event) → may_move_in up e.kind ≡ true → e.at < 2 ^ 62 → HasCauseAt up p e NoMemory
+pub table_cause : (up : Option HeldView) (p : Place) (e : Event) → may_move_in up e.kind ≡ true → e.at < 2 ^ 62 → KeeperHasCauseAt up p e NoMemory
 table_cause None p e moves below = cc
 table_cause (Some h) p e moves below = (below, λ idle. moves_not_idle p h e moves idle)

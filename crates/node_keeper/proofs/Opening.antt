@@ -7,7 +7,7 @@ use Rattle.std.specs.FinMap.{get-insert, get-empty, get-entries, get-from_entrie
 use Rattle.broker_node.specs.Opening.{IsOpenedFrom}
 use Rattle.home_table.specs.Table.{Table}
 use Rattle.mqtt_sessions.specs.Saved.{durable_of}
-use Rattle.node_keeper.specs.Keeping.{AreKept, AreLasting, AreOfNone, HaveOneVersion, IsReopened, LastsIn, OpeningKeepsWhatLasts, Opens, are_raised, given_mark, marked, may_be_raised, may_be_marked, only_mark}
+use Rattle.node_keeper.specs.Keeping.{AreKept, AreLasting, AreOfNone, HaveOneVersion, IsReopened, LastsIn, OpeningKeepsWhatLasts, OpensFromRows, are_raised, given_mark, marked, may_be_raised, may_be_marked, only_mark}
 use Rattle.node_rows.specs.Reading.{IsLasting, Say, SayNothing}
 use Rattle.node_rows.specs.Sessions.{Plain, opened_seat}
 use Rattle.node_rows.specs.Versions.{AreFirst, Raise, raised_all, raised_content}
@@ -132,7 +132,7 @@ say_lasting p rows mid c x some is (inl r) can (inr first) = (can, λ key. ap (�
 say_lasting p rows mid c x some is (inr r) can (inr first) = absurd (r.0 (subst AreFirst is first.first))
 
 pub opens : (id : ℕ) (homes : Table) (rows : List Row) (old mid c : Content) (n : NodeView) → given_mark id old mid → map_list entry_of rows ≡ map.entries mid → are_raised mid c → IsOpenedFrom rows id homes n
-    → Opens (place_of id homes) homes old c n
+    → OpensFromRows (place_of id homes) homes old c n
 opens id homes rows old mid c n m is r o =
     let p = place_of id homes in
     let again : IsReopened p homes c n = record { lasting = o.lasting; held = o.held; are = say_lasting p rows mid c o.lasting (some_row id old mid m) is r o.can_last o.say; woken = o.woken; is = o.is } in

@@ -76,23 +76,23 @@ KeepsTable n e (Some homes) = (homes ≡ n.homes) × (length homes.nodes ≡ n.p
 KeepsTable n e None = (may_move_in n.up e.kind ≡ false) ⊎ (2 ^ 62 ≤ e.at)
 
 -- an event comes to nothing: nothing is given out, and nothing fails
-abbrev pub Rests : Result (Vec Output Global) KeeperFault → Type 0
-Rests result = (outputs : Vec Output Global) × (result ≡ Ok outputs) × (outputs.items ≡ [])
+abbrev pub KeeperRests : Result (Vec Output Global) KeeperFault → Type 0
+KeeperRests result = (outputs : Vec Output Global) × (result ≡ Ok outputs) × (outputs.items ≡ [])
 
 -- ---- faults
 
 -- why a node that runs stops: memory is wanting or the rows can't be written, at an event below 2^62 that isn't idle; or a
 -- number can't be had
-abbrev pub HasCause : Place → HeldView → Event → KeeperFault → Type 0
-HasCause p h e NoMemory = (e.at < 2 ^ 62) × (¬ IsIdle p h e)
-HasCause p h e (Rows fault) = (e.at < 2 ^ 62) × (¬ IsIdle p h e)
-HasCause p h e NumbersAtEnd = StopsAtEnd p h e
-HasCause p h e Stopped = ⊥
+abbrev pub KeeperHasCause : Place → HeldView → Event → KeeperFault → Type 0
+KeeperHasCause p h e NoMemory = (e.at < 2 ^ 62) × (¬ IsIdle p h e)
+KeeperHasCause p h e (Rows fault) = (e.at < 2 ^ 62) × (¬ IsIdle p h e)
+KeeperHasCause p h e NumbersAtEnd = StopsAtEnd p h e
+KeeperHasCause p h e Stopped = ⊥
 
 -- a node that has stopped answers so; another one has its cause
-abbrev pub HasCauseAt : Option HeldView → Place → Event → KeeperFault → Type 0
-HasCauseAt None p e fault = fault ≡ Stopped
-HasCauseAt (Some h) p e fault = HasCause p h e fault
+abbrev pub KeeperHasCauseAt : Option HeldView → Place → Event → KeeperFault → Type 0
+KeeperHasCauseAt None p e fault = fault ≡ Stopped
+KeeperHasCauseAt (Some h) p e fault = KeeperHasCause p h e fault
 
 -- only a fault of the rows leaves them in doubt
 abbrev pub KeepsRows : {R : Type 0} → R → R → KeeperFault → Type 0
@@ -144,7 +144,7 @@ abbrev pub may_be_raised : ℕ → Content → Content → Type 0
 may_be_raised id rows rows' = may_be_marked id rows rows' ⊎ (AreFirst (map.entries rows) × (rows' ≡ raised_content rows))
 
 -- the node is opened: it has the rows in version 2, and its mark where there were none
-pub record Opens (p : Place) (homes : Table) (rows rows' : Content) (n : NodeView) : Type 0 where
+pub record OpensFromRows (p : Place) (homes : Table) (rows rows' : Content) (n : NodeView) : Type 0 where
   pub mark : marked p.id rows rows'
   pub reopened : IsReopened p homes rows' n
   pub kept : AreKept n rows'

@@ -4,7 +4,7 @@ ghost use Rattle.std.specs.Prelude.{◌≡◌, ◌≢◌, ◌<◌, ◌≤◌, �
 ghost use Rattle.std.specs.Option.{unwrap_or};
 ghost use Rattle.broker_node.specs.Idle.{IsIdle};
 ghost use Rattle.broker_node.specs.Step.{IsAtEnd, may_move_in};
-ghost use Rattle.node_keeper.specs.Keeping.{AreOfNone, CannotOpen, Commits, GivesOut, HasCauseAt, IsCounted, KeepsRows, KeepsTable, MayBeLeft, Opens, Rests, may_be_raised, may_be_marked};
+ghost use Rattle.node_keeper.specs.Keeping.{AreOfNone, CannotOpen, Commits, GivesOut, KeeperHasCauseAt, IsCounted, KeepsRows, KeepsTable, MayBeLeft, OpensFromRows, KeeperRests, may_be_raised, may_be_marked};
 ghost use Rattle.node_keeper.specs.declared.fault.KeeperFault.TheVariants as faults;
 ghost use Rattle.node_work.specs.View.{HeldView, place_of};
 ghost use Rattle.row_store.specs.Rows.{Content};
@@ -59,7 +59,7 @@ fn lose(node: &mut Node, before: Option<HomeTable>)
 impl<R: RowStore> Keeper<R> {
     ghost use Rattle.node_keeper.specs.Views.{node_of, rows_of};
 
-    /// Opens a node from its rows: its table of homes, and its number. Where there are no rows it first writes the mark, and
+    /// OpensFromRows a node from its rows: its table of homes, and its number. Where there are no rows it first writes the mark, and
     /// rows of version 1 it writes as rows of version 2 before it answers. A fault gives the rows back; they are what they
     /// were, but for the mark.
     pub fn open(
@@ -72,7 +72,7 @@ impl<R: RowStore> Keeper<R> {
         ensures place { IfOk result (λ k. (node_of k).place ≡ place_of id homes) }
         ensures homes { IfOk result (λ k. (node_of k).homes ≡ homes) }
         ensures ok { IfOk result (λ k. R.is_clean (rows_of k) → R.is_open rows
-            → R.is_open (rows_of k) × Opens (place_of id homes) homes (R.content rows) (R.content (rows_of k)) (node_of k)) }
+            → R.is_open (rows_of k) × OpensFromRows (place_of id homes) homes (R.content rows) (R.content (rows_of k)) (node_of k)) }
         ensures err { IfErr result (λ e. R.is_clean e.1 → R.is_open e.1 → may_be_marked id (R.content rows) (R.content e.1)) }
         ensures bad { IfErr result (λ e. R.is_clean e.1 → R.is_open rows → e.0 ≡ faults.Rows RowFault.BadRow
             → AreOfNone (place_of id homes) (R.content e.1)) }
@@ -87,12 +87,12 @@ impl<R: RowStore> Keeper<R> {
         }
     }
 
-    /// Opens the node again from its rows: a restart, also of a node that runs. After a fault it is down.
+    /// OpensFromRows the node again from its rows: a restart, also of a node that runs. After a fault it is down.
     pub fn reopen(&mut self) -> Result<(), KeeperFault>
         ensures place { (node_of self.new).place ≡ (node_of self.old).place }
         ensures homes { (node_of self.new).homes ≡ (node_of self.old).homes }
         ensures ok { R.is_clean (rows_of self.new) → R.is_open (rows_of self.old)
-            → OnOk result (R.is_open (rows_of self.new) × Opens (node_of self.old).place (node_of self.old).homes (R.content (rows_of self.old)) (R.content (rows_of self.new)) (node_of self.new)) }
+            → OnOk result (R.is_open (rows_of self.new) × OpensFromRows (node_of self.old).place (node_of self.old).homes (R.content (rows_of self.old)) (R.content (rows_of self.new)) (node_of self.new)) }
         ensures down { OnErr result ((node_of self.new) ≡ record (node_of self.old) { up = None }) }
         ensures err { R.is_clean (rows_of self.new) → R.is_open (rows_of self.new)
             → OnErr result (may_be_marked (node_of self.old).place.id (R.content (rows_of self.old)) (R.content (rows_of self.new))) }
@@ -126,14 +126,14 @@ impl<R: RowStore> Keeper<R> {
         ensures ok { R.is_clean (rows_of self.new) → R.is_open (rows_of self.old)
             → IfOk result (λ outputs. R.is_open (rows_of self.new) × Commits (node_of self.old) (R.content (rows_of self.old)) event.now outputs.items (node_of self.new) (R.content (rows_of self.new))) }
         ensures given { IfOk result (λ outputs. GivesOut (node_of self.old) event.now outputs.items (node_of self.new)) }
-        ensures idle { (h : HeldView) → (node_of self.old).up ≡ Some h → event.now.at < 2 ^ 62 → IsIdle (node_of self.old).place h event.now → Rests result × ((rows_of self.new) ≡ (rows_of self.old)) }
+        ensures idle { (h : HeldView) → (node_of self.old).up ≡ Some h → event.now.at < 2 ^ 62 → IsIdle (node_of self.old).place h event.now → KeeperRests result × ((rows_of self.new) ≡ (rows_of self.old)) }
         ensures end { is_some (node_of self.old).up ≡ true → 2 ^ 62 ≤ event.now.at → result ≡ Err faults.NumbersAtEnd }
         ensures exactly { IsAtEnd (node_of self.old) event.now → ¬ IsOk result }
         ensures down { OnErr result ((node_of self.new) ≡ record (node_of self.old) { up = None }) }
         ensures err { R.is_clean (rows_of self.new) → R.is_open (rows_of self.new) → OnErr result (R.content (rows_of self.new) ≡ R.content (rows_of self.old)) }
         ensures kept { IfErr result (KeepsRows (rows_of self.old) (rows_of self.new)) }
         ensures crash { R.is_clean (rows_of self.new) → R.is_open (rows_of self.old) → (c : Content) → R.may_leave (rows_of self.new) c → MayBeLeft (node_of self.old) (R.content (rows_of self.old)) event.now c }
-        ensures cause { IfErr result (HasCauseAt (node_of self.old).up (node_of self.old).place event.now) }
+        ensures cause { IfErr result (KeeperHasCauseAt (node_of self.old).up (node_of self.old).place event.now) }
         ensures bad { result ≢ Err (faults.Rows RowFault.BadRow) }
         ensures device { IsErrOf result (faults.Rows RowFault.Device) → IsCounted (R.failed (rows_of self.old)) (R.failed (rows_of self.new)) }
         ensures counts { result ≢ Err (faults.Rows RowFault.Device) → R.failed (rows_of self.new) ≡ R.failed (rows_of self.old) }

@@ -2,7 +2,7 @@
 
 ghost use Rattle.std.specs.Prelude.{◌≡◌, ◌≢◌, ◌<◌, ◌⊎◌, length, map, OnOk, IfOk, OnErr, IsErrOf, Err};
 ghost use Rattle.std.specs.FinMap.{entries, insert};
-ghost use Rattle.node_keeper.specs.Keeping.{AreOfNone, IsCounted, Opens, are_raised, given_mark, may_be_raised, may_be_marked};
+ghost use Rattle.node_keeper.specs.Keeping.{AreOfNone, IsCounted, OpensFromRows, are_raised, given_mark, may_be_raised, may_be_marked};
 ghost use Rattle.node_rows.specs.Rows.{mark, mark_key};
 ghost use Rattle.node_work.specs.View.{place_of};
 ghost use Rattle.row_store.specs.Rows.{Content, entry_of};
@@ -75,7 +75,7 @@ fn write_raised<R: RowStore>(alloc: Global, rows: &mut R, loaded: &[Row]) -> Res
     rows.apply(&changes)
 }
 
-/// Opens a node from its rows, as `Keeper::open` does.
+/// OpensFromRows a node from its rows, as `Keeper::open` does.
 pub fn wake<R: RowStore>(
     alloc: Global,
     rows: &mut R,
@@ -86,7 +86,7 @@ pub fn wake<R: RowStore>(
     ensures place { IfOk result (λ n. n.place ≡ place_of id homes) }
     ensures homes { IfOk result (λ n. n.homes ≡ homes) }
     ensures ok { R.is_clean rows.new → R.is_open rows.old
-        → IfOk result (λ n. R.is_open rows.new × Opens (place_of id homes) homes (R.content rows.old) (R.content rows.new) n) }
+        → IfOk result (λ n. R.is_open rows.new × OpensFromRows (place_of id homes) homes (R.content rows.old) (R.content rows.new) n) }
     ensures err { R.is_clean rows.new → R.is_open rows.new → OnErr result (may_be_marked id (R.content rows.old) (R.content rows.new)) }
     ensures bad { R.is_clean rows.new → R.is_open rows.old → IsErrOf result RowFault.BadRow → AreOfNone (place_of id homes) (R.content rows.new) }
     ensures crash { R.is_clean rows.new → R.is_open rows.old → (c : Content) → R.may_leave rows.new c → may_be_raised id (R.content rows.old) c }

@@ -9,15 +9,15 @@ use Rattle.session_laws.specs.Runs.{Step, Reacts, Run}
 use Rattle.session_laws.proofs.ReopenedLaws.{reopens}
 use Rattle.session_table.specs.Seats.{Seat, Seats, begun}
 use Rattle.finite_maps.proofs.Texts.{same_text, get_inserted, get_apart, get_removed, get_left}
-use Rattle.node_work.specs.Acts.{Act, Moment, Began, Moved, Store, Connection, Session, Bridge, Out, Named, Acknowledged, Passed, Dropped, Allowed, next}
+use Rattle.node_work.specs.Acts.{Act, MomentTaken, Began, Moved, Store, Connection, Session, Bridge, Out, Named, Acknowledged, Passed, Dropped, Allowed, next}
 use Rattle.node_work.specs.Held.Connections.{ConnectionAct, Opened, Fed, Accepted, Closed}
 use Rattle.node_work.specs.Held.Bridge.{BridgeAct, Put, Took, Got, Believed, Gave, Left_out, bridged}
 use Rattle.node_work.specs.Held.Sessions.{SessionAct, SessionStep, Begun, Called, Over, MayCall, called}
 use Rattle.node_work.specs.Lasting.{lasting, IsWoken}
 use Rattle.node_rows.specs.Sessions.{opened_seat}
 use Rattle.node_work.specs.View.{Place, HeldView, fresh}
-use Rattle.node_laws.specs.Moves.{Move, Did, Lost, Becomes, Moves}
-use Rattle.node_laws.specs.Lives.{is_client, step_in, after_call, after_act, lost_step, after_move, life, IsLived, MovesAreLives, FreshIsLived, SessionsAreRuns}
+use Rattle.node_laws.specs.Moves.{Move, Acted, Reopened, MovesTo, Moves}
+use Rattle.node_laws.specs.Lives.{is_client, step_in, after_call, after_act, lost_step, after_move, life, IsLived, MovesAreLives, FreshIsLived, SessionsOfMovesAreRuns}
 
 -- one more step of a run
 pub run_more : (a m b : State) (xs : List Step) (s : Step) → Run a xs m → Reacts m s.event s.reaction b → Run a (xs ++ s ∷ []) b
@@ -74,7 +74,7 @@ lived_bridge h (Gave f) lives lived = lived
 lived_bridge h (Left_out what) lives lived = lived
 
 pub lived_act : (p : Place) (h : HeldView) (a : Act) (lives : List ℕ → List Step) → Allowed p h a → IsLived lives h → IsLived (λ client. after_act client a (lives client)) (next h a)
-lived_act p h (Moment at) lives may lived = lived
+lived_act p h (MomentTaken at) lives may lived = lived
 lived_act p h Began lives may lived = lived
 lived_act p h (Moved homes) lives may lived = lived
 lived_act p h (Store a) lives may lived = lived
@@ -99,9 +99,9 @@ lived_lost h h' lives woken lived client seat is =
         subst (λ (v : Seat). Run (new_session client) (lives client ++ lost_step ∷ []) v.session) there
         (run_more (new_session client) old.session (state_in (durable_of old.session)) (lives client) lost_step (lived client old found) (reopens old.session))
 
-lived_move : (p : Place) (h : HeldView) (m : Move) (h' : HeldView) (lives : List ℕ → List Step) → Becomes p h m h' → IsLived lives h → IsLived (λ client. after_move client m (lives client)) h'
-lived_move p h (Did a) h' lives does lived = subst (IsLived (λ client. after_act client a (lives client))) (sym does.1) (lived_act p h a lives does.0 lived)
-lived_move p h Lost h' lives woken lived = lived_lost h h' lives woken lived
+lived_move : (p : Place) (h : HeldView) (m : Move) (h' : HeldView) (lives : List ℕ → List Step) → MovesTo p h m h' → IsLived lives h → IsLived (λ client. after_move client m (lives client)) h'
+lived_move p h (Acted a) h' lives does lived = subst (IsLived (λ client. after_act client a (lives client))) (sym does.1) (lived_act p h a lives does.0 lived)
+lived_move p h Reopened h' lives woken lived = lived_lost h h' lives woken lived
 
 pub moves_are_lives : MovesAreLives
 moves_are_lives = λ p h h' moves lives all lived. go p moves h h' lives all lived
@@ -114,5 +114,5 @@ moves_are_lives = λ p h h' moves lives all lived. go p moves h h' lives all liv
 pub fresh_is_lived : FreshIsLived
 fresh_is_lived = λ homes client seat is. absurd (no_seat seat (sym (map.get-empty {X = Seat} (slice_cmp nat_cmp) client) ∙ is))
 
-pub sessions_are_runs : SessionsAreRuns
+pub sessions_are_runs : SessionsOfMovesAreRuns
 sessions_are_runs = λ p homes h moves all. moves_are_lives p (fresh homes) h moves (λ client. []) all (fresh_is_lived homes)

@@ -9,7 +9,7 @@ use Rattle.node_rows.specs.Rows.{Lasting}
 use Rattle.node_work.specs.Acts.{Act, Runs}
 use Rattle.node_work.specs.Lasting.{IsWoken, lasting}
 use Rattle.node_work.specs.View.{Place, HeldView, woken}
-use Rattle.node_laws.specs.Moves.{Move, Did, Lost, Moves, did, ActsAreMoves, MovesLeadToOne}
+use Rattle.node_laws.specs.Moves.{Move, Acted, Reopened, Moves, did, ActsAreMoves, MovesLeadToOne}
 
 pub moves_join : (p : Place) (xs ys : List Move) (a m b : HeldView) → Moves p a xs m → Moves p m ys b → Moves p a (xs ++ ys) b
 moves_join p [] ys a m b r q = subst (λ v. Moves p v ys b) r q
@@ -32,5 +32,5 @@ moves_lead_to_one = λ p h a b moves r q. go p moves h a b r q
   where
     go : (p : Place) (moves : List Move) (h a b : HeldView) → Moves p h moves a → Moves p h moves b → a ≡ b
     go p [] h a b r q = r ∙ sym q
-    go p (Did x ∷ moves) h a b r q = go p moves q.0 a b (subst (λ v. Moves p v moves a) (r.1.1 ∙ sym q.1.1) r.2) q.2
-    go p (Lost ∷ moves) h a b r q = go p moves q.0 a b (subst (λ v. Moves p v moves a) (woken_one h.homes (lasting h) r.0 q.0 r.1 q.1) r.2) q.2
+    go p (Acted x ∷ moves) h a b r q = go p moves q.0 a b (subst (λ v. Moves p v moves a) (r.1.1 ∙ sym q.1.1) r.2) q.2
+    go p (Reopened ∷ moves) h a b r q = go p moves q.0 a b (subst (λ v. Moves p v moves a) (woken_one h.homes (lasting h) r.0 q.0 r.1 q.1) r.2) q.2

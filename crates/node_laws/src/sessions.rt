@@ -1,5 +1,5 @@
 //! The sessions of a node, by its acts and its losses.
-ghost use Rattle.node_laws.specs.Lives.{FreshIsLived, MovesAreLives, SessionsAreRuns};
+ghost use Rattle.node_laws.specs.Lives.{FreshIsLived, MovesAreLives, SessionsOfMovesAreRuns};
 ghost use Rattle.node_laws.specs.Moves.{ActsAreMoves, MovesLeadToOne};
 
 /// Acts of a node, one after the other, are moves of it.
@@ -26,5 +26,5 @@ pub fn fresh_is_lived()
 /// So each session of a node comes of a run from a new session, by the node's moves since it was first opened; and what is
 /// proved of every such run holds of it.
 pub fn sessions_are_runs()
-    ensures { SessionsAreRuns }
+    ensures { SessionsOfMovesAreRuns }
 {}

@@ -8,6 +8,7 @@ mod Walked
 mod Marks
 mod Counted
 mod Kept
+pub mod Naming
 mod Opening
 pub mod OneNode
 mod Reached

@@ -2,6 +2,7 @@
 ghost use Rattle.std.specs.Prelude.{◌≡◌, ◌<◌, ◌↔◌, IsTrue};
 ghost use Rattle.std.specs.FinMap as map;
 ghost use Rattle.std.specs.List.{All, AllByRecursion};
+ghost use Rattle.node_rows.specs.Naming as spec;
 ghost use Rattle.node_rows.specs.Reading.{AreAmong, IsAmong};
 
 use causal_context::{Context, Range};
@@ -41,4 +42,18 @@ pub(crate) fn is_among(nodes: u16, store: &ReplicaStore) -> bool
         return false;
     }
     stamps_among(nodes, store.retained())
+}
+
+/// Whether the dots name none but nodes of a cluster of so many. It takes no memory.
+pub fn are_dots_among(nodes: u16, dots: &Context) -> bool
+    ensures { result ≡ spec.dots_among nodes dots.now }
+{
+    dots_among(nodes, dots)
+}
+
+/// Whether the state names none but nodes of a cluster of so many. It takes no memory.
+pub fn is_state_among(nodes: u16, store: &ReplicaStore) -> bool
+    ensures { result ≡ spec.state_among nodes store.now }
+{
+    is_among(nodes, store)
 }

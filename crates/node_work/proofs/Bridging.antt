@@ -23,8 +23,8 @@ use Rattle.node_work.specs.Doings.{Misses, Puts, PutsBy}
 use Rattle.node_work.specs.Held.Bridge.{Put}
 use Rattle.node_work.specs.Lasting.{AreOpenedWith, held_row}
 use Rattle.node_work.specs.View.{Place, HeldView, WorkView}
-use Rattle.node_work.specs.Working.{Comes, Did, Doing, Stops, Acting}
-use Rattle.node_work.proofs.Telling.{Tell, TellsFrom, begins_then, lanes_tell, still_begin, tells_none, tells_of, tells_then}
+use Rattle.node_work.specs.Working.{ComesTo, Did, Doing, Stops, Acting}
+use Rattle.node_work.proofs.Telling.{Tell, TellsFrom, begins_then, lanes_tell, names_quiet, names_then, no_names, still_begin, tells_none, tells_of, tells_then}
 use Rattle.node_work.proofs.Working.{comes_looks, did_told}
 
 -- ---- a node that is opened
@@ -65,10 +65,11 @@ told_before w m w' P place held outputs tells d = record {
   given = d.given ∙ ap (λ os. os ++ gather output_in d.acts) outputs;
   tells = tells_then w m w' (tells_of w m tells) d.tells;
   begins = begins_then w m w' (tells_of w m tells) (still_begin w m tells) d.begins;
+  names = names_then w m w' [] d.acts place held (names_quiet w m [] tells place held) d.names;
   place = d.place ∙ place;
 }
 
-comes_before : (r : Result (Unit {0}) NodeFault) (w m w' : WorkView) (P : Option (Unit {0}) → Doing) → m.place ≡ w.place → m.held ≡ w.held → m.outputs ≡ w.outputs → Tell w m → Comes (λ x. x) r m w' P → Comes (λ x. x) r w w' P
+comes_before : (r : Result (Unit {0}) NodeFault) (w m w' : WorkView) (P : Option (Unit {0}) → Doing) → m.place ≡ w.place → m.held ≡ w.held → m.outputs ≡ w.outputs → Tell w m → ComesTo (λ x. x) r m w' P → ComesTo (λ x. x) r w w' P
 comes_before (Ok x) w m w' P place held outputs tells d = told_before w m w' (P (Some x)) place held outputs tells d
 comes_before (Err NumbersAtEnd) w m w' P place held outputs tells d = (d.0, told_before w m d.0 (P None) place held outputs tells d.1)
 comes_before (Err NoMemory) w m w' P place held outputs tells d = tt
@@ -90,18 +91,21 @@ module _ (w : WorkView) (h' : HeldView) (cs : List Change) (peer : ℕ) (m : For
       comes_looks (λ x. x) done w offered_to (λ p h. offer_to peer h.bridge) (PutsBy peer m) (Queued n) offer put
 
   -- too many wait
-  pub comes_full : (r : Result (Unit {0}) NodeFault) (w' : WorkView) → offer_to peer w.held.bridge ≡ Full → h' ≡ w.held → Comes (λ x. x) r offered_to w' (Misses LaneFull) → Comes (λ x. x) r w w' (Puts peer m)
+  pub comes_full : (r : Result (Unit {0}) NodeFault) (w' : WorkView) → offer_to peer w.held.bridge ≡ Full → h' ≡ w.held → ComesTo (λ x. x) r offered_to w' (Misses LaneFull) → ComesTo (λ x. x) r w w' (Puts peer m)
   comes_full r w' offer is d =
       comes_looks (λ x. x) r w w' (λ p h. offer_to peer h.bridge) (PutsBy peer m) Full offer
       (comes_before r w offered_to w' (Misses LaneFull) refl is refl (told_on w.held is refl refl refl) d)
 
 -- the numbers are at their end
-pub puts_at_end : (w w' : WorkView) (peer : ℕ) (m : Forward) → offer_to peer w.held.bridge ≡ AtEnd → Comes (λ x. x) (Err NumbersAtEnd) w w' (Puts peer m)
+pub puts_at_end : (w w' : WorkView) (peer : ℕ) (m : Forward) → offer_to peer w.held.bridge ≡ AtEnd → ComesTo (λ x. x) (Err NumbersAtEnd) w w' (Puts peer m)
 puts_at_end w w' peer m offer =
     let stopped : Result (Unit {0}) NodeFault = Err NumbersAtEnd in
     comes_looks (λ x. x) stopped w w' (λ p h. offer_to peer h.bridge) (PutsBy peer m) AtEnd offer
-    (w, record { acts = []; does = (refl, refl); runs = refl; given = sym (append-nil w.outputs); tells = tells_none w w refl refl; begins = λ old lead begins. begins; place = refl })
+    (w, record { acts = []; does = (refl, refl); runs = refl; given = sym (append-nil w.outputs); tells = tells_none w w refl refl; begins = λ old lead begins. begins; names = no_names w w [] refl; place = refl })
 
 -- ---- frames
 pub small : (n limit : ℕ) → n ≤ limit → nat_le n limit ≡ true
 small n limit h = grind (arith, nat_tests)
+
+pub large : (n limit : ℕ) → limit < n → nat_le n limit ≡ false
+large n limit h = grind (arith, nat_tests)

@@ -8,29 +8,24 @@ use Rattle.mqtt_sessions.specs.declared.fault.SessionFault.{SessionFault}
 use Rattle.mqtt_sessions.specs.declared.fault.SessionFault.TheVariants as faults
 use Rattle.mqtt_sessions.specs.Reaction.{Reaction, nothing}
 use Rattle.session_laws.specs.Runs.{Event}
-use Rattle.session_table.specs.Calls.{IsSpelledIf, stays}
+use Rattle.session_table.specs.Calls.{GoesTo, IsSpelledIf, reaction_of}
 use Rattle.session_table.specs.Seats.{Seat, Seats}
+use Rattle.session_table.specs.declared.call.Addressed.{Addressed}
+use Rattle.finite_maps.proofs.Texts.{get_inserted}
 use Rattle.row_changes.specs.Leading.{Rows}
 use Rattle.node_work.specs.declared.fault.NodeFault.{NodeFault}
 use Rattle.node_work.specs.declared.fault.NodeFault.TheVariants.{NoMemory, NumbersAtEnd, Stopped}
 use Rattle.node_work.specs.declared.outcome.Output.{Output}
 use Rattle.node_work.specs.Acts.{Session}
 use Rattle.node_work.specs.Calling.{Calls, CallsAt}
-use Rattle.node_work.specs.Held.Calling.{IsHeldCall, Reacted, reacted, fault_of}
+use Rattle.node_work.specs.Held.Calling.{IsHeldCall, Reacted, address_of, reacted, fault_of}
 use Rattle.node_work.specs.Held.Sessions.{SessionStep, Called, IsOn, HappensAt, counted, outputs_on}
 use Rattle.node_work.specs.View.{HeldView, WorkView}
 use Rattle.row_store.specs.declared.row.Change.{Change}
 use Rattle.session_table.specs.Rows.{LeadsOn}
 use Rattle.node_work.specs.Lasting.{held_row, work_row}
-use Rattle.node_work.specs.Working.{Did, Comes}
-use Rattle.node_work.proofs.Telling.{Tell, TellsFrom, sessions_tell, still_begin, tells_none, tells_of}
-
--- its packets go to the connection that the client is on afterwards
-abbrev pub GoesTo : Option ℕ → (Option ℕ → Option ℕ) → Option Seat → Type 0
-GoesTo to on found = (seat : Seat) → found ≡ Some seat → to ≡ on seat.connection
-
-pub goes_stays : (to : Option ℕ) (found : Option Seat) → to ≡ option_and_then (λ s. s.connection) found → GoesTo to stays found
-goes_stays to found e seat is = e ∙ ap (option_and_then (λ (s : Seat). s.connection)) is
+use Rattle.node_work.specs.Working.{Did, ComesTo}
+use Rattle.node_work.proofs.Telling.{Tell, TellsFrom, names_one, names_quiet, no_names, sessions_tell, still_begin, tells_none, tells_of}
 
 -- one more packet of a reaction
 pub sends_next : {A : Type 0} (f : ℕ → A → Output) (w m m' : WorkView) (xs : List A) (i : ℕ) (x : A) → i < length xs → x ≡ get_or xs i x → m ≡ record w { outputs = w.outputs ++ map_list (f w.held.at) (take i xs) }
@@ -50,7 +45,7 @@ both_tell id h h' before after (Err e) s is l = tt
 pub spelled_after : (client : List ℕ) (e : Event) (on : Option ℕ → Option ℕ) (h h' : HeldView) (called : Result (Option Reaction) SessionFault) → IsHeldCall client e on h called h' → IfOk called (IsSpelledIf h.at) → IfOk called (IsSpelledIf h'.at)
 spelled_after client e on h h' called k = subst (λ n. IfOk called (IsSpelledIf n)) (sym (ap (λ (v : HeldView). v.at) k.2))
 
-module _ (client : List ℕ) (event : ℕ → Event) (on : Option ℕ → Option ℕ) (to : Option ℕ) (w w' : WorkView) (h' : HeldView) (cs : List Change) where
+module _ (client : List ℕ) (event : ℕ → Event) (on : Option ℕ → Option ℕ) (w w' : WorkView) (h' : HeldView) (cs : List Change) where
   call_tells : (s : Seats) → h' ≡ record w.held { sessions = s } → LeadsOn w.held.sessions w.changes cs h'.sessions → w'.changes ≡ cs → work_row w' ≡ held_row w.place.id h' → Tell w w'
   call_tells s is l changes rows =
       let t = sessions_tell w.place.id w.held h' s w.changes cs is l in
@@ -67,18 +62,21 @@ module _ (client : List ℕ) (event : ℕ → Event) (on : Option ℕ → Option
         given = ap (λ (v : WorkView). v.outputs) e ∙ sym (append-nil w.outputs);
         tells = tells_of w w' (call_tells k.0 k.2 l (ap (λ (v : WorkView). v.changes) e) (ap work_row e));
         begins = still_begin w w' (call_tells k.0 k.2 l (ap (λ (v : WorkView). v.changes) e) (ap work_row e));
+        names = names_quiet w w' [] (call_tells k.0 k.2 l (ap (λ (v : WorkView). v.changes) e) (ap work_row e)) (ap (λ (v : WorkView). v.place) e) (ap (λ (v : WorkView). v.held) e ∙ held);
         place = ap (λ (v : WorkView). v.place) e;
       }
 
-  one_call : (r : Reaction) → IsHeldCall client (event w.held.at) on w.held (Ok (Some r)) h' → GoesTo to on (map.get w.held.sessions client) → ((before : Option ℕ) → IsOn (event w.held.at) before (on before)) → HappensAt w.held.at (event w.held.at)
-      → LeadsOn w.held.sessions w.changes cs h'.sessions → w' ≡ reacted to r (record w { held = h'; changes = cs }) → Did w w' (Calls client event on (Some r))
-  one_call r k goes is_on happens l e =
+  one_call : (a : Addressed) → IsHeldCall client (event w.held.at) on w.held (Ok (Some a.reaction)) h' → GoesTo client h'.sessions (Some a) → ((before : Option ℕ) → IsOn (event w.held.at) before (on before)) → HappensAt w.held.at (event w.held.at)
+      → LeadsOn w.held.sessions w.changes cs h'.sessions → w' ≡ reacted a.to a.reaction (record w { held = h'; changes = cs }) → Did w w' (Calls client event on (Some a.reaction))
+  one_call a k goes is_on happens l e =
+      let r = a.reaction in
       let seat = k.1.0 in
       let after = k.1.1 in
       let found = k.1.2 in
       let step : SessionStep = record { client = client; on = on seat.connection; at = w.held.at; event = event w.held.at; reaction = r; after = after } in
-      let there : to ≡ on seat.connection = goes seat found in
       let held : h' ≡ record w.held { sessions = map.insert w.held.sessions client (record { session = after; connection = on seat.connection }) } = k.2 ∙ (λ i. record w.held { sessions = k.1.4 i }) in
+      let at : map.get h'.sessions client ≡ Some (record { session = after; connection = on seat.connection }) = ap (λ (h : HeldView). map.get h.sessions client) held ∙ get_inserted w.held.sessions client (record { session = after; connection = on seat.connection }) in
+      let there : a.to ≡ on seat.connection = goes ∙ ap (option_and_then (λ (x : Seat). x.connection)) at in
       record {
         acts = Session (Called step) ∷ [];
         does = subst (λ o. CallsAt client event on o (Some r) w.place w.held (Session (Called step) ∷ [])) (sym found) (inr (r, after, refl, k.1.3, refl));
@@ -95,6 +93,8 @@ module _ (client : List ℕ) (event : ℕ → Event) (on : Option ℕ → Option
             ∙ ap (λ os. w.outputs ++ os) (sym (append-nil (outputs_on (on seat.connection) w.held.at r)));
         tells = tells_of w w' (call_tells k.0 k.2 l (ap (λ (v : WorkView). v.changes) e) (ap work_row e));
         begins = still_begin w w' (call_tells k.0 k.2 l (ap (λ (v : WorkView). v.changes) e) (ap work_row e));
+        names = names_one w w' (Session (Called step)) (call_tells k.0 k.2 l (ap (λ (v : WorkView). v.changes) e) (ap work_row e)) (ap (λ (v : WorkView). v.place) e)
+            (ap (λ (v : WorkView). v.held) e ∙ ap (λ (h : HeldView). record h { counts = counted r.full h.counts }) held);
         place = ap (λ (v : WorkView). v.place) e;
       }
 
@@ -107,17 +107,18 @@ module _ (client : List ℕ) (event : ℕ → Event) (on : Option ℕ → Option
     given = sym (append-nil w.outputs);
     tells = tells_none w w refl refl;
     begins = λ old lead begins. begins;
+    names = no_names w w [] refl;
     place = refl;
   }
 
-  call_fault : (f : SessionFault) → IsHeldCall client (event w.held.at) on w.held (Err f) h' → Comes (λ x. x) (Err (fault_of f)) w w' (Calls client event on)
+  call_fault : (f : SessionFault) → IsHeldCall client (event w.held.at) on w.held (Err f) h' → ComesTo (λ x. x) (Err (fault_of f)) w w' (Calls client event on)
   call_fault faults.NoMemory k = tt
   call_fault faults.NumbersAtEnd k = (w, call_stops k)
   call_fault faults.Spent k = absurd k.1
   call_fault faults.BadRow k = absurd k.1
 
-  pub comes_call : (called : Result (Option Reaction) SessionFault) (r : Result Reaction NodeFault) → IsHeldCall client (event w.held.at) on w.held called h' → OnOk called (LeadsOn w.held.sessions w.changes cs h'.sessions) → GoesTo to on (map.get w.held.sessions client) → ((before : Option ℕ) → IsOn (event w.held.at) before (on before))
-      → HappensAt w.held.at (event w.held.at) → Reacted to called r (record w { held = h'; changes = cs }) w' → Comes (λ x. x) r w w' (Calls client event on)
+  pub comes_call : (called : Result (Option Addressed) SessionFault) (r : Result Reaction NodeFault) → IsHeldCall client (event w.held.at) on w.held (reaction_of called) h' → OnOk called (LeadsOn w.held.sessions w.changes cs h'.sessions) → IfOk called (GoesTo client h'.sessions) → ((before : Option ℕ) → IsOn (event w.held.at) before (on before))
+      → HappensAt w.held.at (event w.held.at) → Reacted (address_of called) (reaction_of called) r (record w { held = h'; changes = cs }) w' → ComesTo (λ x. x) r w w' (Calls client event on)
   comes_call (Ok None) (Ok x) k l goes is_on happens d = subst (λ y. Did w w' (Calls client event on (Some y))) (sym d.0) (no_call k l d.1)
   comes_call (Ok (Some a)) (Ok x) k l goes is_on happens d = subst (λ y. Did w w' (Calls client event on (Some y))) (sym d.0) (one_call a k goes is_on happens l d.1)
   comes_call (Ok None) (Err NoMemory) k l goes is_on happens d = tt
@@ -126,4 +127,4 @@ module _ (client : List ℕ) (event : ℕ → Event) (on : Option ℕ → Option
   comes_call (Ok (Some a)) (Err NumbersAtEnd) k l goes is_on happens d = absurd (let z : NumbersAtEnd ≡ NoMemory = d in cc)
   comes_call (Ok None) (Err Stopped) k l goes is_on happens d = absurd (let z : Stopped ≡ NoMemory = d in cc)
   comes_call (Ok (Some a)) (Err Stopped) k l goes is_on happens d = absurd (let z : Stopped ≡ NoMemory = d in cc)
-  comes_call (Err f) r k l goes is_on happens d = subst (λ q. Comes (λ x. x) q w w' (Calls client event on)) (sym d.0) (call_fault f k)
+  comes_call (Err f) r k l goes is_on happens d = subst (λ q. ComesTo (λ x. x) q w w' (Calls client event on)) (sym d.0) (call_fault f k)

@@ -1,7 +1,7 @@
 -- The table of homes through the acts of a node.
 use Rattle.std.proofs.Common.{◌≡◌, List, [], ◌∷◌, ◌++◌, refl, sym, ap, subst, ◌∙◌}
 use Rattle.home_table.specs.Table.{Table, IsTable}
-use Rattle.node_work.specs.Acts.{Act, Moment, Began, Moved, Store, Connection, Session, Bridge, Out, Named, Acknowledged, Passed, Dropped, Allowed, Runs, gather, moved_in, next}
+use Rattle.node_work.specs.Acts.{Act, MomentTaken, Began, Moved, Store, Connection, Session, Bridge, Out, Named, Acknowledged, Passed, Dropped, Allowed, Runs, gather, moved_in, next}
 use Rattle.node_work.specs.Held.Bridge.{BridgeAct, Put, Took, Got, Believed, Gave, Left_out, bridged}
 use Rattle.node_work.specs.Held.Connections.{ConnectionAct, Opened, Fed, Accepted, Closed, connected}
 use Rattle.node_work.specs.Held.Sessions.{SessionAct, Begun, Called, Over, called}
@@ -28,7 +28,7 @@ bridge_homes h (Left_out what) = refl
 
 -- an act takes another table, or leaves the one that there is
 pub homes_by : (P : Table → Type 0) (p : Place) (h : HeldView) (a : Act) → Allowed p h a → ((t : Table) → a ≡ Moved t → P t) → P h.homes → P (next h a).homes
-homes_by P p h (Moment at) may taken old = old
+homes_by P p h (MomentTaken at) may taken old = old
 homes_by P p h Began may taken old = old
 homes_by P p h (Moved homes) may taken old = taken homes refl
 homes_by P p h (Store a) may taken old = old

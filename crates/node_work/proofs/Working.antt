@@ -10,8 +10,8 @@ use Rattle.node_work.specs.declared.outcome.Output.{Output}
 use Rattle.node_work.specs.Lasting.{held_row, work_row}
 use Rattle.node_work.specs.View.{Place, HeldView, WorkView}
 use Rattle.node_work.specs.Acts.{Act, Out, Allowed, Runs, next, gather, output_in}
-use Rattle.node_work.proofs.Telling.{Tell, TellsFrom, begins_same, begins_then, still_begin, tells_none, tells_of, tells_then, told_none}
-use Rattle.node_work.specs.Working.{Doing, Returns, Acting, Numbered, Looks, Finds, If, Where, Then, InTurn, Each, Did, Comes}
+use Rattle.node_work.proofs.Telling.{Tell, TellsFrom, begins_same, begins_then, names_one, names_then, no_names, still_begin, tells_none, tells_of, tells_then, told_none}
+use Rattle.node_work.specs.Working.{Doing, Returns, Acting, Numbered, Looks, FindsWhere, If, Where, Then, InTurn, Each, Did, ComesTo}
 
 pub gather-append : {A : Type 0} (f : Act → List A) (xs ys : List Act) → gather f (xs ++ ys) ≡ gather f xs ++ gather f ys
 gather-append f [] ys = refl
@@ -23,13 +23,13 @@ runs_join p (x ∷ xs) ys a m b r q = (r.0, r.1, runs_join p xs ys r.0 m b r.2 q
 
 -- nothing is done
 pub did_nothing : {A : Type 0} (w : WorkView) (x : A) → Did w w (Returns x (Some x))
-did_nothing w x = record { acts = []; does = (refl, refl); runs = refl; given = sym (append-nil w.outputs); tells = tells_none w w refl refl; begins = λ old lead begins. begins; place = refl }
+did_nothing w x = record { acts = []; does = (refl, refl); runs = refl; given = sym (append-nil w.outputs); tells = tells_none w w refl refl; begins = λ old lead begins. begins; names = no_names w w [] refl; place = refl }
 
 -- the same acts, as those of another relation
 pub did_as : (w w' : WorkView) (P Q : Doing) → ((acts : List Act) → P w.place w.held acts → Q w.place w.held acts) → Did w w' P → Did w w' Q
-did_as w w' P Q f d = record { acts = d.acts; does = f d.acts d.does; runs = d.runs; given = d.given; tells = d.tells; begins = d.begins; place = d.place }
+did_as w w' P Q f d = record { acts = d.acts; does = f d.acts d.does; runs = d.runs; given = d.given; tells = d.tells; begins = d.begins; names = d.names; place = d.place }
 
-pub comes_as : {T A : Type 0} (see : T → A) (r : Result T NodeFault) (w w' : WorkView) (P Q : Option A → Doing) → ((out : Option A) (acts : List Act) → P out w.place w.held acts → Q out w.place w.held acts) → Comes see r w w' P → Comes see r w w' Q
+pub comes_as : {T A : Type 0} (see : T → A) (r : Result T NodeFault) (w w' : WorkView) (P Q : Option A → Doing) → ((out : Option A) (acts : List Act) → P out w.place w.held acts → Q out w.place w.held acts) → ComesTo see r w w' P → ComesTo see r w w' Q
 comes_as see (Ok x) w w' P Q f d = did_as w w' (P (Some (see x))) (Q (Some (see x))) (f (Some (see x))) d
 comes_as see (Err NumbersAtEnd) w w' P Q f d = (d.0, did_as w d.0 (P None) (Q None) (f None) d.1)
 comes_as see (Err NoMemory) w w' P Q f d = tt
@@ -37,18 +37,18 @@ comes_as see (Err Stopped) w w' P Q f d = d
 
 -- by what holds
 module _ {T A : Type 0} (see : T → A) (r : Result T NodeFault) (w w' : WorkView) (X : Type 0) (P Q : Option A → Doing) where
-  pub comes_where : X → Comes see r w w' P → Comes see r w w' (Where X P Q)
+  pub comes_where : X → ComesTo see r w w' P → ComesTo see r w w' (Where X P Q)
   comes_where x d = comes_as see r w w' P (Where X P Q) (λ out acts p. inl (x, p)) d
 
-  pub comes_else : ¬ X → Comes see r w w' Q → Comes see r w w' (Where X P Q)
+  pub comes_else : ¬ X → ComesTo see r w w' Q → ComesTo see r w w' (Where X P Q)
   comes_else x d = comes_as see r w w' Q (Where X P Q) (λ out acts p. inr (x, p)) d
 
 -- by a test of what is held
 module _ {T A : Type 0} (see : T → A) (r : Result T NodeFault) (w w' : WorkView) (test : Place → HeldView → Bool) (P Q : Option A → Doing) where
-  pub comes_when : test w.place w.held ≡ true → Comes see r w w' P → Comes see r w w' (Looks test (λ b. If b P Q))
+  pub comes_when : test w.place w.held ≡ true → ComesTo see r w w' P → ComesTo see r w w' (Looks test (λ b. If b P Q))
   comes_when e d = comes_as see r w w' P (Looks test (λ b. If b P Q)) (λ out acts p. subst (λ b. If b P Q out w.place w.held acts) (sym e) p) d
 
-  pub comes_unless : test w.place w.held ≡ false → Comes see r w w' Q → Comes see r w w' (Looks test (λ b. If b P Q))
+  pub comes_unless : test w.place w.held ≡ false → ComesTo see r w w' Q → ComesTo see r w w' (Looks test (λ b. If b P Q))
   comes_unless e d = comes_as see r w w' Q (Looks test (λ b. If b P Q)) (λ out acts p. subst (λ b. If b P Q out w.place w.held acts) (sym e) p) d
 
 module _ {A B : Type 0} (P : Option A → Doing) (Q : A → Option B → Doing) where
@@ -61,33 +61,34 @@ module _ {A B : Type 0} (P : Option A → Doing) (Q : A → Option B → Doing) 
     given = e.given ∙ ap (λ fs. fs ++ gather output_in e.acts) d.given ∙ append_assoc w.outputs (gather output_in d.acts) (gather output_in e.acts) ∙ ap (λ fs. w.outputs ++ fs) (sym (gather-append output_in d.acts e.acts));
     tells = tells_then w m w' d.tells e.tells;
     begins = begins_then w m w' d.tells d.begins e.begins;
+    names = names_then w m w' d.acts e.acts d.place d.runs d.names e.names;
     place = e.place ∙ d.place;
   }
 
   pub did_stop : (w w' : WorkView) → Did w w' (P None) → Did w w' (Then P Q None)
-  did_stop w w' d = record { acts = d.acts; does = inl (refl, d.does); runs = d.runs; given = d.given; tells = d.tells; begins = d.begins; place = d.place }
+  did_stop w w' d = record { acts = d.acts; does = inl (refl, d.does); runs = d.runs; given = d.given; tells = d.tells; begins = d.begins; names = d.names; place = d.place }
 
   -- what comes of both parts
-  pub then_goes : {T : Type 0} (see : T → B) (r : Result T NodeFault) (w m w' : WorkView) (x : A) → Did w m (P (Some x)) → Comes see r m w' (Q x) → Comes see r w w' (Then P Q)
+  pub then_goes : {T : Type 0} (see : T → B) (r : Result T NodeFault) (w m w' : WorkView) (x : A) → Did w m (P (Some x)) → ComesTo see r m w' (Q x) → ComesTo see r w w' (Then P Q)
   then_goes see (Ok y) w m w' x d e = did_then w m w' x (Some (see y)) d e
   then_goes see (Err NumbersAtEnd) w m w' x d e = (e.0, did_then w m e.0 x None d e.1)
   then_goes see (Err NoMemory) w m w' x d e = tt
   then_goes see (Err Stopped) w m w' x d e = e
 
-  stops : {S T : Type 0} (look : S → A) (see : T → B) (f : NodeFault) (w w' : WorkView) → Comes look (Err f) w w' P → Comes see (Err f) w w' (Then P Q)
+  stops : {S T : Type 0} (look : S → A) (see : T → B) (f : NodeFault) (w w' : WorkView) → ComesTo look (Err f) w w' P → ComesTo see (Err f) w w' (Then P Q)
   stops look see NumbersAtEnd w w' d = (d.0, did_stop w d.0 d.1)
   stops look see NoMemory w w' d = tt
   stops look see Stopped w w' d = d
 
   -- the fault of the first part, handed on by a `?`
-  pub then_stops : {S T : Type 0} (look : S → A) (see : T → B) (r : Result T NodeFault) (f : NodeFault) (w w' : WorkView) → IsErrAnd r (λ e. e ≡ f) → Comes look (Err f) w w' P → Comes see r w w' (Then P Q)
+  pub then_stops : {S T : Type 0} (look : S → A) (see : T → B) (r : Result T NodeFault) (f : NodeFault) (w w' : WorkView) → IsErrAnd r (λ e. e ≡ f) → ComesTo look (Err f) w w' P → ComesTo see r w w' (Then P Q)
   then_stops look see r f w w' is d =
       let p = err_from_is_err_and r is in
-      subst (λ q. Comes see q w w' (Then P Q)) (sym p.1) (subst (λ e. Comes see (Err e) w w' (Then P Q)) (sym p.2) (stops look see f w w' d))
+      subst (λ q. ComesTo see q w w' (Then P Q)) (sym p.1) (subst (λ e. ComesTo see (Err e) w w' (Then P Q)) (sym p.2) (stops look see f w w' d))
 
 -- want of memory, handed on by a `?`
-pub comes_wanting : {T A : Type 0} (see : T → A) (r : Result T NodeFault) (w w' : WorkView) (P : Option A → Doing) → IsErrAnd r (λ e. e ≡ NoMemory) → Comes see r w w' P
-comes_wanting see r w w' P is = let p = err_from_is_err_and r is in subst (λ q. Comes see q w w' P) (sym p.1) (subst (λ e. Comes see (Err e) w w' P) (sym p.2) tt)
+pub comes_wanting : {T A : Type 0} (see : T → A) (r : Result T NodeFault) (w w' : WorkView) (P : Option A → Doing) → IsErrAnd r (λ e. e ≡ NoMemory) → ComesTo see r w w' P
+comes_wanting see r w w' P is = let p = err_from_is_err_and r is in subst (λ q. ComesTo see q w w' P) (sym p.1) (subst (λ e. ComesTo see (Err e) w w' P) (sym p.2) tt)
 
 -- what holds whatever the result
 pub on_ok_always : {T E X : Type 0} (r : Result T E) → X → OnOk r X
@@ -95,7 +96,7 @@ on_ok_always (Ok y) x = x
 on_ok_always (Err e) x = tt
 
 -- where only memory may be wanting
-pub comes_fine : {T A : Type 0} (see : T → A) (r : Result T NodeFault) (w w' : WorkView) (P : Option A → Doing) → OnOk r ((x : T) → Did w w' (P (Some (see x)))) → IfErr r (λ e. e ≡ NoMemory) → Comes see r w w' P
+pub comes_fine : {T A : Type 0} (see : T → A) (r : Result T NodeFault) (w w' : WorkView) (P : Option A → Doing) → OnOk r ((x : T) → Did w w' (P (Some (see x)))) → IfErr r (λ e. e ≡ NoMemory) → ComesTo see r w w' P
 comes_fine see (Ok x) w w' P d e = d x
 comes_fine see (Err NoMemory) w w' P d e = tt
 comes_fine see (Err NumbersAtEnd) w w' P d e = absurd (let z : NumbersAtEnd ≡ NoMemory = e in cc)
@@ -113,6 +114,7 @@ did_telling a w w' may place held outputs tells =
       given = outputs ∙ ap (λ os. w.outputs ++ os) (sym (append-nil (output_in x)));
       tells = tells_of w w' tells;
       begins = still_begin w w' tells;
+      names = names_one w w' x tells place held;
       place = place;
     }
 
@@ -126,7 +128,7 @@ did_act a w w' may quiet e =
     (told_none w w' (ap (λ (v : WorkView). v.changes) e) (ap work_row e ∙ quiet))
 
 pub comes_act : (r : Result (Unit {0}) NodeFault) (a : Place → HeldView → Act) (w w' : WorkView) → Allowed w.place w.held (a w.place w.held) → IsQuiet a w
-    → OnOk r (w' ≡ record w { held = next w.held (a w.place w.held); outputs = w.outputs ++ output_in (a w.place w.held) }) → IfErr r (λ e. e ≡ NoMemory) → Comes (λ x. x) r w w' (Acting a)
+    → OnOk r (w' ≡ record w { held = next w.held (a w.place w.held); outputs = w.outputs ++ output_in (a w.place w.held) }) → IfErr r (λ e. e ≡ NoMemory) → ComesTo (λ x. x) r w w' (Acting a)
 comes_act (Ok x) a w w' may quiet e f = did_act a w w' may quiet e
 comes_act (Err NoMemory) a w w' may quiet e f = tt
 comes_act (Err NumbersAtEnd) a w w' may quiet e f = absurd (let z : NumbersAtEnd ≡ NoMemory = f in cc)
@@ -137,7 +139,7 @@ module _ (a : Place → HeldView → Act) (w : WorkView) (h' : HeldView) (may : 
   pub did_silent : h' ≡ next w.held (a w.place w.held) → Did w (record w { held = h' }) (Acting a (Some tt))
   did_silent e = did_act a w (record w { held = h' }) may quiet (λ i. record w { held = e i; outputs = (sym (append-nil w.outputs) ∙ ap (λ os. w.outputs ++ os) (sym none)) i })
 
-  pub comes_silent : (r : Result (Unit {0}) NodeFault) → OnOk r (h' ≡ next w.held (a w.place w.held)) → IfErr r (λ e. e ≡ NoMemory) → Comes (λ x. x) r w (record w { held = h' }) (Acting a)
+  pub comes_silent : (r : Result (Unit {0}) NodeFault) → OnOk r (h' ≡ next w.held (a w.place w.held)) → IfErr r (λ e. e ≡ NoMemory) → ComesTo (λ x. x) r w (record w { held = h' }) (Acting a)
   comes_silent (Ok x) e f = did_silent e
   comes_silent (Err NoMemory) e f = tt
   comes_silent (Err NumbersAtEnd) e f = absurd (let z : NumbersAtEnd ≡ NoMemory = f in cc)
@@ -151,7 +153,7 @@ module _ (a : Place → HeldView → Act) (w : WorkView) (h' : HeldView) (cs : L
   pub did_told : h' ≡ next w.held (a w.place w.held) → TellsFrom (work_row w) w.changes cs (held_row w.place.id h') → Did w told (Acting a (Some tt))
   did_told e t = did_telling a w told may refl e (sym (append-nil w.outputs) ∙ ap (λ os. w.outputs ++ os) (sym none)) t
 
-  pub comes_told : (r : Result (Unit {0}) NodeFault) → OnOk r (h' ≡ next w.held (a w.place w.held)) → OnOk r (TellsFrom (work_row w) w.changes cs (held_row w.place.id h')) → IfErr r (λ e. e ≡ NoMemory) → Comes (λ x. x) r w told (Acting a)
+  pub comes_told : (r : Result (Unit {0}) NodeFault) → OnOk r (h' ≡ next w.held (a w.place w.held)) → OnOk r (TellsFrom (work_row w) w.changes cs (held_row w.place.id h')) → IfErr r (λ e. e ≡ NoMemory) → ComesTo (λ x. x) r w told (Acting a)
   comes_told (Ok x) e t f = did_told e t
   comes_told (Err NoMemory) e t f = tt
   comes_told (Err NumbersAtEnd) e t f = absurd (let z : NumbersAtEnd ≡ NoMemory = f in cc)
@@ -174,6 +176,7 @@ did_at_end at_end a w w' e same =
       given = ap (λ (v : WorkView). v.outputs) same ∙ sym (append-nil w.outputs);
       tells = tells_none w w' (ap (λ (v : WorkView). v.changes) same) (ap work_row same);
       begins = begins_same w w' (ap (λ (v : WorkView). v.changes) same);
+      names = no_names w w' [] (ap (λ (v : WorkView). v.changes) same);
       place = ap (λ (v : WorkView). v.place) same;
     }
 
@@ -189,7 +192,7 @@ drop_past (x ∷ xs) (suc i) h = drop_past xs i (omega (arith, h))
 abbrev pub Reaches : {B : Type 0} → WorkView → (Option B → Doing) → WorkView → (Option B → Doing) → Type 0
 Reaches {B} w P m Q = (out : Option B) (w' : WorkView) → Did m w' (Q out) → Did w w' (P out)
 
-pub reaches_comes : {T B : Type 0} (see : T → B) (r : Result T NodeFault) (w m w' : WorkView) (P Q : Option B → Doing) → Reaches w P m Q → Comes see r m w' Q → Comes see r w w' P
+pub reaches_comes : {T B : Type 0} (see : T → B) (r : Result T NodeFault) (w m w' : WorkView) (P Q : Option B → Doing) → Reaches w P m Q → ComesTo see r m w' Q → ComesTo see r w w' P
 reaches_comes see (Ok x) w m w' P Q h d = h (Some (see x)) w' d
 reaches_comes see (Err NumbersAtEnd) w m w' P Q h d = (d.0, h None d.0 d.1)
 reaches_comes see (Err NoMemory) w m w' P Q h d = tt
@@ -214,7 +217,7 @@ turn_next One w m m' P xs i x d given given' y below at h did e =
 
 -- one that stops
 pub turn_stops : {A B S T : Type 0} (One : A → Option B → Doing) (look : S → B) (see : T → List B) (w m m' : WorkView) (P : Option (List B) → Doing) (xs : List A) (i : ℕ) (x d : A) (given : List B) → i < length xs → x ≡ get_or xs i d
-    → Reaches w P m (InTurn One (drop i xs) given) → (r : Result T NodeFault) (f : NodeFault) → IsErrAnd r (λ e. e ≡ f) → Comes look (Err f) m m' (One x) → Comes see r w m' P
+    → Reaches w P m (InTurn One (drop i xs) given) → (r : Result T NodeFault) (f : NodeFault) → IsErrAnd r (λ e. e ≡ f) → ComesTo look (Err f) m m' (One x) → ComesTo see r w m' P
 turn_stops One look see w m m' P xs i x d given below at h r f is comes =
     reaches_comes see r w m m' P (InTurn One (x ∷ drop (i + 1) xs) given) (subst (λ zs. Reaches w P m (InTurn One zs given)) (rest_at xs i x d below at) h)
     (then_stops (One x) (λ z. InTurn One (drop (i + 1) xs) (given ++ z ∷ [])) look see r f m m' is comes)
@@ -224,18 +227,18 @@ pub turn_ends : {A B : Type 0} (One : A → Option B → Doing) (w m : WorkView)
 turn_ends One w m P xs i given end h = subst (λ zs. Reaches w P m (InTurn One zs given)) (drop_past xs i end) h (Some given) m (did_nothing m given)
 
 -- by what is seen of what is held
-pub comes_looks : {T A B : Type 0} (look : T → B) (r : Result T NodeFault) (w w' : WorkView) (see : Place → HeldView → A) (P : A → Option B → Doing) (x : A) → see w.place w.held ≡ x → Comes look r w w' (P x) → Comes look r w w' (Looks see P)
+pub comes_looks : {T A B : Type 0} (look : T → B) (r : Result T NodeFault) (w w' : WorkView) (see : Place → HeldView → A) (P : A → Option B → Doing) (x : A) → see w.place w.held ≡ x → ComesTo look r w w' (P x) → ComesTo look r w w' (Looks see P)
 comes_looks look r w w' see P x e d = comes_as look r w w' (P x) (Looks see P) (λ out acts p. subst (λ y. P y out w.place w.held acts) (sym e) p) d
 
-pub comes_if_not : {T A : Type 0} (see : T → A) (r : Result T NodeFault) (w w' : WorkView) (b : Bool) (P Q : Option A → Doing) → b ≡ false → Comes see r w w' Q → Comes see r w w' (If b P Q)
+pub comes_if_not : {T A : Type 0} (see : T → A) (r : Result T NodeFault) (w w' : WorkView) (b : Bool) (P Q : Option A → Doing) → b ≡ false → ComesTo see r w w' Q → ComesTo see r w w' (If b P Q)
 comes_if_not see r w w' b P Q e d = comes_as see r w w' Q (If b P Q) (λ out acts p. subst (λ t. If t P Q out w.place w.held acts) (sym e) p) d
 
-pub comes_if : {T A : Type 0} (see : T → A) (r : Result T NodeFault) (w w' : WorkView) (b : Bool) (P Q : Option A → Doing) → b ≡ true → Comes see r w w' P → Comes see r w w' (If b P Q)
+pub comes_if : {T A : Type 0} (see : T → A) (r : Result T NodeFault) (w w' : WorkView) (b : Bool) (P Q : Option A → Doing) → b ≡ true → ComesTo see r w w' P → ComesTo see r w w' (If b P Q)
 comes_if see r w w' b P Q e d = comes_as see r w w' P (If b P Q) (λ out acts p. subst (λ t. If t P Q out w.place w.held acts) (sym e) p) d
 
 -- by what is found
-pub comes_finds : {T A B : Type 0} (look : T → B) (r : Result T NodeFault) (w w' : WorkView) (Is : Place → HeldView → A → Type 0) (P : A → Option B → Doing) (x : A) → Is w.place w.held x → Comes look r w w' (P x) → Comes look r w w' (Finds Is P)
-comes_finds look r w w' Is P x is d = comes_as look r w w' (P x) (Finds Is P) (λ out acts p. (x, is, p)) d
+pub comes_finds : {T A B : Type 0} (look : T → B) (r : Result T NodeFault) (w w' : WorkView) (Is : Place → HeldView → A → Type 0) (P : A → Option B → Doing) (x : A) → Is w.place w.held x → ComesTo look r w w' (P x) → ComesTo look r w w' (FindsWhere Is P)
+comes_finds look r w w' Is P x is d = comes_as look r w w' (P x) (FindsWhere Is P) (λ out acts p. (x, is, p)) d
 
 -- ---- each of a list
 pub each_next : {A : Type 0} (One : A → Option (Unit {0}) → Doing) (w m m' : WorkView) (P : Option (Unit {0}) → Doing) (xs : List A) (i : ℕ) (x d : A) → i < length xs → x ≡ get_or xs i d
@@ -244,7 +247,7 @@ each_next One w m m' P xs i x d below at h did =
     reaches_then w m m' P (One x) (λ _. Each One (drop (i + 1) xs)) tt (subst (λ zs. Reaches w P m (Each One zs)) (rest_at xs i x d below at) h) did
 
 pub each_stops : {A S T : Type 0} (One : A → Option (Unit {0}) → Doing) (look : S → Unit {0}) (see : T → Unit {0}) (w m m' : WorkView) (P : Option (Unit {0}) → Doing) (xs : List A) (i : ℕ) (x d : A) → i < length xs → x ≡ get_or xs i d
-    → Reaches w P m (Each One (drop i xs)) → (r : Result T NodeFault) (f : NodeFault) → IsErrAnd r (λ e. e ≡ f) → Comes look (Err f) m m' (One x) → Comes see r w m' P
+    → Reaches w P m (Each One (drop i xs)) → (r : Result T NodeFault) (f : NodeFault) → IsErrAnd r (λ e. e ≡ f) → ComesTo look (Err f) m m' (One x) → ComesTo see r w m' P
 each_stops One look see w m m' P xs i x d below at h r f is comes =
     reaches_comes see r w m m' P (Each One (x ∷ drop (i + 1) xs)) (subst (λ zs. Reaches w P m (Each One zs)) (rest_at xs i x d below at) h)
     (then_stops (One x) (λ _. Each One (drop (i + 1) xs)) look see r f m m' is comes)

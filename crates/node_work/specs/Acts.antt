@@ -33,7 +33,7 @@ pub data StoreAct : Type 0 where
 -- begins to offer the retained messages that answer a SUBSCRIBE, or to make the copies of a message, each of which is a call of a
 -- session after it, and to hand it to other nodes; or it drops a retained message for want of room
 pub data Act : Type 0 where
-  Moment : (at : ℕ) → Act
+  MomentTaken : (at : ℕ) → Act
   Began : Act
   Moved : (homes : Table) → Act
   Store : (a : StoreAct) → Act
@@ -88,7 +88,7 @@ AreAnswers h at grants offers = (at ≡ h.at) × AreOffered h.at (map.entries h.
 
 -- where each act may stand
 abbrev pub Allowed : Place → HeldView → Act → Type 0
-Allowed p h (Moment at) = Unit {0}
+Allowed p h (MomentTaken at) = Unit {0}
 Allowed p h Began = Unit {0}
 Allowed p h (Moved homes) = MayMove p h homes
 Allowed p h (Store a) = MayStore p.id h.homes.version h.store a
@@ -103,7 +103,7 @@ Allowed p h Dropped = Unit {0}
 
 -- what it leaves
 abbrev pub next : HeldView → Act → HeldView
-next h (Moment at) = record h { at = max h.at at }
+next h (MomentTaken at) = record h { at = max h.at at }
 next h Began = record h { started = true }
 next h (Moved homes) = record h { homes = homes }
 next h (Store a) = record h { store = stored h.store a; bridge = keeps (delta_in a) h.bridge }

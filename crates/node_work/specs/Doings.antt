@@ -20,7 +20,7 @@ use Rattle.replica_store.specs.Making.{put_of, subscribe_of}
 use Rattle.subscription_set.specs.declared.entry.Entry.{Entry}
 use Rattle.subscription_set.specs.Standing.{any_of, any_below}
 use Rattle.node_work.specs.declared.outcome.Output.TheVariants.{Send}
-use Rattle.node_work.specs.Acts.{Moment, Store, Made, Connection, Bridge, Out}
+use Rattle.node_work.specs.Acts.{MomentTaken, Store, Made, Connection, Bridge, Out}
 use Rattle.node_work.specs.Held.Bridge.{Put, Gave, Left_out}
 use Rattle.node_work.specs.Held.Connections.{Opened, is_open}
 use Rattle.node_work.specs.Held.Making.{number_at_end, put_at_end, removal, removal_below}
@@ -30,11 +30,11 @@ use Rattle.node_work.specs.Working.{Doing, Returns, Stops, Acting, Numbered, Loo
 
 -- a moment of 2^62 or later can't be had
 abbrev pub TakesMoment : ℕ → Option (Unit {0}) → Doing
-TakesMoment at = Numbered (λ p h. not (nat_lt at (2 ^ 62))) (λ p h. Moment at)
+TakesMoment at = Numbered (λ p h. not (nat_lt at (2 ^ 62))) (λ p h. MomentTaken at)
 
 -- a connection is opened where it isn't open
-abbrev pub Opens : ℕ → Option (Unit {0}) → Doing
-Opens c = Looks (λ p h. is_open c h) (λ is. If is (Returns tt) (Acting (λ p h. Connection (Opened c))))
+abbrev pub OpensConnection : ℕ → Option (Unit {0}) → Doing
+OpensConnection c = Looks (λ p h. is_open c h) (λ is. If is (Returns tt) (Acting (λ p h. Connection (Opened c))))
 
 -- ---- one operation
 abbrev pub MakesPut : Content → Option (Unit {0}) → Doing
@@ -105,5 +105,5 @@ is_small f = nat_le (length (content.bytes f)) limit
 abbrev pub GivesFrame : BridgeFrame → Option (Unit {0}) → Doing
 GivesFrame f = If (is_small f) (Acting (λ p h. Bridge (Gave f))) (Misses FrameTooLarge)
 
-abbrev pub Gives : ℕ → (HeldView → FrameBody) → Option (Unit {0}) → Doing
-Gives peer body = Looks (λ p h. record { from = p.id; to = peer; body = body h }) GivesFrame
+abbrev pub GivesBody : ℕ → (HeldView → FrameBody) → Option (Unit {0}) → Doing
+GivesBody peer body = Looks (λ p h. record { from = p.id; to = peer; body = body h }) GivesFrame

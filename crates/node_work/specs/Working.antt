@@ -3,7 +3,7 @@
 use Rattle.std.specs.Prelude.{◌≡◌, ℕ, Bool, cond, List, [], ◌∷◌, ◌++◌, Option, Some, None, Result, Ok, Err, ◌⊎◌}
 use Rattle.node_work.specs.declared.fault.NodeFault.{NodeFault}
 use Rattle.node_work.specs.declared.fault.NodeFault.TheVariants.{NoMemory, NumbersAtEnd, Stopped}
-use Rattle.node_work.specs.Lasting.{StillBegin, Tells}
+use Rattle.node_work.specs.Lasting.{NamesAltered, StillBegin, Tells}
 use Rattle.node_work.specs.View.{Place, HeldView, WorkView}
 use Rattle.node_work.specs.Acts.{Act, Runs, gather, output_in}
 
@@ -34,8 +34,8 @@ abbrev pub Looks : {A B : Type 0} → (Place → HeldView → A) → (A → Opti
 Looks see P out p h acts = P (see p h) out p h acts
 
 -- by what is so of what the node holds
-abbrev pub Finds : {A B : Type 0} → (Place → HeldView → A → Type 0) → (A → Option B → Doing) → Option B → Doing
-Finds {A} Is P out p h acts = (x : A) × Is p h x × P x out p h acts
+abbrev pub FindsWhere : {A B : Type 0} → (Place → HeldView → A → Type 0) → (A → Option B → Doing) → Option B → Doing
+FindsWhere {A} Is P out p h acts = (x : A) × Is p h x × P x out p h acts
 
 -- by a test
 abbrev pub If : {A : Type 0} → Bool → (Option A → Doing) → (Option A → Doing) → Option A → Doing
@@ -72,15 +72,16 @@ pub record Did (w w' : WorkView) (P : Doing) : Type 0 where
   pub given : w'.outputs ≡ w.outputs ++ gather output_in acts
   pub tells : Tells w w'
   pub begins : StillBegin w w'
+  pub names : NamesAltered w w' acts
   pub place : w'.place ≡ w.place
 
 -- work of a kind with its result; where a number can't be had nothing is said of what is left, and where memory is wanting
 -- nothing at all
-abbrev pub Comes : {T A : Type 0} → (T → A) → Result T NodeFault → WorkView → WorkView → (Option A → Doing) → Type 0
-Comes see (Ok x) w w' P = Did w w' (P (Some (see x)))
-Comes see (Err NumbersAtEnd) w w' P = (left : WorkView) × Did w left (P None)
-Comes see (Err NoMemory) w w' P = Unit {0}
-Comes see (Err Stopped) w w' P = ⊥
+abbrev pub ComesTo : {T A : Type 0} → (T → A) → Result T NodeFault → WorkView → WorkView → (Option A → Doing) → Type 0
+ComesTo see (Ok x) w w' P = Did w w' (P (Some (see x)))
+ComesTo see (Err NumbersAtEnd) w w' P = (left : WorkView) × Did w left (P None)
+ComesTo see (Err NoMemory) w w' P = Unit {0}
+ComesTo see (Err Stopped) w w' P = ⊥
 
 -- it succeeds, and so asked for no memory
 abbrev pub Succeeds : {T A : Type 0} → (T → A) → A → Result T NodeFault → Type 0

@@ -16,7 +16,8 @@ pub enum Output {
 }
 
 /// What comes of an event: what is given out, in order, and the changes of the node's rows that go before it, in the order of
-/// their keys, each of which is named once, and a session's own row only where it changes.
+/// their keys, each of which is named once, a session's own row only where it changes, and another one only where a part of the work
+/// on the event alters it.
 #[derive(Drop)]
 pub struct Outcome {
     pub outputs: Vec<Output>,

@@ -14,11 +14,11 @@ ghost use Rattle.session_laws.specs.Runs.{connects, queues, takes, answers, clos
 ghost use Rattle.subscription_set.specs.Standing.{any_of, any_below};
 ghost use Rattle.node_work.specs.Acts.{Began, Connection, Store, Merged, Session, Out, Named, Acknowledged, Passed, Dropped, Moved, MayMove, AreAnswers};
 ghost use Rattle.node_work.specs.Calling.{Calls};
-ghost use Rattle.node_work.specs.Doings.{TakesMoment, Opens, MakesPut, MakesSubscribe, Removes, RemovesBelow, Sends, Disconnects, Redirects};
+ghost use Rattle.node_work.specs.Doings.{TakesMoment, OpensConnection, MakesPut, MakesSubscribe, Removes, RemovesBelow, Sends, Disconnects, Redirects};
 ghost use Rattle.mqtt_sessions.specs.Answers.{fits};
-ghost use Rattle.node_work.specs.Held.Calling.{MayConnectHere, MayAnswer, Reacted};
+ghost use Rattle.node_work.specs.Held.Calling.{MayConnectHere, MayAnswer, Reacted, address_of};
 ghost use Rattle.mqtt_sessions.specs.Reaction.{AreSpelled};
-ghost use Rattle.session_table.specs.Calls.{IsSpelledIf, stays, leaves, moves};
+ghost use Rattle.session_table.specs.Calls.{IsSpelledIf, stays, leaves, moves, reaction_of};
 ghost use Rattle.session_table.specs.Rows.{own_kind};
 ghost use Rattle.node_work.specs.Held.Connections.{Opened, Accepted, Closed, is_open};
 ghost use Rattle.node_work.specs.Held.Feeding.{IsHeldFed};
@@ -33,7 +33,7 @@ ghost use Rattle.bridge_frames.specs.declared.forward.Forward.{Forward};
 ghost use Rattle.message_lanes.specs.Lanes.{Lanes};
 ghost use Rattle.message_routes.specs.declared.destinations.Route.{Route};
 ghost use Rattle.node_work.specs.View.{HeldView, place_of, woken};
-ghost use Rattle.node_work.specs.Working.{Comes, Acting, Numbered, Returns, If};
+ghost use Rattle.node_work.specs.Working.{ComesTo, Acting, Numbered, Returns, If};
 ghost use Rattle.node_work.specs.declared.granted.Granted.{Granted};
 ghost use Rattle.node_work.specs.declared.fault.NodeFault.TheVariants.{NoMemory, NumbersAtEnd};
 
@@ -52,6 +52,7 @@ use node_rows::{Opened, mark_row};
 use replica_store::{Content, ReplicaStore};
 use row_changes::gather;
 use row_store::Change;
+use session_table::Addressed;
 use std::alloc::Global;
 use std::marker::Model;
 use subscription_set::Entry;
@@ -197,7 +198,7 @@ impl Work {
 
     /// Takes a moment, unless a later one was taken. It takes no memory.
     pub fn take_moment(&mut self, at: u64) -> Result<(), NodeFault>
-        ensures comes { Comes (λ x. x) result self.old self.new (TakesMoment at) }
+        ensures comes { ComesTo (λ x. x) result self.old self.new (TakesMoment at) }
         ensures same { self.new.changes ≡ self.old.changes }
         ensures below { at < 2 ^ 62 → result ≡ Ok tt }
         ensures end { 2 ^ 62 ≤ at → result ≡ Err NumbersAtEnd }
@@ -211,7 +212,7 @@ impl Work {
 
     /// Begins the node's work.
     pub fn begin(&mut self) -> Result<(), NodeFault>
-        ensures comes { Comes (λ x. x) result self.old self.new (Acting (λ p h. Began)) }
+        ensures comes { ComesTo (λ x. x) result self.old self.new (Acting (λ p h. Began)) }
         ensures same { self.new.changes ≡ self.old.changes }
         ensures done { result ≡ Ok tt }
     {
@@ -222,7 +223,7 @@ impl Work {
     /// Takes another table of homes, which is newer and for as many nodes. It takes no memory.
     pub fn move_to(&mut self, homes: HomeTable) -> Result<(), NodeFault>
         requires { MayMove self.old.place self.old.held homes }
-        ensures comes { Comes (λ x. x) result self.old self.new (Acting (λ p h. Moved homes)) }
+        ensures comes { ComesTo (λ x. x) result self.old self.new (Acting (λ p h. Moved homes)) }
         ensures same { self.new.changes ≡ self.old.changes }
         ensures done { result ≡ Ok tt }
     {
@@ -233,7 +234,7 @@ impl Work {
     /// Makes a Subscribe of the entry, which is made under the version of the table of homes, and takes it.
     pub fn subscribe(&mut self, entry: Entry) -> Result<(), NodeFault>
         requires { entry.version ≡ self.old.held.homes.version }
-        ensures { Comes (λ x. x) result self.old self.new (MakesSubscribe entry) }
+        ensures { ComesTo (λ x. x) result self.old self.new (MakesSubscribe entry) }
     {
         self.held
             .subscribe(self.alloc, self.id, entry, &mut self.changes)
@@ -243,7 +244,7 @@ impl Work {
     /// it; or makes none where nothing stands, and then takes no memory. Answers whether something
     /// stood.
     pub fn remove(&mut self, client: &Text, filter: Option<&Filter>) -> Result<bool, NodeFault>
-        ensures comes { Comes (λ x. x) result self.old self.new (Removes client.now (option_copied filter.entry)) }
+        ensures comes { ComesTo (λ x. x) result self.old self.new (Removes client.now (option_copied filter.entry)) }
         ensures none { any_of client.now (option_copied filter.entry) self.old.held.store.subscriptions ≡ false → (result ≡ Ok false) × (self.new ≡ self.old) }
     {
         if !self.held.stands(client, filter) {
@@ -258,7 +259,7 @@ impl Work {
     /// below this one, and takes it; or makes none where nothing does, and then takes no memory.
     /// Answers whether something did.
     pub fn remove_below(&mut self, client: &Text, version: u64) -> Result<bool, NodeFault>
-        ensures comes { Comes (λ x. x) result self.old self.new (RemovesBelow client.now version) }
+        ensures comes { ComesTo (λ x. x) result self.old self.new (RemovesBelow client.now version) }
         ensures none { any_below client.now version self.old.held.store.subscriptions ≡ false → (result ≡ Ok false) × (self.new ≡ self.old) }
     {
         if !self.held.stands_below(client, version) {
@@ -271,7 +272,7 @@ impl Work {
 
     /// Makes a Put of the content, and takes it.
     pub fn put(&mut self, content: Content) -> Result<(), NodeFault>
-        ensures { Comes (λ x. x) result self.old self.new (MakesPut content) }
+        ensures { ComesTo (λ x. x) result self.old self.new (MakesPut content) }
     {
         self.held
             .put(self.alloc, self.id, content, &mut self.changes)
@@ -279,14 +280,14 @@ impl Work {
 
     /// Merges a state, and keeps it for the other nodes.
     pub fn merge(&mut self, state: ReplicaStore) -> Result<(), NodeFault>
-        ensures { Comes (λ x. x) result self.old self.new (Acting (λ p h. Store (Merged state))) }
+        ensures { ComesTo (λ x. x) result self.old self.new (Acting (λ p h. Store (Merged state))) }
     {
         self.held.merge(self.alloc, state, &mut self.changes)
     }
 
-    /// Opens a connection that isn't open.
+    /// OpensConnection a connection that isn't open.
     pub fn open(&mut self, connection: u64) -> Result<(), NodeFault>
-        ensures comes { Comes (λ x. x) result self.old self.new (Opens connection) }
+        ensures comes { ComesTo (λ x. x) result self.old self.new (OpensConnection connection) }
         ensures same { self.new.changes ≡ self.old.changes }
         ensures idle { is_open connection self.old.held ≡ true → (result ≡ Ok tt) × (self.new ≡ self.old) }
     {
@@ -308,7 +309,7 @@ impl Work {
 
     /// Gives an open connection its client.
     pub fn accept(&mut self, connection: u64, client: &Text) -> Result<(), NodeFault>
-        ensures comes { Comes (λ x. x) result self.old self.new (Acting (λ p h. Connection (Accepted connection client.now))) }
+        ensures comes { ComesTo (λ x. x) result self.old self.new (Acting (λ p h. Connection (Accepted connection client.now))) }
         ensures same { self.new.changes ≡ self.old.changes }
     {
         self.held.accept(self.alloc, connection, client)
@@ -325,7 +326,7 @@ impl Work {
 
     /// Takes a connection out. It takes no memory.
     pub fn close(&mut self, connection: u64) -> Result<(), NodeFault>
-        ensures comes { Comes (λ x. x) result self.old self.new (Acting (λ p h. Connection (Closed connection))) }
+        ensures comes { ComesTo (λ x. x) result self.old self.new (Acting (λ p h. Connection (Closed connection))) }
         ensures same { self.new.changes ≡ self.old.changes }
         ensures done { result ≡ Ok tt }
     {
@@ -335,7 +336,7 @@ impl Work {
 
     /// Tells a client that its connection is closed.
     pub fn tell_close(&mut self, connection: u64) -> Result<(), NodeFault>
-        ensures comes { Comes (λ x. x) result self.old self.new (Acting (λ p h. Out (Output.Close connection))) }
+        ensures comes { ComesTo (λ x. x) result self.old self.new (Acting (λ p h. Out (Output.Close connection))) }
         ensures same { self.new.changes ≡ self.old.changes }
     {
         self.give(Output::Close { connection })
@@ -344,7 +345,7 @@ impl Work {
     /// Sends a packet to a connection, unless it is longer than its client takes.
     pub fn send(&mut self, connection: u64, packet: &Packet, limit: u64) -> Result<(), NodeFault>
         requires { HasSpelling packet.now }
-        ensures comes { Comes (λ x. x) result self.old self.new (If (fits limit packet.now) (Sends connection packet.now) (Returns tt)) }
+        ensures comes { ComesTo (λ x. x) result self.old self.new (If (fits limit packet.now) (Sends connection packet.now) (Returns tt)) }
         ensures same { self.new.changes ≡ self.old.changes }
     {
         let bytes = written(self.alloc, packet)?;
@@ -362,7 +363,7 @@ impl Work {
         client: &Text,
         reason: u8,
     ) -> Result<(), NodeFault>
-        ensures comes { Comes (λ x. x) result self.old self.new (Disconnects connection client.now reason) }
+        ensures comes { ComesTo (λ x. x) result self.old self.new (Disconnects connection client.now reason) }
         ensures same { self.new.changes ≡ self.old.changes }
     {
         let Some(limit) = self.held.sessions().limit(client) else {
@@ -380,7 +381,7 @@ impl Work {
         client: &Text,
         address: Text,
     ) -> Result<(), NodeFault>
-        ensures comes { Comes (λ x. x) result self.old self.new (Redirects connection client.now address) }
+        ensures comes { ComesTo (λ x. x) result self.old self.new (Redirects connection client.now address) }
         ensures same { self.new.changes ≡ self.old.changes }
     {
         let Some(limit) = self.held.sessions().limit(client) else {
@@ -394,7 +395,7 @@ impl Work {
     pub fn name(&mut self, number: u64) -> Result<(), NodeFault>
         requires later { self.old.held.named < number }
         requires below { number < 2 ^ 62 }
-        ensures { Comes (λ x. x) result self.old self.new (Acting (λ p h. Named number)) }
+        ensures { ComesTo (λ x. x) result self.old self.new (Acting (λ p h. Named number)) }
     {
         let row = mark_row(self.alloc, self.id, number)?;
         self.changes.push(Change::Put(row))?;
@@ -405,7 +406,7 @@ impl Work {
     /// Begins to make the copies of a message, and to hand it to other nodes.
     pub fn pass(&mut self, lost: u64) -> Result<(), NodeFault>
         ensures comes { (m : Message) (copies : List Copy) (routes : List (ℕ × Route)) → IsPassed self.old.place self.old.held m copies lost routes
-            → Comes (λ x. x) result self.old self.new (Numbered turn_at_end (λ p h. Passed m copies lost routes)) }
+            → ComesTo (λ x. x) result self.old self.new (Numbered turn_at_end (λ p h. Passed m copies lost routes)) }
         ensures same { self.new.changes ≡ self.old.changes }
         ensures fault { IfErr result (λ e. e ≡ NumbersAtEnd) }
     {
@@ -419,7 +420,7 @@ impl Work {
     /// Begins to offer the retained messages that answer a SUBSCRIBE.
     pub fn acknowledge(&mut self) -> Result<(), NodeFault>
         ensures comes { (client : List ℕ) (packet : ℕ) (grants : List Granted) (offers : List Delivery) → AreAnswers self.old.held self.old.held.at grants offers
-            → Comes (λ x. x) result self.old self.new (Acting (λ p h. Acknowledged client packet h.at grants offers)) }
+            → ComesTo (λ x. x) result self.old self.new (Acting (λ p h. Acknowledged client packet h.at grants offers)) }
         ensures same { self.new.changes ≡ self.old.changes }
         ensures done { result ≡ Ok tt }
     {
@@ -428,7 +429,7 @@ impl Work {
 
     /// Drops a retained message for want of room.
     pub fn drop_retained(&mut self) -> Result<(), NodeFault>
-        ensures comes { Comes (λ x. x) result self.old self.new (Acting (λ p h. Dropped)) }
+        ensures comes { ComesTo (λ x. x) result self.old self.new (Acting (λ p h. Dropped)) }
         ensures same { self.new.changes ≡ self.old.changes }
         ensures done { result ≡ Ok tt }
     {
@@ -439,7 +440,7 @@ impl Work {
     /// Gives a client a session, where it has none.
     pub fn begin_session(&mut self, client: &Text) -> Result<(), NodeFault>
         requires { has_session client.now self.old.held ≡ false }
-        ensures { Comes (λ x. x) result self.old self.new (Acting (λ p h. Session (Begun client.now))) }
+        ensures { ComesTo (λ x. x) result self.old self.new (Acting (λ p h. Session (Begun client.now))) }
     {
         let client = client.copy(self.alloc)?;
         self.held.begin_session(client, &mut self.changes)
@@ -447,7 +448,7 @@ impl Work {
 
     /// Takes a client's session out.
     pub fn end_session(&mut self, client: &Text) -> Result<(), NodeFault>
-        ensures { Comes (λ x. x) result self.old self.new (Acting (λ p h. Session (Over client.now))) }
+        ensures { ComesTo (λ x. x) result self.old self.new (Acting (λ p h. Session (Over client.now))) }
     {
         self.held.end_session(client, &mut self.changes)
     }
@@ -455,18 +456,17 @@ impl Work {
     /// Sends what a session gives to the connection that its client is on, and counts a copy that it left out.
     fn react(
         &mut self,
-        on: Option<u64>,
-        called: Result<Option<Reaction>, SessionFault>,
+        called: Result<Option<Addressed>, SessionFault>,
     ) -> Result<Reaction, NodeFault>
-        requires { IfOk called (IsSpelledIf self.old.held.at) }
-        ensures { Reacted on called result self.old self.new }
+        requires { IfOk (reaction_of called) (IsSpelledIf self.old.held.at) }
+        ensures { Reacted (address_of called) (reaction_of called) result self.old self.new }
     {
         let found = called?;
-        let Some(reaction) = found else {
+        let Some(Addressed { reaction, to }) = found else {
             return Ok(nothing(self.alloc));
         };
         self.held.count_full(reaction.full);
-        self.send_reaction(on, &reaction)?;
+        self.send_reaction(to, &reaction)?;
         Ok(reaction)
     }
 
@@ -525,7 +525,7 @@ impl Work {
         requires { HasSpelling packet.now }
         ensures ok { OnOk result (self.new ≡ record self.old { outputs = self.old.outputs ++ Output.Send connection (written packet.now) ∷ [] }) }
         ensures fault { IfErr result (λ e. e ≡ NoMemory) }
-        ensures comes { Comes (λ x. x) result self.old self.new (Sends connection packet.now) }
+        ensures comes { ComesTo (λ x. x) result self.old self.new (Sends connection packet.now) }
     {
         let bytes = Bytes::new(written(self.alloc, packet)?);
         self.give(Output::Send { connection, bytes })
@@ -556,21 +556,20 @@ impl Work {
     ) -> Result<Reaction, NodeFault>
         requires continued { MayConnectHere client.now continued self.old.held.sessions }
         requires will { IsPublishableIf connect.now.will }
-        ensures { Comes (λ x. x) result self.old self.new (Calls client.now (connects connect.now continued) (moves connection)) }
+        ensures { ComesTo (λ x. x) result self.old self.new (Calls client.now (connects connect.now continued) (moves connection)) }
     {
         let called = self
             .held
             .connect(client, connection, connect, continued, &mut self.changes);
-        self.react(Some(connection), called)
+        self.react(called)
     }
 
     /// A copy of a message for a client.
     pub fn queue(&mut self, client: &Text, delivery: Delivery) -> Result<Reaction, NodeFault>
-        ensures { Comes (λ x. x) result self.old self.new (Calls client.now (queues delivery) stays) }
+        ensures { ComesTo (λ x. x) result self.old self.new (Calls client.now (queues delivery) stays) }
     {
-        let on = self.held.sessions().connection(client);
         let called = self.held.queue(client, delivery, &mut self.changes);
-        self.react(on, called)
+        self.react(called)
     }
 
     /// A packet of a client.
@@ -581,11 +580,10 @@ impl Work {
         room: bool,
     ) -> Result<Reaction, NodeFault>
         requires { HasSpelling packet.now }
-        ensures { Comes (λ x. x) result self.old self.new (Calls client.now (λ at. takes packet.now at room) stays) }
+        ensures { ComesTo (λ x. x) result self.old self.new (Calls client.now (λ at. takes packet.now at room) stays) }
     {
-        let on = self.held.sessions().connection(client);
         let called = self.held.packet(client, packet, room, &mut self.changes);
-        self.react(on, called)
+        self.react(called)
     }
 
     /// The codes of the SUBSCRIBE or UNSUBSCRIBE that a client's session asked for.
@@ -596,38 +594,35 @@ impl Work {
         codes: &[u8],
     ) -> Result<Reaction, NodeFault>
         requires { MayAnswer identifier codes.now }
-        ensures { Comes (λ x. x) result self.old self.new (Calls client.now (λ at. answers identifier codes.now) stays) }
+        ensures { ComesTo (λ x. x) result self.old self.new (Calls client.now (λ at. answers identifier codes.now) stays) }
     {
-        let on = self.held.sessions().connection(client);
         let called = self
             .held
             .answer(client, identifier, codes, &mut self.changes);
-        self.react(on, called)
+        self.react(called)
     }
 
     /// The connection of a client's session is gone.
     pub fn part(&mut self, client: &Text) -> Result<Reaction, NodeFault>
-        ensures { Comes (λ x. x) result self.old self.new (Calls client.now closes leaves) }
+        ensures { ComesTo (λ x. x) result self.old self.new (Calls client.now closes leaves) }
     {
         let called = self.held.part(client, &mut self.changes);
-        self.react(None, called)
+        self.react(called)
     }
 
     /// One thing of a client's session that is due.
     pub fn tick(&mut self, client: &Text) -> Result<Reaction, NodeFault>
-        ensures { Comes (λ x. x) result self.old self.new (Calls client.now ticks stays) }
+        ensures { ComesTo (λ x. x) result self.old self.new (Calls client.now ticks stays) }
     {
-        let on = self.held.sessions().connection(client);
         let called = self.held.tick(client, &mut self.changes);
-        self.react(on, called)
+        self.react(called)
     }
 
     /// A client's session ends now.
     pub fn finish_session(&mut self, client: &Text) -> Result<Reaction, NodeFault>
-        ensures { Comes (λ x. x) result self.old self.new (Calls client.now finishes stays) }
+        ensures { ComesTo (λ x. x) result self.old self.new (Calls client.now finishes stays) }
     {
-        let on = self.held.sessions().connection(client);
         let called = self.held.finish(client, &mut self.changes);
-        self.react(on, called)
+        self.react(called)
     }
 }

@@ -35,7 +35,7 @@ use Rattle.session_laws.proofs.ElseLaws.{keeps_nothing_else}
 use Rattle.session_laws.specs.Aliases.{Topics, topic_under}
 use Rattle.session_laws.proofs.AliasLaws.{held}
 use Rattle.session_laws.proofs.ReplyLaws.{replies_by_link, under-is, keeps_unheard, keeps_codes}
-use Rattle.passing_laws.specs.Publishing.{Gives, Publishes, PubackTells, PubrecTells, message_at}
+use Rattle.passing_laws.specs.Publishing.{AnswersWith, Publishes, PubackTells, PubrecTells, message_at}
 
 -- ---- packets
 
@@ -74,17 +74,17 @@ pub true_is_not_false : {X : Type 0} → true ≡ false → X
 true_is_not_false e = absurd (let z = e in cc)
 
 -- ---- outputs that aren't one
-pub none_sent : (p : Packet) (ss : List Sent) → Gives p (publishes_of ss) → ⊥
+pub none_sent : (p : Packet) (ss : List Sent) → AnswersWith p (publishes_of ss) → ⊥
 none_sent p [] g = g
 none_sent p (s ∷ ss) (inl e) = cc e
 none_sent p (s ∷ ss) (inr g) = none_sent p ss g
 
-pub none_published : (p : Packet) (os : List Output) → AllByRecursion IsPublish os → Gives p os → ⊥
+pub none_published : (p : Packet) (os : List Output) → AllByRecursion IsPublish os → AnswersWith p os → ⊥
 none_published p [] all g = g
 none_published p (o ∷ os) all (inl e) = subst IsPublish e all.0
 none_published p (o ∷ os) all (inr g) = none_published p os all.1 g
 
-none_released : (p : Packet) (ids : List ℕ) (rest : List Output) → is_answer p ≡ true → (Gives p rest → ⊥) → Gives p (pubrels_of ids ++ rest) → ⊥
+none_released : (p : Packet) (ids : List ℕ) (rest : List Output) → is_answer p ≡ true → (AnswersWith p rest → ⊥) → AnswersWith p (pubrels_of ids ++ rest) → ⊥
 none_released p [] rest ack lacks g = lacks g
 none_released p (id ∷ ids) rest ack lacks (inl e) = (let same : pubrel id 0 ≡ p = cc e in true_is_not_false (sym ack ∙ ap is_answer (sym same)))
 none_released p (id ∷ ids) rest ack lacks (inr g) = none_released p ids rest ack lacks g
@@ -117,15 +117,15 @@ said f p (both q a) s = ap f s
 said f p (ends code) s = absurd s
 said f p leaves s = absurd s
 
-if_given : (b : Bool) (q p : Packet) (x y : Reaction) (rest : List Output) → x.packets ≡ Answer q ∷ [] → y.packets ≡ [] → (Gives p rest → ⊥) → Gives p ((cond b x y).packets ++ rest) → q ≡ p
-if_given true q p x y rest e f lacks g = one (subst (λ os. Gives p (os ++ rest)) e g)
+if_given : (b : Bool) (q p : Packet) (x y : Reaction) (rest : List Output) → x.packets ≡ Answer q ∷ [] → y.packets ≡ [] → (AnswersWith p rest → ⊥) → AnswersWith p ((cond b x y).packets ++ rest) → q ≡ p
+if_given true q p x y rest e f lacks g = one (subst (λ os. AnswersWith p (os ++ rest)) e g)
   where
-    one : Gives p (Answer q ∷ rest) → q ≡ p
+    one : AnswersWith p (Answer q ∷ rest) → q ≡ p
     one (inl same) = cc same
     one (inr more) = absurd (lacks more)
-if_given false q p x y rest e f lacks g = absurd (lacks (subst (λ os. Gives p (os ++ rest)) f g))
+if_given false q p x y rest e f lacks g = absurd (lacks (subst (λ os. AnswersWith p (os ++ rest)) f g))
 
-pub given_by : (limit : ℕ) (x : Reply) (p : Packet) (rest : List Output) → (Gives p rest → ⊥) → Gives p ((reaction_of limit x).packets ++ rest) → Says p x
+pub given_by : (limit : ℕ) (x : Reply) (p : Packet) (rest : List Output) → (AnswersWith p rest → ⊥) → AnswersWith p ((reaction_of limit x).packets ++ rest) → Says p x
 given_by limit silent p rest lacks g = lacks g
 given_by limit (says q) p rest lacks g = if_given (fits limit q) q p _ _ rest refl refl lacks g
 given_by limit (asks a) p rest lacks g = lacks g
@@ -140,14 +140,14 @@ pub record Replied (p : Packet) (k : Packet) (now : ℕ) (room : Bool) (old : St
   pub is : IsReplied (held link) link.limit k now room old r
   pub says_it : Says p is.reply
 
-pub replied : (old new : State) (k : Packet) (now : ℕ) (room : Bool) (r : Reaction) (p : Packet) → Reacts old (takes k now room) r new → Gives p r.packets → Replied p k now room old r
+pub replied : (old new : State) (k : Packet) (now : ℕ) (room : Bool) (r : Reaction) (p : Packet) → Reacts old (takes k now room) r new → AnswersWith p r.packets → Replied p k now room old r
 replied old new k now room r p h g = by old.link refl
   where
     by : (o : Option Link) → old.link ≡ o → Replied p k now room old r
-    by None e = absurd (subst (λ (x : Reaction). Gives p x.packets) (keeps_unheard old new k now room r e h).0 g)
+    by None e = absurd (subst (λ (x : Reaction). AnswersWith p x.packets) (keeps_unheard old new k now room r e h).0 g)
     by (Some l) e =
         let x = replies_by_link old new l k now room r e h in
-        record { link = l; linked = e; is = x; says_it = given_by l.limit x.reply p (publishes_of x.sents) (none_sent p x.sents) (subst (λ (y : Reaction). Gives p y.packets) x.gives g) }
+        record { link = l; linked = e; is = x; says_it = given_by l.limit x.reply p (publishes_of x.sents) (none_sent p x.sents) (subst (λ (y : Reaction). AnswersWith p y.packets) x.gives g) }
 
 -- ---- replies that say neither
 pub cond_false : (f : Packet → Bool) (b : Bool) (x y : Reply) → tells f x ≡ false → tells f y ≡ false → tells f (cond b x y) ≡ false
@@ -308,20 +308,20 @@ module _ (old new : State) (now : ℕ) (room : Bool) (r : Reaction) (id : ℕ) w
 
 -- a CONNECT, and an event that gives nothing out, give out no such answer
 module _ (p : Packet) (ack : is_answer p ≡ true) where
-  pub connect_none : (b : Bool) (old : State) (c : Connect) (answer : Packet) (now : ℕ) (r : Reaction) (new : State) → is_answer answer ≡ false → OpensIf b old c answer now r new → Gives p r.packets → ⊥
-  connect_none true old c answer now r new plain o g = by (subst (λ (v : Reaction). Gives p v.packets) o.reacts g)
+  pub connect_none : (b : Bool) (old : State) (c : Connect) (answer : Packet) (now : ℕ) (r : Reaction) (new : State) → is_answer answer ≡ false → OpensIf b old c answer now r new → AnswersWith p r.packets → ⊥
+  connect_none true old c answer now r new plain o g = by (subst (λ (v : Reaction). AnswersWith p v.packets) o.reacts g)
     where
-      by : Gives p (Answer answer ∷ pubrels_of o.ids ++ publishes_of o.sents) → ⊥
+      by : AnswersWith p (Answer answer ∷ pubrels_of o.ids ++ publishes_of o.sents) → ⊥
       by (inl e) = (let same : answer ≡ p = cc e in true_is_not_false (sym ack ∙ ap is_answer (sym same) ∙ plain))
       by (inr more) = none_released p o.ids (publishes_of o.sents) ack (none_sent p o.sents) more
-  connect_none false old c answer now r new plain o g = subst (λ (v : Reaction). Gives p v.packets) o.0 g
+  connect_none false old c answer now r new plain o g = subst (λ (v : Reaction). AnswersWith p v.packets) o.0 g
 
-  pub nothing_given : (ps : List Output) → ps ≡ [] → Gives p ps → ⊥
-  nothing_given ps e g = subst (Gives p) e g
+  pub nothing_given : (ps : List Output) → ps ≡ [] → AnswersWith p ps → ⊥
+  nothing_given ps e g = subst (AnswersWith p) e g
 
 -- nor do the codes of SUBACK and UNSUBACK give out PUBACK or PUBREC
 module _ (p : Packet) (ack : is_ack p ≡ true) where
-  codes_none : (old new : State) (id : ℕ) (codes : List ℕ) (r : Reaction) → Reacts old (answers id codes) r new → Gives p r.packets → ⊥
+  codes_none : (old new : State) (id : ℕ) (codes : List ℕ) (r : Reaction) → Reacts old (answers id codes) r new → AnswersWith p r.packets → ⊥
   codes_none old new id codes r h g = by old.link refl
     where
       not_codes : (a : Option Asked) → Says p (reply_codes a id codes) → ⊥
@@ -330,8 +330,8 @@ module _ (p : Packet) (ack : is_ack p ≡ true) where
       not_codes (Some Unsubscribing) s = true_is_not_false (sym ack ∙ ap is_ack (sym s))
 
       by : (o : Option Link) → old.link ≡ o → ⊥
-      by None e = subst (λ (v : Reaction). Gives p v.packets) ((subst (λ l. Comes (answer_on l id codes old) r new) e h).0) g
-      by (Some l) e = not_codes l.asked (given_by l.limit (reply_codes l.asked id codes) p [] (λ z. z) (subst (λ os. Gives p os) (ap (λ (v : Reaction). v.packets) (keeps_codes old new l id codes r e h) ∙ sym (append-nil _)) g))
+      by None e = subst (λ (v : Reaction). AnswersWith p v.packets) ((subst (λ l. Comes (answer_on l id codes old) r new) e h).0) g
+      by (Some l) e = not_codes l.asked (given_by l.limit (reply_codes l.asked id codes) p [] (λ z. z) (subst (λ os. AnswersWith p os) (ap (λ (v : Reaction). v.packets) (keeps_codes old new l id codes r e h) ∙ sym (append-nil _)) g))
 
 -- ---- each event
 
@@ -343,7 +343,7 @@ record Takes (p : Packet) (old : State) (e : Event) (r : Reaction) : Type 0 wher
   is : e ≡ takes (packets.Publish publish) now room
   reply : Replied p (packets.Publish publish) now room old r
 
-takes_publish : (p : Packet) → is_ack p ≡ true → is_answer p ≡ true → (old new : State) (e : Event) (r : Reaction) → Reacts old e r new → Gives p r.packets → Takes p old e r
+takes_publish : (p : Packet) → is_ack p ≡ true → is_answer p ≡ true → (old new : State) (e : Event) (r : Reaction) → Reacts old e r new → AnswersWith p r.packets → Takes p old e r
 takes_publish p ack answer old new (connects c continued now) r h g = absurd (connect_none p answer (fits (limit_in c.properties) (connack continued c.client old.kept.client)) old c _ now r new refl h.1 g)
 takes_publish p ack answer old new (queues d now) r h g = absurd (none_published p r.packets (keeps_nothing_else old new (queues d now) r h) g)
 takes_publish p ack answer old new (takes k now room) r h g =
@@ -372,15 +372,15 @@ pubrec_tells = λ old new e r id h g. (let t = takes_publish (pubrec id 0) refl 
 
 -- ---- a PUBLISH that is answered by one packet, and what is asked for it
 
-only_by : (b : Bool) (q p : Packet) (x y : Reaction) → x.packets ≡ Answer q ∷ [] → y.packets ≡ [] → Gives p (cond b x y).packets → (cond b x y).packets ≡ Answer p ∷ []
-only_by true q p x y e f g = one (subst (Gives p) e g)
+only_by : (b : Bool) (q p : Packet) (x y : Reaction) → x.packets ≡ Answer q ∷ [] → y.packets ≡ [] → AnswersWith p (cond b x y).packets → (cond b x y).packets ≡ Answer p ∷ []
+only_by true q p x y e f g = one (subst (AnswersWith p) e g)
   where
-    one : Gives p (Answer q ∷ []) → x.packets ≡ Answer p ∷ []
+    one : AnswersWith p (Answer q ∷ []) → x.packets ≡ Answer p ∷ []
     one (inl same) = e ∙ ap (λ o. o ∷ []) same
     one (inr more) = absurd more
-only_by false q p x y e f g = absurd (subst (Gives p) f g)
+only_by false q p x y e f g = absurd (subst (AnswersWith p) f g)
 
-reply_alone : (limit : ℕ) (x : Reply) (p : Packet) → Gives p (reaction_of limit x).packets → (reaction_of limit x).packets ≡ Answer p ∷ []
+reply_alone : (limit : ℕ) (x : Reply) (p : Packet) → AnswersWith p (reaction_of limit x).packets → (reaction_of limit x).packets ≡ Answer p ∷ []
 reply_alone limit silent p g = absurd g
 reply_alone limit (says q) p g = only_by (fits limit q) q p _ _ refl refl g
 reply_alone limit (asks a) p g = absurd g
@@ -442,11 +442,11 @@ module _ (old new : State) (p : Publish) (now : ℕ) (room : Bool) (r : Reaction
   not_sent : (told : Topics) (limit : ℕ) (x : IsReplied told limit (packets.Publish p) now room old r) → r.packets ≡ (reaction_of limit x.reply).packets
   not_sent told limit x = ap (λ (v : Reaction). v.packets) x.gives ∙ elim x.queue [ inl none ↦ ap (λ ss. (reaction_of limit x.reply).packets ++ publishes_of ss) none ∙ append-nil _ | inr room_made ↦ absurd room_made.0 ]
 
-  pub alone : (q : Packet) → Gives q r.packets → r.packets ≡ Answer q ∷ []
+  pub alone : (q : Packet) → AnswersWith q r.packets → r.packets ≡ Answer q ∷ []
   alone q g =
       let x = replied old new (packets.Publish p) now room r q h g in
       let same = not_sent (held x.link) x.link.limit x.is in
-      same ∙ reply_alone x.link.limit x.is.reply q (subst (Gives q) same g)
+      same ∙ reply_alone x.link.limit x.is.reply q (subst (AnswersWith q) same g)
 
   -- what is asked for is to pass the message on
   pub asks_pass : is_some r.ask ≡ true → r.ask ≡ Some (server.Pass (message_in p now old))

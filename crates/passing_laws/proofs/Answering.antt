@@ -34,8 +34,8 @@ use Rattle.node_clients.specs.Unsubscribing as unsubscribing
 use Rattle.node_clients.proofs.Determined.{runs_determined}
 use Rattle.broker_node.specs.declared.event.Event.{Event as NodeEvent}
 use Rattle.broker_node.specs.Turns.{Decides}
-use Rattle.passing_laws.specs.Publishing.{Gives}
-use Rattle.passing_laws.specs.Asking.{IsGranted, AreGranted, IsRemoved, AreRemoved, AreInUse, ComesAfter, Subscribes, Unsubscribes, SubackTells, UnsubackTells}
+use Rattle.passing_laws.specs.Publishing.{AnswersWith}
+use Rattle.passing_laws.specs.Asking.{IsGranted, AreGranted, FilterIsRemoved, FiltersAreRemoved, AreInUse, ComesAfter, TakesSubscribe, TakesUnsubscribe, SubackTells, UnsubackTells}
 use Rattle.passing_laws.proofs.Codes.{codes_tell, subscribing_after, unsubscribing_after}
 use Rattle.passing_laws.proofs.Keeping.{calling_by, Property, IsOther, IsPlain, Joins, Keeps, none_some, k_returns, k_if, k_inturn}
 use Rattle.passing_laws.proofs.Requests.{are_granted, are_removed}
@@ -60,7 +60,7 @@ record IsUnsubscribe (p : Place) (mid : HeldView) (client : List ℕ) (call : Se
   event : call.event ≡ takes (packets.Unsubscribe unsubscribe) now room
   asked : call.reaction.ask ≡ Some asks.Unsubscribe
   identifier : unsubscribe.identifier ≡ id
-  removed : AreRemoved p mid client unsubscribe.filters codes acts
+  removed : FiltersAreRemoved p mid client unsubscribe.filters codes acts
 
 record Requested (p : Place) (h : HeldView) (before : List Act) (client : List ℕ) (id : ℕ) (codes : List ℕ) : Type 0 where
   call : SessionStep
@@ -169,7 +169,7 @@ takes_then : (p : Place) (h : HeldView) (step : SessionStep) (client : List ℕ)
 takes_then p h step client k mid acts t f = both_answered p h mid (Session (Called step) ∷ []) acts t.runs (takes_alone p h step client k mid t) f
 
 module _ (p : Place) (h mid : HeldView) (step : SessionStep) (c : ℕ) (client : List ℕ) where
-  subscribes_after : (q : Subscribe) (x : Unit {0}) (acts : List Act) → Takes p h step client (packets.Subscribe q) mid → step.reaction.ask ≡ Some asks.Subscribe → subscribing.Subscribes c client q (Some x) p mid acts → Answered p h (Session (Called step) ∷ acts)
+  subscribes_after : (q : Subscribe) (x : Unit {0}) (acts : List Act) → Takes p h step client (packets.Subscribe q) mid → step.reaction.ask ≡ Some asks.Subscribe → subscribing.ServesSubscribe c client q (Some x) p mid acts → Answered p h (Session (Called step) ∷ acts)
   subscribes_after q x acts t ask (inl d) = none_some (sym d.0)
   subscribes_after q x acts t ask (inr (all, ops, mid2, others, one, runs, (inl d), is)) = none_some (sym d.0)
   subscribes_after q x acts t ask (inr (all, ops, mid2, others, one, runs, (inr (r, call, mid3, rest, d, calls, more, is2)), is)) =
@@ -194,7 +194,7 @@ module _ (p : Place) (h mid : HeldView) (step : SessionStep) (c : ℕ) (client :
         });
       }))
 
-  unsubscribes_after : (u : Unsubscribe) (x : Unit {0}) (acts : List Act) → Takes p h step client (packets.Unsubscribe u) mid → step.reaction.ask ≡ Some asks.Unsubscribe → unsubscribing.Unsubscribes c client u (Some x) p mid acts → Answered p h (Session (Called step) ∷ acts)
+  unsubscribes_after : (u : Unsubscribe) (x : Unit {0}) (acts : List Act) → Takes p h step client (packets.Unsubscribe u) mid → step.reaction.ask ≡ Some asks.Unsubscribe → unsubscribing.ServesUnsubscribe c client u (Some x) p mid acts → Answered p h (Session (Called step) ∷ acts)
   unsubscribes_after u x acts t ask (inl d) = none_some (sym d.0)
   unsubscribes_after u x acts t ask (inr (all, ops, mid2, others, one, runs, (inl d), is)) = none_some (sym d.0)
   unsubscribes_after u x acts t ask (inr (all, ops, mid2, others, one, runs, (inr (r, call, mid3, rest, d, calls, more, is2)), is)) =
@@ -215,7 +215,7 @@ module _ (p : Place) (h mid : HeldView) (step : SessionStep) (c : ℕ) (client :
           event = t.event;
           asked = ask;
           identifier = i;
-          removed = subst (λ w. AreRemoved p mid w u.filters codes ops) (sym same) (subst (λ cs. AreRemoved p mid client u.filters cs ops) (sym g.all_is ∙ j) g.are);
+          removed = subst (λ w. FiltersAreRemoved p mid w u.filters codes ops) (sym same) (subst (λ cs. FiltersAreRemoved p mid client u.filters cs ops) (sym g.all_is ∙ j) g.are);
         });
       }))
 
@@ -265,7 +265,7 @@ serves_in : (c : ℕ) (client : List ℕ) (k : Packet) (room : Bool) (x : Unit {
 serves_in c client k room x p h acts (inl d) = none_some (sym d.0)
 serves_in c client k room x p h acts (inr (r, own, mid, rest, one, runs, more, is)) = subst (Answered p h) (sym is) (serves_at c client k room (seat_at client h) r x p h mid own rest one runs more)
 
-serves : (c : ℕ) (client : List ℕ) (k : Packet) → Keeps Answered (serving.Serves c client k)
+serves : (c : ℕ) (client : List ℕ) (k : Packet) → Keeps Answered (serving.ServesPacket c client k)
 serves c client k = record { of = λ x p h acts d. serves_in c client k (serving.room_for client k h) x p h acts d }
 
 -- ---- the session between a request and its answer
@@ -281,12 +281,12 @@ all_granted_still p h client identifier (f ∷ fs) codes acts mid (code, others,
     let same : parts.0 ≡ m = runs_determined p own h parts.0 m parts.1 ran in
     all_granted_still p m client identifier fs others rest mid more (subst (λ v. Runs p v rest mid) same parts.2) ∙ granted_still p h client identifier f code own m one ran
 
-removed_still : (p : Place) (h : HeldView) (client text : List ℕ) (code : ℕ) (acts : List Act) (mid : HeldView) → IsRemoved p h client text code acts → Runs p h acts mid → mid.sessions ≡ h.sessions
+removed_still : (p : Place) (h : HeldView) (client text : List ℕ) (code : ℕ) (acts : List Act) (mid : HeldView) → FilterIsRemoved p h client text code acts → Runs p h acts mid → mid.sessions ≡ h.sessions
 removed_still p h client text code acts mid (inl d) runs = ap (λ (v : HeldView). v.sessions) (left_by p h mid _ acts d.2 runs)
 removed_still p h client text code acts mid (inr (inl d)) runs = ap (λ (v : HeldView). v.sessions) (subst (λ zs. Runs p h zs mid) d.2 runs)
 removed_still p h client text code acts mid (inr (inr d)) runs = ap (λ (v : HeldView). v.sessions) (subst (λ zs. Runs p h zs mid) d.2 runs)
 
-all_removed_still : (p : Place) (h : HeldView) (client : List ℕ) (texts : List (List ℕ)) (codes : List ℕ) (acts : List Act) (mid : HeldView) → AreRemoved p h client texts codes acts → Runs p h acts mid → mid.sessions ≡ h.sessions
+all_removed_still : (p : Place) (h : HeldView) (client : List ℕ) (texts : List (List ℕ)) (codes : List ℕ) (acts : List Act) (mid : HeldView) → FiltersAreRemoved p h client texts codes acts → Runs p h acts mid → mid.sessions ≡ h.sessions
 all_removed_still p h client [] codes acts mid d runs = ap (λ (v : HeldView). v.sessions) (subst (λ zs. Runs p h zs mid) d.1 runs)
 all_removed_still p h client (text ∷ texts) codes acts mid (code, others, own, m, rest, is, all, one, ran, more) runs =
     let parts = runs_split p own rest h mid (subst (λ zs. Runs p h zs mid) all runs) in
@@ -337,7 +337,7 @@ module _ (e : NodeEvent) (p : Place) (h h' : HeldView) (acts : List Act) (does :
   request : s.event ≡ answers id codes → Requested p h before s.client id codes
   request event = (decides Answered answered serves (takes_forward Answered answered took_answered) e).of tt p h acts does before after s is id codes event
 
-  told : (mid : HeldView) → Runs p h before mid → (call : IsCall mid s) (a : Asked) → Gives (answer_of a id codes) s.reaction.packets
+  told : (mid : HeldView) → Runs p h before mid → (call : IsCall mid s) (a : Asked) → AnswersWith (answer_of a id codes) s.reaction.packets
       → AreInUse codes ⊎ ((r : Requested p h before s.client id codes) × (held : HeldView) × IsCall held r.call × (asked_of r.call.after.link ≡ Some a))
   told mid ran call a g =
       elim (codes_tell a id codes call.seat.session s.after s.event s.reaction call.reacts g) [
@@ -349,7 +349,7 @@ module _ (e : NodeEvent) (p : Place) (h h' : HeldView) (acts : List Act) (does :
       ]
 
   subscribed_before : (r : Requested p h before s.client id codes) (held : HeldView) → IsCall held r.call → asked_of r.call.after.link ≡ Some Subscribing
-      → IsSubscribe p r.mid s.client r.call id codes r.acts ⊎ IsUnsubscribe p r.mid s.client r.call id codes r.acts → Subscribes p h before s.client id codes
+      → IsSubscribe p r.mid s.client r.call id codes r.acts ⊎ IsUnsubscribe p r.mid s.client r.call id codes r.acts → TakesSubscribe p h before s.client id codes
   subscribed_before r held took asked (inl d) = record {
     call = r.call;
     acts = r.acts;
@@ -365,7 +365,7 @@ module _ (e : NodeEvent) (p : Place) (h h' : HeldView) (acts : List Act) (does :
   subscribed_before r held took asked (inr d) = absurd (let z : Subscribing ≡ Unsubscribing = waits Subscribing Unsubscribing r.call.after asked (asked_unsub p r.mid s.client r.call id codes r.acts held took d) in cc)
 
   unsubscribed_before : (r : Requested p h before s.client id codes) (held : HeldView) → IsCall held r.call → asked_of r.call.after.link ≡ Some Unsubscribing
-      → IsSubscribe p r.mid s.client r.call id codes r.acts ⊎ IsUnsubscribe p r.mid s.client r.call id codes r.acts → Unsubscribes p h before s.client id codes
+      → IsSubscribe p r.mid s.client r.call id codes r.acts ⊎ IsUnsubscribe p r.mid s.client r.call id codes r.acts → TakesUnsubscribe p h before s.client id codes
   unsubscribed_before r held took asked (inl d) = absurd (let z : Unsubscribing ≡ Subscribing = waits Unsubscribing Subscribing r.call.after asked (asked_sub p r.mid s.client r.call id codes r.acts held took d) in cc)
   unsubscribed_before r held took asked (inr d) = record {
     call = r.call;
@@ -380,10 +380,10 @@ module _ (e : NodeEvent) (p : Place) (h h' : HeldView) (acts : List Act) (does :
     removed = d.removed;
   }
 
-  subscribes_told : Gives (answer_of Subscribing id codes) s.reaction.packets → AreInUse codes ⊎ Subscribes p h before s.client id codes
+  subscribes_told : AnswersWith (answer_of Subscribing id codes) s.reaction.packets → AreInUse codes ⊎ TakesSubscribe p h before s.client id codes
   subscribes_told g = elim (told parts.0 parts.1 parts.2.1.0 Subscribing g) [ inl used ↦ inl used | inr t ↦ inr (subscribed_before t.0 t.1 t.2 t.3 t.0.kind) ]
 
-  unsubscribes_told : Gives (answer_of Unsubscribing id codes) s.reaction.packets → AreInUse codes ⊎ Unsubscribes p h before s.client id codes
+  unsubscribes_told : AnswersWith (answer_of Unsubscribing id codes) s.reaction.packets → AreInUse codes ⊎ TakesUnsubscribe p h before s.client id codes
   unsubscribes_told g = elim (told parts.0 parts.1 parts.2.1.0 Unsubscribing g) [ inl used ↦ inl used | inr t ↦ inr (unsubscribed_before t.0 t.1 t.2 t.3 t.0.kind) ]
 
 pub suback_tells : SubackTells

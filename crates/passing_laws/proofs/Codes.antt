@@ -34,7 +34,7 @@ use Rattle.session_laws.specs.Replies.{Reply, silent, says, asks, both, ends, le
 use Rattle.session_laws.specs.Runs.{Event, connects, queues, takes, answers, closes, ticks, finishes, loses, Reacts}
 use Rattle.session_laws.proofs.ElseLaws.{keeps_nothing_else}
 use Rattle.session_laws.proofs.ReplyLaws.{keeps_unheard, keeps_codes}
-use Rattle.passing_laws.specs.Publishing.{Gives}
+use Rattle.passing_laws.specs.Publishing.{AnswersWith}
 use Rattle.passing_laws.specs.Asking.{AreInUse}
 use Rattle.passing_laws.proofs.Acks.{is_answer, Says, tells, said, given_by, replied, cond_false, true_is_not_false, none_published, connect_none, nothing_given}
 
@@ -157,12 +157,12 @@ module _ (a : Asked) (id : ℕ) (codes : List ℕ) where
   by_asked (Some Subscribing) id' codes' s = let t = same_answer a Subscribing id id' codes codes' s in (ap Some t.0, t.1, t.2)
   by_asked (Some Unsubscribing) id' codes' s = let t = same_answer a Unsubscribing id id' codes codes' s in (ap Some t.0, t.1, t.2)
 
-  given_at : (o : Option Link) (old new : State) (id' : ℕ) (codes' : List ℕ) (r : Reaction) → old.link ≡ o → Reacts old (answers id' codes') r new → Gives (answer_of a id codes) r.packets → AreGiven old (answers id' codes')
+  given_at : (o : Option Link) (old new : State) (id' : ℕ) (codes' : List ℕ) (r : Reaction) → old.link ≡ o → Reacts old (answers id' codes') r new → AnswersWith (answer_of a id codes) r.packets → AreGiven old (answers id' codes')
   given_at None old new id' codes' r e h g =
-      absurd (subst (λ (v : Reaction). Gives (answer_of a id codes) v.packets) ((subst (λ l. Comes (answer_on l id' codes' old) r new) e h).0) g)
+      absurd (subst (λ (v : Reaction). AnswersWith (answer_of a id codes) v.packets) ((subst (λ l. Comes (answer_on l id' codes' old) r new) e h).0) g)
   given_at (Some l) old new id' codes' r e h g =
       let s = given_by l.limit (reply_codes l.asked id' codes') (answer_of a id codes) [] (λ z. z)
-      (subst (Gives (answer_of a id codes)) (ap (λ (v : Reaction). v.packets) (keeps_codes old new l id' codes' r e h) ∙ sym (append-nil _)) g) in
+      (subst (AnswersWith (answer_of a id codes)) (ap (λ (v : Reaction). v.packets) (keeps_codes old new l id' codes' r e h) ∙ sym (append-nil _)) g) in
       let t = by_asked l.asked id' codes' s in
       ((λ i. answers (t.1 i) (t.2 i)), ap asked_of e ∙ t.0)
 
@@ -170,7 +170,7 @@ answers_it : (a : Asked) (id : ℕ) (codes : List ℕ) → is_answer (answer_of 
 answers_it Subscribing id codes = refl
 answers_it Unsubscribing id codes = refl
 
-pub codes_tell : (a : Asked) (id : ℕ) (codes : List ℕ) (old new : State) (e : Event) (r : Reaction) → Reacts old e r new → Gives (answer_of a id codes) r.packets → AreInUse codes ⊎ ((e ≡ answers id codes) × (asked_of old.link ≡ Some a))
+pub codes_tell : (a : Asked) (id : ℕ) (codes : List ℕ) (old new : State) (e : Event) (r : Reaction) → Reacts old e r new → AnswersWith (answer_of a id codes) r.packets → AreInUse codes ⊎ ((e ≡ answers id codes) × (asked_of old.link ≡ Some a))
 codes_tell a id codes old new (connects c continued now) r h g = absurd (connect_none (answer_of a id codes) (answers_it a id codes) (fits (limit_in c.properties) (connack continued c.client old.kept.client)) old c _ now r new refl h.1 g)
 codes_tell a id codes old new (queues d now) r h g = absurd (none_published (answer_of a id codes) r.packets (keeps_nothing_else old new (queues d now) r h) g)
 codes_tell a id codes old new (takes k now room) r h g = let x = replied old new k now room r (answer_of a id codes) h g in inl (replied_codes a id codes (held x.link) k now room old x.is.reply x.is.is x.says_it)

@@ -18,9 +18,9 @@ use Rattle.home_table.specs.Table.{Table}
 use Rattle.node_bridge.specs.View.{is_next, lane_to}
 use Rattle.replica_store.specs.States.{State}
 use Rattle.node_work.specs.declared.counts.Missed.TheVariants.{BadFrame, FrameTooLarge, TableRefused}
-use Rattle.node_work.specs.Acts.{Moment, Began, Moved, Store, Connection, Bridge, Merged}
+use Rattle.node_work.specs.Acts.{MomentTaken, Began, Moved, Store, Connection, Bridge, Merged}
 use Rattle.node_work.specs.Calling.{Calls}
-use Rattle.node_work.specs.Doings.{TakesMoment, Removes, Misses, Gives, GivesFrame, is_small}
+use Rattle.node_work.specs.Doings.{TakesMoment, Removes, Misses, GivesBody, GivesFrame, is_small}
 use Rattle.node_work.specs.Held.Bridge.{Gave, Got as GotBy, Believed}
 use Rattle.node_work.specs.Held.Feeding.{cut_of}
 use Rattle.node_work.specs.Held.Connections.{Closed, Fed, Opened, is_open, client_at, first_at}
@@ -44,19 +44,19 @@ use Rattle.passing_laws.proofs.Keeping.{Property, Joins, Keeps, k_returns, k_act
 use Rattle.passing_laws.proofs.Work.{removes, sends, disconnects, misses, moves_away, ticks_of, parts, closes_of, closes_by, connects_by}
 
 -- by what it makes of each packet of an accepted client, and of each message that it takes of a lane
-module _ (T : Property) (j : Joins T) (serves : (c : ℕ) (client : List ℕ) (k : Packet) → Keeps T (serving.Serves c client k)) (takes_forward : (from number : ℕ) (m : Message) → Keeps T (passing.TakesForward from number m)) where
-  first : (c : ℕ) (k : Packet) → Keeps T (pieces.First c k)
+module _ (T : Property) (j : Joins T) (serves : (c : ℕ) (client : List ℕ) (k : Packet) → Keeps T (serving.ServesPacket c client k)) (takes_forward : (from number : ℕ) (m : Message) → Keeps T (passing.TakesForward from number m)) where
+  first : (c : ℕ) (k : Packet) → Keeps T (pieces.AnswersFirstPacket c k)
   first c (packets.Connect p) = connects_by T j _ c p
   first c _ = closes_of T j c
 
-  answers_by : (c : ℕ) (k : Packet) (client : Option (List ℕ)) → Keeps T (pieces.AnswersBy c k client)
+  answers_by : (c : ℕ) (k : Packet) (client : Option (List ℕ)) → Keeps T (pieces.AnswersPacketBy c k client)
   answers_by c k None = first c k
   answers_by c k (Some client) = serves c client k
 
   answers_if : (c : ℕ) (k : Packet) → Keeps T (pieces.AnswersIfOpen c k)
   answers_if c k =
-      k_looks T j (λ p h. is_open c h) (λ is. If is (pieces.Answers c k) (Returns tt))
-      (λ is. k_if T j is (pieces.Answers c k) (Returns tt) (k_looks T j (λ p h. client_at c h) (pieces.AnswersBy c k) (answers_by c k)) (k_returns T j tt))
+      k_looks T j (λ p h. is_open c h) (λ is. If is (pieces.AnswersPacket c k) (Returns tt))
+      (λ is. k_if T j is (pieces.AnswersPacket c k) (Returns tt) (k_looks T j (λ p h. client_at c h) (pieces.AnswersPacketBy c k) (answers_by c k)) (k_returns T j tt))
 
   sends_refusal : (c : ℕ) (code : Option ℕ) → Keeps T (pieces.SendsRefusal c code)
   sends_refusal c None = record { of = λ x p h acts d. absurd d }
@@ -81,13 +81,13 @@ module _ (T : Property) (j : Joins T) (serves : (c : ℕ) (client : List ℕ) (k
       k_looks T j (λ p h. is_open c h) (λ is. If is (pieces.Breaks c fault) (Returns tt))
       (λ is. k_if T j is (pieces.Breaks c fault) (Returns tt) (k_looks T j (λ p h. client_at c h) (pieces.BreaksBy c fault) (breaks_by c fault)) (k_returns T j tt))
 
-  takes_all : (c : ℕ) (ps : List Packet) (fault : Option PacketFault) → Keeps T (pieces.Takes c ps fault)
+  takes_all : (c : ℕ) (ps : List Packet) (fault : Option PacketFault) → Keeps T (pieces.TakesPackets c ps fault)
   takes_all c ps fault = k_then T j (Each (pieces.AnswersIfOpen c) ps) (λ _. pieces.BreaksIfOpen c fault) (k_each T j (pieces.AnswersIfOpen c) ps (answers_if c)) (λ _. breaks_if c fault)
 
   feeds : (c : ℕ) (piece : List ℕ) (found : ConnectionView) → Keeps T (pieces.Feeds c piece found)
   feeds c piece found =
       let cut = cut_of found.stream piece in
-      k_then T j (Acting (λ p h. Connection (Fed c piece))) (λ _. pieces.Takes c cut.packets cut.fault) (k_acting T j (λ p h. Connection (Fed c piece)) (λ p h. tt)) (λ _. takes_all c cut.packets cut.fault)
+      k_then T j (Acting (λ p h. Connection (Fed c piece))) (λ _. pieces.TakesPackets c cut.packets cut.fault) (k_acting T j (λ p h. Connection (Fed c piece)) (λ p h. tt)) (λ _. takes_all c cut.packets cut.fault)
 
   piece_at : (c : ℕ) (piece : List ℕ) (found : Option ConnectionView) → Keeps T (pieces.PieceAt c piece found)
   piece_at c piece None = k_returns T j tt
@@ -109,8 +109,8 @@ module _ (T : Property) (j : Joins T) (serves : (c : ℕ) (client : List ℕ) (k
   -- ---- what is due
   runs_out : (d : Due) → Keeps T (due.RunsOut d)
   runs_out d =
-      k_then T j (Calls d.1 ticks stays) (λ _. Then (ending.Closes d.0) (λ _. Then (Calls d.1 closes leaves) (λ _. Returns tt))) (k_calls T j d.1 ticks stays (λ at. tt)) (λ _.
-      k_then T j (ending.Closes d.0) (λ _. Then (Calls d.1 closes leaves) (λ _. Returns tt)) (closes_of T j d.0) (λ _.
+      k_then T j (Calls d.1 ticks stays) (λ _. Then (ending.ClosesConnection d.0) (λ _. Then (Calls d.1 closes leaves) (λ _. Returns tt))) (k_calls T j d.1 ticks stays (λ at. tt)) (λ _.
+      k_then T j (ending.ClosesConnection d.0) (λ _. Then (Calls d.1 closes leaves) (λ _. Returns tt)) (closes_of T j d.0) (λ _.
       k_then T j (Calls d.1 closes leaves) (λ _. Returns tt) (k_calls T j d.1 closes leaves (λ at. tt)) (λ _. k_returns T j tt)))
 
   does_due : Keeps T due.DoesDue
@@ -130,8 +130,8 @@ module _ (T : Property) (j : Joins T) (serves : (c : ℕ) (client : List ℕ) (k
 
   takes_table : (homes : Table) → Keeps T (tables.TakesTable homes)
   takes_table homes =
-      k_looks T j (tables.is_newer homes) (λ newer. If newer (tables.Moves homes) (Misses TableRefused))
-      (λ newer. k_if T j newer (tables.Moves homes) (Misses TableRefused)
+      k_looks T j (tables.is_newer homes) (λ newer. If newer (tables.TakesNewerTable homes) (Misses TableRefused))
+      (λ newer. k_if T j newer (tables.TakesNewerTable homes) (Misses TableRefused)
       (k_then T j (Acting (λ p h. Moved homes)) (λ _. tables.SendsAway) (k_acting T j (λ p h. Moved homes) (λ p h. tt)) (λ _. sends_away)) (misses T j TableRefused))
 
   starts : Keeps T due.Starts
@@ -144,13 +144,13 @@ module _ (T : Property) (j : Joins T) (serves : (c : ℕ) (client : List ℕ) (k
   gives_frame : (f : BridgeFrame) → Keeps T (GivesFrame f)
   gives_frame f = k_if T j (is_small f) (Acting (λ p h. Bridge (Gave f))) (Misses FrameTooLarge) (k_acting T j (λ p h. Bridge (Gave f)) (λ p h. tt)) (misses T j FrameTooLarge)
 
-  gives : (peer : ℕ) (body : HeldView → FrameBody) → Keeps T (Gives peer body)
+  gives : (peer : ℕ) (body : HeldView → FrameBody) → Keeps T (GivesBody peer body)
   gives peer body = k_looks T j (λ p h. record { from = p.id; to = peer; body = body h }) GivesFrame gives_frame
 
   greets : (peer : ℕ) → Keeps T (bridge.Greets peer)
   greets peer =
-      k_looks T j (λ p h. is_other p peer) (λ other. If other (Gives peer (λ h. Hello)) (Returns tt))
-      (λ other. k_if T j other (Gives peer (λ h. Hello)) (Returns tt) (gives peer (λ h. Hello)) (k_returns T j tt))
+      k_looks T j (λ p h. is_other p peer) (λ other. If other (GivesBody peer (λ h. Hello)) (Returns tt))
+      (λ other. k_if T j other (GivesBody peer (λ h. Hello)) (Returns tt) (gives peer (λ h. Hello)) (k_returns T j tt))
 
   gives_state : (peer : ℕ) (s : Option State) → Keeps T (bridge.GivesState peer s)
   gives_state peer None = k_returns T j tt
@@ -174,22 +174,22 @@ module _ (T : Property) (j : Joins T) (serves : (c : ℕ) (client : List ℕ) (k
       k_looks T j (λ p h. is_next from number h.bridge) (λ next. If next (passing.TakesForward from number m) (Returns tt))
       (λ next. k_if T j next (passing.TakesForward from number m) (Returns tt) (takes_forward from number m) (k_returns T j tt))
 
-  takes_body : (from : ℕ) (body : FrameBody) → Keeps T (bridge.Takes from body)
+  takes_body : (from : ℕ) (body : FrameBody) → Keeps T (bridge.TakesBody from body)
   takes_body from Hello = tells_taken from
   takes_body from (Delta s) = k_then T j (Acting (λ p h. Store (Merged s))) (λ _. bridge.TellsTaken from) (k_acting T j (λ p h. Store (Merged s)) (λ p h. tt)) (λ _. tells_taken from)
   takes_body from (Know dots) = k_acting T j (λ p h. Bridge (Believed from dots)) (λ p h. tt)
   takes_body from (Forward number m) =
-      k_then T j (bridge.TakesNext from number m) (λ _. Gives from (λ h. Got (lane_to h.bridge from).took)) (takes_next from number m) (λ _. gives from (λ h. Got (lane_to h.bridge from).took))
+      k_then T j (bridge.TakesNext from number m) (λ _. GivesBody from (λ h. Got (lane_to h.bridge from).took)) (takes_next from number m) (λ _. gives from (λ h. Got (lane_to h.bridge from).took))
   takes_body from (Got number) = k_acting T j (λ p h. Bridge (GotBy from number)) (λ p h. tt)
 
   hears_frame : (frame : Option BridgeFrame) → Keeps T (bridge.HearsFrame frame)
   hears_frame None = misses T j BadFrame
   hears_frame (Some frame) =
-      k_looks T j (λ p h. is_for p frame) (λ here. If here (bridge.Takes frame.from frame.body) (Misses BadFrame))
-      (λ here. k_if T j here (bridge.Takes frame.from frame.body) (Misses BadFrame) (takes_body frame.from frame.body) (misses T j BadFrame))
+      k_looks T j (λ p h. is_for p frame) (λ here. If here (bridge.TakesBody frame.from frame.body) (Misses BadFrame))
+      (λ here. k_if T j here (bridge.TakesBody frame.from frame.body) (Misses BadFrame) (takes_body frame.from frame.body) (misses T j BadFrame))
 
   -- ---- events
-  answers_kind : (kind : EventKind) → Keeps T (turns.Answers kind)
+  answers_kind : (kind : EventKind) → Keeps T (turns.AnswersEvent kind)
   answers_kind kinds.Started = k_returns T j _
   answers_kind (kinds.Opened c) =
       let opens : Option (Unit {0}) → Doing = Acting (λ p h. Connection (Opened c)) in
@@ -203,10 +203,10 @@ module _ (T : Property) (j : Joins T) (serves : (c : ℕ) (client : List ℕ) (k
   answers_kind (kinds.Evict client) = k_then T j (Removes client None) (λ _. Returns tt) (removes T j client None) (λ _. k_returns T j tt)
   answers_kind (kinds.Table homes) = takes_table homes
 
-  after_due : (kind : EventKind) → Keeps T (Then due.DoesDue (λ _. turns.Answers kind))
-  after_due kind = k_then T j due.DoesDue (λ _. turns.Answers kind) does_due (λ _. answers_kind kind)
+  after_due : (kind : EventKind) → Keeps T (Then due.DoesDue (λ _. turns.AnswersEvent kind))
+  after_due kind = k_then T j due.DoesDue (λ _. turns.AnswersEvent kind) does_due (λ _. answers_kind kind)
 
-  goes_on : (kind : EventKind) → Keeps T (turns.GoesOn kind)
+  goes_on : (kind : EventKind) → Keeps T (turns.AnswersAfterDue kind)
   goes_on kinds.Started = k_returns T j _
   goes_on (kinds.Opened c) = after_due (kinds.Opened c)
   goes_on (kinds.Piece c bytes) = after_due (kinds.Piece c bytes)
@@ -218,7 +218,7 @@ module _ (T : Property) (j : Joins T) (serves : (c : ℕ) (client : List ℕ) (k
   goes_on (kinds.Evict client) = after_due (kinds.Evict client)
   goes_on (kinds.Table homes) = after_due (kinds.Table homes)
 
-  first_turn : (kind : EventKind) → Keeps T (turns.First kind)
+  first_turn : (kind : EventKind) → Keeps T (turns.AwaitsStart kind)
   first_turn kinds.Started = starts
   first_turn (kinds.Opened c) = k_returns T j _
   first_turn (kinds.Piece c bytes) = k_returns T j _
@@ -232,5 +232,5 @@ module _ (T : Property) (j : Joins T) (serves : (c : ℕ) (client : List ℕ) (k
 
   pub decides : (e : NodeEvent) → Keeps T (turns.Decides e)
   decides e =
-      k_then T j (TakesMoment e.at) (λ _. turns.Turn e.kind) (k_numbered T j (λ p h. not (nat_lt e.at (2 ^ 62))) (λ p h. Moment e.at) (λ p h. tt))
-      (λ _. k_looks T j (λ p h. h.started) (λ is. If is (turns.GoesOn e.kind) (turns.First e.kind)) (λ is. k_if T j is (turns.GoesOn e.kind) (turns.First e.kind) (goes_on e.kind) (first_turn e.kind)))
+      k_then T j (TakesMoment e.at) (λ _. turns.Turn e.kind) (k_numbered T j (λ p h. not (nat_lt e.at (2 ^ 62))) (λ p h. MomentTaken e.at) (λ p h. tt))
+      (λ _. k_looks T j (λ p h. h.started) (λ is. If is (turns.AnswersAfterDue e.kind) (turns.AwaitsStart e.kind)) (λ is. k_if T j is (turns.AnswersAfterDue e.kind) (turns.AwaitsStart e.kind) (goes_on e.kind) (first_turn e.kind)))

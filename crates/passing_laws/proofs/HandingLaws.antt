@@ -13,7 +13,7 @@ use Rattle.node_work.specs.View.{Place, HeldView}
 use Rattle.node_work.specs.Working.{Acting, Then}
 use Rattle.node_clients.specs.Passing as passing
 use Rattle.node_clients.proofs.Determined.{runs_determined}
-use Rattle.passing_laws.specs.Publishing.{AreQueued}
+use Rattle.passing_laws.specs.Publishing.{CopiesAreQueued}
 use Rattle.passing_laws.specs.Handing.{JoinAtOnce, HandedIsQueued}
 use Rattle.passing_laws.proofs.Keeping.{Property, IsPlain, Joins, Keeps, none_some, k_each}
 use Rattle.passing_laws.proofs.Splits.{head_is, tail_is, none_there, alone_is, left_by, runs_split, splits}
@@ -78,8 +78,8 @@ takes_copies from number m copies lost x p h acts there (inl d) = none_some (sym
 takes_copies from number m copies lost x p h acts there (inr (y, own, mid, rest, one, runs, more, is)) =
     let a = Bridge (Took from number m copies lost) in
     let left : mid ≡ next h a = left_by p h mid a own one.1 runs in
-    let queued : AreQueued mid.at copies rest = each_queued copies x p mid rest (subst (λ v. HaveAll v copies) (sym left) there) more in
-    let joined : JoinAtOnce h.at copies rest = record { calls = rest; rest = []; is = sym (append-nil rest); queued = subst (λ n. AreQueued n copies rest) (ap (λ (v : HeldView). v.at) left) queued } in
+    let queued : CopiesAreQueued mid.at copies rest = each_queued copies x p mid rest (subst (λ v. HaveAll v copies) (sym left) there) more in
+    let joined : JoinAtOnce h.at copies rest = record { calls = rest; rest = []; is = sym (append-nil rest); queued = subst (λ n. CopiesAreQueued n copies rest) (ap (λ (v : HeldView). v.at) left) queued } in
     subst (Handed p h) (sym (is ∙ ap (λ zs. zs ++ rest) one.1))
     (took_handed from number m copies lost p h mid rest left joined ((k_each Handed handed QueuesOne copies (queues_one Handed handed)).of x p mid rest more))
 

@@ -5,13 +5,13 @@ use Rattle.session_table.specs.Seats.{Seat}
 use Rattle.mqtt_sessions.specs.Reaction.{Reaction}
 use Rattle.node_work.specs.declared.outcome.Output.{Output}
 use Rattle.node_work.specs.declared.outcome.Output.TheVariants.{Send, Close, Frame as Release}
-use Rattle.node_work.specs.Acts.{Act, Moment, Began, Moved, Store, Connection, Session, Bridge, Out, Named, Acknowledged, Passed, Dropped, Runs}
+use Rattle.node_work.specs.Acts.{Act, MomentTaken, Began, Moved, Store, Connection, Session, Bridge, Out, Named, Acknowledged, Passed, Dropped, Runs}
 use Rattle.node_work.specs.Calling.{Calls, CallsAt}
 use Rattle.node_work.specs.Held.Bridge.{BridgeAct, Put, Took, Got, Believed, Gave, Left_out}
 use Rattle.node_work.specs.Held.Sessions.{SessionAct, SessionStep, Begun, Called, Over, seat_at}
 use Rattle.node_work.specs.View.{Place, HeldView}
-use Rattle.node_work.specs.Working.{Doing, Returns, Stops, Acting, Numbered, Looks, Finds, If, Where, Then, InTurn, Each}
-use Rattle.passing_laws.specs.Sending.{IsOwn}
+use Rattle.node_work.specs.Working.{Doing, Returns, Stops, Acting, Numbered, Looks, FindsWhere, If, Where, Then, InTurn, Each}
+use Rattle.passing_laws.specs.Sending.{IsOwnPacket}
 
 -- a property of acts, by the node's place and what it holds before them
 abbrev pub Property : Type 1
@@ -35,7 +35,7 @@ IsOtherCall (Over client) = Unit {0}
 
 -- a packet that is given out of a node's own is CONNACK or DISCONNECT
 abbrev pub IsPlainOutput : Output → Type 0
-IsPlainOutput (Send connection bytes) = IsOwn bytes
+IsPlainOutput (Send connection bytes) = IsOwnPacket bytes
 IsPlainOutput (Close connection) = Unit {0}
 IsPlainOutput (Release frame) = Unit {0}
 
@@ -50,7 +50,7 @@ IsPlainBridge (Left_out what) = Unit {0}
 
 -- an act that is neither such a call nor takes a message of a lane
 abbrev pub IsPlain : Act → Type 0
-IsPlain (Moment at) = Unit {0}
+IsPlain (MomentTaken at) = Unit {0}
 IsPlain Began = Unit {0}
 IsPlain (Moved homes) = Unit {0}
 IsPlain (Store a) = Unit {0}
@@ -116,7 +116,7 @@ module _ (T : Property) (c : Joins T) where
   pub k_looks : {A B : Type 0} (see : Place → HeldView → A) (P : A → Option B → Doing) → ((y : A) → Keeps T (P y)) → Keeps T (Looks see P)
   k_looks see P f = record { of = λ x p h acts d. (f (see p h)).of x p h acts d }
 
-  pub k_finds : {A B : Type 0} (Is : Place → HeldView → A → Type 0) (P : A → Option B → Doing) → ((y : A) → Keeps T (P y)) → Keeps T (Finds Is P)
+  pub k_finds : {A B : Type 0} (Is : Place → HeldView → A → Type 0) (P : A → Option B → Doing) → ((y : A) → Keeps T (P y)) → Keeps T (FindsWhere Is P)
   k_finds Is P f = record { of = λ x p h acts d. (f d.0).of x p h acts d.2 }
 
   pub k_if : {A : Type 0} (b : Bool) (P Q : Option A → Doing) → Keeps T P → Keeps T Q → Keeps T (If b P Q)

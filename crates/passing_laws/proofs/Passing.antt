@@ -35,7 +35,7 @@ use Rattle.node_work.specs.View.{Place, HeldView}
 use Rattle.node_work.specs.Working.{Returns, If, Then, Each}
 use Rattle.node_clients.specs.Passing as passing
 use Rattle.node_clients.specs.Serving as serving
-use Rattle.passing_laws.specs.Publishing.{Accepts, AreQueued, MakesCopies, PassesOn, AcceptedIsPassedOn}
+use Rattle.passing_laws.specs.Publishing.{AcceptsPublish, CopiesAreQueued, BeginsWithCopies, BeginsWithPassingOn, AcceptedIsPassedOn}
 use Rattle.passing_laws.proofs.Keeping.{Calling, calling_by, Property, IsOther, IsPlain, Joins, Keeps, none_some}
 use Rattle.node_clients.proofs.Determined.{runs_determined}
 use Rattle.passing_laws.proofs.Routing.{AreApart, are_apart, each_routed}
@@ -95,7 +95,7 @@ pub calling : (client : List ℕ) (event : ℕ → Event) (on : Option ℕ → O
 calling client event on r p h acts has d = calling_by client event on has.0 r p h acts (subst (λ f. CallsAt client event on f (Some r) p h acts) has.1 d)
 
 -- ---- the copies of a message
-pub each_queued : (xs : List Copy) (x : Unit {0}) (p : Place) (h : HeldView) (acts : List Act) → HaveAll h xs → Each QueuesOne xs (Some x) p h acts → AreQueued h.at xs acts
+pub each_queued : (xs : List Copy) (x : Unit {0}) (p : Place) (h : HeldView) (acts : List Act) → HaveAll h xs → Each QueuesOne xs (Some x) p h acts → CopiesAreQueued h.at xs acts
 each_queued [] x p h acts has d = d.1
 each_queued (c ∷ cs) x p h acts has (inl d) = none_some (sym d.0)
 each_queued (c ∷ cs) x p h acts has (inr (y, own, mid, rest, (inl one), runs, more, is)) = none_some (sym one.0)
@@ -105,11 +105,11 @@ each_queued (c ∷ cs) x p h acts has (inr (y, own, mid, rest, (inr one), runs, 
     let k = calling c.client (queues c.delivery) stays one.0 p h calls has.0 one.4 in
     let alone : own ≡ Session (Called k.step) ∷ [] = same ∙ k.acts_are in
     let left : mid ≡ next h (Session (Called k.step)) = left_by p h mid (Session (Called k.step)) own alone runs in
-    let q : AreQueued mid.at cs rest = each_queued cs x p mid rest (subst (λ v. HaveAll v cs) (sym left) (still_have h k.step cs has.1)) more in
-    (k.step, rest, is ∙ ap (λ zs. zs ++ rest) alone, k.client_is, k.at_is, k.event_is, subst (λ at. AreQueued at cs rest) (ap (λ (v : HeldView). v.at) left) q)
+    let q : CopiesAreQueued mid.at cs rest = each_queued cs x p mid rest (subst (λ v. HaveAll v cs) (sym left) (still_have h k.step cs has.1)) more in
+    (k.step, rest, is ∙ ap (λ zs. zs ++ rest) alone, k.client_is, k.at_is, k.event_is, subst (λ at. CopiesAreQueued at cs rest) (ap (λ (v : HeldView). v.at) left) q)
 
 -- the calls leave what is kept for the other nodes
-calls_keep : (at : ℕ) (xs : List Copy) (p : Place) (h h' : HeldView) (acts : List Act) → AreQueued at xs acts → Runs p h acts h' → h'.bridge ≡ h.bridge
+calls_keep : (at : ℕ) (xs : List Copy) (p : Place) (h h' : HeldView) (acts : List Act) → CopiesAreQueued at xs acts → Runs p h acts h' → h'.bridge ≡ h.bridge
 calls_keep at [] p h h' acts q runs = ap (λ (v : HeldView). v.bridge) (subst (λ zs. Runs p h zs h') q runs)
 calls_keep at (x ∷ xs) p h h' acts (s, rest, is, client, moment, event, q) runs =
     let r = subst (λ zs. Runs p h zs h') is runs in
@@ -118,11 +118,11 @@ calls_keep at (x ∷ xs) p h h' acts (s, rest, is, client, moment, event, q) run
 -- the copies, and what goes to other nodes, by what is kept for them
 then_routed : (b : BridgeView) (copies : List Copy) (routes : List (ℕ × Route)) (at : ℕ) (m : Message) (lost : ℕ) (x : Unit {0}) (p : Place) (h : HeldView) (acts : List Act)
     → h.at ≡ at → HaveAll h copies → AreApart routes → ((q : ℕ) → offer_to q h.bridge ≡ offer_to q b)
-    → Then (Queues copies) (λ _. Each Routes routes) (Some x) p h acts → MakesCopies m at b (Passed m copies lost routes ∷ acts)
+    → Then (Queues copies) (λ _. Each Routes routes) (Some x) p h acts → BeginsWithCopies m at b (Passed m copies lost routes ∷ acts)
 then_routed b copies routes at m lost x p h acts now there apart alike (inl d) = none_some (sym d.0)
 then_routed b copies routes at m lost x p h acts now there apart alike (inr (y, calls, mid, others, one, runs, more, is)) =
     let a = Passed m copies lost routes in
-    let queued : AreQueued h.at copies calls = each_queued copies y p h calls there one in
+    let queued : CopiesAreQueued h.at copies calls = each_queued copies y p h calls there one in
     let same : mid.bridge ≡ h.bridge = calls_keep h.at copies p h mid calls queued runs in
     record {
       copies = copies;
@@ -132,11 +132,11 @@ then_routed b copies routes at m lost x p h acts now there apart alike (inr (y, 
       to_others = others;
       rest = [];
       is = ap (λ zs. a ∷ zs) is ∙ ap (λ zs. a ∷ (calls ++ zs)) (sym (append-nil others));
-      queued = subst (λ n. AreQueued n copies calls) now queued;
+      queued = subst (λ n. CopiesAreQueued n copies calls) now queued;
       routed = each_routed b routes x p mid others apart (λ q. ap (offer_to q) same ∙ alike q) more;
     }
 
-makes_copies : (b : BridgeView) (m : Message) (x : Unit {0}) (p : Place) (h : HeldView) (acts : List Act) → ((q : ℕ) → offer_to q h.bridge ≡ offer_to q b) → passing.Copies m (Some x) p h acts → MakesCopies m h.at b acts
+makes_copies : (b : BridgeView) (m : Message) (x : Unit {0}) (p : Place) (h : HeldView) (acts : List Act) → ((q : ℕ) → offer_to q h.bridge ≡ offer_to q b) → passing.Copies m (Some x) p h acts → BeginsWithCopies m h.at b acts
 makes_copies b m x p h acts alike (found, made, (inl d)) = none_some (sym d.0)
 makes_copies b m x p h acts alike (found, made, (inr (y, own, mid, rest, one, runs, more, is))) =
     let a = Passed m found.0 found.1.0 found.1.1 in
@@ -144,7 +144,7 @@ makes_copies b m x p h acts alike (found, made, (inr (y, own, mid, rest, one, ru
     let left : mid ≡ next h a = left_by p h mid a own alone runs in
     let there : HaveAll h found.0 = subst (HaveAll h) (sym made.copies_are) (have_both h (seated h made.plain) (seated h made.homed) (have_seated h made.plain) (have_seated h made.homed)) in
     let apart : AreApart found.1.1 = subst AreApart (sym made.routes_are.2) (are_apart p (λ peer. route_of (forward_at peer m made.routes_are.0))) in
-    subst (MakesCopies m h.at b) (sym (is ∙ ap (λ zs. zs ++ rest) alone))
+    subst (BeginsWithCopies m h.at b) (sym (is ∙ ap (λ zs. zs ++ rest) alone))
     (then_routed b found.0 found.1.1 h.at m found.1.0 x p mid rest (ap (λ (v : HeldView). v.at) left) (subst (λ (v : HeldView). HaveAll v found.0) (sym left) there) apart
     (λ q. ap (λ (v : HeldView). offer_to q v.bridge) left ∙ alike q) more)
 
@@ -165,7 +165,7 @@ same_offers true content x p h mid acts d runs q =
     let a = Store (Made (put_of p.id content h.store)) in ap (λ (v : HeldView). offer_to q v.bridge) (left_by p h mid a acts (numbered (put_at_end p.id h) x a acts d) runs)
 same_offers false content x p h mid acts d runs q = ap (λ (v : HeldView). offer_to q v.bridge) (subst (λ xs. Runs p h xs mid) d.1 runs)
 
-pub passes_on : (m : Message) (x : Unit {0}) (p : Place) (h : HeldView) (acts : List Act) → passing.Passes m (Some x) p h acts → PassesOn m h.at h.bridge acts
+pub passes_on : (m : Message) (x : Unit {0}) (p : Place) (h : HeldView) (acts : List Act) → passing.Passes m (Some x) p h acts → BeginsWithPassingOn m h.at h.bridge acts
 passes_on m x p h acts (inl d) = none_some (sym d.0)
 passes_on m x p h acts (inr (y, own, mid, rest, one, runs, more, is)) =
     let at : mid.at ≡ h.at = same_moment m.retain (content_of m) y p h mid own one runs in
@@ -175,14 +175,14 @@ passes_on m x p h acts (inr (y, own, mid, rest, one, runs, more, is)) =
       rest = rest;
       is = is;
       put = put_by m.retain (content_of m) y p h own one;
-      copied = λ before. subst (λ n. MakesCopies m n h.bridge rest) at (copied_by alike (subst (λ n. IsBefore n m.deadline) (sym at) before) more);
+      copied = λ before. subst (λ n. BeginsWithCopies m n h.bridge rest) at (copied_by alike (subst (λ n. IsBefore n m.deadline) (sym at) before) more);
     }
   where
-    copied_by : ((q : ℕ) → offer_to q mid.bridge ≡ offer_to q h.bridge) → IsBefore mid.at m.deadline → passing.CopiesAt m mid.at (Some x) p mid rest → MakesCopies m mid.at h.bridge rest
+    copied_by : ((q : ℕ) → offer_to q mid.bridge ≡ offer_to q h.bridge) → IsBefore mid.at m.deadline → passing.CopiesAt m mid.at (Some x) p mid rest → BeginsWithCopies m mid.at h.bridge rest
     copied_by alike before (inl d) = makes_copies h.bridge m x p mid rest alike d.1
     copied_by alike before (inr d) = absurd (d.0 before)
 
-pub passes_more : (m : Message) (at : ℕ) (b : BridgeView) (xs ys : List Act) → PassesOn m at b xs → PassesOn m at b (xs ++ ys)
+pub passes_more : (m : Message) (at : ℕ) (b : BridgeView) (xs ys : List Act) → BeginsWithPassingOn m at b xs → BeginsWithPassingOn m at b (xs ++ ys)
 passes_more m at b xs ys d = record {
   puts = d.puts;
   rest = d.rest ++ ys;
@@ -204,7 +204,7 @@ passes_more m at b xs ys d = record {
 
 -- ---- the calls among acts
 abbrev Told : SessionStep → BridgeView → List Act → Type 0
-Told s b after = (m : Message) → Accepts s m → PassesOn m s.at b after
+Told s b after = (m : Message) → AcceptsPublish s m → BeginsWithPassingOn m s.at b after
 
 abbrev Followed : Property
 Followed p h acts = (before after : List Act) (s : SessionStep) (held : HeldView) → acts ≡ before ++ Session (Called s) ∷ after → Runs p h before held → Told s held.bridge after
@@ -217,7 +217,7 @@ one_told p h a plain (b ∷ before) after s held is ran m accepts = none_there b
 both_told : (p : Place) (h mid : HeldView) (xs ys : List Act) → Runs p h xs mid → Followed p h xs → Followed p mid ys → Followed p h (xs ++ ys)
 both_told p h mid xs ys runs f g before after s held is ran m accepts =
     elim (splits xs ys before after (Session (Called s)) is) [
-      | inl r ↦ subst (PassesOn m s.at held.bridge) (sym r.2) (passes_more m s.at held.bridge r.0 ys (f before r.0 s held r.1 ran m accepts))
+      | inl r ↦ subst (BeginsWithPassingOn m s.at held.bridge) (sym r.2) (passes_more m s.at held.bridge r.0 ys (f before r.0 s held r.1 ran m accepts))
       | inr r ↦ (
           let parts = runs_split p xs r.0 h held (subst (λ zs. Runs p h zs held) r.1 ran) in
           let same : parts.0 ≡ mid = runs_determined p xs h parts.0 mid parts.1 runs in
@@ -252,11 +252,11 @@ answers_told p h s id codes e =
     call_told p h after s [] refl (λ m accepts. absurd (let z : answers id codes ≡ takes _ _ _ = sym e ∙ accepts.event in cc)) (followed.none p after)
 
 -- what follows where the reaction asks to pass a message on
-passed : (c : ℕ) (client : List ℕ) (k : Packet) (room : Bool) (r : Reaction) (x : Unit {0}) (p : Place) (h : HeldView) (acts : List Act) (m : Message) → r.ask ≡ Some (asks.Pass m) → serving.DoesReaction c client k room r (Some x) p h acts → PassesOn m h.at h.bridge acts
+passed : (c : ℕ) (client : List ℕ) (k : Packet) (room : Bool) (r : Reaction) (x : Unit {0}) (p : Place) (h : HeldView) (acts : List Act) (m : Message) → r.ask ≡ Some (asks.Pass m) → serving.DoesReaction c client k room r (Some x) p h acts → BeginsWithPassingOn m h.at h.bridge acts
 passed c client k room r x p h acts m asks (inl d) = none_some (sym d.0)
 passed c client k room r x p h acts m asks (inr (y, own, mid, rest, one, runs, more, is)) =
     let d = subst (λ a. serving.DoesAsked a (serving.is_dropped k room r.end) c client k (Some y) p h own) asks one in
-    subst (PassesOn m h.at h.bridge) (sym is) (passes_more m h.at h.bridge own rest (passes_on m y p h own d))
+    subst (BeginsWithPassingOn m h.at h.bridge) (sym is) (passes_more m h.at h.bridge own rest (passes_on m y p h own d))
 
 serves_at : (c : ℕ) (client : List ℕ) (k : Packet) (room : Bool) (found : Option Seat) (r : Reaction) (x : Unit {0}) (p : Place) (h mid : HeldView) (own rest : List Act) → CallsAt client (λ at. takes k at room) stays found (Some r) p h own
     → Runs p h own mid → serving.DoesReaction c client k room r (Some x) p mid rest → Followed p h (own ++ rest)
@@ -270,14 +270,14 @@ serves_at c client k room (Some seat) r x p h mid own rest d runs more =
     let at : mid.at ≡ s.step.at = ap (λ (v : HeldView). v.at) left ∙ sym s.at_is in
     let same : mid.bridge ≡ h.bridge = ap (λ (v : HeldView). v.bridge) left in
     let told : Told s.step h.bridge rest = λ m accepts.
-    subst (λ b. PassesOn m s.step.at b rest) same (subst (λ n. PassesOn m n mid.bridge rest) at (passed c client k room r x p mid rest m (ap (λ (v : Reaction). v.ask) (sym s.reaction_is) ∙ accepts.asks) more)) in
+    subst (λ b. BeginsWithPassingOn m s.step.at b rest) same (subst (λ n. BeginsWithPassingOn m n mid.bridge rest) at (passed c client k room r x p mid rest m (ap (λ (v : Reaction). v.ask) (sym s.reaction_is) ∙ accepts.asks) more)) in
     subst (λ xs. Followed p h (xs ++ rest)) (sym s.acts_are) (call_told p h mid s.step rest left told ((does_reaction Followed followed answers_told c client k room r).of x p mid rest more))
 
 serves_in : (c : ℕ) (client : List ℕ) (k : Packet) (room : Bool) (x : Unit {0}) (p : Place) (h : HeldView) (acts : List Act) → serving.ServesIn c client k room (Some x) p h acts → Followed p h acts
 serves_in c client k room x p h acts (inl d) = none_some (sym d.0)
 serves_in c client k room x p h acts (inr (r, own, mid, rest, one, runs, more, is)) = subst (Followed p h) (sym is) (serves_at c client k room (seat_at client h) r x p h mid own rest one runs more)
 
-serves : (c : ℕ) (client : List ℕ) (k : Packet) → Keeps Followed (serving.Serves c client k)
+serves : (c : ℕ) (client : List ℕ) (k : Packet) → Keeps Followed (serving.ServesPacket c client k)
 serves c client k = record { of = λ x p h acts d. serves_in c client k (serving.room_for client k h) x p h acts d }
 
 pub accepted_is_passed_on : AcceptedIsPassedOn

@@ -13,7 +13,7 @@ use Rattle.node_work.specs.View.{Place, HeldView}
 use Rattle.node_work.specs.Working.{Returns, If, Then, InTurn}
 use Rattle.node_clients.specs.Subscribing as subscribing
 use Rattle.node_clients.specs.Unsubscribing as unsubscribing
-use Rattle.passing_laws.specs.Asking.{IsGranted, AreGranted, IsRemoved, AreRemoved}
+use Rattle.passing_laws.specs.Asking.{IsGranted, AreGranted, FilterIsRemoved, FiltersAreRemoved}
 use Rattle.passing_laws.proofs.Keeping.{none_some}
 use Rattle.passing_laws.proofs.Passing.{numbered}
 
@@ -56,7 +56,7 @@ are_granted client identifier (f ∷ fs) given all p h acts (inr (g, own, mid, r
 
 -- ---- the operations of an UNSUBSCRIBE
 removed_by : (client text : List ℕ) (stands : Bool) (code : ℕ) (p : Place) (h : HeldView) (acts : List Act) → any_of client (Some text) h.store.subscriptions ≡ stands
-    → Then (λ out p h acts. If stands (Then (MakesRemove client (Some text)) (λ _. Returns true)) (Returns false) out p h acts) (λ stood. Returns (cond stood 0 17)) (Some code) p h acts → IsRemoved p h client text code acts
+    → Then (λ out p h acts. If stands (Then (MakesRemove client (Some text)) (λ _. Returns true)) (Returns false) out p h acts) (λ stood. Returns (cond stood 0 17)) (Some code) p h acts → FilterIsRemoved p h client text code acts
 removed_by client text stands code p h acts e (inl d) = none_some (sym d.0)
 removed_by client text true code p h acts e (inr (y, own, mid, rest, (inl one), runs, more, is)) = none_some (sym one.0)
 removed_by client text true code p h acts e (inr (y, own, mid, rest, (inr (x, made, left, none, one, ran, also, same)), runs, more, is)) =
@@ -69,12 +69,12 @@ removed_by client text false code p h acts e (inr (y, own, mid, rest, one, runs,
     let code_is : code ≡ cond y 0 17 = (let z = more.0 in cc) in
     inr (inl (e, code_is ∙ ap (λ b. cond b 0 17) nope, is ∙ (λ i. one.1 i ++ more.1 i)))
 
-is_removed : (client text : List ℕ) (code : ℕ) (p : Place) (h : HeldView) (acts : List Act) → unsubscribing.Unsubscribed client text (Some code) p h acts → IsRemoved p h client text code acts
+is_removed : (client text : List ℕ) (code : ℕ) (p : Place) (h : HeldView) (acts : List Act) → unsubscribing.Unsubscribed client text (Some code) p h acts → FilterIsRemoved p h client text code acts
 is_removed client text code p h acts (inl d) = removed_by client text (any_of client (Some text) h.store.subscriptions) code p h acts refl d.1
 is_removed client text code p h acts (inr d) = inr (inr (d.0, (let z = d.1.0 in cc), d.1.1))
 
 pub are_removed : (client : List ℕ) (texts : List (List ℕ)) (given all : List ℕ) (p : Place) (h : HeldView) (acts : List Act) → InTurn (unsubscribing.Unsubscribed client) texts given (Some all) p h acts
-    → Given given all (λ codes. AreRemoved p h client texts codes acts)
+    → Given given all (λ codes. FiltersAreRemoved p h client texts codes acts)
 are_removed client [] given all p h acts d = record { others = []; all_is = (let same : all ≡ given = (let z = d.0 in cc) in same ∙ sym (append-nil given)); are = (refl, d.1) }
 are_removed client (text ∷ texts) given all p h acts (inl d) = none_some (sym d.0)
 are_removed client (text ∷ texts) given all p h acts (inr (code, own, mid, rest, one, runs, more, is)) =

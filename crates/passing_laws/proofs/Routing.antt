@@ -18,7 +18,7 @@ use Rattle.node_work.specs.Held.Bridge.{Put, Left_out}
 use Rattle.node_work.specs.Passing.{others}
 use Rattle.node_work.specs.View.{Place, HeldView, nodes_of}
 use Rattle.node_work.specs.Working.{Each}
-use Rattle.passing_laws.specs.Publishing.{IsOffered, IsRouted, AreRouted}
+use Rattle.passing_laws.specs.Publishing.{IsPutInLane, IsRouted, AreRouted}
 use Rattle.passing_laws.proofs.Keeping.{none_some}
 use Rattle.passing_laws.proofs.Splits.{left_by}
 
@@ -60,19 +60,19 @@ offer_apart b peer q l apart = λ i.
     if nat_lt q (length-set b.lanes peer l i) then offer_of (get_or-set_other b.lanes peer q l new_lane (λ e. apart (sym e)) i) else Full
 
 -- ---- one route
-offered : (peer : ℕ) (m : Forward) (o : Offer) (x : Unit {0}) (p : Place) (h : HeldView) (acts : List Act) → PutsBy peer m o (Some x) p h acts → IsOffered peer m o acts
+offered : (peer : ℕ) (m : Forward) (o : Offer) (x : Unit {0}) (p : Place) (h : HeldView) (acts : List Act) → PutsBy peer m o (Some x) p h acts → IsPutInLane peer m o acts
 offered peer m (Queued n) x p h acts d = d.1
 offered peer m Full x p h acts d = d.1
 offered peer m AtEnd x p h acts d = none_some (sym d.0)
 
 routed : (b : BridgeView) (peer : ℕ) (route : Route) (x : Unit {0}) (p : Place) (h : HeldView) (acts : List Act) → offer_to peer h.bridge ≡ offer_to peer b → RoutesBy peer route (Some x) p h acts → IsRouted b peer route acts
 routed b peer Nothing x p h acts same d = d.1
-routed b peer (Lane m) x p h acts same d = subst (λ o. IsOffered peer m o acts) same (offered peer m (offer_to peer h.bridge) x p h acts d)
+routed b peer (Lane m) x p h acts same d = subst (λ o. IsPutInLane peer m o acts) same (offered peer m (offer_to peer h.bridge) x p h acts d)
 routed b peer TooLarge x p h acts same d = d.1
 
 -- it leaves the other lanes
 module _ (p : Place) (h mid : HeldView) (acts : List Act) (runs : Runs p h acts mid) (q : ℕ) where
-  left_by_offer : (peer : ℕ) (m : Forward) (o : Offer) → (peer ≡ q → ⊥) → IsOffered peer m o acts → offer_to q mid.bridge ≡ offer_to q h.bridge
+  left_by_offer : (peer : ℕ) (m : Forward) (o : Offer) → (peer ≡ q → ⊥) → IsPutInLane peer m o acts → offer_to q mid.bridge ≡ offer_to q h.bridge
   left_by_offer peer m (Queued n) apart d = ap (λ (v : HeldView). offer_to q v.bridge) (left_by p h mid (Bridge (Put peer m)) acts d runs) ∙ offer_apart h.bridge peer q _ apart
   left_by_offer peer m Full apart d = ap (λ (v : HeldView). offer_to q v.bridge) (left_by p h mid (Bridge (Left_out LaneFull)) acts d runs)
   left_by_offer peer m AtEnd apart d = absurd d

@@ -8,12 +8,12 @@ use Rattle.mqtt_sessions.specs.Reaction.{packet_of}
 use Rattle.bridge_frames.specs.declared.forward.Forward.{Forward}
 use Rattle.message_copies.specs.declared.plain.PlainCopy.{PlainCopy as Copy}
 use Rattle.node_work.specs.declared.outcome.Output.TheVariants.{Send, Close, Frame as Release}
-use Rattle.node_work.specs.Acts.{Act, Moment, Began, Moved, Store, Connection, Session, Bridge, Out, Named, Acknowledged, Passed, Dropped, Runs, gather, output_in}
+use Rattle.node_work.specs.Acts.{Act, MomentTaken, Began, Moved, Store, Connection, Session, Bridge, Out, Named, Acknowledged, Passed, Dropped, Runs, gather, output_in}
 use Rattle.node_work.specs.Held.Bridge.{Put, Took, Got, Believed, Gave, Left_out}
 use Rattle.node_work.specs.Held.Sessions.{SessionStep, Begun, Called, Over, last_of, outputs_on, packet_output}
 use Rattle.node_work.specs.View.{Place, HeldView}
 use Rattle.node_work.proofs.Working.{gather-append}
-use Rattle.passing_laws.specs.Sending.{IsIn, SentBy, IsOwn, SentAmong, SendsAreOfCalls}
+use Rattle.passing_laws.specs.Sending.{IsIn, SentBy, IsOwnPacket, SentAmong, SendsAreOfCalls}
 use Rattle.passing_laws.proofs.Keeping.{Property, IsPlain, Joins}
 use Rattle.passing_laws.proofs.Work.{serves, takes_forward}
 use Rattle.passing_laws.proofs.Events.{decides}
@@ -26,7 +26,7 @@ in_both x (y ∷ xs) ys (inr i) = elim (in_both x xs ys i) [ inl a ↦ inl (inr 
 -- ---- one call
 module _ (s : SessionStep) (connection : ℕ) (bytes : List ℕ) where
   abbrev Is : Type 0
-  Is = SentBy s connection bytes ⊎ IsOwn bytes
+  Is = SentBy s connection bytes ⊎ IsOwnPacket bytes
 
   given : (c : ℕ) → s.on ≡ Some c → (os : List Reply) → ((o : Reply) → IsIn o os → IsIn o s.reaction.packets) → IsIn (Send connection bytes) (map_list (packet_output c s.at) os) → Is
   given c on [] all i = absurd i
@@ -55,7 +55,7 @@ module _ (s : SessionStep) (connection : ℕ) (bytes : List ℕ) where
 
 -- ---- among acts
 abbrev Sent : Property
-Sent p h acts = (connection : ℕ) (bytes : List ℕ) → IsIn (Send connection bytes) (gather output_in acts) → SentAmong acts connection bytes ⊎ IsOwn bytes
+Sent p h acts = (connection : ℕ) (bytes : List ℕ) → IsIn (Send connection bytes) (gather output_in acts) → SentAmong acts connection bytes ⊎ IsOwnPacket bytes
 
 sent_call : (p : Place) (h : HeldView) (s : SessionStep) → Sent p h (Session (Called s) ∷ [])
 sent_call p h s connection bytes i =
@@ -65,7 +65,7 @@ sent_call p h s connection bytes i =
     ]
 
 sent_one : (p : Place) (h : HeldView) (a : Act) → IsPlain a → Sent p h (a ∷ [])
-sent_one p h (Moment at) plain connection bytes i = absurd i
+sent_one p h (MomentTaken at) plain connection bytes i = absurd i
 sent_one p h Began plain connection bytes i = absurd i
 sent_one p h (Moved homes) plain connection bytes i = absurd i
 sent_one p h (Store a) plain connection bytes i = absurd i
@@ -80,7 +80,7 @@ sent_one p h (Bridge (Believed peer dots)) plain connection bytes i = absurd i
 sent_one p h (Bridge (Gave f)) plain connection bytes (inl e) = cc e
 sent_one p h (Bridge (Gave f)) plain connection bytes (inr i) = absurd i
 sent_one p h (Bridge (Left_out what)) plain connection bytes i = absurd i
-sent_one p h (Out (Send c sent)) plain connection bytes (inl e) = let same : sent ≡ bytes = cc e in inr (subst IsOwn same plain)
+sent_one p h (Out (Send c sent)) plain connection bytes (inl e) = let same : sent ≡ bytes = cc e in inr (subst IsOwnPacket same plain)
 sent_one p h (Out (Send c sent)) plain connection bytes (inr i) = absurd i
 sent_one p h (Out (Close c)) plain connection bytes (inl e) = cc e
 sent_one p h (Out (Close c)) plain connection bytes (inr i) = absurd i

@@ -131,14 +131,14 @@ module _ (T : Property) (j : Joins T) where
   pub ends_session : (client : List ℕ) → Keeps T (ending.EndsSession client)
   ends_session client = k_then T j _ _ (removes_own client) (λ _. k_acting T j _ (λ p h. tt))
 
-  pub follows : (client : List ℕ) (r : Reaction) → Keeps T (ending.Follows client r)
+  pub follows : (client : List ℕ) (r : Reaction) → Keeps T (ending.FollowsReaction client r)
   follows client r = k_then T j _ _ (passes_asked r.ask) (λ _. k_if T j r.over _ _ (ends_session client) (k_returns T j _))
 
   pub ticks_of : (client : List ℕ) → Keeps T (ending.Ticks client)
-  ticks_of client = k_then T j (Calls client ticks stays) (ending.Follows client) (k_calls T j client ticks stays (λ at. tt)) (follows client)
+  ticks_of client = k_then T j (Calls client ticks stays) (ending.FollowsReaction client) (k_calls T j client ticks stays (λ at. tt)) (follows client)
 
   pub finishes_of : (client : List ℕ) → Keeps T (ending.Finishes client)
-  finishes_of client = k_then T j (Calls client finishes stays) (ending.Follows client) (k_calls T j client finishes stays (λ at. tt)) (follows client)
+  finishes_of client = k_then T j (Calls client finishes stays) (ending.FollowsReaction client) (k_calls T j client finishes stays (λ at. tt)) (follows client)
 
   pub ticks_if : (is_due : Bool) (client : List ℕ) → Keeps T (ending.TicksIf is_due client)
   ticks_if is_due client = k_if T j is_due _ _ (ticks_of client) (k_returns T j _)
@@ -149,7 +149,7 @@ module _ (T : Property) (j : Joins T) where
       k_then T j (Looks (λ p h. will_is_due client h) (λ b. ending.TicksIf b client)) (λ _. Looks (λ p h. end_is_due client h) (λ b. ending.TicksIf b client))
       (k_looks T j (λ p h. will_is_due client h) (λ b. ending.TicksIf b client) (λ b. ticks_if b client)) (λ _. k_looks T j (λ p h. end_is_due client h) (λ b. ending.TicksIf b client) (λ b. ticks_if b client)))
 
-  pub closes_of : (c : ℕ) → Keeps T (ending.Closes c)
+  pub closes_of : (c : ℕ) → Keeps T (ending.ClosesConnection c)
   closes_of c = k_then T j _ _ (k_acting T j _ (λ p h. tt)) (λ _. k_acting T j _ (λ p h. tt))
 
   pub closes_for : (c : ℕ) (client : List ℕ) → Keeps T (ending.ClosesFor c client)
@@ -181,7 +181,7 @@ module _ (T : Property) (j : Joins T) where
       k_then T j (moving.PartsWays client) (λ _. ending.Finishes client) (k_looks T j (λ p h. connection_at client h) (moving.PartsOn client) (parts_on client)) (λ _. finishes_of client)
 
   -- ---- CONNECT
-  pub refuses : (c : ℕ) (p : Connect) (code : ℕ) (reference : Option (List ℕ)) → Keeps T (connecting.Refuses c p code reference)
+  pub refuses : (c : ℕ) (p : Connect) (code : ℕ) (reference : Option (List ℕ)) → Keeps T (connecting.RefusesConnect c p code reference)
   refuses c p code reference = k_then T j _ _ (k_if T j (fits (limit_in p.properties) (refused_packet code reference)) _ _ (sends c (refused_packet code reference) refl) (k_returns T j _)) (λ _. closes_of c)
 
   pub takes_over : (client : List ℕ) (on : Option ℕ) → Keeps T (connecting.TakesOverFrom client on)
@@ -211,8 +211,8 @@ module _ (T : Property) (j : Joins T) where
   comes_home c p node =
       k_looks T j (λ place h. node == place.id) (λ here. If here (connecting.AcceptsAs c p p.client) (connecting.Refers c p node))
       (λ here. k_if T j here (connecting.AcceptsAs c p p.client) (connecting.Refers c p node)
-      (k_where T j (connecting.WillIsNamed p.will) (connecting.Accepts c p p.client) (connecting.Refuses c p 144 None) (accepts c p p.client) (refuses c p 144 None))
-      (k_looks T j (λ place h. connecting.address_of h node) (λ reference. connecting.Refuses c p 156 reference) (λ reference. refuses c p 156 reference)))
+      (k_where T j (connecting.WillIsNamed p.will) (connecting.Accepts c p p.client) (connecting.RefusesConnect c p 144 None) (accepts c p p.client) (refuses c p 144 None))
+      (k_looks T j (λ place h. connecting.address_of h node) (λ reference. connecting.RefusesConnect c p 156 reference) (λ reference. refuses c p 156 reference)))
 
   pub connects_at : (bare : Bool) (c : ℕ) (p : Connect) → Keeps T (connecting.ConnectsAt bare c p)
   connects_at true c p = k_where T j (connecting.WillIsNamed p.will) _ _ (k_finds T j _ _ (names_by c p)) (refuses c p 144 None)
@@ -269,16 +269,16 @@ module _ (T : Property) (j : Joins T) (answers_so : (p : Place) (h : HeldView) (
   codes : (client : List ℕ) (packet : ℕ) (given : List ℕ) → Keeps T (Calls client (λ at. answers packet given) stays)
   codes client packet given = record { of = λ r p h acts d. codes_at client packet given (seat_at client h) r p h acts d }
 
-  subscribes : (c : ℕ) (client : List ℕ) (s : Subscribe) → Keeps T (subscribing.Subscribes c client s)
+  subscribes : (c : ℕ) (client : List ℕ) (s : Subscribe) → Keeps T (subscribing.ServesSubscribe c client s)
   subscribes c client s =
-      k_then T j (InTurn (subscribing.Grants client (subscribing.identifier_of s)) s.filters []) (subscribing.Acknowledges c client s.identifier)
+      k_then T j (InTurn (subscribing.Grants client (subscribing.identifier_of s)) s.filters []) (subscribing.SendsSuback c client s.identifier)
       (k_inturn T j (subscribing.Grants client (subscribing.identifier_of s)) s.filters [] (grants T j client (subscribing.identifier_of s)))
       (λ given. k_then T j (Calls client (λ at. answers s.identifier (subscribing.reasons_of given)) stays) (λ r. subscribing.OffersAfter r.end c client s.identifier given)
       (codes client s.identifier (subscribing.reasons_of given)) (λ r. offers_after T j r.end c client s.identifier given))
 
-  unsubscribes : (c : ℕ) (client : List ℕ) (u : Unsubscribe) → Keeps T (unsubscribing.Unsubscribes c client u)
+  unsubscribes : (c : ℕ) (client : List ℕ) (u : Unsubscribe) → Keeps T (unsubscribing.ServesUnsubscribe c client u)
   unsubscribes c client u =
-      k_then T j (InTurn (unsubscribing.Unsubscribed client) u.filters []) (unsubscribing.Acknowledges c client u.identifier)
+      k_then T j (InTurn (unsubscribing.Unsubscribed client) u.filters []) (unsubscribing.SendsUnsuback c client u.identifier)
       (k_inturn T j (unsubscribing.Unsubscribed client) u.filters [] (unsubscribed T j client))
       (λ given. k_then T j (Calls client (λ at. answers u.identifier given) stays) (λ r. ending.ClosesAfter r.end c client) (codes client u.identifier given) (λ r. closes_after T j r.end c client))
 
@@ -310,7 +310,7 @@ module _ (T : Property) (j : Joins T) (called : (p : Place) (h : HeldView) (s : 
   calls : (client : List ℕ) (event : ℕ → Event) → Keeps T (Calls client event stays)
   calls client event = record { of = λ r p h acts d. called_at client event (seat_at client h) r p h acts d }
 
-  pub serves : (c : ℕ) (client : List ℕ) (k : Packet) → Keeps T (serving.Serves c client k)
+  pub serves : (c : ℕ) (client : List ℕ) (k : Packet) → Keeps T (serving.ServesPacket c client k)
   serves c client k =
       k_looks T j (λ place h. serving.room_for client k h) (serving.ServesIn c client k)
       (λ room. k_then T j (Calls client (λ at. takes k at room) stays) (serving.DoesReaction c client k room) (calls client (λ at. takes k at room)) (λ r. does_reaction T j (λ p h s id codes e. called p h s) c client k room r))

@@ -7,14 +7,14 @@ use Rattle.node_work.specs.Held.Bridge.{Took}
 use Rattle.node_work.specs.View.{Place, HeldView}
 use Rattle.broker_node.specs.declared.event.Event.{Event as NodeEvent}
 use Rattle.broker_node.specs.Turns.{Decides}
-use Rattle.passing_laws.specs.Publishing.{AreQueued}
+use Rattle.passing_laws.specs.Publishing.{CopiesAreQueued}
 
 -- acts that begin with the calls by which copies join their sessions at a moment
 pub record JoinAtOnce (at : ℕ) (copies : List Copy) (acts : List Act) : Type 0 where
   pub calls : List Act
   pub rest : List Act
   pub is : acts ≡ calls ++ rest
-  pub queued : AreQueued at copies calls
+  pub queued : CopiesAreQueued at copies calls
 
 -- the copies of a message that is taken of a lane join their sessions directly after that, in the same step, at the node's moment
 abbrev pub HandedIsQueued : Type 0

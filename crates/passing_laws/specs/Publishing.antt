@@ -39,8 +39,8 @@ use Rattle.passing_laws.specs.Sending.{IsIn}
 -- ---- what a session tells its client
 
 -- a packet is among those of a reaction
-abbrev pub Gives : Packet → List Output → Type 0
-Gives p os = IsIn (Answer p) os
+abbrev pub AnswersWith : Packet → List Output → Type 0
+AnswersWith p os = IsIn (Answer p) os
 
 -- the event takes a PUBLISH of this QoS and identifier
 pub record Publishes (qos : Qos) (id : ℕ) (e : Event) : Type 0 where
@@ -59,19 +59,19 @@ message_at old p = message_in p.publish p.now old
 -- PUBACK 0x00 answers a PUBLISH at QoS 1 whose message the node is asked to pass on
 abbrev pub PubackTells : Type 0
 PubackTells =
-    (old new : State) (e : Event) (r : Reaction) (id : ℕ) → Reacts old e r new → Gives (puback id 0) r.packets
+    (old new : State) (e : Event) (r : Reaction) (id : ℕ) → Reacts old e r new → AnswersWith (puback id 0) r.packets
     → (p : Publishes AtLeastOnce id e) × (r.ask ≡ Some (Pass (message_at old p)))
 
 -- PUBREC 0x00 answers a PUBLISH at QoS 2, whose exchange was open, or whose message the node is asked to pass on
 abbrev pub PubrecTells : Type 0
 PubrecTells =
-    (old new : State) (e : Event) (r : Reaction) (id : ℕ) → Reacts old e r new → Gives (pubrec id 0) r.packets
+    (old new : State) (e : Event) (r : Reaction) (id : ℕ) → Reacts old e r new → AnswersWith (pubrec id 0) r.packets
     → (p : Publishes ExactlyOnce id e) × ((is_some (opened id old.incoming) ≡ true) ⊎ (r.ask ≡ Some (Pass (message_at old p))))
 
 -- ---- what the node does
 
 -- a call of a session takes a PUBLISH, and asks the node to pass a message on
-pub record Accepts (s : SessionStep) (m : Message) : Type 0 where
+pub record AcceptsPublish (s : SessionStep) (m : Message) : Type 0 where
   pub publish : Publish
   pub now : ℕ
   pub room : Bool
@@ -83,21 +83,21 @@ abbrev pub IsPut : Message → List Act → Type 0
 IsPut m acts = cond m.retain ((dot : Dot) × (stamp : Stamp) × (acts ≡ Store (Made (Put dot stamp (content_of m))) ∷ [])) (acts ≡ [])
 
 -- calls of sessions, one for each copy in order: it joins its client's session at the moment
-abbrev pub AreQueued : ℕ → List Copy → List Act → Type 0
-AreQueued at [] calls = calls ≡ []
-AreQueued at (x ∷ xs) calls =
-    (s : SessionStep) × (rest : List Act) × (calls ≡ Session (Called s) ∷ rest) × (s.client ≡ x.client) × (s.at ≡ at) × (s.event ≡ queues x.delivery at) × AreQueued at xs rest
+abbrev pub CopiesAreQueued : ℕ → List Copy → List Act → Type 0
+CopiesAreQueued at [] calls = calls ≡ []
+CopiesAreQueued at (x ∷ xs) calls =
+    (s : SessionStep) × (rest : List Act) × (calls ≡ Session (Called s) ∷ rest) × (s.client ≡ x.client) × (s.at ≡ at) × (s.event ≡ queues x.delivery at) × CopiesAreQueued at xs rest
 
 -- what goes to another node joins the lane to it; where too many wait there it is left out
-abbrev pub IsOffered : ℕ → Forward → Offer → List Act → Type 0
-IsOffered peer m (Queued n) acts = acts ≡ Bridge (PutInto peer m) ∷ []
-IsOffered peer m Full acts = acts ≡ Bridge (Left_out LaneFull) ∷ []
-IsOffered peer m AtEnd acts = ⊥
+abbrev pub IsPutInLane : ℕ → Forward → Offer → List Act → Type 0
+IsPutInLane peer m (Queued n) acts = acts ≡ Bridge (PutInto peer m) ∷ []
+IsPutInLane peer m Full acts = acts ≡ Bridge (Left_out LaneFull) ∷ []
+IsPutInLane peer m AtEnd acts = ⊥
 
 -- by what is kept for the other nodes; what is too large for a frame is left out
 abbrev pub IsRouted : BridgeView → ℕ → Route → List Act → Type 0
 IsRouted b peer Nothing acts = acts ≡ []
-IsRouted b peer (Lane m) acts = IsOffered peer m (offer_to peer b) acts
+IsRouted b peer (Lane m) acts = IsPutInLane peer m (offer_to peer b) acts
 IsRouted b peer TooLarge acts = acts ≡ Bridge (Left_out LaneFull) ∷ []
 
 -- each in order
@@ -106,7 +106,7 @@ AreRouted b [] acts = acts ≡ []
 AreRouted b (x ∷ xs) acts = (own : List Act) × (rest : List Act) × (acts ≡ own ++ rest) × IsRouted b x.0 x.1 own × AreRouted b xs rest
 
 -- acts that begin with the copies of a message, and with what goes to other nodes of it
-pub record MakesCopies (m : Message) (at : ℕ) (b : BridgeView) (acts : List Act) : Type 0 where
+pub record BeginsWithCopies (m : Message) (at : ℕ) (b : BridgeView) (acts : List Act) : Type 0 where
   pub copies : List Copy
   pub lost : ℕ
   pub routes : List (ℕ × Route)
@@ -114,20 +114,20 @@ pub record MakesCopies (m : Message) (at : ℕ) (b : BridgeView) (acts : List Ac
   pub to_others : List Act
   pub rest : List Act
   pub is : acts ≡ Passed m copies lost routes ∷ (calls ++ (to_others ++ rest))
-  pub queued : AreQueued at copies calls
+  pub queued : CopiesAreQueued at copies calls
   pub routed : AreRouted b routes to_others
 
 -- acts that begin with passing a message on: its Put, and unless its deadline has passed its copies, and what goes to other nodes
-pub record PassesOn (m : Message) (at : ℕ) (b : BridgeView) (acts : List Act) : Type 0 where
+pub record BeginsWithPassingOn (m : Message) (at : ℕ) (b : BridgeView) (acts : List Act) : Type 0 where
   pub puts : List Act
   pub rest : List Act
   pub is : acts ≡ puts ++ rest
   pub put : IsPut m puts
-  pub copied : IsBefore at m.deadline → MakesCopies m at b rest
+  pub copied : IsBefore at m.deadline → BeginsWithCopies m at b rest
 
 -- a message that is accepted is passed on directly after that, in the same step, by what the node keeps for the others then
 abbrev pub AcceptedIsPassedOn : Type 0
 AcceptedIsPassedOn =
     (e : NodeEvent) (p : Place) (h mid : HeldView) (acts : List Act) → Decides e (Some tt) p h acts
-    → (before after : List Act) (s : SessionStep) (m : Message) → acts ≡ before ++ Session (Called s) ∷ after → Runs p h before mid → Accepts s m
-    → PassesOn m s.at mid.bridge after
+    → (before after : List Act) (s : SessionStep) (m : Message) → acts ≡ before ++ Session (Called s) ∷ after → Runs p h before mid → AcceptsPublish s m
+    → BeginsWithPassingOn m s.at mid.bridge after

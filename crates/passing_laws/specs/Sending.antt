@@ -31,7 +31,7 @@ pub record SentBy (s : SessionStep) (connection : ℕ) (bytes : List ℕ) : Type
   pub spelled : bytes ≡ written (packet_of s.at reply)
 
 -- the bytes of an own packet
-pub record IsOwn (bytes : List ℕ) : Type 0 where
+pub record IsOwnPacket (bytes : List ℕ) : Type 0 where
   pub packet : Packet
   pub own : is_own packet ≡ true
   pub spelled : bytes ≡ written packet
@@ -48,4 +48,4 @@ pub record SentAmong (acts : List Act) (connection : ℕ) (bytes : List ℕ) : T
 abbrev pub SendsAreOfCalls : Type 0
 SendsAreOfCalls =
     (e : NodeEvent) (p : Place) (h : HeldView) (acts : List Act) → Decides e (Some tt) p h acts
-    → (connection : ℕ) (bytes : List ℕ) → IsIn (Send connection bytes) (gather output_in acts) → SentAmong acts connection bytes ⊎ IsOwn bytes
+    → (connection : ℕ) (bytes : List ℕ) → IsIn (Send connection bytes) (gather output_in acts) → SentAmong acts connection bytes ⊎ IsOwnPacket bytes

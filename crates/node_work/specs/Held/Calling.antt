@@ -1,5 +1,5 @@
 -- What a call of a session comes to at a node.
-use Rattle.std.specs.Prelude.{◌≡◌, ◌≢◌, ◌≤◌, ℕ, Bool, List, [], ◌++◌, Option, Some, None, Result, Ok, Err}
+use Rattle.std.specs.Prelude.{◌≡◌, ◌≢◌, ◌≤◌, ℕ, Bool, List, [], ◌++◌, Option, Some, None, option_and_then, Result, Ok, Err}
 use Rattle.std.specs.FinMap as map
 use Rattle.mqtt_sessions.specs.declared.fault.SessionFault.{SessionFault}
 use Rattle.mqtt_sessions.specs.declared.fault.SessionFault.TheVariants as session_faults
@@ -7,6 +7,7 @@ use Rattle.mqtt_sessions.specs.Reaction.{Reaction, nothing}
 use Rattle.session_laws.specs.Runs.{Event}
 use Rattle.session_table.specs.Calls.{IsCalled, MayConnectAt}
 use Rattle.session_table.specs.Seats.{Seats}
+use Rattle.session_table.specs.declared.call.Addressed.{Addressed}
 use Rattle.node_work.specs.declared.fault.NodeFault.{NodeFault}
 use Rattle.node_work.specs.declared.fault.NodeFault.TheVariants.{NoMemory, NumbersAtEnd}
 use Rattle.node_work.specs.Held.Sessions.{counted, outputs_on}
@@ -22,6 +23,11 @@ MayConnectHere client continued seats = MayConnectAt continued (map.get seats cl
 -- a packet identifier, and a code or more (MQTT 5.0, 2.2.1, 3.8.3 and 3.10.3)
 abbrev pub MayAnswer : ℕ → List ℕ → Type 0
 MayAnswer id codes = (1 ≤ id) × (codes ≢ [])
+
+-- the connection that a call's reaction goes to
+abbrev pub address_of : Result (Option Addressed) SessionFault → Option ℕ
+address_of (Ok given) = option_and_then (λ x. x.to) given
+address_of (Err fault) = None
 
 -- ---- what comes of it: its packets are sent, and a copy that a full queue left out is counted
 abbrev pub fault_of : SessionFault → NodeFault

@@ -20,7 +20,7 @@ ghost use Rattle.mqtt_sessions.specs.State.{IsPublishableIf};
 ghost use Rattle.session_laws.specs.Runs.{connects, queues, takes, answers, closes, ticks, finishes};
 ghost use Rattle.node_work.specs.Acts.{next, Connection};
 ghost use Rattle.node_work.specs.Held.Calling.{IsHeldCall, MayConnectHere, MayAnswer};
-ghost use Rattle.session_table.specs.Calls.{IsSpelledIf, stays, leaves, moves};
+ghost use Rattle.session_table.specs.Calls.{GoesTo, IsSpelledIf, stays, leaves, moves, reaction_of};
 ghost use Rattle.session_table.specs.Rows.{LeadsOn};
 ghost use Rattle.node_work.specs.Lasting.{AreOpenedWith, CanLast, StoreTells};
 ghost use Rattle.node_work.specs.Held.Sessions.{Begun, Over, called, counted, more, will_is_due, end_is_due};
@@ -41,7 +41,7 @@ use home_table::HomeTable;
 use mqtt_fields::Text;
 use mqtt_message::Delivery;
 use mqtt_packets::{Connect, Packet};
-use mqtt_sessions::{Reaction, SessionFault};
+use mqtt_sessions::SessionFault;
 use mqtt_topics::Filter;
 use node_bridge::Bridge;
 use node_rows::Opened;
@@ -49,7 +49,7 @@ use replica_rows::changes_by;
 use replica_rows::laws::is_store;
 use replica_store::{Content, Operation, ReplicaStore, delta_of};
 use row_store::Change;
-use session_table::Sessions;
+use session_table::{Addressed, Sessions};
 use std::alloc::Global;
 use std::marker::Model;
 use subscription_set::Entry;
@@ -526,11 +526,12 @@ impl Held {
         connect: &Connect,
         continued: bool,
         changes: &mut Vec<Change>,
-    ) -> Result<Option<Reaction>, SessionFault>
+    ) -> Result<Option<Addressed>, SessionFault>
         requires continued { MayConnectHere client.now continued self.old.sessions }
         requires will { IsPublishableIf connect.now.will }
-        ensures called { IsHeldCall client.now (connects connect.now continued self.old.at) (moves connection) self.old result self.new }
-        ensures spelled { IfOk result (IsSpelledIf self.old.at) }
+        ensures called { IsHeldCall client.now (connects connect.now continued self.old.at) (moves connection) self.old (reaction_of result) self.new }
+        ensures goes { IfOk result (GoesTo client.now self.new.sessions) }
+        ensures spelled { IfOk (reaction_of result) (IsSpelledIf self.old.at) }
         ensures leads { OnOk result (LeadsOn self.old.sessions changes.old.items changes.new.items self.new.sessions) }
     {
         self.sessions
@@ -543,9 +544,10 @@ impl Held {
         client: &Text,
         delivery: Delivery,
         changes: &mut Vec<Change>,
-    ) -> Result<Option<Reaction>, SessionFault>
-        ensures called { IsHeldCall client.now (queues delivery self.old.at) stays self.old result self.new }
-        ensures spelled { IfOk result (IsSpelledIf self.old.at) }
+    ) -> Result<Option<Addressed>, SessionFault>
+        ensures called { IsHeldCall client.now (queues delivery self.old.at) stays self.old (reaction_of result) self.new }
+        ensures goes { IfOk result (GoesTo client.now self.new.sessions) }
+        ensures spelled { IfOk (reaction_of result) (IsSpelledIf self.old.at) }
         ensures leads { OnOk result (LeadsOn self.old.sessions changes.old.items changes.new.items self.new.sessions) }
     {
         self.sessions.queue(client, delivery, self.at, changes)
@@ -558,10 +560,11 @@ impl Held {
         packet: &Packet,
         room: bool,
         changes: &mut Vec<Change>,
-    ) -> Result<Option<Reaction>, SessionFault>
+    ) -> Result<Option<Addressed>, SessionFault>
         requires { written.HasSpelling packet.now }
-        ensures called { IsHeldCall client.now (takes packet.now self.old.at room) stays self.old result self.new }
-        ensures spelled { IfOk result (IsSpelledIf self.old.at) }
+        ensures called { IsHeldCall client.now (takes packet.now self.old.at room) stays self.old (reaction_of result) self.new }
+        ensures goes { IfOk result (GoesTo client.now self.new.sessions) }
+        ensures spelled { IfOk (reaction_of result) (IsSpelledIf self.old.at) }
         ensures leads { OnOk result (LeadsOn self.old.sessions changes.old.items changes.new.items self.new.sessions) }
     {
         self.sessions.packet(client, packet, self.at, room, changes)
@@ -574,10 +577,11 @@ impl Held {
         identifier: u16,
         codes: &[u8],
         changes: &mut Vec<Change>,
-    ) -> Result<Option<Reaction>, SessionFault>
+    ) -> Result<Option<Addressed>, SessionFault>
         requires { MayAnswer identifier codes.now }
-        ensures called { IsHeldCall client.now (answers identifier codes.now) stays self.old result self.new }
-        ensures spelled { IfOk result (IsSpelledIf self.old.at) }
+        ensures called { IsHeldCall client.now (answers identifier codes.now) stays self.old (reaction_of result) self.new }
+        ensures goes { IfOk result (GoesTo client.now self.new.sessions) }
+        ensures spelled { IfOk (reaction_of result) (IsSpelledIf self.old.at) }
         ensures leads { OnOk result (LeadsOn self.old.sessions changes.old.items changes.new.items self.new.sessions) }
     {
         self.sessions.answer(client, identifier, codes, changes)
@@ -588,9 +592,10 @@ impl Held {
         &mut self,
         client: &Text,
         changes: &mut Vec<Change>,
-    ) -> Result<Option<Reaction>, SessionFault>
-        ensures called { IsHeldCall client.now (closes self.old.at) leaves self.old result self.new }
-        ensures spelled { IfOk result (IsSpelledIf self.old.at) }
+    ) -> Result<Option<Addressed>, SessionFault>
+        ensures called { IsHeldCall client.now (closes self.old.at) leaves self.old (reaction_of result) self.new }
+        ensures goes { IfOk result (GoesTo client.now self.new.sessions) }
+        ensures spelled { IfOk (reaction_of result) (IsSpelledIf self.old.at) }
         ensures leads { OnOk result (LeadsOn self.old.sessions changes.old.items changes.new.items self.new.sessions) }
     {
         self.sessions.closed(client, self.at, changes)
@@ -601,9 +606,10 @@ impl Held {
         &mut self,
         client: &Text,
         changes: &mut Vec<Change>,
-    ) -> Result<Option<Reaction>, SessionFault>
-        ensures called { IsHeldCall client.now (ticks self.old.at) stays self.old result self.new }
-        ensures spelled { IfOk result (IsSpelledIf self.old.at) }
+    ) -> Result<Option<Addressed>, SessionFault>
+        ensures called { IsHeldCall client.now (ticks self.old.at) stays self.old (reaction_of result) self.new }
+        ensures goes { IfOk result (GoesTo client.now self.new.sessions) }
+        ensures spelled { IfOk (reaction_of result) (IsSpelledIf self.old.at) }
         ensures leads { OnOk result (LeadsOn self.old.sessions changes.old.items changes.new.items self.new.sessions) }
     {
         self.sessions.tick(client, self.at, changes)
@@ -614,9 +620,10 @@ impl Held {
         &mut self,
         client: &Text,
         changes: &mut Vec<Change>,
-    ) -> Result<Option<Reaction>, SessionFault>
-        ensures called { IsHeldCall client.now (finishes self.old.at) stays self.old result self.new }
-        ensures spelled { IfOk result (IsSpelledIf self.old.at) }
+    ) -> Result<Option<Addressed>, SessionFault>
+        ensures called { IsHeldCall client.now (finishes self.old.at) stays self.old (reaction_of result) self.new }
+        ensures goes { IfOk result (GoesTo client.now self.new.sessions) }
+        ensures spelled { IfOk (reaction_of result) (IsSpelledIf self.old.at) }
         ensures leads { OnOk result (LeadsOn self.old.sessions changes.old.items changes.new.items self.new.sessions) }
     {
         self.sessions.finish(client, self.at, changes)

@@ -8,7 +8,7 @@ ghost use Rattle.node_work.specs.Acts.{Bridge};
 ghost use Rattle.node_work.specs.Doings.{GivesFrame, Misses, Puts, RoutesBy};
 ghost use Rattle.node_work.specs.Handed.{IsHanded};
 ghost use Rattle.node_work.specs.Held.Bridge.{Believed, Carries, Got, Took};
-ghost use Rattle.node_work.specs.Working.{Comes, Acting};
+ghost use Rattle.node_work.specs.Working.{ComesTo, Acting};
 
 use crate::counts::Missed;
 use crate::fault::NodeFault;
@@ -23,7 +23,7 @@ use message_routes::Route;
 impl Work {
     /// Counts what is left out. It takes no memory.
     pub fn miss(&mut self, what: Missed) -> Result<(), NodeFault>
-        ensures comes { Comes (λ x. x) result self.old self.new (Misses what) }
+        ensures comes { ComesTo (λ x. x) result self.old self.new (Misses what) }
         ensures same { self.new.changes ≡ self.old.changes }
         ensures done { result ≡ Ok tt }
     {
@@ -34,7 +34,7 @@ impl Work {
     /// What becomes of a message at another node. Where nothing does, it takes no memory.
     pub fn route(&mut self, peer: u16, route: Route) -> Result<(), NodeFault>
         ensures idle { route ≡ Route.Nothing → (result ≡ Ok tt) × (self.new ≡ self.old) }
-        ensures comes { Comes (λ x. x) result self.old self.new (RoutesBy peer route) }
+        ensures comes { ComesTo (λ x. x) result self.old self.new (RoutesBy peer route) }
     {
         match route {
             Route::Nothing => Ok(()),
@@ -45,7 +45,7 @@ impl Work {
 
     /// Puts a message into the lane to another node, unless too many wait there.
     fn offer(&mut self, peer: u16, message: Forward) -> Result<(), NodeFault>
-        ensures { Comes (λ x. x) result self.old self.new (Puts peer message) }
+        ensures { ComesTo (λ x. x) result self.old self.new (Puts peer message) }
     {
         match self.held.offer(peer, message, &mut self.changes)? {
             Offer::Queued(_) => Ok(()),
@@ -58,7 +58,7 @@ impl Work {
     pub fn release(&mut self, frame: BridgeFrame) -> Result<(), NodeFault>
         requires from { frame.from ≡ self.old.place.id }
         requires carries { Carries self.old.held frame.to frame.body }
-        ensures comes { Comes (λ x. x) result self.old self.new (GivesFrame frame) }
+        ensures comes { ComesTo (λ x. x) result self.old self.new (GivesFrame frame) }
         ensures same { self.new.changes ≡ self.old.changes }
     {
         match written_frame(self.alloc, &frame) {
@@ -70,7 +70,7 @@ impl Work {
 
     /// Another node has taken these dots.
     pub fn believe(&mut self, peer: u16, dots: &Context) -> Result<(), NodeFault>
-        ensures comes { Comes (λ x. x) result self.old self.new (Acting (λ p h. Bridge (Believed peer dots.now))) }
+        ensures comes { ComesTo (λ x. x) result self.old self.new (Acting (λ p h. Bridge (Believed peer dots.now))) }
         ensures same { self.new.changes ≡ self.old.changes }
     {
         self.held.believe(peer, dots)
@@ -80,14 +80,14 @@ impl Work {
     pub fn take(&mut self, peer: u16, number: LaneNumber, lost: u64) -> Result<(), NodeFault>
         requires { is_next peer number self.old.held.bridge ≡ true }
         ensures { (m : Forward) (copies : List Copy) → IsHanded self.old.held m copies lost
-            → Comes (λ x. x) result self.old self.new (Acting (λ p h. Bridge (Took peer number m copies lost))) }
+            → ComesTo (λ x. x) result self.old self.new (Acting (λ p h. Bridge (Took peer number m copies lost))) }
     {
         self.held.take(peer, number, lost, &mut self.changes)
     }
 
     /// Another node has taken the messages up to the number.
     pub fn got(&mut self, peer: u16, number: LaneNumber) -> Result<(), NodeFault>
-        ensures { Comes (λ x. x) result self.old self.new (Acting (λ p h. Bridge (Got peer number))) }
+        ensures { ComesTo (λ x. x) result self.old self.new (Acting (λ p h. Bridge (Got peer number))) }
     {
         self.held.got(peer, number, &mut self.changes)
     }

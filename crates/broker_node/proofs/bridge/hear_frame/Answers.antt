@@ -3,10 +3,10 @@ use Rattle.node_work.specs.declared.counts.Missed.TheVariants.{BadFrame}
 use Rattle.node_work.specs.Doings.{Misses}
 use Rattle.node_work.specs.Frames.{is_for}
 use Rattle.node_work.proofs.Working.{comes_when}
-use Rattle.broker_node.specs.Bridge.{Takes}
+use Rattle.broker_node.specs.Bridge.{TakesBody}
 use Rattle.broker_node.proofs.bridge.hear_frame.Goals as goal
 
 pub returns-then-is_for : goal.returns-then-is_for
 returns-then-is_for c =
     let f = c.args.frame in
-    comes_when (λ x. x) c.take.result c.args.work.now c.take.new.work (λ p h. is_for p f) (Takes f.from f.body) (Misses BadFrame) (sym c.is_for.ensures ∙ c.if-is_for.true) c.take.ensures
+    comes_when (λ x. x) c.take.result c.args.work.now c.take.new.work (λ p h. is_for p f) (TakesBody f.from f.body) (Misses BadFrame) (sym c.is_for.ensures ∙ c.if-is_for.true) c.take.ensures

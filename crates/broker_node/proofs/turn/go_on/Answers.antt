@@ -4,7 +4,7 @@ use Rattle.node_work.specs.Working.{Then}
 use Rattle.node_work.proofs.Working.{comes_as, then_goes, then_stops}
 use Rattle.broker_node.specs.Due.{DoesDue}
 use Rattle.broker_node.specs.Idle.{AsksNothing}
-use Rattle.broker_node.specs.Turns.{Answers, GoesOn}
+use Rattle.broker_node.specs.Turns.{AnswersEvent, AnswersAfterDue}
 use Rattle.broker_node.proofs.Going.{goes, goes_idle}
 use Rattle.broker_node.proofs.turn.go_on.Goals as goal
 
@@ -17,8 +17,8 @@ returns-in_err-do_due c =
     let other = c.in_default.not-Started in
     record {
       idle = λ i. absurd (let z : Err _ ≡ Ok tt = (c.in_err-do_due.ensures.idle (goes_idle kind other w.place w.held i).0).0 in cc);
-      comes = comes_as (λ x. x) r w m (Then DoesDue (λ _. Answers kind)) (GoesOn kind) (λ out acts. goes kind other out w.place w.held acts)
-          (then_stops DoesDue (λ _. Answers kind) (λ x. x) (λ x. x) r c.in_err-do_due.field-0.0 w m c.from_residual.ensures.1 c.in_err-do_due.ensures.comes);
+      comes = comes_as (λ x. x) r w m (Then DoesDue (λ _. AnswersEvent kind)) (AnswersAfterDue kind) (λ out acts. goes kind other out w.place w.held acts)
+          (then_stops DoesDue (λ _. AnswersEvent kind) (λ x. x) (λ x. x) r c.in_err-do_due.field-0.0 w m c.from_residual.ensures.1 c.in_err-do_due.ensures.comes);
     }
 
 pub returns : goal.returns
@@ -34,6 +34,6 @@ returns c =
           let same = (c.in_ok-do_due.ensures.idle both.0).1 in
           let kept = c.answer.ensures.idle (subst (λ (v : WorkView). AsksNothing v.place v.held kind) (sym same) both.1) in
           (kept.0, kept.1 ∙ ap (λ (v : WorkView). v.outputs) same, kept.2 ∙ ap (λ (v : WorkView). v.changes) same);
-      comes = comes_as (λ x. x) r w c.answer.new.work (Then DoesDue (λ _. Answers kind)) (GoesOn kind) (λ out acts. goes kind other out w.place w.held acts)
-          (then_goes DoesDue (λ _. Answers kind) (λ x. x) r w m c.answer.new.work tt c.in_ok-do_due.ensures.comes c.answer.ensures.comes);
+      comes = comes_as (λ x. x) r w c.answer.new.work (Then DoesDue (λ _. AnswersEvent kind)) (AnswersAfterDue kind) (λ out acts. goes kind other out w.place w.held acts)
+          (then_goes DoesDue (λ _. AnswersEvent kind) (λ x. x) r w m c.answer.new.work tt c.in_ok-do_due.ensures.comes c.answer.ensures.comes);
     }

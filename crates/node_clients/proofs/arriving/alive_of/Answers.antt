@@ -2,6 +2,7 @@ use Rattle.std.proofs.Common.{◌≡◌, ◌++◌, length, rules, arith, inl, ap
 use Rattle.node_work.specs.Handed.{found}
 use Rattle.node_work.specs.Passing.{seated, unseated}
 use Rattle.node_clients.proofs.Handing.{found_or_gone}
+use Rattle.node_clients.proofs.Seating.{seated_joined}
 use Rattle.node_clients.proofs.arriving.alive_of.Goals as goal
 
 pub overflow_sub-lost : goal.overflow_sub-lost
@@ -14,6 +15,7 @@ pub returns-clause-ok : goal.returns-clause-ok
 returns-clause-ok c =
     let plain = c.in_ok-plain.plain.items in
     let picked = c.in_ok-picked.picked.items in
+    let h = c.args.work.now.held in
     let held = c.held-held.ensures in
     let own = c.in_ok-found.ensures.ok in
     let all = found_or_gone picked in
@@ -26,7 +28,9 @@ returns-clause-ok c =
         picked = picked;
         are_copies = c.in_ok-plain.ensures.ok;
         are_picked = search rules;
-        copies_are = c.in_ok-copies.ensures.ok ∙ (λ i. c.seated.ensures.seated i ++ c.seated-found.ensures.seated i) ∙ (λ i. seated (held i) plain ++ seated (held i) (own i));
+        copies_are =
+            ap (seated h) (c.in_ok-copies.ensures.ok ∙ ap (λ xs. plain ++ xs) (c.seated-found.ensures.seated ∙ (λ i. seated (held i) (own i))))
+            ∙ seated_joined h plain (found picked);
         lost_are = omega (arith, all, same, lost, c.seated-found.ensures.others);
       },
     )

@@ -3,7 +3,7 @@ use Rattle.std.specs.FinMap as map
 use Rattle.session_table.specs.Seats.{Seats}
 use Rattle.node_work.specs.Held.Sessions.{has_session}
 use Rattle.node_work.specs.View.{HeldView}
-use Rattle.node_work.specs.Working.{Comes, Returns}
+use Rattle.node_work.specs.Working.{ComesTo, Returns}
 use Rattle.node_work.proofs.Working.{comes_when}
 use Rattle.node_clients.specs.Connecting.{Cleans}
 use Rattle.node_clients.specs.Ending.{Finishes}
@@ -16,5 +16,5 @@ returns c =
     let r = c.finish.result in
     let new = c.finish.new.work in
     let has = ap (λ (h : HeldView). has_session client h) (sym c.held.ensures) ∙ ap (λ (s : Seats). is_some (map.get s client)) (sym c.sessions.ensures) ∙ sym c.has.ensures ∙ c.if-not-has.false in
-    subst (λ b. Comes (λ x. x) r w new (Cleans b client)) (sym c.if-not-clean_start.false)
+    subst (λ b. ComesTo (λ x. x) r w new (Cleans b client)) (sym c.if-not-clean_start.false)
     (comes_when (λ x. x) r w new (λ p h. has_session client h) (Finishes client) (Returns tt) has c.finish.ensures)

@@ -1,7 +1,7 @@
 use Rattle.std.proofs.Common.{sym, subst, Ok}
 use Rattle.node_work.specs.Packets.{AreSpelled, CameSpelled}
-use Rattle.node_work.specs.Working.{Comes}
-use Rattle.node_clients.specs.Pieces.{Takes}
+use Rattle.node_work.specs.Working.{ComesTo}
+use Rattle.node_clients.specs.Pieces.{TakesPackets}
 use Rattle.node_clients.proofs.Feeding.{Took, piece_nothing, piece_failed, piece_packets}
 use Rattle.node_clients.proofs.piece.take_piece.Goals as goal
 
@@ -20,5 +20,5 @@ returns-in-Failed-clause-comes c =
 pub returns-in-Packets-clause-comes : goal.returns-in-Packets-clause-comes
 returns-in-Packets-clause-comes c =
     let f = c.in-Packets.field-0 in
-    let takes = subst (λ ps. Comes (λ x. x) c.take.result c.feed.new.self c.take.new.work (Takes c.args.connection ps f.fault)) c.deref.ensures.value c.take.ensures in
+    let takes = subst (λ ps. ComesTo (λ x. x) c.take.result c.feed.new.self c.take.new.work (TakesPackets c.args.connection ps f.fault)) c.deref.ensures.value c.take.ensures in
     piece_packets c.args.connection c.args.bytes.now c.args.work.now c.feed.new.self c.take.new.work c.take.result f (subst (λ came. Took c.args.connection c.args.bytes.now came c.args.work.now c.feed.new.self) c.in-Packets.is c.in_ok-feed.ensures.fed) takes

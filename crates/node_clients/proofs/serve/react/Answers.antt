@@ -1,6 +1,6 @@
 use Rattle.std.proofs.Common.{Some, Err, subst}
 use Rattle.mqtt_sessions.specs.Reaction.{Reaction}
-use Rattle.node_work.specs.Working.{Comes, Did}
+use Rattle.node_work.specs.Working.{ComesTo, Did}
 use Rattle.node_work.proofs.Working.{then_goes, then_stops}
 use Rattle.node_clients.specs.Ending.{ClosesAfter}
 use Rattle.node_clients.specs.Serving.{DoesAsked, DoesReaction, is_dropped}
@@ -18,8 +18,8 @@ returns-in_err-do_asked c =
     let m = c.do_asked.new.work in
     let r = c.from_residual.result in
     let fault = c.in_err-do_asked.field-0.0 in
-    let d = subst (λ b. Comes {T = Unit {0}} (λ x. x) (Err fault) w m (DoesAsked ask b at client p)) c.is_dropped-dropped.ensures c.in_err-do_asked.ensures in
-    subst (λ (a : Reaction). Comes (λ x. x) r w m (DoesReaction at client p room a)) c.reaction.view_is
+    let d = subst (λ b. ComesTo {T = Unit {0}} (λ x. x) (Err fault) w m (DoesAsked ask b at client p)) c.is_dropped-dropped.ensures c.in_err-do_asked.ensures in
+    subst (λ (a : Reaction). ComesTo (λ x. x) r w m (DoesReaction at client p room a)) c.reaction.view_is
     (then_stops (DoesAsked ask (is_dropped p room end) at client p) (λ _. ClosesAfter end at client) (λ x. x) (λ x. x) r fault w m c.from_residual.ensures.1 d)
 
 pub returns : goal.returns
@@ -35,5 +35,5 @@ returns c =
     let n = c.close_after.new.work in
     let r = c.close_after.result in
     let d = subst (λ b. Did w m (DoesAsked ask b at client p (Some tt))) c.is_dropped-dropped.ensures c.in_ok-do_asked.ensures in
-    subst (λ (a : Reaction). Comes (λ x. x) r w n (DoesReaction at client p room a)) c.reaction.view_is
+    subst (λ (a : Reaction). ComesTo (λ x. x) r w n (DoesReaction at client p room a)) c.reaction.view_is
     (then_goes (DoesAsked ask (is_dropped p room end) at client p) (λ _. ClosesAfter end at client) (λ x. x) r w m n tt d c.close_after.ensures.comes)

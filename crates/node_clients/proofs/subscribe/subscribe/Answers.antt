@@ -4,10 +4,10 @@ use Rattle.mqtt_packets.specs.declared.subscribe.SubscribeFilter.{SubscribeFilte
 use Rattle.subscription_set.specs.Entries.{can_be_asked}
 use Rattle.node_work.specs.declared.granted.Granted.{Granted}
 use Rattle.node_work.specs.Held.Calling.{MayAnswer}
-use Rattle.node_work.specs.Working.{Comes, Did, InTurn}
+use Rattle.node_work.specs.Working.{ComesTo, Did, InTurn}
 use Rattle.node_work.proofs.Spelled.{answers_length, map_length, subscribe_answers}
 use Rattle.node_work.proofs.Working.{then_goes, then_stops}
-use Rattle.node_clients.specs.Subscribing.{Acknowledges, Grants, identifier_of, reasons_of}
+use Rattle.node_clients.specs.Subscribing.{SendsSuback, Grants, identifier_of, reasons_of}
 use Rattle.node_clients.proofs.Asking.{asked_each}
 use Rattle.node_clients.proofs.subscribe.subscribe.Goals as goal
 
@@ -33,9 +33,9 @@ returns-in_err-grants c =
     let w = c.args.work.now in
     let m = c.grant_each.new.work in
     let fault = c.in_err-grants.field-0.0 in
-    let d = subst (λ k. Comes {T = List Granted} (λ v. v) (Err fault) w m (InTurn (Grants client k) p.filters [])) c.identifier_of-identifier.ensures
-    (subst (λ fs. Comes {T = List Granted} (λ v. v) (Err fault) w m (InTurn (Grants client c.identifier_of-identifier.result) fs [])) c.as_slice.ensures c.in_err-grants.ensures) in
-    then_stops (InTurn (Grants client (identifier_of p)) p.filters []) (Acknowledges c.args.connection client p.identifier) (λ v. v) (λ x. x) c.from_residual.result fault w m c.from_residual.ensures.1 d
+    let d = subst (λ k. ComesTo {T = List Granted} (λ v. v) (Err fault) w m (InTurn (Grants client k) p.filters [])) c.identifier_of-identifier.ensures
+    (subst (λ fs. ComesTo {T = List Granted} (λ v. v) (Err fault) w m (InTurn (Grants client c.identifier_of-identifier.result) fs [])) c.as_slice.ensures c.in_err-grants.ensures) in
+    then_stops (InTurn (Grants client (identifier_of p)) p.filters []) (SendsSuback c.args.connection client p.identifier) (λ v. v) (λ x. x) c.from_residual.result fault w m c.from_residual.ensures.1 d
 
 pub returns : goal.returns
 returns c =
@@ -48,5 +48,5 @@ returns c =
     let gs = c.in_ok-grants.grants.items in
     let d = subst (λ k. Did w m (InTurn (Grants client k) p.filters [] (Some gs))) c.identifier_of-identifier.ensures
     (subst (λ fs. Did w m (InTurn (Grants client c.identifier_of-identifier.result) fs [] (Some gs))) c.as_slice.ensures c.in_ok-grants.ensures) in
-    let sent = subst (λ xs. Comes (λ x. x) r m n (Acknowledges c.args.connection client p.identifier xs)) c.deref.ensures.value c.acknowledge.ensures in
-    then_goes (InTurn (Grants client (identifier_of p)) p.filters []) (Acknowledges c.args.connection client p.identifier) (λ x. x) r w m n gs d sent
+    let sent = subst (λ xs. ComesTo (λ x. x) r m n (SendsSuback c.args.connection client p.identifier xs)) c.deref.ensures.value c.acknowledge.ensures in
+    then_goes (InTurn (Grants client (identifier_of p)) p.filters []) (SendsSuback c.args.connection client p.identifier) (λ x. x) r w m n gs d sent

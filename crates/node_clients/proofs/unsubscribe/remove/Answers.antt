@@ -3,7 +3,7 @@ use Rattle.mqtt_topics.specs.Topics.{IsFilter}
 use Rattle.node_work.specs.declared.fault.NodeFault.{NodeFault}
 use Rattle.node_clients.specs.Parsing.{IsFilterOf}
 use Rattle.node_work.specs.Doings.{Removes}
-use Rattle.node_work.specs.Working.{Comes, Did, Returns, Then}
+use Rattle.node_work.specs.Working.{ComesTo, Did, Returns, Then}
 use Rattle.node_work.proofs.Working.{comes_else, comes_where, then_stops, did_then, did_nothing}
 use Rattle.node_clients.proofs.unsubscribe.remove.Goals as goal
 
@@ -16,7 +16,7 @@ returns-in_err-stood c =
     let r = c.from_residual-in_err-stood.result in
     let fault = c.in_err-stood.field-0.0 in
     let is = subst (IsFilterOf text) c.in-Some.is c.in_ok-filter.ensures.ok in
-    let d = subst (λ f. Comes {T = Bool} (λ x. x) (Err fault) w m (Removes client (Some f))) is.1 c.in_err-stood.ensures.comes in
+    let d = subst (λ f. ComesTo {T = Bool} (λ x. x) (Err fault) w m (Removes client (Some f))) is.1 c.in_err-stood.ensures.comes in
     comes_where (λ x. x) r w m (IsFilter text) (Then (Removes client (Some text)) (λ stood. Returns (cond stood 0 17))) (Returns 143) is.0
     (then_stops (Removes client (Some text)) (λ stood. Returns (cond stood 0 17)) (λ x. x) (λ x. x) r fault w m c.from_residual-in_err-stood.ensures.1 d)
 

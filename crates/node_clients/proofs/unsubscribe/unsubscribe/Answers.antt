@@ -1,9 +1,9 @@
 use Rattle.std.proofs.Common.{ℕ, List, Some, Err, [], sym, subst}
 use Rattle.node_work.specs.Held.Calling.{MayAnswer}
-use Rattle.node_work.specs.Working.{Comes, Did, InTurn}
+use Rattle.node_work.specs.Working.{ComesTo, Did, InTurn}
 use Rattle.node_work.proofs.Spelled.{answers_length, unsubscribe_answers}
 use Rattle.node_work.proofs.Working.{then_goes, then_stops}
-use Rattle.node_clients.specs.Unsubscribing.{Acknowledges, Unsubscribed}
+use Rattle.node_clients.specs.Unsubscribing.{SendsUnsuback, Unsubscribed}
 use Rattle.node_clients.proofs.unsubscribe.unsubscribe.Goals as goal
 
 pub acknowledge-requires : goal.acknowledge-requires
@@ -22,8 +22,8 @@ returns-in_err-reasons c =
     let m = c.remove_each.new.work in
     let fault = c.in_err-reasons.field-0.0 in
     let One = Unsubscribed client in
-    let d = subst (λ fs. Comes {T = List ℕ} (λ v. v) (Err fault) w m (InTurn One fs [])) c.as_slice.ensures c.in_err-reasons.ensures in
-    then_stops (InTurn One p.filters []) (Acknowledges c.args.connection client p.identifier) (λ v. v) (λ x. x) c.from_residual.result fault w m c.from_residual.ensures.1 d
+    let d = subst (λ fs. ComesTo {T = List ℕ} (λ v. v) (Err fault) w m (InTurn One fs [])) c.as_slice.ensures c.in_err-reasons.ensures in
+    then_stops (InTurn One p.filters []) (SendsUnsuback c.args.connection client p.identifier) (λ v. v) (λ x. x) c.from_residual.result fault w m c.from_residual.ensures.1 d
 
 pub returns : goal.returns
 returns c =
@@ -36,5 +36,5 @@ returns c =
     let codes = c.in_ok-reasons.reasons.items in
     let One = Unsubscribed client in
     let d = subst (λ fs. Did w m (InTurn One fs [] (Some codes))) c.as_slice.ensures c.in_ok-reasons.ensures in
-    let sent = subst (λ xs. Comes (λ x. x) r m n (Acknowledges c.args.connection client p.identifier xs)) c.deref.ensures.value c.acknowledge.ensures in
-    then_goes (InTurn One p.filters []) (Acknowledges c.args.connection client p.identifier) (λ x. x) r w m n codes d sent
+    let sent = subst (λ xs. ComesTo (λ x. x) r m n (SendsUnsuback c.args.connection client p.identifier xs)) c.deref.ensures.value c.acknowledge.ensures in
+    then_goes (InTurn One p.filters []) (SendsUnsuback c.args.connection client p.identifier) (λ x. x) r w m n codes d sent

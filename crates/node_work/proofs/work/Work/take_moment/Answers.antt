@@ -1,5 +1,5 @@
 use Rattle.std.proofs.Common.{Some, refl, subst, not, nat_lt, ◌^◌, ◌≡◌, false}
-use Rattle.node_work.specs.Acts.{Moment}
+use Rattle.node_work.specs.Acts.{MomentTaken}
 use Rattle.node_work.specs.Doings.{TakesMoment}
 use Rattle.node_work.specs.View.{WorkView}
 use Rattle.node_work.specs.Working.{Did}
@@ -13,9 +13,9 @@ returns-clause-comes c =
     let after : WorkView = record before { held = c.take_moment.new.self } in
     let below : not (nat_lt c.args.at (2 ^ 62)) ≡ false = below_moment c.args.at c.if-at-ge-NUMBERS_END.false in
     subst (λ w. Did w after (TakesMoment c.args.at (Some tt))) c.self.view_is
-    (did_numbered (λ p h. not (nat_lt c.args.at (2 ^ 62))) (λ p h. Moment c.args.at) before after below (did_silent (λ p h. Moment c.args.at) before c.take_moment.new.self tt refl refl c.take_moment.ensures))
+    (did_numbered (λ p h. not (nat_lt c.args.at (2 ^ 62))) (λ p h. MomentTaken c.args.at) before after below (did_silent (λ p h. MomentTaken c.args.at) before c.take_moment.new.self tt refl refl c.take_moment.ensures))
 
 pub returns-then-at-ge-NUMBERS_END-clause-comes : goal.returns-then-at-ge-NUMBERS_END-clause-comes
 returns-then-at-ge-NUMBERS_END-clause-comes c =
     let w = c.args.self.now in
-    (w, did_at_end (λ p h. not (nat_lt c.args.at (2 ^ 62))) (λ p h. Moment c.args.at) w w (past_end c.args.at c.if-at-ge-NUMBERS_END.true) refl)
+    (w, did_at_end (λ p h. not (nat_lt c.args.at (2 ^ 62))) (λ p h. MomentTaken c.args.at) w w (past_end c.args.at c.if-at-ge-NUMBERS_END.true) refl)
