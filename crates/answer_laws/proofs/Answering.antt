@@ -214,7 +214,7 @@ takes_then : (p : Place) (h : HeldView) (step : SessionStep) (client : List ℕ)
 takes_then p h step client k mid acts t f = both_answered p h mid (Session (Called step) ∷ []) acts t.runs (takes_alone p h step client k mid t) f
 
 module _ (p : Place) (h mid : HeldView) (step : SessionStep) (c : ℕ) (client : List ℕ) where
-  subscribes_after : (q : Subscribe) (x : Unit {0}) (acts : List Act) → Takes p h step client (packets.Subscribe q) mid → subscribing.Subscribes c client q (Some x) p mid acts → Answered p h (Session (Called step) ∷ acts)
+  subscribes_after : (q : Subscribe) (x : Unit {0}) (acts : List Act) → Takes p h step client (packets.Subscribe q) mid → subscribing.ServesSubscribe c client q (Some x) p mid acts → Answered p h (Session (Called step) ∷ acts)
   subscribes_after q x acts t (inl d) = none_some (sym d.0)
   subscribes_after q x acts t (inr (all, ops, mid2, others, one, runs, (inl d), is)) = none_some (sym d.0)
   subscribes_after q x acts t (inr (all, ops, mid2, others, one, runs, (inr (r, call, mid3, rest, d, calls, more, is2)), is)) =
@@ -242,7 +242,7 @@ module _ (p : Place) (h mid : HeldView) (step : SessionStep) (c : ℕ) (client :
         });
       }))
 
-  unsubscribes_after : (u : Unsubscribe) (x : Unit {0}) (acts : List Act) → Takes p h step client (packets.Unsubscribe u) mid → step.reaction.ask ≡ Some asks.Unsubscribe → unsubscribing.Unsubscribes c client u (Some x) p mid acts → Answered p h (Session (Called step) ∷ acts)
+  unsubscribes_after : (u : Unsubscribe) (x : Unit {0}) (acts : List Act) → Takes p h step client (packets.Unsubscribe u) mid → step.reaction.ask ≡ Some asks.Unsubscribe → unsubscribing.ServesUnsubscribe c client u (Some x) p mid acts → Answered p h (Session (Called step) ∷ acts)
   unsubscribes_after u x acts t ask (inl d) = none_some (sym d.0)
   unsubscribes_after u x acts t ask (inr (all, ops, mid2, others, one, runs, (inl d), is)) = none_some (sym d.0)
   unsubscribes_after u x acts t ask (inr (all, ops, mid2, others, one, runs, (inr (r, call, mid3, rest, d, calls, more, is2)), is)) =
@@ -305,7 +305,7 @@ serves_in : (c : ℕ) (client : List ℕ) (k : Packet) (room : Bool) (x : Unit {
 serves_in c client k room x p h acts (inl d) = none_some (sym d.0)
 serves_in c client k room x p h acts (inr (r, own, mid, rest, one, runs, more, is)) = subst (Answered p h) (sym is) (serves_at c client k room (seat_at client h) r x p h mid own rest one runs more)
 
-serves : (c : ℕ) (client : List ℕ) (k : Packet) → Keeps Answered (serving.Serves c client k)
+serves : (c : ℕ) (client : List ℕ) (k : Packet) → Keeps Answered (serving.ServesPacket c client k)
 serves c client k = record { of = λ x p h acts d. serves_in c client k (serving.room_for client k h) x p h acts d }
 
 -- in every step

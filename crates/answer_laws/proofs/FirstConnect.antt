@@ -19,7 +19,7 @@ use Rattle.session_laws.specs.Runs.{connects}
 use Rattle.session_table.specs.Calls.{moves}
 use Rattle.session_table.specs.Seats.{Seat, begun, run_outs, wills_due, ends_due}
 use Rattle.node_work.specs.declared.outcome.Output.TheVariants.{Send, Close}
-use Rattle.node_work.specs.Acts.{Act, Moment, Connection, Session, Out, Runs, next}
+use Rattle.node_work.specs.Acts.{Act, MomentTaken, Connection, Session, Out, Runs, next}
 use Rattle.node_work.specs.Calling.{CallsAt}
 use Rattle.node_work.specs.Held.Connections.{Accepted, Closed, Fed, Table, changed_at, changed, with_piece, client_at, is_open}
 use Rattle.node_work.specs.Held.Feeding.{cut_of}
@@ -47,11 +47,11 @@ told_by : (fitting : Bool) (c : ℕ) (packet : Packet) (x : Unit {0}) (p : Place
 told_by true c packet x p h acts d = d.1
 told_by false c packet x p h acts d = d.1
 
-closed : (c : ℕ) (x : Unit {0}) (p : Place) (h : HeldView) (acts : List Act) → ending.Closes c (Some x) p h acts → acts ≡ Connection (Closed c) ∷ Out (Close c) ∷ []
+closed : (c : ℕ) (x : Unit {0}) (p : Place) (h : HeldView) (acts : List Act) → ending.ClosesConnection c (Some x) p h acts → acts ≡ Connection (Closed c) ∷ Out (Close c) ∷ []
 closed c x p h acts (inl d) = none_some (sym d.0)
 closed c x p h acts (inr (y, own, mid, rest, one, runs, more, is)) = is ∙ (λ i. one.1 i ++ more.1 i)
 
-refused : (c : ℕ) (q : Connect) (code : ℕ) (reference : Option (List ℕ)) (x : Unit {0}) (p : Place) (h : HeldView) (acts : List Act) → connecting.Refuses c q code reference (Some x) p h acts → IsRefusedBy c q code reference acts
+refused : (c : ℕ) (q : Connect) (code : ℕ) (reference : Option (List ℕ)) (x : Unit {0}) (p : Place) (h : HeldView) (acts : List Act) → connecting.RefusesConnect c q code reference (Some x) p h acts → IsRefusedBy c q code reference acts
 refused c q code reference x p h acts (inl d) = none_some (sym d.0)
 refused c q code reference x p h acts (inr (y, own, mid, rest, one, runs, more, is)) =
     is ∙ (λ i. told_by (fits (limit_in q.properties) (refused_packet code reference)) c (refused_packet code reference) y p h own one i ++ closed c x p mid rest more i)
@@ -217,7 +217,7 @@ first_answered : (c : ℕ) (piece : List ℕ) (q : Connect) (found : ConnectionV
 first_answered c piece q found x p h acts there none d =
     let open_there : is_open c h ≡ true = ap is_some there in
     let bare : client_at c h ≡ None = ap (option_and_then (λ (v : ConnectionView). v.client)) there ∙ none in
-    answered c q x p h acts (subst (λ o. pieces.AnswersBy c (packets.Connect q) o (Some x) p h acts) bare (if_so (is_open c h) (pieces.Answers c (packets.Connect q)) (Returns tt) (Some x) p h acts open_there d))
+    answered c q x p h acts (subst (λ o. pieces.AnswersPacketBy c (packets.Connect q) o (Some x) p h acts) bare (if_so (is_open c h) (pieces.AnswersPacket c (packets.Connect q)) (Returns tt) (Some x) p h acts open_there d))
 
 record Taken (p : Place) (h : HeldView) (c : ℕ) (piece : List ℕ) (q : Connect) (acts : List Act) : Type 0 where
   own : List Act
@@ -226,7 +226,7 @@ record Taken (p : Place) (h : HeldView) (c : ℕ) (piece : List ℕ) (q : Connec
   answer : Answered p h c q own
 
 taken : (c : ℕ) (piece : List ℕ) (q : Connect) (more : List Packet) (fault : Option PacketFault) (found : ConnectionView) (x : Unit {0}) (p : Place) (h : HeldView) (acts : List Act) → map.get h.connections c ≡ Some (with_piece piece found) → found.client ≡ None
-    → pieces.Takes c (packets.Connect q ∷ more) fault (Some x) p h acts → Taken p h c piece q acts
+    → pieces.TakesPackets c (packets.Connect q ∷ more) fault (Some x) p h acts → Taken p h c piece q acts
 taken c piece q more fault found x p h acts there none (inl d) = none_some (sym d.0)
 taken c piece q more fault found x p h acts there none (inr (y, own, mid, rest, (inl one), runs, last, is)) = none_some (sym one.0)
 taken c piece q more fault found x p h acts there none (inr (y, own, mid, rest, (inr (y2, own2, mid2, rest2, one, runs2, others, is2)), runs, last, is)) =
@@ -236,7 +236,7 @@ taken c piece q more fault found x p h acts there none (inr (y, own, mid, rest, 
 module _ (e : Event) (p : Place) (h : HeldView) (c : ℕ) (piece : List ℕ) (kind : e.kind ≡ kinds.Piece c piece) (started : h.started ≡ true) (none : NothingDue (record h { at = max h.at e.at }))
     (found : ConnectionView) (there : map.get h.connections c ≡ Some found) (bare : found.client ≡ None) (sound : found.stream.failed ≡ false) (q : Connect) (more : List Packet) (first : (cut_of found.stream piece).packets ≡ packets.Connect q ∷ more) where
   abbrev at_moment : HeldView
-  at_moment = next h (Moment e.at)
+  at_moment = next h (MomentTaken e.at)
 
   abbrev fed : HeldView
   fed = next at_moment (Connection (Fed c piece))
@@ -250,35 +250,35 @@ module _ (e : Event) (p : Place) (h : HeldView) (c : ℕ) (piece : List ℕ) (ki
   feeds x acts (inr (y, own, mid, rest, one, runs, after, is)) =
       let a = Connection (Fed c piece) in
       let left : mid ≡ fed = left_by p at_moment mid a own one.1 runs in
-      let d = subst (λ v. pieces.Takes c (cut_of found.stream piece).packets (cut_of found.stream piece).fault (Some x) p v rest) left after in (
+      let d = subst (λ v. pieces.TakesPackets c (cut_of found.stream piece).packets (cut_of found.stream piece).fault (Some x) p v rest) left after in (
         rest,
         is ∙ ap (λ zs. zs ++ rest) one.1,
         taken c piece q more (cut_of found.stream piece).fault found x p fed rest (took h.connections c piece found there) bare
-            (subst (λ ps. pieces.Takes c ps (cut_of found.stream piece).fault (Some x) p fed rest) first d),
+            (subst (λ ps. pieces.TakesPackets c ps (cut_of found.stream piece).fault (Some x) p fed rest) first d),
       )
 
   -- the piece, after what is due
-  at_piece : (x : Unit {0}) (acts : List Act) → turns.Answers (kinds.Piece c piece) (Some x) p at_moment acts → TakesPiece acts
+  at_piece : (x : Unit {0}) (acts : List Act) → turns.AnswersEvent (kinds.Piece c piece) (Some x) p at_moment acts → TakesPiece acts
   at_piece x acts d =
       let on = subst (λ o. pieces.PieceAt c piece o (Some x) p at_moment acts) there d in
       feeds x acts (if_not found.stream.failed (pieces.Shuts c) (pieces.Feeds c piece found) (Some x) p at_moment acts sound on)
 
-  goes_on : (x : Unit {0}) (acts : List Act) → turns.GoesOn (kinds.Piece c piece) (Some x) p at_moment acts → TakesPiece acts
+  goes_on : (x : Unit {0}) (acts : List Act) → turns.AnswersAfterDue (kinds.Piece c piece) (Some x) p at_moment acts → TakesPiece acts
   goes_on x acts (inl d) = none_some (sym d.0)
   goes_on x acts (inr (y, own, mid, rest, one, runs, after, is)) =
       let nothing : own ≡ [] = none_due y p at_moment own none one in
       let here : mid ≡ at_moment = no_acts p at_moment mid own nothing runs in
-      let t = at_piece x rest (subst (λ v. turns.Answers (kinds.Piece c piece) (Some x) p v rest) here after) in
+      let t = at_piece x rest (subst (λ v. turns.AnswersEvent (kinds.Piece c piece) (Some x) p v rest) here after) in
       (t.0, is ∙ (λ i. nothing i ++ t.1 i), t.2)
 
   answers_first : (acts : List Act) → turns.Decides e (Some tt) p h acts → AnswersFirst p h e.at c piece q acts
   answers_first acts (inl d) = none_some (sym d.0)
   answers_first acts (inr (y, own, mid, rest, one, runs, after, is)) =
-      let a = Moment e.at in
+      let a = MomentTaken e.at in
       let alone : own ≡ a ∷ [] = numbered (not (nat_lt e.at (2 ^ 62))) y a own one in
       let left : mid ≡ at_moment = left_by p h mid a own alone runs in
       let turn = subst (λ k. turns.Turn k (Some tt) p at_moment rest) kind (subst (λ v. turns.Turn e.kind (Some tt) p v rest) left after) in
-      let t = goes_on tt rest (if_so h.started (turns.GoesOn (kinds.Piece c piece)) (turns.First (kinds.Piece c piece)) (Some tt) p at_moment rest started turn) in
+      let t = goes_on tt rest (if_so h.started (turns.AnswersAfterDue (kinds.Piece c piece)) (turns.AwaitsStart (kinds.Piece c piece)) (Some tt) p at_moment rest started turn) in
       record {
         own = t.2.own;
         rest = t.2.rest;

@@ -31,7 +31,7 @@ use Rattle.session_laws.specs.Runs.{Event, connects, queues, takes, answers, clo
 use Rattle.session_laws.proofs.AliasLaws.{held}
 use Rattle.session_laws.proofs.ElseLaws.{keeps_nothing_else}
 use Rattle.session_laws.proofs.ReplyLaws.{keeps_codes}
-use Rattle.passing_laws.specs.Publishing.{Gives}
+use Rattle.passing_laws.specs.Publishing.{AnswersWith}
 use Rattle.passing_laws.proofs.Acks.{Says, tells, said, given_by, replied, cond_false, true_is_not_false, none_published, connect_none, nothing_given}
 
 abbrev is_suback : Packet → Bool
@@ -157,16 +157,16 @@ module _ (id : ℕ) (codes : List ℕ) where
   by_asked (Some Subscribing) id' codes' s = (refl, ap identifier_in s, ap codes_in s)
   by_asked (Some Unsubscribing) id' codes' s = true_is_not_false (ap is_suback (sym s))
 
-  given_at : (o : Option Link) (old new : State) (id' : ℕ) (codes' : List ℕ) (r : Reaction) → old.link ≡ o → Reacts old (answers id' codes') r new → Gives (suback id codes) r.packets → IsGiven old (answers id' codes')
+  given_at : (o : Option Link) (old new : State) (id' : ℕ) (codes' : List ℕ) (r : Reaction) → old.link ≡ o → Reacts old (answers id' codes') r new → AnswersWith (suback id codes) r.packets → IsGiven old (answers id' codes')
   given_at None old new id' codes' r e h g =
-      absurd (subst (λ (v : Reaction). Gives (suback id codes) v.packets) ((subst (λ l. Comes (answer_on l id' codes' old) r new) e h).0) g)
+      absurd (subst (λ (v : Reaction). AnswersWith (suback id codes) v.packets) ((subst (λ l. Comes (answer_on l id' codes' old) r new) e h).0) g)
   given_at (Some l) old new id' codes' r e h g =
       let s = given_by l.limit (reply_codes l.asked id' codes') (suback id codes) [] (λ z. z)
-      (subst (Gives (suback id codes)) (ap (λ (v : Reaction). v.packets) (keeps_codes old new l id' codes' r e h) ∙ sym (append-nil _)) g) in
+      (subst (AnswersWith (suback id codes)) (ap (λ (v : Reaction). v.packets) (keeps_codes old new l id' codes' r e h) ∙ sym (append-nil _)) g) in
       let t = by_asked l.asked id' codes' s in
       ((λ i. answers (t.1 i) (t.2 i)), ap asked_of e ∙ t.0)
 
-  pub suback_is_of : (old new : State) (e : Event) (r : Reaction) → Reacts old e r new → Gives (suback id codes) r.packets → TakesInUse e r ⊎ IsGiven old e
+  pub suback_is_of : (old new : State) (e : Event) (r : Reaction) → Reacts old e r new → AnswersWith (suback id codes) r.packets → TakesInUse e r ⊎ IsGiven old e
   suback_is_of old new (connects c continued now) r h g = absurd (connect_none (suback id codes) refl (fits (limit_in c.properties) (connack continued c.client old.kept.client)) old c _ now r new refl h.1 g)
   suback_is_of old new (queues d now) r h g = absurd (none_published (suback id codes) r.packets (keeps_nothing_else old new (queues d now) r h) g)
   suback_is_of old new (takes k now room) r h g =

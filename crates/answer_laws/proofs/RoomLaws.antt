@@ -28,14 +28,14 @@ use Rattle.node_work.specs.Acts.{Act}
 use Rattle.node_work.specs.Held.Sessions.{aliases_in, aliases_at}
 use Rattle.node_work.specs.Passing.{has_room}
 use Rattle.node_clients.specs.Serving.{is_name, takes_topic}
-use Rattle.passing_laws.specs.Publishing.{Gives}
+use Rattle.passing_laws.specs.Publishing.{AnswersWith}
 use Rattle.passing_laws.proofs.Acks.{Says, replied}
 use Rattle.cluster_play.specs.Worlds.{World}
 use Rattle.cluster_play.specs.Runs.{Played}
 use Rattle.cluster_play.specs.Histories.{Reached, site, acts_of, operations_amid}
 use Rattle.cluster_play.proofs.Lives.{sessions_are_runs_amid}
 use Rattle.cluster_play.proofs.Showing.{node_holds_amid}
-use Rattle.run_laws.specs.Staying.{Calls}
+use Rattle.run_laws.specs.Staying.{CallsSession}
 use Rattle.run_laws.specs.Publishing.{TakesPublish, events_before}
 use Rattle.run_laws.proofs.Staying.{CalledAt, called_at}
 use Rattle.answer_laws.specs.Rooms.{IsTopicHeld, HoldsTopics, LacksRoomForTopic, HasRoomForTopic, message_of, QuotaIsExact, PassedHasRoom}
@@ -114,7 +114,7 @@ retained_and_none true false e = (refl, refl)
 retained_and_none false b e = absurd (let z : false ≡ true = e in cc)
 
 -- ---- in a run
-module _ (run later : List Played) (m : Played) (w : World) (r : Reached (run ++ m ∷ later) w) (before : List Act) (c : Calls m before) (qos : Qos) (id : ℕ) (t : TakesPublish qos id c.step) (name : IsName (message_of run m before c t).topic) where
+module _ (run later : List Played) (m : Played) (w : World) (r : Reached (run ++ m ∷ later) w) (before : List Act) (c : CallsSession m before) (qos : Qos) (id : ℕ) (t : TakesPublish qos id c.step) (name : IsName (message_of run m before c t).topic) where
   abbrev here : CalledAt run m before c
   here = called_at run later m w r before c
 
@@ -153,13 +153,13 @@ module _ (run later : List Played) (m : Played) (w : World) (r : Reached (run ++
       ∙ ap (λ x. takes_topic x here.finds.held.store) (seen l e) ∙ takes_name topic here.finds.held.store name
 
   -- ---- Quota exceeded
-  quota_by : (q : Packet) → is_quota q ≡ true → Gives q c.step.reaction.packets → (t.publish.retain ≡ true) × LacksRoomForTopic O topic
+  quota_by : (q : Packet) → is_quota q ≡ true → AnswersWith q c.step.reaction.packets → (t.publish.retain ≡ true) × LacksRoomForTopic O topic
   quota_by q is g =
       let x = replied session c.step.after (packets.Publish t.publish) c.step.at t.room c.step.reaction q reacts g in
       let parts = retained_and_none t.publish.retain t.room (quota_refuses (held x.link) session t.publish c.step.at t.room q is (subst (Says q) x.is.is x.says_it)) in
       (parts.0, lacks_room_if O here.finds.held.store state topic (sym (room_is x.link x.linked) ∙ parts.1))
 
-  quota : (number : ℕ) → Gives (puback number 151) c.step.reaction.packets ⊎ Gives (pubrec number 151) c.step.reaction.packets → (t.publish.retain ≡ true) × LacksRoomForTopic O topic
+  quota : (number : ℕ) → AnswersWith (puback number 151) c.step.reaction.packets ⊎ AnswersWith (pubrec number 151) c.step.reaction.packets → (t.publish.retain ≡ true) × LacksRoomForTopic O topic
   quota number (inl g) = quota_by (puback number 151) refl g
   quota number (inr g) = quota_by (pubrec number 151) refl g
 

@@ -88,7 +88,7 @@ serves_in : (c : ℕ) (client : List ℕ) (k : Packet) (room : Bool) (x : Unit {
 serves_in c client k room x p h acts same (inl d) = none_some (sym d.0)
 serves_in c client k room x p h acts same (inr (r, own, mid, rest, one, runs, more, is)) = subst (Roomed p h) (sym is) (serves_at c client k room (seat_at client h) r x p h mid own rest same one runs more)
 
-serves : (c : ℕ) (client : List ℕ) (k : Packet) → Keeps Roomed (serving.Serves c client k)
+serves : (c : ℕ) (client : List ℕ) (k : Packet) → Keeps Roomed (serving.ServesPacket c client k)
 serves c client k = record { of = λ x p h acts d. serves_in c client k (serving.room_for client k h) x p h acts refl d }
 
 -- in every step

@@ -3,7 +3,7 @@ use Rattle.std.proofs.Common.{◌≡◌, inl, inr, ℕ, List, [], ◌∷◌, ◌
 use Rattle.std.specs.List.{AllByRecursion}
 use Rattle.node_work.specs.Acts.{Act, Store, Runs}
 use Rattle.node_work.specs.View.{Place, HeldView}
-use Rattle.passing_laws.specs.Asking.{IsRemoved, AreRemoved}
+use Rattle.passing_laws.specs.Asking.{FilterIsRemoved, FiltersAreRemoved}
 
 abbrev pub IsStore : Act → Type 0
 IsStore (Store a) = Unit {0}
@@ -23,12 +23,12 @@ still p h h' (Store x ∷ acts) a runs = still p runs.0 h' acts a.1 runs.2 ∙ a
 still p h h' (x ∷ acts) a runs = absurd a.0
 
 -- the operations of an UNSUBSCRIBE
-is_removed : (p : Place) (h : HeldView) (client text : List ℕ) (code : ℕ) (acts : List Act) → IsRemoved p h client text code acts → AreStores acts
+is_removed : (p : Place) (h : HeldView) (client text : List ℕ) (code : ℕ) (acts : List Act) → FilterIsRemoved p h client text code acts → AreStores acts
 is_removed p h client text code acts (inl d) = subst AreStores (sym d.2) (tt, tt)
 is_removed p h client text code acts (inr (inl d)) = subst AreStores (sym d.2) tt
 is_removed p h client text code acts (inr (inr d)) = subst AreStores (sym d.2) tt
 
-pub removed_stores : (p : Place) (h : HeldView) (client : List ℕ) (texts : List (List ℕ)) (codes : List ℕ) (acts : List Act) → AreRemoved p h client texts codes acts → AreStores acts
+pub removed_stores : (p : Place) (h : HeldView) (client : List ℕ) (texts : List (List ℕ)) (codes : List ℕ) (acts : List Act) → FiltersAreRemoved p h client texts codes acts → AreStores acts
 removed_stores p h client [] codes acts d = subst AreStores (sym d.1) tt
 removed_stores p h client (text ∷ texts) codes acts (code, others, own, mid, rest, is, all, one, ran, more) =
     subst AreStores (sym all) (stores_both own rest (is_removed p h client text code own one) (removed_stores p mid client texts others rest more))

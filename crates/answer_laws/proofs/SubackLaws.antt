@@ -23,7 +23,7 @@ use Rattle.node_work.specs.Held.Sessions.{SessionStep, Called, IsCall, seat_at}
 use Rattle.node_work.specs.View.{Place, HeldView}
 use Rattle.node_work.proofs.Working.{runs_join}
 use Rattle.node_clients.specs.Subscribing.{identifier_of, reasons_of, granted, stands, wants_retained}
-use Rattle.passing_laws.specs.Publishing.{Gives}
+use Rattle.passing_laws.specs.Publishing.{AnswersWith}
 use Rattle.passing_laws.proofs.Codes.{unsubscribing_after}
 use Rattle.passing_laws.proofs.Splits.{left_by, runs_split}
 use Rattle.node_clients.proofs.Determined.{runs_determined}
@@ -33,12 +33,12 @@ use Rattle.session_table.specs.Seats.{Seat}
 use Rattle.cluster_play.specs.Worlds.{World}
 use Rattle.cluster_play.specs.Runs.{Played}
 use Rattle.cluster_play.specs.Histories.{Reached, site, acts_of, taken_amid, operations_amid}
-use Rattle.cluster_play.specs.Answering.{IsOfferedBy, AreOfferedBy, Acknowledges, BeginsWithOffers}
+use Rattle.cluster_play.specs.Answering.{IsOfferedBy, AreOfferedBy, AcknowledgesFilters, BeginsWithOffers}
 use Rattle.cluster_play.proofs.Amid.{amid_acts}
 use Rattle.cluster_play.proofs.Offering.{answers_as_sent}
 use Rattle.cluster_play.proofs.Operations.{own_some}
 use Rattle.cluster_play.proofs.Showing.{node_holds_amid}
-use Rattle.run_laws.specs.Staying.{Calls}
+use Rattle.run_laws.specs.Staying.{CallsSession}
 use Rattle.run_laws.proofs.Staying.{CalledAt, called_at}
 use Rattle.answer_laws.specs.Filters.{FilterReply, AreFiltersAnswered}
 use Rattle.answer_laws.specs.Subacks.{AnswersEachFilter, SaysInUse, CodesAreExact, IsOfferedFor, AreOfferedFor, with_call, IsOfferedAfter, OffersAreExact}
@@ -87,26 +87,26 @@ module _ (O : List Operation) (at identifier : ℕ) where
       (k.0, k.1, k.2, offered_one p h client f g own one k.0 k.3, all_offered p mid client fs others rest more k.1 k.4)
 
 -- ---- a SUBACK that is given ends nothing
-end_by : (fitting : Bool) (x y : Reaction) (q : Packet) → x.end ≡ None → y.packets ≡ [] → Gives q (cond fitting x y).packets → (cond fitting x y).end ≡ None
+end_by : (fitting : Bool) (x y : Reaction) (q : Packet) → x.end ≡ None → y.packets ≡ [] → AnswersWith q (cond fitting x y).packets → (cond fitting x y).end ≡ None
 end_by true x y q e f g = e
-end_by false x y q e f g = absurd (subst (Gives q) f g)
+end_by false x y q e f g = absurd (subst (AnswersWith q) f g)
 
-reply_goes_on : (limit id : ℕ) (codes : List ℕ) (a : Option Waiting) (q : Packet) → Gives q (reaction_of limit (reply_codes a id codes)).packets → (reaction_of limit (reply_codes a id codes)).end ≡ None
+reply_goes_on : (limit id : ℕ) (codes : List ℕ) (a : Option Waiting) (q : Packet) → AnswersWith q (reaction_of limit (reply_codes a id codes)).packets → (reaction_of limit (reply_codes a id codes)).end ≡ None
 reply_goes_on limit id codes None q g = refl
 reply_goes_on limit id codes (Some Subscribing) q g = end_by (fits limit (suback id codes)) _ _ q refl refl g
 reply_goes_on limit id codes (Some Unsubscribing) q g = end_by (fits limit _) _ _ q refl refl g
 
-goes_on : (old new : SessionState) (id : ℕ) (codes : List ℕ) (r : Reaction) (q : Packet) → Reacts old (answers id codes) r new → Gives q r.packets → r.end ≡ None
+goes_on : (old new : SessionState) (id : ℕ) (codes : List ℕ) (r : Reaction) (q : Packet) → Reacts old (answers id codes) r new → AnswersWith q r.packets → r.end ≡ None
 goes_on old new id codes r q h g = by old.link refl
   where
     by : (o : Option Link) → old.link ≡ o → r.end ≡ None
     by None e = ap (λ (v : Reaction). v.end) ((subst (λ l. Comes (answer_on l id codes old) r new) e h).0)
     by (Some l) e =
         let is = keeps_codes old new l id codes r e h in
-        ap (λ (v : Reaction). v.end) is ∙ reply_goes_on l.limit id codes l.asked q (subst (λ (v : Reaction). Gives q v.packets) is g)
+        ap (λ (v : Reaction). v.end) is ∙ reply_goes_on l.limit id codes l.asked q (subst (λ (v : Reaction). AnswersWith q v.packets) is g)
 
 -- ---- in a run
-module _ (run later : List Played) (m : Played) (w : World) (r : Reached (run ++ m ∷ later) w) (before : List Act) (c : Calls m before) where
+module _ (run later : List Played) (m : Played) (w : World) (r : Reached (run ++ m ∷ later) w) (before : List Act) (c : CallsSession m before) where
   abbrev here : CalledAt run m before c
   here = called_at run later m w r before c
 
@@ -170,7 +170,7 @@ module _ (run later : List Played) (m : Played) (w : World) (r : Reached (run ++
     offers_it : Offering c.step.client id c.step.at d.grants c.after → IsOfferedAfter run m before c id (identifier_of d.subscribe) (replies_of d.subscribe.filters d.grants)
     offers_it o =
         let ack = Acknowledged c.step.client id c.step.at d.grants o.offers in
-        let s : Acknowledges m (with_call before c) = record {
+        let s : AcknowledgesFilters m (with_call before c) = record {
           client = c.step.client;
           packet = id;
           at = c.step.at;
@@ -219,7 +219,7 @@ module _ (run later : List Played) (m : Played) (w : World) (r : Reached (run ++
       let q = answers_asked here.event place start (acts_of m.fate) here.decides before c.after c.step c.acts id codes event in
       elim q.kind [ inl d ↦ both_so id codes q d none | inr d ↦ no_unsubscribe id codes q d waits ]
 
-  suback_is_exact : (id : ℕ) (codes : List ℕ) → Gives (suback id codes) c.step.reaction.packets → SaysInUse m before c id codes ⊎ Exactly id codes
+  suback_is_exact : (id : ℕ) (codes : List ℕ) → AnswersWith (suback id codes) c.step.reaction.packets → SaysInUse m before c id codes ⊎ Exactly id codes
   suback_is_exact id codes g =
       elim (suback_is_of id codes here.finds.seat.session c.step.after c.step.event c.step.reaction here.reacts g) [
         | inl u ↦ inl (record { subscribe = u.subscribe; now = u.now; room = u.room; event = u.event; identifier = u.identifier; told = u.told; nothing = u.nothing })

@@ -14,7 +14,7 @@ use Rattle.mqtt_sessions.specs.Reaction.{Reaction}
 use Rattle.mqtt_sessions.specs.State.{limit_in}
 use Rattle.session_laws.specs.Runs.{connects}
 use Rattle.node_work.specs.declared.outcome.Output.TheVariants.{Send, Close}
-use Rattle.node_work.specs.Acts.{Act, Moment, Connection, Session, Out, Runs}
+use Rattle.node_work.specs.Acts.{Act, MomentTaken, Connection, Session, Out, Runs}
 use Rattle.node_work.specs.Held.Connections.{Accepted, Closed, Fed}
 use Rattle.node_work.specs.Held.Feeding.{cut_of}
 use Rattle.node_work.specs.Held.Sessions.{SessionStep, Begun, Called, has_session}
@@ -100,9 +100,9 @@ pub record IsAccepted (p : Place) (h : HeldView) (c : ℕ) (q : Connect) (acts :
 pub record AnswersFirst (p : Place) (h : HeldView) (at c : ℕ) (piece : List ℕ) (q : Connect) (acts : List Act) : Type 0 where
   pub own : List Act
   pub rest : List Act
-  pub is : acts ≡ Moment at ∷ Connection (Fed c piece) ∷ (own ++ rest)
+  pub is : acts ≡ MomentTaken at ∷ Connection (Fed c piece) ∷ (own ++ rest)
   pub held : HeldView
-  pub runs : Runs p h (Moment at ∷ Connection (Fed c piece) ∷ []) held
+  pub runs : Runs p h (MomentTaken at ∷ Connection (Fed c piece) ∷ []) held
   pub answer :
       ((code : ℕ) × (reference : Option (List ℕ)) × IsRefusedFor p held q code reference × IsRefusedBy c q code reference own)
       ⊎ (IsWelcome p held q × IsAccepted p held c q own)

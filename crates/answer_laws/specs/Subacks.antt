@@ -14,12 +14,12 @@ use Rattle.node_work.specs.declared.granted.Granted.{Granted}
 use Rattle.node_work.specs.Acts.{Act, Session, Acknowledged}
 use Rattle.node_work.specs.Held.Sessions.{Called}
 use Rattle.node_clients.specs.Subscribing.{identifier_of}
-use Rattle.passing_laws.specs.Publishing.{Gives}
+use Rattle.passing_laws.specs.Publishing.{AnswersWith}
 use Rattle.cluster_play.specs.Worlds.{World}
 use Rattle.cluster_play.specs.Runs.{Played}
 use Rattle.cluster_play.specs.Histories.{Reached, site, moment_amid, operations_amid}
 use Rattle.cluster_play.specs.Answering.{BeginsWithOffers}
-use Rattle.run_laws.specs.Staying.{Calls}
+use Rattle.run_laws.specs.Staying.{CallsSession}
 use Rattle.run_laws.specs.Asking.{CallsBefore}
 use Rattle.answer_laws.specs.Filters.{FilterReply, AreFiltersAnswered}
 
@@ -38,7 +38,7 @@ pub record AnswersEachFilter (run : List Played) (m : Played) (before : List Act
 
 -- the call that gives it out takes the SUBSCRIBE itself, whose identifier is in use: Packet Identifier in use for each filter, and nothing
 -- is done
-pub record SaysInUse (m : Played) (before : List Act) (c : Calls m before) (id : ℕ) (codes : List ℕ) : Type 0 where
+pub record SaysInUse (m : Played) (before : List Act) (c : CallsSession m before) (id : ℕ) (codes : List ℕ) : Type 0 where
   pub subscribe : Subscribe
   pub now : ℕ
   pub room : Bool
@@ -51,7 +51,7 @@ pub record SaysInUse (m : Played) (before : List Act) (c : Calls m before) (id :
 abbrev pub CodesAreExact : Type 0
 CodesAreExact =
     (run later : List Played) (m : Played) (w : World) → Reached (run ++ m ∷ later) w
-    → (before : List Act) (c : Calls m before) (id : ℕ) (codes : List ℕ) → Gives (suback id codes) c.step.reaction.packets
+    → (before : List Act) (c : CallsSession m before) (id : ℕ) (codes : List ℕ) → AnswersWith (suback id codes) c.step.reaction.packets
     → SaysInUse m before c id codes ⊎ AnswersEachFilter run m before c.step.client id codes
 
 -- ---- what is offered
@@ -67,12 +67,12 @@ AreOfferedFor O at identifier [] parts = parts ≡ []
 AreOfferedFor O at identifier (r ∷ rs) parts = (own : List Delivery) × (rest : List (List Delivery)) × (parts ≡ own ∷ rest) × IsOfferedFor O at identifier r own × AreOfferedFor O at identifier rs rest
 
 -- the acts of the step up to a call, and with it
-abbrev pub with_call : {m : Played} (before : List Act) → Calls m before → List Act
+abbrev pub with_call : {m : Played} (before : List Act) → CallsSession m before → List Act
 with_call before c = before ++ Session (Called c.step) ∷ []
 
 -- directly after the call that gives the SUBACK the client's session is offered these, one by one, at the node's moment, and nothing
 -- stands between
-pub record IsOfferedAfter (run : List Played) (m : Played) (before : List Act) (c : Calls m before) (id identifier : ℕ) (replies : List FilterReply) : Type 0 where
+pub record IsOfferedAfter (run : List Played) (m : Played) (before : List Act) (c : CallsSession m before) (id identifier : ℕ) (replies : List FilterReply) : Type 0 where
   pub parts : List (List Delivery)
   pub each : AreOfferedFor (operations_amid (site m.fate) run (with_call before c)) c.step.at identifier replies parts
   pub grants : List Granted
@@ -85,5 +85,5 @@ pub record IsOfferedAfter (run : List Played) (m : Played) (before : List Act) (
 abbrev pub OffersAreExact : Type 0
 OffersAreExact =
     (run later : List Played) (m : Played) (w : World) → Reached (run ++ m ∷ later) w
-    → (before : List Act) (c : Calls m before) (id : ℕ) (codes : List ℕ) → Gives (suback id codes) c.step.reaction.packets
+    → (before : List Act) (c : CallsSession m before) (id : ℕ) (codes : List ℕ) → AnswersWith (suback id codes) c.step.reaction.packets
     → SaysInUse m before c id codes ⊎ ((a : AnswersEachFilter run m before c.step.client id codes) × IsOfferedAfter run m before c id (identifier_of a.subscribe) a.replies)

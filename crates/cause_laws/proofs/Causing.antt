@@ -22,7 +22,7 @@ use Rattle.subscription_set.specs.Standing.{any_of, any_below}
 use Rattle.session_laws.specs.Runs.{Event, takes, ticks, finishes}
 use Rattle.session_table.specs.Calls.{stays}
 use Rattle.session_table.specs.Seats.{Seat}
-use Rattle.node_work.specs.Acts.{Act, Store, Made, Session, Bridge, Moment, Named, Passed, Runs}
+use Rattle.node_work.specs.Acts.{Act, Store, Made, Session, Bridge, MomentTaken, Named, Passed, Runs}
 use Rattle.node_work.specs.Calling.{Calls, CallsAt}
 use Rattle.node_work.specs.Doings.{MakesPut, MakesRemove, MakesRemoveBelow, PutsBy, TakesMoment}
 use Rattle.node_work.specs.declared.counts.Missed.TheVariants.{LaneFull}
@@ -31,7 +31,7 @@ use Rattle.node_work.specs.Held.Making.{number_at_end, put_at_end, removal, remo
 use Rattle.node_work.specs.Held.Sessions.{SessionStep, Called, Over, seat_at}
 use Rattle.node_work.specs.Passing.{content_of, turn_at_end}
 use Rattle.node_work.specs.View.{Place, HeldView}
-use Rattle.node_work.specs.Working.{Doing, Returns, Stops, Acting, Numbered, Looks, Finds, If, Where, Then}
+use Rattle.node_work.specs.Working.{Doing, Returns, Stops, Acting, Numbered, Looks, FindsWhere, If, Where, Then}
 use Rattle.node_work.proofs.Working.{runs_join}
 use Rattle.node_clients.specs.Connecting as connecting
 use Rattle.node_clients.specs.Ending as ending
@@ -45,7 +45,7 @@ use Rattle.broker_node.specs.declared.event.Event.{Event as NodeEvent}
 use Rattle.broker_node.specs.declared.event.EventKind.{EventKind}
 use Rattle.broker_node.specs.declared.event.EventKind.TheVariants as kinds
 use Rattle.broker_node.specs.Turns as turns
-use Rattle.passing_laws.specs.Asking.{IsGranted, AreGranted, IsRemoved, AreRemoved}
+use Rattle.passing_laws.specs.Asking.{IsGranted, AreGranted, FilterIsRemoved, FiltersAreRemoved}
 use Rattle.passing_laws.specs.Sending.{IsIn}
 use Rattle.passing_laws.proofs.Keeping.{none_some, calling_by}
 use Rattle.passing_laws.proofs.Passing.{numbered}
@@ -164,7 +164,7 @@ module _ (kind : EventKind) where
   k_looks : {A B : Type 0} (see : Place → HeldView → A) (P : A → Option B → Doing) → ((y : A) → Keeps B (P y)) → Keeps B (Looks see P)
   k_looks see P f = record { of = λ x p h acts d. (f (see p h)).of x p h acts d }
 
-  k_finds : {A B : Type 0} (Is : Place → HeldView → A → Type 0) (P : A → Option B → Doing) → ((y : A) → Keeps B (P y)) → Keeps B (Finds Is P)
+  k_finds : {A B : Type 0} (Is : Place → HeldView → A → Type 0) (P : A → Option B → Doing) → ((y : A) → Keeps B (P y)) → Keeps B (FindsWhere Is P)
   k_finds Is P f = record { of = λ x p h acts d. (f d.0).of x p h acts d.2 }
 
   k_if : {A : Type 0} (b : Bool) (P Q : Option A → Doing) → Keeps A P → Keeps A Q → Keeps A (If b P Q)
@@ -200,7 +200,7 @@ module _ (kind : EventKind) where
       (λ _. k_looks (λ place h. automatic place.id number) (connecting.Accepts c p) f)
 
   takes_moment : (at : ℕ) → Keeps (Unit {0}) (TakesMoment at)
-  takes_moment at = k_numbered (λ p h. not (nat_lt at (2 ^ 62))) (λ p h. Moment at) (λ p h. tt)
+  takes_moment at = k_numbered (λ p h. not (nat_lt at (2 ^ 62))) (λ p h. MomentTaken at) (λ p h. tt)
 
   walks : Walks Keeps
   walks = record {
@@ -320,22 +320,22 @@ module _ (kind : EventKind) where
     over_by true client x v acts d = ends_session client x p v acts d
     over_by false client x v acts d = subst (Caused p v) (sym d.1) (none_caused p v)
 
-    follows : (client : List ℕ) (r : Reaction) (x : Unit {0}) (acts : List Act) → step.reaction ≡ r → ending.Follows client r (Some x) p mid acts → Caused p h (Session (Called step) ∷ acts)
+    follows : (client : List ℕ) (r : Reaction) (x : Unit {0}) (acts : List Act) → step.reaction ≡ r → ending.FollowsReaction client r (Some x) p mid acts → Caused p h (Session (Called step) ∷ acts)
     follows client r x acts e (inl d) = none_some (sym d.0)
     follows client r x acts e (inr (y, own, mid2, rest, one, ran, more, is)) =
         subst (λ zs. Caused p h (Session (Called step) ∷ zs)) (sym is)
         (both_caused p h mid2 (Session (Called step) ∷ own) rest (runs_join p (Session (Called step) ∷ []) own h mid mid2 runs ran) (asked r.ask y own (ap (λ (v : Reaction). v.ask) e) one) (over_by r.over client x mid2 rest more))
 
   -- a session's call whose will and end follow
-  unfollowed : (client : List ℕ) (r : Reaction) (x : Unit {0}) (p : Place) (h : HeldView) (acts : List Act) → r ≡ nothing → ending.Follows client r (Some x) p h acts → Caused p h acts
-  unfollowed client r x p h acts e d = by (subst (λ (v : Reaction). ending.Follows client v (Some x) p h acts) e d)
+  unfollowed : (client : List ℕ) (r : Reaction) (x : Unit {0}) (p : Place) (h : HeldView) (acts : List Act) → r ≡ nothing → ending.FollowsReaction client r (Some x) p h acts → Caused p h acts
+  unfollowed client r x p h acts e d = by (subst (λ (v : Reaction). ending.FollowsReaction client v (Some x) p h acts) e d)
     where
-      by : ending.Follows client nothing (Some x) p h acts → Caused p h acts
+      by : ending.FollowsReaction client nothing (Some x) p h acts → Caused p h acts
       by (inl b) = none_some (sym b.0)
       by (inr (y, own, mid, rest, one, ran, more, is)) = subst (Caused p h) (sym (is ∙ (λ i. one.1 i ++ more.1 i))) (none_caused p h)
 
   follows_at : (client : List ℕ) (event : ℕ → Event) (found : Option Seat) (r : Reaction) (x : Unit {0}) (p : Place) (h mid : HeldView) (own rest : List Act) → CallsAt client event stays found (Some r) p h own → Runs p h own mid
-      → ending.Follows client r (Some x) p mid rest → Caused p h (own ++ rest)
+      → ending.FollowsReaction client r (Some x) p mid rest → Caused p h (own ++ rest)
   follows_at client event None r x p h mid own rest d ran more =
       let same : mid ≡ h = subst (λ zs. Runs p h zs mid) d.1 ran in
       subst (λ zs. Caused p h (zs ++ rest)) (sym d.1) (subst (λ v. Caused p v rest) same (unfollowed client r x p mid rest (let z = d.0 in cc) more))
@@ -343,10 +343,10 @@ module _ (kind : EventKind) where
       let s = calling_by client event stays seat r p h own d in
       subst (λ zs. Caused p h (zs ++ rest)) (sym s.acts_are) (follows p h mid s.step (subst (λ zs. Runs p h zs mid) s.acts_are ran) client r x rest s.reaction_is more)
 
-  follows_of : (client : List ℕ) (event : ℕ → Event) → Keeps (Unit {0}) (Then (Calls client event stays) (ending.Follows client))
+  follows_of : (client : List ℕ) (event : ℕ → Event) → Keeps (Unit {0}) (Then (Calls client event stays) (ending.FollowsReaction client))
   follows_of client event = record { of = λ x p h acts d. by x p h acts d }
     where
-      by : (x : Unit {0}) (p : Place) (h : HeldView) (acts : List Act) → Then (Calls client event stays) (ending.Follows client) (Some x) p h acts → Caused p h acts
+      by : (x : Unit {0}) (p : Place) (h : HeldView) (acts : List Act) → Then (Calls client event stays) (ending.FollowsReaction client) (Some x) p h acts → Caused p h acts
       by x p h acts (inl d) = none_some (sym d.0)
       by x p h acts (inr (r, own, mid, rest, one, ran, more, is)) = subst (Caused p h) (sym is) (follows_at client event (seat_at client h) r x p h mid own rest one ran more)
 
@@ -383,7 +383,7 @@ module _ (kind : EventKind) where
       ]
 
   removed_one : (step : SessionStep) (u : Unsubscribe) (now : ℕ) (room : Bool) → step.event ≡ takes (packets.Unsubscribe u) now room → (p : Place) (h : HeldView) (text : List ℕ) (code : ℕ) (acts : List Act) → IsIn text u.filters
-      → IsRemoved p h step.client text code acts → (before after : List Act) (o : Operation) (held : HeldView) → acts ≡ before ++ Store (Made o) ∷ after → Runs p h before held → ByUnsubscribe step p held o
+      → FilterIsRemoved p h step.client text code acts → (before after : List Act) (o : Operation) (held : HeldView) → acts ≡ before ++ Store (Made o) ∷ after → Runs p h before held → ByUnsubscribe step p held o
   removed_one step u now room event p h text code acts among (inr (inl d)) before after o held is ran = none_there before after (Store (Made o)) (sym d.2 ∙ is)
   removed_one step u now room event p h text code acts among (inr (inr d)) before after o held is ran = none_there before after (Store (Made o)) (sym d.2 ∙ is)
   removed_one step u now room event p h text code acts among (inl d) [] after o held is ran =
@@ -393,7 +393,7 @@ module _ (kind : EventKind) where
   removed_one step u now room event p h text code acts among (inl d) (b ∷ before) after o held is ran = none_there before after (Store (Made o)) (tail_is (sym d.2 ∙ is))
 
   removed_all : (step : SessionStep) (u : Unsubscribe) (now : ℕ) (room : Bool) → step.event ≡ takes (packets.Unsubscribe u) now room → (p : Place) (h : HeldView) (texts : List (List ℕ)) (codes : List ℕ) (acts : List Act)
-      → ((t : List ℕ) → IsIn t texts → IsIn t u.filters) → AreRemoved p h step.client texts codes acts
+      → ((t : List ℕ) → IsIn t texts → IsIn t u.filters) → FiltersAreRemoved p h step.client texts codes acts
       → (before after : List Act) (o : Operation) (held : HeldView) → acts ≡ before ++ Store (Made o) ∷ after → Runs p h before held → ByUnsubscribe step p held o
   removed_all step u now room event p h [] codes acts all d before after o held is ran = none_there before after (Store (Made o)) (sym d.1 ∙ is)
   removed_all step u now room event p h (text ∷ texts) codes acts all (code, others, own, mid, rest, codes_are, parts, one, so, more) before after o held is ran =
@@ -411,7 +411,7 @@ module _ (kind : EventKind) where
     abbrev amid_call : (made before : List Act) → AreOperations made → (after : List Act) (o : Operation) → made ≡ before ++ Store (Made o) ∷ after → AfterCall (Session (Called step) ∷ before)
     amid_call made before only after o is = record { call = step; earlier = []; made = before; is = refl; alone = front before (Store (Made o) ∷ after) (subst AreOperations is only) }
 
-    subscribes : (q : Subscribe) (now : ℕ) (room : Bool) (x : Unit {0}) (acts : List Act) → step.event ≡ takes (packets.Subscribe q) now room → subscribing.Subscribes c client q (Some x) p mid acts → Caused p h (Session (Called step) ∷ acts)
+    subscribes : (q : Subscribe) (now : ℕ) (room : Bool) (x : Unit {0}) (acts : List Act) → step.event ≡ takes (packets.Subscribe q) now room → subscribing.ServesSubscribe c client q (Some x) p mid acts → Caused p h (Session (Called step) ∷ acts)
     subscribes q now room x acts event (inl d) = none_some (sym d.0)
     subscribes q now room x acts event (inr (all, made, mid2, rest, one, ran, more, is)) =
         let g = are_granted client (subscribing.identifier_of q) q.filters [] all p mid made one in
@@ -423,11 +423,11 @@ module _ (kind : EventKind) where
         (λ before after o held e so. inl (amid_call made before only after o e, inl (granted_all step q now room event p mid q.filters codes made (λ f i. i) are before after o held e so)))
         ((acknowledges Keeps walks ticks_of c client q.identifier all).of x p mid2 rest more))
 
-    unsubscribes : (u : Unsubscribe) (now : ℕ) (room : Bool) (x : Unit {0}) (acts : List Act) → step.event ≡ takes (packets.Unsubscribe u) now room → unsubscribing.Unsubscribes c client u (Some x) p mid acts → Caused p h (Session (Called step) ∷ acts)
+    unsubscribes : (u : Unsubscribe) (now : ℕ) (room : Bool) (x : Unit {0}) (acts : List Act) → step.event ≡ takes (packets.Unsubscribe u) now room → unsubscribing.ServesUnsubscribe c client u (Some x) p mid acts → Caused p h (Session (Called step) ∷ acts)
     unsubscribes u now room x acts event (inl d) = none_some (sym d.0)
     unsubscribes u now room x acts event (inr (all, made, mid2, rest, one, ran, more, is)) =
         let g = are_removed client u.filters [] all p mid made one in
-        let are : AreRemoved p mid step.client u.filters g.others made = subst (λ v. AreRemoved p mid v u.filters g.others made) (sym same) g.are in
+        let are : FiltersAreRemoved p mid step.client u.filters g.others made = subst (λ v. FiltersAreRemoved p mid v u.filters g.others made) (sym same) g.are in
         let only : AreOperations made = removed p mid step.client u.filters g.others made are in
         subst (λ zs. Caused p h (Session (Called step) ∷ zs)) (sym is)
         (made_then p h mid step runs mid2 made rest ran
@@ -482,7 +482,7 @@ module _ (kind : EventKind) where
       subst (λ zs. Caused p h (zs ++ rest)) (sym s.acts_are)
       (does_reaction p h mid s.step (subst (λ zs. Runs p h zs mid) s.acts_are ran) c client s.client_is k h.at room r x rest s.event_is s.reaction_is more)
 
-  serves : (c : ℕ) (client : List ℕ) (k : Packet) → Keeps (Unit {0}) (serving.Serves c client k)
+  serves : (c : ℕ) (client : List ℕ) (k : Packet) → Keeps (Unit {0}) (serving.ServesPacket c client k)
   serves c client k = record { of = λ x p h acts d. by (serving.room_for client k h) x p h acts d }
     where
       by : (room : Bool) (x : Unit {0}) (p : Place) (h : HeldView) (acts : List Act) → serving.ServesIn c client k room (Some x) p h acts → Caused p h acts

@@ -24,14 +24,14 @@ use Rattle.subscription_set.specs.declared.entry.Entry.{Entry}
 use Rattle.subscription_set.specs.Standing.{any_of, any_below}
 use Rattle.session_laws.specs.Runs.{Event, connects, queues, takes, answers, closes, ticks, finishes, loses, ends_of}
 use Rattle.session_table.specs.Seats.{Seat}
-use Rattle.node_work.specs.Acts.{Act, Store, Made, Session, Moment, Named, Passed, Runs}
+use Rattle.node_work.specs.Acts.{Act, Store, Made, Session, MomentTaken, Named, Passed, Runs}
 use Rattle.node_work.specs.Calling.{Calls, CallsAt}
 use Rattle.node_work.specs.Doings.{MakesPut, MakesSubscribe, MakesRemove, MakesRemoveBelow, Removes, RemovesBelow, PutsBy, TakesMoment}
 use Rattle.node_work.specs.Held.Making.{number_at_end, put_at_end, removal, removal_below}
 use Rattle.node_work.specs.Held.Sessions.{Over, seat_at}
 use Rattle.node_work.specs.Passing.{turn_at_end}
 use Rattle.node_work.specs.View.{Place, HeldView}
-use Rattle.node_work.specs.Working.{Doing, Returns, Acting, Numbered, Looks, Finds, If, Where, Then}
+use Rattle.node_work.specs.Working.{Doing, Returns, Acting, Numbered, Looks, FindsWhere, If, Where, Then}
 use Rattle.node_work.proofs.Working.{runs_join}
 use Rattle.node_clients.specs.Connecting as connecting
 use Rattle.node_clients.specs.Ending as ending
@@ -137,7 +137,7 @@ module _ (at : ℕ) where
   k_looks : {A B : Type 0} (see : Place → HeldView → A) (P : A → Option B → Doing) → ((y : A) → Halts B (P y)) → Halts B (Looks see P)
   k_looks see P f = record { of = λ p h acts d. (f (see p h)).of p h acts d }
 
-  k_finds : {A B : Type 0} (Is : Place → HeldView → A → Type 0) (P : A → Option B → Doing) → ((y : A) → Halts B (P y)) → Halts B (Finds Is P)
+  k_finds : {A B : Type 0} (Is : Place → HeldView → A → Type 0) (P : A → Option B → Doing) → ((y : A) → Halts B (P y)) → Halts B (FindsWhere Is P)
   k_finds Is P f = record { of = λ p h acts d. (f d.0).of p h acts d.2 }
 
   k_if : {A : Type 0} (b : Bool) (P Q : Option A → Doing) → Halts A P → Halts A Q → Halts A (If b P Q)
@@ -232,7 +232,7 @@ module _ (e : NodeEvent) where
   makes = record { put = makes_put e.at; subscribe = makes_subscribe e.at; remove = removes e.at; end = ends_session }
 
   takes_moment : Does (TakesMoment e.at)
-  takes_moment = k_numbered e.at (λ p h. not (nat_lt e.at (2 ^ 62))) (λ p h. Moment e.at) (late e.at)
+  takes_moment = k_numbered e.at (λ p h. not (nat_lt e.at (2 ^ 62))) (λ p h. MomentTaken e.at) (late e.at)
 
   pub halts : Does (turns.Decides e)
   halts =

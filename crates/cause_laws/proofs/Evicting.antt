@@ -14,7 +14,7 @@ use Rattle.replica_store.specs.Operations.{dot_of, Stands, HaveOwnDots}
 use Rattle.replica_store.specs.States.{State}
 use Rattle.replica_store.specs.StateOf.{IsStateOf}
 use Rattle.replica_store.proofs.Views.{cover_is}
-use Rattle.node_work.specs.Acts.{Act, Store, Made, Moment, Runs, gather, op_in, next}
+use Rattle.node_work.specs.Acts.{Act, Store, Made, MomentTaken, Runs, gather, op_in, next}
 use Rattle.node_work.specs.Doings.{MakesRemove}
 use Rattle.node_work.specs.Held.Making.{number_at_end, removal}
 use Rattle.node_work.specs.View.{Place, HeldView}
@@ -73,7 +73,7 @@ started_by : {A : Type 0} (b : Bool) (P Q : Option A → Doing) (out : Option A)
 started_by true P Q out p h acts e d = d
 started_by false P Q out p h acts e d = absurd (let z : false ≡ true = e in cc)
 
-due_first : (client : List ℕ) (x : Unit {0}) (p : Place) (start h : HeldView) (front acts : List Act) → Runs p start front h → turns.GoesOn (kinds.Evict client) (Some x) p h acts → Evicted p start client (front ++ acts)
+due_first : (client : List ℕ) (x : Unit {0}) (p : Place) (start h : HeldView) (front acts : List Act) → Runs p start front h → turns.AnswersAfterDue (kinds.Evict client) (Some x) p h acts → Evicted p start client (front ++ acts)
 due_first client x p start h front acts ran (inl d) = none_some (sym d.0)
 due_first client x p start h front acts ran (inr (y, own, mid, rest, one, runs, more, is)) =
     subst (Evicted p start client) (append_assoc front own rest ∙ ap (λ zs. front ++ zs) (sym is)) (evicted_after client x p start mid (front ++ own) rest (runs_join p front own start h mid ran runs) more)
@@ -81,12 +81,12 @@ due_first client x p start h front acts ran (inr (y, own, mid, rest, one, runs, 
 evicted : (e : Event) (p : Place) (h : HeldView) (acts : List Act) (client : List ℕ) → e.kind ≡ kinds.Evict client → h.started ≡ true → turns.Decides e (Some tt) p h acts → Evicted p h client acts
 evicted e p h acts client kind started (inl d) = none_some (sym d.0)
 evicted e p h acts client kind started (inr (y, own, mid, rest, one, runs, more, is)) =
-    let a = Moment e.at in
+    let a = MomentTaken e.at in
     let alone : own ≡ a ∷ [] = numbered (not (nat_lt e.at (2 ^ 62))) y a own one in
     let left : mid ≡ next h a = left_by p h mid a own alone runs in
     let turn = subst (λ k. turns.Turn k (Some tt) p mid rest) kind more in
     let on : mid.started ≡ true = ap (λ (v : HeldView). v.started) left ∙ started in
-    subst (Evicted p h client) (sym is) (due_first client tt p h mid own rest runs (started_by mid.started (turns.GoesOn (kinds.Evict client)) (turns.First (kinds.Evict client)) (Some tt) p mid rest on turn))
+    subst (Evicted p h client) (sym is) (due_first client tt p h mid own rest runs (started_by mid.started (turns.AnswersAfterDue (kinds.Evict client)) (turns.AwaitsStart (kinds.Evict client)) (Some tt) p mid rest on turn))
 
 -- ---- in a run
 none_stand : (O : List Operation) (s : State) → HaveOwnDots O → IsStateOf O s → (client : List ℕ) → any_of client None s.subscriptions ≡ false → (dot : Dot) (entry : Entry) → Stands O dot entry → entry.client ≡ client → ⊥

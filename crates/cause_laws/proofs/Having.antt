@@ -18,7 +18,7 @@ use Rattle.subscription_set.specs.Standing.{any_of, any_below}
 use Rattle.session_laws.specs.Runs.{Event, Reacts, ends_of}
 use Rattle.session_laws.proofs.OutcomeLaws.{ends_or_reacts}
 use Rattle.session_table.specs.Seats.{Seat}
-use Rattle.node_work.specs.Acts.{Act, Moment, Began, Moved, Store, Connection, Session, Bridge, Out, Named, Acknowledged, Passed, Dropped, Made, Merged, Allowed, Runs, IsMade}
+use Rattle.node_work.specs.Acts.{Act, MomentTaken, Began, Moved, Store, Connection, Session, Bridge, Out, Named, Acknowledged, Passed, Dropped, Made, Merged, Allowed, Runs, IsMade}
 use Rattle.node_work.specs.Calling.{CallsAt}
 use Rattle.node_work.specs.Doings.{MakesRemove, MakesRemoveBelow, Removes, RemovesBelow, PutsBy, TakesMoment}
 use Rattle.node_work.specs.Held.Bridge.{BridgeAct, Put as Join, Took, Got, Believed, Gave, Left_out, MayBridge}
@@ -26,7 +26,7 @@ use Rattle.node_work.specs.Held.Making.{number_at_end, put_at_end, removal, remo
 use Rattle.node_work.specs.Held.Sessions.{SessionAct, SessionStep, Begun, Called, Over, IsCall, seat_at}
 use Rattle.node_work.specs.Passing.{turn_at_end}
 use Rattle.node_work.specs.View.{Place, HeldView}
-use Rattle.node_work.specs.Working.{Doing, Returns, Stops, Acting, Numbered, Looks, Finds, If, Where, Then}
+use Rattle.node_work.specs.Working.{Doing, Returns, Stops, Acting, Numbered, Looks, FindsWhere, If, Where, Then}
 use Rattle.node_clients.specs.Connecting as connecting
 use Rattle.node_clients.specs.Ending as ending
 use Rattle.node_clients.specs.Naming.{IsNextNumber, automatic}
@@ -42,7 +42,7 @@ use Rattle.cause_laws.proofs.Lower.{Makes, ticks_of, finishes_of, serves, evicts
 
 -- ---- moments, and the numbers of the identifiers that are given
 abbrev IsBelow : Act → Type 0
-IsBelow (Moment at) = at < 2 ^ 62
+IsBelow (MomentTaken at) = at < 2 ^ 62
 IsBelow (Named number) = number < 2 ^ 62
 IsBelow a = Unit {0}
 
@@ -50,7 +50,7 @@ abbrev AreBelow : List Act → Type 0
 AreBelow acts = AllByRecursion IsBelow acts
 
 below_simple : (a : Act) → IsUnnumbered a → IsBelow a
-below_simple (Moment at) u = absurd u
+below_simple (MomentTaken at) u = absurd u
 below_simple (Named number) u = absurd u
 below_simple a u = tt
 
@@ -80,7 +80,7 @@ k_numbered at_end a below = record { of = λ x p h acts d. subst AreBelow (sym (
 k_looks : {A B : Type 0} (see : Place → HeldView → A) (P : A → Option B → Doing) → ((y : A) → Bounds B (P y)) → Bounds B (Looks see P)
 k_looks see P f = record { of = λ x p h acts d. (f (see p h)).of x p h acts d }
 
-k_finds : {A B : Type 0} (Is : Place → HeldView → A → Type 0) (P : A → Option B → Doing) → ((y : A) → Bounds B (P y)) → Bounds B (Finds Is P)
+k_finds : {A B : Type 0} (Is : Place → HeldView → A → Type 0) (P : A → Option B → Doing) → ((y : A) → Bounds B (P y)) → Bounds B (FindsWhere Is P)
 k_finds Is P f = record { of = λ x p h acts d. (f d.0).of x p h acts d.2 }
 
 k_if : {A : Type 0} (b : Bool) (P Q : Option A → Doing) → Bounds A P → Bounds A Q → Bounds A (If b P Q)
@@ -157,7 +157,7 @@ makes = record {
   end = λ client. k_then (ending.RemovesOwn client) (λ _. Acting (λ p h. Session (Over client))) (removes_own client) (λ _. k_acting (λ p h. Session (Over client)) (λ p h. tt));
 }
 
-moment_by : (at : ℕ) (b : Bool) (acts : List Act) → not (nat_lt at (2 ^ 62)) ≡ b → cond b ((◌≡◌ {A = Option (Unit {0})} (Some tt) None) × (acts ≡ [])) ((◌≡◌ {A = Option (Unit {0})} (Some tt) (Some tt)) × (acts ≡ Moment at ∷ [])) → AreBelow acts
+moment_by : (at : ℕ) (b : Bool) (acts : List Act) → not (nat_lt at (2 ^ 62)) ≡ b → cond b ((◌≡◌ {A = Option (Unit {0})} (Some tt) None) × (acts ≡ [])) ((◌≡◌ {A = Option (Unit {0})} (Some tt) (Some tt)) × (acts ≡ MomentTaken at ∷ [])) → AreBelow acts
 moment_by at true acts e d = none_some (sym d.0)
 moment_by at false acts e d = subst AreBelow (sym d.1) (ltb-true at (2 ^ 62) (by (nat_lt at (2 ^ 62)) e), tt)
   where
@@ -217,7 +217,7 @@ session_has p h (Called s) may lacks = has_place h s may lacks.0 lacks.1 lacks.2
 session_has p h (Over client) may lacks = lacks
 
 has_number : (p : Place) (h : HeldView) (a : Act) → Allowed p h a → IsBelow a → LacksNumber p h a → ⊥
-has_number p h (Moment at) may below lacks = apart at below lacks
+has_number p h (MomentTaken at) may below lacks = apart at below lacks
 has_number p h Began may below lacks = lacks
 has_number p h (Moved homes) may below lacks = lacks
 has_number p h (Store (Made o)) may below lacks = has_one p.id h.homes.version h o may lacks

@@ -62,16 +62,16 @@ module _ (K : (A : Type 0) → (Option A → Doing) → Type 0) (w : Walks K) (m
   passes_asked (Some asks.Unsubscribe) = w.returns tt
 
   -- ---- a session's end
-  follows : (client : List ℕ) (r : Reaction) → Does (ending.Follows client r)
+  follows : (client : List ℕ) (r : Reaction) → Does (ending.FollowsReaction client r)
   follows client r =
       w.join (ending.PassesAsked r.ask) (λ _. If r.over (ending.EndsSession client) (Returns tt)) (passes_asked r.ask)
       (λ _. w.by_test r.over (ending.EndsSession client) (Returns tt) (makes.end client) (w.returns tt))
 
   pub ticks_of : (client : List ℕ) → Does (ending.Ticks client)
-  ticks_of client = w.join (Calls client ticks stays) (ending.Follows client) (w.calls client ticks stays) (follows client)
+  ticks_of client = w.join (Calls client ticks stays) (ending.FollowsReaction client) (w.calls client ticks stays) (follows client)
 
   pub finishes_of : (client : List ℕ) → Does (ending.Finishes client)
-  finishes_of client = w.join (Calls client finishes stays) (ending.Follows client) (w.calls client finishes stays) (follows client)
+  finishes_of client = w.join (Calls client finishes stays) (ending.FollowsReaction client) (w.calls client finishes stays) (follows client)
 
   -- ---- SUBSCRIBE and UNSUBSCRIBE
   grants_by : (client : List ℕ) (identifier : ℕ) (f : SubscribeFilter) (stood : Bool) → K Granted (subscribing.GrantsBy client identifier f stood)
@@ -88,9 +88,9 @@ module _ (K : (A : Type 0) → (Option A → Doing) → Type 0) (w : Walks K) (m
       w.by_whether (IsFilter f.filter) (Looks (λ p h. subscribing.stands client f.filter h) (subscribing.GrantsBy client identifier f)) (Returns (subscribing.refused 143))
       (w.looks (λ p h. subscribing.stands client f.filter h) (subscribing.GrantsBy client identifier f) (grants_by client identifier f)) (w.returns (subscribing.refused 143))
 
-  subscribes : (c : ℕ) (client : List ℕ) (q : Subscribe) → Does (subscribing.Subscribes c client q)
+  subscribes : (c : ℕ) (client : List ℕ) (q : Subscribe) → Does (subscribing.ServesSubscribe c client q)
   subscribes c client q =
-      w.join (InTurn (subscribing.Grants client (subscribing.identifier_of q)) q.filters []) (subscribing.Acknowledges c client q.identifier)
+      w.join (InTurn (subscribing.Grants client (subscribing.identifier_of q)) q.filters []) (subscribing.SendsSuback c client q.identifier)
       (in_turn (subscribing.Grants client (subscribing.identifier_of q)) q.filters [] (grants client (subscribing.identifier_of q))) (acknowledges K w ticks_of c client q.identifier)
 
   unsubscribed : (client text : List ℕ) → K ℕ (unsubscribing.Unsubscribed client text)
@@ -98,9 +98,9 @@ module _ (K : (A : Type 0) → (Option A → Doing) → Type 0) (w : Walks K) (m
       w.by_whether (IsFilter text) (Then (Removes client (Some text)) (λ stood. Returns (cond stood 0 17))) (Returns 143)
       (w.join (Removes client (Some text)) (λ stood. Returns (cond stood 0 17)) (makes.remove client (Some text)) (λ stood. w.returns (cond stood 0 17))) (w.returns 143)
 
-  unsubscribes : (c : ℕ) (client : List ℕ) (u : Unsubscribe) → Does (unsubscribing.Unsubscribes c client u)
+  unsubscribes : (c : ℕ) (client : List ℕ) (u : Unsubscribe) → Does (unsubscribing.ServesUnsubscribe c client u)
   unsubscribes c client u =
-      w.join (InTurn (unsubscribing.Unsubscribed client) u.filters []) (unsubscribing.Acknowledges c client u.identifier)
+      w.join (InTurn (unsubscribing.Unsubscribed client) u.filters []) (unsubscribing.SendsUnsuback c client u.identifier)
       (in_turn (unsubscribing.Unsubscribed client) u.filters [] (unsubscribed client)) (unacknowledges K w ticks_of c client u.identifier)
 
   subscribes_by : (c : ℕ) (client : List ℕ) (k : Packet) → Does (serving.SubscribesBy c client k)
@@ -123,7 +123,7 @@ module _ (K : (A : Type 0) → (Option A → Doing) → Type 0) (w : Walks K) (m
       let dropped = serving.is_dropped k room r.end in
       w.join (serving.DoesAsked r.ask dropped c client k) (λ _. ending.ClosesAfter r.end c client) (does_asked r.ask dropped c client k) (λ _. closes_after K w ticks_of r.end c client)
 
-  pub serves : (c : ℕ) (client : List ℕ) (k : Packet) → Does (serving.Serves c client k)
+  pub serves : (c : ℕ) (client : List ℕ) (k : Packet) → Does (serving.ServesPacket c client k)
   serves c client k =
       w.looks (λ place h. serving.room_for client k h) (serving.ServesIn c client k)
       (λ room. w.join (Calls client (λ at. takes k at room) stays) (serving.DoesReaction c client k room) (w.calls client (λ at. takes k at room) stays) (does_reaction c client k room))

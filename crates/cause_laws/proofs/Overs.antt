@@ -12,7 +12,7 @@ use Rattle.replica_store.specs.Making.{subscribe_of, put_of}
 use Rattle.subscription_set.specs.Standing.{any_of, any_below}
 use Rattle.session_laws.specs.Runs.{Event}
 use Rattle.session_table.specs.Seats.{Seat}
-use Rattle.node_work.specs.Acts.{Act, Store, Made, Session, Bridge, Moment, Named, Passed, Runs, next}
+use Rattle.node_work.specs.Acts.{Act, Store, Made, Session, Bridge, MomentTaken, Named, Passed, Runs, next}
 use Rattle.node_work.specs.Calling.{Calls, CallsAt}
 use Rattle.node_work.specs.Doings.{MakesRemove, MakesRemoveBelow, Removes, PutsBy}
 use Rattle.node_work.specs.declared.counts.Missed.TheVariants.{LaneFull}
@@ -21,7 +21,7 @@ use Rattle.node_work.specs.Held.Making.{number_at_end, put_at_end, removal, remo
 use Rattle.node_work.specs.Held.Sessions.{Called, Over, seat_at}
 use Rattle.node_work.specs.Passing.{turn_at_end}
 use Rattle.node_work.specs.View.{Place, HeldView}
-use Rattle.node_work.specs.Working.{Doing, Returns, Stops, Acting, Numbered, Looks, Finds, If, Where, Then}
+use Rattle.node_work.specs.Working.{Doing, Returns, Stops, Acting, Numbered, Looks, FindsWhere, If, Where, Then}
 use Rattle.node_work.proofs.Working.{runs_join}
 use Rattle.node_clients.specs.Connecting as connecting
 use Rattle.node_clients.specs.Ending as ending
@@ -107,7 +107,7 @@ k_numbered at_end a other = record { of = λ x p h acts d. subst (Ended p h) (sy
 k_looks : {A B : Type 0} (see : Place → HeldView → A) (P : A → Option B → Doing) → ((y : A) → Keeps B (P y)) → Keeps B (Looks see P)
 k_looks see P f = record { of = λ x p h acts d. (f (see p h)).of x p h acts d }
 
-k_finds : {A B : Type 0} (Is : Place → HeldView → A → Type 0) (P : A → Option B → Doing) → ((y : A) → Keeps B (P y)) → Keeps B (Finds Is P)
+k_finds : {A B : Type 0} (Is : Place → HeldView → A → Type 0) (P : A → Option B → Doing) → ((y : A) → Keeps B (P y)) → Keeps B (FindsWhere Is P)
 k_finds Is P f = record { of = λ x p h acts d. (f d.0).of x p h acts d.2 }
 
 k_if : {A : Type 0} (b : Bool) (P Q : Option A → Doing) → Keeps A P → Keeps A Q → Keeps A (If b P Q)
@@ -227,4 +227,4 @@ makes = record {
 pub all_ended : (e : NodeEvent) (p : Place) (h : HeldView) (acts : List Act) → turns.Decides e (Some tt) p h acts → Ended p h acts
 all_ended e p h acts d =
     (decides Keeps walks (ticks_of Keeps walks makes) (finishes_of Keeps walks makes) (serves Keeps walks makes) (λ c. record { of = λ x p h acts d. absurd d }) (λ c client. record { of = λ x p h acts d. absurd d }) e
-    (λ client is. evicts Keeps walks makes client) (k_numbered (λ p h. not (nat_lt e.at (2 ^ 62))) (λ p h. Moment e.at) (λ p h client is. cc is))).of tt p h acts d
+    (λ client is. evicts Keeps walks makes client) (k_numbered (λ p h. not (nat_lt e.at (2 ^ 62))) (λ p h. MomentTaken e.at) (λ p h client is. cc is))).of tt p h acts d

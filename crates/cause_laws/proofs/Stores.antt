@@ -3,7 +3,7 @@ use Rattle.std.proofs.Common.{inl, inr, ℕ, List, [], ◌∷◌, ◌++◌, sym,
 use Rattle.mqtt_packets.specs.declared.subscribe.SubscribeFilter.{SubscribeFilter}
 use Rattle.node_work.specs.Acts.{Act}
 use Rattle.node_work.specs.View.{Place, HeldView}
-use Rattle.passing_laws.specs.Asking.{IsGranted, AreGranted, IsRemoved, AreRemoved}
+use Rattle.passing_laws.specs.Asking.{IsGranted, AreGranted, FilterIsRemoved, FiltersAreRemoved}
 use Rattle.cause_laws.specs.Causes.{AreOperations}
 
 both : (xs ys : List Act) → AreOperations xs → AreOperations ys → AreOperations (xs ++ ys)
@@ -26,12 +26,12 @@ granted p h client identifier (f ∷ fs) codes acts (code, others, own, mid, res
     subst AreOperations (sym all) (both own rest (is_granted p h client identifier f code own one) (granted p mid client identifier fs others rest more))
 
 -- those of an UNSUBSCRIBE
-is_removed : (p : Place) (h : HeldView) (client text : List ℕ) (code : ℕ) (acts : List Act) → IsRemoved p h client text code acts → AreOperations acts
+is_removed : (p : Place) (h : HeldView) (client text : List ℕ) (code : ℕ) (acts : List Act) → FilterIsRemoved p h client text code acts → AreOperations acts
 is_removed p h client text code acts (inl d) = subst AreOperations (sym d.2) (tt, tt)
 is_removed p h client text code acts (inr (inl d)) = subst AreOperations (sym d.2) tt
 is_removed p h client text code acts (inr (inr d)) = subst AreOperations (sym d.2) tt
 
-pub removed : (p : Place) (h : HeldView) (client : List ℕ) (texts : List (List ℕ)) (codes : List ℕ) (acts : List Act) → AreRemoved p h client texts codes acts → AreOperations acts
+pub removed : (p : Place) (h : HeldView) (client : List ℕ) (texts : List (List ℕ)) (codes : List ℕ) (acts : List Act) → FiltersAreRemoved p h client texts codes acts → AreOperations acts
 removed p h client [] codes acts d = subst AreOperations (sym d.1) tt
 removed p h client (text ∷ texts) codes acts (code, others, own, mid, rest, is, all, one, ran, more) =
     subst AreOperations (sym all) (both own rest (is_removed p h client text code own one) (removed p mid client texts others rest more))

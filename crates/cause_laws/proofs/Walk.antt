@@ -32,9 +32,9 @@ use Rattle.node_work.specs.declared.counts.Missed.{Missed}
 use Rattle.node_work.specs.declared.granted.Granted.{Granted}
 use Rattle.node_work.specs.declared.counts.Missed.TheVariants.{LaneFull, BadFrame, FrameTooLarge, TableRefused}
 use Rattle.node_work.specs.declared.outcome.Output.TheVariants.{Send, Close}
-use Rattle.node_work.specs.Acts.{Act, StoreAct, Moment, Began, Moved, Store, Made, Merged, Connection, Session, Bridge, Out, Named, Acknowledged, Passed, Dropped}
+use Rattle.node_work.specs.Acts.{Act, StoreAct, MomentTaken, Began, Moved, Store, Made, Merged, Connection, Session, Bridge, Out, Named, Acknowledged, Passed, Dropped}
 use Rattle.node_work.specs.Calling.{Calls, Queues, QueuesOne}
-use Rattle.node_work.specs.Doings.{Sends, Disconnects, Redirects, Misses, Puts, RoutesBy, Routes, TakesMoment, Gives, GivesFrame, is_small}
+use Rattle.node_work.specs.Doings.{Sends, Disconnects, Redirects, Misses, Puts, RoutesBy, Routes, TakesMoment, GivesBody, GivesFrame, is_small}
 use Rattle.node_work.specs.Held.Bridge.{Took, Gave, Got as GotBy, Believed, Left_out}
 use Rattle.node_work.specs.Held.Connections.{Opened, Accepted, Closed, Fed, is_open, client_at, first_at}
 use Rattle.node_work.specs.Held.Feeding.{cut_of}
@@ -43,7 +43,7 @@ use Rattle.node_work.specs.Frames.{is_for, is_other}
 use Rattle.node_work.specs.Packets.{moved_packet, refused_packet}
 use Rattle.node_work.specs.Passing.{turn_at_end}
 use Rattle.node_work.specs.View.{Place, HeldView, ConnectionView}
-use Rattle.node_work.specs.Working.{Doing, Returns, Acting, Numbered, Looks, Finds, If, Where, Then, Each}
+use Rattle.node_work.specs.Working.{Doing, Returns, Acting, Numbered, Looks, FindsWhere, If, Where, Then, Each}
 use Rattle.node_clients.specs.Connecting as connecting
 use Rattle.node_clients.specs.Ending as ending
 use Rattle.node_clients.specs.Moving as moving
@@ -78,12 +78,12 @@ IsSimple a = Unit {0}
 
 -- one that neither takes a moment nor gives a client its identifier
 abbrev pub IsUnnumbered : Act → Type 0
-IsUnnumbered (Moment at) = ⊥
+IsUnnumbered (MomentTaken at) = ⊥
 IsUnnumbered (Named number) = ⊥
 IsUnnumbered a = IsSimple a
 
 pub simple : (a : Act) → IsUnnumbered a → IsSimple a
-simple (Moment at) u = tt
+simple (MomentTaken at) u = tt
 simple (Named number) u = tt
 simple a u = u
 
@@ -92,14 +92,14 @@ pub record Walks (K : (A : Type 0) → (Option A → Doing) → Type 0) : Type 1
   pub returns : {A : Type 0} (y : A) → K A (Returns y)
   pub acting : (a : Place → HeldView → Act) → ((p : Place) (h : HeldView) → IsUnnumbered (a p h)) → K (Unit {0}) (Acting a)
   pub looks : {A B : Type 0} (see : Place → HeldView → A) (P : A → Option B → Doing) → ((y : A) → K B (P y)) → K B (Looks see P)
-  pub finds : {A B : Type 0} (Is : Place → HeldView → A → Type 0) (P : A → Option B → Doing) → ((y : A) → K B (P y)) → K B (Finds Is P)
+  pub finds : {A B : Type 0} (Is : Place → HeldView → A → Type 0) (P : A → Option B → Doing) → ((y : A) → K B (P y)) → K B (FindsWhere Is P)
   pub by_test : {A : Type 0} (b : Bool) (P Q : Option A → Doing) → K A P → K A Q → K A (If b P Q)
   pub by_whether : {A : Type 0} (X : Type 0) (P Q : Option A → Doing) → K A P → K A Q → K A (Where X P Q)
   pub join : {A B : Type 0} (P : Option A → Doing) (Q : A → Option B → Doing) → K A P → ((y : A) → K B (Q y)) → K B (Then P Q)
   pub calls : (client : List ℕ) (event : ℕ → Event) (on : Option ℕ → Option ℕ) → K Reaction (Calls client event on)
   pub passed : (m : Message) (x : passing.Made) → K (Unit {0}) (Numbered turn_at_end (λ p h. Passed m x.0 x.1.0 x.1.1))
   pub puts : (peer : ℕ) (m : Forward) → K (Unit {0}) (Puts peer m)
-  pub names : (c : ℕ) (p : Connect) → ((client : List ℕ) → K (Unit {0}) (connecting.Accepts c p client)) → K (Unit {0}) (Finds IsNextNumber (connecting.NamesBy c p))
+  pub names : (c : ℕ) (p : Connect) → ((client : List ℕ) → K (Unit {0}) (connecting.Accepts c p client)) → K (Unit {0}) (FindsWhere IsNextNumber (connecting.NamesBy c p))
 
 module _ (K : (A : Type 0) → (Option A → Doing) → Type 0) (w : Walks K) where
   abbrev pub Does : (Option (Unit {0}) → Doing) → Type 0
@@ -155,7 +155,7 @@ module _ (K : (A : Type 0) → (Option A → Doing) → Type 0) (w : Walks K) wh
   takes_forward from number m = w.finds (passing.IsHandedOver m) (passing.TakesCopies from number m) (takes_copies from number m)
 
   -- ---- closes, by what is due of a session and what a packet comes to
-  closes_of : (c : ℕ) → Does (ending.Closes c)
+  closes_of : (c : ℕ) → Does (ending.ClosesConnection c)
   closes_of c = w.join (Acting (λ p h. Connection (Closed c))) (λ _. Acting (λ p h. Out (Close c))) (w.acting (λ p h. Connection (Closed c)) (λ p h. tt)) (λ _. w.acting (λ p h. Out (Close c)) (λ p h. tt))
 
   module _ (ticks_of : (client : List ℕ) → Does (ending.Ticks client)) where
@@ -169,7 +169,7 @@ module _ (K : (A : Type 0) → (Option A → Doing) → Type 0) (w : Walks K) wh
         (w.looks (λ p h. will_is_due client h) (λ b. ending.TicksIf b client) (λ b. ticks_if b client)) (λ _. w.looks (λ p h. end_is_due client h) (λ b. ending.TicksIf b client) (λ b. ticks_if b client)))
 
     pub closes_for : (c : ℕ) (client : List ℕ) → Does (ending.ClosesFor c client)
-    closes_for c client = w.join (ending.Closes c) (λ _. ending.Parts client) (closes_of c) (λ _. parts client)
+    closes_for c client = w.join (ending.ClosesConnection c) (λ _. ending.Parts client) (closes_of c) (λ _. parts client)
 
     pub closes_after : (end : Option ℕ) (c : ℕ) (client : List ℕ) → Does (ending.ClosesAfter end c client)
     closes_after None c client = w.returns tt
@@ -189,12 +189,12 @@ module _ (K : (A : Type 0) → (Option A → Doing) → Type 0) (w : Walks K) wh
     offers_after None c client packet given = offers client packet given
     offers_after (Some code) c client packet given = closes_for c client
 
-    pub acknowledges : (c : ℕ) (client : List ℕ) (packet : ℕ) (given : List Granted) → Does (subscribing.Acknowledges c client packet given)
+    pub acknowledges : (c : ℕ) (client : List ℕ) (packet : ℕ) (given : List Granted) → Does (subscribing.SendsSuback c client packet given)
     acknowledges c client packet given =
         w.join (Calls client (λ at. answers packet (subscribing.reasons_of given)) stays) (λ r. subscribing.OffersAfter r.end c client packet given) (w.calls client (λ at. answers packet (subscribing.reasons_of given)) stays)
         (λ r. offers_after r.end c client packet given)
 
-    pub unacknowledges : (c : ℕ) (client : List ℕ) (packet : ℕ) (codes : List ℕ) → Does (unsubscribing.Acknowledges c client packet codes)
+    pub unacknowledges : (c : ℕ) (client : List ℕ) (packet : ℕ) (codes : List ℕ) → Does (unsubscribing.SendsUnsuback c client packet codes)
     unacknowledges c client packet codes =
         w.join (Calls client (λ at. answers packet codes) stays) (λ r. ending.ClosesAfter r.end c client) (w.calls client (λ at. answers packet codes) stays) (λ r. closes_after r.end c client)
 
@@ -202,13 +202,13 @@ module _ (K : (A : Type 0) → (Option A → Doing) → Type 0) (w : Walks K) wh
     closes_by c None = closes_of c
     closes_by c (Some client) = closes_for c client
 
-    module _ (finishes_of : (client : List ℕ) → Does (ending.Finishes client)) (serves : (c : ℕ) (client : List ℕ) (k : Packet) → Does (serving.Serves c client k)) where
+    module _ (finishes_of : (client : List ℕ) → Does (ending.Finishes client)) (serves : (c : ℕ) (client : List ℕ) (k : Packet) → Does (serving.ServesPacket c client k)) where
       -- ---- CONNECT
-      refuses : (c : ℕ) (p : Connect) (code : ℕ) (reference : Option (List ℕ)) → Does (connecting.Refuses c p code reference)
+      refuses : (c : ℕ) (p : Connect) (code : ℕ) (reference : Option (List ℕ)) → Does (connecting.RefusesConnect c p code reference)
       refuses c p code reference =
           let packet = refused_packet code reference in
           let fitting = fits (limit_in p.properties) packet in
-          w.join (connecting.SendsIf fitting c packet) (λ _. ending.Closes c) (w.by_test fitting (Sends c packet) (Returns tt) (sends c packet) (w.returns tt)) (λ _. closes_of c)
+          w.join (connecting.SendsIf fitting c packet) (λ _. ending.ClosesConnection c) (w.by_test fitting (Sends c packet) (Returns tt) (sends c packet) (w.returns tt)) (λ _. closes_of c)
 
       takes_over_from : (client : List ℕ) (on : Option ℕ) → Does (connecting.TakesOverFrom client on)
       takes_over_from client None = w.returns tt
@@ -224,26 +224,26 @@ module _ (K : (A : Type 0) → (Option A → Doing) → Type 0) (w : Walks K) wh
       joins false c client p =
           w.join (Acting (λ place h. Session (Begun client))) (λ _. Calls client (connects p false) (moves c)) (w.acting (λ place h. Session (Begun client)) (λ place h. tt)) (λ _. w.calls client (connects p false) (moves c))
 
-      begins : (c : ℕ) (client : List ℕ) (p : Connect) → Does (connecting.Begins c client p)
+      begins : (c : ℕ) (client : List ℕ) (p : Connect) → Does (connecting.BeginsSession c client p)
       begins c client p =
           w.join (Acting (λ place h. Connection (Accepted c client))) (λ _. Then (connecting.Joins c client p) (λ r. ending.ClosesAfter r.end c client)) (w.acting (λ place h. Connection (Accepted c client)) (λ place h. tt)) (λ _.
           w.join (connecting.Joins c client p) (λ r. ending.ClosesAfter r.end c client) (w.looks (λ place h. has_session client h) (λ has. connecting.JoinsBy has c client p) (λ has. joins has c client p)) (λ r. closes_after r.end c client))
 
       accepts : (c : ℕ) (p : Connect) (client : List ℕ) → Does (connecting.Accepts c p client)
       accepts c p client =
-          w.join (connecting.TakesOver client) (λ _. Then (connecting.Cleans p.clean_start client) (λ _. connecting.Begins c client p))
+          w.join (connecting.TakesOver client) (λ _. Then (connecting.Cleans p.clean_start client) (λ _. connecting.BeginsSession c client p))
           (w.looks (λ place h. connection_at client h) (connecting.TakesOverFrom client) (takes_over_from client)) (λ _.
-          w.join (connecting.Cleans p.clean_start client) (λ _. connecting.Begins c client p) (cleans p.clean_start client) (λ _. begins c client p))
+          w.join (connecting.Cleans p.clean_start client) (λ _. connecting.BeginsSession c client p) (cleans p.clean_start client) (λ _. begins c client p))
 
       comes_home : (c : ℕ) (p : Connect) (node : ℕ) → Does (connecting.ComesHome c p node)
       comes_home c p node =
           w.looks (λ place h. node == place.id) (λ here. If here (connecting.AcceptsAs c p p.client) (connecting.Refers c p node))
           (λ here. w.by_test here (connecting.AcceptsAs c p p.client) (connecting.Refers c p node)
-          (w.by_whether (connecting.WillIsNamed p.will) (connecting.Accepts c p p.client) (connecting.Refuses c p 144 None) (accepts c p p.client) (refuses c p 144 None))
-          (w.looks (λ place h. connecting.address_of h node) (λ reference. connecting.Refuses c p 156 reference) (λ reference. refuses c p 156 reference)))
+          (w.by_whether (connecting.WillIsNamed p.will) (connecting.Accepts c p p.client) (connecting.RefusesConnect c p 144 None) (accepts c p p.client) (refuses c p 144 None))
+          (w.looks (λ place h. connecting.address_of h node) (λ reference. connecting.RefusesConnect c p 156 reference) (λ reference. refuses c p 156 reference)))
 
       connects_at : (bare : Bool) (c : ℕ) (p : Connect) → Does (connecting.ConnectsAt bare c p)
-      connects_at true c p = w.by_whether (connecting.WillIsNamed p.will) (Finds IsNextNumber (connecting.NamesBy c p)) (connecting.Refuses c p 144 None) (w.names c p (accepts c p)) (refuses c p 144 None)
+      connects_at true c p = w.by_whether (connecting.WillIsNamed p.will) (FindsWhere IsNextNumber (connecting.NamesBy c p)) (connecting.RefusesConnect c p 144 None) (w.names c p (accepts c p)) (refuses c p 144 None)
       connects_at false c p = w.finds (ending.IsAtHome p.client) (connecting.ComesHome c p) (comes_home c p)
 
       connects_by : (code : Option ℕ) (c : ℕ) (p : Connect) → Does (connecting.ConnectsBy code c p)
@@ -251,18 +251,18 @@ module _ (K : (A : Type 0) → (Option A → Doing) → Type 0) (w : Walks K) wh
       connects_by None c p = connects_at _ c p
 
       -- ---- pieces
-      first : (c : ℕ) (k : Packet) → Does (pieces.First c k)
+      first : (c : ℕ) (k : Packet) → Does (pieces.AnswersFirstPacket c k)
       first c (packets.Connect p) = connects_by _ c p
       first c _ = closes_of c
 
-      answers_by : (c : ℕ) (k : Packet) (client : Option (List ℕ)) → Does (pieces.AnswersBy c k client)
+      answers_by : (c : ℕ) (k : Packet) (client : Option (List ℕ)) → Does (pieces.AnswersPacketBy c k client)
       answers_by c k None = first c k
       answers_by c k (Some client) = serves c client k
 
       answers_if : (c : ℕ) (k : Packet) → Does (pieces.AnswersIfOpen c k)
       answers_if c k =
-          w.looks (λ p h. is_open c h) (λ is. If is (pieces.Answers c k) (Returns tt))
-          (λ is. w.by_test is (pieces.Answers c k) (Returns tt) (w.looks (λ p h. client_at c h) (pieces.AnswersBy c k) (answers_by c k)) (w.returns tt))
+          w.looks (λ p h. is_open c h) (λ is. If is (pieces.AnswersPacket c k) (Returns tt))
+          (λ is. w.by_test is (pieces.AnswersPacket c k) (Returns tt) (w.looks (λ p h. client_at c h) (pieces.AnswersPacketBy c k) (answers_by c k)) (w.returns tt))
 
       module _ (no_refusal : (c : ℕ) → Does (pieces.SendsRefusal c None)) (no_disconnect : (c : ℕ) (client : List ℕ) → Does (pieces.SendsDisconnect c client None)) (e : NodeEvent) (evicts : (client : List ℕ) → e.kind ≡ kinds.Evict client → Does (turns.Evicts client)) (moment : Does (TakesMoment e.at)) where
         sends_refusal : (c : ℕ) (code : Option ℕ) → Does (pieces.SendsRefusal c code)
@@ -288,13 +288,13 @@ module _ (K : (A : Type 0) → (Option A → Doing) → Type 0) (w : Walks K) wh
             w.looks (λ p h. is_open c h) (λ is. If is (pieces.Breaks c fault) (Returns tt))
             (λ is. w.by_test is (pieces.Breaks c fault) (Returns tt) (w.looks (λ p h. client_at c h) (pieces.BreaksBy c fault) (breaks_by c fault)) (w.returns tt))
 
-        takes_all : (c : ℕ) (ps : List Packet) (fault : Option PacketFault) → Does (pieces.Takes c ps fault)
+        takes_all : (c : ℕ) (ps : List Packet) (fault : Option PacketFault) → Does (pieces.TakesPackets c ps fault)
         takes_all c ps fault = w.join (Each (pieces.AnswersIfOpen c) ps) (λ _. pieces.BreaksIfOpen c fault) (each (pieces.AnswersIfOpen c) ps (answers_if c)) (λ _. breaks_if c fault)
 
         feeds : (c : ℕ) (piece : List ℕ) (found : ConnectionView) → Does (pieces.Feeds c piece found)
         feeds c piece found =
             let cut = cut_of found.stream piece in
-            w.join (Acting (λ p h. Connection (Fed c piece))) (λ _. pieces.Takes c cut.packets cut.fault) (w.acting (λ p h. Connection (Fed c piece)) (λ p h. tt)) (λ _. takes_all c cut.packets cut.fault)
+            w.join (Acting (λ p h. Connection (Fed c piece))) (λ _. pieces.TakesPackets c cut.packets cut.fault) (w.acting (λ p h. Connection (Fed c piece)) (λ p h. tt)) (λ _. takes_all c cut.packets cut.fault)
 
         piece_at : (c : ℕ) (piece : List ℕ) (found : Option ConnectionView) → Does (pieces.PieceAt c piece found)
         piece_at c piece None = w.returns tt
@@ -316,8 +316,8 @@ module _ (K : (A : Type 0) → (Option A → Doing) → Type 0) (w : Walks K) wh
         -- ---- what is due
         runs_out : (d : Due) → Does (due.RunsOut d)
         runs_out d =
-            w.join (Calls d.1 ticks stays) (λ _. Then (ending.Closes d.0) (λ _. Then (Calls d.1 closes leaves) (λ _. Returns tt))) (w.calls d.1 ticks stays) (λ _.
-            w.join (ending.Closes d.0) (λ _. Then (Calls d.1 closes leaves) (λ _. Returns tt)) (closes_of d.0) (λ _.
+            w.join (Calls d.1 ticks stays) (λ _. Then (ending.ClosesConnection d.0) (λ _. Then (Calls d.1 closes leaves) (λ _. Returns tt))) (w.calls d.1 ticks stays) (λ _.
+            w.join (ending.ClosesConnection d.0) (λ _. Then (Calls d.1 closes leaves) (λ _. Returns tt)) (closes_of d.0) (λ _.
             w.join (Calls d.1 closes leaves) (λ _. Returns tt) (w.calls d.1 closes leaves) (λ _. w.returns tt)))
 
         does_due : Does due.DoesDue
@@ -358,8 +358,8 @@ module _ (K : (A : Type 0) → (Option A → Doing) → Type 0) (w : Walks K) wh
 
         takes_table : (homes : Table) → Does (tables.TakesTable homes)
         takes_table homes =
-            w.looks (tables.is_newer homes) (λ newer. If newer (tables.Moves homes) (Misses TableRefused))
-            (λ newer. w.by_test newer (tables.Moves homes) (Misses TableRefused)
+            w.looks (tables.is_newer homes) (λ newer. If newer (tables.TakesNewerTable homes) (Misses TableRefused))
+            (λ newer. w.by_test newer (tables.TakesNewerTable homes) (Misses TableRefused)
             (w.join (Acting (λ p h. Moved homes)) (λ _. tables.SendsAway) (w.acting (λ p h. Moved homes) (λ p h. tt)) (λ _. sends_away)) (misses TableRefused))
 
         starts : Does due.Starts
@@ -372,13 +372,13 @@ module _ (K : (A : Type 0) → (Option A → Doing) → Type 0) (w : Walks K) wh
         gives_frame : (f : BridgeFrame) → Does (GivesFrame f)
         gives_frame f = w.by_test (is_small f) (Acting (λ p h. Bridge (Gave f))) (Misses FrameTooLarge) (w.acting (λ p h. Bridge (Gave f)) (λ p h. tt)) (misses FrameTooLarge)
 
-        gives : (peer : ℕ) (body : HeldView → FrameBody) → Does (Gives peer body)
+        gives : (peer : ℕ) (body : HeldView → FrameBody) → Does (GivesBody peer body)
         gives peer body = w.looks (λ p h. record { from = p.id; to = peer; body = body h }) GivesFrame gives_frame
 
         greets : (peer : ℕ) → Does (bridge.Greets peer)
         greets peer =
-            w.looks (λ p h. is_other p peer) (λ other. If other (Gives peer (λ h. Hello)) (Returns tt))
-            (λ other. w.by_test other (Gives peer (λ h. Hello)) (Returns tt) (gives peer (λ h. Hello)) (w.returns tt))
+            w.looks (λ p h. is_other p peer) (λ other. If other (GivesBody peer (λ h. Hello)) (Returns tt))
+            (λ other. w.by_test other (GivesBody peer (λ h. Hello)) (Returns tt) (gives peer (λ h. Hello)) (w.returns tt))
 
         gives_state : (peer : ℕ) (s : Option State) → Does (bridge.GivesState peer s)
         gives_state peer None = w.returns tt
@@ -402,22 +402,22 @@ module _ (K : (A : Type 0) → (Option A → Doing) → Type 0) (w : Walks K) wh
             w.looks (λ p h. is_next from number h.bridge) (λ next. If next (passing.TakesForward from number m) (Returns tt))
             (λ next. w.by_test next (passing.TakesForward from number m) (Returns tt) (takes_forward from number m) (w.returns tt))
 
-        takes_body : (from : ℕ) (body : FrameBody) → Does (bridge.Takes from body)
+        takes_body : (from : ℕ) (body : FrameBody) → Does (bridge.TakesBody from body)
         takes_body from Hello = tells_taken from
         takes_body from (Delta s) = w.join (Acting (λ p h. Store (Merged s))) (λ _. bridge.TellsTaken from) (w.acting (λ p h. Store (Merged s)) (λ p h. tt)) (λ _. tells_taken from)
         takes_body from (Know dots) = w.acting (λ p h. Bridge (Believed from dots)) (λ p h. tt)
         takes_body from (Carried number m) =
-            w.join (bridge.TakesNext from number m) (λ _. Gives from (λ h. Got (lane_to h.bridge from).took)) (takes_next from number m) (λ _. gives from (λ h. Got (lane_to h.bridge from).took))
+            w.join (bridge.TakesNext from number m) (λ _. GivesBody from (λ h. Got (lane_to h.bridge from).took)) (takes_next from number m) (λ _. gives from (λ h. Got (lane_to h.bridge from).took))
         takes_body from (Got number) = w.acting (λ p h. Bridge (GotBy from number)) (λ p h. tt)
 
         hears_frame : (frame : Option BridgeFrame) → Does (bridge.HearsFrame frame)
         hears_frame None = misses BadFrame
         hears_frame (Some frame) =
-            w.looks (λ p h. is_for p frame) (λ here. If here (bridge.Takes frame.from frame.body) (Misses BadFrame))
-            (λ here. w.by_test here (bridge.Takes frame.from frame.body) (Misses BadFrame) (takes_body frame.from frame.body) (misses BadFrame))
+            w.looks (λ p h. is_for p frame) (λ here. If here (bridge.TakesBody frame.from frame.body) (Misses BadFrame))
+            (λ here. w.by_test here (bridge.TakesBody frame.from frame.body) (Misses BadFrame) (takes_body frame.from frame.body) (misses BadFrame))
 
         -- ---- events
-        answers_kind : (kind : EventKind) → e.kind ≡ kind → Does (turns.Answers kind)
+        answers_kind : (kind : EventKind) → e.kind ≡ kind → Does (turns.AnswersEvent kind)
         answers_kind kinds.Started is = w.returns tt
         answers_kind (kinds.Opened c) is =
             let opens : Option (Unit {0}) → Doing = Acting (λ p h. Connection (Opened c)) in
@@ -431,10 +431,10 @@ module _ (K : (A : Type 0) → (Option A → Doing) → Type 0) (w : Walks K) wh
         answers_kind (kinds.Evict client) is = evicts client is
         answers_kind (kinds.Table homes) is = takes_table homes
 
-        after_due : (kind : EventKind) → e.kind ≡ kind → Does (Then due.DoesDue (λ _. turns.Answers kind))
-        after_due kind is = w.join due.DoesDue (λ _. turns.Answers kind) does_due (λ _. answers_kind kind is)
+        after_due : (kind : EventKind) → e.kind ≡ kind → Does (Then due.DoesDue (λ _. turns.AnswersEvent kind))
+        after_due kind is = w.join due.DoesDue (λ _. turns.AnswersEvent kind) does_due (λ _. answers_kind kind is)
 
-        goes_on : (kind : EventKind) → e.kind ≡ kind → Does (turns.GoesOn kind)
+        goes_on : (kind : EventKind) → e.kind ≡ kind → Does (turns.AnswersAfterDue kind)
         goes_on kinds.Started is = w.returns tt
         goes_on (kinds.Opened c) is = after_due (kinds.Opened c) is
         goes_on (kinds.Piece c bytes) is = after_due (kinds.Piece c bytes) is
@@ -446,7 +446,7 @@ module _ (K : (A : Type 0) → (Option A → Doing) → Type 0) (w : Walks K) wh
         goes_on (kinds.Evict client) is = after_due (kinds.Evict client) is
         goes_on (kinds.Table homes) is = after_due (kinds.Table homes) is
 
-        first_turn : (kind : EventKind) → Does (turns.First kind)
+        first_turn : (kind : EventKind) → Does (turns.AwaitsStart kind)
         first_turn kinds.Started = starts
         first_turn (kinds.Opened c) = w.returns tt
         first_turn (kinds.Piece c bytes) = w.returns tt
@@ -461,4 +461,4 @@ module _ (K : (A : Type 0) → (Option A → Doing) → Type 0) (w : Walks K) wh
         pub decides : Does (turns.Decides e)
         decides =
             w.join (TakesMoment e.at) (λ _. turns.Turn e.kind) moment
-            (λ _. w.looks (λ p h. h.started) (λ is. If is (turns.GoesOn e.kind) (turns.First e.kind)) (λ is. w.by_test is (turns.GoesOn e.kind) (turns.First e.kind) (goes_on e.kind refl) (first_turn e.kind)))
+            (λ _. w.looks (λ p h. h.started) (λ is. If is (turns.AnswersAfterDue e.kind) (turns.AwaitsStart e.kind)) (λ is. w.by_test is (turns.AnswersAfterDue e.kind) (turns.AwaitsStart e.kind) (goes_on e.kind refl) (first_turn e.kind)))

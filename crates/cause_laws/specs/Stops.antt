@@ -8,7 +8,7 @@ use Rattle.bridge_deltas.specs.Lane.{next_number}
 use Rattle.node_bridge.specs.View.{lane_to}
 use Rattle.session_laws.specs.Runs.{ends_of}
 use Rattle.session_table.specs.Seats.{Seat}
-use Rattle.node_work.specs.Acts.{Act, Moment, Store, Made, Session, Bridge, Named, Passed, Runs}
+use Rattle.node_work.specs.Acts.{Act, MomentTaken, Store, Made, Session, Bridge, Named, Passed, Runs}
 use Rattle.node_work.specs.Held.Bridge.{Put as Join}
 use Rattle.node_work.specs.Held.Sessions.{SessionStep, Called, has_session}
 use Rattle.node_work.specs.View.{Place, HeldView}
@@ -60,7 +60,7 @@ LacksPlace h s = (seat : Seat) × (map.get h.sessions s.client ≡ Some seat) ×
 
 -- an act lacks a number that it needs: it would be 2^62 or more
 abbrev pub LacksNumber : Place → HeldView → Act → Type 0
-LacksNumber p h (Moment at) = 2 ^ 62 ≤ at
+LacksNumber p h (MomentTaken at) = 2 ^ 62 ≤ at
 LacksNumber p h (Store (Made o)) = LacksOne p.id h o
 LacksNumber p h (Session (Called s)) = LacksPlace h s
 LacksNumber p h (Bridge (Join peer m)) = 2 ^ 62 ≤ next_number (lane_to h.bridge peer)

@@ -14,7 +14,7 @@ use Rattle.lane_rows.specs.Rows.{Messages, last_put}
 use Rattle.message_lanes.specs.Lanes.{Lanes, Waits, lane_of, new_lane, new_lanes, up_to, with_got, with_put, with_took}
 use Rattle.node_bridge.specs.View.{BridgeView, belief_of, believes, has_lanes, keeps, lane_to, offer_to, with_lane, woken_bridge}
 use Rattle.replica_store.specs.States.{State}
-use Rattle.node_work.specs.Acts.{Act, Moment, Began, Moved, Store, Connection, Session, Bridge, Out, Named, Acknowledged, Passed, Dropped, Made, Merged, Does, Runs, gather, heard_in}
+use Rattle.node_work.specs.Acts.{Act, MomentTaken, Began, Moved, Store, Connection, Session, Bridge, Out, Named, Acknowledged, Passed, Dropped, Made, Merged, Does, Runs, gather, heard_in}
 use Rattle.node_work.specs.Held.Bridge.{BridgeAct, Put, Took, Got, Believed, Gave, Left_out, MayBridge, bridged, heard_of}
 use Rattle.node_work.specs.Held.Connections.{ConnectionAct, Opened, Fed, Accepted, Closed, connected}
 use Rattle.node_work.specs.Held.Sessions.{SessionAct, Begun, Called, Over, called}
@@ -147,7 +147,7 @@ module _ (count : ℕ) (took : ℕ → Dot → Bool) where
   bridge_kept p h (Left_out what) k may so = k
 
   act_kept : (p : Place) (h m : HeldView) (a : Act) → IsKept count took h.bridge → Does p h a m → AreSo took (heard_in a) → IsKept count took m.bridge
-  act_kept p h m (Moment at) k d so = kept_by h.bridge m.bridge (ap (λ (v : HeldView). v.bridge) d.1) k
+  act_kept p h m (MomentTaken at) k d so = kept_by h.bridge m.bridge (ap (λ (v : HeldView). v.bridge) d.1) k
   act_kept p h m Began k d so = kept_by h.bridge m.bridge (ap (λ (v : HeldView). v.bridge) d.1) k
   act_kept p h m (Moved homes) k d so = kept_by h.bridge m.bridge (ap (λ (v : HeldView). v.bridge) d.1) k
   act_kept p h m (Store (Made o)) k d so = kept_by _ m.bridge (ap (λ (v : HeldView). v.bridge) d.1) (keeps_kept h.bridge _ k)

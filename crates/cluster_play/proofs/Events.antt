@@ -8,7 +8,7 @@ use Rattle.broker_node.specs.declared.event.Event.{Event}
 use Rattle.node_keeper.specs.declared.fault.KeeperFault.{KeeperFault}
 use Rattle.node_keeper.specs.declared.fault.KeeperFault.TheVariants.{NoMemory, Rows, NumbersAtEnd, Stopped}
 use Rattle.node_keeper.specs.declared.keeper.Keeper.{Keeper}
-use Rattle.node_keeper.specs.Keeping.{AreOfNone, CannotOpen, Commits, HasCauseAt, IsCounted, Opens, may_be_marked}
+use Rattle.node_keeper.specs.Keeping.{AreOfNone, CannotOpen, Commits, KeeperHasCauseAt, IsCounted, OpensFromRows, may_be_marked}
 use Rattle.node_keeper.specs.Views.{node_of, rows_of}
 use Rattle.node_work.specs.declared.frame.Frame.{Frame}
 use Rattle.node_work.specs.declared.outcome.Output.{Output}
@@ -20,7 +20,7 @@ use Rattle.cluster_play.specs.declared.line.Line.{Line}
 use Rattle.cluster_play.specs.declared.line.Line.TheVariants as lines
 use Rattle.cluster_play.specs.declared.step.Step.TheVariants as steps
 use Rattle.cluster_play.specs.Clusters.{site_of}
-use Rattle.cluster_play.specs.Playing.{IsDoneAt, RunsOut}
+use Rattle.cluster_play.specs.Playing.{IsDoneAt, MemoryRunsOut}
 use Rattle.cluster_play.specs.Worlds.{Site, World, Fate, Released, Lost, Cut, Faulted, Was_down, Restarted, Befalls, IsInMemory, MayStop, MayStayDown, OfEvent, OfCrashBefore, OfCrashAfter, OfRestart, arrival, changed, numbered, stopped, frames_in}
 use Rattle.cluster_play.proofs.Lasts.{none_without}
 use Rattle.cluster_play.proofs.Sites.{get_map, map_set, set_own}
@@ -52,11 +52,11 @@ world_of nodes frames = record { sites = map site_of nodes; frames = frames }
 pub same_site : (k k' : Keeper MemoryRows) → node_of k' ≡ node_of k → rows_of k' ≡ rows_of k → site_of k' ≡ site_of k
 same_site k k' node rows = λ n. record { node = node n; rows = rows n }
 
-was_down : (up : Option HeldView) (p : Place) (e : Event) → HasCauseAt up p e Stopped → up ≡ None
+was_down : (up : Option HeldView) (p : Place) (e : Event) → KeeperHasCauseAt up p e Stopped → up ≡ None
 was_down None p e h = refl
 was_down (Some v) p e h = absurd h
 
-has_cause : (up : Option HeldView) (n : NodeView) (e : Event) (fault : KeeperFault) → n.up ≡ up → fault ≢ Stopped → HasCauseAt up n.place e fault → IsInMemory fault → MayStop n e fault
+has_cause : (up : Option HeldView) (n : NodeView) (e : Event) (fault : KeeperFault) → n.up ≡ up → fault ≢ Stopped → KeeperHasCauseAt up n.place e fault → IsInMemory fault → MayStop n e fault
 has_cause None n e fault is other cause memory = absurd (other cause)
 has_cause (Some h) n e fault is other cause memory = record { held = h; up = is; cause = cause; in_memory = memory }
 
@@ -127,29 +127,29 @@ module _ (nodes : List (Keeper MemoryRows)) (frames : List Frame) (i : ℕ) (k :
 
   -- ---- an event that it doesn't take
   module _ (Of : Site → Fate → Type 0) (e : Event) (may : (fault : KeeperFault) → MayStop (node_of k) e fault → Of (site_of k) (Faulted i fault)) (down : Of (site_of k) (Was_down i)) where
-    faulted : (fault : KeeperFault) (k' : Keeper MemoryRows) → fault ≢ Stopped → HasCauseAt (node_of k).up (node_of k).place e fault → IsInMemory fault → (node_of k') ≡ record (node_of k) { up = None } → (rows_of k') ≡ (rows_of k)
+    faulted : (fault : KeeperFault) (k' : Keeper MemoryRows) → fault ≢ Stopped → KeeperHasCauseAt (node_of k).up (node_of k).place e fault → IsInMemory fault → (node_of k') ≡ record (node_of k) { up = None } → (rows_of k') ≡ (rows_of k)
         → Befalls before i Of (Faulted i fault) (world_of (set nodes i k') frames)
     faulted fault k' other cause memory node rows =
         (site_of k, at, may fault (has_cause (node_of k).up (node_of k) e fault refl other cause memory), (refl, (site_of k', record { node = node; rows = inl rows }, alone k' (site_of k') refl)))
 
-    stayed_down : (k' : Keeper MemoryRows) → HasCauseAt (node_of k).up (node_of k).place e Stopped → ((node_of k).up ≡ None → site_of k' ≡ site_of k) → Befalls before i Of (Was_down i) (world_of (set nodes i k') frames)
+    stayed_down : (k' : Keeper MemoryRows) → KeeperHasCauseAt (node_of k).up (node_of k).place e Stopped → ((node_of k).up ≡ None → site_of k' ≡ site_of k) → Befalls before i Of (Was_down i) (world_of (set nodes i k') frames)
     stayed_down k' cause same_keeper =
         let none = was_down (node_of k).up (node_of k).place e cause in
         (site_of k, at, down, (refl, none, still k' (same_keeper none)))
 
     -- with its line
-    pub refused : (ls ls' : List Line) (fault : KeeperFault) (k' : Keeper MemoryRows) → HasCauseAt (node_of k).up (node_of k).place e fault → IsInMemory fault → ((node_of k).up ≡ None → site_of k' ≡ site_of k) → (node_of k') ≡ record (node_of k) { up = None }
+    pub refused : (ls ls' : List Line) (fault : KeeperFault) (k' : Keeper MemoryRows) → KeeperHasCauseAt (node_of k).up (node_of k).place e fault → IsInMemory fault → ((node_of k).up ≡ None → site_of k' ≡ site_of k) → (node_of k') ≡ record (node_of k) { up = None }
         → (rows_of k') ≡ (rows_of k) → (fault ≡ Stopped → ls' ≡ ls ++ lines.Down i ∷ []) → (fault ≢ Stopped → ls' ≡ ls ++ lines.Fault i fault ∷ []) → IsDoneAt before i Of ls ls' (world_of (set nodes i k') frames)
     refused ls ls' NoMemory k' cause memory stays node rows told other = (Faulted i NoMemory, faulted NoMemory k' (λ x. cc) cause memory node rows, other (λ x. cc))
     refused ls ls' (Rows f) k' cause memory stays node rows told other = (Faulted i (Rows f), faulted (Rows f) k' (λ x. cc) cause memory node rows, other (λ x. cc))
     refused ls ls' NumbersAtEnd k' cause memory stays node rows told other = (Faulted i NumbersAtEnd, faulted NumbersAtEnd k' (λ x. cc) cause memory node rows, other (λ x. cc))
     refused ls ls' Stopped k' cause memory stays node rows told other = (Was_down i, stayed_down k' cause stays, told refl)
 
-  pub event_refused : (e : Event) (ls ls' : List Line) (fault : KeeperFault) (k' : Keeper MemoryRows) → HasCauseAt (node_of k).up (node_of k).place e fault → IsInMemory fault → ((node_of k).up ≡ None → site_of k' ≡ site_of k)
+  pub event_refused : (e : Event) (ls ls' : List Line) (fault : KeeperFault) (k' : Keeper MemoryRows) → KeeperHasCauseAt (node_of k).up (node_of k).place e fault → IsInMemory fault → ((node_of k).up ≡ None → site_of k' ≡ site_of k)
       → (node_of k') ≡ record (node_of k) { up = None } → (rows_of k') ≡ (rows_of k) → (fault ≡ Stopped → ls' ≡ ls ++ lines.Down i ∷ []) → (fault ≢ Stopped → ls' ≡ ls ++ lines.Fault i fault ∷ []) → IsDoneAt before i (OfEvent e) ls ls' (world_of (set nodes i k') frames)
   event_refused e = refused (OfEvent e) e (λ fault m. m) tt
 
-  pub crash_refused : (e : Event) (ls ls' : List Line) (fault : KeeperFault) (k' : Keeper MemoryRows) → HasCauseAt (node_of k).up (node_of k).place e fault → IsInMemory fault → ((node_of k).up ≡ None → site_of k' ≡ site_of k)
+  pub crash_refused : (e : Event) (ls ls' : List Line) (fault : KeeperFault) (k' : Keeper MemoryRows) → KeeperHasCauseAt (node_of k).up (node_of k).place e fault → IsInMemory fault → ((node_of k).up ≡ None → site_of k' ≡ site_of k)
       → (node_of k') ≡ record (node_of k) { up = None } → (rows_of k') ≡ (rows_of k) → (fault ≡ Stopped → ls' ≡ ls ++ lines.Down i ∷ []) → (fault ≢ Stopped → ls' ≡ ls ++ lines.Fault i fault ∷ []) → IsDoneAt before i (OfCrashAfter e) ls ls' (world_of (set nodes i k') frames)
   crash_refused e = refused (OfCrashAfter e) e (λ fault m. m) tt
 
@@ -169,13 +169,13 @@ module _ (nodes : List (Keeper MemoryRows)) (frames : List Frame) (i : ℕ) (k :
   cut_down down = (site_of k, at, tt, (refl, none_held (node_of k).up down, still k refl))
 
   -- ---- a restart
-  pub restarted : (k' : Keeper MemoryRows) → Opens (node_of k).place (node_of k).homes (rows_of k) (rows_of k') (node_of k') → Befalls before i OfRestart (Restarted i) (world_of (set nodes i k') frames)
+  pub restarted : (k' : Keeper MemoryRows) → OpensFromRows (node_of k).place (node_of k).homes (rows_of k) (rows_of k') (node_of k') → Befalls before i OfRestart (Restarted i) (world_of (set nodes i k') frames)
   restarted k' o = (site_of k, at, tt, (refl, (site_of k', record { rows = o.mark; node = o.reopened }, alone k' (site_of k') refl)))
 
   pub not_restarted : (fault : KeeperFault) (k' : Keeper MemoryRows) → MayStayDown (site_of k) fault → (node_of k') ≡ record (node_of k) { up = None } → may_be_marked (node_of k).place.id (rows_of k) (rows_of k') → Befalls before i OfRestart (Faulted i fault) (world_of (set nodes i k') frames)
   not_restarted fault k' may node rows = (site_of k, at, may, (refl, (site_of k', record { node = node; rows = rows }, alone k' (site_of k') refl)))
 
 -- memory that is refused at the event of a delivery is refused at the delivery
-pub delivery_out : (w w' : World) (number at : ℕ) (f : Frame) → numbered w.frames number ≡ Some f → RunsOut w (steps.Event f.to (arrival f at)) w' → RunsOut w (steps.Deliver number at) w'
+pub delivery_out : (w w' : World) (number at : ℕ) (f : Frame) → numbered w.frames number ≡ Some f → MemoryRunsOut w (steps.Event f.to (arrival f at)) w' → MemoryRunsOut w (steps.Deliver number at) w'
 delivery_out w w' number at f there (inl same) = inl same
 delivery_out w w' number at f there (inr x) = inr (x.0, x.1, x.2, x.3, x.4, (f, there, x.5), x.6)

@@ -31,7 +31,7 @@ use Rattle.replica_rows.specs.Rows.{row_at}
 use Rattle.replica_rows.proofs.Empty.{no_rows}
 use Rattle.subscription_set.specs.Standing.{seen_of, contains-seen_of}
 use Rattle.subscription_set.specs.Statuses.{Status}
-use Rattle.node_keeper.specs.Keeping.{AreOf, Opens}
+use Rattle.node_keeper.specs.Keeping.{AreOf, OpensFromRows}
 use Rattle.node_rows.specs.Reading.{AreOpened, IsLasting, RowsTellAll}
 use Rattle.node_rows.specs.Rows.{Lasting, mark, mark_at, mark_key, new_node, node_row}
 use Rattle.node_work.specs.Lasting.{CanLast, IsWoken, lasting}
@@ -151,7 +151,7 @@ fresh_rows p homes rows is key = ap (λ (c : Content). map.get c key) is ∙ mar
 empty_seats : (count : ℕ) (seats : Seats) → AreOpened (new_node count) seats → seats ≡ map.empty
 empty_seats count seats are = map.same_map nat_list_cmp_total alike _ _ (λ client. are client ∙ sym (map.get-empty {X = Seat} (slice_cmp nat_cmp) client))
 
-pub opened_new : RowsTellAll → (id : ℕ) (homes : Table) (rows rows' : Content) (n : NodeView) → rows ≡ map.empty → Opens (place_of id homes) homes rows rows' n
+pub opened_new : RowsTellAll → (id : ℕ) (homes : Table) (rows rows' : Content) (n : NodeView) → rows ≡ map.empty → OpensFromRows (place_of id homes) homes rows rows' n
     → (n ≡ opened id homes) × (rows' ≡ map.insert map.empty mark_key (mark id 0))
 opened_new tell id homes rows rows' n none opens =
     let o = opens.reopened in

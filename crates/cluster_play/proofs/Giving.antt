@@ -9,7 +9,7 @@ use Rattle.mqtt_sessions.specs.Reaction.{Reaction}
 use Rattle.node_work.specs.declared.frame.Frame.{Frame}
 use Rattle.node_work.specs.declared.outcome.Output.{Output}
 use Rattle.node_work.specs.declared.outcome.Output.TheVariants.{Send, Close, Frame as Release}
-use Rattle.node_work.specs.Acts.{Act, Moment, Began, Moved, Store, Connection, Session, Bridge, Out, Named, Acknowledged, Passed, Dropped, Runs, gather, output_in}
+use Rattle.node_work.specs.Acts.{Act, MomentTaken, Began, Moved, Store, Connection, Session, Bridge, Out, Named, Acknowledged, Passed, Dropped, Runs, gather, output_in}
 use Rattle.node_work.specs.Held.Bridge.{Put, Took, Got, Believed, Gave, Left_out, written_frame}
 use Rattle.node_work.specs.Held.Sessions.{SessionAct, Begun, Called, Over, outputs_on, last_of, packet_output, session_outputs}
 use Rattle.node_work.specs.View.{Place, HeldView}
@@ -49,7 +49,7 @@ no_session_frame (Over client) more = refl
 -- a frame goes out only by an act of its own
 pub given_out : (p : Place) (acts : List Act) (h h' : HeldView) → Runs p h acts h' → (k : ℕ) (sent : Frame) → slice_get (frames_in (gather output_in acts)) k ≡ Some sent → GivesOut acts sent
 given_out p [] h h' r k sent e = none-some e
-given_out p (Moment at ∷ acts) h h' r k sent e = after_act (Moment at) acts sent (given_out p acts r.0 h' r.2 k sent e)
+given_out p (MomentTaken at ∷ acts) h h' r k sent e = after_act (MomentTaken at) acts sent (given_out p acts r.0 h' r.2 k sent e)
 given_out p (Began ∷ acts) h h' r k sent e = after_act Began acts sent (given_out p acts r.0 h' r.2 k sent e)
 given_out p (Moved homes ∷ acts) h h' r k sent e = after_act (Moved homes) acts sent (given_out p acts r.0 h' r.2 k sent e)
 given_out p (Store a ∷ acts) h h' r k sent e = after_act (Store a) acts sent (given_out p acts r.0 h' r.2 k sent e)

@@ -11,7 +11,7 @@ use Rattle.replica_store.specs.StateOf.{delta_of}
 use Rattle.replica_store.specs.Making.{next_dot}
 use Rattle.replica_store.proofs.Unions.{among_cases}
 use Rattle.node_bridge.specs.View.{keeps}
-use Rattle.node_work.specs.Acts.{Act, Moment, Began, Moved, Store, Connection, Session, Bridge, Out, Named, Acknowledged, Passed, Dropped, Made, Merged, Does, Runs, gather, op_in, merge_in}
+use Rattle.node_work.specs.Acts.{Act, MomentTaken, Began, Moved, Store, Connection, Session, Bridge, Out, Named, Acknowledged, Passed, Dropped, Made, Merged, Does, Runs, gather, op_in, merge_in}
 use Rattle.node_work.specs.Held.Bridge.{BridgeAct, Put, Took, Got, Believed, Gave, Left_out, bridged}
 use Rattle.node_work.specs.Held.Connections.{ConnectionAct, Opened, Fed, Accepted, Closed, connected}
 use Rattle.node_work.specs.Held.Sessions.{SessionAct, Begun, Called, Over, called}
@@ -119,7 +119,7 @@ merged_grows i ms h m t g sound next =
     }
 
 pub act_grows : (p : Place) (ms : List Operation) (h m : HeldView) (a : Act) → Holding p.id ms h → Does p h a m → AllSound ms (merge_in a) → Grows p.id ms h (a ∷ []) m
-act_grows p ms h m (Moment at) g d s = quiet p.id ms h m _ (Moment at) g refl (λ q. refl) d.1 (record { store = refl; deltas = refl })
+act_grows p ms h m (MomentTaken at) g d s = quiet p.id ms h m _ (MomentTaken at) g refl (λ q. refl) d.1 (record { store = refl; deltas = refl })
 act_grows p ms h m Began g d s = quiet p.id ms h m _ Began g refl (λ q. refl) d.1 (record { store = refl; deltas = refl })
 act_grows p ms h m (Moved homes) g d s = quiet p.id ms h m _ (Moved homes) g refl (λ q. refl) d.1 (record { store = refl; deltas = refl })
 act_grows p ms h m (Store (Made o)) g d s = made_grows p.id ms h m o g (made_dot p.id h.homes.version h.store o d.0) d.1

@@ -10,7 +10,7 @@ use Rattle.node_rows.proofs.OneNode.{rows_tell_all}
 use Rattle.node_work.specs.View.{HeldView, NodeView, Place, fresh, place_of}
 use Rattle.cluster_play.specs.Worlds.{Site, World}
 use Rattle.cluster_play.specs.Runs.{Played}
-use Rattle.cluster_play.specs.Histories.{IsNew, IsStart, Reached}
+use Rattle.cluster_play.specs.Histories.{IsNewSite, IsStart, Reached}
 use Rattle.cluster_play.proofs.Bools.{some_is, none-some}
 use Rattle.cluster_play.proofs.Paths.{along_from}
 use Rattle.cluster_play.proofs.Bridging.{new_below, woken_kept}
@@ -20,7 +20,7 @@ use Rattle.cluster_play.proofs.Invariant.{step_explains}
 use Rattle.cluster_play.proofs.Parts.{sound_nothing}
 
 -- at the start nothing is made or taken, and each node holds nothing
-new_seat : (start : World) (count i : ℕ) (s : Site) → slice_get start.sites i ≡ Some s → IsNew count i s → Seated (past start []) count i s
+new_seat : (start : World) (count i : ℕ) (s : Site) → slice_get start.sites i ≡ Some s → IsNewSite count i s → Seated (past start []) count i s
 new_seat start count i s there is =
     let place : s.node.place ≡ place_of i is.homes = ap (λ (n : NodeView). n.place) is.node in
     let table : s.node.homes ≡ is.homes = ap (λ (n : NodeView). n.homes) is.node in

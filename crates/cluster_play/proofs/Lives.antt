@@ -6,11 +6,11 @@ use Rattle.mqtt_sessions.specs.State.{new_session}
 use Rattle.session_laws.specs.Runs.{Run as SessionRun}
 use Rattle.session_table.specs.Seats.{Seat}
 use Rattle.home_table.specs.Table.{Table}
-use Rattle.node_work.specs.Acts.{Act, Moment, Began, Moved, Store, Connection, Session, Bridge, Out, Named, Acknowledged, Passed, Dropped, Allowed, moved_in, next}
+use Rattle.node_work.specs.Acts.{Act, MomentTaken, Began, Moved, Store, Connection, Session, Bridge, Out, Named, Acknowledged, Passed, Dropped, Allowed, moved_in, next}
 use Rattle.node_work.specs.View.{Place, HeldView, fresh}
 use Rattle.node_work.proofs.Homes.{homes_stay}
 use Rattle.node_laws.specs.Lives.{life}
-use Rattle.node_laws.specs.Moves.{Move, Did, Lost, Moves, did}
+use Rattle.node_laws.specs.Moves.{Move, Acted, Reopened, Moves, did}
 use Rattle.node_laws.proofs.LifeLaws as lives
 use Rattle.node_laws.proofs.MoveLaws.{moves_join, acts_are_moves}
 use Rattle.cluster_play.specs.Worlds.{Site, World}
@@ -55,7 +55,7 @@ sessions_are_runs_amid run w m r i before mid a =
 
 -- ---- the table of homes that moves leave
 one_table : (p : Place) (h : HeldView) (a : Act) → Allowed p h a → (next h a).homes ≡ last_of h.homes (moved_in a)
-one_table p h (Moment at) may = refl
+one_table p h (MomentTaken at) may = refl
 one_table p h Began may = refl
 one_table p h (Moved homes) may = refl
 one_table p h (Store a) may = refl
@@ -70,8 +70,8 @@ one_table p h Dropped may = refl
 
 pub moves_homes : (p : Place) (moves : List Move) (h h' : HeldView) → Moves p h moves h' → h'.homes ≡ homes_after h.homes moves
 moves_homes p [] h h' all = ap (λ (v : HeldView). v.homes) all
-moves_homes p (Did a ∷ moves) h h' all = moves_homes p moves all.0 h' all.2 ∙ ap (λ t. homes_after t moves) (ap (λ (v : HeldView). v.homes) all.1.1 ∙ one_table p h a all.1.0)
-moves_homes p (Lost ∷ moves) h h' all = moves_homes p moves all.0 h' all.2 ∙ ap (λ t. homes_after t moves) (ap (λ (v : HeldView). v.homes) all.1.2)
+moves_homes p (Acted a ∷ moves) h h' all = moves_homes p moves all.0 h' all.2 ∙ ap (λ t. homes_after t moves) (ap (λ (v : HeldView). v.homes) all.1.1 ∙ one_table p h a all.1.0)
+moves_homes p (Reopened ∷ moves) h h' all = moves_homes p moves all.0 h' all.2 ∙ ap (λ t. homes_after t moves) (ap (λ (v : HeldView). v.homes) all.1.2)
 
 pub keeps_its_table : (run : List Played) (w : World) (r : Reached run w) (i : ℕ) (s : Site) → slice_get w.sites i ≡ Some s
     → (first : Table) × IsFirst r.start i first × (s.node.homes ≡ homes_after first (moves_at i run))

@@ -1,11 +1,11 @@
 -- The moment of a node is the greatest that it was handed since it was last opened.
 use Rattle.std.proofs.Common.{◌≡◌, max, List, [], ◌∷◌, refl, ap, ◌∙◌, arith}
-use Rattle.node_work.specs.Acts.{Act, Moment, Began, Moved, Store, Connection, Session, Bridge, Out, Named, Acknowledged, Passed, Dropped, next}
+use Rattle.node_work.specs.Acts.{Act, MomentTaken, Began, Moved, Store, Connection, Session, Bridge, Out, Named, Acknowledged, Passed, Dropped, next}
 use Rattle.node_work.specs.Held.Bridge.{BridgeAct, Put, Took, Got, Believed, Gave, Left_out, bridged}
 use Rattle.node_work.specs.Held.Connections.{ConnectionAct, Opened, Fed, Accepted, Closed, connected}
 use Rattle.node_work.specs.Held.Sessions.{SessionAct, Begun, Called, Over, called}
 use Rattle.node_work.specs.View.{Place, HeldView}
-use Rattle.node_laws.specs.Moves.{Move, Did, Lost, Moves}
+use Rattle.node_laws.specs.Moves.{Move, Acted, Reopened, Moves}
 use Rattle.cluster_play.specs.Histories.{moment_in, moment_after}
 
 connection_moment : (h : HeldView) (a : ConnectionAct) → (connected h a).at ≡ h.at
@@ -28,7 +28,7 @@ bridge_moment h (Gave f) = refl
 bridge_moment h (Left_out what) = refl
 
 next_moment : (h : HeldView) (a : Act) → (next h a).at ≡ max h.at (moment_in a)
-next_moment h (Moment at) = refl
+next_moment h (MomentTaken at) = refl
 next_moment h Began = omega arith
 next_moment h (Moved homes) = omega arith
 next_moment h (Store a) = omega arith
@@ -43,5 +43,5 @@ next_moment h Dropped = omega arith
 
 pub moves_moment : (p : Place) (moves : List Move) (h h' : HeldView) → Moves p h moves h' → h'.at ≡ moment_after h.at moves
 moves_moment p [] h h' all = ap (λ (v : HeldView). v.at) all
-moves_moment p (Did a ∷ moves) h h' all = moves_moment p moves all.0 h' all.2 ∙ ap (λ at. moment_after at moves) (ap (λ (v : HeldView). v.at) all.1.1 ∙ next_moment h a)
-moves_moment p (Lost ∷ moves) h h' all = moves_moment p moves all.0 h' all.2 ∙ ap (λ at. moment_after at moves) (ap (λ (v : HeldView). v.at) all.1.2)
+moves_moment p (Acted a ∷ moves) h h' all = moves_moment p moves all.0 h' all.2 ∙ ap (λ at. moment_after at moves) (ap (λ (v : HeldView). v.at) all.1.1 ∙ next_moment h a)
+moves_moment p (Reopened ∷ moves) h h' all = moves_moment p moves all.0 h' all.2 ∙ ap (λ at. moment_after at moves) (ap (λ (v : HeldView). v.at) all.1.2)

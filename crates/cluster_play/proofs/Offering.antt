@@ -21,7 +21,7 @@ use Rattle.cluster_play.specs.declared.step.Step.{Step}
 use Rattle.cluster_play.specs.Worlds.{World, Fate, Happens}
 use Rattle.cluster_play.specs.Runs.{Played}
 use Rattle.cluster_play.specs.Histories.{Reached, site, acts_of, taken_amid, operations_amid, moment_amid}
-use Rattle.cluster_play.specs.Answering.{BeginsWithOffers, IsOfferedBy, AreOfferedBy, Acknowledges, AskAlike, FallsInto, SendsAnswers, OffersAlike}
+use Rattle.cluster_play.specs.Answering.{BeginsWithOffers, IsOfferedBy, AreOfferedBy, AcknowledgesFilters, AskAlike, FallsInto, SendsAnswers, OffersAlike}
 use Rattle.cluster_play.proofs.Bools.{some_is, none-some}
 use Rattle.cluster_play.proofs.Operations.{own_some}
 use Rattle.cluster_play.proofs.Paths.{commits_acts, midway}
@@ -73,7 +73,7 @@ followed w step fate w' h before after client packet at grants offers is =
     let c = committed w step fate w' e.0 h e.1 in
     offers_follow e.0 c.was.node.place c.before (acts_of fate) c.steps.does before after client packet at grants offers is
 
-module _ (run later : List Played) (m : Played) (w : World) (r : Reached (run ++ m ∷ later) w) (before : List Act) (s : Acknowledges m before) where
+module _ (run later : List Played) (m : Played) (w : World) (r : Reached (run ++ m ∷ later) w) (before : List Act) (s : AcknowledgesFilters m before) where
   here : Amid run w (site m.fate) before (Acknowledged s.client s.packet s.at s.grants s.offers ∷ s.after)
   here = amid_acts run later m w r before s.after (Acknowledged s.client s.packet s.at s.grants s.offers) s.acts
 
@@ -93,7 +93,7 @@ module _ (run later : List Played) (m : Played) (w : World) (r : Reached (run ++
       record { in_order = order; each = parts_by O here.held.store own state s.at s.grants parts each }
 
 pub answers_as_sent : (run later : List Played) (m : Played) (w : World) → Reached (run ++ m ∷ later) w
-    → (before : List Act) (s : Acknowledges m before)
+    → (before : List Act) (s : AcknowledgesFilters m before)
     → SendsAnswers (operations_amid (site m.fate) run before) m before s × (s.at ≡ moment_amid (site m.fate) run before)
 answers_as_sent run later m w r before s =
     let half = midway run (m ∷ later) w r in
@@ -107,7 +107,7 @@ answers_as_sent run later m w r before s =
     )
 
 pub send_alike : (whole run later run' later' : List Played) (m m' : Played) (w : World) → Reached whole w → whole ≡ run ++ m ∷ later → whole ≡ run' ++ m' ∷ later'
-    → (before before' : List Act) (s : Acknowledges m before) (s' : Acknowledges m' before')
+    → (before before' : List Act) (s : AcknowledgesFilters m before) (s' : AcknowledgesFilters m' before')
     → moment_amid (site m.fate) run before ≡ moment_amid (site m'.fate) run' before'
     → ((d : Dot) → taken_amid (site m.fate) run before d ≡ taken_amid (site m'.fate) run' before' d)
     → OffersAlike (operations_amid (site m.fate) run before) (operations_amid (site m'.fate) run' before') s.at s.grants s'.grants s.offers s'.offers

@@ -6,15 +6,15 @@ use Rattle.node_work.specs.Acts.{Act, Passed, Runs}
 use Rattle.cluster_play.specs.Worlds.{World}
 use Rattle.cluster_play.specs.Runs.{Played}
 use Rattle.cluster_play.specs.Histories.{Reached, site, taken_amid, operations_amid}
-use Rattle.cluster_play.specs.Agreement.{HoldsAmid, AnswersBy}
-use Rattle.cluster_play.specs.Copying.{PassesOn, MakesCopies}
+use Rattle.cluster_play.specs.Agreement.{HoldsAmid, AnswersByOperations}
+use Rattle.cluster_play.specs.Copying.{PassesMessageOn, MakesItsCopies}
 use Rattle.cluster_play.proofs.Operations.{own_some}
 use Rattle.cluster_play.proofs.Paths.{commits_acts, midway}
 use Rattle.cluster_play.proofs.Rows.{committed}
 use Rattle.cluster_play.proofs.Amid.{amid_acts, runs_split}
 use Rattle.cluster_play.proofs.Showing.{node_holds_amid}
 
-pub copies_as_taken : (run later : List Played) (m : Played) (w : World) → Reached (run ++ m ∷ later) w → (before : List Act) (s : PassesOn m before) → MakesCopies run m before s
+pub copies_as_taken : (run later : List Played) (m : Played) (w : World) → Reached (run ++ m ∷ later) w → (before : List Act) (s : PassesMessageOn m before) → MakesItsCopies run m before s
 copies_as_taken run later m w r before s =
     let i = site m.fate in
     let a = Passed s.message s.copies s.lost s.routes in
@@ -34,7 +34,7 @@ copies_as_taken run later m w r before s =
       holds = record { site = c.was; at = c.at; up = c.up };
       runs = parts.1;
     } in
-    let by : AnswersBy (operations_amid i run before) parts.0 = node_holds_amid run half.mid half.path.0 m half.reached half.honest.0 half.path.1 i before parts.0 there in
+    let by : AnswersByOperations (operations_amid i run before) parts.0 = node_holds_amid run half.mid half.path.0 m half.reached half.honest.0 half.path.1 i before parts.0 there in
     let own = own_some _ (λ o. taken_amid i run before (dot_of o)) (amid_acts run later m w r before s.after a s.acts).grown.own_dots in
     record {
       world = half.mid;

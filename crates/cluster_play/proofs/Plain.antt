@@ -15,7 +15,7 @@ use Rattle.replica_store.specs.States.{State}
 use Rattle.replica_store.specs.StateOf.{IsStateOf}
 use Rattle.replica_store.proofs.Unions.{among_cases}
 use Rattle.node_rows.specs.Reading.{IsAmong}
-use Rattle.node_work.specs.Acts.{Act, Moment, Began, Moved, Store, Connection, Session, Bridge, Out, Named, Acknowledged, Passed, Dropped, Made, Merged, Allowed, IsMade, Runs, gather, op_in, merge_in}
+use Rattle.node_work.specs.Acts.{Act, MomentTaken, Began, Moved, Store, Connection, Session, Bridge, Out, Named, Acknowledged, Passed, Dropped, Made, Merged, Allowed, IsMade, Runs, gather, op_in, merge_in}
 use Rattle.node_work.specs.View.{Place, HeldView}
 use Rattle.cluster_play.specs.NextOperations.{CoversWhatStands, IsRemoval, IsNext}
 use Rattle.cluster_play.proofs.Operations.{among_some, own_some}
@@ -77,7 +77,7 @@ module _ (i count : ℕ) (ms : List Operation) (s : State) (g : Grown i ms s) (l
 
 -- the act that makes an operation
 op_of_act : (a : Act) (o : Operation) → Among o (op_in a) → a ≡ Store (Made o)
-op_of_act (Moment at) o x = absurd x
+op_of_act (MomentTaken at) o x = absurd x
 op_of_act Began o x = absurd x
 op_of_act (Moved homes) o x = absurd x
 op_of_act (Store (Made p)) o (inl e) = ap (λ q. Store (Made q)) (sym e)
@@ -120,3 +120,7 @@ module _ (count : ℕ) (O : List Operation) (s : State) (state : IsStateOf O s) 
     seen = λ d h. seen_plain d (map.get s.subscriptions d) (state.subscriptions d) (sym (contains-seen_of s.subscriptions d) ∙ h);
     stamps = λ topic k h. (let p = (subst (HasKept O topic) h (state.retained topic)).put in (plain (Put p.0 k.stamp p.1) p.2).rest);
   }
+
+-- and so is one of those of plain operations that it lists
+pub sound_among : (count : ℕ) (ms : List Operation) (s : State) → Sound ms s → AllPlain count ms → IsAmong count s
+sound_among count ms s sound plain = is_among count (filter (lists s) ms) s sound (λ o a. plain o (among_some (lists s) o ms a).0)

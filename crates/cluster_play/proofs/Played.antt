@@ -10,7 +10,7 @@ use Rattle.cluster_play.specs.declared.line.Line.{Line}
 use Rattle.cluster_play.specs.declared.step.Step.{Step}
 use Rattle.cluster_play.specs.declared.step.Step.TheVariants as steps
 use Rattle.cluster_play.specs.Clusters.{world, is_spent}
-use Rattle.cluster_play.specs.Playing.{IsPlayed, StopsAt, StopsShort, RunsOut, IsRefused, IsDoneStep}
+use Rattle.cluster_play.specs.Playing.{IsPlayed, StopsAt, StopsShort, MemoryRunsOut, IsRefused, IsDoneStep}
 use Rattle.cluster_play.specs.Runs.{Played, Run, steps_of, released, lines_of, printed}
 use Rattle.cluster_play.specs.Worlds.{World, Lacks}
 use Rattle.cluster_play.proofs.Paths.{run_join, step_frames}
@@ -53,7 +53,7 @@ stops w mid steps k step lines fault lt is before lacks =
 
 -- memory is refused at the step
 short : (w mid w' : World) (steps : List Step) (k : ℕ) (step : Step) (lines : List Line) → k < length steps → step ≡ get_or steps k step
-    → IsPlayed w (take k steps) lines mid → RunsOut mid step w' → StopsShort w steps w'
+    → IsPlayed w (take k steps) lines mid → MemoryRunsOut mid step w' → StopsShort w steps w'
 short w mid w' steps k step lines lt is before out =
     (before.0, step, drop (k + 1) steps, mid, parts steps k step lt is ∙ ap (λ ss. ss ++ step ∷ drop (k + 1) steps) (sym before.1), before.2, out)
 
@@ -82,7 +82,7 @@ lacks_spent w (steps.CrashAfter i e) h = let no = h.0 in cc
 lacks_spent w (steps.Restart i) h = let no = h.0 in cc
 
 pub refused : (c c' : Cluster) (mid : World) (steps : List Step) (k : ℕ) (step : Step) (lines : List Line) (fault : PlayFault) → k < length steps → step ≡ get_or steps k step
-    → IsPlayed (world c) (take k steps) lines mid → ((fault ≡ NoMemory) × RunsOut mid step (world c')) ⊎ (Lacks mid step fault × (world c' ≡ mid)) → is_spent c' ≡ sameb the_type fault NoMemory → IsRefused c steps fault c'
+    → IsPlayed (world c) (take k steps) lines mid → ((fault ≡ NoMemory) × MemoryRunsOut mid step (world c')) ⊎ (Lacks mid step fault × (world c' ≡ mid)) → is_spent c' ≡ sameb the_type fault NoMemory → IsRefused c steps fault c'
 refused c c' mid steps k step lines BadTables lt is before (inl e) spent = let no = e.0 in cc
 refused c c' mid steps k step lines UnknownNode lt is before (inl e) spent = let no = e.0 in cc
 refused c c' mid steps k step lines UnknownFrame lt is before (inl e) spent = let no = e.0 in cc

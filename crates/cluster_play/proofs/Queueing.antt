@@ -43,9 +43,9 @@ use Rattle.node_bridge.specs.View.{lane_to, offer_to}
 use Rattle.node_work.specs.declared.counts.Missed.{Missed}
 use Rattle.node_work.specs.declared.counts.Missed.TheVariants.{LaneFull, BadFrame, FrameTooLarge, TableRefused}
 use Rattle.node_work.specs.Held.Bridge.{BridgeAct, Put as PutIn, Took, Got as GotBy, Believed, Gave, Left_out}
-use Rattle.node_work.specs.Acts.{Act, Moment, Began, Moved, Store, Connection, Session, Bridge, Out, Named, Acknowledged, Passed, Dropped, Made, Merged, Runs}
+use Rattle.node_work.specs.Acts.{Act, MomentTaken, Began, Moved, Store, Connection, Session, Bridge, Out, Named, Acknowledged, Passed, Dropped, Made, Merged, Runs}
 use Rattle.node_work.specs.Calling.{CallsAt, Calls, Queues, QueuesOne}
-use Rattle.node_work.specs.Doings.{TakesMoment, MakesSubscribe, MakesRemove, MakesRemoveBelow, Removes, RemovesBelow, Sends, Disconnects, Redirects, Misses, PutsBy, Routes, RoutesBy, Gives, GivesFrame, is_small}
+use Rattle.node_work.specs.Doings.{TakesMoment, MakesSubscribe, MakesRemove, MakesRemoveBelow, Removes, RemovesBelow, Sends, Disconnects, Redirects, Misses, PutsBy, Routes, RoutesBy, GivesBody, GivesFrame, is_small}
 use Rattle.node_work.specs.Held.Sessions.{SessionStep, Begun, Called, connection_at, seat_at, takes_disconnect, takes_packet, will_is_due, end_is_due}
 use Rattle.node_work.specs.Held.Feeding.{cut_of}
 use Rattle.node_work.specs.Held.Connections.{Closed, Fed, Opened, is_open, client_at, first_at}
@@ -55,7 +55,7 @@ use Rattle.subscription_set.specs.declared.entry.Entry.{Entry}
 use Rattle.subscription_set.specs.Standing.{any_of, any_below}
 use Rattle.node_work.specs.Packets.{moved_packet, refused_packet}
 use Rattle.node_work.specs.View.{Place, HeldView, ConnectionView}
-use Rattle.node_work.specs.Working.{Doing, Returns, Stops, Acting, Numbered, Looks, Finds, If, Where, Then, InTurn, Each}
+use Rattle.node_work.specs.Working.{Doing, Returns, Stops, Acting, Numbered, Looks, FindsWhere, If, Where, Then, InTurn, Each}
 use Rattle.node_clients.specs.Connecting as connecting
 use Rattle.node_clients.specs.Ending as ending
 use Rattle.node_clients.specs.Moving as moving
@@ -71,7 +71,7 @@ use Rattle.broker_node.specs.Bridge as bridge
 use Rattle.broker_node.specs.Due as due
 use Rattle.broker_node.specs.Moving as tables
 use Rattle.broker_node.specs.Turns as turns
-use Rattle.cluster_play.specs.Answering.{AreQueued, BeginsWithOffers}
+use Rattle.cluster_play.specs.Answering.{OffersAreQueued, BeginsWithOffers}
 use Rattle.cluster_play.proofs.Amid.{runs_split}
 use Rattle.cluster_play.proofs.Bools.{some_is, none-some}
 
@@ -104,7 +104,7 @@ module _ (T : List Act → Type 0) (c : Joined T) where
   k_looks : {A B : Type 0} (see : Place → HeldView → A) (P : A → Option B → Doing) → ((y : A) → Keeps T (P y)) → Keeps T (Looks see P)
   k_looks see P f = record { of = λ x p h acts d. (f (see p h)).of x p h acts d }
 
-  k_finds : {A B : Type 0} (Is : Place → HeldView → A → Type 0) (P : A → Option B → Doing) → ((y : A) → Keeps T (P y)) → Keeps T (Finds Is P)
+  k_finds : {A B : Type 0} (Is : Place → HeldView → A → Type 0) (P : A → Option B → Doing) → ((y : A) → Keeps T (P y)) → Keeps T (FindsWhere Is P)
   k_finds Is P f = record { of = λ x p h acts d. (f d.0).of x p h acts d.2 }
 
   k_if : {A : Type 0} (b : Bool) (P Q : Option A → Doing) → Keeps T P → Keeps T Q → Keeps T (If b P Q)
@@ -146,7 +146,7 @@ module _ (T : List Act → Type 0) (c : Joined T) where
 
 -- ---- after each answer the offers
 abbrev pub Follows : Act → List Act → Type 0
-Follows (Moment at) rest = Unit {0}
+Follows (MomentTaken at) rest = Unit {0}
 Follows Began rest = Unit {0}
 Follows (Moved homes) rest = Unit {0}
 Follows (Store a) rest = Unit {0}
@@ -164,7 +164,7 @@ Answered [] = Unit {0}
 Answered (a ∷ rest) = Follows a rest × Answered rest
 
 follows_more : (a : Act) (xs ys : List Act) → Follows a xs → Follows a (xs ++ ys)
-follows_more (Moment at) xs ys f = tt
+follows_more (MomentTaken at) xs ys f = tt
 follows_more Began xs ys f = tt
 follows_more (Moved homes) xs ys f = tt
 follows_more (Store a) xs ys f = tt
@@ -255,7 +255,7 @@ called_or client event on (Some seat) r p h acts mid d runs = inr (call_of clien
 
 -- ---- the offers, one by one
 pub record Queued (client : List ℕ) (at : ℕ) (offers : List Delivery) (acts : List Act) : Type 0 where
-  pub queued : AreQueued client at offers acts
+  pub queued : OffersAreQueued client at offers acts
   pub answered : Answered acts
 
 each_queued : (client : List ℕ) (offers : List Delivery) (x : Unit {0}) (p : Place) (h : HeldView) (acts : List Act) → Has client h
@@ -271,7 +271,7 @@ each_queued client (o ∷ os) x p h acts has (inr (y, own, mid, rest, (inr one),
     let q = each_queued client os x p mid rest c.has more in
     let all : acts ≡ Session (Called c.step) ∷ rest = is ∙ ap (λ zs. zs ++ rest) (no ∙ c.acts_are) in
     record {
-      queued = (c.step, rest, all, c.client_is, c.at_is, c.event_is, subst (λ t. AreQueued client t os rest) c.at_stays q.queued);
+      queued = (c.step, rest, all, c.client_is, c.at_is, c.event_is, subst (λ t. OffersAreQueued client t os rest) c.at_stays q.queued);
       answered = subst Answered (sym all) (tt, q.answered);
     }
 
@@ -375,14 +375,14 @@ passes_asked (Some asks.Unsubscribe) = k_returns Answered answered _
 ends_session : (client : List ℕ) → Keeps Answered (ending.EndsSession client)
 ends_session client = k_then Answered answered _ _ (removes_own client) (λ _. k_acting Answered answered _ (λ p h. (tt, tt)))
 
-follows : (client : List ℕ) (r : Reaction) → Keeps Answered (ending.Follows client r)
+follows : (client : List ℕ) (r : Reaction) → Keeps Answered (ending.FollowsReaction client r)
 follows client r = k_then Answered answered _ _ (passes_asked r.ask) (λ _. k_if Answered answered r.over _ _ (ends_session client) (k_returns Answered answered _))
 
 ticks_of : (client : List ℕ) → Keeps Answered (ending.Ticks client)
-ticks_of client = k_then Answered answered (Calls client ticks stays) (ending.Follows client) (calls client ticks stays) (follows client)
+ticks_of client = k_then Answered answered (Calls client ticks stays) (ending.FollowsReaction client) (calls client ticks stays) (follows client)
 
 finishes_of : (client : List ℕ) → Keeps Answered (ending.Finishes client)
-finishes_of client = k_then Answered answered (Calls client finishes stays) (ending.Follows client) (calls client finishes stays) (follows client)
+finishes_of client = k_then Answered answered (Calls client finishes stays) (ending.FollowsReaction client) (calls client finishes stays) (follows client)
 
 ticks_if : (is_due : Bool) (client : List ℕ) → Keeps Answered (ending.TicksIf is_due client)
 ticks_if is_due client = k_if Answered answered is_due _ _ (ticks_of client) (k_returns Answered answered _)
@@ -393,7 +393,7 @@ parts client =
     k_then Answered answered (Looks (λ p h. will_is_due client h) (λ b. ending.TicksIf b client)) (λ _. Looks (λ p h. end_is_due client h) (λ b. ending.TicksIf b client))
     (k_looks Answered answered (λ p h. will_is_due client h) (λ b. ending.TicksIf b client) (λ b. ticks_if b client)) (λ _. k_looks Answered answered (λ p h. end_is_due client h) (λ b. ending.TicksIf b client) (λ b. ticks_if b client)))
 
-closes_of : (c : ℕ) → Keeps Answered (ending.Closes c)
+closes_of : (c : ℕ) → Keeps Answered (ending.ClosesConnection c)
 closes_of c = k_then Answered answered _ _ (k_acting Answered answered _ (λ p h. (tt, tt))) (λ _. k_acting Answered answered _ (λ p h. (tt, tt)))
 
 closes_for : (c : ℕ) (client : List ℕ) → Keeps Answered (ending.ClosesFor c client)
@@ -408,7 +408,7 @@ closes_after None c client = k_returns Answered answered _
 closes_after (Some code) c client = closes_for c client
 
 -- ---- CONNECT
-refuses : (c : ℕ) (p : Connect) (code : ℕ) (reference : Option (List ℕ)) → Keeps Answered (connecting.Refuses c p code reference)
+refuses : (c : ℕ) (p : Connect) (code : ℕ) (reference : Option (List ℕ)) → Keeps Answered (connecting.RefusesConnect c p code reference)
 refuses c p code reference = k_then Answered answered _ _ (k_if Answered answered (fits (limit_in p.properties) (refused_packet code reference)) _ _ (sends c _) (k_returns Answered answered _)) (λ _. closes_of c)
 
 takes_over : (client : List ℕ) (on : Option ℕ) → Keeps Answered (connecting.TakesOverFrom client on)
@@ -438,8 +438,8 @@ comes_home : (c : ℕ) (p : Connect) (node : ℕ) → Keeps Answered (connecting
 comes_home c p node =
     k_looks Answered answered (λ place h. node == place.id) (λ here. If here (connecting.AcceptsAs c p p.client) (connecting.Refers c p node))
     (λ here. k_if Answered answered here (connecting.AcceptsAs c p p.client) (connecting.Refers c p node)
-    (k_where Answered answered (connecting.WillIsNamed p.will) (connecting.Accepts c p p.client) (connecting.Refuses c p 144 None) (accepts c p p.client) (refuses c p 144 None))
-    (k_looks Answered answered (λ place h. connecting.address_of h node) (λ reference. connecting.Refuses c p 156 reference) (λ reference. refuses c p 156 reference)))
+    (k_where Answered answered (connecting.WillIsNamed p.will) (connecting.Accepts c p p.client) (connecting.RefusesConnect c p 144 None) (accepts c p p.client) (refuses c p 144 None))
+    (k_looks Answered answered (λ place h. connecting.address_of h node) (λ reference. connecting.RefusesConnect c p 156 reference) (λ reference. refuses c p 156 reference)))
 
 connects_at : (bare : Bool) (c : ℕ) (p : Connect) → Keeps Answered (connecting.ConnectsAt bare c p)
 connects_at true c p = k_where Answered answered (connecting.WillIsNamed p.will) _ _ (k_finds Answered answered _ _ (names_by c p)) (refuses c p 144 None)
@@ -456,14 +456,14 @@ offers_after None c client packet given x p h acts has d = offers_each client pa
 offers_after (Some code) c client packet given x p h acts has d = (closes_for c client).of x p h acts d
 
 acknowledges : (c : ℕ) (client : List ℕ) (packet : ℕ) (given : List Granted) (x : Unit {0}) (p : Place) (h : HeldView) (acts : List Act) → Has client h
-    → subscribing.Acknowledges c client packet given (Some x) p h acts → Answered acts
+    → subscribing.SendsSuback c client packet given (Some x) p h acts → Answered acts
 acknowledges c client packet given x p h acts has (inl d) = none-some (sym d.0)
 acknowledges c client packet given x p h acts has (inr (r, own, mid, rest, one, runs, more, is)) =
     let call = called_has client (λ at. answers packet (subscribing.reasons_of given)) stays r p h own mid has one runs in
     subst Answered (sym is) (answered_both own rest ((calls client (λ at. answers packet (subscribing.reasons_of given)) stays).of r p h own one) (offers_after r.end c client packet given x p mid rest call.has more))
 
 subscribes : (c : ℕ) (client : List ℕ) (s : Subscribe) (x : Unit {0}) (p : Place) (h : HeldView) (acts : List Act) → Has client h
-    → subscribing.Subscribes c client s (Some x) p h acts → Answered acts
+    → subscribing.ServesSubscribe c client s (Some x) p h acts → Answered acts
 subscribes c client s x p h acts has (inl d) = none-some (sym d.0)
 subscribes c client s x p h acts has (inr (given, own, mid, rest, one, runs, more, is)) =
     let One = subscribing.Grants client (subscribing.identifier_of s) in
@@ -482,13 +482,13 @@ unsubscribed client text =
     k_where Answered answered (IsFilter text) (Then (Removes client (Some text)) (λ stood. Returns (cond stood 0 17))) (Returns 143)
     (k_then Answered answered (Removes client (Some text)) (λ stood. Returns (cond stood 0 17)) (removes client (Some text)) (λ stood. k_returns Answered answered (cond stood 0 17))) (k_returns Answered answered 143)
 
-unsuback : (c : ℕ) (client : List ℕ) (packet : ℕ) (given : List ℕ) → Keeps Answered (unsubscribing.Acknowledges c client packet given)
+unsuback : (c : ℕ) (client : List ℕ) (packet : ℕ) (given : List ℕ) → Keeps Answered (unsubscribing.SendsUnsuback c client packet given)
 unsuback c client packet given =
     k_then Answered answered (Calls client (λ at. answers packet given) stays) (λ r. ending.ClosesAfter r.end c client) (calls client (λ at. answers packet given) stays) (λ r. closes_after r.end c client)
 
-unsubscribes : (c : ℕ) (client : List ℕ) (u : Unsubscribe) → Keeps Answered (unsubscribing.Unsubscribes c client u)
+unsubscribes : (c : ℕ) (client : List ℕ) (u : Unsubscribe) → Keeps Answered (unsubscribing.ServesUnsubscribe c client u)
 unsubscribes c client u =
-    k_then Answered answered (InTurn (unsubscribing.Unsubscribed client) u.filters []) (unsubscribing.Acknowledges c client u.identifier)
+    k_then Answered answered (InTurn (unsubscribing.Unsubscribed client) u.filters []) (unsubscribing.SendsUnsuback c client u.identifier)
     (k_inturn Answered answered (unsubscribing.Unsubscribed client) u.filters [] (unsubscribed client)) (unsuback c client u.identifier)
 
 unsubscribes_by : (c : ℕ) (client : List ℕ) (k : Packet) → Keeps Answered (serving.UnsubscribesBy c client k)
@@ -518,22 +518,22 @@ serves_in c client k room x p h acts (inr (r, own, mid, rest, one, runs, more, i
     let event : ℕ → Event = λ at. takes k at room in
     subst Answered (sym is) (answered_both own rest ((calls client event stays).of r p h own one) (does_reaction c client k room r x p mid rest (called_or client event stays (seat_at client h) r p h own mid one runs) more))
 
-serves : (c : ℕ) (client : List ℕ) (k : Packet) → Keeps Answered (serving.Serves c client k)
+serves : (c : ℕ) (client : List ℕ) (k : Packet) → Keeps Answered (serving.ServesPacket c client k)
 serves c client k = record { of = λ x p h acts d. serves_in c client k _ x p h acts d }
 
 -- ---- pieces
-first : (c : ℕ) (k : Packet) → Keeps Answered (pieces.First c k)
+first : (c : ℕ) (k : Packet) → Keeps Answered (pieces.AnswersFirstPacket c k)
 first c (packets.Connect p) = connects_by _ c p
 first c _ = closes_of c
 
-answers_by : (c : ℕ) (k : Packet) (client : Option (List ℕ)) → Keeps Answered (pieces.AnswersBy c k client)
+answers_by : (c : ℕ) (k : Packet) (client : Option (List ℕ)) → Keeps Answered (pieces.AnswersPacketBy c k client)
 answers_by c k None = first c k
 answers_by c k (Some client) = serves c client k
 
 answers_if : (c : ℕ) (k : Packet) → Keeps Answered (pieces.AnswersIfOpen c k)
 answers_if c k =
-    k_looks Answered answered (λ p h. is_open c h) (λ is. If is (pieces.Answers c k) (Returns tt))
-    (λ is. k_if Answered answered is (pieces.Answers c k) (Returns tt) (k_looks Answered answered (λ p h. client_at c h) (pieces.AnswersBy c k) (answers_by c k)) (k_returns Answered answered tt))
+    k_looks Answered answered (λ p h. is_open c h) (λ is. If is (pieces.AnswersPacket c k) (Returns tt))
+    (λ is. k_if Answered answered is (pieces.AnswersPacket c k) (Returns tt) (k_looks Answered answered (λ p h. client_at c h) (pieces.AnswersPacketBy c k) (answers_by c k)) (k_returns Answered answered tt))
 
 sends_refusal : (c : ℕ) (code : Option ℕ) → Keeps Answered (pieces.SendsRefusal c code)
 sends_refusal c None = record { of = λ x p h acts d. absurd d }
@@ -558,13 +558,13 @@ breaks_if c (Some fault) =
     k_looks Answered answered (λ p h. is_open c h) (λ is. If is (pieces.Breaks c fault) (Returns tt))
     (λ is. k_if Answered answered is (pieces.Breaks c fault) (Returns tt) (k_looks Answered answered (λ p h. client_at c h) (pieces.BreaksBy c fault) (breaks_by c fault)) (k_returns Answered answered tt))
 
-takes_all : (c : ℕ) (ps : List Packet) (fault : Option PacketFault) → Keeps Answered (pieces.Takes c ps fault)
+takes_all : (c : ℕ) (ps : List Packet) (fault : Option PacketFault) → Keeps Answered (pieces.TakesPackets c ps fault)
 takes_all c ps fault = k_then Answered answered (Each (pieces.AnswersIfOpen c) ps) (λ _. pieces.BreaksIfOpen c fault) (k_each Answered answered (pieces.AnswersIfOpen c) ps (answers_if c)) (λ _. breaks_if c fault)
 
 feeds : (c : ℕ) (piece : List ℕ) (found : ConnectionView) → Keeps Answered (pieces.Feeds c piece found)
 feeds c piece found =
     let cut = cut_of found.stream piece in
-    k_then Answered answered (Acting (λ p h. Connection (Fed c piece))) (λ _. pieces.Takes c cut.packets cut.fault) (k_acting Answered answered (λ p h. Connection (Fed c piece)) (λ p h. (tt, tt))) (λ _. takes_all c cut.packets cut.fault)
+    k_then Answered answered (Acting (λ p h. Connection (Fed c piece))) (λ _. pieces.TakesPackets c cut.packets cut.fault) (k_acting Answered answered (λ p h. Connection (Fed c piece)) (λ p h. (tt, tt))) (λ _. takes_all c cut.packets cut.fault)
 
 piece_at : (c : ℕ) (piece : List ℕ) (found : Option ConnectionView) → Keeps Answered (pieces.PieceAt c piece found)
 piece_at c piece None = k_returns Answered answered tt
@@ -586,8 +586,8 @@ leaves_of c =
 -- ---- what is due
 runs_out : (d : Due) → Keeps Answered (due.RunsOut d)
 runs_out d =
-    k_then Answered answered (Calls d.1 ticks stays) (λ _. Then (ending.Closes d.0) (λ _. Then (Calls d.1 closes leaves) (λ _. Returns tt))) (calls d.1 ticks stays) (λ _.
-    k_then Answered answered (ending.Closes d.0) (λ _. Then (Calls d.1 closes leaves) (λ _. Returns tt)) (closes_of d.0) (λ _.
+    k_then Answered answered (Calls d.1 ticks stays) (λ _. Then (ending.ClosesConnection d.0) (λ _. Then (Calls d.1 closes leaves) (λ _. Returns tt))) (calls d.1 ticks stays) (λ _.
+    k_then Answered answered (ending.ClosesConnection d.0) (λ _. Then (Calls d.1 closes leaves) (λ _. Returns tt)) (closes_of d.0) (λ _.
     k_then Answered answered (Calls d.1 closes leaves) (λ _. Returns tt) (calls d.1 closes leaves) (λ _. k_returns Answered answered tt)))
 
 does_due : Keeps Answered due.DoesDue
@@ -625,8 +625,8 @@ sends_away = k_finds Answered answered tables.AreAway (Each moving.MovesAway) (�
 
 takes_table : (homes : Table) → Keeps Answered (tables.TakesTable homes)
 takes_table homes =
-    k_looks Answered answered (tables.is_newer homes) (λ newer. If newer (tables.Moves homes) (Misses TableRefused))
-    (λ newer. k_if Answered answered newer (tables.Moves homes) (Misses TableRefused)
+    k_looks Answered answered (tables.is_newer homes) (λ newer. If newer (tables.TakesNewerTable homes) (Misses TableRefused))
+    (λ newer. k_if Answered answered newer (tables.TakesNewerTable homes) (Misses TableRefused)
     (k_then Answered answered (Acting (λ p h. Moved homes)) (λ _. tables.SendsAway) (k_acting Answered answered (λ p h. Moved homes) (λ p h. (tt, tt))) (λ _. sends_away)) (misses TableRefused))
 
 starts : Keeps Answered due.Starts
@@ -639,7 +639,7 @@ starts =
 gives_frame : (f : BridgeFrame) → Keeps Answered (GivesFrame f)
 gives_frame f = k_if Answered answered (is_small f) (Acting (λ p h. Bridge (Gave f))) (Misses FrameTooLarge) (bridge_act (λ p h. Gave f)) (misses FrameTooLarge)
 
-gives : (peer : ℕ) (body : HeldView → FrameBody) → Keeps Answered (Gives peer body)
+gives : (peer : ℕ) (body : HeldView → FrameBody) → Keeps Answered (GivesBody peer body)
 gives peer body = k_looks Answered answered _ GivesFrame gives_frame
 
 takes_next : (from number : ℕ) (m : Forward) → Keeps Answered (bridge.TakesNext from number m)
@@ -647,25 +647,25 @@ takes_next from number m =
     k_looks Answered answered _ (λ next. If next (passing.TakesForward from number m) (Returns tt))
     (λ next. k_if Answered answered next (passing.TakesForward from number m) (Returns tt) (takes_forward from number m) (k_returns Answered answered tt))
 
-takes_body : (from : ℕ) (body : FrameBody) → Keeps Answered (bridge.Takes from body)
+takes_body : (from : ℕ) (body : FrameBody) → Keeps Answered (bridge.TakesBody from body)
 takes_body from bodies.Hello = gives from (λ h. bodies.Know h.store.taken)
 takes_body from (bodies.Delta s) =
     k_then Answered answered (Acting (λ p h. Store (Merged s))) (λ _. bridge.TellsTaken from) (k_acting Answered answered (λ p h. Store (Merged s)) (λ p h. (tt, tt))) (λ _. gives from (λ h. bodies.Know h.store.taken))
 takes_body from (bodies.Know dots) = bridge_act (λ p h. Believed from dots)
 takes_body from (bodies.Forward number m) =
-    k_then Answered answered (bridge.TakesNext from number m) (λ _. Gives from (λ h. bodies.Got (lane_to h.bridge from).took)) (takes_next from number m) (λ _. gives from (λ h. bodies.Got (lane_to h.bridge from).took))
+    k_then Answered answered (bridge.TakesNext from number m) (λ _. GivesBody from (λ h. bodies.Got (lane_to h.bridge from).took)) (takes_next from number m) (λ _. gives from (λ h. bodies.Got (lane_to h.bridge from).took))
 takes_body from (bodies.Got number) = bridge_act (λ p h. GotBy from number)
 
 hears_frame : (o : Option BridgeFrame) → Keeps Answered (bridge.HearsFrame o)
 hears_frame None = misses BadFrame
 hears_frame (Some frame) =
-    k_looks Answered answered (λ p h. is_for p frame) (λ here. If here (bridge.Takes frame.from frame.body) (Misses BadFrame))
-    (λ here. k_if Answered answered here (bridge.Takes frame.from frame.body) (Misses BadFrame) (takes_body frame.from frame.body) (misses BadFrame))
+    k_looks Answered answered (λ p h. is_for p frame) (λ here. If here (bridge.TakesBody frame.from frame.body) (Misses BadFrame))
+    (λ here. k_if Answered answered here (bridge.TakesBody frame.from frame.body) (Misses BadFrame) (takes_body frame.from frame.body) (misses BadFrame))
 
 greets : (peer : ℕ) → Keeps Answered (bridge.Greets peer)
 greets peer =
-    k_looks Answered answered (λ p h. is_other p peer) (λ other. If other (Gives peer (λ h. bodies.Hello)) (Returns tt))
-    (λ other. k_if Answered answered other (Gives peer (λ h. bodies.Hello)) (Returns tt) (gives peer (λ h. bodies.Hello)) (k_returns Answered answered tt))
+    k_looks Answered answered (λ p h. is_other p peer) (λ other. If other (GivesBody peer (λ h. bodies.Hello)) (Returns tt))
+    (λ other. k_if Answered answered other (GivesBody peer (λ h. bodies.Hello)) (Returns tt) (gives peer (λ h. bodies.Hello)) (k_returns Answered answered tt))
 
 gives_state : (peer : ℕ) (s : Option State) → Keeps Answered (bridge.GivesState peer s)
 gives_state peer None = k_returns Answered answered _
@@ -682,7 +682,7 @@ ships peer =
     (λ other. k_if Answered answered other (bridge.ShipsTo peer) (Returns tt) (ships_to peer) (k_returns Answered answered tt))
 
 -- ---- events
-answers_kind : (kind : EventKind) → Keeps Answered (turns.Answers kind)
+answers_kind : (kind : EventKind) → Keeps Answered (turns.AnswersEvent kind)
 answers_kind kinds.Started = k_returns Answered answered _
 answers_kind (kinds.Opened c) =
     let opens : Option (Unit {0}) → Doing = Acting (λ p h. Connection (Opened c)) in
@@ -696,10 +696,10 @@ answers_kind kinds.Tick = k_returns Answered answered _
 answers_kind (kinds.Evict client) = k_then Answered answered (Removes client None) (λ _. Returns tt) (removes client None) (λ _. k_returns Answered answered tt)
 answers_kind (kinds.Table homes) = takes_table homes
 
-after_due : (kind : EventKind) → Keeps Answered (Then due.DoesDue (λ _. turns.Answers kind))
-after_due kind = k_then Answered answered due.DoesDue (λ _. turns.Answers kind) does_due (λ _. answers_kind kind)
+after_due : (kind : EventKind) → Keeps Answered (Then due.DoesDue (λ _. turns.AnswersEvent kind))
+after_due kind = k_then Answered answered due.DoesDue (λ _. turns.AnswersEvent kind) does_due (λ _. answers_kind kind)
 
-goes_on : (kind : EventKind) → Keeps Answered (turns.GoesOn kind)
+goes_on : (kind : EventKind) → Keeps Answered (turns.AnswersAfterDue kind)
 goes_on kinds.Started = k_returns Answered answered _
 goes_on (kinds.Opened c) = after_due (kinds.Opened c)
 goes_on (kinds.Piece c bytes) = after_due (kinds.Piece c bytes)
@@ -711,7 +711,7 @@ goes_on kinds.Tick = after_due kinds.Tick
 goes_on (kinds.Evict client) = after_due (kinds.Evict client)
 goes_on (kinds.Table homes) = after_due (kinds.Table homes)
 
-first_turn : (kind : EventKind) → Keeps Answered (turns.First kind)
+first_turn : (kind : EventKind) → Keeps Answered (turns.AwaitsStart kind)
 first_turn kinds.Started = starts
 first_turn (kinds.Opened c) = k_returns Answered answered _
 first_turn (kinds.Piece c bytes) = k_returns Answered answered _
@@ -725,8 +725,8 @@ first_turn (kinds.Table homes) = k_returns Answered answered _
 
 decides : (e : NodeEvent) → Keeps Answered (turns.Decides e)
 decides e =
-    k_then Answered answered (TakesMoment e.at) (λ _. turns.Turn e.kind) (k_numbered Answered answered (λ p h. not (nat_lt e.at (2 ^ 62))) (λ p h. Moment e.at) (λ p h. (tt, tt)))
-    (λ _. k_looks Answered answered (λ p h. h.started) (λ is. If is (turns.GoesOn e.kind) (turns.First e.kind)) (λ is. k_if Answered answered is (turns.GoesOn e.kind) (turns.First e.kind) (goes_on e.kind) (first_turn e.kind)))
+    k_then Answered answered (TakesMoment e.at) (λ _. turns.Turn e.kind) (k_numbered Answered answered (λ p h. not (nat_lt e.at (2 ^ 62))) (λ p h. MomentTaken e.at) (λ p h. (tt, tt)))
+    (λ _. k_looks Answered answered (λ p h. h.started) (λ is. If is (turns.AnswersAfterDue e.kind) (turns.AwaitsStart e.kind)) (λ is. k_if Answered answered is (turns.AnswersAfterDue e.kind) (turns.AwaitsStart e.kind) (goes_on e.kind) (first_turn e.kind)))
 
 -- the acts of an event: directly after an answer to a SUBSCRIBE come its offers
 pub offers_follow : (e : NodeEvent) (p : Place) (h : HeldView) (acts : List Act) → turns.Decides e (Some tt) p h acts

@@ -12,7 +12,7 @@ use Rattle.node_work.specs.Acts.{Act}
 use Rattle.node_work.specs.Lasting.{CanLast}
 use Rattle.node_work.specs.View.{Place, HeldView, NodeView}
 use Rattle.cluster_play.specs.declared.step.Step.{Step}
-use Rattle.cluster_play.specs.Worlds.{Site, World, Fate, Released, Lost, Cut, Faulted, Was_down, Restarted, Takes, Reopens, Stops, Becomes, Happens, changed, stopped, frames_in}
+use Rattle.cluster_play.specs.Worlds.{Site, World, Fate, Released, Lost, Cut, Faulted, Was_down, Restarted, TakesEvent, Reopens, GoesDown, Becomes, Happens, changed, stopped, frames_in}
 use Rattle.cluster_play.specs.Histories.{event_of, acts_of, site}
 use Rattle.cluster_play.proofs.Bools.{some_is, none-some}
 use Rattle.cluster_play.proofs.Sites.{each_changed, get_append}
@@ -71,7 +71,7 @@ still s = record { place = refl; homes = refl; rows = inl refl; up = λ h u. u }
 down : (s : Site) → Stays s (stopped s)
 down s = record { place = refl; homes = refl; rows = inl refl; up = λ h u. none-some u }
 
-stops : (s s' : Site) → Stops s s' → Stays s s'
+stops : (s s' : Site) → GoesDown s s' → Stays s s'
 stops s s' h = record {
   place = ap (λ (n : NodeView). n.place) h.node;
   homes = ap (λ (n : NodeView). n.homes) h.node;
@@ -88,7 +88,7 @@ module _ (w : World) (i : ℕ) (s : Site) (at : slice_get w.sites i ≡ Some s) 
   }
 
   -- the rows are those of what the node holds after the step
-  commits : (j : ℕ) (e : Event) (acts : List Act) (outputs : List Output) (s' later : Site) (sent : List Frame) (w' : World) → j ≡ i → Takes s e acts outputs s' → later.node.place ≡ s'.node.place → later.node.homes ≡ s'.node.homes → later.rows ≡ s'.rows → ((h : HeldView) → later.node.up ≡ Some h → s'.node.up ≡ Some h)
+  commits : (j : ℕ) (e : Event) (acts : List Act) (outputs : List Output) (s' later : Site) (sent : List Frame) (w' : World) → j ≡ i → TakesEvent s e acts outputs s' → later.node.place ≡ s'.node.place → later.node.homes ≡ s'.node.homes → later.rows ≡ s'.rows → ((h : HeldView) → later.node.up ≡ Some h → s'.node.up ≡ Some h)
       → ((k : ℕ) (f : Frame) → slice_get sent k ≡ Some f → (m : ℕ) × (slice_get (frames_in outputs) m ≡ Some f)) → w' ≡ changed w i later sent → Committed w j e acts w'
   commits j e acts outputs s' later sent w' same t place homes rows up out is =
       let c = t.commits in

@@ -15,7 +15,7 @@ use Rattle.node_work.specs.View.{HeldView}
 use Rattle.cluster_play.specs.Worlds.{World, Happens}
 use Rattle.cluster_play.specs.Runs.{Played, IsHonestStep}
 use Rattle.cluster_play.specs.Histories.{Reached, acts_of, made, taken, gained, operations, taken_amid, operations_amid}
-use Rattle.cluster_play.specs.Agreement.{Holds, HoldsAmid, AnswersBy}
+use Rattle.cluster_play.specs.Agreement.{Holds, HoldsAmid, AnswersByOperations}
 use Rattle.cluster_play.proofs.Agreeing.{node_holds, own_dots}
 use Rattle.cluster_play.proofs.Bridging.{AreSo, IsSo}
 use Rattle.cluster_play.proofs.Growing.{AllSound}
@@ -39,7 +39,7 @@ node_answers run w r i h at filter now out a =
     answer_is (operations i run) h.store (own_some (made run) (λ o. taken i run (dot_of o)) (own_dots run w r)) (node_holds run w r i h at).0 filter now out a
 
 pub node_holds_amid : (run : List Played) (w w' : World) (m : Played) → Reached run w → IsHonestStep w.frames m.step → Happens w m.step m.fate w'
-    → (i : ℕ) (before : List Act) (mid : HeldView) → HoldsAmid w m i before mid → AnswersBy (operations_amid i run before) mid
+    → (i : ℕ) (before : List Act) (mid : HeldView) → HoldsAmid w m i before mid → AnswersByOperations (operations_amid i run before) mid
 node_holds_amid run w w' m r honest happens i before mid a =
     let c = committed w m.step m.fate w' a.event happens a.commits in
     let known = known_event w m.step m.fate w' a.event honest happens a.commits in

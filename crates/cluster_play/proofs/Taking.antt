@@ -16,13 +16,13 @@ use Rattle.broker_node.specs.declared.event.Event.{Event}
 use Rattle.broker_node.specs.declared.event.EventKind.{EventKind}
 use Rattle.broker_node.specs.declared.event.EventKind.TheVariants as kinds
 use Rattle.node_work.specs.declared.frame.Frame.{Frame}
-use Rattle.node_work.specs.Acts.{Act, Moment, Began, Moved, Store, Connection, Session, Bridge, Out, Named, Acknowledged, Passed, Dropped, Made, Merged, gather, op_in, merge_in}
+use Rattle.node_work.specs.Acts.{Act, MomentTaken, Began, Moved, Store, Connection, Session, Bridge, Out, Named, Acknowledged, Passed, Dropped, Made, Merged, gather, op_in, merge_in}
 use Rattle.broker_node.specs.Step.{brought, brought_in}
-use Rattle.node_work.specs.Frames.{is_for, states_in}
+use Rattle.node_work.specs.Frames.{is_for, names_nodes, states_in}
 use Rattle.node_work.specs.View.{Place, nodes_of}
 use Rattle.cluster_play.specs.Worlds.{World, Fate, Released, Lost, Cut, Faulted, Was_down, Restarted}
 use Rattle.cluster_play.specs.Runs.{Played, Run, released, IsKnown}
-use Rattle.cluster_play.specs.Histories.{Reached, site, event_of, acts_of, gained, gains, taken, same_dot}
+use Rattle.cluster_play.specs.Histories.{Reached, site, event_of, acts_of, made, gained, gains, taken, same_dot}
 use Rattle.cluster_play.specs.MadeOperations.{MakesDot, BringsDot}
 use Rattle.cluster_play.proofs.Bools.{or_true, or_left, or_right, and_true, nat_is, dot_is, dot_same, some_is}
 use Rattle.cluster_play.proofs.Brought.{brings}
@@ -31,12 +31,13 @@ use Rattle.cluster_play.proofs.Kept.{explained}
 use Rattle.cluster_play.proofs.Paths.{known_event, step_frames, taken_both, midway}
 use Rattle.cluster_play.proofs.Rows.{committed}
 use Rattle.cluster_play.proofs.Catching.{any_lists, takes_all}
+use Rattle.cluster_play.proofs.Plain.{sound_among}
 use Rattle.cluster_play.proofs.Telling.{IsTold, dots_in}
 
 -- what acts take is made or merged by them
 gained_from : (acts : List Act) (d : Dot) → gained acts d ≡ true → ((o : Operation) × Among o (gather op_in acts) × (dot_of o ≡ d)) ⊎ (any_lists (gather merge_in acts) d ≡ true)
 gained_from [] d h = cc
-gained_from (Moment at ∷ acts) d h = gained_from acts d h
+gained_from (MomentTaken at ∷ acts) d h = gained_from acts d h
 gained_from (Began ∷ acts) d h = gained_from acts d h
 gained_from (Moved homes ∷ acts) d h = gained_from acts d h
 gained_from (Store (Made o) ∷ acts) d h = elim (or_true (same_dot (dot_of o) d) (gained acts d) h) [
@@ -58,7 +59,7 @@ gained_from (Dropped ∷ acts) d h = gained_from acts d h
 
 made_gains : (acts : List Act) (o : Operation) (d : Dot) → Among o (gather op_in acts) → dot_of o ≡ d → gained acts d ≡ true
 made_gains [] o d a e = absurd a
-made_gains (Moment at ∷ acts) o d a e = made_gains acts o d a e
+made_gains (MomentTaken at ∷ acts) o d a e = made_gains acts o d a e
 made_gains (Began ∷ acts) o d a e = made_gains acts o d a e
 made_gains (Moved homes ∷ acts) o d a e = made_gains acts o d a e
 made_gains (Store (Made p) ∷ acts) o d (inl s) e = or_left (same_dot (dot_of p) d) (gained acts d) (dot_same (dot_of p) d (ap dot_of (sym s) ∙ e))
@@ -124,7 +125,8 @@ read_lists p bytes d None is h = cc
 read_lists p bytes d (Some f) is h =
     let taken = if_lists (is_for p f) (states_in f.body) d h in
     let t = body_lists f.body d taken.1 in
-    let parts = and_true (nat_eq f.to p.id && not (nat_eq f.from p.id)) (nat_lt f.from (nodes_of p)) taken.0 in
+    let named = and_true (nat_eq f.to p.id && not (nat_eq f.from p.id) && nat_lt f.from (nodes_of p)) (names_nodes (nodes_of p) f.body) taken.0 in
+    let parts = and_true (nat_eq f.to p.id && not (nat_eq f.from p.id)) (nat_lt f.from (nodes_of p)) named.0 in
     record { bytes = bytes; brings = refl; frame = f; reads = is; to = nat_is f.to p.id (and_true (nat_eq f.to p.id) (not (nat_eq f.from p.id)) parts.0).0; state = t.0; is_delta = t.1; lists = t.2 }
 
 frame_lists : (p : Place) (e : EventKind) (d : Dot) → any_lists (brought p e) d ≡ true → FrameLists p.id e d
@@ -216,7 +218,8 @@ dot_brought run w r i d b =
     let there : IsKnown b.mid.frames a.event.kind = subst (λ fs. IsKnown fs a.event.kind) (same_frames b.before half.mid b.mid half.reached b.reached) known in
     let g = given_out (past b.reached.start b.before) b.mid (explained b.before b.mid b.reached) (spelling b.frame) b.frame (subst (IsKnown b.mid.frames) a.brings there) (read_again b.frame b.spelled) in
     let had : taken b.frame.from b.before d ≡ true = g.told.lists d (ap (λ body. set.contains (dots_in body) d) b.is_delta ∙ b.lists) in
-    let has = takes_all b.before b.mid b.after b.reached b.m b.frame a b.state b.is_delta b.later b.spelled g.told.from d had b.lists in
+    let among = sound_among (length b.mid.sites) (made b.before) b.state (g.told.sound b.state b.is_delta) (explained b.before b.mid b.reached).plain in
+    let has = takes_all b.before b.mid b.after b.reached b.m b.frame a b.state b.is_delta b.later b.spelled g.told.from among d had b.lists in
     subst (λ ms. taken i ms d ≡ true) (sym b.run_is) (subst (λ k. taken k (b.before ++ b.m ∷ b.later) d ≡ true) b.to has)
 
 pub takes_what_is_brought : (run : List Played) (w : World) → Reached run w → (i : ℕ) (d : Dot) → (taken i run d ≡ true) ↔ (MakesDot i run d ⊎ BringsDot i run d)

@@ -61,7 +61,7 @@ module _ (count i : ℕ) (ms : List Operation) (took : ℕ → Dot → Bool) (h 
   can_go to (Forward number m) c = waits_numbered count took h.bridge to number m k c
   can_go to (Got number) c = tt
 
-  sound_in : (to : ℕ) (b : FrameBody) → Carries h to b → (s : State) → b ≡ Delta s → Sound ms s
+  pub sound_in : (to : ℕ) (b : FrameBody) → Carries h to b → (s : State) → b ≡ Delta s → Sound ms s
   sound_in to b c s e = (part_shipped to s (subst (Carries h to) e c)).sound
 
   none_in : (d : Dot) → set.contains {R = dot_cmp} set.empty d ≡ true → set.contains h.store.taken d ≡ true

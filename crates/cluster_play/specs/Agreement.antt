@@ -54,14 +54,14 @@ pub record HoldsAmid (w : World) (m : Played) (i : ℕ) (before : List Act) (mid
   pub runs : Runs holds.site.node.place held before mid
 
 -- amid a step a node holds the state of what it has taken until then, and answers by it
-pub record AnswersBy (O : List Operation) (h : HeldView) : Type 0 where
+pub record AnswersByOperations (O : List Operation) (h : HeldView) : Type 0 where
   pub state : IsStateOf O h.store
   pub answers : (filter : List ℕ) (now : ℕ) (out : List Message) → IsAnswer filter now (map.entries h.store.retained) out → IsAnswerOf O filter now out
 
 abbrev pub HoldsItsOperationsAmid : Type 0
 HoldsItsOperationsAmid =
     (run : List Played) (w w' : World) (m : Played) → Reached run w → IsHonestStep w.frames m.step → Happens w m.step m.fate w'
-    → (i : ℕ) (before : List Act) (mid : HeldView) → HoldsAmid w m i before mid → AnswersBy (operations_amid i run before) mid
+    → (i : ℕ) (before : List Act) (mid : HeldView) → HoldsAmid w m i before mid → AnswersByOperations (operations_amid i run before) mid
 
 -- no dot has two operations
 abbrev pub OwnDots : Type 0

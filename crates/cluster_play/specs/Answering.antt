@@ -26,7 +26,7 @@ AreOfferedBy O at [] parts = parts ≡ []
 AreOfferedBy O at (g ∷ gs) parts = (own : List Delivery) × (rest : List (List Delivery)) × (parts ≡ own ∷ rest) × IsOfferedBy O at g.asked own × AreOfferedBy O at gs rest
 
 -- a step answers a SUBSCRIBE of a client after these of its acts, at the node's moment
-pub record Acknowledges (m : Played) (before : List Act) : Type 0 where
+pub record AcknowledgesFilters (m : Played) (before : List Act) : Type 0 where
   pub client : List ℕ
   pub packet : ℕ
   pub at : ℕ
@@ -36,17 +36,17 @@ pub record Acknowledges (m : Played) (before : List Act) : Type 0 where
   pub acts : acts_of m.fate ≡ before ++ Acknowledged client packet at grants offers ∷ after
 
 -- calls of the client's session, one for each offer in order: it joins the session at the moment
-abbrev pub AreQueued : List ℕ → ℕ → List Delivery → List Act → Type 0
-AreQueued client at [] calls = calls ≡ []
-AreQueued client at (d ∷ ds) calls =
-    (s : SessionStep) × (rest : List Act) × (calls ≡ Session (Called s) ∷ rest) × (s.client ≡ client) × (s.at ≡ at) × (s.event ≡ queues d at) × AreQueued client at ds rest
+abbrev pub OffersAreQueued : List ℕ → ℕ → List Delivery → List Act → Type 0
+OffersAreQueued client at [] calls = calls ≡ []
+OffersAreQueued client at (d ∷ ds) calls =
+    (s : SessionStep) × (rest : List Act) × (calls ≡ Session (Called s) ∷ rest) × (s.client ≡ client) × (s.at ≡ at) × (s.event ≡ queues d at) × OffersAreQueued client at ds rest
 
 -- acts that begin with these calls
 pub record BeginsWithOffers (client : List ℕ) (at : ℕ) (offers : List Delivery) (after : List Act) : Type 0 where
   pub calls : List Act
   pub rest : List Act
   pub is : after ≡ calls ++ rest
-  pub queued : AreQueued client at offers calls
+  pub queued : OffersAreQueued client at offers calls
 
 -- the offers are these parts one after the other, each what the operations say
 pub record FallsInto (O : List Operation) (at : ℕ) (grants : List Granted) (offers : List Delivery) (parts : List (List Delivery)) : Type 0 where
@@ -54,7 +54,7 @@ pub record FallsInto (O : List Operation) (at : ℕ) (grants : List Granted) (of
   pub each : AreOfferedBy O at grants parts
 
 -- directly after that the client's session is offered what the operations say
-pub record SendsAnswers (O : List Operation) (m : Played) (before : List Act) (s : Acknowledges m before) : Type 0 where
+pub record SendsAnswers (O : List Operation) (m : Played) (before : List Act) (s : AcknowledgesFilters m before) : Type 0 where
   pub follow : BeginsWithOffers s.client s.at s.offers s.after
   pub parts : List (List Delivery)
   pub answers : FallsInto O s.at s.grants s.offers parts

@@ -33,14 +33,14 @@ DeltaFrames =
     → IsStateOf (filter (λ o. set.contains s.taken (dot_of o)) (made run)) s
 
 -- a step gives out a Delta frame, after these of its acts
-pub record Ships (m : Played) (before : List Act) (f : BridgeFrame) : Type 0 where
+pub record GivesDelta (m : Played) (before : List Act) (f : BridgeFrame) : Type 0 where
   pub after : List Act
   pub acts : acts_of m.fate ≡ before ++ Bridge (Gave f) ∷ after
   pub state : State
   pub is_delta : f.body ≡ Delta state
 
 -- a frame comes to its receiver, which has started, in a step that commits
-pub record Arrives (w : World) (f : BridgeFrame) (m : Played) (w' : World) : Type 0 where
+pub record FrameArrives (w : World) (f : BridgeFrame) (m : Played) (w' : World) : Type 0 where
   pub held : HeldView
   pub holds : Holds w f.to held
   pub started : held.started ≡ true
@@ -54,7 +54,7 @@ pub record Arrives (w : World) (f : BridgeFrame) (m : Played) (w' : World) : Typ
 abbrev pub CatchUp : Type 0
 CatchUp =
     (run amid later : List Played) (m arrival : Played) (w w' : World) → Reached (run ++ m ∷ amid) w
-    → (before : List Act) (f : BridgeFrame) → Ships m before f → Arrives w f arrival w'
+    → (before : List Act) (f : BridgeFrame) → GivesDelta m before f → FrameArrives w f arrival w'
     → (d : Dot) → taken_amid (site m.fate) run before d ≡ true → taken f.to ((run ++ m ∷ amid) ++ arrival ∷ later) d ≡ true
 
 -- the dots of a Know that a step gives out are taken, then and in every later world

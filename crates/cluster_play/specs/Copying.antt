@@ -16,7 +16,7 @@ use Rattle.cluster_play.specs.Histories.{Reached, site, acts_of, made, operation
 use Rattle.cluster_play.specs.Agreement.{HoldsAmid}
 
 -- a step passes a message on after these of its acts: it makes these copies, so many picks are lost, and this goes to other nodes
-pub record PassesOn (m : Played) (before : List Act) : Type 0 where
+pub record PassesMessageOn (m : Played) (before : List Act) : Type 0 where
   pub message : Message
   pub copies : List Copy
   pub lost : ℕ
@@ -26,7 +26,7 @@ pub record PassesOn (m : Played) (before : List Act) : Type 0 where
 
 -- the copies are those of the message for what the node holds there, at its place: its turn, its sessions, and the live
 -- subscriptions, which are those of the operations that it has taken until then
-pub record MakesCopies (run : List Played) (m : Played) (before : List Act) (s : PassesOn m before) : Type 0 where
+pub record MakesItsCopies (run : List Played) (m : Played) (before : List Act) (s : PassesMessageOn m before) : Type 0 where
   pub world : World
   pub reached : Reached run world
   pub held : HeldView
@@ -36,4 +36,4 @@ pub record MakesCopies (run : List Played) (m : Played) (before : List Act) (s :
 
 -- a message that is passed on makes exactly these copies
 abbrev pub CopiesAsTaken : Type 0
-CopiesAsTaken = (run later : List Played) (m : Played) (w : World) → Reached (run ++ m ∷ later) w → (before : List Act) (s : PassesOn m before) → MakesCopies run m before s
+CopiesAsTaken = (run later : List Played) (m : Played) (w : World) → Reached (run ++ m ∷ later) w → (before : List Act) (s : PassesMessageOn m before) → MakesItsCopies run m before s

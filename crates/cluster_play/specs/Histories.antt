@@ -5,9 +5,9 @@ use Rattle.std.specs.FinSet as set
 use Rattle.causal_context.specs.Dots.{Dot}
 use Rattle.broker_node.specs.declared.event.Event.{Event}
 use Rattle.node_work.specs.declared.outcome.Output.{Output}
-use Rattle.node_work.specs.Acts.{Act, Moment, Store, Made, Merged, gather, moved_in, op_in}
+use Rattle.node_work.specs.Acts.{Act, MomentTaken, Store, Made, Merged, gather, moved_in, op_in}
 use Rattle.node_work.specs.View.{opened}
-use Rattle.node_laws.specs.Moves.{Move, Did, Lost as Loses, did}
+use Rattle.node_laws.specs.Moves.{Move, Acted, Reopened as Loses, did}
 use Rattle.node_rows.specs.Rows.{mark, mark_key}
 use Rattle.replica_store.specs.declared.operation.Operation.{Operation}
 use Rattle.replica_store.specs.Operations.{dot_of}
@@ -85,7 +85,7 @@ operations_amid i run acts = filter (λ o. taken_amid i run acts (dot_of o)) (ma
 
 -- the moment that an act takes
 abbrev pub moment_in : Act → ℕ
-moment_in (Moment at) = at
+moment_in (MomentTaken at) = at
 moment_in a = 0
 
 -- what a step made of what its node holds: the acts that it committed, and at a restart the loss of what doesn't last
@@ -115,7 +115,7 @@ last_of t (u ∷ us) = last_of u us
 -- the moment that a node is at after moves, from one on: the greatest that it was handed since it was last opened
 abbrev pub moment_after : ℕ → List Move → ℕ
 moment_after at [] = at
-moment_after at (Did a ∷ moves) = moment_after (max at (moment_in a)) moves
+moment_after at (Acted a ∷ moves) = moment_after (max at (moment_in a)) moves
 moment_after at (Loses ∷ moves) = moment_after 0 moves
 
 abbrev pub moment_amid : ℕ → List Played → List Act → ℕ
@@ -124,11 +124,11 @@ moment_amid i run acts = moment_after 0 (moves_amid i run acts)
 -- the table of homes that a node has after moves, from one on: the one that it took last
 abbrev pub homes_after : Table → List Move → Table
 homes_after t [] = t
-homes_after t (Did a ∷ moves) = homes_after (last_of t (moved_in a)) moves
+homes_after t (Acted a ∷ moves) = homes_after (last_of t (moved_in a)) moves
 homes_after t (Loses ∷ moves) = homes_after t moves
 
 -- the node of a seat is new, with a table of homes for so many nodes, and its rows are its mark
-pub record IsNew (nodes i : ℕ) (s : Site) : Type 0 where
+pub record IsNewSite (nodes i : ℕ) (s : Site) : Type 0 where
   pub homes : Table
   pub fits : length homes.nodes ≡ nodes
   pub node : s.node ≡ opened i homes
@@ -137,7 +137,7 @@ pub record IsNew (nodes i : ℕ) (s : Site) : Type 0 where
 -- new nodes, of which there are no more than have numbers in two bytes, and no frame
 pub record IsStart (w : World) : Type 0 where
   pub few : length w.sites ≤ 2 ^ 16
-  pub sites : (i : ℕ) (s : Site) → slice_get w.sites i ≡ Some s → IsNew (length w.sites) i s
+  pub sites : (i : ℕ) (s : Site) → slice_get w.sites i ≡ Some s → IsNewSite (length w.sites) i s
   pub frames : w.frames ≡ []
 
 -- the table of homes with which a node was first opened

@@ -15,7 +15,7 @@ use Rattle.cluster_play.specs.Runs.{Played, Run}
 use Rattle.cluster_play.specs.Histories.{Reached, site, acts_of, ops_of, taken, operations_amid}
 use Rattle.cluster_play.specs.NextOperations.{IsNext}
 use Rattle.cluster_play.specs.Agreement.{HoldsAmid}
-use Rattle.cluster_play.specs.CatchingUp.{Arrives}
+use Rattle.cluster_play.specs.CatchingUp.{FrameArrives}
 
 -- a step makes an operation after these of its acts: it is the next one by what its node had taken until then, and by the version of
 -- the table of homes that the node holds there
@@ -57,7 +57,7 @@ pub record BringsDot (i : ℕ) (run : List Played) (d : Dot) : Type 0 where
   pub frame : BridgeFrame
   pub spelled : HasSpelling frame
   pub to : frame.to ≡ i
-  pub arrives : Arrives mid frame m after
+  pub arrives : FrameArrives mid frame m after
   pub state : State
   pub is_delta : frame.body ≡ Delta state
   pub lists : set.contains state.taken d ≡ true

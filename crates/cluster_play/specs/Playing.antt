@@ -21,15 +21,15 @@ abbrev pub StopsAt : World → List Step → PlayFault → World → Type 0
 StopsAt w steps fault w' = (run : List Played) × (step : Step) × (rest : List Step) × (steps ≡ steps_of run ++ step ∷ rest) × Run w run w' × Lacks w' step fault
 
 -- memory was refused at a step: before anything happened, or for what its node gave out, which goes on
-abbrev pub RunsOut : World → Step → World → Type 0
-RunsOut w step w' =
+abbrev pub MemoryRunsOut : World → Step → World → Type 0
+MemoryRunsOut w step w' =
     (w' ≡ w)
     ⊎ ((i : ℕ) × (e : Event) × (acts : List Act) × (outputs : List Output) × (done : World) × Happens w step (Released i e acts outputs) done × (w'.sites ≡ done.sites))
 
 -- there is a run over the steps before one at which memory was refused
 abbrev pub StopsShort : World → List Step → World → Type 0
 StopsShort w steps w' =
-    (run : List Played) × (step : Step) × (rest : List Step) × (mid : World) × (steps ≡ steps_of run ++ step ∷ rest) × Run w run mid × RunsOut mid step w'
+    (run : List Played) × (step : Step) × (rest : List Step) × (mid : World) × (steps ≡ steps_of run ++ step ∷ rest) × Run w run mid × MemoryRunsOut mid step w'
 
 -- why steps aren't played, and what that leaves
 abbrev pub IsRefused : Cluster → List Step → PlayFault → Cluster → Type 0

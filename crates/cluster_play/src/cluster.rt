@@ -4,7 +4,7 @@ ghost use Rattle.std.specs.Prelude.{◌≡◌, ◌<◌, ◌==◌, [], true, fals
 ghost use Rattle.std.specs.List.{list_all};
 ghost use Rattle.cluster_play.specs.Clusters.{world, homes_of, are_tables, is_spent, held_at, holdings_of, is_open_at, taken_of, IsSameTaken};
 ghost use Rattle.cluster_play.specs.Histories.{IsStart};
-ghost use Rattle.cluster_play.specs.Playing.{IsPlayed, IsRefused, IsDoneAt, IsDoneStep, RunsOut};
+ghost use Rattle.cluster_play.specs.Playing.{IsPlayed, IsRefused, IsDoneAt, IsDoneStep, MemoryRunsOut};
 ghost use Rattle.cluster_play.specs.Worlds.{Lacks, LacksNode, OfCrashAfter, OfCrashBefore, OfEvent, OfRestart, numbered};
 ghost use Rattle.cluster_play.specs.declared.fault.PlayFault.TheVariants as faults;
 ghost use Rattle.cluster_play.specs.declared.step.Step.TheVariants as steps;
@@ -108,7 +108,7 @@ impl Cluster {
         ensures ok { OnOk result
             (IsDoneStep (world self.old) step.now lines.old.items lines.new.items (world self.new)) }
         ensures err { IfErr result (λ f.
-            ((f ≡ faults.NoMemory) × RunsOut (world self.old) step.now (world self.new))
+            ((f ≡ faults.NoMemory) × MemoryRunsOut (world self.old) step.now (world self.new))
             ⊎ (Lacks (world self.old) step.now f × (self.new ≡ self.old))) }
         ensures spent { is_spent self.new ≡ is_spent self.old }
     {
@@ -150,7 +150,7 @@ impl Cluster {
         ensures ok { OnOk result
             (IsDoneStep (world self.old) (steps.Deliver number at) lines.old.items lines.new.items (world self.new)) }
         ensures err { IfErr result (λ f.
-            ((f ≡ faults.NoMemory) × RunsOut (world self.old) (steps.Deliver number at) (world self.new))
+            ((f ≡ faults.NoMemory) × MemoryRunsOut (world self.old) (steps.Deliver number at) (world self.new))
             ⊎ (Lacks (world self.old) (steps.Deliver number at) f × (self.new ≡ self.old))) }
         ensures spent { is_spent self.new ≡ is_spent self.old }
     {
@@ -175,7 +175,7 @@ impl Cluster {
         ensures ok { OnOk result
             (IsDoneAt (world self.old) node (OfEvent event.now) lines.old.items lines.new.items (world self.new)) }
         ensures err { IfErr result (λ f. (f ≡ faults.NoMemory)
-            × RunsOut (world self.old) (steps.Event node event.now) (world self.new)) }
+            × MemoryRunsOut (world self.old) (steps.Event node event.now) (world self.new)) }
         ensures spent { is_spent self.new ≡ is_spent self.old }
     {
         lines.reserve(1)?;

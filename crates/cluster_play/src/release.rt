@@ -4,7 +4,7 @@ ghost use Rattle.std.specs.Prelude.{◌≡◌, ◌≢◌, ◌++◌, ◌∷◌, �
 ghost use Rattle.node_keeper.specs.declared.fault.KeeperFault.TheVariants.{Stopped};
 ghost use Rattle.cluster_play.specs.declared.line.Line.TheVariants.{Down, Fault};
 ghost use Rattle.cluster_play.specs.Runs.{client_line, client_lines, frame_lines};
-ghost use Rattle.cluster_play.specs.Worlds.{frame_in, frames_in};
+ghost use Rattle.cluster_play.specs.Worlds.{frame_of_output, frames_in};
 ghost use Rattle.cluster_play.specs.declared.fault.PlayFault.TheVariants as faults;
 
 use crate::fault::PlayFault;
@@ -43,7 +43,7 @@ fn take_output(
     frames: &mut Vec<Frame>,
 ) -> Result<(), PlayFault>
     ensures lines { OnOk result (lines.new.items ≡ lines.old.items ++ client_line node output) }
-    ensures frames { OnOk result (frames.new.items ≡ frames.old.items ++ frame_in output) }
+    ensures frames { OnOk result (frames.new.items ≡ frames.old.items ++ frame_of_output output) }
     ensures err { IfErr result (λ f. f ≡ faults.NoMemory) }
 {
     match output {

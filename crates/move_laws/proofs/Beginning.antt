@@ -14,7 +14,7 @@ use Rattle.mqtt_sessions.specs.Reaction.{Reaction}
 use Rattle.session_laws.specs.Runs.{connects}
 use Rattle.session_table.specs.Calls.{moves}
 use Rattle.node_work.specs.declared.counts.Missed.TheVariants.{TableRefused}
-use Rattle.node_work.specs.Acts.{Act, Began, Moment, Moved, Connection, Session, Named, Runs, gather, moved_in}
+use Rattle.node_work.specs.Acts.{Act, Began, MomentTaken, Moved, Connection, Session, Named, Runs, gather, moved_in}
 use Rattle.node_work.specs.Doings.{Misses, TakesMoment}
 use Rattle.node_work.specs.Held.Connections.{Accepted, Fed, Opened, client_at, is_open}
 use Rattle.node_work.specs.Held.Feeding.{cut_of}
@@ -145,8 +145,8 @@ module _ (p : Place) (here : p.id < nodes_of p) where
 
   accepts : (c : ℕ) (q : Connect) (client : List ℕ) → AtHome client (Unit {0}) (connecting.Accepts c q client)
   accepts c q client =
-      home_then client (connecting.TakesOver client) (λ _. Then (connecting.Cleans q.clean_start client) (λ _. connecting.Begins c client q)) (still.takes_over client) (λ _.
-      home_then client (connecting.Cleans q.clean_start client) (λ _. connecting.Begins c client q) (still.cleans q.clean_start client) (λ _.
+      home_then client (connecting.TakesOver client) (λ _. Then (connecting.Cleans q.clean_start client) (λ _. connecting.BeginsSession c client q)) (still.takes_over client) (λ _.
+      home_then client (connecting.Cleans q.clean_start client) (λ _. connecting.BeginsSession c client q) (still.cleans q.clean_start client) (λ _.
       home_then client (Acting (λ place h. Connection (Accepted c client))) (λ _. Then (connecting.Joins c client q) (λ r. endings.ClosesAfter r.end c client)) (accepted c client) (λ _. joined c client q)))
     where
       accepted : (c : ℕ) (client : List ℕ) → K IsStill (Unit {0}) (Acting (λ place h. Connection (Accepted c client)))
@@ -180,24 +180,24 @@ module _ (p : Place) (here : p.id < nodes_of p) where
   connects_at false c q x h acts sits d = comes_home (d.0 == p.id) c q d.0 x h acts d.1 refl d.2
 
   connects_by : (code : Option ℕ) (c : ℕ) (q : Connect) → B (Unit {0}) (connecting.ConnectsBy code c q)
-  connects_by (Some code) c q = b_still (connecting.Refuses c q code None) (still.refuses c q code None)
+  connects_by (Some code) c q = b_still (connecting.RefusesConnect c q code None) (still.refuses c q code None)
   connects_by None c q = connects_at (length q.client == 0) c q
 
   -- ---- pieces
-  first : (c : ℕ) (k : Packet) → B (Unit {0}) (pieces.First c k)
+  first : (c : ℕ) (k : Packet) → B (Unit {0}) (pieces.AnswersFirstPacket c k)
   first c (packets.Connect q) = connects_by (connecting.refusal q) c q
-  first c _ = b_still (endings.Closes c) (still.closes_of c)
+  first c _ = b_still (endings.ClosesConnection c) (still.closes_of c)
 
-  answers_by : (c : ℕ) (k : Packet) (client : Option (List ℕ)) → B (Unit {0}) (pieces.AnswersBy c k client)
+  answers_by : (c : ℕ) (k : Packet) (client : Option (List ℕ)) → B (Unit {0}) (pieces.AnswersPacketBy c k client)
   answers_by c k None = first c k
-  answers_by c k (Some client) = b_still (pieces.AnswersBy c k (Some client)) (still.serves c client k)
+  answers_by c k (Some client) = b_still (pieces.AnswersPacketBy c k (Some client)) (still.serves c client k)
 
   answers_if : (c : ℕ) (k : Packet) → B (Unit {0}) (pieces.AnswersIfOpen c k)
   answers_if c k =
-      b_looks (λ p h. is_open c h) (λ is. If is (pieces.Answers c k) (Returns tt))
-      (λ is. b_if is (pieces.Answers c k) (Returns tt) (b_looks (λ p h. client_at c h) (pieces.AnswersBy c k) (answers_by c k)) (b_returns tt))
+      b_looks (λ p h. is_open c h) (λ is. If is (pieces.AnswersPacket c k) (Returns tt))
+      (λ is. b_if is (pieces.AnswersPacket c k) (Returns tt) (b_looks (λ p h. client_at c h) (pieces.AnswersPacketBy c k) (answers_by c k)) (b_returns tt))
 
-  takes_all : (c : ℕ) (ks : List Packet) (fault : Option PacketFault) → B (Unit {0}) (pieces.Takes c ks fault)
+  takes_all : (c : ℕ) (ks : List Packet) (fault : Option PacketFault) → B (Unit {0}) (pieces.TakesPackets c ks fault)
   takes_all c ks fault = b_then (Each (pieces.AnswersIfOpen c) ks) (λ _. pieces.BreaksIfOpen c fault) (b_each (pieces.AnswersIfOpen c) ks (answers_if c)) (λ _. b_still (pieces.BreaksIfOpen c fault) (still.breaks_if c fault))
 
   piece_at : (c : ℕ) (piece : List ℕ) (found : Option ConnectionView) → B (Unit {0}) (pieces.PieceAt c piece found)
@@ -206,13 +206,13 @@ module _ (p : Place) (here : p.id < nodes_of p) where
       let cut = cut_of found.stream piece in
       b_if found.stream.failed (pieces.Shuts c) (pieces.Feeds c piece found)
       (b_looks (λ p h. client_at c h) (endings.ClosesBy c) (λ client. b_still (endings.ClosesBy c client) (still.closes_by c client)))
-      (b_then (Acting (λ p h. Connection (Fed c piece))) (λ _. pieces.Takes c cut.packets cut.fault) (b_act (λ p h. Connection (Fed c piece)) (λ h q e. cc)) (λ _. takes_all c cut.packets cut.fault))
+      (b_then (Acting (λ p h. Connection (Fed c piece))) (λ _. pieces.TakesPackets c cut.packets cut.fault) (b_act (λ p h. Connection (Fed c piece)) (λ h q e. cc)) (λ _. takes_all c cut.packets cut.fault))
 
   -- ---- tables of homes
   takes_table : (homes : Table) → B (Unit {0}) (tables.TakesTable homes)
   takes_table homes =
-      b_looks (tables.is_newer homes) (λ newer. If newer (tables.Moves homes) (Misses TableRefused))
-      (λ newer. b_if newer (tables.Moves homes) (Misses TableRefused)
+      b_looks (tables.is_newer homes) (λ newer. If newer (tables.TakesNewerTable homes) (Misses TableRefused))
+      (λ newer. b_if newer (tables.TakesNewerTable homes) (Misses TableRefused)
       (b_then (Acting (λ p h. Moved homes)) (λ _. tables.SendsAway) (b_act (λ p h. Moved homes) (λ h q e. cc)) (λ _. b_still tables.SendsAway still.goes_away))
       (b_still (Misses TableRefused) (still.misses_of TableRefused)))
 
@@ -223,24 +223,24 @@ module _ (p : Place) (here : p.id < nodes_of p) where
       b_then due.DoesDue (λ _. tables.SendsAway) (b_still due.DoesDue still.does_due) (λ _. b_still tables.SendsAway still.goes_away)))
 
   -- ---- events
-  answers_kind : (kind : EventKind) → B (Unit {0}) (turns.Answers kind)
+  answers_kind : (kind : EventKind) → B (Unit {0}) (turns.AnswersEvent kind)
   answers_kind kinds.Started = b_returns tt
   answers_kind (kinds.Opened c) =
       let opens : Option (Unit {0}) → Doing = Acting (λ p h. Connection (Opened c)) in
       b_looks (λ p h. is_open c h) (λ there. If there (Returns tt) opens) (λ there. b_if there (Returns tt) opens (b_returns tt) (b_act (λ p h. Connection (Opened c)) (λ h q e. cc)))
   answers_kind (kinds.Piece c bytes) = b_looks (λ p h. map.get h.connections c) (pieces.PieceAt c bytes) (piece_at c bytes)
   answers_kind (kinds.Closed c) = b_still (pieces.Leaves c) (still.leaves_of c)
-  answers_kind (kinds.Frame bytes) = b_still (turns.Answers (kinds.Frame bytes)) (still.hears bytes)
-  answers_kind (kinds.Linked peer) = b_still (turns.Answers (kinds.Linked peer)) (still.greets peer)
-  answers_kind (kinds.Ship peer) = b_still (turns.Answers (kinds.Ship peer)) (still.ships peer)
+  answers_kind (kinds.Frame bytes) = b_still (turns.AnswersEvent (kinds.Frame bytes)) (still.hears bytes)
+  answers_kind (kinds.Linked peer) = b_still (turns.AnswersEvent (kinds.Linked peer)) (still.greets peer)
+  answers_kind (kinds.Ship peer) = b_still (turns.AnswersEvent (kinds.Ship peer)) (still.ships peer)
   answers_kind kinds.Tick = b_returns tt
   answers_kind (kinds.Evict client) = b_still (turns.Evicts client) (still.evicts client)
   answers_kind (kinds.Table homes) = takes_table homes
 
-  after_due : (kind : EventKind) → B (Unit {0}) (Then due.DoesDue (λ _. turns.Answers kind))
-  after_due kind = b_then due.DoesDue (λ _. turns.Answers kind) (b_still due.DoesDue still.does_due) (λ _. answers_kind kind)
+  after_due : (kind : EventKind) → B (Unit {0}) (Then due.DoesDue (λ _. turns.AnswersEvent kind))
+  after_due kind = b_then due.DoesDue (λ _. turns.AnswersEvent kind) (b_still due.DoesDue still.does_due) (λ _. answers_kind kind)
 
-  goes_on : (kind : EventKind) → B (Unit {0}) (turns.GoesOn kind)
+  goes_on : (kind : EventKind) → B (Unit {0}) (turns.AnswersAfterDue kind)
   goes_on kinds.Started = b_returns tt
   goes_on (kinds.Opened c) = after_due (kinds.Opened c)
   goes_on (kinds.Piece c bytes) = after_due (kinds.Piece c bytes)
@@ -252,7 +252,7 @@ module _ (p : Place) (here : p.id < nodes_of p) where
   goes_on (kinds.Evict client) = after_due (kinds.Evict client)
   goes_on (kinds.Table homes) = after_due (kinds.Table homes)
 
-  first_turn : (kind : EventKind) → B (Unit {0}) (turns.First kind)
+  first_turn : (kind : EventKind) → B (Unit {0}) (turns.AwaitsStart kind)
   first_turn kinds.Started = starts
   first_turn (kinds.Opened c) = b_returns tt
   first_turn (kinds.Piece c bytes) = b_returns tt
@@ -265,9 +265,9 @@ module _ (p : Place) (here : p.id < nodes_of p) where
   first_turn (kinds.Table homes) = b_returns tt
 
   moment : (at : ℕ) → B (Unit {0}) (TakesMoment at)
-  moment at x h acts sits d = subst (Begin p h) (sym (numbered _ x (Moment at) acts d)) (act_begin p h (Moment at) (λ q e. cc))
+  moment at x h acts sits d = subst (Begin p h) (sym (numbered _ x (MomentTaken at) acts d)) (act_begin p h (MomentTaken at) (λ q e. cc))
 
   pub decides : (e : Event) → B (Unit {0}) (turns.Decides e)
   decides e =
       b_then (TakesMoment e.at) (λ _. turns.Turn e.kind) (moment e.at)
-      (λ _. b_looks (λ p h. h.started) (λ is. If is (turns.GoesOn e.kind) (turns.First e.kind)) (λ is. b_if is (turns.GoesOn e.kind) (turns.First e.kind) (goes_on e.kind) (first_turn e.kind)))
+      (λ _. b_looks (λ p h. h.started) (λ is. If is (turns.AnswersAfterDue e.kind) (turns.AwaitsStart e.kind)) (λ is. b_if is (turns.AnswersAfterDue e.kind) (turns.AwaitsStart e.kind) (goes_on e.kind) (first_turn e.kind)))

@@ -13,11 +13,11 @@ use Rattle.mqtt_sessions.specs.State.{Kept, State}
 use Rattle.session_laws.specs.Runs.{Event, connects, queues, takes, answers, closes, ticks, finishes, loses, Reacts}
 use Rattle.session_table.specs.Listing.{text_cmp}
 use Rattle.session_table.specs.Seats.{Seat}
-use Rattle.node_work.specs.Acts.{Act, StoreAct, Moment, Began, Moved, Store, Connection, Session, Bridge, Out, Named, Acknowledged, Passed, Dropped, Allowed, Runs, next}
+use Rattle.node_work.specs.Acts.{Act, StoreAct, MomentTaken, Began, Moved, Store, Connection, Session, Bridge, Out, Named, Acknowledged, Passed, Dropped, Allowed, Runs, next}
 use Rattle.node_work.specs.Held.Bridge.{BridgeAct, Put, Took, Got, Believed, Gave, Left_out}
 use Rattle.node_work.specs.Held.Sessions.{SessionAct, SessionStep, Begun, Called, Over, IsOn, IsCall, seat_at}
 use Rattle.node_work.specs.View.{Place, HeldView}
-use Rattle.move_laws.specs.Going.{MayEnd, IsOfEnding, HasWill, seen, seen_in}
+use Rattle.move_laws.specs.Going.{MayEnd, IsOfEnding, SessionHasWill, seen, seen_in}
 
 -- the client has a session
 abbrev pub Has : List ℕ → HeldView → Type 0
@@ -109,7 +109,7 @@ act_calm client p h (Store a) allowed kind = store_calm client h a
 act_calm client p h (Bridge a) allowed kind = bridge_calm client h a kind
 act_calm client p h (Passed m copies lost routes) allowed kind = record { moment = refl; homes = refl; connections = refl; sessions = λ q ne. refl; has = λ x. x }
 act_calm client p h Dropped allowed kind = record { moment = refl; homes = refl; connections = refl; sessions = λ q ne. refl; has = λ x. x }
-act_calm client p h (Moment at) allowed kind = absurd kind
+act_calm client p h (MomentTaken at) allowed kind = absurd kind
 act_calm client p h Began allowed kind = absurd kind
 act_calm client p h (Moved homes) allowed kind = absurd kind
 act_calm client p h (Connection a) allowed kind = absurd kind
@@ -139,12 +139,12 @@ pub passing_seen : (p : Place) (acts : List Act) (h h' : HeldView) (q : List ℕ
 passing_seen p acts h h' q kind ran = (calmly (0 ∷ q) p acts h h' (passing_ends (0 ∷ q) acts kind) ran).sessions q (longer q)
 
 -- a session whose will is seen has it still
-will_by : (w : Will) (id : List ℕ) (seat : Seat) (o : Option Seat) (client : List ℕ) (h : HeldView) → seat_at client h ≡ o → seat.session.kept.will ≡ Some w → seat.session.kept.client ≡ id → option_map seen_in o ≡ Some (seen_in seat) → HasWill client w id h
+will_by : (w : Will) (id : List ℕ) (seat : Seat) (o : Option Seat) (client : List ℕ) (h : HeldView) → seat_at client h ≡ o → seat.session.kept.will ≡ Some w → seat.session.kept.client ≡ id → option_map seen_in o ≡ Some (seen_in seat) → SessionHasWill client w id h
 will_by w id seat None client h at will same is = absurd (let z : None ≡ Some (seen_in seat) = is in cc)
 will_by w id seat (Some other) client h at will same is =
     let one : seen_in other ≡ seen_in seat = (let z : Some (seen_in other) ≡ Some (seen_in seat) = is in cc) in
     let kept : other.session.kept ≡ seat.session.kept = ap (λ (x : Option ℕ × Kept). x.1) one in
     record { seat = other; at = at; will = ap (λ (k : Kept). k.will) kept ∙ will; id_is = ap (λ (k : Kept). k.client) kept ∙ same }
 
-pub will_stays : (client : List ℕ) (w : Will) (id : List ℕ) (h h' : HeldView) → seen client h' ≡ seen client h → HasWill client w id h → HasWill client w id h'
+pub will_stays : (client : List ℕ) (w : Will) (id : List ℕ) (h h' : HeldView) → seen client h' ≡ seen client h → SessionHasWill client w id h → SessionHasWill client w id h'
 will_stays client w id h h' is has = will_by w id has.seat (seat_at client h') client h' refl has.will has.id_is (is ∙ ap (option_map seen_in) has.at)

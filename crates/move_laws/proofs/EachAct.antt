@@ -29,7 +29,7 @@ use Rattle.node_work.specs.Held.Making.{put_at_end}
 use Rattle.node_work.specs.Held.Sessions.{SessionStep, Called, seat_at}
 use Rattle.node_work.specs.Passing.{content_of, turn_at_end}
 use Rattle.node_work.specs.View.{Place, HeldView}
-use Rattle.node_work.specs.Working.{Doing, Returns, Stops, Acting, Numbered, Looks, Finds, If, Where, Then, InTurn, Each}
+use Rattle.node_work.specs.Working.{Doing, Returns, Stops, Acting, Numbered, Looks, FindsWhere, If, Where, Then, InTurn, Each}
 use Rattle.node_clients.specs.Ending as ending
 use Rattle.node_clients.specs.Passing as passing
 use Rattle.passing_laws.proofs.Keeping.{calling_by, none_some}
@@ -59,7 +59,7 @@ module _ (Q : Act → Type 0) where
   pub looks : {A B : Type 0} (see : Place → HeldView → A) (P : A → Option B → Doing) → ((y : A) → K B (P y)) → K B (Looks see P)
   looks see P f x p h acts d = f (see p h) x p h acts d
 
-  pub finds : {A B : Type 0} (Is : Place → HeldView → A → Type 0) (P : A → Option B → Doing) → ((y : A) → K B (P y)) → K B (Finds Is P)
+  pub finds : {A B : Type 0} (Is : Place → HeldView → A → Type 0) (P : A → Option B → Doing) → ((y : A) → K B (P y)) → K B (FindsWhere Is P)
   finds Is P f x p h acts d = f d.0 x p h acts d.2
 
   pub by_test : {A : Type 0} (b : Bool) (P R : Option A → Doing) → K A P → K A R → K A (If b P R)

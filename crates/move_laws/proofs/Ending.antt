@@ -37,7 +37,7 @@ use Rattle.node_clients.proofs.Determined.{runs_determined}
 use Rattle.passing_laws.proofs.Keeping.{none_some}
 use Rattle.passing_laws.proofs.Passing.{numbered}
 use Rattle.passing_laws.proofs.Splits.{left_by, runs_split}
-use Rattle.move_laws.specs.Going.{MayEnd, MayPublish, IsOfEnding, AsksFor, HasWill, IsRemoved, seen, seen_in}
+use Rattle.move_laws.specs.Going.{MayEnd, MayPublish, IsOfEnding, AsksFor, SessionHasWill, OlderAreRemoved, seen, seen_in}
 use Rattle.move_laws.proofs.Calm.{Has, IsPassing, calmly, passing_ends, passing_seen, will_stays}
 use Rattle.move_laws.proofs.EachAct.{Kind, are_both, passes_asked}
 
@@ -160,7 +160,7 @@ module _ (client : List ℕ) (p : Place) where
   pub record Alive (h : HeldView) (acts : List Act) (h' : HeldView) : Type 0 where
     pub ends : AllByRecursion (IsOfEnding client) acts
     pub has : Has client h'
-    pub will : (w : Will) (id : List ℕ) → HasWill client w id h → HasWill client w id h' ⊎ AsksFor client (accepted_will w id h.at) acts
+    pub will : (w : Will) (id : List ℕ) → SessionHasWill client w id h → SessionHasWill client w id h' ⊎ AsksFor client (accepted_will w id h.at) acts
 
   pub record Dead (h : HeldView) (acts : List Act) (h' : HeldView) : Type 0 where
     pub ending : List Act
@@ -169,9 +169,9 @@ module _ (client : List ℕ) (p : Place) where
     pub ends : AllByRecursion (IsOfEnding client) ending
     pub mid : HeldView
     pub runs : Runs p h ending mid
-    pub removed : IsRemoved p client mid removing
+    pub removed : OlderAreRemoved p client mid removing
     pub left : Gone mid h'
-    pub will : (w : Will) (id : List ℕ) → HasWill client w id h → AsksFor client (accepted_will w id h.at) ending
+    pub will : (w : Will) (id : List ℕ) → SessionHasWill client w id h → AsksFor client (accepted_will w id h.at) ending
 
   abbrev pub Came : HeldView → List Act → HeldView → Type 0
   Came h acts h' = Alive h acts h' ⊎ Dead h acts h'
@@ -192,7 +192,7 @@ module _ (client : List ℕ) (p : Place) where
           record {
             ends = subst (AllByRecursion (IsOfEnding client)) (sym is) tt;
             has = subst (Has client) (sym same) has;
-            will = λ w id own. inl (subst (HasWill client w id) (sym same) own);
+            will = λ w id own. inl (subst (SessionHasWill client w id) (sym same) own);
           }
 
   w_looks : {A B : Type 0} (see : Place → HeldView → A) (P : A → Option B → Doing) → ((y : A) → Works (P y)) → Works (Looks see P)
@@ -304,16 +304,16 @@ module _ (client : List ℕ) (p : Place) where
     pub mid : HeldView
     pub runs : Runs p h passing mid
     pub last : cond over (acts ≡ passing ++ (removing ++ Session (Over client) ∷ [])) (acts ≡ passing)
-    pub removed : cond over (IsRemoved p client mid removing) (Unit {0})
+    pub removed : cond over (OlderAreRemoved p client mid removing) (Unit {0})
     pub left : cond over (Gone mid h') (h' ≡ mid)
 
   ends_session : (x : Unit {0}) (h h' : HeldView) (acts : List Act) → IsElsewhere h.homes p.id client → endings.EndsSession client (Some x) p h acts → Runs p h acts h'
-      → (removing : List Act) × (acts ≡ removing ++ Session (Over client) ∷ []) × IsRemoved p client h removing × Gone h h'
+      → (removing : List Act) × (acts ≡ removing ++ Session (Over client) ∷ []) × OlderAreRemoved p client h removing × Gone h h'
   ends_session x h h' acts elsewhere (inl d) runs = none_some (sym d.0)
   ends_session x h h' acts elsewhere (inr (y, own, mid, rest, (node, home, one), ran, more, is)) runs =
       let other : (node == p.id) ≡ false = apart_ids node p.id (λ e. elsewhere (subst (IsHome h.homes client) e home)) in
       let older : endings.ends_below node p h ≡ h.homes.version = ap (λ b. cond b (h.homes.version + 1) h.homes.version) other in
-      let removal : IsRemoved p client h own = subst (λ version. cond (any_below client version h.store.subscriptions) (own ≡ Store (Made (removal_below p.id client version h.store)) ∷ []) (own ≡ [])) older
+      let removal : OlderAreRemoved p client h own = subst (λ version. cond (any_below client version h.store.subscriptions) (own ≡ Store (Made (removal_below p.id client version h.store)) ∷ []) (own ≡ [])) older
       (removes_below (any_below client (endings.ends_below node p h) h.store.subscriptions) (endings.ends_below node p h) y h own one) in
       let whole : acts ≡ own ++ Session (Over client) ∷ [] = is ∙ (λ i. own ++ more.1 i) in
       (own, whole, removal, removed_gone (any_below client h.homes.version h.store.subscriptions) h.homes.version h h' own removal (subst (λ xs. Runs p h xs h') whole runs))
@@ -333,7 +333,7 @@ module _ (client : List ℕ) (p : Place) where
   follows_by false x h mid h' passing rest acts kind ran elsewhere d runs is =
       record { passing = passing; removing = []; kind = kind; mid = mid; runs = ran; last = is ∙ ap (λ zs. passing ++ zs) d.1 ∙ append-nil passing; removed = tt; left = subst (λ xs. Runs p mid xs h') d.1 runs }
 
-  follows : (r : Reaction) (x : Unit {0}) (h h' : HeldView) (acts : List Act) → IsElsewhere h.homes p.id client → endings.Follows client r (Some x) p h acts → Runs p h acts h' → Followed r.over h acts h'
+  follows : (r : Reaction) (x : Unit {0}) (h h' : HeldView) (acts : List Act) → IsElsewhere h.homes p.id client → endings.FollowsReaction client r (Some x) p h acts → Runs p h acts h' → Followed r.over h acts h'
   follows r x h h' acts elsewhere (inl d) runs = none_some (sym d.0)
   follows r x h h' acts elsewhere (inr (y, own, mid, rest, one, ran, more, is)) runs =
       let kind = passes_asked IsPassing passing_kind r.ask y p h own one in
@@ -341,7 +341,7 @@ module _ (client : List ℕ) (p : Place) where
       follows_by r.over x h mid h' own rest acts kind ran still more (second_runs p h mid h' own rest acts is ran runs) is
 
   -- after a call of no session nothing follows
-  nothing_follows : (x : Unit {0}) (h : HeldView) (acts : List Act) → endings.Follows client nothing (Some x) p h acts → acts ≡ []
+  nothing_follows : (x : Unit {0}) (h : HeldView) (acts : List Act) → endings.FollowsReaction client nothing (Some x) p h acts → acts ≡ []
   nothing_follows x h acts (inl d) = none_some (sym d.0)
   nothing_follows x h acts (inr (y, own, mid, rest, one, ran, more, is)) = is ∙ (λ i. one.1 i ++ more.1 i)
 
@@ -361,7 +361,7 @@ module _ (client : List ℕ) (p : Place) where
       found_after = ap (seat_at client) left ∙ get_inserted h.sessions client there
 
       -- the will is asked for by the call, or is there still
-      dealt : (w : Will) (id : List ℕ) → HasWill client w id h → (r.ask ≡ Some (Pass (accepted_will w id h.at))) ⊎ (HasWill client w id mid × (r.over ≡ false))
+      dealt : (w : Will) (id : List ℕ) → SessionHasWill client w id h → (r.ask ≡ Some (Pass (accepted_will w id h.at))) ⊎ (SessionHasWill client w id mid × (r.over ≡ false))
       dealt w id own =
           let one : own.seat ≡ seat = (let z : Some own.seat ≡ Some seat = sym own.at ∙ found in cc) in
           let has : seat.session.kept.will ≡ Some w = ap (λ (v : Seat). v.session.kept.will) (sym one) ∙ own.will in
@@ -411,19 +411,19 @@ module _ (client : List ℕ) (p : Place) where
     Came_by over h acts h' = cond over (Dead h acts h') (Alive h acts h')
 
     called_by : (r : Reaction) (x : Unit {0}) (h mid h' : HeldView) (own rest acts : List Act) (has : Has client h) → IsElsewhere h.homes p.id client → CallsAt client event stays (Some has.0) (Some r) p h own → Runs p h own mid
-        → endings.Follows client r (Some x) p mid rest → Runs p mid rest h' → acts ≡ own ++ rest → Came_by (outcome h.at has.0.session).reaction.over h acts h'
+        → endings.FollowsReaction client r (Some x) p mid rest → Runs p mid rest h' → acts ≡ own ++ rest → Came_by (outcome h.at has.0.session).reaction.over h acts h'
     called_by r x h mid h' own rest acts has elsewhere (inl d) ran more later is = none_some (sym d.0)
     called_by r x h mid h' own rest acts has elsewhere (inr (q, after, answer, reacts, acts_are)) ran more later is =
         let same : r ≡ q = (let z = answer in cc) in
         let call : SessionStep = step_at has.0 q after h in
         let left : mid ≡ next h (Session (Called call)) = left_by p h mid (Session (Called call)) own acts_are ran in
         let still : IsElsewhere mid.homes p.id client = subst (λ (v : HeldView). IsElsewhere v.homes p.id client) (sym left) elsewhere in
-        let f = follows q x mid h' rest still (subst (λ v. endings.Follows client v (Some x) p mid rest) same more) later in
+        let f = follows q x mid h' rest still (subst (λ v. endings.FollowsReaction client v (Some x) p mid rest) same more) later in
         let came = comes h.at has.0.session after q reacts in
         subst (λ b. Came_by b h acts h') (ap (λ (v : Reaction). v.over) came.0) (subst (λ xs. Came_by q.over h xs h') (sym (is ∙ ap (λ xs. xs ++ rest) acts_are))
         (by_over has.0 q after h mid has.1 left came q.over h' rest refl (subst (λ xs. Runs p h xs mid) acts_are ran) f))
 
-    pub came_there : (x : Unit {0}) (h h' : HeldView) (acts : List Act) (has : Has client h) → IsElsewhere h.homes p.id client → Then (Calls client event stays) (endings.Follows client) (Some x) p h acts → Runs p h acts h' → Came_by (outcome h.at has.0.session).reaction.over h acts h'
+    pub came_there : (x : Unit {0}) (h h' : HeldView) (acts : List Act) (has : Has client h) → IsElsewhere h.homes p.id client → Then (Calls client event stays) (endings.FollowsReaction client) (Some x) p h acts → Runs p h acts h' → Came_by (outcome h.at has.0.session).reaction.over h acts h'
     came_there x h h' acts has elsewhere (inl d) runs = none_some (sym d.0)
     came_there x h h' acts has elsewhere (inr (r, own, mid, rest, one, ran, more, is)) runs =
         called_by r x h mid h' own rest acts has elsewhere (subst (λ f. CallsAt client event stays f (Some r) p h own) has.1 one) ran more (second_runs p h mid h' own rest acts is ran runs) is
@@ -432,18 +432,18 @@ module _ (client : List ℕ) (p : Place) where
     either true h h' acts c = inr c
     either false h h' acts c = inl c
 
-    w_call : Works (Then (Calls client event stays) (endings.Follows client))
+    w_call : Works (Then (Calls client event stays) (endings.FollowsReaction client))
     w_call = record {
       there = λ x h h' acts d runs has elsewhere. either (outcome h.at has.0.session).reaction.over h h' acts (came_there x h h' acts has elsewhere d runs);
       gone = λ x h acts d none. gone_by x h acts none d;
     }
       where
-        gone_by : (x : Unit {0}) (h : HeldView) (acts : List Act) → seat_at client h ≡ None → Then (Calls client event stays) (endings.Follows client) (Some x) p h acts → acts ≡ []
+        gone_by : (x : Unit {0}) (h : HeldView) (acts : List Act) → seat_at client h ≡ None → Then (Calls client event stays) (endings.FollowsReaction client) (Some x) p h acts → acts ≡ []
         gone_by x h acts none (inl d) = none_some (sym d.0)
         gone_by x h acts none (inr (r, own, mid, rest, one, ran, more, is)) =
             let alone = subst (λ f. CallsAt client event stays f (Some r) p h own) none one in
             let same : r ≡ nothing = (let z : Some r ≡ Some nothing = alone.0 in cc) in
-            let later : rest ≡ [] = nothing_follows x mid rest (subst (λ v. endings.Follows client v (Some x) p mid rest) same more) in
+            let later : rest ≡ [] = nothing_follows x mid rest (subst (λ v. endings.FollowsReaction client v (Some x) p mid rest) same more) in
             is ∙ (λ i. alone.1 i ++ later i)
 
   w_ticks : Works (endings.Ticks client)

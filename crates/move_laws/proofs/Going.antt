@@ -25,7 +25,7 @@ use Rattle.node_clients.specs.Ending as endings
 use Rattle.node_clients.specs.Moving as moving
 use Rattle.passing_laws.proofs.Keeping.{none_some}
 use Rattle.passing_laws.proofs.Splits.{left_by}
-use Rattle.move_laws.specs.Going.{IsTold, IsParted, AsksFor, HasWill, Goes, seen}
+use Rattle.move_laws.specs.Going.{IsTold, IsParted, AsksFor, SessionHasWill, Goes, seen}
 use Rattle.move_laws.proofs.Calm.{Has, calmly}
 use Rattle.move_laws.proofs.Ending.{Dead, finishes_dead, finishes_gone, second_runs, then_dead, w_parts}
 
@@ -62,7 +62,7 @@ pub record IsClosed (c : ℕ) (h h' : HeldView) (acts : List Act) : Type 0 where
   pub is : acts ≡ Connection (Closed c) ∷ Out (Close c) ∷ []
   pub left : h' ≡ next h (Connection (Closed c))
 
-closes : (c : ℕ) (x : Unit {0}) (p : Place) (h h' : HeldView) (acts : List Act) → endings.Closes c (Some x) p h acts → Runs p h acts h' → IsClosed c h h' acts
+closes : (c : ℕ) (x : Unit {0}) (p : Place) (h h' : HeldView) (acts : List Act) → endings.ClosesConnection c (Some x) p h acts → Runs p h acts h' → IsClosed c h h' acts
 closes c x p h h' acts (inl d) runs = none_some (sym d.0)
 closes c x p h h' acts (inr (y, own, mid, rest, one, ran, more, is)) runs = record {
   is = is ∙ (λ i. one.1 i ++ more.1 i);
@@ -100,7 +100,7 @@ module _ (p : Place) (client : List ℕ) where
         parted = a.parted;
         ends = d.ends;
         will = λ w id own. (
-            let there : HasWill client w id h1 = record { seat = own.seat; at = ap (λ m. map.get m client) a.sessions ∙ own.at; will = own.will; id_is = own.id_is } in
+            let there : SessionHasWill client w id h1 = record { seat = own.seat; at = ap (λ m. map.get m client) a.sessions ∙ own.at; will = own.will; id_is = own.id_is } in
             subst (λ n. AsksFor client (accepted_will w id n) d.ending) a.moment (d.will w id there));
         mid = d.mid;
         runs = runs_join p parting d.ending h h1 d.mid ran d.runs;

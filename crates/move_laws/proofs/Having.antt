@@ -7,7 +7,7 @@ use Rattle.home_table.specs.Table.{Table}
 use Rattle.session_table.specs.Listing.{text_cmp}
 use Rattle.session_table.specs.Seats.{IsElsewhere, begun}
 use Rattle.node_work.specs.declared.counts.Missed.TheVariants.{TableRefused}
-use Rattle.node_work.specs.Acts.{Act, Moment, Began, Moved, Store, Connection, Session, Bridge, Out, Named, Acknowledged, Passed, Dropped, Allowed, Runs, gather, moved_in, next}
+use Rattle.node_work.specs.Acts.{Act, MomentTaken, Began, Moved, Store, Connection, Session, Bridge, Out, Named, Acknowledged, Passed, Dropped, Allowed, Runs, gather, moved_in, next}
 use Rattle.node_work.specs.Held.Bridge.{BridgeAct, Put, Took, Got, Believed, Gave, Left_out}
 use Rattle.node_work.specs.Held.Connections.{ConnectionAct, Opened, Fed, Accepted, Closed}
 use Rattle.node_work.specs.Held.Sessions.{SessionAct, Begun, Called, Over, has_session}
@@ -18,13 +18,13 @@ use Rattle.node_work.proofs.Working.{gather-append}
 use Rattle.broker_node.specs.declared.event.Event.{Event}
 use Rattle.broker_node.specs.declared.event.EventKind.{EventKind}
 use Rattle.broker_node.specs.declared.event.EventKind.TheVariants as kinds
-use Rattle.broker_node.specs.Step.{AreTaken}
+use Rattle.broker_node.specs.Step.{MayBringTables}
 use Rattle.broker_node.specs.Turns as turns
 use Rattle.broker_node.proofs.Handing.{turn_brings}
 use Rattle.passing_laws.proofs.Passing.{has_of}
 use Rattle.passing_laws.proofs.Splits.{left_by}
 use Rattle.move_laws.specs.Sessions.{NoneElsewhere, HasItsOwn, IsPlaced, SessionsAreAtHome}
-use Rattle.move_laws.specs.Tables.{Refuses, TicksFirst}
+use Rattle.move_laws.specs.Tables.{TableIsRefused, TicksFirst}
 use Rattle.move_laws.proofs.Beginning.{Begin, decides}
 use Rattle.move_laws.proofs.Calm.{Has}
 use Rattle.move_laws.proofs.TableLaws.{Turning, turning, tables_are_taken, starts_send_away}
@@ -69,7 +69,7 @@ act_was : (p : Place) (h : HeldView) (a : Act) (q : List ℕ) → Allowed p h a 
 act_was p h (Session a) q allowed has = session_was p h a q allowed has
 act_was p h (Connection a) q allowed has = inr (connection_was h a q has)
 act_was p h (Bridge a) q allowed has = inr (bridge_was h a q has)
-act_was p h (Moment at) q allowed has = inr has
+act_was p h (MomentTaken at) q allowed has = inr has
 act_was p h Began q allowed has = inr has
 act_was p h (Moved homes) q allowed has = inr has
 act_was p h (Store a) q allowed has = inr has
@@ -124,10 +124,10 @@ known p h none q has = none q (has_is q h has)
 
 -- ---- a step
 -- an event that brings no table takes none
-pub no_table : (kind : EventKind) (started : Bool) (p : Place) (h : HeldView) (rest : List Act) → ((homes : Table) → kind ≡ kinds.Table homes → ⊥) → If started (turns.GoesOn kind) (turns.First kind) (Some tt) p h rest → gather moved_in rest ≡ []
+pub no_table : (kind : EventKind) (started : Bool) (p : Place) (h : HeldView) (rest : List Act) → ((homes : Table) → kind ≡ kinds.Table homes → ⊥) → If started (turns.AnswersAfterDue kind) (turns.AwaitsStart kind) (Some tt) p h rest → gather moved_in rest ≡ []
 no_table kind started p h rest other d = by kind started other (turn_brings started kind p h rest d).moved
   where
-    by : (kind : EventKind) (started : Bool) → ((homes : Table) → kind ≡ kinds.Table homes → ⊥) → cond started (AreTaken kind (gather moved_in rest)) (gather moved_in rest ≡ []) → gather moved_in rest ≡ []
+    by : (kind : EventKind) (started : Bool) → ((homes : Table) → kind ≡ kinds.Table homes → ⊥) → cond started (MayBringTables kind (gather moved_in rest)) (gather moved_in rest ≡ []) → gather moved_in rest ≡ []
     by kind false other e = e
     by kinds.Started true other e = e
     by (kinds.Opened connection) true other e = e
@@ -144,9 +144,9 @@ no_table kind started p h rest other d = by kind started other (turn_brings star
 pub due_tables : (e : Event) (p : Place) (h : HeldView) (first : TicksFirst e p h) → gather moved_in first.due ≡ []
 due_tables e p h first =
     let k = turning (record { at = e.at; kind = kinds.Tick }) p h first.due first.does in
-    ap (gather moved_in) k.is ∙ no_table kinds.Tick h.started p (next h (Moment e.at)) k.rest (λ homes z. cc) k.does
+    ap (gather moved_in) k.is ∙ no_table kinds.Tick h.started p (next h (MomentTaken e.at)) k.rest (λ homes z. cc) k.does
 
-pub refused_tables : (e : Event) (p : Place) (h last : HeldView) (acts : List Act) → Refuses e p h acts last → gather moved_in acts ≡ []
+pub refused_tables : (e : Event) (p : Place) (h last : HeldView) (acts : List Act) → TableIsRefused e p h acts last → gather moved_in acts ≡ []
 refused_tables e p h last acts r = ap (gather moved_in) r.is ∙ gather-append moved_in r.first.due (Bridge (Left_out TableRefused) ∷ []) ∙ (λ i. due_tables e p h r.first i ++ [])
 
 pub is_table : (kind : EventKind) → ((homes : Table) × (kind ≡ kinds.Table homes)) ⊎ ((homes : Table) → kind ≡ kinds.Table homes → ⊥)
@@ -162,7 +162,7 @@ is_table (kinds.Evict client) = inr (λ homes e. cc)
 is_table (kinds.Table homes) = inl (homes, refl)
 
 -- before it has started only Started brings a node to do anything
-first_nothing : (kind : EventKind) (p : Place) (h : HeldView) (rest : List Act) → turns.First kind (Some tt) p h rest → (kind ≡ kinds.Started) ⊎ (rest ≡ [])
+first_nothing : (kind : EventKind) (p : Place) (h : HeldView) (rest : List Act) → turns.AwaitsStart kind (Some tt) p h rest → (kind ≡ kinds.Started) ⊎ (rest ≡ [])
 first_nothing kinds.Started p h rest d = inl refl
 first_nothing (kinds.Opened connection) p h rest d = inr d.1
 first_nothing (kinds.Piece connection bytes) p h rest d = inr d.1
@@ -186,11 +186,11 @@ module _ (e : Event) (p : Place) (h last : HeldView) (acts : List Act) (placed :
   Comes = NoneAway p last ⊎ ((gather moved_in acts ≡ []) × (last.started ≡ true → h.started ≡ true))
 
   unstarted : h.started ≡ false → Comes
-  unstarted waits = elim (first_nothing e.kind p (next h (Moment e.at)) t.rest (subst (λ b. If b (turns.GoesOn e.kind) (turns.First e.kind) (Some tt) p (next h (Moment e.at)) t.rest) waits t.does)) [
+  unstarted waits = elim (first_nothing e.kind p (next h (MomentTaken e.at)) t.rest (subst (λ b. If b (turns.AnswersAfterDue e.kind) (turns.AwaitsStart e.kind) (Some tt) p (next h (MomentTaken e.at)) t.rest) waits t.does)) [
     | inl is ↦ inl (let s = starts_send_away e p h last acts is waits d runs in none_away p s.left last s.rest s.sends)
     | inr none ↦ inr (
-        let whole : acts ≡ Moment e.at ∷ [] = t.is ∙ ap (λ xs. Moment e.at ∷ xs) none in
-        let left : last ≡ next h (Moment e.at) = left_by p h last (Moment e.at) acts whole runs in (ap (gather moved_in) whole, λ started. sym (ap (λ (v : HeldView). v.started) left) ∙ started))
+        let whole : acts ≡ MomentTaken e.at ∷ [] = t.is ∙ ap (λ xs. MomentTaken e.at ∷ xs) none in
+        let left : last ≡ next h (MomentTaken e.at) = left_by p h last (MomentTaken e.at) acts whole runs in (ap (gather moved_in) whole, λ started. sym (ap (λ (v : HeldView). v.started) left) ∙ started))
   ]
 
   goes_on : h.started ≡ true → Comes
@@ -199,7 +199,7 @@ module _ (e : Event) (p : Place) (h last : HeldView) (acts : List Act) (placed :
       | inl taken ↦ inl (none_away p (record taken.1.first.left { homes = table.0 }) last taken.1.rest taken.1.sends)
       | inr refused ↦ inr (refused_tables e p h last acts refused.1, λ any. started)
     ])
-    | inr other ↦ inr (ap (gather moved_in) t.is ∙ no_table e.kind h.started p (next h (Moment e.at)) t.rest other t.does, λ any. started)
+    | inr other ↦ inr (ap (gather moved_in) t.is ∙ no_table e.kind h.started p (next h (MomentTaken e.at)) t.rest other t.does, λ any. started)
   ]
 
   comes : Comes

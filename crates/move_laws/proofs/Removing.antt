@@ -10,7 +10,7 @@ use Rattle.replica_store.specs.Operations.{Among}
 use Rattle.replica_store.specs.Stamps.{Stamp}
 use Rattle.replica_store.proofs.Unions.{among_cases}
 use Rattle.subscription_set.specs.Standing.{any_below}
-use Rattle.node_work.specs.Acts.{Act, StoreAct, Moment, Began, Moved, Store, Made, Merged, Connection, Session, Bridge, Out, Named, Acknowledged, Passed, Dropped, Runs, gather, op_in}
+use Rattle.node_work.specs.Acts.{Act, StoreAct, MomentTaken, Began, Moved, Store, Made, Merged, Connection, Session, Bridge, Out, Named, Acknowledged, Passed, Dropped, Runs, gather, op_in}
 use Rattle.node_work.specs.Held.Connections.{Closed}
 use Rattle.node_work.specs.Held.Making.{removal_below}
 use Rattle.node_work.specs.Held.Sessions.{Over, connection_at, takes_packet}
@@ -54,7 +54,7 @@ store_put client (Merged s) o kind a = absurd kind
 
 one_put : (client : List ℕ) (a : Act) (o : Operation) → IsOfEnding client a → Among o (op_in a) → IsPut o
 one_put client (Store a) o kind there = store_put client a o kind there
-one_put client (Moment at) o kind there = absurd there
+one_put client (MomentTaken at) o kind there = absurd there
 one_put client Began o kind there = absurd there
 one_put client (Moved homes) o kind there = absurd there
 one_put client (Connection a) o kind there = absurd there

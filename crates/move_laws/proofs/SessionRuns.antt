@@ -14,7 +14,7 @@ use Rattle.node_work.specs.Acts.{Act, Session, Runs}
 use Rattle.node_work.specs.Held.Sessions.{Begun}
 use Rattle.node_work.specs.Lasting.{lasting, IsWoken}
 use Rattle.node_work.specs.View.{Place, HeldView, NodeView, nodes_of, fresh}
-use Rattle.node_laws.specs.Moves.{Move, Lost as Loses, Moves, did}
+use Rattle.node_laws.specs.Moves.{Move, Reopened as Loses, Moves, did}
 use Rattle.node_laws.proofs.MoveLaws.{acts_are_moves, moves_join, moves_lead_to_one}
 use Rattle.broker_node.specs.declared.event.Event.{Event}
 use Rattle.broker_node.proofs.Tables.{nodes_stay}

@@ -21,7 +21,7 @@ use Rattle.replica_store.specs.States.{State}
 use Rattle.replica_store.specs.StateOf.{IsStateOf}
 use Rattle.replica_store.proofs.Unions.{among_cases, among_left, among_right}
 use Rattle.replica_store.proofs.Views.{cover_below_is}
-use Rattle.node_work.specs.Acts.{Act, Moment, Began, Moved, Store, Made, Merged, Connection, Session, Bridge, Out, Named, Acknowledged, Passed, Dropped, Runs, gather, merge_in, moved_in, op_in, next}
+use Rattle.node_work.specs.Acts.{Act, MomentTaken, Began, Moved, Store, Made, Merged, Connection, Session, Bridge, Out, Named, Acknowledged, Passed, Dropped, Runs, gather, merge_in, moved_in, op_in, next}
 use Rattle.node_work.specs.Held.Sessions.{Over}
 use Rattle.node_work.specs.View.{Place, HeldView}
 use Rattle.node_work.specs.Working.{If}
@@ -45,7 +45,7 @@ use Rattle.cluster_play.proofs.Rows.{committed}
 use Rattle.cluster_play.proofs.Showing.{node_holds_amid}
 use Rattle.cluster_play.proofs.Splits.{gained_both}
 use Rattle.move_laws.specs.Standing.{IsGoing, TakesTheOlder, MovesTakeTheOlder}
-use Rattle.move_laws.specs.Tables.{GoInTurn, Takes}
+use Rattle.move_laws.specs.Tables.{GoInTurn, TableIsTaken}
 use Rattle.move_laws.proofs.Calm.{Has}
 use Rattle.move_laws.proofs.Ending.{second_runs}
 use Rattle.move_laws.proofs.Having.{due_tables, has_is, is_table, no_table, refused_tables}
@@ -83,7 +83,7 @@ module _ (i : ℕ) (run : List Played) where
   -- what acts take that merge nothing is made by them
   gained_made : (acts : List Act) (d : Dot) → gather merge_in acts ≡ [] → gained acts d ≡ true → (o : Operation) × Among o (gather op_in acts) × (dot_of o ≡ d)
   gained_made [] d none h = absurd (let z : false ≡ true = h in cc)
-  gained_made (Moment at ∷ acts) d none h = gained_made acts d none h
+  gained_made (MomentTaken at ∷ acts) d none h = gained_made acts d none h
   gained_made (Began ∷ acts) d none h = gained_made acts d none h
   gained_made (Moved homes ∷ acts) d none h = gained_made acts d none h
   gained_made (Store (Made o) ∷ acts) d none h = elim (or_true (same_dot (dot_of o) d) (gained acts d) h) [
@@ -139,7 +139,7 @@ commits_moved (Restarted i) homes is = absurd (let z : [] ≡ homes ∷ [] = is 
 pub record TakesTable (e : Event) (p : Place) (h : HeldView) (homes : Table) (acts : List Act) (last : HeldView) : Type 0 where
   pub kind : e.kind ≡ kinds.Table homes
   pub started : h.started ≡ true
-  pub takes : Takes e p h homes acts last
+  pub takes : TableIsTaken e p h homes acts last
 
 takes_table : (e : Event) (p : Place) (h last : HeldView) (acts : List Act) (homes : Table) → turns.Decides e (Some tt) p h acts → Runs p h acts last → gather moved_in acts ≡ homes ∷ [] → TakesTable e p h homes acts last
 takes_table e p h last acts homes d runs moved = by h.started refl
@@ -150,16 +150,16 @@ takes_table e p h last acts homes d runs moved = by h.started refl
     by : (b : Bool) → h.started ≡ b → TakesTable e p h homes acts last
     by false waits =
         let t = turning e p h acts d in
-        none (ap (gather moved_in) t.is ∙ (turn_brings false e.kind p (next h (Moment e.at)) t.rest (subst (λ b. If b (turns.GoesOn e.kind) (turns.First e.kind) (Some tt) p (next h (Moment e.at)) t.rest) waits t.does)).moved)
+        none (ap (gather moved_in) t.is ∙ (turn_brings false e.kind p (next h (MomentTaken e.at)) t.rest (subst (λ b. If b (turns.AnswersAfterDue e.kind) (turns.AwaitsStart e.kind) (Some tt) p (next h (MomentTaken e.at)) t.rest) waits t.does)).moved)
     by true started = elim (is_table e.kind) [
       | inl table ↦ (elim (tables_are_taken e table.0 p h last acts table.1 started d runs) [
         | inl x ↦ (
             let one : gather moved_in acts ≡ table.0 ∷ gather moved_in x.1.rest = ap (gather moved_in) x.1.is ∙ gather-append moved_in x.1.first.due (Moved table.0 ∷ x.1.rest) ∙ (λ i. due_tables e p h x.1.first i ++ (table.0 ∷ gather moved_in x.1.rest)) in
             let same : table.0 ≡ homes = (let z : table.0 ∷ gather moved_in x.1.rest ≡ homes ∷ [] = sym one ∙ moved in cc) in
-            record { kind = table.1 ∙ ap kinds.Table same; started = started; takes = subst (λ t. Takes e p h t acts last) same x.1 })
+            record { kind = table.1 ∙ ap kinds.Table same; started = started; takes = subst (λ t. TableIsTaken e p h t acts last) same x.1 })
         | inr x ↦ none (refused_tables e p h last acts x.1)
       ])
-      | inr other ↦ (let t = turning e p h acts d in none (ap (gather moved_in) t.is ∙ no_table e.kind h.started p (next h (Moment e.at)) t.rest other t.does))
+      | inr other ↦ (let t = turning e p h acts d in none (ap (gather moved_in) t.is ∙ no_table e.kind h.started p (next h (MomentTaken e.at)) t.rest other t.does))
     ]
 
 -- ---- entries below a version

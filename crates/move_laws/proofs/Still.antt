@@ -36,7 +36,7 @@ use Rattle.node_work.specs.declared.granted.Granted.{Granted}
 use Rattle.node_work.specs.declared.outcome.Output.TheVariants.{Close, Send}
 use Rattle.node_work.specs.Acts.{Acknowledged, Act, Bridge, Connection, Made, Merged, Moved, Out, Session, Store}
 use Rattle.node_work.specs.Calling.{Calls, Queues}
-use Rattle.node_work.specs.Doings.{Disconnects, Gives, GivesFrame, MakesRemove, MakesRemoveBelow, MakesSubscribe, Misses, Removes, RemovesBelow, Sends, is_small}
+use Rattle.node_work.specs.Doings.{Disconnects, GivesBody, GivesFrame, MakesRemove, MakesRemoveBelow, MakesSubscribe, Misses, Removes, RemovesBelow, Sends, is_small}
 use Rattle.node_work.specs.Frames.{is_for, is_other}
 use Rattle.node_work.specs.Held.Bridge.{Believed, Gave, Got as GotBy, Took}
 use Rattle.node_work.specs.Held.Connections.{Closed, client_at, first_at, is_open}
@@ -106,16 +106,16 @@ ends_session client =
     (finds IsStill (endings.IsAtHome client) (endings.RemovesFor client) (λ node. looks IsStill (endings.ends_below node) (RemovesBelow client) (removes_below client)))
     (λ _. acting IsStill (λ p h. Session (Over client)) (λ p h. tt))
 
-follows : (client : List ℕ) (r : Reaction) → Does (endings.Follows client r)
+follows : (client : List ℕ) (r : Reaction) → Does (endings.FollowsReaction client r)
 follows client r =
     join IsStill (endings.PassesAsked r.ask) (λ _. If r.over (endings.EndsSession client) (Returns tt)) (passes_asked IsStill kind r.ask)
     (λ _. by_test IsStill r.over (endings.EndsSession client) (Returns tt) (ends_session client) (returns IsStill tt))
 
 ticks_of : (client : List ℕ) → Does (endings.Ticks client)
-ticks_of client = join IsStill (Calls client ticks stays) (endings.Follows client) (calling client ticks stays) (follows client)
+ticks_of client = join IsStill (Calls client ticks stays) (endings.FollowsReaction client) (calling client ticks stays) (follows client)
 
 finishes_of : (client : List ℕ) → Does (endings.Finishes client)
-finishes_of client = join IsStill (Calls client finishes stays) (endings.Follows client) (calling client finishes stays) (follows client)
+finishes_of client = join IsStill (Calls client finishes stays) (endings.FollowsReaction client) (calling client finishes stays) (follows client)
 
 -- ---- what goes out, and closes
 sends : (c : ℕ) (packet : Packet) → Does (Sends c packet)
@@ -126,7 +126,7 @@ disconnects c client code =
     looks IsStill (λ p h. takes_disconnect client code h) (λ taken. If taken (Sends c (disconnect code)) (Returns tt))
     (λ taken. by_test IsStill taken (Sends c (disconnect code)) (Returns tt) (sends c (disconnect code)) (returns IsStill tt))
 
-pub closes_of : (c : ℕ) → Does (endings.Closes c)
+pub closes_of : (c : ℕ) → Does (endings.ClosesConnection c)
 closes_of c =
     join IsStill (Acting (λ p h. Connection (Closed c))) (λ _. Acting (λ p h. Out (Close c))) (acting IsStill (λ p h. Connection (Closed c)) (λ p h. tt)) (λ _. acting IsStill (λ p h. Out (Close c)) (λ p h. tt))
 
@@ -140,7 +140,7 @@ parts client =
     (looks IsStill (λ p h. will_is_due client h) (λ b. endings.TicksIf b client) (λ b. ticks_if b client)) (λ _. looks IsStill (λ p h. end_is_due client h) (λ b. endings.TicksIf b client) (λ b. ticks_if b client)))
 
 closes_for : (c : ℕ) (client : List ℕ) → Does (endings.ClosesFor c client)
-closes_for c client = join IsStill (endings.Closes c) (λ _. endings.Parts client) (closes_of c) (λ _. parts client)
+closes_for c client = join IsStill (endings.ClosesConnection c) (λ _. endings.Parts client) (closes_of c) (λ _. parts client)
 
 pub closes_after : (end : Option ℕ) (c : ℕ) (client : List ℕ) → Does (endings.ClosesAfter end c client)
 closes_after None c client = returns IsStill tt
@@ -178,14 +178,14 @@ offers_after : (end : Option ℕ) (c : ℕ) (client : List ℕ) (packet : ℕ) (
 offers_after None c client packet given = offers client packet given
 offers_after (Some code) c client packet given = closes_for c client
 
-acknowledges : (c : ℕ) (client : List ℕ) (packet : ℕ) (given : List Granted) → Does (subscribing.Acknowledges c client packet given)
+acknowledges : (c : ℕ) (client : List ℕ) (packet : ℕ) (given : List Granted) → Does (subscribing.SendsSuback c client packet given)
 acknowledges c client packet given =
     join IsStill (Calls client (λ at. answers packet (subscribing.reasons_of given)) stays) (λ r. subscribing.OffersAfter r.end c client packet given)
     (calling client (λ at. answers packet (subscribing.reasons_of given)) stays) (λ r. offers_after r.end c client packet given)
 
 subscribes_by : (c : ℕ) (client : List ℕ) (k : Packet) → Does (serving.SubscribesBy c client k)
 subscribes_by c client (packets.Subscribe q) =
-    join IsStill (InTurn (subscribing.Grants client (subscribing.identifier_of q)) q.filters []) (subscribing.Acknowledges c client q.identifier)
+    join IsStill (InTurn (subscribing.Grants client (subscribing.identifier_of q)) q.filters []) (subscribing.SendsSuback c client q.identifier)
     (in_turn IsStill (subscribing.Grants client (subscribing.identifier_of q)) q.filters [] (grants client (subscribing.identifier_of q))) (acknowledges c client q.identifier)
 subscribes_by c client _ = returns IsStill tt
 
@@ -196,7 +196,7 @@ unsubscribed client text =
 
 unsubscribes_by : (c : ℕ) (client : List ℕ) (k : Packet) → Does (serving.UnsubscribesBy c client k)
 unsubscribes_by c client (packets.Unsubscribe u) =
-    join IsStill (InTurn (unsubscribing.Unsubscribed client) u.filters []) (unsubscribing.Acknowledges c client u.identifier) (in_turn IsStill (unsubscribing.Unsubscribed client) u.filters [] (unsubscribed client))
+    join IsStill (InTurn (unsubscribing.Unsubscribed client) u.filters []) (unsubscribing.SendsUnsuback c client u.identifier) (in_turn IsStill (unsubscribing.Unsubscribed client) u.filters [] (unsubscribed client))
     (λ codes. join IsStill (Calls client (λ at. answers u.identifier codes) stays) (λ r. endings.ClosesAfter r.end c client) (calling client (λ at. answers u.identifier codes) stays) (λ r. closes_after r.end c client))
 unsubscribes_by c client _ = returns IsStill tt
 
@@ -212,17 +212,17 @@ does_reaction c client k room r =
     let dropped = serving.is_dropped k room r.end in
     join IsStill (serving.DoesAsked r.ask dropped c client k) (λ _. endings.ClosesAfter r.end c client) (does_asked r.ask dropped c client k) (λ _. closes_after r.end c client)
 
-pub serves : (c : ℕ) (client : List ℕ) (k : Packet) → Does (serving.Serves c client k)
+pub serves : (c : ℕ) (client : List ℕ) (k : Packet) → Does (serving.ServesPacket c client k)
 serves c client k =
     looks IsStill (λ place h. serving.room_for client k h) (serving.ServesIn c client k)
     (λ room. join IsStill (Calls client (λ at. takes k at room) stays) (serving.DoesReaction c client k room) (calling client (λ at. takes k at room) stays) (does_reaction c client k room))
 
 -- ---- CONNECT, but for the session that begins
-pub refuses : (c : ℕ) (q : Connect) (code : ℕ) (reference : Option (List ℕ)) → Does (connecting.Refuses c q code reference)
+pub refuses : (c : ℕ) (q : Connect) (code : ℕ) (reference : Option (List ℕ)) → Does (connecting.RefusesConnect c q code reference)
 refuses c q code reference =
     let packet = refused_packet code reference in
     let fitting = fits (limit_in q.properties) packet in
-    join IsStill (connecting.SendsIf fitting c packet) (λ _. endings.Closes c) (by_test IsStill fitting (Sends c packet) (Returns tt) (sends c packet) (returns IsStill tt)) (λ _. closes_of c)
+    join IsStill (connecting.SendsIf fitting c packet) (λ _. endings.ClosesConnection c) (by_test IsStill fitting (Sends c packet) (Returns tt) (sends c packet) (returns IsStill tt)) (λ _. closes_of c)
 
 takes_over_from : (client : List ℕ) (on : Option ℕ) → Does (connecting.TakesOverFrom client on)
 takes_over_from client None = returns IsStill tt
@@ -276,8 +276,8 @@ leaves_of c =
 -- ---- what is due
 runs_out : (d : Due) → Does (due.RunsOut d)
 runs_out d =
-    join IsStill (Calls d.1 ticks stays) (λ _. Then (endings.Closes d.0) (λ _. Then (Calls d.1 closes leaves) (λ _. Returns tt))) (calling d.1 ticks stays) (λ _.
-    join IsStill (endings.Closes d.0) (λ _. Then (Calls d.1 closes leaves) (λ _. Returns tt)) (closes_of d.0) (λ _.
+    join IsStill (Calls d.1 ticks stays) (λ _. Then (endings.ClosesConnection d.0) (λ _. Then (Calls d.1 closes leaves) (λ _. Returns tt))) (calling d.1 ticks stays) (λ _.
+    join IsStill (endings.ClosesConnection d.0) (λ _. Then (Calls d.1 closes leaves) (λ _. Returns tt)) (closes_of d.0) (λ _.
     join IsStill (Calls d.1 closes leaves) (λ _. Returns tt) (calling d.1 closes leaves) (λ _. returns IsStill tt)))
 
 pub does_due : Does due.DoesDue
@@ -317,13 +317,13 @@ goes_away = finds IsStill tables.AreAway (Each moving.MovesAway) (λ away. each 
 gives_frame : (f : BridgeFrame) → Does (GivesFrame f)
 gives_frame f = by_test IsStill (is_small f) (Acting (λ p h. Bridge (Gave f))) (Misses FrameTooLarge) (acting IsStill (λ p h. Bridge (Gave f)) (λ p h. tt)) (misses IsStill kind FrameTooLarge)
 
-gives : (peer : ℕ) (body : HeldView → FrameBody) → Does (Gives peer body)
+gives : (peer : ℕ) (body : HeldView → FrameBody) → Does (GivesBody peer body)
 gives peer body = looks IsStill (λ p h. record { from = p.id; to = peer; body = body h }) GivesFrame gives_frame
 
 pub greets : (peer : ℕ) → Does (bridge.Greets peer)
 greets peer =
-    looks IsStill (λ p h. is_other p peer) (λ other. If other (Gives peer (λ h. Hello)) (Returns tt))
-    (λ other. by_test IsStill other (Gives peer (λ h. Hello)) (Returns tt) (gives peer (λ h. Hello)) (returns IsStill tt))
+    looks IsStill (λ p h. is_other p peer) (λ other. If other (GivesBody peer (λ h. Hello)) (Returns tt))
+    (λ other. by_test IsStill other (GivesBody peer (λ h. Hello)) (Returns tt) (gives peer (λ h. Hello)) (returns IsStill tt))
 
 gives_state : (peer : ℕ) (s : Option State) → Does (bridge.GivesState peer s)
 gives_state peer None = returns IsStill tt
@@ -347,19 +347,19 @@ takes_next from number m =
     looks IsStill (λ p h. is_next from number h.bridge) (λ next. If next (passing.TakesForward from number m) (Returns tt))
     (λ next. by_test IsStill next (passing.TakesForward from number m) (Returns tt) (finds IsStill (passing.IsHandedOver m) (passing.TakesCopies from number m) (takes_copies from number m)) (returns IsStill tt))
 
-takes_body : (from : ℕ) (body : FrameBody) → Does (bridge.Takes from body)
+takes_body : (from : ℕ) (body : FrameBody) → Does (bridge.TakesBody from body)
 takes_body from Hello = gives from (λ h. Know h.store.taken)
 takes_body from (Delta s) = join IsStill (Acting (λ p h. Store (Merged s))) (λ _. bridge.TellsTaken from) (acting IsStill (λ p h. Store (Merged s)) (λ p h. tt)) (λ _. gives from (λ h. Know h.store.taken))
 takes_body from (Know dots) = acting IsStill (λ p h. Bridge (Believed from dots)) (λ p h. tt)
 takes_body from (Carried number m) =
-    join IsStill (bridge.TakesNext from number m) (λ _. Gives from (λ h. Got (lane_to h.bridge from).took)) (takes_next from number m) (λ _. gives from (λ h. Got (lane_to h.bridge from).took))
+    join IsStill (bridge.TakesNext from number m) (λ _. GivesBody from (λ h. Got (lane_to h.bridge from).took)) (takes_next from number m) (λ _. gives from (λ h. Got (lane_to h.bridge from).took))
 takes_body from (Got number) = acting IsStill (λ p h. Bridge (GotBy from number)) (λ p h. tt)
 
 hears_frame : (frame : Option BridgeFrame) → Does (bridge.HearsFrame frame)
 hears_frame None = misses IsStill kind BadFrame
 hears_frame (Some frame) =
-    looks IsStill (λ p h. is_for p frame) (λ here. If here (bridge.Takes frame.from frame.body) (Misses BadFrame))
-    (λ here. by_test IsStill here (bridge.Takes frame.from frame.body) (Misses BadFrame) (takes_body frame.from frame.body) (misses IsStill kind BadFrame))
+    looks IsStill (λ p h. is_for p frame) (λ here. If here (bridge.TakesBody frame.from frame.body) (Misses BadFrame))
+    (λ here. by_test IsStill here (bridge.TakesBody frame.from frame.body) (Misses BadFrame) (takes_body frame.from frame.body) (misses IsStill kind BadFrame))
 
 pub hears : (bytes : List ℕ) → Does (bridge.Hears bytes)
 hears bytes = hears_frame (frame_in bytes)

@@ -5,7 +5,7 @@ use Rattle.std.proofs.lemmas.Bool.{and_parts, lt-ltb}
 use Rattle.std.proofs.lemmas.Bool.Decides.{nat_tests}
 use Rattle.home_table.specs.Table.{Table}
 use Rattle.node_work.specs.declared.counts.Missed.TheVariants.{TableRefused}
-use Rattle.node_work.specs.Acts.{Act, Began, Moment, Moved, Bridge, Runs, next}
+use Rattle.node_work.specs.Acts.{Act, Began, MomentTaken, Moved, Bridge, Runs, next}
 use Rattle.node_work.specs.Doings.{Misses, TakesMoment}
 use Rattle.node_work.specs.Held.Bridge.{Left_out}
 use Rattle.node_work.specs.View.{Place, HeldView, nodes_of}
@@ -19,7 +19,7 @@ use Rattle.broker_node.specs.Turns as turns
 use Rattle.passing_laws.proofs.Keeping.{none_some}
 use Rattle.passing_laws.proofs.Passing.{numbered}
 use Rattle.passing_laws.proofs.Splits.{left_by}
-use Rattle.move_laws.specs.Tables.{SendsAway, IsNewer, TicksFirst, Takes, Refuses, TablesAreTaken, TablesWait, Begins, StartsSendAway}
+use Rattle.move_laws.specs.Tables.{SendsAway, IsNewer, TicksFirst, TableIsTaken, TableIsRefused, TablesAreTaken, TablesWait, BeginsWork, StartsSendAway}
 use Rattle.move_laws.proofs.Beginning.{still_homes}
 use Rattle.move_laws.proofs.Ending.{second_runs}
 use Rattle.move_laws.proofs.Still.{closes_stored, does_due}
@@ -28,37 +28,37 @@ use Rattle.move_laws.proofs.Turn.{sends_away}
 -- ---- the moment, and then the turn
 pub record Turning (p : Place) (h : HeldView) (e : Event) (acts : List Act) : Type 0 where
   pub rest : List Act
-  pub is : acts ≡ Moment e.at ∷ rest
-  pub first : TakesMoment e.at (Some tt) p h (Moment e.at ∷ [])
-  pub does : If h.started (turns.GoesOn e.kind) (turns.First e.kind) (Some tt) p (next h (Moment e.at)) rest
+  pub is : acts ≡ MomentTaken e.at ∷ rest
+  pub first : TakesMoment e.at (Some tt) p h (MomentTaken e.at ∷ [])
+  pub does : If h.started (turns.AnswersAfterDue e.kind) (turns.AwaitsStart e.kind) (Some tt) p (next h (MomentTaken e.at)) rest
 
 pub turning : (e : Event) (p : Place) (h : HeldView) (acts : List Act) → turns.Decides e (Some tt) p h acts → Turning p h e acts
 turning e p h acts (inl d) = none_some (sym d.0)
 turning e p h acts (inr (x, own, mid, rest, one, runs, more, is)) =
-    let alone : own ≡ Moment e.at ∷ [] = numbered (not (nat_lt e.at (2 ^ 62))) x (Moment e.at) own one in
-    let left : mid ≡ next h (Moment e.at) = left_by p h mid (Moment e.at) own alone runs in
+    let alone : own ≡ MomentTaken e.at ∷ [] = numbered (not (nat_lt e.at (2 ^ 62))) x (MomentTaken e.at) own one in
+    let left : mid ≡ next h (MomentTaken e.at) = left_by p h mid (MomentTaken e.at) own alone runs in
     record {
       rest = rest;
       is = is ∙ ap (λ xs. xs ++ rest) alone;
       first = subst (TakesMoment e.at (Some tt) p h) alone one;
-      does = subst (λ (v : HeldView). If v.started (turns.GoesOn e.kind) (turns.First e.kind) (Some tt) p v rest) left more;
+      does = subst (λ (v : HeldView). If v.started (turns.AnswersAfterDue e.kind) (turns.AwaitsStart e.kind) (Some tt) p v rest) left more;
     }
 
-moment_runs : (p : Place) (h : HeldView) (at : ℕ) → Runs p h (Moment at ∷ []) (next h (Moment at))
-moment_runs p h at = (next h (Moment at), (tt, refl), refl)
+moment_runs : (p : Place) (h : HeldView) (at : ℕ) → Runs p h (MomentTaken at ∷ []) (next h (MomentTaken at))
+moment_runs p h at = (next h (MomentTaken at), (tt, refl), refl)
 
-turn_runs : (e : Event) (p : Place) (h last : HeldView) (acts : List Act) (t : Turning p h e acts) → Runs p h acts last → Runs p (next h (Moment e.at)) t.rest last
-turn_runs e p h last acts t runs = second_runs p h (next h (Moment e.at)) last (Moment e.at ∷ []) t.rest acts t.is (moment_runs p h e.at) runs
+turn_runs : (e : Event) (p : Place) (h last : HeldView) (acts : List Act) (t : Turning p h e acts) → Runs p h acts last → Runs p (next h (MomentTaken e.at)) t.rest last
+turn_runs e p h last acts t runs = second_runs p h (next h (MomentTaken e.at)) last (MomentTaken e.at ∷ []) t.rest acts t.is (moment_runs p h e.at) runs
 
 -- ---- what is due first, as at a Tick
-ticks_first : (e : Event) (p : Place) (h mid : HeldView) (acts own : List Act) → h.started ≡ true → Turning p h e acts → due.DoesDue (Some tt) p (next h (Moment e.at)) own → Runs p (next h (Moment e.at)) own mid → TicksFirst e p h
+ticks_first : (e : Event) (p : Place) (h mid : HeldView) (acts own : List Act) → h.started ≡ true → Turning p h e acts → due.DoesDue (Some tt) p (next h (MomentTaken e.at)) own → Runs p (next h (MomentTaken e.at)) own mid → TicksFirst e p h
 ticks_first e p h mid acts own started t one ran =
-    let a = Moment e.at ∷ [] in
-    let start = next h (Moment e.at) in
-    let does : turns.GoesOn kinds.Tick (Some tt) p start own = inr (tt, own, mid, [], one, ran, (refl, refl), sym (append-nil own)) in
+    let a = MomentTaken e.at ∷ [] in
+    let start = next h (MomentTaken e.at) in
+    let does : turns.AnswersAfterDue kinds.Tick (Some tt) p start own = inr (tt, own, mid, [], one, ran, (refl, refl), sym (append-nil own)) in
     record {
       due = a ++ own;
-      does = inr (tt, a, start, own, t.first, moment_runs p h e.at, subst (λ b. If b (turns.GoesOn kinds.Tick) (turns.First kinds.Tick) (Some tt) p start own) (sym started) does, refl);
+      does = inr (tt, a, start, own, t.first, moment_runs p h e.at, subst (λ b. If b (turns.AnswersAfterDue kinds.Tick) (turns.AwaitsStart kinds.Tick) (Some tt) p start own) (sym started) does, refl);
       left = mid;
       runs = runs_join p a own h start mid (moment_runs p h e.at) ran;
     }
@@ -91,10 +91,10 @@ not_newer homes p h mid same older newer =
 -- ---- a table that is handed to a node that has started
 module _ (e : Event) (homes : Table) (p : Place) (h last : HeldView) (acts : List Act) (started : h.started ≡ true) (t : Turning p h e acts) (runs : Runs p h acts last) where
   abbrev start : HeldView
-  start = next h (Moment e.at)
+  start = next h (MomentTaken e.at)
 
   abbrev Comes : Type 0
-  Comes = (IsNewer p h homes × Takes e p h homes acts last) ⊎ ((¬ (IsNewer p h homes)) × Refuses e p h acts last)
+  Comes = (IsNewer p h homes × TableIsTaken e p h homes acts last) ⊎ ((¬ (IsNewer p h homes)) × TableIsRefused e p h acts last)
 
   module _ (own rest : List Act) (mid : HeldView) (one : due.DoesDue (Some tt) p start own) (ran : Runs p start own mid) (is : t.rest ≡ own ++ rest) where
     abbrev first : TicksFirst e p h
@@ -102,7 +102,7 @@ module _ (e : Event) (homes : Table) (p : Place) (h last : HeldView) (acts : Lis
 
     whole : acts ≡ first.due ++ rest
     unfolding ticks_first
-    whole = t.is ∙ ap (λ xs. Moment e.at ∷ xs) is
+    whole = t.is ∙ ap (λ xs. MomentTaken e.at ∷ xs) is
 
     later : Runs p mid rest last
     later = second_runs p start mid last own rest t.rest is ran (turn_runs e p h last acts t runs)
@@ -110,7 +110,7 @@ module _ (e : Event) (homes : Table) (p : Place) (h last : HeldView) (acts : Lis
     same : mid.homes ≡ h.homes
     same = due_homes p start mid own one ran
 
-    comes_by : (newer : Bool) → tables.is_newer homes p mid ≡ newer → If newer (tables.Moves homes) (Misses TableRefused) (Some tt) p mid rest → Comes
+    comes_by : (newer : Bool) → tables.is_newer homes p mid ≡ newer → If newer (tables.TakesNewerTable homes) (Misses TableRefused) (Some tt) p mid rest → Comes
     unfolding ticks_first
     comes_by true newer (inl d) = none_some (sym d.0)
     comes_by true newer (inr (x, made, moved, away, takes, ran2, more, all)) =
@@ -142,19 +142,19 @@ module _ (e : Event) (homes : Table) (p : Place) (h last : HeldView) (acts : Lis
 pub tables_are_taken : TablesAreTaken
 tables_are_taken = λ e homes p h last acts is started d runs. (
     let t = turning e p h acts d in
-    let does : turns.GoesOn (kinds.Table homes) (Some tt) p (next h (Moment e.at)) t.rest =
-    subst (λ k. turns.GoesOn k (Some tt) p (next h (Moment e.at)) t.rest) is (subst (λ b. If b (turns.GoesOn e.kind) (turns.First e.kind) (Some tt) p (next h (Moment e.at)) t.rest) started t.does) in
+    let does : turns.AnswersAfterDue (kinds.Table homes) (Some tt) p (next h (MomentTaken e.at)) t.rest =
+    subst (λ k. turns.AnswersAfterDue k (Some tt) p (next h (MomentTaken e.at)) t.rest) is (subst (λ b. If b (turns.AnswersAfterDue e.kind) (turns.AwaitsStart e.kind) (Some tt) p (next h (MomentTaken e.at)) t.rest) started t.does) in
     comes e homes p h last acts started t runs does)
 
 pub tables_wait : TablesWait
 tables_wait = λ e homes p h acts is waits d. (
     let t = turning e p h acts d in
-    let does : turns.First (kinds.Table homes) (Some tt) p (next h (Moment e.at)) t.rest =
-    subst (λ k. turns.First k (Some tt) p (next h (Moment e.at)) t.rest) is (subst (λ b. If b (turns.GoesOn e.kind) (turns.First e.kind) (Some tt) p (next h (Moment e.at)) t.rest) waits t.does) in
-    t.is ∙ ap (λ xs. Moment e.at ∷ xs) does.1)
+    let does : turns.AwaitsStart (kinds.Table homes) (Some tt) p (next h (MomentTaken e.at)) t.rest =
+    subst (λ k. turns.AwaitsStart k (Some tt) p (next h (MomentTaken e.at)) t.rest) is (subst (λ b. If b (turns.AnswersAfterDue e.kind) (turns.AwaitsStart e.kind) (Some tt) p (next h (MomentTaken e.at)) t.rest) waits t.does) in
+    t.is ∙ ap (λ xs. MomentTaken e.at ∷ xs) does.1)
 
 -- ---- a node that begins its work
-starts : (p : Place) (h0 h last : HeldView) (front rest acts : List Act) → Runs p h0 front h → h.homes ≡ h0.homes → acts ≡ front ++ rest → due.Starts (Some tt) p h rest → Runs p h rest last → Begins p h0 acts last
+starts : (p : Place) (h0 h last : HeldView) (front rest acts : List Act) → Runs p h0 front h → h.homes ≡ h0.homes → acts ≡ front ++ rest → due.Starts (Some tt) p h rest → Runs p h rest last → BeginsWork p h0 acts last
 starts p h0 h last front rest acts ran0 same0 is0 (inl d) runs = none_some (sym d.0)
 starts p h0 h last front rest acts ran0 same0 is0 (inr (x, began, h1, rest1, one, ran1, (inl d), is1)) runs = none_some (sym d.0)
 starts p h0 h last front rest acts ran0 same0 is0 (inr (x, began, h1, rest1, one, ran1, (inr (y, closed, h2, rest2, two, ran2, (inl d), is2)), is1)) runs = none_some (sym d.0)
@@ -177,6 +177,6 @@ starts p h0 h last front rest acts ran0 same0 is0 (inr (x, began, h1, rest1, one
 pub starts_send_away : StartsSendAway
 starts_send_away = λ e p h last acts is waits d runs. (
     let t = turning e p h acts d in
-    let does : due.Starts (Some tt) p (next h (Moment e.at)) t.rest =
-    subst (λ k. turns.First k (Some tt) p (next h (Moment e.at)) t.rest) is (subst (λ b. If b (turns.GoesOn e.kind) (turns.First e.kind) (Some tt) p (next h (Moment e.at)) t.rest) waits t.does) in
-    starts p h (next h (Moment e.at)) last (Moment e.at ∷ []) t.rest acts (moment_runs p h e.at) refl t.is does (turn_runs e p h last acts t runs))
+    let does : due.Starts (Some tt) p (next h (MomentTaken e.at)) t.rest =
+    subst (λ k. turns.AwaitsStart k (Some tt) p (next h (MomentTaken e.at)) t.rest) is (subst (λ b. If b (turns.AnswersAfterDue e.kind) (turns.AwaitsStart e.kind) (Some tt) p (next h (MomentTaken e.at)) t.rest) waits t.does) in
+    starts p h (next h (MomentTaken e.at)) last (MomentTaken e.at ∷ []) t.rest acts (moment_runs p h e.at) refl t.is does (turn_runs e p h last acts t runs))

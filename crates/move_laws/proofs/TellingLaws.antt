@@ -12,7 +12,7 @@ use Rattle.session_table.specs.Seats.{Seat, IsElsewhere}
 use Rattle.subscription_set.specs.Standing.{any_below}
 use Rattle.node_work.specs.declared.outcome.Output.{Output}
 use Rattle.node_work.specs.declared.outcome.Output.TheVariants.{Send, Close, Frame as Release}
-use Rattle.node_work.specs.Acts.{Act, Moment, Began, Moved, Store, Made, Connection, Session, Bridge, Out, Named, Acknowledged, Passed, Dropped, Runs}
+use Rattle.node_work.specs.Acts.{Act, MomentTaken, Began, Moved, Store, Made, Connection, Session, Bridge, Out, Named, Acknowledged, Passed, Dropped, Runs}
 use Rattle.node_work.specs.Held.Bridge.{BridgeAct, Put, Took, Got, Believed, Gave, Left_out}
 use Rattle.node_work.specs.Held.Connections.{ConnectionAct, Opened, Fed, Accepted, Closed}
 use Rattle.node_work.specs.Held.Making.{removal_below}
@@ -24,7 +24,7 @@ use Rattle.node_clients.specs.Connecting.{address_of}
 use Rattle.passing_laws.specs.Sending.{IsIn}
 use Rattle.move_laws.specs.Going.{Goes, IsOfEnding, IsParted, IsTold, seen, seen_in}
 use Rattle.move_laws.specs.Tables.{GoInTurn}
-use Rattle.move_laws.specs.Telling.{GoesOn, IsSentOnAmong, Tells, IsForThem, ClientsAreSentOn}
+use Rattle.move_laws.specs.Telling.{HasHomeElsewhere, IsSentOnAmong, Tells, IsForThem, ClientsAreSentOn}
 use Rattle.move_laws.proofs.Calm.{Has}
 use Rattle.move_laws.proofs.EachAct.{are_both}
 use Rattle.move_laws.proofs.Keys.{Apart, key_in, keys_apart, keys_seated, selected_all, selected_apart, selected_in}
@@ -50,7 +50,7 @@ has_by q h c on = by (seat_at q h) refl on
 
 -- ---- those that go later go from the connection that they were on
 module _ (p : Place) (client : List ℕ) (h mid : HeldView) (own : List Act) (g : Goes p client h own mid) where
-  goes_back : (c : ℕ) (q : List ℕ) → GoesOn p mid c q → GoesOn p h c q
+  goes_back : (c : ℕ) (q : List ℕ) → HasHomeElsewhere p mid c q → HasHomeElsewhere p h c q
   goes_back c q on =
       let has = has_by q mid c on.on in
       let other : q ≢ client = λ e. (let z : None ≡ Some has.0 = sym g.leaves.gone ∙ ap (λ k. seat_at k mid) (sym e) ∙ has.1 in cc) in
@@ -89,7 +89,7 @@ module _ (p : Place) (client : List ℕ) (h mid : HeldView) (own : List Act) (g 
   act_back (Out o) x = out_back o x
   act_back (Connection a) x = connection_back a x
   act_back (Bridge a) x = bridge_back a x
-  act_back (Moment at) x = tt
+  act_back (MomentTaken at) x = tt
   act_back Began x = tt
   act_back (Moved homes) x = tt
   act_back (Store a) x = tt
@@ -117,7 +117,7 @@ module _ (p : Place) (client : List ℕ) (h : HeldView) (elsewhere : IsElsewhere
   parted_for : (o : Option ℕ) (acts : List Act) → connection_at client h ≡ o → IsParted p client h o acts → AllByRecursion (IsForThem p h) acts
   parted_for None acts on d = subst (AllByRecursion (IsForThem p h)) (sym d) tt
   parted_for (Some c) acts on d =
-      let there : GoesOn p h c client = record { on = on; elsewhere = elsewhere } in
+      let there : HasHomeElsewhere p h c client = record { on = on; elsewhere = elsewhere } in
       subst (AllByRecursion (IsForThem p h)) (sym d.is)
       (are_both (IsForThem p h) d.told (Connection (Closed c) ∷ Out (Close c) ∷ []) (told_for c d.home (address_of h d.home) d.told on d.is_home d.other refl d.is_told) ((client, there), ((client, there), tt)))
 
@@ -137,7 +137,7 @@ module _ (p : Place) (client : List ℕ) (h : HeldView) (elsewhere : IsElsewhere
       one (Out o) kind = absurd kind
       one (Connection a) kind = absurd kind
       one (Bridge a) kind = bridge_for a kind
-      one (Moment at) kind = tt
+      one (MomentTaken at) kind = tt
       one Began kind = tt
       one (Moved homes) kind = tt
       one (Store a) kind = tt
@@ -203,7 +203,7 @@ all_for p (client ∷ clients) h last acts apart away (own, mid, rest, is, ran, 
     subst (AllByRecursion (IsForThem p h)) (sym is) (are_both (IsForThem p h) own rest (goes_for p client h away.0.0 mid own g)
     (all_back p client h mid own g rest (all_for p clients mid last rest apart.1 (still_away p client h mid clients g.leaves.homes g.leaves.sessions apart.0 away.1) more)))
 
-others_stay : (p : Place) (clients : List (List ℕ)) (h last : HeldView) (acts : List Act) → Apart clients → AreAway p h clients → GoInTurn p clients h acts last → (c : ℕ) → ((q : List ℕ) → GoesOn p h c q → ⊥) → map.get last.connections c ≡ map.get h.connections c
+others_stay : (p : Place) (clients : List (List ℕ)) (h last : HeldView) (acts : List Act) → Apart clients → AreAway p h clients → GoInTurn p clients h acts last → (c : ℕ) → ((q : List ℕ) → HasHomeElsewhere p h c q → ⊥) → map.get last.connections c ≡ map.get h.connections c
 others_stay p [] h last acts apart away d c none = ap (λ (v : HeldView). map.get v.connections c) d.1
 others_stay p (client ∷ clients) h last acts apart away (own, mid, rest, is, ran, g, more) c none =
     others_stay p clients mid last rest apart.1 (still_away p client h mid clients g.leaves.homes g.leaves.sessions apart.0 away.1) more c (λ q on. none q (goes_back p client h mid own g c q on))

@@ -80,15 +80,15 @@ pub record AsksFor (client : List ℕ) (m : Message) (acts : List Act) : Type 0 
   pub asks : call.reaction.ask ≡ Some (Pass m)
 
 -- a session with this will, of this client identifier
-pub record HasWill (client : List ℕ) (w : Will) (id : List ℕ) (h : HeldView) : Type 0 where
+pub record SessionHasWill (client : List ℕ) (w : Will) (id : List ℕ) (h : HeldView) : Type 0 where
   pub seat : Seat
   pub at : seat_at client h ≡ Some seat
   pub will : seat.session.kept.will ≡ Some w
   pub id_is : seat.session.kept.client ≡ id
 
 -- one Remove takes what stands of the client under versions older than the table's, where anything does
-abbrev pub IsRemoved : Place → List ℕ → HeldView → List Act → Type 0
-IsRemoved p client h acts = cond (any_below client h.homes.version h.store.subscriptions) (acts ≡ Store (Made (removal_below p.id client h.homes.version h.store)) ∷ []) (acts ≡ [])
+abbrev pub OlderAreRemoved : Place → List ℕ → HeldView → List Act → Type 0
+OlderAreRemoved p client h acts = cond (any_below client h.homes.version h.store.subscriptions) (acts ≡ Store (Made (removal_below p.id client h.homes.version h.store)) ∷ []) (acts ≡ [])
 
 -- ---- what is left
 -- what is seen of a session: its connection, and its will, its expiry and whether it is connected
@@ -115,9 +115,9 @@ pub record Goes (p : Place) (client : List ℕ) (h : HeldView) (acts : List Act)
   pub is : acts ≡ parting ++ (ending ++ (removing ++ Session (Over client) ∷ []))
   pub parted : IsParted p client h (connection_at client h) parting
   pub ends : AllByRecursion (IsOfEnding client) ending
-  pub will : (w : Will) (id : List ℕ) → HasWill client w id h → AsksFor client (accepted_will w id h.at) ending
+  pub will : (w : Will) (id : List ℕ) → SessionHasWill client w id h → AsksFor client (accepted_will w id h.at) ending
   pub mid : HeldView
   pub runs : Runs p h (parting ++ ending) mid
   pub same : mid.homes ≡ h.homes
-  pub removed : IsRemoved p client mid removing
+  pub removed : OlderAreRemoved p client mid removing
   pub leaves : LeavesOthers client h h'

@@ -3,7 +3,7 @@ use Rattle.std.specs.Prelude.{◌≡◌, ◌⊎◌, ℕ, ◌<◌, true, false, L
 use Rattle.home_table.specs.Table.{Table}
 use Rattle.session_table.specs.Seats.{AreElsewhere}
 use Rattle.node_work.specs.declared.counts.Missed.TheVariants.{TableRefused}
-use Rattle.node_work.specs.Acts.{Act, Moment, Moved, Bridge, Runs}
+use Rattle.node_work.specs.Acts.{Act, MomentTaken, Moved, Bridge, Runs}
 use Rattle.node_work.specs.Held.Bridge.{Left_out}
 use Rattle.node_work.specs.Held.Sessions.{more}
 use Rattle.node_work.specs.View.{Place, HeldView, nodes_of}
@@ -38,14 +38,14 @@ pub record TicksFirst (e : Event) (p : Place) (h : HeldView) : Type 0 where
   pub runs : Runs p h due left
 
 -- such a table is the node's from then on, and clients go by it
-pub record Takes (e : Event) (p : Place) (h : HeldView) (homes : Table) (acts : List Act) (last : HeldView) : Type 0 where
+pub record TableIsTaken (e : Event) (p : Place) (h : HeldView) (homes : Table) (acts : List Act) (last : HeldView) : Type 0 where
   pub first : TicksFirst e p h
   pub rest : List Act
   pub is : acts ≡ first.due ++ Moved homes ∷ rest
   pub sends : SendsAway p (record first.left { homes = homes }) rest last
 
 -- another one is counted, and changes nothing
-pub record Refuses (e : Event) (p : Place) (h : HeldView) (acts : List Act) (last : HeldView) : Type 0 where
+pub record TableIsRefused (e : Event) (p : Place) (h : HeldView) (acts : List Act) (last : HeldView) : Type 0 where
   pub first : TicksFirst e p h
   pub is : acts ≡ first.due ++ Bridge (Left_out TableRefused) ∷ []
   pub counted : last ≡ record first.left { counts = record first.left.counts { tables_refused = more 1 first.left.counts.tables_refused } }
@@ -54,16 +54,16 @@ pub record Refuses (e : Event) (p : Place) (h : HeldView) (acts : List Act) (las
 abbrev pub TablesAreTaken : Type 0
 TablesAreTaken =
     (e : Event) (homes : Table) (p : Place) (h last : HeldView) (acts : List Act) → e.kind ≡ kinds.Table homes → h.started ≡ true → Decides e (Some tt) p h acts → Runs p h acts last
-    → (IsNewer p h homes × Takes e p h homes acts last) ⊎ ((¬ (IsNewer p h homes)) × Refuses e p h acts last)
+    → (IsNewer p h homes × TableIsTaken e p h homes acts last) ⊎ ((¬ (IsNewer p h homes)) × TableIsRefused e p h acts last)
 
 -- before that it takes the moment alone
 abbrev pub TablesWait : Type 0
 TablesWait =
-    (e : Event) (homes : Table) (p : Place) (h : HeldView) (acts : List Act) → e.kind ≡ kinds.Table homes → h.started ≡ false → Decides e (Some tt) p h acts → acts ≡ Moment e.at ∷ []
+    (e : Event) (homes : Table) (p : Place) (h : HeldView) (acts : List Act) → e.kind ≡ kinds.Table homes → h.started ≡ false → Decides e (Some tt) p h acts → acts ≡ MomentTaken e.at ∷ []
 
 -- ---- the table with which a node begins its work
 -- once it has closed the stored sessions and done what is due, clients go by the table that it holds
-pub record Begins (p : Place) (h : HeldView) (acts : List Act) (last : HeldView) : Type 0 where
+pub record BeginsWork (p : Place) (h : HeldView) (acts : List Act) (last : HeldView) : Type 0 where
   pub first : List Act
   pub left : HeldView
   pub runs : Runs p h first left
@@ -73,4 +73,4 @@ pub record Begins (p : Place) (h : HeldView) (acts : List Act) (last : HeldView)
   pub sends : SendsAway p left rest last
 
 abbrev pub StartsSendAway : Type 0
-StartsSendAway = (e : Event) (p : Place) (h last : HeldView) (acts : List Act) → e.kind ≡ kinds.Started → h.started ≡ false → Decides e (Some tt) p h acts → Runs p h acts last → Begins p h acts last
+StartsSendAway = (e : Event) (p : Place) (h last : HeldView) (acts : List Act) → e.kind ≡ kinds.Started → h.started ≡ false → Decides e (Some tt) p h acts → Runs p h acts last → BeginsWork p h acts last

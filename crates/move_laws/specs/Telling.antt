@@ -17,7 +17,7 @@ use Rattle.move_laws.specs.Going.{IsSentOn}
 use Rattle.move_laws.specs.Tables.{SendsAway}
 
 -- the client of this session is on this connection, and its home is elsewhere
-pub record GoesOn (p : Place) (h : HeldView) (c : ℕ) (client : List ℕ) : Type 0 where
+pub record HasHomeElsewhere (p : Place) (h : HeldView) (c : ℕ) (client : List ℕ) : Type 0 where
   pub on : connection_at client h ≡ Some c
   pub elsewhere : IsElsewhere h.homes p.id client
 
@@ -42,19 +42,19 @@ pub record Tells (p : Place) (h : HeldView) (client bytes : List ℕ) : Type 0 w
 
 -- a packet of the node's own tells such a client, on its connection; only such a connection is closed; and no frame goes out
 abbrev pub IsForThem : Place → HeldView → Act → Type 0
-IsForThem p h (Out (Send c bytes)) = (client : List ℕ) × GoesOn p h c client × Tells p h client bytes
-IsForThem p h (Out (Close c)) = (client : List ℕ) × GoesOn p h c client
+IsForThem p h (Out (Send c bytes)) = (client : List ℕ) × HasHomeElsewhere p h c client × Tells p h client bytes
+IsForThem p h (Out (Close c)) = (client : List ℕ) × HasHomeElsewhere p h c client
 IsForThem p h (Out o) = ⊥
-IsForThem p h (Connection (Closed c)) = (client : List ℕ) × GoesOn p h c client
+IsForThem p h (Connection (Closed c)) = (client : List ℕ) × HasHomeElsewhere p h c client
 IsForThem p h (Connection a) = ⊥
 IsForThem p h (Bridge (Gave f)) = ⊥
 IsForThem p h a = Unit {0}
 
 -- wherever clients go: each that is on a connection is sent on; nothing of the node's own goes to anyone else, and no other connection changes
 pub record SendsThemOn (p : Place) (h : HeldView) (acts : List Act) (last : HeldView) : Type 0 where
-  pub each : (client : List ℕ) (c : ℕ) → GoesOn p h c client → IsSentOnAmong p h acts c client
+  pub each : (client : List ℕ) (c : ℕ) → HasHomeElsewhere p h c client → IsSentOnAmong p h acts c client
   pub alone : AllByRecursion (IsForThem p h) acts
-  pub others : (c : ℕ) → ((client : List ℕ) → ¬ (GoesOn p h c client)) → map.get last.connections c ≡ map.get h.connections c
+  pub others : (c : ℕ) → ((client : List ℕ) → ¬ (HasHomeElsewhere p h c client)) → map.get last.connections c ≡ map.get h.connections c
 
 abbrev pub ClientsAreSentOn : Type 0
 ClientsAreSentOn = (p : Place) (h last : HeldView) (acts : List Act) → SendsAway p h acts last → SendsThemOn p h acts last

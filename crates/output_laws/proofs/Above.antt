@@ -19,13 +19,13 @@ use Rattle.node_work.specs.declared.granted.Granted.{Granted}
 use Rattle.node_work.specs.declared.outcome.Output.TheVariants.{Close}
 use Rattle.node_work.specs.Acts.{Began, Moved, Connection, Session, Out, Named}
 use Rattle.node_work.specs.Calling.{Calls}
-use Rattle.node_work.specs.Doings.{Sends, Disconnects, Misses, Opens, Redirects}
+use Rattle.node_work.specs.Doings.{Sends, Disconnects, Misses, OpensConnection, Redirects}
 use Rattle.node_work.specs.Held.Connections.{Opened, Accepted, Closed, Fed, is_open, client_at, first_at}
 use Rattle.node_work.specs.Held.Feeding.{cut_of}
 use Rattle.node_work.specs.Held.Sessions.{Begun, takes_disconnect, takes_packet, connection_at, has_session}
 use Rattle.node_work.specs.Packets.{moved_packet, refused_packet}
 use Rattle.node_work.specs.View.{ConnectionView}
-use Rattle.node_work.specs.Working.{Doing, Returns, Acting, Looks, Finds, If, Then, InTurn, Each}
+use Rattle.node_work.specs.Working.{Doing, Returns, Acting, Looks, FindsWhere, If, Then, InTurn, Each}
 use Rattle.node_clients.specs.Connecting as connecting
 use Rattle.node_clients.specs.Ending as ending
 use Rattle.node_clients.specs.Moving as moving
@@ -65,14 +65,14 @@ module _ (K : (A : Type 0) → (Option A → Doing) → Type 0) (w : Low K) (a :
       (λ taken. w.by_test taken (Sends c (disconnect code)) (Returns tt) (a.sends c (disconnect code)) (w.returns tt))
 
   -- ---- closes
-  closes_of : (c : ℕ) → Does (ending.Closes c)
+  closes_of : (c : ℕ) → Does (ending.ClosesConnection c)
   closes_of c = w.join (Acting (λ p h. Connection (Closed c))) (λ _. Acting (λ p h. Out (Close c))) (a.closed c) (λ _. a.close c)
 
   pub parts : (client : List ℕ) → Does (ending.Parts client)
   parts client = w.join (Calls client closes leaves) (λ _. ending.DoesDueOf client) (w.calls client closes leaves (λ at. tt)) (λ _. due_of K w a.ticks_of client)
 
   closes_for : (c : ℕ) (client : List ℕ) → Does (ending.ClosesFor c client)
-  closes_for c client = w.join (ending.Closes c) (λ _. ending.Parts client) (closes_of c) (λ _. parts client)
+  closes_for c client = w.join (ending.ClosesConnection c) (λ _. ending.Parts client) (closes_of c) (λ _. parts client)
 
   pub closes_after : (end : Option ℕ) (c : ℕ) (client : List ℕ) → Does (ending.ClosesAfter end c client)
   closes_after None c client = w.returns tt
@@ -87,24 +87,24 @@ module _ (K : (A : Type 0) → (Option A → Doing) → Type 0) (w : Low K) (a :
   offers_after None c client packet given = offers K w client packet given
   offers_after (Some code) c client packet given = closes_for c client
 
-  acknowledges : (c : ℕ) (client : List ℕ) (packet : ℕ) (given : List Granted) → Does (subscribing.Acknowledges c client packet given)
+  acknowledges : (c : ℕ) (client : List ℕ) (packet : ℕ) (given : List Granted) → Does (subscribing.SendsSuback c client packet given)
   acknowledges c client packet given =
       w.join (Calls client (λ at. answers packet (subscribing.reasons_of given)) stays) (λ r. subscribing.OffersAfter r.end c client packet given) (w.calls client (λ at. answers packet (subscribing.reasons_of given)) stays (λ at. tt))
       (λ r. offers_after r.end c client packet given)
 
-  unacknowledges : (c : ℕ) (client : List ℕ) (packet : ℕ) (codes : List ℕ) → Does (unsubscribing.Acknowledges c client packet codes)
+  unacknowledges : (c : ℕ) (client : List ℕ) (packet : ℕ) (codes : List ℕ) → Does (unsubscribing.SendsUnsuback c client packet codes)
   unacknowledges c client packet codes =
       w.join (Calls client (λ at. answers packet codes) stays) (λ r. ending.ClosesAfter r.end c client) (w.calls client (λ at. answers packet codes) stays (λ at. tt)) (λ r. closes_after r.end c client)
 
   subscribes_by : (c : ℕ) (client : List ℕ) (k : Packet) → Does (serving.SubscribesBy c client k)
   subscribes_by c client (packets.Subscribe q) =
-      w.join (InTurn (subscribing.Grants client (subscribing.identifier_of q)) q.filters []) (subscribing.Acknowledges c client q.identifier)
+      w.join (InTurn (subscribing.Grants client (subscribing.identifier_of q)) q.filters []) (subscribing.SendsSuback c client q.identifier)
       (in_turn K w (subscribing.Grants client (subscribing.identifier_of q)) q.filters [] (grants K w client (subscribing.identifier_of q))) (acknowledges c client q.identifier)
   subscribes_by c client _ = w.returns tt
 
   unsubscribes_by : (c : ℕ) (client : List ℕ) (k : Packet) → Does (serving.UnsubscribesBy c client k)
   unsubscribes_by c client (packets.Unsubscribe u) =
-      w.join (InTurn (unsubscribing.Unsubscribed client) u.filters []) (unsubscribing.Acknowledges c client u.identifier)
+      w.join (InTurn (unsubscribing.Unsubscribed client) u.filters []) (unsubscribing.SendsUnsuback c client u.identifier)
       (in_turn K w (unsubscribing.Unsubscribed client) u.filters [] (unsubscribed K w client)) (unacknowledges c client u.identifier)
   unsubscribes_by c client _ = w.returns tt
 
@@ -121,11 +121,11 @@ module _ (K : (A : Type 0) → (Option A → Doing) → Type 0) (w : Low K) (a :
       w.join (serving.DoesAsked r.ask dropped c client k) (λ _. ending.ClosesAfter r.end c client) (does_asked r.ask dropped c client k) (λ _. closes_after r.end c client)
 
   -- ---- CONNECT
-  refuses : (c : ℕ) (p : Connect) (code : ℕ) (reference : Option (List ℕ)) → Does (connecting.Refuses c p code reference)
+  refuses : (c : ℕ) (p : Connect) (code : ℕ) (reference : Option (List ℕ)) → Does (connecting.RefusesConnect c p code reference)
   refuses c p code reference =
       let packet = refused_packet code reference in
       let fitting = fits (limit_in p.properties) packet in
-      w.join (connecting.SendsIf fitting c packet) (λ _. ending.Closes c) (w.by_test fitting (Sends c packet) (Returns tt) (a.sends c packet) (w.returns tt)) (λ _. closes_of c)
+      w.join (connecting.SendsIf fitting c packet) (λ _. ending.ClosesConnection c) (w.by_test fitting (Sends c packet) (Returns tt) (a.sends c packet) (w.returns tt)) (λ _. closes_of c)
 
   takes_over_from : (client : List ℕ) (on : Option ℕ) → Does (connecting.TakesOverFrom client on)
   takes_over_from client None = w.returns tt
@@ -141,16 +141,16 @@ module _ (K : (A : Type 0) → (Option A → Doing) → Type 0) (w : Low K) (a :
   joins false c client p =
       w.join (Acting (λ place h. Session (Begun client))) (λ _. Calls client (connects p false) (moves c)) (a.begun client) (λ _. a.joined c client p false)
 
-  begins : (c : ℕ) (client : List ℕ) (p : Connect) → Does (connecting.Begins c client p)
+  begins : (c : ℕ) (client : List ℕ) (p : Connect) → Does (connecting.BeginsSession c client p)
   begins c client p =
       w.join (Acting (λ place h. Connection (Accepted c client))) (λ _. Then (connecting.Joins c client p) (λ r. ending.ClosesAfter r.end c client)) (a.accepted c client) (λ _.
       w.join (connecting.Joins c client p) (λ r. ending.ClosesAfter r.end c client) (w.looks (λ place h. has_session client h) (λ has. connecting.JoinsBy has c client p) (λ has. joins has c client p)) (λ r. closes_after r.end c client))
 
   accepts : (c : ℕ) (p : Connect) (client : List ℕ) → Does (connecting.Accepts c p client)
   accepts c p client =
-      w.join (connecting.TakesOver client) (λ _. Then (connecting.Cleans p.clean_start client) (λ _. connecting.Begins c client p))
+      w.join (connecting.TakesOver client) (λ _. Then (connecting.Cleans p.clean_start client) (λ _. connecting.BeginsSession c client p))
       (w.looks (λ place h. connection_at client h) (connecting.TakesOverFrom client) (takes_over_from client)) (λ _.
-      w.join (connecting.Cleans p.clean_start client) (λ _. connecting.Begins c client p) (cleans p.clean_start client) (λ _. begins c client p))
+      w.join (connecting.Cleans p.clean_start client) (λ _. connecting.BeginsSession c client p) (cleans p.clean_start client) (λ _. begins c client p))
 
   names_by : (c : ℕ) (p : Connect) (number : Option ℕ) → Does (connecting.NamesBy c p number)
   names_by c p None = w.stops
@@ -162,12 +162,12 @@ module _ (K : (A : Type 0) → (Option A → Doing) → Type 0) (w : Low K) (a :
   comes_home c p node =
       w.looks (λ place h. node == place.id) (λ here. If here (connecting.AcceptsAs c p p.client) (connecting.Refers c p node))
       (λ here. w.by_test here (connecting.AcceptsAs c p p.client) (connecting.Refers c p node)
-      (w.by_whether (connecting.WillIsNamed p.will) (connecting.Accepts c p p.client) (connecting.Refuses c p 144 None) (accepts c p p.client) (refuses c p 144 None))
-      (w.looks (λ place h. connecting.address_of h node) (λ reference. connecting.Refuses c p 156 reference) (λ reference. refuses c p 156 reference)))
+      (w.by_whether (connecting.WillIsNamed p.will) (connecting.Accepts c p p.client) (connecting.RefusesConnect c p 144 None) (accepts c p p.client) (refuses c p 144 None))
+      (w.looks (λ place h. connecting.address_of h node) (λ reference. connecting.RefusesConnect c p 156 reference) (λ reference. refuses c p 156 reference)))
 
   connects_at : (bare : Bool) (c : ℕ) (p : Connect) → Does (connecting.ConnectsAt bare c p)
   connects_at true c p =
-      w.by_whether (connecting.WillIsNamed p.will) (Finds IsNextNumber (connecting.NamesBy c p)) (connecting.Refuses c p 144 None) (w.finds IsNextNumber (connecting.NamesBy c p) (names_by c p)) (refuses c p 144 None)
+      w.by_whether (connecting.WillIsNamed p.will) (FindsWhere IsNextNumber (connecting.NamesBy c p)) (connecting.RefusesConnect c p 144 None) (w.finds IsNextNumber (connecting.NamesBy c p) (names_by c p)) (refuses c p 144 None)
   connects_at false c p = w.finds (ending.IsAtHome p.client) (connecting.ComesHome c p) (comes_home c p)
 
   connects_by : (code : Option ℕ) (c : ℕ) (p : Connect) → Does (connecting.ConnectsBy code c p)
@@ -175,20 +175,20 @@ module _ (K : (A : Type 0) → (Option A → Doing) → Type 0) (w : Low K) (a :
   connects_by None c p = connects_at _ c p
 
   -- ---- pieces
-  first : (c : ℕ) (k : Packet) → Does (pieces.First c k)
+  first : (c : ℕ) (k : Packet) → Does (pieces.AnswersFirstPacket c k)
   first c (packets.Connect p) = connects_by _ c p
   first c _ = closes_of c
 
-  module _ (serves : (c : ℕ) (client : List ℕ) (k : Packet) → Does (serving.Serves c client k)) (no_refusal : (c : ℕ) → Does (pieces.SendsRefusal c None)) (some_refusal : (c code : ℕ) → Does (Sends c (refused_packet code None)) → Does (pieces.SendsRefusal c (Some code)))
+  module _ (serves : (c : ℕ) (client : List ℕ) (k : Packet) → Does (serving.ServesPacket c client k)) (no_refusal : (c : ℕ) → Does (pieces.SendsRefusal c None)) (some_refusal : (c code : ℕ) → Does (Sends c (refused_packet code None)) → Does (pieces.SendsRefusal c (Some code)))
       (no_disconnect : (c : ℕ) (client : List ℕ) → Does (pieces.SendsDisconnect c client None)) (some_disconnect : (c : ℕ) (client : List ℕ) (code : ℕ) → Does (Disconnects c client code) → Does (pieces.SendsDisconnect c client (Some code))) where
-    answers_by : (c : ℕ) (k : Packet) (client : Option (List ℕ)) → Does (pieces.AnswersBy c k client)
+    answers_by : (c : ℕ) (k : Packet) (client : Option (List ℕ)) → Does (pieces.AnswersPacketBy c k client)
     answers_by c k None = first c k
     answers_by c k (Some client) = serves c client k
 
     answers_if : (c : ℕ) (k : Packet) → Does (pieces.AnswersIfOpen c k)
     answers_if c k =
-        w.looks (λ p h. is_open c h) (λ is. If is (pieces.Answers c k) (Returns tt))
-        (λ is. w.by_test is (pieces.Answers c k) (Returns tt) (w.looks (λ p h. client_at c h) (pieces.AnswersBy c k) (answers_by c k)) (w.returns tt))
+        w.looks (λ p h. is_open c h) (λ is. If is (pieces.AnswersPacket c k) (Returns tt))
+        (λ is. w.by_test is (pieces.AnswersPacket c k) (Returns tt) (w.looks (λ p h. client_at c h) (pieces.AnswersPacketBy c k) (answers_by c k)) (w.returns tt))
 
     sends_refusal : (c : ℕ) (code : Option ℕ) → Does (pieces.SendsRefusal c code)
     sends_refusal c None = no_refusal c
@@ -216,7 +216,7 @@ module _ (K : (A : Type 0) → (Option A → Doing) → Type 0) (w : Low K) (a :
     feeds : (c : ℕ) (piece : List ℕ) (found : ConnectionView) → Does (pieces.Feeds c piece found)
     feeds c piece found =
         let cut = cut_of found.stream piece in
-        w.join (Acting (λ p h. Connection (Fed c piece))) (λ _. pieces.Takes c cut.packets cut.fault) (a.fed c piece) (λ _.
+        w.join (Acting (λ p h. Connection (Fed c piece))) (λ _. pieces.TakesPackets c cut.packets cut.fault) (a.fed c piece) (λ _.
         w.join (Each (pieces.AnswersIfOpen c) cut.packets) (λ _. pieces.BreaksIfOpen c cut.fault) (each K w (pieces.AnswersIfOpen c) cut.packets (answers_if c)) (λ _. breaks_if c cut.fault))
 
     piece_at : (c : ℕ) (piece : List ℕ) (found : Option ConnectionView) → Does (pieces.PieceAt c piece found)
@@ -277,8 +277,8 @@ module _ (K : (A : Type 0) → (Option A → Doing) → Type 0) (w : Low K) (a :
 
   pub takes_table : (homes : Table) → Does (tables.TakesTable homes)
   takes_table homes =
-      w.looks (tables.is_newer homes) (λ newer. If newer (tables.Moves homes) (Misses TableRefused))
-      (λ newer. w.by_test newer (tables.Moves homes) (Misses TableRefused)
+      w.looks (tables.is_newer homes) (λ newer. If newer (tables.TakesNewerTable homes) (Misses TableRefused))
+      (λ newer. w.by_test newer (tables.TakesNewerTable homes) (Misses TableRefused)
       (w.join (Acting (λ p h. Moved homes)) (λ _. tables.SendsAway) (a.moved homes) (λ _. sends_away)) (w.missed TableRefused))
 
   pub starts : Does due.Starts
@@ -288,6 +288,6 @@ module _ (K : (A : Type 0) → (Option A → Doing) → Type 0) (w : Low K) (a :
       w.join due.DoesDue (λ _. tables.SendsAway) does_due (λ _. sends_away)))
 
   -- ---- a connection is opened
-  pub opens : (c : ℕ) → Does (Acting (λ p h. Connection (Opened c))) → Does (Opens c)
+  pub opens : (c : ℕ) → Does (Acting (λ p h. Connection (Opened c))) → Does (OpensConnection c)
   opens c opened =
       w.looks (λ p h. is_open c h) (λ there. If there (Returns tt) (Acting (λ p h. Connection (Opened c)))) (λ there. w.by_test there (Returns tt) (Acting (λ p h. Connection (Opened c))) (w.returns tt) opened)

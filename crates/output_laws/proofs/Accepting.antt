@@ -72,7 +72,7 @@ refused_by true kind pre c code reference x p h h' acts is d runs =
 refused_by false kind pre c code reference x p h h' acts is d runs = nothing_right kind pre p h h' acts d.1 runs
 
 pub refuses : (kind : EventKind) (pre : List Act) (c : ℕ) (bytes : List ℕ) (q : Connect) (code : ℕ) (reference : Option (List ℕ)) (x : Unit {0}) (p : Place) (h h' : HeldView) (acts : List Act) → kind ≡ kinds.Piece c bytes → SessionsAreOnTheirs h → IsBare h c
-    → connecting.Refuses c q code reference (Some x) p h acts → Runs p h acts h' → Ending kind pre p c h h' acts
+    → connecting.RefusesConnect c q code reference (Some x) p h acts → Runs p h acts h' → Ending kind pre p c h h' acts
 refuses kind pre c bytes q code reference x p h h' acts event on is (inl d) runs = none_some (sym d.0)
 refuses kind pre c bytes q code reference x p h h' acts event on is (inr (y, own, mid, rest, one, ran, more, all)) runs =
     let first = refused_by (fits (limit_in q.properties) (refused_packet code reference)) kind pre c code reference y p h mid own is one ran in

@@ -91,7 +91,7 @@ module _ (Q : Act → Type 0) (k : Kind Q) where
   }
 
   pub ticks_of : (client : List ℕ) → K (Unit {0}) (ending.Ticks client)
-  ticks_of client = j_then (All Q) c (Calls client ticks stays) (ending.Follows client) (calling client ticks stays (λ at. tt)) (follows K low client)
+  ticks_of client = j_then (All Q) c (Calls client ticks stays) (ending.FollowsReaction client) (calling client ticks stays (λ at. tt)) (follows K low client)
 
   pub finishes_of : (client : List ℕ) → K (Unit {0}) (ending.Finishes client)
-  finishes_of client = j_then (All Q) c (Calls client finishes stays) (ending.Follows client) (calling client finishes stays (λ at. tt)) (follows K low client)
+  finishes_of client = j_then (All Q) c (Calls client finishes stays) (ending.FollowsReaction client) (calling client finishes stays (λ at. tt)) (follows K low client)

@@ -18,7 +18,7 @@ use Rattle.node_clients.proofs.Determined.{runs_determined}
 use Rattle.broker_node.specs.declared.event.Event.{Event}
 use Rattle.broker_node.specs.declared.event.EventKind.TheVariants as kinds
 use Rattle.broker_node.specs.Bridge as bridge
-use Rattle.broker_node.specs.Turns.{Answers, Decides}
+use Rattle.broker_node.specs.Turns.{AnswersEvent, Decides}
 use Rattle.passing_laws.proofs.Splits.{runs_split}
 use Rattle.run_laws.specs.LaneHistories.{by_bridge, took_by}
 use Rattle.output_laws.specs.Frames.{given_in, frames_given, frame_to}
@@ -29,7 +29,7 @@ use Rattle.output_laws.proofs.Taking.{TakesFirst, Takes_if, TakesNext, takes_nex
 
 -- the frame is for this node, and so its message is looked at
 heard_by : (here : Bool) (from number : ℕ) (m : Forward) (p : Place) (h last : HeldView) (acts : List Act) → here ≡ true
-    → If here (bridge.Takes from (Carried number m)) (Misses BadFrame) (Some tt) p h acts → Runs p h acts last → TakesNext from number m p h last acts
+    → If here (bridge.TakesBody from (Carried number m)) (Misses BadFrame) (Some tt) p h acts → Runs p h acts last → TakesNext from number m p h last acts
 heard_by true from number m p h last acts is d runs = takes_next from number m tt p h last acts d runs
 heard_by false from number m p h last acts is d runs = absurd (let z : false ≡ true = is in cc)
 
@@ -50,7 +50,7 @@ forwarding e p h last acts d runs from number m b =
     let both = runs_split p a.first a.rest h last (subst (λ xs. Runs p h xs last) a.is runs) in
     let same : both.0 ≡ a.mid = runs_determined p a.first h both.0 a.mid both.1 a.runs in
     let f : BridgeFrame = record { from = from; to = b.to; body = Carried number m } in
-    let does : Answers (kinds.Frame b.bytes) (Some tt) p a.mid a.rest = subst (λ k. Answers k (Some tt) p a.mid a.rest) b.event a.does in
+    let does : AnswersEvent (kinds.Frame b.bytes) (Some tt) p a.mid a.rest = subst (λ k. AnswersEvent k (Some tt) p a.mid a.rest) b.event a.does in
     let hears : bridge.HearsFrame (Some f) (Some tt) p a.mid a.rest = subst (λ (x : Option BridgeFrame). bridge.HearsFrame x (Some tt) p a.mid a.rest) b.read does in
     record {
       first = a.first;

@@ -29,7 +29,7 @@ use Rattle.node_work.specs.Doings.{MakesPut, MakesSubscribe, MakesRemove, MakesR
 use Rattle.node_work.specs.Held.Sessions.{Over, will_is_due, end_is_due}
 use Rattle.node_work.specs.Passing.{turn_at_end, content_of}
 use Rattle.node_work.specs.View.{Place, HeldView}
-use Rattle.node_work.specs.Working.{Doing, Returns, Stops, Acting, Numbered, Looks, Finds, If, Where, Then, InTurn, Each}
+use Rattle.node_work.specs.Working.{Doing, Returns, Stops, Acting, Numbered, Looks, FindsWhere, If, Where, Then, InTurn, Each}
 use Rattle.node_clients.specs.Ending as ending
 use Rattle.node_clients.specs.Passing as passing
 use Rattle.node_clients.specs.Subscribing as subscribing
@@ -48,7 +48,7 @@ pub record Low (K : (A : Type 0) → (Option A → Doing) → Type 0) : Type 1 w
   pub returns : {A : Type 0} (y : A) → K A (Returns y)
   pub stops : {A : Type 0} → K A Stops
   pub looks : {A B : Type 0} (see : Place → HeldView → A) (P : A → Option B → Doing) → ((y : A) → K B (P y)) → K B (Looks see P)
-  pub finds : {A B : Type 0} (Is : Place → HeldView → A → Type 0) (P : A → Option B → Doing) → ((y : A) → K B (P y)) → K B (Finds Is P)
+  pub finds : {A B : Type 0} (Is : Place → HeldView → A → Type 0) (P : A → Option B → Doing) → ((y : A) → K B (P y)) → K B (FindsWhere Is P)
   pub by_test : {A : Type 0} (b : Bool) (P Q : Option A → Doing) → K A P → K A Q → K A (If b P Q)
   pub by_whether : {A : Type 0} (X : Type 0) (P Q : Option A → Doing) → K A P → K A Q → K A (Where X P Q)
   pub join : {A B : Type 0} (P : Option A → Doing) (Q : A → Option B → Doing) → K A P → ((y : A) → K B (Q y)) → K B (Then P Q)
@@ -133,7 +133,7 @@ module _ (K : (A : Type 0) → (Option A → Doing) → Type 0) (w : Low K) wher
   pub ends_if : (over : Bool) (client : List ℕ) → Does (If over (ending.EndsSession client) (Returns tt))
   ends_if over client = w.by_test over (ending.EndsSession client) (Returns tt) (ends_session client) (w.returns tt)
 
-  pub follows : (client : List ℕ) (r : Reaction) → Does (ending.Follows client r)
+  pub follows : (client : List ℕ) (r : Reaction) → Does (ending.FollowsReaction client r)
   follows client r = w.join (ending.PassesAsked r.ask) (λ _. If r.over (ending.EndsSession client) (Returns tt)) (passes_asked r.ask) (λ _. ends_if r.over client)
 
   -- ---- SUBSCRIBE and UNSUBSCRIBE

@@ -13,7 +13,7 @@ use Rattle.replica_store.specs.States.{State}
 use Rattle.node_work.specs.declared.counts.Missed.TheVariants.{BadFrame, FrameTooLarge}
 use Rattle.node_work.specs.Acts.{Store, Bridge, Merged}
 use Rattle.node_work.specs.Calling.{Queues}
-use Rattle.node_work.specs.Doings.{Gives, GivesFrame, Misses, is_small}
+use Rattle.node_work.specs.Doings.{GivesBody, GivesFrame, Misses, is_small}
 use Rattle.node_work.specs.Frames.{is_for, is_other}
 use Rattle.node_work.specs.Held.Bridge.{Took, Got as GotBy, Believed, Gave}
 use Rattle.node_work.specs.View.{HeldView}
@@ -36,13 +36,13 @@ module _ (K : (A : Type 0) → (Option A → Doing) → Type 0) (w : Low K) (b :
   gives_frame : (f : BridgeFrame) → Does (GivesFrame f)
   gives_frame f = w.by_test (is_small f) (Acting (λ p h. Bridge (Gave f))) (Misses FrameTooLarge) (b.gave f) (w.missed FrameTooLarge)
 
-  gives : (peer : ℕ) (body : HeldView → FrameBody) → Does (Gives peer body)
+  gives : (peer : ℕ) (body : HeldView → FrameBody) → Does (GivesBody peer body)
   gives peer body = w.looks (λ p h. record { from = p.id; to = peer; body = body h }) GivesFrame gives_frame
 
   pub greets : (peer : ℕ) → Does (bridge.Greets peer)
   greets peer =
-      w.looks (λ p h. is_other p peer) (λ other. If other (Gives peer (λ h. Hello)) (Returns tt))
-      (λ other. w.by_test other (Gives peer (λ h. Hello)) (Returns tt) (gives peer (λ h. Hello)) (w.returns tt))
+      w.looks (λ p h. is_other p peer) (λ other. If other (GivesBody peer (λ h. Hello)) (Returns tt))
+      (λ other. w.by_test other (GivesBody peer (λ h. Hello)) (Returns tt) (gives peer (λ h. Hello)) (w.returns tt))
 
   gives_state : (peer : ℕ) (s : Option State) → Does (bridge.GivesState peer s)
   gives_state peer None = w.returns tt
@@ -60,12 +60,12 @@ module _ (K : (A : Type 0) → (Option A → Doing) → Type 0) (w : Low K) (b :
       w.finds (passing.IsHandedOver m) (passing.TakesCopies from number m)
       (λ x. w.join (Acting (λ p h. Bridge (Took from number m x.0 x.1))) (λ _. Queues x.0) (b.took from number m x.0 x.1) (λ _. queues_all K w x.0))
 
-  takes_body : (from : ℕ) (body : FrameBody) → Does (bridge.Takes from body)
+  takes_body : (from : ℕ) (body : FrameBody) → Does (bridge.TakesBody from body)
   takes_body from Hello = gives from (λ h. Know h.store.taken)
   takes_body from (Delta s) = w.join (Acting (λ p h. Store (Merged s))) (λ _. bridge.TellsTaken from) (b.merged s) (λ _. gives from (λ h. Know h.store.taken))
   takes_body from (Know dots) = b.believed from dots
   takes_body from (Carried number m) =
-      w.join (bridge.TakesNext from number m) (λ _. Gives from (λ h. Got (lane_to h.bridge from).took))
+      w.join (bridge.TakesNext from number m) (λ _. GivesBody from (λ h. Got (lane_to h.bridge from).took))
       (w.looks (λ p h. is_next from number h.bridge) (λ next. If next (passing.TakesForward from number m) (Returns tt))
       (λ next. w.by_test next (passing.TakesForward from number m) (Returns tt) (takes_forward from number m) (w.returns tt))) (λ _. gives from (λ h. Got (lane_to h.bridge from).took))
   takes_body from (Got number) = b.got from number
@@ -73,8 +73,8 @@ module _ (K : (A : Type 0) → (Option A → Doing) → Type 0) (w : Low K) (b :
   hears_frame : (frame : Option BridgeFrame) → Does (bridge.HearsFrame frame)
   hears_frame None = w.missed BadFrame
   hears_frame (Some frame) =
-      w.looks (λ p h. is_for p frame) (λ here. If here (bridge.Takes frame.from frame.body) (Misses BadFrame))
-      (λ here. w.by_test here (bridge.Takes frame.from frame.body) (Misses BadFrame) (takes_body frame.from frame.body) (w.missed BadFrame))
+      w.looks (λ p h. is_for p frame) (λ here. If here (bridge.TakesBody frame.from frame.body) (Misses BadFrame))
+      (λ here. w.by_test here (bridge.TakesBody frame.from frame.body) (Misses BadFrame) (takes_body frame.from frame.body) (w.missed BadFrame))
 
   pub hears : (bytes : List ℕ) → Does (bridge.Hears bytes)
   hears bytes = hears_frame (frame_in bytes)

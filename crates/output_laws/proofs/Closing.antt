@@ -62,7 +62,7 @@ open_with h c client there = by (map.get h.connections c) refl there
 abbrev pub closed_view : HeldView → ℕ → HeldView
 closed_view h c = next h (Connection (Closed c))
 
-pub closes_right : (kind : EventKind) (pre : List Act) (c : ℕ) (x : Unit {0}) (p : Place) (h h' : HeldView) (acts : List Act) → is_open c h ≡ true → WhyClosed kind p pre h c → ending.Closes c (Some x) p h acts → Runs p h acts h'
+pub closes_right : (kind : EventKind) (pre : List Act) (c : ℕ) (x : Unit {0}) (p : Place) (h h' : HeldView) (acts : List Act) → is_open c h ≡ true → WhyClosed kind p pre h c → ending.ClosesConnection c (Some x) p h acts → Runs p h acts h'
     → Right kind pre p h acts × (h' ≡ closed_view h c)
 closes_right kind pre c x p h h' acts open_there why (inl d) runs = none_some (sym d.0)
 closes_right kind pre c x p h h' acts open_there why (inr (y, own, mid, rest, one, ran, more, is)) runs =
@@ -138,7 +138,7 @@ parts_right kind pre client x p h h' acts on (inr (r, own, mid, rest, one, ran, 
 
 -- ---- closes by whether there is a client
 pub closes_bare : (kind : EventKind) (pre : List Act) (c : ℕ) (x : Unit {0}) (p : Place) (h h' : HeldView) (acts : List Act) → SessionsAreOnTheirs h → is_open c h ≡ true → client_at c h ≡ None → WhyClosed kind p pre h c
-    → ending.Closes c (Some x) p h acts → Runs p h acts h' → Ending kind pre p c h h' acts
+    → ending.ClosesConnection c (Some x) p h acts → Runs p h acts h' → Ending kind pre p c h h' acts
 closes_bare kind pre c x p h h' acts on open_there bare why d runs =
     let one = closes_right kind pre c x p h h' acts open_there why d runs in
     record { right = one.0; ends = record { on = subst SessionsAreOnTheirs (sym one.1) (closed_bare h c on bare); others = λ q ne. ap (λ (v : HeldView). map.get v.connections q) one.1 ∙ closed_others h c q ne } }

@@ -21,7 +21,7 @@ use Rattle.output_laws.proofs.On.{Right, right_one, right_both, right_again}
 
 module _ (kind : EventKind) (c : ℕ) (bytes : List ℕ) (event : kind ≡ kinds.Piece c bytes) where
   -- from the acceptance on
-  begins : (pre : List Act) (client : List ℕ) (q : Connect) (x : Unit {0}) (p : Place) (h h' : HeldView) (acts : List Act) → SessionsAreOnTheirs h → IsBare h c → connecting.Begins c client q (Some x) p h acts → Runs p h acts h' → Ending kind pre p c h h' acts
+  begins : (pre : List Act) (client : List ℕ) (q : Connect) (x : Unit {0}) (p : Place) (h h' : HeldView) (acts : List Act) → SessionsAreOnTheirs h → IsBare h c → connecting.BeginsSession c client q (Some x) p h acts → Runs p h acts h' → Ending kind pre p c h h' acts
   begins pre client q x p h h' acts on is (inl d) runs = none_some (sym d.0)
   begins pre client q x p h h' acts on is (inr (y, own, mid, rest, one, ran, (inl d), all)) runs = none_some (sym d.0)
   begins pre client q x p h h' acts on is (inr (y, own, mid, rest, one, ran, (inr (r, own2, mid2, rest2, two, ran2, more, all2)), all)) runs =
@@ -64,7 +64,7 @@ module _ (kind : EventKind) (c : ℕ) (bytes : List ℕ) (event : kind ≡ kinds
         on = third.ends.on;
       }
 
-  refused : (pre : List Act) (q : Connect) (code : ℕ) (reference : Option (List ℕ)) (x : Unit {0}) (p : Place) (h h' : HeldView) (acts : List Act) → SessionsAreOnTheirs h → IsBare h c → connecting.Refuses c q code reference (Some x) p h acts → Runs p h acts h' → After pre p h h' acts
+  refused : (pre : List Act) (q : Connect) (code : ℕ) (reference : Option (List ℕ)) (x : Unit {0}) (p : Place) (h h' : HeldView) (acts : List Act) → SessionsAreOnTheirs h → IsBare h c → connecting.RefusesConnect c q code reference (Some x) p h acts → Runs p h acts h' → After pre p h h' acts
   refused pre q code reference x p h h' acts on is d runs = let e = refuses kind pre c bytes q code reference x p h h' acts event on is d runs in record { right = e.right; on = e.ends.on }
 
   -- ---- in the order of the refusals

@@ -10,12 +10,12 @@ use Rattle.bridge_frames.proofs.FrameLaws.{read_again}
 use Rattle.node_bridge.specs.View.{is_next, lane_to, has_lanes}
 use Rattle.node_work.specs.declared.frame.Frame.{Frame}
 use Rattle.node_work.specs.Acts.{gather}
-use Rattle.node_work.specs.Frames.{is_for}
+use Rattle.node_work.specs.Frames.{is_for, names_nodes}
 use Rattle.node_work.specs.View.{Place, HeldView, nodes_of}
 use Rattle.cluster_play.specs.Worlds.{Site, World, numbered}
 use Rattle.cluster_play.specs.Runs.{Played}
 use Rattle.cluster_play.specs.Histories.{Reached, site, acts_of}
-use Rattle.cluster_play.specs.CatchingUp.{Arrives}
+use Rattle.cluster_play.specs.CatchingUp.{FrameArrives}
 use Rattle.cluster_play.proofs.Bools.{nat_other, not_true, and_true, nat_is, some_is}
 use Rattle.cluster_play.proofs.Explaining.{Seated, past}
 use Rattle.cluster_play.proofs.Kept.{explained}
@@ -28,7 +28,7 @@ use Rattle.output_laws.specs.Forwards.{BringsForward, IsTakenThere, ForwardsAreT
 use Rattle.output_laws.proofs.Arriving.{Forwarding, Tells, forwarding, forward_tells, frames}
 
 module _ (run : List Played) (w w' : World) (m : Played) (r : Reached run w) (k : ℕ) (sent : Frame) (f : BridgeFrame) (number : ℕ) (x : Forward) (there : numbered w.frames k ≡ Some sent) (read : frame_in sent.bytes ≡ Some f)
-    (body : f.body ≡ Carried number x) (apart : f.from ≢ f.to) (a : Arrives w f m w') where
+    (body : f.body ≡ Carried number x) (apart : f.from ≢ f.to) (a : FrameArrives w f m w') where
   here : Committed w (site m.fate) a.event (acts_of m.fate) w'
   here = committed w m.step m.fate w' a.event a.happens a.commits
 
@@ -58,7 +58,7 @@ module _ (run : List Played) (w w' : World) (m : Played) (r : Reached run w) (k 
   place = here.was.node.place
 
   here_for : is_for place f ≡ true
-  here_for = λ i. eq-eqb f.to place.id (sym seated.id) i && not (nat_other f.from place.id (λ e. apart (e ∙ seated.id)) i) && lt-ltb f.from (nodes_of place) (subst (λ n. f.from < n) (sym seated.nodes) within) i
+  here_for = λ i. eq-eqb f.to place.id (sym seated.id) i && not (nat_other f.from place.id (λ e. apart (e ∙ seated.id)) i) && lt-ltb f.from (nodes_of place) (subst (λ n. f.from < n) (sym seated.nodes) within) i && names_nodes (nodes_of place) (body i)
 
   shape : f ≡ record { from = f.from; to = f.to; body = Carried number x }
   shape = λ i. record { from = f.from; to = f.to; body = body i }

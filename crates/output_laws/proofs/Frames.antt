@@ -9,7 +9,7 @@ use Rattle.node_bridge.specs.View.{lane_to}
 use Rattle.replica_store.specs.States.{State}
 use Rattle.node_work.specs.declared.counts.Missed.TheVariants.{BadFrame}
 use Rattle.node_work.specs.Acts.{Act, Runs}
-use Rattle.node_work.specs.Doings.{Gives, Misses}
+use Rattle.node_work.specs.Doings.{GivesBody, Misses}
 use Rattle.node_work.specs.Frames.{is_for, is_other}
 use Rattle.node_work.specs.View.{Place, HeldView}
 use Rattle.node_work.specs.Working.{Returns, If}
@@ -19,10 +19,10 @@ use Rattle.broker_node.specs.declared.event.Event.{Event}
 use Rattle.broker_node.specs.declared.event.EventKind.{EventKind}
 use Rattle.broker_node.specs.declared.event.EventKind.TheVariants as kinds
 use Rattle.broker_node.specs.Bridge as bridge
-use Rattle.broker_node.specs.Turns.{Answers, Decides}
+use Rattle.broker_node.specs.Turns.{AnswersEvent, Decides}
 use Rattle.passing_laws.proofs.Keeping.{none_some}
 use Rattle.passing_laws.proofs.Splits.{runs_split}
-use Rattle.output_laws.specs.Frames.{given_in, frames_given, frame_to, those_small, deltas_to, AreShipped, answer_to, answers_to, AreOfEvent, GivesFrames, FramesAreOfEvents}
+use Rattle.output_laws.specs.Frames.{given_in, frames_given, frame_to, those_small, deltas_to, ShippedFrames, answer_to, answers_to, AreOfEvent, GivesFrames, FramesAreOfEvents}
 use Rattle.output_laws.proofs.Giving.{gives_one, small_both, each_given}
 use Rattle.output_laws.proofs.Silent.{answering_of, silent_before, silent_of, none_given}
 use Rattle.output_laws.proofs.Taking.{takes_next, gives_none}
@@ -32,7 +32,7 @@ shipped_then : (s : Option State) (peer : ℕ) (x : Unit {0}) (p : Place) (h h' 
 shipped_then None peer x p h h' acts d runs = (ap frames_given d.1, ap (λ (v : HeldView). v.bridge) (subst (λ xs. Runs p h xs h') d.1 runs))
 shipped_then (Some s) peer x p h h' acts d runs = let g = gives_one (frame_to p peer (Delta s)) x p h h' acts d runs in (g.frames, g.bridge)
 
-ships_to : (peer : ℕ) (x : Unit {0}) (p : Place) (h : HeldView) (acts : List Act) → bridge.ShipsTo peer (Some x) p h acts → AreShipped p h peer (frames_given acts)
+ships_to : (peer : ℕ) (x : Unit {0}) (p : Place) (h : HeldView) (acts : List Act) → bridge.ShipsTo peer (Some x) p h acts → ShippedFrames p h peer (frames_given acts)
 ships_to peer x p h acts (inl d) = none_some (sym d.0)
 ships_to peer x p h acts (inr (y, own, mid, rest, (s, ships, one), runs, more, is)) =
     let first = shipped_then s peer y p h mid own one runs in
@@ -40,11 +40,11 @@ ships_to peer x p h acts (inr (y, own, mid, rest, (s, ships, one), runs, more, i
     each_given (first_frames p.id peer (lane_to mid.bridge peer)) x p mid rest more ∙ ap (λ b. those_small (first_frames p.id peer (lane_to b peer))) first.1 in
     (s, ships, ap frames_given is ∙ gather-append given_in own rest ∙ (λ i. first.0 i ++ others i) ∙ sym (small_both (deltas_to p peer s) (first_frames p.id peer (lane_to h.bridge peer))))
 
-ships_by : (other : Bool) (peer : ℕ) (p : Place) (h : HeldView) (acts : List Act) → If other (bridge.ShipsTo peer) (Returns tt) (Some tt) p h acts → cond other (AreShipped p h peer (frames_given acts)) (frames_given acts ≡ [])
+ships_by : (other : Bool) (peer : ℕ) (p : Place) (h : HeldView) (acts : List Act) → If other (bridge.ShipsTo peer) (Returns tt) (Some tt) p h acts → cond other (ShippedFrames p h peer (frames_given acts)) (frames_given acts ≡ [])
 ships_by true peer p h acts d = ships_to peer tt p h acts d
 ships_by false peer p h acts d = ap frames_given d.1
 
-greets_by : (other : Bool) (peer : ℕ) (p : Place) (h last : HeldView) (acts : List Act) → If other (Gives peer (λ h. Hello)) (Returns tt) (Some tt) p h acts → Runs p h acts last → frames_given acts ≡ cond other (those_small (frame_to p peer Hello ∷ [])) []
+greets_by : (other : Bool) (peer : ℕ) (p : Place) (h last : HeldView) (acts : List Act) → If other (GivesBody peer (λ h. Hello)) (Returns tt) (Some tt) p h acts → Runs p h acts last → frames_given acts ≡ cond other (those_small (frame_to p peer Hello ∷ [])) []
 greets_by true peer p h last acts d runs = (gives_one (frame_to p peer Hello) tt p h last acts d runs).frames
 greets_by false peer p h last acts d runs = ap frames_given d.1
 
@@ -54,7 +54,7 @@ tells from x p h last acts d runs =
     let g = gives_one (frame_to p from (Know h.store.taken)) x p h last acts d runs in
     g.frames ∙ ap (λ (s : State). those_small (frame_to p from (Know s.taken) ∷ [])) (sym g.store)
 
-answers_by : (from : ℕ) (body : FrameBody) (p : Place) (h last : HeldView) (acts : List Act) → bridge.Takes from body (Some tt) p h acts → Runs p h acts last → frames_given acts ≡ those_small (map_list (frame_to p from) (answer_to last from body))
+answers_by : (from : ℕ) (body : FrameBody) (p : Place) (h last : HeldView) (acts : List Act) → bridge.TakesBody from body (Some tt) p h acts → Runs p h acts last → frames_given acts ≡ those_small (map_list (frame_to p from) (answer_to last from body))
 answers_by from Hello p h last acts d runs = tells from tt p h last acts d runs
 answers_by from (Delta s) p h last acts (inl d) runs = none_some (sym d.0)
 answers_by from (Delta s) p h last acts (inr (x, own, mid, rest, one, ran, more, is)) runs =
@@ -67,7 +67,7 @@ answers_by from (Carried number m) p h last acts d runs =
     ap frames_given t.is ∙ gather-append given_in t.taken t.rest ∙ (λ i. gives_none from number m p h last acts t i ++ t.got.frames i) ∙ ap (λ n. those_small (frame_to p from (Got n) ∷ [])) (sym t.took)
 answers_by from (Got number) p h last acts d runs = ap frames_given d.1
 
-hears_by : (here : Bool) (f : BridgeFrame) (p : Place) (h last : HeldView) (acts : List Act) → If here (bridge.Takes f.from f.body) (Misses BadFrame) (Some tt) p h acts → Runs p h acts last
+hears_by : (here : Bool) (f : BridgeFrame) (p : Place) (h last : HeldView) (acts : List Act) → If here (bridge.TakesBody f.from f.body) (Misses BadFrame) (Some tt) p h acts → Runs p h acts last
     → frames_given acts ≡ cond here (those_small (map_list (frame_to p f.from) (answer_to last f.from f.body))) []
 hears_by true f p h last acts d runs = answers_by f.from f.body p h last acts d runs
 hears_by false f p h last acts d runs = ap frames_given d.1
@@ -77,7 +77,7 @@ hears None p h last acts d runs = ap frames_given d.1
 hears (Some f) p h last acts d runs = hears_by (is_for p f) f p h last acts d runs
 
 -- ---- of an event
-of_event : (kind : EventKind) (p : Place) (h last : HeldView) (acts : List Act) → Answers kind (Some tt) p h acts → Runs p h acts last → AreOfEvent p h last kind (frames_given acts)
+of_event : (kind : EventKind) (p : Place) (h last : HeldView) (acts : List Act) → AnswersEvent kind (Some tt) p h acts → Runs p h acts last → AreOfEvent p h last kind (frames_given acts)
 of_event (kinds.Frame bytes) p h last acts d runs = hears (frame_in bytes) p h last acts d runs
 of_event (kinds.Linked peer) p h last acts d runs = greets_by (is_other p peer) peer p h last acts d runs
 of_event (kinds.Ship peer) p h last acts d runs = ships_by (is_other p peer) peer p h acts d

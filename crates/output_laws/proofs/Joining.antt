@@ -8,7 +8,7 @@ use Rattle.node_work.specs.Acts.{Act, Session, Runs}
 use Rattle.node_work.specs.Calling.{Calls, CallsAt}
 use Rattle.node_work.specs.Held.Sessions.{SessionStep, Called, seat_at}
 use Rattle.node_work.specs.View.{Place, HeldView}
-use Rattle.node_work.specs.Working.{Doing, Returns, Stops, Acting, Numbered, Looks, Finds, If, Where, Then}
+use Rattle.node_work.specs.Working.{Doing, Returns, Stops, Acting, Numbered, Looks, FindsWhere, If, Where, Then}
 use Rattle.passing_laws.proofs.Keeping.{Property, Keeps, calling_by, none_some}
 
 pub record Closed (T : Property) : Type 0 where
@@ -35,7 +35,7 @@ module _ (T : Property) (c : Closed T) where
   pub j_looks : {A B : Type 0} (see : Place → HeldView → A) (P : A → Option B → Doing) → ((y : A) → Keeps T (P y)) → Keeps T (Looks see P)
   j_looks see P f = record { of = λ x p h acts d. (f (see p h)).of x p h acts d }
 
-  pub j_finds : {A B : Type 0} (Is : Place → HeldView → A → Type 0) (P : A → Option B → Doing) → ((y : A) → Keeps T (P y)) → Keeps T (Finds Is P)
+  pub j_finds : {A B : Type 0} (Is : Place → HeldView → A → Type 0) (P : A → Option B → Doing) → ((y : A) → Keeps T (P y)) → Keeps T (FindsWhere Is P)
   j_finds Is P f = record { of = λ x p h acts d. (f d.0).of x p h acts d.2 }
 
   pub j_if : {A : Type 0} (b : Bool) (P Q : Option A → Doing) → Keeps T P → Keeps T Q → Keeps T (If b P Q)

@@ -125,7 +125,7 @@ module _ (kind : EventKind) (may : MaySendAway kind) where
       all_of P (z ∷ xs) out (inr s) = all_of P xs out s.1
 
 -- ---- another table
-table_by : (newer : Bool) (homes : Table) (pre : List Act) (x : Unit {0}) (p : Place) (h h' : HeldView) (acts : List Act) → SessionsAreOnTheirs h → If newer (tables.Moves homes) (Misses TableRefused) (Some x) p h acts → Runs p h acts h' → Done (kinds.Table homes) pre p h h' acts
+table_by : (newer : Bool) (homes : Table) (pre : List Act) (x : Unit {0}) (p : Place) (h h' : HeldView) (acts : List Act) → SessionsAreOnTheirs h → If newer (tables.TakesNewerTable homes) (Misses TableRefused) (Some x) p h acts → Runs p h acts h' → Done (kinds.Table homes) pre p h h' acts
 table_by true homes pre x p h h' acts on (inl d) runs = none_some (sym d.0)
 table_by true homes pre x p h h' acts on (inr (y, own, mid, rest, one, ran, more, is)) runs =
     let first = calm_done (kinds.Table homes) pre p h mid own (subst (AllByRecursion IsCalm) (sym one.1) (tt, tt)) on ran in

@@ -11,7 +11,7 @@ use Rattle.mqtt_sessions.specs.State.{Link, State}
 use Rattle.session_laws.specs.Runs.{closes, ticks}
 use Rattle.session_table.specs.Calls.{leaves, stays}
 use Rattle.session_table.specs.Seats.{Seat, connected, ends_due, run_outs, wills_due}
-use Rattle.node_work.specs.Acts.{Act, Moment, Store, Connection, Bridge, Merged, Runs, next}
+use Rattle.node_work.specs.Acts.{Act, MomentTaken, Store, Connection, Bridge, Merged, Runs, next}
 use Rattle.node_work.specs.Calling.{Calls, CallsAt}
 use Rattle.node_work.specs.Held.Bridge.{Took, Got as GotBy, Believed, Gave}
 use Rattle.node_work.specs.Held.Connections.{Table, Opened, Closed, client_at, is_open, new_connection}
@@ -193,7 +193,7 @@ by_calm : (P : Option (Unit {0}) → Doing) → Calms P → (kind : EventKind) (
 by_calm P calm kind pre x p h h' acts on d runs = calm_done kind pre p h h' acts (calm.of x p h acts d) on runs
 
 -- ---- events
-answers_right : (kind : EventKind) (pre : List Act) (x : Unit {0}) (p : Place) (h h' : HeldView) (acts : List Act) → SessionsAreOnTheirs h → turns.Answers kind (Some x) p h acts → Runs p h acts h' → Done kind pre p h h' acts
+answers_right : (kind : EventKind) (pre : List Act) (x : Unit {0}) (p : Place) (h h' : HeldView) (acts : List Act) → SessionsAreOnTheirs h → turns.AnswersEvent kind (Some x) p h acts → Runs p h acts h' → Done kind pre p h h' acts
 answers_right kinds.Started pre x p h h' acts on d runs = nothing_done kinds.Started pre p h h' acts d.1 on runs
 answers_right (kinds.Opened c) pre x p h h' acts on d runs = opens_if (is_open c h) (kinds.Opened c) pre c x p h h' acts on refl d runs
 answers_right (kinds.Piece c bytes) pre x p h h' acts on d runs = piece_right (kinds.Piece c bytes) c bytes refl pre bytes x p h h' acts on d runs
@@ -205,13 +205,13 @@ answers_right kinds.Tick pre x p h h' acts on d runs = nothing_done kinds.Tick p
 answers_right (kinds.Evict client) pre x p h h' acts on d runs = by_calm _ (evicts (K IsCalm calm_kind) (low IsCalm calm_kind) client) (kinds.Evict client) pre x p h h' acts on d runs
 answers_right (kinds.Table homes) pre x p h h' acts on d runs = takes_table homes pre x p h h' acts on d runs
 
-after_due : (kind : EventKind) (pre : List Act) (x : Unit {0}) (p : Place) (h h' : HeldView) (acts : List Act) → SessionsAreOnTheirs h → Then due.DoesDue (λ _. turns.Answers kind) (Some x) p h acts → Runs p h acts h' → Done kind pre p h h' acts
+after_due : (kind : EventKind) (pre : List Act) (x : Unit {0}) (p : Place) (h h' : HeldView) (acts : List Act) → SessionsAreOnTheirs h → Then due.DoesDue (λ _. turns.AnswersEvent kind) (Some x) p h acts → Runs p h acts h' → Done kind pre p h h' acts
 after_due kind pre x p h h' acts on (inl d) runs = none_some (sym d.0)
 after_due kind pre x p h h' acts on (inr (y, own, mid, rest, one, ran, more, is)) runs =
     let first = due_right kind pre y p h mid own on one ran in
     done_then kind pre p h mid h' own rest acts is ran first.0 (answers_right kind (pre ++ own) x p mid h' rest first.1 more (second_runs p h mid h' own rest acts is ran runs))
 
-goes_right : (kind : EventKind) (pre : List Act) (x : Unit {0}) (p : Place) (h h' : HeldView) (acts : List Act) → SessionsAreOnTheirs h → turns.GoesOn kind (Some x) p h acts → Runs p h acts h' → Done kind pre p h h' acts
+goes_right : (kind : EventKind) (pre : List Act) (x : Unit {0}) (p : Place) (h h' : HeldView) (acts : List Act) → SessionsAreOnTheirs h → turns.AnswersAfterDue kind (Some x) p h acts → Runs p h acts h' → Done kind pre p h h' acts
 goes_right kinds.Started pre x p h h' acts on d runs = nothing_done kinds.Started pre p h h' acts d.1 on runs
 goes_right (kinds.Opened c) pre x p h h' acts on d runs = after_due (kinds.Opened c) pre x p h h' acts on d runs
 goes_right (kinds.Piece c bytes) pre x p h h' acts on d runs = after_due (kinds.Piece c bytes) pre x p h h' acts on d runs
@@ -223,7 +223,7 @@ goes_right kinds.Tick pre x p h h' acts on d runs = after_due kinds.Tick pre x p
 goes_right (kinds.Evict client) pre x p h h' acts on d runs = after_due (kinds.Evict client) pre x p h h' acts on d runs
 goes_right (kinds.Table homes) pre x p h h' acts on d runs = after_due (kinds.Table homes) pre x p h h' acts on d runs
 
-first_right : (kind : EventKind) (pre : List Act) (x : Unit {0}) (p : Place) (h h' : HeldView) (acts : List Act) → SessionsAreOnTheirs h → turns.First kind (Some x) p h acts → Runs p h acts h' → Done kind pre p h h' acts
+first_right : (kind : EventKind) (pre : List Act) (x : Unit {0}) (p : Place) (h h' : HeldView) (acts : List Act) → SessionsAreOnTheirs h → turns.AwaitsStart kind (Some x) p h acts → Runs p h acts h' → Done kind pre p h h' acts
 first_right kinds.Started pre x p h h' acts on d runs = starts_right kinds.Started tt pre x p h h' acts on d runs
 first_right (kinds.Opened c) pre x p h h' acts on d runs = nothing_done (kinds.Opened c) pre p h h' acts d.1 on runs
 first_right (kinds.Piece c bytes) pre x p h h' acts on d runs = nothing_done (kinds.Piece c bytes) pre p h h' acts d.1 on runs
@@ -235,14 +235,14 @@ first_right kinds.Tick pre x p h h' acts on d runs = nothing_done kinds.Tick pre
 first_right (kinds.Evict client) pre x p h h' acts on d runs = nothing_done (kinds.Evict client) pre p h h' acts d.1 on runs
 first_right (kinds.Table homes) pre x p h h' acts on d runs = nothing_done (kinds.Table homes) pre p h h' acts d.1 on runs
 
-turn_right : (b : Bool) (kind : EventKind) (pre : List Act) (x : Unit {0}) (p : Place) (h h' : HeldView) (acts : List Act) → SessionsAreOnTheirs h → If b (turns.GoesOn kind) (turns.First kind) (Some x) p h acts → Runs p h acts h' → Done kind pre p h h' acts
+turn_right : (b : Bool) (kind : EventKind) (pre : List Act) (x : Unit {0}) (p : Place) (h h' : HeldView) (acts : List Act) → SessionsAreOnTheirs h → If b (turns.AnswersAfterDue kind) (turns.AwaitsStart kind) (Some x) p h acts → Runs p h acts h' → Done kind pre p h h' acts
 turn_right true kind pre x p h h' acts on d runs = goes_right kind pre x p h h' acts on d runs
 turn_right false kind pre x p h h' acts on d runs = first_right kind pre x p h h' acts on d runs
 
 pub step_right : (e : Event) (p : Place) (h h' : HeldView) (acts : List Act) → SessionsAreOnTheirs h → turns.Decides e (Some tt) p h acts → Runs p h acts h' → Right e.kind [] p h acts × SessionsAreOnTheirs h'
 step_right e p h h' acts on d runs =
     let t = turning e p h acts d in
-    let a = Moment e.at in
+    let a = MomentTaken e.at in
     let first = calm_done e.kind [] p h t.mid (a ∷ []) (tt, tt) on t.runs in
     done_then e.kind [] p h t.mid h' (a ∷ []) t.rest acts t.is t.runs first.0
     (turn_right t.mid.started e.kind (a ∷ []) tt p t.mid h' t.rest first.1 t.does (second_runs p h t.mid h' (a ∷ []) t.rest acts t.is t.runs runs))

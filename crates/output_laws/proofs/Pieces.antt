@@ -36,20 +36,20 @@ module _ (kind : EventKind) (c : ℕ) (bytes : List ℕ) (event : kind ≡ kinds
   done_then pre p h mid h' xs ys acts is runs a b = (right_again kind pre p h (xs ++ ys) acts is (right_both kind pre p h mid xs ys runs a b.0), b.1)
 
   -- a connection without a client is closed
-  bare_closed : (pre : List Act) (x : Unit {0}) (p : Place) (h h' : HeldView) (acts : List Act) → SessionsAreOnTheirs h → IsBare h c → ending.Closes c (Some x) p h acts → Runs p h acts h' → Done pre p h h' acts
+  bare_closed : (pre : List Act) (x : Unit {0}) (p : Place) (h h' : HeldView) (acts : List Act) → SessionsAreOnTheirs h → IsBare h c → ending.ClosesConnection c (Some x) p h acts → Runs p h acts h' → Done pre p h h' acts
   bare_closed pre x p h h' acts on is d runs =
       let e = closes_bare kind pre c x p h h' acts on is.open_there is.bare (inr (inr (inr (inl (record { bytes = bytes; event = event; bare = is.bare }))))) d runs in (e.right, e.ends.on)
 
   -- ---- packets
-  first_done : (k : Packet) (pre : List Act) (x : Unit {0}) (p : Place) (h h' : HeldView) (acts : List Act) → SessionsAreOnTheirs h → IsBare h c → pieces.First c k (Some x) p h acts → Runs p h acts h' → Done pre p h h' acts
+  first_done : (k : Packet) (pre : List Act) (x : Unit {0}) (p : Place) (h h' : HeldView) (acts : List Act) → SessionsAreOnTheirs h → IsBare h c → pieces.AnswersFirstPacket c k (Some x) p h acts → Runs p h acts h' → Done pre p h h' acts
   first_done (packets.Connect q) pre x p h h' acts on is d runs = let a = connects_right kind c bytes event pre q x p h h' acts on is d runs in (a.right, a.on)
   first_done k pre x p h h' acts on is d runs = bare_closed pre x p h h' acts on is d runs
 
-  answered_by : (client : Option (List ℕ)) (k : Packet) (pre : List Act) (x : Unit {0}) (p : Place) (h h' : HeldView) (acts : List Act) → SessionsAreOnTheirs h → is_open c h ≡ true → client_at c h ≡ client → pieces.AnswersBy c k client (Some x) p h acts → Runs p h acts h' → Done pre p h h' acts
+  answered_by : (client : Option (List ℕ)) (k : Packet) (pre : List Act) (x : Unit {0}) (p : Place) (h h' : HeldView) (acts : List Act) → SessionsAreOnTheirs h → is_open c h ≡ true → client_at c h ≡ client → pieces.AnswersPacketBy c k client (Some x) p h acts → Runs p h acts h' → Done pre p h h' acts
   answered_by None k pre x p h h' acts on there is d runs = first_done k pre x p h h' acts on (record { open_there = there; bare = is }) d runs
   answered_by (Some client) k pre x p h h' acts on there is d runs = let e = serves kind pre c client k x p h h' acts on is d runs in (e.right, e.ends.on)
 
-  if_open : (b : Bool) (k : Packet) (pre : List Act) (x : Unit {0}) (p : Place) (h h' : HeldView) (acts : List Act) → SessionsAreOnTheirs h → is_open c h ≡ b → If b (pieces.Answers c k) (Returns tt) (Some x) p h acts → Runs p h acts h' → Done pre p h h' acts
+  if_open : (b : Bool) (k : Packet) (pre : List Act) (x : Unit {0}) (p : Place) (h h' : HeldView) (acts : List Act) → SessionsAreOnTheirs h → is_open c h ≡ b → If b (pieces.AnswersPacket c k) (Returns tt) (Some x) p h acts → Runs p h acts h' → Done pre p h h' acts
   if_open true k pre x p h h' acts on there d runs = answered_by (client_at c h) k pre x p h h' acts on there refl d runs
   if_open false k pre x p h h' acts on there d runs = nothing_done pre p h h' acts d.1 on runs
 

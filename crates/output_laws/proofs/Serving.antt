@@ -55,7 +55,7 @@ offers_after kind pre None c client packet given x p h h' acts on has why d runs
 offers_after kind pre (Some code) c client packet given x p h h' acts on has why d runs = closes_for kind pre c client x p h h' acts on has (why code refl) d runs
 
 acknowledges : (kind : EventKind) (pre : List Act) (c : ℕ) (client : List ℕ) (packet : ℕ) (given : List Granted) (x : Unit {0}) (p : Place) (h h' : HeldView) (acts : List Act) → SessionsAreOnTheirs h → client_at c h ≡ Some client
-    → subscribing.Acknowledges c client packet given (Some x) p h acts → Runs p h acts h' → Ending kind pre p c h h' acts
+    → subscribing.SendsSuback c client packet given (Some x) p h acts → Runs p h acts h' → Ending kind pre p c h h' acts
 acknowledges kind pre c client packet given x p h h' acts on has (inl d) runs = none_some (sym d.0)
 acknowledges kind pre c client packet given x p h h' acts on has (inr (r, own, mid, rest, one, ran, more, is)) runs =
     let event : ℕ → Event = λ at. answers packet (subscribing.reasons_of given) in
@@ -66,7 +66,7 @@ acknowledges kind pre c client packet given x p h h' acts on has (inr (r, own, m
     (offers_after kind (pre ++ own) r.end c client packet given x p mid h' rest first.kept.on there (λ code ends. why_here kind p pre own mid c client r code there react ends) more (second_runs p h mid h' own rest acts is ran runs))
 
 unacknowledges : (kind : EventKind) (pre : List Act) (c : ℕ) (client : List ℕ) (packet : ℕ) (codes : List ℕ) (x : Unit {0}) (p : Place) (h h' : HeldView) (acts : List Act) → SessionsAreOnTheirs h → client_at c h ≡ Some client
-    → unsubscribing.Acknowledges c client packet codes (Some x) p h acts → Runs p h acts h' → Ending kind pre p c h h' acts
+    → unsubscribing.SendsUnsuback c client packet codes (Some x) p h acts → Runs p h acts h' → Ending kind pre p c h h' acts
 unacknowledges kind pre c client packet codes x p h h' acts on has (inl d) runs = none_some (sym d.0)
 unacknowledges kind pre c client packet codes x p h h' acts on has (inr (r, own, mid, rest, one, ran, more, is)) runs =
     let event : ℕ → Event = λ at. answers packet codes in
@@ -77,7 +77,7 @@ unacknowledges kind pre c client packet codes x p h h' acts on has (inr (r, own,
     (closes_after kind (pre ++ own) r.end c client x p mid h' rest first.kept.on there (λ code ends. why_here kind p pre own mid c client r code there react ends) more (second_runs p h mid h' own rest acts is ran runs))
 
 subscribes : (kind : EventKind) (pre : List Act) (c : ℕ) (client : List ℕ) (q : Subscribe) (x : Unit {0}) (p : Place) (h h' : HeldView) (acts : List Act) → SessionsAreOnTheirs h → client_at c h ≡ Some client
-    → subscribing.Subscribes c client q (Some x) p h acts → Runs p h acts h' → Ending kind pre p c h h' acts
+    → subscribing.ServesSubscribe c client q (Some x) p h acts → Runs p h acts h' → Ending kind pre p c h h' acts
 subscribes kind pre c client q x p h h' acts on has (inl d) runs = none_some (sym d.0)
 subscribes kind pre c client q x p h h' acts on has (inr (given, own, mid, rest, one, ran, more, is)) runs =
     let calm : AllByRecursion IsCalm own =
@@ -87,7 +87,7 @@ subscribes kind pre c client q x p h h' acts on has (inr (given, own, mid, rest,
     (acknowledges kind (pre ++ own) c client q.identifier given x p mid h' rest first.kept.on (kept_client h mid c client first.kept has) more (second_runs p h mid h' own rest acts is ran runs))
 
 unsubscribes : (kind : EventKind) (pre : List Act) (c : ℕ) (client : List ℕ) (u : Unsubscribe) (x : Unit {0}) (p : Place) (h h' : HeldView) (acts : List Act) → SessionsAreOnTheirs h → client_at c h ≡ Some client
-    → unsubscribing.Unsubscribes c client u (Some x) p h acts → Runs p h acts h' → Ending kind pre p c h h' acts
+    → unsubscribing.ServesUnsubscribe c client u (Some x) p h acts → Runs p h acts h' → Ending kind pre p c h h' acts
 unsubscribes kind pre c client u x p h h' acts on has (inl d) runs = none_some (sym d.0)
 unsubscribes kind pre c client u x p h h' acts on has (inr (codes, own, mid, rest, one, ran, more, is)) runs =
     let calm : AllByRecursion IsCalm own =
@@ -173,7 +173,7 @@ reaction_right kind pre own c client k room r x p h h' acts on has react open_st
           (calm_ends kind ((pre ++ own) ++ first) p c mid h' rest (calmly kind ((pre ++ own) ++ first) p rest mid h' (subst (AllByRecursion IsCalm) (sym nothing_more) tt) s.2.ends.on ran_more)))
     ]
 
-pub serves : (kind : EventKind) (pre : List Act) (c : ℕ) (client : List ℕ) (k : Packet) (x : Unit {0}) (p : Place) (h h' : HeldView) (acts : List Act) → SessionsAreOnTheirs h → client_at c h ≡ Some client → serving.Serves c client k (Some x) p h acts → Runs p h acts h'
+pub serves : (kind : EventKind) (pre : List Act) (c : ℕ) (client : List ℕ) (k : Packet) (x : Unit {0}) (p : Place) (h h' : HeldView) (acts : List Act) → SessionsAreOnTheirs h → client_at c h ≡ Some client → serving.ServesPacket c client k (Some x) p h acts → Runs p h acts h'
     → Ending kind pre p c h h' acts
 serves kind pre c client k x p h h' acts on has (inl d) runs = none_some (sym d.0)
 serves kind pre c client k x p h h' acts on has (inr (r, own, mid, rest, one, ran, more, is)) runs =

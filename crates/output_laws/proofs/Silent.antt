@@ -18,7 +18,7 @@ use Rattle.session_table.specs.Calls.{stays, leaves, moves}
 use Rattle.session_table.specs.Seats.{run_outs}
 use Rattle.due_times.specs.Dues.{Due}
 use Rattle.node_work.specs.declared.outcome.Output.TheVariants.{Send, Close}
-use Rattle.node_work.specs.Acts.{Act, Moment, Began, Moved, Store, Connection, Session, Bridge, Out, Named, Merged, Allowed, Runs, gather, heard_in, next}
+use Rattle.node_work.specs.Acts.{Act, MomentTaken, Began, Moved, Store, Connection, Session, Bridge, Out, Named, Merged, Allowed, Runs, gather, heard_in, next}
 use Rattle.message_copies.specs.declared.plain.PlainCopy.{PlainCopy as Copy}
 use Rattle.node_work.specs.Calling.{Calls, Queues}
 use Rattle.node_work.specs.Held.Bridge.{BridgeAct, Put, Took, Got, Believed, Gave, Left_out}
@@ -91,8 +91,8 @@ close n = does (λ p h. Out (Close n)) (λ p h. tt)
 
 runs_out : (d : Due) → K (Unit {0}) (due.RunsOut d)
 runs_out d =
-    w.join (Calls d.1 ticks stays) (λ _. Then (ending.Closes d.0) (λ _. Then (Calls d.1 closes leaves) (λ _. Returns tt))) (calls d.1 ticks stays) (λ _.
-    w.join (ending.Closes d.0) (λ _. Then (Calls d.1 closes leaves) (λ _. Returns tt))
+    w.join (Calls d.1 ticks stays) (λ _. Then (ending.ClosesConnection d.0) (λ _. Then (Calls d.1 closes leaves) (λ _. Returns tt))) (calls d.1 ticks stays) (λ _.
+    w.join (ending.ClosesConnection d.0) (λ _. Then (Calls d.1 closes leaves) (λ _. Returns tt))
     (w.join (Acting (λ p h. Connection (Closed_at d.0))) (λ _. Acting (λ p h. Out (Close d.0))) (closed_at d.0) (λ _. close d.0)) (λ _.
     w.join (Calls d.1 closes leaves) (λ _. Returns tt) (calls d.1 closes leaves) (λ _. w.returns tt)))
 
@@ -113,7 +113,7 @@ high = record {
   run_out = w.looks (λ p h. run_outs h.sessions h.at) (Each due.RunsOut) (λ ds. each K w due.RunsOut ds runs_out);
 }
 
-serves : (n : ℕ) (client : List ℕ) (k : Packet) → K (Unit {0}) (serving.Serves n client k)
+serves : (n : ℕ) (client : List ℕ) (k : Packet) → K (Unit {0}) (serving.ServesPacket n client k)
 serves n client k =
     w.looks (λ p h. serving.room_for client k h) (serving.ServesIn n client k)
     (λ room. w.join (Calls client (λ at. takes k at room) stays) (serving.DoesReaction n client k room) (calls client (λ at. takes k at room) stays) (does_reaction K w high n client k room))
@@ -131,7 +131,7 @@ IsPlain (kinds.Linked peer) = ⊥
 IsPlain (kinds.Ship peer) = ⊥
 IsPlain kind = Unit {0}
 
-answers_silent : (kind : EventKind) → IsPlain kind → K (Unit {0}) (turns.Answers kind)
+answers_silent : (kind : EventKind) → IsPlain kind → K (Unit {0}) (turns.AnswersEvent kind)
 answers_silent kinds.Started plain = w.returns tt
 answers_silent (kinds.Opened n) plain = opens K w high n (does (λ p h. Connection (Opened n)) (λ p h. tt))
 answers_silent (kinds.Piece n bytes) plain =
@@ -144,7 +144,7 @@ answers_silent kinds.Tick plain = w.returns tt
 answers_silent (kinds.Evict client) plain = evicts K w client
 answers_silent (kinds.Table homes) plain = takes_table K w high homes
 
-first_silent : (kind : EventKind) → K (Unit {0}) (turns.First kind)
+first_silent : (kind : EventKind) → K (Unit {0}) (turns.AwaitsStart kind)
 first_silent kinds.Started = starts K w high
 first_silent (kinds.Opened n) = w.returns tt
 first_silent (kinds.Piece n bytes) = w.returns tt
@@ -191,14 +191,14 @@ pub record Answering (p : Place) (h : HeldView) (kind : EventKind) (acts : List 
   pub is : acts ≡ first ++ rest
   pub runs : Runs p h first mid
   pub silent : AllSilent first
-  pub does : turns.Answers kind (Some tt) p mid rest
+  pub does : turns.AnswersEvent kind (Some tt) p mid rest
 
-answering : (kind : EventKind) (x : Unit {0}) (p : Place) (h : HeldView) (acts : List Act) → Then due.DoesDue (λ _. turns.Answers kind) (Some x) p h acts → Answering p h kind acts
+answering : (kind : EventKind) (x : Unit {0}) (p : Place) (h : HeldView) (acts : List Act) → Then due.DoesDue (λ _. turns.AnswersEvent kind) (Some x) p h acts → Answering p h kind acts
 answering kind x p h acts (inl d) = none_some (sym d.0)
 answering kind x p h acts (inr (y, own, mid, rest, one, runs, more, is)) = record { first = own; rest = rest; mid = mid; is = is; runs = runs; silent = due_silent.of y p h own one; does = more }
 
 -- a second Started, to which a node does nothing
-goes : (kind : EventKind) (x : Unit {0}) (p : Place) (h : HeldView) (acts : List Act) → turns.GoesOn kind (Some x) p h acts → Answering p h kind acts
+goes : (kind : EventKind) (x : Unit {0}) (p : Place) (h : HeldView) (acts : List Act) → turns.AnswersAfterDue kind (Some x) p h acts → Answering p h kind acts
 goes kinds.Started x p h acts d = record { first = []; rest = acts; mid = h; is = refl; runs = refl; silent = tt; does = d }
 goes (kinds.Opened n) x p h acts d = answering (kinds.Opened n) x p h acts d
 goes (kinds.Piece n bytes) x p h acts d = answering (kinds.Piece n bytes) x p h acts d
@@ -214,8 +214,8 @@ goes (kinds.Table homes) x p h acts d = answering (kinds.Table homes) x p h acts
 pub record Turning (p : Place) (h : HeldView) (e : NodeEvent) (acts : List Act) : Type 0 where
   pub rest : List Act
   pub mid : HeldView
-  pub is : acts ≡ Moment e.at ∷ rest
-  pub runs : Runs p h (Moment e.at ∷ []) mid
+  pub is : acts ≡ MomentTaken e.at ∷ rest
+  pub runs : Runs p h (MomentTaken e.at ∷ []) mid
   pub does : turns.Turn e.kind (Some tt) p mid rest
 
 moment_is : (b : Bool) (x : Unit {0}) (a : Act) (acts : List Act) → cond b ((Some x ≡ None) × (acts ≡ [])) ((Some x ≡ Some tt) × (acts ≡ a ∷ [])) → acts ≡ a ∷ []
@@ -225,11 +225,11 @@ moment_is false x a acts d = d.1
 pub turning : (e : NodeEvent) (p : Place) (h : HeldView) (acts : List Act) → turns.Decides e (Some tt) p h acts → Turning p h e acts
 turning e p h acts (inl d) = none_some (sym d.0)
 turning e p h acts (inr (x, own, mid, rest, one, runs, more, is)) =
-    let alone : own ≡ Moment e.at ∷ [] = moment_is (not (nat_lt e.at (2 ^ 62))) x (Moment e.at) own one in
+    let alone : own ≡ MomentTaken e.at ∷ [] = moment_is (not (nat_lt e.at (2 ^ 62))) x (MomentTaken e.at) own one in
     record { rest = rest; mid = mid; is = is ∙ ap (λ xs. xs ++ rest) alone; runs = subst (λ xs. Runs p h xs mid) alone runs; does = more }
 
 -- of a node that has started
-turn_by : (b : Bool) (kind : EventKind) (p : Place) (h : HeldView) (acts : List Act) → b ≡ true → cond b (turns.GoesOn kind (Some tt) p h acts) (turns.First kind (Some tt) p h acts) → Answering p h kind acts
+turn_by : (b : Bool) (kind : EventKind) (p : Place) (h : HeldView) (acts : List Act) → b ≡ true → cond b (turns.AnswersAfterDue kind (Some tt) p h acts) (turns.AwaitsStart kind (Some tt) p h acts) → Answering p h kind acts
 turn_by true kind p h acts started d = goes kind tt p h acts d
 turn_by false kind p h acts started d = absurd (let z : false ≡ true = started in cc)
 
@@ -239,17 +239,17 @@ answering_of e p h acts started d =
     let same : t.mid.started ≡ h.started = ap (λ (v : HeldView). v.started) (t.runs.2 ∙ t.runs.1.1) in
     let a = turn_by t.mid.started e.kind p t.mid t.rest (same ∙ started) t.does in
     record {
-      first = Moment e.at ∷ a.first;
+      first = MomentTaken e.at ∷ a.first;
       rest = a.rest;
       mid = a.mid;
-      is = t.is ∙ ap (λ xs. Moment e.at ∷ xs) a.is;
+      is = t.is ∙ ap (λ xs. MomentTaken e.at ∷ xs) a.is;
       runs = (t.mid, (tt, t.runs.2 ∙ t.runs.1.1), a.runs);
       silent = (tt, a.silent);
       does = a.does;
     }
 
 -- and of another one
-turn_before : (b : Bool) (kind : EventKind) (p : Place) (h : HeldView) (acts : List Act) → b ≡ false → cond b (turns.GoesOn kind (Some tt) p h acts) (turns.First kind (Some tt) p h acts) → AllSilent acts
+turn_before : (b : Bool) (kind : EventKind) (p : Place) (h : HeldView) (acts : List Act) → b ≡ false → cond b (turns.AnswersAfterDue kind (Some tt) p h acts) (turns.AwaitsStart kind (Some tt) p h acts) → AllSilent acts
 turn_before true kind p h acts started d = absurd (let z : true ≡ false = started in cc)
 turn_before false kind p h acts started d = (first_silent kind).of tt p h acts d
 
@@ -259,7 +259,7 @@ silent_before e p h acts started d =
     let same : t.mid.started ≡ h.started = ap (λ (v : HeldView). v.started) (t.runs.2 ∙ t.runs.1.1) in
     subst AllSilent (sym t.is) (tt, turn_before t.mid.started e.kind p t.mid t.rest (same ∙ started) t.does)
 
-pub silent_of : (kind : EventKind) (p : Place) (h : HeldView) (acts : List Act) → IsPlain kind → turns.Answers kind (Some tt) p h acts → AllSilent acts
+pub silent_of : (kind : EventKind) (p : Place) (h : HeldView) (acts : List Act) → IsPlain kind → turns.AnswersEvent kind (Some tt) p h acts → AllSilent acts
 silent_of kind p h acts plain d = (answers_silent kind plain).of tt p h acts d
 
 -- ---- what was taken of the lanes stays

@@ -9,7 +9,7 @@ use Rattle.replica_store.specs.Stamps.{Stamp}
 use Rattle.session_laws.specs.Runs.{connects, takes}
 use Rattle.session_table.specs.Calls.{stays, moves}
 use Rattle.node_work.specs.declared.outcome.Output.TheVariants.{Send, Close}
-use Rattle.node_work.specs.Acts.{Act, Moment, Began, Moved, Store, Connection, Session, Bridge, Out, Named, Made, Merged}
+use Rattle.node_work.specs.Acts.{Act, MomentTaken, Began, Moved, Store, Connection, Session, Bridge, Out, Named, Made, Merged}
 use Rattle.node_work.specs.Calling.{Calls}
 use Rattle.node_work.specs.Doings.{TakesMoment}
 use Rattle.node_work.specs.Held.Bridge.{Took, Got as GotBy, Believed, Gave}
@@ -25,12 +25,12 @@ use Rattle.broker_node.specs.declared.event.EventKind.{EventKind}
 use Rattle.broker_node.specs.declared.event.EventKind.TheVariants as kinds
 use Rattle.broker_node.specs.Due as due
 use Rattle.broker_node.specs.Turns as turns
-use Rattle.passing_laws.specs.Publishing.{PassesOn}
+use Rattle.passing_laws.specs.Publishing.{BeginsWithPassingOn}
 use Rattle.cluster_play.specs.Worlds.{World}
 use Rattle.cluster_play.specs.Runs.{Played}
 use Rattle.cluster_play.specs.Histories.{Reached, acts_of}
 use Rattle.run_laws.specs.Publishing.{PutStays}
-use Rattle.run_laws.specs.Staying.{Calls as Called_in}
+use Rattle.run_laws.specs.Staying.{CallsSession as Called_in}
 use Rattle.run_laws.proofs.Staying.{called_at, stays_made}
 use Rattle.output_laws.specs.Wills.{AsksForWill, BeginsDropped, IsPublished, WillIsPassedOn, WillsArePassedOn, WillsStayPassedOn}
 use Rattle.output_laws.proofs.Above.{High, does_due, does_reaction, piece_of, leaves_of, starts, opens, takes_table}
@@ -59,7 +59,7 @@ high = record {
 abbrev Does : (Option (Unit {0}) → Doing) → Type 0
 Does P = K (Unit {0}) P
 
-serves : (n : ℕ) (client : List ℕ) (k : Packet) → Does (serving.Serves n client k)
+serves : (n : ℕ) (client : List ℕ) (k : Packet) → Does (serving.ServesPacket n client k)
 serves n client k =
     low.looks (λ p h. serving.room_for client k h) (serving.ServesIn n client k)
     (λ room. low.join (Calls client (λ at. takes k at room) stays) (serving.DoesReaction n client k room)
@@ -76,7 +76,7 @@ mid = record {
 }
 
 -- ---- events
-answers_kind : (kind : EventKind) → Does (turns.Answers kind)
+answers_kind : (kind : EventKind) → Does (turns.AnswersEvent kind)
 answers_kind kinds.Started = low.returns tt
 answers_kind (kinds.Opened n) = opens K low high n (j_acting T c (λ p h. Connection (Opened n)) (λ p h. one_told p h (Connection (Opened n)) tt))
 answers_kind (kinds.Piece n bytes) =
@@ -89,10 +89,10 @@ answers_kind kinds.Tick = low.returns tt
 answers_kind (kinds.Evict client) = evicts K low client
 answers_kind (kinds.Table homes) = takes_table K low high homes
 
-after_due : (kind : EventKind) → Does (Then due.DoesDue (λ _. turns.Answers kind))
-after_due kind = low.join due.DoesDue (λ _. turns.Answers kind) (does_due K low high) (λ _. answers_kind kind)
+after_due : (kind : EventKind) → Does (Then due.DoesDue (λ _. turns.AnswersEvent kind))
+after_due kind = low.join due.DoesDue (λ _. turns.AnswersEvent kind) (does_due K low high) (λ _. answers_kind kind)
 
-goes_on : (kind : EventKind) → Does (turns.GoesOn kind)
+goes_on : (kind : EventKind) → Does (turns.AnswersAfterDue kind)
 goes_on kinds.Started = low.returns tt
 goes_on (kinds.Opened n) = after_due (kinds.Opened n)
 goes_on (kinds.Piece n bytes) = after_due (kinds.Piece n bytes)
@@ -104,7 +104,7 @@ goes_on kinds.Tick = after_due kinds.Tick
 goes_on (kinds.Evict client) = after_due (kinds.Evict client)
 goes_on (kinds.Table homes) = after_due (kinds.Table homes)
 
-first_turn : (kind : EventKind) → Does (turns.First kind)
+first_turn : (kind : EventKind) → Does (turns.AwaitsStart kind)
 first_turn kinds.Started = starts K low high
 first_turn (kinds.Opened n) = low.returns tt
 first_turn (kinds.Piece n bytes) = low.returns tt
@@ -118,8 +118,8 @@ first_turn (kinds.Table homes) = low.returns tt
 
 decides : (e : Event) → Does (turns.Decides e)
 decides e =
-    low.join (TakesMoment e.at) (λ _. turns.Turn e.kind) (j_numbered T c (λ p h. not (nat_lt e.at (2 ^ 62))) (λ p h. Moment e.at) (λ p h. one_told p h (Moment e.at) tt))
-    (λ _. low.looks (λ p h. h.started) (λ is. If is (turns.GoesOn e.kind) (turns.First e.kind)) (λ is. low.by_test is (turns.GoesOn e.kind) (turns.First e.kind) (goes_on e.kind) (first_turn e.kind)))
+    low.join (TakesMoment e.at) (λ _. turns.Turn e.kind) (j_numbered T c (λ p h. not (nat_lt e.at (2 ^ 62))) (λ p h. MomentTaken e.at) (λ p h. one_told p h (MomentTaken e.at) tt))
+    (λ _. low.looks (λ p h. h.started) (λ is. If is (turns.AnswersAfterDue e.kind) (turns.AwaitsStart e.kind)) (λ is. low.by_test is (turns.AnswersAfterDue e.kind) (turns.AwaitsStart e.kind) (goes_on e.kind) (first_turn e.kind)))
 
 pub wills_are_passed_on : WillsArePassedOn
 wills_are_passed_on = λ e p h held acts d before after s m is ran asks. (decides e).of tt p h acts d before after s held is ran m asks
@@ -134,7 +134,7 @@ module _ (run later : List Played) (m : Played) (w : World) (r : Reached (run ++
       record { dot = d.0; stamp = d.1; made = stays_made run later m w r (before ++ call ∷ []) rest (Put d.0 d.1 (content_of x)) acts; follows = refl }
   put_by false xs d rest is so = absurd (let z : false ≡ true = so in cc)
 
-  stays_by : (b : Bool) (h : HeldView) → cond b (BeginsDropped k.after) (PassesOn x k.step.at h.bridge k.after) → x.retain ≡ true → BeginsDropped k.after ⊎ PutStays run later m w before k x
+  stays_by : (b : Bool) (h : HeldView) → cond b (BeginsDropped k.after) (BeginsWithPassingOn x k.step.at h.bridge k.after) → x.retain ≡ true → BeginsDropped k.after ⊎ PutStays run later m w before k x
   stays_by true h d so = inl d
   stays_by false h d so = inr (put_by x.retain d.puts d.put d.rest d.is so)
 

@@ -38,7 +38,7 @@ use Rattle.broker_node.specs.Due as due
 use Rattle.passing_laws.proofs.Keeping.{Keeps, calling_by, none_some}
 use Rattle.passing_laws.proofs.Passing.{passes_on, passes_more}
 use Rattle.passing_laws.proofs.Splits.{head_is, tail_is, none_there, alone_is, left_by, runs_split, splits}
-use Rattle.passing_laws.specs.Publishing.{PassesOn}
+use Rattle.passing_laws.specs.Publishing.{BeginsWithPassingOn}
 use Rattle.output_laws.specs.Wills.{MayPublishWill, AsksForWill, BeginsDropped, IsPublished}
 use Rattle.output_laws.proofs.Below.{Low, IsSmall, follows}
 use Rattle.output_laws.proofs.Dues.{IsSeated, ClientsApart, dues_seated, dues_apart}
@@ -48,7 +48,7 @@ use Rattle.output_laws.proofs.Joining.{Closed, j_returns, j_stops, j_acting, j_n
 abbrev pub Told : SessionStep → HeldView → List Act → Type 0
 Told s h after = (m : Message) → AsksForWill s m → IsPublished h m s.at after
 
-published_by : (b : Bool) (m : Message) (at : ℕ) (h : HeldView) (xs ys : List Act) → cond b (BeginsDropped xs) (PassesOn m at h.bridge xs) → cond b (BeginsDropped (xs ++ ys)) (PassesOn m at h.bridge (xs ++ ys))
+published_by : (b : Bool) (m : Message) (at : ℕ) (h : HeldView) (xs ys : List Act) → cond b (BeginsDropped xs) (BeginsWithPassingOn m at h.bridge xs) → cond b (BeginsDropped (xs ++ ys)) (BeginsWithPassingOn m at h.bridge (xs ++ ys))
 published_by true m at h xs ys d = (d.0 ++ ys, ap (λ zs. zs ++ ys) d.1)
 published_by false m at h xs ys d = passes_more m at h.bridge xs ys d
 
@@ -133,18 +133,18 @@ call_told p h mid s rest left told more (b ∷ before) after t held is ran =
     more before after t held (tail_is is) (subst (λ v. Runs p v before held) same ran.2)
 
 -- the will, by what the node holds after the call, which is of its room and its lanes what it held before
-will_by : (b : Bool) (m : Message) (x : Unit {0}) (p : Place) (mid : HeldView) (acts : List Act) → If b passing.Drops (passing.Passes m) (Some x) p mid acts → cond b (BeginsDropped acts) (PassesOn m mid.at mid.bridge acts)
+will_by : (b : Bool) (m : Message) (x : Unit {0}) (p : Place) (mid : HeldView) (acts : List Act) → If b passing.Drops (passing.Passes m) (Some x) p mid acts → cond b (BeginsDropped acts) (BeginsWithPassingOn m mid.at mid.bridge acts)
 will_by true m x p mid acts d = ([], d.1)
 will_by false m x p mid acts d = passes_on m x p mid acts d
 
-asked_told : (m : Message) (r : Reaction) (client : List ℕ) (x : Unit {0}) (p : Place) (mid : HeldView) (acts : List Act) → r.ask ≡ Some (asks.Pass m) → ending.Follows client r (Some x) p mid acts → IsPublished mid m mid.at acts
+asked_told : (m : Message) (r : Reaction) (client : List ℕ) (x : Unit {0}) (p : Place) (mid : HeldView) (acts : List Act) → r.ask ≡ Some (asks.Pass m) → ending.FollowsReaction client r (Some x) p mid acts → IsPublished mid m mid.at acts
 asked_told m r client x p mid acts is (inl d) = none_some (sym d.0)
 asked_told m r client x p mid acts is (inr (y, own, mid2, rest, one, runs, more, all)) =
     let will : ending.PassesAsked (Some (asks.Pass m)) (Some y) p mid own = subst (λ (o : Option Ask). ending.PassesAsked o (Some y) p mid own) is one in
     subst (IsPublished mid m mid.at) (sym all) (published_more m mid.at mid own rest (will_by (passing.lacks_room m mid) m y p mid own will))
 
 followed : (client : List ℕ) (event : ℕ → Event) (found : Option Seat) (r : Reaction) (x : Unit {0}) (p : Place) (h mid : HeldView) (own rest : List Act)
-    → CallsAt client event stays found (Some r) p h own → Runs p h own mid → ending.Follows client r (Some x) p mid rest → T p h (own ++ rest)
+    → CallsAt client event stays found (Some r) p h own → Runs p h own mid → ending.FollowsReaction client r (Some x) p mid rest → T p h (own ++ rest)
 followed client event None r x p h mid own rest d runs more =
     let same : mid ≡ h = subst (λ xs. Runs p h xs mid) d.1 runs in
     subst (λ xs. T p h (xs ++ rest)) (sym d.1) (subst (λ v. T p v rest) same ((follows K low client r).of x p mid rest more))
@@ -153,10 +153,10 @@ followed client event (Some seat) r x p h mid own rest d runs more =
     let left : mid ≡ next h (Session (Called k.step)) = left_by p h mid (Session (Called k.step)) own k.acts_are runs in
     let at : mid.at ≡ k.step.at = ap (λ (v : HeldView). v.at) left ∙ sym k.at_is in
     let told : Told k.step h rest = λ m asks. (let d = asked_told m r client x p mid rest (ap (λ (v : Reaction). v.ask) (sym k.reaction_is) ∙ asks.asks) more in
-    subst (λ n. cond (passing.lacks_room m h) (BeginsDropped rest) (PassesOn m n h.bridge rest)) at (subst (λ (v : HeldView). cond (passing.lacks_room m (record h { store = v.store })) (BeginsDropped rest) (PassesOn m mid.at v.bridge rest)) left d)) in
+    subst (λ n. cond (passing.lacks_room m h) (BeginsDropped rest) (BeginsWithPassingOn m n h.bridge rest)) at (subst (λ (v : HeldView). cond (passing.lacks_room m (record h { store = v.store })) (BeginsDropped rest) (BeginsWithPassingOn m mid.at v.bridge rest)) left d)) in
     subst (λ xs. T p h (xs ++ rest)) (sym k.acts_are) (call_told p h mid k.step rest left told ((follows K low client r).of x p mid rest more))
 
-calls_then : (client : List ℕ) (event : ℕ → Event) (x : Unit {0}) (p : Place) (h : HeldView) (acts : List Act) → Then (Calls client event stays) (ending.Follows client) (Some x) p h acts → T p h acts
+calls_then : (client : List ℕ) (event : ℕ → Event) (x : Unit {0}) (p : Place) (h : HeldView) (acts : List Act) → Then (Calls client event stays) (ending.FollowsReaction client) (Some x) p h acts → T p h acts
 calls_then client event x p h acts (inl d) = none_some (sym d.0)
 calls_then client event x p h acts (inr (r, own, mid, rest, one, runs, more, is)) = subst (T p h) (sym is) (followed client event (seat_at client h) r x p h mid own rest one runs more)
 
@@ -171,7 +171,7 @@ finishes_of client = record { of = λ x p h acts d. calls_then client finishes x
 abbrev pub HasRunOut : HeldView → List ℕ → Type 0
 HasRunOut h client = (seat : Seat) → map.get h.sessions client ≡ Some seat → has_run_out seat.session.link h.at ≡ true
 
-closed_told : (n : ℕ) → K (Unit {0}) (ending.Closes n)
+closed_told : (n : ℕ) → K (Unit {0}) (ending.ClosesConnection n)
 closed_told n =
     j_then T c (Acting (λ p h. Connection (Closed_at n))) (λ _. Acting (λ p h. Out (Close n))) (j_acting T c (λ p h. Connection (Closed_at n)) (λ p h. one_told p h (Connection (Closed_at n)) tt))
     (λ _. j_acting T c (λ p h. Out (Close n)) (λ p h. one_told p h (Out (Close n)) tt))
@@ -219,7 +219,7 @@ calls_others client event on (Some seat) r p h h' acts d runs =
       λ q ne. ap (λ (v : HeldView). map.get v.sessions q) left ∙ get_apart h.sessions k.step.client _ q (not_tied q k.step.client (λ e. ne (e ∙ k.client_is))),
     )
 
-pub closes_others : (client : List ℕ) (n : ℕ) (x : Unit {0}) (p : Place) (h h' : HeldView) (acts : List Act) → ending.Closes n (Some x) p h acts → Runs p h acts h' → LeavesOthers client h h'
+pub closes_others : (client : List ℕ) (n : ℕ) (x : Unit {0}) (p : Place) (h h' : HeldView) (acts : List Act) → ending.ClosesConnection n (Some x) p h acts → Runs p h acts h' → LeavesOthers client h h'
 closes_others client n x p h h' acts (inl d) runs = none_some (sym d.0)
 closes_others client n x p h h' acts (inr (y, own, mid, rest, one, ran, more, is)) runs =
     let both = runs_split p own rest h h' (subst (λ xs. Runs p h xs h') is runs) in

@@ -17,7 +17,7 @@ use Rattle.broker_node.specs.Turns.{Decides}
 use Rattle.cluster_play.specs.Worlds.{World, numbered}
 use Rattle.cluster_play.specs.Runs.{Played}
 use Rattle.cluster_play.specs.Histories.{Reached, acts_of}
-use Rattle.cluster_play.specs.CatchingUp.{Arrives}
+use Rattle.cluster_play.specs.CatchingUp.{FrameArrives}
 use Rattle.run_laws.specs.LaneHistories.{took}
 use Rattle.output_laws.specs.Frames.{frame_to, frames_given}
 
@@ -65,4 +65,4 @@ abbrev pub ForwardsAreTaken : Type 0
 ForwardsAreTaken =
     (run : List Played) (w w' : World) (m : Played) → Reached run w
     → (k : ℕ) (sent : Frame) (f : BridgeFrame) (number : ℕ) (x : Forward) → numbered w.frames k ≡ Some sent → frame_in sent.bytes ≡ Some f → f.body ≡ Carried number x → f.from ≢ f.to
-    → Arrives w f m w' → IsTakenThere run m f number x
+    → FrameArrives w f m w' → IsTakenThere run m f number x

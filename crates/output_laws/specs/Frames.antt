@@ -43,8 +43,8 @@ abbrev pub deltas_to : Place → ℕ → Option State → List BridgeFrame
 deltas_to p peer None = []
 deltas_to p peer (Some s) = frame_to p peer (Delta s) ∷ []
 
-abbrev pub AreShipped : Place → HeldView → ℕ → List BridgeFrame → Type 0
-AreShipped p h peer fs =
+abbrev pub ShippedFrames : Place → HeldView → ℕ → List BridgeFrame → Type 0
+ShippedFrames p h peer fs =
     (s : Option State) × IsToShip peer h.bridge h.store s × (fs ≡ those_small (deltas_to p peer s ++ first_frames p.id peer (lane_to h.bridge peer)))
 
 -- ---- in answer to a frame
@@ -65,7 +65,7 @@ answers_to p h (Some f) = cond (is_for p f) (those_small (map_list (frame_to p f
 abbrev pub AreOfEvent : Place → HeldView → HeldView → EventKind → List BridgeFrame → Type 0
 AreOfEvent p h last (kinds.Frame bytes) fs = fs ≡ answers_to p last (frame_in bytes)
 AreOfEvent p h last (kinds.Linked peer) fs = fs ≡ cond (is_other p peer) (those_small (frame_to p peer Hello ∷ [])) []
-AreOfEvent p h last (kinds.Ship peer) fs = cond (is_other p peer) (AreShipped p h peer fs) (fs ≡ [])
+AreOfEvent p h last (kinds.Ship peer) fs = cond (is_other p peer) (ShippedFrames p h peer fs) (fs ≡ [])
 AreOfEvent p h last kind fs = fs ≡ []
 
 -- acts that give no frame, and then those of the event; before a node has started there are none

@@ -30,7 +30,7 @@ SessionsAreOnTheirs h = (client : List ℕ) (seat : Seat) (c : ℕ) → map.get 
 
 -- ---- packets of the node's own
 -- CONNACK, on an open connection that has no client yet
-pub record Refuses (h : HeldView) (c : ℕ) (bytes : List ℕ) : Type 0 where
+pub record IsRefusal (h : HeldView) (c : ℕ) (bytes : List ℕ) : Type 0 where
   pub open_there : is_open c h ≡ true
   pub bare : client_at c h ≡ None
   pub code : ℕ
@@ -38,7 +38,7 @@ pub record Refuses (h : HeldView) (c : ℕ) (bytes : List ℕ) : Type 0 where
   pub is : bytes ≡ written (refused_packet code reference)
 
 -- DISCONNECT, on one that has
-pub record Disconnects (h : HeldView) (c : ℕ) (bytes : List ℕ) : Type 0 where
+pub record IsDisconnect (h : HeldView) (c : ℕ) (bytes : List ℕ) : Type 0 where
   pub client : List ℕ
   pub there : client_at c h ≡ Some client
   pub code : ℕ
@@ -50,7 +50,7 @@ pub record IsAway (p : Place) (h : HeldView) (client : List ℕ) (home : ℕ) : 
   pub other : home ≢ p.id
 
 -- DISCONNECT with Server moved and the address of that home, on the connection of a client that is away
-pub record Redirects (p : Place) (h : HeldView) (c : ℕ) (bytes : List ℕ) : Type 0 where
+pub record IsRedirect (p : Place) (h : HeldView) (c : ℕ) (bytes : List ℕ) : Type 0 where
   pub client : List ℕ
   pub there : client_at c h ≡ Some client
   pub home : ℕ
@@ -140,7 +140,7 @@ WhyClosed kind p before h c =
 -- after that; a close goes out directly after the node has closed the connection, which was open, for one of these causes
 abbrev pub GoesRight : EventKind → Place → List Act → HeldView → Act → Type 0
 GoesRight kind p before h (Session (Called s)) = (c : ℕ) → s.on ≡ Some c → client_at c h ≡ Some s.client
-GoesRight kind p before h (Out (Send c bytes)) = Refuses h c bytes ⊎ Disconnects h c bytes ⊎ Redirects p h c bytes
+GoesRight kind p before h (Out (Send c bytes)) = IsRefusal h c bytes ⊎ IsDisconnect h c bytes ⊎ IsRedirect p h c bytes
 GoesRight kind p before h (Out (Close c)) = (earlier : List Act) × (before ≡ earlier ++ Connection (Closed c) ∷ [])
 GoesRight kind p before h (Connection (Closed c)) = (is_open c h ≡ true) × WhyClosed kind p before h c
 GoesRight kind p before h a = Unit {0}

@@ -9,13 +9,13 @@ use Rattle.node_work.specs.View.{Place, HeldView}
 use Rattle.node_clients.specs.Passing.{lacks_room}
 use Rattle.broker_node.specs.declared.event.Event.{Event as NodeEvent}
 use Rattle.broker_node.specs.Turns.{Decides}
-use Rattle.passing_laws.specs.Publishing.{PassesOn}
+use Rattle.passing_laws.specs.Publishing.{BeginsWithPassingOn}
 use Rattle.cluster_play.specs.Worlds.{World}
 use Rattle.cluster_play.specs.Runs.{Played}
 use Rattle.cluster_play.specs.Histories.{Reached, site}
 use Rattle.cluster_play.specs.Agreement.{HoldsAmid}
 use Rattle.run_laws.specs.Publishing.{PutStays}
-use Rattle.run_laws.specs.Staying.{Calls}
+use Rattle.run_laws.specs.Staying.{CallsSession}
 
 -- the session does what is due of it, or ends
 abbrev pub MayPublishWill : Event → Type 0
@@ -34,7 +34,7 @@ abbrev pub BeginsDropped : List Act → Type 0
 BeginsDropped acts = (rest : List Act) × (acts ≡ Dropped ∷ rest)
 
 abbrev pub IsPublished : HeldView → Message → ℕ → List Act → Type 0
-IsPublished h m at acts = cond (lacks_room m h) (BeginsDropped acts) (PassesOn m at h.bridge acts)
+IsPublished h m at acts = cond (lacks_room m h) (BeginsDropped acts) (BeginsWithPassingOn m at h.bridge acts)
 
 -- in every step
 abbrev pub WillsArePassedOn : Type 0
@@ -46,7 +46,7 @@ WillsArePassedOn =
 -- ---- in a run
 
 -- a will that is passed on with RETAIN has its Put, which stays
-pub record WillIsPassedOn (run later : List Played) (m : Played) (w : World) (before : List Act) (c : Calls m before) (x : Message) : Type 0 where
+pub record WillIsPassedOn (run later : List Played) (m : Played) (w : World) (before : List Act) (c : CallsSession m before) (x : Message) : Type 0 where
   pub world : World
   pub reached : Reached run world
   pub held : HeldView
@@ -57,4 +57,4 @@ pub record WillIsPassedOn (run later : List Played) (m : Played) (w : World) (be
 abbrev pub WillsStayPassedOn : Type 0
 WillsStayPassedOn =
     (run later : List Played) (m : Played) (w : World) → Reached (run ++ m ∷ later) w
-    → (before : List Act) (c : Calls m before) (x : Message) → AsksForWill c.step x → WillIsPassedOn run later m w before c x
+    → (before : List Act) (c : CallsSession m before) (x : Message) → AsksForWill c.step x → WillIsPassedOn run later m w before c x

@@ -20,7 +20,7 @@ use Rattle.node_work.specs.Acts.{Act, Store, Session, next}
 use Rattle.node_work.specs.Held.Sessions.{SessionStep, Called}
 use Rattle.node_work.specs.View.{Place, HeldView}
 use Rattle.node_clients.specs.Subscribing.{reasons_of}
-use Rattle.passing_laws.specs.Publishing.{Gives}
+use Rattle.passing_laws.specs.Publishing.{AnswersWith}
 use Rattle.passing_laws.specs.Sending.{IsIn}
 use Rattle.passing_laws.proofs.Splits.{head_is, tail_is, runs_split}
 use Rattle.cluster_play.specs.Worlds.{World}
@@ -28,7 +28,7 @@ use Rattle.cluster_play.specs.Runs.{Played}
 use Rattle.cluster_play.specs.Histories.{Reached, site, acts_of}
 use Rattle.cluster_play.proofs.Lives.{sessions_are_runs_amid}
 use Rattle.run_laws.specs.Publishing.{connected_over, events_before}
-use Rattle.run_laws.specs.Staying.{Calls}
+use Rattle.run_laws.specs.Staying.{CallsSession}
 use Rattle.run_laws.proofs.Staying.{CalledAt, called_at}
 use Rattle.answer_laws.proofs.Answering.{IsSubscribe, IsUnsubscribe, Requested, answers_asked}
 use Rattle.answer_laws.proofs.Granting.{IsTold, AreTold}
@@ -82,7 +82,7 @@ connected_same : (on : Bool) (steps : List Step) → lifted.connected_over on st
 connected_same on [] = refl
 connected_same on (s ∷ ss) = connected_same _ ss
 
-module _ (run later : List Played) (m : Played) (w : World) (r : Reached (run ++ m ∷ later) w) (before : List Act) (c : Calls m before) where
+module _ (run later : List Played) (m : Played) (w : World) (r : Reached (run ++ m ∷ later) w) (before : List Act) (c : CallsSession m before) where
   abbrev here : CalledAt run m before c
   here = called_at run later m w r before c
 
@@ -139,7 +139,7 @@ module _ (run later : List Played) (m : Played) (w : World) (r : Reached (run ++
       let q = answers_asked here.event place start (acts_of m.fate) here.decides before c.after c.step c.acts id codes e in
       elim q.kind [ inl d ↦ subscribed_apart q.mid q.call id codes q.acts d i | inr d ↦ unsubscribed_apart id codes q d e i ]
 
-  told_use : KeepsAnswers → (kind : Asked) (id : ℕ) (codes : List ℕ) → Gives (answer_of kind id codes) c.step.reaction.packets → IsIn 145 codes → IsOfUse run m before c kind id codes
+  told_use : KeepsAnswers → (kind : Asked) (id : ℕ) (codes : List ℕ) → AnswersWith (answer_of kind id codes) c.step.reaction.packets → IsIn 145 codes → IsOfUse run m before c kind id codes
   told_use law kind id codes g i =
       let own = last_codes false None steps (step_in c.step) (law c.step.client (steps ++ step_in c.step ∷ []) c.step.after (run_more (new_session c.step.client) old c.step.after steps (step_in c.step) lived here.reacts)) in
       elim (codes_given kind id codes old c.step.after c.step.event c.step.reaction own.0 own.1 here.reacts g) [
@@ -147,10 +147,10 @@ module _ (run later : List Played) (m : Played) (w : World) (r : Reached (run ++
         | inr e ↦ absurd (given_apart id codes e i)
       ]
     where
-      by_link : (kind : Asked) (id : ℕ) (codes : List ℕ) → Gives (answer_of kind id codes) c.step.reaction.packets → TakesOne kind id codes c.step.event c.step.reaction → (o : Option Link) → old.link ≡ o → IsOfUse run m before c kind id codes
+      by_link : (kind : Asked) (id : ℕ) (codes : List ℕ) → AnswersWith (answer_of kind id codes) c.step.reaction.packets → TakesOne kind id codes c.step.event c.step.reaction → (o : Option Link) → old.link ≡ o → IsOfUse run m before c kind id codes
       by_link kind id codes g t None e =
           let reacts : Reacts old (takes t.packet t.now t.room) c.step.reaction c.step.after = subst (λ v. Reacts old v c.step.reaction c.step.after) t.event here.reacts in
-          absurd (subst (λ (v : Reaction). Gives (answer_of kind id codes) v.packets) (keeps_unheard old c.step.after t.packet t.now t.room c.step.reaction e reacts).0 g)
+          absurd (subst (λ (v : Reaction). AnswersWith (answer_of kind id codes) v.packets) (keeps_unheard old c.step.after t.packet t.now t.room c.step.reaction e reacts).0 g)
       by_link kind id codes g t (Some l) e =
           let q : Question = record { kind = kind; identifier = id; count = length codes } in
           let reacts : Reacts old (takes t.packet t.now t.room) c.step.reaction c.step.after = subst (λ v. Reacts old v c.step.reaction c.step.after) t.event here.reacts in

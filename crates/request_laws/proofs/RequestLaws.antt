@@ -40,7 +40,7 @@ use Rattle.cluster_play.proofs.Amid.{amid_acts}
 use Rattle.cluster_play.proofs.Catching.{operations_of_a_step}
 use Rattle.cluster_play.proofs.Operations.{own_some}
 use Rattle.cluster_play.proofs.Showing.{node_holds_amid}
-use Rattle.run_laws.specs.Staying.{Calls}
+use Rattle.run_laws.specs.Staying.{CallsSession}
 use Rattle.run_laws.proofs.Staying.{CalledAt, called_at}
 use Rattle.answer_laws.specs.Filters.{FilterReply, AreFiltersAnswered, IsSubscribedTo}
 use Rattle.answer_laws.specs.Subacks.{with_call}
@@ -131,7 +131,7 @@ all_ones p h client identifier (f ∷ fs) gs acts (g, others, own, mid, rest, is
     subst (AllByRecursion MakesOne) (sym all) (ones_both own rest (one_made p h client identifier f g own one) (all_ones p mid client identifier fs others rest more))
 
 -- ---- in a run
-module _ (run later : List Played) (m : Played) (w : World) (r : Reached (run ++ m ∷ later) w) (before : List Act) (c : Calls m before) where
+module _ (run later : List Played) (m : Played) (w : World) (r : Reached (run ++ m ∷ later) w) (before : List Act) (c : CallsSession m before) where
   abbrev here : CalledAt run m before c
   here = called_at run later m w r before c
 

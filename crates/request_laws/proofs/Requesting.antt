@@ -227,7 +227,7 @@ module _ (p : Place) (mid : HeldView) (s : SessionStep) (c : ℕ) (client : List
   seat_still : (mid2 : HeldView) (ops : List Act) → AreStores ops → Runs p mid ops mid2 → seat_at client mid2 ≡ Some has.0
   seat_still mid2 ops stores runs = ap (λ m. map.get m client) (still p mid mid2 ops stores runs) ∙ has.1
 
-  subscribed : (q : Subscribe) (x : Unit {0}) (acts : List Act) → subscribing.Subscribes c client q (Some x) p mid acts → IsSubscribed p mid s q acts
+  subscribed : (q : Subscribe) (x : Unit {0}) (acts : List Act) → subscribing.ServesSubscribe c client q (Some x) p mid acts → IsSubscribed p mid s q acts
   subscribed q x acts (inl d) = none_some (sym d.0)
   subscribed q x acts (inr (all, ops, mid2, others, one, runs, (inl d), is)) = none_some (sym d.0)
   subscribed q x acts (inr (all, ops, mid2, others, one, runs, (inr (r, call, mid3, rest, calls, ran, more, last)), is)) =
@@ -242,7 +242,7 @@ module _ (p : Place) (mid : HeldView) (s : SessionStep) (c : ℕ) (client : List
             (answer_at s client q.identifier (subscribing.reasons_of all) p mid2 (seat_at client mid2) has.0 r ops call rest same (seat_still mid2 ops stores runs) calls);
       }
 
-  unsubscribed : (u : Unsubscribe) (x : Unit {0}) (acts : List Act) → unsubscribing.Unsubscribes c client u (Some x) p mid acts → IsUnsubscribed p mid s u acts
+  unsubscribed : (u : Unsubscribe) (x : Unit {0}) (acts : List Act) → unsubscribing.ServesUnsubscribe c client u (Some x) p mid acts → IsUnsubscribed p mid s u acts
   unsubscribed u x acts (inl d) = none_some (sym d.0)
   unsubscribed u x acts (inr (all, ops, mid2, others, one, runs, (inl d), is)) = none_some (sym d.0)
   unsubscribed u x acts (inr (all, ops, mid2, others, one, runs, (inr (r, call, mid3, rest, calls, ran, more, last)), is)) =
@@ -300,7 +300,7 @@ serves_in : (c : ℕ) (client : List ℕ) (k : Packet) (room : Bool) (x : Unit {
 serves_in c client k room x p h acts (inl d) = none_some (sym d.0)
 serves_in c client k room x p h acts (inr (r, own, mid, rest, one, runs, more, is)) = subst (Followed p h) (sym is) (serves_at c client k room (seat_at client h) r x p h mid own rest one runs more)
 
-serves : (c : ℕ) (client : List ℕ) (k : Packet) → Keeps Followed (serving.Serves c client k)
+serves : (c : ℕ) (client : List ℕ) (k : Packet) → Keeps Followed (serving.ServesPacket c client k)
 serves c client k = record { of = λ x p h acts d. serves_in c client k (serving.room_for client k h) x p h acts d }
 
 -- in every step

@@ -20,7 +20,7 @@ use Rattle.session_laws.specs.Replies.{Reply, silent, says, asks, ends, reaction
 use Rattle.session_laws.specs.Runs.{Event, connects, queues, takes, answers, closes, ticks, finishes, loses, Step, Reacts, connected_after}
 use Rattle.session_laws.proofs.ReplyLaws.{keeps_codes}
 use Rattle.delivery_laws.specs.Codes.{Question, question_in, question_after, IsOwn, OwnCodes, CodesBy, AllCodes}
-use Rattle.passing_laws.specs.Publishing.{Gives}
+use Rattle.passing_laws.specs.Publishing.{AnswersWith}
 use Rattle.passing_laws.specs.Sending.{IsIn}
 use Rattle.passing_laws.proofs.Acks.{Says, given_by, true_is_not_false}
 use Rattle.request_laws.specs.InUse.{KeepsRules, ask_for, IsRefusedInUse, IsAsked}
@@ -114,7 +114,7 @@ module _ (a : Asked) (id : ℕ) (codes : List ℕ) where
   is_own e r Subscribing o = o
   is_own e r Unsubscribing o = o
 
-  own_of : (q : Option Question) (e : Event) (r : Reaction) → AllByRecursion (OwnCodes e r) r.packets → Gives (answer_of a id codes) r.packets → IsOwn a id (length codes) e r
+  own_of : (q : Option Question) (e : Event) (r : Reaction) → AllByRecursion (OwnCodes e r) r.packets → AnswersWith (answer_of a id codes) r.packets → IsOwn a id (length codes) e r
   own_of q e r all g = is_own e r a (own_in e r r.packets (Answer (answer_of a id codes)) all g)
 
   by_asked : (o : Option Asked) (id' : ℕ) (codes' : List ℕ) → Says (answer_of a id codes) (reply_codes o id' codes') → (id' ≡ id) × (codes' ≡ codes)
@@ -122,12 +122,12 @@ module _ (a : Asked) (id : ℕ) (codes : List ℕ) where
   by_asked (Some Subscribing) id' codes' s = same_answer a Subscribing id id' codes codes' s
   by_asked (Some Unsubscribing) id' codes' s = same_answer a Unsubscribing id id' codes codes' s
 
-  given_at : (o : Option Link) (old new : State) (id' : ℕ) (codes' : List ℕ) (r : Reaction) → old.link ≡ o → Reacts old (answers id' codes') r new → Gives (answer_of a id codes) r.packets → answers id' codes' ≡ answers id codes
+  given_at : (o : Option Link) (old new : State) (id' : ℕ) (codes' : List ℕ) (r : Reaction) → old.link ≡ o → Reacts old (answers id' codes') r new → AnswersWith (answer_of a id codes) r.packets → answers id' codes' ≡ answers id codes
   given_at None old new id' codes' r e h g =
-      absurd (subst (λ (v : Reaction). Gives (answer_of a id codes) v.packets) ((subst (λ l. Comes (answer_on l id' codes' old) r new) e h).0) g)
+      absurd (subst (λ (v : Reaction). AnswersWith (answer_of a id codes) v.packets) ((subst (λ l. Comes (answer_on l id' codes' old) r new) e h).0) g)
   given_at (Some l) old new id' codes' r e h g =
       let s = given_by l.limit (reply_codes l.asked id' codes') (answer_of a id codes) [] (λ z. z)
-      (subst (Gives (answer_of a id codes)) (ap (λ (v : Reaction). v.packets) (keeps_codes old new l id' codes' r e h) ∙ sym (append-nil _)) g) in
+      (subst (AnswersWith (answer_of a id codes)) (ap (λ (v : Reaction). v.packets) (keeps_codes old new l id' codes' r e h) ∙ sym (append-nil _)) g) in
       let t = by_asked l.asked id' codes' s in
       λ i. answers (t.0 i) (t.1 i)
 
@@ -139,7 +139,7 @@ module _ (a : Asked) (id : ℕ) (codes : List ℕ) where
     pub event : e ≡ takes packet now room
     pub is : IsRequest packet r
 
-  pub codes_given : (old new : State) (e : Event) (r : Reaction) (q : Option Question) → CodesBy q e r → Reacts old e r new → Gives (answer_of a id codes) r.packets → TakesOne e r ⊎ (e ≡ answers id codes)
+  pub codes_given : (old new : State) (e : Event) (r : Reaction) (q : Option Question) → CodesBy q e r → Reacts old e r new → AnswersWith (answer_of a id codes) r.packets → TakesOne e r ⊎ (e ≡ answers id codes)
   codes_given old new (connects c continued now) r q all h g = absurd (own_of q (connects c continued now) r all g)
   codes_given old new (queues d now) r q all h g = absurd (own_of q (queues d now) r all g)
   codes_given old new (takes k now room) r q all h g =
@@ -151,24 +151,24 @@ module _ (a : Asked) (id : ℕ) (codes : List ℕ) where
   codes_given old new loses r q all h g = absurd (own_of q loses r all g)
 
   -- its identifier is in use, and each code is Packet Identifier in use
-  used_by : (q : Question) (b : Bool) (r : Reaction) → r.ask ≡ None → Gives (answer_of a id codes) r.packets → cond b (IsRefusedInUse q r) (IsAsked q r) → (b ≡ true) × (codes ≡ replicate q.count 145)
+  used_by : (q : Question) (b : Bool) (r : Reaction) → r.ask ≡ None → AnswersWith (answer_of a id codes) r.packets → cond b (IsRefusedInUse q r) (IsAsked q r) → (b ≡ true) × (codes ≡ replicate q.count 145)
   used_by q false r none g d = absurd (let z : None ≡ Some (ask_for q.kind) = sym none ∙ d.1 in cc)
-  used_by q true r none g (ask, (inr d)) = absurd (subst (Gives (answer_of a id codes)) d.0 g)
-  used_by q true r none g (ask, (inl d)) = (refl, one (subst (Gives (answer_of a id codes)) d g))
+  used_by q true r none g (ask, (inr d)) = absurd (subst (AnswersWith (answer_of a id codes)) d.0 g)
+  used_by q true r none g (ask, (inl d)) = (refl, one (subst (AnswersWith (answer_of a id codes)) d g))
     where
-      one : Gives (answer_of a id codes) (Answer (answer_of q.kind q.identifier (replicate q.count 145)) ∷ []) → codes ≡ replicate q.count 145
+      one : AnswersWith (answer_of a id codes) (Answer (answer_of q.kind q.identifier (replicate q.count 145)) ∷ []) → codes ≡ replicate q.count 145
       one (inl same) = sym (same_answer a q.kind id q.identifier codes (replicate q.count 145) (let z = same in cc)).1
       one (inr more) = absurd more
 
   -- a packet that breaks a rule is answered by none
-  pub keeps_rules : (told : Topics) (limit : ℕ) (now : ℕ) (room : Bool) (s : State) (r : Reaction) (k : Packet) → IsReplied told limit k now room s r → Gives (answer_of a id codes) r.packets → KeepsRules k
+  pub keeps_rules : (told : Topics) (limit : ℕ) (now : ℕ) (room : Bool) (s : State) (r : Reaction) (k : Packet) → IsReplied told limit k now room s r → AnswersWith (answer_of a id codes) r.packets → KeepsRules k
   keeps_rules told limit now room s r (packets.Subscribe p) x g = λ broken. elim x.is [
-    | inl d ↦ subst (λ (v : Reaction). Gives (answer_of a id codes) v.packets) (alone told limit now room s r (packets.Subscribe p) x (λ z. z) (ends 130) d.1) g
+    | inl d ↦ subst (λ (v : Reaction). AnswersWith (answer_of a id codes) v.packets) (alone told limit now room s r (packets.Subscribe p) x (λ z. z) (ends 130) d.1) g
     | inr d ↦ d.0 broken
   ]
   keeps_rules told limit now room s r _ x g = tt
 
-  pub in_use_by : (told : Topics) (limit : ℕ) (now : ℕ) (room : Bool) (s : State) (r : Reaction) (k : Packet) (q : Question) → question_in k ≡ Some q → r.ask ≡ None → IsReplied told limit k now room s r → Gives (answer_of a id codes) r.packets
+  pub in_use_by : (told : Topics) (limit : ℕ) (now : ℕ) (room : Bool) (s : State) (r : Reaction) (k : Packet) (q : Question) → question_in k ≡ Some q → r.ask ≡ None → IsReplied told limit k now room s r → AnswersWith (answer_of a id codes) r.packets
       → (is_some (opened q.identifier s.incoming) ≡ true) × (codes ≡ replicate q.count 145)
   in_use_by told limit now room s r k q e none x g =
       used_by q (is_some (opened q.identifier s.incoming)) r none g (requested told limit now room s r k q e (keeps_rules told limit now room s r k x g) x)

@@ -14,13 +14,13 @@ use Rattle.session_laws.specs.Runs.{Step, connected_after, takes}
 use Rattle.delivery_laws.specs.Codes.{Question, question_in}
 use Rattle.node_work.specs.Acts.{Act}
 use Rattle.node_work.specs.Held.Sessions.{SessionStep}
-use Rattle.passing_laws.specs.Publishing.{Gives}
+use Rattle.passing_laws.specs.Publishing.{AnswersWith}
 use Rattle.passing_laws.specs.Sending.{IsIn}
 use Rattle.cluster_play.specs.Worlds.{World}
 use Rattle.cluster_play.specs.Runs.{Played}
 use Rattle.cluster_play.specs.Histories.{Reached}
 use Rattle.run_laws.specs.Publishing.{connected_over, events_before}
-use Rattle.run_laws.specs.Staying.{Calls}
+use Rattle.run_laws.specs.Staying.{CallsSession}
 
 -- an exchange of the client is open under an identifier from the PUBLISH at QoS 2 whose message is passed on to its PUBREL
 abbrev pub open_over : Bool → ℕ → Bool → List Step → Bool
@@ -64,11 +64,11 @@ IsAsked q r = (r.packets ≡ []) × (r.ask ≡ Some (ask_for q.kind))
 abbrev pub InUseIsRefused : Type 0
 InUseIsRefused =
     (run later : List Played) (m : Played) (w : World) → Reached (run ++ m ∷ later) w
-    → (before : List Act) (c : Calls m before) (q : Question) (t : TakesRequest c.step q) → connected_over false (events_before run m before c) ≡ true → KeepsRules t.packet
+    → (before : List Act) (c : CallsSession m before) (q : Question) (t : TakesRequest c.step q) → connected_over false (events_before run m before c) ≡ true → KeepsRules t.packet
     → cond (is_in_use q.identifier (events_before run m before c)) (IsRefusedInUse q c.step.reaction) (IsAsked q c.step.reaction)
 
 -- the call takes the packet that is answered, an exchange is open under its identifier, and each of its filters has that code
-pub record IsOfUse (run : List Played) (m : Played) (before : List Act) (c : Calls m before) (kind : Asked) (id : ℕ) (codes : List ℕ) : Type 0 where
+pub record IsOfUse (run : List Played) (m : Played) (before : List Act) (c : CallsSession m before) (kind : Asked) (id : ℕ) (codes : List ℕ) : Type 0 where
   pub question : Question
   pub takes : TakesRequest c.step question
   pub kind_is : question.kind ≡ kind
@@ -80,5 +80,5 @@ pub record IsOfUse (run : List Played) (m : Played) (before : List Act) (c : Cal
 abbrev pub InUseIsTold : Type 0
 InUseIsTold =
     (run later : List Played) (m : Played) (w : World) → Reached (run ++ m ∷ later) w
-    → (before : List Act) (c : Calls m before) (kind : Asked) (id : ℕ) (codes : List ℕ) → Gives (answer_of kind id codes) c.step.reaction.packets → IsIn 145 codes
+    → (before : List Act) (c : CallsSession m before) (kind : Asked) (id : ℕ) (codes : List ℕ) → AnswersWith (answer_of kind id codes) c.step.reaction.packets → IsIn 145 codes
     → IsOfUse run m before c kind id codes

@@ -23,7 +23,7 @@ use Rattle.cluster_play.specs.Worlds.{World}
 use Rattle.cluster_play.specs.Runs.{Played}
 use Rattle.cluster_play.specs.Histories.{Reached, site, operations_amid}
 use Rattle.cluster_play.specs.NextOperations.{CoversWhatStands}
-use Rattle.run_laws.specs.Staying.{Calls}
+use Rattle.run_laws.specs.Staying.{CallsSession}
 use Rattle.answer_laws.specs.Filters.{FilterReply, AreFiltersAnswered, IsSubscribedTo}
 use Rattle.answer_laws.specs.Subacks.{with_call}
 use Rattle.cause_laws.specs.Ends.{EndsHaveRemoves, EvictionsHaveRemoves}
@@ -55,7 +55,7 @@ NoOtherStands run m first acts =
 
 -- directly after the call each filter is answered in order, a granted one by one Subscribe of its own; nothing else is done; and then
 -- the session is given the codes
-pub record SubscribesInOrder (run : List Played) (m : Played) (before : List Act) (c : Calls m before) (subscribe : Subscribe) : Type 0 where
+pub record SubscribesInOrder (run : List Played) (m : Played) (before : List Act) (c : CallsSession m before) (subscribe : Subscribe) : Type 0 where
   pub acts : List Act
   pub answer : SessionStep
   pub rest : List Act
@@ -70,7 +70,7 @@ pub record SubscribesInOrder (run : List Played) (m : Played) (before : List Act
 abbrev pub SubscribesHaveOperations : Type 0
 SubscribesHaveOperations =
     (run later : List Played) (m : Played) (w : World) → Reached (run ++ m ∷ later) w
-    → (before : List Act) (c : Calls m before) (a : AsksToSubscribe c.step) → SubscribesInOrder run m before c a.subscribe
+    → (before : List Act) (c : CallsSession m before) (a : AsksToSubscribe c.step) → SubscribesInOrder run m before c a.subscribe
 
 -- ---- an UNSUBSCRIBE
 pub record AsksToUnsubscribe (s : SessionStep) : Type 0 where
@@ -101,7 +101,7 @@ AreTextsAnswered run m first client (text ∷ texts) codes acts =
     × AreTextsAnswered run m (first ++ own) client texts others rest
 
 -- the same of an UNSUBSCRIBE
-pub record UnsubscribesInOrder (run : List Played) (m : Played) (before : List Act) (c : Calls m before) (unsubscribe : Unsubscribe) : Type 0 where
+pub record UnsubscribesInOrder (run : List Played) (m : Played) (before : List Act) (c : CallsSession m before) (unsubscribe : Unsubscribe) : Type 0 where
   pub acts : List Act
   pub answer : SessionStep
   pub rest : List Act
@@ -114,7 +114,7 @@ pub record UnsubscribesInOrder (run : List Played) (m : Played) (before : List A
 abbrev pub UnsubscribesHaveOperations : Type 0
 UnsubscribesHaveOperations =
     (run later : List Played) (m : Played) (w : World) → Reached (run ++ m ∷ later) w
-    → (before : List Act) (c : Calls m before) (a : AsksToUnsubscribe c.step) → UnsubscribesInOrder run m before c a.unsubscribe
+    → (before : List Act) (c : CallsSession m before) (a : AsksToUnsubscribe c.step) → UnsubscribesInOrder run m before c a.unsubscribe
 
 -- ---- a message with RETAIN that a client published
 pub record AsksToRetain (s : SessionStep) (x : Message) : Type 0 where
@@ -129,7 +129,7 @@ pub record AsksToRetain (s : SessionStep) (x : Message) : Type 0 where
 abbrev pub PublishesHaveOperations : Type 0
 PublishesHaveOperations =
     (run later : List Played) (m : Played) (w : World) → Reached (run ++ m ∷ later) w
-    → (before : List Act) (c : Calls m before) (x : Message) → AsksToRetain c.step x
+    → (before : List Act) (c : CallsSession m before) (x : Message) → AsksToRetain c.step x
     → (dot : Dot) × (stamp : Stamp) × (rest : List Act) × (c.after ≡ Store (Made (operations.Put dot stamp (content_of x))) ∷ rest)
 
 -- ---- each cause has its operation

@@ -21,8 +21,8 @@ use Rattle.node_work.specs.Held.Sessions.{SessionStep, Called}
 use Rattle.node_work.specs.View.{Place, HeldView}
 use Rattle.node_work.proofs.Working.{runs_join}
 use Rattle.node_clients.specs.Subscribing.{entry_of, identifier_of}
-use Rattle.passing_laws.specs.Publishing.{Gives}
-use Rattle.passing_laws.specs.Asking.{AreGranted, AreRemoved, AreInUse, Subscribes, Unsubscribes}
+use Rattle.passing_laws.specs.Publishing.{AnswersWith}
+use Rattle.passing_laws.specs.Asking.{AreGranted, FiltersAreRemoved, AreInUse, TakesSubscribe, TakesUnsubscribe}
 use Rattle.passing_laws.proofs.Answering.{suback_tells, unsuback_tells}
 use Rattle.cluster_play.specs.Worlds.{World}
 use Rattle.cluster_play.specs.Runs.{Played}
@@ -31,7 +31,7 @@ use Rattle.cluster_play.specs.NextOperations.{CoversWhatStands}
 use Rattle.cluster_play.proofs.Amid.{amid_acts}
 use Rattle.cluster_play.proofs.Operations.{own_some}
 use Rattle.cluster_play.proofs.Showing.{node_holds_amid}
-use Rattle.run_laws.specs.Staying.{Calls}
+use Rattle.run_laws.specs.Staying.{CallsSession}
 use Rattle.run_laws.specs.Asking.{IsMadeIn, AreSubscribed, NothingStood, AreUnsubscribed, AnswersSubscribe, AnswersUnsubscribe, SubackStaysTrue, UnsubackStaysTrue}
 use Rattle.run_laws.proofs.Staying.{CalledAt, called_at, stays_made}
 
@@ -44,7 +44,7 @@ none_passes p q r (x ∷ es) e = by (p x.1) (list_any (λ y. p y.1) es) e (none_
     by true b t f = absurd (let z = t in cc)
     by false b t f = f t
 
-module _ (run later : List Played) (m : Played) (w : World) (r : Reached (run ++ m ∷ later) w) (before : List Act) (c : Calls m before) where
+module _ (run later : List Played) (m : Played) (w : World) (r : Reached (run ++ m ∷ later) w) (before : List Act) (c : CallsSession m before) where
   abbrev here : CalledAt run m before c
   here = called_at run later m w r before c
 
@@ -108,7 +108,7 @@ module _ (run later : List Played) (m : Played) (w : World) (r : Reached (run ++
   }
 
   unsubscribed : (client : List ℕ) (texts : List (List ℕ)) (codes : List ℕ) (h : HeldView) (pre ops after : List Act) (a : Act) → Runs place start pre h → acts_of m.fate ≡ pre ++ (ops ++ a ∷ after) → before ≡ pre ++ ops
-      → AreRemoved place h client texts codes ops → AreUnsubscribed run later m w before client texts codes
+      → FiltersAreRemoved place h client texts codes ops → AreUnsubscribed run later m w before client texts codes
   unsubscribed client [] codes h pre ops after a runs all whole d = d.0
   unsubscribed client (text ∷ texts) codes h pre ops after a runs all whole (code, others, own, mid, rest, is, parts, one, ran, more) =
       let next = unsubscribed client texts others mid (pre ++ own) rest after a (runs_join place pre own start h mid runs ran) (all ∙ shifted pre own rest (a ∷ after) ops parts) (whole ∙ moved pre own rest ops parts) more in
@@ -140,7 +140,7 @@ module _ (run later : List Played) (m : Played) (w : World) (r : Reached (run ++
   all_acts earlier acts call is =
       c.acts ∙ ap (λ zs. zs ++ Session (Called c.step) ∷ c.after) (whole_acts earlier acts call is) ∙ append_assoc (earlier ++ Session (Called call) ∷ []) acts (Session (Called c.step) ∷ c.after)
 
-  subscribe_told : (id : ℕ) (codes : List ℕ) → Subscribes place start before c.step.client id codes → AnswersSubscribe run later m w before c.step.client id codes
+  subscribe_told : (id : ℕ) (codes : List ℕ) → TakesSubscribe place start before c.step.client id codes → AnswersSubscribe run later m w before c.step.client id codes
   subscribe_told id codes s = record {
     calls = record { call = s.call; earlier = s.after.earlier; acts = s.acts; is = s.after.is; same = s.after.same };
     subscribe = s.subscribe;
@@ -152,7 +152,7 @@ module _ (run later : List Played) (m : Played) (w : World) (r : Reached (run ++
         (all_acts s.after.earlier s.acts s.call s.after.is) (whole_acts s.after.earlier s.acts s.call s.after.is) s.granted;
   }
 
-  unsubscribe_told : (id : ℕ) (codes : List ℕ) → Unsubscribes place start before c.step.client id codes → AnswersUnsubscribe run later m w before c.step.client id codes
+  unsubscribe_told : (id : ℕ) (codes : List ℕ) → TakesUnsubscribe place start before c.step.client id codes → AnswersUnsubscribe run later m w before c.step.client id codes
   unsubscribe_told id codes s = record {
     calls = record { call = s.call; earlier = s.after.earlier; acts = s.acts; is = s.after.is; same = s.after.same };
     unsubscribe = s.unsubscribe;
@@ -164,11 +164,11 @@ module _ (run later : List Played) (m : Played) (w : World) (r : Reached (run ++
         (all_acts s.after.earlier s.acts s.call s.after.is) (whole_acts s.after.earlier s.acts s.call s.after.is) s.removed;
   }
 
-  suback_stays : (id : ℕ) (codes : List ℕ) → Gives (suback id codes) c.step.reaction.packets → AreInUse codes ⊎ AnswersSubscribe run later m w before c.step.client id codes
+  suback_stays : (id : ℕ) (codes : List ℕ) → AnswersWith (suback id codes) c.step.reaction.packets → AreInUse codes ⊎ AnswersSubscribe run later m w before c.step.client id codes
   suback_stays id codes g =
       elim (suback_tells here.event place start here.end (acts_of m.fate) here.decides here.runs before c.after c.step id codes c.acts g) [ inl used ↦ inl used | inr s ↦ inr (subscribe_told id codes s) ]
 
-  unsuback_stays : (id : ℕ) (codes : List ℕ) → Gives (unsuback id codes) c.step.reaction.packets → AreInUse codes ⊎ AnswersUnsubscribe run later m w before c.step.client id codes
+  unsuback_stays : (id : ℕ) (codes : List ℕ) → AnswersWith (unsuback id codes) c.step.reaction.packets → AreInUse codes ⊎ AnswersUnsubscribe run later m w before c.step.client id codes
   unsuback_stays id codes g =
       elim (unsuback_tells here.event place start here.end (acts_of m.fate) here.decides here.runs before c.after c.step id codes c.acts g) [ inl used ↦ inl used | inr s ↦ inr (unsubscribe_told id codes s) ]
 

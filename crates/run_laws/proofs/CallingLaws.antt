@@ -4,16 +4,16 @@ use Rattle.std.proofs.lemmas.List.{append-nil}
 use Rattle.session_laws.specs.Runs.{Step}
 use Rattle.finite_maps.proofs.Texts.{itself, same_text}
 use Rattle.node_laws.specs.Lives.{is_client, step_in, after_act, after_move, life, lost_step}
-use Rattle.node_laws.specs.Moves.{Move, Did, Lost as Loses, did}
-use Rattle.node_work.specs.Acts.{Act, Moment, Began, Moved, Store, Connection, Session, Bridge, Out, Named, Acknowledged, Passed, Dropped}
+use Rattle.node_laws.specs.Moves.{Move, Acted, Reopened as Loses, did}
+use Rattle.node_work.specs.Acts.{Act, MomentTaken, Began, Moved, Store, Connection, Session, Bridge, Out, Named, Acknowledged, Passed, Dropped}
 use Rattle.node_work.specs.Held.Sessions.{Begun, Called, Over}
 use Rattle.cluster_play.specs.Worlds.{World, Fate, Released, Lost, Cut, Faulted, Was_down, Restarted}
 use Rattle.cluster_play.specs.Runs.{Played}
 use Rattle.cluster_play.specs.Histories.{Reached, site, acts_of, moves_of, own_moves, moves_at}
 use Rattle.cluster_play.proofs.Amid.{amid_acts}
 use Rattle.passing_laws.proofs.Splits.{none_there}
-use Rattle.run_laws.specs.Staying.{Calls}
-use Rattle.run_laws.specs.Calling.{IsOver, StaysCalled, CallsStay}
+use Rattle.run_laws.specs.Staying.{CallsSession}
+use Rattle.run_laws.specs.Calling.{SessionIsOver, StaysCalled, CallsStay}
 
 -- ---- what moves add to the calls of a session
 abbrev Adds : List Step → List Step → Type 0
@@ -21,25 +21,25 @@ Adds given after = (more : List Step) × (after ≡ given ++ more)
 
 -- the client's own session begins or is over
 abbrev Ends : List ℕ → Move → Type 0
-Ends client m = (m ≡ Did (Session (Over client))) ⊎ (m ≡ Did (Session (Begun client)))
+Ends client m = (m ≡ Acted (Session (Over client))) ⊎ (m ≡ Acted (Session (Begun client)))
 
 same : (given : List Step) → Adds given given
 same given = ([], sym (append-nil given))
 
-begins : (client other : List ℕ) (b : Bool) → is_client client other ≡ b → (given : List Step) → Ends client (Did (Session (Begun other))) ⊎ Adds given (cond b [] given)
-begins client other true is given = inl (inr (ap (λ c. Did (Session (Begun c))) (sym (same_text client other is))))
+begins : (client other : List ℕ) (b : Bool) → is_client client other ≡ b → (given : List Step) → Ends client (Acted (Session (Begun other))) ⊎ Adds given (cond b [] given)
+begins client other true is given = inl (inr (ap (λ c. Acted (Session (Begun c))) (sym (same_text client other is))))
 begins client other false is given = inr (same given)
 
-ends : (client other : List ℕ) (b : Bool) → is_client client other ≡ b → (given : List Step) → Ends client (Did (Session (Over other))) ⊎ Adds given (cond b [] given)
-ends client other true is given = inl (inl (ap (λ c. Did (Session (Over c))) (sym (same_text client other is))))
+ends : (client other : List ℕ) (b : Bool) → is_client client other ≡ b → (given : List Step) → Ends client (Acted (Session (Over other))) ⊎ Adds given (cond b [] given)
+ends client other true is given = inl (inl (ap (λ c. Acted (Session (Over c))) (sym (same_text client other is))))
 ends client other false is given = inr (same given)
 
 calls : (b : Bool) (s : Step) (given : List Step) → Adds given (cond b (given ++ s ∷ []) given)
 calls true s given = (s ∷ [], refl)
 calls false s given = same given
 
-adds_act : (client : List ℕ) (a : Act) (given : List Step) → Ends client (Did a) ⊎ Adds given (after_act client a given)
-adds_act client (Moment at) given = inr (same given)
+adds_act : (client : List ℕ) (a : Act) (given : List Step) → Ends client (Acted a) ⊎ Adds given (after_act client a given)
+adds_act client (MomentTaken at) given = inr (same given)
 adds_act client Began given = inr (same given)
 adds_act client (Moved homes) given = inr (same given)
 adds_act client (Store a) given = inr (same given)
@@ -55,21 +55,21 @@ adds_act client (Passed m copies lost routes) given = inr (same given)
 adds_act client Dropped given = inr (same given)
 
 adds_move : (client : List ℕ) (m : Move) (given : List Step) → Ends client m ⊎ Adds given (after_move client m given)
-adds_move client (Did a) given = adds_act client a given
+adds_move client (Acted a) given = adds_act client a given
 adds_move client Loses given = inr (lost_step ∷ [], refl)
 
-over_first : (client : List ℕ) (m : Move) (moves : List Move) → Ends client m → IsOver client (m ∷ moves)
+over_first : (client : List ℕ) (m : Move) (moves : List Move) → Ends client m → SessionIsOver client (m ∷ moves)
 over_first client m moves (inl e) = record { before = []; after = moves; is = inl (ap (λ n. n ∷ moves) e) }
 over_first client m moves (inr e) = record { before = []; after = moves; is = inr (ap (λ n. n ∷ moves) e) }
 
-over_later : (client : List ℕ) (m : Move) (moves : List Move) → IsOver client moves → IsOver client (m ∷ moves)
+over_later : (client : List ℕ) (m : Move) (moves : List Move) → SessionIsOver client moves → SessionIsOver client (m ∷ moves)
 over_later client m moves o = record {
   before = m ∷ o.before;
   after = o.after;
   is = elim o.is [ inl e ↦ inl (ap (λ ns. m ∷ ns) e) | inr e ↦ inr (ap (λ ns. m ∷ ns) e) ];
 }
 
-adds_moves : (client : List ℕ) (moves : List Move) (given : List Step) → IsOver client moves ⊎ Adds given (life client moves given)
+adds_moves : (client : List ℕ) (moves : List Move) (given : List Step) → SessionIsOver client moves ⊎ Adds given (life client moves given)
 adds_moves client [] given = inr (same given)
 adds_moves client (m ∷ moves) given =
     elim (adds_move client m given) [
@@ -91,7 +91,7 @@ called client false e s given = absurd (let z : false ≡ true = e in cc)
 -- ---- the moves of a step
 did_both : (xs ys : List Act) → did (xs ++ ys) ≡ did xs ++ did ys
 did_both [] ys = refl
-did_both (x ∷ xs) ys = ap (λ zs. Did x ∷ zs) (did_both xs ys)
+did_both (x ∷ xs) ys = ap (λ zs. Acted x ∷ zs) (did_both xs ys)
 
 moves_did : (fate : Fate) (before after : List Act) (a : Act) → acts_of fate ≡ before ++ a ∷ after → moves_of fate ≡ did (before ++ a ∷ after)
 moves_did (Released i e acts outputs) before after a is = ap did is
@@ -105,20 +105,20 @@ moves_both : (i : ℕ) (ms ns : List Played) → moves_at i (ms ++ ns) ≡ moves
 moves_both i [] ns = refl
 moves_both i (m ∷ ms) ns = ap (λ xs. own_moves i m.fate ++ xs) (moves_both i ms ns) ∙ sym (append_assoc (own_moves i m.fate) (moves_at i ms) (moves_at i ns))
 
-stays_called : (run later : List Played) (m : Played) (w : World) → Reached (run ++ m ∷ later) w → (before : List Act) (c : Calls m before) → StaysCalled run later m before c
+stays_called : (run later : List Played) (m : Played) (w : World) → Reached (run ++ m ∷ later) w → (before : List Act) (c : CallsSession m before) → StaysCalled run later m before c
 stays_called run later m w r before c =
     let i = site m.fate in
     let client = c.step.client in
     let a = Session (Called c.step) in
-    let own : own_moves i m.fate ≡ did before ++ Did a ∷ did c.after = ap (λ b. cond b (moves_of m.fate) []) (eq-eqb i i refl) ∙ moves_did m.fate before c.after a c.acts ∙ did_both before (a ∷ c.after) in
+    let own : own_moves i m.fate ≡ did before ++ Acted a ∷ did c.after = ap (λ b. cond b (moves_of m.fate) []) (eq-eqb i i refl) ∙ moves_did m.fate before c.after a c.acts ∙ did_both before (a ∷ c.after) in
     let earlier = moves_at i run ++ did before in
     let after = did c.after ++ moves_at i later in
-    let moves : moves_at i (run ++ m ∷ later) ≡ earlier ++ Did a ∷ after =
-    moves_both i run (m ∷ later) ∙ ap (λ xs. moves_at i run ++ (xs ++ moves_at i later)) own ∙ ap (λ xs. moves_at i run ++ xs) (append_assoc (did before) (Did a ∷ did c.after) (moves_at i later))
-    ∙ sym (append_assoc (moves_at i run) (did before) (Did a ∷ after)) in
+    let moves : moves_at i (run ++ m ∷ later) ≡ earlier ++ Acted a ∷ after =
+    moves_both i run (m ∷ later) ∙ ap (λ xs. moves_at i run ++ (xs ++ moves_at i later)) own ∙ ap (λ xs. moves_at i run ++ xs) (append_assoc (did before) (Acted a ∷ did c.after) (moves_at i later))
+    ∙ sym (append_assoc (moves_at i run) (did before) (Acted a ∷ after)) in
     let past = life client earlier [] in
     let so_far : life client (moves_at i (run ++ m ∷ later)) [] ≡ life client after (past ++ step_in c.step ∷ []) =
-    ap (λ ms. life client ms []) moves ∙ life_both client earlier (Did a ∷ after) [] ∙ ap (life client after) (called client (is_client client client) (itself client) (step_in c.step) past) in
+    ap (λ ms. life client ms []) moves ∙ life_both client earlier (Acted a ∷ after) [] ∙ ap (life client after) (called client (is_client client client) (itself client) (step_in c.step) past) in
     let here = amid_acts run later m w r before c.after a c.acts in
     record {
       at = here.runs.1.0.at ∙ here.moment;

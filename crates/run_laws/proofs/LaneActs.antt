@@ -16,7 +16,7 @@ use Rattle.message_lanes.specs.Lanes.{Lanes, Put as PutInto, Took as TookOf, Got
 use Rattle.message_lanes.proofs.Lists.{numbered_longer}
 use Rattle.message_lanes.proofs.Keeping.{AreKept, act_keeps, act_begins, waits_numbered}
 use Rattle.node_bridge.specs.View.{BridgeView, has_lanes, is_next, lane_to, offer_to}
-use Rattle.node_work.specs.Acts.{Act, Moment, Began, Moved, Store, Connection, Session, Bridge, Out, Named, Acknowledged, Passed, Dropped, Runs, gather, heard_in}
+use Rattle.node_work.specs.Acts.{Act, MomentTaken, Began, Moved, Store, Connection, Session, Bridge, Out, Named, Acknowledged, Passed, Dropped, Runs, gather, heard_in}
 use Rattle.node_work.specs.Held.Bridge.{BridgeAct, Put, Took, Got, Believed, Gave, Left_out, Carries}
 use Rattle.node_work.specs.Held.Connections.{Opened, Fed, Accepted, Closed}
 use Rattle.node_work.specs.Held.Sessions.{Begun, Called, Over}
@@ -145,7 +145,7 @@ module _ (p : Place) (others puts : ℕ → List Forward) where
       subst (λ (q : ℕ → List Forward). LanesGrow p.id h'.bridge.lanes q (λ j. took j ++ []) others puts []) (λ i j. sym (append-nil (put j)) i)
       (subst (λ (t : ℕ → List Forward). LanesGrow p.id h'.bridge.lanes put t others puts []) (λ i j. sym (append-nil (took j)) i)
       (record { kept = subst (λ (v : HeldView). AreKept v.bridge.lanes put took others) (sym r) k; begins = begins; sent = λ f n at. none-some at }))
-  lanes_grow (Moment at ∷ acts) h h' put took k le begins r all = lanes_grow acts r.0 h' put took (same_lanes r.0 _ put took r.1.1 k) le begins r.2 all
+  lanes_grow (MomentTaken at ∷ acts) h h' put took k le begins r all = lanes_grow acts r.0 h' put took (same_lanes r.0 _ put took r.1.1 k) le begins r.2 all
   lanes_grow (Began ∷ acts) h h' put took k le begins r all = lanes_grow acts r.0 h' put took (same_lanes r.0 _ put took r.1.1 k) le begins r.2 all
   lanes_grow (Moved homes ∷ acts) h h' put took k le begins r all = lanes_grow acts r.0 h' put took (same_lanes r.0 _ put took r.1.1 k) le begins r.2 all
   lanes_grow (Store a ∷ acts) h h' put took k le begins r all = lanes_grow acts r.0 h' put took (same_lanes r.0 _ put took r.1.1 k) le begins r.2 all

@@ -26,7 +26,7 @@ use Rattle.replica_store.proofs.Views.{live_is}
 use Rattle.cluster_play.specs.Worlds.{Site, World, Happens, numbered}
 use Rattle.cluster_play.specs.Runs.{Played, IsHonestStep}
 use Rattle.cluster_play.specs.Histories.{Reached, site, acts_of, taken_amid, operations_amid, moves_amid}
-use Rattle.cluster_play.specs.Agreement.{HoldsAmid, AnswersBy}
+use Rattle.cluster_play.specs.Agreement.{HoldsAmid, AnswersByOperations}
 use Rattle.cluster_play.proofs.Amid.{amid_acts}
 use Rattle.cluster_play.proofs.Explaining.{Seated, past, seat_lasts}
 use Rattle.cluster_play.proofs.Kept.{explained}
@@ -39,7 +39,7 @@ use Rattle.cluster_play.proofs.Showing.{node_holds_amid}
 use Rattle.cluster_play.proofs.Sites.{number_is}
 use Rattle.cluster_play.proofs.Splits.{runs_split}
 use Rattle.run_laws.specs.LaneHistories.{put, took}
-use Rattle.run_laws.specs.Lanes.{TakesOver, MakesHanded, JoinsHanded}
+use Rattle.run_laws.specs.Lanes.{TakesFromLane, MakesHanded, JoinsHanded}
 use Rattle.run_laws.proofs.LaneActs.{SaysOf}
 use Rattle.run_laws.proofs.LaneRuns.{lanes_explained, put_both, took_both}
 
@@ -82,7 +82,7 @@ lanes_go_on i j ms ns = ((put i j ns, sym (put_both i j ms ns)), (took i j ns, s
 -- ---- copies
 
 -- a step that takes a message: what its event came to, and what the node holds there
-record TakenAt (run : List Played) (m : Played) (before : List Act) (s : TakesOver m before) : Type 0 where
+record TakenAt (run : List Played) (m : Played) (before : List Act) (s : TakesFromLane m before) : Type 0 where
   world : World
   reached : Reached run world
   held : HeldView
@@ -94,7 +94,7 @@ record TakenAt (run : List Played) (m : Played) (before : List Act) (s : TakesOv
   happens : Happens world m.step m.fate next
   honest : IsHonestStep world.frames m.step
 
-taken_at : (run later : List Played) (m : Played) (w : World) → Reached (run ++ m ∷ later) w → (before : List Act) (s : TakesOver m before) → TakenAt run m before s
+taken_at : (run later : List Played) (m : Played) (w : World) → Reached (run ++ m ∷ later) w → (before : List Act) (s : TakesFromLane m before) → TakenAt run m before s
 taken_at run later m w r before s =
     let a = Bridge (Took s.from s.number s.message s.copies s.lost) in
     let rest = a ∷ s.after in
@@ -125,7 +125,7 @@ taken_at run later m w r before s =
       honest = half.honest.0;
     }
 
-module _ (run later : List Played) (m : Played) (w : World) (r : Reached (run ++ m ∷ later) w) (before : List Act) (s : TakesOver m before) where
+module _ (run later : List Played) (m : Played) (w : World) (r : Reached (run ++ m ∷ later) w) (before : List Act) (s : TakesFromLane m before) where
   abbrev here : TakenAt run m before s
   here = taken_at run later m w r before s
 
@@ -133,7 +133,7 @@ module _ (run later : List Played) (m : Played) (w : World) (r : Reached (run ++
   handed_as_taken =
       let i = site m.fate in
       let a = Bridge (Took s.from s.number s.message s.copies s.lost) in
-      let by : AnswersBy (operations_amid i run before) here.held = node_holds_amid run here.world here.next m here.reached here.honest here.happens i before here.held here.there in
+      let by : AnswersByOperations (operations_amid i run before) here.held = node_holds_amid run here.world here.next m here.reached here.honest here.happens i before here.held here.there in
       let own = own_some _ (λ o. taken_amid i run before (dot_of o)) (amid_acts run later m w r before s.after a s.acts).grown.own_dots in
       record { world = here.world; reached = here.reached; held = here.held; there = here.there; made = here.made; live = live_is (operations_amid i run before) here.held.store own by.state }
 

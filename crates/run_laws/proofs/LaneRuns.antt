@@ -18,11 +18,11 @@ use Rattle.broker_node.specs.declared.event.EventKind.TheVariants as kinds
 use Rattle.broker_node.specs.Step.{IsHeard, IsHeardIn, IsHeardOf}
 use Rattle.node_work.specs.declared.frame.Frame.{Frame}
 use Rattle.node_work.specs.Acts.{Act, Bridge, Runs, gather, heard_in}
-use Rattle.node_work.specs.Frames.{is_for}
+use Rattle.node_work.specs.Frames.{is_for, names_nodes}
 use Rattle.node_work.specs.Held.Bridge.{BridgeAct, Gave}
 use Rattle.home_table.specs.Table.{Table}
 use Rattle.node_work.specs.View.{Place, HeldView, NodeView, fresh, nodes_of}
-use Rattle.node_laws.specs.Moves.{Move, Moves, Lost as Loses, did}
+use Rattle.node_laws.specs.Moves.{Move, Moves, Reopened as Loses, did}
 use Rattle.node_laws.proofs.MoveLaws.{moves_join, acts_are_moves, moves_lead_to_one}
 use Rattle.cluster_play.specs.declared.step.Step.{Step}
 use Rattle.cluster_play.specs.Worlds.{Site, World, Fate, Released, Lost, Cut, Faulted, Was_down, Restarted, Happens, frames_in}
@@ -110,7 +110,8 @@ module _ (put took : Histories) (i : ℕ) where
 
   all_for : (p : Place) (f : BridgeFrame) (bs : List BridgeAct) (b : Bool) → p.id ≡ i → is_for p f ≡ b → SaysOf (put f.from f.to) (took f.from f.to) f.body → cond b (IsHeardOf f.from f.body bs) (bs ≡ []) → All bs
   all_for p f bs true own e s h =
-      let to : f.to ≡ i = nat_is f.to p.id (and_true (nat_eq f.to p.id) (not (nat_eq f.from p.id)) (and_true (nat_eq f.to p.id && not (nat_eq f.from p.id)) (nat_lt f.from (nodes_of p)) e).0).0 ∙ own in
+      let named = and_true (nat_eq f.to p.id && not (nat_eq f.from p.id) && nat_lt f.from (nodes_of p)) (names_nodes (nodes_of p) f.body) e in
+      let to : f.to ≡ i = nat_is f.to p.id (and_true (nat_eq f.to p.id) (not (nat_eq f.from p.id)) (and_true (nat_eq f.to p.id && not (nat_eq f.from p.id)) (nat_lt f.from (nodes_of p)) named.0).0).0 ∙ own in
       all_of f.from f.body bs (subst (λ k. SaysOf (put f.from k) (took f.from k) f.body) to s) h
   all_for p f bs false own e s h = all_none bs h
 

@@ -6,10 +6,10 @@ use Rattle.mqtt_sessions.specs.Reaction.{Reaction}
 use Rattle.session_laws.specs.Arrivals.{is_for, is_open_after, PassesBy, ComesOnce}
 use Rattle.session_laws.specs.Runs.{Event, connects, queues, takes, answers, closes, ticks, finishes, loses, Step, connected_after}
 use Rattle.finite_maps.proofs.Texts.{same_text}
-use Rattle.node_work.specs.Acts.{Act, Moment, Began, Moved, Store, Connection, Session, Bridge, Out, Named, Acknowledged, Passed, Dropped}
+use Rattle.node_work.specs.Acts.{Act, MomentTaken, Began, Moved, Store, Connection, Session, Bridge, Out, Named, Acknowledged, Passed, Dropped}
 use Rattle.node_work.specs.Held.Sessions.{SessionStep, Begun, Called, Over}
 use Rattle.node_laws.specs.Lives.{is_client, step_in, after_act, after_move, life, lost_step}
-use Rattle.node_laws.specs.Moves.{Move, Did, Lost as Loses, did}
+use Rattle.node_laws.specs.Moves.{Move, Acted, Reopened as Loses, did}
 use Rattle.cluster_play.specs.Worlds.{Fate, Released, Lost, Cut, Faulted, Was_down, Restarted}
 use Rattle.cluster_play.specs.Runs.{Played}
 use Rattle.cluster_play.specs.Histories.{site, acts_of, moves_of, own_moves, moves_at, moves_amid}
@@ -108,7 +108,7 @@ pub record IsMove (client : List ℕ) (moves : List Move) (s : Step) : Type 0 wh
   pub before : List Move
   pub step : SessionStep
   pub after : List Move
-  pub is : moves ≡ before ++ Did (Session (Called step)) ∷ after
+  pub is : moves ≡ before ++ Acted (Session (Called step)) ∷ after
   pub same : step.client ≡ client
   pub step_is : step_in step ≡ s
 
@@ -138,7 +138,7 @@ module _ (client : List ℕ) (past since : List Step) (s : Step) (kept : lost_st
   by_call t false is given e = inl (since, e)
 
   by_act : (a : Act) (given : List Step) → after_act client a given ≡ past ++ s ∷ since → InGiven past s given ⊎ ((t : SessionStep) × (a ≡ Session (Called t)) × (t.client ≡ client) × (step_in t ≡ s))
-  by_act (Moment at) given e = inl (since, e)
+  by_act (MomentTaken at) given e = inl (since, e)
   by_act Began given e = inl (since, e)
   by_act (Moved homes) given e = inl (since, e)
   by_act (Store a) given e = inl (since, e)
@@ -153,8 +153,8 @@ module _ (client : List ℕ) (past since : List Step) (s : Step) (kept : lost_st
   by_act (Passed m copies lost routes) given e = inl (since, e)
   by_act Dropped given e = inl (since, e)
 
-  by_move : (m : Move) (given : List Step) → after_move client m given ≡ past ++ s ∷ since → InGiven past s given ⊎ ((t : SessionStep) × (m ≡ Did (Session (Called t))) × (t.client ≡ client) × (step_in t ≡ s))
-  by_move (Did a) given e = elim (by_act a given e) [ inl g ↦ inl g | inr x ↦ inr (x.0, ap Did x.1, x.2, x.3) ]
+  by_move : (m : Move) (given : List Step) → after_move client m given ≡ past ++ s ∷ since → InGiven past s given ⊎ ((t : SessionStep) × (m ≡ Acted (Session (Called t))) × (t.client ≡ client) × (step_in t ≡ s))
+  by_move (Acted a) given e = elim (by_act a given e) [ inl g ↦ inl g | inr x ↦ inr (x.0, ap Acted x.1, x.2, x.3) ]
   by_move Loses given e = elim (grown given past since s lost_step e) [ inl g ↦ inl g | inr same ↦ absurd (kept same) ]
 
 moved : (client : List ℕ) (past : List Step) (s : Step) → (lost_step ≡ s → ⊥) → (moves : List Move) (given since : List Step) → life client moves given ≡ past ++ s ∷ since → InGiven past s given ⊎ IsMove client moves s
@@ -183,34 +183,34 @@ pub record IsAct (i : ℕ) (run : List Played) (a : Act) : Type 0 where
 abbrev IsDid : Act → List Act → Type 0
 IsDid a acts = (before : List Act) × (after : List Act) × (acts ≡ before ++ a ∷ after)
 
-same_act : (a b : Act) → Did a ≡ Did b → a ≡ b
+same_act : (a b : Act) → Acted a ≡ Acted b → a ≡ b
 same_act a b e = cc
 
-did_acts : (acts : List Act) (ms ns : List Move) (a : Act) → did acts ≡ ms ++ Did a ∷ ns → IsDid a acts
-did_acts [] ms ns a e = none_there ms ns (Did a) e
+did_acts : (acts : List Act) (ms ns : List Move) (a : Act) → did acts ≡ ms ++ Acted a ∷ ns → IsDid a acts
+did_acts [] ms ns a e = none_there ms ns (Acted a) e
 did_acts (x ∷ acts) [] ns a e = ([], acts, ap (λ y. y ∷ acts) (same_act x a (head_is e)))
 did_acts (x ∷ acts) (m ∷ ms) ns a e = let r = did_acts acts ms ns a (tail_is e) in (x ∷ r.0, r.1, ap (λ zs. x ∷ zs) r.2)
 
-lost_is_none : {X : Type 0} (ms ns : List Move) (a : Act) → Loses ∷ [] ≡ ms ++ Did a ∷ ns → X
-lost_is_none [] ns a e = absurd (let z : Loses ≡ Did a = head_is e in cc)
-lost_is_none (m ∷ ms) ns a e = none_there ms ns (Did a) (tail_is e)
+lost_is_none : {X : Type 0} (ms ns : List Move) (a : Act) → Loses ∷ [] ≡ ms ++ Acted a ∷ ns → X
+lost_is_none [] ns a e = absurd (let z : Loses ≡ Acted a = head_is e in cc)
+lost_is_none (m ∷ ms) ns a e = none_there ms ns (Acted a) (tail_is e)
 
-acts_in : (fate : Fate) (ms ns : List Move) (a : Act) → moves_of fate ≡ ms ++ Did a ∷ ns → IsDid a (acts_of fate)
+acts_in : (fate : Fate) (ms ns : List Move) (a : Act) → moves_of fate ≡ ms ++ Acted a ∷ ns → IsDid a (acts_of fate)
 acts_in (Released i e acts outputs) ms ns a h = did_acts acts ms ns a h
 acts_in (Lost i e acts) ms ns a h = did_acts acts ms ns a h
-acts_in (Cut i) ms ns a h = none_there ms ns (Did a) h
-acts_in (Faulted i fault) ms ns a h = none_there ms ns (Did a) h
-acts_in (Was_down i) ms ns a h = none_there ms ns (Did a) h
+acts_in (Cut i) ms ns a h = none_there ms ns (Acted a) h
+acts_in (Faulted i fault) ms ns a h = none_there ms ns (Acted a) h
+acts_in (Was_down i) ms ns a h = none_there ms ns (Acted a) h
 acts_in (Restarted i) ms ns a h = lost_is_none ms ns a h
 
-own_in : (i : ℕ) (fate : Fate) (b : Bool) → nat_eq (site fate) i ≡ b → (ms ns : List Move) (a : Act) → cond b (moves_of fate) [] ≡ ms ++ Did a ∷ ns → (site fate ≡ i) × IsDid a (acts_of fate)
+own_in : (i : ℕ) (fate : Fate) (b : Bool) → nat_eq (site fate) i ≡ b → (ms ns : List Move) (a : Act) → cond b (moves_of fate) [] ≡ ms ++ Acted a ∷ ns → (site fate ≡ i) × IsDid a (acts_of fate)
 own_in i fate true is ms ns a h = (eqb-true (site fate) i is, acts_in fate ms ns a h)
-own_in i fate false is ms ns a h = none_there ms ns (Did a) h
+own_in i fate false is ms ns a h = none_there ms ns (Acted a) h
 
-in_run : (i : ℕ) (run : List Played) (ms ns : List Move) (a : Act) → moves_at i run ≡ ms ++ Did a ∷ ns → IsAct i run a
-in_run i [] ms ns a h = none_there ms ns (Did a) h
+in_run : (i : ℕ) (run : List Played) (ms ns : List Move) (a : Act) → moves_at i run ≡ ms ++ Acted a ∷ ns → IsAct i run a
+in_run i [] ms ns a h = none_there ms ns (Acted a) h
 in_run i (m ∷ run) ms ns a h =
-    elim (splits (own_moves i m.fate) (moves_at i run) ms ns (Did a) h) [
+    elim (splits (own_moves i m.fate) (moves_at i run) ms ns (Acted a) h) [
       | inl r ↦ (let x = own_in i m.fate (nat_eq (site m.fate) i) refl ms r.0 a r.1 in
           record { first = []; m = m; last = run; is = refl; at = x.0; before = x.1.0; after = x.1.1; acts = x.1.2 })
       | inr r ↦ (let x = in_run i run r.0 ns a r.2 in
@@ -218,9 +218,9 @@ in_run i (m ∷ run) ms ns a h =
     ]
 
 -- amid a step: in an earlier step, or among the acts before
-pub in_amid : (run later : List Played) (m : Played) (before after : List Act) (a b : Act) → acts_of m.fate ≡ before ++ b ∷ after → (ms ns : List Move) → moves_amid (site m.fate) run before ≡ ms ++ Did a ∷ ns → IsAct (site m.fate) (run ++ m ∷ later) a
+pub in_amid : (run later : List Played) (m : Played) (before after : List Act) (a b : Act) → acts_of m.fate ≡ before ++ b ∷ after → (ms ns : List Move) → moves_amid (site m.fate) run before ≡ ms ++ Acted a ∷ ns → IsAct (site m.fate) (run ++ m ∷ later) a
 in_amid run later m before after a b acts ms ns h =
-    elim (splits (moves_at (site m.fate) run) (did before) ms ns (Did a) h) [
+    elim (splits (moves_at (site m.fate) run) (did before) ms ns (Acted a) h) [
       | inl r ↦ (let x = in_run (site m.fate) run ms r.0 a r.1 in
           record { first = x.first; m = x.m; last = x.last ++ m ∷ later; is = ap (λ zs. zs ++ m ∷ later) x.is ∙ append_assoc x.first (x.m ∷ x.last) (m ∷ later); at = x.at; before = x.before; after = x.after; acts = x.acts })
       | inr r ↦ (let x = did_acts before r.0 ns a r.2 in

@@ -24,20 +24,20 @@ use Rattle.node_laws.proofs.LifeLaws.{run_more}
 use Rattle.node_work.specs.Acts.{Act, Store, Session, Made}
 use Rattle.node_work.specs.Held.Sessions.{Called, HappensAt}
 use Rattle.node_work.specs.Passing.{content_of}
-use Rattle.passing_laws.specs.Publishing.{Gives, Publishes, PassesOn, message_at}
+use Rattle.passing_laws.specs.Publishing.{AnswersWith, Publishes, BeginsWithPassingOn, message_at}
 use Rattle.passing_laws.proofs.Acks.{puback_tells, pubrec_tells, alone, asks_pass}
 use Rattle.passing_laws.proofs.Passing.{accepted_is_passed_on}
 use Rattle.cluster_play.specs.Worlds.{World}
 use Rattle.cluster_play.specs.Runs.{Played}
 use Rattle.cluster_play.specs.Histories.{Reached, site, acts_of, moves_amid}
 use Rattle.cluster_play.proofs.Lives.{sessions_are_runs_amid}
-use Rattle.run_laws.specs.Staying.{Calls}
+use Rattle.run_laws.specs.Staying.{CallsSession}
 use Rattle.run_laws.specs.Publishing.{TakesPublish, PutStays, IsPassedOn, WasPassedOn, StaysOpen, connected_over, PubackStaysTrue, PubrecStaysTrue, events_before, filled, message_in}
 use Rattle.run_laws.proofs.Opening.{OpenedIn, last_once, open_over, opened_at, opened_in}
 use Rattle.run_laws.proofs.Staying.{CalledAt, Finds, called_at, stays_made}
 
 -- what is passed on after a call
-passed_on : (run later : List Played) (m : Played) (w : World) → Reached (run ++ m ∷ later) w → (before : List Act) (c : Calls m before) (x : Message) (f : Finds run m before c) → PassesOn x c.step.at f.held.bridge c.after → IsPassedOn run later m w before c x
+passed_on : (run later : List Played) (m : Played) (w : World) → Reached (run ++ m ∷ later) w → (before : List Act) (c : CallsSession m before) (x : Message) (f : Finds run m before c) → BeginsWithPassingOn x c.step.at f.held.bridge c.after → IsPassedOn run later m w before c x
 passed_on run later m w r before c x f passes = record {
   world = f.world;
   reached = f.reached;
@@ -56,7 +56,7 @@ passed_on run later m w r before c x f passes = record {
         record { dot = d.0; stamp = d.1; made = stays_made run later m w r (before ++ call ∷ []) passes.rest (Put d.0 d.1 (content_of x)) acts; follows = refl }
     put_by false d t = absurd (let z : false ≡ true = t in cc)
 
-module _ (run later : List Played) (m : Played) (w : World) (r : Reached (run ++ m ∷ later) w) (before : List Act) (c : Calls m before) where
+module _ (run later : List Played) (m : Played) (w : World) (r : Reached (run ++ m ∷ later) w) (before : List Act) (c : CallsSession m before) where
   abbrev here : CalledAt run m before c
   here = called_at run later m w r before c
 
@@ -91,7 +91,7 @@ module _ (run later : List Played) (m : Played) (w : World) (r : Reached (run ++
       (accepted_is_passed_on here.event here.finds.there.holds.site.node.place here.finds.there.held here.finds.held (acts_of m.fate) here.decides before c.after c.step x c.acts here.finds.there.runs
       (record { publish = p.publish; now = p.now; room = p.room; event = p.event; asks = asks ∙ ap (λ y. Some (Pass y)) same }))
 
-  pub once : (id : ℕ) → Gives (puback id 0) c.step.reaction.packets → (t : TakesPublish AtLeastOnce id c.step) × IsPassedOn run later m w before c (message_in steps t)
+  pub once : (id : ℕ) → AnswersWith (puback id 0) c.step.reaction.packets → (t : TakesPublish AtLeastOnce id c.step) × IsPassedOn run later m w before c (message_in steps t)
   once id g =
       let t = puback_tells here.finds.seat.session c.step.after c.step.event c.step.reaction id here.reacts g in
       (takes_it AtLeastOnce id t.0, accepted AtLeastOnce id t.0 t.1)
@@ -107,12 +107,12 @@ qos_for AtLeastOnce b e = absurd (let z : false ≡ true = e in cc)
 qos_for ExactlyOnce b e = (refl, e)
 
 -- the call that opened the exchange
-opened_by : (run later : List Played) (m : Played) (w : World) → Reached (run ++ m ∷ later) w → (before : List Act) (c : Calls m before) (id : ℕ) → OpenedIn false id (life c.step.client (moves_amid (site m.fate) run before) []) → WasPassedOn run later m w before c id
+opened_by : (run later : List Played) (m : Played) (w : World) → Reached (run ++ m ∷ later) w → (before : List Act) (c : CallsSession m before) (id : ℕ) → OpenedIn false id (life c.step.client (moves_amid (site m.fate) run before) []) → WasPassedOn run later m w before c id
 opened_by run later m w r before c id o =
     let lost : lost_step ≡ o.step → ⊥ = λ e. (let z : loses ≡ takes (packets.Publish o.opens.publish) o.opens.now o.opens.room = ap (λ (v : Step). v.event) e ∙ o.opens.event in cc) in
     let x = opened_at run later m before c.after (Session (Called c.step)) c.step.client o.past o.since o.step c.acts lost o.is in
     let there = x.there in
-    let call : Calls there.m there.before = record { step = x.step; after = there.after; acts = there.acts } in
+    let call : CallsSession there.m there.before = record { step = x.step; after = there.after; acts = there.acts } in
     let again : Reached (there.first ++ there.m ∷ there.last) w = subst (λ ms. Reached ms w) {y = there.first ++ there.m ∷ there.last} there.is r in
     let event : x.step.event ≡ takes (packets.Publish o.opens.publish) o.opens.now o.opens.room = ap (λ (v : Step). v.event) x.step_is ∙ o.opens.event in
     let is = qos_for o.opens.publish.qos (o.opens.publish.identifier == id) o.opens.is_for in
@@ -138,7 +138,7 @@ opened_by run later m w r before c id o =
       stays = subst (λ t. StaysOpen (connected_over false (o.past ++ t ∷ [])) id o.since) (sym x.step_is) o.stays;
     }
 
-twice : (run later : List Played) (m : Played) (w : World) (r : Reached (run ++ m ∷ later) w) (before : List Act) (c : Calls m before) (id : ℕ) → Gives (pubrec id 0) c.step.reaction.packets
+twice : (run later : List Played) (m : Played) (w : World) (r : Reached (run ++ m ∷ later) w) (before : List Act) (c : CallsSession m before) (id : ℕ) → AnswersWith (pubrec id 0) c.step.reaction.packets
     → (t : TakesPublish ExactlyOnce id c.step) × (IsPassedOn run later m w before c (message_in (events_before run m before c) t) ⊎ WasPassedOn run later m w before c id)
 twice run later m w r before c id g =
     let here = called_at run later m w r before c in

@@ -4,22 +4,22 @@ use Rattle.node_work.specs.declared.outcome.Output.{Output}
 use Rattle.node_work.specs.declared.outcome.Output.TheVariants.{Send}
 use Rattle.node_work.specs.Acts.{Act}
 use Rattle.broker_node.specs.declared.event.Event.{Event}
-use Rattle.passing_laws.specs.Sending.{IsIn, IsOwn, SentAmong}
+use Rattle.passing_laws.specs.Sending.{IsIn, IsOwnPacket, SentAmong}
 use Rattle.passing_laws.proofs.SendingLaws.{sends_are_of_calls}
-use Rattle.cluster_play.specs.Worlds.{Site, World, Fate, Released, Lost, Cut, Faulted, Was_down, Restarted, Takes, Becomes}
+use Rattle.cluster_play.specs.Worlds.{Site, World, Fate, Released, Lost, Cut, Faulted, Was_down, Restarted, TakesEvent, Becomes}
 use Rattle.cluster_play.specs.Runs.{Played}
 use Rattle.cluster_play.specs.Histories.{acts_of, outputs_of}
 use Rattle.cluster_play.proofs.Paths.{befell, midway}
 use Rattle.run_laws.specs.Sending.{CallSends, OutputsAreOfCalls}
 
 -- of a step that a node took
-taken : (s s' : Site) (e : Event) (acts : List Act) (outputs : List Output) (connection : ℕ) (bytes : List ℕ) → Takes s e acts outputs s' → IsIn (Send connection bytes) outputs → SentAmong acts connection bytes ⊎ IsOwn bytes
+taken : (s s' : Site) (e : Event) (acts : List Act) (outputs : List Output) (connection : ℕ) (bytes : List ℕ) → TakesEvent s e acts outputs s' → IsIn (Send connection bytes) outputs → SentAmong acts connection bytes ⊎ IsOwnPacket bytes
 taken s s' e acts outputs connection bytes t i =
     let d = t.commits.done in
-    subst (λ xs. SentAmong xs connection bytes ⊎ IsOwn bytes) t.does
+    subst (λ xs. SentAmong xs connection bytes ⊎ IsOwnPacket bytes) t.does
     (sends_are_of_calls e s.node.place d.before d.acts d.steps.does connection bytes (subst (IsIn (Send connection bytes)) d.steps.given i))
 
-by_fate : (w : World) (j : ℕ) (s : Site) (fate : Fate) (w' : World) (connection : ℕ) (bytes : List ℕ) → Becomes w j s fate w' → IsIn (Send connection bytes) (outputs_of fate) → SentAmong (acts_of fate) connection bytes ⊎ IsOwn bytes
+by_fate : (w : World) (j : ℕ) (s : Site) (fate : Fate) (w' : World) (connection : ℕ) (bytes : List ℕ) → Becomes w j s fate w' → IsIn (Send connection bytes) (outputs_of fate) → SentAmong (acts_of fate) connection bytes ⊎ IsOwnPacket bytes
 by_fate w j s (Released k e acts outputs) w' connection bytes b i = taken s b.1.0 e acts outputs connection bytes b.1.1 i
 by_fate w j s (Lost k e acts) w' connection bytes b i = absurd i
 by_fate w j s (Cut k) w' connection bytes b i = absurd i
@@ -27,7 +27,7 @@ by_fate w j s (Faulted k fault) w' connection bytes b i = absurd i
 by_fate w j s (Was_down k) w' connection bytes b i = absurd i
 by_fate w j s (Restarted k) w' connection bytes b i = absurd i
 
-called : (m : Played) (connection : ℕ) (bytes : List ℕ) → SentAmong (acts_of m.fate) connection bytes ⊎ IsOwn bytes → CallSends m connection bytes ⊎ IsOwn bytes
+called : (m : Played) (connection : ℕ) (bytes : List ℕ) → SentAmong (acts_of m.fate) connection bytes ⊎ IsOwnPacket bytes → CallSends m connection bytes ⊎ IsOwnPacket bytes
 called m connection bytes (inl s) = inl (record { before = s.before; call = record { step = s.step; after = s.after; acts = s.acts_are }; sent = s.sent })
 called m connection bytes (inr own) = inr own
 

@@ -22,7 +22,7 @@ use Rattle.cluster_play.proofs.Catching.{operations_of_a_step}
 use Rattle.cluster_play.proofs.Keeping.{keeps_operations}
 use Rattle.cluster_play.proofs.Paths.{commits_acts, midway}
 use Rattle.cluster_play.proofs.Rows.{committed}
-use Rattle.run_laws.specs.Staying.{Calls, HasTaken, StaysMade}
+use Rattle.run_laws.specs.Staying.{CallsSession, HasTaken, StaysMade}
 
 -- a dot that is taken is listed in the rows
 pub has_taken : (run : List Played) (w : World) (i : ℕ) (dot : Dot) → Reached run w → taken i run dot ≡ true → HasTaken run w i dot
@@ -38,7 +38,7 @@ stays_made run later m w r first last o is =
     record { first = first; last = last; acts = is; next = made.0; stays = has_taken (run ++ m ∷ later) w (site m.fate) (dot_of o) r made.1 }
 
 -- the session that is called, at its node amid the step
-pub record Finds (run : List Played) (m : Played) (before : List Act) (c : Calls m before) : Type 0 where
+pub record Finds (run : List Played) (m : Played) (before : List Act) (c : CallsSession m before) : Type 0 where
   pub world : World
   pub reached : Reached run world
   pub held : HeldView
@@ -47,7 +47,7 @@ pub record Finds (run : List Played) (m : Played) (before : List Act) (c : Calls
   pub found : seat_at c.step.client held ≡ Some seat
 
 -- a call of a session in a step: what the event came to, and what the node held then
-pub record CalledAt (run : List Played) (m : Played) (before : List Act) (c : Calls m before) : Type 0 where
+pub record CalledAt (run : List Played) (m : Played) (before : List Act) (c : CallsSession m before) : Type 0 where
   pub finds : Finds run m before c
   pub event : Event
   pub decides : Decides event (Some tt) finds.there.holds.site.node.place finds.there.held (acts_of m.fate)
@@ -61,7 +61,7 @@ pub record CalledAt (run : List Played) (m : Played) (before : List Act) (c : Ca
   pub happens : Happens finds.world m.step m.fate next
   pub honest : IsHonestStep finds.world.frames m.step
 
-pub called_at : (run later : List Played) (m : Played) (w : World) → Reached (run ++ m ∷ later) w → (before : List Act) (c : Calls m before) → CalledAt run m before c
+pub called_at : (run later : List Played) (m : Played) (w : World) → Reached (run ++ m ∷ later) w → (before : List Act) (c : CallsSession m before) → CalledAt run m before c
 called_at run later m w r before c =
     let a = Session (Called c.step) in
     let rest = a ∷ c.after in

@@ -17,13 +17,13 @@ use Rattle.subscription_set.specs.Entries.{is_of}
 use Rattle.node_work.specs.Acts.{Act, Store, Session, Made}
 use Rattle.node_work.specs.Held.Sessions.{SessionStep, Called}
 use Rattle.node_clients.specs.Subscribing.{entry_of, identifier_of}
-use Rattle.passing_laws.specs.Publishing.{Gives}
+use Rattle.passing_laws.specs.Publishing.{AnswersWith}
 use Rattle.passing_laws.specs.Asking.{AreInUse}
 use Rattle.cluster_play.specs.Worlds.{World}
 use Rattle.cluster_play.specs.Runs.{Played}
 use Rattle.cluster_play.specs.Histories.{Reached, site, operations_amid}
 use Rattle.cluster_play.specs.NextOperations.{CoversWhatStands}
-use Rattle.run_laws.specs.Staying.{Calls, StaysMade}
+use Rattle.run_laws.specs.Staying.{CallsSession, StaysMade}
 
 -- the step makes an operation among these of its acts, and it stays
 pub record IsMadeIn (run later : List Played) (m : Played) (w : World) (acts : List Act) (o : Operation) : Type 0 where
@@ -98,12 +98,12 @@ pub record AnswersUnsubscribe (run later : List Played) (m : Played) (w : World)
 abbrev pub SubackStaysTrue : Type 0
 SubackStaysTrue =
     (run later : List Played) (m : Played) (w : World) → Reached (run ++ m ∷ later) w
-    → (before : List Act) (c : Calls m before) (id : ℕ) (codes : List ℕ) → Gives (suback id codes) c.step.reaction.packets
+    → (before : List Act) (c : CallsSession m before) (id : ℕ) (codes : List ℕ) → AnswersWith (suback id codes) c.step.reaction.packets
     → AreInUse codes ⊎ AnswersSubscribe run later m w before c.step.client id codes
 
 -- and so is what UNSUBACK tells
 abbrev pub UnsubackStaysTrue : Type 0
 UnsubackStaysTrue =
     (run later : List Played) (m : Played) (w : World) → Reached (run ++ m ∷ later) w
-    → (before : List Act) (c : Calls m before) (id : ℕ) (codes : List ℕ) → Gives (unsuback id codes) c.step.reaction.packets
+    → (before : List Act) (c : CallsSession m before) (id : ℕ) (codes : List ℕ) → AnswersWith (unsuback id codes) c.step.reaction.packets
     → AreInUse codes ⊎ AnswersUnsubscribe run later m w before c.step.client id codes

@@ -61,7 +61,7 @@ LanesGoOn = (i j : ℕ) (ms ns : List Played) → Begins (put i j ms) (put i j (
 -- ---- copies
 
 -- a step takes a message of a lane after these of its acts: it makes these copies here, and so many picks are lost
-pub record TakesOver (m : Played) (before : List Act) : Type 0 where
+pub record TakesFromLane (m : Played) (before : List Act) : Type 0 where
   pub from : ℕ
   pub number : ℕ
   pub message : Forward
@@ -72,7 +72,7 @@ pub record TakesOver (m : Played) (before : List Act) : Type 0 where
 
 -- the copies are those of the message for what the node holds there: its sessions, and the live subscriptions, which are those of the
 -- operations that it has taken until then
-pub record MakesHanded (run : List Played) (m : Played) (before : List Act) (s : TakesOver m before) : Type 0 where
+pub record MakesHanded (run : List Played) (m : Played) (before : List Act) (s : TakesFromLane m before) : Type 0 where
   pub world : World
   pub reached : Reached run world
   pub held : HeldView
@@ -82,11 +82,11 @@ pub record MakesHanded (run : List Played) (m : Played) (before : List Act) (s :
 
 -- a message that is taken of a lane makes exactly these copies
 abbrev pub HandedAsTaken : Type 0
-HandedAsTaken = (run later : List Played) (m : Played) (w : World) → Reached (run ++ m ∷ later) w → (before : List Act) (s : TakesOver m before) → MakesHanded run m before s
+HandedAsTaken = (run later : List Played) (m : Played) (w : World) → Reached (run ++ m ∷ later) w → (before : List Act) (s : TakesFromLane m before) → MakesHanded run m before s
 
 -- the copies join their sessions directly after that, in the same step: by calls at the moment of the node there, which is the greatest
 -- that it was handed since it was last opened
-pub record JoinsHanded (run : List Played) (m : Played) (before : List Act) (s : TakesOver m before) : Type 0 where
+pub record JoinsHanded (run : List Played) (m : Played) (before : List Act) (s : TakesFromLane m before) : Type 0 where
   pub world : World
   pub reached : Reached run world
   pub held : HeldView
@@ -96,4 +96,4 @@ pub record JoinsHanded (run : List Played) (m : Played) (before : List Act) (s :
 
 -- where a message is taken of a lane, nothing stands between that and the calls by which its copies join their sessions
 abbrev pub JoinsAsTaken : Type 0
-JoinsAsTaken = (run later : List Played) (m : Played) (w : World) → Reached (run ++ m ∷ later) w → (before : List Act) (s : TakesOver m before) → JoinsHanded run m before s
+JoinsAsTaken = (run later : List Played) (m : Played) (w : World) → Reached (run ++ m ∷ later) w → (before : List Act) (s : TakesFromLane m before) → JoinsHanded run m before s

@@ -19,12 +19,12 @@ use Rattle.node_work.specs.Acts.{Act, Session}
 use Rattle.node_work.specs.Held.Sessions.{SessionStep, Called}
 use Rattle.node_work.specs.Passing.{content_of}
 use Rattle.node_work.specs.View.{HeldView}
-use Rattle.passing_laws.specs.Publishing.{Gives, PassesOn}
+use Rattle.passing_laws.specs.Publishing.{AnswersWith, BeginsWithPassingOn}
 use Rattle.cluster_play.specs.Worlds.{World}
 use Rattle.cluster_play.specs.Runs.{Played}
 use Rattle.cluster_play.specs.Histories.{Reached, site, moves_amid}
 use Rattle.cluster_play.specs.Agreement.{HoldsAmid}
-use Rattle.run_laws.specs.Staying.{Calls, StaysMade}
+use Rattle.run_laws.specs.Staying.{CallsSession, StaysMade}
 
 -- a call takes a PUBLISH of this QoS and identifier, at its moment
 pub record TakesPublish (qos : Qos) (id : ℕ) (s : SessionStep) : Type 0 where
@@ -43,11 +43,11 @@ abbrev pub message_in : {qos : Qos} {id : ℕ} {s : SessionStep} → List Step �
 message_in {s = s} steps t = accepted (filled (topics_told steps) t.publish) s.client s.at
 
 -- the events of the client's session since it last began, before a call of it
-abbrev pub events_before : (run : List Played) (m : Played) (before : List Act) → Calls m before → List Step
+abbrev pub events_before : (run : List Played) (m : Played) (before : List Act) → CallsSession m before → List Step
 events_before run m before c = life c.step.client (moves_amid (site m.fate) run before) []
 
 -- directly after the call the topic is given the message, or with an empty payload none, and that stays
-pub record PutStays (run later : List Played) (m : Played) (w : World) (before : List Act) (c : Calls m before) (x : Message) : Type 0 where
+pub record PutStays (run later : List Played) (m : Played) (w : World) (before : List Act) (c : CallsSession m before) (x : Message) : Type 0 where
   pub dot : Dot
   pub stamp : Stamp
   pub made : StaysMade run later m w (Put dot stamp (content_of x))
@@ -55,19 +55,19 @@ pub record PutStays (run later : List Played) (m : Played) (w : World) (before :
 
 -- a message is passed on directly after the call: with RETAIN its Put stays, and unless its deadline has passed its copies join their
 -- sessions, and what goes to other nodes joins the lanes that the node has then
-pub record IsPassedOn (run later : List Played) (m : Played) (w : World) (before : List Act) (c : Calls m before) (x : Message) : Type 0 where
+pub record IsPassedOn (run later : List Played) (m : Played) (w : World) (before : List Act) (c : CallsSession m before) (x : Message) : Type 0 where
   pub world : World
   pub reached : Reached run world
   pub held : HeldView
   pub there : HoldsAmid world m (site m.fate) before held
-  pub passes : PassesOn x c.step.at held.bridge c.after
+  pub passes : BeginsWithPassingOn x c.step.at held.bridge c.after
   pub put : x.retain ≡ true → PutStays run later m w before c x
 
 -- the message of the PUBLISH that PUBACK 0x00 answers is passed on in the step that gives the PUBACK out
 abbrev pub PubackStaysTrue : Type 0
 PubackStaysTrue =
     (run later : List Played) (m : Played) (w : World) → Reached (run ++ m ∷ later) w
-    → (before : List Act) (c : Calls m before) (id : ℕ) → Gives (puback id 0) c.step.reaction.packets
+    → (before : List Act) (c : CallsSession m before) (id : ℕ) → AnswersWith (puback id 0) c.step.reaction.packets
     → (t : TakesPublish AtLeastOnce id c.step) × IsPassedOn run later m w before c (message_in (events_before run m before c) t)
 
 -- ---- an exchange that is open
@@ -84,14 +84,14 @@ StaysOpen on id (s ∷ ss) = (is_open_after on id true s.event s.reaction ≡ tr
 
 -- An earlier call of the client's session, in this step or an earlier one of its node, opened the exchange, and the message of that
 -- PUBLISH is passed on directly after it. By the calls of the session since it last began, the exchange has been open from then on.
-pub record WasPassedOn (run later : List Played) (m : Played) (w : World) (before : List Act) (c : Calls m before) (id : ℕ) : Type 0 where
+pub record WasPassedOn (run later : List Played) (m : Played) (w : World) (before : List Act) (c : CallsSession m before) (id : ℕ) : Type 0 where
   pub first : List Played
   pub opening : Played
   pub last : List Played
   pub whole : run ++ m ∷ later ≡ first ++ opening ∷ last
   pub at : site opening.fate ≡ site m.fate
   pub earlier : List Act
-  pub call : Calls opening earlier
+  pub call : CallsSession opening earlier
   pub same : call.step.client ≡ c.step.client
   pub publish : TakesPublish ExactlyOnce id call.step
   pub passed : IsPassedOn first last opening w earlier call (message_in (events_before first opening earlier call) publish)
@@ -105,6 +105,6 @@ pub record WasPassedOn (run later : List Played) (m : Played) (w : World) (befor
 abbrev pub PubrecStaysTrue : Type 0
 PubrecStaysTrue =
     (run later : List Played) (m : Played) (w : World) → Reached (run ++ m ∷ later) w
-    → (before : List Act) (c : Calls m before) (id : ℕ) → Gives (pubrec id 0) c.step.reaction.packets
+    → (before : List Act) (c : CallsSession m before) (id : ℕ) → AnswersWith (pubrec id 0) c.step.reaction.packets
     → (t : TakesPublish ExactlyOnce id c.step)
     × (IsPassedOn run later m w before c (message_in (events_before run m before c) t) ⊎ WasPassedOn run later m w before c id)

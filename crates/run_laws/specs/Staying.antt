@@ -33,7 +33,7 @@ pub record StaysMade (run later : List Played) (m : Played) (w : World) (o : Ope
   pub stays : HasTaken (run ++ m ∷ later) w (site m.fate) (dot_of o)
 
 -- a step calls a session after these of its acts
-pub record Calls (m : Played) (before : List Act) : Type 0 where
+pub record CallsSession (m : Played) (before : List Act) : Type 0 where
   pub step : SessionStep
   pub after : List Act
   pub acts : acts_of m.fate ≡ before ++ Session (Called step) ∷ after

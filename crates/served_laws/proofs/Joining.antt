@@ -8,12 +8,12 @@ use Rattle.node_batches.specs.declared.batch.BatchKeeper.{BatchKeeper}
 use Rattle.node_batches.specs.Batches.{Answered}
 use Rattle.node_work.specs.declared.frame.Frame.{Frame}
 use Rattle.served_laws.proofs.Running.{all_later, changed_twice}
-use Rattle.served_laws.specs.Settling.{AreTaken}
+use Rattle.served_laws.specs.Settling.{EventsAreTaken}
 use Rattle.served_laws.specs.Turns.{AreKnown, AreReleased, IsRunOf, frames_of}
 
-pub taken_join : {R : Type 0} (k m k' : BatchKeeper R) (xs ys : List Answered) → AreTaken k xs m → AreTaken m ys k' → AreTaken k (xs ++ ys) k'
+pub taken_join : {R : Type 0} (k m k' : BatchKeeper R) (xs ys : List Answered) → EventsAreTaken k xs m → EventsAreTaken m ys k' → EventsAreTaken k (xs ++ ys) k'
 taken_join {R = R} k m k' [] ys same more =
-    let Taken : BatchKeeper R → Type 0 = λ b. AreTaken b ys k' in
+    let Taken : BatchKeeper R → Type 0 = λ b. EventsAreTaken b ys k' in
     subst Taken same more
 taken_join k m k' (a ∷ xs) ys taken more = (taken.0, taken.1, taken_join taken.0 m k' xs ys taken.2 more)
 

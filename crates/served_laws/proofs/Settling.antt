@@ -11,23 +11,23 @@ use Rattle.node_work.specs.View.{NodeView}
 use Rattle.row_store.specs.declared.row.Change.{Change}
 use Rattle.row_store.specs.Rows.{Content, after_all}
 use Rattle.served_laws.proofs.Running.{crash_is_run, runs_on, turn_is_run}
-use Rattle.served_laws.specs.Settling.{AreTaken, Begins, CrashAfterCommit, CrashAmidCommit, CrashBeforeCommit, CrashWhereHalted, SettledIsRun, site_of}
+use Rattle.served_laws.specs.Settling.{EventsAreTaken, TurnBegins, CrashAfterCommit, CrashAmidCommit, CrashBeforeCommit, CrashWhereHalted, SettledIsRun, site_of}
 use Rattle.served_laws.specs.Turns.{CutAfter, CutBefore, IsRunOf, down}
 
 -- ---- what is taken
 
-taken_decided : {R : Type 0} (k k' : BatchKeeper R) (answered : List Answered) → AreTaken k answered k' → AreDecided (node_in k) (waiting_in k) answered (node_in k') (waiting_in k')
+taken_decided : {R : Type 0} (k k' : BatchKeeper R) (answered : List Answered) → EventsAreTaken k answered k' → AreDecided (node_in k) (waiting_in k) answered (node_in k') (waiting_in k')
 taken_decided k k' [] same = (ap (λ b. node_in b) same, ap (λ b. waiting_in b) same)
 taken_decided k k' (a ∷ more) taken = (node_in taken.0, waiting_in taken.0, taken.1.decided, taken_decided taken.0 k' more taken.2)
 
 -- touches no rows
-pub taken_rows : {R : Type 0} (k k' : BatchKeeper R) (answered : List Answered) → AreTaken k answered k' → rows_in k' ≡ rows_in k
+pub taken_rows : {R : Type 0} (k k' : BatchKeeper R) (answered : List Answered) → EventsAreTaken k answered k' → rows_in k' ≡ rows_in k
 taken_rows k k' [] same = ap (λ b. rows_in b) same
 taken_rows k k' (a ∷ more) taken = taken_rows taken.0 k' more taken.2 ∙ taken.1.rows
 
 module _ {R : Type 0} (is_clean is_open : R → Type 0) (content : R → Content) (may_leave : R → Content → Type 0) where
   -- with its changes made at once, it was handled event by event
-  taken_handled : (w : World) (i : ℕ) (k k' : BatchKeeper R) (answered : List Answered) → Begins is_open content w i k → AreTaken k answered k'
+  taken_handled : (w : World) (i : ℕ) (k k' : BatchKeeper R) (answered : List Answered) → TurnBegins is_open content w i k → EventsAreTaken k answered k'
       → AreHandled (node_in k) (content (rows_in k)) answered (node_in k') (committed content k')
   taken_handled w i k k' answered b taken =
       let Decided : List Change → Type 0 = λ waiting. AreDecided (node_in k) waiting answered (node_in k') (waiting_in k') in
@@ -35,7 +35,7 @@ module _ {R : Type 0} (is_clean is_open : R → Type 0) (content : R → Content
       subst Handled (sym (taken_rows k k' answered taken))
       (batch_is_steps (node_in k) (node_in k') (content (rows_in k)) answered (waiting_in k') (subst Decided b.nothing (taken_decided k k' answered taken)))
 
-  still_open : (w : World) (i : ℕ) (k k' : BatchKeeper R) (answered : List Answered) → Begins is_open content w i k → AreTaken k answered k' → is_open (rows_in k')
+  still_open : (w : World) (i : ℕ) (k k' : BatchKeeper R) (answered : List Answered) → TurnBegins is_open content w i k → EventsAreTaken k answered k' → is_open (rows_in k')
   still_open w i k k' answered b taken = subst is_open (sym (taken_rows k k' answered taken)) b.stands
 
   pub settled_is_run : SettledIsRun is_clean is_open content may_leave
@@ -59,18 +59,18 @@ module _ {R : Type 0} (is_clean is_open : R → Type 0) (content : R → Content
 
   -- ---- a crash
 
-  crashes : (w : World) (i : ℕ) (k k' : BatchKeeper R) (answered : List Answered) → Begins is_open content w i k → AreTaken k answered k'
+  crashes : (w : World) (i : ℕ) (k k' : BatchKeeper R) (answered : List Answered) → TurnBegins is_open content w i k → EventsAreTaken k answered k'
       → CutBefore w i (down (node_in k) (content (rows_in k))) × CutAfter w i answered (down (node_in k') (committed content k'))
   crashes w i k k' answered b taken =
       crash_is_run w i (site_of content k) b.held answered (node_in k') (committed content k') b.at b.up (taken_handled w i k k' answered b taken)
 
-  was_cut : (w : World) (i : ℕ) (k k' : BatchKeeper R) (answered : List Answered) → Begins is_open content w i k → AreTaken k answered k'
+  was_cut : (w : World) (i : ℕ) (k k' : BatchKeeper R) (answered : List Answered) → TurnBegins is_open content w i k → EventsAreTaken k answered k'
       → (c : Content) → c ≡ content (rows_in k') → CutBefore w i (down (node_in k) c)
   was_cut w i k k' answered b taken c is =
       let Cut : Content → Type 0 = λ x. CutBefore w i (down (node_in k) x) in
       subst Cut (sym (is ∙ ap content (taken_rows k k' answered taken))) (crashes w i k k' answered b taken).0
 
-  was_after : (w : World) (i : ℕ) (k k' : BatchKeeper R) (answered : List Answered) → Begins is_open content w i k → AreTaken k answered k'
+  was_after : (w : World) (i : ℕ) (k k' : BatchKeeper R) (answered : List Answered) → TurnBegins is_open content w i k → EventsAreTaken k answered k'
       → (c : Content) → c ≡ committed content k' → CutAfter w i answered (down (node_in k') c)
   was_after w i k k' answered b taken c is =
       let Cut : Content → Type 0 = λ x. CutAfter w i answered (down (node_in k') x) in

@@ -33,14 +33,14 @@ use Rattle.row_store.specs.Rows.{Content}
 use Rattle.served_laws.proofs.Joining.{changed_over, run_over, taken_join}
 use Rattle.served_laws.proofs.Running.{turn_is_run}
 use Rattle.served_laws.proofs.Settling.{settled_is_run, taken_rows}
-use Rattle.served_laws.specs.Settling.{AreTaken, Begins, site_of}
+use Rattle.served_laws.specs.Settling.{EventsAreTaken, TurnBegins, site_of}
 use Rattle.served_laws.specs.Sockets.{Bounded, Counted, Door, Settles, SocketTurnIsRun, Stands, StartIsTaken, served_in}
 use Rattle.served_laws.specs.Turns.{IsRunOf, frames_of}
 
 -- ---- what is taken
 
 abbrev Taken : {R : Type 0} → ServedNode R → ServedNode R → Type 0
-Taken s s' = (answered : List Answered) × AreTaken (keeper_of s) answered (keeper_of s')
+Taken s s' = (answered : List Answered) × EventsAreTaken (keeper_of s) answered (keeper_of s')
 
 taken_none : {R : Type 0} (s s' : ServedNode R) → s' ≡ s → Taken s s'
 taken_none s s' same = ([], ap (λ x. keeper_of x) same)
@@ -74,9 +74,9 @@ module _ {R : Type 0} (is_clean is_open : R → Type 0) (content : R → Content
   abbrev Runs : ServedNode R → ServedNode R → Type 0
   Runs s s' =
       (is_clean (rows_in (keeper_of s')) → is_clean (rows_in (keeper_of s)))
-      × ((w : World) (i : ℕ) → Begins is_open content w i (keeper_of s) → is_clean (rows_in (keeper_of s')) → (answered : List Answered) × Settles is_open content w i answered s')
+      × ((w : World) (i : ℕ) → TurnBegins is_open content w i (keeper_of s) → is_clean (rows_in (keeper_of s')) → (answered : List Answered) × Settles is_open content w i answered s')
 
-  at_rest : (w : World) (i : ℕ) (s : ServedNode R) → Begins is_open content w i (keeper_of s) → Settles is_open content w i [] s
+  at_rest : (w : World) (i : ℕ) (s : ServedNode R) → TurnBegins is_open content w i (keeper_of s) → Settles is_open content w i [] s
   at_rest w i s b =
       let k = keeper_of s in
       let site = site_of content k in
@@ -90,7 +90,7 @@ module _ {R : Type 0} (is_clean is_open : R → Type 0) (content : R → Content
   settles_over w i s t xs ys p q =
       let first = site_of content (keeper_of s) in
       let last = site_of content (keeper_of t) in
-      let Begun : World → Type 0 = λ v. Begins is_open content v i (keeper_of t) in
+      let Begun : World → Type 0 = λ v. TurnBegins is_open content v i (keeper_of t) in
       record { run = run_over w i first last xs ys p.run q.run; begins = subst Begun (changed_over w i first last xs ys) q.begins }
 
   runs_none : (s s' : ServedNode R) → s' ≡ s → Runs s s'

@@ -12,16 +12,16 @@ use Rattle.row_store.specs.Rows.{Content}
 use Rattle.served_laws.specs.Turns.{CutAfter, CutBefore, IsRunOf, down, frames_of}
 
 -- events are taken, one after another
-abbrev pub AreTaken : {R : Type 0} → BatchKeeper R → List Answered → BatchKeeper R → Type 0
-AreTaken k [] k' = k' ≡ k
-AreTaken {R = R} k (a ∷ more) k' = (m : BatchKeeper R) × IsTaken k a.0 a.1 m × AreTaken m more k'
+abbrev pub EventsAreTaken : {R : Type 0} → BatchKeeper R → List Answered → BatchKeeper R → Type 0
+EventsAreTaken k [] k' = k' ≡ k
+EventsAreTaken {R = R} k (a ∷ more) k' = (m : BatchKeeper R) × IsTaken k a.0 a.1 m × EventsAreTaken m more k'
 
 -- a node with what its rows hold
 abbrev pub site_of : {R : Type 0} → (R → Content) → BatchKeeper R → Site
 site_of content k = record { node = node_in k; rows = content (rows_in k) }
 
 -- node i of the world is this one, it runs, nothing waits, and its rows are open: a turn begins, or what comes after a commit
-pub record Begins {R : Type 0} (is_open : R → Type 0) (content : R → Content) (w : World) (i : ℕ) (k : BatchKeeper R) : Type 0 where
+pub record TurnBegins {R : Type 0} (is_open : R → Type 0) (content : R → Content) (w : World) (i : ℕ) (k : BatchKeeper R) : Type 0 where
   pub at : slice_get w.sites i ≡ Some (site_of content k)
   pub held : HeldView
   pub up : (node_in k).up ≡ Some held
@@ -32,34 +32,34 @@ module _ {R : Type 0} (is_open : R → Type 0) (content : R → Content) (may_le
   -- a crash before the commit leaves the rows of before the events, and is a run in which none of them happened
   abbrev pub CrashBeforeCommit : Type 0
   CrashBeforeCommit =
-      (w : World) (i : ℕ) (k k' : BatchKeeper R) (answered : List Answered) → Begins is_open content w i k → AreTaken k answered k'
+      (w : World) (i : ℕ) (k k' : BatchKeeper R) (answered : List Answered) → TurnBegins is_open content w i k → EventsAreTaken k answered k'
       → (c : Content) → may_leave (rows_in k') c → CutBefore w i (down (node_in k) c)
 
   -- so it is where the node stops at an event
   abbrev pub CrashWhereHalted : Type 0
   CrashWhereHalted =
-      (w : World) (i : ℕ) (k k' k'' : BatchKeeper R) (answered : List Answered) (e : Event) (fault : KeeperFault) → Begins is_open content w i k → AreTaken k answered k'
+      (w : World) (i : ℕ) (k k' k'' : BatchKeeper R) (answered : List Answered) (e : Event) (fault : KeeperFault) → TurnBegins is_open content w i k → EventsAreTaken k answered k'
       → IsHalted k' e fault k'' → (c : Content) → may_leave (rows_in k'') c → CutBefore w i (down (node_in k) c)
 
 module _ {R : Type 0} (is_clean is_open : R → Type 0) (content : R → Content) (may_leave : R → Content → Type 0) where
   -- events that are taken and committed are a run, and after it the next ones may begin
   abbrev pub SettledIsRun : Type 0
   SettledIsRun =
-      (w : World) (i : ℕ) (k k' k'' : BatchKeeper R) (answered : List Answered) → Begins is_open content w i k → AreTaken k answered k'
+      (w : World) (i : ℕ) (k k' k'' : BatchKeeper R) (answered : List Answered) → TurnBegins is_open content w i k → EventsAreTaken k answered k'
       → IsCommitted is_clean is_open content may_leave k' k'' → is_clean (rows_in k'')
-      → IsRunOf w i answered (site_of content k'') × Begins is_open content (changed w i (site_of content k'') (frames_of answered)) i k'' × is_clean (rows_in k)
+      → IsRunOf w i answered (site_of content k'') × TurnBegins is_open content (changed w i (site_of content k'') (frames_of answered)) i k'' × is_clean (rows_in k)
 
   -- where the commit fails a crash leaves the rows of before the events or of after them all, and is a run in which none of them happened,
   -- or all
   abbrev pub CrashAmidCommit : Type 0
   CrashAmidCommit =
-      (w : World) (i : ℕ) (k k' k'' : BatchKeeper R) (answered : List Answered) (fault : KeeperFault) → Begins is_open content w i k → AreTaken k answered k'
+      (w : World) (i : ℕ) (k k' k'' : BatchKeeper R) (answered : List Answered) (fault : KeeperFault) → TurnBegins is_open content w i k → EventsAreTaken k answered k'
       → IsCutOff is_clean is_open content may_leave k' fault k'' → is_clean (rows_in k'')
       → (c : Content) → may_leave (rows_in k'') c → CutBefore w i (down (node_in k) c) ⊎ CutAfter w i answered (down (node_in k') c)
 
   -- a crash after the commit leaves the rows of after them all, whatever of their outputs was sent
   abbrev pub CrashAfterCommit : Type 0
   CrashAfterCommit =
-      (w : World) (i : ℕ) (k k' k'' : BatchKeeper R) (answered : List Answered) → Begins is_open content w i k → AreTaken k answered k'
+      (w : World) (i : ℕ) (k k' k'' : BatchKeeper R) (answered : List Answered) → TurnBegins is_open content w i k → EventsAreTaken k answered k'
       → IsCommitted is_clean is_open content may_leave k' k'' → is_clean (rows_in k'')
       → (c : Content) → may_leave (rows_in k'') c → CutAfter w i answered (down (node_in k') c)

@@ -25,7 +25,7 @@ use Rattle.status_door.specs.Views.{inside_of as looked_at}
 use Rattle.status_door.specs.declared.door.Told.{Told}
 use Rattle.status_tally.specs.Views.{inside_of as logged_in}
 use Rattle.status_tally.specs.declared.tallied.Tallied.{Tallied}
-use Rattle.served_laws.specs.Settling.{AreTaken, Begins, site_of}
+use Rattle.served_laws.specs.Settling.{EventsAreTaken, TurnBegins, site_of}
 use Rattle.served_laws.specs.Turns.{IsRunOf, frames_of}
 
 -- a served node behind a door with limits on its clients
@@ -52,13 +52,13 @@ module _ {R : Type 0} (is_open : R → Type 0) (content : R → Content) where
   -- node i of the world is the served node as it was at its last commit, and it has taken these events since
   pub record Stands (w : World) (i : ℕ) (pending : List Answered) (s : ServedNode R) : Type 0 where
     pub before : BatchKeeper R
-    pub begins : Begins is_open content w i before
-    pub taken : AreTaken before pending (keeper_of s)
+    pub begins : TurnBegins is_open content w i before
+    pub taken : EventsAreTaken before pending (keeper_of s)
 
   -- a run of node i with these events leads to the served node as it is, which has committed all
   pub record Settles (w : World) (i : ℕ) (answered : List Answered) (s : ServedNode R) : Type 0 where
     pub run : IsRunOf w i answered (site_of content (keeper_of s))
-    pub begins : Begins is_open content (changed w i (site_of content (keeper_of s)) (frames_of answered)) i (keeper_of s)
+    pub begins : TurnBegins is_open content (changed w i (site_of content (keeper_of s)) (frames_of answered)) i (keeper_of s)
 
   -- before the first turn a node that stands is told that it has started, which waits for the first commit
   abbrev pub StartIsTaken : (S T E W : Type 0) → (Door R E W → Event → List Output → Door R E W → Type 0) → Type 0

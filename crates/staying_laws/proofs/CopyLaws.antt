@@ -18,7 +18,7 @@ use Rattle.session_table.specs.Listing.{text_cmp}
 use Rattle.session_table.specs.Seats.{Seat}
 use Rattle.node_keeper.specs.Keeping.{AreLasting}
 use Rattle.node_laws.specs.Lives.{life, step_in}
-use Rattle.node_laws.specs.Moves.{Move, Did, Lost as Loses, Moves}
+use Rattle.node_laws.specs.Moves.{Move, Acted, Reopened as Loses, Moves}
 use Rattle.node_laws.proofs.LifeLaws as lives
 use Rattle.node_rows.proofs.OneNode.{rows_tell_all}
 use Rattle.node_rows.specs.Reading.{IsLasting}
@@ -35,7 +35,7 @@ use Rattle.cluster_play.specs.Runs.{Played}
 use Rattle.cluster_play.specs.Histories.{Reached, site, moves_at}
 use Rattle.cluster_play.proofs.Explaining.{Seated, past, seat_lasts}
 use Rattle.cluster_play.proofs.Kept.{explained}
-use Rattle.run_laws.specs.Calling.{IsOver, StaysCalled}
+use Rattle.run_laws.specs.Calling.{SessionIsOver, StaysCalled}
 use Rattle.run_laws.proofs.CallingLaws.{calls_stay}
 use Rattle.staying_laws.specs.Copies.{IsOfItsLife, SessionsOfRowsAreRuns, RowsHaveCopy, QueuesCopy, CopyStays}
 
@@ -91,19 +91,19 @@ seat_woken : (client : List ℕ) (h h' : HeldView) → IsWoken h.homes (lasting 
 seat_woken client h h' w has =
     (opened_seat (durable_of has.0.session), ap (λ (v : HeldView). map.get v.sessions client) w.2 ∙ w.1 client ∙ ap (λ o. option_map opened_seat (option_map (λ (s : Seat). durable_of s.session) o)) has.1)
 
-over_later : (client : List ℕ) (m : Move) (moves : List Move) → IsOver client moves → IsOver client (m ∷ moves)
+over_later : (client : List ℕ) (m : Move) (moves : List Move) → SessionIsOver client moves → SessionIsOver client (m ∷ moves)
 over_later client m moves o = record {
   before = m ∷ o.before;
   after = o.after;
   is = elim o.is [ inl e ↦ inl (ap (λ ns. m ∷ ns) e) | inr e ↦ inr (ap (λ ns. m ∷ ns) e) ];
 }
 
-seat_stays : (client : List ℕ) (p : Place) (moves : List Move) (h h' : HeldView) → Moves p h moves h' → HasSeat client h → IsOver client moves ⊎ HasSeat client h'
+seat_stays : (client : List ℕ) (p : Place) (moves : List Move) (h h' : HeldView) → Moves p h moves h' → HasSeat client h → SessionIsOver client moves ⊎ HasSeat client h'
 seat_stays client p [] h h' r has = inr (subst (HasSeat client) (sym r) has)
-seat_stays client p (Did a ∷ moves) h h' r has =
+seat_stays client p (Acted a ∷ moves) h h' r has =
     elim (seat_act client h a has) [
-      | inl over ↦ inl (record { before = []; after = moves; is = inl (ap (λ x. Did x ∷ moves) over) })
-      | inr still ↦ elim (seat_stays client p moves r.0 h' r.2 (subst (HasSeat client) (sym r.1.1) still)) [ inl o ↦ inl (over_later client (Did a) moves o) | inr s ↦ inr s ]
+      | inl over ↦ inl (record { before = []; after = moves; is = inl (ap (λ x. Acted x ∷ moves) over) })
+      | inr still ↦ elim (seat_stays client p moves r.0 h' r.2 (subst (HasSeat client) (sym r.1.1) still)) [ inl o ↦ inl (over_later client (Acted a) moves o) | inr s ↦ inr s ]
     ]
 seat_stays client p (Loses ∷ moves) h h' r has =
     elim (seat_stays client p moves r.0 h' r.2 (seat_woken client h r.0 r.1 has)) [ inl o ↦ inl (over_later client Loses moves o) | inr s ↦ inr s ]
@@ -153,12 +153,12 @@ module _ (run later : List Played) (m : Played) (w : World) (r : Reached (run ++
   held = (x whole w r (site m.fate) s at).held
 
   -- the session is there after the call
-  has : IsOver client stays.after ⊎ HasSeat client held
+  has : SessionIsOver client stays.after ⊎ HasSeat client held
   has =
       let place = s.node.place in
       let first = fresh (x whole w r (site m.fate) s at).first in
       let a = Session (Called q.call.step) in
-      let parts = moves_split place stays.earlier (Did a ∷ stays.after) first held (subst (λ ms. Moves place first ms held) stays.moves (x whole w r (site m.fate) s at).moves) in
+      let parts = moves_split place stays.earlier (Acted a ∷ stays.after) first held (subst (λ ms. Moves place first ms held) stays.moves (x whole w r (site m.fate) s at).moves) in
       let after : Seat = record { session = q.call.step.after; connection = q.call.step.on } in
       let there : HasSeat client parts.2.0 = (after, ap (λ (v : HeldView). map.get v.sessions client) parts.2.1.1 ∙ get_inserted parts.0.sessions client after) in
       seat_stays client place stays.after parts.2.0 held parts.2.2 there
@@ -182,7 +182,7 @@ module _ (run later : List Played) (m : Played) (w : World) (r : Reached (run ++
             (subst (λ ps. (q.call.step.reaction.full ≡ true) ⊎ GoesFrom (channel_over no_channel past) (step_in q.call.step ∷ since) d (waiting end.outbox.copies) ps) (sym (published_away end.outbox.copies)) goes);
       }
 
-  copy_stays_here : KeepsCopies → IsOver client stays.after ⊎ RowsHaveCopy whole (site m.fate) s stays.earlier q.call.step d
+  copy_stays_here : KeepsCopies → SessionIsOver client stays.after ⊎ RowsHaveCopy whole (site m.fate) s stays.earlier q.call.step d
   copy_stays_here law = elim stays.stays [
     | inl over ↦ inl over
     | inr since ↦ elim has [ inl over ↦ inl over | inr seat ↦ inr (in_rows law seat since.0 since.1) ]

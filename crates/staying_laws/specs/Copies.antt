@@ -18,8 +18,8 @@ use Rattle.node_work.specs.Held.Sessions.{SessionStep}
 use Rattle.cluster_play.specs.Worlds.{Site, World}
 use Rattle.cluster_play.specs.Runs.{Played}
 use Rattle.cluster_play.specs.Histories.{Reached, site, moves_at}
-use Rattle.run_laws.specs.Calling.{IsOver, StaysCalled}
-use Rattle.run_laws.specs.Staying.{Calls}
+use Rattle.run_laws.specs.Calling.{SessionIsOver, StaysCalled}
+use Rattle.run_laws.specs.Staying.{CallsSession}
 
 -- ---- the sessions that rows have
 -- what the rows of a node say of a client's session is what lasts of it, as its calls and losses since it last began make it of a new one
@@ -52,7 +52,7 @@ pub record RowsHaveCopy (run : List Played) (i : ℕ) (s : Site) (earlier : List
 
 -- a call of a client's session queues a copy at QoS 1 or 2
 pub record QueuesCopy (m : Played) (before : List Act) (x : Delivery) : Type 0 where
-  pub call : Calls m before
+  pub call : CallsSession m before
   pub now : ℕ
   pub event : call.step.event ≡ queues x now
   pub twice : is_once x.qos ≡ false
@@ -62,4 +62,4 @@ abbrev pub CopyStays : Type 0
 CopyStays =
     (run later : List Played) (m : Played) (w : World) → Reached (run ++ m ∷ later) w
     → (before : List Act) (x : Delivery) (q : QueuesCopy m before x) (s : Site) → slice_get w.sites (site m.fate) ≡ Some s
-    → (c : StaysCalled run later m before q.call) × (IsOver q.call.step.client c.after ⊎ RowsHaveCopy (run ++ m ∷ later) (site m.fate) s c.earlier q.call.step x)
+    → (c : StaysCalled run later m before q.call) × (SessionIsOver q.call.step.client c.after ⊎ RowsHaveCopy (run ++ m ∷ later) (site m.fate) s c.earlier q.call.step x)

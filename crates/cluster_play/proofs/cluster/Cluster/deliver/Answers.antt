@@ -4,7 +4,7 @@ use Rattle.broker_node.specs.declared.event.Event.{Event}
 use Rattle.broker_node.specs.declared.event.EventKind.TheVariants as kinds
 use Rattle.cluster_play.specs.declared.step.Step.TheVariants as steps
 use Rattle.cluster_play.specs.Clusters.{site_of, world}
-use Rattle.cluster_play.specs.Playing.{IsDoneAt, RunsOut}
+use Rattle.cluster_play.specs.Playing.{IsDoneAt, MemoryRunsOut}
 use Rattle.cluster_play.specs.Worlds.{OfEvent}
 use Rattle.cluster_play.proofs.Events.{delivery_out, map_past}
 use Rattle.cluster_play.proofs.cluster.Cluster.deliver.Goals as goal
@@ -29,5 +29,5 @@ returns-clause-err c =
     IfErr-weaker c.event.result _ _ (λ k e. inl (
       e.0,
       delivery_out (world c.args.self.now) (world c.event.new.self) c.args.number c.args.at f (sym c.in-Some.ensures)
-          (subst (λ (v : Event). RunsOut (world c.args.self.now) (steps.Event f.to v) (world c.event.new.self)) same e.1),
+          (subst (λ (v : Event). MemoryRunsOut (world c.args.self.now) (steps.Event f.to v) (world c.event.new.self)) same e.1),
     )) c.event.ensures.err

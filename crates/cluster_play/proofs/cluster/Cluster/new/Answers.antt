@@ -7,7 +7,7 @@ use Rattle.node_rows.proofs.OneNode.{rows_tell_all}
 use Rattle.node_rows.specs.Rows.{mark, mark_key}
 use Rattle.node_work.specs.View.{NodeView, opened}
 use Rattle.cluster_play.specs.Clusters.{are_tables, site_of}
-use Rattle.cluster_play.specs.Histories.{IsNew}
+use Rattle.cluster_play.specs.Histories.{IsNewSite}
 use Rattle.cluster_play.proofs.Fresh.{opened_new}
 use Rattle.cluster_play.proofs.Sites.{each_added}
 use Rattle.cluster_play.proofs.Tables.{few_tables, fits_at, homes_more, table_of}
@@ -34,7 +34,7 @@ loop-i-preserved c =
     let new = opened_new rows_tell_all i c.in_ok-copy.field-0 c.new.result (rows_of k) (node_of k) c.new.ensures (c.in-Ok.ensures.ok tt tt).1 in
     let added = ap (map site_of) c.in_ok-push.ensures.items ∙ map_push site_of nodes k in
     record {
-      each = λ j s h. each_added (IsNew (length tables)) sites (site_of k) c.loop-i.invariant.each
+      each = λ j s h. each_added (IsNewSite (length tables)) sites (site_of k) c.loop-i.invariant.each
           (record {
             homes = c.in_ok-copy.field-0;
             fits = ap (λ (t : Table). length t.nodes) copied ∙ fits_at tables i x fit below is;
@@ -54,4 +54,4 @@ returns-clause-start c =
     let count : length tables ≡ length sites = omega (arith, taken, long) in
     let fit : are_tables tables ≡ true = ap are_tables (sym c.as_slice.ensures.value) ∙ sym c.are_tables.ensures ∙ c.if-not-are_tables.false in
     let few = few_tables tables fit in
-    record { few = omega (arith, few, count); sites = λ k s h. subst (λ j. IsNew j k s) count (c.loop-i.invariant.each k s h); frames = c.new-2.ensures.items }
+    record { few = omega (arith, few, count); sites = λ k s h. subst (λ j. IsNewSite j k s) count (c.loop-i.invariant.each k s h); frames = c.new-2.ensures.items }
