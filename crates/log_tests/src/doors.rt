@@ -133,3 +133,75 @@ fn a_writer_that_fails_stops_nothing(rt: HostRuntime) {
     assert!(rt; paper.text.as_slice() == b"2\n21 client gone, closed: a\n".as_slice());
     drop(paper);
 }
+
+/// How many bytes a User Property has: most of those of a long CONNECT, and what it has before its value.
+const PROPERTY: usize = 65_535;
+
+const BEFORE: [u8; 5] = [38, 0, 0, 0xFF, 0xFA];
+
+/// A Variable Byte Integer of three bytes (MQTT 5.0, 1.5.5).
+fn three_bytes(number: usize) -> [u8; 3] {
+    [
+        (number % 128 + 128) as u8,
+        (number / 128 % 128 + 128) as u8,
+        (number / 16_384 % 128) as u8,
+    ]
+}
+
+/// Sixteen User Properties of so many bytes in all.
+fn properties(rt: &impl Abort, alloc: Global, length: usize) -> Vec<u8> {
+    let value = vec![in alloc; b'v'; PROPERTY - 5].expect(rt, "memory");
+    let mut bytes = Vec::new(alloc);
+    for _ in 0..15 {
+        bytes.extend_from_slice(&BEFORE).expect(rt, "memory");
+        bytes.extend_from_slice(&value).expect(rt, "memory");
+    }
+    let rest = length.saturating_sub(15 * PROPERTY + 5);
+    let head = [38, 0, 0, (rest / 256 % 256) as u8, (rest % 256) as u8];
+    bytes.extend_from_slice(&head).expect(rt, "memory");
+    for _ in 0..rest {
+        bytes.push(b'v').expect(rt, "memory");
+    }
+    drop(value);
+    bytes
+}
+
+/// A CONNECT of the client `a` that has so many bytes.
+fn long_connect(rt: &impl Abort, alloc: Global, length: usize) -> Vec<u8> {
+    let mut bytes = Vec::from_slice(alloc, &[0x10]).expect(rt, "memory");
+    let rest = three_bytes(length.saturating_sub(4));
+    bytes.extend_from_slice(&rest).expect(rt, "memory");
+    bytes.extend_from_slice(&PLAIN[2..12]).expect(rt, "memory");
+    let properties = properties(rt, alloc, length.saturating_sub(20));
+    let count = three_bytes(properties.len());
+    bytes.extend_from_slice(&count).expect(rt, "memory");
+    bytes.extend_from_slice(&properties).expect(rt, "memory");
+    drop(properties);
+    bytes.extend_from_slice(&PLAIN[13..]).expect(rt, "memory");
+    bytes
+}
+
+/// What is told of a client that is accepted after a CONNECT of so many bytes.
+fn is_told(rt: &impl Abort, alloc: Global, length: usize, expected: &str) {
+    let mut paper = Paper::new(alloc, false);
+    let mut door = door_of(alloc, &mut paper);
+    open(rt, &mut door, 0, 1);
+    let connect = long_connect(rt, alloc, length);
+    assert_eq!(rt; connect.len(), length);
+    come(rt, alloc, &mut door, (0, 1), &connect);
+    drop(connect);
+    settle(rt, &mut door);
+    drop(door);
+    assert!(rt; paper.text.as_slice() == expected.as_bytes());
+    drop(paper);
+}
+
+#[test]
+fn of_a_connect_as_much_is_kept_as_a_packet_may_have(rt: HostRuntime) {
+    for (length, expected) in [
+        (1_048_576, "0 client accepted: a\n"),
+        (1_048_577, "0 client accepted: \n"),
+    ] {
+        is_told(&rt, rt.alloc(), length, expected);
+    }
+}

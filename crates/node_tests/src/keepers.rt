@@ -1,7 +1,7 @@
 //! A node of a cluster of two with its rows in memory, and what it is handed.
 ghost use Rattle.std.specs.Prelude.{◌<◌};
 
-use broker_node::{Event, EventKind};
+use broker_node::{Event, EventKind, Output};
 use mqtt_packets::Bytes;
 use node_keeper::{Keeper, KeeperFault};
 use numbered_homes::homes_of;
@@ -24,6 +24,33 @@ pub fn outputs(rt: &impl Abort, keeper: &mut Keeper<MemoryRows>, kind: EventKind
     let outputs = keeper.handle(&event).expect(rt, "no fault");
     drop(event);
     outputs.len()
+}
+
+/// The bytes of the packets that go out.
+fn add_packets(rt: &impl Abort, outputs: &[Output], bytes: &mut Vec<u8>) {
+    for output in outputs {
+        if let Output::Send { bytes: packet, .. } = output {
+            bytes
+                .extend_from_slice(packet.as_slice())
+                .expect(rt, "memory");
+        }
+    }
+}
+
+/// The bytes of the packets that an event comes to, one after the other.
+pub fn sent(
+    rt: &impl Abort,
+    alloc: Global,
+    keeper: &mut Keeper<MemoryRows>,
+    kind: EventKind,
+) -> Vec<u8> {
+    let event = Event { at: 0, kind };
+    let outputs = keeper.handle(&event).expect(rt, "no fault");
+    drop(event);
+    let mut bytes = Vec::new(alloc);
+    add_packets(rt, &outputs, &mut bytes);
+    drop(outputs);
+    bytes
 }
 
 /// The fault of an event, if it has one.

@@ -12,7 +12,15 @@ mod frames;
 #[cfg(test)]
 mod keepers;
 #[cfg(test)]
+mod last_numbers;
+#[cfg(test)]
 mod limits;
+#[cfg(test)]
+mod long_messages;
+#[cfg(test)]
+mod long_states;
+#[cfg(test)]
+mod nodes;
 #[cfg(test)]
 mod numbers;
 #[cfg(test)]

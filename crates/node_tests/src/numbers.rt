@@ -9,7 +9,7 @@ use std::alloc::Global;
 use std::process::Abort;
 
 /// A row: its kind, owner, place and value.
-type Plain = (u8, &'static [u8], &'static [u8], &'static [u8]);
+pub type Plain = (u8, &'static [u8], &'static [u8], &'static [u8]);
 
 /// The mark of node 1: the version, the node, and that no identifier was given.
 const MARK: &[u8] = b"\0\x02\0\x01\0\0\0\0\0\0\0\0";
@@ -38,12 +38,19 @@ fn put(rt: &impl Abort, alloc: Global, rows: &mut MemoryRows, row: Plain) {
     drop(changes);
 }
 
+/// A store of these rows.
+pub fn rows_of(rt: &impl Abort, alloc: Global, plain: &[Plain]) -> MemoryRows {
+    let mut rows = MemoryRows::new(alloc);
+    for row in plain {
+        put(rt, alloc, &mut rows, *row);
+    }
+    rows
+}
+
 #[test]
 fn a_subscribe_past_the_last_number_stops_the_node(rt: HostRuntime) {
     let alloc = rt.alloc();
-    let mut rows = MemoryRows::new(alloc);
-    put(&rt, alloc, &mut rows, (1, b"", b"", MARK));
-    put(&rt, alloc, &mut rows, (6, b"", b"\x01", TAKEN));
+    let rows = rows_of(&rt, alloc, &[(1, b"", b"", MARK), (6, b"", b"\x01", TAKEN)]);
     let mut keeper = opened(&rt, alloc, rows, 1);
     connect(&rt, alloc, &mut keeper, CONNECT);
     let subscribe = piece(&rt, alloc, 1, SUBSCRIBE);
@@ -57,9 +64,7 @@ fn a_subscribe_past_the_last_number_stops_the_node(rt: HostRuntime) {
 #[test]
 fn a_message_past_the_last_number_of_a_lane_stops_the_node(rt: HostRuntime) {
     let alloc = rt.alloc();
-    let mut rows = MemoryRows::new(alloc);
-    put(&rt, alloc, &mut rows, (1, b"", b"", MARK));
-    put(&rt, alloc, &mut rows, (8, b"\0\0", b"", LANE));
+    let rows = rows_of(&rt, alloc, &[(1, b"", b"", MARK), (8, b"\0\0", b"", LANE)]);
     let mut keeper = opened(&rt, alloc, rows, 1);
     connect(&rt, alloc, &mut keeper, CONNECT);
     let found = fault(&mut keeper, piece(&rt, alloc, 1, PUBLISH));

@@ -55,6 +55,32 @@ fn clients_get_what_is_sent(rt: HostRuntime) -> Result<(), Fail> {
     Ok(())
 }
 
+/// What has come back to a client after so many turns, which sends so many bytes at once.
+fn echoed(rt: &impl Abort, alloc: Global, sends: usize, turns: u64) -> usize {
+    let mut network = FakeSockets::new(alloc);
+    let mut hub = hub_of(rt, alloc, &mut network, Vec::new(alloc));
+    let bytes = vec![in alloc; b'.'; sends].expect(rt, "memory");
+    let end = client(rt, &mut network, &bytes, usize::MAX, usize::MAX);
+    drop(bytes);
+    let mut echo = Echo::new(alloc);
+    assert!(rt; make(rt, &mut hub, &mut network, &mut echo, turns) == 1);
+    network.came(end).len()
+}
+
+#[test]
+fn a_read_takes_65536_bytes_at_most(rt: HostRuntime) {
+    // the first turn accepts, and each later one reads once
+    for (sends, turns, came) in [
+        (65_536, 2, 65_536),
+        (65_536, 3, 65_536),
+        (65_537, 2, 65_536),
+        (65_537, 3, 65_537),
+    ] {
+        let found = echoed(&rt, rt.alloc(), sends, turns);
+        assert_eq!(rt; found, came, "of {sends} after {turns}");
+    }
+}
+
 /// How many clients there are after so many turns that answer `m` by 8,388,608 bytes, and how many were told as gone.
 fn left_of(
     rt: &impl Abort,

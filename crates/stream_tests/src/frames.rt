@@ -2,6 +2,7 @@
 
 use crate::changes::changed;
 use bridge_frames::{BridgeFrame, FrameBody};
+use node_rows::{are_dots_among, is_state_among};
 use std::alloc::Global;
 use std::process::Abort;
 use stream_trials::{Said, Stage, Told};
@@ -77,12 +78,13 @@ fn bytes_of(rt: &impl Abort, alloc: Global, spelled: &str) -> Vec<u8> {
     bytes
 }
 
-/// What is told of a frame: its sender, its receiver, and how many frames answer it.
+/// What is told of a frame: its sender, its receiver, how many frames answer it, and whether it names none but the nodes of a cluster of two.
 #[derive(Clone, Copy)]
 struct Sent {
     from: u16,
     to: u16,
     answers: usize,
+    is_known: bool,
 }
 
 /// A Hello and a Delta are answered by a Know, a Forward by a Got.
@@ -90,6 +92,15 @@ fn answers_of(body: &FrameBody) -> usize {
     match body {
         FrameBody::Hello | FrameBody::Delta(_) | FrameBody::Forward(_, _) => 1,
         FrameBody::Know(_) | FrameBody::Got(_) => 0,
+    }
+}
+
+/// Whether the body names none but the nodes of a cluster of two.
+fn is_known(body: &FrameBody) -> bool {
+    match body {
+        FrameBody::Delta(state) => is_state_among(2, state),
+        FrameBody::Know(dots) => are_dots_among(2, dots),
+        _ => true,
     }
 }
 
@@ -101,6 +112,7 @@ fn sent_of(alloc: Global, bytes: &[u8]) -> Option<Sent> {
                 from: frame.from,
                 to: frame.to,
                 answers: answers_of(&frame.body),
+                is_known: is_known(&frame.body),
             };
             drop(frame);
             Some(sent)
@@ -111,7 +123,7 @@ fn sent_of(alloc: Global, bytes: &[u8]) -> Option<Sent> {
 
 /// Whether it is a frame for this node of two from the other one.
 fn is_for(node: u16, sent: Sent) -> bool {
-    sent.to == node && sent.from < 2 && sent.from != node
+    sent.to == node && sent.from < 2 && sent.from != node && sent.is_known
 }
 
 /// Whether so many frames go out, and nothing else.

@@ -88,10 +88,10 @@ pub const EXAMPLES: [Example; 22] = [
         err: "",
     },
     Example {
-        name: "a tick at the end of moments",
-        script: "nodes 2\nstart 0 0\nstart 1 0\ntick 0 4611686018427387904\ntick 0 1\n",
+        name: "a tick at the last moment, one at the end of moments, and one at a node that is down",
+        script: "nodes 2\nstart 0 0\nstart 1 0\nopen 0 1 0\nbytes 0 1 0 100e00044d5154540502000000000162\ntick 0 4611686018427387903\nbytes 0 1 4611686018427387903 c000\ntick 0 4611686018427387904\ntick 0 1\n",
         status: 0,
-        out: "fault 0 NumbersAtEnd\ndown 0\nnode 0 down\nnode 1 subscriptions 0 retained 0\n",
+        out: "sent 0 1 200e00000b2100642200102700100000\nsent 0 1 d000\nfault 0 NumbersAtEnd\ndown 0\nnode 0 down\nnode 1 subscriptions 0 retained 0\n",
         err: "",
     },
     Example {
