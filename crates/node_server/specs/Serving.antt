@@ -7,7 +7,7 @@ use Rattle.node_batches.specs.declared.batch.BatchKeeper.{BatchKeeper}
 use Rattle.node_batches.specs.Batches.{IsDecided, IsOfRows}
 use Rattle.node_batches.specs.Views.{node_in, rows_in, waiting_in}
 use Rattle.node_keeper.specs.declared.fault.KeeperFault.{KeeperFault}
-use Rattle.node_keeper.specs.Keeping.{HasCauseAt}
+use Rattle.node_keeper.specs.Keeping.{KeeperHasCauseAt}
 use Rattle.node_server.specs.Outputs.{AreForClients, AreForPeers}
 use Rattle.node_work.specs.declared.outcome.Output.{Output}
 use Rattle.row_store.specs.Rows.{Content, after_all}
@@ -42,7 +42,7 @@ module _ {R : Type 0} where
   -- gone
   pub record IsHalted (k : BatchKeeper R) (e : Event) (fault : KeeperFault) (k' : BatchKeeper R) : Type 0 where
     pub down : (node_in k').up ≡ None
-    pub cause : HasCauseAt (node_in k).up (node_in k).place e fault
+    pub cause : KeeperHasCauseAt (node_in k).up (node_in k).place e fault
     pub rows : rows_in k' ≡ rows_in k
     pub nothing : waiting_in k' ≡ []
 
