@@ -17,7 +17,7 @@ use Rattle.node_work.specs.Acts.{Act, Bridge, Runs, gather, op_in, merge_in}
 use Rattle.node_work.specs.Held.Bridge.{Gave}
 use Rattle.node_work.specs.Lasting.{lasting}
 use Rattle.node_work.specs.View.{Place, HeldView, fresh}
-use Rattle.node_laws.specs.Moves.{Move, Moves, Reopened as Loses, did}
+use Rattle.node_laws.specs.Moves.{Move, Moves, Reopened, did}
 use Rattle.node_laws.proofs.MoveLaws.{moves_join, acts_are_moves}
 use Rattle.cluster_play.specs.declared.step.Step.{Step}
 use Rattle.cluster_play.specs.Worlds.{Site, World, Fate, Released, Lost, Cut, Faulted, Was_down, Restarted, Happens, frames_in}
@@ -207,7 +207,7 @@ module _ (p : Past) (w w' : World) (x : Explains p w) (fate : Fate) (idle : acts
       seat_stays p (length w.sites) i fate k.0 s y k.2 (subst (λ os. Holding i os y.held) no_ops y.holding) (ap (λ ms. cond (nat_eq (site fate) i) ms []) none ∙ if_none (nat_eq (site fate) i)) (no_gain i))) r.frames
 
   -- a node is opened again
-  seat_woke : RowsTellAll → (i : ℕ) (c : Woke w i w') → site fate ≡ i → moves_of fate ≡ Loses ∷ [] → Seated (past_and p fate) (length w.sites) i c.later
+  seat_woke : RowsTellAll → (i : ℕ) (c : Woke w i w') → site fate ≡ i → moves_of fate ≡ Reopened ∷ [] → Seated (past_and p fate) (length w.sites) i c.later
   seat_woke tell i c own moves =
       let y = x.sites i c.was c.at in
       let o = c.reopens.node in
@@ -216,8 +216,8 @@ module _ (p : Past) (w w' : World) (x : Explains p w) (fate : Fate) (idle : acts
       let can : IsLasting place.nodes (lasting y.held) = subst (λ n. IsLasting n (lasting y.held)) (sym y.nodes) (seat_lasts p w x i c.was c.at y) in
       let again = reopened tell place c.was.node.homes c.was.rows c.later.rows y.held o.held o.lasting y.homes can y.rows c.reopens.rows o.are o.woken in
       let at : c.later.node.place ≡ place = ap (λ n. n.place) o.is in
-      let mine : own_moves i fate ≡ Loses ∷ [] = ap (λ b. cond b (moves_of fate) []) (eq-eqb (site fate) i own) ∙ moves in
-      let all : Moves place first (p.moves i ++ Loses ∷ []) o.held = moves_join place (p.moves i) (Loses ∷ []) first y.held o.held y.moves (o.held, again.woken, refl) in
+      let mine : own_moves i fate ≡ Reopened ∷ [] = ap (λ b. cond b (moves_of fate) []) (eq-eqb (site fate) i own) ∙ moves in
+      let all : Moves place first (p.moves i ++ Reopened ∷ []) o.held = moves_join place (p.moves i) (Reopened ∷ []) first y.held o.held y.moves (o.held, again.woken, refl) in
       record {
         id = ap (λ (q : Place). q.id) at ∙ y.id;
         nodes = ap (λ (q : Place). q.nodes) at ∙ y.nodes;
@@ -237,7 +237,7 @@ module _ (p : Past) (w w' : World) (x : Explains p w) (fate : Fate) (idle : acts
         listed = λ d. ap (λ (t : State). set.contains t.taken d) again.store ∙ y.listed d ∙ sym (or_false (p.took i d)) ∙ ap (λ b. p.took i d || b) (sym (no_gain i d));
       }
 
-  pub explains_woke : RowsTellAll → (i : ℕ) → Woke w i w' → site fate ≡ i → moves_of fate ≡ Loses ∷ [] → Explains (past_and p fate) w'
+  pub explains_woke : RowsTellAll → (i : ℕ) → Woke w i w' → site fate ≡ i → moves_of fate ≡ Reopened ∷ [] → Explains (past_and p fate) w'
   explains_woke tell i c own moves = explains_with (λ j s a. each_changed (Seated (past_and p fate) (length w.sites)) w.sites i c.was c.later c.at (seat_woke tell i c own moves)
       (λ j s ne a. (let y = x.sites j s a in
       let apart : site fate ≢ j = λ q. ne (sym own ∙ q) in

@@ -86,7 +86,7 @@ pub may_be_same : (p : Place) (rows rows' : Content) (h : HeldView) → AreOf p 
 may_be_same p rows rows' h are (inl e) = e
 may_be_same p rows rows' h are (inr e) = absurd (has_rows p rows h are e.0)
 
-pub record Reopened (p : Place) (rows : Content) (h h' : HeldView) : Type 0 where
+pub record WokenAlike (p : Place) (rows : Content) (h h' : HeldView) : Type 0 where
   pub woken : IsWoken h.homes (lasting h) h'
   pub are : AreOf p rows h'
   pub lasts : CanLast h'
@@ -95,7 +95,7 @@ pub record Reopened (p : Place) (rows : Content) (h h' : HeldView) : Type 0 wher
 
 -- from the rows of what it held
 pub reopened : RowsTellAll → (p : Place) (homes : Table) (rows rows' : Content) (h h' : HeldView) (x : Lasting) → homes ≡ h.homes → IsLasting (nodes_of p) (lasting h) → AreOf p rows h → marked p.id rows rows'
-    → AreLasting p rows' x → IsWoken homes x h' → Reopened p rows' h h'
+    → AreLasting p rows' x → IsWoken homes x h' → WokenAlike p rows' h h'
 reopened tell p homes rows rows' h h' x table can are m says woken =
     let same = marked_same p rows rows' h are m in
     let one : x ≡ lasting h = tell (nodes_of p) p.id x (lasting h) says.0 can (λ key. sym (says.1 key) ∙ ap (λ (c : Content). map.get c key) same ∙ are key) in

@@ -7,7 +7,7 @@ use Rattle.broker_node.specs.declared.event.Event.{Event}
 use Rattle.node_work.specs.declared.outcome.Output.{Output}
 use Rattle.node_work.specs.Acts.{Act, MomentTaken, Store, Made, Merged, gather, moved_in, op_in}
 use Rattle.node_work.specs.View.{opened}
-use Rattle.node_laws.specs.Moves.{Move, Acted, Reopened as Loses, did}
+use Rattle.node_laws.specs.Moves.{Move, Acted, Reopened, did}
 use Rattle.node_rows.specs.Rows.{mark, mark_key}
 use Rattle.replica_store.specs.declared.operation.Operation.{Operation}
 use Rattle.replica_store.specs.Operations.{dot_of}
@@ -92,7 +92,7 @@ moment_in a = 0
 abbrev pub moves_of : Fate → List Move
 moves_of (Released i e acts outputs) = did acts
 moves_of (Lost i e acts) = did acts
-moves_of (Restarted i) = Loses ∷ []
+moves_of (Restarted i) = Reopened ∷ []
 moves_of fate = []
 
 abbrev pub own_moves : ℕ → Fate → List Move
@@ -116,7 +116,7 @@ last_of t (u ∷ us) = last_of u us
 abbrev pub moment_after : ℕ → List Move → ℕ
 moment_after at [] = at
 moment_after at (Acted a ∷ moves) = moment_after (max at (moment_in a)) moves
-moment_after at (Loses ∷ moves) = moment_after 0 moves
+moment_after at (Reopened ∷ moves) = moment_after 0 moves
 
 abbrev pub moment_amid : ℕ → List Played → List Act → ℕ
 moment_amid i run acts = moment_after 0 (moves_amid i run acts)
@@ -125,7 +125,7 @@ moment_amid i run acts = moment_after 0 (moves_amid i run acts)
 abbrev pub homes_after : Table → List Move → Table
 homes_after t [] = t
 homes_after t (Acted a ∷ moves) = homes_after (last_of t (moved_in a)) moves
-homes_after t (Loses ∷ moves) = homes_after t moves
+homes_after t (Reopened ∷ moves) = homes_after t moves
 
 -- the node of a seat is new, with a table of homes for so many nodes, and its rows are its mark
 pub record IsNewSite (nodes i : ℕ) (s : Site) : Type 0 where

@@ -3,3 +3,4 @@ pub mod Gathering
 pub mod InOrder
 pub mod Sharing
 pub mod Ascending
+pub mod Putting

@@ -25,7 +25,7 @@ any_as_published es = list_any (λ e. retain_as_published_of e.options) es
 
 -- the Subscription Identifiers of all of them, ascending, repeats kept (3.3.4)
 abbrev pub identifiers_in : List Entry → List ℕ
-identifiers_in es = (ascending (flat_map (λ e. identifiers_of e.identifier) es)).0
+identifiers_in es = ascending (flat_map (λ e. identifiers_of e.identifier) es)
 
 -- the one copy for a client with these subscriptions
 abbrev pub copy_for : Message → List Entry → Delivery

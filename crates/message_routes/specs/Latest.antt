@@ -6,6 +6,13 @@ use Rattle.causal_context.specs.Dots.{Dot, Dots}
 use Rattle.subscription_set.specs.Entries.{Entry, recency_cmp}
 use Rattle.subscription_set.specs.Standing.{Entries, find_entry}
 
+-- nothing stands at the dots, or this does and nothing there is later
+abbrev pub IsLatest : Entries → Dots → Option Entry → Type 0
+IsLatest es dots None = (q : Dot) → set.contains dots q ≡ true → find_entry q es ≡ None
+IsLatest es dots (Some e) = (d : Dot) × (set.contains dots d ≡ true) × (find_entry d es ≡ Some e)
+    × ((q : Dot) (f : Entry) → set.contains dots q ≡ true → find_entry q es ≡ Some f → is_lt (recency_cmp (d, e) (q, f)) ≡ false)
+
+-- ---- as it is found, one dot after the other
 -- what stands at a dot, with the dot
 abbrev pub beside : Dot → Option Entry → Option (Dot × Entry)
 beside d None = None
@@ -30,9 +37,3 @@ later x d (Some e) = if is_after x (d, e) then Some (d, e) else x
 abbrev pub latest_from : Entries → Option (Dot × Entry) → List Dot → Option (Dot × Entry)
 latest_from es x [] = x
 latest_from es x (d ∷ ds) = latest_from es (later x d (find_entry d es)) ds
-
--- nothing stands at the dots, or this does and nothing there is later
-abbrev pub IsLatest : Entries → Dots → Option Entry → Type 0
-IsLatest es dots None = (q : Dot) → set.contains dots q ≡ true → find_entry q es ≡ None
-IsLatest es dots (Some e) = (d : Dot) × (set.contains dots d ≡ true) × (find_entry d es ≡ Some e)
-    × ((q : Dot) (f : Entry) → set.contains dots q ≡ true → find_entry q es ≡ Some f → is_lt (recency_cmp (d, e) (q, f)) ≡ false)

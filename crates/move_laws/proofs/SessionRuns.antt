@@ -14,7 +14,7 @@ use Rattle.node_work.specs.Acts.{Act, Session, Runs}
 use Rattle.node_work.specs.Held.Sessions.{Begun}
 use Rattle.node_work.specs.Lasting.{lasting, IsWoken}
 use Rattle.node_work.specs.View.{Place, HeldView, NodeView, nodes_of, fresh}
-use Rattle.node_laws.specs.Moves.{Move, Reopened as Loses, Moves, did}
+use Rattle.node_laws.specs.Moves.{Move, Reopened, Moves, did}
 use Rattle.node_laws.proofs.MoveLaws.{acts_are_moves, moves_join, moves_lead_to_one}
 use Rattle.broker_node.specs.declared.event.Event.{Event}
 use Rattle.broker_node.proofs.Tables.{nodes_stay}
@@ -184,11 +184,11 @@ module _ (start : World) (run : List Played) (m : Played) (w w' : World) (r : Re
       let law = sessions_are_at_home e p c.before c.after acts (placed_in c.was i c.before (all_sit run w r i c.was c.at) c.up) c.steps.does c.steps.runs in
       subst (NoneElsewhere p.id) (sym one) (law.0 (subst (NoneElsewhere p.id) (sym same) x.none))
 
-  woke_own : (i : ℕ) (s : Site) (first : Table) (h : HeldView) → slice_get w.sites i ≡ Some s → first_in start i ≡ Some first → Moves s.node.place (fresh first) (moves_at i run ++ Loses ∷ []) h → NoneElsewhere s.node.place.id h
+  woke_own : (i : ℕ) (s : Site) (first : Table) (h : HeldView) → slice_get w.sites i ≡ Some s → first_in start i ≡ Some first → Moves s.node.place (fresh first) (moves_at i run ++ Reopened ∷ []) h → NoneElsewhere s.node.place.id h
   woke_own i s first h at is moves =
       let p = s.node.place in
       let x = was i s first at is in
-      let parts = moves_parts p (moves_at i run) (Loses ∷ []) (fresh first) h moves in
+      let parts = moves_parts p (moves_at i run) (Reopened ∷ []) (fresh first) h moves in
       let same : parts.0 ≡ x.held = moves_lead_to_one p (fresh first) parts.0 x.held (moves_at i run) parts.1 x.moves in
       let woken : IsWoken x.held.homes (lasting x.held) parts.2.0 = subst (λ (v : HeldView). IsWoken v.homes (lasting v) parts.2.0) same parts.2.1 in
       subst (NoneElsewhere p.id) (sym parts.2.2) (woken_none p x.held parts.2.0 woken x.none)
@@ -241,7 +241,7 @@ module _ (start : World) (run : List Played) (m : Played) (w w' : World) (r : Re
   came_own (Faulted i fault) is c = rests_own (ap moves_of is) c
   came_own (Was_down i) is c = rests_own (ap moves_of is) c
   came_own (Restarted i) is c =
-      changed_own i (Loses ∷ []) c.was c.later c.at c.sites (ap (λ (v : NodeView). v.place) c.reopens.node.is) (ap site is) (ap moves_of is) (λ first h first_is moves. woke_own i c.was first h c.at first_is moves)
+      changed_own i (Reopened ∷ []) c.was c.later c.at c.sites (ap (λ (v : NodeView). v.place) c.reopens.node.is) (ap site is) (ap moves_of is) (λ first h first_is moves. woke_own i c.was first h c.at first_is moves)
 
 start_own : (w : World) → IsStart w → IsOwn w [] w
 start_own w s i x first h at is moves q has elsewhere =

@@ -18,7 +18,7 @@ use Rattle.node_work.specs.declared.fault.NodeFault.TheVariants.{NoMemory, Numbe
 use Rattle.node_work.specs.declared.outcome.Output.{Output}
 use Rattle.node_work.specs.Acts.{Session}
 use Rattle.node_work.specs.Calling.{Calls, CallsAt}
-use Rattle.node_work.specs.Held.Calling.{IsHeldCall, Reacted, address_of, reacted, fault_of}
+use Rattle.node_work.specs.Held.Calling.{IsHeldCall, Reacted, connection_of, reacted, fault_of}
 use Rattle.node_work.specs.Held.Sessions.{SessionStep, Called, IsOn, HappensAt, counted, outputs_on}
 use Rattle.node_work.specs.View.{HeldView, WorkView}
 use Rattle.row_store.specs.declared.row.Change.{Change}
@@ -118,7 +118,7 @@ module _ (client : List ℕ) (event : ℕ → Event) (on : Option ℕ → Option
   call_fault faults.BadRow k = absurd k.1
 
   pub comes_call : (called : Result (Option Addressed) SessionFault) (r : Result Reaction NodeFault) → IsHeldCall client (event w.held.at) on w.held (reaction_of called) h' → OnOk called (LeadsOn w.held.sessions w.changes cs h'.sessions) → IfOk called (GoesTo client h'.sessions) → ((before : Option ℕ) → IsOn (event w.held.at) before (on before))
-      → HappensAt w.held.at (event w.held.at) → Reacted (address_of called) (reaction_of called) r (record w { held = h'; changes = cs }) w' → ComesTo (λ x. x) r w w' (Calls client event on)
+      → HappensAt w.held.at (event w.held.at) → Reacted (connection_of called) (reaction_of called) r (record w { held = h'; changes = cs }) w' → ComesTo (λ x. x) r w w' (Calls client event on)
   comes_call (Ok None) (Ok x) k l goes is_on happens d = subst (λ y. Did w w' (Calls client event on (Some y))) (sym d.0) (no_call k l d.1)
   comes_call (Ok (Some a)) (Ok x) k l goes is_on happens d = subst (λ y. Did w w' (Calls client event on (Some y))) (sym d.0) (one_call a k goes is_on happens l d.1)
   comes_call (Ok None) (Err NoMemory) k l goes is_on happens d = tt

@@ -16,7 +16,7 @@ ghost use Rattle.node_work.specs.Acts.{Began, Connection, Store, Merged, Session
 ghost use Rattle.node_work.specs.Calling.{Calls};
 ghost use Rattle.node_work.specs.Doings.{TakesMoment, OpensConnection, MakesPut, MakesSubscribe, Removes, RemovesBelow, Sends, Disconnects, Redirects};
 ghost use Rattle.mqtt_sessions.specs.Answers.{fits};
-ghost use Rattle.node_work.specs.Held.Calling.{MayConnectHere, MayAnswer, Reacted, address_of};
+ghost use Rattle.node_work.specs.Held.Calling.{MayConnectHere, MayAnswer, Reacted, connection_of};
 ghost use Rattle.mqtt_sessions.specs.Reaction.{AreSpelled};
 ghost use Rattle.session_table.specs.Calls.{IsSpelledIf, stays, leaves, moves, reaction_of};
 ghost use Rattle.session_table.specs.Rows.{own_kind};
@@ -459,7 +459,7 @@ impl Work {
         called: Result<Option<Addressed>, SessionFault>,
     ) -> Result<Reaction, NodeFault>
         requires { IfOk (reaction_of called) (IsSpelledIf self.old.held.at) }
-        ensures { Reacted (address_of called) (reaction_of called) result self.old self.new }
+        ensures { Reacted (connection_of called) (reaction_of called) result self.old self.new }
     {
         let found = called?;
         let Some(Addressed { reaction, to }) = found else {

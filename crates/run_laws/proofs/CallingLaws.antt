@@ -4,7 +4,7 @@ use Rattle.std.proofs.lemmas.List.{append-nil}
 use Rattle.session_laws.specs.Runs.{Step}
 use Rattle.finite_maps.proofs.Texts.{itself, same_text}
 use Rattle.node_laws.specs.Lives.{is_client, step_in, after_act, after_move, life, lost_step}
-use Rattle.node_laws.specs.Moves.{Move, Acted, Reopened as Loses, did}
+use Rattle.node_laws.specs.Moves.{Move, Acted, Reopened, did}
 use Rattle.node_work.specs.Acts.{Act, MomentTaken, Began, Moved, Store, Connection, Session, Bridge, Out, Named, Acknowledged, Passed, Dropped}
 use Rattle.node_work.specs.Held.Sessions.{Begun, Called, Over}
 use Rattle.cluster_play.specs.Worlds.{World, Fate, Released, Lost, Cut, Faulted, Was_down, Restarted}
@@ -56,7 +56,7 @@ adds_act client Dropped given = inr (same given)
 
 adds_move : (client : List ℕ) (m : Move) (given : List Step) → Ends client m ⊎ Adds given (after_move client m given)
 adds_move client (Acted a) given = adds_act client a given
-adds_move client Loses given = inr (lost_step ∷ [], refl)
+adds_move client Reopened given = inr (lost_step ∷ [], refl)
 
 over_first : (client : List ℕ) (m : Move) (moves : List Move) → Ends client m → SessionIsOver client (m ∷ moves)
 over_first client m moves (inl e) = record { before = []; after = moves; is = inl (ap (λ n. n ∷ moves) e) }

@@ -22,7 +22,7 @@ use Rattle.node_work.specs.Frames.{is_for, names_nodes}
 use Rattle.node_work.specs.Held.Bridge.{BridgeAct, Gave}
 use Rattle.home_table.specs.Table.{Table}
 use Rattle.node_work.specs.View.{Place, HeldView, NodeView, fresh, nodes_of}
-use Rattle.node_laws.specs.Moves.{Move, Moves, Reopened as Loses, did}
+use Rattle.node_laws.specs.Moves.{Move, Moves, Reopened, did}
 use Rattle.node_laws.proofs.MoveLaws.{moves_join, acts_are_moves, moves_lead_to_one}
 use Rattle.cluster_play.specs.declared.step.Step.{Step}
 use Rattle.cluster_play.specs.Worlds.{Site, World, Fate, Released, Lost, Cut, Faulted, Was_down, Restarted, Happens, frames_in}
@@ -67,7 +67,7 @@ led_from : (p p' : Place) (first first' : Table) (ms : List Move) (h : HeldView)
 led_from p p' first first' ms h place table moves = subst (λ t. Moves p' (fresh t) ms h) table (led_by p p' first ms h (sym place) moves)
 
 -- lanes last
-lanes_last : (p : Place) (a b : HeldView) → Moves p a (Loses ∷ []) b → b.bridge.lanes ≡ a.bridge.lanes
+lanes_last : (p : Place) (a b : HeldView) → Moves p a (Reopened ∷ []) b → b.bridge.lanes ≡ a.bridge.lanes
 lanes_last p a b r = ap (λ (v : HeldView). v.bridge.lanes) r.2 ∙ ap (λ (v : HeldView). v.bridge.lanes) r.1.2
 
 -- one more moment, of this node or of another one
@@ -269,7 +269,7 @@ module _ (start : World) (put took : Histories) (run : List Played) (w : World) 
   }
 
   -- a node is opened again: its lanes last
-  lanes_woke : (i : ℕ) → Woke w i w' → site m.fate ≡ i → moves_of m.fate ≡ Loses ∷ [] → LanesExplain start put took (run ++ m ∷ []) w'
+  lanes_woke : (i : ℕ) → Woke w i w' → site m.fate ≡ i → moves_of m.fate ≡ Reopened ∷ [] → LanesExplain start put took (run ++ m ∷ []) w'
   lanes_woke i c own moves = record {
     begins = x.begins;
     sites = λ k h l. elim (nat_cases i k) [
@@ -291,9 +291,9 @@ module _ (start : World) (put took : Histories) (run : List Played) (w : World) 
         let first = fresh l.first in
         let there : l.node ≡ c.later = some_is (sym l.at ∙ at) in
         let same : l.node.node.place ≡ place = ap (λ (s : Site). s.node.place) there ∙ ap (λ (n : NodeView). n.place) c.reopens.node.is in
-        let mine : moves_at i (run ++ m ∷ []) ≡ moves_at i run ++ Loses ∷ [] = own_more i run m own ∙ ap (λ ms. moves_at i run ++ ms) moves in
-        let all : Moves place first (moves_at i run ++ Loses ∷ []) h = subst (λ ms. Moves place first ms h) mine (led_by l.node.node.place place l.first (moves_at i (run ++ m ∷ [])) h (sym same) l.moves) in
-        let parts = moves_split place (moves_at i run) (Loses ∷ []) first h all in
+        let mine : moves_at i (run ++ m ∷ []) ≡ moves_at i run ++ Reopened ∷ [] = own_more i run m own ∙ ap (λ ms. moves_at i run ++ ms) moves in
+        let all : Moves place first (moves_at i run ++ Reopened ∷ []) h = subst (λ ms. Moves place first ms h) mine (led_by l.node.node.place place l.first (moves_at i (run ++ m ∷ [])) h (sym same) l.moves) in
+        let parts = moves_split place (moves_at i run) (Reopened ∷ []) first h all in
         subst (λ ls. AreKept ls (put i) (took i) (λ j. took j i)) (sym (lanes_last place parts.0 h parts.2)) (x.sites i parts.0 (record { node = c.was; at = c.at; first = l.first; was = l.was; moves = parts.1 }))
 
 -- ---- a step

@@ -9,7 +9,7 @@ use Rattle.finite_maps.proofs.Texts.{same_text}
 use Rattle.node_work.specs.Acts.{Act, MomentTaken, Began, Moved, Store, Connection, Session, Bridge, Out, Named, Acknowledged, Passed, Dropped}
 use Rattle.node_work.specs.Held.Sessions.{SessionStep, Begun, Called, Over}
 use Rattle.node_laws.specs.Lives.{is_client, step_in, after_act, after_move, life, lost_step}
-use Rattle.node_laws.specs.Moves.{Move, Acted, Reopened as Loses, did}
+use Rattle.node_laws.specs.Moves.{Move, Acted, Reopened, did}
 use Rattle.cluster_play.specs.Worlds.{Fate, Released, Lost, Cut, Faulted, Was_down, Restarted}
 use Rattle.cluster_play.specs.Runs.{Played}
 use Rattle.cluster_play.specs.Histories.{site, acts_of, moves_of, own_moves, moves_at, moves_amid}
@@ -155,7 +155,7 @@ module _ (client : List ℕ) (past since : List Step) (s : Step) (kept : lost_st
 
   by_move : (m : Move) (given : List Step) → after_move client m given ≡ past ++ s ∷ since → InGiven past s given ⊎ ((t : SessionStep) × (m ≡ Acted (Session (Called t))) × (t.client ≡ client) × (step_in t ≡ s))
   by_move (Acted a) given e = elim (by_act a given e) [ inl g ↦ inl g | inr x ↦ inr (x.0, ap Acted x.1, x.2, x.3) ]
-  by_move Loses given e = elim (grown given past since s lost_step e) [ inl g ↦ inl g | inr same ↦ absurd (kept same) ]
+  by_move Reopened given e = elim (grown given past since s lost_step e) [ inl g ↦ inl g | inr same ↦ absurd (kept same) ]
 
 moved : (client : List ℕ) (past : List Step) (s : Step) → (lost_step ≡ s → ⊥) → (moves : List Move) (given since : List Step) → life client moves given ≡ past ++ s ∷ since → InGiven past s given ⊎ IsMove client moves s
 moved client past s kept [] given since e = inl (since, e)
@@ -191,8 +191,8 @@ did_acts [] ms ns a e = none_there ms ns (Acted a) e
 did_acts (x ∷ acts) [] ns a e = ([], acts, ap (λ y. y ∷ acts) (same_act x a (head_is e)))
 did_acts (x ∷ acts) (m ∷ ms) ns a e = let r = did_acts acts ms ns a (tail_is e) in (x ∷ r.0, r.1, ap (λ zs. x ∷ zs) r.2)
 
-lost_is_none : {X : Type 0} (ms ns : List Move) (a : Act) → Loses ∷ [] ≡ ms ++ Acted a ∷ ns → X
-lost_is_none [] ns a e = absurd (let z : Loses ≡ Acted a = head_is e in cc)
+lost_is_none : {X : Type 0} (ms ns : List Move) (a : Act) → Reopened ∷ [] ≡ ms ++ Acted a ∷ ns → X
+lost_is_none [] ns a e = absurd (let z : Reopened ≡ Acted a = head_is e in cc)
 lost_is_none (m ∷ ms) ns a e = none_there ms ns (Acted a) (tail_is e)
 
 acts_in : (fate : Fate) (ms ns : List Move) (a : Act) → moves_of fate ≡ ms ++ Acted a ∷ ns → IsDid a (acts_of fate)

@@ -18,7 +18,7 @@ use Rattle.session_table.specs.Listing.{text_cmp}
 use Rattle.session_table.specs.Seats.{Seat}
 use Rattle.node_keeper.specs.Keeping.{AreLasting}
 use Rattle.node_laws.specs.Lives.{life, step_in}
-use Rattle.node_laws.specs.Moves.{Move, Acted, Reopened as Loses, Moves}
+use Rattle.node_laws.specs.Moves.{Move, Acted, Reopened, Moves}
 use Rattle.node_laws.proofs.LifeLaws as lives
 use Rattle.node_rows.proofs.OneNode.{rows_tell_all}
 use Rattle.node_rows.specs.Reading.{IsLasting}
@@ -105,8 +105,8 @@ seat_stays client p (Acted a ∷ moves) h h' r has =
       | inl over ↦ inl (record { before = []; after = moves; is = inl (ap (λ x. Acted x ∷ moves) over) })
       | inr still ↦ elim (seat_stays client p moves r.0 h' r.2 (subst (HasSeat client) (sym r.1.1) still)) [ inl o ↦ inl (over_later client (Acted a) moves o) | inr s ↦ inr s ]
     ]
-seat_stays client p (Loses ∷ moves) h h' r has =
-    elim (seat_stays client p moves r.0 h' r.2 (seat_woken client h r.0 r.1 has)) [ inl o ↦ inl (over_later client Loses moves o) | inr s ↦ inr s ]
+seat_stays client p (Reopened ∷ moves) h h' r has =
+    elim (seat_stays client p moves r.0 h' r.2 (seat_woken client h r.0 r.1 has)) [ inl o ↦ inl (over_later client Reopened moves o) | inr s ↦ inr s ]
 
 moves_split : (p : Place) (xs ys : List Move) (a b : HeldView) → Moves p a (xs ++ ys) b → (m : HeldView) × Moves p a xs m × Moves p m ys b
 moves_split p [] ys a b r = (a, refl, r)

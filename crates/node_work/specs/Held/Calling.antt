@@ -25,9 +25,9 @@ abbrev pub MayAnswer : ℕ → List ℕ → Type 0
 MayAnswer id codes = (1 ≤ id) × (codes ≢ [])
 
 -- the connection that a call's reaction goes to
-abbrev pub address_of : Result (Option Addressed) SessionFault → Option ℕ
-address_of (Ok given) = option_and_then (λ x. x.to) given
-address_of (Err fault) = None
+abbrev pub connection_of : Result (Option Addressed) SessionFault → Option ℕ
+connection_of (Ok given) = option_and_then (λ x. x.to) given
+connection_of (Err fault) = None
 
 -- ---- what comes of it: its packets are sent, and a copy that a full queue left out is counted
 abbrev pub fault_of : SessionFault → NodeFault

@@ -1,11 +1,11 @@
 use Rattle.std.proofs.Common.{flat_map}
 use Rattle.mqtt_message.specs.Identifiers.{identifiers_of}
-use Rattle.message_copies.specs.Ascending.{ascending}
 use Rattle.message_copies.proofs.Ascending.{one_ascends}
+use Rattle.message_copies.proofs.Putting.{ascending_ascends}
 use Rattle.message_copies.proofs.laws.identifiers_ascend.Goals as goal
 
 pub returns-clause-identifiers : goal.returns-clause-identifiers
-returns-clause-identifiers c = λ own. (ascending (flat_map (λ e. identifiers_of e.identifier) own)).1
+returns-clause-identifiers c = λ own. ascending_ascends (flat_map (λ e. identifiers_of e.identifier) own)
 
 pub returns-clause-one : goal.returns-clause-one
 returns-clause-one c = one_ascends
