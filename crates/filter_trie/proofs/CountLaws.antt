@@ -8,8 +8,8 @@ use Rattle.std.specs.BTreeMap.{insert_entry, is_at}
 use Rattle.std.specs.FinMap.{nat_cmp-IsAntisymmetric, slice_cmp-IsAntisymmetric}
 use Rattle.std.proofs.lemmas.Bool.Decides.{nat_tests}
 use Rattle.std.proofs.lemmas.Grind.{fold-append}
-use Rattle.filter_trie.specs.Counting.{turn, hash_on, hashes, one, times, total, count, Covers}
-use Rattle.filter_trie.specs.Branching.{Holds}
+use Rattle.filter_trie.specs.Search.Counting.{turn, hash_on, hashes, one, times, total, count, Covers}
+use Rattle.filter_trie.specs.Search.Branching.{Holds}
 use Rattle.finite_maps.proofs.Texts.{text_cmp}
 
 pub hashes_length : (h : ℕ) (t : List ℕ) → length (hashes h t) ≤ length t + 1

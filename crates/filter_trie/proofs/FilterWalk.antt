@@ -2,7 +2,7 @@
 use Rattle.std.proofs.Common.{◌≡◌, ◌≢◌, ◌⊎◌, ℕ, List, [], ◌∷◌, ◌++◌, inl, inr, refl, sym, ap, subst, ◌∙◌, Option, Some, None, Bor}
 use Rattle.mqtt_topics.specs.Levels.{levels, rest_levels, single_level}
 use Rattle.mqtt_topics.specs.Matching.{LevelsMatch}
-use Rattle.filter_trie.specs.Seeking.{IsBefore, IsFrom, IsPast, IsNext, IsLevel, IsCut, ShareLevel, deeper}
+use Rattle.filter_trie.specs.Search.Seeking.{IsBefore, IsFrom, IsPast, IsNext, IsLevel, IsCut, ShareLevel, deeper}
 use Rattle.filter_trie.proofs.LevelLaws.{levels_alone, levels_first, levels_some, one_first, not_longer}
 use Rattle.filter_trie.proofs.Walking.{Walk, walk_ends, walk_goes_on}
 

@@ -4,7 +4,7 @@ use Rattle.std.proofs.lemmas.Bool.Decides.{nat_tests}
 use Rattle.std.proofs.lemmas.Str.Pattern.{IsSplitOnceResult, split_parts}
 use Rattle.std.specs.List.{onto_first}
 use Rattle.mqtt_topics.specs.Levels.{is_separator, levels}
-use Rattle.filter_trie.specs.Seeking.{IsLevel, IsCut}
+use Rattle.filter_trie.specs.Search.Seeking.{IsLevel, IsCut}
 
 pub no_separator : (b : ℕ) → b ≢ 47 → is_separator b ≡ false
 no_separator b other = grind (arith, nat_tests)

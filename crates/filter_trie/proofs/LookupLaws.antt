@@ -9,10 +9,10 @@ use Rattle.mqtt_topics.specs.Levels.{levels}
 use Rattle.mqtt_topics.specs.Matching.{LevelsMatch, Matches}
 use Rattle.filter_trie.specs.declared.beginnings.Beginnings.{Beginnings}
 use Rattle.filter_trie.specs.Selected.{IsSelected}
-use Rattle.filter_trie.specs.Counting.{hash_on}
-use Rattle.filter_trie.specs.Filing.{counted, IsFiled, AreFiled}
-use Rattle.filter_trie.specs.Branching.{Holds}
-use Rattle.filter_trie.specs.Seeking.{IsBefore}
+use Rattle.filter_trie.specs.Search.Counting.{hash_on}
+use Rattle.filter_trie.specs.Search.Filing.{counted, IsFiled, AreFiled}
+use Rattle.filter_trie.specs.Search.Branching.{Holds}
+use Rattle.filter_trie.specs.Search.Seeking.{IsBefore}
 use Rattle.finite_maps.proofs.Texts.{text_cmp}
 use Rattle.filter_trie.proofs.Order.{order_is, asymmetric, transitive}
 use Rattle.filter_trie.proofs.Selecting.{none_here, none_later}

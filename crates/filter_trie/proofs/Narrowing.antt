@@ -2,7 +2,7 @@
 use Rattle.std.proofs.Common.{◌≡◌, ◌↔◌, ℕ, List, [], ◌∷◌, ◌++◌, inl, inr, refl, sym, subst}
 use Rattle.std.specs.List.{AllByRecursion}
 use Rattle.filter_trie.specs.Selected.{IsSelected}
-use Rattle.filter_trie.specs.Branching.{Holds}
+use Rattle.filter_trie.specs.Search.Branching.{Holds}
 
 pub selects_same : {A : Type 0} → (P Q : A → Type 0) → (es out : List A) → AllByRecursion (λ e. P e ↔ Q e) es → IsSelected P es out → IsSelected Q es out
 selects_same P Q [] out h s = s

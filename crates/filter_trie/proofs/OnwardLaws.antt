@@ -1,8 +1,8 @@
 -- A bound that was written, or not for want of memory.
 use Rattle.std.proofs.Common.{◌≡◌, ℕ, List, Option, Some, None, IfSome, sym, subst}
 use Rattle.filter_trie.specs.declared.seeks.Onward.{Onward}
-use Rattle.filter_trie.specs.Seeking.{IsNext}
-use Rattle.filter_trie.specs.Onward.{Leads, from_text}
+use Rattle.filter_trie.specs.Search.Seeking.{IsNext}
+use Rattle.filter_trie.specs.Search.Onward.{Leads, from_text}
 
 module _ {K : Type 0} (read : K → List ℕ) (P : List ℕ → Type 0) (key bound : List ℕ) where
   written : (text : Option K) → IfSome text (λ t. read t ≡ bound) → IsNext P key (Some bound) → Leads read P key (from_text text)

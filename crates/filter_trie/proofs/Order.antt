@@ -4,7 +4,7 @@ use Rattle.std.specs.Ordering.{MatchOrdering, ordering_then, is_lt}
 use Rattle.std.specs.Prelude.{nat_eq}
 use Rattle.std.specs.Cmp.Lexicographic.{slice_cmp, pointwise, bytes_decides}
 use Rattle.std.proofs.lemmas.Cmp.{ranked}
-use Rattle.filter_trie.specs.Seeking.{IsBefore}
+use Rattle.filter_trie.specs.Search.Seeking.{IsBefore}
 
 pub asymmetric : (a b : List ℕ) → IsBefore a b → IsBefore b a → ⊥
 asymmetric [] [] p q = p

@@ -9,7 +9,7 @@ use Rattle.std.proofs.lemmas.Bool.{false_from_ne_true}
 use Rattle.mqtt_topics.specs.Levels.{is_separator, levels}
 use Rattle.mqtt_topics.specs.Topics.{filter_part, IsShared}
 use Rattle.mqtt_topics.specs.Matching.{Matches, PlainMatches, LevelsMatch, BeginsWithDollar, BeginsWithWildcard}
-use Rattle.filter_trie.specs.Seeking.{IsBefore, IsNext, IsLevel}
+use Rattle.filter_trie.specs.Search.Seeking.{IsBefore, IsNext, IsLevel}
 use Rattle.filter_trie.proofs.Order.{asymmetric, after_front, without_front, not_below_front, transitive, either_side, above, begins, next_byte}
 use Rattle.filter_trie.proofs.LevelLaws.{no_separator}
 use Rattle.filter_trie.proofs.FilterWalk.{Matching}

@@ -1,7 +1,7 @@
 -- What a step passes over.
 use Rattle.std.proofs.Common.{◌≡◌, ◌<◌, ◌⊎◌, ℕ, List, [], ◌∷◌, ◌++◌, inl, inr, sym, ap, subst, ◌∙◌, arith, append_assoc, Option, Some}
 use Rattle.std.proofs.lemmas.List.{append-nil}
-use Rattle.filter_trie.specs.Seeking.{IsBefore, IsFrom, IsLevel, IsAt, IsWild, ShareLevel}
+use Rattle.filter_trie.specs.Search.Seeking.{IsBefore, IsFrom, IsLevel, IsAt, IsWild, ShareLevel}
 use Rattle.mqtt_topics.specs.Levels.{levels}
 use Rattle.mqtt_topics.specs.Matching.{LevelsMatch}
 use Rattle.filter_trie.proofs.LevelLaws.{cut, levels_alone, levels_first, levels_some}

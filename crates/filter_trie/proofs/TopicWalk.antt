@@ -2,7 +2,7 @@
 use Rattle.std.proofs.Common.{◌≡◌, ◌≢◌, ◌⊎◌, ℕ, List, [], ◌∷◌, ◌++◌, inl, inr, refl, sym, ap, subst, ◌∙◌, arith, append_assoc, Option, Some, None, Bor}
 use Rattle.mqtt_topics.specs.Levels.{levels, multi_level, single_level}
 use Rattle.mqtt_topics.specs.Matching.{LevelsMatch}
-use Rattle.filter_trie.specs.Seeking.{IsBefore, IsFrom, IsPast, IsNext, IsLevel, IsCut, IsAt, ShareLevel, deeper}
+use Rattle.filter_trie.specs.Search.Seeking.{IsBefore, IsFrom, IsPast, IsNext, IsLevel, IsCut, IsAt, ShareLevel, deeper}
 use Rattle.filter_trie.proofs.Order.{after_front, above, begins, next_byte}
 use Rattle.filter_trie.proofs.LevelLaws.{cut, levels_alone, levels_first, levels_some, not_longer}
 use Rattle.filter_trie.proofs.Walking.{Walk, walk_ends, walk_goes_on}

@@ -1,7 +1,7 @@
 -- A walk down the levels of a key finds where the texts begin that stand after it.
 use Rattle.std.proofs.Common.{◌≡◌, ◌-◌, ◌⊎◌, ℕ, List, [], ◌∷◌, ◌++◌, length, take, Option, Some, None, inl, inr, refl, sym, ap, subst, ◌∙◌, arith, append_assoc, length-append}
 use Rattle.std.proofs.Math.Seq.{take-append_seam}
-use Rattle.filter_trie.specs.Seeking.{IsBefore, IsFrom, IsPast, IsNext, deeper}
+use Rattle.filter_trie.specs.Search.Seeking.{IsBefore, IsFrom, IsPast, IsNext, deeper}
 use Rattle.filter_trie.proofs.Order.{asymmetric, after_front, without_front, above, begins}
 
 -- past the key the texts that have P begin at `best`, or they stand under q and have Q there

@@ -2,8 +2,8 @@
 
 ghost use Rattle.std.specs.Prelude.{◌≡◌, ◌+◌, ◌≤◌, ◌<◌, ℕ, length, OnOk, OnErr, if◌then◌else◌, true, false};
 ghost use Rattle.std.specs.HashMap.{spare};
-ghost use Rattle.filter_trie.specs.Counting.{turn, hash_on, hashes, one, times, Covers};
-ghost use Rattle.filter_trie.specs.Filing.{counted};
+ghost use Rattle.filter_trie.specs.Search.Counting.{turn, hash_on, hashes, one, times, Covers};
+ghost use Rattle.filter_trie.specs.Search.Filing.{counted};
 
 use mqtt_fields::NoMemory;
 use std::alloc::Global;
@@ -17,7 +17,7 @@ pub(crate) struct Beginnings {
 }
 
 /// The hash of a text with one more byte.
-#[tactic(auto, unfolding(crate::specs::Counting::turn))]
+#[tactic(auto, unfolding(crate::specs::Search::Counting::turn))]
 fn turned(hash: u64, byte: u8) -> u64
     ensures { result ≡ turn hash byte }
 {

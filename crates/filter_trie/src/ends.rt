@@ -3,10 +3,10 @@
 ghost use Rattle.std.specs.Prelude.{◌≡◌, ◌⊎◌, ◌∷◌, ◌++◌, ℕ, List, OnOk, IfOk, IfSome, None, codes};
 ghost use Rattle.mqtt_topics.specs.Levels.{levels, rest_levels};
 ghost use Rattle.mqtt_topics.specs.Matching.{LevelsMatch, Matches};
-ghost use Rattle.filter_trie.specs.Counting.{hash_on};
-ghost use Rattle.filter_trie.specs.Filing.{IsFiled};
-ghost use Rattle.filter_trie.specs.Branching.{Holds, Awaits, Waits, AfterShare};
-ghost use Rattle.filter_trie.specs.Onward.{Leads};
+ghost use Rattle.filter_trie.specs.Search.Counting.{hash_on};
+ghost use Rattle.filter_trie.specs.Search.Filing.{IsFiled};
+ghost use Rattle.filter_trie.specs.Search.Branching.{Holds, Awaits, Waits, AfterShare};
+ghost use Rattle.filter_trie.specs.Search.Onward.{Leads};
 
 use crate::beginnings::{Beginnings, hashed};
 use crate::seeks::{Onward, filter_at, past_filter};

@@ -11,8 +11,8 @@ ghost use Rattle.mqtt_topics.specs.Levels.{levels};
 ghost use Rattle.mqtt_topics.specs.Matching.{LevelsMatch, Matches};
 ghost use Rattle.filter_trie.specs.Selected.{IsSelected};
 ghost use Rattle.filter_trie.specs.Tries.{AreFiltersFor};
-ghost use Rattle.filter_trie.specs.Filing.{IsFiled, AreFiled};
-ghost use Rattle.filter_trie.specs.Branching.{Holds, AfterShare};
+ghost use Rattle.filter_trie.specs.Search.Filing.{IsFiled, AreFiled};
+ghost use Rattle.filter_trie.specs.Search.Branching.{Holds, AfterShare};
 
 use crate::beginnings::{Beginnings, hashed};
 use crate::ends::{Ends, ends_for, onward};
@@ -39,7 +39,7 @@ impl<V> Model for FilterTrie<V> {
     ghost use Rattle.std.specs.FinMap as map;
     ghost use Rattle.std.specs.Map.{keys_of};
     ghost use Rattle.filter_trie.specs.Tries.{ByText};
-    ghost use Rattle.filter_trie.specs.Filing.{AreFiled};
+    ghost use Rattle.filter_trie.specs.Search.Filing.{AreFiled};
 
     ghost Value = { ByText V };
 

@@ -6,7 +6,7 @@ ghost use Rattle.std.specs.Ordering.{nat_cmp};
 ghost use Rattle.std.specs.Cmp.Lexicographic.{slice_cmp};
 ghost use Rattle.mqtt_topics.specs.Matching.{Matches};
 ghost use Rattle.filter_trie.specs.Selected.{IsSelected};
-ghost use Rattle.filter_trie.specs.Branching.{Holds};
+ghost use Rattle.filter_trie.specs.Search.Branching.{Holds};
 
 use crate::ends::Ends;
 use mqtt_fields::NoMemory;

@@ -6,9 +6,9 @@ ghost use Rattle.mqtt_fields.specs.Numbers.{IsText};
 ghost use Rattle.mqtt_topics.specs.Levels.{levels};
 ghost use Rattle.mqtt_topics.specs.Topics.{IsShared, share_name, share_filter, filter_part};
 ghost use Rattle.mqtt_topics.specs.Matching.{LevelsMatch, Matches, BeginsWithWildcard, BeginsWithDollar};
-ghost use Rattle.filter_trie.specs.Seeking.{IsBefore, IsNext, IsLevel};
-ghost use Rattle.filter_trie.specs.Steps.{step_text, bound_text, some_bound};
-ghost use Rattle.filter_trie.specs.Onward.{Leads, from_text};
+ghost use Rattle.filter_trie.specs.Search.Seeking.{IsBefore, IsNext, IsLevel};
+ghost use Rattle.filter_trie.specs.Search.Steps.{step_text, bound_text, some_bound};
+ghost use Rattle.filter_trie.specs.Search.Onward.{Leads, from_text};
 
 use crate::steps::{Bound, Seek, Step, first_level, is_before, is_before_step};
 use crate::walks::{filter_bound, topic_bound};

@@ -4,8 +4,8 @@ ghost use Rattle.std.specs.Option.{option_copied};
 ghost use Rattle.std.specs.Prelude.{◌≡◌, ◌≢◌, ◌≤◌, ◌<◌, ◌↔◌, ◌⊎◌, ◌∷◌, ◌++◌, [], List, ℕ, Some, None, IsTrue, length, option_map, codes};
 ghost use Rattle.mqtt_topics.specs.Matching.{LevelsMatch};
 ghost use Rattle.mqtt_topics.specs.Levels.{levels, multi_level};
-ghost use Rattle.filter_trie.specs.Seeking.{IsBefore, IsFrom, IsPast, IsLevel, IsCut, IsAt, IsWild, ShareLevel, deeper};
-ghost use Rattle.filter_trie.specs.Steps.{step_text, some_step, some_bound};
+ghost use Rattle.filter_trie.specs.Search.Seeking.{IsBefore, IsFrom, IsPast, IsLevel, IsCut, IsAt, IsWild, ShareLevel, deeper};
+ghost use Rattle.filter_trie.specs.Search.Steps.{step_text, some_step, some_bound};
 
 /// A level and what follows it.
 #[derive(Clone, Copy)]

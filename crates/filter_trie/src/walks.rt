@@ -3,8 +3,8 @@
 ghost use Rattle.std.specs.Prelude.{◌≡◌, ◌≤◌, List, ℕ, length};
 ghost use Rattle.mqtt_topics.specs.Levels.{levels};
 ghost use Rattle.mqtt_topics.specs.Matching.{LevelsMatch};
-ghost use Rattle.filter_trie.specs.Seeking.{IsNext, deeper};
-ghost use Rattle.filter_trie.specs.Steps.{some_step, some_bound, Seeks};
+ghost use Rattle.filter_trie.specs.Search.Seeking.{IsNext, deeper};
+ghost use Rattle.filter_trie.specs.Search.Steps.{some_step, some_bound, Seeks};
 
 use crate::steps::{
     Bound, Seek, Step, filter_step, first_level, level_step, parent_step, topic_step,

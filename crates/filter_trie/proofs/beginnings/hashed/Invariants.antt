@@ -1,5 +1,5 @@
 use Rattle.std.proofs.Common.{◌≡◌, drop}
-use Rattle.filter_trie.specs.Counting.{hash_on}
+use Rattle.filter_trie.specs.Search.Counting.{hash_on}
 use Rattle.filter_trie.proofs.beginnings.hashed.Given as goal
 
 abbrev pub invariant-loop-byte : goal.invariant-loop-byte

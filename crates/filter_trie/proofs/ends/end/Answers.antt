@@ -1,6 +1,6 @@
 use Rattle.std.proofs.Common.{ℕ, List, ◌++◌, inl, inr, refl, sym, ap, subst, ◌∙◌}
-use Rattle.filter_trie.specs.Filing.{counted}
-use Rattle.filter_trie.specs.Branching.{Holds}
+use Rattle.filter_trie.specs.Search.Filing.{counted}
+use Rattle.filter_trie.specs.Search.Branching.{Holds}
 use Rattle.filter_trie.proofs.CountLaws.{not_filed}
 use Rattle.filter_trie.proofs.BranchLaws.{holds_insert}
 use Rattle.filter_trie.proofs.ends.end.Goals as goal

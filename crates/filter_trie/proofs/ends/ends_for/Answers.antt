@@ -1,6 +1,6 @@
 use Rattle.std.proofs.Common.{ℕ, List, inl, inr, sym, subst}
 use Rattle.std.specs.Prelude.{codes}
-use Rattle.filter_trie.specs.Branching.{Holds}
+use Rattle.filter_trie.specs.Search.Branching.{Holds}
 use Rattle.filter_trie.proofs.BranchLaws.{holds_insert}
 use Rattle.filter_trie.proofs.ends.ends_for.Goals as goal
 

@@ -1,7 +1,7 @@
 use Rattle.std.proofs.Common.{List, [], ◌∷◌, ◌++◌, inl, inr, refl, sym, ap, subst, ◌∙◌}
 use Rattle.filter_trie.specs.declared.ends.Branch.{Branch}
-use Rattle.filter_trie.specs.Filing.{counted}
-use Rattle.filter_trie.specs.Branching.{Waits}
+use Rattle.filter_trie.specs.Search.Filing.{counted}
+use Rattle.filter_trie.specs.Search.Branching.{Waits}
 use Rattle.filter_trie.proofs.CountLaws.{not_begun}
 use Rattle.filter_trie.proofs.BranchLaws.{waits_push, longer}
 use Rattle.filter_trie.proofs.ends.grow.Goals as goal

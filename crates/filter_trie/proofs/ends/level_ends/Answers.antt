@@ -1,6 +1,6 @@
 use Rattle.std.proofs.Common.{List, inl, inr, subst}
 use Rattle.filter_trie.specs.declared.ends.Branch.{Branch}
-use Rattle.filter_trie.specs.Branching.{Waits}
+use Rattle.filter_trie.specs.Search.Branching.{Waits}
 use Rattle.filter_trie.proofs.BranchLaws.{waits_pop}
 use Rattle.filter_trie.proofs.ends.level_ends.Goals as goal
 

@@ -1,8 +1,8 @@
 use Rattle.std.proofs.Common.{◌⊎◌, ℕ, List}
 use Rattle.mqtt_topics.specs.Levels.{levels}
 use Rattle.mqtt_topics.specs.Matching.{LevelsMatch}
-use Rattle.filter_trie.specs.Filing.{IsFiled}
-use Rattle.filter_trie.specs.Branching.{Holds, Waits}
+use Rattle.filter_trie.specs.Search.Filing.{IsFiled}
+use Rattle.filter_trie.specs.Search.Branching.{Holds, Waits}
 use Rattle.filter_trie.proofs.ends.level_ends.Given as goal
 
 abbrev pub invariant-loop : goal.invariant-loop

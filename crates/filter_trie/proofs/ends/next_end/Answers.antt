@@ -1,6 +1,6 @@
 use Rattle.std.proofs.Common.{List, ℕ, Some, sym, subst, ◌∙◌}
-use Rattle.filter_trie.specs.Branching.{Holds}
-use Rattle.filter_trie.specs.Seeking.{IsNext}
+use Rattle.filter_trie.specs.Search.Branching.{Holds}
+use Rattle.filter_trie.specs.Search.Seeking.{IsNext}
 use Rattle.filter_trie.proofs.Jumping.{rises}
 use Rattle.filter_trie.proofs.BranchLaws.{none_past, first_past}
 use Rattle.filter_trie.proofs.ends.next_end.Goals as goal

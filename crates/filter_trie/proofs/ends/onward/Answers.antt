@@ -1,8 +1,8 @@
 use Rattle.std.proofs.Common.{◌≡◌, List, ℕ, IsTrue, false, true, refl, sym, subst}
 use Rattle.std.specs.Prelude.{codes}
 use Rattle.mqtt_topics.specs.Matching.{Matches}
-use Rattle.filter_trie.specs.Filing.{IsFiled}
-use Rattle.filter_trie.specs.Seeking.{IsBefore}
+use Rattle.filter_trie.specs.Search.Filing.{IsFiled}
+use Rattle.filter_trie.specs.Search.Seeking.{IsBefore}
 use Rattle.filter_trie.proofs.BranchLaws.{leads_narrow, leads_before, leads_past}
 use Rattle.filter_trie.proofs.ends.onward.Goals as goal
 

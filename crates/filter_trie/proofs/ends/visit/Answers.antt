@@ -1,7 +1,7 @@
 use Rattle.std.proofs.Common.{◌≡◌, ◌⊎◌, ◌++◌, ℕ, List, Option, Bor, sym, subst}
 use Rattle.mqtt_topics.specs.Levels.{levels, rest_levels}
 use Rattle.mqtt_topics.specs.Matching.{LevelsMatch}
-use Rattle.filter_trie.specs.Branching.{Holds, Waits}
+use Rattle.filter_trie.specs.Search.Branching.{Holds, Waits}
 use Rattle.filter_trie.proofs.BranchLaws.{ways_taken, way_ended}
 use Rattle.filter_trie.proofs.ends.visit.Goals as goal
 

@@ -1,6 +1,6 @@
 use Rattle.std.proofs.Common.{◌++◌, map as map_list, IsTrue, false, refl, ap, ◌∙◌}
 use Rattle.mqtt_topics.specs.Matching.{Matches}
-use Rattle.filter_trie.specs.Filing.{counted, IsFiled}
+use Rattle.filter_trie.specs.Search.Filing.{counted, IsFiled}
 use Rattle.filter_trie.proofs.CountLaws.{filed}
 use Rattle.filter_trie.proofs.Narrowing.{narrowed, widened, holds_in}
 use Rattle.filter_trie.proofs.Jumping.{all_between, walked_none, walked_with, walked_without, walked_to, walked_over, walked_all, walked_silent, shorter_to}

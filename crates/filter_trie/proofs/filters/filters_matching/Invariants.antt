@@ -1,6 +1,6 @@
 use Rattle.std.proofs.Common.{map as map_list}
 use Rattle.mqtt_topics.specs.Matching.{Matches}
-use Rattle.filter_trie.specs.Filing.{IsFiled}
+use Rattle.filter_trie.specs.Search.Filing.{IsFiled}
 use Rattle.filter_trie.proofs.Jumping.{Walked, At}
 use Rattle.filter_trie.proofs.filters.filters_matching.Given as goal
 

@@ -1,8 +1,8 @@
 use Rattle.std.proofs.Common.{◌≡◌, ◌++◌, List, ℕ, IsTrue, false, Some, string_bytes, sym, ap, subst, ◌∙◌}
 use Rattle.std.specs.Prelude.{codes}
 use Rattle.mqtt_topics.specs.Matching.{Matches}
-use Rattle.filter_trie.specs.Seeking.{IsBefore}
-use Rattle.filter_trie.specs.Steps.{bound_text, some_bound}
+use Rattle.filter_trie.specs.Search.Seeking.{IsBefore}
+use Rattle.filter_trie.specs.Search.Steps.{bound_text, some_bound}
 use Rattle.filter_trie.proofs.ShareLaws.{share_next}
 use Rattle.filter_trie.proofs.OnwardLaws.{leads_if_written}
 use Rattle.filter_trie.proofs.seeks.early_onward.Goals as goal

@@ -1,7 +1,7 @@
 use Rattle.std.proofs.Common.{◌≡◌, ◌++◌, List, ℕ, IsTrue, false, Some, None, IfSome, string_bytes, sym, subst}
 use Rattle.mqtt_topics.specs.Matching.{Matches}
-use Rattle.filter_trie.specs.Onward.{Leads}
-use Rattle.filter_trie.specs.Steps.{bound_text}
+use Rattle.filter_trie.specs.Search.Onward.{Leads}
+use Rattle.filter_trie.specs.Search.Steps.{bound_text}
 use Rattle.filter_trie.proofs.ShareLaws.{plain_next}
 use Rattle.filter_trie.proofs.OnwardLaws.{leads_if_written}
 use Rattle.filter_trie.proofs.seeks.filter_onward.Goals as goal

@@ -1,6 +1,6 @@
 use Rattle.std.proofs.Common.{List, ℕ, None, subst}
 use Rattle.mqtt_topics.specs.Matching.{Matches}
-use Rattle.filter_trie.specs.Seeking.{IsNext}
+use Rattle.filter_trie.specs.Search.Seeking.{IsNext}
 use Rattle.filter_trie.proofs.seeks.past_filter.Goals as goal
 
 pub returns-in-End : goal.returns-in-End

@@ -1,6 +1,6 @@
 use Rattle.std.proofs.Common.{◌++◌, List, ℕ, Option, Bor, sym, ap, subst, ◌∙◌}
 use Rattle.std.specs.Prelude.{codes}
-use Rattle.filter_trie.specs.Seeking.{IsCut}
+use Rattle.filter_trie.specs.Search.Seeking.{IsCut}
 use Rattle.filter_trie.proofs.seeks.share_of.Goals as goal
 
 pub returns : goal.returns

@@ -1,8 +1,8 @@
 use Rattle.std.proofs.Common.{◌++◌, ◌∷◌, List, ℕ, Some, sym, subst}
 use Rattle.std.specs.Prelude.{codes}
 use Rattle.mqtt_topics.specs.Matching.{Matches}
-use Rattle.filter_trie.specs.Seeking.{IsNext}
-use Rattle.filter_trie.specs.Steps.{bound_text}
+use Rattle.filter_trie.specs.Search.Seeking.{IsNext}
+use Rattle.filter_trie.specs.Search.Steps.{bound_text}
 use Rattle.filter_trie.proofs.ShareLaws.{shared_next}
 use Rattle.filter_trie.proofs.seeks.shared_onward.Goals as goal
 

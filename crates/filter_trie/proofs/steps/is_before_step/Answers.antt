@@ -1,5 +1,5 @@
 use Rattle.std.proofs.Common.{List, ℕ, ◌++◌, sym, ap, subst, ◌∙◌}
-use Rattle.filter_trie.specs.Seeking.{IsBefore}
+use Rattle.filter_trie.specs.Search.Seeking.{IsBefore}
 use Rattle.filter_trie.proofs.Order.{after_front, without_front, unlike_front}
 use Rattle.filter_trie.proofs.steps.is_before_step.Goals as goal
 

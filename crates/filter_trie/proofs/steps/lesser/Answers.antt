@@ -1,6 +1,6 @@
 use Rattle.std.proofs.Common.{IsTrue, false, refl, ap}
 use Rattle.std.specs.Option.{option_copied}
-use Rattle.filter_trie.specs.Steps.{step_text, some_step}
+use Rattle.filter_trie.specs.Search.Steps.{step_text, some_step}
 use Rattle.filter_trie.proofs.StepLaws.{keep_own, take_wild}
 use Rattle.filter_trie.proofs.steps.lesser.Goals as goal
 

@@ -1,5 +1,5 @@
 use Rattle.std.proofs.Common.{List, ℕ, IsTrue, false, subst, inl}
-use Rattle.filter_trie.specs.Seeking.{IsBefore}
+use Rattle.filter_trie.specs.Search.Seeking.{IsBefore}
 use Rattle.filter_trie.proofs.StepLaws.{begins_ended, wild_multi}
 use Rattle.filter_trie.proofs.steps.parent_step.Goals as goal
 

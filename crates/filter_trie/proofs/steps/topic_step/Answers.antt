@@ -1,6 +1,6 @@
 use Rattle.std.specs.Cmp.Lexicographic.{other_text}
 use Rattle.mqtt_topics.specs.Levels.{single_level}
-use Rattle.filter_trie.specs.Steps.{some_step}
+use Rattle.filter_trie.specs.Search.Steps.{some_step}
 use Rattle.filter_trie.proofs.TopicWalk.{past_level, covers_level, covers_own}
 use Rattle.filter_trie.proofs.steps.topic_step.Goals as goal
 

@@ -1,7 +1,7 @@
 use Rattle.std.proofs.Common.{[], List, ℕ, Option, Some, None, Bor, sym, subst, rules}
 use Rattle.mqtt_topics.specs.Levels.{levels, rest_levels, single_level}
-use Rattle.filter_trie.specs.Seeking.{IsCut, IsNext}
-use Rattle.filter_trie.specs.Steps.{some_step, some_bound}
+use Rattle.filter_trie.specs.Search.Seeking.{IsCut, IsNext}
+use Rattle.filter_trie.specs.Search.Steps.{some_step, some_bound}
 use Rattle.filter_trie.proofs.Order.{told_other}
 use Rattle.filter_trie.proofs.Walking.{Walk, walk_ends}
 use Rattle.filter_trie.proofs.FilterWalk.{Matching, levels_cut, key_ends, level_ends, level_goes_on}

@@ -1,8 +1,8 @@
 use Rattle.std.proofs.Common.{[], List, ℕ, Option, Some, None, Bor, refl, sym, subst, rules}
 use Rattle.std.specs.Cmp.Lexicographic.{other_text}
 use Rattle.mqtt_topics.specs.Levels.{levels, rest_levels, multi_level, single_level}
-use Rattle.filter_trie.specs.Seeking.{IsCut, IsNext}
-use Rattle.filter_trie.specs.Steps.{some_step, some_bound}
+use Rattle.filter_trie.specs.Search.Seeking.{IsCut, IsNext}
+use Rattle.filter_trie.specs.Search.Steps.{some_step, some_bound}
 use Rattle.filter_trie.proofs.Order.{told_other}
 use Rattle.filter_trie.proofs.Walking.{Walk}
 use Rattle.filter_trie.proofs.FilterWalk.{levels_cut}

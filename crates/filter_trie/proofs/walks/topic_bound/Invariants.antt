@@ -2,7 +2,7 @@ use Rattle.std.proofs.Common.{length}
 use denote.Text.{Utf8}
 use denote.Shadow.{shadow}
 use Rattle.mqtt_topics.specs.Levels.{levels}
-use Rattle.filter_trie.specs.Steps.{some_bound}
+use Rattle.filter_trie.specs.Search.Steps.{some_bound}
 use Rattle.filter_trie.proofs.TopicWalk.{Matched}
 use Rattle.filter_trie.proofs.Walking.{Walk}
 use Rattle.filter_trie.proofs.walks.topic_bound.Given as goal

@@ -1,7 +1,7 @@
 use Rattle.std.proofs.Common.{◌≡◌, ◌+◌, ◌∷◌, ℕ, suc, get_or, drop, drop-cons, ap, ◌∙◌, arith}
 use Rattle.std.proofs.lemmas.List.{drop_all}
-use Rattle.filter_trie.specs.Counting.{hashes, times}
-use Rattle.filter_trie.specs.Filing.{counted}
+use Rattle.filter_trie.specs.Search.Counting.{hashes, times}
+use Rattle.filter_trie.specs.Search.Filing.{counted}
 use Rattle.filter_trie.proofs.CountLaws.{room_separator, room_other, on_separator, on_other, last_added}
 use Rattle.filter_trie.proofs.beginnings.Beginnings.add_all.Goals as goal
 

@@ -1,7 +1,7 @@
 use Rattle.std.proofs.Common.{◌≡◌, ◌≤◌, ◌+◌, ℕ, length, drop}
 use Rattle.std.specs.HashMap.{spare}
-use Rattle.filter_trie.specs.Counting.{hashes, times, Covers}
-use Rattle.filter_trie.specs.Filing.{counted}
+use Rattle.filter_trie.specs.Search.Counting.{hashes, times, Covers}
+use Rattle.filter_trie.specs.Search.Filing.{counted}
 use Rattle.filter_trie.proofs.beginnings.Beginnings.add_all.Given as goal
 
 abbrev pub invariant-loop-byte : goal.invariant-loop-byte

@@ -1,7 +1,7 @@
 use Rattle.std.proofs.Common.{◌+◌, Bool, sym, subst}
 use Rattle.std.specs.Prelude.{if◌then◌else◌}
-use Rattle.filter_trie.specs.Counting.{hashes, times, Covers}
-use Rattle.filter_trie.specs.Filing.{counted}
+use Rattle.filter_trie.specs.Search.Counting.{hashes, times, Covers}
+use Rattle.filter_trie.specs.Search.Filing.{counted}
 use Rattle.filter_trie.proofs.CountLaws.{covers_at}
 use Rattle.filter_trie.proofs.beginnings.Beginnings.file.Goals as goal
 

@@ -1,7 +1,7 @@
 use Rattle.std.proofs.Common.{◌≡◌, ◌+◌, ◌∷◌, ℕ, suc, get_or, drop, drop-cons, ap, ◌∙◌, arith}
 use Rattle.std.proofs.lemmas.List.{drop_all}
-use Rattle.filter_trie.specs.Counting.{hashes, times}
-use Rattle.filter_trie.specs.Filing.{counted}
+use Rattle.filter_trie.specs.Search.Counting.{hashes, times}
+use Rattle.filter_trie.specs.Search.Filing.{counted}
 use Rattle.filter_trie.proofs.CountLaws.{off_separator, off_other, last_taken}
 use Rattle.filter_trie.proofs.beginnings.Beginnings.unfile.Goals as goal
 

@@ -1,6 +1,6 @@
 use Rattle.std.proofs.Common.{◌+◌, ℕ, drop}
-use Rattle.filter_trie.specs.Counting.{hashes, times, Covers}
-use Rattle.filter_trie.specs.Filing.{counted}
+use Rattle.filter_trie.specs.Search.Counting.{hashes, times, Covers}
+use Rattle.filter_trie.specs.Search.Filing.{counted}
 use Rattle.filter_trie.proofs.beginnings.Beginnings.unfile.Given as goal
 
 abbrev pub invariant-loop-byte : goal.invariant-loop-byte

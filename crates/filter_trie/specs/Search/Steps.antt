@@ -4,7 +4,7 @@ use Rattle.filter_trie.specs.declared.steps.Step.{Step}
 use Rattle.filter_trie.specs.declared.steps.Bound.{Bound}
 use Rattle.filter_trie.specs.declared.steps.Seek.{Seek}
 use Rattle.filter_trie.specs.declared.steps.Seek.TheVariants.{Next, To}
-use Rattle.filter_trie.specs.Seeking.{IsNext}
+use Rattle.filter_trie.specs.Search.Seeking.{IsNext}
 
 -- a level and what follows it
 abbrev pub step_text : Step → List ℕ

@@ -2,7 +2,7 @@
 use Rattle.std.specs.Prelude.{ℕ, List, Option, Some, None}
 use Rattle.filter_trie.specs.declared.seeks.Onward.{Onward}
 use Rattle.filter_trie.specs.declared.seeks.Onward.TheVariants.{Next, From, End}
-use Rattle.filter_trie.specs.Seeking.{IsNext}
+use Rattle.filter_trie.specs.Search.Seeking.{IsNext}
 
 -- no key that has P is passed over: `read` gives the text of a bound
 abbrev pub Leads : {K : Type 0} → (K → List ℕ) → (List ℕ → Type 0) → List ℕ → Onward K → Type 0

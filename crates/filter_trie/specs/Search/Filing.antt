@@ -1,7 +1,7 @@
 -- What a table of counts knows of filters.
 use Rattle.std.specs.Prelude.{ℕ, ◌≢◌, List}
 use Rattle.filter_trie.specs.declared.beginnings.Beginnings.{Beginnings}
-use Rattle.filter_trie.specs.Counting.{hashes, times, total, count, Covers}
+use Rattle.filter_trie.specs.Search.Counting.{hashes, times, total, count, Covers}
 
 -- the count of a hash
 abbrev pub counted : Beginnings → ℕ → ℕ
