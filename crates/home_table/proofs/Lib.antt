@@ -1,4 +1,5 @@
 pub mod RowLaws
+pub mod BlankLaws
 pub mod TwiceLaws
 pub mod PrefixLaws
 pub mod AutomaticLaws

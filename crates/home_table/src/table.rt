@@ -4,6 +4,7 @@ ghost use Rattle.std.specs.Prelude.{ℕ, ◌≡◌, ◌≤◌, ◌<◌, ◌⊎�
 ghost use Rattle.std.specs.List.{list_any};
 ghost use Rattle.std.specs.Str.{bytes_eq};
 ghost use Rattle.std.specs.FinMap as finite;
+ghost use Rattle.toml.specs.Errors.{IsBlank};
 ghost use Rattle.home_table.specs.Table.{IsTable, stands_twice, number_of, is_unknown, home_of_row, table_of, reading};
 ghost use Rattle.home_table.specs.Homes.{IsHome};
 
@@ -139,6 +140,7 @@ impl HomeTable {
         requires { length nodes.items ≤ 64 }
         ensures table { IfOk result (λ t. table_of version nodes.items homes.now ≡ Ok t) }
         ensures fault { IfErr result (λ e. (e ≡ TableFault.NoMemory) ⊎ (table_of version nodes.items homes.now ≡ Err e)) }
+        ensures none { length nodes.items ≡ 0 → result ≡ Err TableFault.NoNodes }
     {
         if nodes.is_empty() {
             return Err(TableFault::NoNodes);
@@ -163,10 +165,11 @@ impl HomeTable {
 
     /// The table that a text is in TOML: an array `node` of tables with `name`, `address` and `bridge`, and, which may both be
     /// missing, an array `home` of tables with `prefix` and `node` and a `version`, which is then 0. A fault is the first of the text, in the order
-    /// of `TableFault`; `NoMemory` may stand for a later one.
+    /// of `TableFault`; `NoMemory` may stand for a later one. A text of white space and comments alone has no nodes, which takes no memory.
     pub fn parse(alloc: Global, text: &str) -> Result<HomeTable, TableFault>
         ensures table { IfOk result (λ t. reading text.now ≡ Ok t) }
         ensures fault { IfErr result (λ e. (e ≡ TableFault.NoMemory) ⊎ (reading text.now ≡ Err e)) }
+        ensures blank { IsBlank text.now → result ≡ Err TableFault.NoNodes }
     {
         let document = read_document(alloc, text)?;
         let version = read_version(&document)?;

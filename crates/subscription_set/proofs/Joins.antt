@@ -81,12 +81,15 @@ any_keyed t q (x ∷ es) h = ap (λ b. (eq_by_cmp dot_cmp q x.0 && t x) || b) (a
 pub any_of_map : (t : Dot × Entry → Bool) (q : Dot) (m : ByDot) → any_of t q (map.entries m) ≡ at_entry t q (map.get m q)
 any_of_map t q m = any_keyed t q (map.entries m) (map.entries_sorted m) ∙ ap (at_entry t q) (sym (map.get-entries m q))
 
-pub unseen_all : (seen : Dots) (others : ByDot) (out : List Dot) → ((q : Dot) → list_any (eq_by_cmp dot_cmp q) out ≡ any_of (λ y. not (set.contains seen y.0)) q (map.entries others)) → AreUnseen seen others out
-unseen_all seen others out so q = so q ∙ any_of_map (λ y. not (set.contains seen y.0)) q others ∙ by (map.get others q)
+pub unseen_at : (seen : Dots) (others : ByDot) (q : Dot) → any_of (λ y. not (set.contains seen y.0)) q (map.entries others) ≡ (is_some (map.get others q) && not (set.contains seen q))
+unseen_at seen others q = any_of_map (λ y. not (set.contains seen y.0)) q others ∙ by (map.get others q)
   where
     by : (g : Option Entry) → at_entry (λ y. not (set.contains seen y.0)) q g ≡ (is_some g && not (set.contains seen q))
     by None = refl
     by (Some e) = refl
+
+pub unseen_all : (seen : Dots) (others : ByDot) (out : List Dot) → ((q : Dot) → list_any (eq_by_cmp dot_cmp q) out ≡ any_of (λ y. not (set.contains seen y.0)) q (map.entries others)) → AreUnseen seen others out
+unseen_all seen others out so q = so q ∙ unseen_at seen others q
 
 -- ---- ranges
 
@@ -132,6 +135,16 @@ module _ (m : ByDot) (seen : Dots) (others : ByDot) where
   leaving_more rs i r lt is out out' so more q =
       more q ∙ (λ j. so q j || one_range r q j) ∙ both (covered q (take i rs)) (covers q r) (leaves_from m seen others q)
       ∙ ap (λ b. b && leaves_from m seen others q) (ap (λ y. covered q (take i rs) || covers q y) is ∙ sym (list_any_more (covers q) rs i r lt))
+
+  and_none : (b : Bool) → (b && false) ≡ false
+  and_none true = refl
+  and_none false = refl
+
+  pub leaving_nowhere : AreLeaving m seen others [] → (rs : List Range) (i : ℕ) (r : Range) (out : List Dot) → LeavingIn (take i rs) out
+      → (q : Dot) → (list_any (eq_by_cmp dot_cmp q) out || list_any (leaving_in seen others q) (where_key dot_cmp (λ d. covers d r) (map.entries m))) ≡ false
+  leaving_nowhere none rs i r out so q =
+      (λ j. so q j || one_range r q j) ∙ both (covered q (take i rs)) (covers q r) (leaves_from m seen others q)
+      ∙ ap (λ b. (covered q (take i rs) || covers q r) && b) (sym (none q)) ∙ and_none (covered q (take i rs) || covers q r)
 
   pub leaving_all : (rs : List Range) (i : ℕ) → length rs ≤ i → set_of rs ≡ seen → (out : List Dot) → LeavingIn (take i rs) out → AreLeaving m seen others out
   leaving_all rs i le is out so q =

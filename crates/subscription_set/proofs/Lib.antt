@@ -17,4 +17,5 @@ pub mod Spans
 pub mod Spreading
 pub mod Standings
 pub mod Leaving
+pub mod Below
 pub mod Walking

@@ -1,5 +1,5 @@
 //! What a merge changes, found before it changes anything.
-ghost use Rattle.std.specs.Prelude.{◌≡◌, ◌&&◌, ◌||◌, not, is_some, IfOk, OnOk, OnErr, Some, None, cond, true, false};
+ghost use Rattle.std.specs.Prelude.{◌≡◌, ◌<◌, ◌&&◌, ◌||◌, not, is_some, IfOk, IsOk, OnOk, OnErr, Some, None, [], length, cond, true, false};
 ghost use Rattle.std.specs.List.{list_any};
 ghost use Rattle.std.specs.Ordering.{eq_by_cmp};
 ghost use Rattle.std.specs.FinMap as map;
@@ -39,16 +39,18 @@ fn leaves(dot: Dot, entry: &Entry, other_seen: &Context, others: &EntryMap) -> b
     }
 }
 
-// Adds the dots of those of the entries that go.
+// Adds the dots of those of the entries that go. Only these take memory.
 fn add_leaving(
     out: &mut Vec<Dot>,
     found: btree_map::Range<'_, Dot, Entry>,
     other_seen: &Context,
     others: &EntryMap,
 ) -> Result<(), NoMemory>
-    ensures { OnOk result ((q : DotValue) → list_any (eq_by_cmp dot_cmp q) out.new.items
+    ensures ok { OnOk result ((q : DotValue) → list_any (eq_by_cmp dot_cmp q) out.new.items
         ≡ (list_any (eq_by_cmp dot_cmp q) out.old.items
         || list_any (leaving_in other_seen.now others.now q) found.entry)) }
+    ensures none { ((q : DotValue) → (list_any (eq_by_cmp dot_cmp q) out.old.items
+        || list_any (leaving_in other_seen.now others.now q) found.entry) ≡ false) → IsOk result }
 {
     for (dot, entry) in found {
         if leaves(*dot, entry, other_seen, others) {
@@ -70,14 +72,15 @@ pub fn any_leaving(entries: &EntryMap, other_seen: &Context, others: &EntryMap) 
     false
 }
 
-/// The dots whose entries go, found by the ranges that the other has seen.
+/// The dots whose entries go, found by the ranges that the other has seen. Only these take memory.
 pub fn leaving(
     alloc: Global,
     entries: &EntryMap,
     other_seen: &Context,
     others: &EntryMap,
 ) -> Result<Vec<Dot>, NoMemory>
-    ensures { IfOk result (λ out. AreLeaving entries.now other_seen.now others.now out.items) }
+    ensures leaving { IfOk result (λ out. AreLeaving entries.now other_seen.now others.now out.items) }
+    ensures none { AreLeaving entries.now other_seen.now others.now [] → IsOk result }
 {
     let mut out = Vec::new(alloc);
     for range in other_seen.ranges() {
@@ -86,9 +89,10 @@ pub fn leaving(
     Ok(out)
 }
 
-/// The dots of the other's entries that are new here.
+/// The dots of the other's entries that are new here. Only these take memory.
 pub fn unseen(alloc: Global, seen: &Joining, others: &EntryMap) -> Result<Vec<Dot>, NoMemory>
-    ensures { IfOk result (λ out. AreUnseen seen.now.0 others.now out.items) }
+    ensures unseen { IfOk result (λ out. AreUnseen seen.now.0 others.now out.items) }
+    ensures none { AreUnseen seen.now.0 others.now [] → IsOk result }
 {
     let mut out = Vec::new(alloc);
     for (dot, _theirs) in others.iter() {
@@ -109,7 +113,7 @@ pub struct Plan {
 }
 
 /// Brings the other's entries whose dots are new here. Where memory runs out the entries stay as
-/// they were.
+/// they were; where no entry is new here and none goes they take none.
 pub fn make_plan(
     alloc: Global,
     seen: &Joining,
@@ -124,6 +128,8 @@ pub fn make_plan(
     ensures gone { IfOk result (λ plan.
         AreLeaving entries.old other_seen.now others.now plan.gone.items) }
     ensures err { OnErr result (entries.new ≡ entries.old) }
+    ensures none { AreLeaving entries.old other_seen.now others.now []
+        → AreUnseen seen.now.0 others.now [] → IsOk result }
 {
     let gone = leaving(alloc, entries, other_seen, others)?;
     let brought = unseen(alloc, seen, others)?;
@@ -155,7 +161,7 @@ fn bring_one(
     }
 }
 
-// Copies the other's entries at the dots.
+// Copies the other's entries at the dots. Of none it takes no memory.
 fn bring_each(
     alloc: Global,
     entries: &mut EntryMap,
@@ -165,6 +171,7 @@ fn bring_each(
     ensures ok { OnOk result (IsBrought entries.old others.now dots.now entries.new) }
     ensures others { (q : DotValue) → list_any (eq_by_cmp dot_cmp q) dots.now ≡ false
         → map.get entries.new q ≡ map.get entries.old q }
+    ensures some { OnErr result (0 < length dots.now) }
 {
     for dot in dots {
         bring_one(alloc, entries, others, *dot)?;
@@ -182,7 +189,7 @@ pub fn clear(entries: &mut EntryMap, dots: &[Dot])
 }
 
 /// Copies the other's entries at the dots, where none stand here. Where memory runs out the
-/// entries stay as they were.
+/// entries stay as they were. Of no dots it takes none.
 pub fn bring(
     alloc: Global,
     entries: &mut EntryMap,
@@ -193,6 +200,7 @@ pub fn bring(
         → map.get entries.old q ≡ None }
     ensures ok { OnOk result (IsBrought entries.old others.now dots.now entries.new) }
     ensures err { OnErr result (entries.new ≡ entries.old) }
+    ensures some { OnErr result (0 < length dots.now) }
 {
     let brought = bring_each(alloc, entries, others, dots);
     if brought.is_err() {

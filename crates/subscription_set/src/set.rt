@@ -1,5 +1,5 @@
 //! The subscriptions that stand, among the dots that were seen.
-ghost use Rattle.std.specs.Prelude.{◌≡◌, ◌↔◌, ◌<◌, [], OnOk, OnErr, IfOk, IfErr, IfSome, IsOk, IsSome, IsTrue, map as map_list, length, true};
+ghost use Rattle.std.specs.Prelude.{◌≡◌, ◌↔◌, ◌<◌, [], OnOk, OnErr, IfOk, IfErr, IfSome, IsOk, IsSome, IsTrue, map as map_list, length, true, false};
 ghost use Rattle.std.specs.Map.Iter.{deref_pair};
 ghost use Rattle.std.specs.Option.{option_copied};
 ghost use Rattle.std.specs.FinMap as map;
@@ -181,10 +181,11 @@ impl SubscriptionSet {
     }
 
     /// The dots of what stands here and leaves by the join with the other, found by the ranges that the
-    /// other has seen.
+    /// other has seen. Only these take memory.
     pub fn leaving(&self, other: &SubscriptionSet) -> Result<Vec<Dot>, NoMemory>
-        ensures { IfOk result (λ out. (q : DotValue) → list_any (eq_by_cmp dot_cmp q) out.items
+        ensures leaving { IfOk result (λ out. (q : DotValue) → list_any (eq_by_cmp dot_cmp q) out.items
             ≡ is_leaving (map.get self.now q) (map.get other.now q)) }
+        ensures none { ((q : DotValue) → is_leaving (map.get self.now q) (map.get other.now q) ≡ false) → IsOk result }
     {
         leaving(self.alloc, &self.entries, &other.seen, &other.entries)
     }
@@ -278,11 +279,13 @@ impl SubscriptionSet {
         })
     }
 
-    /// The join with the other, with memory for it; or the value as it was, where there is none.
+    /// The join with the other, with memory for it; or the value as it was, where there is none. With
+    /// one that is below it takes none.
     pub fn prepare(self, other: &SubscriptionSet) -> Result<Ready, SubscriptionSet>
         ensures ok { IfOk result (λ ready.
             (ready.0 ≡ self) × (ready.1 ≡ statuses_join self other.now)) }
         ensures err { IfErr result (λ back. back ≡ self) }
+        ensures below { StatusesBelow other.now self → IsOk result }
     {
         let SubscriptionSet {
             alloc,
@@ -327,9 +330,6 @@ impl Lattice for SubscriptionSet {
         ensures err { OnErr result (self.new ≡ self.old) }
         ensures below { StatusesBelow other.now self.old → IsOk result }
     {
-        if other.is_below(self) {
-            return Ok(());
-        }
         let own = mem::replace(self, SubscriptionSet::empty(self.alloc));
         match own.prepare(other) {
             Ok(ready) => {

@@ -8,7 +8,7 @@ use Rattle.replica_rows.proofs.changes.add_removals.Goals as goal
 
 pub loop-at-init : goal.loop-at-init
 loop-at-init c = none_left c.args.store.now c.args.delta.now c.in_ok-dots.dots.items (into_iter_items c.into_iter-at-iterator.result) c.args.out.now.items c.into_iter-at-iterator.ensures.into_iter_gives.0
-    (λ q. c.in_ok-dots.ensures q ∙ (λ i. is_leaving (map.get (c.subscriptions.ensures i) q) (map.get (c.subscriptions-2.ensures i) q)))
+    (λ q. c.in_ok-dots.ensures.leaving q ∙ (λ i. is_leaving (map.get (c.subscriptions.ensures i) q) (map.get (c.subscriptions-2.ensures i) q)))
 
 pub add_removal-requires : goal.add_removal-requires
 add_removal-requires c = next_leaves c.args.store.now c.args.delta.now (into_iter_items c.loop-at.at-iterator) (into_iter_items c.next.new.self) c.in-Some.at c.args.out.now.items c.loop-at.out.items c.in-Some.ensures.steps.0 c.loop-at.invariant

@@ -1,13 +1,15 @@
-use Rattle.std.proofs.Common.{sym, ap, ◌∙◌, subst}
+use Rattle.std.proofs.Common.{[], sym, ap, ◌∙◌, subst}
 use Rattle.std.specs.FinMap as map
 use Rattle.causal_context.specs.Dots.{dot_cmp}
 use Rattle.subscription_set.specs.Joining.{AreUnseen}
 use Rattle.subscription_set.specs.Standing.{statuses, AreSeen}
 use Rattle.subscription_set.specs.Sorted.{without_keys}
-use Rattle.subscription_set.specs.Statuses.{statuses_join}
+use Rattle.subscription_set.specs.Statuses.{statuses_join, StatusesBelow}
 use Rattle.subscription_set.proofs.JoinFormula.{join_by_formula}
 use Rattle.subscription_set.proofs.Plans.{join_seen, seen_as, same_statuses}
 use Rattle.subscription_set.proofs.Merges.{old_again, joined}
+use Rattle.subscription_set.proofs.Order.{subset_from}
+use Rattle.subscription_set.proofs.Below.{below_leaves_none, below_is_seen}
 use Rattle.subscription_set.proofs.set.SubscriptionSet.prepare.Goals as goal
 
 pub invariant_of-result-in-Ok-make_plan : goal.invariant_of-result-in-Ok-make_plan
@@ -34,3 +36,14 @@ returns-in-Ok-make_plan-clause-ok c =
           ∙ join_by_formula _ _ _ _ (without_keys dot_cmp c.in-Ok-make_plan.plan.gone.items (map.entries c.make_plan.new.entries)) c.self.invariant.seen c.other.invariant.seen is
           ∙ (λ i. statuses_join (c.self.view_is i) (c.other.view_is i)),
     )
+
+pub returns-in-Err-clause-below : goal.returns-in-Err-clause-below
+returns-in-Err-clause-below c = λ below. c.in-Err.ensures.below (subset_from c.other.inside.seen c.self.inside.seen (map.entries c.other.inside.entries) (map.entries c.self.inside.entries) c.other.invariant c.self.invariant
+    (subst (λ s. StatusesBelow s (statuses c.self.inside.seen (map.entries c.self.inside.entries))) (sym c.other.view_is) (subst (StatusesBelow c.args.other.now) (sym c.self.view_is) below)))
+
+pub returns-in-Err-make_plan-clause-below : goal.returns-in-Err-make_plan-clause-below
+returns-in-Err-make_plan-clause-below c = λ below.
+    (let under : StatusesBelow (statuses c.other.inside.seen (map.entries c.other.inside.entries)) (statuses c.self.inside.seen (map.entries c.self.inside.entries)) = (subst (λ s. StatusesBelow s (statuses c.self.inside.seen (map.entries c.self.inside.entries))) (sym c.other.view_is) (subst (StatusesBelow c.args.other.now) (sym c.self.view_is) below)) in
+    c.in-Err-make_plan.ensures.none
+    (below_leaves_none c.self.inside.seen c.other.inside.seen c.self.inside.entries c.other.inside.entries c.self.invariant c.other.invariant under)
+    (subst (λ x. AreUnseen x c.other.inside.entries []) (sym c.in-Ok.ensures.ok.0) (below_is_seen c.self.inside.seen c.other.inside.seen c.self.inside.entries c.other.inside.entries c.self.invariant c.other.invariant under)))
