@@ -1,5 +1,5 @@
 -- What a call of a client's session comes to.
-use Rattle.std.proofs.Common.{◌≡◌, ℕ, Bool, false, List, [], Option, Some, None, Bor, IfOk, IfSome, MatchOption, is_some, Result, Ok, Err, unwrap_or, refl, sym, ap, subst, ◌∙◌}
+use Rattle.std.proofs.Common.{◌≡◌, ℕ, Bool, false, List, [], Option, Some, None, Bor, IfOk, IfSome, MatchOption, is_some, Result, Ok, Err, unwrap_or, ◌||◌, ◌&&◌, inl, inr, refl, sym, ap, subst, ◌∙◌}
 use Rattle.std.specs.Ordering.{eq_by_cmp}
 use Rattle.std.specs.Option.{option_and_then, option_map}
 use Rattle.std.specs.FinMap as map
@@ -20,6 +20,7 @@ use Rattle.session_table.specs.declared.call.Call.TheVariants.{Connect}
 use Rattle.session_table.specs.Calls.{event_of, IsSpelledIf, IsCalled, IsTurned, IsSeated, MayTurn, MayTurnAt}
 use Rattle.session_table.specs.Listing.{Table, connection_in, text_cmp, seat_of, seats_in, moments_of, no_moments, listed_in, IsAt, IsListedAt, Relists, IsListed, IsKeyed, IsKept, IsBroken, Runs}
 use Rattle.session_table.specs.Rows.{IsAllTold}
+use Rattle.session_table.specs.Wants.{WantsAt, WantsToTell, HasNewMoment, keeps_rows, is_queue, leaves_rows}
 use Rattle.session_table.specs.declared.listing.Listing.{Listing}
 use Rattle.session_table.specs.declared.moments.Moments.{Moments}
 use Rattle.session_table.specs.declared.seated.Seated.{Seated}
@@ -48,6 +49,15 @@ turned e (Some s) (Err NumbersAtEnd) new may h = h.0
 turned e (Some s) (Err Spent) new may h = absurd h.0
 turned e (Some s) (Err BadRow) new may h = absurd h.0
 
+-- and where it wants memory the session may
+pub wanted : (e : Event) (old : Option State) (result : Result Reaction SessionFault) (new : Option State) → Called (step_of e) (wants_of e) (ends_of e) old result new → result ≡ Err NoMemory → IfSome old (wants_of e)
+wanted e None result new h is = tt
+wanted e (Some s) (Ok r) new h is = absurd (cc)
+wanted e (Some s) (Err NoMemory) new h is = h.0
+wanted e (Some s) (Err NumbersAtEnd) new h is = absurd (cc)
+wanted e (Some s) (Err Spent) new h is = absurd (cc)
+wanted e (Some s) (Err BadRow) new h is = absurd (cc)
+
 pub may_connect : (call : Call) (connect : Bor ConnectPacket) (continued : Bool) (now : ℕ) (old : Option State) → call ≡ Connect connect continued now → MayTurn (event_of call) old → MayConnectIf continued old
 may_connect call connect continued now None is may = tt
 may_connect call connect continued now (Some s) is may = (let P : Call → Type 0 = λ k. MayCome (event_of k) s in subst P is (may s refl))
@@ -59,11 +69,46 @@ turned_as call made old result new is may h =
     let Q : Call → Type 0 = λ k. IfSome old (λ s. IsTurned (event_of k) s result new) in
     subst Q (sym is) (turned (event_of made) old result new (subst P is may) h))
 
+pub wanted_as : (call made : Call) (old : Option State) (result : Result Reaction SessionFault) (new : Option State) → call ≡ made
+    → Called (step_of (event_of made)) (wants_of (event_of made)) (ends_of (event_of made)) old result new → result ≡ Err NoMemory → IfSome old (wants_of (event_of call))
+wanted_as call made old result new is h refused =
+    (let P : Call → Type 0 = λ k. IfSome old (wants_of (event_of k)) in
+    subst P (sym is) (wanted (event_of made) old result new h refused))
+
 -- packets with spellings at each moment have them at one
 pub spelled_at : (result : Result (Option Reaction) SessionFault) → IfOk result (λ o. IfSome o (λ r. (now : ℕ) → AreSpelled now r.packets)) → (now : ℕ) → IfOk result (IsSpelledIf now)
 spelled_at (Ok None) h now = tt
 spelled_at (Ok (Some r)) h now = h now
 spelled_at (Err fault) h now = tt
+
+-- ---- where it wants memory
+-- what is known of the call before and after it
+pub leaves_as : (e : Event) (old : Option State) (r : Reaction) (keeps queued leaves b : Bool) → IfSome old (λ s. keeps ≡ keeps_rows e s) → queued ≡ is_queue e → leaves ≡ (keeps || (queued && r.full)) → leaves ≡ b
+    → IfSome old (λ s. leaves_rows e s r ≡ b)
+leaves_as e None r keeps queued leaves b before queue is so = tt
+leaves_as e (Some s) r keeps queued leaves b before queue is so = (λ i. sym before i || (sym queue i && r.full)) ∙ sym is ∙ so
+
+pub may_alter : (e : Event) (old : Option State) (r : Reaction) (left : Option State) → IfSome old (λ s. IsTurned e s (Ok r) left) → IfSome old (λ s. leaves_rows e s r ≡ false) → IfSome old (WantsToTell e)
+may_alter e None r left turns alters = tt
+may_alter e (Some s) r left turns alters = inr (record { reaction = r; after = turns.0; reacts = turns.2; alters = alters })
+
+pub due_anew : (e : Event) (on : Option ℕ → Option ℕ) (old : Option State) (connection : Option ℕ) (r : Reaction) (left : Option State) (listed m : Moments)
+    → IfSome old (λ s. IsTurned e s (Ok r) left) → IfSome old (λ s. listed ≡ moments_of s connection) → IfSome left (λ s. m ≡ moments_of s (on connection)) → HasNewMoment listed m
+    → IfSome old (λ s. WantsAt e on s connection)
+due_anew e on None connection r left listed m turns were are moment = tt
+due_anew e on (Some s) connection r left listed m turns were are moment =
+    (let P : Option State → Type 0 = λ o. IfSome o (λ s. m ≡ moments_of s (on connection)) in
+    let now : m ≡ moments_of turns.0 (on connection) = subst P turns.1 are in
+    let Q : Moments → Type 0 = λ n. HasNewMoment n (moments_of turns.0 (on connection)) in
+    let R : Moments → Type 0 = HasNewMoment listed in
+    inr (record { reaction = r; after = turns.0; reacts = turns.2; moment = subst Q were (subst R now moment) }))
+
+pub wants_more : (e : Event) (on : Option ℕ → Option ℕ) (old : Option State) (connection : Option ℕ) → IfSome old (WantsToTell e) → IfSome old (λ s. WantsAt e on s connection)
+wants_more e on None connection w = tt
+wants_more e on (Some s) connection w = inl w
+
+pub moments_here : (x : Seated) → Runs x → IfSome (state_of x.session) (λ s. x.listed ≡ moments_of s x.connection)
+moments_here x run = (let P : Option State → Type 0 = λ o. IfSome o (λ s. x.listed ≡ moments_of s x.connection) in subst P (sym run.1) run.2)
 
 -- ---- its seat
 pub seated_ok : (e : Event) (on : Option ℕ → Option ℕ) (old : Option State) (connection : Option ℕ) (r : Reaction) (left : Option State) (m : Moments) (x : Seated)
@@ -125,8 +170,9 @@ module _ (e : Event) (on : Option ℕ → Option ℕ) (client : List ℕ) (t u :
       let left : seat_of y ≡ now = (λ i. record { session = same_state y d.0 d.1 i; connection = d.3 i }) in
       (here, d.0, seat_here client t x is ∙ ap Some was, d.2, ap seats_in written ∙ seats_insert t client y ∙ ap (map.insert (seats_in t) client) left))
 
-  pub called_err : (fault : SessionFault) → IfSome (state_of x.session) (λ s. IsSeated e on s x.connection (Err fault) y) → IsCalled client e on (seats_in t) (Err fault) (seats_in u)
-  called_err fault h = by fault (at_state (λ s. IsSeated e on s x.connection (Err fault) y) h)
+  pub called_err : (fault : SessionFault) → IfSome (state_of x.session) (λ s. IsSeated e on s x.connection (Err fault) y) → (fault ≡ NoMemory → IfSome (state_of x.session) (λ s. WantsAt e on s x.connection))
+      → IsCalled client e on (seats_in t) (Err fault) (seats_in u)
+  called_err fault h w = by fault (at_state (λ s. IsSeated e on s x.connection (Err fault) y) h) (λ is. at_state (λ s. WantsAt e on s x.connection) (w is))
     where
       here : Seat
       here = record { session = run.0; connection = x.connection }
@@ -134,11 +180,11 @@ module _ (e : Event) (on : Option ℕ → Option ℕ) (client : List ℕ) (t u :
       there : map.get (seats_in t) client ≡ Some here
       there = seat_here client t x is ∙ ap (λ s. Some (record { session = s; connection = x.connection })) (same_state x run.0 run.1)
 
-      by : (f : SessionFault) → IsSeated e on run.0 x.connection (Err f) y → IsCalled client e on (seats_in t) (Err f) (seats_in u)
-      by NoMemory d = ap is_some there
-      by NumbersAtEnd d = (here, there, d)
-      by Spent d = d
-      by BadRow d = d
+      by : (f : SessionFault) → IsSeated e on run.0 x.connection (Err f) y → (f ≡ NoMemory → WantsAt e on run.0 x.connection) → IsCalled client e on (seats_in t) (Err f) (seats_in u)
+      by NoMemory d w = (here, there, w refl)
+      by NumbersAtEnd d w = (here, there, d)
+      by Spent d w = d
+      by BadRow d w = d
 
   pub kept_ok : (r : Reaction) (k l : Listing) → IfSome (state_of x.session) (λ s. IsSeated e on s x.connection (Ok r) y) → y.key.1 ≡ x.key.1 → IsKept t k → IsListedAt l x.key.1 y.listed → Relists x.key.1 k l
       → IsAllTold x.key.1 y.session → IsKept u l

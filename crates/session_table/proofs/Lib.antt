@@ -1,4 +1,5 @@
 pub mod SeatMaps
+pub mod Keeping
 pub mod RowLaws
 pub mod Lists
 pub mod Calling

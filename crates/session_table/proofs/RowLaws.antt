@@ -26,7 +26,7 @@ use Rattle.session_rows.specs.Rows.{main_key, rows_of}
 use Rattle.saved_laws.specs.Leading.{AreDifferent, ChangesAreMade, after_plains, told_rows}
 use Rattle.mqtt_sessions.specs.Reaction.{Reaction}
 use Rattle.mqtt_sessions.specs.Removed.{RemovesIf, gone_of, own_removal, own_told, removals_of, removed_before}
-use Rattle.mqtt_sessions.specs.Saved.{Appends, Saved, NotesIf, Tells, TellsIf, begun_session, durable_of, main_of, own_before, reopened, state_in, state_of, told_before}
+use Rattle.mqtt_sessions.specs.Saved.{Appends, Saved, Notes, NotesIf, Tells, TellsIf, begun_session, durable_of, main_of, own_before, reopened, state_in, state_of, told_before}
 use Rattle.mqtt_sessions.specs.State.{State, new_session}
 use Rattle.mqtt_sessions.proofs.SavedLaws.{main-back}
 use Rattle.session_laws.specs.Runs.{Event, Reacts}
@@ -39,6 +39,8 @@ use Rattle.session_table.specs.Listing.{AllTold, Table, seat_of, seats_in, sessi
 use Rattle.session_table.specs.declared.seated.Seated.{Seated}
 use Rattle.session_table.specs.Rows.{AllDurable, IsAllTold, IsOf, IsTold, LeadsOn, OwnLead, OwnLeadsOn, BeginTells, CallTells, RemovalLeaves, TellsAgain, TellsOn, is_session_kind, no_row, own_kind, row_in, rows_for, saved_row, seat_row, told_point}
 use Rattle.finite_maps.proofs.Texts.{get_apart, get_inserted, get_left, get_removed, itself, remove_absent, same_text}
+use Rattle.session_table.specs.Wants.{leaves_rows}
+use Rattle.session_table.proofs.Keeping.{event_still}
 use Rattle.session_table.proofs.SeatMaps.{get_seat, seats_insert, seats_remove}
 
 -- ---- histories
@@ -508,6 +510,36 @@ module _ (call : CallTells) where
       let reacts : Reacts s.tracked.state e r m.tracked.state = subst (λ (z : State). Reacts s.tracked.state e r z) is h.2 in
       let done = call client e r s m t.0 t.1 x sound told reacts n t.3 t.4 in
       record { told = done.0; leads = (t.0 ++ t.1, t.2, done.1) }
+
+-- a call that leaves them, of which nothing is told
+own-still : (client : List ℕ) (s t : State) → durable_of t ≡ durable_of s → OwnLead client (rows_for s) (rows_for t) []
+own-still client s t same = record {
+  own = tt;
+  lead = λ key. ap (λ (d : Durable). map.get {R = key_cmp} (map.from_entries (rows_of d)) key) same;
+  begins = λ key kind. tt;
+  differ = λ key other named. absurd (named refl);
+}
+
+told-still : (client : List ℕ) (e : Event) (r : Reaction) (old new : Saved) → IsSoundEvent e → IsTold client old → Reacts old.tracked.state e r new.tracked.state → Notes old new → durable_of new.tracked.state ≡ durable_of old.tracked.state
+    → IsTold client new
+told-still client e r old new sound told reacts notes same = record {
+  start = told.start;
+  moves = told.moves ++ calls e r ∷ [];
+  begins = told.begins;
+  sound = sound-then told.moves (calls e r) told.sound sound;
+  history = history-then told.start told.moves (told_point old) (calls e r) (told_point new) told.history (record { reacts = reacts; notes = notes; last = ap (λ (d : Durable). Some d) same });
+  owner = ap (λ (d : Durable). d.client) same ∙ told.owner;
+}
+
+pub turn-leaves : (e : Event) (r : Reaction) (old new : Option Saved) (xs : List Change) (client : List ℕ) → IsSoundEvent e → IfSome (state_of old) (λ s. IsTurned e s (Ok r) (state_of new)) → NotesIf old new
+    → IfSome (state_of old) (λ s. leaves_rows e s r ≡ true) → IsAllTold client old → TellsAgain client old xs xs new
+turn-leaves e r None new xs client sound h n leaves told = absurd told
+turn-leaves e r (Some s) None xs client sound h n leaves told = absurd (let no : None ≡ Some h.0 = h.1 in cc)
+turn-leaves e r (Some s) (Some m) xs client sound h n leaves told =
+    let is : h.0 ≡ m.tracked.state = (let same : Some m.tracked.state ≡ Some h.0 = h.1 in cc) in
+    let reacts : Reacts s.tracked.state e r m.tracked.state = subst (λ (z : State). Reacts s.tracked.state e r z) is h.2 in
+    let same = event_still e s.tracked.state r m.tracked.state leaves reacts in
+    record { told = told-still client e r s m sound told reacts n same; leads = ([], sym (append-nil xs), own-still client s.tracked.state m.tracked.state same) }
 
 pub told-begun : BeginTells → (client : List ℕ) (before after : List Change) (old new : Option Saved) → IsText client → old ≡ Some (begun_session client) → TellsOn old before after new → IsAllTold client new × OwnLeadsOn client no_row before after (saved_row new)
 told-begun begin client before after old new text is t = by new (subst (λ (o : Option Saved). TellsOn o before after new) is t)

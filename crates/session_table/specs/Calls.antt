@@ -1,5 +1,5 @@
 -- What a call of a client's session comes to.
-use Rattle.std.specs.Prelude.{◌≡◌, ◌<◌, ◌^◌, ℕ, Bool, List, Option, Some, None, Result, Ok, Err, IfSome, IsSome, ◌≤◌, ◌≢◌, [], option_and_then, option_map}
+use Rattle.std.specs.Prelude.{◌≡◌, ◌<◌, ◌^◌, ℕ, Bool, List, Option, Some, None, Result, Ok, Err, IfSome, ◌≤◌, ◌≢◌, [], option_and_then, option_map}
 use Rattle.std.specs.Option.{ForSome}
 use Rattle.std.specs.FinMap as map
 use Rattle.mqtt_packets.specs.Written.{HasSpelling}
@@ -12,6 +12,7 @@ use Rattle.mqtt_sessions.specs.declared.fault.SessionFault.TheVariants.{NoMemory
 use Rattle.session_laws.specs.Runs.{Event, connects, queues, takes, answers, closes, ticks, finishes, loses, MayCome, Reacts, ends_of}
 use Rattle.session_table.specs.Listing.{moments_of}
 use Rattle.session_table.specs.Seats.{Seat, Seats}
+use Rattle.session_table.specs.Wants.{WantsAt}
 use Rattle.session_table.specs.declared.call.Addressed.{Addressed}
 use Rattle.session_table.specs.declared.call.Call.{Call}
 use Rattle.session_table.specs.declared.call.Call.TheVariants.{Connect, Queue, Packet, Answer, Closed, Tick, Finish}
@@ -20,14 +21,14 @@ use Rattle.session_table.specs.declared.call.On.TheVariants.{Moves, Stays, Leave
 use Rattle.session_table.specs.declared.seated.Seated.{Seated}
 
 -- none where the client has no session, else a step of it. `on` gives the connection that the client is on afterwards, by the
--- one before. After a fault nothing is said of the table
+-- one before. After a fault nothing is said of the table; memory is wanting only where the call may want it
 abbrev pub IsCalled : List ℕ → Event → (Option ℕ → Option ℕ) → Seats → Result (Option Reaction) SessionFault → Seats → Type 0
 IsCalled client e on old (Ok None) new = (map.get old client ≡ None) × (new ≡ old)
 IsCalled client e on old (Ok (Some r)) new =
     (seat : Seat) × (after : State) × (map.get old client ≡ Some seat) × Reacts seat.session e r after
     × (new ≡ map.insert old client (record { session = after; connection = on seat.connection }))
 IsCalled client e on old (Err NumbersAtEnd) new = (seat : Seat) × (map.get old client ≡ Some seat) × ends_of e seat.session
-IsCalled client e on old (Err NoMemory) new = IsSome (map.get old client)
+IsCalled client e on old (Err NoMemory) new = (seat : Seat) × (map.get old client ≡ Some seat) × WantsAt e on seat.session seat.connection
 IsCalled client e on old (Err Spent) new = ⊥
 IsCalled client e on old (Err BadRow) new = ⊥
 

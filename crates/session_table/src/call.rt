@@ -1,10 +1,14 @@
 //! Calls of a session.
 
-ghost use Rattle.std.specs.Prelude.{◌≡◌, IfOk, IfSome};
-ghost use Rattle.mqtt_sessions.specs.Saved.{NotesIf, state_of};
+ghost use Rattle.std.specs.Prelude.{◌≡◌, Err, IfOk, IfSome};
+ghost use Rattle.mqtt_sessions.specs.Saved.{NotesIf, keeps_main, state_of};
+ghost use Rattle.mqtt_sessions.specs.Sending.{is_once};
 ghost use Rattle.saved_laws.specs.Sound.{IsSoundEvent};
+ghost use Rattle.session_laws.specs.Runs.{wants_of};
 ghost use Rattle.session_table.specs.Calls.{Asks, GivesSpelled, IsTurned, MayTurn, event_of, on_of};
+ghost use Rattle.session_table.specs.Wants as wants;
 
+use mqtt_fields::Qos;
 use mqtt_message::Delivery;
 use mqtt_packets::{Connect, Packet};
 use mqtt_sessions::{Reaction, Session, SessionFault};
@@ -79,6 +83,52 @@ pub(crate) fn is_sound(call: &Call<'_>)
     }
 }
 
+/// Whether a copy at this QoS is sent at once or dropped, and isn't kept.
+fn is_once(qos: Qos) -> bool
+    ensures { result ≡ is_once qos }
+{
+    match qos {
+        Qos::AtMostOnce => true,
+        Qos::AtLeastOnce | Qos::ExactlyOnce => false,
+    }
+}
+
+/// Whether a packet leaves what the session's own row has as it is.
+fn keeps_main(packet: &Packet) -> bool
+    ensures { result ≡ keeps_main packet.now }
+{
+    match packet {
+        Packet::Publish(publish) => match publish.qos {
+            Qos::AtMostOnce | Qos::AtLeastOnce => true,
+            Qos::ExactlyOnce => false,
+        },
+        Packet::Subscribe(_) | Packet::Unsubscribe(_) | Packet::Pingreq => true,
+        _ => false,
+    }
+}
+
+/// Whether a call leaves the rows of the session as they are, as far as is seen before it.
+pub(crate) fn keeps_rows(call: &Call<'_>, session: &Session) -> bool
+    ensures { IfSome (state_of session.now) (λ s. result ≡ wants.keeps_rows (event_of call.now) s) }
+{
+    match call {
+        Call::Queue { delivery, .. } => is_once(delivery.qos),
+        Call::Packet { packet, .. } => session.limit().is_none() || keeps_main(packet),
+        Call::Answer { .. } => true,
+        Call::Connect { .. } | Call::Closed(_) | Call::Tick(_) | Call::Finish(_) => false,
+    }
+}
+
+/// Whether a call offers a copy to the queue.
+pub(crate) fn is_queue(call: &Call<'_>) -> bool
+    ensures { result ≡ wants.is_queue (event_of call.now) }
+{
+    match call {
+        Call::Queue { .. } => true,
+        _ => false,
+    }
+}
+
 /// One call of a session that isn't spent.
 pub(crate) fn turn(session: &mut Session, call: Call<'_>) -> Result<Reaction, SessionFault>
     requires asks { Asks call }
@@ -86,6 +136,7 @@ pub(crate) fn turn(session: &mut Session, call: Call<'_>) -> Result<Reaction, Se
     ensures turned { IfSome (state_of session.old) (λ s. IsTurned (event_of call.entry) s result (state_of session.new)) }
     ensures spelled { IfOk result (GivesSpelled (event_of call.entry)) }
     ensures notes { NotesIf session.old session.new }
+    ensures wants { result ≡ Err SessionFault.NoMemory → IfSome (state_of session.old) (wants_of (event_of call.entry)) }
 {
     match call {
         Call::Connect {

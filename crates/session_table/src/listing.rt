@@ -1,7 +1,8 @@
 //! Which clients are due when.
 
-ghost use Rattle.std.specs.Prelude.{◌≡◌, ◌≢◌, ◌↔◌, IfSome, IsTrue, None, OnErr, OnOk};
+ghost use Rattle.std.specs.Prelude.{◌≡◌, ◌↔◌, IfSome, IsTrue, None, OnErr, OnOk};
 ghost use Rattle.session_table.specs.Listing as spec;
+ghost use Rattle.session_table.specs.Wants.{HasNewMoment, IsNewMoment};
 ghost use Rattle.session_table.specs.Listing.{IsAt, IsListedAt, KeepsOthers, Relists};
 
 use crate::moments::Moments;
@@ -46,7 +47,8 @@ fn withdraw(list: &mut DueTimes, key: &mut (u64, Text), listed: &mut Option<u64>
     }
 }
 
-/// Puts a client into a list at another moment. Where memory is refused, it isn't there; at the same moment none is asked for.
+/// Puts a client into a list at another moment. Where memory is refused, it isn't there; at the same moment, or at none, none is
+/// asked for.
 fn change(
     list: &mut DueTimes,
     alloc: Global,
@@ -59,7 +61,7 @@ fn change(
     ensures others { KeepsOthers key.old.1 list.old list.new }
     ensures key { key.new.1 ≡ key.old.1 }
     ensures ok { OnOk result (listed.new ≡ moment) }
-    ensures want { OnErr result (listed.old ≢ moment) }
+    ensures want { OnErr result (IsNewMoment listed.old moment) }
 {
     if is_same(*listed, moment) {
         return Ok(());
@@ -90,7 +92,7 @@ pub(crate) fn relist(
     ensures others { Relists key.old.1 listing.old listing.new }
     ensures key { key.new.1 ≡ key.old.1 }
     ensures ok { OnOk result (listed.new ≡ moments) }
-    ensures want { OnErr result (listed.old ≢ moments) }
+    ensures want { OnErr result (HasNewMoment listed.old moments) }
 {
     change(
         &mut listing.run_outs,

@@ -1,9 +1,10 @@
 //! Sessions as a table keeps them.
 
-ghost use Rattle.std.specs.Prelude.{◌≡◌, IfErr, IfOk, IfSome, None, OnOk};
+ghost use Rattle.std.specs.Prelude.{◌≡◌, Err, IfErr, IfOk, IfSome, None, OnOk};
 ghost use Rattle.mqtt_sessions.specs.Saved.{state_of};
 ghost use Rattle.session_table.specs.Calls.{Asks, GivesSpelled, IsSeated, MayTurn, event_of, on_of};
-ghost use Rattle.session_table.specs.Listing.{IsListedAt, Relists, no_moments, was_connected};
+ghost use Rattle.session_table.specs.Listing.{IsListedAt, Relists, moments_of, no_moments, was_connected};
+ghost use Rattle.session_table.specs.Wants.{WantsAt};
 ghost use Rattle.session_table.specs.Rows.{IsAllTold, TellsAgain};
 
 use crate::call::{Call, On, land};
@@ -129,12 +130,15 @@ pub(crate) fn call_seated(
     requires asks { Asks call }
     requires may { MayTurn (event_of call) (state_of seated.old.session) }
     requires told { IsAllTold seated.old.key.1 seated.old.session }
+    requires moments { IfSome (state_of seated.old.session) (λ s. seated.old.listed ≡ moments_of s seated.old.connection) }
     ensures at { IsListedAt listing.new seated.old.key.1 seated.new.listed }
     ensures others { Relists seated.old.key.1 listing.old listing.new }
     ensures key { seated.new.key.1 ≡ seated.old.key.1 }
     ensures turned { IfSome (state_of seated.old.session)
         (λ s. IsSeated (event_of call.entry) (on_of on) s seated.old.connection result seated.new) }
     ensures spelled { IfOk result (GivesSpelled (event_of call.entry)) }
+    ensures wants { result ≡ Err SessionFault.NoMemory → IfSome (state_of seated.old.session)
+        (λ s. WantsAt (event_of call.entry) (on_of on) s seated.old.connection) }
     ensures tells { OnOk result (TellsAgain seated.old.key.1 seated.old.session changes.old.items changes.new.items seated.new.session) }
 {
     let seated = &mut *seated.block;

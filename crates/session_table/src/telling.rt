@@ -1,12 +1,13 @@
 //! What is told of a session's rows.
 
-ghost use Rattle.std.specs.Prelude.{◌≡◌, ℕ, List, ◌++◌, IfOk, IfSome, OnOk, Some};
+ghost use Rattle.std.specs.Prelude.{◌≡◌, ◌||◌, ◌&&◌, ℕ, List, ◌++◌, Err, IfOk, IfSome, OnOk, Some};
 ghost use Rattle.mqtt_sessions.specs.Saved.{state_of};
 ghost use Rattle.mqtt_sessions.specs.State.{new_session};
 ghost use Rattle.session_table.specs.Calls.{Asks, GivesSpelled, IsTurned, MayTurn, event_of};
+ghost use Rattle.session_table.specs.Wants.{WantsToTell};
 ghost use Rattle.session_table.specs.Rows.{IsAllTold, OwnLeadsOn, TellsAgain, TellsOn, no_row, saved_row};
 
-use crate::call::{Call, is_sound, turn};
+use crate::call::{Call, is_queue, is_sound, keeps_rows, turn};
 use crate::laws::tellings_lead;
 use mqtt_fields::{NoMemory, Text};
 use mqtt_sessions::{Reaction, Session, SessionFault};
@@ -24,7 +25,14 @@ fn tell(session: &mut Session, changes: &mut Vec<Change>) -> Result<(), NoMemory
     Ok(())
 }
 
-/// One call of a session that isn't spent, and the changes of its rows.
+/// Whether no row of the session changes by a call, after it.
+fn leaves_rows(keeps: bool, queues: bool, reaction: &Reaction) -> bool
+    ensures { result ≡ (keeps || (queues && reaction.now.full)) }
+{
+    keeps || (queues && reaction.full)
+}
+
+/// One call of a session that isn't spent, and the changes of its rows. They aren't compared where the call leaves them as they are.
 pub(crate) fn turn_and_tell(
     session: &mut Session,
     call: Call<'_>,
@@ -34,11 +42,17 @@ pub(crate) fn turn_and_tell(
     requires may { MayTurn (event_of call) (state_of session.old) }
     ensures turned { IfSome (state_of session.old) (λ s. IsTurned (event_of call.entry) s result (state_of session.new)) }
     ensures spelled { IfOk result (GivesSpelled (event_of call.entry)) }
+    ensures wants { result ≡ Err SessionFault.NoMemory → IfSome (state_of session.old) (WantsToTell (event_of call.entry)) }
     ensures tells { (client : List ℕ) → IsAllTold client session.old → OnOk result (TellsAgain client session.old changes.old.items changes.new.items session.new) }
 {
     tellings_lead();
     is_sound(&call);
+    let keeps = keeps_rows(&call, session);
+    let queues = is_queue(&call);
     let reaction = turn(session, call)?;
+    if leaves_rows(keeps, queues, &reaction) {
+        return Ok(reaction);
+    }
     tell(session, changes)?;
     Ok(reaction)
 }

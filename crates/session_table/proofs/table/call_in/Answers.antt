@@ -1,12 +1,13 @@
-use Rattle.std.proofs.Common.{◌≡◌, Some, None, rules, sym, ap, ◌∙◌}
+use Rattle.std.proofs.Common.{◌≡◌, Some, None, Err, rules, sym, ap, ◌∙◌}
 use Rattle.std.specs.FinMap as map
 use Rattle.std.specs.Option.{option_copied_mut}
+use Rattle.mqtt_sessions.specs.declared.fault.SessionFault.{SessionFault}
 use Rattle.session_table.specs.Calls.{event_of, on_of}
 use Rattle.session_table.specs.Listing.{seats_in, table}
 use Rattle.session_table.specs.declared.seated.Seated.{Seated}
 use Rattle.finite_maps.proofs.Texts.{get_table, insert_table}
 use Rattle.session_table.proofs.RowLaws.{called-leads, still}
-use Rattle.session_table.proofs.Calling.{told_here, called_none, called_ok, goes_here, called_err, kept_ok, broken, listed_here, may_here}
+use Rattle.session_table.proofs.Calling.{told_here, called_none, called_ok, goes_here, called_err, moments_here, kept_ok, broken, listed_here, may_here}
 use Rattle.session_table.proofs.table.call_in.Goals as goal
 
 pub returns-in_default-clause-called : goal.returns-in_default-clause-called
@@ -52,7 +53,7 @@ returns-in-Err-clause-called c =
     let y = c.call_seated.new.seated in
     let written = insert_table c.args.seats.now.entries (c.get_mut.follows.lender y).entries c.args.client.now y ((c.get_mut.follows.holds y).3 (search rules)).0 in
     called_err (event_of c.args.call) (on_of c.args.on) c.args.client.now (table c.args.seats.now.entries) (table (c.get_mut.follows.lender y).entries) c.in-Some.seated.now y
-    (c.requires.kept.run c.args.client.now c.in-Some.seated.now is) is written c.in-Err.fault c.in-Err.ensures.turned
+    (c.requires.kept.run c.args.client.now c.in-Some.seated.now is) is written c.in-Err.fault c.in-Err.ensures.turned (λ refused. c.in-Err.ensures.wants (ap (λ (f : SessionFault). Err f) refused))
 
 pub returns-in-Err-clause-err : goal.returns-in-Err-clause-err
 returns-in-Err-clause-err c =
@@ -66,6 +67,11 @@ pub call_seated-requires-clause-told : goal.call_seated-requires-clause-told
 call_seated-requires-clause-told c =
     let is : map.get (table c.args.seats.now.entries) c.args.client.now ≡ Some c.in-Some.seated.now = get_table c.args.seats.now.entries c.args.client.now ∙ sym c.get_mut.ensures.value ∙ ap option_copied_mut c.in-Some.is in
     told_here c.args.client.now (table c.args.seats.now.entries) c.args.listing.now c.in-Some.seated.now c.requires.kept is
+
+pub call_seated-requires-clause-moments : goal.call_seated-requires-clause-moments
+call_seated-requires-clause-moments c =
+    let is : map.get (table c.args.seats.now.entries) c.args.client.now ≡ Some c.in-Some.seated.now = get_table c.args.seats.now.entries c.args.client.now ∙ sym c.get_mut.ensures.value ∙ ap option_copied_mut c.in-Some.is in
+    moments_here c.in-Some.seated.now (c.requires.kept.run c.args.client.now c.in-Some.seated.now is)
 
 pub returns-in_default-clause-leads : goal.returns-in_default-clause-leads
 returns-in_default-clause-leads c = still (seats_in (table c.args.seats.now.entries)) (seats_in (table _)) c.args.changes.now.items (ap (λ t. seats_in (table t.entries)) c.get_mut.follows.holds-at-none)
