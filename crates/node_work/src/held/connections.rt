@@ -123,19 +123,13 @@ impl Connections {
         ensures spelled { IfOk result (λ came. CameSpelled came) }
         ensures fault { IfErr result (λ e. e ≡ NoMemory) }
     {
-        match self.take(connection) {
-            None => Ok(Came::Nothing),
-            Some(mut found) => match found.feed(piece) {
-                Ok(fed) => {
-                    self.put(connection, found)?;
-                    Ok(Came::Packets(fed))
-                }
-                Err(FeedFault::Failed) => {
-                    self.put(connection, found)?;
-                    Ok(Came::Failed)
-                }
-                Err(FeedFault::NoMemory) => Err(NodeFault::NoMemory),
-            },
+        let Some(found) = self.table.get_mut(&connection) else {
+            return Ok(Came::Nothing);
+        };
+        match found.feed(piece) {
+            Ok(fed) => Ok(Came::Packets(fed)),
+            Err(FeedFault::Failed) => Ok(Came::Failed),
+            Err(FeedFault::NoMemory) => Err(NodeFault::NoMemory),
         }
     }
 
