@@ -1,11 +1,11 @@
 //! The lanes to and from one other node.
-ghost use Rattle.std.specs.Prelude.{◌≡◌, ◌<◌, ◌≤◌, ◌+◌, ◌++◌, ◌^◌, suc, nat_eq, if◌then◌else◌, take, drop, length, map, OnOk, OnErr, IfOk, IsOk};
+ghost use Rattle.std.specs.Prelude.{◌≡◌, ◌<◌, ◌≤◌, ◌+◌, ◌++◌, ◌^◌, ◌↔◌, suc, nat_eq, if◌then◌else◌, take, drop, length, map, OnOk, OnErr, IfOk, IsOk, IsTrue};
 ghost use Rattle.row_store.specs.Rows.{entry_of};
 ghost use Rattle.lane_rows.specs.Changes.{left_of, message_changes, new_kept, numbers_changes, told_now};
 ghost use Rattle.lane_rows.specs.Laws.{IsSoundLane};
 ghost use Rattle.lane_rows.specs.Reading.{IsLane, lane_in};
 ghost use Rattle.lane_rows.specs.Rows.{numbers_of, waiting_of};
-ghost use Rattle.message_lanes.specs.Lanes.{with_got, with_took};
+ghost use Rattle.message_lanes.specs.Lanes.{new_lane, with_got, with_took};
 ghost use Rattle.bridge_deltas.specs.Lane.{after_offer, first_frames, frames_from, next_number, offer_of, told_lane};
 
 use crate::offer::Offer;
@@ -114,6 +114,13 @@ impl Lane {
             took: 0,
             told_took: 0,
         }
+    }
+
+    /// Whether no message has been put in, and none taken.
+    pub fn is_new(&self) -> bool
+        ensures { IsTrue result ↔ (self.now.lane ≡ new_lane) }
+    {
+        self.base == 0 && self.messages.is_empty() && self.took == 0
     }
 
     /// Puts a message in, unless too many wait or the numbers are at their end.

@@ -1,9 +1,9 @@
 //! What a node keeps for the other nodes of its cluster.
-ghost use Rattle.std.specs.Prelude.{◌≡◌, ◌⊎◌, ◌<◌, ◌-◌, ◌++◌, ◌↔◌, suc, length, nat_eq, if◌then◌else◌, slice_set, map, replicate, IfOk, IfErr, IfSome, IsErrOf, IsNone, IsOk, OnErr, OnOk};
+ghost use Rattle.std.specs.Prelude.{◌≡◌, ◌⊎◌, ◌<◌, ◌-◌, ◌++◌, ◌↔◌, suc, length, nat_eq, if◌then◌else◌, slice_set, map, replicate, IfOk, IfErr, IfSome, IsErrOf, IsNone, IsOk, IsTrue, OnErr, OnOk};
 ghost use Rattle.std.specs.FinSet as set;
 ghost use Rattle.std.specs.List.{AllByRecursion};
 ghost use Rattle.causal_context.specs.SetLattice.{IsSubset};
-ghost use Rattle.message_lanes.specs.Lanes.{with_got, with_took};
+ghost use Rattle.message_lanes.specs.Lanes.{new_lane, with_got, with_took};
 ghost use Rattle.bridge_deltas.specs.Buffer.{with_delta};
 ghost use Rattle.bridge_frames.specs.declared.forward.Forward.{Forward};
 ghost use Rattle.message_lanes.specs.Lanes.{Lanes};
@@ -353,6 +353,16 @@ impl Links {
         match self.lanes.get(peer as usize) {
             Some(lane) => lane.took(),
             None => LaneNumber::of(0),
+        }
+    }
+
+    /// Whether no message was put in for the peer, and none taken of it: so it is of a node that the cluster lacks.
+    pub fn is_new(&self, peer: u16) -> bool
+        ensures { IsTrue result ↔ ((kept_of self.now peer).lane ≡ new_lane) }
+    {
+        match self.lanes.get(peer as usize) {
+            Some(lane) => lane.is_new(),
+            None => true,
         }
     }
 

@@ -1,6 +1,7 @@
 pub mod Determined
 pub mod Going
 pub mod Handing
+pub mod Hearing
 pub mod Tables
 pub mod Quiet
 pub mod Shipping

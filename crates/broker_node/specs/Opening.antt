@@ -11,7 +11,7 @@ use Rattle.row_store.specs.declared.row.Row.{Row}
 pub record IsOpenedFrom (rows : List Row) (id : ℕ) (homes : Table) (n : NodeView) : Type 0 where
   pub lasting : Lasting
   pub held : HeldView
-  pub can_last : IsLasting (length homes.nodes) lasting
+  pub can_last : IsLasting id (length homes.nodes) lasting
   pub say : Say rows id lasting
   pub woken : IsWoken homes lasting held
   pub is : n ≡ record { place = place_of id homes; homes = homes; up = Some held }

@@ -1,6 +1,6 @@
 //! What nodes tell one another.
 
-ghost use Rattle.std.specs.Prelude.{◌≡◌, false, Ok};
+ghost use Rattle.std.specs.Prelude.{◌≡◌, ◌≢◌, false, Ok};
 ghost use Rattle.broker_node.specs.Bridge.{Greets, Ships, ShipsState, ShipsMessages, Hears, HearsFrame, TakesBody, TellsTaken, Merges, TakesMessage, TakesNext};
 ghost use Rattle.node_bridge.specs.View.{lane_to};
 ghost use Rattle.node_work.specs.Doings.{GivesBody};
@@ -124,6 +124,7 @@ fn hear_frame(work: &mut Work, frame: BridgeFrame) -> Result<(), NodeFault>
 
 /// TakesBody what another node says.
 fn take(work: &mut Work, from: u16, body: FrameBody) -> Result<(), NodeFault>
+    requires { from ≢ work.old.place.id }
     ensures { ComesTo (λ x. x) result work.old work.new (TakesBody from body) }
 {
     match body {
@@ -158,6 +159,7 @@ fn take_message(
     number: LaneNumber,
     message: &Forward,
 ) -> Result<(), NodeFault>
+    requires { from ≢ work.old.place.id }
     ensures { ComesTo (λ x. x) result work.old work.new (TakesMessage from number message.now) }
 {
     take_next(work, from, number, message)?;
@@ -170,6 +172,7 @@ fn take_next(
     number: LaneNumber,
     message: &Forward,
 ) -> Result<(), NodeFault>
+    requires { from ≢ work.old.place.id }
     ensures { ComesTo (λ x. x) result work.old work.new (TakesNext from number message.now) }
 {
     if work.held().bridge().is_next(from, number) {

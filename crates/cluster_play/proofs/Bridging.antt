@@ -46,7 +46,7 @@ pub kept_more : (count : ℕ) (took more : ℕ → Dot → Bool) (b : BridgeView
 kept_more count took more b f k = record { lanes = k.lanes; below = k.below; beliefs = λ peer d h. f peer d (k.beliefs peer d h) }
 
 -- ---- at the start, and after a restart
-one_of_alike : {A : Type 0} (n i : ℕ) (x : A) → get_or (replicate n x) i x ≡ x
+pub one_of_alike : {A : Type 0} (n i : ℕ) (x : A) → get_or (replicate n x) i x ≡ x
 one_of_alike zero i x = refl
 one_of_alike (suc n) zero x = refl
 one_of_alike (suc n) (suc i) x = one_of_alike n i x
@@ -62,7 +62,7 @@ pub new_below : (count peer : ℕ) → last_put (lane_of {A = Forward} (new_lane
 new_below count peer = subst (λ (l : Messages). last_put l < 2 ^ 62) (sym (one_of_alike count peer new_lane)) (omega arith)
 
 -- ---- one of a list after one change
-get_changed : {A : Type 0} (xs : List A) (i j : ℕ) (v d : A) → ((i ≡ j) × (get_or (slice_set xs i v) j d ≡ v)) ⊎ (get_or (slice_set xs i v) j d ≡ get_or xs j d)
+pub get_changed : {A : Type 0} (xs : List A) (i j : ℕ) (v d : A) → ((i ≡ j) × (get_or (slice_set xs i v) j d ≡ v)) ⊎ (get_or (slice_set xs i v) j d ≡ get_or xs j d)
 get_changed [] i j v d = inr refl
 get_changed (x ∷ xs) zero zero v d = inl (refl, refl)
 get_changed (x ∷ xs) zero (suc j) v d = inr refl

@@ -7,7 +7,7 @@ use Rattle.home_table.specs.Table.{Table}
 use Rattle.replica_store.specs.declared.operation.Operation.{Operation}
 use Rattle.replica_store.specs.Operations.{HaveOwnDots}
 use Rattle.node_keeper.specs.Keeping.{AreOf}
-use Rattle.node_rows.specs.Reading.{IsLasting}
+use Rattle.node_rows.specs.Reading.{HasNoLane, IsLasting}
 use Rattle.node_work.specs.declared.frame.Frame.{Frame}
 use Rattle.node_work.specs.Lasting.{CanLast, lasting}
 use Rattle.node_work.specs.View.{Place, HeldView, fresh}
@@ -22,6 +22,7 @@ use Rattle.cluster_play.proofs.Sound.{lists}
 use Rattle.cluster_play.proofs.Growing.{Holding}
 use Rattle.cluster_play.proofs.Plain.{AllPlain, is_among}
 use Rattle.cluster_play.proofs.Operations.{among_some}
+use Rattle.cluster_play.proofs.Own.{has_no_lane}
 use Rattle.cluster_play.proofs.Lasts.{is_lasting}
 use Rattle.cluster_play.proofs.Telling.{WasGiven}
 
@@ -82,9 +83,15 @@ pub record Explains (p : Past) (w : World) : Type 0 where
   pub frames : (n : ℕ) (sent : Frame) → slice_get w.frames n ≡ Some sent → WasGiven (length w.sites) p.ops p.took sent
 
 -- what it held last can last
-pub seat_lasts : (p : Past) (w : World) → Explains p w → (i : ℕ) (s : Site) (at : slice_get w.sites i ≡ Some s) (x : Seated p (length w.sites) i s) → IsLasting (length w.sites) (lasting x.held)
+pub seat_lasts : (p : Past) (w : World) → Explains p w → (i : ℕ) (s : Site) (at : slice_get w.sites i ≡ Some s) (x : Seated p (length w.sites) i s) → IsLasting i (length w.sites) (lasting x.held)
 seat_lasts p w e i s at x =
+    let none : HasNoLane i x.held.bridge.lanes = subst (λ j. HasNoLane j x.held.bridge.lanes) x.id (has_no_lane s.node.place x.first (p.moves i) x.held x.moves) in
     let s = x.held.store in
     let taken = filter (lists s) p.ops in
     let plain : AllPlain (length w.sites) taken = λ o a. e.plain o (among_some (lists s) o p.ops a).0 in
-    is_lasting (length w.sites) x.held x.lasts (is_among (length w.sites) taken s x.holding.grown.sound plain) x.kept.lanes e.few
+    is_lasting i (length w.sites) x.held x.lasts (is_among (length w.sites) taken s x.holding.grown.sound plain) x.kept.lanes none e.few
+
+-- of the node that it is
+pub lasts_here : (p : Past) (w : World) → Explains p w → (i : ℕ) (s : Site) (at : slice_get w.sites i ≡ Some s) (x : Seated p (length w.sites) i s) → IsLasting s.node.place.id s.node.place.nodes (lasting x.held)
+lasts_here p w e i s at x =
+    subst (λ n. IsLasting s.node.place.id n (lasting x.held)) (sym x.nodes) (subst (λ j. IsLasting j (length w.sites) (lasting x.held)) (sym x.id) (seat_lasts p w e i s at x))

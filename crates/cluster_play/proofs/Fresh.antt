@@ -37,6 +37,7 @@ use Rattle.node_rows.specs.Rows.{Lasting, mark, mark_at, mark_key, new_node, nod
 use Rattle.node_work.specs.Lasting.{CanLast, IsWoken, lasting}
 use Rattle.node_work.specs.View.{NodeView, Place, fresh, opened, place_of, woken}
 use Rattle.cluster_play.proofs.Bools.{none-some, nat_is}
+use Rattle.cluster_play.proofs.Bridging.{one_of_alike}
 use Rattle.cluster_play.proofs.Lasts.{lasts_of}
 
 -- ---- what lasts of it
@@ -86,8 +87,8 @@ new_sound : (count : ℕ) → AllByRecursion IsLane (new_lanes count)
 new_sound zero = tt
 new_sound (suc count) = (new_lane_sound, new_sound count)
 
-pub new_is_lasting : (count : ℕ) → count ≤ 2 ^ 16 → IsLasting count (new_node count)
-new_is_lasting count few = record {
+pub new_is_lasting : (id count : ℕ) → count ≤ 2 ^ 16 → IsLasting id count (new_node count)
+new_is_lasting id count few = record {
   few = few;
   named = omega arith;
   sessions = λ client d e. none-some e;
@@ -98,6 +99,7 @@ new_is_lasting count few = record {
     stamps = λ topic k is. none_kept topic k is;
   };
   lanes = record { count = length-replicate count new_lane; sound = new_sound count };
+  others = one_of_alike count id new_lane;
 }
 
 pub fresh_can_last : (homes : Table) → CanLast (fresh homes)
@@ -158,7 +160,7 @@ opened_new tell id homes rows rows' n none opens =
     let alone : rows' ≡ map.insert map.empty mark_key (mark id 0) = elim opens.mark [ inl e ↦ e.1 | inr e ↦ absurd (e.0 none) ] in
     let x = o.lasting in
     let count = length homes.nodes in
-    let one : x ≡ new_node count = tell count id x (new_node count) o.are.0 (new_is_lasting count o.are.0.few) (λ key. sym (o.are.1 key) ∙ ap (λ (c : Content). map.get c key) alone ∙ marked_row count id key) in
+    let one : x ≡ new_node count = tell count id x (new_node count) o.are.0 (new_is_lasting id count o.are.0.few) (λ key. sym (o.are.1 key) ∙ ap (λ (c : Content). map.get c key) alone ∙ marked_row count id key) in
     let w : IsWoken homes (new_node count) o.held = subst (λ (y : Lasting). IsWoken homes y o.held) one o.woken in
     let held : o.held ≡ fresh homes = w.2 ∙ ap (λ (s : Seats). woken homes 0 s nothing (new_lanes count)) (empty_seats count w.0 w.1) in
     (o.is ∙ (λ i. record { place = place_of id homes; homes = homes; up = Some (held i) }), alone)

@@ -36,7 +36,7 @@ use Rattle.cluster_play.proofs.Plain.{AllPlain}
 use Rattle.cluster_play.proofs.Lasts.{may_be_same, reopened}
 use Rattle.cluster_play.proofs.Splits.{all_front, all_weaker, gained_both, gather_both, runs_split}
 use Rattle.cluster_play.proofs.Telling.{WasGiven, given_more, told}
-use Rattle.cluster_play.proofs.Explaining.{Past, past_and, led_by, Seated, Explains, seat_lasts}
+use Rattle.cluster_play.proofs.Explaining.{Past, past_and, led_by, lasts_here, Seated, Explains}
 use Rattle.cluster_play.proofs.Brought.{all_merged, Acted, site_amid}
 
 -- ---- another node than the one of the fate
@@ -213,7 +213,7 @@ module _ (p : Past) (w w' : World) (x : Explains p w) (fate : Fate) (idle : acts
       let o = c.reopens.node in
       let place = c.was.node.place in
       let first = fresh y.first in
-      let can : IsLasting place.nodes (lasting y.held) = subst (λ n. IsLasting n (lasting y.held)) (sym y.nodes) (seat_lasts p w x i c.was c.at y) in
+      let can : IsLasting place.id place.nodes (lasting y.held) = lasts_here p w x i c.was c.at y in
       let again = reopened tell place c.was.node.homes c.was.rows c.later.rows y.held o.held o.lasting y.homes can y.rows c.reopens.rows o.are o.woken in
       let at : c.later.node.place ≡ place = ap (λ n. n.place) o.is in
       let mine : own_moves i fate ≡ Reopened ∷ [] = ap (λ b. cond b (moves_of fate) []) (eq-eqb (site fate) i own) ∙ moves in

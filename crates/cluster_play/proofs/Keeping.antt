@@ -22,7 +22,7 @@ use Rattle.cluster_play.specs.Lasting.{KeepsIts, WakesFrom}
 use Rattle.cluster_play.proofs.Bools.{or_true, or_left, or_right, some_is}
 use Rattle.cluster_play.proofs.Sites.{get-set_same}
 use Rattle.cluster_play.proofs.Amid.{amid_acts, taken_step}
-use Rattle.cluster_play.proofs.Explaining.{Seated, is_first, past, seat_lasts}
+use Rattle.cluster_play.proofs.Explaining.{Seated, is_first, lasts_here, past, seat_lasts}
 use Rattle.cluster_play.proofs.Kept.{explained}
 use Rattle.cluster_play.proofs.Lasts.{may_be_same, reopened}
 use Rattle.cluster_play.proofs.Paths.{Befell, befell}
@@ -34,11 +34,11 @@ module _ (run : List Played) (w : World) (r : Reached run w) (i : ℕ) (s : Site
   seat : Seated (past r.start run) (length w.sites) i s
   seat = (explained run w r).sites i s at
 
-  can : IsLasting (length w.sites) (lasting seat.held)
+  can : IsLasting i (length w.sites) (lasting seat.held)
   can = seat_lasts (past r.start run) w (explained run w r) i s at seat
 
-  can_here : IsLasting s.node.place.nodes (lasting seat.held)
-  can_here = subst (λ n. IsLasting n (lasting seat.held)) (sym seat.nodes) can
+  can_here : IsLasting s.node.place.id s.node.place.nodes (lasting seat.held)
+  can_here = lasts_here (past r.start run) w (explained run w r) i s at seat
 
   pub keeps_operations : KeepsIts run i s
   keeps_operations = record {
@@ -51,11 +51,11 @@ module _ (run : List Played) (w : World) (r : Reached run w) (i : ℕ) (s : Site
   pub rows_of_node : AreOfNone s.node.place s.rows → ⊥
   rows_of_node none = none (lasting seat.held) (inl (can_here, seat.rows))
 
-pub rows_of_held : (run : List Played) (w : World) → Reached run w → (i : ℕ) (h : HeldView) (at : Holds w i h) → AreOf at.site.node.place at.site.rows h × IsLasting (length w.sites) (lasting h)
+pub rows_of_held : (run : List Played) (w : World) → Reached run w → (i : ℕ) (h : HeldView) (at : Holds w i h) → AreOf at.site.node.place at.site.rows h × IsLasting i (length w.sites) (lasting h)
 rows_of_held run w r i h at =
     let x = seat run w r i at.site at.at in
     let same : x.held ≡ h = sym (x.up h at.up) in
-    (subst (AreOf at.site.node.place at.site.rows) same x.rows, subst (λ (v : HeldView). IsLasting (length w.sites) (lasting v)) same (can run w r i at.site at.at))
+    (subst (AreOf at.site.node.place at.site.rows) same x.rows, subst (λ (v : HeldView). IsLasting i (length w.sites) (lasting v)) same (can run w r i at.site at.at))
 
 restarted_seat : (run : List Played) (w w' : World) (r : Reached run w) (i : ℕ) → Woke w i w' → (h' : HeldView) → Holds w' i h' → WakesFrom run r.start w i h'
 restarted_seat run w w' r i c h' holds =

@@ -9,7 +9,7 @@ use Rattle.session_table.specs.Seats.{Seat}
 use Rattle.session_table.proofs.RowLaws.{durable-again}
 use Rattle.node_bridge.specs.View.{woken_bridge}
 use Rattle.node_keeper.specs.Keeping.{AreLasting, AreOf, AreOfNone, marked, may_be_marked}
-use Rattle.node_rows.specs.Reading.{IsAmong, IsLasting, RowsTellAll}
+use Rattle.node_rows.specs.Reading.{HasNoLane, IsAmong, IsLasting, RowsTellAll}
 use Rattle.node_rows.specs.Sessions.{Plain, opened_seat}
 use Rattle.node_rows.specs.Versions.{AreFirst}
 use Rattle.node_rows.proofs.Raising.{not_both}
@@ -27,8 +27,8 @@ again : (o : Option Durable) → ((d : Durable) → o ≡ Some d → IsDurable d
 again None durable = refl
 again (Some d) durable = ap Some (durable-again d (durable d refl))
 
-pub woken_lasts : (count : ℕ) (homes : Table) (x : Lasting) (h : HeldView) → IsLasting count x → IsWoken homes x h → lasting h ≡ x
-woken_lasts count homes x h is woken =
+pub woken_lasts : (id count : ℕ) (homes : Table) (x : Lasting) (h : HeldView) → IsLasting id count x → IsWoken homes x h → lasting h ≡ x
+woken_lasts id count homes x h is woken =
     let seats = woken.0 in
     let sessions : (client : List ℕ) → lasts_of (map.get seats client) ≡ x.sessions client =
     λ client. ap lasts_of (woken.1 client) ∙ again (x.sessions client) (λ d e. (is.sessions client d e).0) in
@@ -39,18 +39,19 @@ seat_lasts : (h : HeldView) (client : List ℕ) (d : Durable) → CanLast h → 
 seat_lasts h client d can None there is = none-some is
 seat_lasts h client d can (Some seat) there is = subst (λ (x : Durable). IsDurable x × (x.client ≡ client)) (some_is is) (can.sessions client seat there)
 
-pub is_lasting : (count : ℕ) (h : HeldView) → CanLast h → IsAmong count h.store → length h.bridge.lanes ≡ count → count ≤ 2 ^ 16 → IsLasting count (lasting h)
-is_lasting count h can among long few = record {
+pub is_lasting : (id count : ℕ) (h : HeldView) → CanLast h → IsAmong count h.store → length h.bridge.lanes ≡ count → HasNoLane id h.bridge.lanes → count ≤ 2 ^ 16 → IsLasting id count (lasting h)
+is_lasting id count h can among long none few = record {
   few = few;
   named = can.named;
   sessions = λ client d e. seat_lasts h client d can (map.get h.sessions client) refl e;
   store = can.store;
   among = among;
   lanes = record { count = long; sound = can.lanes.sound };
+  others = none;
 }
 
-pub can_last : (count : ℕ) (h : HeldView) → IsLasting count (lasting h) → CanLast h
-can_last count h is = record {
+pub can_last : (id count : ℕ) (h : HeldView) → IsLasting id count (lasting h) → CanLast h
+can_last id count h is = record {
   named = is.named;
   sessions = λ client seat e. is.sessions client (durable_of seat.session) (ap lasts_of e);
   store = is.store;
@@ -94,16 +95,16 @@ pub record WokenAlike (p : Place) (rows : Content) (h h' : HeldView) : Type 0 wh
   pub bridge : h'.bridge ≡ woken_bridge h.bridge.lanes
 
 -- from the rows of what it held
-pub reopened : RowsTellAll → (p : Place) (homes : Table) (rows rows' : Content) (h h' : HeldView) (x : Lasting) → homes ≡ h.homes → IsLasting (nodes_of p) (lasting h) → AreOf p rows h → marked p.id rows rows'
+pub reopened : RowsTellAll → (p : Place) (homes : Table) (rows rows' : Content) (h h' : HeldView) (x : Lasting) → homes ≡ h.homes → IsLasting p.id (nodes_of p) (lasting h) → AreOf p rows h → marked p.id rows rows'
     → AreLasting p rows' x → IsWoken homes x h' → WokenAlike p rows' h h'
 reopened tell p homes rows rows' h h' x table can are m says woken =
     let same = marked_same p rows rows' h are m in
     let one : x ≡ lasting h = tell (nodes_of p) p.id x (lasting h) says.0 can (λ key. sym (says.1 key) ∙ ap (λ (c : Content). map.get c key) same ∙ are key) in
-    let lasts : lasting h' ≡ x = woken_lasts (nodes_of p) homes x h' says.0 woken in
+    let lasts : lasting h' ≡ x = woken_lasts p.id (nodes_of p) homes x h' says.0 woken in
     record {
       woken = subst (λ (t : Table). IsWoken t (lasting h) h') table (subst (λ (y : Lasting). IsWoken homes y h') one woken);
       are = λ key. says.1 key ∙ ap (λ (y : Lasting). node_row p.id y key) (sym lasts);
-      lasts = can_last (nodes_of p) h' (subst (IsLasting (nodes_of p)) (sym lasts) says.0);
+      lasts = can_last p.id (nodes_of p) h' (subst (IsLasting p.id (nodes_of p)) (sym lasts) says.0);
       store = ap (λ (y : Lasting). y.store) (lasts ∙ one);
       bridge = ap (λ (v : HeldView). v.bridge) woken.2 ∙ ap (λ (y : Lasting). woken_bridge y.lanes) one;
     }

@@ -22,6 +22,7 @@ pub mod Next
 pub mod Offering
 pub mod Onward
 pub mod Operations
+pub mod Own
 pub mod Parts
 pub mod Passing
 pub mod Paths

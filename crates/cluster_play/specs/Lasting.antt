@@ -20,7 +20,7 @@ use Rattle.cluster_play.specs.Agreement.{Holds}
 abbrev pub RowsAreOfWhatIsHeld : Type 0
 RowsAreOfWhatIsHeld =
     (run : List Played) (w : World) → Reached run w → (i : ℕ) (h : HeldView) (at : Holds w i h)
-    → AreOf at.site.node.place at.site.rows h × IsLasting (length w.sites) (lasting h)
+    → AreOf at.site.node.place at.site.rows h × IsLasting i (length w.sites) (lasting h)
 
 -- the rows of a node, also of one that is down, say that it has the state of the operations that it has taken, and lists their dots
 pub record KeepsIts (run : List Played) (i : ℕ) (s : Site) : Type 0 where

@@ -1,6 +1,6 @@
 //! How a message from another node is taken.
 
-ghost use Rattle.std.specs.Prelude.{◌≡◌, cond, true, [], IfOk, IfErr};
+ghost use Rattle.std.specs.Prelude.{◌≡◌, ◌≢◌, cond, true, [], IfOk, IfErr};
 ghost use Rattle.message_copies.specs.Copies.{AreCopies};
 ghost use Rattle.mqtt_message.specs.Expiry.{IsBefore};
 ghost use Rattle.node_bridge.specs.View.{is_next};
@@ -25,14 +25,15 @@ struct Handed {
     lost: u64,
 }
 
-/// Takes the next message of a node's lane: until its deadline its copies join their sessions.
+/// Takes the next message of another node's lane: until its deadline its copies join their sessions.
 pub fn take_forward(
     work: &mut Work,
     from: u16,
     number: LaneNumber,
     message: &Forward,
 ) -> Result<(), NodeFault>
-    requires { is_next from number work.old.held.bridge ≡ true }
+    requires other { from ≢ work.old.place.id }
+    requires next { is_next from number work.old.held.bridge ≡ true }
     ensures { ComesTo (λ x. x) result work.old work.new (TakesForward from number message.now) }
 {
     let handed = handed_of(work, message)?;

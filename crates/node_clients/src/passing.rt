@@ -1,6 +1,6 @@
 //! How a message is passed on.
 
-ghost use Rattle.std.specs.Prelude.{◌≡◌, ◌⊎◌, ◌+◌, ◌++◌, ◌↔◌, [], length, true, IfOk, IfErr, IsOk, IsTrue};
+ghost use Rattle.std.specs.Prelude.{◌≡◌, ◌≢◌, ◌⊎◌, ◌+◌, ◌++◌, ◌↔◌, [], length, true, IfOk, IfErr, IsOk, IsTrue};
 ghost use Rattle.message_copies.specs.Picks.{AreShared};
 ghost use Rattle.message_copies.specs.Tables.{referents};
 ghost use Rattle.message_routes.specs.Routes.{AreFor};
@@ -99,13 +99,14 @@ fn route_each(work: &mut Work, message: &SharedMessage, to: &Destinations) -> Re
     Ok(())
 }
 
-/// What goes to a node joins its lane.
+/// What goes to another node joins its lane.
 fn route_one(
     work: &mut Work,
     peer: u16,
     message: &SharedMessage,
     to: &Destinations,
 ) -> Result<(), NodeFault>
+    requires { peer ≢ work.old.place.id }
     ensures { ComesTo (λ x. x) result work.old work.new (Routes (route_to message.now to.now peer)) }
 {
     let route = to.route(work.alloc(), peer, message)?;

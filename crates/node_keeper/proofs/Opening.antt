@@ -33,8 +33,8 @@ again None can = refl
 again (Some d) can = ap Some (durable-again d (can d refl))
 
 -- lasts as it did
-lasts_again : (nodes : ℕ) (homes : Table) (x : Lasting) (h : HeldView) → IsLasting nodes x → IsWoken homes x h → lasting h ≡ x
-lasts_again nodes homes x h can is =
+lasts_again : (id nodes : ℕ) (homes : Table) (x : Lasting) (h : HeldView) → IsLasting id nodes x → IsWoken homes x h → lasting h ≡ x
+lasts_again id nodes homes x h can is =
     let same : (client : List ℕ) → option_map (λ (s : Seat). durable_of s.session) (map.get is.0 client) ≡ x.sessions client =
     λ client. ap (option_map (λ (s : Seat). durable_of s.session)) (is.1 client) ∙ again (x.sessions client) (λ d at. (can.sessions client d at).0)
     in
@@ -44,7 +44,7 @@ pub kept_again : (p : Place) (homes : Table) (c : Content) (n : NodeView) → Is
 kept_again p homes c n r h up key =
     let same : r.held ≡ h = cc (ap (λ (x : NodeView). x.up) r.is, up) in
     r.are.1 key
-    ∙ ap (λ (x : Lasting). node_row p.id x key) (sym (lasts_again (nodes_of p) homes r.lasting r.held r.are.0 r.woken))
+    ∙ ap (λ (x : Lasting). node_row p.id x key) (sym (lasts_again p.id (nodes_of p) homes r.lasting r.held r.are.0 r.woken))
     ∙ ap (λ (x : HeldView). held_row p.id x key) same
     ∙ ap (λ (x : NodeView). held_row x.place.id h key) (sym r.is)
 
@@ -124,7 +124,7 @@ may_be_both id old mid new (inr m) (inr (inl r)) = inr (subst (λ (c : Content).
 raised_rows : (c : Content) (rows : List Row) → map_list entry_of rows ≡ map.entries c → (key : Key) → map.get (raised_content c) key ≡ map.get {R = key_cmp} (map.from_entries (raised_all (map_list entry_of rows))) key
 raised_rows c rows is key = ap (λ (es : List Plain). map.get {R = key_cmp} (map.from_entries (raised_all es)) key) (sym is)
 
-say_lasting : (p : Place) (rows : List Row) (mid c : Content) (x : Lasting) → ¬ (mid ≡ map.empty) → map_list entry_of rows ≡ map.entries mid → are_raised mid c → IsLasting (nodes_of p) x → Say rows p.id x → AreLasting p c x
+say_lasting : (p : Place) (rows : List Row) (mid c : Content) (x : Lasting) → ¬ (mid ≡ map.empty) → map_list entry_of rows ≡ map.entries mid → are_raised mid c → IsLasting p.id (nodes_of p) x → Say rows p.id x → AreLasting p c x
 say_lasting p rows mid c x some is r can (inl (inl new)) = absurd (some (none_loaded rows mid new.0 is))
 say_lasting p rows mid c x some is (inl r) can (inl (inr are)) = absurd (two_marks p.id rows x are (subst AreFirst (sym is) r.0))
 say_lasting p rows mid c x some is (inr r) can (inl (inr are)) = (can, λ key. ap (λ (m : Content). map.get m key) r.1 ∙ sym (get_loaded rows mid is key) ∙ are.are key)

@@ -31,11 +31,11 @@ AreKept n c = (h : HeldView) → n.up ≡ Some h → AreOf n.place c h
 
 -- the rows are those of what lasts of a node
 abbrev pub AreLasting : Place → Content → Lasting → Type 0
-AreLasting p c x = IsLasting (nodes_of p) x × ((key : Key) → map.get c key ≡ node_row p.id x key)
+AreLasting p c x = IsLasting p.id (nodes_of p) x × ((key : Key) → map.get c key ≡ node_row p.id x key)
 
 -- they are those in version 1: in version 2 they are its rows
 abbrev pub AreFirstLasting : Place → Content → Lasting → Type 0
-AreFirstLasting p c x = IsLasting (nodes_of p) x × AreFirst (map.entries c) × ((key : Key) → map.get (raised_content c) key ≡ node_row p.id x key)
+AreFirstLasting p c x = IsLasting p.id (nodes_of p) x × AreFirst (map.entries c) × ((key : Key) → map.get (raised_content c) key ≡ node_row p.id x key)
 
 -- in either
 abbrev pub LastsIn : Place → Content → Lasting → Type 0

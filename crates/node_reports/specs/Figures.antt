@@ -44,7 +44,7 @@ pub record AreFigures (rows : List Row) (nodes : ℕ) (opened : Opened) (figures
 pub record IsReported (rows : List Row) (id nodes : ℕ) (figures : Figures) : Type 0 where
   pub lasting : Lasting
   pub opened : Opened
-  pub lasts : IsLasting nodes lasting
+  pub lasts : IsLasting id nodes lasting
   pub said : Say rows id lasting
   pub is : IsOpened id nodes lasting opened
   pub are : AreFigures rows nodes opened figures

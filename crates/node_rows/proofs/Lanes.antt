@@ -1,15 +1,16 @@
 -- The rows of lanes, and those of the state before them.
 use Rattle.std.proofs.Common.{◌≡◌, inl, inr, ℕ, zero, suc, ◌+◌, ◌<◌, ◌≤◌, ◌^◌, true, false, T, List, [], ◌∷◌, ◌++◌, map as map_list, length, replicate, Option, Some, None, true≢false, arith, refl, sym, ap, ◌∙◌}
+use Rattle.std.specs.Prelude.{get_or}
 use Rattle.std.specs.FinMap.{find, is_sorted}
 use Rattle.std.specs.List.{AllByRecursion}
 use Rattle.std.proofs.lemmas.Bool.{cases_Bool, cases_lt, ne_eqb}
 use Rattle.std.proofs.lemmas.List.{length-replicate}
-use Rattle.message_lanes.specs.Lanes.{Lanes, new_lane, new_lanes}
+use Rattle.message_lanes.specs.Lanes.{Lanes, lane_of, new_lane, new_lanes}
 use Rattle.bridge_frames.specs.declared.forward.Forward.{Forward}
 use Rattle.bridge_frames.specs.Forwards.{forward}
 use Rattle.bridge_frames.proofs.ForwardLaws.{forward_is}
 use Rattle.bridge_deltas.specs.Lane.{told_lane}
-use Rattle.bridge_deltas.specs.Links.{new_links, opened_links}
+use Rattle.bridge_deltas.specs.Links.{LinksView, kept_of, new_links, opened_links}
 use Rattle.lane_rows.specs.Changes.{is_lane_kind, new_kept}
 use Rattle.lane_rows.specs.Reading.{AreLanes, AreLanesOf, AreParts, IsLane, IsMessageRow, IsPeers}
 use Rattle.lane_rows.specs.Rows.{Messages, each, last_put, message_rows, numbers_of, rows_of, waiting_of}
@@ -20,6 +21,7 @@ use Rattle.lane_rows.proofs.Rising.{rows_in_order}
 use Rattle.mqtt_fields.proofs.Whole.{one_value}
 use Rattle.row_store.specs.Rows.{Key, key_cmp}
 use Rattle.replica_rows.specs.Rows.{row_at}
+use Rattle.node_rows.specs.Reading.{AreLinksOf, AreLinksToOthers, HasNoLane, NoLanesToOthers}
 use Rattle.node_rows.specs.Rows.{Lasting}
 use Rattle.node_rows.specs.Sessions.{Plain}
 use Rattle.node_rows.proofs.Lists.{all_both, all_turned, either, find_both, find_none, one_list, sorted_back}
@@ -172,6 +174,14 @@ all_new n = by n
 pub new_are_lanes : (nodes : ℕ) → AreLanes nodes (new_lanes nodes)
 new_are_lanes nodes = record { count = length-replicate nodes new_lane; sound = all_new nodes }
 
+pub new_has_none : (id nodes : ℕ) → HasNoLane id (new_lanes nodes)
+new_has_none id nodes = by nodes id
+  where
+    by : (n i : ℕ) → lane_of {A = Forward} (replicate n new_lane) i ≡ new_lane
+    by zero i = refl
+    by (suc n) zero = refl
+    by (suc n) (suc i) = by n i
+
 new_told : (n : ℕ) → replicate n new_kept ≡ map_list told_lane (replicate n new_lane)
 new_told zero = refl
 new_told (suc n) = ap (λ ks. new_kept ∷ ks) (new_told n)
@@ -179,3 +189,19 @@ new_told (suc n) = ap (λ ks. new_kept ∷ ks) (new_told n)
 -- what is kept of new lanes is what a new node keeps
 pub new_opened : (id nodes : ℕ) → new_links id nodes ≡ opened_links id nodes (new_lanes nodes)
 new_opened id nodes = λ i. record (new_links id nodes) { lanes = new_told nodes i }
+
+-- ---- the lane of the node itself
+kept_told : (lanes : Lanes Forward) (peer : ℕ) → (get_or (map_list told_lane lanes) peer new_kept).lane ≡ lane_of lanes peer
+kept_told [] peer = refl
+kept_told (l ∷ ls) zero = refl
+kept_told (l ∷ ls) (suc peer) = kept_told ls peer
+
+module _ (rows : List Plain) (id nodes : ℕ) (links : LinksView) (o : AreLinksOf rows id nodes links) where
+  own_lane : (kept_of links id).lane ≡ lane_of o.0 id
+  own_lane = ap (λ (l : LinksView). (kept_of l id).lane) o.2 ∙ kept_told o.0 id
+
+  pub to_others : (kept_of links id).lane ≡ new_lane → AreLinksToOthers rows id nodes links
+  to_others none = (o.0, o.1, sym own_lane ∙ none, o.2)
+
+  pub not_to_others : nodes ≤ 2 ^ 16 → ((kept_of links id).lane ≡ new_lane → ⊥) → NoLanesToOthers rows id nodes
+  not_to_others few some lanes are none = some (own_lane ∙ ap (λ (ls : Lanes Forward). lane_of ls id) (one_lanes nodes o.0 lanes few o.1.lanes_are are.lanes_are (sym o.1.is ∙ are.is)) ∙ none)

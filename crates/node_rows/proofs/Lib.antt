@@ -2,7 +2,7 @@ mod Lists
 pub mod Raising
 mod Clients
 mod Cuts
-mod Lanes
+pub mod Lanes
 mod Said
 mod Walked
 mod Marks

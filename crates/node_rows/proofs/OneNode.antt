@@ -92,7 +92,7 @@ one_session client (Some d) None a b same = absurd (has_own client d (a d refl).
 one_session client (Some d) (Some e) a b same = ap Some (same_session client d e (a d refl) (b e refl) same)
 
 -- ---- a node
-module _ (nodes id : ℕ) (x y : Lasting) (a : IsLasting nodes x) (b : IsLasting nodes y) (same : (key : Key) → node_row id x key ≡ node_row id y key) where
+module _ (nodes id : ℕ) (x y : Lasting) (a : IsLasting id nodes x) (b : IsLasting id nodes y) (same : (key : Key) → node_row id x key ≡ node_row id y key) where
   same_named : x.named ≡ y.named
   same_named = one_name id x.named y.named a.named b.named (one_value (mark id x.named) (mark id y.named) (same mark_key))
 

@@ -25,20 +25,20 @@ use Rattle.session_table.specs.Seats.{Seats}
 use Rattle.replica_rows.specs.Reading.{AreAllRowsOf, IsStore}
 use Rattle.replica_rows.proofs.OneStore.{one_reading}
 use Rattle.node_rows.specs.declared.reading.Opened.{Opened}
-use Rattle.node_rows.specs.Reading.{AreAmong, AreLinksOf, AreNodeRows, AreOpened, Finds, IsAmong, IsCut, IsLasting, IsMark, IsOpened, IsStateOf, NoLanes, NoMark, NoState, SayNothing, SayNothingNow, SayNow}
+use Rattle.node_rows.specs.Reading.{AreAmong, AreLinksToOthers, AreNodeRows, AreOpened, Finds, IsAmong, IsCut, IsLasting, IsMark, IsOpened, IsStateOf, NoLanesToOthers, NoMark, NoState, SayNothing, SayNothingNow, SayNow}
 use Rattle.node_rows.specs.Rows.{Lasting, new_node, node_row}
 use Rattle.node_rows.specs.Sessions.{AreRead, AreSessions, NoSessions, Plain, session_at}
 use Rattle.node_rows.proofs.Clients.{session_is}
 use Rattle.node_rows.proofs.Counted.{behind, first_and_behind, mapped_both}
 use Rattle.node_rows.proofs.Cuts.{last_row, say_so}
 use Rattle.node_rows.proofs.Kept.{IsKeptBelow, stamps_from, stamps_to}
-use Rattle.node_rows.proofs.Lanes.{are_lanes, last_found, new_are_lanes, of_state}
+use Rattle.node_rows.proofs.Lanes.{are_lanes, last_found, new_are_lanes, new_has_none, of_state}
 use Rattle.node_rows.proofs.Lists.{all_front, sorted_front, sorted_tail}
 use Rattle.node_rows.proofs.Said.{first_mark, of_last, of_sessions, others_up}
 
 -- ---- a new node
-pub new_lasting : (nodes : ℕ) → nodes ≤ 2 ^ 16 → IsStore nothing → IsLasting nodes (new_node nodes)
-new_lasting nodes few store = record {
+pub new_lasting : (id nodes : ℕ) → nodes ≤ 2 ^ 16 → IsStore nothing → IsLasting id nodes (new_node nodes)
+new_lasting id nodes few store = record {
   few = few;
   named = omega arith;
   sessions = λ client d is. absurd (cc);
@@ -49,6 +49,7 @@ new_lasting nodes few store = record {
     stamps = λ topic k is. absurd (let other : None ≡ Some k = sym (map.get-empty (slice_cmp nat_cmp) topic) ∙ is in cc);
   };
   lanes = new_are_lanes nodes;
+  others = new_has_none id nodes;
 }
 
 pub new_said : (nodes : ℕ) → new_node nodes ≡ new_node (length (new_node nodes).lanes)
@@ -56,8 +57,8 @@ new_said nodes = ap new_node (sym (length-replicate nodes new_lane))
 
 -- what a function opens that isn't given rows
 pub new_found : (rows : List Row) (id nodes : ℕ) (r : Result Opened RowFault) → rows ≡ [] → nodes ≤ 2 ^ 16 → IsStore nothing → Finds (IsOpened id nodes (new_node nodes)) ⊥ r
-    → Finds (λ (o : Opened). (x : Lasting) × IsLasting nodes x × SayNow rows id x × IsOpened id nodes x o) (SayNothingNow rows id nodes) r
-new_found rows id nodes (Ok o) none few store is = (new_node nodes, new_lasting nodes few store, inl (none, new_said nodes), is)
+    → Finds (λ (o : Opened). (x : Lasting) × IsLasting id nodes x × SayNow rows id x × IsOpened id nodes x o) (SayNothingNow rows id nodes) r
+new_found rows id nodes (Ok o) none few store is = (new_node nodes, new_lasting id nodes few store, inl (none, new_said nodes), is)
 new_found rows id nodes (Err NoMemory) none few store is = tt
 new_found rows id nodes (Err BadRow) none few store is = absurd is
 new_found rows id nodes (Err Device) none few store is = is
@@ -105,34 +106,35 @@ module _ (rows : List Row) (first : Plain) (own copies : List Plain) (state : Li
   own_up = sorted_front own (copies ++ (map_list entry_of state ++ lanes)) (sorted_tail first (own ++ (copies ++ (map_list entry_of state ++ lanes))) whole.up)
 
   -- ---- what they say
-  pub said : (named : ℕ) (s : State) (seats : Seats) (links : LinksView) → nodes ≤ 2 ^ 16 → IsMark id first named → IsStateOf state nodes s → AreRead own copies seats → AreLinksOf lanes id nodes links
-      → (x : Lasting) × IsLasting nodes x × SayNow rows id x × (named ≡ x.named) × AreOpened x seats × (s ≡ x.store) × (links ≡ opened_links id nodes x.lanes)
+  pub said : (named : ℕ) (s : State) (seats : Seats) (links : LinksView) → nodes ≤ 2 ^ 16 → IsMark id first named → IsStateOf state nodes s → AreRead own copies seats → AreLinksToOthers lanes id nodes links
+      → (x : Lasting) × IsLasting id nodes x × SayNow rows id x × (named ≡ x.named) × AreOpened x seats × (s ≡ x.store) × (links ≡ opened_links id nodes x.lanes)
   said named s seats links few is_mark of_s read of_lanes =
       let ds = read.0 in
       let x : Lasting = record { named = named; sessions = session_at ds; store = s; lanes = of_lanes.0 } in
       let state_rest : (q : Key) → map.find key_cmp q (map_list entry_of state) ≡ map.get (content_of state) q = λ q. sym (map.get-from_entries keys_total (map_list entry_of state) q) in
       let rest : (q : Key) → map.find key_cmp q (map_list entry_of state ++ lanes) ≡ last_row x q = last_found x (map_list entry_of state) lanes whole.cut.state_low of_lanes.1.is (λ q. state_rest q ∙ of_s.rows_are.are q) in
-      let lasting : IsLasting nodes x = record {
+      let lasting : IsLasting id nodes x = record {
         few = few;
         named = is_mark.0;
         sessions = λ client d is. (let one = session_is IsDurable ds client d read.1.durable is in (one.0, sym one.1));
         store = of_s.kept.store;
         among = of_s.kept.among;
         lanes = of_lanes.1.lanes_are;
+        others = of_lanes.2;
       } in
       let are : AreNodeRows rows id x = record {
         rise = subst (λ (es : List Plain). T (map.is_sorted key_cmp es)) (sym whole.are) whole.up;
         are = λ q. map.get-from_entries keys_total (map_list entry_of rows) q ∙ ap (map.find key_cmp q) whole.are
             ∙ say_so id x first own copies (map_list entry_of state ++ lanes) ds is_mark.1 own_up read.1 (λ client. refl) rest q;
       } in
-      (x, lasting, inr are, refl, read.2, refl, of_lanes.2)
+      (x, lasting, inr are, refl, read.2, refl, of_lanes.3)
 
   -- ---- what they can't say
   no_rows : (es : List Row) → es ≡ [] → map_list entry_of es ≡ first ∷ (own ++ (copies ++ (map_list entry_of state ++ lanes))) → ⊥
   no_rows [] none is = cc
   no_rows (e ∷ es) none is = cc
 
-  module _ (x : Lasting) (lasting : IsLasting nodes x) (are : AreNodeRows rows id x) where
+  module _ (x : Lasting) (lasting : IsLasting id nodes x) (are : AreNodeRows rows id x) where
     found_all : (q : Key) → map.find key_cmp q (first ∷ (own ++ (copies ++ (map_list entry_of state ++ lanes)))) ≡ node_row id x q
     found_all q = ap (map.find key_cmp q) (sym whole.are) ∙ sym (map.get-from_entries keys_total (map_list entry_of rows) q) ∙ are.are q
 
@@ -172,9 +174,9 @@ module _ (rows : List Row) (first : Plain) (own copies : List Plain) (state : Li
   no_sessions none x lasting (inl new) = no_rows rows new.0 whole.are
   no_sessions none x lasting (inr are) = (let some = has_sessions x lasting are in none some.0 some.1)
 
-  pub no_lanes : NoLanes lanes nodes → SayNothingNow rows id nodes
+  pub no_lanes : NoLanesToOthers lanes id nodes → SayNothingNow rows id nodes
   no_lanes none x lasting (inl new) = no_rows rows new.0 whole.are
-  no_lanes none x lasting (inr are) = none x.lanes (has_lanes x lasting are)
+  no_lanes none x lasting (inr are) = none x.lanes (has_lanes x lasting are) lasting.others
 
 -- ---- rows that don't rise
 pub not_rising : (rows : List Row) (id nodes : ℕ) → (T (map.is_sorted key_cmp (map_list entry_of rows)) → ⊥) → SayNothing rows id nodes
@@ -203,6 +205,6 @@ all_among nodes s taken seen kept b taken_is taken_low seen_is seen_low kept_is 
 
 -- ---- what is returned
 pub opened_so : (rows : List Row) (id nodes : ℕ) (o : Opened)
-    → (x : Lasting) × IsLasting nodes x × SayNow rows id x × (o.named ≡ x.named) × AreOpened x o.sessions × (o.store ≡ x.store) × (o.links ≡ opened_links id nodes x.lanes)
-    → (x : Lasting) × IsLasting nodes x × SayNow rows id x × IsOpened id nodes x o
+    → (x : Lasting) × IsLasting id nodes x × SayNow rows id x × (o.named ≡ x.named) × AreOpened x o.sessions × (o.store ≡ x.store) × (o.links ≡ opened_links id nodes x.lanes)
+    → (x : Lasting) × IsLasting id nodes x × SayNow rows id x × IsOpened id nodes x o
 opened_so rows id nodes o h = (h.0, h.1, h.2, record { named = h.3; sessions = h.4; store = h.5; links = h.6 })

@@ -7,7 +7,7 @@ use Rattle.bridge_deltas.specs.Links.{LinksView, opened_links}
 use Rattle.bridge_frames.specs.declared.forward.Forward.{Forward}
 use Rattle.causal_context.specs.Dots.{Dot, Dots}
 use Rattle.lane_rows.specs.Reading.{AreLanes, AreLanesOf}
-use Rattle.message_lanes.specs.Lanes.{Lanes}
+use Rattle.message_lanes.specs.Lanes.{Lanes, lane_of, new_lane}
 use Rattle.replica_store.specs.declared.kept.Kept.{Kept}
 use Rattle.replica_store.specs.States.{State}
 use Rattle.row_store.specs.declared.row.Row.{Row}
@@ -35,14 +35,19 @@ pub record IsAmong (nodes : ℕ) (s : State) : Type 0 where
   pub seen : AreAmong nodes (seen_of s.subscriptions)
   pub stamps : (topic : List ℕ) (k : Kept) → map.get s.retained topic ≡ Some k → k.stamp.node < nodes
 
--- in a cluster of so many nodes, which have numbers of two bytes
-pub record IsLasting (nodes : ℕ) (x : Lasting) : Type 0 where
+-- no message was put in for node `id`, and none taken of it
+abbrev pub HasNoLane : ℕ → Lanes Forward → Type 0
+HasNoLane id lanes = lane_of lanes id ≡ new_lane
+
+-- of node `id` in a cluster of so many nodes, which have numbers of two bytes: it has no lane to itself
+pub record IsLasting (id nodes : ℕ) (x : Lasting) : Type 0 where
   pub few : nodes ≤ 2 ^ 16
   pub named : x.named < 2 ^ 62
   pub sessions : (client : List ℕ) (d : Durable) → x.sessions client ≡ Some d → IsDurable d × (d.client ≡ client)
   pub store : IsStore x.store
   pub among : IsAmong nodes x.store
   pub lanes : AreLanes nodes x.lanes
+  pub others : HasNoLane id x.lanes
 
 -- ---- rows
 
@@ -61,11 +66,11 @@ Say rows id x = SayNow rows id x ⊎ AreFirstRows rows id x
 
 -- no node `id` of a cluster of so many has these rows in version 2
 abbrev pub SayNothingNow : List Row → ℕ → ℕ → Type 0
-SayNothingNow rows id nodes = (x : Lasting) → IsLasting nodes x → SayNow rows id x → ⊥
+SayNothingNow rows id nodes = (x : Lasting) → IsLasting id nodes x → SayNow rows id x → ⊥
 
 -- nor in version 1
 abbrev pub SayNothing : List Row → ℕ → ℕ → Type 0
-SayNothing rows id nodes = (x : Lasting) → IsLasting nodes x → Say rows id x → ⊥
+SayNothing rows id nodes = (x : Lasting) → IsLasting id nodes x → Say rows id x → ⊥
 
 -- ---- what is opened
 
@@ -126,12 +131,19 @@ AreLinksOf rows id nodes links = (lanes : Lanes Forward) × AreLanesOf nodes row
 abbrev pub NoLanes : List Plain → ℕ → Type 0
 NoLanes rows nodes = (lanes : Lanes Forward) → AreLanesOf nodes rows lanes → ⊥
 
+-- the same where none is a lane to the node itself
+abbrev pub AreLinksToOthers : List Plain → ℕ → ℕ → LinksView → Type 0
+AreLinksToOthers rows id nodes links = (lanes : Lanes Forward) × AreLanesOf nodes rows lanes × HasNoLane id lanes × (links ≡ opened_links id nodes lanes)
+
+abbrev pub NoLanesToOthers : List Plain → ℕ → ℕ → Type 0
+NoLanesToOthers rows id nodes = (lanes : Lanes Forward) → AreLanesOf nodes rows lanes → HasNoLane id lanes → ⊥
+
 -- ---- laws
 
 -- rows say one thing at most of a node
 abbrev pub SayOneThing : Type 0
-SayOneThing = (nodes id : ℕ) (rows : List Row) (x y : Lasting) → IsLasting nodes x → IsLasting nodes y → Say rows id x → Say rows id y → x ≡ y
+SayOneThing = (nodes id : ℕ) (rows : List Row) (x y : Lasting) → IsLasting id nodes x → IsLasting id nodes y → Say rows id x → Say rows id y → x ≡ y
 
 -- nodes with the same rows are the same in what lasts
 abbrev pub RowsTellAll : Type 0
-RowsTellAll = (nodes id : ℕ) (x y : Lasting) → IsLasting nodes x → IsLasting nodes y → ((key : Key) → node_row id x key ≡ node_row id y key) → x ≡ y
+RowsTellAll = (nodes id : ℕ) (x y : Lasting) → IsLasting id nodes x → IsLasting id nodes y → ((key : Key) → node_row id x key ≡ node_row id y key) → x ≡ y

@@ -6,7 +6,7 @@ ghost use Rattle.row_store.specs.Rows.{entry_of, key_cmp};
 ghost use Rattle.replica_store.specs.States.{nothing};
 ghost use Rattle.replica_rows.specs.Reading.{IsStore};
 ghost use Rattle.node_rows.specs.Rows.{Lasting, new_node};
-ghost use Rattle.node_rows.specs.Reading.{AreLinksOf, Finds, IsLasting, IsOpened, IsStateOf, NoLanes, NoState, Say, SayNothing, SayNothingNow, SayNow};
+ghost use Rattle.node_rows.specs.Reading.{AreLinksOf, AreLinksToOthers, Finds, IsLasting, IsOpened, IsStateOf, NoLanes, NoLanesToOthers, NoState, Say, SayNothing, SayNothingNow, SayNow};
 
 use crate::among::is_among;
 use crate::cut::cut;
@@ -48,10 +48,23 @@ fn read_state(alloc: Global, rows: &[Row], nodes: u16) -> Result<ReplicaStore, R
 }
 
 // What the node keeps of the lanes whose rows these are.
-fn read_links(alloc: Global, rows: &[Row], id: u16, nodes: u16) -> Result<Links, RowFault>
+fn links_of(alloc: Global, rows: &[Row], id: u16, nodes: u16) -> Result<Links, RowFault>
     ensures { Finds (AreLinksOf (map_list entry_of rows.now) id nodes) (NoLanes (map_list entry_of rows.now) nodes) result }
 {
     Links::from_rows(alloc, id, nodes, rows)
+}
+
+// The same where none is a lane to the node itself.
+fn read_links(alloc: Global, rows: &[Row], id: u16, nodes: u16) -> Result<Links, RowFault>
+    ensures { Finds (AreLinksToOthers (map_list entry_of rows.now) id nodes)
+        (NoLanesToOthers (map_list entry_of rows.now) id nodes) result }
+{
+    let links = links_of(alloc, rows, id, nodes)?;
+    if links.is_new(id) {
+        Ok(links)
+    } else {
+        Err(RowFault::BadRow)
+    }
 }
 
 // A node that has done nothing yet.
@@ -75,7 +88,7 @@ fn opened_new(alloc: Global, id: u16, nodes: u16) -> Result<Opened, RowFault>
 // Reads rows of version 2 that rise, cut by their kinds.
 fn read(alloc: Global, rows: &[Row], id: u16, nodes: u16) -> Result<Opened, RowFault>
     requires { T (map.is_sorted key_cmp (map_list entry_of rows.now)) }
-    ensures { Finds (λ o. (x : Lasting) × IsLasting nodes x × SayNow rows.now id x × IsOpened id nodes x o) (SayNothingNow rows.now id nodes) result }
+    ensures { Finds (λ o. (x : Lasting) × IsLasting id nodes x × SayNow rows.now id x × IsOpened id nodes x o) (SayNothingNow rows.now id nodes) result }
 {
     let [first, others @ ..] = rows else {
         return opened_new(alloc, id, nodes);
@@ -98,7 +111,7 @@ fn read(alloc: Global, rows: &[Row], id: u16, nodes: u16) -> Result<Opened, RowF
 // Reads rows of version 1 or 2 that rise.
 fn read_either(alloc: Global, rows: &[Row], id: u16, nodes: u16) -> Result<Opened, RowFault>
     requires { T (map.is_sorted key_cmp (map_list entry_of rows.now)) }
-    ensures { Finds (λ o. (x : Lasting) × IsLasting nodes x × Say rows.now id x × IsOpened id nodes x o) (SayNothing rows.now id nodes) result }
+    ensures { Finds (λ o. (x : Lasting) × IsLasting id nodes x × Say rows.now id x × IsOpened id nodes x o) (SayNothing rows.now id nodes) result }
 {
     if !are_first(rows) {
         return read(alloc, rows, id, nodes);
@@ -114,9 +127,9 @@ fn read_either(alloc: Global, rows: &[Row], id: u16, nodes: u16) -> Result<Opene
 ///
 /// BadRow exactly where no such node has just these rows: there is no mark or one of another version or node, a key or value
 /// can't be read, rows contradict each other, the numbers of messages that wait for a node don't follow one another up to the last
-/// that was put in, or a row names a node that the cluster lacks.
+/// that was put in, a row names a node that the cluster lacks, or a row of lanes names the node itself.
 pub fn open(alloc: Global, rows: &[Row], id: u16, nodes: u16) -> Result<Opened, RowFault>
-    ensures ok { IfOk result (λ o. (x : Lasting) × IsLasting nodes x × Say rows.now id x × IsOpened id nodes x o) }
+    ensures ok { IfOk result (λ o. (x : Lasting) × IsLasting id nodes x × Say rows.now id x × IsOpened id nodes x o) }
     ensures bad { IsErrOf result RowFault.BadRow → SayNothing rows.now id nodes }
     ensures fault { IfErr result (λ e. (e ≡ RowFault.NoMemory) ⊎ (e ≡ RowFault.BadRow)) }
 {

@@ -1,4 +1,4 @@
-//! Rows of node 1 in version 1, in version 2, and in none.
+//! Rows of node 1 in version 1, in version 2, and in none; and rows that it never has.
 
 use node_keeper::{Keeper, KeeperFault};
 use numbered_homes::homes_of;
@@ -28,6 +28,16 @@ const DOT: &[u8] = b"\0\x01\0\0\0\0\0\0\0\x01";
 
 const DOTS: &[u8] = b"\0\0\0\x01\0\x01\0\0\0\0\0\0\0\x01\0\0\0\0\0\0\0\x01";
 
+/// The number of another node, and that of the node.
+const OTHER: &[u8] = b"\0\0";
+
+const ITSELF: &[u8] = b"\0\x01";
+
+/// That one message was put in a lane and is gone, and that one was taken of a lane.
+const ONE_PUT: &[u8] = b"\0\0\0\0\0\0\0\x01\0\0\0\0\0\0\0\0";
+
+const ONE_TAKEN: &[u8] = b"\0\0\0\0\0\0\0\0\0\0\0\0\0\0\0\x01";
+
 /// The rows of a node with one subscription, of `a`.
 fn rows_with(mark: &'static [u8], subscription: &'static [u8]) -> [Plain; 4] {
     [
@@ -36,6 +46,11 @@ fn rows_with(mark: &'static [u8], subscription: &'static [u8]) -> [Plain; 4] {
         (6, b"", b"\x01", DOTS),
         (6, b"", b"\x02", DOTS),
     ]
+}
+
+/// The rows of a node with these numbers of the lanes to and from a node.
+fn rows_of_lanes(node: &'static [u8], numbers: &'static [u8]) -> [Plain; 2] {
+    [(1, b"", b"", SECOND_MARK), (8, node, b"", numbers)]
 }
 
 fn row(rt: &impl Abort, alloc: Global, plain: &Plain) -> Row {
@@ -143,6 +158,25 @@ fn rows_of_no_version_are_bad(rt: HostRuntime) {
         let rows = rows_with(mark, value);
         let (found, mut store) = opened(&rt, alloc, store(&rt, alloc, &rows, 0));
         assert!(rt; found == Err(KeeperFault::Rows(RowFault::BadRow)));
+        assert_eq!(rt; store.writes(), 0);
+        assert!(rt; has(&rt, &mut store, &rows));
+        drop(store);
+    }
+}
+
+#[test]
+fn lanes_of_a_node_to_itself_are_bad(rt: HostRuntime) {
+    let alloc = rt.alloc();
+    let bad = Err(KeeperFault::Rows(RowFault::BadRow));
+    for (node, numbers, answer) in [
+        (OTHER, ONE_PUT, Ok(0)),
+        (OTHER, ONE_TAKEN, Ok(0)),
+        (ITSELF, ONE_PUT, bad),
+        (ITSELF, ONE_TAKEN, bad),
+    ] {
+        let rows = rows_of_lanes(node, numbers);
+        let (found, mut store) = opened(&rt, alloc, store(&rt, alloc, &rows, 0));
+        assert!(rt; found == answer);
         assert_eq!(rt; store.writes(), 0);
         assert!(rt; has(&rt, &mut store, &rows));
         drop(store);

@@ -1,5 +1,5 @@
 -- Acts for the other nodes.
-use Rattle.std.proofs.Common.{◌≡◌, ℕ, ◌≤◌, ◌<◌, Bool, true, false, List, [], ◌∷◌, ◌++◌, length, Option, Some, None, Result, Ok, Err, refl, sym, ap, subst, ◌∙◌, arith}
+use Rattle.std.proofs.Common.{◌≡◌, ◌≢◌, ℕ, ◌≤◌, ◌<◌, Bool, true, false, List, [], ◌∷◌, ◌++◌, length, Option, Some, None, Result, Ok, Err, refl, sym, ap, subst, ◌∙◌, arith}
 use Rattle.std.specs.Prelude.{map, nat_le, replicate}
 use Rattle.std.specs.FinSet as set
 use Rattle.std.specs.Result.{OnOk}
@@ -84,9 +84,9 @@ module _ (w : WorkView) (h' : HeldView) (cs : List Change) (peer : ℕ) (m : For
       lanes_tell w.place.id w.held h' w.changes cs (ap (λ (v : HeldView). v.named) is ∙ named) (ap (λ (v : HeldView). v.sessions) is ∙ sessions) (ap (λ (v : HeldView). v.store) is ∙ store) tells
 
   -- a message joins the lane
-  pub comes_put : (n : ℕ) → offer_to peer w.held.bridge ≡ Queued n → h' ≡ record w.held { bridge = puts peer m w.held.bridge } → Did w offered_to (Puts peer m (Some tt))
-  comes_put n offer is =
-      let put = did_told (λ p h. Bridge (Put peer m)) w h' cs (n, offer) refl is (told_on (record w.held { bridge = puts peer m w.held.bridge }) is refl refl refl) in
+  pub comes_put : (n : ℕ) → offer_to peer w.held.bridge ≡ Queued n → peer ≢ w.place.id → h' ≡ record w.held { bridge = puts peer m w.held.bridge } → Did w offered_to (Puts peer m (Some tt))
+  comes_put n offer other is =
+      let put = did_told (λ p h. Bridge (Put peer m)) w h' cs (n, offer, other) refl is (told_on (record w.held { bridge = puts peer m w.held.bridge }) is refl refl refl) in
       let done : Result (Unit {0}) NodeFault = Ok tt in
       comes_looks (λ x. x) done w offered_to (λ p h. offer_to peer h.bridge) (PutsBy peer m) (Queued n) offer put
 

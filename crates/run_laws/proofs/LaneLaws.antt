@@ -28,7 +28,7 @@ use Rattle.cluster_play.specs.Runs.{Played, IsHonestStep}
 use Rattle.cluster_play.specs.Histories.{Reached, site, acts_of, taken_amid, operations_amid, moves_amid}
 use Rattle.cluster_play.specs.Agreement.{HoldsAmid, AnswersByOperations}
 use Rattle.cluster_play.proofs.Amid.{amid_acts}
-use Rattle.cluster_play.proofs.Explaining.{Seated, past, seat_lasts}
+use Rattle.cluster_play.proofs.Explaining.{Seated, lasts_here, past}
 use Rattle.cluster_play.proofs.Kept.{explained}
 use Rattle.cluster_play.proofs.Lives.{amid_moves, led}
 use Rattle.cluster_play.proofs.Moments.{moves_moment}
@@ -53,7 +53,7 @@ module _ (run : List Played) (w : World) (r : Reached run w) where
       let e = explained run w r in
       let x : Seated (past r.start run) (length w.sites) i s = e.sites i s at in
       let place = s.node.place in
-      let can : IsLasting place.nodes (lasting x.held) = subst (λ n. IsLasting n (lasting x.held)) (sym x.nodes) (seat_lasts (past r.start run) w e i s at x) in
+      let can : IsLasting place.id place.nodes (lasting x.held) = lasts_here (past r.start run) w e i s at x in
       let same : said ≡ lasting x.held = rows_tell_all place.nodes place.id said (lasting x.held) are.0 can (λ key. sym (are.1 key) ∙ x.rows key) in
       subst (λ (l : Lasting). IsKept (lane_of l.lanes j) (put i j run) (took i j run) (took j i run)) (sym same)
       ((lanes_explained run w r).sites i x.held (record { node = s; at = at; first = x.first; was = x.was; moves = x.moves }) j)

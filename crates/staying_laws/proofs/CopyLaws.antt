@@ -33,7 +33,7 @@ use Rattle.node_work.specs.View.{Place, HeldView, fresh}
 use Rattle.cluster_play.specs.Worlds.{Site, World}
 use Rattle.cluster_play.specs.Runs.{Played}
 use Rattle.cluster_play.specs.Histories.{Reached, site, moves_at}
-use Rattle.cluster_play.proofs.Explaining.{Seated, past, seat_lasts}
+use Rattle.cluster_play.proofs.Explaining.{Seated, lasts_here, past}
 use Rattle.cluster_play.proofs.Kept.{explained}
 use Rattle.run_laws.specs.Calling.{SessionIsOver, StaysCalled}
 use Rattle.run_laws.proofs.CallingLaws.{calls_stay}
@@ -117,8 +117,8 @@ module _ (run : List Played) (w : World) (r : Reached run w) (i : ℕ) (s : Site
   x : Seated (past r.start run) (length w.sites) i s
   x = (explained run w r).sites i s at
 
-  can : IsLasting s.node.place.nodes (lasting x.held)
-  can = subst (λ n. IsLasting n (lasting x.held)) (sym x.nodes) (seat_lasts (past r.start run) w (explained run w r) i s at x)
+  can : IsLasting s.node.place.id s.node.place.nodes (lasting x.held)
+  can = lasts_here (past r.start run) w (explained run w r) i s at x
 
   are : AreLasting s.node.place s.rows (lasting x.held)
   are = (can, x.rows)

@@ -1,6 +1,6 @@
 //! What a node does for the other nodes.
 
-ghost use Rattle.std.specs.Prelude.{◌≡◌, ℕ, true, List, Ok};
+ghost use Rattle.std.specs.Prelude.{◌≡◌, ◌≢◌, ℕ, true, List, Ok};
 ghost use Rattle.bridge_frames.specs.declared.forward.Forward.{Forward};
 ghost use Rattle.message_copies.specs.declared.plain.PlainCopy.{PlainCopy as Copy};
 ghost use Rattle.node_bridge.specs.View.{is_next};
@@ -33,6 +33,7 @@ impl Work {
 
     /// What becomes of a message at another node. Where nothing does, it takes no memory.
     pub fn route(&mut self, peer: u16, route: Route) -> Result<(), NodeFault>
+        requires { peer ≢ self.old.place.id }
         ensures idle { route ≡ Route.Nothing → (result ≡ Ok tt) × (self.new ≡ self.old) }
         ensures comes { ComesTo (λ x. x) result self.old self.new (RoutesBy peer route) }
     {
@@ -45,6 +46,7 @@ impl Work {
 
     /// Puts a message into the lane to another node, unless too many wait there.
     fn offer(&mut self, peer: u16, message: Forward) -> Result<(), NodeFault>
+        requires { peer ≢ self.old.place.id }
         ensures { ComesTo (λ x. x) result self.old self.new (Puts peer message) }
     {
         match self.held.offer(peer, message, &mut self.changes)? {
@@ -78,7 +80,8 @@ impl Work {
 
     /// Takes the next message of another node's lane, with its copies, of which so many picks are lost.
     pub fn take(&mut self, peer: u16, number: LaneNumber, lost: u64) -> Result<(), NodeFault>
-        requires { is_next peer number self.old.held.bridge ≡ true }
+        requires other { peer ≢ self.old.place.id }
+        requires next { is_next peer number self.old.held.bridge ≡ true }
         ensures { (m : Forward) (copies : List Copy) → IsHanded self.old.held m copies lost
             → ComesTo (λ x. x) result self.old self.new (Acting (λ p h. Bridge (Took peer number m copies lost))) }
     {

@@ -14,7 +14,7 @@ returns-clause-ok c =
     record {
       lasting = e.0;
       held = woken c.args.homes o.named o.sessions o.store e.0.lanes;
-      can_last = subst (λ n. IsLasting n e.0) c.nodes.ensures.count e.1;
+      can_last = subst (λ n. IsLasting c.args.id n e.0) c.nodes.ensures.count e.1;
       say = e.2;
       woken = (o.sessions, e.3.sessions, λ i. woken c.args.homes (e.3.named i) o.sessions (e.3.store i) e.0.lanes);
       is = (λ i. record { place = place_of c.args.id c.args.homes; homes = c.args.homes; up = Some ((work i).held) })
