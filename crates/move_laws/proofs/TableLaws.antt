@@ -19,7 +19,7 @@ use Rattle.broker_node.specs.Turns as turns
 use Rattle.passing_laws.proofs.Keeping.{none_some}
 use Rattle.passing_laws.proofs.Passing.{numbered}
 use Rattle.passing_laws.proofs.Splits.{left_by}
-use Rattle.move_laws.specs.Tables.{SendsAway, IsNewer, TicksFirst, TableIsTaken, TableIsRefused, TablesAreTaken, TablesWait, BeginsWork, StartsSendAway}
+use Rattle.move_laws.specs.Tables.{ClientsGo, IsNewer, TicksFirst, TableIsTaken, TableIsRefused, TablesAreTaken, TablesWait, BeginsWork, StartsSendAway}
 use Rattle.move_laws.proofs.Beginning.{still_homes}
 use Rattle.move_laws.proofs.Ending.{second_runs}
 use Rattle.move_laws.proofs.Still.{closes_stored, does_due}
@@ -122,7 +122,7 @@ module _ (e : Event) (homes : Table) (p : Place) (h last : HeldView) (acts : Lis
             first = first;
             rest = away;
             is = whole ∙ ap (λ xs. first.due ++ xs) (all ∙ ap (λ xs. xs ++ away) takes.1);
-            sends = subst (λ v. SendsAway p v away last) left (sends_away tt p moved last away more after);
+            sends = subst (λ v. ClientsGo p v away last) left (sends_away tt p moved last away more after);
           },
         )
     comes_by false newer d =

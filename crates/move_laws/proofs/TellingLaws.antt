@@ -24,7 +24,7 @@ use Rattle.node_clients.specs.Connecting.{address_of}
 use Rattle.passing_laws.specs.Sending.{IsIn}
 use Rattle.move_laws.specs.Going.{Goes, IsOfEnding, IsParted, IsTold, seen, seen_in}
 use Rattle.move_laws.specs.Tables.{GoInTurn}
-use Rattle.move_laws.specs.Telling.{HasHomeElsewhere, IsSentOnAmong, Tells, IsForThem, ClientsAreSentOn}
+use Rattle.move_laws.specs.Telling.{HasHomeElsewhere, IsSentOnAmong, TellsHome, IsForThem, ClientsAreSentOn}
 use Rattle.move_laws.proofs.Calm.{Has}
 use Rattle.move_laws.proofs.EachAct.{are_both}
 use Rattle.move_laws.proofs.Keys.{Apart, key_in, keys_apart, keys_seated, selected_all, selected_apart, selected_in}
@@ -56,7 +56,7 @@ module _ (p : Place) (client : List ℕ) (h mid : HeldView) (own : List Act) (g 
       let other : q ≢ client = λ e. (let z : None ≡ Some has.0 = sym g.leaves.gone ∙ ap (λ k. seat_at k mid) (sym e) ∙ has.1 in cc) in
       record { on = sym (same_connection q h mid (g.leaves.sessions q other)) ∙ on.on; elsewhere = subst (λ (t : Table). IsElsewhere t p.id q) g.leaves.homes on.elsewhere }
 
-  tells_back : (q bytes : List ℕ) → Tells p mid q bytes → Tells p h q bytes
+  tells_back : (q bytes : List ℕ) → TellsHome p mid q bytes → TellsHome p h q bytes
   tells_back q bytes t = record {
     home = t.home;
     is_home = subst (λ (x : Table). IsHome x q t.home) g.leaves.homes t.is_home;

@@ -14,7 +14,7 @@ use Rattle.broker_node.specs.Moving as tables
 use Rattle.passing_laws.specs.Sending.{IsIn}
 use Rattle.passing_laws.proofs.Keeping.{none_some}
 use Rattle.move_laws.specs.Going.{Goes, seen, seen_in}
-use Rattle.move_laws.specs.Tables.{GoInTurn, SendsAway}
+use Rattle.move_laws.specs.Tables.{GoInTurn, ClientsGo}
 use Rattle.move_laws.proofs.Calm.{Has}
 use Rattle.move_laws.proofs.Ending.{second_runs}
 use Rattle.move_laws.proofs.Going.{goes}
@@ -49,7 +49,7 @@ each_goes p (client ∷ clients) x h h' acts apart away (inr (y, own, mid, rest,
     let g : Goes p client h own mid = goes p client y h mid own away.0.1 away.0.0 one ran in
     (own, mid, rest, is, ran, g, each_goes p clients x mid h' rest apart.1 (still_away p client h mid clients g.leaves.homes g.leaves.sessions apart.0 away.1) more (second_runs p h mid h' own rest acts is ran runs))
 
-pub sends_away : (x : Unit {0}) (p : Place) (h h' : HeldView) (acts : List Act) → tables.SendsAway (Some x) p h acts → Runs p h acts h' → SendsAway p h acts h'
+pub sends_away : (x : Unit {0}) (p : Place) (h h' : HeldView) (acts : List Act) → tables.SendsAway (Some x) p h acts → Runs p h acts h' → ClientsGo p h acts h'
 sends_away x p h h' acts (away, are, d) runs =
     let keys = map_list (λ e. e.0) (map.entries h.sessions) in
     record {
@@ -85,7 +85,7 @@ turn_left p (client ∷ clients) h h' acts (own, mid, rest, is, ran, g, more) =
     }
 
 -- no session is left of a client whose home is elsewhere
-pub none_away : (p : Place) (h h' : HeldView) (acts : List Act) → SendsAway p h acts h' → (q : List ℕ) → Has q h' → IsElsewhere h'.homes p.id q → ⊥
+pub none_away : (p : Place) (h h' : HeldView) (acts : List Act) → ClientsGo p h acts h' → (q : List ℕ) → Has q h' → IsElsewhere h'.homes p.id q → ⊥
 none_away p h h' acts s q has elsewhere =
     let left = turn_left p s.away h h' acts s.go in
     let was = left.was q has in

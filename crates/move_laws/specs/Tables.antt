@@ -20,7 +20,7 @@ GoInTurn p (client ∷ clients) h acts last =
     (own : List Act) × (mid : HeldView) × (rest : List Act) × (acts ≡ own ++ rest) × Runs p h own mid × Goes p client h own mid × GoInTurn p clients mid rest last
 
 -- the clients with sessions here whose home is elsewhere, in the order of their bytes, and nobody else
-pub record SendsAway (p : Place) (h : HeldView) (acts : List Act) (last : HeldView) : Type 0 where
+pub record ClientsGo (p : Place) (h : HeldView) (acts : List Act) (last : HeldView) : Type 0 where
   pub away : List (List ℕ)
   pub are : AreElsewhere h.homes p.id h.sessions away
   pub go : GoInTurn p away h acts last
@@ -42,7 +42,7 @@ pub record TableIsTaken (e : Event) (p : Place) (h : HeldView) (homes : Table) (
   pub first : TicksFirst e p h
   pub rest : List Act
   pub is : acts ≡ first.due ++ Moved homes ∷ rest
-  pub sends : SendsAway p (record first.left { homes = homes }) rest last
+  pub sends : ClientsGo p (record first.left { homes = homes }) rest last
 
 -- another one is counted, and changes nothing
 pub record TableIsRefused (e : Event) (p : Place) (h : HeldView) (acts : List Act) (last : HeldView) : Type 0 where
@@ -70,7 +70,7 @@ pub record BeginsWork (p : Place) (h : HeldView) (acts : List Act) (last : HeldV
   pub homes : left.homes ≡ h.homes
   pub rest : List Act
   pub is : acts ≡ first ++ rest
-  pub sends : SendsAway p left rest last
+  pub sends : ClientsGo p left rest last
 
 abbrev pub StartsSendAway : Type 0
 StartsSendAway = (e : Event) (p : Place) (h last : HeldView) (acts : List Act) → e.kind ≡ kinds.Started → h.started ≡ false → Decides e (Some tt) p h acts → Runs p h acts last → BeginsWork p h acts last

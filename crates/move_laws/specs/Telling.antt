@@ -14,7 +14,7 @@ use Rattle.node_work.specs.Packets.{moved_packet}
 use Rattle.node_work.specs.View.{Place, HeldView}
 use Rattle.node_clients.specs.Connecting.{address_of}
 use Rattle.move_laws.specs.Going.{IsSentOn}
-use Rattle.move_laws.specs.Tables.{SendsAway}
+use Rattle.move_laws.specs.Tables.{ClientsGo}
 
 -- the client of this session is on this connection, and its home is elsewhere
 pub record HasHomeElsewhere (p : Place) (h : HeldView) (c : ℕ) (client : List ℕ) : Type 0 where
@@ -32,7 +32,7 @@ pub record IsSentOnAmong (p : Place) (h : HeldView) (acts : List Act) (c : ℕ) 
   pub sent : IsSentOn p client c mid own
 
 -- DISCONNECT with Server moved and the address that the table has of the client's home, which is another node
-pub record Tells (p : Place) (h : HeldView) (client bytes : List ℕ) : Type 0 where
+pub record TellsHome (p : Place) (h : HeldView) (client bytes : List ℕ) : Type 0 where
   pub home : ℕ
   pub is_home : IsHome h.homes client home
   pub other : home ≢ p.id
@@ -42,7 +42,7 @@ pub record Tells (p : Place) (h : HeldView) (client bytes : List ℕ) : Type 0 w
 
 -- a packet of the node's own tells such a client, on its connection; only such a connection is closed; and no frame goes out
 abbrev pub IsForThem : Place → HeldView → Act → Type 0
-IsForThem p h (Out (Send c bytes)) = (client : List ℕ) × HasHomeElsewhere p h c client × Tells p h client bytes
+IsForThem p h (Out (Send c bytes)) = (client : List ℕ) × HasHomeElsewhere p h c client × TellsHome p h client bytes
 IsForThem p h (Out (Close c)) = (client : List ℕ) × HasHomeElsewhere p h c client
 IsForThem p h (Out o) = ⊥
 IsForThem p h (Connection (Closed c)) = (client : List ℕ) × HasHomeElsewhere p h c client
@@ -57,4 +57,4 @@ pub record SendsThemOn (p : Place) (h : HeldView) (acts : List Act) (last : Held
   pub others : (c : ℕ) → ((client : List ℕ) → ¬ (HasHomeElsewhere p h c client)) → map.get last.connections c ≡ map.get h.connections c
 
 abbrev pub ClientsAreSentOn : Type 0
-ClientsAreSentOn = (p : Place) (h last : HeldView) (acts : List Act) → SendsAway p h acts last → SendsThemOn p h acts last
+ClientsAreSentOn = (p : Place) (h last : HeldView) (acts : List Act) → ClientsGo p h acts last → SendsThemOn p h acts last

@@ -279,7 +279,7 @@ module _ (K : (A : Type 0) → (Option A → Doing) → Type 0) (w : Low K) (a :
   takes_table homes =
       w.looks (tables.is_newer homes) (λ newer. If newer (tables.TakesNewerTable homes) (Misses TableRefused))
       (λ newer. w.by_test newer (tables.TakesNewerTable homes) (Misses TableRefused)
-      (w.join (Acting (λ p h. Moved homes)) (λ _. tables.SendsAway) (a.moved homes) (λ _. sends_away)) (w.missed TableRefused))
+      (w.join (Acting (λ p h. Moved homes)) (λ _. tables.SendsAway) (a.moved homes) (λ _. sends_away)) (w.missed TableRefused tt))
 
   pub starts : Does due.Starts
   starts =

@@ -26,7 +26,7 @@ use Rattle.node_work.specs.View.{Place, HeldView}
 use Rattle.node_work.specs.Working.{Doing, Acting}
 use Rattle.node_clients.specs.Ending as ending
 use Rattle.passing_laws.proofs.Keeping.{Keeps}
-use Rattle.output_laws.proofs.Below.{Low, IsSmall, follows}
+use Rattle.output_laws.proofs.Below.{Low, IsNoBadFrame, IsSmall, follows}
 use Rattle.output_laws.proofs.Joining.{All, Closed, all_closed, j_returns, j_stops, j_acting, j_numbered, j_looks, j_finds, j_if, j_where, j_then, j_calls}
 
 -- a call that begins no connection
@@ -40,7 +40,7 @@ pub record Kind (Q : Act → Type 0) : Type 0 where
   pub called : (s : SessionStep) → IsCalmCall s.event → Q (Session (Called s))
   pub over : (client : List ℕ) → Q (Session (Over client))
   pub put : (peer : ℕ) (m : Forward) → Q (Bridge (Put peer m))
-  pub missed : (what : Missed) → Q (Bridge (Left_out what))
+  pub missed : (what : Missed) → IsNoBadFrame what → Q (Bridge (Left_out what))
   pub passed : (m : Message) (copies : List Copy) (lost : ℕ) (routes : List (ℕ × Route)) → Q (Passed m copies lost routes)
   pub dropped : Q Dropped
   pub acknowledged : (client : List ℕ) (packet at : ℕ) (given : List Granted) (os : List Delivery) → Q (Acknowledged client packet at given os)
@@ -57,7 +57,7 @@ module _ (Q : Act → Type 0) (k : Kind Q) where
 
   puts_by : (peer : ℕ) (m : Forward) (o : Offer) → K (Unit {0}) (PutsBy peer m o)
   puts_by peer m (Queued n) = acting (λ p h. Bridge (Put peer m)) (λ p h. k.put peer m)
-  puts_by peer m Full = acting (λ p h. Bridge (Left_out LaneFull)) (λ p h. k.missed LaneFull)
+  puts_by peer m Full = acting (λ p h. Bridge (Left_out LaneFull)) (λ p h. k.missed LaneFull tt)
   puts_by peer m AtEnd = j_stops (All Q) c
 
   -- a call that begins no connection
@@ -85,7 +85,7 @@ module _ (Q : Act → Type 0) (k : Kind Q) where
     over = λ client. acting (λ p h. Session (Over client)) (λ p h. k.over client);
     passed = λ m x. j_numbered (All Q) c turn_at_end (λ p h. Passed m x.0 x.1.0 x.1.1) (λ p h. (k.passed m x.0 x.1.0 x.1.1, tt));
     puts = puts_by;
-    missed = λ what. acting (λ p h. Bridge (Left_out what)) (λ p h. k.missed what);
+    missed = λ what other. acting (λ p h. Bridge (Left_out what)) (λ p h. k.missed what other);
     dropped = acting (λ p h. Dropped) (λ p h. k.dropped);
     acknowledged = λ client packet given os. acting (λ p h. Acknowledged client packet h.at given os) (λ p h. k.acknowledged client packet h.at given os);
   }

@@ -21,7 +21,7 @@ use Rattle.session_table.specs.Calls.{stays}
 use Rattle.subscription_set.specs.declared.entry.Entry.{Entry}
 use Rattle.subscription_set.specs.Standing.{any_of, any_below}
 use Rattle.node_work.specs.declared.counts.Missed.{Missed}
-use Rattle.node_work.specs.declared.counts.Missed.TheVariants.{LaneFull}
+use Rattle.node_work.specs.declared.counts.Missed.TheVariants.{LaneFull, BadFrame}
 use Rattle.node_work.specs.declared.granted.Granted.{Granted}
 use Rattle.node_work.specs.Acts.{Session, Acknowledged, Passed}
 use Rattle.node_work.specs.Calling.{Calls, Queues, QueuesOne}
@@ -43,6 +43,11 @@ IsSmall (answers id codes) = Unit {0}
 IsSmall (closes now) = Unit {0}
 IsSmall e = ⊥
 
+-- something else than a frame that can't be taken
+abbrev pub IsNoBadFrame : Missed → Type 0
+IsNoBadFrame BadFrame = ⊥
+IsNoBadFrame what = Unit {0}
+
 -- what holds of the parts, and of what is put together of them
 pub record Low (K : (A : Type 0) → (Option A → Doing) → Type 0) : Type 1 where
   pub returns : {A : Type 0} (y : A) → K A (Returns y)
@@ -60,7 +65,7 @@ pub record Low (K : (A : Type 0) → (Option A → Doing) → Type 0) : Type 1 w
   pub over : (client : List ℕ) → K (Unit {0}) (Acting (λ p h. Session (Over client)))
   pub passed : (m : Message) (x : passing.Made) → K (Unit {0}) (Numbered turn_at_end (λ p h. Passed m x.0 x.1.0 x.1.1))
   pub puts : (peer : ℕ) (m : Forward) (o : Offer) → K (Unit {0}) (PutsBy peer m o)
-  pub missed : (what : Missed) → K (Unit {0}) (Misses what)
+  pub missed : (what : Missed) → IsNoBadFrame what → K (Unit {0}) (Misses what)
   pub dropped : K (Unit {0}) passing.Drops
   pub acknowledged : (client : List ℕ) (packet : ℕ) (given : List Granted) (os : List Delivery) → K (Unit {0}) (Acting (λ p h. Acknowledged client packet h.at given os))
 
@@ -86,7 +91,7 @@ module _ (K : (A : Type 0) → (Option A → Doing) → Type 0) (w : Low K) wher
   routes : (peer : ℕ) (route : Route) → Does (RoutesBy peer route)
   routes peer Nothing = w.returns tt
   routes peer (Lane m) = w.looks (λ p h. offer_to peer h.bridge) (PutsBy peer m) (w.puts peer m)
-  routes peer TooLarge = w.missed LaneFull
+  routes peer TooLarge = w.missed LaneFull tt
 
   makes_copies : (m : Message) (x : passing.Made) → Does (passing.MakesCopies m x)
   makes_copies m x =

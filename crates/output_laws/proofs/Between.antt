@@ -28,13 +28,14 @@ pub record Mid (K : (A : Type 0) → (Option A → Doing) → Type 0) : Type 0 w
   pub merged : (s : State) → K (Unit {0}) (Acting (λ p h. Store (Merged s)))
   pub believed : (from : ℕ) (dots : Dots) → K (Unit {0}) (Acting (λ p h. Bridge (Believed from dots)))
   pub got : (from number : ℕ) → K (Unit {0}) (Acting (λ p h. Bridge (GotBy from number)))
+  pub bad : K (Unit {0}) (Misses BadFrame)
 
 module _ (K : (A : Type 0) → (Option A → Doing) → Type 0) (w : Low K) (b : Mid K) where
   abbrev Does : (Option (Unit {0}) → Doing) → Type 0
   Does P = K (Unit {0}) P
 
   gives_frame : (f : BridgeFrame) → Does (GivesFrame f)
-  gives_frame f = w.by_test (is_small f) (Acting (λ p h. Bridge (Gave f))) (Misses FrameTooLarge) (b.gave f) (w.missed FrameTooLarge)
+  gives_frame f = w.by_test (is_small f) (Acting (λ p h. Bridge (Gave f))) (Misses FrameTooLarge) (b.gave f) (w.missed FrameTooLarge tt)
 
   gives : (peer : ℕ) (body : HeldView → FrameBody) → Does (GivesBody peer body)
   gives peer body = w.looks (λ p h. record { from = p.id; to = peer; body = body h }) GivesFrame gives_frame
@@ -71,10 +72,10 @@ module _ (K : (A : Type 0) → (Option A → Doing) → Type 0) (w : Low K) (b :
   takes_body from (Got number) = b.got from number
 
   hears_frame : (frame : Option BridgeFrame) → Does (bridge.HearsFrame frame)
-  hears_frame None = w.missed BadFrame
+  hears_frame None = b.bad
   hears_frame (Some frame) =
       w.looks (λ p h. is_for p frame) (λ here. If here (bridge.TakesBody frame.from frame.body) (Misses BadFrame))
-      (λ here. w.by_test here (bridge.TakesBody frame.from frame.body) (Misses BadFrame) (takes_body frame.from frame.body) (w.missed BadFrame))
+      (λ here. w.by_test here (bridge.TakesBody frame.from frame.body) (Misses BadFrame) (takes_body frame.from frame.body) b.bad)
 
   pub hears : (bytes : List ℕ) → Does (bridge.Hears bytes)
   hears bytes = hears_frame (frame_in bytes)

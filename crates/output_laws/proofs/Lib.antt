@@ -10,6 +10,8 @@ pub mod Taking
 pub mod Frames
 pub mod Arriving
 pub mod ForwardRuns
+pub mod Beliefs
+pub mod KnowRuns
 pub mod Dues
 pub mod WillWork
 pub mod WillLaws

@@ -13,7 +13,8 @@ use Rattle.session_table.specs.Calls.{leaves, stays}
 use Rattle.session_table.specs.Seats.{Seat, connected, ends_due, run_outs, wills_due}
 use Rattle.node_work.specs.Acts.{Act, MomentTaken, Store, Connection, Bridge, Merged, Runs, next}
 use Rattle.node_work.specs.Calling.{Calls, CallsAt}
-use Rattle.node_work.specs.Held.Bridge.{Took, Got as GotBy, Believed, Gave}
+use Rattle.node_work.specs.declared.counts.Missed.TheVariants.{BadFrame}
+use Rattle.node_work.specs.Held.Bridge.{Took, Got as GotBy, Believed, Gave, Left_out}
 use Rattle.node_work.specs.Held.Connections.{Table, Opened, Closed, client_at, is_open, new_connection}
 use Rattle.node_work.specs.Held.Sessions.{seat_at}
 use Rattle.node_work.specs.View.{Place, HeldView, ConnectionView}
@@ -187,6 +188,7 @@ mid_calm = record {
   merged = λ s. acting IsCalm calm_kind (λ p h. Store (Merged s)) (λ p h. tt);
   believed = λ from dots. acting IsCalm calm_kind (λ p h. Bridge (Believed from dots)) (λ p h. tt);
   got = λ from number. acting IsCalm calm_kind (λ p h. Bridge (GotBy from number)) (λ p h. tt);
+  bad = acting IsCalm calm_kind (λ p h. Bridge (Left_out BadFrame)) (λ p h. tt);
 }
 
 by_calm : (P : Option (Unit {0}) → Doing) → Calms P → (kind : EventKind) (pre : List Act) (x : Unit {0}) (p : Place) (h h' : HeldView) (acts : List Act) → SessionsAreOnTheirs h → P (Some x) p h acts → Runs p h acts h' → Done kind pre p h h' acts

@@ -1,4 +1,4 @@
--- Work that gives out no frame, and takes nothing from another node.
+-- Work that gives out no frame, takes nothing from another node, and counts no frame as bad.
 use Rattle.std.proofs.Common.{◌≡◌, inl, inr, ℕ, suc, ◌<◌, ◌&&◌, not, nat_eq, nat_lt, ◌^◌, Bool, true, false, cond, List, [], ◌∷◌, ◌++◌, Option, Some, None, refl, sym, ap, ◌∙◌, subst, length, if◌then◌else◌}
 use Rattle.std.proofs.Math.ListN.{length-set}
 use Rattle.std.proofs.lemmas.Bool.{ltb-true}
@@ -38,16 +38,16 @@ use Rattle.run_laws.specs.LaneHistories.{by_bridge, took_by}
 use Rattle.passing_laws.proofs.Keeping.{Keeps, none_some}
 use Rattle.output_laws.specs.Frames.{given_in, frames_given}
 use Rattle.output_laws.proofs.Above.{High, does_due, does_reaction, piece_of, leaves_of, starts, opens, takes_table}
-use Rattle.output_laws.proofs.Below.{Low, each, evicts, queues_all}
+use Rattle.output_laws.proofs.Below.{Low, IsNoBadFrame, each, evicts, queues_all}
 use Rattle.output_laws.proofs.Alone.{Kind, acting, finishes_of, low, ticks_of}
 use Rattle.output_laws.proofs.Joining.{All, all_closed, j_calls}
 
 abbrev pub IsSilentBridge : BridgeAct → Type 0
 IsSilentBridge (Put peer m) = Unit {0}
-IsSilentBridge (Left_out what) = Unit {0}
+IsSilentBridge (Left_out what) = IsNoBadFrame what
 IsSilentBridge a = ⊥
 
--- an act that neither gives out a frame nor takes anything from another node
+-- an act that neither gives out a frame, nor takes anything from another node, nor counts a frame as bad
 abbrev pub IsSilent : Act → Type 0
 IsSilent (Bridge a) = IsSilentBridge a
 IsSilent (Store (Merged s)) = ⊥
@@ -65,7 +65,7 @@ silent_kind = record {
   called = λ s calm. tt;
   over = λ client. tt;
   put = λ peer m. tt;
-  missed = λ what. tt;
+  missed = λ what other. other;
   passed = λ m copies lost routes. tt;
   dropped = tt;
   acknowledged = λ client packet at given os. tt;

@@ -12,7 +12,8 @@ use Rattle.node_work.specs.declared.outcome.Output.TheVariants.{Send, Close}
 use Rattle.node_work.specs.Acts.{Act, MomentTaken, Began, Moved, Store, Connection, Session, Bridge, Out, Named, Made, Merged}
 use Rattle.node_work.specs.Calling.{Calls}
 use Rattle.node_work.specs.Doings.{TakesMoment}
-use Rattle.node_work.specs.Held.Bridge.{Took, Got as GotBy, Believed, Gave}
+use Rattle.node_work.specs.declared.counts.Missed.TheVariants.{BadFrame}
+use Rattle.node_work.specs.Held.Bridge.{Took, Got as GotBy, Believed, Gave, Left_out}
 use Rattle.node_work.specs.Held.Connections.{Opened, Accepted, Closed as Closed_at, Fed}
 use Rattle.node_work.specs.Held.Sessions.{Begun, Called}
 use Rattle.node_work.specs.Passing.{content_of}
@@ -73,6 +74,7 @@ mid = record {
   merged = λ s. j_acting T c (λ p h. Store (Merged s)) (λ p h. one_told p h (Store (Merged s)) tt);
   believed = λ from dots. j_acting T c (λ p h. Bridge (Believed from dots)) (λ p h. one_told p h (Bridge (Believed from dots)) tt);
   got = λ from number. j_acting T c (λ p h. Bridge (GotBy from number)) (λ p h. one_told p h (Bridge (GotBy from number)) tt);
+  bad = j_acting T c (λ p h. Bridge (Left_out BadFrame)) (λ p h. one_told p h (Bridge (Left_out BadFrame)) tt);
 }
 
 -- ---- events

@@ -117,7 +117,7 @@ low = record {
   over = λ client. j_acting T c (λ p h. Session (Over client)) (λ p h. one_told p h (Session (Over client)) tt);
   passed = λ m x. j_numbered T c turn_at_end (λ p h. Passed m x.0 x.1.0 x.1.1) (λ p h. one_told p h (Passed m x.0 x.1.0 x.1.1) tt);
   puts = puts_by;
-  missed = λ what. j_acting T c (λ p h. Bridge (Left_out what)) (λ p h. one_told p h (Bridge (Left_out what)) tt);
+  missed = λ what other. j_acting T c (λ p h. Bridge (Left_out what)) (λ p h. one_told p h (Bridge (Left_out what)) tt);
   dropped = j_acting T c (λ p h. Dropped) (λ p h. one_told p h Dropped tt);
   acknowledged = λ client packet given os. j_acting T c (λ p h. Acknowledged client packet h.at given os) (λ p h. one_told p h (Acknowledged client packet h.at given os) tt);
 }

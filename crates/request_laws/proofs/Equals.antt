@@ -3,19 +3,20 @@ use Rattle.std.proofs.Common.{◌≡◌, ◌⊎◌, inl, inr, ℕ, ◌||◌, ◌
 use Rattle.std.proofs.lemmas.List.{append-nil}
 use Rattle.std.specs.Cmp.Lexicographic.{bytes_decides}
 use Rattle.std.specs.List.{AllByRecursion}
+use Rattle.std.specs.FinSet as set
 use Rattle.causal_context.specs.Dots.{Dot, Dots}
 use Rattle.subscription_set.specs.declared.entry.Entry.{Entry}
 use Rattle.subscription_set.specs.Entries.{is_of, same_text}
 use Rattle.replica_store.specs.declared.operation.Operation.{Operation}
 use Rattle.replica_store.specs.declared.operation.Operation.TheVariants as operations
-use Rattle.replica_store.specs.Operations.{dot_of, Among, HaveOwnDots, Stands}
+use Rattle.replica_store.specs.Operations.{dot_of, cover_of, Among, HaveOwnDots, Stands}
 use Rattle.replica_store.proofs.Unions.{among_cases}
 use Rattle.node_work.specs.Acts.{Act, Store, Made, gather, op_in}
 use Rattle.cluster_play.specs.Runs.{Played}
 use Rattle.cluster_play.specs.Histories.{made, gained, same_dot, taken, taken_amid, operations_amid}
 use Rattle.cluster_play.specs.NextOperations.{CoversWhatStands}
 use Rattle.cluster_play.proofs.Bools.{or_true, or_left, or_right, dot_is, dot_same}
-use Rattle.cluster_play.proofs.Operations.{among_some, among_kept, only}
+use Rattle.cluster_play.proofs.Operations.{IsFresh, among_some, among_kept, only}
 use Rattle.cluster_play.proofs.Splits.{gather_both, gained_both}
 
 among_left : (x : Operation) (O P : List Operation) → Among x O → Among x (O ++ P)
@@ -30,6 +31,14 @@ among_last x (y ∷ O) = inr (among_last x O)
 and_both : (a b : Bool) → a ≡ true → b ≡ true → (a && b) ≡ true
 and_both true b e h = h
 and_both false b e h = cc
+
+and_first : (a b : Bool) → (a && b) ≡ true → a ≡ true
+and_first true b e = refl
+and_first false b e = cc
+
+and_second : (a b : Bool) → (a && b) ≡ true → b ≡ true
+and_second true b e = e
+and_second false b e = cc
 
 is_of_both : (client filter : List ℕ) (e : Entry) → e.client ≡ client → e.filter ≡ filter → is_of client (Some filter) e ≡ true
 is_of_both client filter e c f = and_both (same_text client e.client) (same_text filter e.filter) ((bytes_decides client e.client).1 (sym c)) ((bytes_decides filter e.filter).1 (sym f))
@@ -159,3 +168,83 @@ module _ (run : List Played) (i : ℕ) where
       (all_only rest ((pre ++ own) ++ a ∷ []) entry.client entry.filter dot entry ones
       (λ xs ys e. subst (λ zs. HaveOwnDots (all_made zs)) (sym (append_assoc (pre ++ own) (a ∷ []) xs ∙ append_assoc pre own (a ∷ xs)))
       (dots (own ++ a ∷ xs) ys (ap (λ zs. own ++ a ∷ zs) e ∙ sym (append_assoc own (a ∷ xs) ys)))) none so)
+
+  -- ---- and it stands
+  -- where what was made before it covers no dot of it
+  first_stands : (pre : List Act) (dot : Dot) (entry : Entry) (cover : Dots) → HaveOwnDots (all_made (pre ++ Store (Made (operations.Subscribe dot entry cover)) ∷ [])) → CoversWhatStands (O pre) entry.client (Some entry.filter) cover
+      → IsFresh (all_made pre) (operations.Subscribe dot entry cover) → ((p : Operation) → Among p (all_made pre) → set.contains (cover_of p) dot ≡ true → ⊥)
+      → Stands (O (pre ++ Store (Made (operations.Subscribe dot entry cover)) ∷ [])) dot entry
+  first_stands pre dot entry cover own covers fresh uncovered =
+      let o = operations.Subscribe dot entry cover in
+      let earlier : (x : Operation) → Among x (O pre) → Among x (all_made pre) = λ x a. (among_some (λ p. taken_amid i run pre (dot_of p)) x (all_made pre) a).0 in
+      record {
+        subscribed = (cover, step_in pre o);
+        uncovered = λ k. elim (step_back pre o own k.0 k.1) [
+          | inl is ↦ (let there = (covers dot).0 (subst (λ x. set.contains (cover_of x) dot ≡ true) is k.2) in
+              let by = there.1.subscribed in
+              fresh (operations.Subscribe dot there.0 by.0) (earlier (operations.Subscribe dot there.0 by.0) by.1) refl)
+          | inr was ↦ uncovered k.0 (earlier k.0 was) k.2
+        ];
+      }
+
+  -- one to another filter leaves it so
+  later_stands : (pre : List Act) (dot : Dot) (entry : Entry) (d1 : Dot) (e1 : Entry) (c1 : Dots) → HaveOwnDots (all_made (pre ++ Store (Made (operations.Subscribe d1 e1 c1)) ∷ []))
+      → CoversWhatStands (O pre) e1.client (Some e1.filter) c1 → (e1.client ≡ entry.client → e1.filter ≡ entry.filter → ⊥) → Stands (O pre) dot entry
+      → Stands (O (pre ++ Store (Made (operations.Subscribe d1 e1 c1)) ∷ [])) dot entry
+  later_stands pre dot entry d1 e1 c1 own covers other s =
+      let o = operations.Subscribe d1 e1 c1 in
+      let more = pre ++ Store (Made o) ∷ [] in
+      let later : (x : Operation) → Among x (O pre) → Among x (all_made more) = λ x a. (among_some (λ p. taken_amid i run more (dot_of p)) x (all_made more) (step_on pre o x a)).0 in
+      record {
+        subscribed = (s.subscribed.0, step_on pre o (operations.Subscribe dot entry s.subscribed.0) s.subscribed.1);
+        uncovered = λ k. elim (step_back pre o own k.0 k.1) [
+          | inl is ↦ (let there = (covers dot).0 (subst (λ x. set.contains (cover_of x) dot ≡ true) is k.2) in
+              let by = there.1.subscribed in
+              let one : operations.Subscribe dot there.0 by.0 ≡ operations.Subscribe dot entry s.subscribed.0 = own _ _ (later (operations.Subscribe dot there.0 by.0) by.1) (later (operations.Subscribe dot entry s.subscribed.0) s.subscribed.1) refl in
+              let same : there.0 ≡ entry = (let z : operations.Subscribe dot there.0 by.0 ≡ operations.Subscribe dot entry s.subscribed.0 = one in cc) in
+              other ((bytes_decides e1.client there.0.client).0 (and_first (same_text e1.client there.0.client) (same_text e1.filter there.0.filter) there.2) ∙ ap (λ (v : Entry). v.client) same)
+              ((bytes_decides e1.filter there.0.filter).0 (and_second (same_text e1.client there.0.client) (same_text e1.filter there.0.filter) there.2) ∙ ap (λ (v : Entry). v.filter) same))
+          | inr was ↦ s.uncovered (k.0, was, k.2)
+        ];
+      }
+
+  -- each of these covers what stood of its client to its filter
+  abbrev pub CoverInTurn : List Act → List Act → Type 0
+  CoverInTurn pre acts =
+      (own rest : List Act) (dot : Dot) (entry : Entry) (cover : Dots) → acts ≡ own ++ Store (Made (operations.Subscribe dot entry cover)) ∷ rest → CoversWhatStands (O (pre ++ own)) entry.client (Some entry.filter) cover
+
+  all_stand : (rest pre : List Act) (dot : Dot) (entry : Entry) → AllByRecursion MakesOne rest → ((xs ys : List Act) → rest ≡ xs ++ ys → HaveOwnDots (all_made (pre ++ xs)))
+      → CoverInTurn pre rest → NoneTo entry.client entry.filter rest → Stands (O pre) dot entry → Stands (O (pre ++ rest)) dot entry
+  all_stand [] pre dot entry ones own covers none stands = subst (λ zs. Stands (O zs) dot entry) (sym (append-nil pre)) stands
+  all_stand (a ∷ rest) pre dot entry ((d1, e1, c1, is), ones) own covers none stands =
+      let b = Store (Made (operations.Subscribe d1 e1 c1)) in
+      let first : CoversWhatStands (O pre) e1.client (Some e1.filter) c1 =
+      subst (λ zs. CoversWhatStands (O zs) e1.client (Some e1.filter) c1) (append-nil pre) (covers [] rest d1 e1 c1 (ap (λ x. x ∷ rest) is)) in
+      let so : Stands (O (pre ++ b ∷ [])) dot entry = later_stands pre dot entry d1 e1 c1 (subst (λ x. HaveOwnDots (all_made (pre ++ x ∷ []))) is (own (a ∷ []) rest refl)) first
+      (λ c f. none [] rest d1 e1 c1 (ap (λ x. x ∷ rest) is) c f) stands in
+      let more : Stands (O (pre ++ a ∷ [])) dot entry = subst (λ x. Stands (O (pre ++ x ∷ [])) dot entry) (sym is) so in
+      subst (λ zs. Stands (O zs) dot entry) (append_assoc pre (a ∷ []) rest)
+      (all_stand rest (pre ++ a ∷ []) dot entry ones
+      (λ xs ys e. subst (λ zs. HaveOwnDots (all_made zs)) (sym (append_assoc pre (a ∷ []) xs)) (own (a ∷ xs) ys (ap (λ zs. a ∷ zs) e)))
+      (λ front back d e c eq. subst (λ zs. CoversWhatStands (O zs) e.client (Some e.filter) c) (sym (append_assoc pre (a ∷ []) front)) (covers (a ∷ front) back d e c (ap (λ zs. a ∷ zs) eq)))
+      (λ before after d e c eq. none (a ∷ before) after d e c (ap (λ zs. a ∷ zs) eq)) more)
+
+  -- the last one to a filter
+  pub last_stands : (own rest pre : List Act) (dot : Dot) (entry : Entry) (cover : Dots) → AllByRecursion MakesOne rest
+      → ((xs ys : List Act) → own ++ Store (Made (operations.Subscribe dot entry cover)) ∷ rest ≡ xs ++ ys → HaveOwnDots (all_made (pre ++ xs)))
+      → CoverInTurn pre (own ++ Store (Made (operations.Subscribe dot entry cover)) ∷ rest) → NoneTo entry.client entry.filter rest
+      → IsFresh (all_made (pre ++ own)) (operations.Subscribe dot entry cover) → ((p : Operation) → Among p (all_made (pre ++ own)) → set.contains (cover_of p) dot ≡ true → ⊥)
+      → Stands (O (pre ++ (own ++ Store (Made (operations.Subscribe dot entry cover)) ∷ rest))) dot entry
+  last_stands own rest pre dot entry cover ones dots covers none fresh uncovered =
+      let a = Store (Made (operations.Subscribe dot entry cover)) in
+      let parts : own ++ a ∷ rest ≡ (own ++ a ∷ []) ++ rest = sym (append_assoc own (a ∷ []) rest) in
+      let so : Stands (O ((pre ++ own) ++ a ∷ [])) dot entry =
+      first_stands (pre ++ own) dot entry cover (subst (λ zs. HaveOwnDots (all_made zs)) (sym (append_assoc pre own (a ∷ []))) (dots (own ++ a ∷ []) rest parts)) (covers own rest dot entry cover refl) fresh uncovered in
+      let same : ((pre ++ own) ++ a ∷ []) ++ rest ≡ pre ++ (own ++ a ∷ rest) = append_assoc (pre ++ own) (a ∷ []) rest ∙ append_assoc pre own (a ∷ rest) in
+      subst (λ zs. Stands (O zs) dot entry) same
+      (all_stand rest ((pre ++ own) ++ a ∷ []) dot entry ones
+      (λ xs ys e. subst (λ zs. HaveOwnDots (all_made zs)) (sym (append_assoc (pre ++ own) (a ∷ []) xs ∙ append_assoc pre own (a ∷ xs)))
+      (dots (own ++ a ∷ xs) ys (ap (λ zs. own ++ a ∷ zs) e ∙ sym (append_assoc own (a ∷ xs) ys))))
+      (λ front back d e c eq. subst (λ zs. CoversWhatStands (O zs) e.client (Some e.filter) c) (sym (append_assoc (pre ++ own) (a ∷ []) front ∙ append_assoc pre own (a ∷ front)))
+      (covers (own ++ a ∷ front) back d e c (ap (λ zs. own ++ a ∷ zs) eq ∙ sym (append_assoc own (a ∷ front) (Store (Made (operations.Subscribe d e c)) ∷ back)))))
+      none so)

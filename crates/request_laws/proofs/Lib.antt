@@ -4,3 +4,5 @@ mod Requesting
 mod InUseLaws
 mod Equals
 mod RequestLaws
+mod Covered
+mod LastLaws

@@ -2,7 +2,7 @@
 
 use super::Example;
 
-pub const EXAMPLES: [Example; 8] = [
+pub const EXAMPLES: [Example; 9] = [
     Example {
         name: "unsubscribed, and frames in the other order",
         script: "nodes 2\nstart 0 0\nstart 1 0\nopen 1 1 0\nbytes 1 1 0 100e00044d5154540502003c00000161\nbytes 1 1 0 820700010000017400\nship 1 0 0\nbytes 1 1 0 a206000200000174\nship 1 0 0\ndeliver 2 0\ndeliver 1 0\ndeliver 1 0\n",
@@ -57,6 +57,13 @@ pub const EXAMPLES: [Example; 8] = [
         script: "nodes 1\nstart 0 0\nopen 0 1 0\nbytes 0 1 0 100e00044d5154540502003c00000161\nbytes 0 1 0 3106000174006f6e\nbytes 0 1 0 82090001020b0700017400\nbytes 0 1 0 8210000200000a2473686172652f672f7400\n",
         status: 0,
         out: "sent 0 1 200e00000b2100642200102700100000\nsent 0 1 900400010000\nsent 0 1 3108000174020b076f6e\nsent 0 1 900400020000\nnode 0 subscriptions 2 retained 1\n",
+        err: "",
+    },
+    Example {
+        name: "equal filters of one SUBSCRIBE, of which the last one stands",
+        script: "nodes 1\nstart 0 0\nopen 0 1 0\nbytes 0 1 0 100e00044d5154540502003c00000161\nbytes 0 1 0 820d0001020b070001740100017400\nbytes 0 1 0 32080001740001006f6e\n",
+        status: 0,
+        out: "sent 0 1 200e00000b2100642200102700100000\nsent 0 1 90050001000100\nsent 0 1 40020001\nsent 0 1 3008000174020b076f6e\nnode 0 subscriptions 1 retained 0\n",
         err: "",
     },
 ];
