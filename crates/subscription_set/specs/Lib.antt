@@ -4,6 +4,7 @@ pub mod Indexing
 pub mod Joining
 pub mod Matching
 pub mod Merging
+pub mod Placing
 pub mod Sorted
 pub mod Standing
 pub mod Statuses
