@@ -172,7 +172,7 @@ module _ {K : Type 0} (R : K → K → Ordering) (es : Entries) (p : Dot × Entr
 
 -- ---- the latest
 
-recency_total : IsTotalOrder recency_cmp
+pub recency_total : IsTotalOrder recency_cmp
 recency_total = then_total (on_total (λ (x : Dot × Entry). x.1.version) nat_cmp_total) (then_total (on_total (λ (x : Dot × Entry). x.0.number) nat_cmp_total) (on_total (λ (x : Dot × Entry). x.0.node) nat_cmp_total))
 
 both_equal : (r s : Ordering) → ordering_then r s ≡ Equal → (r ≡ Equal) × (s ≡ Equal)

@@ -12,6 +12,10 @@ use Rattle.subscription_set.specs.Standing.{latest}
 abbrev pub ByDot : Type 0
 ByDot = map.FinMap dot_cmp Entry
 
+-- one entry at its dot
+abbrev pub alone : Dot × Entry → ByDot
+alone x = map.insert map.empty x.0 x.1
+
 -- whether there is an entry, and it is of the client and, where one is given, to the filter
 abbrev pub stands_as : List ℕ → Option (List ℕ) → Option Entry → Bool
 stands_as client filter None = false

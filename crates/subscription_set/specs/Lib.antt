@@ -1,7 +1,9 @@
 pub mod Entries
 pub mod Filing
+pub mod Holding
 pub mod Indexing
 pub mod Joining
+pub mod Leftovers
 pub mod Matching
 pub mod Merging
 pub mod Placing

@@ -1,4 +1,4 @@
-//! Entries under their dots, found by client and filter too.
+//! Entries under their dots, found by client and filter too. One takes no trees.
 ghost use Rattle.std.specs.Prelude.{◌≡◌, ◌<◌, ◌^◌, ℕ, List, None, Some, false, true, MatchOption, OnOk, OnErr, IfOk, IsOk, ◌↔◌, length};
 ghost use Rattle.std.specs.Option.{option_copied};
 ghost use Rattle.std.specs.FinMap as map;
@@ -9,122 +9,57 @@ ghost use Rattle.causal_context.specs.Ranges.{IsFine, covers};
 ghost use Rattle.std.specs.FinMap.Entries.{where_key};
 ghost use Rattle.subscription_set.specs.Entries.{same_text};
 ghost use Rattle.subscription_set.specs.Standing.{latest};
-ghost use Rattle.subscription_set.specs.Filing.{IsPlaced};
 ghost use Rattle.subscription_set.specs.Matching.{dots_of};
 ghost use Rattle.subscription_set.specs.Indexing.{IsStanding, MatchesName, stands_as};
 
-use crate::by_client::ByClient;
-use crate::by_filter::{ByFilter, Matched};
+use crate::by_filter::Matched;
 use crate::dots::DotSet;
 use crate::entry::Entry;
-use crate::groups::Groups;
+use crate::entry_iter::{EntryIter, RangeIter};
+use crate::indexed::IndexedEntries;
+use crate::lone_entry::LoneEntry;
 use causal_context::{Dot, Range};
 use mqtt_fields::{NoMemory, Text};
 use mqtt_topics::{Filter, TopicName};
 use std::alloc::Global;
-use std::collections::BTreeMap;
-use std::collections::btree_map::{self, Iter};
 use std::marker::Model;
 
-/// Where dots stand: the dots of each client, of each client and filter, and of each filter.
+// No entry, one, or many with an index. What has become many stays so.
 #[derive(Drop)]
-pub struct Index {
-    clients: Groups,
-    filters: ByClient,
-    matches: ByFilter,
+enum Held {
+    Nothing,
+    One(LoneEntry),
+    Many(IndexedEntries),
 }
 
-impl Index {
-    fn new(alloc: Global) -> Index
-        ensures clients { result.clients ≡ set.empty }
-        ensures filters { result.filters ≡ set.empty }
-        ensures matches { result.matches ≡ set.empty }
-    {
-        Index {
-            clients: Groups::new(alloc),
-            filters: ByClient::new(alloc),
-            matches: ByFilter::new(alloc),
-        }
-    }
-
-    // Puts the dot under the entry's client and filter, where it isn't.
-    fn file(&mut self, dot: Dot, entry: &Entry) -> Result<(), NoMemory>
-        requires clients { set.contains self.old.clients (entry.now.client, dot) ≡ false }
-        requires filters { set.contains self.old.filters (entry.now.client, (entry.now.filter, dot)) ≡ false }
-        ensures clients { OnOk result
-            (self.new.clients ≡ set.insert self.old.clients (entry.now.client, dot)) }
-        ensures filters { OnOk result (self.new.filters
-            ≡ set.insert self.old.filters (entry.now.client, (entry.now.filter, dot))) }
-        ensures matches { OnOk result
-            (self.new.matches ≡ set.insert self.old.matches (entry.now.filter, dot)) }
-        ensures clients_stay { OnErr result (self.new.clients ≡ self.old.clients) }
-        ensures filters_stay { OnErr result (self.new.filters ≡ self.old.filters) }
-        ensures matches_stay { OnErr result (self.new.matches ≡ self.old.matches) }
-    {
-        self.clients.add(entry.client(), dot)?;
-        if let Err(fault) = self.filters.add(entry.client(), entry.filter(), dot) {
-            self.clients.remove(entry.client(), dot);
-            return Err(fault);
-        }
-        match self.matches.add(entry.filter(), dot) {
-            Ok(()) => Ok(()),
-            Err(fault) => {
-                self.filters.remove(entry.client(), entry.filter(), dot);
-                self.clients.remove(entry.client(), dot);
-                Err(fault)
-            }
-        }
-    }
-
-    // The dots under the client and the filter, if there are any.
-    fn under(&self, client: &Text, filter: &Filter) -> Option<&DotSet>
-        ensures { MatchOption result
-            ((d : DotValue) → set.contains self.now.filters (client.now, (filter.now, d)) ≡ false)
-            (λ dots. IsPlaced self.now.filters client.now filter.now dots.now) }
-    {
-        match self.filters.under(client) {
-            Some(filters) => filters.under(filter.as_text()),
-            None => None,
-        }
-    }
-
-    // Takes the dot out from under the entry's client and filter.
-    fn unfile(&mut self, dot: Dot, entry: &Entry)
-        ensures clients { self.new.clients
-            ≡ set.remove self.old.clients (entry.now.client, dot) }
-        ensures filters { self.new.filters
-            ≡ set.remove self.old.filters (entry.now.client, (entry.now.filter, dot)) }
-        ensures matches { self.new.matches ≡ set.remove self.old.matches (entry.now.filter, dot) }
-    {
-        self.clients.remove(entry.client(), dot);
-        self.filters.remove(entry.client(), entry.filter(), dot);
-        self.matches.remove(entry.filter(), dot);
-    }
-}
-
-/// Entries under their dots. An index beside them tells what stands of a client, and of a client
-/// and a filter; how many entries are the latest of their client and filter is counted.
-#[derive(Drop)]
+/// Entries under their dots. How many of them are the latest of their client and filter, and what
+/// stands of a client, and of a client and a filter, is found without going over them.
 pub struct EntryMap {
-    entries: BTreeMap<Dot, Entry>,
-    index: Index,
-    live: usize,
+    alloc: Global,
+    entries: Held,
+}
+
+impl Drop for EntryMap {
+    fn drop(self) {
+        let EntryMap {
+            alloc: _alloc,
+            entries: _entries,
+        } = self;
+    }
 }
 
 impl Model for EntryMap {
     ghost use Rattle.std.specs.FinMap as map;
-    ghost use Rattle.causal_context.specs.Dots.{dot_cmp, coded_dot};
+    ghost use Rattle.causal_context.specs.Dots.{coded_dot};
     ghost use Rattle.subscription_set.specs.Entries.{coded_entry};
-    ghost use Rattle.subscription_set.specs.Indexing.{ByDot, IsInStep};
+    ghost use Rattle.subscription_set.specs.Indexing.{ByDot};
+    ghost use Rattle.subscription_set.specs.Holding.{held};
 
     ghost Value = { ByDot };
 
     ghost coded = { map.code coded_dot coded_entry };
 
-    ghost view = { λ e. map.from_entries {R = dot_cmp} e.entries.entries };
-
-    ghost invariant = { λ e. IsInStep (map.from_entries {R = dot_cmp} e.entries.entries)
-        e.index.clients e.index.filters e.index.matches e.live };
+    ghost view = { λ e. held e.entries };
 }
 
 impl EntryMap {
@@ -133,9 +68,8 @@ impl EntryMap {
         ensures { result ≡ map.empty }
     {
         EntryMap {
-            entries: BTreeMap::new(alloc),
-            index: Index::new(alloc),
-            live: 0,
+            alloc,
+            entries: Held::Nothing,
         }
     }
 
@@ -143,38 +77,56 @@ impl EntryMap {
     pub fn get(&self, dot: Dot) -> Option<&Entry>
         ensures { option_copied result ≡ map.get self.now dot }
     {
-        self.entries.get(&dot)
+        match &self.entries {
+            Held::Nothing => None,
+            Held::One(one) => one.get(dot),
+            Held::Many(all) => all.get(dot),
+        }
     }
 
     /// The entries, rising by their dots.
-    pub fn iter(&self) -> Iter<'_, Dot, Entry>
+    pub fn iter(&self) -> EntryIter<'_>
         ensures { result ≡ map.entries self.now }
     {
-        self.entries.iter()
+        match &self.entries {
+            Held::Nothing => EntryIter::none(),
+            Held::One(one) => one.iter(),
+            Held::Many(all) => EntryIter::tree(all.iter()),
+        }
     }
 
     /// The entries of the dots of the range, rising.
-    pub fn within(&self, range: Range) -> btree_map::Range<'_, Dot, Entry>
+    pub fn within(&self, range: Range) -> RangeIter<'_>
         requires { IsFine range }
         ensures { result ≡ where_key dot_cmp (λ d. covers d range) (map.entries self.now) }
     {
-        let first = Dot::new(range.node, range.first).unwrap();
-        let last = Dot::new(range.node, range.last).unwrap();
-        self.entries.range(first..=last)
+        match &self.entries {
+            Held::Nothing => RangeIter::none(),
+            Held::One(one) => one.within(range),
+            Held::Many(all) => RangeIter::tree(all.within(range)),
+        }
     }
 
     /// How many entries there are.
     pub fn len(&self) -> usize
         ensures { result ≡ map.len self.now }
     {
-        self.entries.len()
+        match &self.entries {
+            Held::Nothing => 0,
+            Held::One(_) => 1,
+            Held::Many(all) => all.len(),
+        }
     }
 
     /// How many of them are the latest of their client and filter.
     pub fn live(&self) -> usize
         ensures { result ≡ length (latest (map.entries self.now)) }
     {
-        self.live
+        match &self.entries {
+            Held::Nothing => 0,
+            Held::One(_) => 1,
+            Held::Many(all) => all.live(),
+        }
     }
 
     /// How many of the client's entries are the latest of their filter.
@@ -182,9 +134,10 @@ impl EntryMap {
         ensures { result ≡ length
             (filter (λ x. same_text client.now x.1.client) (latest (map.entries self.now))) }
     {
-        match self.index.filters.under(client) {
-            None => 0,
-            Some(filters) => filters.len(),
+        match &self.entries {
+            Held::Nothing => 0,
+            Held::One(one) => one.live_of(client),
+            Held::Many(all) => all.live_of(client),
         }
     }
 
@@ -194,9 +147,10 @@ impl EntryMap {
             ((d : DotValue) → stands_as client.now (option_copied filter.entry) (map.get self.now d) ≡ false)
             (λ dots. IsStanding self.now client.now (option_copied filter.entry) dots.now) }
     {
-        match filter {
-            Some(filter) => self.index.under(client, filter),
-            None => self.index.clients.under(client),
+        match &self.entries {
+            Held::Nothing => None,
+            Held::One(one) => one.standing(client, filter),
+            Held::Many(all) => all.standing(client, filter),
         }
     }
 
@@ -205,7 +159,11 @@ impl EntryMap {
         ensures dots { IfOk result (λ out. (d : DotValue) → (set.contains (dots_of out) d ≡ true) ↔ MatchesName name.now (map.get self.now d)) }
         ensures none { ((d : DotValue) → MatchesName name.now (map.get self.now d) → ⊥) → IsOk result }
     {
-        self.index.matches.matching(name)
+        match &self.entries {
+            Held::Nothing => Ok(Matched::Many(DotSet::new(self.alloc))),
+            Held::One(one) => Ok(one.matching(self.alloc, name)),
+            Held::Many(all) => all.matching(name),
+        }
     }
 
     /// Puts the entry in at the dot, where there is none.
@@ -214,30 +172,32 @@ impl EntryMap {
         ensures ok { OnOk result (self.new ≡ map.insert self.old dot entry) }
         ensures err { OnErr result (self.new ≡ self.old) }
     {
-        let fresh = self.index.under(entry.client(), entry.filter()).is_none();
-        let count = self.entries.len();
-        prove!(self.live <= count);
-        self.index.file(dot, &entry)?;
-        if let Err(back) = self.entries.insert(dot, entry) {
-            let (_, entry) = back.value;
-            self.index.unfile(dot, &entry);
-            return Err(NoMemory);
+        match &mut self.entries {
+            Held::Nothing => {
+                self.entries = Held::One(LoneEntry::new(self.alloc, dot, entry)?);
+                Ok(())
+            }
+            Held::One(one) => {
+                self.entries = Held::Many(one.with(self.alloc, dot, entry)?);
+                Ok(())
+            }
+            Held::Many(all) => all.add(dot, entry),
         }
-        if fresh {
-            self.live += 1;
-        }
-        Ok(())
     }
 
     /// Takes the entry at the dot out, if there is one.
+    #[tactic(auto, using(crate::proofs::Alone::none_gone, crate::proofs::Alone::alone_gone, crate::proofs::Alone::alone_stays))]
     pub fn remove(&mut self, dot: Dot)
         ensures { self.new ≡ map.remove self.old dot }
     {
-        if let Some(entry) = self.entries.remove(&dot) {
-            self.index.unfile(dot, &entry);
-            if self.index.under(entry.client(), entry.filter()).is_none() {
-                self.live -= 1;
+        match &mut self.entries {
+            Held::Nothing => {}
+            Held::One(one) => {
+                if one.is_at(dot) {
+                    self.entries = Held::Nothing;
+                }
             }
+            Held::Many(all) => all.remove(dot),
         }
     }
 }

@@ -8,13 +8,17 @@ mod by_filter;
 mod dot_iter;
 mod dots;
 mod entry;
+mod entry_iter;
 mod entry_map;
 mod groups;
+mod indexed;
 mod live;
+mod lone_entry;
 mod plan;
 mod ready;
 mod set;
 
 pub use entry::Entry;
+pub use entry_iter::EntryIter;
 pub use ready::Ready;
 pub use set::SubscriptionSet;

@@ -10,11 +10,11 @@ ghost use Rattle.subscription_set.specs.Merging.{same_entry};
 ghost use Rattle.subscription_set.specs.Standing.{AreSeen};
 
 use crate::entry::Entry;
+use crate::entry_iter::RangeIter;
 use crate::entry_map::EntryMap;
 use causal_context::{Context, Dot, Joining, Range};
 use mqtt_fields::NoMemory;
 use std::alloc::Global;
-use std::collections::btree_map;
 
 /// Whether there is this entry at the dot.
 pub fn is_at(entries: &EntryMap, dot: Dot, theirs: &Entry) -> bool
@@ -42,7 +42,7 @@ fn leaves(dot: Dot, entry: &Entry, other_seen: &Context, others: &EntryMap) -> b
 // Adds the dots of those of the entries that go. Only these take memory.
 fn add_leaving(
     out: &mut Vec<Dot>,
-    found: btree_map::Range<'_, Dot, Entry>,
+    found: RangeIter<'_>,
     other_seen: &Context,
     others: &EntryMap,
 ) -> Result<(), NoMemory>

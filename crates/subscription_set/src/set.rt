@@ -16,6 +16,7 @@ ghost use Rattle.subscription_set.specs.Merging.{IsSet};
 ghost use Rattle.subscription_set.specs.Sorted.{Rises};
 
 use crate::entry::Entry;
+use crate::entry_iter::EntryIter;
 use crate::entry_map::EntryMap;
 use crate::live::{
     any_among, any_among_below, dots_among, dots_among_below, latest_among, latest_matching,
@@ -28,7 +29,6 @@ use mqtt_fields::{NoMemory, Text};
 use mqtt_topics::{Filter, TopicName};
 use std::alloc::Global;
 use std::cmp::Ordering;
-use std::collections::btree_map::Iter;
 use std::marker::Model;
 use std::mem;
 
@@ -167,7 +167,7 @@ impl SubscriptionSet {
     }
 
     /// What stands, rising by the dots.
-    pub fn entries(&self) -> Iter<'_, Dot, Entry>
+    pub fn entries(&self) -> EntryIter<'_>
         ensures { result ≡ standing self.now }
     {
         self.entries.iter()

@@ -3,7 +3,7 @@ use Rattle.std.specs.FinSet as set
 use Rattle.causal_context.specs.Dots.{Dot, dot_cmp}
 use Rattle.subscription_set.specs.Filing.{IsGroup, text_cmp}
 use Rattle.subscription_set.proofs.Indexing.{under_filter}
-use Rattle.subscription_set.proofs.entry_map.Index.under.Goals as goal
+use Rattle.subscription_set.proofs.indexed.Index.under.Goals as goal
 
 pub returns-in-Some : goal.returns-in-Some
 returns-in-Some c =

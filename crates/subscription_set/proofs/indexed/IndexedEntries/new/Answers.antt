@@ -4,7 +4,7 @@ use Rattle.causal_context.specs.Dots.{dot_cmp}
 use Rattle.subscription_set.specs.Standing.{Entries}
 use Rattle.subscription_set.proofs.Filtered.{matched_new}
 use Rattle.subscription_set.proofs.Indexing.{indexed_new}
-use Rattle.subscription_set.proofs.entry_map.EntryMap.new.Goals as goal
+use Rattle.subscription_set.proofs.indexed.IndexedEntries.new.Goals as goal
 
 pub invariant_of-result : goal.invariant_of-result
 invariant_of-result c = record {

@@ -2,7 +2,7 @@ use Rattle.std.proofs.Common.{◌∙◌}
 use Rattle.std.specs.FinSet as set
 use Rattle.subscription_set.proofs.Spreading.{filed_total, filed_anti, places_total, places_anti}
 use Rattle.subscription_set.proofs.Indexing.{undone}
-use Rattle.subscription_set.proofs.entry_map.Index.file.Goals as goal
+use Rattle.subscription_set.proofs.indexed.Index.file.Goals as goal
 
 pub returns-in-Err-clause-clients_stay : goal.returns-in-Err-clause-clients_stay
 returns-in-Err-clause-clients_stay c =

@@ -6,7 +6,7 @@ use Rattle.subscription_set.specs.Indexing.{ByDot, stands_as}
 use Rattle.subscription_set.proofs.Filtered.{matched_taken}
 use Rattle.finite_maps.proofs.Tables.{get_table, remove_table}
 use Rattle.subscription_set.proofs.Indexing.{live_less, live_left, stands_by, stands_not, taken}
-use Rattle.subscription_set.proofs.entry_map.EntryMap.remove.Goals as goal
+use Rattle.subscription_set.proofs.indexed.IndexedEntries.remove.Goals as goal
 
 pub overflow_sub-self : goal.overflow_sub-self
 overflow_sub-self c =
