@@ -52,7 +52,7 @@ pub record IsSubscribe (p : Place) (mid : HeldView) (s call : SessionStep) (id :
   pub identifier : subscribe.identifier ≡ id
   pub grants : List Granted
   pub told : AreTold p mid s.client (subscribing.identifier_of subscribe) subscribe.filters grants acts
-  pub codes_are : codes ≡ subscribing.reasons_of grants
+  pub codes_are : codes ≡ subscribing.granted_reasons grants
   pub offering : s.reaction.end ≡ None → Offering s.client id s.at grants after
 
 pub record IsUnsubscribe (call : SessionStep) (acts : List Act) : Type 0 where
@@ -220,7 +220,7 @@ module _ (p : Place) (h mid : HeldView) (step : SessionStep) (c : ℕ) (client :
   subscribes_after q x acts t (inr (all, ops, mid2, others, one, runs, (inr (r, call, mid3, rest, d, calls, more, is2)), is)) =
       let g = are_told client (subscribing.identifier_of q) q.filters [] all p mid ops one in
       subst (λ zs. Answered p h (Session (Called step) ∷ zs)) (sym (is ∙ ap (λ zs. ops ++ zs) is2))
-      (answer_after p h mid mid2 step ops client q.identifier (subscribing.reasons_of all) mid3 (seat_at client mid2) r call rest t.runs runs d calls (takes_alone p h step client (packets.Subscribe q) mid t)
+      (answer_after p h mid mid2 step ops client q.identifier (subscribing.granted_reasons all) mid3 (seat_at client mid2) r call rest t.runs runs d calls (takes_alone p h step client (packets.Subscribe q) mid t)
       ((k_inturn Answered answered (subscribing.Grants client (subscribing.identifier_of q)) q.filters [] (grants Answered answered client (subscribing.identifier_of q))).of all p mid ops one)
       ((offers_after Answered answered r.end c client q.identifier all).of x p mid3 rest more)
       (λ s same at reaction id codes i j. record {

@@ -21,7 +21,7 @@ use Rattle.session_table.specs.Seats.{Seat, begun, run_outs, wills_due, ends_due
 use Rattle.node_work.specs.declared.outcome.Output.TheVariants.{Send, Close}
 use Rattle.node_work.specs.Acts.{Act, MomentTaken, Connection, Session, Out, Runs, next}
 use Rattle.node_work.specs.Calling.{CallsAt}
-use Rattle.node_work.specs.Held.Connections.{Accepted, Closed, Fed, Table, changed_at, changed, with_piece, client_at, is_open}
+use Rattle.node_work.specs.Held.Connections.{Accepted, Closed, Fed, ConnectionTable, changed_at, changed, with_piece, client_at, is_open}
 use Rattle.node_work.specs.Held.Feeding.{cut_of}
 use Rattle.node_work.specs.Held.Sessions.{SessionStep, Begun, Called, has_session, seat_at}
 use Rattle.node_work.specs.Packets.{refused_packet}
@@ -199,7 +199,7 @@ none_due x p h acts none (inr (y, own, mid, rest, one, runs, (inr (y2, own2, mid
     is ∙ (λ i. first i ++ (is2 ∙ (λ j. second j ++ third j)) i)
 
 -- ---- a piece
-took : (m : Table) (c : ℕ) (piece : List ℕ) (found : ConnectionView) → map.get m c ≡ Some found → map.get (changed (with_piece piece) c m) c ≡ Some (with_piece piece found)
+took : (m : ConnectionTable) (c : ℕ) (piece : List ℕ) (found : ConnectionView) → map.get m c ≡ Some found → map.get (changed (with_piece piece) c m) c ≡ Some (with_piece piece found)
 took m c piece found is =
     ap (λ o. map.get (changed_at (with_piece piece) c m o) c) is ∙ map.get-insert nat_cmp_total m c (with_piece piece found) c ∙ ap (λ b. cond b (Some (with_piece piece found)) (map.get m c)) (ap is_eq (tied_itself nat_cmp_total c))
 

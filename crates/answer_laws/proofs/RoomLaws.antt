@@ -38,7 +38,7 @@ use Rattle.cluster_play.proofs.Showing.{node_holds_amid}
 use Rattle.run_laws.specs.Staying.{CallsSession}
 use Rattle.run_laws.specs.Publishing.{TakesPublish, events_before}
 use Rattle.run_laws.proofs.Staying.{CalledAt, called_at}
-use Rattle.answer_laws.specs.Rooms.{IsTopicHeld, HoldsTopics, LacksRoomForTopic, HasRoomForTopic, message_of, QuotaIsExact, PassedHasRoom}
+use Rattle.answer_laws.specs.Rooms.{IsTopicHeld, HoldsTopics, LacksRoomForTopic, HasRoomForTopic, message_taken, QuotaIsExact, PassedHasRoom}
 use Rattle.answer_laws.proofs.Quotas.{is_quota, quota_refuses, refused_asks}
 use Rattle.answer_laws.proofs.Rooming.{room_is_told}
 
@@ -114,7 +114,7 @@ retained_and_none true false e = (refl, refl)
 retained_and_none false b e = absurd (let z : false ≡ true = e in cc)
 
 -- ---- in a run
-module _ (run later : List Played) (m : Played) (w : World) (r : Reached (run ++ m ∷ later) w) (before : List Act) (c : CallsSession m before) (qos : Qos) (id : ℕ) (t : TakesPublish qos id c.step) (name : IsName (message_of run m before c t).topic) where
+module _ (run later : List Played) (m : Played) (w : World) (r : Reached (run ++ m ∷ later) w) (before : List Act) (c : CallsSession m before) (qos : Qos) (id : ℕ) (t : TakesPublish qos id c.step) (name : IsName (message_taken run m before c t).topic) where
   abbrev here : CalledAt run m before c
   here = called_at run later m w r before c
 
@@ -122,7 +122,7 @@ module _ (run later : List Played) (m : Played) (w : World) (r : Reached (run ++
   session = here.finds.seat.session
 
   abbrev topic : List ℕ
-  topic = (message_of run m before c t).topic
+  topic = (message_taken run m before c t).topic
 
   abbrev O : List Operation
   O = operations_amid (site m.fate) run before

@@ -9,7 +9,6 @@ use Rattle.mqtt_sessions.specs.declared.reaction.Ask.{Ask}
 use Rattle.mqtt_sessions.specs.declared.reaction.Ask.TheVariants as asks
 use Rattle.mqtt_sessions.specs.Aliases.{filled}
 use Rattle.mqtt_sessions.specs.Reaction.{Reaction}
-use Rattle.mqtt_topics.specs.Levels.{is_wildcard}
 use Rattle.replica_store.specs.States.{State}
 use Rattle.session_laws.specs.Runs.{takes}
 use Rattle.session_table.specs.Calls.{stays}

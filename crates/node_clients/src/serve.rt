@@ -66,6 +66,8 @@ fn do_asked(
     ask: Option<Ask>,
     dropped: bool,
     connection: u64,
+    room: bool,
+    end: Option<u8>,
     client: &Text,
     packet: &Packet,
 ) -> Result<(), NodeFault>

@@ -89,7 +89,7 @@ module _ (K : (A : Type 0) → (Option A → Doing) → Type 0) (w : Low K) (a :
 
   acknowledges : (c : ℕ) (client : List ℕ) (packet : ℕ) (given : List Granted) → Does (subscribing.SendsSuback c client packet given)
   acknowledges c client packet given =
-      w.join (Calls client (λ at. answers packet (subscribing.reasons_of given)) stays) (λ r. subscribing.OffersAfter r.end c client packet given) (w.calls client (λ at. answers packet (subscribing.reasons_of given)) stays (λ at. tt))
+      w.join (Calls client (λ at. answers packet (subscribing.granted_reasons given)) stays) (λ r. subscribing.OffersAfter r.end c client packet given) (w.calls client (λ at. answers packet (subscribing.granted_reasons given)) stays (λ at. tt))
       (λ r. offers_after r.end c client packet given)
 
   unacknowledges : (c : ℕ) (client : List ℕ) (packet : ℕ) (codes : List ℕ) → Does (unsubscribing.SendsUnsuback c client packet codes)
@@ -277,7 +277,7 @@ module _ (K : (A : Type 0) → (Option A → Doing) → Type 0) (w : Low K) (a :
 
   pub takes_table : (homes : Table) → Does (tables.TakesTable homes)
   takes_table homes =
-      w.looks (tables.is_newer homes) (λ newer. If newer (tables.TakesNewerTable homes) (Misses TableRefused))
+      w.looks (tables.is_newer_table homes) (λ newer. If newer (tables.TakesNewerTable homes) (Misses TableRefused))
       (λ newer. w.by_test newer (tables.TakesNewerTable homes) (Misses TableRefused)
       (w.join (Acting (λ p h. Moved homes)) (λ _. tables.SendsAway) (a.moved homes) (λ _. sends_away)) (w.missed TableRefused tt))
 

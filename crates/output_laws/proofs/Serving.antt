@@ -58,7 +58,7 @@ acknowledges : (kind : EventKind) (pre : List Act) (c : ℕ) (client : List ℕ)
     → subscribing.SendsSuback c client packet given (Some x) p h acts → Runs p h acts h' → Ending kind pre p c h h' acts
 acknowledges kind pre c client packet given x p h h' acts on has (inl d) runs = none_some (sym d.0)
 acknowledges kind pre c client packet given x p h h' acts on has (inr (r, own, mid, rest, one, ran, more, is)) runs =
-    let event : ℕ → Event = λ at. answers packet (subscribing.reasons_of given) in
+    let event : ℕ → Event = λ at. answers packet (subscribing.granted_reasons given) in
     let first = calmly kind pre p own h mid ((calling IsCalm calm_kind client event stays (λ at. tt)).of r p h own one) on ran in
     let there = kept_client h mid c client first.kept has in
     let react = reacted client event stays (seat_at client h) r p h own one in

@@ -175,7 +175,7 @@ module _ (p : Place) (h mid : HeldView) (step : SessionStep) (c : ℕ) (client :
   subscribes_after q x acts t ask (inr (all, ops, mid2, others, one, runs, (inr (r, call, mid3, rest, d, calls, more, is2)), is)) =
       let g = are_granted client (subscribing.identifier_of q) q.filters [] all p mid ops one in
       subst (λ zs. Answered p h (Session (Called step) ∷ zs)) (sym (is ∙ ap (λ zs. ops ++ zs) is2))
-      (answer_after p h mid mid2 step ops client q.identifier (subscribing.reasons_of all) mid3 (seat_at client mid2) r call rest t.runs runs d calls (takes_alone p h step client (packets.Subscribe q) mid t)
+      (answer_after p h mid mid2 step ops client q.identifier (subscribing.granted_reasons all) mid3 (seat_at client mid2) r call rest t.runs runs d calls (takes_alone p h step client (packets.Subscribe q) mid t)
       ((k_inturn Answered answered (subscribing.Grants client (subscribing.identifier_of q)) q.filters [] (grants Answered answered client (subscribing.identifier_of q))).of all p mid ops one)
       ((offers_after Answered answered r.end c client q.identifier all).of x p mid3 rest more)
       (λ s same id codes i j. record {
@@ -190,7 +190,7 @@ module _ (p : Place) (h mid : HeldView) (step : SessionStep) (c : ℕ) (client :
           event = t.event;
           asked = ask;
           identifier = i;
-          granted = subst (λ w. AreGranted p mid w (subscribing.identifier_of q) q.filters codes ops) (sym same) (subst (λ cs. AreGranted p mid client (subscribing.identifier_of q) q.filters cs ops) (ap subscribing.reasons_of (sym g.all_is) ∙ j) g.are);
+          granted = subst (λ w. AreGranted p mid w (subscribing.identifier_of q) q.filters codes ops) (sym same) (subst (λ cs. AreGranted p mid client (subscribing.identifier_of q) q.filters cs ops) (ap subscribing.granted_reasons (sym g.all_is) ∙ j) g.are);
         });
       }))
 

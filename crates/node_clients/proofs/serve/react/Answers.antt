@@ -1,6 +1,6 @@
-use Rattle.std.proofs.Common.{Some, Err, subst}
+use Rattle.std.proofs.Common.{subst}
 use Rattle.mqtt_sessions.specs.Reaction.{Reaction}
-use Rattle.node_work.specs.Working.{ComesTo, Did}
+use Rattle.node_work.specs.Working.{ComesTo}
 use Rattle.node_work.proofs.Working.{then_goes, then_stops}
 use Rattle.node_clients.specs.Ending.{ClosesAfter}
 use Rattle.node_clients.specs.Serving.{DoesAsked, DoesReaction, is_dropped}
