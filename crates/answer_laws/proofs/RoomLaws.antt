@@ -4,6 +4,7 @@ use Rattle.std.specs.List.{list_any}
 use Rattle.std.specs.FinMap as map
 use Rattle.std.proofs.lemmas.Bool.{eqb-true, ltb-true, ltb-false}
 use Rattle.mqtt_fields.specs.declared.options.Qos.{Qos}
+use Rattle.mqtt_message.specs.Parts.{is_name}
 use Rattle.mqtt_message.specs.declared.message.Message.{Message}
 use Rattle.mqtt_packets.specs.declared.packet.Packet.{Packet}
 use Rattle.mqtt_packets.specs.declared.packet.Packet.TheVariants as packets
@@ -27,7 +28,7 @@ use Rattle.replica_store.specs.StateOf.{IsStateOf}
 use Rattle.node_work.specs.Acts.{Act}
 use Rattle.node_work.specs.Held.Sessions.{aliases_in, aliases_at}
 use Rattle.node_work.specs.Passing.{has_room}
-use Rattle.node_clients.specs.Serving.{is_name, takes_topic}
+use Rattle.node_clients.specs.Serving.{takes_topic}
 use Rattle.passing_laws.specs.Publishing.{AnswersWith}
 use Rattle.passing_laws.proofs.Acks.{Says, replied}
 use Rattle.cluster_play.specs.Worlds.{World}

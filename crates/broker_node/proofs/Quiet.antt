@@ -362,16 +362,15 @@ unsubscribes_by_quiet c client packets.Pingresp = returns_quiet tt
 unsubscribes_by_quiet c client (packets.Disconnect p) = returns_quiet tt
 unsubscribes_by_quiet c client (packets.Auth p) = returns_quiet tt
 
-does_asked_quiet : (ask : Option Ask) (dropped : Bool) (c : ℕ) (client : List ℕ) (p : Packet) → Quiet (serving.DoesAsked ask dropped c client p)
-does_asked_quiet None dropped c client p = if_quiet dropped passing.Drops (Returns tt) drops_quiet (returns_quiet tt)
-does_asked_quiet (Some (asks.Pass m)) dropped c client p = passes_quiet m
-does_asked_quiet (Some asks.Subscribe) dropped c client p = subscribes_by_quiet c client p
-does_asked_quiet (Some asks.Unsubscribe) dropped c client p = unsubscribes_by_quiet c client p
+does_asked_quiet : (ask : Option Ask) (c : ℕ) (client : List ℕ) (p : Packet) (room : Bool) (end : Option ℕ) → Quiet (serving.DoesAsked ask c client p room end)
+does_asked_quiet None c client p room end = if_quiet (serving.is_dropped p room end) passing.Drops (Returns tt) drops_quiet (returns_quiet tt)
+does_asked_quiet (Some (asks.Pass m)) c client p room end = passes_quiet m
+does_asked_quiet (Some asks.Subscribe) c client p room end = subscribes_by_quiet c client p
+does_asked_quiet (Some asks.Unsubscribe) c client p room end = unsubscribes_by_quiet c client p
 
 does_reaction_quiet : (c : ℕ) (client : List ℕ) (p : Packet) (room : Bool) (r : Reaction) → Quiet (serving.DoesReaction c client p room r)
 does_reaction_quiet c client p room r =
-    let dropped = serving.is_dropped p room r.end in
-    then_quiet (serving.DoesAsked r.ask dropped c client p) (λ _. ending.ClosesAfter r.end c client) (does_asked_quiet r.ask dropped c client p) (λ _. closes_after_quiet r.end c client)
+    then_quiet (serving.DoesAsked r.ask c client p room r.end) (λ _. ending.ClosesAfter r.end c client) (does_asked_quiet r.ask c client p room r.end) (λ _. closes_after_quiet r.end c client)
 
 serves_quiet : (c : ℕ) (client : List ℕ) (p : Packet) → Quiet (serving.ServesPacket c client p)
 serves_quiet c client p =

@@ -446,26 +446,26 @@ module _ (kind : EventKind) where
     dropped_by true x v acts d = (drops Keeps walks).of x p v acts d
     dropped_by false x v acts d = subst (Caused p v) (sym d.1) (none_caused p v)
 
-    does_asked : (ask : Option Ask) (dropped : Bool) (k : Packet) (now : ℕ) (room : Bool) (x : Unit {0}) (acts : List Act) → step.event ≡ takes k now room → step.reaction.ask ≡ ask
-        → serving.DoesAsked ask dropped c client k (Some x) p mid acts → Caused p h (Session (Called step) ∷ acts)
-    does_asked None dropped k now room x acts event e d = call_then p h mid step runs acts (dropped_by dropped x mid acts d)
-    does_asked (Some (asks.Pass m)) dropped k now room x acts event e d = passes p h mid step runs m x acts e d
-    does_asked (Some asks.Subscribe) dropped k now room x acts event e d = subscribes_by k now room x acts event d
-    does_asked (Some asks.Unsubscribe) dropped k now room x acts event e d = unsubscribes_by k now room x acts event d
+    does_asked : (ask : Option Ask) (k : Packet) (now : ℕ) (room : Bool) (end : Option ℕ) (x : Unit {0}) (acts : List Act) → step.event ≡ takes k now room → step.reaction.ask ≡ ask
+        → serving.DoesAsked ask c client k room end (Some x) p mid acts → Caused p h (Session (Called step) ∷ acts)
+    does_asked None k now room end x acts event e d = call_then p h mid step runs acts (dropped_by (serving.is_dropped k room end) x mid acts d)
+    does_asked (Some (asks.Pass m)) k now room end x acts event e d = passes p h mid step runs m x acts e d
+    does_asked (Some asks.Subscribe) k now room end x acts event e d = subscribes_by k now room x acts event d
+    does_asked (Some asks.Unsubscribe) k now room end x acts event e d = unsubscribes_by k now room x acts event d
 
     does_reaction : (k : Packet) (now : ℕ) (room : Bool) (r : Reaction) (x : Unit {0}) (acts : List Act) → step.event ≡ takes k now room → step.reaction ≡ r → serving.DoesReaction c client k room r (Some x) p mid acts → Caused p h (Session (Called step) ∷ acts)
     does_reaction k now room r x acts event e (inl d) = none_some (sym d.0)
     does_reaction k now room r x acts event e (inr (y, own, mid2, rest, one, ran, more, is)) =
         subst (λ zs. Caused p h (Session (Called step) ∷ zs)) (sym is)
         (both_caused p h mid2 (Session (Called step) ∷ own) rest (runs_join p (Session (Called step) ∷ []) own h mid mid2 runs ran)
-        (does_asked r.ask (serving.is_dropped k room r.end) k now room y own event (ap (λ (v : Reaction). v.ask) e) one) ((closes_end r.end c client).of x p mid2 rest more))
+        (does_asked r.ask k now room r.end y own event (ap (λ (v : Reaction). v.ask) e) one) ((closes_end r.end c client).of x p mid2 rest more))
 
   -- where the client has no session, nothing is asked
   unserved : (c : ℕ) (client : List ℕ) (k : Packet) (room : Bool) (r : Reaction) (x : Unit {0}) (p : Place) (h : HeldView) (acts : List Act) → r ≡ nothing → serving.DoesReaction c client k room r (Some x) p h acts → Caused p h acts
   unserved c client k room r x p h acts none (inl d) = none_some (sym d.0)
   unserved c client k room r x p h acts none (inr (y, own, mid, rest, one, ran, more, is)) =
       let dropped = serving.is_dropped k room r.end in
-      let d = subst (λ a. serving.DoesAsked a dropped c client k (Some y) p h own) (ap (λ (v : Reaction). v.ask) none) one in
+      let d = subst (λ a. serving.DoesAsked a c client k room r.end (Some y) p h own) (ap (λ (v : Reaction). v.ask) none) one in
       subst (Caused p h) (sym is) (both_caused p h mid own rest ran (by dropped d) ((closes_end r.end c client).of x p mid rest more))
     where
       by : (dropped : Bool) → If dropped passing.Drops (Returns tt) (Some y) p h own → Caused p h own

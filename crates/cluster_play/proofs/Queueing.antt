@@ -496,20 +496,20 @@ unsubscribes_by c client (packets.Unsubscribe u) = unsubscribes c client u
 unsubscribes_by c client _ = k_returns Answered answered _
 
 -- what a session asks for: a SUBSCRIBE where there is one
-does_asked : (ask : Option Ask) (dropped : Bool) (c : ℕ) (client : List ℕ) (k : Packet) (x : Unit {0}) (p : Place) (h : HeldView) (acts : List Act) → (ask ≡ None) ⊎ Has client h
-    → serving.DoesAsked ask dropped c client k (Some x) p h acts → Answered acts
-does_asked None dropped c client k x p h acts has d = (k_if Answered answered dropped passing.Drops (Returns tt) drops (k_returns Answered answered _)).of x p h acts d
-does_asked (Some (asks.Pass m)) dropped c client k x p h acts has d = (passes m).of x p h acts d
-does_asked (Some asks.Subscribe) dropped c client k x p h acts (inl none) d = none-some (sym none)
-does_asked (Some asks.Subscribe) dropped c client k x p h acts (inr has) d = subscribes_by c client k x p h acts has d
-does_asked (Some asks.Unsubscribe) dropped c client k x p h acts has d = (unsubscribes_by c client k).of x p h acts d
+does_asked : (ask : Option Ask) (c : ℕ) (client : List ℕ) (k : Packet) (room : Bool) (end : Option ℕ) (x : Unit {0}) (p : Place) (h : HeldView) (acts : List Act) → (ask ≡ None) ⊎ Has client h
+    → serving.DoesAsked ask c client k room end (Some x) p h acts → Answered acts
+does_asked None c client k room end x p h acts has d = (k_if Answered answered (serving.is_dropped k room end) passing.Drops (Returns tt) drops (k_returns Answered answered _)).of x p h acts d
+does_asked (Some (asks.Pass m)) c client k room end x p h acts has d = (passes m).of x p h acts d
+does_asked (Some asks.Subscribe) c client k room end x p h acts (inl none) d = none-some (sym none)
+does_asked (Some asks.Subscribe) c client k room end x p h acts (inr has) d = subscribes_by c client k x p h acts has d
+does_asked (Some asks.Unsubscribe) c client k room end x p h acts has d = (unsubscribes_by c client k).of x p h acts d
 
 does_reaction : (c : ℕ) (client : List ℕ) (k : Packet) (room : Bool) (r : Reaction) (x : Unit {0}) (p : Place) (h : HeldView) (acts : List Act) → (r ≡ nothing) ⊎ Has client h
     → serving.DoesReaction c client k room r (Some x) p h acts → Answered acts
 does_reaction c client k room r x p h acts has (inl d) = none-some (sym d.0)
 does_reaction c client k room r x p h acts has (inr (y, own, mid, rest, one, runs, more, is)) =
     let ask : (r.ask ≡ None) ⊎ Has client h = elim has [ inl none ↦ inl (ap (λ (v : Reaction). v.ask) none) | inr there ↦ inr there ] in
-    subst Answered (sym is) (answered_both own rest (does_asked r.ask _ c client k y p h own ask one) ((closes_after r.end c client).of x p mid rest more))
+    subst Answered (sym is) (answered_both own rest (does_asked r.ask c client k room r.end y p h own ask one) ((closes_after r.end c client).of x p mid rest more))
 
 serves_in : (c : ℕ) (client : List ℕ) (k : Packet) (room : Bool) (x : Unit {0}) (p : Place) (h : HeldView) (acts : List Act)
     → serving.ServesIn c client k room (Some x) p h acts → Answered acts

@@ -259,16 +259,15 @@ unsubscribes_by_determined c client packets.Pingresp = returns_determined tt
 unsubscribes_by_determined c client (packets.Disconnect p) = returns_determined tt
 unsubscribes_by_determined c client (packets.Auth p) = returns_determined tt
 
-does_asked_determined : (ask : Option Ask) (dropped : Bool) (c : ℕ) (client : List ℕ) (p : Packet) → Determined (DoesAsked ask dropped c client p)
-does_asked_determined None dropped c client p = if_determined dropped Drops (Returns tt) drops_determined (returns_determined tt)
-does_asked_determined (Some (asks.Pass m)) dropped c client p = passes_determined m
-does_asked_determined (Some asks.Subscribe) dropped c client p = subscribes_by_determined c client p
-does_asked_determined (Some asks.Unsubscribe) dropped c client p = unsubscribes_by_determined c client p
+does_asked_determined : (ask : Option Ask) (c : ℕ) (client : List ℕ) (p : Packet) (room : Bool) (end : Option ℕ) → Determined (DoesAsked ask c client p room end)
+does_asked_determined None c client p room end = if_determined (is_dropped p room end) Drops (Returns tt) drops_determined (returns_determined tt)
+does_asked_determined (Some (asks.Pass m)) c client p room end = passes_determined m
+does_asked_determined (Some asks.Subscribe) c client p room end = subscribes_by_determined c client p
+does_asked_determined (Some asks.Unsubscribe) c client p room end = unsubscribes_by_determined c client p
 
 does_reaction_determined : (c : ℕ) (client : List ℕ) (p : Packet) (room : Bool) (r : Reaction) → Determined (DoesReaction c client p room r)
 does_reaction_determined c client p room r =
-    let dropped = is_dropped p room r.end in
-    then_determined (DoesAsked r.ask dropped c client p) (λ _. ClosesAfter r.end c client) (does_asked_determined r.ask dropped c client p) (λ _. closes_after_determined r.end c client)
+    then_determined (DoesAsked r.ask c client p room r.end) (λ _. ClosesAfter r.end c client) (does_asked_determined r.ask c client p room r.end) (λ _. closes_after_determined r.end c client)
 
 serves_in_determined : (c : ℕ) (client : List ℕ) (p : Packet) (room : Bool) → Determined (ServesIn c client p room)
 serves_in_determined c client p room = then_determined _ (DoesReaction c client p room) (calls_determined client (λ at. takes p at room) stays) (does_reaction_determined c client p room)

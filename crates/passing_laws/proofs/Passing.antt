@@ -255,7 +255,7 @@ answers_told p h s id codes e =
 passed : (c : ℕ) (client : List ℕ) (k : Packet) (room : Bool) (r : Reaction) (x : Unit {0}) (p : Place) (h : HeldView) (acts : List Act) (m : Message) → r.ask ≡ Some (asks.Pass m) → serving.DoesReaction c client k room r (Some x) p h acts → BeginsWithPassingOn m h.at h.bridge acts
 passed c client k room r x p h acts m asks (inl d) = none_some (sym d.0)
 passed c client k room r x p h acts m asks (inr (y, own, mid, rest, one, runs, more, is)) =
-    let d = subst (λ a. serving.DoesAsked a (serving.is_dropped k room r.end) c client k (Some y) p h own) asks one in
+    let d = subst (λ a. serving.DoesAsked a c client k room r.end (Some y) p h own) asks one in
     subst (BeginsWithPassingOn m h.at h.bridge) (sym is) (passes_more m h.at h.bridge own rest (passes_on m y p h own d))
 
 serves_at : (c : ℕ) (client : List ℕ) (k : Packet) (room : Bool) (found : Option Seat) (r : Reaction) (x : Unit {0}) (p : Place) (h mid : HeldView) (own rest : List Act) → CallsAt client (λ at. takes k at room) stays found (Some r) p h own

@@ -290,16 +290,15 @@ module _ (T : Property) (j : Joins T) (answers_so : (p : Place) (h : HeldView) (
   unsubscribes_by c client (packets.Unsubscribe u) = unsubscribes c client u
   unsubscribes_by c client _ = k_returns T j _
 
-  does_asked : (ask : Option Ask) (dropped : Bool) (c : ℕ) (client : List ℕ) (k : Packet) → Keeps T (serving.DoesAsked ask dropped c client k)
-  does_asked None dropped c client k = k_if T j dropped passing.Drops (Returns tt) (drops T j) (k_returns T j tt)
-  does_asked (Some (asks.Pass m)) dropped c client k = passes T j m
-  does_asked (Some asks.Subscribe) dropped c client k = subscribes_by c client k
-  does_asked (Some asks.Unsubscribe) dropped c client k = unsubscribes_by c client k
+  does_asked : (ask : Option Ask) (c : ℕ) (client : List ℕ) (k : Packet) (room : Bool) (end : Option ℕ) → Keeps T (serving.DoesAsked ask c client k room end)
+  does_asked None c client k room end = k_if T j (serving.is_dropped k room end) passing.Drops (Returns tt) (drops T j) (k_returns T j tt)
+  does_asked (Some (asks.Pass m)) c client k room end = passes T j m
+  does_asked (Some asks.Subscribe) c client k room end = subscribes_by c client k
+  does_asked (Some asks.Unsubscribe) c client k room end = unsubscribes_by c client k
 
   pub does_reaction : (c : ℕ) (client : List ℕ) (k : Packet) (room : Bool) (r : Reaction) → Keeps T (serving.DoesReaction c client k room r)
   does_reaction c client k room r =
-      let dropped = serving.is_dropped k room r.end in
-      k_then T j (serving.DoesAsked r.ask dropped c client k) (λ _. ending.ClosesAfter r.end c client) (does_asked r.ask dropped c client k) (λ _. closes_after T j r.end c client)
+      k_then T j (serving.DoesAsked r.ask c client k room r.end) (λ _. ending.ClosesAfter r.end c client) (does_asked r.ask c client k room r.end) (λ _. closes_after T j r.end c client)
 
 -- ---- a packet of an accepted client, where each call alone keeps it
 module _ (T : Property) (j : Joins T) (called : (p : Place) (h : HeldView) (s : SessionStep) → T p h (Session (Called s) ∷ [])) where

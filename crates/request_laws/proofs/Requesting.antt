@@ -265,16 +265,16 @@ module _ (p : Place) (mid : HeldView) (s : SessionStep) (c : ℕ) (client : List
   unsubscribed_by (packets.Unsubscribe u) x acts d = unsubscribed u x acts d
   unsubscribed_by _ x acts d = tt
 
-  done_asked : (ask : Option Ask) (dropped : Bool) (k : Packet) (x : Unit {0}) (acts : List Act) → serving.DoesAsked ask dropped c client k (Some x) p mid acts → DoneBy ask p mid s k acts
-  done_asked None dropped k x acts d = tt
-  done_asked (Some (asks.Pass m)) dropped k x acts d = tt
-  done_asked (Some asks.Subscribe) dropped k x acts d = subscribed_by k x acts d
-  done_asked (Some asks.Unsubscribe) dropped k x acts d = unsubscribed_by k x acts d
+  done_asked : (ask : Option Ask) (k : Packet) (room : Bool) (end : Option ℕ) (x : Unit {0}) (acts : List Act) → serving.DoesAsked ask c client k room end (Some x) p mid acts → DoneBy ask p mid s k acts
+  done_asked None k room end x acts d = tt
+  done_asked (Some (asks.Pass m)) k room end x acts d = tt
+  done_asked (Some asks.Subscribe) k room end x acts d = subscribed_by k x acts d
+  done_asked (Some asks.Unsubscribe) k room end x acts d = unsubscribed_by k x acts d
 
   done_reaction : (k : Packet) (room : Bool) (r : Reaction) (x : Unit {0}) (acts : List Act) → serving.DoesReaction c client k room r (Some x) p mid acts → DoneBy r.ask p mid s k acts
   done_reaction k room r x acts (inl d) = none_some (sym d.0)
   done_reaction k room r x acts (inr (y, own, mid2, rest, one, runs, more, is)) =
-      subst (DoneBy r.ask p mid s k) (sym is) (done_later r.ask k p mid s own rest (done_asked r.ask (serving.is_dropped k room r.end) k y own one))
+      subst (DoneBy r.ask p mid s k) (sym is) (done_later r.ask k p mid s own rest (done_asked r.ask k room r.end y own one))
 
 serves_at : (c : ℕ) (client : List ℕ) (k : Packet) (room : Bool) (found : Option Seat) (r : Reaction) (x : Unit {0}) (p : Place) (h mid : HeldView) (own rest : List Act) → CallsAt client (λ at. takes k at room) stays found (Some r) p h own
     → Runs p h own mid → serving.DoesReaction c client k room r (Some x) p mid rest → Followed p h (own ++ rest)
