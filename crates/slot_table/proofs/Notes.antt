@@ -76,13 +76,27 @@ more [] (suc i) = refl
 more (v ∷ vs) zero = refl
 more (v ∷ vs) (suc i) = more vs i
 
-pub noted-added : (values vs used us full : List ℕ) → IsNoted values used full → vs ≡ values ++ 0 ∷ [] → ((w : ℕ) → get_or us w 0 ≡ get_or used w 0) → length values < 64 * length us → length us ≤ 1024 → length values < 65536 → IsNoted vs us full
-noted-added values vs used us full h is same room words most = record {
-  slots = λ i. ap (λ (x : ℕ). bit_at x (i % 64)) (same (i / 64)) ∙ h.slots i ∙ ap (λ (v : ℕ). number (is_used v)) (sym (rw is (more values i)));
-  words = λ w. h.words w ∙ ap (λ (n : ℕ). number (n == 18446744073709551615)) (sym (same w));
-  wide = h.wide;
-  room = rw (is, length-append {A = ℕ}) (omega (arith, room));
+-- longer rows of words, in which the further ones are clear, note the same
+pub noted-longer : (values used us full fs : List ℕ) → IsNoted values used full → ((w : ℕ) → get_or us w 0 ≡ get_or used w 0) → ((w : ℕ) → get_or fs w 0 ≡ get_or full w 0)
+    → length used ≤ length us → length us ≤ 64 * length fs → length us ≤ 1024 → length fs ≤ 1024 → IsNoted values us fs
+noted-longer values used us full fs h same wider longer wide words narrow = record {
+  slots = λ i. ap (λ (x : ℕ). bit_at x (i % 64)) (same (i / 64)) ∙ h.slots i;
+  words = λ w. ap (λ (x : ℕ). bit_at x (w % 64)) (wider (w / 64)) ∙ h.words w ∙ ap (λ (n : ℕ). number (n == 18446744073709551615)) (sym (same w));
+  wide = wide;
+  narrow = narrow;
+  room = omega (arith, h.room, longer);
   small = words;
+  most = h.most;
+}
+
+pub noted-added : (values vs used full : List ℕ) → IsNoted values used full → vs ≡ values ++ 0 ∷ [] → length values < 64 * length used → length values < 65536 → IsNoted vs used full
+noted-added values vs used full h is room most = record {
+  slots = λ i. h.slots i ∙ ap (λ (v : ℕ). number (is_used v)) (sym (rw is (more values i)));
+  words = h.words;
+  wide = h.wide;
+  narrow = h.narrow;
+  room = rw (is, length-append {A = ℕ}) (omega (arith, room));
+  small = h.small;
   most = rw (is, length-append {A = ℕ}) (omega (arith, most));
 }
 
@@ -93,7 +107,7 @@ noted-set : (values used full : List ℕ) (slot value u f : ℕ) → IsNoted val
     → IsNoted (set values slot value) (set used (slot / 64) u) (set full (slot / 64 / 64) f)
 noted-set values used full slot value u f h within mine others all rest =
     let word : slot / 64 < length used = omega (arith, h.room) in
-    let row : slot / 64 / 64 < length full = omega (arith, h.wide, h.small) in
+    let row : slot / 64 / 64 < length full = omega (arith, h.wide, word) in
     record {
       slots = λ i. elim (cases_eq i slot) [
         | inl same ↦ let e : get_or (set values slot value) i 0 ≡ value = grind (arith, common_steps) in
@@ -115,7 +129,8 @@ noted-set values used full slot value u f h within mine others all rest =
               | inr apart ↦ bit-apart full (slot / 64 / 64) f w apart ∙ h.words w ∙ ap (λ (n : ℕ). number (n == 18446744073709551615)) (sym e)
             ]
       ];
-      wide = rw length-set h.wide;
+      wide = rw (length-set, length-set) h.wide;
+      narrow = rw length-set h.narrow;
       room = rw (length-set, length-set) h.room;
       small = rw length-set h.small;
       most = rw length-set h.most;
@@ -125,14 +140,17 @@ noted-set values used full slot value u f h within mine others all rest =
 pub first-free : (values used full : List ℕ) (word z n : ℕ) → IsNoted values used full → ((k : ℕ) → k < word → bit full k ≡ 1) → ((k : ℕ) → 64 * word ≤ k → k < z → bit used k ≡ 1) → n ≤ z → (k : ℕ) → k < n → get_or values k 0 ≢ 0
 first-free values used full word z n h all from is = λ k below. used-slot values used full k h (zeros-from used word z (words-below values used full word h all) from k (omega (arith, is, below)))
 
-pub noted-added_at : (now values vs used us full : List ℕ) → now ≡ values → IsNoted values used full → vs ≡ values ++ 0 ∷ [] → ((w : ℕ) → get_or us w 0 ≡ get_or used w 0) → length values < 64 * length us → length us ≤ 1024 → length now < 65536 → IsNoted vs us full
-noted-added_at now values vs used us full same h is same' room words most = noted-added values vs used us full h is same' room words (rw same at most)
+pub noted-added_at : (now values vs used us full fs : List ℕ) → now ≡ values → IsNoted values used full → vs ≡ values ++ 0 ∷ [] → ((w : ℕ) → get_or us w 0 ≡ get_or used w 0) → ((w : ℕ) → get_or fs w 0 ≡ get_or full w 0)
+    → length used ≤ length us → length us ≤ 64 * length fs → length us ≤ 1024 → length fs ≤ 1024 → length values < 64 * length us → length now < 65536 → IsNoted vs us fs
+noted-added_at now values vs used us full fs same h is same' wider longer wide words narrow room most = noted-added values vs us fs (noted-longer values used us full fs h same' wider longer wide words narrow) is room (rw same at most)
 
-pub noted-set_at : (values used full : List ℕ) (slot value n u f : ℕ) → IsNoted values used full → slot < length values → n ≡ get_or used (slot / 64) n
+pub noted-set_at : (values used full : List ℕ) (slot value n m u f : ℕ) → IsNoted values used full → slot < length values → n ≡ get_or used (slot / 64) n → m ≡ get_or full (slot / 64 / 64) m
     → bit_at u (slot % 64) ≡ number (is_used value) → ((k : ℕ) → k < 64 → k ≢ slot % 64 → bit_at u k ≡ bit_at n k)
-    → bit_at f (slot / 64 % 64) ≡ number (u == 18446744073709551615) → ((k : ℕ) → k < 64 → k ≢ slot / 64 % 64 → bit_at f k ≡ bit_at (get_or full (slot / 64 / 64) 0) k)
+    → bit_at f (slot / 64 % 64) ≡ number (u == 18446744073709551615) → ((k : ℕ) → k < 64 → k ≢ slot / 64 % 64 → bit_at f k ≡ bit_at m k)
     → IsNoted (set values slot value) (set used (slot / 64) u) (set full (slot / 64 / 64) f)
-noted-set_at values used full slot value n u f h within at mine others all rest =
+noted-set_at values used full slot value n m u f h within at row_at mine others all rest =
     let word : slot / 64 < length used = omega (arith, h.room) in
+    let row : slot / 64 / 64 < length full = omega (arith, h.wide, word) in
     let e : n ≡ get_or used (slot / 64) 0 = grind (arith, common_steps) in
-    noted-set values used full slot value u f h within mine (λ k low apart. others k low apart ∙ ap (λ (x : ℕ). bit_at x k) e) all rest
+    let d : m ≡ get_or full (slot / 64 / 64) 0 = grind (arith, common_steps) in
+    noted-set values used full slot value u f h within mine (λ k low apart. others k low apart ∙ ap (λ (x : ℕ). bit_at x k) e) all (λ k low apart. rest k low apart ∙ ap (λ (x : ℕ). bit_at x k) d)

@@ -17,7 +17,8 @@ is_used v = not (v == 0)
 pub record IsNoted (values used full : List ℕ) : Type 0 where
   pub slots : (i : ℕ) → bit used i ≡ number (is_used (slice_index values i))
   pub words : (w : ℕ) → bit full w ≡ number (slice_index used w == 18446744073709551615)
-  pub wide : length full ≡ 16
+  pub wide : length used ≤ 64 * length full
+  pub narrow : length full ≤ 1024
   pub room : length values ≤ 64 * length used
   pub small : length used ≤ 1024
   pub most : length values ≤ 65536

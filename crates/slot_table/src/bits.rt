@@ -51,6 +51,7 @@ pub(crate) fn lengthen(words: &mut Vec<u64>, slots: usize) -> Result<(), NoMemor
     requires words { length words.old.items ≤ 1024 }
     ensures room { OnOk result (slots < 64 * length words.new.items) }
     ensures longer { length words.old.items ≤ length words.new.items }
+    ensures one { length words.new.items ≤ length words.old.items + 1 }
     ensures words { length words.new.items ≤ 1024 }
     ensures same { (w : ℕ) → slice_index words.new.items w ≡ slice_index words.old.items w }
 {

@@ -13,7 +13,7 @@ pub struct Slots {
     /// A bit for each slot: whether it isn't free.
     used: Vec<u64>,
     /// A bit for each word of these: whether all its slots aren't.
-    full: [u64; 16],
+    full: Vec<u64>,
 }
 
 impl Model for Slots {
@@ -24,7 +24,7 @@ impl Model for Slots {
 
     ghost view = { λ a. a.values.items };
 
-    ghost invariant = { λ a. IsNoted a.values.items a.used.items a.full };
+    ghost invariant = { λ a. IsNoted a.values.items a.used.items a.full.items };
 }
 
 impl Slots {
@@ -35,7 +35,7 @@ impl Slots {
         Slots {
             values: Vec::new(alloc),
             used: Vec::new(alloc),
-            full: [0; 16],
+            full: Vec::new(alloc),
         }
     }
 
@@ -76,6 +76,7 @@ impl Slots {
         ensures ok { OnOk result (self.new ≡ self.old ++ 0 ∷ []) }
         ensures err { OnErr result (self.new ≡ self.old) }
     {
+        lengthen(&mut self.full, self.used.len())?;
         lengthen(&mut self.used, self.values.len())?;
         self.values.push(0)?;
         Ok(())
