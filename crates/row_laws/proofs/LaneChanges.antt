@@ -49,11 +49,11 @@ each_left (c ∷ cs) up = (
 -- what is left at a key is of a change
 of_left : (P : Left → Type 0) (q : Key) (l : Option (List ℕ)) (cs : List Left) → AllByRecursion P cs → left_in cs q ≡ Some l → P (q, l)
 of_left P q l [] all e = absurd (cc)
-of_left P q l (c ∷ cs) all e = by (left_in cs q) refl e
+of_left P q l (c ∷ cs) all e = by (left_in cs q) refl (of_left P q l cs all.1) e
   where
-    by : (last : Option (Option (List ℕ))) → left_in cs q ≡ last → or_else last (left_one c q) ≡ Some l → P (q, l)
-    by (Some value) is f = of_left P q l cs all.1 (is ∙ f)
-    by None is f = elim (cases_Bool (same_key q c.0)) [
+    by : (last : Option (Option (List ℕ))) → left_in cs q ≡ last → (left_in cs q ≡ Some l → P (q, l)) → or_else last (left_one c q) ≡ Some l → P (q, l)
+    by (Some value) is later f = later (is ∙ f)
+    by None is later f = elim (cases_Bool (same_key q c.0)) [
       | inl t ↦
           let value = some_is c.1 l (sym (ap (λ b. cond b (Some c.1) None) t) ∙ f) in
           subst P (λ i. (sym (same_is q c.0 t) i, value i)) all.0

@@ -1,5 +1,5 @@
 -- The rows of lanes are those of the messages that wait and of the numbers that aren't both 0.
-use Rattle.std.proofs.Common.{◌≡◌, ◌≢◌, ◌⊎◌, inl, inr, ℕ, zero, suc, ◌+◌, ◌<◌, ◌≤◌, ◌^◌, Bool, true, false, cond, ◌&&◌, T, List, [], ◌∷◌, ◌++◌, length, get_or, Option, Some, None, Ordering, Less, Equal, Greater, refl, sym, ap, subst, ◌∙◌, true≢false, arith}
+use Rattle.std.proofs.Common.{◌≡◌, ◌≢◌, ◌⊎◌, inl, inr, ℕ, zero, suc, ◌+◌, ◌<◌, ◌≤◌, Bool, true, false, cond, ◌&&◌, T, List, [], ◌∷◌, ◌++◌, length, get_or, Some, None, Ordering, Less, Equal, Greater, refl, sym, ap, subst, ◌∙◌, true≢false, arith}
 use Rattle.std.specs.Prelude.{◌==◌, if◌then◌else◌, slice_get}
 use Rattle.std.specs.FinMap.{find, is_sorted}
 use Rattle.std.specs.FinMap.Entries.{below_all}
@@ -93,6 +93,12 @@ module _ {X : Type 0} (f : ℕ → X → List Plain) (d : X) where
       all_both P (f p x) (each f (suc p) xs) (subst (λ n. AllByRecursion P (f n x)) here (all 0))
       (all_each P (suc p) xs (λ i. (let same : p + suc i ≡ suc p + i = omega arith in subst (λ n. AllByRecursion P (f n (get_or xs i d))) same (all (suc i)))))
 
+  in_some : (e : Plain) (i : ℕ) (xs : List X) → i < length xs → Stands e (f i (get_or xs i d)) → Stands e (each f 0 xs)
+  in_some e i xs low there = (let same : i ≡ 0 + i = omega arith in in_each e 0 i xs low (subst (λ n. Stands e (f n (get_or xs i d))) same there))
+
+  of_each : (P : Plain → Type 0) (xs : List X) → ((i : ℕ) → AllByRecursion P (f i (get_or xs i d))) → AllByRecursion P (each f 0 xs)
+  of_each P xs all = all_each P 0 xs (λ i. (let same : i ≡ 0 + i = omega arith in subst (λ n. AllByRecursion P (f n (get_or xs i d))) same (all i)))
+
 -- ---- messages
 
 in_messages : (p n k : ℕ) (ms : List Forward) (m : Forward) → slice_get ms k ≡ Some m → Stands (message_row p (n + k) m) (message_rows p n ms)
@@ -159,7 +165,8 @@ module _ (lanes : Lanes Forward) where
   waiting_are : (i : ℕ) → AllByRecursion Is (waiting_of i (lane_of lanes i))
   waiting_are i =
       let l = lane_of lanes i in
-      all_messages Is i (suc l.gone) l.waiting (λ k m at. inl (record { peer = i; number = suc (l.gone + k); message = m; waits = (k, (refl, at)); at = refl; is = refl }))
+      all_messages Is i (suc l.gone) l.waiting (λ k m at. (let count : suc l.gone + k ≡ suc (l.gone + k) = omega arith in
+      inl (record { peer = i; number = suc l.gone + k; message = m; waits = (k, count, at); at = refl; is = refl })))
 
   numbers_are : (i : ℕ) → AllByRecursion Is (numbers_of i (lane_of lanes i))
   numbers_are i =
@@ -167,22 +174,23 @@ module _ (lanes : Lanes Forward) where
       all_numbers Is i (last_put l) l.took (λ some. inr (record { peer = i; some = some; at = refl; is = refl }))
 
   all_are : AllByRecursion Is (rows_of lanes)
-  all_are = all_both Is (each waiting_of 0 lanes) (each numbers_of 0 lanes) (all_each waiting_of new_lane Is 0 lanes waiting_are) (all_each numbers_of new_lane Is 0 lanes numbers_are)
+  all_are = all_both Is (each waiting_of 0 lanes) (each numbers_of 0 lanes) (of_each waiting_of new_lane Is lanes waiting_are) (of_each numbers_of new_lane Is lanes numbers_are)
 
   stands : (key : Key) (value : List ℕ) → IsLaneRow lanes key value → Stands (key, value) (rows_of lanes)
   stands key value (inl w) =
       let l = lane_of lanes w.peer in
       let k = w.waits.0 in
       let low = inside w.peer (λ none. (let e : None ≡ Some w.message = sym (ap (λ (x : Messages). slice_get x.waiting k) none) ∙ w.waits.2 in cc)) in
-      let row : message_row w.peer (suc l.gone + k) w.message ≡ (key, value) = λ i. (sym (w.at ∙ ap (message_key w.peer) w.waits.1) i, sym w.is i) in
+      let count : suc (l.gone + k) ≡ suc l.gone + k = omega arith in
+      let row : message_row w.peer (suc l.gone + k) w.message ≡ (key, value) = λ i. (sym (w.at ∙ ap (message_key w.peer) (w.waits.1 ∙ count)) i, sym w.is i) in
       in_front (key, value) (each waiting_of 0 lanes) (each numbers_of 0 lanes)
-      (in_each waiting_of new_lane (key, value) 0 w.peer lanes low (subst (λ (e : Plain). Stands e (waiting_of w.peer l)) row (in_messages w.peer (suc l.gone) k l.waiting w.message w.waits.2)))
+      (in_some waiting_of new_lane (key, value) w.peer lanes low (subst (λ (e : Plain). Stands e (waiting_of w.peer l)) row (in_messages w.peer (suc l.gone) k l.waiting w.message w.waits.2)))
   stands key value (inr n) =
       let l = lane_of lanes n.peer in
       let low = inside n.peer (λ none. elim n.some [ inl put ↦ put (ap last_put none) | inr took ↦ took (ap (λ (x : Messages). x.took) none) ]) in
       let row : (numbers_key n.peer, numbers_value (last_put l) l.took) ≡ (key, value) = λ i. (sym n.at i, sym n.is i) in
       in_back (key, value) (each waiting_of 0 lanes) (each numbers_of 0 lanes)
-      (in_each numbers_of new_lane (key, value) 0 n.peer lanes low (subst (λ (e : Plain). Stands e (numbers_of n.peer l)) row (in_numbers n.peer (last_put l) l.took n.some)))
+      (in_some numbers_of new_lane (key, value) n.peer lanes low (subst (λ (e : Plain). Stands e (numbers_of n.peer l)) row (in_numbers n.peer (last_put l) l.took n.some)))
 
 pub rows_are : RowsAreOfLanes
 rows_are nodes lanes small are key value = (
