@@ -6,7 +6,7 @@ use Rattle.mqtt_message.specs.declared.delivery.Delivery.{Delivery}
 use Rattle.qos_handshakes.specs.declared.copies.Entry.{Entry}
 use Rattle.qos_handshakes.specs.Entries.{Entries, find_id, as_here, as_published, NoneFree}
 use Rattle.qos_handshakes.specs.Outbox.{Outbox, Sent, waits, waiting, is_owed, fits, is_sendable, resent, first_owed, after_resend, first_waiting, after_send, SendsNothing, Resends, Sends, NextStep}
-use Rattle.outbox_laws.specs.Turns.{GoesFirst, NoneGoes, may_go_again, has_place, may_go, SomeFree, Turn, full, again, unnumbered, first, idle, answer_of, HasQueue, Leaves, IsTurn, NextIsATurn}
+use Rattle.outbox_laws.specs.Turns.{GoesFirst, NoneGoes, may_go_again, is_queued, may_go, SomeFree, Turn, full, again, unnumbered, first, idle, answer_of, HasQueue, Leaves, IsTurn, NextIsATurn}
 
 -- ---- the first that goes, and what is left, of any entries that have their turn
 module _ (turn may : Entry → Bool) where
@@ -136,7 +136,7 @@ module _ (now limit : ℕ) where
     | inr t ↦ rw t (ap (λ (l : Entries). e ∷ l) (after-resend es))
   ]
 
-  first-waiting : (es : Entries) → first_waiting now limit es ≡ mapped (λ x. x.delivery) (goes_in has_place (may_go now limit) es)
+  first-waiting : (es : Entries) → first_waiting now limit es ≡ mapped (λ x. x.delivery) (goes_in is_queued (may_go now limit) es)
   first-waiting [] = refl
   first-waiting (e ∷ es) = elim (cases_Bool (waits e.1.stage)) [
     | inl t ↦ elim (cases_Bool (is_sendable now limit e.1.delivery)) [
@@ -146,7 +146,7 @@ module _ (now limit : ℕ) where
     | inr t ↦ rw t (first-waiting es)
   ]
 
-  after-send : (id : ℕ) (es : Entries) → after_send now limit id es ≡ left_in has_place (may_go now limit) (as_published id) es
+  after-send : (id : ℕ) (es : Entries) → after_send now limit id es ≡ left_in is_queued (may_go now limit) (as_published id) es
   after-send id [] = refl
   after-send id (e ∷ es) = elim (cases_Bool (waits e.1.stage)) [
     | inl t ↦ elim (cases_Bool (is_sendable now limit e.1.delivery)) [
@@ -183,22 +183,22 @@ module _ (now limit : ℕ) where
       (first-owed es ∙ ap (mapped resent) r.0, r.1 ∙ sym (after-resend es))
 
   -- what waits
-  queued-none : (id : ℕ) (es : Entries) → first_waiting now limit es ≡ None → NoneGoes has_place (may_go now limit) es (after_send now limit id es)
-  queued-none id es is = rw (after-send id es) (none-goes has_place (may_go now limit) (as_published id) es (mapped-none (λ (x : Entry). x.delivery) (goes_in has_place (may_go now limit) es) (sym (first-waiting es) ∙ is)))
+  queued-none : (id : ℕ) (es : Entries) → first_waiting now limit es ≡ None → NoneGoes is_queued (may_go now limit) es (after_send now limit id es)
+  queued-none id es is = rw (after-send id es) (none-goes is_queued (may_go now limit) (as_published id) es (mapped-none (λ (x : Entry). x.delivery) (goes_in is_queued (may_go now limit) es) (sym (first-waiting es) ∙ is)))
 
-  none-queued : (id : ℕ) (es new : Entries) → NoneGoes has_place (may_go now limit) es new → (first_waiting now limit es ≡ None) × (new ≡ after_send now limit id es)
+  none-queued : (id : ℕ) (es new : Entries) → NoneGoes is_queued (may_go now limit) es new → (first_waiting now limit es ≡ None) × (new ≡ after_send now limit id es)
   none-queued id es new n =
-      let r = none-back has_place (may_go now limit) (as_published id) es new n in
+      let r = none-back is_queued (may_go now limit) (as_published id) es new n in
       (first-waiting es ∙ ap (mapped (λ (x : Entry). x.delivery)) r.0, r.1 ∙ sym (after-send id es))
 
-  queued-some : (id : ℕ) (es : Entries) (c : Delivery) → first_waiting now limit es ≡ Some c → (x : Entry) × GoesFirst has_place (may_go now limit) es x (as_published id x) (after_send now limit id es) × (x.delivery ≡ c)
+  queued-some : (id : ℕ) (es : Entries) (c : Delivery) → first_waiting now limit es ≡ Some c → (x : Entry) × GoesFirst is_queued (may_go now limit) es x (as_published id x) (after_send now limit id es) × (x.delivery ≡ c)
   queued-some id es c is =
-      let o = mapped-some (λ (x : Entry). x.delivery) (goes_in has_place (may_go now limit) es) c (sym (first-waiting es) ∙ is) in
-      (o.0, rw (after-send id es) (one-goes has_place (may_go now limit) (as_published id) es o.0 o.1), o.2)
+      let o = mapped-some (λ (x : Entry). x.delivery) (goes_in is_queued (may_go now limit) es) c (sym (first-waiting es) ∙ is) in
+      (o.0, rw (after-send id es) (one-goes is_queued (may_go now limit) (as_published id) es o.0 o.1), o.2)
 
-  some-queued : (id : ℕ) (es : Entries) (x : Entry) (new : Entries) → GoesFirst has_place (may_go now limit) es x (as_published id x) new → (first_waiting now limit es ≡ Some x.delivery) × (new ≡ after_send now limit id es)
+  some-queued : (id : ℕ) (es : Entries) (x : Entry) (new : Entries) → GoesFirst is_queued (may_go now limit) es x (as_published id x) new → (first_waiting now limit es ≡ Some x.delivery) × (new ≡ after_send now limit id es)
   some-queued id es x new g =
-      let r = goes-back has_place (may_go now limit) (as_published id) es x new g in
+      let r = goes-back is_queued (may_go now limit) (as_published id) es x new g in
       (first-waiting es ∙ ap (mapped (λ (y : Entry). y.delivery)) r.0, r.1 ∙ sym (after-send id es))
 
 -- ---- identifiers

@@ -25,10 +25,11 @@ pub record NoneGoes (turn may : Entry → Bool) (old new : Entries) : Type 0 whe
 abbrev pub may_go_again : ℕ → ℕ → Entry → Bool
 may_go_again now limit x = fits now limit x.delivery
 
--- what waits may go unless it is too long or its deadline has passed
-abbrev pub has_place : Entry → Bool
-has_place x = waits x.stage
+-- what waits
+abbrev pub is_queued : Entry → Bool
+is_queued x = waits x.stage
 
+-- may go unless it is too long or its deadline has passed
 abbrev pub may_go : ℕ → ℕ → Entry → Bool
 may_go now limit x = is_sendable now limit x.delivery
 
@@ -62,8 +63,8 @@ abbrev pub Leaves : ℕ → ℕ → Turn → Outbox → Entries → Type 0
 Leaves now limit full old left = (old.maximum ≤ in_flight old.copies) × (left ≡ old.copies)
 Leaves now limit (again x) old left = (in_flight old.copies < old.maximum) × GoesFirst is_owed (may_go_again now limit) old.copies x (as_here x) left
 Leaves now limit unnumbered old left = HasQueue now limit old left × NoneFree left
-Leaves now limit (first x id) old left = (queued : Entries) × HasQueue now limit old queued × IsLeastFree queued id × GoesFirst has_place (may_go now limit) queued x (as_published id x) left
-Leaves now limit idle old left = (queued : Entries) × HasQueue now limit old queued × SomeFree queued × NoneGoes has_place (may_go now limit) queued left
+Leaves now limit (first x id) old left = (queued : Entries) × HasQueue now limit old queued × IsLeastFree queued id × GoesFirst is_queued (may_go now limit) queued x (as_published id x) left
+Leaves now limit idle old left = (queued : Entries) × HasQueue now limit old queued × SomeFree queued × NoneGoes is_queued (may_go now limit) queued left
 
 pub record IsTurn (now limit : ℕ) (turn : Turn) (old : Outbox) (answer : Option Sent) (new : Outbox) : Type 0 where
   pub left : Entries

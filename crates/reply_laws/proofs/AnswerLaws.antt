@@ -30,7 +30,7 @@ use Rattle.session_laws.proofs.QuietLaws.{HasLimit}
 use Rattle.session_laws.proofs.ReplyLaws.{keeps_replies}
 use Rattle.session_laws.proofs.SilenceLaws.{run-split}
 use Rattle.reply_laws.specs.Open.{OpenExchanges, open_told, connected_told}
-use Rattle.reply_laws.specs.Publishes.{Verdict, passed_on, repeated, in_use, over_quota, exceeded, FaresOnce, FaresTwice, GetsBack, IsPassedOn, AnswersAt, fault_under, fault_in, AnswersUnless, KeepsPublishes, KeepsPubrels}
+use Rattle.reply_laws.specs.Publishes.{Verdict, passed_on, repeated, in_use, over_quota, exceeded, FaresOnce, FaresTwice, GetsBack, IsPassedOn, AnswersAt, fault_under, fault_in, message_under, message_told, AnswersUnless, KeepsPublishes, KeepsPubrels}
 use Rattle.reply_laws.specs.Requests.{AsksOrSays, AsksBy, KeepsRequests}
 use Rattle.reply_laws.proofs.OpenLaws.{Knows, known-none, known-some, known-not-here, known-open}
 use Rattle.reply_laws.proofs.WalkLaws.{stands}
@@ -66,11 +66,11 @@ module _ (limit : ℕ) (long : 5 ≤ limit) (o : OpenExchanges) (held : Received
   not-full : has_hundred held ≡ false → length o.here < 100
   not-full f = let lt = leb-false 100 (opened_here held) f in let same = k.count in omega (arith, lt, same)
 
-  at-most-answered : (refused : Bool) (m : Message) (id : ℕ) → r ≡ reaction_of limit (reply_at AtMostOnce held id refused m) → IsPassedOn refused r
+  at-most-answered : (refused : Bool) (m : Message) (id : ℕ) → r ≡ reaction_of limit (reply_at AtMostOnce held id refused m) → IsPassedOn refused m r
   at-most-answered true m id is = is
-  at-most-answered false m id is = (m, is)
+  at-most-answered false m id is = is
 
-  once-answered : (refused : Bool) (m : Message) (id : ℕ) → r ≡ reaction_of limit (reply_at AtLeastOnce held id refused m) → (v : Verdict) × FaresOnce o id refused v × GetsBack (puback id) v r
+  once-answered : (refused : Bool) (m : Message) (id : ℕ) → r ≡ reaction_of limit (reply_at AtLeastOnce held id refused m) → (v : Verdict) × FaresOnce o id refused v × GetsBack (puback id) m v r
   once-answered refused m id is = elim (cases_Bool (has_hundred held)) [
     | inl t ↦ (exceeded, full t, rw t at is ∙ ended limit 147 long (omega arith))
     | inr t ↦ elim (cases_Bool (is_some (opened id held))) [
@@ -79,12 +79,12 @@ module _ (limit : ℕ) (long : 5 ≤ limit) (o : OpenExchanges) (held : Received
           let new : has id o.all ≡ false = sym (known-open o held id k) ∙ u in
           elim (cases_Bool refused) [
             | inl v ↦ (over_quota, (not-full t, new, v), rw (t, u, v) at is ∙ said limit (puback id 151) (puback-fits limit long id).2)
-            | inr v ↦ (passed_on, (not-full t, new, v), (m, rw (t, u, v) at is ∙ said-both limit (puback id 0) (server.Pass m) (puback-fits limit long id).0))
+            | inr v ↦ (passed_on, (not-full t, new, v), rw (t, u, v) at is ∙ said-both limit (puback id 0) (server.Pass m) (puback-fits limit long id).0)
           ]
     ]
   ]
 
-  twice-answered : (x : Option Bool) (refused : Bool) (m : Message) (id : ℕ) → opened id held ≡ x → r ≡ reaction_of limit (reply_exactly_once x held id refused m) → (v : Verdict) × FaresTwice o id refused v × GetsBack (pubrec id) v r
+  twice-answered : (x : Option Bool) (refused : Bool) (m : Message) (id : ℕ) → opened id held ≡ x → r ≡ reaction_of limit (reply_exactly_once x held id refused m) → (v : Verdict) × FaresTwice o id refused v × GetsBack (pubrec id) m v r
   twice-answered (Some true) refused m id e is = (repeated, inl (known-some o held id true k e).1, is ∙ said limit (pubrec id 0) (pubrec-fits limit long id).0)
   twice-answered (Some false) refused m id e is =
       let known = known-some o held id false k e in
@@ -98,33 +98,34 @@ module _ (limit : ℕ) (long : 5 ≤ limit) (o : OpenExchanges) (held : Received
         let new : has id o.all ≡ false = known-none o held id k e in
         elim (cases_Bool refused) [
           | inl v ↦ (over_quota, (not-full t, new, v), rw (t, v) at is ∙ said limit (pubrec id 151) (pubrec-fits limit long id).1)
-          | inr v ↦ (passed_on, (not-full t, new, v), (m, rw (t, v) at is ∙ said-both limit (pubrec id 0) (server.Pass m) (pubrec-fits limit long id).0))
+          | inr v ↦ (passed_on, (not-full t, new, v), rw (t, v) at is ∙ said-both limit (pubrec id 0) (server.Pass m) (pubrec-fits limit long id).0)
         ]
   ]
 
-  at-answered : (q : Qos) (refused : Bool) (m : Message) (id : ℕ) → r ≡ reaction_of limit (reply_at q held id refused m) → AnswersAt q o id refused r
+  at-answered : (q : Qos) (refused : Bool) (m : Message) (id : ℕ) → r ≡ reaction_of limit (reply_at q held id refused m) → AnswersAt q o id refused m r
   at-answered AtMostOnce refused m id is = at-most-answered refused m id is
   at-answered AtLeastOnce refused m id is = once-answered refused m id is
   at-answered ExactlyOnce refused m id is = twice-answered (opened id held) refused m id refl is
 
-  unless : (p : Publish) (room b : Bool) (code : ℕ) (x : Option ℕ) (y : Reply) → 0 < code → (r ≡ reaction_of limit y → AnswersUnless x o p room r) → r ≡ reaction_of limit (cond b (ends code) y) → AnswersUnless (cond b (Some code) x) o p room r
-  unless p room true code x y some f is = is ∙ ended limit code long some
-  unless p room false code x y some f is = f is
+  unless : (p : Publish) (room : Bool) (m : Message) (b : Bool) (code : ℕ) (x : Option ℕ) (y : Reply) → 0 < code → (r ≡ reaction_of limit y → AnswersUnless x o p room m r) → r ≡ reaction_of limit (cond b (ends code) y) → AnswersUnless (cond b (Some code) x) o p room m r
+  unless p room m true code x y some f is = is ∙ ended limit code long some
+  unless p room m false code x y some f is = f is
 
-  under-answered : (topic : Option (List ℕ)) (s : State) (p : Publish) (now : ℕ) (room : Bool) → s.incoming ≡ held → r ≡ reaction_of limit (reply_under topic s p now room) → AnswersUnless (fault_under topic p) o p room r
-  under-answered None s p now room same is = is ∙ ended limit 130 long (omega arith)
-  under-answered (Some topic) s p now room same is =
-      let m = accepted (record p { topic = topic }) s.kept.client now in
-      let y = reply_at p.qos s.incoming p.identifier (p.retain && not room) m in
-      unless p room (has_property 11 p.properties) 130 (cond (list_any is_wildcard p.topic) (Some 144) None) (cond (list_any is_wildcard p.topic) (ends 144) y) (omega arith)
-      (unless p room (list_any is_wildcard p.topic) 144 None y (omega arith) (λ e. at-answered p.qos (p.retain && not room) m p.identifier (rw same at e)))
+  under-answered : (topic : Option (List ℕ)) (client : List ℕ) (s : State) (p : Publish) (now : ℕ) (room : Bool) → s.incoming ≡ held → s.kept.client ≡ client → r ≡ reaction_of limit (reply_under topic s p now room)
+      → AnswersUnless (fault_under topic p) o p room (message_under topic client p now) r
+  under-answered None client s p now room same own is = is ∙ ended limit 130 long (omega arith)
+  under-answered (Some topic) client s p now room same own is =
+      let m = accepted (record p { topic = topic }) client now in
+      let y = reply_at p.qos s.incoming p.identifier (p.retain && not room) (accepted (record p { topic = topic }) s.kept.client now) in
+      unless p room m (has_property 11 p.properties) 130 (cond (list_any is_wildcard p.topic) (Some 144) None) (cond (list_any is_wildcard p.topic) (ends 144) y) (omega arith)
+      (unless p room m (list_any is_wildcard p.topic) 144 None y (omega arith) (λ e. at-answered p.qos (p.retain && not room) m p.identifier (rw (same, own) at e)))
       is
 
-  publish-answered : (told : Topics) (s : State) (p : Publish) (now : ℕ) (room : Bool) → s.incoming ≡ held → r ≡ reaction_of limit (reply_publish told s p now room) → AnswersUnless (fault_in told p) o p room r
-  publish-answered told s p now room same is =
+  publish-answered : (told : Topics) (client : List ℕ) (s : State) (p : Publish) (now : ℕ) (room : Bool) → s.incoming ≡ held → s.kept.client ≡ client → r ≡ reaction_of limit (reply_publish told s p now room) → AnswersUnless (fault_in told p) o p room (message_told told client p now) r
+  publish-answered told client s p now room same own is =
       let alias = first_two 35 p.properties in
       let topic = topic_under told p.topic alias in
-      unless p room (is_invalid alias) 148 (fault_under topic p) (reply_under topic s p now room) (omega arith) (under-answered topic s p now room same) is
+      unless p room (message_told told client p now) (is_invalid alias) 148 (fault_under topic p) (reply_under topic s p now room) (omega arith) (under-answered topic client s p now room same own) is
 
   -- ---- SUBSCRIBE and UNSUBSCRIBE
   request-answered : (b : Bool) (p : Packet) (ask : Ask) → r ≡ reaction_of limit (cond b (says p) (asks ask)) → AsksOrSays b p ask r
@@ -144,18 +145,19 @@ alone told limit p now room s r x never = elim x.queue [
   | inr more ↦ absurd (never more.0)
 ]
 
-record Last (before : List Step) (p : Packet) (now : ℕ) (room : Bool) (r : Reaction) : Type 0 where
+record Last (client : List ℕ) (before : List Step) (p : Packet) (now : ℕ) (room : Bool) (r : Reaction) : Type 0 where
   state : State
   limit : ℕ
   long : 5 ≤ limit
   knows : Knows (open_told before) state.incoming
+  of : state.kept.client ≡ client
   replied : IsReplied (topics_told before) limit p now room state r
 
 has-limit : (limit : ℕ) (x : Option Link) (l : Link) → x ≡ Some l → HasLimit limit x → l.limit ≡ limit
 has-limit limit None l e h = let bad : None ≡ Some l = e in (cc)
 has-limit limit (Some k) l e h = let same : Some k ≡ Some l = e in let it : k ≡ l = cc in ap (λ (y : Link). y.limit) (sym it) ∙ h
 
-last-by : (client : List ℕ) (before : List Step) (mid new : State) (p : Packet) (now : ℕ) (room : Bool) (r : Reaction) (x : Option Link) → mid.link ≡ x → is_some x ≡ true → Run (new_session client) before mid → connected_told before ≡ true → Reacts mid (takes p now room) r new → Last before p now room r
+last-by : (client : List ℕ) (before : List Step) (mid new : State) (p : Packet) (now : ℕ) (room : Bool) (r : Reaction) (x : Option Link) → mid.link ≡ x → is_some x ≡ true → Run (new_session client) before mid → connected_told before ≡ true → Reacts mid (takes p now room) r new → Last client before p now room r
 last-by client before mid new p now room r None e some run on h = absurd (false≢true some)
 last-by client before mid new p now room r (Some l) e some run on h =
     let s = stands client before mid run in
@@ -165,10 +167,11 @@ last-by client before mid new p now room r (Some l) e some run on h =
       limit = l.limit;
       long = let most = s.long on in omega (arith, most, same);
       knows = s.knows;
+      of = s.of;
       replied = keeps_replies client before mid new l p now room r run e h;
     }
 
-last : (client : List ℕ) (before : List Step) (p : Packet) (now : ℕ) (room : Bool) (r : Reaction) (end : State) → Run (new_session client) (before ++ record { event = takes p now room; reaction = r } ∷ []) end → connected_told before ≡ true → Last before p now room r
+last : (client : List ℕ) (before : List Step) (p : Packet) (now : ℕ) (room : Bool) (r : Reaction) (end : State) → Run (new_session client) (before ++ record { event = takes p now room; reaction = r } ∷ []) end → connected_told before ≡ true → Last client before p now room r
 last client before p now room r end run on =
     let t = run-split (new_session client) before (record { event = takes p now room; reaction = r } ∷ []) end run in
     let s = stands client before t.0 t.1 in
@@ -177,7 +180,7 @@ last client before p now room r end run on =
 pub keeps-publishes : KeepsPublishes
 keeps-publishes = λ client before p now room r end run on.
     let x = last client before (packets.Publish p) now room r end run on in
-    publish-answered x.limit x.long (open_told before) x.state.incoming x.knows r (topics_told before) x.state p now room refl
+    publish-answered x.limit x.long (open_told before) x.state.incoming x.knows r (topics_told before) client x.state p now room refl x.of
     (alone (topics_told before) x.limit (packets.Publish p) now room x.state r x.replied (λ never. never) ∙ ap (reaction_of x.limit) x.replied.is)
 
 pub keeps-pubrels : KeepsPubrels
@@ -189,29 +192,29 @@ keeps-pubrels = λ client before a now room r end run on.
     ∙ ap (λ (b : Bool). reaction_of x.limit (says (pubcomp a.identifier (cond b 0 146)))) (known-open o x.state.incoming a.identifier x.knows)
     ∙ said x.limit (pubcomp a.identifier (cond (has a.identifier o.all) 0 146)) (pubcomp-fits x.limit x.long a.identifier (has a.identifier o.all))
 
-asks-by : (p : Packet) (before : List Step) (now : ℕ) (room : Bool) (r : Reaction) → Last before p now room r → AsksBy (open_told before) p r
-asks-by (packets.Subscribe p) before now room r x = λ fair.
+asks-by : (client : List ℕ) (p : Packet) (before : List Step) (now : ℕ) (room : Bool) (r : Reaction) → Last client before p now room r → AsksBy (open_told before) p r
+asks-by client (packets.Subscribe p) before now room r x = λ fair.
     let is = alone (topics_told before) x.limit (packets.Subscribe p) now room x.state r x.replied (λ never. never) in
     elim x.replied.is [
       | inl share ↦ absurd (fair share.0)
       | inr other ↦ asks-so x.limit x.long (open_told before) x.state.incoming x.knows r p.identifier (suback p.identifier (replicate (length p.filters) 145)) server.Subscribe x.replied.reply other.1 is
     ]
-asks-by (packets.Unsubscribe p) before now room r x =
+asks-by client (packets.Unsubscribe p) before now room r x =
     let is = alone (topics_told before) x.limit (packets.Unsubscribe p) now room x.state r x.replied (λ never. never) in
     asks-so x.limit x.long (open_told before) x.state.incoming x.knows r p.identifier (unsuback p.identifier (replicate (length p.filters) 145)) server.Unsubscribe x.replied.reply x.replied.is is
-asks-by (packets.Publish p) before now room r x = tt
-asks-by (packets.Puback a) before now room r x = tt
-asks-by (packets.Pubrec a) before now room r x = tt
-asks-by (packets.Pubrel a) before now room r x = tt
-asks-by (packets.Pubcomp a) before now room r x = tt
-asks-by packets.Pingreq before now room r x = tt
-asks-by (packets.Disconnect p) before now room r x = tt
-asks-by (packets.Connect p) before now room r x = tt
-asks-by (packets.Connack p) before now room r x = tt
-asks-by (packets.Suback p) before now room r x = tt
-asks-by (packets.Unsuback p) before now room r x = tt
-asks-by packets.Pingresp before now room r x = tt
-asks-by (packets.Auth p) before now room r x = tt
+asks-by client (packets.Publish p) before now room r x = tt
+asks-by client (packets.Puback a) before now room r x = tt
+asks-by client (packets.Pubrec a) before now room r x = tt
+asks-by client (packets.Pubrel a) before now room r x = tt
+asks-by client (packets.Pubcomp a) before now room r x = tt
+asks-by client packets.Pingreq before now room r x = tt
+asks-by client (packets.Disconnect p) before now room r x = tt
+asks-by client (packets.Connect p) before now room r x = tt
+asks-by client (packets.Connack p) before now room r x = tt
+asks-by client (packets.Suback p) before now room r x = tt
+asks-by client (packets.Unsuback p) before now room r x = tt
+asks-by client packets.Pingresp before now room r x = tt
+asks-by client (packets.Auth p) before now room r x = tt
 
 pub keeps-requests : KeepsRequests
-keeps-requests = λ client before p now room r end run on. asks-by p before now room r (last client before p now room r end run on)
+keeps-requests = λ client before p now room r end run on. asks-by client p before now room r (last client before p now room r end run on)

@@ -1,3 +1,4 @@
 pub mod OpenLaws
+pub mod ClientLaws
 pub mod WalkLaws
 pub mod AnswerLaws

@@ -44,6 +44,7 @@ use Rattle.session_laws.proofs.QuietLaws.{HasLimit}
 use Rattle.session_laws.proofs.CallLaws.{numbered-calls}
 use Rattle.session_laws.proofs.ProjectLaws.{project}
 use Rattle.reply_laws.specs.Open.{OpenExchanges, none_open, pubrec_in, opens_one, with_one, without_one, open_after, open_over, connected_over}
+use Rattle.reply_laws.proofs.ClientLaws.{event-client}
 use Rattle.reply_laws.proofs.OpenLaws.{Knows, known-none, known-some, knows-none, knows-new, knows-ended, knows-unknown, knows-begun}
 
 -- ---- the events that leave what is open
@@ -284,26 +285,28 @@ long-after on limit old new (finishes now) r long h = λ t. absurd (false≢true
 long-after on limit old new loses r long h = λ t. absurd (false≢true t)
 
 -- ---- over a list of events
-pub record Stands (on : Bool) (o : OpenExchanges) (s : State) : Type 0 where
+pub record Stands (client : List ℕ) (on : Bool) (o : OpenExchanges) (s : State) : Type 0 where
   pub limit : ℕ
   pub limited : HasLimit limit s.link
   pub connected : on ≡ is_some s.link
   pub numbered : AreNumbered s.outbox.copies
   pub long : IsLong on limit
   pub knows : Knows o s.incoming
+  pub of : s.kept.client ≡ client
 
-walk : (on : Bool) (o : OpenExchanges) (old : State) (steps : List Step) (end : State) → Stands on o old → Run old steps end → Stands (connected_over on steps) (open_over on o steps) end
-walk on o old [] end h r = rw r h
-walk on o old (s ∷ ss) end h r =
+walk : (client : List ℕ) (on : Bool) (o : OpenExchanges) (old : State) (steps : List Step) (end : State) → Stands client on o old → Run old steps end → Stands client (connected_over on steps) (open_over on o steps) end
+walk client on o old [] end h r = rw r h
+walk client on o old (s ∷ ss) end h r =
     let p = project on h.limit old r.0 s.event s.reaction h.limited h.connected h.numbered r.1 in
-    walk (connected_after on s.event s.reaction) (open_after on o s.event s.reaction) r.0 ss end (record {
+    walk client (connected_after on s.event s.reaction) (open_after on o s.event s.reaction) r.0 ss end (record {
       limit = limit_after h.limit s.event;
       limited = p.limited;
       connected = p.connected;
       numbered = numbered-calls old.outbox p.calls r.0.outbox p.runs h.numbered;
       long = long-after on h.limit old r.0 s.event s.reaction h.long r.1;
       knows = event-knows on h.limit o old r.0 s.event s.reaction h.connected h.limited h.long h.knows r.1;
+      of = event-client old r.0 s.event s.reaction r.1 ∙ h.of;
     }) r.2
 
-pub stands : (client : List ℕ) (steps : List Step) (end : State) → Run (new_session client) steps end → Stands (connected_over false steps) (open_over false none_open steps) end
-stands client steps end r = walk false none_open (new_session client) steps end (record { limit = 0; limited = tt; connected = refl; numbered = tt; long = λ t. absurd (false≢true t); knows = knows-none }) r
+pub stands : (client : List ℕ) (steps : List Step) (end : State) → Run (new_session client) steps end → Stands client (connected_over false steps) (open_over false none_open steps) end
+stands client steps end r = walk client false none_open (new_session client) steps end (record { limit = 0; limited = tt; connected = refl; numbered = tt; long = λ t. absurd (false≢true t); knows = knows-none; of = refl }) r

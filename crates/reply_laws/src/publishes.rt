@@ -5,7 +5,8 @@ ghost use Rattle.reply_laws.specs.Publishes.{KeepsPublishes, KeepsPubrels};
 /// is invalid, a topic that it lacks or may not have, or a Subscription Identifier; and at QoS 1 and 2 where 100 exchanges are
 /// open that this connection opened, but for a repeat of one of these. At QoS 1 it is answered by Packet Identifier in use where an
 /// exchange at QoS 2 is open under it. At QoS 2 a PUBLISH of an open exchange is received and not passed on. Any other is
-/// answered by Quota exceeded where no room is left for a retained message, and is received and passed on else.
+/// answered by Quota exceeded where no room is left for a retained message, and is received and passed on else. At QoS 0 it
+/// is passed on where there is room, and nothing is answered. What is passed on is its message, from its client, at that moment.
 pub fn publishes_are_answered()
     ensures { KeepsPublishes }
 {}
