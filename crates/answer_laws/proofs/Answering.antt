@@ -52,7 +52,7 @@ pub record IsSubscribe (p : Place) (mid : HeldView) (s call : SessionStep) (id :
   pub identifier : subscribe.identifier ≡ id
   pub grants : List Granted
   pub told : AreTold p mid s.client (subscribing.identifier_of subscribe) subscribe.filters grants acts
-  pub codes_are : codes ≡ subscribing.reasons_of grants
+  pub codes_are : codes ≡ subscribing.granted_reasons grants
   pub offering : s.reaction.end ≡ None → Offering s.client id s.at grants after
 
 pub record IsUnsubscribe (call : SessionStep) (acts : List Act) : Type 0 where
@@ -220,7 +220,7 @@ module _ (p : Place) (h mid : HeldView) (step : SessionStep) (c : ℕ) (client :
   subscribes_after q x acts t (inr (all, ops, mid2, others, one, runs, (inr (r, call, mid3, rest, d, calls, more, is2)), is)) =
       let g = are_told client (subscribing.identifier_of q) q.filters [] all p mid ops one in
       subst (λ zs. Answered p h (Session (Called step) ∷ zs)) (sym (is ∙ ap (λ zs. ops ++ zs) is2))
-      (answer_after p h mid mid2 step ops client q.identifier (subscribing.reasons_of all) mid3 (seat_at client mid2) r call rest t.runs runs d calls (takes_alone p h step client (packets.Subscribe q) mid t)
+      (answer_after p h mid mid2 step ops client q.identifier (subscribing.granted_reasons all) mid3 (seat_at client mid2) r call rest t.runs runs d calls (takes_alone p h step client (packets.Subscribe q) mid t)
       ((k_inturn Answered answered (subscribing.Grants client (subscribing.identifier_of q)) q.filters [] (grants Answered answered client (subscribing.identifier_of q))).of all p mid ops one)
       ((offers_after Answered answered r.end c client q.identifier all).of x p mid3 rest more)
       (λ s same at reaction id codes i j. record {
@@ -267,16 +267,16 @@ module _ (p : Place) (h mid : HeldView) (step : SessionStep) (c : ℕ) (client :
   unsubscribes_by (packets.Unsubscribe u) x acts t ask d = unsubscribes_after u x acts t ask d
   unsubscribes_by k x acts t ask d = takes_then p h step client k mid acts t (subst (Answered p mid) (sym d.1) (answered.none p mid))
 
-  does_asked : (ask : Option Ask) (dropped : Bool) (k : Packet) (x : Unit {0}) (acts : List Act) → Takes p h step client k mid → step.reaction.ask ≡ ask → serving.DoesAsked ask dropped c client k (Some x) p mid acts → Answered p h (Session (Called step) ∷ acts)
-  does_asked None dropped k x acts t e d = takes_then p h step client k mid acts t ((k_if Answered answered dropped passing.Drops (Returns tt) (drops Answered answered) (k_returns Answered answered tt)).of x p mid acts d)
-  does_asked (Some (asks.Pass m)) dropped k x acts t e d = takes_then p h step client k mid acts t ((passes Answered answered m).of x p mid acts d)
-  does_asked (Some asks.Subscribe) dropped k x acts t e d = subscribes_by k x acts t d
-  does_asked (Some asks.Unsubscribe) dropped k x acts t e d = unsubscribes_by k x acts t e d
+  does_asked : (ask : Option Ask) (k : Packet) (room : Bool) (end : Option ℕ) (x : Unit {0}) (acts : List Act) → Takes p h step client k mid → step.reaction.ask ≡ ask → serving.DoesAsked ask c client k room end (Some x) p mid acts → Answered p h (Session (Called step) ∷ acts)
+  does_asked None k room end x acts t e d = takes_then p h step client k mid acts t ((k_if Answered answered (serving.is_dropped k room end) passing.Drops (Returns tt) (drops Answered answered) (k_returns Answered answered tt)).of x p mid acts d)
+  does_asked (Some (asks.Pass m)) k room end x acts t e d = takes_then p h step client k mid acts t ((passes Answered answered m).of x p mid acts d)
+  does_asked (Some asks.Subscribe) k room end x acts t e d = subscribes_by k x acts t d
+  does_asked (Some asks.Unsubscribe) k room end x acts t e d = unsubscribes_by k x acts t e d
 
   does_reaction : (k : Packet) (room : Bool) (r : Reaction) (x : Unit {0}) (acts : List Act) → Takes p h step client k mid → step.reaction ≡ r → serving.DoesReaction c client k room r (Some x) p mid acts → Answered p h (Session (Called step) ∷ acts)
   does_reaction k room r x acts t e (inl d) = none_some (sym d.0)
   does_reaction k room r x acts t e (inr (y, own, mid2, rest, one, runs, more, is)) =
-      let first = does_asked r.ask (serving.is_dropped k room r.end) k y own t (ap (λ (v : Reaction). v.ask) e) one in
+      let first = does_asked r.ask k room r.end y own t (ap (λ (v : Reaction). v.ask) e) one in
       subst (λ zs. Answered p h (Session (Called step) ∷ zs)) (sym is)
       (both_answered p h mid2 (Session (Called step) ∷ own) rest (runs_join p (Session (Called step) ∷ []) own h mid mid2 t.runs runs) first ((closes_after Answered answered r.end c client).of x p mid2 rest more))
 
@@ -285,7 +285,7 @@ unserved : (c : ℕ) (client : List ℕ) (k : Packet) (room : Bool) (r : Reactio
 unserved c client k room r x p h acts none (inl d) = none_some (sym d.0)
 unserved c client k room r x p h acts none (inr (y, own, mid, rest, one, runs, more, is)) =
     let dropped = serving.is_dropped k room r.end in
-    let d = subst (λ a. serving.DoesAsked a dropped c client k (Some y) p h own) none one in
+    let d = subst (λ a. serving.DoesAsked a c client k room r.end (Some y) p h own) none one in
     subst (Answered p h) (sym is) (both_answered p h mid own rest runs ((k_if Answered answered dropped passing.Drops (Returns tt) (drops Answered answered) (k_returns Answered answered tt)).of y p h own d)
     ((closes_after Answered answered r.end c client).of x p mid rest more))
 

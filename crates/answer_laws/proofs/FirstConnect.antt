@@ -12,6 +12,7 @@ use Rattle.mqtt_packets.specs.declared.packet.Packet.{Packet}
 use Rattle.mqtt_packets.specs.declared.packet.Packet.TheVariants as packets
 use Rattle.mqtt_packets.specs.Written.{written}
 use Rattle.mqtt_sessions.specs.Answers.{connack, fits}
+use Rattle.mqtt_sessions.specs.Arriving.{has_property}
 use Rattle.mqtt_sessions.specs.Connecting.{OpensIf}
 use Rattle.mqtt_sessions.specs.Reaction.{Reaction}
 use Rattle.mqtt_sessions.specs.State.{State, limit_in}
@@ -21,7 +22,7 @@ use Rattle.session_table.specs.Seats.{Seat, begun, run_outs, wills_due, ends_due
 use Rattle.node_work.specs.declared.outcome.Output.TheVariants.{Send, Close}
 use Rattle.node_work.specs.Acts.{Act, MomentTaken, Connection, Session, Out, Runs, next}
 use Rattle.node_work.specs.Calling.{CallsAt}
-use Rattle.node_work.specs.Held.Connections.{Accepted, Closed, Fed, Table, changed_at, changed, with_piece, client_at, is_open}
+use Rattle.node_work.specs.Held.Connections.{Accepted, Closed, Fed, ConnectionTable, changed_at, changed, with_piece, client_at, is_open}
 use Rattle.node_work.specs.Held.Feeding.{cut_of}
 use Rattle.node_work.specs.Held.Sessions.{SessionStep, Begun, Called, has_session, seat_at}
 use Rattle.node_work.specs.Packets.{refused_packet}
@@ -167,7 +168,7 @@ connects_at false c q x p h acts plain short e (node, home, d) =
     let some : q.client ≢ [] = λ none. eqb-false (length q.client) 0 e (ap length none) in
     comes (node == p.id) c q node x p h acts plain short (some, home) refl d
 
-connected : (a b : Bool) (c : ℕ) (q : Connect) (x : Unit {0}) (p : Place) (h : HeldView) (acts : List Act) → connecting.has_property 21 q.properties ≡ a → nat_lt 256 (length q.client) ≡ b
+connected : (a b : Bool) (c : ℕ) (q : Connect) (x : Unit {0}) (p : Place) (h : HeldView) (acts : List Act) → has_property 21 q.properties ≡ a → nat_lt 256 (length q.client) ≡ b
     → connecting.ConnectsBy (cond a (Some 140) (cond b (Some 133) None)) c q (Some x) p h acts → Answered p h c q acts
 connected true b c q x p h acts is long d = inl (140, None, inl (is, refl, refl), refused c q 140 None x p h acts d)
 connected false true c q x p h acts is long d = inl (133, None, inr (inl ((λ e. (let z : false ≡ true = sym is ∙ e in cc)), ltb-true 256 (length q.client) long, refl, refl)), refused c q 133 None x p h acts d)
@@ -178,7 +179,7 @@ connected false false c q x p h acts is long d =
     connects_at (length q.client == 0) c q x p h acts plain short refl d
 
 answered : (c : ℕ) (q : Connect) (x : Unit {0}) (p : Place) (h : HeldView) (acts : List Act) → connecting.Connects c q (Some x) p h acts → Answered p h c q acts
-answered c q x p h acts d = connected (connecting.has_property 21 q.properties) (nat_lt 256 (length q.client)) c q x p h acts refl refl d
+answered c q x p h acts d = connected (has_property 21 q.properties) (nat_lt 256 (length q.client)) c q x p h acts refl refl d
 
 -- ---- where nothing is due, nothing is done
 no_acts : (p : Place) (h mid : HeldView) (acts : List Act) → acts ≡ [] → Runs p h acts mid → mid ≡ h
@@ -199,7 +200,7 @@ none_due x p h acts none (inr (y, own, mid, rest, one, runs, (inr (y2, own2, mid
     is ∙ (λ i. first i ++ (is2 ∙ (λ j. second j ++ third j)) i)
 
 -- ---- a piece
-took : (m : Table) (c : ℕ) (piece : List ℕ) (found : ConnectionView) → map.get m c ≡ Some found → map.get (changed (with_piece piece) c m) c ≡ Some (with_piece piece found)
+took : (m : ConnectionTable) (c : ℕ) (piece : List ℕ) (found : ConnectionView) → map.get m c ≡ Some found → map.get (changed (with_piece piece) c m) c ≡ Some (with_piece piece found)
 took m c piece found is =
     ap (λ o. map.get (changed_at (with_piece piece) c m o) c) is ∙ map.get-insert nat_cmp_total m c (with_piece piece found) c ∙ ap (λ b. cond b (Some (with_piece piece found)) (map.get m c)) (ap is_eq (tied_itself nat_cmp_total c))
 

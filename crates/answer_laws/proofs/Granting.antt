@@ -10,7 +10,7 @@ use Rattle.node_work.specs.Acts.{Act, Store, Made, Runs}
 use Rattle.node_work.specs.Held.Making.{number_at_end}
 use Rattle.node_work.specs.View.{Place, HeldView}
 use Rattle.node_work.specs.Working.{Returns, If, Then, InTurn}
-use Rattle.node_clients.specs.Subscribing.{has_most, stands, refused, granted, entry_of, Grants, SubscribesTo}
+use Rattle.node_clients.specs.Subscribing.{has_most, stands, filter_refused, granted, subscription_entry, Grants, SubscribesTo}
 use Rattle.passing_laws.proofs.Keeping.{none_some}
 use Rattle.passing_laws.proofs.Passing.{numbered}
 use Rattle.passing_laws.proofs.Requests.{Given}
@@ -18,10 +18,10 @@ use Rattle.passing_laws.proofs.Requests.{Given}
 -- Topic Filter invalid for a text that isn't a filter; Quota exceeded for a new one where the client has most; else one Subscribe
 abbrev pub IsTold : Place → HeldView → List ℕ → ℕ → SubscribeFilter → Granted → List Act → Type 0
 IsTold p h client identifier f g acts =
-    ((¬ IsFilter f.filter) × (g ≡ refused 143) × (acts ≡ []))
-    ⊎ (IsFilter f.filter × (stands client f.filter h ≡ false) × (has_most client h.store ≡ true) × (g ≡ refused 151) × (acts ≡ []))
+    ((¬ IsFilter f.filter) × (g ≡ filter_refused 143) × (acts ≡ []))
+    ⊎ (IsFilter f.filter × (stands client f.filter h ≡ false) × (has_most client h.store ≡ true) × (g ≡ filter_refused 151) × (acts ≡ []))
     ⊎ (IsFilter f.filter × ((not (stands client f.filter h) && has_most client h.store) ≡ false) × (g ≡ granted f (identifiers_of identifier) (stands client f.filter h))
-    × (acts ≡ Store (Made (subscribe_of p.id (entry_of client f identifier h.homes.version) h.store)) ∷ []))
+    × (acts ≡ Store (Made (subscribe_of p.id (subscription_entry client f identifier h.homes.version) h.store)) ∷ []))
 
 abbrev pub AreTold : Place → HeldView → List ℕ → ℕ → List SubscribeFilter → List Granted → List Act → Type 0
 AreTold p h client identifier [] grants acts = (grants ≡ []) × (acts ≡ [])
@@ -35,13 +35,13 @@ new_and_most false b e = (refl, e)
 
 told_by : (client : List ℕ) (identifier : ℕ) (f : SubscribeFilter) (full : Bool) (g : Granted) (p : Place) (h : HeldView) (acts : List Act) → IsFilter f.filter
     → (not (stands client f.filter h) && has_most client h.store) ≡ full
-    → If full (Returns (refused 151)) (Then (SubscribesTo client identifier f) (λ _. Returns (granted f (identifiers_of identifier) (stands client f.filter h)))) (Some g) p h acts → IsTold p h client identifier f g acts
+    → If full (Returns (filter_refused 151)) (Then (SubscribesTo client identifier f) (λ _. Returns (granted f (identifiers_of identifier) (stands client f.filter h)))) (Some g) p h acts → IsTold p h client identifier f g acts
 told_by client identifier f true g p h acts is e d =
     let parts = new_and_most (stands client f.filter h) (has_most client h.store) e in
     inr (inl (is, parts.0, parts.1, (let z = d.0 in cc), d.1))
 told_by client identifier f false g p h acts is e (inl d) = none_some (sym d.0)
 told_by client identifier f false g p h acts is e (inr (y, own, mid, rest, one, runs, more, same)) =
-    let entry = entry_of client f identifier h.homes.version in
+    let entry = subscription_entry client f identifier h.homes.version in
     let alone = numbered (number_at_end p.id h) y (Store (Made (subscribe_of p.id entry h.store))) own one in
     inr (inr (is, e, (let z = more.0 in cc), same ∙ (λ i. alone i ++ more.1 i)))
 

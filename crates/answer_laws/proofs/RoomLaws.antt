@@ -4,6 +4,7 @@ use Rattle.std.specs.List.{list_any}
 use Rattle.std.specs.FinMap as map
 use Rattle.std.proofs.lemmas.Bool.{eqb-true, ltb-true, ltb-false}
 use Rattle.mqtt_fields.specs.declared.options.Qos.{Qos}
+use Rattle.mqtt_message.specs.Parts.{is_name}
 use Rattle.mqtt_message.specs.declared.message.Message.{Message}
 use Rattle.mqtt_packets.specs.declared.packet.Packet.{Packet}
 use Rattle.mqtt_packets.specs.declared.packet.Packet.TheVariants as packets
@@ -27,7 +28,7 @@ use Rattle.replica_store.specs.StateOf.{IsStateOf}
 use Rattle.node_work.specs.Acts.{Act}
 use Rattle.node_work.specs.Held.Sessions.{aliases_in, aliases_at}
 use Rattle.node_work.specs.Passing.{has_room}
-use Rattle.node_clients.specs.Serving.{is_name, takes_topic}
+use Rattle.node_clients.specs.Serving.{takes_topic}
 use Rattle.passing_laws.specs.Publishing.{AnswersWith}
 use Rattle.passing_laws.proofs.Acks.{Says, replied}
 use Rattle.cluster_play.specs.Worlds.{World}
@@ -38,7 +39,7 @@ use Rattle.cluster_play.proofs.Showing.{node_holds_amid}
 use Rattle.run_laws.specs.Staying.{CallsSession}
 use Rattle.run_laws.specs.Publishing.{TakesPublish, events_before}
 use Rattle.run_laws.proofs.Staying.{CalledAt, called_at}
-use Rattle.answer_laws.specs.Rooms.{IsTopicHeld, HoldsTopics, LacksRoomForTopic, HasRoomForTopic, message_of, QuotaIsExact, PassedHasRoom}
+use Rattle.answer_laws.specs.Rooms.{IsTopicHeld, HoldsTopics, LacksRoomForTopic, HasRoomForTopic, message_taken, QuotaIsExact, PassedHasRoom}
 use Rattle.answer_laws.proofs.Quotas.{is_quota, quota_refuses, refused_asks}
 use Rattle.answer_laws.proofs.Rooming.{room_is_told}
 
@@ -114,7 +115,7 @@ retained_and_none true false e = (refl, refl)
 retained_and_none false b e = absurd (let z : false ≡ true = e in cc)
 
 -- ---- in a run
-module _ (run later : List Played) (m : Played) (w : World) (r : Reached (run ++ m ∷ later) w) (before : List Act) (c : CallsSession m before) (qos : Qos) (id : ℕ) (t : TakesPublish qos id c.step) (name : IsName (message_of run m before c t).topic) where
+module _ (run later : List Played) (m : Played) (w : World) (r : Reached (run ++ m ∷ later) w) (before : List Act) (c : CallsSession m before) (qos : Qos) (id : ℕ) (t : TakesPublish qos id c.step) (name : IsName (message_taken run m before c t).topic) where
   abbrev here : CalledAt run m before c
   here = called_at run later m w r before c
 
@@ -122,7 +123,7 @@ module _ (run later : List Played) (m : Played) (w : World) (r : Reached (run ++
   session = here.finds.seat.session
 
   abbrev topic : List ℕ
-  topic = (message_of run m before c t).topic
+  topic = (message_taken run m before c t).topic
 
   abbrev O : List Operation
   O = operations_amid (site m.fate) run before

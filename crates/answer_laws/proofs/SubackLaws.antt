@@ -22,7 +22,7 @@ use Rattle.node_work.specs.Acts.{Act, Session, Acknowledged, Runs, next}
 use Rattle.node_work.specs.Held.Sessions.{SessionStep, Called, IsCall, seat_at}
 use Rattle.node_work.specs.View.{Place, HeldView}
 use Rattle.node_work.proofs.Working.{runs_join}
-use Rattle.node_clients.specs.Subscribing.{identifier_of, reasons_of, granted, stands, wants_retained}
+use Rattle.node_clients.specs.Subscribing.{identifier_of, granted_reasons, granted, stands, wants_retained}
 use Rattle.passing_laws.specs.Publishing.{AnswersWith}
 use Rattle.passing_laws.proofs.Codes.{unsubscribing_after}
 use Rattle.passing_laws.proofs.Splits.{left_by, runs_split}
@@ -57,10 +57,10 @@ replies_of (f ∷ fs) (g ∷ gs) = reply_of f g ∷ replies_of fs gs
 abbrev codes_in : List FilterReply → List ℕ
 codes_in replies = map_list (λ (r : FilterReply). r.code) replies
 
-codes_told : (p : Place) (h : HeldView) (client : List ℕ) (identifier : ℕ) (fs : List SubscribeFilter) (gs : List Granted) (acts : List Act) → AreTold p h client identifier fs gs acts → reasons_of gs ≡ codes_in (replies_of fs gs)
-codes_told p h client identifier [] gs acts d = ap reasons_of d.0
+codes_told : (p : Place) (h : HeldView) (client : List ℕ) (identifier : ℕ) (fs : List SubscribeFilter) (gs : List Granted) (acts : List Act) → AreTold p h client identifier fs gs acts → granted_reasons gs ≡ codes_in (replies_of fs gs)
+codes_told p h client identifier [] gs acts d = ap granted_reasons d.0
 codes_told p h client identifier (f ∷ fs) gs acts (g, others, own, mid, rest, is, all, one, ran, more) =
-    ap reasons_of is ∙ ap (λ cs. g.reason ∷ cs) (codes_told p mid client identifier fs others rest more) ∙ sym (ap (λ zs. codes_in (replies_of (f ∷ fs) zs)) is)
+    ap granted_reasons is ∙ ap (λ cs. g.reason ∷ cs) (codes_told p mid client identifier fs others rest more) ∙ sym (ap (λ zs. codes_in (replies_of (f ∷ fs) zs)) is)
 
 -- ---- what is offered to them
 module _ (O : List Operation) (at identifier : ℕ) where

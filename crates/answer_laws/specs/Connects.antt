@@ -10,6 +10,7 @@ use Rattle.mqtt_packets.specs.Written.{written}
 use Rattle.mqtt_sessions.specs.declared.reaction.Output.{Output}
 use Rattle.mqtt_sessions.specs.declared.reaction.Output.TheVariants.{Answer}
 use Rattle.mqtt_sessions.specs.Answers.{fits}
+use Rattle.mqtt_sessions.specs.Arriving.{has_property}
 use Rattle.mqtt_sessions.specs.Reaction.{Reaction}
 use Rattle.mqtt_sessions.specs.State.{limit_in}
 use Rattle.session_laws.specs.Runs.{connects}
@@ -20,7 +21,7 @@ use Rattle.node_work.specs.Held.Feeding.{cut_of}
 use Rattle.node_work.specs.Held.Sessions.{SessionStep, Begun, Called, has_session}
 use Rattle.node_work.specs.Packets.{refused_packet}
 use Rattle.node_work.specs.View.{Place, HeldView, ConnectionView}
-use Rattle.node_clients.specs.Connecting.{has_property, address_of, WillIsNamed}
+use Rattle.node_clients.specs.Connecting.{address_of, WillIsNamed}
 use Rattle.node_clients.specs.Naming.{IsNextNumber, automatic}
 use Rattle.broker_node.specs.declared.event.Event.{Event}
 use Rattle.broker_node.specs.declared.event.EventKind.TheVariants as kinds

@@ -13,7 +13,7 @@ use Rattle.replica_store.specs.declared.operation.Operation.{Operation}
 use Rattle.replica_store.specs.declared.operation.Operation.TheVariants as operations
 use Rattle.replica_store.specs.Operations.{Stands, IsLive}
 use Rattle.node_work.specs.Acts.{Act, Store, Made}
-use Rattle.node_clients.specs.Subscribing.{entry_of}
+use Rattle.node_clients.specs.Subscribing.{subscription_entry}
 use Rattle.cluster_play.specs.Runs.{Played}
 use Rattle.cluster_play.specs.Histories.{site, operations_amid}
 
@@ -57,7 +57,7 @@ abbrev pub IsFilterGranted : List Operation → List ℕ → ℕ → SubscribeFi
 IsFilterGranted O client identifier f r acts =
     (r.code ≡ qos_of f.options)
     × (((r.asks ≡ false) × AsksForNone O client f) ⊎ ((r.asks ≡ true) × (¬ AsksForNone O client f)))
-    × ((dot : Dot) × (cover : Dots) × (version : ℕ) × (acts ≡ Store (Made (operations.Subscribe dot (entry_of client f identifier version) cover)) ∷ []))
+    × ((dot : Dot) × (cover : Dots) × (version : ℕ) × (acts ≡ Store (Made (operations.Subscribe dot (subscription_entry client f identifier version) cover)) ∷ []))
 
 -- Topic Filter invalid for a text that isn't a filter; Quota exceeded for a new subscription too many; else it is granted
 abbrev pub IsFilterAnswered : List Operation → List ℕ → ℕ → SubscribeFilter → FilterReply → List Act → Type 0

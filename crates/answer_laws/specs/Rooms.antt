@@ -17,7 +17,7 @@ use Rattle.cluster_play.specs.Worlds.{World}
 use Rattle.cluster_play.specs.Runs.{Played}
 use Rattle.cluster_play.specs.Histories.{Reached, site, operations_amid}
 use Rattle.run_laws.specs.Staying.{CallsSession}
-use Rattle.run_laws.specs.Publishing.{TakesPublish, message_in, events_before}
+use Rattle.run_laws.specs.Publishing.{TakesPublish, message_after, events_before}
 
 -- the topic is held: it was given a message, also one that is cleared by now
 abbrev pub IsTopicHeld : List Operation → List ℕ → Type 0
@@ -41,21 +41,21 @@ abbrev pub HasRoomForTopic : List Operation → List ℕ → Type 0
 HasRoomForTopic O topic = IsTopicHeld O topic ⊎ ((count : ℕ) × HoldsTopics O count × (count < 100000))
 
 -- the message of the PUBLISH that a call takes
-abbrev pub message_of : {qos : Qos} {id : ℕ} (run : List Played) (m : Played) (before : List Act) (c : CallsSession m before) → TakesPublish qos id c.step → Message
-message_of run m before c t = message_in (events_before run m before c) t
+abbrev pub message_taken : {qos : Qos} {id : ℕ} (run : List Played) (m : Played) (before : List Act) (c : CallsSession m before) → TakesPublish qos id c.step → Message
+message_taken run m before c t = message_after (events_before run m before c) t
 
 -- Quota exceeded answers a message with RETAIN for whose topic there is no room, and no other
 abbrev pub QuotaIsExact : Type 0
 QuotaIsExact =
     (run later : List Played) (m : Played) (w : World) → Reached (run ++ m ∷ later) w
-    → (before : List Act) (c : CallsSession m before) (qos : Qos) (id : ℕ) (t : TakesPublish qos id c.step) → IsName (message_of run m before c t).topic
+    → (before : List Act) (c : CallsSession m before) (qos : Qos) (id : ℕ) (t : TakesPublish qos id c.step) → IsName (message_taken run m before c t).topic
     → (number : ℕ) → AnswersWith (puback number 151) c.step.reaction.packets ⊎ AnswersWith (pubrec number 151) c.step.reaction.packets
-    → (t.publish.retain ≡ true) × LacksRoomForTopic (operations_amid (site m.fate) run before) (message_of run m before c t).topic
+    → (t.publish.retain ≡ true) × LacksRoomForTopic (operations_amid (site m.fate) run before) (message_taken run m before c t).topic
 
 -- and one that is passed on has room
 abbrev pub PassedHasRoom : Type 0
 PassedHasRoom =
     (run later : List Played) (m : Played) (w : World) → Reached (run ++ m ∷ later) w
-    → (before : List Act) (c : CallsSession m before) (qos : Qos) (id : ℕ) (t : TakesPublish qos id c.step) → IsName (message_of run m before c t).topic
+    → (before : List Act) (c : CallsSession m before) (qos : Qos) (id : ℕ) (t : TakesPublish qos id c.step) → IsName (message_taken run m before c t).topic
     → (x : Message) → c.step.reaction.ask ≡ Some (Pass x) → t.publish.retain ≡ true
-    → HasRoomForTopic (operations_amid (site m.fate) run before) (message_of run m before c t).topic
+    → HasRoomForTopic (operations_amid (site m.fate) run before) (message_taken run m before c t).topic

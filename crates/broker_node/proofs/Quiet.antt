@@ -36,14 +36,14 @@ use Rattle.node_work.specs.declared.counts.Missed.{Missed}
 use Rattle.node_work.specs.declared.counts.Missed.TheVariants.{FrameTooLarge, LaneFull}
 use Rattle.node_work.specs.Acts.{Act, Acknowledged, Began, Bridge, Connection, Dropped, Made, Merged, MomentTaken, Moved, Named, Out, Passed, Session, Store, StoreAct, gather}
 use Rattle.node_work.specs.Calling.{Calls, CallsAt, Queues, QueuesOne}
-use Rattle.node_work.specs.Doings.{Disconnects, GivesBody, GivesFrame, MakesPut, MakesRemove, MakesRemoveBelow, MakesSubscribe, Misses, OpensConnection, PutsBy, Redirects, Removes, RemovesBelow, Routes, RoutesBy, Sends, is_small}
+use Rattle.node_work.specs.Doings.{Disconnects, GivesBody, GivesFrame, MakesPut, MakesRemove, MakesRemoveBelow, MakesSubscribe, Misses, OpensConnection, PutsInLaneBy, Redirects, Removes, RemovesBelow, Routes, RoutesBy, Sends, is_small}
 use Rattle.node_work.specs.Held.Bridge.{Gave, Left_out, Put, heard_of}
 use Rattle.node_work.specs.Held.Connections.{Accepted, Closed, Fed, Opened, client_at, first_at, is_open}
 use Rattle.node_work.specs.Held.Feeding.{cut_of}
 use Rattle.node_work.specs.Held.Making.{number_at_end, put_at_end, removal, removal_below}
 use Rattle.node_work.specs.Held.Sessions.{Begun, Over, connection_at, end_is_due, has_session, seat_at, takes_disconnect, takes_packet, will_is_due}
 use Rattle.node_work.specs.Packets.{moved_packet, refused_packet}
-use Rattle.node_work.specs.Passing.{content_of, turn_at_end}
+use Rattle.node_work.specs.Passing.{content_given, turn_at_end}
 use Rattle.node_work.specs.View.{ConnectionView, HeldView, Place}
 use Rattle.node_work.specs.Working.{Acting, Doing, Each, FindsWhere, If, InTurn, Looks, Numbered, Returns, Stops, Then, Where}
 use Rattle.node_work.specs.declared.granted.Granted.{Granted}
@@ -183,14 +183,14 @@ opens_quiet c =
 pub misses_quiet : (what : Missed) → Quiet (Misses what)
 misses_quiet what = acting_quiet (λ p h. Bridge (Left_out what)) (λ p h. refl)
 
-puts_by_quiet : (peer : ℕ) (m : Forward) (o : Offer) → Quiet (PutsBy peer m o)
+puts_by_quiet : (peer : ℕ) (m : Forward) (o : Offer) → Quiet (PutsInLaneBy peer m o)
 puts_by_quiet peer m (offers.Queued n) = acting_quiet (λ p h. Bridge (Put peer m)) (λ p h. refl)
 puts_by_quiet peer m offers.Full = misses_quiet LaneFull
 puts_by_quiet peer m offers.AtEnd = stops_quiet
 
 routes_by_quiet : (peer : ℕ) (r : Route) → Quiet (RoutesBy peer r)
 routes_by_quiet peer routes.Nothing = returns_quiet tt
-routes_by_quiet peer (routes.Lane m) = looks_quiet (λ p h. offer_to peer h.bridge) (PutsBy peer m) (puts_by_quiet peer m)
+routes_by_quiet peer (routes.Lane m) = looks_quiet (λ p h. offer_to peer h.bridge) (PutsInLaneBy peer m) (puts_by_quiet peer m)
 routes_by_quiet peer routes.TooLarge = misses_quiet LaneFull
 
 routes_quiet : (x : ℕ × Route) → Quiet (Routes x)
@@ -213,8 +213,8 @@ copies_quiet m =
 
 retains_quiet : (m : Message) → Quiet (passing.Retains m)
 retains_quiet m =
-    if_quiet m.retain (MakesPut (content_of m)) (Returns tt)
-    (numbered_quiet (λ p h. put_at_end p.id h) (λ p h. Store (Made (put_of p.id (content_of m) h.store))) (λ p h. refl)) (returns_quiet tt)
+    if_quiet m.retain (MakesPut (content_given m)) (Returns tt)
+    (numbered_quiet (λ p h. put_at_end p.id h) (λ p h. Store (Made (put_of p.id (content_given m) h.store))) (λ p h. refl)) (returns_quiet tt)
 
 passes_quiet : (m : Message) → Quiet (passing.Passes m)
 passes_quiet m =
@@ -283,16 +283,16 @@ grants_by_quiet : (client : List ℕ) (identifier : ℕ) (f : SubscribeFilter) (
 grants_by_quiet client identifier f stood =
     let Makes = subscribing.SubscribesTo client identifier f in
     let g = subscribing.granted f (identifiers_of identifier) stood in
-    let no = subscribing.refused 151 in
+    let no = subscribing.filter_refused 151 in
     looks_quiet (λ p h. not stood && subscribing.has_most client h.store) (λ full. If full (Returns no) (Then Makes (λ _. Returns g)))
     (λ full. if_quiet full (Returns no) (Then Makes (λ _. Returns g)) (returns_quiet no)
-    (then_quiet Makes (λ _. Returns g) (looks_quiet (λ p h. h.homes.version) (λ version. MakesSubscribe (subscribing.entry_of client f identifier version))
-    (λ version. numbered_quiet (λ p h. number_at_end p.id h) (λ p h. Store (Made (subscribe_of p.id (subscribing.entry_of client f identifier version) h.store))) (λ p h. refl))) (λ _. returns_quiet g)))
+    (then_quiet Makes (λ _. Returns g) (looks_quiet (λ p h. h.homes.version) (λ version. MakesSubscribe (subscribing.subscription_entry client f identifier version))
+    (λ version. numbered_quiet (λ p h. number_at_end p.id h) (λ p h. Store (Made (subscribe_of p.id (subscribing.subscription_entry client f identifier version) h.store))) (λ p h. refl))) (λ _. returns_quiet g)))
 
 grants_quiet : (client : List ℕ) (identifier : ℕ) (f : SubscribeFilter) → Quiet (subscribing.Grants client identifier f)
 grants_quiet client identifier f =
-    where_quiet _ (Looks (λ p h. subscribing.stands client f.filter h) (subscribing.GrantsBy client identifier f)) (Returns (subscribing.refused 143))
-    (looks_quiet (λ p h. subscribing.stands client f.filter h) (subscribing.GrantsBy client identifier f) (grants_by_quiet client identifier f)) (returns_quiet (subscribing.refused 143))
+    where_quiet _ (Looks (λ p h. subscribing.stands client f.filter h) (subscribing.GrantsBy client identifier f)) (Returns (subscribing.filter_refused 143))
+    (looks_quiet (λ p h. subscribing.stands client f.filter h) (subscribing.GrantsBy client identifier f) (grants_by_quiet client identifier f)) (returns_quiet (subscribing.filter_refused 143))
 
 offers_one_quiet : (client : List ℕ) (offer : Delivery) → Quiet (subscribing.OffersOne client offer)
 offers_one_quiet client offer = then_quiet (Calls client (queues offer) stays) (λ _. Returns tt) (calls_quiet client (queues offer) stays) (λ _. returns_quiet tt)
@@ -308,8 +308,8 @@ offers_after_quiet (Some code) c client packet grants = closes_for_quiet c clien
 
 acknowledges_quiet : (c : ℕ) (client : List ℕ) (packet : ℕ) (grants : List Granted) → Quiet (subscribing.SendsSuback c client packet grants)
 acknowledges_quiet c client packet grants =
-    then_quiet (Calls client (λ at. answers packet (subscribing.reasons_of grants)) stays) (λ r. subscribing.OffersAfter r.end c client packet grants)
-    (calls_quiet client (λ at. answers packet (subscribing.reasons_of grants)) stays) (λ r. offers_after_quiet r.end c client packet grants)
+    then_quiet (Calls client (λ at. answers packet (subscribing.granted_reasons grants)) stays) (λ r. subscribing.OffersAfter r.end c client packet grants)
+    (calls_quiet client (λ at. answers packet (subscribing.granted_reasons grants)) stays) (λ r. offers_after_quiet r.end c client packet grants)
 
 subscribes_quiet : (c : ℕ) (client : List ℕ) (p : Subscribe) → Quiet (subscribing.ServesSubscribe c client p)
 subscribes_quiet c client p =
@@ -362,16 +362,15 @@ unsubscribes_by_quiet c client packets.Pingresp = returns_quiet tt
 unsubscribes_by_quiet c client (packets.Disconnect p) = returns_quiet tt
 unsubscribes_by_quiet c client (packets.Auth p) = returns_quiet tt
 
-does_asked_quiet : (ask : Option Ask) (dropped : Bool) (c : ℕ) (client : List ℕ) (p : Packet) → Quiet (serving.DoesAsked ask dropped c client p)
-does_asked_quiet None dropped c client p = if_quiet dropped passing.Drops (Returns tt) drops_quiet (returns_quiet tt)
-does_asked_quiet (Some (asks.Pass m)) dropped c client p = passes_quiet m
-does_asked_quiet (Some asks.Subscribe) dropped c client p = subscribes_by_quiet c client p
-does_asked_quiet (Some asks.Unsubscribe) dropped c client p = unsubscribes_by_quiet c client p
+does_asked_quiet : (ask : Option Ask) (c : ℕ) (client : List ℕ) (p : Packet) (room : Bool) (end : Option ℕ) → Quiet (serving.DoesAsked ask c client p room end)
+does_asked_quiet None c client p room end = if_quiet (serving.is_dropped p room end) passing.Drops (Returns tt) drops_quiet (returns_quiet tt)
+does_asked_quiet (Some (asks.Pass m)) c client p room end = passes_quiet m
+does_asked_quiet (Some asks.Subscribe) c client p room end = subscribes_by_quiet c client p
+does_asked_quiet (Some asks.Unsubscribe) c client p room end = unsubscribes_by_quiet c client p
 
 does_reaction_quiet : (c : ℕ) (client : List ℕ) (p : Packet) (room : Bool) (r : Reaction) → Quiet (serving.DoesReaction c client p room r)
 does_reaction_quiet c client p room r =
-    let dropped = serving.is_dropped p room r.end in
-    then_quiet (serving.DoesAsked r.ask dropped c client p) (λ _. ending.ClosesAfter r.end c client) (does_asked_quiet r.ask dropped c client p) (λ _. closes_after_quiet r.end c client)
+    then_quiet (serving.DoesAsked r.ask c client p room r.end) (λ _. ending.ClosesAfter r.end c client) (does_asked_quiet r.ask c client p room r.end) (λ _. closes_after_quiet r.end c client)
 
 serves_quiet : (c : ℕ) (client : List ℕ) (p : Packet) → Quiet (serving.ServesPacket c client p)
 serves_quiet c client p =
@@ -440,7 +439,7 @@ connects_by_quiet None c p = connects_at_quiet (length p.client == 0) c p
 -- ---- pieces
 
 first_quiet : (c : ℕ) (p : Packet) → Quiet (pieces.AnswersFirstPacket c p)
-first_quiet c (packets.Connect p) = connects_by_quiet (connecting.refusal p) c p
+first_quiet c (packets.Connect p) = connects_by_quiet (connecting.connect_refusal p) c p
 first_quiet c (packets.Connack p) = closes_quiet c
 first_quiet c (packets.Publish p) = closes_quiet c
 first_quiet c (packets.Puback p) = closes_quiet c

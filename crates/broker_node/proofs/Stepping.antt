@@ -18,7 +18,7 @@ use Rattle.row_store.specs.declared.row.Change.{Change}
 use Rattle.session_table.specs.Rows.{own_kind}
 use Rattle.broker_node.specs.declared.event.Event.{Event}
 use Rattle.broker_node.specs.Idle.{IsIdle, Keeps, Rests, RestsWhereIdle}
-use Rattle.broker_node.specs.Step.{MayBringTables, IsDone, IsAtEnd, IsHeard, HasCause, HasCauseAt, Settles, begun, brought, may_move}
+use Rattle.broker_node.specs.Step.{MayBringTables, IsDone, IsAtEnd, IsHeard, HasCause, HasCauseAt, Settles, step_start, brought, may_move}
 use Rattle.broker_node.specs.Turns.{Decides}
 use Rattle.broker_node.proofs.Altering.{alter_cases}
 use Rattle.broker_node.proofs.Determined.{decides_determined}
@@ -62,15 +62,15 @@ follows e p h acts (inr d) =
 abbrev failed : NodeFault → Result (Unit {0}) NodeFault
 failed f = Err f
 
-begun_idle : (w start : WorkView) (e : Event) → start ≡ begun w → IsIdle w.place w.held e → IsIdle start.place start.held e
+begun_idle : (w start : WorkView) (e : Event) → start ≡ step_start w → IsIdle w.place w.held e → IsIdle start.place start.held e
 begun_idle w start e is i = subst (λ (v : WorkView). IsIdle v.place v.held e) (sym is) i
 
-pub settles : (e : Event) (r : Result Outcome NodeFault) (w start last w' : WorkView) → start ≡ begun w → Did start last (Decides e (Some tt)) → IfOk r (λ o. o.outputs.items ≡ last.outputs) → IfOk r (λ o. AreOnce o.changes.items)
-    → IfOk r (λ o. Settle own_kind o.changes.items last.changes) → CanLast last.held → w' ≡ begun last → IfOk r (λ o. Settles w e o w')
+pub settles : (e : Event) (r : Result Outcome NodeFault) (w start last w' : WorkView) → start ≡ step_start w → Did start last (Decides e (Some tt)) → IfOk r (λ o. o.outputs.items ≡ last.outputs) → IfOk r (λ o. AreOnce o.changes.items)
+    → IfOk r (λ o. Settle own_kind o.changes.items last.changes) → CanLast last.held → w' ≡ step_start last → IfOk r (λ o. Settles w e o w')
 settles e (Ok o) w start last w' is d given once settled lasts rest = record { last = last; did = subst (λ (v : WorkView). Did v last (Decides e (Some tt))) is d; given = given; once = once; settled = settled; lasts = lasts; rest = rest }
 settles e (Err f) w start last w' is d given once settled lasts rest = tt
 
-pub settled_idle : (e : Event) (r : Result Outcome NodeFault) (w start last : WorkView) → start ≡ begun w → (e.at < 2 ^ 62 → IsIdle start.place start.held e → Keeps (Ok tt) start last) → IfOk r (λ o. o.outputs.items ≡ last.outputs)
+pub settled_idle : (e : Event) (r : Result Outcome NodeFault) (w start last : WorkView) → start ≡ step_start w → (e.at < 2 ^ 62 → IsIdle start.place start.held e → Keeps (Ok tt) start last) → IfOk r (λ o. o.outputs.items ≡ last.outputs)
     → (last.changes ≡ [] → IfOk r (λ o. o.changes.items ≡ []) × IsOk r) → e.at < 2 ^ 62 → IsIdle w.place w.held e → Rests r
 settled_idle e r w start last is idle given none below i =
     let k = idle below (begun_idle w start e is i) in
@@ -81,7 +81,7 @@ settled_idle e r w start last is idle given none below i =
     by (Ok o) g c y out = (o, refl, g ∙ out, c)
     by (Err f) g c y out = absurd (let z : false ≡ true = y in cc)
 
-pub failed_idle : (e : Event) (r : Result Outcome NodeFault) (f : NodeFault) (w start last : WorkView) → start ≡ begun w → (e.at < 2 ^ 62 → IsIdle start.place start.held e → Keeps (Err f) start last) → e.at < 2 ^ 62 → IsIdle w.place w.held e → Rests r
+pub failed_idle : (e : Event) (r : Result Outcome NodeFault) (f : NodeFault) (w start last : WorkView) → start ≡ step_start w → (e.at < 2 ^ 62 → IsIdle start.place start.held e → Keeps (Err f) start last) → e.at < 2 ^ 62 → IsIdle w.place w.held e → Rests r
 failed_idle e r f w start last is idle below i = absurd (let z : failed f ≡ Ok tt = (idle below (begun_idle w start e is i)).0 in cc)
 
 wanting_comes : (r : Result Outcome NodeFault) (w w' : WorkView) (P : Option (Unit {0}) → Doing) → IfErr r (λ f. f ≡ NoMemory) → IfErr r (λ f. ComesTo {T = Unit {0}} (λ x. x) (Err f) w w' P)
@@ -98,10 +98,10 @@ comes_elsewhere NoMemory w a b P d = tt
 comes_elsewhere NumbersAtEnd w a b P d = d
 comes_elsewhere Stopped w a b P d = d
 
-pub failed_comes : (r : Result Outcome NodeFault) (f : NodeFault) (w start a b : WorkView) (P : Option (Unit {0}) → Doing) → IsErrAnd r (λ e. e ≡ f) → start ≡ begun w → ComesTo {T = Unit {0}} (λ x. x) (Err f) start a P
-    → IfErr r (λ g. ComesTo {T = Unit {0}} (λ x. x) (Err g) (begun w) b P)
+pub failed_comes : (r : Result Outcome NodeFault) (f : NodeFault) (w start a b : WorkView) (P : Option (Unit {0}) → Doing) → IsErrAnd r (λ e. e ≡ f) → start ≡ step_start w → ComesTo {T = Unit {0}} (λ x. x) (Err f) start a P
+    → IfErr r (λ g. ComesTo {T = Unit {0}} (λ x. x) (Err g) (step_start w) b P)
 failed_comes (Ok o) f w start a b P is at d = tt
-failed_comes (Err g) f w start a b P is at d = subst (λ h. ComesTo {T = Unit {0}} (λ x. x) (Err h) (begun w) b P) (sym is) (comes_elsewhere f (begun w) a b P (subst (λ (v : WorkView). ComesTo {T = Unit {0}} (λ x. x) (Err f) v a P) at d))
+failed_comes (Err g) f w start a b P is at d = subst (λ h. ComesTo {T = Unit {0}} (λ x. x) (Err h) (step_start w) b P) (sym is) (comes_elsewhere f (step_start w) a b P (subst (λ (v : WorkView). ComesTo {T = Unit {0}} (λ x. x) (Err f) v a P) at d))
 
 -- ---- a step
 module _ (n : NodeView) (place : Place) (homes : Table) (w : WorkView) (stopped : Bool) (e : Event) (view : record { place = place; homes = homes; up = up_of stopped w.held } ≡ n) (kept : stopped ≡ false → (w.place ≡ place) × (w.held.homes ≡ homes)) (runs : stopped ≡ false) where
@@ -186,7 +186,7 @@ module _ (n : NodeView) (place : Place) (homes : Table) (w : WorkView) (stopped 
   faulted f = Err f
 
   cause_of : (f : NodeFault) (w' : WorkView) → (e.at < 2 ^ 62 → IsIdle w.place w.held e → Rests (Err f)) → (2 ^ 62 ≤ e.at → faulted f ≡ faulted NumbersAtEnd)
-      → ComesTo {T = Unit {0}} (λ x. x) (Err f) (begun w) w' (Decides e) → HasCause n.place w.held e f
+      → ComesTo {T = Unit {0}} (λ x. x) (Err f) (step_start w) w' (Decides e) → HasCause n.place w.held e f
   cause_of NoMemory w' idle end k = (below, busy)
     where
       below : e.at < 2 ^ 62
@@ -202,7 +202,7 @@ module _ (n : NodeView) (place : Place) (homes : Table) (w : WorkView) (stopped 
   cause_of Stopped w' idle end k = k
 
   pub cause : (f : NodeFault) (w' : WorkView) → (e.at < 2 ^ 62 → IsIdle w.place w.held e → Rests (Err f)) → (2 ^ 62 ≤ e.at → faulted f ≡ faulted NumbersAtEnd)
-      → ComesTo {T = Unit {0}} (λ x. x) (Err f) (begun w) w' (Decides e) → HasCauseAt n.up n.place e f
+      → ComesTo {T = Unit {0}} (λ x. x) (Err f) (step_start w) w' (Decides e) → HasCauseAt n.up n.place e f
   cause f w' idle end k = subst (λ u. HasCauseAt u n.place e f) (sym up) (cause_of f w' idle end k)
 
   -- an event that brings nothing to do

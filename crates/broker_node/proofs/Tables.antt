@@ -13,11 +13,11 @@ use Rattle.node_work.proofs.Homes.{homes_by, homes_stay}
 use Rattle.broker_node.specs.declared.event.Event.{Event}
 use Rattle.broker_node.specs.declared.event.EventKind.{EventKind}
 use Rattle.broker_node.specs.declared.event.EventKind.TheVariants as kinds
-use Rattle.broker_node.specs.Moving.{AreAway, is_newer}
+use Rattle.broker_node.specs.Moving.{AreAway, is_newer_table}
 use Rattle.broker_node.specs.Idle.{IsIdle, IsIdleAt}
 use Rattle.broker_node.specs.Step.{MayBringTables, may_move}
 
-pub may_be_taken : (homes : Table) (p : Place) (h : HeldView) → IsTable homes → is_newer homes p h ≡ true → MayMove p h homes
+pub may_be_taken : (homes : Table) (p : Place) (h : HeldView) → IsTable homes → is_newer_table homes p h ≡ true → MayMove p h homes
 may_be_taken homes p h table newer =
     let parts = and_parts (nat_eq (length homes.nodes) (nodes_of p)) (nat_lt h.homes.version homes.version) newer in
     record { table = table; nodes = same _ _ parts.0; newer = below _ _ parts.1 }

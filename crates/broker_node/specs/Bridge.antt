@@ -11,7 +11,7 @@ use Rattle.replica_store.specs.States.{State}
 use Rattle.node_work.specs.declared.counts.Missed.TheVariants.{BadFrame}
 use Rattle.node_work.specs.Acts.{Store, Merged, Bridge}
 use Rattle.node_work.specs.Doings.{GivesBody, GivesFrame, Misses}
-use Rattle.node_work.specs.Frames.{is_for, is_other}
+use Rattle.node_work.specs.Frames.{is_for_node, is_other}
 use Rattle.node_work.specs.Held.Bridge.{Believed, Got as GotBy}
 use Rattle.node_work.specs.View.{Place, HeldView}
 use Rattle.node_work.specs.Working.{Doing, Returns, Acting, Looks, FindsWhere, If, Then, Each}
@@ -72,7 +72,7 @@ TakesBody from (Got number) = Acting (λ p h. Bridge (GotBy from number))
 -- frame, are dropped and counted
 abbrev pub HearsFrame : Option BridgeFrame → Option (Unit {0}) → Doing
 HearsFrame None = Misses BadFrame
-HearsFrame (Some frame) = Looks (λ p h. is_for p frame) (λ here. If here (TakesBody frame.from frame.body) (Misses BadFrame))
+HearsFrame (Some frame) = Looks (λ p h. is_for_node p frame) (λ here. If here (TakesBody frame.from frame.body) (Misses BadFrame))
 
 abbrev pub Hears : List ℕ → Option (Unit {0}) → Doing
 Hears bytes = HearsFrame (frame_in bytes)

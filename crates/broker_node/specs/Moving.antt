@@ -18,8 +18,8 @@ abbrev pub SendsAway : Option (Unit {0}) → Doing
 SendsAway = FindsWhere AreAway (Each MovesAway)
 
 -- a table that is newer than the node's, and for as many nodes
-abbrev pub is_newer : Table → Place → HeldView → Bool
-is_newer homes p h = nat_eq (length homes.nodes) (nodes_of p) && nat_lt h.homes.version homes.version
+abbrev pub is_newer_table : Table → Place → HeldView → Bool
+is_newer_table homes p h = nat_eq (length homes.nodes) (nodes_of p) && nat_lt h.homes.version homes.version
 
 -- it is the node's from then on, and clients go by it
 abbrev pub TakesNewerTable : Table → Option (Unit {0}) → Doing
@@ -27,4 +27,4 @@ TakesNewerTable homes = Then (Acting (λ p h. Moved homes)) (λ _. SendsAway)
 
 -- another one is dropped, and counted
 abbrev pub TakesTable : Table → Option (Unit {0}) → Doing
-TakesTable homes = Looks (is_newer homes) (λ newer. If newer (TakesNewerTable homes) (Misses TableRefused))
+TakesTable homes = Looks (is_newer_table homes) (λ newer. If newer (TakesNewerTable homes) (Misses TableRefused))

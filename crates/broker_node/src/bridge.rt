@@ -4,7 +4,7 @@ ghost use Rattle.std.specs.Prelude.{◌≡◌, ◌≢◌, false, Ok};
 ghost use Rattle.broker_node.specs.Bridge.{Greets, Ships, ShipsState, ShipsMessages, Hears, HearsFrame, TakesBody, TellsTaken, Merges, TakesMessage, TakesNext};
 ghost use Rattle.node_bridge.specs.View.{lane_to};
 ghost use Rattle.node_work.specs.Doings.{GivesBody};
-ghost use Rattle.node_work.specs.Frames.{is_for, is_other, names_nodes};
+ghost use Rattle.node_work.specs.Frames.{is_for_node, is_other, names_nodes};
 ghost use Rattle.node_work.specs.Held.Bridge.{Carries};
 ghost use Rattle.node_work.specs.View.{HeldView};
 ghost use Rattle.node_work.specs.Working.{ComesTo};
@@ -106,7 +106,7 @@ fn names_nodes(nodes: u16, body: &FrameBody) -> bool
 }
 
 fn is_for(work: &Work, frame: &BridgeFrame) -> bool
-    ensures { result ≡ is_for work.now.place frame.now }
+    ensures { result ≡ is_for_node work.now.place frame.now }
 {
     frame.to == work.id() && is_other(work, frame.from) && names_nodes(work.nodes(), &frame.body)
 }

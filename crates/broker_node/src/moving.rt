@@ -3,7 +3,7 @@
 ghost use Rattle.std.specs.Prelude.{◌≡◌, [], Ok, true};
 ghost use Rattle.node_clients.specs.Moving.{MovesAway};
 ghost use Rattle.node_work.specs.Working.{ComesTo, Each};
-ghost use Rattle.broker_node.specs.Moving.{AreAway, TakesNewerTable, SendsAway, TakesTable, is_newer};
+ghost use Rattle.broker_node.specs.Moving.{AreAway, TakesNewerTable, SendsAway, TakesTable, is_newer_table};
 
 use home_table::HomeTable;
 use mqtt_fields::Text;
@@ -34,14 +34,14 @@ fn send_each(work: &mut Work, away: &[Text]) -> Result<(), NodeFault>
 
 /// Whether the table is newer than the node's, and for as many nodes.
 fn is_newer(work: &Work, homes: &HomeTable) -> bool
-    ensures { result ≡ is_newer homes.now work.now.place work.now.held }
+    ensures { result ≡ is_newer_table homes.now work.now.place work.now.held }
 {
     homes.nodes() == work.nodes() && work.homes().version() < homes.version()
 }
 
 /// Takes a table that is newer than the node's, and for as many nodes.
 fn move_to(work: &mut Work, homes: &HomeTable) -> Result<(), NodeFault>
-    requires { is_newer homes.now work.old.place work.old.held ≡ true }
+    requires { is_newer_table homes.now work.old.place work.old.held ≡ true }
     ensures { ComesTo (λ x. x) result work.old work.new (TakesNewerTable homes.now) }
 {
     homes.is_table();

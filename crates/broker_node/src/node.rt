@@ -5,7 +5,7 @@ ghost use Rattle.std.specs.FinMap as map;
 ghost use Rattle.std.specs.Option.{option_copied};
 ghost use Rattle.broker_node.specs.Idle.{IsIdle, Rests, RestsWhereIdle};
 ghost use Rattle.broker_node.specs.Opening.{IsOpenedFrom};
-ghost use Rattle.broker_node.specs.Step.{IsDone, IsAtEnd, HasCauseAt, Settles, begun, may_move, may_move_in};
+ghost use Rattle.broker_node.specs.Step.{IsDone, IsAtEnd, HasCauseAt, Settles, step_start, may_move, may_move_in};
 ghost use Rattle.broker_node.specs.Turns.{Decides};
 ghost use Rattle.node_bridge.specs.View.{known_of, lane_to};
 ghost use Rattle.node_rows.specs.Reading.{SayNothing};
@@ -61,7 +61,7 @@ fn settle(work: &mut Work, event: &Event) -> Result<Outcome, NodeFault>
     ensures idle { event.now.at < 2 ^ 62 → IsIdle work.old.place work.old.held event.now → Rests result }
     ensures end { 2 ^ 62 ≤ event.now.at → result ≡ Err NumbersAtEnd }
     ensures ok { IfOk result (λ o. Settles work.old event.now o work.new) }
-    ensures err { IfErr result (λ f. ComesTo {T = Unit {0}} (λ x. x) (Err f) (begun work.old) work.new (Decides event.now)) }
+    ensures err { IfErr result (λ f. ComesTo {T = Unit {0}} (λ x. x) (Err f) (step_start work.old) work.new (Decides event.now)) }
 {
     work.start();
     decide(work, event)?;

@@ -24,12 +24,12 @@ use Rattle.session_table.specs.Calls.{stays}
 use Rattle.session_table.specs.Seats.{Seat}
 use Rattle.node_work.specs.Acts.{Act, Store, Made, Session, Bridge, MomentTaken, Named, Passed, Runs}
 use Rattle.node_work.specs.Calling.{Calls, CallsAt}
-use Rattle.node_work.specs.Doings.{MakesPut, MakesRemove, MakesRemoveBelow, PutsBy, TakesMoment}
+use Rattle.node_work.specs.Doings.{MakesPut, MakesRemove, MakesRemoveBelow, PutsInLaneBy, TakesMoment}
 use Rattle.node_work.specs.declared.counts.Missed.TheVariants.{LaneFull}
 use Rattle.node_work.specs.Held.Bridge.{Put as PutInto, Left_out}
 use Rattle.node_work.specs.Held.Making.{number_at_end, put_at_end, removal, removal_below}
 use Rattle.node_work.specs.Held.Sessions.{SessionStep, Called, Over, seat_at}
-use Rattle.node_work.specs.Passing.{content_of, turn_at_end}
+use Rattle.node_work.specs.Passing.{content_given, turn_at_end}
 use Rattle.node_work.specs.View.{Place, HeldView}
 use Rattle.node_work.specs.Working.{Doing, Returns, Stops, Acting, Numbered, Looks, FindsWhere, If, Where, Then}
 use Rattle.node_work.proofs.Working.{runs_join}
@@ -63,7 +63,7 @@ pub record BySubscribe (call : SessionStep) (p : Place) (held : HeldView) (o : O
   pub event : call.event ≡ takes (packets.Subscribe subscribe) now room
   pub filter : SubscribeFilter
   pub among : IsIn filter subscribe.filters
-  pub is : o ≡ subscribe_of p.id (subscribing.entry_of call.client filter (subscribing.identifier_of subscribe) held.homes.version) held.store
+  pub is : o ≡ subscribe_of p.id (subscribing.subscription_entry call.client filter (subscribing.identifier_of subscribe) held.homes.version) held.store
 
 pub record ByUnsubscribe (call : SessionStep) (p : Place) (held : HeldView) (o : Operation) : Type 0 where
   pub unsubscribe : Unsubscribe
@@ -78,7 +78,7 @@ pub record ByMessage (call : SessionStep) (p : Place) (held : HeldView) (o : Ope
   pub message : Message
   pub asks : call.reaction.ask ≡ Some (asks.Pass message)
   pub retain : message.retain ≡ true
-  pub is : o ≡ put_of p.id (content_of message) held.store
+  pub is : o ≡ put_of p.id (content_given message) held.store
 
 pub record ByEnd (p : Place) (held : HeldView) (o : Operation) (after : List Act) : Type 0 where
   pub client : List ℕ
@@ -188,7 +188,7 @@ module _ (kind : EventKind) where
   k_calls : (client : List ℕ) (event : ℕ → Event) (on : Option ℕ → Option ℕ) → Keeps Reaction (Calls client event on)
   k_calls client event on = record { of = λ r p h acts d. calls_at client event on (seat_at client h) r p h acts d }
 
-  k_puts_by : (peer : ℕ) (m : Forward) (o : Offer) → Keeps (Unit {0}) (PutsBy peer m o)
+  k_puts_by : (peer : ℕ) (m : Forward) (o : Offer) → Keeps (Unit {0}) (PutsInLaneBy peer m o)
   k_puts_by peer m (Queued n) = k_acting (λ p h. Bridge (PutInto peer m)) (λ p h. tt)
   k_puts_by peer m Full = k_acting (λ p h. Bridge (Left_out LaneFull)) (λ p h. tt)
   k_puts_by peer m AtEnd = k_stops
@@ -213,7 +213,7 @@ module _ (kind : EventKind) where
     join = k_then;
     calls = k_calls;
     passed = λ m x. k_numbered turn_at_end (λ p h. Passed m x.0 x.1.0 x.1.1) (λ p h. tt);
-    puts = λ peer m. k_looks (λ p h. offer_to peer h.bridge) (PutsBy peer m) (k_puts_by peer m);
+    puts = λ peer m. k_looks (λ p h. offer_to peer h.bridge) (PutsInLaneBy peer m) (k_puts_by peer m);
     names = λ c p f. k_finds IsNextNumber (connecting.NamesBy c p) (k_names_by c p f);
   }
 
@@ -290,13 +290,13 @@ module _ (kind : EventKind) where
     call_then acts f = both_caused p h mid (Session (Called step) ∷ []) acts runs (call_caused p h step) f
 
     -- ---- a message that is passed on
-    put_by : (b : Bool) (m : Message) (x : Unit {0}) (made rest : List Act) → m.retain ≡ b → step.reaction.ask ≡ Some (asks.Pass m) → If b (MakesPut (content_of m)) (Returns tt) (Some x) p mid made → Makes made rest
+    put_by : (b : Bool) (m : Message) (x : Unit {0}) (made rest : List Act) → m.retain ≡ b → step.reaction.ask ≡ Some (asks.Pass m) → If b (MakesPut (content_given m)) (Returns tt) (Some x) p mid made → Makes made rest
     put_by false m x made rest is ask d = λ before after o held e ran. none_there before after (Store (Made o)) (sym d.1 ∙ e)
-    put_by true m x made rest is ask d = by (numbered (put_at_end p.id mid) x (Store (Made (put_of p.id (content_of m) mid.store))) made d)
+    put_by true m x made rest is ask d = by (numbered (put_at_end p.id mid) x (Store (Made (put_of p.id (content_given m) mid.store))) made d)
       where
-        by : made ≡ Store (Made (put_of p.id (content_of m) mid.store)) ∷ [] → Makes made rest
+        by : made ≡ Store (Made (put_of p.id (content_given m) mid.store)) ∷ [] → Makes made rest
         by alone [] after o held e ran =
-            let same : put_of p.id (content_of m) mid.store ≡ o = (let z = head_is (sym alone ∙ e) in cc) in
+            let same : put_of p.id (content_given m) mid.store ≡ o = (let z = head_is (sym alone ∙ e) in cc) in
             let there : held ≡ mid = ran in
             inr (inl (record { call = step; earlier = []; is = refl }, subst (λ v. ByMessage step p v o) (sym there) (record { message = m; asks = ask; retain = is; is = sym same })))
         by alone (b ∷ before) after o held e ran = none_there before after (Store (Made o)) (tail_is (sym alone ∙ e))
@@ -364,7 +364,7 @@ module _ (kind : EventKind) where
       → IsGranted p h step.client (subscribing.identifier_of q) f code acts → (before after : List Act) (o : Operation) (held : HeldView) → acts ≡ before ++ Store (Made o) ∷ after → Runs p h before held → BySubscribe step p held o
   granted_one step q now room event p h f code acts among (inr d) before after o held is ran = none_there before after (Store (Made o)) (sym d.1 ∙ is)
   granted_one step q now room event p h f code acts among (inl d) [] after o held is ran =
-      let same : subscribe_of p.id (subscribing.entry_of step.client f (subscribing.identifier_of q) h.homes.version) h.store ≡ o = (let z = head_is (sym d.1 ∙ is) in cc) in
+      let same : subscribe_of p.id (subscribing.subscription_entry step.client f (subscribing.identifier_of q) h.homes.version) h.store ≡ o = (let z = head_is (sym d.1 ∙ is) in cc) in
       let there : held ≡ h = ran in
       subst (λ v. BySubscribe step p v o) (sym there) (record { subscribe = q; now = now; room = room; event = event; filter = f; among = among; is = sym same })
   granted_one step q now room event p h f code acts among (inl d) (b ∷ before) after o held is ran = none_there before after (Store (Made o)) (tail_is (sym d.1 ∙ is))
@@ -415,7 +415,7 @@ module _ (kind : EventKind) where
     subscribes q now room x acts event (inl d) = none_some (sym d.0)
     subscribes q now room x acts event (inr (all, made, mid2, rest, one, ran, more, is)) =
         let g = are_granted client (subscribing.identifier_of q) q.filters [] all p mid made one in
-        let codes = subscribing.reasons_of g.others in
+        let codes = subscribing.granted_reasons g.others in
         let are : AreGranted p mid step.client (subscribing.identifier_of q) q.filters codes made = subst (λ v. AreGranted p mid v (subscribing.identifier_of q) q.filters codes made) (sym same) g.are in
         let only : AreOperations made = granted p mid step.client (subscribing.identifier_of q) q.filters codes made are in
         subst (λ zs. Caused p h (Session (Called step) ∷ zs)) (sym is)
@@ -446,26 +446,26 @@ module _ (kind : EventKind) where
     dropped_by true x v acts d = (drops Keeps walks).of x p v acts d
     dropped_by false x v acts d = subst (Caused p v) (sym d.1) (none_caused p v)
 
-    does_asked : (ask : Option Ask) (dropped : Bool) (k : Packet) (now : ℕ) (room : Bool) (x : Unit {0}) (acts : List Act) → step.event ≡ takes k now room → step.reaction.ask ≡ ask
-        → serving.DoesAsked ask dropped c client k (Some x) p mid acts → Caused p h (Session (Called step) ∷ acts)
-    does_asked None dropped k now room x acts event e d = call_then p h mid step runs acts (dropped_by dropped x mid acts d)
-    does_asked (Some (asks.Pass m)) dropped k now room x acts event e d = passes p h mid step runs m x acts e d
-    does_asked (Some asks.Subscribe) dropped k now room x acts event e d = subscribes_by k now room x acts event d
-    does_asked (Some asks.Unsubscribe) dropped k now room x acts event e d = unsubscribes_by k now room x acts event d
+    does_asked : (ask : Option Ask) (k : Packet) (now : ℕ) (room : Bool) (end : Option ℕ) (x : Unit {0}) (acts : List Act) → step.event ≡ takes k now room → step.reaction.ask ≡ ask
+        → serving.DoesAsked ask c client k room end (Some x) p mid acts → Caused p h (Session (Called step) ∷ acts)
+    does_asked None k now room end x acts event e d = call_then p h mid step runs acts (dropped_by (serving.is_dropped k room end) x mid acts d)
+    does_asked (Some (asks.Pass m)) k now room end x acts event e d = passes p h mid step runs m x acts e d
+    does_asked (Some asks.Subscribe) k now room end x acts event e d = subscribes_by k now room x acts event d
+    does_asked (Some asks.Unsubscribe) k now room end x acts event e d = unsubscribes_by k now room x acts event d
 
     does_reaction : (k : Packet) (now : ℕ) (room : Bool) (r : Reaction) (x : Unit {0}) (acts : List Act) → step.event ≡ takes k now room → step.reaction ≡ r → serving.DoesReaction c client k room r (Some x) p mid acts → Caused p h (Session (Called step) ∷ acts)
     does_reaction k now room r x acts event e (inl d) = none_some (sym d.0)
     does_reaction k now room r x acts event e (inr (y, own, mid2, rest, one, ran, more, is)) =
         subst (λ zs. Caused p h (Session (Called step) ∷ zs)) (sym is)
         (both_caused p h mid2 (Session (Called step) ∷ own) rest (runs_join p (Session (Called step) ∷ []) own h mid mid2 runs ran)
-        (does_asked r.ask (serving.is_dropped k room r.end) k now room y own event (ap (λ (v : Reaction). v.ask) e) one) ((closes_end r.end c client).of x p mid2 rest more))
+        (does_asked r.ask k now room r.end y own event (ap (λ (v : Reaction). v.ask) e) one) ((closes_end r.end c client).of x p mid2 rest more))
 
   -- where the client has no session, nothing is asked
   unserved : (c : ℕ) (client : List ℕ) (k : Packet) (room : Bool) (r : Reaction) (x : Unit {0}) (p : Place) (h : HeldView) (acts : List Act) → r ≡ nothing → serving.DoesReaction c client k room r (Some x) p h acts → Caused p h acts
   unserved c client k room r x p h acts none (inl d) = none_some (sym d.0)
   unserved c client k room r x p h acts none (inr (y, own, mid, rest, one, ran, more, is)) =
       let dropped = serving.is_dropped k room r.end in
-      let d = subst (λ a. serving.DoesAsked a dropped c client k (Some y) p h own) (ap (λ (v : Reaction). v.ask) none) one in
+      let d = subst (λ a. serving.DoesAsked a c client k room r.end (Some y) p h own) (ap (λ (v : Reaction). v.ask) none) one in
       subst (Caused p h) (sym is) (both_caused p h mid own rest ran (by dropped d) ((closes_end r.end c client).of x p mid rest more))
     where
       by : (dropped : Bool) → If dropped passing.Drops (Returns tt) (Some y) p h own → Caused p h own

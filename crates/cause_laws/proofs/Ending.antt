@@ -26,7 +26,7 @@ use Rattle.session_laws.specs.Runs.{Event, connects, queues, takes, answers, clo
 use Rattle.session_table.specs.Seats.{Seat}
 use Rattle.node_work.specs.Acts.{Act, Store, Made, Session, MomentTaken, Named, Passed, Runs}
 use Rattle.node_work.specs.Calling.{Calls, CallsAt}
-use Rattle.node_work.specs.Doings.{MakesPut, MakesSubscribe, MakesRemove, MakesRemoveBelow, Removes, RemovesBelow, PutsBy, TakesMoment}
+use Rattle.node_work.specs.Doings.{MakesPut, MakesSubscribe, MakesRemove, MakesRemoveBelow, Removes, RemovesBelow, PutsInLaneBy, TakesMoment}
 use Rattle.node_work.specs.Held.Making.{number_at_end, put_at_end, removal, removal_below}
 use Rattle.node_work.specs.Held.Sessions.{Over, seat_at}
 use Rattle.node_work.specs.Passing.{turn_at_end}
@@ -159,7 +159,7 @@ module _ (at : ℕ) where
   k_calls : (client : List ℕ) (event : ℕ → Event) (on : Option ℕ → Option ℕ) → Halts Reaction (Calls client event on)
   k_calls client event on = record { of = λ p h acts d. calls_at client event on (seat_at client h) p h acts refl d }
 
-  puts_by : (peer : ℕ) (m : Forward) (o : Offer) (p : Place) (h : HeldView) (acts : List Act) → offer_to peer h.bridge ≡ o → PutsBy peer m o None p h acts → Ends p h
+  puts_by : (peer : ℕ) (m : Forward) (o : Offer) (p : Place) (h : HeldView) (acts : List Act) → offer_to peer h.bridge ≡ o → PutsInLaneBy peer m o None p h acts → Ends p h
   puts_by peer m (Queued n) p h acts is d = none_some d.0
   puts_by peer m Full p h acts is d = none_some d.0
   puts_by peer m AtEnd p h acts is d = here p h (lane_ends p h peer is)

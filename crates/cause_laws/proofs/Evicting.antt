@@ -28,7 +28,7 @@ use Rattle.passing_laws.proofs.Passing.{numbered}
 use Rattle.passing_laws.proofs.Splits.{left_by}
 use Rattle.cluster_play.specs.Worlds.{World}
 use Rattle.cluster_play.specs.Runs.{Played}
-use Rattle.cluster_play.specs.Histories.{Reached, site, event_of, acts_of, made, taken_amid, operations_amid}
+use Rattle.cluster_play.specs.Histories.{Reached, site, event_committed, acts_of, made, taken_amid, operations_amid}
 use Rattle.cluster_play.specs.Agreement.{HoldsAmid}
 use Rattle.cluster_play.proofs.Agreeing.{own_dots}
 use Rattle.cluster_play.proofs.Amid.{amid_acts}
@@ -97,7 +97,7 @@ none_stand O s own is client none dot entry stands whose =
     let z : false ≡ true = sym (none_passes p (λ d. eq_by_cmp dot_cmp dot d) (standing s.subscriptions) none) ∙ sym (contains-dots_in p (standing s.subscriptions) dot) ∙ there in
     cc z
 
-eviction_has_remove : (run later : List Played) (m : Played) (w : World) → Reached (run ++ m ∷ later) w → (e : Event) (client : List ℕ) → event_of m.fate ≡ Some e → e.kind ≡ kinds.Evict client → EvictsWithRemove run m client
+eviction_has_remove : (run later : List Played) (m : Played) (w : World) → Reached (run ++ m ∷ later) w → (e : Event) (client : List ℕ) → event_committed m.fate ≡ Some e → e.kind ≡ kinds.Evict client → EvictsWithRemove run m client
 eviction_has_remove run later m w r e client commits kind =
     let i = site m.fate in
     let half = midway run (m ∷ later) w r in

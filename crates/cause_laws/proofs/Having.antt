@@ -20,7 +20,7 @@ use Rattle.session_laws.proofs.OutcomeLaws.{ends_or_reacts}
 use Rattle.session_table.specs.Seats.{Seat}
 use Rattle.node_work.specs.Acts.{Act, MomentTaken, Began, Moved, Store, Connection, Session, Bridge, Out, Named, Acknowledged, Passed, Dropped, Made, Merged, Allowed, Runs, IsMade}
 use Rattle.node_work.specs.Calling.{CallsAt}
-use Rattle.node_work.specs.Doings.{MakesRemove, MakesRemoveBelow, Removes, RemovesBelow, PutsBy, TakesMoment}
+use Rattle.node_work.specs.Doings.{MakesRemove, MakesRemoveBelow, Removes, RemovesBelow, PutsInLaneBy, TakesMoment}
 use Rattle.node_work.specs.Held.Bridge.{BridgeAct, Put as Join, Took, Got, Believed, Gave, Left_out, MayBridge}
 use Rattle.node_work.specs.Held.Making.{number_at_end, put_at_end, removal, removal_below}
 use Rattle.node_work.specs.Held.Sessions.{SessionAct, SessionStep, Begun, Called, Over, IsCall, seat_at}
@@ -101,7 +101,7 @@ calls_at : (client : List ℕ) (event : ℕ → Event) (on : Option ℕ → Opti
 calls_at client event on None r p h acts d = subst AreBelow (sym d.1) tt
 calls_at client event on (Some seat) r p h acts d = subst AreBelow (sym (calling_by client event on seat r p h acts d).acts_are) (tt, tt)
 
-k_puts_by : (peer : ℕ) (m : Forward) (o : Offer) → Bounds (Unit {0}) (PutsBy peer m o)
+k_puts_by : (peer : ℕ) (m : Forward) (o : Offer) → Bounds (Unit {0}) (PutsInLaneBy peer m o)
 k_puts_by peer m (Queued n) = k_acting _ (λ p h. tt)
 k_puts_by peer m Full = k_acting _ (λ p h. tt)
 k_puts_by peer m AtEnd = k_stops
@@ -124,7 +124,7 @@ walks = record {
   join = k_then;
   calls = λ client event on. record { of = λ r p h acts d. calls_at client event on (seat_at client h) r p h acts d };
   passed = λ m x. k_numbered turn_at_end (λ p h. Passed m x.0 x.1.0 x.1.1) (λ p h. tt);
-  puts = λ peer m. k_looks (λ p h. offer_to peer h.bridge) (PutsBy peer m) (k_puts_by peer m);
+  puts = λ peer m. k_looks (λ p h. offer_to peer h.bridge) (PutsInLaneBy peer m) (k_puts_by peer m);
   names = λ c q f. record { of = λ x p h acts d. names_by c q f d.0 x p h acts d.1 d.2 };
 }
 

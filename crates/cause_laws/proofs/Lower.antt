@@ -18,7 +18,7 @@ use Rattle.session_table.specs.Calls.{stays}
 use Rattle.node_work.specs.declared.granted.Granted.{Granted}
 use Rattle.node_work.specs.Calling.{Calls}
 use Rattle.node_work.specs.Doings.{MakesPut, MakesSubscribe, Removes}
-use Rattle.node_work.specs.Passing.{content_of}
+use Rattle.node_work.specs.Passing.{content_given}
 use Rattle.node_work.specs.Working.{Doing, Returns, Looks, If, Then, InTurn}
 use Rattle.node_clients.specs.Ending as ending
 use Rattle.node_clients.specs.Passing as passing
@@ -45,7 +45,7 @@ module _ (K : (A : Type 0) → (Option A → Doing) → Type 0) (w : Walks K) (m
 
   -- ---- a message that is passed on
   retains : (m : Message) → Does (passing.Retains m)
-  retains m = w.by_test m.retain (MakesPut (content_of m)) (Returns tt) (makes.put (content_of m)) (w.returns tt)
+  retains m = w.by_test m.retain (MakesPut (content_given m)) (Returns tt) (makes.put (content_given m)) (w.returns tt)
 
   passes : (m : Message) → Does (passing.Passes m)
   passes m = w.join (passing.Retains m) (λ _. Looks (λ p h. h.at) (passing.CopiesAt m)) (retains m) (λ _. w.looks (λ p h. h.at) (passing.CopiesAt m) (copies_at K w m))
@@ -76,17 +76,17 @@ module _ (K : (A : Type 0) → (Option A → Doing) → Type 0) (w : Walks K) (m
   -- ---- SUBSCRIBE and UNSUBSCRIBE
   grants_by : (client : List ℕ) (identifier : ℕ) (f : SubscribeFilter) (stood : Bool) → K Granted (subscribing.GrantsBy client identifier f stood)
   grants_by client identifier f stood =
-      let full = Returns (subscribing.refused 151) in
+      let full = Returns (subscribing.filter_refused 151) in
       let given = subscribing.granted f (identifiers_of identifier) stood in
       let One = subscribing.SubscribesTo client identifier f in
-      let one = w.looks (λ p h. h.homes.version) (λ version. MakesSubscribe (subscribing.entry_of client f identifier version)) (λ version. makes.subscribe (subscribing.entry_of client f identifier version)) in
+      let one = w.looks (λ p h. h.homes.version) (λ version. MakesSubscribe (subscribing.subscription_entry client f identifier version)) (λ version. makes.subscribe (subscribing.subscription_entry client f identifier version)) in
       w.looks (λ p h. not stood && subscribing.has_most client h.store) (λ is. If is full (Then One (λ _. Returns given)))
-      (λ is. w.by_test is full (Then One (λ _. Returns given)) (w.returns (subscribing.refused 151)) (w.join One (λ _. Returns given) one (λ _. w.returns given)))
+      (λ is. w.by_test is full (Then One (λ _. Returns given)) (w.returns (subscribing.filter_refused 151)) (w.join One (λ _. Returns given) one (λ _. w.returns given)))
 
   grants : (client : List ℕ) (identifier : ℕ) (f : SubscribeFilter) → K Granted (subscribing.Grants client identifier f)
   grants client identifier f =
-      w.by_whether (IsFilter f.filter) (Looks (λ p h. subscribing.stands client f.filter h) (subscribing.GrantsBy client identifier f)) (Returns (subscribing.refused 143))
-      (w.looks (λ p h. subscribing.stands client f.filter h) (subscribing.GrantsBy client identifier f) (grants_by client identifier f)) (w.returns (subscribing.refused 143))
+      w.by_whether (IsFilter f.filter) (Looks (λ p h. subscribing.stands client f.filter h) (subscribing.GrantsBy client identifier f)) (Returns (subscribing.filter_refused 143))
+      (w.looks (λ p h. subscribing.stands client f.filter h) (subscribing.GrantsBy client identifier f) (grants_by client identifier f)) (w.returns (subscribing.filter_refused 143))
 
   subscribes : (c : ℕ) (client : List ℕ) (q : Subscribe) → Does (subscribing.ServesSubscribe c client q)
   subscribes c client q =
@@ -112,16 +112,15 @@ module _ (K : (A : Type 0) → (Option A → Doing) → Type 0) (w : Walks K) (m
   unsubscribes_by c client _ = w.returns tt
 
   -- ---- a packet of an accepted client
-  does_asked : (ask : Option Ask) (dropped : Bool) (c : ℕ) (client : List ℕ) (k : Packet) → Does (serving.DoesAsked ask dropped c client k)
-  does_asked None dropped c client k = w.by_test dropped passing.Drops (Returns tt) (drops K w) (w.returns tt)
-  does_asked (Some (asks.Pass m)) dropped c client k = passes m
-  does_asked (Some asks.Subscribe) dropped c client k = subscribes_by c client k
-  does_asked (Some asks.Unsubscribe) dropped c client k = unsubscribes_by c client k
+  does_asked : (ask : Option Ask) (c : ℕ) (client : List ℕ) (k : Packet) (room : Bool) (end : Option ℕ) → Does (serving.DoesAsked ask c client k room end)
+  does_asked None c client k room end = w.by_test (serving.is_dropped k room end) passing.Drops (Returns tt) (drops K w) (w.returns tt)
+  does_asked (Some (asks.Pass m)) c client k room end = passes m
+  does_asked (Some asks.Subscribe) c client k room end = subscribes_by c client k
+  does_asked (Some asks.Unsubscribe) c client k room end = unsubscribes_by c client k
 
   does_reaction : (c : ℕ) (client : List ℕ) (k : Packet) (room : Bool) (r : Reaction) → Does (serving.DoesReaction c client k room r)
   does_reaction c client k room r =
-      let dropped = serving.is_dropped k room r.end in
-      w.join (serving.DoesAsked r.ask dropped c client k) (λ _. ending.ClosesAfter r.end c client) (does_asked r.ask dropped c client k) (λ _. closes_after K w ticks_of r.end c client)
+      w.join (serving.DoesAsked r.ask c client k room r.end) (λ _. ending.ClosesAfter r.end c client) (does_asked r.ask c client k room r.end) (λ _. closes_after K w ticks_of r.end c client)
 
   pub serves : (c : ℕ) (client : List ℕ) (k : Packet) → Does (serving.ServesPacket c client k)
   serves c client k =

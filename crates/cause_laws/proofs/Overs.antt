@@ -14,7 +14,7 @@ use Rattle.session_laws.specs.Runs.{Event}
 use Rattle.session_table.specs.Seats.{Seat}
 use Rattle.node_work.specs.Acts.{Act, Store, Made, Session, Bridge, MomentTaken, Named, Passed, Runs, next}
 use Rattle.node_work.specs.Calling.{Calls, CallsAt}
-use Rattle.node_work.specs.Doings.{MakesRemove, MakesRemoveBelow, Removes, PutsBy}
+use Rattle.node_work.specs.Doings.{MakesRemove, MakesRemoveBelow, Removes, PutsInLaneBy}
 use Rattle.node_work.specs.declared.counts.Missed.TheVariants.{LaneFull}
 use Rattle.node_work.specs.Held.Bridge.{Put as PutInto, Left_out}
 use Rattle.node_work.specs.Held.Making.{number_at_end, put_at_end, removal, removal_below}
@@ -132,7 +132,7 @@ calls_at client event on (Some seat) r p h acts d =
 k_calls : (client : List ℕ) (event : ℕ → Event) (on : Option ℕ → Option ℕ) → Keeps Reaction (Calls client event on)
 k_calls client event on = record { of = λ r p h acts d. calls_at client event on (seat_at client h) r p h acts d }
 
-k_puts_by : (peer : ℕ) (m : Forward) (o : Offer) → Keeps (Unit {0}) (PutsBy peer m o)
+k_puts_by : (peer : ℕ) (m : Forward) (o : Offer) → Keeps (Unit {0}) (PutsInLaneBy peer m o)
 k_puts_by peer m (Queued n) = k_acting (λ p h. Bridge (PutInto peer m)) (λ p h. tt)
 k_puts_by peer m Full = k_acting (λ p h. Bridge (Left_out LaneFull)) (λ p h. tt)
 k_puts_by peer m AtEnd = k_stops
@@ -154,7 +154,7 @@ walks = record {
   join = k_then;
   calls = k_calls;
   passed = λ m x. k_numbered turn_at_end (λ p h. Passed m x.0 x.1.0 x.1.1) (λ p h client e. cc e);
-  puts = λ peer m. k_looks (λ p h. offer_to peer h.bridge) (PutsBy peer m) (k_puts_by peer m);
+  puts = λ peer m. k_looks (λ p h. offer_to peer h.bridge) (PutsInLaneBy peer m) (k_puts_by peer m);
   names = λ c q f. k_finds IsNextNumber (connecting.NamesBy c q) (k_names_by c q f);
 }
 

@@ -34,12 +34,12 @@ use Rattle.node_work.specs.declared.counts.Missed.TheVariants.{LaneFull, BadFram
 use Rattle.node_work.specs.declared.outcome.Output.TheVariants.{Send, Close}
 use Rattle.node_work.specs.Acts.{Act, StoreAct, MomentTaken, Began, Moved, Store, Made, Merged, Connection, Session, Bridge, Out, Named, Acknowledged, Passed, Dropped}
 use Rattle.node_work.specs.Calling.{Calls, Queues, QueuesOne}
-use Rattle.node_work.specs.Doings.{Sends, Disconnects, Redirects, Misses, Puts, RoutesBy, Routes, TakesMoment, GivesBody, GivesFrame, is_small}
+use Rattle.node_work.specs.Doings.{Sends, Disconnects, Redirects, Misses, PutsInLane, RoutesBy, Routes, TakesMoment, GivesBody, GivesFrame, is_small}
 use Rattle.node_work.specs.Held.Bridge.{Took, Gave, Got as GotBy, Believed, Left_out}
 use Rattle.node_work.specs.Held.Connections.{Opened, Accepted, Closed, Fed, is_open, client_at, first_at}
 use Rattle.node_work.specs.Held.Feeding.{cut_of}
 use Rattle.node_work.specs.Held.Sessions.{SessionAct, Begun, Called, Over, takes_disconnect, takes_packet, will_is_due, end_is_due, connection_at, has_session}
-use Rattle.node_work.specs.Frames.{is_for, is_other}
+use Rattle.node_work.specs.Frames.{is_for_node, is_other}
 use Rattle.node_work.specs.Packets.{moved_packet, refused_packet}
 use Rattle.node_work.specs.Passing.{turn_at_end}
 use Rattle.node_work.specs.View.{Place, HeldView, ConnectionView}
@@ -98,7 +98,7 @@ pub record Walks (K : (A : Type 0) → (Option A → Doing) → Type 0) : Type 1
   pub join : {A B : Type 0} (P : Option A → Doing) (Q : A → Option B → Doing) → K A P → ((y : A) → K B (Q y)) → K B (Then P Q)
   pub calls : (client : List ℕ) (event : ℕ → Event) (on : Option ℕ → Option ℕ) → K Reaction (Calls client event on)
   pub passed : (m : Message) (x : passing.Made) → K (Unit {0}) (Numbered turn_at_end (λ p h. Passed m x.0 x.1.0 x.1.1))
-  pub puts : (peer : ℕ) (m : Forward) → K (Unit {0}) (Puts peer m)
+  pub puts : (peer : ℕ) (m : Forward) → K (Unit {0}) (PutsInLane peer m)
   pub names : (c : ℕ) (p : Connect) → ((client : List ℕ) → K (Unit {0}) (connecting.Accepts c p client)) → K (Unit {0}) (FindsWhere IsNextNumber (connecting.NamesBy c p))
 
 module _ (K : (A : Type 0) → (Option A → Doing) → Type 0) (w : Walks K) where
@@ -191,7 +191,7 @@ module _ (K : (A : Type 0) → (Option A → Doing) → Type 0) (w : Walks K) wh
 
     pub acknowledges : (c : ℕ) (client : List ℕ) (packet : ℕ) (given : List Granted) → Does (subscribing.SendsSuback c client packet given)
     acknowledges c client packet given =
-        w.join (Calls client (λ at. answers packet (subscribing.reasons_of given)) stays) (λ r. subscribing.OffersAfter r.end c client packet given) (w.calls client (λ at. answers packet (subscribing.reasons_of given)) stays)
+        w.join (Calls client (λ at. answers packet (subscribing.granted_reasons given)) stays) (λ r. subscribing.OffersAfter r.end c client packet given) (w.calls client (λ at. answers packet (subscribing.granted_reasons given)) stays)
         (λ r. offers_after r.end c client packet given)
 
     pub unacknowledges : (c : ℕ) (client : List ℕ) (packet : ℕ) (codes : List ℕ) → Does (unsubscribing.SendsUnsuback c client packet codes)
@@ -358,7 +358,7 @@ module _ (K : (A : Type 0) → (Option A → Doing) → Type 0) (w : Walks K) wh
 
         takes_table : (homes : Table) → Does (tables.TakesTable homes)
         takes_table homes =
-            w.looks (tables.is_newer homes) (λ newer. If newer (tables.TakesNewerTable homes) (Misses TableRefused))
+            w.looks (tables.is_newer_table homes) (λ newer. If newer (tables.TakesNewerTable homes) (Misses TableRefused))
             (λ newer. w.by_test newer (tables.TakesNewerTable homes) (Misses TableRefused)
             (w.join (Acting (λ p h. Moved homes)) (λ _. tables.SendsAway) (w.acting (λ p h. Moved homes) (λ p h. tt)) (λ _. sends_away)) (misses TableRefused))
 
@@ -413,7 +413,7 @@ module _ (K : (A : Type 0) → (Option A → Doing) → Type 0) (w : Walks K) wh
         hears_frame : (frame : Option BridgeFrame) → Does (bridge.HearsFrame frame)
         hears_frame None = misses BadFrame
         hears_frame (Some frame) =
-            w.looks (λ p h. is_for p frame) (λ here. If here (bridge.TakesBody frame.from frame.body) (Misses BadFrame))
+            w.looks (λ p h. is_for_node p frame) (λ here. If here (bridge.TakesBody frame.from frame.body) (Misses BadFrame))
             (λ here. w.by_test here (bridge.TakesBody frame.from frame.body) (Misses BadFrame) (takes_body frame.from frame.body) (misses BadFrame))
 
         -- ---- events

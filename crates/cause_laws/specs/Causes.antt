@@ -17,9 +17,9 @@ use Rattle.replica_store.specs.Stamps.{Stamp}
 use Rattle.session_laws.specs.Runs.{takes}
 use Rattle.node_work.specs.Acts.{Act, Store, Made, Session}
 use Rattle.node_work.specs.Held.Sessions.{SessionStep, Called, Over}
-use Rattle.node_work.specs.Passing.{content_of}
+use Rattle.node_work.specs.Passing.{content_given}
 use Rattle.node_work.specs.View.{HeldView}
-use Rattle.node_clients.specs.Subscribing.{entry_of, identifier_of}
+use Rattle.node_clients.specs.Subscribing.{subscription_entry, identifier_of}
 use Rattle.broker_node.specs.declared.event.EventKind.{EventKind}
 use Rattle.broker_node.specs.declared.event.EventKind.TheVariants as kinds
 use Rattle.passing_laws.specs.Sending.{IsIn}
@@ -66,7 +66,7 @@ pub record IsOfSubscribe (before : List Act) (o : Operation) : Type 0 where
   pub dot : Dot
   pub cover : Dots
   pub version : ℕ
-  pub is : o ≡ operations.Subscribe dot (entry_of after.call.client filter (identifier_of subscribe) version) cover
+  pub is : o ≡ operations.Subscribe dot (subscription_entry after.call.client filter (identifier_of subscribe) version) cover
 
 -- the last call takes an UNSUBSCRIBE, and the operation removes what stands of its client to one of the filters
 pub record IsOfUnsubscribe (O : List Operation) (before : List Act) (o : Operation) : Type 0 where
@@ -91,7 +91,7 @@ pub record IsOfMessage (before : List Act) (o : Operation) : Type 0 where
   pub retain : message.retain ≡ true
   pub dot : Dot
   pub stamp : Stamp
-  pub is : o ≡ operations.Put dot stamp (content_of message)
+  pub is : o ≡ operations.Put dot stamp (content_given message)
 
 -- the subscriptions that end with a session: those that were made under a version of the table of homes below this one, which is the one
 -- after the node's where its client's home is here, and the node's where that is elsewhere

@@ -12,7 +12,7 @@ use Rattle.broker_node.specs.declared.event.Event.{Event}
 use Rattle.broker_node.specs.declared.event.EventKind.TheVariants as kinds
 use Rattle.cluster_play.specs.Worlds.{World}
 use Rattle.cluster_play.specs.Runs.{Played}
-use Rattle.cluster_play.specs.Histories.{Reached, site, event_of, acts_of, operations_amid}
+use Rattle.cluster_play.specs.Histories.{Reached, site, event_committed, acts_of, operations_amid}
 use Rattle.cluster_play.specs.NextOperations.{CoversWhatStands, CoversWhatStandsBelow}
 use Rattle.cluster_play.specs.Agreement.{HoldsAmid}
 use Rattle.cause_laws.specs.Causes.{EndsBelow}
@@ -69,4 +69,4 @@ pub record EvictsWithRemove (run : List Played) (m : Played) (client : List ℕ)
 abbrev pub EvictionsHaveRemoves : Type 0
 EvictionsHaveRemoves =
     (run later : List Played) (m : Played) (w : World) → Reached (run ++ m ∷ later) w
-    → (e : Event) (client : List ℕ) → event_of m.fate ≡ Some e → e.kind ≡ kinds.Evict client → EvictsWithRemove run m client
+    → (e : Event) (client : List ℕ) → event_committed m.fate ≡ Some e → e.kind ≡ kinds.Evict client → EvictsWithRemove run m client

@@ -17,7 +17,7 @@ use Rattle.bridge_frames.specs.Frames.{HasSpelling, frame_in}
 use Rattle.node_work.specs.declared.frame.Frame.{Frame}
 use Rattle.node_work.specs.Held.Bridge.{written_frame}
 use Rattle.node_work.specs.View.{HeldView}
-use Rattle.cluster_play.specs.Worlds.{World, numbered}
+use Rattle.cluster_play.specs.Worlds.{World, nth_from_one}
 use Rattle.cluster_play.specs.Runs.{Played}
 use Rattle.cluster_play.specs.Histories.{Reached, made, taken, operations}
 use Rattle.cluster_play.specs.Agreement.{Holds, AreAlike}
@@ -38,13 +38,13 @@ node_holds run w r i h at =
 pub own_dots : (run : List Played) (w : World) → Reached run w → HaveOwnDots (made run)
 own_dots run w r = (explained run w r).own_dots
 
-pub frames_spelled : (run : List Played) (w : World) → Reached run w → (number : ℕ) (sent : Frame) → numbered w.frames number ≡ Some sent → (f : BridgeFrame) × (sent ≡ written_frame f) × HasSpelling f × (frame_in sent.bytes ≡ Some f)
+pub frames_spelled : (run : List Played) (w : World) → Reached run w → (number : ℕ) (sent : Frame) → nth_from_one w.frames number ≡ Some sent → (f : BridgeFrame) × (sent ≡ written_frame f) × HasSpelling f × (frame_in sent.bytes ≡ Some f)
 frames_spelled run w r number sent at =
     let k = number_is w.frames number sent at in
     let g = (explained run w r).frames k.0 sent k.1 in
     (g.frame, g.is, g.told.spelled, given_read (length w.sites) (made run) (λ i d. taken i run d) sent g)
 
-pub delta_frames : (run : List Played) (w : World) → Reached run w → (number : ℕ) (sent : Frame) (f : BridgeFrame) (s : State) → numbered w.frames number ≡ Some sent → frame_in sent.bytes ≡ Some f → f.body ≡ Delta s
+pub delta_frames : (run : List Played) (w : World) → Reached run w → (number : ℕ) (sent : Frame) (f : BridgeFrame) (s : State) → nth_from_one w.frames number ≡ Some sent → frame_in sent.bytes ≡ Some f → f.body ≡ Delta s
     → IsStateOf (filter (λ o. set.contains s.taken (dot_of o)) (made run)) s
 delta_frames run w r number sent f s at reads is =
     let k = number_is w.frames number sent at in

@@ -14,7 +14,7 @@ use Rattle.bridge_frames.specs.Frames.{frame_in, spelling}
 use Rattle.node_work.specs.declared.frame.Frame.{Frame}
 use Rattle.node_work.specs.declared.outcome.Output.{Output}
 use Rattle.node_work.specs.Acts.{Act, Runs, gather, heard_in, op_in, merge_in}
-use Rattle.node_work.specs.Frames.{is_for, states_in}
+use Rattle.node_work.specs.Frames.{is_for_node, states_in}
 use Rattle.node_work.specs.Held.Bridge.{BridgeAct}
 use Rattle.node_work.specs.View.{Place, HeldView}
 use Rattle.broker_node.specs.Step.{Steps, IsHeard, IsHeardOf, IsHeardIn, brought, brought_in}
@@ -62,7 +62,7 @@ module _ (p : Past) (w : World) (e : Explains p w) where
   all_brought q (kinds.Closed c) known = tt
   all_brought q (kinds.Frame bytes) known =
       let b = brings p w e bytes known in
-      subst (λ o. AllSound p.ops (brought_in q o)) (sym b.read) (all_if (is_for q b.frame) (states_in b.frame.body) (all_in b.frame.body b.told.sound))
+      subst (λ o. AllSound p.ops (brought_in q o)) (sym b.read) (all_if (is_for_node q b.frame) (states_in b.frame.body) (all_in b.frame.body b.told.sound))
   all_brought q (kinds.Linked peer) known = tt
   all_brought q (kinds.Ship peer) known = tt
   all_brought q kinds.Tick known = tt
@@ -95,7 +95,7 @@ module _ (p : Past) (w : World) (e : Explains p w) where
   so_brought q (kinds.Closed c) bs known h = none_so bs h
   so_brought q (kinds.Frame bytes) bs known h =
       let b = brings p w e bytes known in
-      so_if (is_for q b.frame) (IsHeardOf b.frame.from b.frame.body bs) bs (so_in b.frame.from b.frame.body bs b.told.lists) (subst (λ o. IsHeardIn q o bs) b.read h)
+      so_if (is_for_node q b.frame) (IsHeardOf b.frame.from b.frame.body bs) bs (so_in b.frame.from b.frame.body bs b.told.lists) (subst (λ o. IsHeardIn q o bs) b.read h)
   so_brought q (kinds.Linked peer) bs known h = none_so bs h
   so_brought q (kinds.Ship peer) bs known h = none_so bs h
   so_brought q kinds.Tick bs known h = none_so bs h

@@ -8,7 +8,7 @@ use Rattle.broker_node.specs.declared.event.Event.{Event}
 use Rattle.node_keeper.specs.declared.fault.KeeperFault.{KeeperFault}
 use Rattle.node_keeper.specs.declared.fault.KeeperFault.TheVariants.{NoMemory, Rows, NumbersAtEnd, Stopped}
 use Rattle.node_keeper.specs.declared.keeper.Keeper.{Keeper}
-use Rattle.node_keeper.specs.Keeping.{AreOfNone, CannotOpen, Commits, KeeperHasCauseAt, IsCounted, OpensFromRows, may_be_marked}
+use Rattle.node_keeper.specs.Keeping.{AreOfNone, CannotOpen, Commits, KeeperHasCauseAt, IsOneFailureMore, OpensFromRows, may_be_marked}
 use Rattle.node_keeper.specs.Views.{node_of, rows_of}
 use Rattle.node_work.specs.declared.frame.Frame.{Frame}
 use Rattle.node_work.specs.declared.outcome.Output.{Output}
@@ -21,7 +21,7 @@ use Rattle.cluster_play.specs.declared.line.Line.TheVariants as lines
 use Rattle.cluster_play.specs.declared.step.Step.TheVariants as steps
 use Rattle.cluster_play.specs.Clusters.{site_of}
 use Rattle.cluster_play.specs.Playing.{IsDoneAt, MemoryRunsOut}
-use Rattle.cluster_play.specs.Worlds.{Site, World, Fate, Released, Lost, Cut, Faulted, Was_down, Restarted, Befalls, IsInMemory, MayStop, MayStayDown, OfEvent, OfCrashBefore, OfCrashAfter, OfRestart, arrival, changed, numbered, stopped, frames_in}
+use Rattle.cluster_play.specs.Worlds.{Site, World, Fate, Released, Lost, Cut, Faulted, Was_down, Restarted, Befalls, IsInMemory, MayStop, MayStayDown, OfEvent, OfCrashBefore, OfCrashAfter, OfRestart, arrival, world_with, nth_from_one, stopped, frames_in}
 use Rattle.cluster_play.proofs.Lasts.{none_without}
 use Rattle.cluster_play.proofs.Sites.{get_map, map_set, set_own}
 
@@ -61,11 +61,11 @@ has_cause None n e fault is other cause memory = absurd (other cause)
 has_cause (Some h) n e fault is other cause memory = record { held = h; up = is; cause = cause; in_memory = memory }
 
 -- a store of rows in memory counts no failure, and finds no bad row when it is changed
-no_count : {P : Type 0} → IsCounted 0 0 → P
+no_count : {P : Type 0} → IsOneFailureMore 0 0 → P
 no_count (inl h) = absurd (omega arith)
 no_count (inr h) = absurd (omega arith)
 
-pub in_memory : (fault : KeeperFault) → (fault ≡ Rows row_faults.BadRow → ⊥) → (fault ≡ Rows row_faults.Device → IsCounted 0 0) → IsInMemory fault
+pub in_memory : (fault : KeeperFault) → (fault ≡ Rows row_faults.BadRow → ⊥) → (fault ≡ Rows row_faults.Device → IsOneFailureMore 0 0) → IsInMemory fault
 in_memory NoMemory bad device = tt
 in_memory (Rows row_faults.NoMemory) bad device = refl
 in_memory (Rows row_faults.Device) bad device = no_count (device refl)
@@ -78,7 +78,7 @@ none_before : (p : Place) (rows rows' : Content) → may_be_marked p.id rows row
 none_before p rows rows' (inl e) none = subst (AreOfNone p) e none
 none_before p rows rows' (inr e) none = subst (AreOfNone p) (sym e.0) (none_without p)
 
-pub stays_down : (s : Site) (rows' : Content) (fault : KeeperFault) → CannotOpen fault → may_be_marked s.node.place.id s.rows rows' → (fault ≡ Rows row_faults.BadRow → AreOfNone s.node.place rows') → (fault ≡ Rows row_faults.Device → IsCounted 0 0)
+pub stays_down : (s : Site) (rows' : Content) (fault : KeeperFault) → CannotOpen fault → may_be_marked s.node.place.id s.rows rows' → (fault ≡ Rows row_faults.BadRow → AreOfNone s.node.place rows') → (fault ≡ Rows row_faults.Device → IsOneFailureMore 0 0)
     → MayStayDown s fault
 stays_down s rows' NoMemory cannot m bad device = tt
 stays_down s rows' (Rows row_faults.NoMemory) cannot m bad device = inl refl
@@ -100,10 +100,10 @@ module _ (nodes : List (Keeper MemoryRows)) (frames : List Frame) (i : ℕ) (k :
   pub at : slice_get (map site_of nodes) i ≡ Some (site_of k)
   at = get_map site_of nodes i k (get_there nodes i k below there)
 
-  same : (k' : Keeper MemoryRows) (s : Site) (fs more : List Frame) → site_of k' ≡ s → fs ≡ frames ++ more → world_of (set nodes i k') fs ≡ changed before i s more
+  same : (k' : Keeper MemoryRows) (s : Site) (fs more : List Frame) → site_of k' ≡ s → fs ≡ frames ++ more → world_of (set nodes i k') fs ≡ world_with before i s more
   same k' s fs more e added = λ n. record { sites = (map_set site_of nodes i k' ∙ ap (set (map site_of nodes) i) e) n; frames = added n }
 
-  alone : (k' : Keeper MemoryRows) (s : Site) → site_of k' ≡ s → world_of (set nodes i k') frames ≡ changed before i s []
+  alone : (k' : Keeper MemoryRows) (s : Site) → site_of k' ≡ s → world_of (set nodes i k') frames ≡ world_with before i s []
   alone k' s e = same k' s frames [] e (sym (append-nil frames))
 
   still : (k' : Keeper MemoryRows) → site_of k' ≡ site_of k → world_of (set nodes i k') frames ≡ before
@@ -116,7 +116,7 @@ module _ (nodes : List (Keeper MemoryRows)) (frames : List Frame) (i : ℕ) (k :
       (site_of k, at, refl, (refl, (site_of k', record { commits = c; does = refl; place = place }, same k' (site_of k') fs (frames_in outputs) refl added)))
 
   -- the sites then are those after the step
-  pub sites_done : (outputs : List Output) (k' : Keeper MemoryRows) (fs : List Frame) → (world_of (set nodes i k') fs).sites ≡ (changed before i (site_of k') (frames_in outputs)).sites
+  pub sites_done : (outputs : List Output) (k' : Keeper MemoryRows) (fs : List Frame) → (world_of (set nodes i k') fs).sites ≡ (world_with before i (site_of k') (frames_in outputs)).sites
   sites_done outputs k' fs = map_set site_of nodes i k'
 
   -- and a crash before anything is given out
@@ -176,6 +176,6 @@ module _ (nodes : List (Keeper MemoryRows)) (frames : List Frame) (i : ℕ) (k :
   not_restarted fault k' may node rows = (site_of k, at, may, (refl, (site_of k', record { node = node; rows = rows }, alone k' (site_of k') refl)))
 
 -- memory that is refused at the event of a delivery is refused at the delivery
-pub delivery_out : (w w' : World) (number at : ℕ) (f : Frame) → numbered w.frames number ≡ Some f → MemoryRunsOut w (steps.Event f.to (arrival f at)) w' → MemoryRunsOut w (steps.Deliver number at) w'
+pub delivery_out : (w w' : World) (number at : ℕ) (f : Frame) → nth_from_one w.frames number ≡ Some f → MemoryRunsOut w (steps.Event f.to (arrival f at)) w' → MemoryRunsOut w (steps.Deliver number at) w'
 delivery_out w w' number at f there (inl same) = inl same
 delivery_out w w' number at f there (inr x) = inr (x.0, x.1, x.2, x.3, x.4, (f, there, x.5), x.6)

@@ -35,7 +35,7 @@ use Rattle.node_keeper.specs.Keeping.{AreOf, OpensFromRows}
 use Rattle.node_rows.specs.Reading.{AreOpened, IsLasting, RowsTellAll}
 use Rattle.node_rows.specs.Rows.{Lasting, mark, mark_at, mark_key, new_node, node_row}
 use Rattle.node_work.specs.Lasting.{CanLast, IsWoken, lasting}
-use Rattle.node_work.specs.View.{NodeView, Place, fresh, opened, place_of, woken}
+use Rattle.node_work.specs.View.{NodeView, Place, fresh, fresh_node, place_of, woken}
 use Rattle.cluster_play.proofs.Bools.{none-some, nat_is}
 use Rattle.cluster_play.proofs.Bridging.{one_of_alike}
 use Rattle.cluster_play.proofs.Lasts.{lasts_of}
@@ -154,7 +154,7 @@ empty_seats : (count : ℕ) (seats : Seats) → AreOpened (new_node count) seats
 empty_seats count seats are = map.same_map nat_list_cmp_total alike _ _ (λ client. are client ∙ sym (map.get-empty {X = Seat} (slice_cmp nat_cmp) client))
 
 pub opened_new : RowsTellAll → (id : ℕ) (homes : Table) (rows rows' : Content) (n : NodeView) → rows ≡ map.empty → OpensFromRows (place_of id homes) homes rows rows' n
-    → (n ≡ opened id homes) × (rows' ≡ map.insert map.empty mark_key (mark id 0))
+    → (n ≡ fresh_node id homes) × (rows' ≡ map.insert map.empty mark_key (mark id 0))
 opened_new tell id homes rows rows' n none opens =
     let o = opens.reopened in
     let alone : rows' ≡ map.insert map.empty mark_key (mark id 0) = elim opens.mark [ inl e ↦ e.1 | inr e ↦ absurd (e.0 none) ] in

@@ -11,7 +11,7 @@ use Rattle.node_work.specs.declared.outcome.Output.{Output}
 use Rattle.node_work.specs.declared.outcome.Output.TheVariants.{Send, Close, Frame as Release}
 use Rattle.node_work.specs.Acts.{Act, MomentTaken, Began, Moved, Store, Connection, Session, Bridge, Out, Named, Acknowledged, Passed, Dropped, Runs, gather, output_in}
 use Rattle.node_work.specs.Held.Bridge.{Put, Took, Got, Believed, Gave, Left_out, written_frame}
-use Rattle.node_work.specs.Held.Sessions.{SessionAct, Begun, Called, Over, outputs_on, last_of, packet_output, session_outputs}
+use Rattle.node_work.specs.Held.Sessions.{SessionAct, Begun, Called, Over, outputs_on, end_outputs, packet_output, session_outputs}
 use Rattle.node_work.specs.View.{Place, HeldView}
 use Rattle.cluster_play.specs.Worlds.{frames_in}
 use Rattle.cluster_play.proofs.Bools.{some_is, none-some}
@@ -32,14 +32,14 @@ no_packet_frame : (c at : ℕ) (packets : List Packet) (more : List Output) → 
 no_packet_frame c at [] more = refl
 no_packet_frame c at (p ∷ ps) more = no_packet_frame c at ps more
 
-no_last_frame : (c : ℕ) (end : Option ℕ) (more : List Output) → frames_in (last_of c end ++ more) ≡ frames_in more
+no_last_frame : (c : ℕ) (end : Option ℕ) (more : List Output) → frames_in (end_outputs c end ++ more) ≡ frames_in more
 no_last_frame c None more = refl
 no_last_frame c (Some code) more = elim (code == 0) as (λ b. frames_in (cond b [] (Send c (written (disconnect code)) ∷ []) ++ more) ≡ frames_in more) [ true ↦ refl | false ↦ refl ]
 
 no_reaction_frame : (on : Option ℕ) (at : ℕ) (r : Reaction) (more : List Output) → frames_in (outputs_on on at r ++ more) ≡ frames_in more
 no_reaction_frame None at r more = refl
 no_reaction_frame (Some c) at r more =
-    ap frames_in (append_assoc (map (packet_output c at) r.packets) (last_of c r.end) more) ∙ no_packet_frame c at r.packets (last_of c r.end ++ more) ∙ no_last_frame c r.end more
+    ap frames_in (append_assoc (map (packet_output c at) r.packets) (end_outputs c r.end) more) ∙ no_packet_frame c at r.packets (end_outputs c r.end ++ more) ∙ no_last_frame c r.end more
 
 no_session_frame : (a : SessionAct) (more : List Output) → frames_in (session_outputs a ++ more) ≡ frames_in more
 no_session_frame (Begun client) more = refl

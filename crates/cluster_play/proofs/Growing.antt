@@ -13,7 +13,7 @@ use Rattle.replica_store.proofs.Unions.{among_cases}
 use Rattle.node_bridge.specs.View.{keeps}
 use Rattle.node_work.specs.Acts.{Act, MomentTaken, Began, Moved, Store, Connection, Session, Bridge, Out, Named, Acknowledged, Passed, Dropped, Made, Merged, Does, Runs, gather, op_in, merge_in}
 use Rattle.node_work.specs.Held.Bridge.{BridgeAct, Put, Took, Got, Believed, Gave, Left_out, bridged}
-use Rattle.node_work.specs.Held.Connections.{ConnectionAct, Opened, Fed, Accepted, Closed, connected}
+use Rattle.node_work.specs.Held.Connections.{ConnectionAct, Opened, Fed, Accepted, Closed, after_connection_act}
 use Rattle.node_work.specs.Held.Sessions.{SessionAct, Begun, Called, Over, called}
 use Rattle.node_work.specs.View.{Place, HeldView}
 use Rattle.cluster_play.specs.Histories.{same_dot, gain_in, gained}
@@ -48,7 +48,7 @@ leaves_by h m v e l = subst (λ (u : HeldView). Leaves h u) (sym e) l
 leaves_itself : (h : HeldView) → Leaves h h
 leaves_itself h = record { store = refl; deltas = refl }
 
-connection_leaves : (h : HeldView) (a : ConnectionAct) → Leaves h (connected h a)
+connection_leaves : (h : HeldView) (a : ConnectionAct) → Leaves h (after_connection_act h a)
 connection_leaves h (Opened c) = record { store = refl; deltas = refl }
 connection_leaves h (Fed c piece) = record { store = refl; deltas = refl }
 connection_leaves h (Accepted c client) = record { store = refl; deltas = refl }

@@ -8,7 +8,7 @@ use Rattle.session_rows.specs.Durable.{Durable, IsDurable}
 use Rattle.session_table.specs.Seats.{Seat}
 use Rattle.session_table.proofs.RowLaws.{durable-again}
 use Rattle.node_bridge.specs.View.{woken_bridge}
-use Rattle.node_keeper.specs.Keeping.{AreLasting, AreOf, AreOfNone, marked, may_be_marked}
+use Rattle.node_keeper.specs.Keeping.{AreLasting, AreOf, AreOfNone, marked_or_raised, may_be_marked}
 use Rattle.node_rows.specs.Reading.{HasNoLane, IsAmong, IsLasting, RowsTellAll}
 use Rattle.node_rows.specs.Sessions.{Plain, opened_seat}
 use Rattle.node_rows.specs.Versions.{AreFirst}
@@ -78,7 +78,7 @@ none_without p x (inr says) =
 not_first : (p : Place) (rows : Content) (h : HeldView) → AreOf p rows h → AreFirst (map.entries rows) → ⊥
 not_first p rows h are = not_both p.id (lasting h).named (map.entries rows) (sym (map.get-entries rows mark_key) ∙ are mark_key)
 
-marked_same : (p : Place) (rows rows' : Content) (h : HeldView) → AreOf p rows h → marked p.id rows rows' → rows' ≡ rows
+marked_same : (p : Place) (rows rows' : Content) (h : HeldView) → AreOf p rows h → marked_or_raised p.id rows rows' → rows' ≡ rows
 marked_same p rows rows' h are (inl e) = absurd (has_rows p rows h are e.0)
 marked_same p rows rows' h are (inr (some, inl first)) = absurd (not_first p rows h are first.0)
 marked_same p rows rows' h are (inr (some, inr same)) = same.1
@@ -95,7 +95,7 @@ pub record WokenAlike (p : Place) (rows : Content) (h h' : HeldView) : Type 0 wh
   pub bridge : h'.bridge ≡ woken_bridge h.bridge.lanes
 
 -- from the rows of what it held
-pub reopened : RowsTellAll → (p : Place) (homes : Table) (rows rows' : Content) (h h' : HeldView) (x : Lasting) → homes ≡ h.homes → IsLasting p.id (nodes_of p) (lasting h) → AreOf p rows h → marked p.id rows rows'
+pub reopened : RowsTellAll → (p : Place) (homes : Table) (rows rows' : Content) (h h' : HeldView) (x : Lasting) → homes ≡ h.homes → IsLasting p.id (nodes_of p) (lasting h) → AreOf p rows h → marked_or_raised p.id rows rows'
     → AreLasting p rows' x → IsWoken homes x h' → WokenAlike p rows' h h'
 reopened tell p homes rows rows' h h' x table can are m says woken =
     let same = marked_same p rows rows' h are m in

@@ -15,7 +15,7 @@ use Rattle.node_laws.proofs.LifeLaws as lives
 use Rattle.node_laws.proofs.MoveLaws.{moves_join, acts_are_moves}
 use Rattle.cluster_play.specs.Worlds.{Site, World}
 use Rattle.cluster_play.specs.Runs.{Played}
-use Rattle.cluster_play.specs.Histories.{IsFirst, homes_after, last_of, moves_at, moves_amid, Reached}
+use Rattle.cluster_play.specs.Histories.{IsFirst, homes_after, last_table, moves_at, moves_amid, Reached}
 use Rattle.cluster_play.specs.Agreement.{Holds, HoldsAmid}
 use Rattle.cluster_play.proofs.Explaining.{first_in, is_first}
 use Rattle.cluster_play.proofs.Kept.{explained}
@@ -54,7 +54,7 @@ sessions_are_runs_amid run w m r i before mid a =
     (amid_moves place (fresh l.first) run i before a.held mid l.moves (acts_are_moves place a.held mid before a.runs))
 
 -- ---- the table of homes that moves leave
-one_table : (p : Place) (h : HeldView) (a : Act) → Allowed p h a → (next h a).homes ≡ last_of h.homes (moved_in a)
+one_table : (p : Place) (h : HeldView) (a : Act) → Allowed p h a → (next h a).homes ≡ last_table h.homes (moved_in a)
 one_table p h (MomentTaken at) may = refl
 one_table p h Began may = refl
 one_table p h (Moved homes) may = refl

@@ -22,7 +22,7 @@ use Rattle.replica_store.specs.States.{State}
 use Rattle.replica_store.specs.StateOf.{IsStateOf}
 use Rattle.replica_store.proofs.Views.{cover_is, cover_below_is, count_is}
 use Rattle.node_work.specs.Acts.{IsMade, IsRemove}
-use Rattle.cluster_play.specs.NextOperations.{IsNextDot, CoversWhatStands, CoversWhatStandsBelow, IsRemoval, IsNextStamp, IsNext}
+use Rattle.cluster_play.specs.NextOperations.{IsNextDot, CoversWhatStands, CoversWhatStandsBelow, IsRemoval, IsNextStamp, IsNextOperation}
 use Rattle.cluster_play.proofs.Bools.{or_true, or_left, or_right}
 
 -- where something passes a test, its dot is taken
@@ -92,7 +92,7 @@ module _ (i : ℕ) (O : List Operation) (s : State) (own : HaveOwnDots O) (state
     below = subst (λ (t : Stamp). t.count < 2 ^ 62) (sym is) (below_end (next_count s) (2 ^ 62) fits);
   }
 
-  pub next_operation : (version : ℕ) (o : Operation) → IsMade i version s o → IsNext i version O o
+  pub next_operation : (version : ℕ) (o : Operation) → IsMade i version s o → IsNextOperation i version O o
   next_operation version (Subscribe dot entry cover) h =
       let same = h.1 in
       (next_number dot h.0 cc, next_cover entry.client (Some entry.filter) cover cc, h.2)

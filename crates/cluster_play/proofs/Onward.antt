@@ -8,7 +8,7 @@ use Rattle.cluster_play.specs.declared.line.Line.{Line}
 use Rattle.cluster_play.specs.declared.step.Step.{Step}
 use Rattle.cluster_play.specs.declared.step.Step.TheVariants as steps
 use Rattle.cluster_play.specs.Worlds.{World}
-use Rattle.cluster_play.specs.Runs.{Played, Run, steps_of, released, printed, IsKnown, BringsNone, BringsNoFrame, IsHonestStep, IsHonest}
+use Rattle.cluster_play.specs.Runs.{Played, Run, steps_of, frames_released, printed, IsKnown, BringsNone, BringsNoFrame, IsHonestStep, IsHonest}
 use Rattle.cluster_play.specs.Histories.{IsStart, Reached}
 use Rattle.cluster_play.specs.Playing.{IsPlayed}
 use Rattle.cluster_play.proofs.Paths.{run_join, step_frames}
@@ -51,7 +51,7 @@ honest_step sent (steps.Restart i) h = tt
 
 pub honest_free : (sent : List Frame) (run : List Played) → AllByRecursion BringsNoFrame (steps_of run) → IsHonest sent run
 honest_free sent [] h = tt
-honest_free sent (m ∷ run) h = (honest_step sent m.step h.0, honest_free (sent ++ released m.fate) run h.1)
+honest_free sent (m ∷ run) h = (honest_step sent m.step h.0, honest_free (sent ++ frames_released m.fate) run h.1)
 
 pub played_is_reached : (run : List Played) (w w' : World) (steps : List Step) (lines : List Line) → Reached run w → AllByRecursion BringsNoFrame steps → IsPlayed w steps lines w'
     → (more : List Played) × (steps_of more ≡ steps) × Reached (run ++ more) w' × (lines ≡ printed (length w.frames) more)

@@ -10,9 +10,9 @@ use Rattle.node_work.specs.Acts.{Act}
 use Rattle.cluster_play.specs.declared.fault.PlayFault.{PlayFault}
 use Rattle.cluster_play.specs.declared.step.Step.{Step}
 use Rattle.cluster_play.specs.declared.step.Step.TheVariants as steps
-use Rattle.cluster_play.specs.Worlds.{Site, World, Fate, Released, Lost, Cut, Faulted, Was_down, Restarted, Becomes, Happens, Lacks, stopped, numbered}
-use Rattle.cluster_play.specs.Runs.{Played, Run, released, IsKnown, IsHonestStep, IsHonest}
-use Rattle.cluster_play.specs.Histories.{event_of, acts_of, ops_of, made, gains, taken, own_moves, moves_at, IsStart, Reached}
+use Rattle.cluster_play.specs.Worlds.{Site, World, Fate, Released, Lost, Cut, Faulted, Was_down, Restarted, Becomes, Happens, Lacks, stopped, nth_from_one}
+use Rattle.cluster_play.specs.Runs.{Played, Run, frames_released, IsKnown, IsHonestStep, IsHonest}
+use Rattle.cluster_play.specs.Histories.{event_committed, acts_of, ops_of, made, gains, taken, own_moves, moves_at, IsStart, Reached}
 use Rattle.cluster_play.proofs.Bools.{or_assoc, or_false, some_is, none-some}
 use Rattle.cluster_play.proofs.Sites.{number_is}
 
@@ -35,7 +35,7 @@ befell w (steps.CrashAfter i e) fate w' h = record { i = i; was = h.0; at = h.1;
 befell w (steps.Restart i) fate w' h = record { i = i; was = h.0; at = h.1; becomes = h.3 }
 
 -- ---- what a step does to the frames, and to the number of seats
-became_frames : (w : World) (i : ℕ) (s : Site) (fate : Fate) (w' : World) → Becomes w i s fate w' → w'.frames ≡ w.frames ++ released fate
+became_frames : (w : World) (i : ℕ) (s : Site) (fate : Fate) (w' : World) → Becomes w i s fate w' → w'.frames ≡ w.frames ++ frames_released fate
 became_frames w i s (Released j e acts outputs) w' b = ap (λ (v : World). v.frames) b.1.2
 became_frames w i s (Lost j e acts) w' b = ap (λ (v : World). v.frames) b.1.3
 became_frames w i s (Cut j) w' b = ap (λ (v : World). v.frames) b.2
@@ -43,7 +43,7 @@ became_frames w i s (Faulted j fault) w' b = ap (λ (v : World). v.frames) b.1.2
 became_frames w i s (Was_down j) w' b = ap (λ (v : World). v.frames) b.2 ∙ sym (append-nil w.frames)
 became_frames w i s (Restarted j) w' b = ap (λ (v : World). v.frames) b.1.2
 
-pub step_frames : (w : World) (step : Step) (fate : Fate) (w' : World) → Happens w step fate w' → w'.frames ≡ w.frames ++ released fate
+pub step_frames : (w : World) (step : Step) (fate : Fate) (w' : World) → Happens w step fate w' → w'.frames ≡ w.frames ++ frames_released fate
 step_frames w step fate w' h = let b = befell w step fate w' h in became_frames w b.i b.was fate w' b.becomes
 
 became_sites : (w : World) (i : ℕ) (s : Site) (fate : Fate) (w' : World) → Becomes w i s fate w' → length w'.sites ≡ length w.sites
@@ -62,16 +62,16 @@ run_sites [] w w' r = ap (λ (v : World). length v.sites) r
 run_sites (m ∷ run) w w' r = run_sites run r.0 w' r.2 ∙ step_sites w m.step m.fate r.0 r.1
 
 -- what has a number keeps it
-number_stays : {A : Type 0} (xs ys : List A) (n : ℕ) (x : A) → numbered xs n ≡ Some x → numbered (xs ++ ys) n ≡ Some x
+number_stays : {A : Type 0} (xs ys : List A) (n : ℕ) (x : A) → nth_from_one xs n ≡ Some x → nth_from_one (xs ++ ys) n ≡ Some x
 number_stays xs ys zero x h = h
 number_stays [] ys (suc n) x h = none-some h
 number_stays (y ∷ xs) ys (suc zero) x h = h
 number_stays (y ∷ xs) ys (suc (suc n)) x h = number_stays xs ys (suc n) x h
 
-pub frames_stay : (run : List Played) (w w' : World) → Run w run w' → (number : ℕ) (f : Frame) → numbered w.frames number ≡ Some f → numbered w'.frames number ≡ Some f
-frames_stay [] w w' r number f h = ap (λ (v : World). numbered v.frames number) r ∙ h
+pub frames_stay : (run : List Played) (w w' : World) → Run w run w' → (number : ℕ) (f : Frame) → nth_from_one w.frames number ≡ Some f → nth_from_one w'.frames number ≡ Some f
+frames_stay [] w w' r number f h = ap (λ (v : World). nth_from_one v.frames number) r ∙ h
 frames_stay (m ∷ run) w w' r number f h =
-    frames_stay run r.0 w' r.2 number f (ap (λ fs. numbered fs number) (step_frames w m.step m.fate r.0 r.1) ∙ number_stays w.frames (released m.fate) number f h)
+    frames_stay run r.0 w' r.2 number f (ap (λ fs. nth_from_one fs number) (step_frames w m.step m.fate r.0 r.1) ∙ number_stays w.frames (frames_released m.fate) number f h)
 
 pub lacks_nothing : (w w' : World) (step : Step) (fate : Fate) (fault : PlayFault) → Happens w step fate w' → Lacks w step fault → ⊥
 lacks_nothing w w' (steps.Event i e) fate fault h l = none-some (sym l.1 ∙ h.1)
@@ -84,7 +84,7 @@ lacks_nothing w w' (steps.CrashAfter i e) fate fault h l = none-some (sym l.1 �
 lacks_nothing w w' (steps.Restart i) fate fault h l = none-some (sym l.1 ∙ h.1)
 
 -- ---- the event that a step committed was known
-pub known_event : (w : World) (step : Step) (fate : Fate) (w' : World) (e : Event) → IsHonestStep w.frames step → Happens w step fate w' → event_of fate ≡ Some e → IsKnown w.frames e.kind
+pub known_event : (w : World) (step : Step) (fate : Fate) (w' : World) (e : Event) → IsHonestStep w.frames step → Happens w step fate w' → event_committed fate ≡ Some e → IsKnown w.frames e.kind
 known_event w (steps.Event i d) (Released j c acts outputs) w' e honest h is = subst (λ (v : Event). IsKnown w.frames v.kind) (sym h.2 ∙ some_is is) honest
 known_event w (steps.Event i d) (Lost j c acts) w' e honest h is = absurd h.2
 known_event w (steps.Deliver number at) (Released j c acts outputs) w' e honest h is = subst (λ (v : Event). IsKnown w.frames v.kind) (sym h.2.2 ∙ some_is is) (let k = number_is w.frames number h.0 h.1 in (k.0, h.0, k.1, refl))
@@ -190,7 +190,7 @@ no_acts : {A P : Type 0} (xs ys : List A) (x : A) → [] ≡ xs ++ x ∷ ys → 
 no_acts [] ys x h = cc
 no_acts (y ∷ xs) ys x h = cc
 
-pub commits_acts : (fate : Fate) (before rest : List Act) (a : Act) → acts_of fate ≡ before ++ a ∷ rest → (e : Event) × (event_of fate ≡ Some e)
+pub commits_acts : (fate : Fate) (before rest : List Act) (a : Act) → acts_of fate ≡ before ++ a ∷ rest → (e : Event) × (event_committed fate ≡ Some e)
 commits_acts (Released i e acts outputs) before rest a h = (e, refl)
 commits_acts (Lost i e acts) before rest a h = (e, refl)
 commits_acts (Cut i) before rest a h = no_acts before rest a h

@@ -17,7 +17,7 @@ use Rattle.replica_store.proofs.Unions.{among_cases}
 use Rattle.node_rows.specs.Reading.{IsAmong}
 use Rattle.node_work.specs.Acts.{Act, MomentTaken, Began, Moved, Store, Connection, Session, Bridge, Out, Named, Acknowledged, Passed, Dropped, Made, Merged, Allowed, IsMade, Runs, gather, op_in, merge_in}
 use Rattle.node_work.specs.View.{Place, HeldView}
-use Rattle.cluster_play.specs.NextOperations.{CoversWhatStands, IsRemoval, IsNext}
+use Rattle.cluster_play.specs.NextOperations.{CoversWhatStands, IsRemoval, IsNextOperation}
 use Rattle.cluster_play.proofs.Operations.{among_some, own_some}
 use Rattle.cluster_play.proofs.Sound.{Sound, Grown, lists}
 use Rattle.cluster_play.proofs.Growing.{AllSound, Holding, act_grows}
@@ -57,7 +57,7 @@ removes_plain count ms s cover plain (inr (client, version, covers)) d h =
     stands_plain count ms s d there.0 plain there.1
 
 module _ (i count : ℕ) (ms : List Operation) (s : State) (g : Grown i ms s) (low : i < count) (plain : AllPlain count ms) where
-  next : (version : ℕ) (o : Operation) → IsMade i version s o → IsNext i version (filter (lists s) ms) o
+  next : (version : ℕ) (o : Operation) → IsMade i version s o → IsNextOperation i version (filter (lists s) ms) o
   next version o may = next_operation i (filter (lists s) ms) s (own_some ms (lists s) g.own_dots) g.sound version o may
 
   made_plain : (version : ℕ) (o : Operation) → IsMade i version s o → IsPlain count o

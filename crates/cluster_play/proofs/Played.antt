@@ -11,7 +11,7 @@ use Rattle.cluster_play.specs.declared.step.Step.{Step}
 use Rattle.cluster_play.specs.declared.step.Step.TheVariants as steps
 use Rattle.cluster_play.specs.Clusters.{world, is_spent}
 use Rattle.cluster_play.specs.Playing.{IsPlayed, StopsAt, StopsShort, MemoryRunsOut, IsRefused, IsDoneStep}
-use Rattle.cluster_play.specs.Runs.{Played, Run, steps_of, released, lines_of, printed}
+use Rattle.cluster_play.specs.Runs.{Played, Run, steps_of, frames_released, lines_of, printed}
 use Rattle.cluster_play.specs.Worlds.{World, Lacks}
 use Rattle.cluster_play.proofs.Paths.{run_join, step_frames}
 
@@ -22,10 +22,10 @@ steps_more (n ∷ run) m = ap (λ ss. n.step ∷ ss) (steps_more run m)
 printed_more : (run : List Played) (m : Played) (w mid : World) → Run w run mid → printed (length w.frames) (run ++ m ∷ []) ≡ printed (length w.frames) run ++ lines_of (length mid.frames) m.fate
 printed_more [] m w mid r = append-nil (lines_of (length w.frames) m.fate) ∙ ap (λ (v : World). lines_of (length v.frames) m.fate) (sym r)
 printed_more (n ∷ run) m w mid r =
-    let given : length w.frames + length (released n.fate) ≡ length r.0.frames = sym (ap length (step_frames w n.step n.fate r.0 r.1) ∙ length-append w.frames (released n.fate)) in
-    let later : printed (length w.frames + length (released n.fate)) (run ++ m ∷ []) ≡ printed (length w.frames + length (released n.fate)) run ++ lines_of (length mid.frames) m.fate =
+    let given : length w.frames + length (frames_released n.fate) ≡ length r.0.frames = sym (ap length (step_frames w n.step n.fate r.0 r.1) ∙ length-append w.frames (frames_released n.fate)) in
+    let later : printed (length w.frames + length (frames_released n.fate)) (run ++ m ∷ []) ≡ printed (length w.frames + length (frames_released n.fate)) run ++ lines_of (length mid.frames) m.fate =
     subst (λ k. printed k (run ++ m ∷ []) ≡ printed k run ++ lines_of (length mid.frames) m.fate) (sym given) (printed_more run m r.0 mid r.2) in
-    ap (λ ls. lines_of (length w.frames) n.fate ++ ls) later ∙ sym (append_assoc (lines_of (length w.frames) n.fate) (printed (length w.frames + length (released n.fate)) run) (lines_of (length mid.frames) m.fate))
+    ap (λ ls. lines_of (length w.frames) n.fate ++ ls) later ∙ sym (append_assoc (lines_of (length w.frames) n.fate) (printed (length w.frames + length (frames_released n.fate)) run) (lines_of (length mid.frames) m.fate))
 
 -- one more step is played
 pub play_more : (w mid w' : World) (steps : List Step) (k : ℕ) (step : Step) (lines lines' : List Line) → k < length steps → step ≡ get_or steps k step

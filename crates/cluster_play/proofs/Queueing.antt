@@ -45,12 +45,12 @@ use Rattle.node_work.specs.declared.counts.Missed.TheVariants.{LaneFull, BadFram
 use Rattle.node_work.specs.Held.Bridge.{BridgeAct, Put as PutIn, Took, Got as GotBy, Believed, Gave, Left_out}
 use Rattle.node_work.specs.Acts.{Act, MomentTaken, Began, Moved, Store, Connection, Session, Bridge, Out, Named, Acknowledged, Passed, Dropped, Made, Merged, Runs}
 use Rattle.node_work.specs.Calling.{CallsAt, Calls, Queues, QueuesOne}
-use Rattle.node_work.specs.Doings.{TakesMoment, MakesSubscribe, MakesRemove, MakesRemoveBelow, Removes, RemovesBelow, Sends, Disconnects, Redirects, Misses, PutsBy, Routes, RoutesBy, GivesBody, GivesFrame, is_small}
+use Rattle.node_work.specs.Doings.{TakesMoment, MakesSubscribe, MakesRemove, MakesRemoveBelow, Removes, RemovesBelow, Sends, Disconnects, Redirects, Misses, PutsInLaneBy, Routes, RoutesBy, GivesBody, GivesFrame, is_small}
 use Rattle.node_work.specs.Held.Sessions.{SessionStep, Begun, Called, connection_at, seat_at, takes_disconnect, takes_packet, will_is_due, end_is_due}
 use Rattle.node_work.specs.Held.Feeding.{cut_of}
 use Rattle.node_work.specs.Held.Connections.{Closed, Fed, Opened, is_open, client_at, first_at}
 use Rattle.node_work.specs.Held.Making.{number_at_end, removal, removal_below}
-use Rattle.node_work.specs.Frames.{is_for, is_other}
+use Rattle.node_work.specs.Frames.{is_for_node, is_other}
 use Rattle.subscription_set.specs.declared.entry.Entry.{Entry}
 use Rattle.subscription_set.specs.Standing.{any_of, any_below}
 use Rattle.node_work.specs.Packets.{moved_packet, refused_packet}
@@ -132,17 +132,17 @@ module _ (T : List Act → Type 0) (c : Joined T) where
 
     granted : (stood : Bool) → Keeps T (subscribing.GrantsBy client identifier f stood)
     granted stood =
-        let full = Returns (subscribing.refused 151) in
+        let full = Returns (subscribing.filter_refused 151) in
         let given = subscribing.granted f (identifiers_of identifier) stood in
         let Makes = subscribing.SubscribesTo client identifier f in
-        let subscribes = k_looks (λ p h. h.homes.version) (λ version. MakesSubscribe (subscribing.entry_of client f identifier version)) (λ version. subscribed (subscribing.entry_of client f identifier version)) in
+        let subscribes = k_looks (λ p h. h.homes.version) (λ version. MakesSubscribe (subscribing.subscription_entry client f identifier version)) (λ version. subscribed (subscribing.subscription_entry client f identifier version)) in
         k_looks (λ p h. not stood && subscribing.has_most client h.store) (λ is. If is full (Then Makes (λ _. Returns given)))
-        (λ is. k_if is full (Then Makes (λ _. Returns given)) (k_returns (subscribing.refused 151)) (k_then Makes (λ _. Returns given) subscribes (λ _. k_returns given)))
+        (λ is. k_if is full (Then Makes (λ _. Returns given)) (k_returns (subscribing.filter_refused 151)) (k_then Makes (λ _. Returns given) subscribes (λ _. k_returns given)))
 
     grants : Keeps T (subscribing.Grants client identifier f)
     grants =
-        k_where (IsFilter f.filter) (Looks (λ p h. subscribing.stands client f.filter h) (subscribing.GrantsBy client identifier f)) (Returns (subscribing.refused 143))
-        (k_looks (λ p h. subscribing.stands client f.filter h) (subscribing.GrantsBy client identifier f) granted) (k_returns (subscribing.refused 143))
+        k_where (IsFilter f.filter) (Looks (λ p h. subscribing.stands client f.filter h) (subscribing.GrantsBy client identifier f)) (Returns (subscribing.filter_refused 143))
+        (k_looks (λ p h. subscribing.stands client f.filter h) (subscribing.GrantsBy client identifier f) granted) (k_returns (subscribing.filter_refused 143))
 
 -- ---- after each answer the offers
 abbrev pub Follows : Act → List Act → Type 0
@@ -336,14 +336,14 @@ bridge_act a = k_acting Answered answered (λ p h. Bridge (a p h)) (λ p h. (tt,
 misses : (what : Missed) → Keeps Answered (Misses what)
 misses what = bridge_act (λ p h. Left_out what)
 
-puts_by : (peer : ℕ) (m : Forward) (o : Offer) → Keeps Answered (PutsBy peer m o)
+puts_by : (peer : ℕ) (m : Forward) (o : Offer) → Keeps Answered (PutsInLaneBy peer m o)
 puts_by peer m (offers.Queued n) = bridge_act (λ p h. PutIn peer m)
 puts_by peer m offers.Full = misses LaneFull
 puts_by peer m offers.AtEnd = k_stops Answered answered
 
 routes_by : (peer : ℕ) (route : Route) → Keeps Answered (RoutesBy peer route)
 routes_by peer Nothing = k_returns Answered answered _
-routes_by peer (Lane m) = k_looks Answered answered (λ p h. offer_to peer h.bridge) (PutsBy peer m) (puts_by peer m)
+routes_by peer (Lane m) = k_looks Answered answered (λ p h. offer_to peer h.bridge) (PutsInLaneBy peer m) (puts_by peer m)
 routes_by peer TooLarge = misses LaneFull
 
 queues_all : (copies : List Copy) → Keeps Answered (Queues copies)
@@ -459,8 +459,8 @@ acknowledges : (c : ℕ) (client : List ℕ) (packet : ℕ) (given : List Grante
     → subscribing.SendsSuback c client packet given (Some x) p h acts → Answered acts
 acknowledges c client packet given x p h acts has (inl d) = none-some (sym d.0)
 acknowledges c client packet given x p h acts has (inr (r, own, mid, rest, one, runs, more, is)) =
-    let call = called_has client (λ at. answers packet (subscribing.reasons_of given)) stays r p h own mid has one runs in
-    subst Answered (sym is) (answered_both own rest ((calls client (λ at. answers packet (subscribing.reasons_of given)) stays).of r p h own one) (offers_after r.end c client packet given x p mid rest call.has more))
+    let call = called_has client (λ at. answers packet (subscribing.granted_reasons given)) stays r p h own mid has one runs in
+    subst Answered (sym is) (answered_both own rest ((calls client (λ at. answers packet (subscribing.granted_reasons given)) stays).of r p h own one) (offers_after r.end c client packet given x p mid rest call.has more))
 
 subscribes : (c : ℕ) (client : List ℕ) (s : Subscribe) (x : Unit {0}) (p : Place) (h : HeldView) (acts : List Act) → Has client h
     → subscribing.ServesSubscribe c client s (Some x) p h acts → Answered acts
@@ -496,20 +496,20 @@ unsubscribes_by c client (packets.Unsubscribe u) = unsubscribes c client u
 unsubscribes_by c client _ = k_returns Answered answered _
 
 -- what a session asks for: a SUBSCRIBE where there is one
-does_asked : (ask : Option Ask) (dropped : Bool) (c : ℕ) (client : List ℕ) (k : Packet) (x : Unit {0}) (p : Place) (h : HeldView) (acts : List Act) → (ask ≡ None) ⊎ Has client h
-    → serving.DoesAsked ask dropped c client k (Some x) p h acts → Answered acts
-does_asked None dropped c client k x p h acts has d = (k_if Answered answered dropped passing.Drops (Returns tt) drops (k_returns Answered answered _)).of x p h acts d
-does_asked (Some (asks.Pass m)) dropped c client k x p h acts has d = (passes m).of x p h acts d
-does_asked (Some asks.Subscribe) dropped c client k x p h acts (inl none) d = none-some (sym none)
-does_asked (Some asks.Subscribe) dropped c client k x p h acts (inr has) d = subscribes_by c client k x p h acts has d
-does_asked (Some asks.Unsubscribe) dropped c client k x p h acts has d = (unsubscribes_by c client k).of x p h acts d
+does_asked : (ask : Option Ask) (c : ℕ) (client : List ℕ) (k : Packet) (room : Bool) (end : Option ℕ) (x : Unit {0}) (p : Place) (h : HeldView) (acts : List Act) → (ask ≡ None) ⊎ Has client h
+    → serving.DoesAsked ask c client k room end (Some x) p h acts → Answered acts
+does_asked None c client k room end x p h acts has d = (k_if Answered answered (serving.is_dropped k room end) passing.Drops (Returns tt) drops (k_returns Answered answered _)).of x p h acts d
+does_asked (Some (asks.Pass m)) c client k room end x p h acts has d = (passes m).of x p h acts d
+does_asked (Some asks.Subscribe) c client k room end x p h acts (inl none) d = none-some (sym none)
+does_asked (Some asks.Subscribe) c client k room end x p h acts (inr has) d = subscribes_by c client k x p h acts has d
+does_asked (Some asks.Unsubscribe) c client k room end x p h acts has d = (unsubscribes_by c client k).of x p h acts d
 
 does_reaction : (c : ℕ) (client : List ℕ) (k : Packet) (room : Bool) (r : Reaction) (x : Unit {0}) (p : Place) (h : HeldView) (acts : List Act) → (r ≡ nothing) ⊎ Has client h
     → serving.DoesReaction c client k room r (Some x) p h acts → Answered acts
 does_reaction c client k room r x p h acts has (inl d) = none-some (sym d.0)
 does_reaction c client k room r x p h acts has (inr (y, own, mid, rest, one, runs, more, is)) =
     let ask : (r.ask ≡ None) ⊎ Has client h = elim has [ inl none ↦ inl (ap (λ (v : Reaction). v.ask) none) | inr there ↦ inr there ] in
-    subst Answered (sym is) (answered_both own rest (does_asked r.ask _ c client k y p h own ask one) ((closes_after r.end c client).of x p mid rest more))
+    subst Answered (sym is) (answered_both own rest (does_asked r.ask c client k room r.end y p h own ask one) ((closes_after r.end c client).of x p mid rest more))
 
 serves_in : (c : ℕ) (client : List ℕ) (k : Packet) (room : Bool) (x : Unit {0}) (p : Place) (h : HeldView) (acts : List Act)
     → serving.ServesIn c client k room (Some x) p h acts → Answered acts
@@ -625,7 +625,7 @@ sends_away = k_finds Answered answered tables.AreAway (Each moving.MovesAway) (�
 
 takes_table : (homes : Table) → Keeps Answered (tables.TakesTable homes)
 takes_table homes =
-    k_looks Answered answered (tables.is_newer homes) (λ newer. If newer (tables.TakesNewerTable homes) (Misses TableRefused))
+    k_looks Answered answered (tables.is_newer_table homes) (λ newer. If newer (tables.TakesNewerTable homes) (Misses TableRefused))
     (λ newer. k_if Answered answered newer (tables.TakesNewerTable homes) (Misses TableRefused)
     (k_then Answered answered (Acting (λ p h. Moved homes)) (λ _. tables.SendsAway) (k_acting Answered answered (λ p h. Moved homes) (λ p h. (tt, tt))) (λ _. sends_away)) (misses TableRefused))
 
@@ -659,7 +659,7 @@ takes_body from (bodies.Got number) = bridge_act (λ p h. GotBy from number)
 hears_frame : (o : Option BridgeFrame) → Keeps Answered (bridge.HearsFrame o)
 hears_frame None = misses BadFrame
 hears_frame (Some frame) =
-    k_looks Answered answered (λ p h. is_for p frame) (λ here. If here (bridge.TakesBody frame.from frame.body) (Misses BadFrame))
+    k_looks Answered answered (λ p h. is_for_node p frame) (λ here. If here (bridge.TakesBody frame.from frame.body) (Misses BadFrame))
     (λ here. k_if Answered answered here (bridge.TakesBody frame.from frame.body) (Misses BadFrame) (takes_body frame.from frame.body) (misses BadFrame))
 
 greets : (peer : ℕ) → Keeps Answered (bridge.Greets peer)

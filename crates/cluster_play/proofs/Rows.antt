@@ -12,8 +12,8 @@ use Rattle.node_work.specs.Acts.{Act}
 use Rattle.node_work.specs.Lasting.{CanLast}
 use Rattle.node_work.specs.View.{Place, HeldView, NodeView}
 use Rattle.cluster_play.specs.declared.step.Step.{Step}
-use Rattle.cluster_play.specs.Worlds.{Site, World, Fate, Released, Lost, Cut, Faulted, Was_down, Restarted, TakesEvent, Reopens, GoesDown, Becomes, Happens, changed, stopped, frames_in}
-use Rattle.cluster_play.specs.Histories.{event_of, acts_of, site}
+use Rattle.cluster_play.specs.Worlds.{Site, World, Fate, Released, Lost, Cut, Faulted, Was_down, Restarted, TakesEvent, Reopens, GoesDown, Becomes, Happens, world_with, stopped, frames_in}
+use Rattle.cluster_play.specs.Histories.{event_committed, acts_of, site}
 use Rattle.cluster_play.proofs.Bools.{some_is, none-some}
 use Rattle.cluster_play.proofs.Sites.{each_changed, get_append}
 use Rattle.cluster_play.proofs.Paths.{befell}
@@ -80,7 +80,7 @@ stops s s' h = record {
 }
 
 module _ (w : World) (i : ℕ) (s : Site) (at : slice_get w.sites i ≡ Some s) where
-  rests : (s' : Site) (w' : World) → Stays s s' → w' ≡ changed w i s' [] → Rests w w'
+  rests : (s' : Site) (w' : World) → Stays s s' → w' ≡ world_with w i s' [] → Rests w w'
   rests s' w' same is = record {
     sites = λ j k' h. each_changed (λ j k'. (k : Site) × (slice_get w.sites j ≡ Some k) × Stays k k') w.sites i s s' at (s, at, same)
         (λ j k' ne h. (k', h, still k')) j k' (subst (λ (v : World). slice_get v.sites j ≡ Some k') is h);
@@ -89,7 +89,7 @@ module _ (w : World) (i : ℕ) (s : Site) (at : slice_get w.sites i ≡ Some s) 
 
   -- the rows are those of what the node holds after the step
   commits : (j : ℕ) (e : Event) (acts : List Act) (outputs : List Output) (s' later : Site) (sent : List Frame) (w' : World) → j ≡ i → TakesEvent s e acts outputs s' → later.node.place ≡ s'.node.place → later.node.homes ≡ s'.node.homes → later.rows ≡ s'.rows → ((h : HeldView) → later.node.up ≡ Some h → s'.node.up ≡ Some h)
-      → ((k : ℕ) (f : Frame) → slice_get sent k ≡ Some f → (m : ℕ) × (slice_get (frames_in outputs) m ≡ Some f)) → w' ≡ changed w i later sent → Committed w j e acts w'
+      → ((k : ℕ) (f : Frame) → slice_get sent k ≡ Some f → (m : ℕ) × (slice_get (frames_in outputs) m ≡ Some f)) → w' ≡ world_with w i later sent → Committed w j e acts w'
   commits j e acts outputs s' later sent w' same t place homes rows up out is =
       let c = t.commits in
       let d = c.done in
@@ -131,7 +131,7 @@ pub came : (w : World) (step : Step) (fate : Fate) (w' : World) → Happens w st
 came w step fate w' h = let b = befell w step fate w' h in became w b.i b.was b.at fate w' b.becomes
 
 -- a step that committed an event, or acts
-pub committed : (w : World) (step : Step) (fate : Fate) (w' : World) (e : Event) → Happens w step fate w' → event_of fate ≡ Some e → Committed w (site fate) e (acts_of fate) w'
+pub committed : (w : World) (step : Step) (fate : Fate) (w' : World) (e : Event) → Happens w step fate w' → event_committed fate ≡ Some e → Committed w (site fate) e (acts_of fate) w'
 committed w step (Released i d acts outputs) w' e h is = subst (λ (v : Event). Committed w i v acts w') (some_is is) (came w step (Released i d acts outputs) w' h)
 committed w step (Lost i d acts) w' e h is = subst (λ (v : Event). Committed w i v acts w') (some_is is) (came w step (Lost i d acts) w' h)
 committed w step (Cut i) w' e h is = none-some is

@@ -18,11 +18,11 @@ use Rattle.broker_node.specs.declared.event.EventKind.TheVariants as kinds
 use Rattle.node_work.specs.declared.frame.Frame.{Frame}
 use Rattle.node_work.specs.Acts.{Act, MomentTaken, Began, Moved, Store, Connection, Session, Bridge, Out, Named, Acknowledged, Passed, Dropped, Made, Merged, gather, op_in, merge_in}
 use Rattle.broker_node.specs.Step.{brought, brought_in}
-use Rattle.node_work.specs.Frames.{is_for, names_nodes, states_in}
+use Rattle.node_work.specs.Frames.{is_for_node, names_nodes, states_in}
 use Rattle.node_work.specs.View.{Place, nodes_of}
 use Rattle.cluster_play.specs.Worlds.{World, Fate, Released, Lost, Cut, Faulted, Was_down, Restarted}
-use Rattle.cluster_play.specs.Runs.{Played, Run, released, IsKnown}
-use Rattle.cluster_play.specs.Histories.{Reached, site, event_of, acts_of, made, gained, gains, taken, same_dot}
+use Rattle.cluster_play.specs.Runs.{Played, Run, frames_released, IsKnown}
+use Rattle.cluster_play.specs.Histories.{Reached, site, event_committed, acts_of, made, gained, gains, taken, same_dot}
 use Rattle.cluster_play.specs.MadeOperations.{MakesDot, BringsDot}
 use Rattle.cluster_play.proofs.Bools.{or_true, or_left, or_right, and_true, nat_is, dot_is, dot_same, some_is}
 use Rattle.cluster_play.proofs.Brought.{brings}
@@ -90,7 +90,7 @@ taken_there : (i : ℕ) (before later : List Played) (m : Played) (d : Dot) → 
 taken_there i before later m d at h =
     taken_both i before (m ∷ later) d ∙ or_right (taken i before d) (gains i m.fate d || taken i later d) (or_left (gains i m.fate d) (taken i later d) (λ k. eq-eqb (site m.fate) i at k && h k))
 
-gaining_commits : (fate : Fate) (d : Dot) → gained (acts_of fate) d ≡ true → (e : Event) × (event_of fate ≡ Some e)
+gaining_commits : (fate : Fate) (d : Dot) → gained (acts_of fate) d ≡ true → (e : Event) × (event_committed fate ≡ Some e)
 gaining_commits (Released i e acts outputs) d h = (e, refl)
 gaining_commits (Lost i e acts) d h = (e, refl)
 gaining_commits (Cut i) d h = cc
@@ -123,7 +123,7 @@ if_lists false ts d h = cc
 read_lists : (p : Place) (bytes : List ℕ) (d : Dot) (o : Option BridgeFrame) → frame_in bytes ≡ o → any_lists (brought_in p o) d ≡ true → FrameLists p.id (kinds.Frame bytes) d
 read_lists p bytes d None is h = cc
 read_lists p bytes d (Some f) is h =
-    let taken = if_lists (is_for p f) (states_in f.body) d h in
+    let taken = if_lists (is_for_node p f) (states_in f.body) d h in
     let t = body_lists f.body d taken.1 in
     let named = and_true (nat_eq f.to p.id && not (nat_eq f.from p.id) && nat_lt f.from (nodes_of p)) (names_nodes (nodes_of p) f.body) taken.0 in
     let parts = and_true (nat_eq f.to p.id && not (nat_eq f.from p.id)) (nat_lt f.from (nodes_of p)) named.0 in
@@ -197,13 +197,13 @@ brings_dot run before later m w is r i d at gain merged =
 -- the frames of a world that a run reaches
 all_released : List Played → List Frame
 all_released [] = []
-all_released (m ∷ run) = released m.fate ++ all_released run
+all_released (m ∷ run) = frames_released m.fate ++ all_released run
 
 run_frames : (run : List Played) (w w' : World) → Run w run w' → w'.frames ≡ w.frames ++ all_released run
 unfolding all_released
 run_frames [] w w' r = ap (λ (v : World). v.frames) r ∙ sym (append-nil w.frames)
 run_frames (m ∷ run) w w' r =
-    run_frames run r.0 w' r.2 ∙ ap (λ fs. fs ++ all_released run) (step_frames w m.step m.fate r.0 r.1) ∙ append_assoc w.frames (released m.fate) (all_released run)
+    run_frames run r.0 w' r.2 ∙ ap (λ fs. fs ++ all_released run) (step_frames w m.step m.fate r.0 r.1) ∙ append_assoc w.frames (frames_released m.fate) (all_released run)
 
 same_frames : (run : List Played) (w v : World) → Reached run w → Reached run v → w.frames ≡ v.frames
 same_frames run w v r q =

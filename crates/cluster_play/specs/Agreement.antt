@@ -16,7 +16,7 @@ use Rattle.node_work.specs.Acts.{Act, Runs}
 use Rattle.node_work.specs.View.{HeldView}
 use Rattle.cluster_play.specs.Worlds.{Site, World, Happens}
 use Rattle.cluster_play.specs.Runs.{Played, IsHonestStep}
-use Rattle.cluster_play.specs.Histories.{Reached, site, event_of, acts_of, made, taken, operations, operations_amid}
+use Rattle.cluster_play.specs.Histories.{Reached, site, event_committed, acts_of, made, taken, operations, operations_amid}
 
 -- node i runs in the world, and holds h
 pub record Holds (w : World) (i : ℕ) (h : HeldView) : Type 0 where
@@ -45,7 +45,7 @@ AnswerIsOfItsOperations =
 -- node i holds this amid a step of its own, after these of its acts
 pub record HoldsAmid (w : World) (m : Played) (i : ℕ) (before : List Act) (mid : HeldView) : Type 0 where
   pub event : Event
-  pub commits : event_of m.fate ≡ Some event
+  pub commits : event_committed m.fate ≡ Some event
   pub at : site m.fate ≡ i
   pub rest : List Act
   pub acts : acts_of m.fate ≡ before ++ rest

@@ -14,22 +14,22 @@ use Rattle.node_work.specs.declared.frame.Frame.{Frame}
 use Rattle.node_work.specs.Acts.{Act, Bridge}
 use Rattle.node_work.specs.Held.Bridge.{Gave, written_frame}
 use Rattle.node_work.specs.View.{HeldView}
-use Rattle.cluster_play.specs.Worlds.{World, Happens, numbered}
+use Rattle.cluster_play.specs.Worlds.{World, Happens, nth_from_one}
 use Rattle.cluster_play.specs.Runs.{Played}
-use Rattle.cluster_play.specs.Histories.{Reached, site, event_of, acts_of, made, taken, taken_amid}
+use Rattle.cluster_play.specs.Histories.{Reached, site, event_committed, acts_of, made, taken, taken_amid}
 use Rattle.cluster_play.specs.Agreement.{Holds}
 
 -- each frame that was released is the spelling of one, and its bytes are read as that one
 abbrev pub FramesAreSpelled : Type 0
 FramesAreSpelled =
-    (run : List Played) (w : World) → Reached run w → (number : ℕ) (sent : Frame) → numbered w.frames number ≡ Some sent
+    (run : List Played) (w : World) → Reached run w → (number : ℕ) (sent : Frame) → nth_from_one w.frames number ≡ Some sent
     → (f : BridgeFrame) × (sent ≡ written_frame f) × HasSpelling f × (frame_in sent.bytes ≡ Some f)
 
 -- the state of a Delta frame is that of the operations whose dots it lists as taken
 abbrev pub DeltaFrames : Type 0
 DeltaFrames =
     (run : List Played) (w : World) → Reached run w
-    → (number : ℕ) (sent : Frame) (f : BridgeFrame) (s : State) → numbered w.frames number ≡ Some sent → frame_in sent.bytes ≡ Some f → f.body ≡ Delta s
+    → (number : ℕ) (sent : Frame) (f : BridgeFrame) (s : State) → nth_from_one w.frames number ≡ Some sent → frame_in sent.bytes ≡ Some f → f.body ≡ Delta s
     → IsStateOf (filter (λ o. set.contains s.taken (dot_of o)) (made run)) s
 
 -- a step gives out a Delta frame, after these of its acts
@@ -47,7 +47,7 @@ pub record FrameArrives (w : World) (f : BridgeFrame) (m : Played) (w' : World) 
   pub happens : Happens w m.step m.fate w'
   pub at : site m.fate ≡ f.to
   pub event : Event
-  pub commits : event_of m.fate ≡ Some event
+  pub commits : event_committed m.fate ≡ Some event
   pub brings : event.kind ≡ kinds.Frame (spelling f)
 
 -- once a Delta frame has come to its receiver, that has taken all that the sender had taken when the frame went out

@@ -5,14 +5,14 @@ use Rattle.node_work.specs.declared.frame.Frame.{Frame}
 use Rattle.cluster_play.specs.declared.fault.PlayFault.{PlayFault}
 use Rattle.cluster_play.specs.declared.line.Line.{Line}
 use Rattle.cluster_play.specs.declared.step.Step.{Step}
-use Rattle.cluster_play.specs.Worlds.{World, Fate, Happens, Lacks, numbered}
+use Rattle.cluster_play.specs.Worlds.{World, Fate, Happens, Lacks, nth_from_one}
 use Rattle.cluster_play.specs.Runs.{Played, Run, BringsNoFrame, IsHonest, steps_of, printed}
 use Rattle.cluster_play.specs.Histories.{IsStart, Reached}
 use Rattle.cluster_play.specs.Playing.{IsPlayed}
 
 -- a frame keeps its number
 abbrev pub FramesStay : Type 0
-FramesStay = (run : List Played) (w w' : World) → Run w run w' → (number : ℕ) (f : Frame) → numbered w.frames number ≡ Some f → numbered w'.frames number ≡ Some f
+FramesStay = (run : List Played) (w w' : World) → Run w run w' → (number : ℕ) (f : Frame) → nth_from_one w.frames number ≡ Some f → nth_from_one w'.frames number ≡ Some f
 
 -- a run goes on where another ends
 abbrev pub RunsCompose : Type 0

@@ -6,7 +6,7 @@ use Rattle.causal_context.specs.Dots.{Dot}
 use Rattle.broker_node.specs.declared.event.Event.{Event}
 use Rattle.node_work.specs.declared.outcome.Output.{Output}
 use Rattle.node_work.specs.Acts.{Act, MomentTaken, Store, Made, Merged, gather, moved_in, op_in}
-use Rattle.node_work.specs.View.{opened}
+use Rattle.node_work.specs.View.{fresh_node}
 use Rattle.node_laws.specs.Moves.{Move, Acted, Reopened, did}
 use Rattle.node_rows.specs.Rows.{mark, mark_key}
 use Rattle.replica_store.specs.declared.operation.Operation.{Operation}
@@ -25,10 +25,10 @@ site (Was_down i) = i
 site (Restarted i) = i
 
 -- the event that a step committed, if it did
-abbrev pub event_of : Fate → Option Event
-event_of (Released i e acts outputs) = Some e
-event_of (Lost i e acts) = Some e
-event_of fate = None
+abbrev pub event_committed : Fate → Option Event
+event_committed (Released i e acts outputs) = Some e
+event_committed (Lost i e acts) = Some e
+event_committed fate = None
 
 -- the acts that a step committed
 abbrev pub acts_of : Fate → List Act
@@ -108,9 +108,9 @@ abbrev pub moves_amid : ℕ → List Played → List Act → List Move
 moves_amid i run acts = moves_at i run ++ did acts
 
 -- the last of some tables, if there is one
-abbrev pub last_of : Table → List Table → Table
-last_of t [] = t
-last_of t (u ∷ us) = last_of u us
+abbrev pub last_table : Table → List Table → Table
+last_table t [] = t
+last_table t (u ∷ us) = last_table u us
 
 -- the moment that a node is at after moves, from one on: the greatest that it was handed since it was last opened
 abbrev pub moment_after : ℕ → List Move → ℕ
@@ -124,14 +124,14 @@ moment_amid i run acts = moment_after 0 (moves_amid i run acts)
 -- the table of homes that a node has after moves, from one on: the one that it took last
 abbrev pub homes_after : Table → List Move → Table
 homes_after t [] = t
-homes_after t (Acted a ∷ moves) = homes_after (last_of t (moved_in a)) moves
+homes_after t (Acted a ∷ moves) = homes_after (last_table t (moved_in a)) moves
 homes_after t (Reopened ∷ moves) = homes_after t moves
 
 -- the node of a seat is new, with a table of homes for so many nodes, and its rows are its mark
 pub record IsNewSite (nodes i : ℕ) (s : Site) : Type 0 where
   pub homes : Table
   pub fits : length homes.nodes ≡ nodes
-  pub node : s.node ≡ opened i homes
+  pub node : s.node ≡ fresh_node i homes
   pub rows : s.rows ≡ map.insert map.empty mark_key (mark i 0)
 
 -- new nodes, of which there are no more than have numbers in two bytes, and no frame

@@ -13,7 +13,7 @@ use Rattle.node_work.specs.View.{HeldView}
 use Rattle.cluster_play.specs.Worlds.{World}
 use Rattle.cluster_play.specs.Runs.{Played, Run}
 use Rattle.cluster_play.specs.Histories.{Reached, site, acts_of, ops_of, taken, operations_amid}
-use Rattle.cluster_play.specs.NextOperations.{IsNext}
+use Rattle.cluster_play.specs.NextOperations.{IsNextOperation}
 use Rattle.cluster_play.specs.Agreement.{HoldsAmid}
 use Rattle.cluster_play.specs.CatchingUp.{FrameArrives}
 
@@ -25,7 +25,7 @@ pub record MakesNext (run later : List Played) (m : Played) (w : World) (before 
   pub path : Run world (m ∷ later) w
   pub held : HeldView
   pub there : HoldsAmid world m (site m.fate) before held
-  pub next : IsNext (site m.fate) held.homes.version (operations_amid (site m.fate) run before) o
+  pub next : IsNextOperation (site m.fate) held.homes.version (operations_amid (site m.fate) run before) o
 
 -- an operation that a step makes is the next one, and is taken from then on
 abbrev pub OperationsOfAStep : Type 0

@@ -39,7 +39,7 @@ pub record IsNextStamp (i : ℕ) (O : List Operation) (stamp : Stamp) : Type 0 w
   pub below : stamp.count < 2 ^ 62
 
 -- by the version of the node's table of homes too, under which a subscription is made
-abbrev pub IsNext : ℕ → ℕ → List Operation → Operation → Type 0
-IsNext i version O (Subscribe dot entry cover) = IsNextDot i O dot × CoversWhatStands O entry.client (Some entry.filter) cover × (entry.version ≡ version)
-IsNext i version O (Remove dot cover) = IsNextDot i O dot × IsRemoval O cover × ((covered : Dot) × (set.contains cover covered ≡ true))
-IsNext i version O (Put dot stamp content) = IsNextDot i O dot × IsNextStamp i O stamp
+abbrev pub IsNextOperation : ℕ → ℕ → List Operation → Operation → Type 0
+IsNextOperation i version O (Subscribe dot entry cover) = IsNextDot i O dot × CoversWhatStands O entry.client (Some entry.filter) cover × (entry.version ≡ version)
+IsNextOperation i version O (Remove dot cover) = IsNextDot i O dot × IsRemoval O cover × ((covered : Dot) × (set.contains cover covered ≡ true))
+IsNextOperation i version O (Put dot stamp content) = IsNextDot i O dot × IsNextStamp i O stamp

@@ -26,13 +26,13 @@ steps_of [] = []
 steps_of (m ∷ ms) = m.step ∷ steps_of ms
 
 -- the frames that a step released
-abbrev pub released : Fate → List Frame
-released (Released i e acts outputs) = frames_in outputs
-released (Lost i e acts) = []
-released (Cut i) = []
-released (Faulted i fault) = []
-released (Was_down i) = []
-released (Restarted i) = []
+abbrev pub frames_released : Fate → List Frame
+frames_released (Released i e acts outputs) = frames_in outputs
+frames_released (Lost i e acts) = []
+frames_released (Cut i) = []
+frames_released (Faulted i fault) = []
+frames_released (Was_down i) = []
+frames_released (Restarted i) = []
 
 -- the line of what goes to a client
 abbrev pub client_line : ℕ → Output → List Line
@@ -61,7 +61,7 @@ lines_of given (Restarted i) = []
 -- the lines of a run
 abbrev pub printed : ℕ → List Played → List Line
 printed given [] = []
-printed given (m ∷ ms) = lines_of given m.fate ++ printed (given + length (released m.fate)) ms
+printed given (m ∷ ms) = lines_of given m.fate ++ printed (given + length (frames_released m.fate)) ms
 
 -- a frame that an event brings was released before
 abbrev pub IsKnown : List Frame → EventKind → Type 0
@@ -107,4 +107,4 @@ IsHonestStep sent (steps.Restart i) = Unit {0}
 -- no frame is forged
 abbrev pub IsHonest : List Frame → List Played → Type 0
 IsHonest sent [] = Unit {0}
-IsHonest sent (m ∷ ms) = IsHonestStep sent m.step × IsHonest (sent ++ released m.fate) ms
+IsHonest sent (m ∷ ms) = IsHonestStep sent m.step × IsHonest (sent ++ frames_released m.fate) ms

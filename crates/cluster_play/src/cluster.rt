@@ -5,7 +5,7 @@ ghost use Rattle.std.specs.List.{list_all};
 ghost use Rattle.cluster_play.specs.Clusters.{world, homes_of, are_tables, is_spent, held_at, holdings_of, is_open_at, taken_of, IsSameTaken};
 ghost use Rattle.cluster_play.specs.Histories.{IsStart};
 ghost use Rattle.cluster_play.specs.Playing.{IsPlayed, IsRefused, IsDoneAt, IsDoneStep, MemoryRunsOut};
-ghost use Rattle.cluster_play.specs.Worlds.{Lacks, LacksNode, OfCrashAfter, OfCrashBefore, OfEvent, OfRestart, numbered};
+ghost use Rattle.cluster_play.specs.Worlds.{Lacks, LacksNode, OfCrashAfter, OfCrashBefore, OfEvent, OfRestart, nth_from_one};
 ghost use Rattle.cluster_play.specs.declared.fault.PlayFault.TheVariants as faults;
 ghost use Rattle.cluster_play.specs.declared.step.Step.TheVariants as steps;
 
@@ -290,7 +290,7 @@ impl Cluster {
 
     /// The bytes of a released frame, by its number.
     pub fn frame(&self, number: u64) -> Option<&[u8]>
-        ensures { option_copied result ≡ option_map (λ f. f.bytes) (numbered (world self.now).frames number) }
+        ensures { option_copied result ≡ option_map (λ f. f.bytes) (nth_from_one (world self.now).frames number) }
     {
         let frame = self.released(number)?;
         Some(frame.bytes.as_slice())
@@ -298,7 +298,7 @@ impl Cluster {
 
     /// A released frame, by its number.
     fn released(&self, number: u64) -> Option<&Frame>
-        ensures { option_copied result ≡ numbered (world self.now).frames number }
+        ensures { option_copied result ≡ nth_from_one (world self.now).frames number }
     {
         if number == 0 {
             return None;

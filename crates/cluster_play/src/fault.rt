@@ -1,7 +1,7 @@
 //! Why a step isn't played.
 
 ghost use Rattle.std.specs.Prelude.{◌≡◌, Some};
-ghost use Rattle.cluster_play.specs.Names.{fault_name};
+ghost use Rattle.cluster_play.specs.Names.{play_fault_name};
 ghost use Rattle.cluster_play.specs.declared.fault.PlayFault.TheVariants as faults;
 
 use mqtt_fields::NoMemory;
@@ -25,7 +25,7 @@ pub enum PlayFault {
 }
 
 impl fmt::Display for PlayFault {
-    ghost output = { λ fault. Some (fault_name fault) };
+    ghost output = { λ fault. Some (play_fault_name fault) };
 
     fn fmt<W: fmt::Write>(&self, f: &mut fmt::Formatter<W>) -> fmt::Result {
         match self {

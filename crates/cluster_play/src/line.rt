@@ -1,12 +1,14 @@
 //! The lines of a trace.
 
-ghost use Rattle.std.specs.Prelude.{Some};
+ghost use Rattle.std.specs.Prelude.{◌≡◌, IfOk, Some};
 ghost use Rattle.cluster_play.specs.Lines.{line_text};
 
 use broker_node::FrameKind;
 use hex_text::HexText;
+use mqtt_fields::NoMemory;
 use mqtt_packets::Bytes;
 use node_keeper::KeeperFault;
+use std::alloc::Global;
 use std::fmt;
 
 /// One thing that a node gave out, or that befell it.
@@ -45,10 +47,71 @@ pub enum Line {
     },
 }
 
+impl Line {
+    /// An equal line.
+    pub fn copy(&self, alloc: Global) -> Result<Line, NoMemory>
+        ensures { IfOk result (λ copy. copy ≡ self.now) }
+    {
+        match self {
+            Line::Sent {
+                node,
+                connection,
+                bytes,
+            } => Ok(Line::Sent {
+                node: *node,
+                connection: *connection,
+                bytes: bytes.copy(alloc)?,
+            }),
+            Line::Closed { node, connection } => Ok(Line::Closed {
+                node: *node,
+                connection: *connection,
+            }),
+            Line::Frame {
+                number,
+                from,
+                to,
+                kind,
+            } => Ok(Line::Frame {
+                number: *number,
+                from: *from,
+                to: *to,
+                kind: *kind,
+            }),
+            Line::Fault { node, fault } => Ok(Line::Fault {
+                node: *node,
+                fault: *fault,
+            }),
+            Line::Crash { node } => Ok(Line::Crash { node: *node }),
+            Line::Down { node } => Ok(Line::Down { node: *node }),
+        }
+    }
+}
+
 /// The lines of the steps that were played, in order.
 #[derive(Drop)]
 pub struct Trace {
     pub lines: Vec<Line>,
+}
+
+/// Equal lines.
+fn copied(alloc: Global, lines: &[Line]) -> Result<Vec<Line>, NoMemory>
+    ensures { IfOk result (λ out. out.items ≡ lines.now) }
+{
+    let mut out = Vec::new(alloc);
+    for line in lines {
+        out.push(line.copy(alloc)?)?;
+    }
+    Ok(out)
+}
+
+impl Trace {
+    /// A trace with equal lines.
+    pub fn copy(&self, alloc: Global) -> Result<Trace, NoMemory>
+        ensures { IfOk result (λ copy. copy.lines.items ≡ self.now.lines.items) }
+    {
+        let lines = copied(alloc, &self.lines)?;
+        Ok(Trace { lines })
+    }
 }
 
 impl fmt::Display for Line {

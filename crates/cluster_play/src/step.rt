@@ -1,6 +1,10 @@
 //! What is played.
 
+ghost use Rattle.std.specs.Prelude.{◌≡◌, IfOk};
+
 use broker_node::Event;
+use mqtt_fields::NoMemory;
+use std::alloc::Global;
 
 /// One step of a cluster.
 #[derive(Drop)]
@@ -15,4 +19,31 @@ pub enum Step {
     CrashAfter { node: u16, event: Event },
     /// A node, running or down, is opened from its rows.
     Restart { node: u16 },
+}
+
+impl Step {
+    /// An equal step.
+    pub fn copy(&self, alloc: Global) -> Result<Step, NoMemory>
+        ensures { IfOk result (λ copy. copy ≡ self.now) }
+    {
+        match self {
+            Step::Event { node, event } => Ok(Step::Event {
+                node: *node,
+                event: event.copy(alloc)?,
+            }),
+            Step::Deliver { frame, at } => Ok(Step::Deliver {
+                frame: *frame,
+                at: *at,
+            }),
+            Step::CrashBefore { node, event } => Ok(Step::CrashBefore {
+                node: *node,
+                event: event.copy(alloc)?,
+            }),
+            Step::CrashAfter { node, event } => Ok(Step::CrashAfter {
+                node: *node,
+                event: event.copy(alloc)?,
+            }),
+            Step::Restart { node } => Ok(Step::Restart { node: *node }),
+        }
+    }
 }

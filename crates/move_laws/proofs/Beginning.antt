@@ -185,7 +185,7 @@ module _ (p : Place) (here : p.id < nodes_of p) where
 
   -- ---- pieces
   first : (c : ℕ) (k : Packet) → B (Unit {0}) (pieces.AnswersFirstPacket c k)
-  first c (packets.Connect q) = connects_by (connecting.refusal q) c q
+  first c (packets.Connect q) = connects_by (connecting.connect_refusal q) c q
   first c _ = b_still (endings.ClosesConnection c) (still.closes_of c)
 
   answers_by : (c : ℕ) (k : Packet) (client : Option (List ℕ)) → B (Unit {0}) (pieces.AnswersPacketBy c k client)
@@ -211,7 +211,7 @@ module _ (p : Place) (here : p.id < nodes_of p) where
   -- ---- tables of homes
   takes_table : (homes : Table) → B (Unit {0}) (tables.TakesTable homes)
   takes_table homes =
-      b_looks (tables.is_newer homes) (λ newer. If newer (tables.TakesNewerTable homes) (Misses TableRefused))
+      b_looks (tables.is_newer_table homes) (λ newer. If newer (tables.TakesNewerTable homes) (Misses TableRefused))
       (λ newer. b_if newer (tables.TakesNewerTable homes) (Misses TableRefused)
       (b_then (Acting (λ p h. Moved homes)) (λ _. tables.SendsAway) (b_act (λ p h. Moved homes) (λ h q e. cc)) (λ _. b_still tables.SendsAway still.goes_away))
       (b_still (Misses TableRefused) (still.misses_of TableRefused)))

@@ -17,7 +17,7 @@ use Rattle.node_work.specs.Acts.{Act, StoreAct, MomentTaken, Began, Moved, Store
 use Rattle.node_work.specs.Held.Bridge.{BridgeAct, Put, Took, Got, Believed, Gave, Left_out}
 use Rattle.node_work.specs.Held.Sessions.{SessionAct, SessionStep, Begun, Called, Over, IsOn, IsCall, seat_at}
 use Rattle.node_work.specs.View.{Place, HeldView}
-use Rattle.move_laws.specs.Going.{MayEnd, IsOfEnding, SessionHasWill, seen, seen_in}
+use Rattle.move_laws.specs.Going.{MayEnd, IsOfEnding, SessionHasWill, seat_seen, seen_in}
 
 -- the client has a session
 abbrev pub Has : List ℕ → HeldView → Type 0
@@ -28,7 +28,7 @@ pub record Calm (client : List ℕ) (h h' : HeldView) : Type 0 where
   pub moment : h'.at ≡ h.at
   pub homes : h'.homes ≡ h.homes
   pub connections : h'.connections ≡ h.connections
-  pub sessions : (q : List ℕ) → q ≢ client → seen q h' ≡ seen q h
+  pub sessions : (q : List ℕ) → q ≢ client → seat_seen q h' ≡ seat_seen q h
   pub has : Has client h → Has client h'
 
 pub calm_none : (client : List ℕ) (h : HeldView) → Calm client h h
@@ -62,18 +62,18 @@ seat_stays client own (answers id codes) r seat after on may ne reacts is = absu
 seat_stays client own loses r seat after on may ne reacts is = absurd may
 
 -- a call leaves another client's session, and a queued copy what is seen of its own
-call_seen : (client : List ℕ) (h : HeldView) (s : SessionStep) → IsCall h s → MayEnd client s.client s.event → (q : List ℕ) → q ≢ client → seen q (next h (Session (Called s))) ≡ seen q h
+call_seen : (client : List ℕ) (h : HeldView) (s : SessionStep) → IsCall h s → MayEnd client s.client s.event → (q : List ℕ) → q ≢ client → seat_seen q (next h (Session (Called s))) ≡ seat_seen q h
 call_seen client h s c may q ne = by (eq_by_cmp text_cmp q s.client) refl
   where
     after : Seat
     after = record { session = s.after; connection = s.on }
 
-    by : (b : Bool) → eq_by_cmp text_cmp q s.client ≡ b → seen q (next h (Session (Called s))) ≡ seen q h
+    by : (b : Bool) → eq_by_cmp text_cmp q s.client ≡ b → seat_seen q (next h (Session (Called s))) ≡ seat_seen q h
     by true e =
         let same : q ≡ s.client = same_text q s.client e in
         ap (λ k. option_map seen_in (map.get (map.insert h.sessions s.client after) k)) same ∙ ap (option_map seen_in) (get_inserted h.sessions s.client after)
         ∙ ap Some (seat_stays client s.client s.event s.reaction c.seat s.after s.on may (λ t. ne (same ∙ t)) c.reacts c.on)
-        ∙ ap (option_map seen_in) (sym c.found) ∙ ap (λ k. seen k h) (sym same)
+        ∙ ap (option_map seen_in) (sym c.found) ∙ ap (λ k. seat_seen k h) (sym same)
     by false e = ap (option_map seen_in) (get_apart h.sessions s.client after q e)
 
 call_has : (client : List ℕ) (h : HeldView) (s : SessionStep) → Has client h → Has client (next h (Session (Called s)))
@@ -135,7 +135,7 @@ longer : (xs : List ℕ) → xs ≢ 0 ∷ xs
 longer xs e = let z : length xs ≡ suc (length xs) = ap length e in omega (arith, z)
 
 -- they leave what is seen of each session
-pub passing_seen : (p : Place) (acts : List Act) (h h' : HeldView) (q : List ℕ) → AllByRecursion IsPassing acts → Runs p h acts h' → seen q h' ≡ seen q h
+pub passing_seen : (p : Place) (acts : List Act) (h h' : HeldView) (q : List ℕ) → AllByRecursion IsPassing acts → Runs p h acts h' → seat_seen q h' ≡ seat_seen q h
 passing_seen p acts h h' q kind ran = (calmly (0 ∷ q) p acts h h' (passing_ends (0 ∷ q) acts kind) ran).sessions q (longer q)
 
 -- a session whose will is seen has it still
@@ -146,5 +146,5 @@ will_by w id seat (Some other) client h at will same is =
     let kept : other.session.kept ≡ seat.session.kept = ap (λ (x : Option ℕ × Kept). x.1) one in
     record { seat = other; at = at; will = ap (λ (k : Kept). k.will) kept ∙ will; id_is = ap (λ (k : Kept). k.client) kept ∙ same }
 
-pub will_stays : (client : List ℕ) (w : Will) (id : List ℕ) (h h' : HeldView) → seen client h' ≡ seen client h → SessionHasWill client w id h → SessionHasWill client w id h'
+pub will_stays : (client : List ℕ) (w : Will) (id : List ℕ) (h h' : HeldView) → seat_seen client h' ≡ seat_seen client h → SessionHasWill client w id h → SessionHasWill client w id h'
 will_stays client w id h h' is has = will_by w id has.seat (seat_at client h') client h' refl has.will has.id_is (is ∙ ap (option_map seen_in) has.at)

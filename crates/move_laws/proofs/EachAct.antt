@@ -23,11 +23,11 @@ use Rattle.node_work.specs.declared.counts.Missed.{Missed}
 use Rattle.node_work.specs.declared.counts.Missed.TheVariants.{LaneFull}
 use Rattle.node_work.specs.Acts.{Act, Store, Made, Session, Bridge, Passed, Dropped}
 use Rattle.node_work.specs.Calling.{Calls, CallsAt, Queues, QueuesOne}
-use Rattle.node_work.specs.Doings.{MakesPut, Misses, PutsBy, Routes, RoutesBy}
+use Rattle.node_work.specs.Doings.{MakesPut, Misses, PutsInLaneBy, Routes, RoutesBy}
 use Rattle.node_work.specs.Held.Bridge.{Put, Left_out}
 use Rattle.node_work.specs.Held.Making.{put_at_end}
 use Rattle.node_work.specs.Held.Sessions.{SessionStep, Called, seat_at}
-use Rattle.node_work.specs.Passing.{content_of, turn_at_end}
+use Rattle.node_work.specs.Passing.{content_given, turn_at_end}
 use Rattle.node_work.specs.View.{Place, HeldView}
 use Rattle.node_work.specs.Working.{Doing, Returns, Stops, Acting, Numbered, Looks, FindsWhere, If, Where, Then, InTurn, Each}
 use Rattle.node_clients.specs.Ending as ending
@@ -112,14 +112,14 @@ module _ (Q : Act → Type 0) where
     pub misses : (what : Missed) → K (Unit {0}) (Misses what)
     misses what = acting (λ p h. Bridge (Left_out what)) (λ p h. k.missed what)
 
-    puts_by : (peer : ℕ) (m : Forward) (o : Offer) → K (Unit {0}) (PutsBy peer m o)
+    puts_by : (peer : ℕ) (m : Forward) (o : Offer) → K (Unit {0}) (PutsInLaneBy peer m o)
     puts_by peer m (Queued n) = acting (λ p h. Bridge (Put peer m)) (λ p h. k.laned peer m)
     puts_by peer m Full = misses LaneFull
     puts_by peer m AtEnd = stops
 
     routes_by : (peer : ℕ) (route : Route) → K (Unit {0}) (RoutesBy peer route)
     routes_by peer Nothing = returns tt
-    routes_by peer (Lane m) = looks (λ p h. offer_to peer h.bridge) (PutsBy peer m) (puts_by peer m)
+    routes_by peer (Lane m) = looks (λ p h. offer_to peer h.bridge) (PutsInLaneBy peer m) (puts_by peer m)
     routes_by peer TooLarge = misses LaneFull
 
     makes_copies : (m : Message) (x : passing.Made) → K (Unit {0}) (passing.MakesCopies m x)
@@ -135,7 +135,7 @@ module _ (Q : Act → Type 0) where
 
     pub passes : (m : Message) → K (Unit {0}) (passing.Passes m)
     passes m =
-        join (passing.Retains m) (λ _. Looks (λ p h. h.at) (passing.CopiesAt m)) (by_test m.retain (MakesPut (content_of m)) (Returns tt) (makes_put (content_of m)) (returns tt))
+        join (passing.Retains m) (λ _. Looks (λ p h. h.at) (passing.CopiesAt m)) (by_test m.retain (MakesPut (content_given m)) (Returns tt) (makes_put (content_given m)) (returns tt))
         (λ _. looks (λ p h. h.at) (passing.CopiesAt m) (copies_at m))
 
     pub drops : K (Unit {0}) passing.Drops

@@ -37,7 +37,7 @@ use Rattle.node_clients.proofs.Determined.{runs_determined}
 use Rattle.passing_laws.proofs.Keeping.{none_some}
 use Rattle.passing_laws.proofs.Passing.{numbered}
 use Rattle.passing_laws.proofs.Splits.{left_by, runs_split}
-use Rattle.move_laws.specs.Going.{MayEnd, MayPublish, IsOfEnding, AsksFor, SessionHasWill, OlderAreRemoved, seen, seen_in}
+use Rattle.move_laws.specs.Going.{MayEnd, MayPublish, IsOfEnding, AsksFor, SessionHasWill, OlderAreRemoved, seat_seen, seen_in}
 use Rattle.move_laws.proofs.Calm.{Has, IsPassing, calmly, passing_ends, passing_seen, will_stays}
 use Rattle.move_laws.proofs.EachAct.{Kind, are_both, passes_asked}
 
@@ -129,7 +129,7 @@ module _ (client : List ℕ) (p : Place) where
     pub moment : h'.at ≡ h.at
     pub homes : h'.homes ≡ h.homes
     pub connections : h'.connections ≡ h.connections
-    pub sessions : (q : List ℕ) → q ≢ client → seen q h' ≡ seen q h
+    pub sessions : (q : List ℕ) → q ≢ client → seat_seen q h' ≡ seat_seen q h
 
   apart : (q : List ℕ) → q ≢ client → eq_by_cmp text_cmp q client ≡ false
   apart q ne = by (eq_by_cmp text_cmp q client) refl

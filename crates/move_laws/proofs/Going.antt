@@ -25,7 +25,7 @@ use Rattle.node_clients.specs.Ending as endings
 use Rattle.node_clients.specs.Moving as moving
 use Rattle.passing_laws.proofs.Keeping.{none_some}
 use Rattle.passing_laws.proofs.Splits.{left_by}
-use Rattle.move_laws.specs.Going.{IsTold, IsParted, AsksFor, SessionHasWill, Goes, seen}
+use Rattle.move_laws.specs.Going.{IsToldItsHome, IsParted, AsksFor, SessionHasWill, Goes, seat_seen}
 use Rattle.move_laws.proofs.Calm.{Has, calmly}
 use Rattle.move_laws.proofs.Ending.{Dead, finishes_dead, finishes_gone, second_runs, then_dead, w_parts}
 
@@ -35,11 +35,11 @@ told_by : (b : Bool) (c : ℕ) (address : List ℕ) (x : Unit {0}) (p : Place) (
 told_by true c address x p h acts d = d.1
 told_by false c address x p h acts d = d.1
 
-told : (o : Option (List ℕ)) (c : ℕ) (client : List ℕ) (x : Unit {0}) (p : Place) (h : HeldView) (acts : List Act) → moving.RedirectsBy c client o (Some x) p h acts → IsTold c client h o acts
+told : (o : Option (List ℕ)) (c : ℕ) (client : List ℕ) (x : Unit {0}) (p : Place) (h : HeldView) (acts : List Act) → moving.RedirectsBy c client o (Some x) p h acts → IsToldItsHome c client h o acts
 told None c client x p h acts d = d.1
 told (Some address) c client x p h acts d = told_by (takes_packet client (moved_packet address) h) c address x p h acts d
 
-told_same : (o : Option (List ℕ)) (c : ℕ) (client : List ℕ) (p : Place) (h h' : HeldView) (acts : List Act) → IsTold c client h o acts → Runs p h acts h' → h' ≡ h
+told_same : (o : Option (List ℕ)) (c : ℕ) (client : List ℕ) (p : Place) (h h' : HeldView) (acts : List Act) → IsToldItsHome c client h o acts → Runs p h acts h' → h' ≡ h
 told_same None c client p h h' acts t runs = subst (λ xs. Runs p h xs h') t runs
 told_same (Some address) c client p h h' acts t runs = by (takes_packet client (moved_packet address) h) t
   where
@@ -87,7 +87,7 @@ module _ (p : Place) (client : List ℕ) where
     pub home : ℕ
     pub is_home : IsHome h.homes client home
     pub other : home ≢ p.id
-    pub is_told : IsTold c client h (address_of h home) said
+    pub is_told : IsToldItsHome c client h (address_of h home) said
 
   goes_by : (h h1 h' : HeldView) (parting rest acts : List Act) → Runs p h parting h1 → Parted h parting h1 → Dead client p h1 rest h' → acts ≡ parting ++ rest → Goes p client h acts h'
   goes_by h h1 h' parting rest acts ran a d is =
@@ -110,7 +110,7 @@ module _ (p : Place) (client : List ℕ) where
           gone = d.left.gone;
           moment = d.left.moment ∙ calm.moment ∙ a.moment;
           homes = d.left.homes ∙ calm.homes ∙ a.homes;
-          sessions = λ q ne. d.left.sessions q ne ∙ calm.sessions q ne ∙ ap (λ m. seen q (record h { sessions = m })) a.sessions;
+          sessions = λ q ne. d.left.sessions q ne ∙ calm.sessions q ne ∙ ap (λ m. seat_seen q (record h { sessions = m })) a.sessions;
           connections = λ c ne. ap (λ m. map.get m c) (d.left.connections ∙ calm.connections) ∙ a.connections c ne;
         };
       }
@@ -150,7 +150,7 @@ module _ (p : Place) (client : List ℕ) where
   on_connection c y x h mid h' own rest acts has elsewhere at (inl d) ran more later is = none_some (sym d.0)
   on_connection c y x h mid h' own rest acts has elsewhere at (inr (z, saying, m1, closing, says, ran1, (inl d), whole)) ran more later is = none_some (sym d.0)
   on_connection c y x h mid h' own rest acts has elsewhere at (inr (z, saying, m1, closing, (home, is_home, says), ran1, (inr (u, shut, m2, parting, first, ran2, second, all)), whole)) ran more later is =
-      let is_told : IsTold c client h (address_of h home) saying = told (address_of h home) c client z p h saying says in
+      let is_told : IsToldItsHome c client h (address_of h home) saying = told (address_of h home) c client z p h saying says in
       let same : m1 ≡ h = told_same (address_of h home) c client p h m1 saying is_told ran1 in
       let later1 : Runs p m1 closing mid = second_runs p h m1 mid saying closing own whole ran1 ran in
       let later2 : Runs p m2 parting mid = second_runs p m1 m2 mid shut parting closing all ran2 later1 in

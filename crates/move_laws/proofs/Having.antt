@@ -23,7 +23,7 @@ use Rattle.broker_node.specs.Turns as turns
 use Rattle.broker_node.proofs.Handing.{turn_brings}
 use Rattle.passing_laws.proofs.Passing.{has_of}
 use Rattle.passing_laws.proofs.Splits.{left_by}
-use Rattle.move_laws.specs.Sessions.{NoneElsewhere, HasItsOwn, IsPlaced, SessionsAreAtHome}
+use Rattle.move_laws.specs.Sessions.{NoneElsewhere, HasItsOwn, IsInItsTable, SessionsAreAtHome}
 use Rattle.move_laws.specs.Tables.{TableIsRefused, TicksFirst}
 use Rattle.move_laws.proofs.Beginning.{Begin, decides}
 use Rattle.move_laws.proofs.Calm.{Has}
@@ -174,7 +174,7 @@ first_nothing kinds.Tick p h rest d = inr d.1
 first_nothing (kinds.Evict client) p h rest d = inr d.1
 first_nothing (kinds.Table homes) p h rest d = inr d.1
 
-module _ (e : Event) (p : Place) (h last : HeldView) (acts : List Act) (placed : IsPlaced p h) (d : turns.Decides e (Some tt) p h acts) (runs : Runs p h acts last) where
+module _ (e : Event) (p : Place) (h last : HeldView) (acts : List Act) (placed : IsInItsTable p h) (d : turns.Decides e (Some tt) p h acts) (runs : Runs p h acts last) where
   t : Turning p h e acts
   t = turning e p h acts d
 

@@ -21,14 +21,14 @@ use Rattle.node_work.specs.View.{Place, HeldView}
 use Rattle.node_work.proofs.Working.{gather-append, runs_join}
 use Rattle.node_clients.specs.Connecting.{address_of}
 use Rattle.passing_laws.specs.Sending.{IsIn}
-use Rattle.move_laws.specs.Going.{Goes, IsOfEnding, IsParted, IsTold}
+use Rattle.move_laws.specs.Going.{Goes, IsOfEnding, IsParted, IsToldItsHome}
 use Rattle.move_laws.specs.Tables.{GoInTurn}
 
 -- ---- the operations of the parts
 abbrev ops : List Act → List Operation
 ops acts = gather op_in acts
 
-told_none : (c : ℕ) (client : List ℕ) (h : HeldView) (o : Option (List ℕ)) (told : List Act) → IsTold c client h o told → ops told ≡ []
+told_none : (c : ℕ) (client : List ℕ) (h : HeldView) (o : Option (List ℕ)) (told : List Act) → IsToldItsHome c client h o told → ops told ≡ []
 told_none c client h None told t = ap ops t
 told_none c client h (Some address) told t = by (takes_packet client (moved_packet address) h) t
   where

@@ -30,7 +30,7 @@ use Rattle.cluster_play.proofs.Paths.{along, along_from, commits_acts, midway, m
 use Rattle.cluster_play.proofs.Rows.{Came, Committed, Rests, Woke, came, committed}
 use Rattle.cluster_play.proofs.Sites.{get_within, get-set_same, get-set_other}
 use Rattle.cluster_play.proofs.Splits.{runs_split}
-use Rattle.move_laws.specs.Sessions.{IsPlaced, NoneElsewhere, SessionsStayAtHome, SessionsLastAtHome, BeginsAtHome, SessionsBeginAtHome}
+use Rattle.move_laws.specs.Sessions.{IsInItsTable, NoneElsewhere, SessionsStayAtHome, SessionsLastAtHome, BeginsAtHome, SessionsBeginAtHome}
 use Rattle.move_laws.proofs.Calm.{Has}
 use Rattle.move_laws.proofs.Having.{has_is, sessions_are_at_home}
 
@@ -44,7 +44,7 @@ pub record Sits (i : ℕ) (s : Site) : Type 0 where
 abbrev AllSit : World → Type 0
 AllSit w = (i : ℕ) (s : Site) → slice_get w.sites i ≡ Some s → Sits i s
 
-pub placed_in : (s : Site) (i : ℕ) (h : HeldView) → Sits i s → s.node.up ≡ Some h → IsPlaced s.node.place h
+pub placed_in : (s : Site) (i : ℕ) (h : HeldView) → Sits i s → s.node.up ≡ Some h → IsInItsTable s.node.place h
 placed_in s i h sits up = record { number = sits.number; nodes = sits.placed h up }
 
 -- ---- a step

@@ -35,7 +35,7 @@ use Rattle.passing_laws.specs.Sending.{IsIn}
 use Rattle.passing_laws.proofs.Passing.{has_of}
 use Rattle.cluster_play.specs.Worlds.{World, Fate, Released, Lost, Cut, Faulted, Was_down, Restarted}
 use Rattle.cluster_play.specs.Runs.{Played}
-use Rattle.cluster_play.specs.Histories.{Reached, site, event_of, acts_of, made, taken, taken_amid, operations_amid, gained, same_dot}
+use Rattle.cluster_play.specs.Histories.{Reached, site, event_committed, acts_of, made, taken, taken_amid, operations_amid, gained, same_dot}
 use Rattle.cluster_play.specs.Agreement.{HoldsAmid}
 use Rattle.cluster_play.proofs.Agreeing.{own_dots}
 use Rattle.cluster_play.proofs.Bools.{and_true, dot_is, dot_same, or_assoc, or_left, or_right, or_true}
@@ -128,7 +128,7 @@ module _ (i : ℕ) (run : List Played) where
       (taken_parts xs (Store (Made o) ∷ ys) (dot_of o) ∙ or_right (taken_amid i run xs (dot_of o)) (gained (Store (Made o) ∷ ys) (dot_of o)) (or_left (same_dot (dot_of o) (dot_of o)) (gained ys (dot_of o)) (dot_same (dot_of o) (dot_of o) refl)))
 
 -- ---- the step that takes a table
-commits_moved : (fate : Fate) (homes : Table) → gather moved_in (acts_of fate) ≡ homes ∷ [] → (e : Event) × (event_of fate ≡ Some e)
+commits_moved : (fate : Fate) (homes : Table) → gather moved_in (acts_of fate) ≡ homes ∷ [] → (e : Event) × (event_committed fate ≡ Some e)
 commits_moved (Released i e acts outputs) homes is = (e, refl)
 commits_moved (Lost i e acts) homes is = (e, refl)
 commits_moved (Cut i) homes is = absurd (let z : [] ≡ homes ∷ [] = is in cc)

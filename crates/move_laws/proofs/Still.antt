@@ -37,7 +37,7 @@ use Rattle.node_work.specs.declared.outcome.Output.TheVariants.{Close, Send}
 use Rattle.node_work.specs.Acts.{Acknowledged, Act, Bridge, Connection, Made, Merged, Moved, Out, Session, Store}
 use Rattle.node_work.specs.Calling.{Calls, Queues}
 use Rattle.node_work.specs.Doings.{Disconnects, GivesBody, GivesFrame, MakesRemove, MakesRemoveBelow, MakesSubscribe, Misses, Removes, RemovesBelow, Sends, is_small}
-use Rattle.node_work.specs.Frames.{is_for, is_other}
+use Rattle.node_work.specs.Frames.{is_for_node, is_other}
 use Rattle.node_work.specs.Held.Bridge.{Believed, Gave, Got as GotBy, Took}
 use Rattle.node_work.specs.Held.Connections.{Closed, client_at, first_at, is_open}
 use Rattle.node_work.specs.Held.Making.{number_at_end, removal, removal_below}
@@ -153,17 +153,17 @@ closes_by c (Some client) = closes_for c client
 -- ---- SUBSCRIBE and UNSUBSCRIBE
 grants_by : (client : List ℕ) (identifier : ℕ) (f : SubscribeFilter) (stood : Bool) → K IsStill Granted (subscribing.GrantsBy client identifier f stood)
 grants_by client identifier f stood =
-    let full = Returns (subscribing.refused 151) in
+    let full = Returns (subscribing.filter_refused 151) in
     let given = subscribing.granted f (identifiers_of identifier) stood in
     let One = subscribing.SubscribesTo client identifier f in
-    let one = looks IsStill (λ p h. h.homes.version) (λ version. MakesSubscribe (subscribing.entry_of client f identifier version)) (λ version. makes_subscribe (subscribing.entry_of client f identifier version)) in
+    let one = looks IsStill (λ p h. h.homes.version) (λ version. MakesSubscribe (subscribing.subscription_entry client f identifier version)) (λ version. makes_subscribe (subscribing.subscription_entry client f identifier version)) in
     looks IsStill (λ p h. not stood && subscribing.has_most client h.store) (λ is. If is full (Then One (λ _. Returns given)))
-    (λ is. by_test IsStill is full (Then One (λ _. Returns given)) (returns IsStill (subscribing.refused 151)) (join IsStill One (λ _. Returns given) one (λ _. returns IsStill given)))
+    (λ is. by_test IsStill is full (Then One (λ _. Returns given)) (returns IsStill (subscribing.filter_refused 151)) (join IsStill One (λ _. Returns given) one (λ _. returns IsStill given)))
 
 grants : (client : List ℕ) (identifier : ℕ) (f : SubscribeFilter) → K IsStill Granted (subscribing.Grants client identifier f)
 grants client identifier f =
-    by_whether IsStill (IsFilter f.filter) (Looks (λ p h. subscribing.stands client f.filter h) (subscribing.GrantsBy client identifier f)) (Returns (subscribing.refused 143))
-    (looks IsStill (λ p h. subscribing.stands client f.filter h) (subscribing.GrantsBy client identifier f) (grants_by client identifier f)) (returns IsStill (subscribing.refused 143))
+    by_whether IsStill (IsFilter f.filter) (Looks (λ p h. subscribing.stands client f.filter h) (subscribing.GrantsBy client identifier f)) (Returns (subscribing.filter_refused 143))
+    (looks IsStill (λ p h. subscribing.stands client f.filter h) (subscribing.GrantsBy client identifier f) (grants_by client identifier f)) (returns IsStill (subscribing.filter_refused 143))
 
 offers_one : (client : List ℕ) (offer : Delivery) → Does (subscribing.OffersOne client offer)
 offers_one client offer = join IsStill (Calls client (queues offer) stays) (λ _. Returns tt) (calling client (queues offer) stays) (λ _. returns IsStill tt)
@@ -180,8 +180,8 @@ offers_after (Some code) c client packet given = closes_for c client
 
 acknowledges : (c : ℕ) (client : List ℕ) (packet : ℕ) (given : List Granted) → Does (subscribing.SendsSuback c client packet given)
 acknowledges c client packet given =
-    join IsStill (Calls client (λ at. answers packet (subscribing.reasons_of given)) stays) (λ r. subscribing.OffersAfter r.end c client packet given)
-    (calling client (λ at. answers packet (subscribing.reasons_of given)) stays) (λ r. offers_after r.end c client packet given)
+    join IsStill (Calls client (λ at. answers packet (subscribing.granted_reasons given)) stays) (λ r. subscribing.OffersAfter r.end c client packet given)
+    (calling client (λ at. answers packet (subscribing.granted_reasons given)) stays) (λ r. offers_after r.end c client packet given)
 
 subscribes_by : (c : ℕ) (client : List ℕ) (k : Packet) → Does (serving.SubscribesBy c client k)
 subscribes_by c client (packets.Subscribe q) =
@@ -201,16 +201,15 @@ unsubscribes_by c client (packets.Unsubscribe u) =
 unsubscribes_by c client _ = returns IsStill tt
 
 -- ---- a packet of an accepted client
-does_asked : (ask : Option Ask) (dropped : Bool) (c : ℕ) (client : List ℕ) (k : Packet) → Does (serving.DoesAsked ask dropped c client k)
-does_asked None dropped c client k = by_test IsStill dropped passing.Drops (Returns tt) (drops IsStill kind) (returns IsStill tt)
-does_asked (Some (asks.Pass m)) dropped c client k = passes IsStill kind m
-does_asked (Some asks.Subscribe) dropped c client k = subscribes_by c client k
-does_asked (Some asks.Unsubscribe) dropped c client k = unsubscribes_by c client k
+does_asked : (ask : Option Ask) (c : ℕ) (client : List ℕ) (k : Packet) (room : Bool) (end : Option ℕ) → Does (serving.DoesAsked ask c client k room end)
+does_asked None c client k room end = by_test IsStill (serving.is_dropped k room end) passing.Drops (Returns tt) (drops IsStill kind) (returns IsStill tt)
+does_asked (Some (asks.Pass m)) c client k room end = passes IsStill kind m
+does_asked (Some asks.Subscribe) c client k room end = subscribes_by c client k
+does_asked (Some asks.Unsubscribe) c client k room end = unsubscribes_by c client k
 
 does_reaction : (c : ℕ) (client : List ℕ) (k : Packet) (room : Bool) (r : Reaction) → Does (serving.DoesReaction c client k room r)
 does_reaction c client k room r =
-    let dropped = serving.is_dropped k room r.end in
-    join IsStill (serving.DoesAsked r.ask dropped c client k) (λ _. endings.ClosesAfter r.end c client) (does_asked r.ask dropped c client k) (λ _. closes_after r.end c client)
+    join IsStill (serving.DoesAsked r.ask c client k room r.end) (λ _. endings.ClosesAfter r.end c client) (does_asked r.ask c client k room r.end) (λ _. closes_after r.end c client)
 
 pub serves : (c : ℕ) (client : List ℕ) (k : Packet) → Does (serving.ServesPacket c client k)
 serves c client k =
@@ -358,7 +357,7 @@ takes_body from (Got number) = acting IsStill (λ p h. Bridge (GotBy from number
 hears_frame : (frame : Option BridgeFrame) → Does (bridge.HearsFrame frame)
 hears_frame None = misses IsStill kind BadFrame
 hears_frame (Some frame) =
-    looks IsStill (λ p h. is_for p frame) (λ here. If here (bridge.TakesBody frame.from frame.body) (Misses BadFrame))
+    looks IsStill (λ p h. is_for_node p frame) (λ here. If here (bridge.TakesBody frame.from frame.body) (Misses BadFrame))
     (λ here. by_test IsStill here (bridge.TakesBody frame.from frame.body) (Misses BadFrame) (takes_body frame.from frame.body) (misses IsStill kind BadFrame))
 
 pub hears : (bytes : List ℕ) → Does (bridge.Hears bytes)

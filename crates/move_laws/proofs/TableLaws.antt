@@ -73,7 +73,7 @@ same_number a b e = grind (arith, nat_tests)
 below_number : (a b : ℕ) → nat_lt a b ≡ true → a < b
 below_number a b e = grind (arith, nat_tests)
 
-is_newer : (homes : Table) (p : Place) (h mid : HeldView) → mid.homes ≡ h.homes → tables.is_newer homes p mid ≡ true → IsNewer p h homes
+is_newer : (homes : Table) (p : Place) (h mid : HeldView) → mid.homes ≡ h.homes → tables.is_newer_table homes p mid ≡ true → IsNewer p h homes
 is_newer homes p h mid same newer =
     let parts = and_parts (nat_eq (length homes.nodes) (nodes_of p)) (nat_lt mid.homes.version homes.version) newer in
     (same_number _ _ parts.0, subst (λ (t : Table). t.version < homes.version) same (below_number _ _ parts.1))
@@ -82,7 +82,7 @@ both_true : (a b : Bool) → a ≡ true → b ≡ true → (a && b) ≡ true
 both_true true b e f = f
 both_true false b e f = cc
 
-not_newer : (homes : Table) (p : Place) (h mid : HeldView) → mid.homes ≡ h.homes → tables.is_newer homes p mid ≡ false → IsNewer p h homes → ⊥
+not_newer : (homes : Table) (p : Place) (h mid : HeldView) → mid.homes ≡ h.homes → tables.is_newer_table homes p mid ≡ false → IsNewer p h homes → ⊥
 not_newer homes p h mid same older newer =
     let nodes : nat_eq (length homes.nodes) (nodes_of p) ≡ true = eq-eqb (length homes.nodes) (nodes_of p) newer.0 in
     let version : nat_lt mid.homes.version homes.version ≡ true = lt-ltb mid.homes.version homes.version (subst (λ (t : Table). t.version < homes.version) (sym same) newer.1) in
@@ -110,7 +110,7 @@ module _ (e : Event) (homes : Table) (p : Place) (h last : HeldView) (acts : Lis
     same : mid.homes ≡ h.homes
     same = due_homes p start mid own one ran
 
-    comes_by : (newer : Bool) → tables.is_newer homes p mid ≡ newer → If newer (tables.TakesNewerTable homes) (Misses TableRefused) (Some tt) p mid rest → Comes
+    comes_by : (newer : Bool) → tables.is_newer_table homes p mid ≡ newer → If newer (tables.TakesNewerTable homes) (Misses TableRefused) (Some tt) p mid rest → Comes
     unfolding ticks_first
     comes_by true newer (inl d) = none_some (sym d.0)
     comes_by true newer (inr (x, made, moved, away, takes, ran2, more, all)) =
@@ -137,7 +137,7 @@ module _ (e : Event) (homes : Table) (p : Place) (h last : HeldView) (acts : Lis
 
   comes : Then due.DoesDue (λ _. tables.TakesTable homes) (Some tt) p start t.rest → Comes
   comes (inl d) = none_some (sym d.0)
-  comes (inr (x, own, mid, rest, one, ran, more, is)) = comes_by own rest mid one ran is (tables.is_newer homes p mid) refl more
+  comes (inr (x, own, mid, rest, one, ran, more, is)) = comes_by own rest mid one ran is (tables.is_newer_table homes p mid) refl more
 
 pub tables_are_taken : TablesAreTaken
 tables_are_taken = λ e homes p h last acts is started d runs. (

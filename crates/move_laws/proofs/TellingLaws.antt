@@ -22,7 +22,7 @@ use Rattle.node_work.specs.View.{Place, HeldView}
 use Rattle.node_work.proofs.Working.{runs_join}
 use Rattle.node_clients.specs.Connecting.{address_of}
 use Rattle.passing_laws.specs.Sending.{IsIn}
-use Rattle.move_laws.specs.Going.{Goes, IsOfEnding, IsParted, IsTold, seen, seen_in}
+use Rattle.move_laws.specs.Going.{Goes, IsOfEnding, IsParted, IsToldItsHome, seat_seen, seen_in}
 use Rattle.move_laws.specs.Tables.{GoInTurn}
 use Rattle.move_laws.specs.Telling.{HasHomeElsewhere, IsSentOnAmong, TellsHome, IsForThem, ClientsAreSentOn}
 use Rattle.move_laws.proofs.Calm.{Has}
@@ -38,7 +38,7 @@ connection_seen : (o : Option Seat) → option_and_then (λ (s : Seat). s.connec
 connection_seen None = refl
 connection_seen (Some seat) = refl
 
-same_connection : (q : List ℕ) (h h' : HeldView) → seen q h' ≡ seen q h → connection_at q h' ≡ connection_at q h
+same_connection : (q : List ℕ) (h h' : HeldView) → seat_seen q h' ≡ seat_seen q h → connection_at q h' ≡ connection_at q h
 same_connection q h h' is = connection_seen (seat_at q h') ∙ ap connection_in is ∙ sym (connection_seen (seat_at q h))
 
 has_by : (q : List ℕ) (h : HeldView) (c : ℕ) → connection_at q h ≡ Some c → Has q h
@@ -105,7 +105,7 @@ module _ (p : Place) (client : List ℕ) (h mid : HeldView) (own : List Act) (g 
 
 -- ---- the acts of one client
 module _ (p : Place) (client : List ℕ) (h : HeldView) (elsewhere : IsElsewhere h.homes p.id client) where
-  told_for : (c home : ℕ) (o : Option (List ℕ)) (told : List Act) → connection_at client h ≡ Some c → IsHome h.homes client home → home ≢ p.id → address_of h home ≡ o → IsTold c client h o told → AllByRecursion (IsForThem p h) told
+  told_for : (c home : ℕ) (o : Option (List ℕ)) (told : List Act) → connection_at client h ≡ Some c → IsHome h.homes client home → home ≢ p.id → address_of h home ≡ o → IsToldItsHome c client h o told → AllByRecursion (IsForThem p h) told
   told_for c home None told on is_home other at t = subst (AllByRecursion (IsForThem p h)) (sym t) tt
   told_for c home (Some address) told on is_home other at t = by (takes_packet client (moved_packet address) h) t
     where

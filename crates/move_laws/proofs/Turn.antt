@@ -13,7 +13,7 @@ use Rattle.node_clients.specs.Moving as moving
 use Rattle.broker_node.specs.Moving as tables
 use Rattle.passing_laws.specs.Sending.{IsIn}
 use Rattle.passing_laws.proofs.Keeping.{none_some}
-use Rattle.move_laws.specs.Going.{Goes, seen, seen_in}
+use Rattle.move_laws.specs.Going.{Goes, seat_seen, seen_in}
 use Rattle.move_laws.specs.Tables.{GoInTurn, ClientsGo}
 use Rattle.move_laws.proofs.Calm.{Has}
 use Rattle.move_laws.proofs.Ending.{second_runs}
@@ -22,7 +22,7 @@ use Rattle.move_laws.proofs.Keys.{Apart, key_in, keys_apart, keys_seated, select
 
 -- ---- a session that is seen is there
 
-still_has : (q : List ℕ) (h h' : HeldView) → seen q h' ≡ seen q h → Has q h → Has q h'
+still_has : (q : List ℕ) (h h' : HeldView) → seat_seen q h' ≡ seat_seen q h → Has q h → Has q h'
 still_has q h h' is has = by (seat_at q h') refl (is ∙ ap (option_map seen_in) has.1)
   where
     by : (o : Option Seat) → seat_at q h' ≡ o → option_map seen_in o ≡ Some (seen_in has.0) → Has q h'
@@ -30,14 +30,14 @@ still_has q h h' is has = by (seat_at q h') refl (is ∙ ap (option_map seen_in)
     by (Some seat) at e = (seat, at)
 
 -- the same the other way round
-was_there : (q : List ℕ) (h h' : HeldView) → seen q h' ≡ seen q h → Has q h' → Has q h
+was_there : (q : List ℕ) (h h' : HeldView) → seat_seen q h' ≡ seat_seen q h → Has q h' → Has q h
 was_there q h h' is has = still_has q h' h (sym is) has
 
 -- ---- those that wait for their turn
 abbrev pub AreAway : Place → HeldView → List (List ℕ) → Type 0
 AreAway p h clients = AllByRecursion (λ (q : List ℕ). IsElsewhere h.homes p.id q × Has q h) clients
 
-pub still_away : (p : Place) (client : List ℕ) (h h' : HeldView) (clients : List (List ℕ)) → h'.homes ≡ h.homes → ((q : List ℕ) → q ≢ client → seen q h' ≡ seen q h) → AllByRecursion (λ (q : List ℕ). q ≢ client) clients → AreAway p h clients → AreAway p h' clients
+pub still_away : (p : Place) (client : List ℕ) (h h' : HeldView) (clients : List (List ℕ)) → h'.homes ≡ h.homes → ((q : List ℕ) → q ≢ client → seat_seen q h' ≡ seat_seen q h) → AllByRecursion (λ (q : List ℕ). q ≢ client) clients → AreAway p h clients → AreAway p h' clients
 still_away p client h h' [] homes same apart away = tt
 still_away p client h h' (q ∷ clients) homes same apart away =
     ((subst (λ (t : Table). IsElsewhere t p.id q) (sym homes) away.0.0, still_has q h h' (same q apart.0) away.0.1), still_away p client h h' clients homes same apart.1 away.1)

@@ -27,9 +27,9 @@ use Rattle.node_clients.specs.Connecting.{address_of}
 
 -- ---- what it is told
 -- Server moved and the address of its home, unless that is longer than the client takes
-abbrev pub IsTold : ℕ → List ℕ → HeldView → Option (List ℕ) → List Act → Type 0
-IsTold c client h None told = told ≡ []
-IsTold c client h (Some address) told = cond (takes_packet client (moved_packet address) h) (told ≡ Out (Send c (written (moved_packet address))) ∷ []) (told ≡ [])
+abbrev pub IsToldItsHome : ℕ → List ℕ → HeldView → Option (List ℕ) → List Act → Type 0
+IsToldItsHome c client h None told = told ≡ []
+IsToldItsHome c client h (Some address) told = cond (takes_packet client (moved_packet address) h) (told ≡ Out (Send c (written (moved_packet address))) ∷ []) (told ≡ [])
 
 -- it is told the address that the table has of its home, which is another node, and directly after that its connection is closed
 pub record IsSentOn (p : Place) (client : List ℕ) (c : ℕ) (h : HeldView) (acts : List Act) : Type 0 where
@@ -37,7 +37,7 @@ pub record IsSentOn (p : Place) (client : List ℕ) (c : ℕ) (h : HeldView) (ac
   pub is_home : IsHome h.homes client home
   pub other : home ≢ p.id
   pub told : List Act
-  pub is_told : IsTold c client h (address_of h home) told
+  pub is_told : IsToldItsHome c client h (address_of h home) told
   pub is : acts ≡ told ++ Connection (Closed c) ∷ Out (Close c) ∷ []
 
 -- where it is connected
@@ -95,15 +95,15 @@ OlderAreRemoved p client h acts = cond (any_below client h.homes.version h.store
 abbrev pub seen_in : Seat → Option ℕ × Kept
 seen_in seat = (seat.connection, seat.session.kept)
 
-abbrev pub seen : List ℕ → HeldView → Option (Option ℕ × Kept)
-seen client h = option_map seen_in (seat_at client h)
+abbrev pub seat_seen : List ℕ → HeldView → Option (Option ℕ × Kept)
+seat_seen client h = option_map seen_in (seat_at client h)
 
 -- the client's session is gone; all others are as they were, each on its connection, and so are other connections, and the table
 pub record LeavesOthers (client : List ℕ) (h h' : HeldView) : Type 0 where
   pub gone : seat_at client h' ≡ None
   pub moment : h'.at ≡ h.at
   pub homes : h'.homes ≡ h.homes
-  pub sessions : (q : List ℕ) → q ≢ client → seen q h' ≡ seen q h
+  pub sessions : (q : List ℕ) → q ≢ client → seat_seen q h' ≡ seat_seen q h
   pub connections : (c : ℕ) → connection_at client h ≢ Some c → map.get h'.connections c ≡ map.get h.connections c
 
 -- ---- so a client goes: where it is connected it is told where to, and its connection is closed; its session ends, whatever its expiry, and

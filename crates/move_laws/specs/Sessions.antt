@@ -22,7 +22,7 @@ abbrev pub HasItsOwn : ℕ → HeldView → Type 0
 HasItsOwn id h = h.started ≡ true → NoneElsewhere id h
 
 -- the node is one of those of its table
-pub record IsPlaced (p : Place) (h : HeldView) : Type 0 where
+pub record IsInItsTable (p : Place) (h : HeldView) : Type 0 where
   pub number : p.id < nodes_of p
   pub nodes : length h.homes.nodes ≡ nodes_of p
 
@@ -30,7 +30,7 @@ pub record IsPlaced (p : Place) (h : HeldView) : Type 0 where
 -- that the node holds there
 abbrev pub SessionsAreAtHome : Type 0
 SessionsAreAtHome =
-    (e : Event) (p : Place) (h last : HeldView) (acts : List Act) → IsPlaced p h → Decides e (Some tt) p h acts → Runs p h acts last
+    (e : Event) (p : Place) (h last : HeldView) (acts : List Act) → IsInItsTable p h → Decides e (Some tt) p h acts → Runs p h acts last
     → (NoneElsewhere p.id h → NoneElsewhere p.id last)
     × (HasItsOwn p.id h → HasItsOwn p.id last)
     × ((before after : List Act) (client : List ℕ) (mid : HeldView) → acts ≡ before ++ Session (Begun client) ∷ after → Runs p h before mid → IsHome mid.homes client p.id)

@@ -3,7 +3,7 @@ use Rattle.std.proofs.Common.{◌≡◌, List, [], ◌∷◌, ◌++◌, refl, sy
 use Rattle.std.proofs.lemmas.List.{append-nil}
 use Rattle.broker_node.specs.declared.event.Event.{Event}
 use Rattle.node_batches.specs.Batches.{Answered, AreDecided, AreHandled, BatchGrows, BatchIsSteps, BatchKeeps, IsDecided}
-use Rattle.node_keeper.specs.Keeping.{AreKept}
+use Rattle.node_keeper.specs.Keeping.{RowsAreKept}
 use Rattle.node_keeper.proofs.Keeping.{commits}
 use Rattle.node_work.specs.View.{NodeView}
 use Rattle.node_work.specs.declared.outcome.Output.{Output}
@@ -41,10 +41,10 @@ batch_is_steps n n' rows answered changes decided =
     let Handled : List Change → Type 0 = λ xs. AreHandled n rows answered n' (after_all rows xs) in
     subst Handled (sym steps.1) steps.2
 
-handled_keeps : (n n' : NodeView) (rows rows' : Content) (answered : List Answered) → AreHandled n rows answered n' rows' → AreKept n rows → AreKept n' rows'
+handled_keeps : (n n' : NodeView) (rows rows' : Content) (answered : List Answered) → AreHandled n rows answered n' rows' → RowsAreKept n rows → RowsAreKept n' rows'
 handled_keeps n n' rows rows' [] same kept =
-    let Node : NodeView → Type 0 = λ m. AreKept m rows' in
-    let Held : Content → Type 0 = λ c. AreKept n c in
+    let Node : NodeView → Type 0 = λ m. RowsAreKept m rows' in
+    let Held : Content → Type 0 = λ c. RowsAreKept n c in
     subst Node (sym same.0) (subst Held (sym same.1) kept)
 handled_keeps n n' rows rows' (a ∷ more) handled kept =
     handled_keeps handled.0 n' handled.1 rows' more handled.3 (handled.2.commits.kept kept)

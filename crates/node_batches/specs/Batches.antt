@@ -4,7 +4,7 @@ use Rattle.broker_node.specs.declared.event.Event.{Event}
 use Rattle.broker_node.specs.Step.{IsDone}
 use Rattle.node_keeper.specs.declared.fault.KeeperFault.{KeeperFault}
 use Rattle.node_keeper.specs.declared.fault.KeeperFault.TheVariants.{NoMemory, Rows, NumbersAtEnd, Stopped}
-use Rattle.node_keeper.specs.Keeping.{AreKept, Commits}
+use Rattle.node_keeper.specs.Keeping.{RowsAreKept, Commits}
 use Rattle.node_work.specs.View.{NodeView}
 use Rattle.node_work.specs.declared.outcome.Output.{Output}
 use Rattle.row_store.specs.declared.row.Change.{Change}
@@ -53,7 +53,7 @@ BatchIsSteps =
 abbrev pub BatchKeeps : Type 0
 BatchKeeps =
     (n n' : NodeView) (rows : Content) (answered : List Answered) (changes : List Change)
-    → AreDecided n [] answered n' changes → AreKept n rows → AreKept n' (after_all rows changes)
+    → AreDecided n [] answered n' changes → RowsAreKept n rows → RowsAreKept n' (after_all rows changes)
 
 -- and a next event joins the others
 abbrev pub BatchGrows : Type 0

@@ -4,7 +4,7 @@ ghost use Rattle.std.specs.Prelude.{◌≡◌, ◌≢◌, ◌<◌, ◌≤◌, �
 ghost use Rattle.broker_node.specs.Idle.{IsIdle};
 ghost use Rattle.broker_node.specs.Step.{IsAtEnd};
 ghost use Rattle.node_batches.specs.Batches.{IsDecided, IsOfNode, IsOfRows};
-ghost use Rattle.node_keeper.specs.Keeping.{KeeperHasCauseAt, IsCounted, KeeperRests};
+ghost use Rattle.node_keeper.specs.Keeping.{KeeperHasCauseAt, IsOneFailureMore, KeeperRests};
 ghost use Rattle.node_keeper.specs.declared.fault.KeeperFault.TheVariants as faults;
 ghost use Rattle.node_work.specs.View.{HeldView};
 ghost use Rattle.row_store.specs.Rows.{Content, after_all};
@@ -77,7 +77,7 @@ fn write<R: RowStore>(alloc: Global, rows: &mut R, changes: Vec<Change>) -> Resu
     ensures err { R.is_clean rows.new → R.is_open rows.new → OnErr result (R.content rows.new ≡ R.content rows.old) }
     ensures crash { R.is_clean rows.new → R.is_open rows.old → (c : Content) → R.may_leave rows.new c
         → (c ≡ R.content rows.old) ⊎ (c ≡ after_all (R.content rows.old) changes.items) }
-    ensures device { IsErrOf result RowFault.Device → IsCounted (R.failed rows.old) (R.failed rows.new) }
+    ensures device { IsErrOf result RowFault.Device → IsOneFailureMore (R.failed rows.old) (R.failed rows.new) }
     ensures counts { result ≢ Err RowFault.Device → R.failed rows.new ≡ R.failed rows.old }
     ensures bad { result ≢ Err RowFault.BadRow }
     ensures was_clean { R.is_clean rows.new → R.is_clean rows.old }
@@ -147,7 +147,7 @@ impl<R: RowStore> BatchKeeper<R> {
             → OnOk result ((c : Content) → R.may_leave (rows_in self.new) c → c ≡ after_all (R.content (rows_in self.old)) (waiting_in self.old)) }
         ensures kind { IfErr result IsOfRows }
         ensures bad { result ≢ Err (faults.Rows RowFault.BadRow) }
-        ensures device { IsErrOf result (faults.Rows RowFault.Device) → IsCounted (R.failed (rows_in self.old)) (R.failed (rows_in self.new)) }
+        ensures device { IsErrOf result (faults.Rows RowFault.Device) → IsOneFailureMore (R.failed (rows_in self.old)) (R.failed (rows_in self.new)) }
         ensures counts { result ≢ Err (faults.Rows RowFault.Device) → R.failed (rows_in self.new) ≡ R.failed (rows_in self.old) }
         ensures was_clean { R.is_clean (rows_in self.new) → R.is_clean (rows_in self.old) }
     {

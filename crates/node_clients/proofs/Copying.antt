@@ -10,7 +10,7 @@ use Rattle.node_work.specs.declared.fault.NodeFault.{NodeFault}
 use Rattle.mqtt_message.specs.declared.message.Message.{Message}
 use Rattle.node_clients.specs.Passing.{Retains}
 use Rattle.node_work.specs.Doings.{MakesPut}
-use Rattle.node_work.specs.Passing.{PicksAreHomed, content_of, pick_copy}
+use Rattle.node_work.specs.Passing.{PicksAreHomed, content_given, pick_copy}
 use Rattle.replica_store.specs.declared.content.Content.{Content}
 use Rattle.node_work.specs.View.{Place, HeldView, WorkView}
 use Rattle.node_work.specs.Working.{Doing, Returns, Each, Did, ComesTo}
@@ -58,5 +58,5 @@ none_left [] e = refl
 none_left (x ∷ xs) e = absurd (omega arith)
 
 -- ---- a message with RETAIN is put
-pub message_retained : (m : Message) (content : Content) (r : Result (Unit {0}) NodeFault) (w w' : WorkView) → m.retain ≡ true → content ≡ content_of m → ComesTo (λ x. x) r w w' (MakesPut content) → ComesTo (λ x. x) r w w' (Retains m)
-message_retained m content r w w' kept is d = comes_if (λ x. x) r w w' m.retain (MakesPut (content_of m)) (Returns tt) kept (subst (λ x. ComesTo (λ x. x) r w w' (MakesPut x)) is d)
+pub message_retained : (m : Message) (content : Content) (r : Result (Unit {0}) NodeFault) (w w' : WorkView) → m.retain ≡ true → content ≡ content_given m → ComesTo (λ x. x) r w w' (MakesPut content) → ComesTo (λ x. x) r w w' (Retains m)
+message_retained m content r w w' kept is d = comes_if (λ x. x) r w w' m.retain (MakesPut (content_given m)) (Returns tt) kept (subst (λ x. ComesTo (λ x. x) r w w' (MakesPut x)) is d)

@@ -33,24 +33,24 @@ use Rattle.node_work.specs.Acts.{Acknowledged, Bridge, Connection, Dropped, Made
 use Rattle.node_work.specs.Calling.{Calls, Queues, QueuesOne}
 use Rattle.node_work.specs.declared.counts.Missed.{Missed}
 use Rattle.node_work.specs.declared.counts.Missed.TheVariants.{LaneFull}
-use Rattle.node_work.specs.Doings.{Disconnects, MakesPut, MakesRemove, MakesRemoveBelow, Misses, PutsBy, Redirects, Removes, RemovesBelow, Routes, RoutesBy, Sends}
+use Rattle.node_work.specs.Doings.{Disconnects, MakesPut, MakesRemove, MakesRemoveBelow, Misses, PutsInLaneBy, Redirects, Removes, RemovesBelow, Routes, RoutesBy, Sends}
 use Rattle.node_work.specs.Held.Bridge.{Left_out, Put, Took}
 use Rattle.node_work.specs.Held.Connections.{Accepted, Closed, Fed, client_at}
 use Rattle.node_work.specs.Held.Feeding.{cut_of}
 use Rattle.node_work.specs.Held.Making.{number_at_end, put_at_end, removal, removal_below}
 use Rattle.node_work.specs.Held.Sessions.{Begun, Over}
 use Rattle.node_work.specs.Packets.{moved_packet, refused_packet}
-use Rattle.node_work.specs.Passing.{content_of, turn_at_end}
+use Rattle.node_work.specs.Passing.{content_given, turn_at_end}
 use Rattle.node_work.specs.View.{ConnectionView}
 use Rattle.node_work.specs.Working.{Each, Returns, Looks, FindsWhere, Then}
-use Rattle.node_clients.specs.Connecting.{Accepts, AcceptsAs, BeginsSession, Cleans, ComesHome, Connects, ConnectsAt, ConnectsBy, Joins, JoinsBy, Names, NamesBy, Refers, RefusesConnect, SendsIf, TakesOver, TakesOverFrom, WillIsNamed, refusal}
+use Rattle.node_clients.specs.Connecting.{Accepts, AcceptsAs, BeginsSession, Cleans, ComesHome, Connects, ConnectsAt, ConnectsBy, Joins, JoinsBy, Names, NamesBy, Refers, RefusesConnect, SendsIf, TakesOver, TakesOverFrom, WillIsNamed, connect_refusal}
 use Rattle.node_clients.specs.Ending.{ClosesConnection, ClosesAfter, ClosesBy, ClosesFor, DoesDueOf, EndsSession, Finishes, FollowsReaction, IsAtHome, Parts, PassesAsked, RemovesFor, RemovesOwn, Ticks, TicksIf}
 use Rattle.node_clients.specs.Moving.{MovesAway, PartsOn, PartsWays, RedirectsBy, RedirectsHome, RedirectsTo}
 use Rattle.node_clients.specs.Naming.{IsNextNumber}
 use Rattle.node_clients.specs.Passing.{AreMade, Copies, CopiesAt, Drops, IsHandedOver, Made, MakesCopies, Passes, PassesWill, Retains, TakesCopies, TakesForward}
 use Rattle.node_clients.specs.Pieces.{AnswersPacket, AnswersPacketBy, AnswersIfOpen, Breaks, BreaksBy, BreaksIfOpen, Feeds, AnswersFirstPacket, Leaves, LeavesBy, PartsBy, Piece, PieceAt, SendsDisconnect, SendsRefusal, Shuts, TakesPackets, TellsBy, connack_code, disconnect_code}
 use Rattle.node_clients.specs.Serving.{DoesAsked, DoesReaction, ServesPacket, ServesIn, SubscribesBy, UnsubscribesBy, is_dropped}
-use Rattle.node_clients.specs.Subscribing.{AreOffers, Grants, GrantsBy, Offers, OffersAfter, OffersEach, OffersOne, ServesSubscribe, SubscribesTo, entry_of, granted, identifier_of, reasons_of, refused}
+use Rattle.node_clients.specs.Subscribing.{AreOffers, Grants, GrantsBy, Offers, OffersAfter, OffersEach, OffersOne, ServesSubscribe, SubscribesTo, subscription_entry, granted, identifier_of, granted_reasons, filter_refused}
 use Rattle.node_clients.specs.Subscribing as subscribing
 use Rattle.node_clients.specs.Unsubscribing.{Unsubscribed, ServesUnsubscribe}
 use Rattle.node_clients.specs.Unsubscribing as unsubscribing
@@ -79,8 +79,8 @@ removes_determined client to =
 
 retains_determined : (m : Message) → Determined (Retains m)
 retains_determined m =
-    if_determined m.retain (MakesPut (content_of m)) (Returns tt)
-    (numbered_determined (λ p h. put_at_end p.id h) (λ p h. Store (MadeAct (put_of p.id (content_of m) h.store)))) (returns_determined tt)
+    if_determined m.retain (MakesPut (content_given m)) (Returns tt)
+    (numbered_determined (λ p h. put_at_end p.id h) (λ p h. Store (MadeAct (put_of p.id (content_given m) h.store)))) (returns_determined tt)
 
 queues_one_determined : (x : Copy) → Determined (QueuesOne x)
 queues_one_determined x = then_determined _ _ (calls_determined x.client (queues x.delivery) stays) (λ _. returns_determined tt)
@@ -91,14 +91,14 @@ queues_determined copies = each_determined QueuesOne queues_one_determined copie
 pub misses_determined : (what : Missed) → Determined (Misses what)
 misses_determined what = acting_determined (λ p h. Bridge (Left_out what))
 
-puts_by_determined : (peer : ℕ) (m : Forward) (offer : Offer) → Determined (PutsBy peer m offer)
+puts_by_determined : (peer : ℕ) (m : Forward) (offer : Offer) → Determined (PutsInLaneBy peer m offer)
 puts_by_determined peer m (offers.Queued n) = acting_determined (λ p h. Bridge (Put peer m))
 puts_by_determined peer m offers.Full = misses_determined LaneFull
 puts_by_determined peer m offers.AtEnd = stops_determined
 
 routes_by_determined : (peer : ℕ) (route : Route) → Determined (RoutesBy peer route)
 routes_by_determined peer routes.Nothing = returns_determined tt
-routes_by_determined peer (routes.Lane m) = looks_determined _ (PutsBy peer m) (puts_by_determined peer m)
+routes_by_determined peer (routes.Lane m) = looks_determined _ (PutsInLaneBy peer m) (puts_by_determined peer m)
 routes_by_determined peer routes.TooLarge = misses_determined LaneFull
 
 makes_copies_determined : (m : Message) (x : Made) → Determined (MakesCopies m x)
@@ -185,12 +185,12 @@ grants_by_determined : (client : List ℕ) (identifier : ℕ) (f : SubscribeFilt
 grants_by_determined client identifier f stood =
     let g = granted f (identifiers_of identifier) stood in
     looks_determined _ _
-    (λ full. if_determined full (Returns (refused 151)) (Then (SubscribesTo client identifier f) (λ _. Returns g)) (returns_determined (refused 151))
-    (then_determined (SubscribesTo client identifier f) (λ _. Returns g) (looks_determined _ _ (λ version. numbered_determined (λ p h. number_at_end p.id h) (λ p h. Store (MadeAct (subscribe_of p.id (entry_of client f identifier version) h.store))))) (λ _. returns_determined g)))
+    (λ full. if_determined full (Returns (filter_refused 151)) (Then (SubscribesTo client identifier f) (λ _. Returns g)) (returns_determined (filter_refused 151))
+    (then_determined (SubscribesTo client identifier f) (λ _. Returns g) (looks_determined _ _ (λ version. numbered_determined (λ p h. number_at_end p.id h) (λ p h. Store (MadeAct (subscribe_of p.id (subscription_entry client f identifier version) h.store))))) (λ _. returns_determined g)))
 
 grants_determined : (client : List ℕ) (identifier : ℕ) (f : SubscribeFilter) → Determined (Grants client identifier f)
 grants_determined client identifier f =
-    where_determined (IsFilter f.filter) _ (Returns (refused 143)) (looks_determined _ (GrantsBy client identifier f) (grants_by_determined client identifier f)) (returns_determined (refused 143))
+    where_determined (IsFilter f.filter) _ (Returns (filter_refused 143)) (looks_determined _ (GrantsBy client identifier f) (grants_by_determined client identifier f)) (returns_determined (filter_refused 143))
 
 offers_one_determined : (client : List ℕ) (offer : Delivery) → Determined (OffersOne client offer)
 offers_one_determined client offer = then_determined _ _ (calls_determined client (queues offer) stays) (λ _. returns_determined tt)
@@ -205,7 +205,7 @@ offers_after_determined (Some code) c client packet grants = closes_for_determin
 
 suback_determined : (c : ℕ) (client : List ℕ) (packet : ℕ) (grants : List Granted) → Determined (subscribing.SendsSuback c client packet grants)
 suback_determined c client packet grants =
-    then_determined _ (λ r. OffersAfter r.end c client packet grants) (calls_determined client (λ at. answers packet (reasons_of grants)) stays) (λ r. offers_after_determined r.end c client packet grants)
+    then_determined _ (λ r. OffersAfter r.end c client packet grants) (calls_determined client (λ at. answers packet (granted_reasons grants)) stays) (λ r. offers_after_determined r.end c client packet grants)
 
 subscribes_determined : (c : ℕ) (client : List ℕ) (p : Subscribe) → Determined (ServesSubscribe c client p)
 subscribes_determined c client p =
@@ -259,16 +259,15 @@ unsubscribes_by_determined c client packets.Pingresp = returns_determined tt
 unsubscribes_by_determined c client (packets.Disconnect p) = returns_determined tt
 unsubscribes_by_determined c client (packets.Auth p) = returns_determined tt
 
-does_asked_determined : (ask : Option Ask) (dropped : Bool) (c : ℕ) (client : List ℕ) (p : Packet) → Determined (DoesAsked ask dropped c client p)
-does_asked_determined None dropped c client p = if_determined dropped Drops (Returns tt) drops_determined (returns_determined tt)
-does_asked_determined (Some (asks.Pass m)) dropped c client p = passes_determined m
-does_asked_determined (Some asks.Subscribe) dropped c client p = subscribes_by_determined c client p
-does_asked_determined (Some asks.Unsubscribe) dropped c client p = unsubscribes_by_determined c client p
+does_asked_determined : (ask : Option Ask) (c : ℕ) (client : List ℕ) (p : Packet) (room : Bool) (end : Option ℕ) → Determined (DoesAsked ask c client p room end)
+does_asked_determined None c client p room end = if_determined (is_dropped p room end) Drops (Returns tt) drops_determined (returns_determined tt)
+does_asked_determined (Some (asks.Pass m)) c client p room end = passes_determined m
+does_asked_determined (Some asks.Subscribe) c client p room end = subscribes_by_determined c client p
+does_asked_determined (Some asks.Unsubscribe) c client p room end = unsubscribes_by_determined c client p
 
 does_reaction_determined : (c : ℕ) (client : List ℕ) (p : Packet) (room : Bool) (r : Reaction) → Determined (DoesReaction c client p room r)
 does_reaction_determined c client p room r =
-    let dropped = is_dropped p room r.end in
-    then_determined (DoesAsked r.ask dropped c client p) (λ _. ClosesAfter r.end c client) (does_asked_determined r.ask dropped c client p) (λ _. closes_after_determined r.end c client)
+    then_determined (DoesAsked r.ask c client p room r.end) (λ _. ClosesAfter r.end c client) (does_asked_determined r.ask c client p room r.end) (λ _. closes_after_determined r.end c client)
 
 serves_in_determined : (c : ℕ) (client : List ℕ) (p : Packet) (room : Bool) → Determined (ServesIn c client p room)
 serves_in_determined c client p room = then_determined _ (DoesReaction c client p room) (calls_determined client (λ at. takes p at room) stays) (does_reaction_determined c client p room)
@@ -332,7 +331,7 @@ connects_by_determined (Some code) c p = refuses_determined c p code None
 connects_by_determined None c p = connects_at_determined (length p.client == 0) c p
 
 connects_determined : (c : ℕ) (p : Connect) → Determined (Connects c p)
-connects_determined c p = connects_by_determined (refusal p) c p
+connects_determined c p = connects_by_determined (connect_refusal p) c p
 
 -- ---- pieces
 

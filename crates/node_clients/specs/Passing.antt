@@ -12,13 +12,13 @@ use Rattle.node_work.specs.Calling.{Queues}
 use Rattle.node_work.specs.Doings.{MakesPut, Routes}
 use Rattle.node_work.specs.Handed.{IsHanded}
 use Rattle.node_work.specs.Held.Bridge.{Took}
-use Rattle.node_work.specs.Passing.{IsPassed, others, turn_at_end, content_of, has_room}
+use Rattle.node_work.specs.Passing.{IsPassed, others, turn_at_end, content_given, has_room}
 use Rattle.node_work.specs.View.{Place, HeldView}
 use Rattle.node_work.specs.Working.{Doing, Returns, Acting, Numbered, Looks, FindsWhere, If, Where, Then, Each}
 
 -- with RETAIN its topic is given the message, or with an empty payload none
 abbrev pub Retains : Message → Option (Unit {0}) → Doing
-Retains m = If m.retain (MakesPut (content_of m)) (Returns tt)
+Retains m = If m.retain (MakesPut (content_given m)) (Returns tt)
 
 -- what is made of a message: its copies here, how many picks are lost, and what goes to each other node
 abbrev pub Made : Type 0

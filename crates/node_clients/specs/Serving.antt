@@ -1,15 +1,14 @@
 -- What each packet of an accepted client comes to: its session is called, and what that asks for is done.
-use Rattle.std.specs.Prelude.{◌≡◌, ℕ, ◌==◌, ◌&&◌, cond, nat_lt, not, is_none, Bool, true, false, length, List, Option, Some, None}
+use Rattle.std.specs.Prelude.{◌≡◌, ℕ, ◌==◌, ◌&&◌, cond, nat_lt, not, is_none, Bool, true, false, List, Option, Some, None}
 use Rattle.std.specs.FinMap as map
-use Rattle.std.specs.List.{list_any}
 use Rattle.mqtt_fields.specs.Options.{qos_number}
+use Rattle.mqtt_message.specs.Parts.{is_name}
 use Rattle.mqtt_packets.specs.declared.packet.Packet.{Packet}
 use Rattle.mqtt_packets.specs.declared.packet.Packet.TheVariants as packets
 use Rattle.mqtt_sessions.specs.declared.reaction.Ask.{Ask}
 use Rattle.mqtt_sessions.specs.declared.reaction.Ask.TheVariants as asks
 use Rattle.mqtt_sessions.specs.Aliases.{filled}
 use Rattle.mqtt_sessions.specs.Reaction.{Reaction}
-use Rattle.mqtt_topics.specs.Levels.{is_wildcard}
 use Rattle.replica_store.specs.States.{State}
 use Rattle.session_laws.specs.Runs.{takes}
 use Rattle.session_table.specs.Calls.{stays}
@@ -23,11 +22,7 @@ use Rattle.node_clients.specs.Passing.{Passes, Drops}
 use Rattle.node_clients.specs.Subscribing.{ServesSubscribe}
 use Rattle.node_clients.specs.Unsubscribing.{ServesUnsubscribe}
 
--- a topic name has at least one character, and no wildcard (4.7.3)
-abbrev pub is_name : List ℕ → Bool
-is_name topic = not (length topic == 0) && not (list_any is_wildcard topic)
-
--- the topic name of a text, or none where it isn't one
+-- the topic name of a text, or none where it isn't one: it has at least one character, and no wildcard (4.7.3)
 abbrev pub IsNameOf : List ℕ → Option (List ℕ) → Type 0
 IsNameOf topic None = is_name topic ≡ false
 IsNameOf topic (Some name) = (is_name topic ≡ true) × (name ≡ topic)
@@ -54,16 +49,16 @@ abbrev pub UnsubscribesBy : ℕ → List ℕ → Packet → Option (Unit {0}) �
 UnsubscribesBy c client (packets.Unsubscribe p) = ServesUnsubscribe c client p
 UnsubscribesBy c client p = Returns tt
 
--- what the session asks for
-abbrev pub DoesAsked : Option Ask → Bool → ℕ → List ℕ → Packet → Option (Unit {0}) → Doing
-DoesAsked None dropped c client p = If dropped Drops (Returns tt)
-DoesAsked (Some (asks.Pass m)) dropped c client p = Passes m
-DoesAsked (Some asks.Subscribe) dropped c client p = SubscribesBy c client p
-DoesAsked (Some asks.Unsubscribe) dropped c client p = UnsubscribesBy c client p
+-- what the session asks for; where it asks for nothing, a retained message at QoS 0 that has no room is dropped
+abbrev pub DoesAsked : Option Ask → ℕ → List ℕ → Packet → Bool → Option ℕ → Option (Unit {0}) → Doing
+DoesAsked None c client p room end = If (is_dropped p room end) Drops (Returns tt)
+DoesAsked (Some (asks.Pass m)) c client p room end = Passes m
+DoesAsked (Some asks.Subscribe) c client p room end = SubscribesBy c client p
+DoesAsked (Some asks.Unsubscribe) c client p room end = UnsubscribesBy c client p
 
 -- and then the connection closes, where the reaction says so
 abbrev pub DoesReaction : ℕ → List ℕ → Packet → Bool → Reaction → Option (Unit {0}) → Doing
-DoesReaction c client p room r = Then (DoesAsked r.ask (is_dropped p room r.end) c client p) (λ _. ClosesAfter r.end c client)
+DoesReaction c client p room r = Then (DoesAsked r.ask c client p room r.end) (λ _. ClosesAfter r.end c client)
 
 abbrev pub ServesIn : ℕ → List ℕ → Packet → Bool → Option (Unit {0}) → Doing
 ServesIn c client p room = Then (Calls client (λ at. takes p at room) stays) (DoesReaction c client p room)

@@ -7,7 +7,7 @@ ghost use Rattle.message_routes.specs.Routes.{AreFor};
 ghost use Rattle.node_clients.specs.Passing.{Copies, CopiesAt, Passes, PassesWill, Retains, lacks_room, route_to, routes_to};
 ghost use Rattle.node_work.specs.Calling.{Queues, QueuesOne};
 ghost use Rattle.node_work.specs.Doings.{Routes};
-ghost use Rattle.node_work.specs.Passing.{PicksAreHomed, IsPassed, content_of, others, pick_copy, seated, unseated};
+ghost use Rattle.node_work.specs.Passing.{PicksAreHomed, IsPassed, content_given, others, pick_copy, seated, unseated};
 ghost use Rattle.node_work.specs.Working.{ComesTo, Each, Looks};
 ghost use Rattle.node_work.specs.declared.fault.NodeFault.TheVariants.{NoMemory};
 ghost use Rattle.home_table.specs.Homes.{IsHome};
@@ -56,7 +56,7 @@ fn retain(work: &mut Work, message: &SharedMessage) -> Result<(), NodeFault>
 
 /// What the topic of a message is given: the message, or with an empty payload none.
 fn content_of(alloc: Global, message: &SharedMessage) -> Result<Content, NodeFault>
-    ensures ok { IfOk result (λ content. content ≡ content_of message.now) }
+    ensures ok { IfOk result (λ content. content ≡ content_given message.now) }
     ensures fault { IfErr result (λ e. e ≡ NoMemory) }
 {
     if message.message().payload.as_slice().is_empty() {

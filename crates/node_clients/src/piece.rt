@@ -4,7 +4,7 @@ ghost use Rattle.std.specs.Prelude.{◌≡◌, false, IsOk, None, Ok};
 ghost use Rattle.mqtt_packets.specs.Written.{HasSpelling};
 ghost use Rattle.node_clients.specs.Pieces.{Piece, Leaves, LeavesBy, TakesPackets, AnswersFirstPacket, AnswersPacket, AnswersIfOpen, BreaksIfOpen, Shuts};
 ghost use Rattle.node_work.specs.Held.Connections.{is_open, client_at};
-ghost use Rattle.node_work.specs.Packets.{AreSpelled};
+ghost use Rattle.node_work.specs.Packets.{HaveSpellings};
 ghost use Rattle.node_work.specs.Working.{ComesTo, Each, Looks};
 
 use crate::connect::connect;
@@ -41,7 +41,7 @@ fn take(
     packets: &[Packet],
     fault: Option<PacketFault>,
 ) -> Result<(), NodeFault>
-    requires { AreSpelled packets.now }
+    requires { HaveSpellings packets.now }
     ensures { ComesTo (λ x. x) result work.old work.new (TakesPackets connection packets.now fault) }
 {
     answer_each(work, connection, packets)?;
@@ -50,7 +50,7 @@ fn take(
 
 /// AnswersPacket the packets in turn. What follows the close of the connection is dropped.
 fn answer_each(work: &mut Work, connection: u64, packets: &[Packet]) -> Result<(), NodeFault>
-    requires { AreSpelled packets.now }
+    requires { HaveSpellings packets.now }
     ensures { ComesTo (λ x. x) result work.old work.new (Each (AnswersIfOpen connection) packets.now) }
 {
     for packet in packets {

@@ -55,8 +55,7 @@ fn react(
     ensures { ComesTo (λ x. x) result work.old work.new (DoesReaction connection client.now packet.now room reaction) }
 {
     let end = reaction.end;
-    let dropped = is_dropped(packet, room, end);
-    do_asked(work, reaction.ask, dropped, connection, client, packet)?;
+    do_asked(work, reaction.ask, connection, client, packet, room, end)?;
     close_after(work, end, connection, client)
 }
 
@@ -64,26 +63,32 @@ fn react(
 fn do_asked(
     work: &mut Work,
     ask: Option<Ask>,
-    dropped: bool,
     connection: u64,
     client: &Text,
     packet: &Packet,
+    room: bool,
+    end: Option<u8>,
 ) -> Result<(), NodeFault>
     requires { HasSpelling packet.now }
-    ensures { ComesTo (λ x. x) result work.old work.new (DoesAsked ask dropped connection client.now packet.now) }
+    ensures { ComesTo (λ x. x) result work.old work.new (DoesAsked ask connection client.now packet.now room end) }
 {
     match ask {
-        None => drop_if(work, dropped),
+        None => drop_without_room(work, packet, room, end),
         Some(Ask::Pass(message)) => pass(work, message),
         Some(Ask::Subscribe) => subscribe_by(work, connection, client, packet),
         Some(Ask::Unsubscribe) => unsubscribe_by(work, connection, client, packet),
     }
 }
 
-fn drop_if(work: &mut Work, dropped: bool) -> Result<(), NodeFault>
-    ensures { ComesTo (λ x. x) result work.old work.new (If dropped Drops (Returns tt)) }
+fn drop_without_room(
+    work: &mut Work,
+    packet: &Packet,
+    room: bool,
+    end: Option<u8>,
+) -> Result<(), NodeFault>
+    ensures { ComesTo (λ x. x) result work.old work.new (If (is_dropped packet.now room end) Drops (Returns tt)) }
 {
-    if dropped {
+    if is_dropped(packet, room, end) {
         return work.drop_retained();
     }
     Ok(())

@@ -5,7 +5,7 @@ ghost use Rattle.std.specs.List.{AllByRecursion};
 ghost use Rattle.mqtt_packets.specs.declared.packet.Packet.TheVariants as packets;
 ghost use Rattle.mqtt_packets.specs.Written.{HasSpelling};
 ghost use Rattle.node_clients.specs.Parsing.{IsFilterOf};
-ghost use Rattle.node_clients.specs.Subscribing.{SendsSuback, Grants, GrantsBy, ServesSubscribe, SubscribesTo, entry_of, granted, has_most, identifier_of, reasons_of, stands, wants_retained};
+ghost use Rattle.node_clients.specs.Subscribing.{SendsSuback, Grants, GrantsBy, ServesSubscribe, SubscribesTo, subscription_entry, granted, has_most, identifier_of, granted_reasons, stands, wants_retained};
 ghost use Rattle.node_work.specs.Held.Calling.{MayAnswer};
 ghost use Rattle.node_work.specs.Working.{ComesTo, InTurn, Looks};
 ghost use Rattle.node_work.specs.declared.fault.NodeFault.TheVariants.{NoMemory};
@@ -56,7 +56,7 @@ fn acknowledge(
     packet: u16,
     grants: &[Granted],
 ) -> Result<(), NodeFault>
-    requires { MayAnswer packet (reasons_of grants.now) }
+    requires { MayAnswer packet (granted_reasons grants.now) }
     ensures { ComesTo (λ x. x) result work.old work.new (SendsSuback connection client.now packet grants.now) }
 {
     let reasons = reasons_of(work.alloc(), grants)?;
@@ -68,7 +68,7 @@ fn acknowledge(
 }
 
 fn reasons_of(alloc: Global, grants: &[Granted]) -> Result<Vec<u8>, NodeFault>
-    ensures ok { IfOk result (λ reasons. reasons.items ≡ reasons_of grants.now) }
+    ensures ok { IfOk result (λ reasons. reasons.items ≡ granted_reasons grants.now) }
     ensures fault { IfErr result (λ e. e ≡ NoMemory) }
 {
     let mut reasons = Vec::new(alloc);
@@ -188,7 +188,7 @@ fn entry_of(
 ) -> Result<Entry, NodeFault>
     requires same { filter.now ≡ asked.now.filter }
     requires asked { can_be_asked asked.now.options identifier ≡ true }
-    ensures ok { IfOk result (λ entry. entry ≡ entry_of client.now asked.now identifier version) }
+    ensures ok { IfOk result (λ entry. entry ≡ subscription_entry client.now asked.now identifier version) }
     ensures fault { IfErr result (λ e. e ≡ NoMemory) }
 {
     let client = client.copy(alloc)?;

@@ -7,7 +7,7 @@ use Rattle.std.specs.FinMap.{get-insert, get-empty, get-entries, get-from_entrie
 use Rattle.broker_node.specs.Opening.{IsOpenedFrom}
 use Rattle.home_table.specs.Table.{Table}
 use Rattle.mqtt_sessions.specs.Saved.{durable_of}
-use Rattle.node_keeper.specs.Keeping.{AreKept, AreLasting, AreOfNone, HaveOneVersion, IsReopened, LastsIn, OpeningKeepsWhatLasts, OpensFromRows, are_raised, given_mark, marked, may_be_raised, may_be_marked, only_mark}
+use Rattle.node_keeper.specs.Keeping.{RowsAreKept, AreLasting, AreOfNone, HaveOneVersion, HoldsWhatLasts, LastsIn, OpeningKeepsWhatLasts, OpensFromRows, are_raised, given_mark, marked_or_raised, may_be_raised, may_be_marked, only_mark}
 use Rattle.node_rows.specs.Reading.{IsLasting, Say, SayNothing}
 use Rattle.node_rows.specs.Sessions.{Plain, opened_seat}
 use Rattle.node_rows.specs.Versions.{AreFirst, Raise, raised_all, raised_content}
@@ -40,7 +40,7 @@ lasts_again id nodes homes x h can is =
     in
     ap lasting is.2 ∙ (λ i. record { named = x.named; sessions = λ client. same client i; store = x.store; lanes = x.lanes })
 
-pub kept_again : (p : Place) (homes : Table) (c : Content) (n : NodeView) → IsReopened p homes c n → AreKept n c
+pub kept_again : (p : Place) (homes : Table) (c : Content) (n : NodeView) → HoldsWhatLasts p homes c n → RowsAreKept n c
 kept_again p homes c n r h up key =
     let same : r.held ≡ h = cc (ap (λ (x : NodeView). x.up) r.is, up) in
     r.are.1 key
@@ -108,7 +108,7 @@ pub not_first : (rows : List Row) (c : Content) → map_list entry_of rows ≡ m
 not_first rows c is not first = not (subst AreFirst (sym is) first)
 
 -- the rows that were there are marked, and then raised
-pub both : (id : ℕ) (old mid new : Content) → given_mark id old mid → are_raised mid new → marked id old new
+pub both : (id : ℕ) (old mid new : Content) → given_mark id old mid → are_raised mid new → marked_or_raised id old new
 both id old mid new (inl m) (inl r) = absurd (new_mark id mid m.1 r.0)
 both id old mid new (inl m) (inr r) = inl (m.0, r.1 ∙ m.1)
 both id old mid new (inr m) r = inr (m.0, subst (λ (c : Content). are_raised c new) m.1 r)
@@ -135,7 +135,7 @@ pub opens : (id : ℕ) (homes : Table) (rows : List Row) (old mid c : Content) (
     → OpensFromRows (place_of id homes) homes old c n
 opens id homes rows old mid c n m is r o =
     let p = place_of id homes in
-    let again : IsReopened p homes c n = record { lasting = o.lasting; held = o.held; are = say_lasting p rows mid c o.lasting (some_row id old mid m) is r o.can_last o.say; woken = o.woken; is = o.is } in
+    let again : HoldsWhatLasts p homes c n = record { lasting = o.lasting; held = o.held; are = say_lasting p rows mid c o.lasting (some_row id old mid m) is r o.can_last o.say; woken = o.woken; is = o.is } in
     record { mark = both id old mid c m r; reopened = again; kept = kept_again p homes c n again }
 
 pub none_have : (p : Place) (rows : List Row) (c : Content) → map_list entry_of rows ≡ map.entries c → SayNothing rows p.id (nodes_of p) → AreOfNone p c
@@ -168,7 +168,7 @@ have_one_version p rows x y are first = not_both p.id x.named (map.entries rows)
 
 pub opening_keeps : OpeningKeepsWhatLasts
 opening_keeps p rows rows' x (inl (inl same)) lasts = subst (λ (c : Content). LastsIn p c x) (sym same) lasts
-opening_keeps p rows rows' x (inl (inr marked)) (inl are) = absurd (has_mark p rows x are marked.0)
-opening_keeps p rows rows' x (inl (inr marked)) (inr first) = absurd (has_first rows first.1 marked.0)
+opening_keeps p rows rows' x (inl (inr marked_or_raised)) (inl are) = absurd (has_mark p rows x are marked_or_raised.0)
+opening_keeps p rows rows' x (inl (inr marked_or_raised)) (inr first) = absurd (has_first rows first.1 marked_or_raised.0)
 opening_keeps p rows rows' x (inr raised) (inl are) = absurd (not_both p.id x.named (map.entries rows) (sym (get-entries rows mark_key) ∙ are.1 mark_key) raised.0)
 opening_keeps p rows rows' x (inr raised) (inr first) = inl (first.0, λ key. ap (λ (c : Content). map.get c key) raised.1 ∙ first.2 key)

@@ -26,8 +26,8 @@ abbrev pub AreOf : Place → Content → HeldView → Type 0
 AreOf p c h = (key : Key) → map.get c key ≡ held_row p.id h key
 
 -- while it runs
-abbrev pub AreKept : NodeView → Content → Type 0
-AreKept n c = (h : HeldView) → n.up ≡ Some h → AreOf n.place c h
+abbrev pub RowsAreKept : NodeView → Content → Type 0
+RowsAreKept n c = (h : HeldView) → n.up ≡ Some h → AreOf n.place c h
 
 -- the rows are those of what lasts of a node
 abbrev pub AreLasting : Place → Content → Lasting → Type 0
@@ -52,7 +52,7 @@ pub record Commits (n : NodeView) (rows : Content) (e : Event) (outputs : List O
   pub changes : List Change
   pub done : IsDone n e outputs changes n'
   pub written : rows' ≡ after_all rows changes
-  pub kept : AreKept n rows → AreKept n' rows'
+  pub kept : RowsAreKept n rows → RowsAreKept n' rows'
 
 -- the outputs are those of a step
 abbrev pub GivesOut : NodeView → Event → List Output → NodeView → Type 0
@@ -102,8 +102,8 @@ KeepsRows rows rows' NumbersAtEnd = rows' ≡ rows
 KeepsRows rows rows' Stopped = rows' ≡ rows
 
 -- one more failure of a device is counted, up to 2^64 - 1
-abbrev pub IsCounted : ℕ → ℕ → Type 0
-IsCounted before after = (before < after) ⊎ (after ≡ 2 ^ 64 - 1)
+abbrev pub IsOneFailureMore : ℕ → ℕ → Type 0
+IsOneFailureMore before after = (before < after) ⊎ (after ≡ 2 ^ 64 - 1)
 
 -- an opening fails by want of memory, whoever wants it, or by its rows for another cause
 abbrev pub CannotOpen : KeeperFault → Type 0
@@ -112,7 +112,7 @@ CannotOpen fault = (fault ≡ NoMemory) ⊎ ((cause : RowFault) × (cause ≢ ro
 -- ---- opening
 
 -- a node that is opened from its rows, with a table of homes: it runs, and holds what lasts
-pub record IsReopened (p : Place) (homes : Table) (rows : Content) (n : NodeView) : Type 0 where
+pub record HoldsWhatLasts (p : Place) (homes : Table) (rows : Content) (n : NodeView) : Type 0 where
   pub lasting : Lasting
   pub held : HeldView
   pub are : AreLasting p rows lasting
@@ -132,8 +132,8 @@ abbrev pub given_mark : ℕ → Content → Content → Type 0
 given_mark id rows rows' = ((rows ≡ map.empty) × (rows' ≡ only_mark id)) ⊎ ((¬ (rows ≡ map.empty)) × (rows' ≡ rows))
 
 -- the rows with which a node is opened: where there are none, its mark; and in version 2
-abbrev pub marked : ℕ → Content → Content → Type 0
-marked id rows rows' = ((rows ≡ map.empty) × (rows' ≡ only_mark id)) ⊎ ((¬ (rows ≡ map.empty)) × are_raised rows rows')
+abbrev pub marked_or_raised : ℕ → Content → Content → Type 0
+marked_or_raised id rows rows' = ((rows ≡ map.empty) × (rows' ≡ only_mark id)) ⊎ ((¬ (rows ≡ map.empty)) × are_raised rows rows')
 
 -- the same where the mark may be wanting, in the version that they have
 abbrev pub may_be_marked : ℕ → Content → Content → Type 0
@@ -145,9 +145,9 @@ may_be_raised id rows rows' = may_be_marked id rows rows' ⊎ (AreFirst (map.ent
 
 -- the node is opened: it has the rows in version 2, and its mark where there were none
 pub record OpensFromRows (p : Place) (homes : Table) (rows rows' : Content) (n : NodeView) : Type 0 where
-  pub mark : marked p.id rows rows'
-  pub reopened : IsReopened p homes rows' n
-  pub kept : AreKept n rows'
+  pub mark : marked_or_raised p.id rows rows'
+  pub reopened : HoldsWhatLasts p homes rows' n
+  pub kept : RowsAreKept n rows'
 
 -- ---- laws
 

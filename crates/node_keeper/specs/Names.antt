@@ -5,11 +5,11 @@ use Rattle.node_keeper.specs.declared.fault.KeeperFault.TheVariants.{NoMemory, R
 use Rattle.node_work.specs.declared.fault.NodeFault.{NodeFault}
 use Rattle.node_work.specs.declared.fault.NodeFault.TheVariants as node_faults
 
-abbrev pub fault_name : KeeperFault → List ℕ
-fault_name NoMemory = codes "NoMemory"
-fault_name (Rows fault) = codes "Rows"
-fault_name NumbersAtEnd = codes "NumbersAtEnd"
-fault_name Stopped = codes "Stopped"
+abbrev pub keeper_fault_name : KeeperFault → List ℕ
+keeper_fault_name NoMemory = codes "NoMemory"
+keeper_fault_name (Rows fault) = codes "Rows"
+keeper_fault_name NumbersAtEnd = codes "NumbersAtEnd"
+keeper_fault_name Stopped = codes "Stopped"
 
 -- a fault of the node's own step
 abbrev pub keeper_fault : NodeFault → KeeperFault

@@ -1,7 +1,7 @@
 //! Why an event isn't taken.
 
 ghost use Rattle.std.specs.Prelude.{◌≡◌, Some};
-ghost use Rattle.node_keeper.specs.Names.{fault_name, keeper_fault};
+ghost use Rattle.node_keeper.specs.Names.{keeper_fault_name, keeper_fault};
 
 use node_work::NodeFault;
 use row_store::RowFault;
@@ -33,7 +33,7 @@ impl From<NodeFault> for KeeperFault {
 }
 
 impl fmt::Display for KeeperFault {
-    ghost output = { λ fault. Some (fault_name fault) };
+    ghost output = { λ fault. Some (keeper_fault_name fault) };
 
     fn fmt<W: fmt::Write>(&self, f: &mut fmt::Formatter<W>) -> fmt::Result {
         match self {

@@ -4,7 +4,7 @@ ghost use Rattle.std.specs.Prelude.{◌≡◌, ◌≢◌, ◌<◌, ◌≤◌, �
 ghost use Rattle.std.specs.Option.{unwrap_or};
 ghost use Rattle.broker_node.specs.Idle.{IsIdle};
 ghost use Rattle.broker_node.specs.Step.{IsAtEnd, may_move_in};
-ghost use Rattle.node_keeper.specs.Keeping.{AreOfNone, CannotOpen, Commits, GivesOut, KeeperHasCauseAt, IsCounted, KeepsRows, KeepsTable, MayBeLeft, OpensFromRows, KeeperRests, may_be_raised, may_be_marked};
+ghost use Rattle.node_keeper.specs.Keeping.{AreOfNone, CannotOpen, Commits, GivesOut, KeeperHasCauseAt, IsOneFailureMore, KeepsRows, KeepsTable, MayBeLeft, OpensFromRows, KeeperRests, may_be_raised, may_be_marked};
 ghost use Rattle.node_keeper.specs.declared.fault.KeeperFault.TheVariants as faults;
 ghost use Rattle.node_work.specs.View.{HeldView, place_of};
 ghost use Rattle.row_store.specs.Rows.{Content};
@@ -77,7 +77,7 @@ impl<R: RowStore> Keeper<R> {
         ensures bad { IfErr result (λ e. R.is_clean e.1 → R.is_open rows → e.0 ≡ faults.Rows RowFault.BadRow
             → AreOfNone (place_of id homes) (R.content e.1)) }
         ensures crash { IfErr result (λ e. R.is_clean e.1 → R.is_open rows → (c : Content) → R.may_leave e.1 c → may_be_raised id (R.content rows) c) }
-        ensures device { IfErr result (λ e. e.0 ≡ faults.Rows RowFault.Device → IsCounted (R.failed rows) (R.failed e.1)) }
+        ensures device { IfErr result (λ e. e.0 ≡ faults.Rows RowFault.Device → IsOneFailureMore (R.failed rows) (R.failed e.1)) }
         ensures fault { IfErr result (λ e. CannotOpen e.0) }
     {
         match wake(alloc, &mut rows, homes, id) {
@@ -100,7 +100,7 @@ impl<R: RowStore> Keeper<R> {
             → AreOfNone (node_of self.old).place (R.content (rows_of self.new)) }
         ensures crash { R.is_clean (rows_of self.new) → R.is_open (rows_of self.old) → (c : Content) → R.may_leave (rows_of self.new) c
             → may_be_raised (node_of self.old).place.id (R.content (rows_of self.old)) c }
-        ensures device { IsErrOf result (faults.Rows RowFault.Device) → IsCounted (R.failed (rows_of self.old)) (R.failed (rows_of self.new)) }
+        ensures device { IsErrOf result (faults.Rows RowFault.Device) → IsOneFailureMore (R.failed (rows_of self.old)) (R.failed (rows_of self.new)) }
         ensures fault { IfErr result CannotOpen }
     {
         self.node.stop();
@@ -135,7 +135,7 @@ impl<R: RowStore> Keeper<R> {
         ensures crash { R.is_clean (rows_of self.new) → R.is_open (rows_of self.old) → (c : Content) → R.may_leave (rows_of self.new) c → MayBeLeft (node_of self.old) (R.content (rows_of self.old)) event.now c }
         ensures cause { IfErr result (KeeperHasCauseAt (node_of self.old).up (node_of self.old).place event.now) }
         ensures bad { result ≢ Err (faults.Rows RowFault.BadRow) }
-        ensures device { IsErrOf result (faults.Rows RowFault.Device) → IsCounted (R.failed (rows_of self.old)) (R.failed (rows_of self.new)) }
+        ensures device { IsErrOf result (faults.Rows RowFault.Device) → IsOneFailureMore (R.failed (rows_of self.old)) (R.failed (rows_of self.new)) }
         ensures counts { result ≢ Err (faults.Rows RowFault.Device) → R.failed (rows_of self.new) ≡ R.failed (rows_of self.old) }
     {
         let before = match table_before(&self.node, event) {

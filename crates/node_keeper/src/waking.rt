@@ -2,7 +2,7 @@
 
 ghost use Rattle.std.specs.Prelude.{◌≡◌, ◌≢◌, ◌<◌, ◌⊎◌, length, map, OnOk, IfOk, OnErr, IsErrOf, Err};
 ghost use Rattle.std.specs.FinMap.{entries, insert};
-ghost use Rattle.node_keeper.specs.Keeping.{AreOfNone, IsCounted, OpensFromRows, are_raised, given_mark, may_be_raised, may_be_marked};
+ghost use Rattle.node_keeper.specs.Keeping.{AreOfNone, IsOneFailureMore, OpensFromRows, are_raised, given_mark, may_be_raised, may_be_marked};
 ghost use Rattle.node_rows.specs.Rows.{mark, mark_key};
 ghost use Rattle.node_work.specs.View.{place_of};
 ghost use Rattle.row_store.specs.Rows.{Content, entry_of};
@@ -17,7 +17,7 @@ use std::alloc::Global;
 fn put_mark<R: RowStore>(alloc: Global, rows: &mut R, id: u16) -> Result<(), RowFault>
     ensures ok { R.is_clean rows.new → R.is_open rows.old → OnOk result (R.is_open rows.new × (R.content rows.new ≡ insert (R.content rows.old) mark_key (mark id 0))) }
     ensures err { R.is_clean rows.new → R.is_open rows.new → OnErr result (R.content rows.new ≡ R.content rows.old) }
-    ensures device { IsErrOf result RowFault.Device → IsCounted (R.failed rows.old) (R.failed rows.new) }
+    ensures device { IsErrOf result RowFault.Device → IsOneFailureMore (R.failed rows.old) (R.failed rows.new) }
     ensures counts { result ≢ Err RowFault.Device → R.failed rows.new ≡ R.failed rows.old }
     ensures bad { result ≢ Err RowFault.BadRow }
     ensures crash { R.is_clean rows.new → R.is_open rows.old → (c : Content) → R.may_leave rows.new c
@@ -42,7 +42,7 @@ fn load_marked<R: RowStore>(alloc: Global, rows: &mut R, id: u16) -> Result<Vec<
     ensures bad { R.is_clean rows.new → R.is_open rows.old → result ≢ Err RowFault.BadRow }
     ensures crash { R.is_clean rows.new → R.is_open rows.old → (c : Content) → R.may_leave rows.new c → may_be_marked id (R.content rows.old) c }
     ensures was_open { R.is_clean rows.new → R.is_open rows.new → R.is_open rows.old }
-    ensures device { IsErrOf result RowFault.Device → IsCounted (R.failed rows.old) (R.failed rows.new) }
+    ensures device { IsErrOf result RowFault.Device → IsOneFailureMore (R.failed rows.old) (R.failed rows.new) }
     ensures counts { result ≢ Err RowFault.Device → R.failed rows.new ≡ R.failed rows.old }
 {
     let loaded = rows.load()?;
@@ -58,7 +58,7 @@ fn write_raised<R: RowStore>(alloc: Global, rows: &mut R, loaded: &[Row]) -> Res
     ensures ok { R.is_clean rows.new → R.is_open rows.old → map entry_of loaded.now ≡ entries (R.content rows.old)
         → OnOk result (R.is_open rows.new × are_raised (R.content rows.old) (R.content rows.new)) }
     ensures err { R.is_clean rows.new → R.is_open rows.new → OnErr result (R.content rows.new ≡ R.content rows.old) }
-    ensures device { IsErrOf result RowFault.Device → IsCounted (R.failed rows.old) (R.failed rows.new) }
+    ensures device { IsErrOf result RowFault.Device → IsOneFailureMore (R.failed rows.old) (R.failed rows.new) }
     ensures counts { result ≢ Err RowFault.Device → R.failed rows.new ≡ R.failed rows.old }
     ensures bad { result ≢ Err RowFault.BadRow }
     ensures crash { R.is_clean rows.new → R.is_open rows.old → map entry_of loaded.now ≡ entries (R.content rows.old)
@@ -90,7 +90,7 @@ pub fn wake<R: RowStore>(
     ensures err { R.is_clean rows.new → R.is_open rows.new → OnErr result (may_be_marked id (R.content rows.old) (R.content rows.new)) }
     ensures bad { R.is_clean rows.new → R.is_open rows.old → IsErrOf result RowFault.BadRow → AreOfNone (place_of id homes) (R.content rows.new) }
     ensures crash { R.is_clean rows.new → R.is_open rows.old → (c : Content) → R.may_leave rows.new c → may_be_raised id (R.content rows.old) c }
-    ensures device { IsErrOf result RowFault.Device → IsCounted (R.failed rows.old) (R.failed rows.new) }
+    ensures device { IsErrOf result RowFault.Device → IsOneFailureMore (R.failed rows.old) (R.failed rows.new) }
 {
     let loaded = load_marked(alloc, rows, id)?;
     let node = Node::open(alloc, &loaded, homes, id)?;

@@ -19,7 +19,7 @@ use Rattle.node_work.specs.declared.counts.Missed.TheVariants.{LaneFull}
 use Rattle.node_work.specs.declared.fault.NodeFault.{NodeFault}
 use Rattle.node_work.specs.declared.fault.NodeFault.TheVariants.{NoMemory, NumbersAtEnd, Stopped}
 use Rattle.node_work.specs.Acts.{Bridge, Runs, gather, output_in}
-use Rattle.node_work.specs.Doings.{Misses, Puts, PutsBy}
+use Rattle.node_work.specs.Doings.{Misses, PutsInLane, PutsInLaneBy}
 use Rattle.node_work.specs.Held.Bridge.{Put}
 use Rattle.node_work.specs.Lasting.{AreOpenedWith, held_row}
 use Rattle.node_work.specs.View.{Place, HeldView, WorkView}
@@ -84,23 +84,23 @@ module _ (w : WorkView) (h' : HeldView) (cs : List Change) (peer : ℕ) (m : For
       lanes_tell w.place.id w.held h' w.changes cs (ap (λ (v : HeldView). v.named) is ∙ named) (ap (λ (v : HeldView). v.sessions) is ∙ sessions) (ap (λ (v : HeldView). v.store) is ∙ store) tells
 
   -- a message joins the lane
-  pub comes_put : (n : ℕ) → offer_to peer w.held.bridge ≡ Queued n → peer ≢ w.place.id → h' ≡ record w.held { bridge = puts peer m w.held.bridge } → Did w offered_to (Puts peer m (Some tt))
+  pub comes_put : (n : ℕ) → offer_to peer w.held.bridge ≡ Queued n → peer ≢ w.place.id → h' ≡ record w.held { bridge = puts peer m w.held.bridge } → Did w offered_to (PutsInLane peer m (Some tt))
   comes_put n offer other is =
       let put = did_told (λ p h. Bridge (Put peer m)) w h' cs (n, offer, other) refl is (told_on (record w.held { bridge = puts peer m w.held.bridge }) is refl refl refl) in
       let done : Result (Unit {0}) NodeFault = Ok tt in
-      comes_looks (λ x. x) done w offered_to (λ p h. offer_to peer h.bridge) (PutsBy peer m) (Queued n) offer put
+      comes_looks (λ x. x) done w offered_to (λ p h. offer_to peer h.bridge) (PutsInLaneBy peer m) (Queued n) offer put
 
   -- too many wait
-  pub comes_full : (r : Result (Unit {0}) NodeFault) (w' : WorkView) → offer_to peer w.held.bridge ≡ Full → h' ≡ w.held → ComesTo (λ x. x) r offered_to w' (Misses LaneFull) → ComesTo (λ x. x) r w w' (Puts peer m)
+  pub comes_full : (r : Result (Unit {0}) NodeFault) (w' : WorkView) → offer_to peer w.held.bridge ≡ Full → h' ≡ w.held → ComesTo (λ x. x) r offered_to w' (Misses LaneFull) → ComesTo (λ x. x) r w w' (PutsInLane peer m)
   comes_full r w' offer is d =
-      comes_looks (λ x. x) r w w' (λ p h. offer_to peer h.bridge) (PutsBy peer m) Full offer
+      comes_looks (λ x. x) r w w' (λ p h. offer_to peer h.bridge) (PutsInLaneBy peer m) Full offer
       (comes_before r w offered_to w' (Misses LaneFull) refl is refl (told_on w.held is refl refl refl) d)
 
 -- the numbers are at their end
-pub puts_at_end : (w w' : WorkView) (peer : ℕ) (m : Forward) → offer_to peer w.held.bridge ≡ AtEnd → ComesTo (λ x. x) (Err NumbersAtEnd) w w' (Puts peer m)
+pub puts_at_end : (w w' : WorkView) (peer : ℕ) (m : Forward) → offer_to peer w.held.bridge ≡ AtEnd → ComesTo (λ x. x) (Err NumbersAtEnd) w w' (PutsInLane peer m)
 puts_at_end w w' peer m offer =
     let stopped : Result (Unit {0}) NodeFault = Err NumbersAtEnd in
-    comes_looks (λ x. x) stopped w w' (λ p h. offer_to peer h.bridge) (PutsBy peer m) AtEnd offer
+    comes_looks (λ x. x) stopped w w' (λ p h. offer_to peer h.bridge) (PutsInLaneBy peer m) AtEnd offer
     (w, record { acts = []; does = (refl, refl); runs = refl; given = sym (append-nil w.outputs); tells = tells_none w w refl refl; begins = λ old lead begins. begins; names = no_names w w [] refl; place = refl })
 
 -- ---- frames

@@ -28,17 +28,17 @@ use Rattle.mqtt_packets.proofs.WrittenLaws.{sound_of, spelling_of}
 use Rattle.mqtt_sessions.specs.Answers.{disconnect}
 use Rattle.node_work.specs.Acts.{Act}
 use Rattle.node_work.specs.Held.Calling.{MayAnswer}
-use Rattle.node_work.specs.Packets.{AreSpelled, moved_packet, reference_of, refused_packet}
+use Rattle.node_work.specs.Packets.{HaveSpellings, moved_packet, reference_of, refused_packet}
 use Rattle.node_work.specs.View.{Place, HeldView}
 use Rattle.node_work.specs.Working.{Doing, InTurn}
 
-each_spelled : (limit : ℕ) (spellings : List (List ℕ)) (ps : List Packet) → AreSpellings limit spellings ps → AreSpelled ps
+each_spelled : (limit : ℕ) (spellings : List (List ℕ)) (ps : List Packet) → AreSpellings limit spellings ps → HaveSpellings ps
 each_spelled limit [] [] all = tt
 each_spelled limit (s ∷ ss) (p ∷ ps) all = ((s, all.0), each_spelled limit ss ps all.2)
 each_spelled limit [] (p ∷ ps) all = absurd all
 each_spelled limit (s ∷ ss) [] all = tt
 
-pub cut_spelled : (limit : ℕ) (bs : List ℕ) → IsBytes bs → AreSpelled (cut limit bs).packets
+pub cut_spelled : (limit : ℕ) (bs : List ℕ) → IsBytes bs → HaveSpellings (cut limit bs).packets
 cut_spelled limit bs fits = let is = cut_is_spelled limit bs fits in each_spelled limit is.spellings (cut limit bs).packets is.spelled
 
 -- each of them

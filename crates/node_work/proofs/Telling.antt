@@ -26,7 +26,7 @@ use Rattle.lane_rows.specs.Rows as lane_rows
 use Rattle.node_bridge.specs.View.{LanesTell}
 use Rattle.node_rows.specs.Rows.{Lasting, mark, mark_at, mark_key, node_row, session_row}
 use Rattle.node_work.specs.Acts.{Act, Runs, next}
-use Rattle.node_work.specs.Lasting.{Alter, NamesAltered, StillBegin, StoreTells, Tells, held_row, is_store_kind, lasting, work_row}
+use Rattle.node_work.specs.Lasting.{Alter, NamesAltered, StillBegin, StoreTells, TellsItsRows, held_row, is_store_kind, lasting, work_row}
 use Rattle.node_work.specs.View.{Place, HeldView, WorkView}
 
 -- changes are appended that lead from the rows before to those after, and begin at sessions' own rows with what was there; each other
@@ -37,7 +37,7 @@ TellsFrom old before after new = (own : List Change) × (after ≡ before ++ own
 abbrev pub Tell : WorkView → WorkView → Type 0
 Tell w w' = TellsFrom (work_row w) w.changes w'.changes (work_row w')
 
-pub tells_of : (w w' : WorkView) → Tell w w' → Tells w w'
+pub tells_of : (w w' : WorkView) → Tell w w' → TellsItsRows w w'
 tells_of w w' t = (t.0, t.1, t.2)
 
 pub still_begin : (w w' : WorkView) → Tell w w' → StillBegin w w'
@@ -47,20 +47,20 @@ still_begin w w' t old lead begins = subst (λ (cs : List Change). Begin own_kin
 pub told_none : (w w' : WorkView) → w'.changes ≡ w.changes → work_row w' ≡ work_row w → Tell w w'
 told_none w w' same rows = ([], same ∙ sym (append-nil w.changes), (λ key. (λ i. rows i key)), (λ key own. tt), (λ key kind named. absurd (named refl)))
 
-pub tells_none : (w w' : WorkView) → w'.changes ≡ w.changes → work_row w' ≡ work_row w → Tells w w'
+pub tells_none : (w w' : WorkView) → w'.changes ≡ w.changes → work_row w' ≡ work_row w → TellsItsRows w w'
 tells_none w w' same rows = tells_of w w' (told_none w w' same rows)
 
 pub begins_same : (w w' : WorkView) → w'.changes ≡ w.changes → StillBegin w w'
 begins_same w w' same old lead begins = subst (λ (cs : List Change). Begin own_kind old cs) (sym same) begins
 
-pub tells_then : (a b c : WorkView) → Tells a b → Tells b c → Tells a c
+pub tells_then : (a b c : WorkView) → TellsItsRows a b → TellsItsRows b c → TellsItsRows a c
 tells_then a b c first second = (
   first.0 ++ second.0,
   second.1 ∙ ap (λ l. l ++ second.0) first.1 ∙ append_assoc a.changes first.0 second.0,
   lead_on (work_row a) (work_row b) (work_row c) first.0 second.0 first.2 second.2,
 )
 
-pub begins_then : (a b c : WorkView) → Tells a b → StillBegin a b → StillBegin b c → StillBegin a c
+pub begins_then : (a b c : WorkView) → TellsItsRows a b → StillBegin a b → StillBegin b c → StillBegin a c
 begins_then a b c t first second old lead begins =
     second old (subst (λ (cs : List Change). Lead old (work_row b) cs) (sym t.1) (lead_on old (work_row a) (work_row b) a.changes t.0 lead t.2)) (first old lead begins)
 

@@ -16,7 +16,7 @@ use Rattle.node_work.specs.declared.outcome.Output.TheVariants.{Send, Close, Fra
 use Rattle.message_routes.specs.declared.destinations.Route.{Route}
 use Rattle.node_bridge.specs.View.{keeps}
 use Rattle.node_work.specs.Held.Bridge.{BridgeAct, MayBridge, bridged, bridge_outputs, heard_of}
-use Rattle.node_work.specs.Held.Connections.{ConnectionAct, MayConnect, connected}
+use Rattle.node_work.specs.Held.Connections.{ConnectionAct, MayActOnConnection, after_connection_act}
 use Rattle.node_work.specs.Held.Sessions.{SessionAct, MayCall, called, session_outputs, more}
 use Rattle.node_work.specs.Offers.{AreOffered}
 use Rattle.message_copies.specs.declared.plain.PlainCopy.{PlainCopy as Copy}
@@ -92,7 +92,7 @@ Allowed p h (MomentTaken at) = Unit {0}
 Allowed p h Began = Unit {0}
 Allowed p h (Moved homes) = MayMove p h homes
 Allowed p h (Store a) = MayStore p.id h.homes.version h.store a
-Allowed p h (Connection a) = MayConnect h a
+Allowed p h (Connection a) = MayActOnConnection h a
 Allowed p h (Session a) = MayCall h a
 Allowed p h (Bridge a) = MayBridge p h a
 Allowed p h (Out o) = IsForClient o
@@ -107,7 +107,7 @@ next h (MomentTaken at) = record h { at = max h.at at }
 next h Began = record h { started = true }
 next h (Moved homes) = record h { homes = homes }
 next h (Store a) = record h { store = stored h.store a; bridge = keeps (delta_in a) h.bridge }
-next h (Connection a) = connected h a
+next h (Connection a) = after_connection_act h a
 next h (Session a) = called h a
 next h (Bridge a) = bridged h a
 next h (Out o) = h

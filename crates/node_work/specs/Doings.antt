@@ -81,18 +81,18 @@ abbrev pub Misses : Missed → Option (Unit {0}) → Doing
 Misses what = Acting (λ p h. Bridge (Left_out what))
 
 -- a message for clients of another node joins the lane to it; where too many wait there it is left out
-abbrev pub PutsBy : ℕ → Forward → Offer → Option (Unit {0}) → Doing
-PutsBy peer m (Queued n) = Acting (λ p h. Bridge (Put peer m))
-PutsBy peer m Full = Misses LaneFull
-PutsBy peer m AtEnd = Stops
+abbrev pub PutsInLaneBy : ℕ → Forward → Offer → Option (Unit {0}) → Doing
+PutsInLaneBy peer m (Queued n) = Acting (λ p h. Bridge (Put peer m))
+PutsInLaneBy peer m Full = Misses LaneFull
+PutsInLaneBy peer m AtEnd = Stops
 
-abbrev pub Puts : ℕ → Forward → Option (Unit {0}) → Doing
-Puts peer m = Looks (λ p h. offer_to peer h.bridge) (PutsBy peer m)
+abbrev pub PutsInLane : ℕ → Forward → Option (Unit {0}) → Doing
+PutsInLane peer m = Looks (λ p h. offer_to peer h.bridge) (PutsInLaneBy peer m)
 
 -- what becomes of a message at another node; one that is too large for a frame is left out
 abbrev pub RoutesBy : ℕ → Route → Option (Unit {0}) → Doing
 RoutesBy peer Nothing = Returns tt
-RoutesBy peer (Lane m) = Puts peer m
+RoutesBy peer (Lane m) = PutsInLane peer m
 RoutesBy peer TooLarge = Misses LaneFull
 
 abbrev pub Routes : ℕ × Route → Option (Unit {0}) → Doing

@@ -16,8 +16,8 @@ names_nodes nodes (Forward number m) = true
 names_nodes nodes (Got number) = true
 
 -- a frame is for this node: it is sent to it, from another node of the cluster, and names none but nodes of the cluster
-abbrev pub is_for : Place → BridgeFrame → Bool
-is_for p frame = nat_eq frame.to p.id && not (nat_eq frame.from p.id) && nat_lt frame.from (nodes_of p) && names_nodes (nodes_of p) frame.body
+abbrev pub is_for_node : Place → BridgeFrame → Bool
+is_for_node p frame = nat_eq frame.to p.id && not (nat_eq frame.from p.id) && nat_lt frame.from (nodes_of p) && names_nodes (nodes_of p) frame.body
 
 -- another node of the cluster
 abbrev pub is_other : Place → ℕ → Bool

@@ -46,14 +46,14 @@ abbrev pub AreOpenedWith : LinksView → Lanes Forward → Type 0
 AreOpenedWith links lanes = (id : ℕ) × (nodes : ℕ) × (links ≡ opened_links id nodes lanes)
 
 -- changes are appended that lead from the rows before to those after
-abbrev pub TellsOn : Rows → List Change → List Change → Rows → Type 0
-TellsOn old before after new = (own : List Change) × (after ≡ before ++ own) × Lead old new own
+abbrev pub TellsRows : Rows → List Change → List Change → Rows → Type 0
+TellsRows old before after new = (own : List Change) × (after ≡ before ++ own) × Lead old new own
 
 abbrev pub work_row : WorkView → Rows
 work_row w = held_row w.place.id w.held
 
-abbrev pub Tells : WorkView → WorkView → Type 0
-Tells w w' = TellsOn (work_row w) w.changes w'.changes (work_row w')
+abbrev pub TellsItsRows : WorkView → WorkView → Type 0
+TellsItsRows w w' = TellsRows (work_row w) w.changes w'.changes (work_row w')
 
 -- where the changes from some rows on begin, at sessions' own rows, with what was there, they still do
 abbrev pub StillBegin : WorkView → WorkView → Type 0

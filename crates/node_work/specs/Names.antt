@@ -9,10 +9,10 @@ use Rattle.node_work.specs.declared.frame.FrameKind.TheVariants.{Hello, Delta, K
 use Rattle.bridge_frames.specs.declared.body.FrameBody.{FrameBody}
 use Rattle.bridge_frames.specs.declared.body.FrameBody.TheVariants as bodies
 
-abbrev pub fault_name : NodeFault → List ℕ
-fault_name NoMemory = codes "NoMemory"
-fault_name NumbersAtEnd = codes "NumbersAtEnd"
-fault_name Stopped = codes "Stopped"
+abbrev pub node_fault_name : NodeFault → List ℕ
+node_fault_name NoMemory = codes "NoMemory"
+node_fault_name NumbersAtEnd = codes "NumbersAtEnd"
+node_fault_name Stopped = codes "Stopped"
 
 abbrev pub frame_name : FrameKind → List ℕ
 frame_name Hello = codes "hello"
@@ -21,12 +21,12 @@ frame_name Know = codes "know"
 frame_name Forward = codes "forward"
 frame_name Got = codes "got"
 
-abbrev pub kind_of : FrameBody → FrameKind
-kind_of bodies.Hello = Hello
-kind_of (bodies.Delta state) = Delta
-kind_of (bodies.Know dots) = Know
-kind_of (bodies.Forward number m) = Forward
-kind_of (bodies.Got number) = Got
+abbrev pub frame_kind : FrameBody → FrameKind
+frame_kind bodies.Hello = Hello
+frame_kind (bodies.Delta state) = Delta
+frame_kind (bodies.Know dots) = Know
+frame_kind (bodies.Forward number m) = Forward
+frame_kind (bodies.Got number) = Got
 
 -- a fault of the store as one of the node
 abbrev pub node_fault : StoreFault → NodeFault

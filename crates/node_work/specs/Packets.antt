@@ -23,10 +23,10 @@ abbrev pub moved_packet : List ℕ → Packet
 moved_packet address = Disconnect (record { reason = 157; properties = reference_of (Some address) })
 
 -- packets that came have a spelling each
-abbrev pub AreSpelled : List Packet → Type 0
-AreSpelled packets = AllByRecursion HasSpelling packets
+abbrev pub HaveSpellings : List Packet → Type 0
+HaveSpellings packets = AllByRecursion HasSpelling packets
 
 abbrev pub CameSpelled : Came → Type 0
 CameSpelled came.Nothing = Unit {0}
 CameSpelled came.Failed = Unit {0}
-CameSpelled (came.Packets fed) = AreSpelled fed.packets.items
+CameSpelled (came.Packets fed) = HaveSpellings fed.packets.items

@@ -73,8 +73,8 @@ woken homes named sessions store lanes =
 abbrev pub fresh : Table → HeldView
 fresh homes = woken homes 0 map.empty nothing (new_lanes (length homes.nodes))
 
-abbrev pub opened : ℕ → Table → NodeView
-opened id homes = record { place = place_of id homes; homes = homes; up = Some (fresh homes) }
+abbrev pub fresh_node : ℕ → Table → NodeView
+fresh_node id homes = record { place = place_of id homes; homes = homes; up = Some (fresh homes) }
 
 -- nothing is said of what a node holds once it has stopped
 abbrev pub up_of : Bool → HeldView → Option HeldView

@@ -3,7 +3,7 @@
 use Rattle.std.specs.Prelude.{◌≡◌, ℕ, Bool, cond, List, [], ◌∷◌, ◌++◌, Option, Some, None, Result, Ok, Err, ◌⊎◌}
 use Rattle.node_work.specs.declared.fault.NodeFault.{NodeFault}
 use Rattle.node_work.specs.declared.fault.NodeFault.TheVariants.{NoMemory, NumbersAtEnd, Stopped}
-use Rattle.node_work.specs.Lasting.{NamesAltered, StillBegin, Tells}
+use Rattle.node_work.specs.Lasting.{NamesAltered, StillBegin, TellsItsRows}
 use Rattle.node_work.specs.View.{Place, HeldView, WorkView}
 use Rattle.node_work.specs.Acts.{Act, Runs, gather, output_in}
 
@@ -70,7 +70,7 @@ pub record Did (w w' : WorkView) (P : Doing) : Type 0 where
   pub does : P w.place w.held acts
   pub runs : Runs w.place w.held acts w'.held
   pub given : w'.outputs ≡ w.outputs ++ gather output_in acts
-  pub tells : Tells w w'
+  pub tells : TellsItsRows w w'
   pub begins : StillBegin w w'
   pub names : NamesAltered w w' acts
   pub place : w'.place ≡ w.place

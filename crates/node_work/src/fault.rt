@@ -2,7 +2,7 @@
 
 ghost use Rattle.std.specs.Prelude.{◌≡◌, Some};
 ghost use Rattle.node_work.specs.Held.Calling.{fault_of};
-ghost use Rattle.node_work.specs.Names.{fault_name, node_fault};
+ghost use Rattle.node_work.specs.Names.{node_fault_name, node_fault};
 ghost use Rattle.node_work.specs.declared.fault.NodeFault.TheVariants as faults;
 
 use mqtt_fields::NoMemory;
@@ -73,7 +73,7 @@ impl From<SessionFault> for NodeFault {
 }
 
 impl fmt::Display for NodeFault {
-    ghost output = { λ fault. Some (fault_name fault) };
+    ghost output = { λ fault. Some (node_fault_name fault) };
 
     fn fmt<W: fmt::Write>(&self, f: &mut fmt::Formatter<W>) -> fmt::Result {
         match self {

@@ -3,7 +3,7 @@
 ghost use Rattle.std.specs.Prelude.{◌≡◌, ◌≤◌, ◌<◌, length, Some, IfOk, IsErrOf, OnOk};
 ghost use Rattle.bridge_frames.specs.Frames.{HasSpelling, IsPlain, content, limit};
 ghost use Rattle.node_work.specs.Held.Bridge.{written_frame};
-ghost use Rattle.node_work.specs.Names.{frame_name, kind_of};
+ghost use Rattle.node_work.specs.Names.{frame_name, frame_kind};
 
 use bridge_frames::{BridgeFrame, FrameBody, LinkFault};
 use mqtt_fields::NoMemory;
@@ -46,7 +46,7 @@ impl fmt::Display for FrameKind {
 
 /// The kind of a frame that says this.
 pub(crate) fn kind_of(body: &FrameBody) -> FrameKind
-    ensures { result ≡ kind_of body.now }
+    ensures { result ≡ frame_kind body.now }
 {
     match body {
         FrameBody::Hello => FrameKind::Hello,

@@ -22,7 +22,7 @@ ghost use Rattle.session_table.specs.Calls.{IsSpelledIf, stays, leaves, moves, r
 ghost use Rattle.session_table.specs.Rows.{own_kind};
 ghost use Rattle.node_work.specs.Held.Connections.{Opened, Accepted, Closed, is_open};
 ghost use Rattle.node_work.specs.Held.Feeding.{IsHeldFed};
-ghost use Rattle.node_work.specs.Held.Sessions.{Begun, Over, has_session, packet_output, last_of, outputs_on};
+ghost use Rattle.node_work.specs.Held.Sessions.{Begun, Over, has_session, packet_output, end_outputs, outputs_on};
 ghost use Rattle.node_work.specs.Packets.{CameSpelled};
 ghost use Rattle.replica_rows.specs.Reading.{IsStore};
 ghost use Rattle.row_changes.specs.Gathered.{AreOnce, Settle};
@@ -533,7 +533,7 @@ impl Work {
 
     /// Sends the DISCONNECT with which a connection ends, where its code isn't 0.
     fn send_last(&mut self, connection: u64, end: Option<u8>) -> Result<(), NodeFault>
-        ensures ok { OnOk result (self.new ≡ record self.old { outputs = self.old.outputs ++ last_of connection end }) }
+        ensures ok { OnOk result (self.new ≡ record self.old { outputs = self.old.outputs ++ end_outputs connection end }) }
         ensures fault { IfErr result (λ e. e ≡ NoMemory) }
     {
         let Some(code) = end else {

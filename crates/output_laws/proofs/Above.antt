@@ -89,7 +89,7 @@ module _ (K : (A : Type 0) → (Option A → Doing) → Type 0) (w : Low K) (a :
 
   acknowledges : (c : ℕ) (client : List ℕ) (packet : ℕ) (given : List Granted) → Does (subscribing.SendsSuback c client packet given)
   acknowledges c client packet given =
-      w.join (Calls client (λ at. answers packet (subscribing.reasons_of given)) stays) (λ r. subscribing.OffersAfter r.end c client packet given) (w.calls client (λ at. answers packet (subscribing.reasons_of given)) stays (λ at. tt))
+      w.join (Calls client (λ at. answers packet (subscribing.granted_reasons given)) stays) (λ r. subscribing.OffersAfter r.end c client packet given) (w.calls client (λ at. answers packet (subscribing.granted_reasons given)) stays (λ at. tt))
       (λ r. offers_after r.end c client packet given)
 
   unacknowledges : (c : ℕ) (client : List ℕ) (packet : ℕ) (codes : List ℕ) → Does (unsubscribing.SendsUnsuback c client packet codes)
@@ -109,16 +109,15 @@ module _ (K : (A : Type 0) → (Option A → Doing) → Type 0) (w : Low K) (a :
   unsubscribes_by c client _ = w.returns tt
 
   -- ---- what a packet of an accepted client comes to, after the call of its session
-  does_asked : (ask : Option Ask) (dropped : Bool) (c : ℕ) (client : List ℕ) (k : Packet) → Does (serving.DoesAsked ask dropped c client k)
-  does_asked None dropped c client k = w.by_test dropped passing.Drops (Returns tt) w.dropped (w.returns tt)
-  does_asked (Some (asks.Pass m)) dropped c client k = passes K w m
-  does_asked (Some asks.Subscribe) dropped c client k = subscribes_by c client k
-  does_asked (Some asks.Unsubscribe) dropped c client k = unsubscribes_by c client k
+  does_asked : (ask : Option Ask) (c : ℕ) (client : List ℕ) (k : Packet) (room : Bool) (end : Option ℕ) → Does (serving.DoesAsked ask c client k room end)
+  does_asked None c client k room end = w.by_test (serving.is_dropped k room end) passing.Drops (Returns tt) w.dropped (w.returns tt)
+  does_asked (Some (asks.Pass m)) c client k room end = passes K w m
+  does_asked (Some asks.Subscribe) c client k room end = subscribes_by c client k
+  does_asked (Some asks.Unsubscribe) c client k room end = unsubscribes_by c client k
 
   pub does_reaction : (c : ℕ) (client : List ℕ) (k : Packet) (room : Bool) (r : Reaction) → Does (serving.DoesReaction c client k room r)
   does_reaction c client k room r =
-      let dropped = serving.is_dropped k room r.end in
-      w.join (serving.DoesAsked r.ask dropped c client k) (λ _. ending.ClosesAfter r.end c client) (does_asked r.ask dropped c client k) (λ _. closes_after r.end c client)
+      w.join (serving.DoesAsked r.ask c client k room r.end) (λ _. ending.ClosesAfter r.end c client) (does_asked r.ask c client k room r.end) (λ _. closes_after r.end c client)
 
   -- ---- CONNECT
   refuses : (c : ℕ) (p : Connect) (code : ℕ) (reference : Option (List ℕ)) → Does (connecting.RefusesConnect c p code reference)
@@ -277,7 +276,7 @@ module _ (K : (A : Type 0) → (Option A → Doing) → Type 0) (w : Low K) (a :
 
   pub takes_table : (homes : Table) → Does (tables.TakesTable homes)
   takes_table homes =
-      w.looks (tables.is_newer homes) (λ newer. If newer (tables.TakesNewerTable homes) (Misses TableRefused))
+      w.looks (tables.is_newer_table homes) (λ newer. If newer (tables.TakesNewerTable homes) (Misses TableRefused))
       (λ newer. w.by_test newer (tables.TakesNewerTable homes) (Misses TableRefused)
       (w.join (Acting (λ p h. Moved homes)) (λ _. tables.SendsAway) (a.moved homes) (λ _. sends_away)) (w.missed TableRefused tt))
 

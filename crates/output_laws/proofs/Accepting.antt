@@ -16,7 +16,7 @@ use Rattle.node_work.specs.declared.outcome.Output.TheVariants.{Send}
 use Rattle.node_work.specs.Acts.{Act, Connection, Session, Out, Runs, next}
 use Rattle.node_work.specs.Calling.{CallsAt}
 use Rattle.node_work.specs.Doings.{Disconnects as Sends_disconnect, Sends}
-use Rattle.node_work.specs.Held.Connections.{Table, Accepted, changed_at, client_at, is_open, with_client}
+use Rattle.node_work.specs.Held.Connections.{ConnectionTable, Accepted, changed_at, client_at, is_open, with_client}
 use Rattle.node_work.specs.Held.Sessions.{SessionStep, Called, connection_at, has_session, seat_at, takes_disconnect}
 use Rattle.node_work.specs.Packets.{refused_packet}
 use Rattle.node_work.specs.View.{Place, HeldView, ConnectionView}
@@ -135,10 +135,10 @@ module _ (h : HeldView) (c : ℕ) (client : List ℕ) (on : SessionsAreOnTheirs 
   table = ap (changed_at (with_client client) c h.connections) (found_at h c is.open_there).1
 
   pub has_client : client_at c after ≡ Some client
-  has_client = ap (option_and_then (λ (v : ConnectionView). v.client)) (ap (λ (m : Table). map.get m c) table ∙ put_here h.connections c (with_client client found))
+  has_client = ap (option_and_then (λ (v : ConnectionView). v.client)) (ap (λ (m : ConnectionTable). map.get m c) table ∙ put_here h.connections c (with_client client found))
 
   pub others_stay : (q : ℕ) → q ≢ c → map.get after.connections q ≡ map.get h.connections q
-  others_stay q ne = ap (λ (m : Table). map.get m q) table ∙ put_apart h.connections c (with_client client found) q ne
+  others_stay q ne = ap (λ (m : ConnectionTable). map.get m q) table ∙ put_apart h.connections c (with_client client found) q ne
 
   pub still_on : SessionsAreOnTheirs after
   still_on q seat n at where_on =
@@ -176,7 +176,7 @@ joins kind pre true c client q r p h h' acts on has d runs = record {
 joins kind pre false c client q r p h h' acts on has (inl d) runs = none_some (sym d.0)
 joins kind pre false c client q r p h h' acts on has (inr (y, own, mid, rest, one, ran, more, is)) runs =
     let first = calmly kind pre p own h mid (subst (AllByRecursion IsCalm) (sym one.1) (tt, tt)) on ran in
-    let there : client_at c mid ≡ Some client = ap (λ (m : Table). client_at c (record h { connections = m })) first.kept.connections ∙ has in
+    let there : client_at c mid ≡ Some client = ap (λ (m : ConnectionTable). client_at c (record h { connections = m })) first.kept.connections ∙ has in
     let second = joined_at kind (pre ++ own) c client q false (seat_at client mid) r p mid h' rest first.kept.on there more (second_runs p h mid h' own rest acts is ran runs) in
     record {
       calm = record {

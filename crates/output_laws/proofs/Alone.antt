@@ -17,7 +17,7 @@ use Rattle.node_work.specs.declared.counts.Missed.TheVariants.{LaneFull}
 use Rattle.node_work.specs.declared.granted.Granted.{Granted}
 use Rattle.node_work.specs.Acts.{Act, Store, Session, Bridge, Acknowledged, Passed, Dropped, Made}
 use Rattle.node_work.specs.Calling.{Calls}
-use Rattle.node_work.specs.Doings.{PutsBy}
+use Rattle.node_work.specs.Doings.{PutsInLaneBy}
 use Rattle.node_work.specs.Held.Bridge.{Put, Left_out}
 use Rattle.node_work.specs.Held.Making.{number_at_end, put_at_end, removal, removal_below}
 use Rattle.node_work.specs.Held.Sessions.{SessionStep, Called, Over}
@@ -55,7 +55,7 @@ module _ (Q : Act → Type 0) (k : Kind Q) where
   pub acting : (a : Place → HeldView → Act) → ((p : Place) (h : HeldView) → Q (a p h)) → K (Unit {0}) (Acting a)
   acting a one = j_acting (All Q) c a (λ p h. (one p h, tt))
 
-  puts_by : (peer : ℕ) (m : Forward) (o : Offer) → K (Unit {0}) (PutsBy peer m o)
+  puts_by : (peer : ℕ) (m : Forward) (o : Offer) → K (Unit {0}) (PutsInLaneBy peer m o)
   puts_by peer m (Queued n) = acting (λ p h. Bridge (Put peer m)) (λ p h. k.put peer m)
   puts_by peer m Full = acting (λ p h. Bridge (Left_out LaneFull)) (λ p h. k.missed LaneFull tt)
   puts_by peer m AtEnd = j_stops (All Q) c

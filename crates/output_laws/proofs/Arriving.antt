@@ -10,7 +10,7 @@ use Rattle.node_bridge.specs.View.{is_next, lane_to}
 use Rattle.node_work.specs.declared.counts.Missed.TheVariants.{BadFrame}
 use Rattle.node_work.specs.Acts.{Act, Runs, gather, heard_in}
 use Rattle.node_work.specs.Doings.{Misses}
-use Rattle.node_work.specs.Frames.{is_for}
+use Rattle.node_work.specs.Frames.{is_for_node}
 use Rattle.node_work.specs.View.{Place, HeldView}
 use Rattle.node_work.specs.Working.{If}
 use Rattle.node_work.proofs.Working.{gather-append}
@@ -60,7 +60,7 @@ forwarding e p h last acts d runs from number m b =
       runs = a.runs;
       silent = a.silent;
       alike = took_alike p a.first h a.mid a.silent a.runs;
-      takes = heard_by (is_for p f) from number m p a.mid last a.rest b.here hears (subst (λ v. Runs p v a.rest last) same both.2);
+      takes = heard_by (is_for_node p f) from number m p a.mid last a.rest b.here hears (subst (λ v. Runs p v a.rest last) same both.2);
     }
 
 -- ---- what the acts take

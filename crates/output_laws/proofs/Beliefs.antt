@@ -13,7 +13,7 @@ use Rattle.node_work.specs.declared.counts.Missed.{Missed}
 use Rattle.node_work.specs.declared.counts.Missed.TheVariants.{LaneFull, BadFrame, FrameTooLarge, TableRefused}
 use Rattle.node_work.specs.Acts.{Act, MomentTaken, Began, Moved, Store, Connection, Session, Bridge, Out, Named, Acknowledged, Passed, Dropped, Made, Merged, Runs, next}
 use Rattle.node_work.specs.Held.Bridge.{BridgeAct, Put, Took, Got, Believed, Gave, Left_out, bridged, missed}
-use Rattle.node_work.specs.Held.Connections.{ConnectionAct, Opened, Fed, Accepted, Closed, connected}
+use Rattle.node_work.specs.Held.Connections.{ConnectionAct, Opened, Fed, Accepted, Closed, after_connection_act}
 use Rattle.node_work.specs.Held.Sessions.{SessionAct, Begun, Called, Over, called, counted}
 use Rattle.node_work.specs.View.{Place, HeldView, fresh}
 use Rattle.node_laws.specs.Moves.{Move, Acted, Reopened, Moves}
@@ -37,7 +37,7 @@ fresh_beliefs homes = opened_beliefs (new_lanes (length homes.nodes))
 by_bridge : (h h' : HeldView) → h'.bridge ≡ h.bridge → HasBeliefs h → HasBeliefs h'
 by_bridge h h' e b = subst (λ (v : BridgeView). length v.beliefs ≡ length v.lanes) (sym e) b
 
-connection_bridge : (h : HeldView) (a : ConnectionAct) → (connected h a).bridge ≡ h.bridge
+connection_bridge : (h : HeldView) (a : ConnectionAct) → (after_connection_act h a).bridge ≡ h.bridge
 connection_bridge h (Opened c) = refl
 connection_bridge h (Fed c piece) = refl
 connection_bridge h (Accepted c client) = refl
@@ -61,7 +61,7 @@ act_beliefs h (MomentTaken at) b = b
 act_beliefs h Began b = b
 act_beliefs h (Moved homes) b = b
 act_beliefs h (Store a) b = b
-act_beliefs h (Connection a) b = by_bridge h (connected h a) (connection_bridge h a) b
+act_beliefs h (Connection a) b = by_bridge h (after_connection_act h a) (connection_bridge h a) b
 act_beliefs h (Session a) b = by_bridge h (called h a) (session_bridge h a) b
 act_beliefs h (Bridge a) b = bridge_beliefs h a b
 act_beliefs h (Out o) b = b
@@ -83,7 +83,7 @@ pub record BelievesAlike (h h' : HeldView) : Type 0 where
 alike_by : (h h' : HeldView) → h'.bridge ≡ h.bridge → h'.counts ≡ h.counts → BelievesAlike h h'
 alike_by h h' b c = record { beliefs = ap (λ (v : BridgeView). v.beliefs) b; bad = ap (λ (v : Counts). v.bad_frames) c }
 
-connection_counts : (h : HeldView) (a : ConnectionAct) → (connected h a).counts ≡ h.counts
+connection_counts : (h : HeldView) (a : ConnectionAct) → (after_connection_act h a).counts ≡ h.counts
 connection_counts h (Opened c) = refl
 connection_counts h (Fed c piece) = refl
 connection_counts h (Accepted c client) = refl
@@ -111,7 +111,7 @@ alike_act h (Bridge (Took peer number m copies lost)) s = absurd s
 alike_act h (Bridge (Got peer number)) s = absurd s
 alike_act h (Bridge (Believed peer dots)) s = absurd s
 alike_act h (Bridge (Gave f)) s = absurd s
-alike_act h (Connection a) s = alike_by h (connected h a) (connection_bridge h a) (connection_counts h a)
+alike_act h (Connection a) s = alike_by h (after_connection_act h a) (connection_bridge h a) (connection_counts h a)
 alike_act h (Session a) s = record { beliefs = ap (λ (v : BridgeView). v.beliefs) (session_bridge h a); bad = session_bad h a }
 alike_act h (Passed m copies lost routes) s = record { beliefs = refl; bad = refl }
 alike_act h Dropped s = record { beliefs = refl; bad = refl }

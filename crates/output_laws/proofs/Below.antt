@@ -25,9 +25,9 @@ use Rattle.node_work.specs.declared.counts.Missed.TheVariants.{LaneFull, BadFram
 use Rattle.node_work.specs.declared.granted.Granted.{Granted}
 use Rattle.node_work.specs.Acts.{Session, Acknowledged, Passed}
 use Rattle.node_work.specs.Calling.{Calls, Queues, QueuesOne}
-use Rattle.node_work.specs.Doings.{MakesPut, MakesSubscribe, MakesRemove, MakesRemoveBelow, Misses, PutsBy, Removes, RemovesBelow, Routes, RoutesBy}
+use Rattle.node_work.specs.Doings.{MakesPut, MakesSubscribe, MakesRemove, MakesRemoveBelow, Misses, PutsInLaneBy, Removes, RemovesBelow, Routes, RoutesBy}
 use Rattle.node_work.specs.Held.Sessions.{Over, will_is_due, end_is_due}
-use Rattle.node_work.specs.Passing.{turn_at_end, content_of}
+use Rattle.node_work.specs.Passing.{turn_at_end, content_given}
 use Rattle.node_work.specs.View.{Place, HeldView}
 use Rattle.node_work.specs.Working.{Doing, Returns, Stops, Acting, Numbered, Looks, FindsWhere, If, Where, Then, InTurn, Each}
 use Rattle.node_clients.specs.Ending as ending
@@ -64,7 +64,7 @@ pub record Low (K : (A : Type 0) → (Option A → Doing) → Type 0) : Type 1 w
   pub remove_below : (client : List ℕ) (version : ℕ) → K (Unit {0}) (MakesRemoveBelow client version)
   pub over : (client : List ℕ) → K (Unit {0}) (Acting (λ p h. Session (Over client)))
   pub passed : (m : Message) (x : passing.Made) → K (Unit {0}) (Numbered turn_at_end (λ p h. Passed m x.0 x.1.0 x.1.1))
-  pub puts : (peer : ℕ) (m : Forward) (o : Offer) → K (Unit {0}) (PutsBy peer m o)
+  pub puts : (peer : ℕ) (m : Forward) (o : Offer) → K (Unit {0}) (PutsInLaneBy peer m o)
   pub missed : (what : Missed) → IsNoBadFrame what → K (Unit {0}) (Misses what)
   pub dropped : K (Unit {0}) passing.Drops
   pub acknowledged : (client : List ℕ) (packet : ℕ) (given : List Granted) (os : List Delivery) → K (Unit {0}) (Acting (λ p h. Acknowledged client packet h.at given os))
@@ -90,7 +90,7 @@ module _ (K : (A : Type 0) → (Option A → Doing) → Type 0) (w : Low K) wher
 
   routes : (peer : ℕ) (route : Route) → Does (RoutesBy peer route)
   routes peer Nothing = w.returns tt
-  routes peer (Lane m) = w.looks (λ p h. offer_to peer h.bridge) (PutsBy peer m) (w.puts peer m)
+  routes peer (Lane m) = w.looks (λ p h. offer_to peer h.bridge) (PutsInLaneBy peer m) (w.puts peer m)
   routes peer TooLarge = w.missed LaneFull tt
 
   makes_copies : (m : Message) (x : passing.Made) → Does (passing.MakesCopies m x)
@@ -103,7 +103,7 @@ module _ (K : (A : Type 0) → (Option A → Doing) → Type 0) (w : Low K) wher
 
   -- ---- a message that is passed on
   retains : (m : Message) → Does (passing.Retains m)
-  retains m = w.by_test m.retain (MakesPut (content_of m)) (Returns tt) (w.put (content_of m)) (w.returns tt)
+  retains m = w.by_test m.retain (MakesPut (content_given m)) (Returns tt) (w.put (content_given m)) (w.returns tt)
 
   pub passes : (m : Message) → Does (passing.Passes m)
   passes m = w.join (passing.Retains m) (λ _. Looks (λ p h. h.at) (passing.CopiesAt m)) (retains m) (λ _. w.looks (λ p h. h.at) (passing.CopiesAt m) (copies_at m))
@@ -144,17 +144,17 @@ module _ (K : (A : Type 0) → (Option A → Doing) → Type 0) (w : Low K) wher
   -- ---- SUBSCRIBE and UNSUBSCRIBE
   grants_by : (client : List ℕ) (identifier : ℕ) (f : SubscribeFilter) (stood : Bool) → K Granted (subscribing.GrantsBy client identifier f stood)
   grants_by client identifier f stood =
-      let full = Returns (subscribing.refused 151) in
+      let full = Returns (subscribing.filter_refused 151) in
       let given = subscribing.granted f (identifiers_of identifier) stood in
       let One = subscribing.SubscribesTo client identifier f in
-      let one = w.looks (λ p h. h.homes.version) (λ version. MakesSubscribe (subscribing.entry_of client f identifier version)) (λ version. w.subscribe (subscribing.entry_of client f identifier version)) in
+      let one = w.looks (λ p h. h.homes.version) (λ version. MakesSubscribe (subscribing.subscription_entry client f identifier version)) (λ version. w.subscribe (subscribing.subscription_entry client f identifier version)) in
       w.looks (λ p h. not stood && subscribing.has_most client h.store) (λ is. If is full (Then One (λ _. Returns given)))
-      (λ is. w.by_test is full (Then One (λ _. Returns given)) (w.returns (subscribing.refused 151)) (w.join One (λ _. Returns given) one (λ _. w.returns given)))
+      (λ is. w.by_test is full (Then One (λ _. Returns given)) (w.returns (subscribing.filter_refused 151)) (w.join One (λ _. Returns given) one (λ _. w.returns given)))
 
   pub grants : (client : List ℕ) (identifier : ℕ) (f : SubscribeFilter) → K Granted (subscribing.Grants client identifier f)
   grants client identifier f =
-      w.by_whether (IsFilter f.filter) (Looks (λ p h. subscribing.stands client f.filter h) (subscribing.GrantsBy client identifier f)) (Returns (subscribing.refused 143))
-      (w.looks (λ p h. subscribing.stands client f.filter h) (subscribing.GrantsBy client identifier f) (grants_by client identifier f)) (w.returns (subscribing.refused 143))
+      w.by_whether (IsFilter f.filter) (Looks (λ p h. subscribing.stands client f.filter h) (subscribing.GrantsBy client identifier f)) (Returns (subscribing.filter_refused 143))
+      (w.looks (λ p h. subscribing.stands client f.filter h) (subscribing.GrantsBy client identifier f) (grants_by client identifier f)) (w.returns (subscribing.filter_refused 143))
 
   pub unsubscribed : (client text : List ℕ) → K ℕ (unsubscribing.Unsubscribed client text)
   unsubscribed client text =

@@ -14,7 +14,7 @@ use Rattle.node_work.specs.declared.counts.Missed.TheVariants.{BadFrame, FrameTo
 use Rattle.node_work.specs.Acts.{Store, Bridge, Merged}
 use Rattle.node_work.specs.Calling.{Queues}
 use Rattle.node_work.specs.Doings.{GivesBody, GivesFrame, Misses, is_small}
-use Rattle.node_work.specs.Frames.{is_for, is_other}
+use Rattle.node_work.specs.Frames.{is_for_node, is_other}
 use Rattle.node_work.specs.Held.Bridge.{Took, Got as GotBy, Believed, Gave}
 use Rattle.node_work.specs.View.{HeldView}
 use Rattle.node_work.specs.Working.{Doing, Returns, Acting, If, Each}
@@ -74,7 +74,7 @@ module _ (K : (A : Type 0) → (Option A → Doing) → Type 0) (w : Low K) (b :
   hears_frame : (frame : Option BridgeFrame) → Does (bridge.HearsFrame frame)
   hears_frame None = b.bad
   hears_frame (Some frame) =
-      w.looks (λ p h. is_for p frame) (λ here. If here (bridge.TakesBody frame.from frame.body) (Misses BadFrame))
+      w.looks (λ p h. is_for_node p frame) (λ here. If here (bridge.TakesBody frame.from frame.body) (Misses BadFrame))
       (λ here. w.by_test here (bridge.TakesBody frame.from frame.body) (Misses BadFrame) (takes_body frame.from frame.body) b.bad)
 
   pub hears : (bytes : List ℕ) → Does (bridge.Hears bytes)

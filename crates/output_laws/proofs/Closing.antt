@@ -13,7 +13,7 @@ use Rattle.session_table.specs.Seats.{Seat}
 use Rattle.node_work.specs.declared.outcome.Output.TheVariants.{Close}
 use Rattle.node_work.specs.Acts.{Act, Connection, Session, Out, Runs, next}
 use Rattle.node_work.specs.Calling.{CallsAt}
-use Rattle.node_work.specs.Held.Connections.{Table, Closed, client_at, is_open}
+use Rattle.node_work.specs.Held.Connections.{ConnectionTable, Closed, client_at, is_open}
 use Rattle.node_work.specs.Held.Sessions.{SessionStep, Called, seat_at}
 use Rattle.node_work.specs.View.{Place, HeldView, ConnectionView}
 use Rattle.node_clients.specs.Ending as ending
@@ -36,7 +36,7 @@ pub record Ending (kind : EventKind) (pre : List Act) (p : Place) (c : ℕ) (h h
   pub ends : Ends c h h'
 
 pub calm_ends : (kind : EventKind) (pre : List Act) (p : Place) (c : ℕ) (h h' : HeldView) (acts : List Act) → Calmly kind pre p h h' acts → Ending kind pre p c h h' acts
-calm_ends kind pre p c h h' acts d = record { right = d.right; ends = record { on = d.kept.on; others = λ q ne. ap (λ (m : Table). map.get m q) d.kept.connections } }
+calm_ends kind pre p c h h' acts d = record { right = d.right; ends = record { on = d.kept.on; others = λ q ne. ap (λ (m : ConnectionTable). map.get m q) d.kept.connections } }
 
 pub ending_then : (kind : EventKind) (pre : List Act) (p : Place) (c : ℕ) (h mid h' : HeldView) (xs ys acts : List Act) → acts ≡ xs ++ ys → Runs p h xs mid → Ending kind pre p c h mid xs → Ending kind (pre ++ xs) p c mid h' ys → Ending kind pre p c h h' acts
 ending_then kind pre p c h mid h' xs ys acts is runs a b = record {
@@ -154,7 +154,7 @@ closes_for kind pre c client x p h h' acts on has why (inr (y, own, mid, rest, o
       right = right_again kind pre p h (own ++ rest) acts is (right_both kind pre p h mid own rest ran first.0 second.right);
       ends = record {
         on = second.kept.on;
-        others = λ q ne. ap (λ (m : Table). map.get m q) second.kept.connections ∙ ap (λ (v : HeldView). map.get v.connections q) first.1 ∙ closed_others h c q ne;
+        others = λ q ne. ap (λ (m : ConnectionTable). map.get m q) second.kept.connections ∙ ap (λ (v : HeldView). map.get v.connections q) first.1 ∙ closed_others h c q ne;
       };
     }
 

@@ -4,7 +4,7 @@ use Rattle.std.proofs.lemmas.List.{append-nil}
 use Rattle.std.specs.FinMap as map
 use Rattle.mqtt_packets.specs.declared.connect.Connect.{Connect}
 use Rattle.node_work.specs.Acts.{Act, Connection, Named, Runs, next}
-use Rattle.node_work.specs.Held.Connections.{Table, Accepted, client_at}
+use Rattle.node_work.specs.Held.Connections.{ConnectionTable, Accepted, client_at}
 use Rattle.node_work.specs.Held.Sessions.{connection_at, has_session}
 use Rattle.node_work.specs.View.{Place, HeldView}
 use Rattle.node_work.specs.Working.{If}
@@ -35,7 +35,7 @@ module _ (kind : EventKind) (c : ℕ) (bytes : List ℕ) (event : kind ≡ kinds
       } in
       let later = second_runs p h mid h' own rest acts all ran runs in
       let j = joins kind (pre ++ own) (has_session client mid) c client q r p mid mid2 own2 there has two ran2 in
-      let still : client_at c mid2 ≡ Some client = ap (λ (m : Table). client_at c (record mid { connections = m })) j.calm.kept.connections ∙ has in
+      let still : client_at c mid2 ≡ Some client = ap (λ (m : ConnectionTable). client_at c (record mid { connections = m })) j.calm.kept.connections ∙ has in
       let why : (code : ℕ) → r.end ≡ Some code → WhyClosed kind p ((pre ++ own) ++ own2) mid2 c = λ code ends. (
       let w : WhyClosed kind p ((((pre ++ own) ++ j.earlier) ++ j.own) ++ []) mid2 c = ended_by kind p ((pre ++ own) ++ j.earlier) j.own [] mid2 c client r code still j.react ends in
       subst (λ xs. WhyClosed kind p xs mid2 c) (append-nil (((pre ++ own) ++ j.earlier) ++ j.own) ∙ append_assoc (pre ++ own) j.earlier j.own ∙ ap (λ xs. (pre ++ own) ++ xs) (sym j.is)) w) in
@@ -56,7 +56,7 @@ module _ (kind : EventKind) (c : ℕ) (bytes : List ℕ) (event : kind ≡ kinds
       let bare : IsBare mid c = bare_again h mid c first.1.1 is in
       let later = second_runs p h mid h' own rest acts all ran runs in
       let second = cleans kind (pre ++ own) q.clean_start client y2 p mid mid2 own2 first.1.0 two ran2 in
-      let still : IsBare mid2 c = bare_again mid mid2 c (ap (λ (m : Table). map.get m c) second.kept.connections) bare in
+      let still : IsBare mid2 c = bare_again mid mid2 c (ap (λ (m : ConnectionTable). map.get m c) second.kept.connections) bare in
       let third = begins ((pre ++ own) ++ own2) client q x p mid2 h' rest2 second.kept.on still more (second_runs p mid mid2 h' own2 rest2 rest all2 ran2 later) in
       record {
         right = right_again kind pre p h (own ++ rest) acts all (right_both kind pre p h mid own rest ran first.0
@@ -100,4 +100,4 @@ module _ (kind : EventKind) (c : ℕ) (bytes : List ℕ) (event : kind ≡ kinds
   connects_by None pre q x p h h' acts on is d runs = connects_at (length q.client == 0) pre q x p h h' acts on is d runs
 
   pub connects_right : (pre : List Act) (q : Connect) (x : Unit {0}) (p : Place) (h h' : HeldView) (acts : List Act) → SessionsAreOnTheirs h → IsBare h c → connecting.Connects c q (Some x) p h acts → Runs p h acts h' → After pre p h h' acts
-  connects_right pre q x p h h' acts on is d runs = connects_by (connecting.refusal q) pre q x p h h' acts on is d runs
+  connects_right pre q x p h h' acts on is d runs = connects_by (connecting.connect_refusal q) pre q x p h h' acts on is d runs

@@ -10,9 +10,9 @@ use Rattle.bridge_frames.proofs.FrameLaws.{read_again}
 use Rattle.node_bridge.specs.View.{is_next, lane_to, has_lanes}
 use Rattle.node_work.specs.declared.frame.Frame.{Frame}
 use Rattle.node_work.specs.Acts.{gather}
-use Rattle.node_work.specs.Frames.{is_for, names_nodes}
+use Rattle.node_work.specs.Frames.{is_for_node, names_nodes}
 use Rattle.node_work.specs.View.{Place, HeldView, nodes_of}
-use Rattle.cluster_play.specs.Worlds.{Site, World, numbered}
+use Rattle.cluster_play.specs.Worlds.{Site, World, nth_from_one}
 use Rattle.cluster_play.specs.Runs.{Played}
 use Rattle.cluster_play.specs.Histories.{Reached, site, acts_of}
 use Rattle.cluster_play.specs.CatchingUp.{FrameArrives}
@@ -27,7 +27,7 @@ use Rattle.run_laws.proofs.LaneRuns.{lanes_explained, took_both}
 use Rattle.output_laws.specs.Forwards.{BringsForward, IsTakenThere, ForwardsAreTaken}
 use Rattle.output_laws.proofs.Arriving.{Forwarding, Tells, forwarding, forward_tells, frames}
 
-module _ (run : List Played) (w w' : World) (m : Played) (r : Reached run w) (k : ℕ) (sent : Frame) (f : BridgeFrame) (number : ℕ) (x : Forward) (there : numbered w.frames k ≡ Some sent) (read : frame_in sent.bytes ≡ Some f)
+module _ (run : List Played) (w w' : World) (m : Played) (r : Reached run w) (k : ℕ) (sent : Frame) (f : BridgeFrame) (number : ℕ) (x : Forward) (there : nth_from_one w.frames k ≡ Some sent) (read : frame_in sent.bytes ≡ Some f)
     (body : f.body ≡ Carried number x) (apart : f.from ≢ f.to) (a : FrameArrives w f m w') where
   here : Committed w (site m.fate) a.event (acts_of m.fate) w'
   here = committed w m.step m.fate w' a.event a.happens a.commits
@@ -57,7 +57,7 @@ module _ (run : List Played) (w w' : World) (m : Played) (r : Reached run w) (k 
   abbrev place : Place
   place = here.was.node.place
 
-  here_for : is_for place f ≡ true
+  here_for : is_for_node place f ≡ true
   here_for = λ i. eq-eqb f.to place.id (sym seated.id) i && not (nat_other f.from place.id (λ e. apart (e ∙ seated.id)) i) && lt-ltb f.from (nodes_of place) (subst (λ n. f.from < n) (sym seated.nodes) within) i && names_nodes (nodes_of place) (body i)
 
   shape : f ≡ record { from = f.from; to = f.to; body = Carried number x }
@@ -70,7 +70,7 @@ module _ (run : List Played) (w w' : World) (m : Played) (r : Reached run w) (k 
     event = a.brings;
     to = f.to;
     read = again ∙ ap Some shape;
-    here = subst (λ (g : BridgeFrame). is_for place g ≡ true) shape here_for;
+    here = subst (λ (g : BridgeFrame). is_for_node place g ≡ true) shape here_for;
   }
 
   step : Forwarding place here.before here.after (acts_of m.fate) f.from number x

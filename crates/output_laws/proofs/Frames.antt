@@ -10,7 +10,7 @@ use Rattle.replica_store.specs.States.{State}
 use Rattle.node_work.specs.declared.counts.Missed.TheVariants.{BadFrame}
 use Rattle.node_work.specs.Acts.{Act, Runs}
 use Rattle.node_work.specs.Doings.{GivesBody, Misses}
-use Rattle.node_work.specs.Frames.{is_for, is_other}
+use Rattle.node_work.specs.Frames.{is_for_node, is_other}
 use Rattle.node_work.specs.View.{Place, HeldView}
 use Rattle.node_work.specs.Working.{Returns, If}
 use Rattle.node_work.proofs.Working.{gather-append}
@@ -74,7 +74,7 @@ hears_by false f p h last acts d runs = ap frames_given d.1
 
 hears : (frame : Option BridgeFrame) (p : Place) (h last : HeldView) (acts : List Act) → bridge.HearsFrame frame (Some tt) p h acts → Runs p h acts last → frames_given acts ≡ answers_to p last frame
 hears None p h last acts d runs = ap frames_given d.1
-hears (Some f) p h last acts d runs = hears_by (is_for p f) f p h last acts d runs
+hears (Some f) p h last acts d runs = hears_by (is_for_node p f) f p h last acts d runs
 
 -- ---- of an event
 of_event : (kind : EventKind) (p : Place) (h last : HeldView) (acts : List Act) → AnswersEvent kind (Some tt) p h acts → Runs p h acts last → AreOfEvent p h last kind (frames_given acts)

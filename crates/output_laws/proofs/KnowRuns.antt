@@ -15,7 +15,7 @@ use Rattle.node_rows.proofs.Naming.{dots_tested}
 use Rattle.node_work.specs.declared.counts.Missed.TheVariants.{BadFrame}
 use Rattle.node_work.specs.Acts.{Act, Bridge, Runs}
 use Rattle.node_work.specs.Doings.{Misses}
-use Rattle.node_work.specs.Frames.{is_for, names_nodes}
+use Rattle.node_work.specs.Frames.{is_for_node, names_nodes}
 use Rattle.node_work.specs.Held.Bridge.{Believed, bridged}
 use Rattle.node_work.specs.View.{Place, HeldView, fresh, nodes_of}
 use Rattle.node_work.specs.Working.{If}
@@ -102,7 +102,7 @@ module _ (run : List Played) (w w' : World) (m : Played) (r : Reached run w) (f 
   named : names_nodes (nodes_of place) f.body ≡ true
   named = ap (names_nodes (nodes_of place)) k.body ∙ subst (λ n. dots_among n dots ≡ true) (sym seated.nodes) ((dots_tested (length w.sites) dots).1 (λ d h. among run w r f dots k d h))
 
-  here_for : is_for place f ≡ true
+  here_for : is_for_node place f ≡ true
   here_for = λ i. eq-eqb f.to place.id (sym seated.id) i && not (nat_other f.from place.id (λ e. apart (e ∙ seated.id)) i) && lt-ltb f.from (nodes_of place) (subst (λ n. f.from < n) (sym seated.nodes) within) i && named i
 
   answers : Answering place here.before a.event.kind (acts_of m.fate)
@@ -114,7 +114,7 @@ module _ (run : List Played) (w w' : World) (m : Played) (r : Reached run w) (f 
       let does : AnswersEvent (kinds.Frame (spelling f)) (Some tt) place answers.mid answers.rest = subst (λ e. AnswersEvent e (Some tt) place answers.mid answers.rest) a.brings answers.does in
       let hears : bridge.HearsFrame (Some f) (Some tt) place answers.mid answers.rest =
       subst (λ (x : Option BridgeFrame). bridge.HearsFrame x (Some tt) place answers.mid answers.rest) (again run w r f dots k) does in
-      believed_by (is_for place f) f.from dots f.body place answers.mid answers.rest here_for k.body hears
+      believed_by (is_for_node place f) f.from dots f.body place answers.mid answers.rest here_for k.body hears
 
   left : here.after ≡ bridged answers.mid (Believed f.from dots)
   left =

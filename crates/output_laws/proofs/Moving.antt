@@ -133,4 +133,4 @@ table_by true homes pre x p h h' acts on (inr (y, own, mid, rest, one, ran, more
 table_by false homes pre x p h h' acts on d runs = calm_done (kinds.Table homes) pre p h h' acts (subst (AllByRecursion IsCalm) (sym d.1) (tt, tt)) on runs
 
 pub takes_table : (homes : Table) (pre : List Act) (x : Unit {0}) (p : Place) (h h' : HeldView) (acts : List Act) → SessionsAreOnTheirs h → tables.TakesTable homes (Some x) p h acts → Runs p h acts h' → Done (kinds.Table homes) pre p h h' acts
-takes_table homes pre x p h h' acts on d runs = table_by (tables.is_newer homes p h) homes pre x p h h' acts on d runs
+takes_table homes pre x p h h' acts on d runs = table_by (tables.is_newer_table homes p h) homes pre x p h h' acts on d runs

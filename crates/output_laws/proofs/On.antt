@@ -13,7 +13,7 @@ use Rattle.session_table.specs.Listing.{text_cmp}
 use Rattle.session_table.specs.Seats.{Seat, begun}
 use Rattle.node_work.specs.Acts.{Act, Connection, Session, Bridge, Out, Allowed, Runs, next}
 use Rattle.node_work.specs.Held.Bridge.{BridgeAct, Put, Took, Got, Believed, Gave, Left_out, bridged}
-use Rattle.node_work.specs.Held.Connections.{Table, client_at}
+use Rattle.node_work.specs.Held.Connections.{ConnectionTable, client_at}
 use Rattle.node_work.specs.Held.Sessions.{SessionStep, Begun, Called, Over, IsOn}
 use Rattle.node_work.specs.View.{Place, HeldView, ConnectionView}
 use Rattle.node_clients.proofs.Determined.{runs_determined}
@@ -65,16 +65,16 @@ apart_number q c ne = by (eq_by_cmp nat_cmp q c) refl
     by true e = absurd (ne (same_number q c e))
     by false e = e
 
-pub put_here : (m : Table) (c : ℕ) (v : ConnectionView) → map.get (map.insert m c v) c ≡ Some v
+pub put_here : (m : ConnectionTable) (c : ℕ) (v : ConnectionView) → map.get (map.insert m c v) c ≡ Some v
 put_here m c v = tables.get_inserted nat_cmp_total m c v
 
-pub put_apart : (m : Table) (c : ℕ) (v : ConnectionView) (q : ℕ) → q ≢ c → map.get (map.insert m c v) q ≡ map.get m q
+pub put_apart : (m : ConnectionTable) (c : ℕ) (v : ConnectionView) (q : ℕ) → q ≢ c → map.get (map.insert m c v) q ≡ map.get m q
 put_apart m c v q ne = tables.get_apart nat_cmp_total m c v q (apart_number q c ne)
 
-pub gone_here : (m : Table) (c : ℕ) → map.get (map.remove m c) c ≡ None
+pub gone_here : (m : ConnectionTable) (c : ℕ) → map.get (map.remove m c) c ≡ None
 gone_here m c = tables.get_removed nat_cmp_total m c
 
-pub gone_apart : (m : Table) (c q : ℕ) → q ≢ c → map.get (map.remove m c) q ≡ map.get m q
+pub gone_apart : (m : ConnectionTable) (c q : ℕ) → q ≢ c → map.get (map.remove m c) q ≡ map.get m q
 gone_apart m c q ne = tables.get_left nat_cmp_total m c q (apart_number q c ne)
 
 -- ---- acts that open, change and close no connection, and give out nothing of the node's own
@@ -105,7 +105,7 @@ pub kept_then : (h mid h' : HeldView) → Kept h mid → Kept mid h' → Kept h 
 kept_then h mid h' a b = record { connections = b.connections ∙ a.connections; on = b.on }
 
 pub same_client : (h h' : HeldView) (c : ℕ) → h'.connections ≡ h.connections → client_at c h' ≡ client_at c h
-same_client h h' c e = ap (λ (m : Table). client_at c (record h { connections = m })) e
+same_client h h' c e = ap (λ (m : ConnectionTable). client_at c (record h { connections = m })) e
 
 -- a call that is on its client's connection, if on any
 pub called_kept : (h : HeldView) (s : SessionStep) → SessionsAreOnTheirs h → ((c : ℕ) → s.on ≡ Some c → client_at c h ≡ Some s.client) → Kept h (next h (Session (Called s)))

@@ -15,7 +15,7 @@ use Rattle.node_work.specs.Acts.{Act, MomentTaken, Store, Connection, Bridge, Me
 use Rattle.node_work.specs.Calling.{Calls, CallsAt}
 use Rattle.node_work.specs.declared.counts.Missed.TheVariants.{BadFrame}
 use Rattle.node_work.specs.Held.Bridge.{Took, Got as GotBy, Believed, Gave, Left_out}
-use Rattle.node_work.specs.Held.Connections.{Table, Opened, Closed, client_at, is_open, new_connection}
+use Rattle.node_work.specs.Held.Connections.{ConnectionTable, Opened, Closed, client_at, is_open, new_connection}
 use Rattle.node_work.specs.Held.Sessions.{seat_at}
 use Rattle.node_work.specs.View.{Place, HeldView, ConnectionView}
 use Rattle.node_work.specs.Working.{Acting, Doing, Each, If, Looks, Returns, Then}
@@ -76,7 +76,7 @@ run_out kind pre d x p h h' acts on s (inl e) runs = none_some (sym e.0)
 run_out kind pre d x p h h' acts on s (inr (r, own, mid, rest, one, ran, (inl e), is)) runs = none_some (sym e.0)
 run_out kind pre d x p h h' acts on s (inr (r, own, mid, rest, one, ran, (inr (y, close, left, last, closing, gone, more, whole)), is)) runs =
     let first = calmly kind pre p own h mid ((calling IsCalm calm_kind d.1 ticks stays (λ at. tt)).of r p h own one) on ran in
-    let has : client_at d.0 mid ≡ Some d.1 = ap (λ (m : Table). client_at d.0 (record h { connections = m })) first.kept.connections ∙ on d.1 s.0 d.0 s.1 s.2 in
+    let has : client_at d.0 mid ≡ Some d.1 = ap (λ (m : ConnectionTable). client_at d.0 (record h { connections = m })) first.kept.connections ∙ on d.1 s.0 d.0 s.1 s.2 in
     let end = ends_out d.1 (seat_at d.1 h) s.0 r p h own s.1 s.3 one in
     let why : WhyClosed kind p (pre ++ own) mid d.0 = subst (λ xs. WhyClosed kind p xs mid d.0) (append-nil (pre ++ own)) (ended_by kind p pre own [] mid d.0 d.1 r end.0 has (reacted d.1 ticks stays (seat_at d.1 h) r p h own one) end.1) in
     let later = second_runs p h mid h' own rest acts is ran runs in

@@ -6,7 +6,7 @@ use Rattle.mqtt_packets.specs.declared.fault.PacketFault.{PacketFault}
 use Rattle.mqtt_packets.specs.declared.packet.Packet.{Packet}
 use Rattle.mqtt_packets.specs.declared.packet.Packet.TheVariants as packets
 use Rattle.node_work.specs.Acts.{Act, Connection, Runs, next}
-use Rattle.node_work.specs.Held.Connections.{Table, Fed, changed_at, client_at, first_at, is_open, with_piece}
+use Rattle.node_work.specs.Held.Connections.{ConnectionTable, Fed, changed_at, client_at, first_at, is_open, with_piece}
 use Rattle.node_work.specs.Held.Feeding.{cut_of}
 use Rattle.node_work.specs.Packets.{refused_packet}
 use Rattle.node_work.specs.View.{Place, HeldView, ConnectionView}
@@ -106,10 +106,10 @@ module _ (kind : EventKind) (c : ℕ) (bytes : List ℕ) (event : kind ≡ kinds
       by : (n ≡ c) ⊎ (n ≢ c) → client_at n (next h (Connection (Fed c piece))) ≡ Some q
       by (inl e) =
           subst (λ k. client_at k (next h (Connection (Fed c piece))) ≡ Some q) (sym e)
-          (ap (option_and_then (λ (v : ConnectionView). v.client)) (ap (λ (m : Table). map.get m c) table ∙ put_here h.connections c (with_piece piece found))
+          (ap (option_and_then (λ (v : ConnectionView). v.client)) (ap (λ (m : ConnectionTable). map.get m c) table ∙ put_here h.connections c (with_piece piece found))
           ∙ sym (ap (option_and_then (λ (v : ConnectionView). v.client)) is) ∙ subst (λ k. client_at k h ≡ Some q) e (on q seat n at where_on))
       by (inr ne) =
-          ap (option_and_then (λ (v : ConnectionView). v.client)) (ap (λ (m : Table). map.get m n) table ∙ put_apart h.connections c (with_piece piece found) n ne) ∙ on q seat n at where_on
+          ap (option_and_then (λ (v : ConnectionView). v.client)) (ap (λ (m : ConnectionTable). map.get m n) table ∙ put_apart h.connections c (with_piece piece found) n ne) ∙ on q seat n at where_on
 
   fed : (piece : List ℕ) (found : ConnectionView) (pre : List Act) (x : Unit {0}) (p : Place) (h h' : HeldView) (acts : List Act) → SessionsAreOnTheirs h → map.get h.connections c ≡ Some found → pieces.Feeds c piece found (Some x) p h acts → Runs p h acts h' → Done pre p h h' acts
   fed piece found pre x p h h' acts on is (inl d) runs = none_some (sym d.0)

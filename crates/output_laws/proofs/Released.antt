@@ -5,7 +5,7 @@ use Rattle.node_work.specs.declared.frame.Frame.{Frame}
 use Rattle.node_work.specs.Acts.{Bridge, Runs, gather, output_in}
 use Rattle.node_work.specs.Held.Bridge.{Gave}
 use Rattle.cluster_play.specs.Worlds.{Site, World, Fate, Released as Released_at, Lost, Cut, Faulted, Was_down, Restarted, Becomes, Happens, frames_in}
-use Rattle.cluster_play.specs.Runs.{Played, released}
+use Rattle.cluster_play.specs.Runs.{Played, frames_released}
 use Rattle.cluster_play.specs.Histories.{Reached, site, acts_of}
 use Rattle.cluster_play.proofs.Bools.{none-some}
 use Rattle.cluster_play.proofs.Giving.{GivesOut, given_out}
@@ -20,7 +20,7 @@ record Giver (fate : Fate) (s : Site) (sent : Frame) : Type 0 where
   given : GivesOut (acts_of fate) sent
   from : given.frame.from ≡ s.node.place.id
 
-giver : (w : World) (i : ℕ) (s : Site) (fate : Fate) (w' : World) → Becomes w i s fate w' → (k : ℕ) (sent : Frame) → slice_get (released fate) k ≡ Some sent → Giver fate s sent
+giver : (w : World) (i : ℕ) (s : Site) (fate : Fate) (w' : World) → Becomes w i s fate w' → (k : ℕ) (sent : Frame) → slice_get (frames_released fate) k ≡ Some sent → Giver fate s sent
 giver w i s (Released_at j e acts outputs) w' b k sent at =
     let t = b.1.1 in
     let d = t.commits.done in
@@ -65,7 +65,7 @@ AllGiven run w = (n : ℕ) (sent : Frame) → slice_get w.frames n ≡ Some sent
 
 step_given : (run : List Played) (m : Played) (w w' : World) → Reached run w → AllGiven run w → Happens w m.step m.fate w' → AllGiven (run ++ m ∷ []) w'
 step_given run m w w' r all happens n sent at =
-    elim (get_append w.frames (released m.fate) n sent (subst (λ fs. slice_get fs n ≡ Some sent) (step_frames w m.step m.fate w' happens) at)) [
+    elim (get_append w.frames (frames_released m.fate) n sent (subst (λ fs. slice_get fs n ≡ Some sent) (step_frames w m.step m.fate w' happens) at)) [
       | inl old ↦ given_later run m sent (all n sent old)
       | inr new ↦ (
           let b = befell w m.step m.fate w' happens in

@@ -58,7 +58,7 @@ acknowledges : (kind : EventKind) (pre : List Act) (c : ℕ) (client : List ℕ)
     → subscribing.SendsSuback c client packet given (Some x) p h acts → Runs p h acts h' → Ending kind pre p c h h' acts
 acknowledges kind pre c client packet given x p h h' acts on has (inl d) runs = none_some (sym d.0)
 acknowledges kind pre c client packet given x p h h' acts on has (inr (r, own, mid, rest, one, ran, more, is)) runs =
-    let event : ℕ → Event = λ at. answers packet (subscribing.reasons_of given) in
+    let event : ℕ → Event = λ at. answers packet (subscribing.granted_reasons given) in
     let first = calmly kind pre p own h mid ((calling IsCalm calm_kind client event stays (λ at. tt)).of r p h own one) on ran in
     let there = kept_client h mid c client first.kept has in
     let react = reacted client event stays (seat_at client h) r p h own one in
@@ -145,21 +145,21 @@ request_ends client k room (Some seat) r p h own ask request (inr (q, after, ans
 
 -- ---- what is done for the packet
 -- nothing, or calmly; or for a request, by which no connection ends but by the answer to it
-asked : (kind : EventKind) (pre : List Act) (ask : Option Ask) (dropped : Bool) (c : ℕ) (client : List ℕ) (k : Packet) (x : Unit {0}) (p : Place) (h h' : HeldView) (acts : List Act) → SessionsAreOnTheirs h → client_at c h ≡ Some client
-    → serving.DoesAsked ask dropped c client k (Some x) p h acts → Runs p h acts h' → AllByRecursion IsCalm acts ⊎ (IsRequest k × ((a : Ask) × (ask ≡ Some a)) × Ending kind pre p c h h' acts)
-asked kind pre None dropped c client k x p h h' acts on has d runs = inl (((low IsCalm calm_kind).by_test dropped _ _ (low IsCalm calm_kind).dropped ((low IsCalm calm_kind).returns tt)).of x p h acts d)
-asked kind pre (Some (asks.Pass m)) dropped c client k x p h h' acts on has d runs = inl ((passes (K IsCalm calm_kind) (low IsCalm calm_kind) m).of x p h acts d)
-asked kind pre (Some asks.Subscribe) dropped c client (packets.Subscribe q) x p h h' acts on has d runs = inr (tt, (asks.Subscribe, refl), subscribes kind pre c client q x p h h' acts on has d runs)
-asked kind pre (Some asks.Subscribe) dropped c client k x p h h' acts on has d runs = inl (subst (AllByRecursion IsCalm) (sym d.1) tt)
-asked kind pre (Some asks.Unsubscribe) dropped c client (packets.Unsubscribe u) x p h h' acts on has d runs = inr (tt, (asks.Unsubscribe, refl), unsubscribes kind pre c client u x p h h' acts on has d runs)
-asked kind pre (Some asks.Unsubscribe) dropped c client k x p h h' acts on has d runs = inl (subst (AllByRecursion IsCalm) (sym d.1) tt)
+asked : (kind : EventKind) (pre : List Act) (ask : Option Ask) (c : ℕ) (client : List ℕ) (k : Packet) (room : Bool) (end : Option ℕ) (x : Unit {0}) (p : Place) (h h' : HeldView) (acts : List Act) → SessionsAreOnTheirs h → client_at c h ≡ Some client
+    → serving.DoesAsked ask c client k room end (Some x) p h acts → Runs p h acts h' → AllByRecursion IsCalm acts ⊎ (IsRequest k × ((a : Ask) × (ask ≡ Some a)) × Ending kind pre p c h h' acts)
+asked kind pre None c client k room end x p h h' acts on has d runs = inl (((low IsCalm calm_kind).by_test (serving.is_dropped k room end) _ _ (low IsCalm calm_kind).dropped ((low IsCalm calm_kind).returns tt)).of x p h acts d)
+asked kind pre (Some (asks.Pass m)) c client k room end x p h h' acts on has d runs = inl ((passes (K IsCalm calm_kind) (low IsCalm calm_kind) m).of x p h acts d)
+asked kind pre (Some asks.Subscribe) c client (packets.Subscribe q) room end x p h h' acts on has d runs = inr (tt, (asks.Subscribe, refl), subscribes kind pre c client q x p h h' acts on has d runs)
+asked kind pre (Some asks.Subscribe) c client k room end x p h h' acts on has d runs = inl (subst (AllByRecursion IsCalm) (sym d.1) tt)
+asked kind pre (Some asks.Unsubscribe) c client (packets.Unsubscribe u) room end x p h h' acts on has d runs = inr (tt, (asks.Unsubscribe, refl), unsubscribes kind pre c client u x p h h' acts on has d runs)
+asked kind pre (Some asks.Unsubscribe) c client k room end x p h h' acts on has d runs = inl (subst (AllByRecursion IsCalm) (sym d.1) tt)
 
 -- and then the connection closes, where the reaction says so
 reaction_right : (kind : EventKind) (pre own : List Act) (c : ℕ) (client : List ℕ) (k : Packet) (room : Bool) (r : Reaction) (x : Unit {0}) (p : Place) (h h' : HeldView) (acts : List Act) → SessionsAreOnTheirs h → client_at c h ≡ Some client → Reacted own client r
     → ((a : Ask) → IsRequest k → r.ask ≡ Some a → r.end ≡ None) → serving.DoesReaction c client k room r (Some x) p h acts → Runs p h acts h' → Ending kind (pre ++ own) p c h h' acts
 reaction_right kind pre own c client k room r x p h h' acts on has react open_still (inl d) runs = none_some (sym d.0)
 reaction_right kind pre own c client k room r x p h h' acts on has react open_still (inr (y, first, mid, rest, one, ran, more, is)) runs =
-    elim (asked kind (pre ++ own) r.ask (serving.is_dropped k room r.end) c client k y p h mid first on has one ran) [
+    elim (asked kind (pre ++ own) r.ask c client k room r.end y p h mid first on has one ran) [
       | inl calm ↦ (
           let a = calmly kind (pre ++ own) p first h mid calm on ran in
           let there = kept_client h mid c client a.kept has in

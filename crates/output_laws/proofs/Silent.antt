@@ -22,7 +22,7 @@ use Rattle.node_work.specs.Acts.{Act, MomentTaken, Began, Moved, Store, Connecti
 use Rattle.message_copies.specs.declared.plain.PlainCopy.{PlainCopy as Copy}
 use Rattle.node_work.specs.Calling.{Calls, Queues}
 use Rattle.node_work.specs.Held.Bridge.{BridgeAct, Put, Took, Got, Believed, Gave, Left_out}
-use Rattle.node_work.specs.Held.Connections.{ConnectionAct, Opened, Accepted, Closed as Closed_at, Fed, connected}
+use Rattle.node_work.specs.Held.Connections.{ConnectionAct, Opened, Accepted, Closed as Closed_at, Fed, after_connection_act}
 use Rattle.node_work.specs.Held.Sessions.{SessionAct, Begun, Called, Over, called}
 use Rattle.node_work.specs.View.{Place, HeldView}
 use Rattle.node_work.specs.Working.{Doing, Returns, Acting, Then, Each}
@@ -273,7 +273,7 @@ queued_by : (b : Bool) (o : Offer) (n : ℕ) → (if b then o else Full) ≡ Que
 queued_by true o n e = refl
 queued_by false o n e = absurd cc
 
-connection_lanes : (h : HeldView) (a : ConnectionAct) → (connected h a).bridge ≡ h.bridge
+connection_lanes : (h : HeldView) (a : ConnectionAct) → (after_connection_act h a).bridge ≡ h.bridge
 connection_lanes h (Opened n) = refl
 connection_lanes h (Fed n piece) = refl
 connection_lanes h (Accepted n client) = refl
@@ -304,7 +304,7 @@ took_act p h (Bridge (Took peer number m copies lost)) s allowed = absurd s
 took_act p h (Bridge (Got peer number)) s allowed = absurd s
 took_act p h (Bridge (Believed peer dots)) s allowed = absurd s
 took_act p h (Bridge (Gave f)) s allowed = absurd s
-took_act p h (Connection a) s allowed = alike_by h (connected h a) (connection_lanes h a)
+took_act p h (Connection a) s allowed = alike_by h (after_connection_act h a) (connection_lanes h a)
 took_act p h (Session a) s allowed = alike_by h (called h a) (session_lanes h a)
 took_act p h a s allowed = record { lanes = refl; took = λ j. refl }
 

@@ -16,7 +16,7 @@ use Rattle.node_work.specs.declared.counts.Missed.TheVariants.{BadFrame}
 use Rattle.node_work.specs.Held.Bridge.{Took, Got as GotBy, Believed, Gave, Left_out}
 use Rattle.node_work.specs.Held.Connections.{Opened, Accepted, Closed as Closed_at, Fed}
 use Rattle.node_work.specs.Held.Sessions.{Begun, Called}
-use Rattle.node_work.specs.Passing.{content_of}
+use Rattle.node_work.specs.Passing.{content_given}
 use Rattle.node_work.specs.View.{HeldView}
 use Rattle.node_work.specs.Working.{Doing, If, Then}
 use Rattle.node_clients.specs.Passing as passing
@@ -128,12 +128,12 @@ wills_are_passed_on = λ e p h held acts d before after s m is ran asks. (decide
 
 -- ---- in a run
 module _ (run later : List Played) (m : Played) (w : World) (r : Reached (run ++ m ∷ later) w) (before : List Act) (k : Called_in m before) (x : Message) where
-  put_by : (b : Bool) (xs : List Act) → cond b ((dot : Dot) × (stamp : Stamp) × (xs ≡ Store (Made (Put dot stamp (content_of x))) ∷ [])) (xs ≡ []) → (rest : List Act) → k.after ≡ xs ++ rest → b ≡ true → PutStays run later m w before k x
+  put_by : (b : Bool) (xs : List Act) → cond b ((dot : Dot) × (stamp : Stamp) × (xs ≡ Store (Made (Put dot stamp (content_given x))) ∷ [])) (xs ≡ []) → (rest : List Act) → k.after ≡ xs ++ rest → b ≡ true → PutStays run later m w before k x
   put_by true xs d rest is so =
       let call = Session (Called k.step) in
-      let a = Store (Made (Put d.0 d.1 (content_of x))) in
+      let a = Store (Made (Put d.0 d.1 (content_given x))) in
       let acts : acts_of m.fate ≡ (before ++ call ∷ []) ++ a ∷ rest = k.acts ∙ ap (λ zs. before ++ call ∷ zs) (is ∙ ap (λ zs. zs ++ rest) d.2) ∙ sym (append_assoc before (call ∷ []) (a ∷ rest)) in
-      record { dot = d.0; stamp = d.1; made = stays_made run later m w r (before ++ call ∷ []) rest (Put d.0 d.1 (content_of x)) acts; follows = refl }
+      record { dot = d.0; stamp = d.1; made = stays_made run later m w r (before ++ call ∷ []) rest (Put d.0 d.1 (content_given x)) acts; follows = refl }
   put_by false xs d rest is so = absurd (let z : false ≡ true = so in cc)
 
   stays_by : (b : Bool) (h : HeldView) → cond b (BeginsDropped k.after) (BeginsWithPassingOn x k.step.at h.bridge k.after) → x.retain ≡ true → BeginsDropped k.after ⊎ PutStays run later m w before k x

@@ -23,7 +23,7 @@ use Rattle.node_work.specs.declared.counts.Missed.TheVariants.{LaneFull}
 use Rattle.node_work.specs.declared.outcome.Output.TheVariants.{Close}
 use Rattle.node_work.specs.Acts.{Act, Store, Connection, Session, Bridge, Out, Acknowledged, Passed, Dropped, Made, Runs, next}
 use Rattle.node_work.specs.Calling.{Calls, CallsAt}
-use Rattle.node_work.specs.Doings.{PutsBy}
+use Rattle.node_work.specs.Doings.{PutsInLaneBy}
 use Rattle.node_work.specs.Held.Bridge.{Put, Left_out}
 use Rattle.node_work.specs.Held.Connections.{Closed as Closed_at}
 use Rattle.node_work.specs.Held.Making.{number_at_end, put_at_end, removal, removal_below}
@@ -82,7 +82,7 @@ one_told p h a other before after s held is ran m asks = absurd (subst IsOther (
 abbrev pub K : (A : Type 0) → (Option A → Doing) → Type 0
 K A P = Keeps T P
 
-puts_by : (peer : ℕ) (m : Forward) (o : Offer) → K (Unit {0}) (PutsBy peer m o)
+puts_by : (peer : ℕ) (m : Forward) (o : Offer) → K (Unit {0}) (PutsInLaneBy peer m o)
 puts_by peer m (Queued n) = j_acting T c (λ p h. Bridge (Put peer m)) (λ p h. one_told p h (Bridge (Put peer m)) tt)
 puts_by peer m Full = j_acting T c (λ p h. Bridge (Left_out LaneFull)) (λ p h. one_told p h (Bridge (Left_out LaneFull)) tt)
 puts_by peer m AtEnd = j_stops T c

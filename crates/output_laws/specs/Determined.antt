@@ -8,7 +8,7 @@ use Rattle.broker_node.specs.declared.event.Event.{Event}
 use Rattle.broker_node.specs.Step.{Steps, StopsAtEnd}
 use Rattle.cluster_play.specs.Worlds.{World, Released}
 use Rattle.cluster_play.specs.Runs.{Played}
-use Rattle.cluster_play.specs.Histories.{site, event_of, acts_of}
+use Rattle.cluster_play.specs.Histories.{site, event_committed, acts_of}
 use Rattle.cluster_play.specs.Agreement.{Holds}
 use Rattle.cluster_play.specs.Worlds.{Happens}
 
@@ -37,7 +37,7 @@ pub record StepsFrom (w : World) (m : Played) (w' : World) (p : Place) (h : Held
   pub holds : Holds w (site m.fate) h
   pub place : holds.site.node.place ≡ p
   pub happens : Happens w m.step m.fate w'
-  pub commits : event_of m.fate ≡ Some e
+  pub commits : event_committed m.fate ≡ Some e
 
 -- its acts are the same, what it gives out where nothing is lost, and what the node holds afterwards where it runs
 pub record DoAlike (m n : Played) (w v : World) : Type 0 where

@@ -8,13 +8,13 @@ use Rattle.message_copies.specs.declared.plain.PlainCopy.{PlainCopy as Copy}
 use Rattle.node_bridge.specs.View.{is_next, lane_to}
 use Rattle.node_work.specs.declared.frame.Frame.{Frame}
 use Rattle.node_work.specs.Acts.{Act, Bridge, Runs, gather, heard_in}
-use Rattle.node_work.specs.Frames.{is_for}
+use Rattle.node_work.specs.Frames.{is_for_node}
 use Rattle.node_work.specs.Held.Bridge.{Took}
 use Rattle.node_work.specs.View.{Place, HeldView}
 use Rattle.broker_node.specs.declared.event.Event.{Event}
 use Rattle.broker_node.specs.declared.event.EventKind.TheVariants as kinds
 use Rattle.broker_node.specs.Turns.{Decides}
-use Rattle.cluster_play.specs.Worlds.{World, numbered}
+use Rattle.cluster_play.specs.Worlds.{World, nth_from_one}
 use Rattle.cluster_play.specs.Runs.{Played}
 use Rattle.cluster_play.specs.Histories.{Reached, acts_of}
 use Rattle.cluster_play.specs.CatchingUp.{FrameArrives}
@@ -30,7 +30,7 @@ pub record BringsForward (p : Place) (h : HeldView) (e : Event) (from number : �
   pub event : e.kind ≡ kinds.Frame bytes
   pub to : ℕ
   pub read : frame_in bytes ≡ Some (record { from = from; to = to; body = Carried number m })
-  pub here : is_for p (record { from = from; to = to; body = Carried number m }) ≡ true
+  pub here : is_for_node p (record { from = from; to = to; body = Carried number m }) ≡ true
 
 -- the message is among what acts take
 pub record TakesIt (acts : List Act) (from number : ℕ) (m : Forward) : Type 0 where
@@ -64,5 +64,5 @@ pub record IsTakenThere (run : List Played) (m : Played) (f : BridgeFrame) (numb
 abbrev pub ForwardsAreTaken : Type 0
 ForwardsAreTaken =
     (run : List Played) (w w' : World) (m : Played) → Reached run w
-    → (k : ℕ) (sent : Frame) (f : BridgeFrame) (number : ℕ) (x : Forward) → numbered w.frames k ≡ Some sent → frame_in sent.bytes ≡ Some f → f.body ≡ Carried number x → f.from ≢ f.to
+    → (k : ℕ) (sent : Frame) (f : BridgeFrame) (number : ℕ) (x : Forward) → nth_from_one w.frames k ≡ Some sent → frame_in sent.bytes ≡ Some f → f.body ≡ Carried number x → f.from ≢ f.to
     → FrameArrives w f m w' → IsTakenThere run m f number x

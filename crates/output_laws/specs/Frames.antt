@@ -10,7 +10,7 @@ use Rattle.node_bridge.specs.View.{IsToShip, lane_to}
 use Rattle.replica_store.specs.States.{State}
 use Rattle.node_work.specs.Acts.{Act, Bridge, Runs, gather}
 use Rattle.node_work.specs.Doings.{is_small}
-use Rattle.node_work.specs.Frames.{is_for, is_other}
+use Rattle.node_work.specs.Frames.{is_for_node, is_other}
 use Rattle.node_work.specs.Held.Bridge.{BridgeAct, Gave}
 use Rattle.node_work.specs.View.{Place, HeldView}
 use Rattle.broker_node.specs.declared.event.Event.{Event}
@@ -59,7 +59,7 @@ answer_to h from (Got number) = []
 -- to a frame for this node from another one
 abbrev pub answers_to : Place → HeldView → Option BridgeFrame → List BridgeFrame
 answers_to p h None = []
-answers_to p h (Some f) = cond (is_for p f) (those_small (map_list (frame_to p f.from) (answer_to h f.from f.body))) []
+answers_to p h (Some f) = cond (is_for_node p f) (those_small (map_list (frame_to p f.from) (answer_to h f.from f.body))) []
 
 -- ---- an event, by what the node holds once what is due is done, and what it holds at the end
 abbrev pub AreOfEvent : Place → HeldView → HeldView → EventKind → List BridgeFrame → Type 0

@@ -9,7 +9,7 @@ use Rattle.node_bridge.specs.View.{belief_of}
 use Rattle.node_work.specs.declared.frame.Frame.{Frame}
 use Rattle.node_work.specs.View.{HeldView}
 use Rattle.cluster_play.specs.Agreement.{Holds}
-use Rattle.cluster_play.specs.Worlds.{World, numbered}
+use Rattle.cluster_play.specs.Worlds.{World, nth_from_one}
 use Rattle.cluster_play.specs.Runs.{Played}
 use Rattle.cluster_play.specs.Histories.{Reached}
 use Rattle.cluster_play.specs.CatchingUp.{FrameArrives}
@@ -18,7 +18,7 @@ use Rattle.cluster_play.specs.CatchingUp.{FrameArrives}
 pub record IsKnow (w : World) (f : BridgeFrame) (dots : Dots) : Type 0 where
   pub number : ℕ
   pub sent : Frame
-  pub released : numbered w.frames number ≡ Some sent
+  pub released : nth_from_one w.frames number ≡ Some sent
   pub read : frame_in sent.bytes ≡ Some f
   pub body : f.body ≡ Know dots
 

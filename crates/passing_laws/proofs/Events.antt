@@ -24,7 +24,7 @@ use Rattle.node_work.specs.Doings.{TakesMoment, Removes, Misses, GivesBody, Give
 use Rattle.node_work.specs.Held.Bridge.{Gave, Got as GotBy, Believed}
 use Rattle.node_work.specs.Held.Feeding.{cut_of}
 use Rattle.node_work.specs.Held.Connections.{Closed, Fed, Opened, is_open, client_at, first_at}
-use Rattle.node_work.specs.Frames.{is_for, is_other}
+use Rattle.node_work.specs.Frames.{is_for_node, is_other}
 use Rattle.node_work.specs.Packets.{refused_packet}
 use Rattle.node_work.specs.View.{HeldView, ConnectionView}
 use Rattle.node_work.specs.Working.{Doing, Returns, Acting, Looks, If, Then, Each}
@@ -130,7 +130,7 @@ module _ (T : Property) (j : Joins T) (serves : (c : ℕ) (client : List ℕ) (k
 
   takes_table : (homes : Table) → Keeps T (tables.TakesTable homes)
   takes_table homes =
-      k_looks T j (tables.is_newer homes) (λ newer. If newer (tables.TakesNewerTable homes) (Misses TableRefused))
+      k_looks T j (tables.is_newer_table homes) (λ newer. If newer (tables.TakesNewerTable homes) (Misses TableRefused))
       (λ newer. k_if T j newer (tables.TakesNewerTable homes) (Misses TableRefused)
       (k_then T j (Acting (λ p h. Moved homes)) (λ _. tables.SendsAway) (k_acting T j (λ p h. Moved homes) (λ p h. tt)) (λ _. sends_away)) (misses T j TableRefused))
 
@@ -185,7 +185,7 @@ module _ (T : Property) (j : Joins T) (serves : (c : ℕ) (client : List ℕ) (k
   hears_frame : (frame : Option BridgeFrame) → Keeps T (bridge.HearsFrame frame)
   hears_frame None = misses T j BadFrame
   hears_frame (Some frame) =
-      k_looks T j (λ p h. is_for p frame) (λ here. If here (bridge.TakesBody frame.from frame.body) (Misses BadFrame))
+      k_looks T j (λ p h. is_for_node p frame) (λ here. If here (bridge.TakesBody frame.from frame.body) (Misses BadFrame))
       (λ here. k_if T j here (bridge.TakesBody frame.from frame.body) (Misses BadFrame) (takes_body frame.from frame.body) (misses T j BadFrame))
 
   -- ---- events

@@ -30,7 +30,7 @@ use Rattle.node_work.specs.Doings.{MakesPut, Routes}
 use Rattle.node_work.specs.Held.Bridge.{Took}
 use Rattle.node_work.specs.Held.Making.{put_at_end}
 use Rattle.node_work.specs.Held.Sessions.{SessionStep, Called, seat_at, has_session}
-use Rattle.node_work.specs.Passing.{content_of, seated, turn_at_end}
+use Rattle.node_work.specs.Passing.{content_given, seated, turn_at_end}
 use Rattle.node_work.specs.View.{Place, HeldView}
 use Rattle.node_work.specs.Working.{Returns, If, Then, Each}
 use Rattle.node_clients.specs.Passing as passing
@@ -168,13 +168,13 @@ same_offers false content x p h mid acts d runs q = ap (λ (v : HeldView). offer
 pub passes_on : (m : Message) (x : Unit {0}) (p : Place) (h : HeldView) (acts : List Act) → passing.Passes m (Some x) p h acts → BeginsWithPassingOn m h.at h.bridge acts
 passes_on m x p h acts (inl d) = none_some (sym d.0)
 passes_on m x p h acts (inr (y, own, mid, rest, one, runs, more, is)) =
-    let at : mid.at ≡ h.at = same_moment m.retain (content_of m) y p h mid own one runs in
-    let alike : (q : ℕ) → offer_to q mid.bridge ≡ offer_to q h.bridge = same_offers m.retain (content_of m) y p h mid own one runs in
+    let at : mid.at ≡ h.at = same_moment m.retain (content_given m) y p h mid own one runs in
+    let alike : (q : ℕ) → offer_to q mid.bridge ≡ offer_to q h.bridge = same_offers m.retain (content_given m) y p h mid own one runs in
     record {
       puts = own;
       rest = rest;
       is = is;
-      put = put_by m.retain (content_of m) y p h own one;
+      put = put_by m.retain (content_given m) y p h own one;
       copied = λ before. subst (λ n. BeginsWithCopies m n h.bridge rest) at (copied_by alike (subst (λ n. IsBefore n m.deadline) (sym at) before) more);
     }
   where
@@ -255,7 +255,7 @@ answers_told p h s id codes e =
 passed : (c : ℕ) (client : List ℕ) (k : Packet) (room : Bool) (r : Reaction) (x : Unit {0}) (p : Place) (h : HeldView) (acts : List Act) (m : Message) → r.ask ≡ Some (asks.Pass m) → serving.DoesReaction c client k room r (Some x) p h acts → BeginsWithPassingOn m h.at h.bridge acts
 passed c client k room r x p h acts m asks (inl d) = none_some (sym d.0)
 passed c client k room r x p h acts m asks (inr (y, own, mid, rest, one, runs, more, is)) =
-    let d = subst (λ a. serving.DoesAsked a (serving.is_dropped k room r.end) c client k (Some y) p h own) asks one in
+    let d = subst (λ a. serving.DoesAsked a c client k room r.end (Some y) p h own) asks one in
     subst (BeginsWithPassingOn m h.at h.bridge) (sym is) (passes_more m h.at h.bridge own rest (passes_on m y p h own d))
 
 serves_at : (c : ℕ) (client : List ℕ) (k : Packet) (room : Bool) (found : Option Seat) (r : Reaction) (x : Unit {0}) (p : Place) (h mid : HeldView) (own rest : List Act) → CallsAt client (λ at. takes k at room) stays found (Some r) p h own

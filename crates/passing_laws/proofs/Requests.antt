@@ -21,11 +21,11 @@ use Rattle.passing_laws.proofs.Passing.{numbered}
 
 -- one filter
 granted_by : (client : List ℕ) (identifier : ℕ) (f : SubscribeFilter) (stood full : Bool) (g : Granted) (p : Place) (h : HeldView) (acts : List Act)
-    → If full (Returns (subscribing.refused 151)) (Then (subscribing.SubscribesTo client identifier f) (λ _. Returns (subscribing.granted f (identifiers_of identifier) stood))) (Some g) p h acts → IsGranted p h client identifier f g.reason acts
-granted_by client identifier f stood true g p h acts d = inr (inr (let same : g ≡ subscribing.refused 151 = (let z = d.0 in cc) in ap (λ (x : Granted). x.reason) same), d.1)
+    → If full (Returns (subscribing.filter_refused 151)) (Then (subscribing.SubscribesTo client identifier f) (λ _. Returns (subscribing.granted f (identifiers_of identifier) stood))) (Some g) p h acts → IsGranted p h client identifier f g.reason acts
+granted_by client identifier f stood true g p h acts d = inr (inr (let same : g ≡ subscribing.filter_refused 151 = (let z = d.0 in cc) in ap (λ (x : Granted). x.reason) same), d.1)
 granted_by client identifier f stood false g p h acts (inl d) = none_some (sym d.0)
 granted_by client identifier f stood false g p h acts (inr (y, own, mid, rest, one, runs, more, is)) =
-    let entry = subscribing.entry_of client f identifier h.homes.version in
+    let entry = subscribing.subscription_entry client f identifier h.homes.version in
     let same : g ≡ subscribing.granted f (identifiers_of identifier) stood = (let z = more.0 in cc) in
     let alone = numbered (number_at_end p.id h) y (Store (Made (subscribe_of p.id entry h.store))) own one in
     inl (ap (λ (x : Granted). x.reason) same, is ∙ (λ i. alone i ++ more.1 i))
@@ -34,7 +34,7 @@ is_granted : (client : List ℕ) (identifier : ℕ) (f : SubscribeFilter) (g : G
 is_granted client identifier f g p h acts (inl d) =
     let stood = subscribing.stands client f.filter h in
     granted_by client identifier f stood (not stood && subscribing.has_most client h.store) g p h acts d.1
-is_granted client identifier f g p h acts (inr d) = inr (inl (let same : g ≡ subscribing.refused 143 = (let z = d.1.0 in cc) in ap (λ (x : Granted). x.reason) same), d.1.1)
+is_granted client identifier f g p h acts (inr d) = inr (inl (let same : g ≡ subscribing.filter_refused 143 = (let z = d.1.0 in cc) in ap (λ (x : Granted). x.reason) same), d.1.1)
 
 -- each in order, after what was given before
 pub record Given {A : Type 0} (given all : List A) (Are : List A → Type 0) : Type 0 where
@@ -43,7 +43,7 @@ pub record Given {A : Type 0} (given all : List A) (Are : List A → Type 0) : T
   pub are : Are others
 
 pub are_granted : (client : List ℕ) (identifier : ℕ) (fs : List SubscribeFilter) (given all : List Granted) (p : Place) (h : HeldView) (acts : List Act) → InTurn (subscribing.Grants client identifier) fs given (Some all) p h acts
-    → Given given all (λ gs. AreGranted p h client identifier fs (subscribing.reasons_of gs) acts)
+    → Given given all (λ gs. AreGranted p h client identifier fs (subscribing.granted_reasons gs) acts)
 are_granted client identifier [] given all p h acts d = record { others = []; all_is = (let same : all ≡ given = (let z = d.0 in cc) in same ∙ sym (append-nil given)); are = (refl, d.1) }
 are_granted client identifier (f ∷ fs) given all p h acts (inl d) = none_some (sym d.0)
 are_granted client identifier (f ∷ fs) given all p h acts (inr (g, own, mid, rest, one, runs, more, is)) =
@@ -51,7 +51,7 @@ are_granted client identifier (f ∷ fs) given all p h acts (inr (g, own, mid, r
     record {
       others = g ∷ r.others;
       all_is = r.all_is ∙ append_assoc given (g ∷ []) r.others;
-      are = (g.reason, subscribing.reasons_of r.others, own, mid, rest, refl, is, is_granted client identifier f g p h own one, runs, r.are);
+      are = (g.reason, subscribing.granted_reasons r.others, own, mid, rest, refl, is, is_granted client identifier f g p h own one, runs, r.are);
     }
 
 -- ---- the operations of an UNSUBSCRIBE

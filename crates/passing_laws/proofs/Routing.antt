@@ -13,7 +13,7 @@ use Rattle.message_routes.specs.declared.destinations.Route.TheVariants.{Nothing
 use Rattle.node_bridge.specs.View.{BridgeView, offer_to, with_lane}
 use Rattle.node_work.specs.declared.counts.Missed.TheVariants.{LaneFull}
 use Rattle.node_work.specs.Acts.{Act, Bridge, Runs}
-use Rattle.node_work.specs.Doings.{PutsBy, RoutesBy, Routes}
+use Rattle.node_work.specs.Doings.{PutsInLaneBy, RoutesBy, Routes}
 use Rattle.node_work.specs.Held.Bridge.{Put, Left_out}
 use Rattle.node_work.specs.Passing.{others}
 use Rattle.node_work.specs.View.{Place, HeldView, nodes_of}
@@ -60,7 +60,7 @@ offer_apart b peer q l apart = λ i.
     if nat_lt q (length-set b.lanes peer l i) then offer_of (get_or-set_other b.lanes peer q l new_lane (λ e. apart (sym e)) i) else Full
 
 -- ---- one route
-offered : (peer : ℕ) (m : Forward) (o : Offer) (x : Unit {0}) (p : Place) (h : HeldView) (acts : List Act) → PutsBy peer m o (Some x) p h acts → IsPutInLane peer m o acts
+offered : (peer : ℕ) (m : Forward) (o : Offer) (x : Unit {0}) (p : Place) (h : HeldView) (acts : List Act) → PutsInLaneBy peer m o (Some x) p h acts → IsPutInLane peer m o acts
 offered peer m (Queued n) x p h acts d = d.1
 offered peer m Full x p h acts d = d.1
 offered peer m AtEnd x p h acts d = none_some (sym d.0)

@@ -10,7 +10,7 @@ use Rattle.message_copies.specs.declared.plain.PlainCopy.{PlainCopy as Copy}
 use Rattle.node_work.specs.declared.outcome.Output.TheVariants.{Send, Close, Frame as Release}
 use Rattle.node_work.specs.Acts.{Act, MomentTaken, Began, Moved, Store, Connection, Session, Bridge, Out, Named, Acknowledged, Passed, Dropped, Runs, gather, output_in}
 use Rattle.node_work.specs.Held.Bridge.{Put, Took, Got, Believed, Gave, Left_out}
-use Rattle.node_work.specs.Held.Sessions.{SessionStep, Begun, Called, Over, last_of, outputs_on, packet_output}
+use Rattle.node_work.specs.Held.Sessions.{SessionStep, Begun, Called, Over, end_outputs, outputs_on, packet_output}
 use Rattle.node_work.specs.View.{Place, HeldView}
 use Rattle.node_work.proofs.Working.{gather-append}
 use Rattle.passing_laws.specs.Sending.{IsIn, SentBy, IsOwnPacket, SentAmong, SendsAreOfCalls}
@@ -41,14 +41,14 @@ module _ (s : SessionStep) (connection : ℕ) (bytes : List ℕ) where
   last_by c code false (inl e) = let spelled : written (disconnect code) ≡ bytes = cc e in inr (record { packet = disconnect code; own = refl; spelled = sym spelled })
   last_by c code false (inr i) = absurd i
 
-  last : (c : ℕ) (end : Option ℕ) → IsIn (Send connection bytes) (last_of c end) → Is
+  last : (c : ℕ) (end : Option ℕ) → IsIn (Send connection bytes) (end_outputs c end) → Is
   last c None i = absurd i
   last c (Some code) i = last_by c code (code == 0) i
 
   on_by : (on : Option ℕ) → s.on ≡ on → IsIn (Send connection bytes) (outputs_on on s.at s.reaction) → Is
   on_by None is i = absurd i
   on_by (Some c) is i =
-      elim (in_both (Send connection bytes) (map_list (packet_output c s.at) s.reaction.packets) (last_of c s.reaction.end) i) [
+      elim (in_both (Send connection bytes) (map_list (packet_output c s.at) s.reaction.packets) (end_outputs c s.reaction.end) i) [
         | inl a ↦ given c is s.reaction.packets (λ o j. j) a
         | inr b ↦ last c s.reaction.end b
       ]

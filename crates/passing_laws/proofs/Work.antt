@@ -35,7 +35,7 @@ use Rattle.node_work.specs.declared.counts.Missed.{Missed}
 use Rattle.node_work.specs.declared.counts.Missed.TheVariants.{LaneFull}
 use Rattle.node_work.specs.Acts.{Store, Session, Acknowledged, Made, Act, Bridge, Out}
 use Rattle.node_work.specs.Calling.{Calls, Queues, QueuesOne, CallsAt}
-use Rattle.node_work.specs.Doings.{MakesSubscribe, MakesRemove, MakesRemoveBelow, Removes, RemovesBelow, Sends, Disconnects, Redirects, Misses, PutsBy, RoutesBy, Routes}
+use Rattle.node_work.specs.Doings.{MakesSubscribe, MakesRemove, MakesRemoveBelow, Removes, RemovesBelow, Sends, Disconnects, Redirects, Misses, PutsInLaneBy, RoutesBy, Routes}
 use Rattle.node_work.specs.Held.Bridge.{Put, Took, Left_out}
 use Rattle.node_work.specs.Held.Sessions.{Begun, connection_at, takes_disconnect, takes_packet, will_is_due, end_is_due, SessionStep, Called, seat_at}
 use Rattle.node_work.specs.Held.Making.{number_at_end, removal, removal_below}
@@ -50,7 +50,7 @@ use Rattle.node_clients.specs.Passing as passing
 use Rattle.node_clients.specs.Serving as serving
 use Rattle.node_clients.specs.Subscribing as subscribing
 use Rattle.node_clients.specs.Unsubscribing as unsubscribing
-use Rattle.passing_laws.specs.Sending.{is_own}
+use Rattle.passing_laws.specs.Sending.{is_sent_by_node}
 use Rattle.passing_laws.proofs.Keeping.{Property, Joins, Keeps, k_returns, k_stops, k_acting, k_numbered, k_looks, k_finds, k_if, k_where, k_then, k_each, k_calls, calling_by, k_inturn}
 
 module _ (T : Property) (j : Joins T) where
@@ -76,7 +76,7 @@ module _ (T : Property) (j : Joins T) where
   removes_own client =
       k_finds T j (ending.IsAtHome client) (ending.RemovesFor client) (λ node. k_looks T j (ending.ends_below node) (RemovesBelow client) (removes_below client))
 
-  pub sends : (c : ℕ) (packet : Packet) → is_own packet ≡ true → Keeps T (Sends c packet)
+  pub sends : (c : ℕ) (packet : Packet) → is_sent_by_node packet ≡ true → Keeps T (Sends c packet)
   sends c packet own = k_acting T j (λ p h. Out (Send c (written packet))) (λ p h. record { packet = packet; own = own; spelled = refl })
 
   pub disconnects : (c : ℕ) (client : List ℕ) (code : ℕ) → Keeps T (Disconnects c client code)
@@ -98,14 +98,14 @@ module _ (T : Property) (j : Joins T) where
   pub misses : (what : Missed) → Keeps T (Misses what)
   misses what = k_acting T j (λ p h. Bridge (Left_out what)) (λ p h. tt)
 
-  puts_by : (peer : ℕ) (m : Forward) (o : Offer) → Keeps T (PutsBy peer m o)
+  puts_by : (peer : ℕ) (m : Forward) (o : Offer) → Keeps T (PutsInLaneBy peer m o)
   puts_by peer m (Queued n) = k_acting T j (λ p h. Bridge (Put peer m)) (λ p h. tt)
   puts_by peer m Full = misses LaneFull
   puts_by peer m AtEnd = k_stops T j
 
   routes : (peer : ℕ) (route : Route) → Keeps T (RoutesBy peer route)
   routes peer Nothing = k_returns T j tt
-  routes peer (Lane m) = k_looks T j (λ p h. offer_to peer h.bridge) (PutsBy peer m) (puts_by peer m)
+  routes peer (Lane m) = k_looks T j (λ p h. offer_to peer h.bridge) (PutsInLaneBy peer m) (puts_by peer m)
   routes peer TooLarge = misses LaneFull
 
   pub copies : (m : Message) → Keeps T (passing.Copies m)
@@ -228,17 +228,17 @@ module _ (T : Property) (j : Joins T) where
 
   granted : (client : List ℕ) (identifier : ℕ) (f : SubscribeFilter) (stood : Bool) → Keeps T (subscribing.GrantsBy client identifier f stood)
   granted client identifier f stood =
-      let full = Returns (subscribing.refused 151) in
+      let full = Returns (subscribing.filter_refused 151) in
       let given = subscribing.granted f (identifiers_of identifier) stood in
       let Makes = subscribing.SubscribesTo client identifier f in
-      let subscribes = k_looks T j (λ p h. h.homes.version) (λ version. MakesSubscribe (subscribing.entry_of client f identifier version)) (λ version. subscribed (subscribing.entry_of client f identifier version)) in
+      let subscribes = k_looks T j (λ p h. h.homes.version) (λ version. MakesSubscribe (subscribing.subscription_entry client f identifier version)) (λ version. subscribed (subscribing.subscription_entry client f identifier version)) in
       k_looks T j (λ p h. not stood && subscribing.has_most client h.store) (λ is. If is full (Then Makes (λ _. Returns given)))
-      (λ is. k_if T j is full (Then Makes (λ _. Returns given)) (k_returns T j (subscribing.refused 151)) (k_then T j Makes (λ _. Returns given) subscribes (λ _. k_returns T j given)))
+      (λ is. k_if T j is full (Then Makes (λ _. Returns given)) (k_returns T j (subscribing.filter_refused 151)) (k_then T j Makes (λ _. Returns given) subscribes (λ _. k_returns T j given)))
 
   pub grants : (client : List ℕ) (identifier : ℕ) (f : SubscribeFilter) → Keeps T (subscribing.Grants client identifier f)
   grants client identifier f =
-      k_where T j (IsFilter f.filter) (Looks (λ p h. subscribing.stands client f.filter h) (subscribing.GrantsBy client identifier f)) (Returns (subscribing.refused 143))
-      (k_looks T j (λ p h. subscribing.stands client f.filter h) (subscribing.GrantsBy client identifier f) (granted client identifier f)) (k_returns T j (subscribing.refused 143))
+      k_where T j (IsFilter f.filter) (Looks (λ p h. subscribing.stands client f.filter h) (subscribing.GrantsBy client identifier f)) (Returns (subscribing.filter_refused 143))
+      (k_looks T j (λ p h. subscribing.stands client f.filter h) (subscribing.GrantsBy client identifier f) (granted client identifier f)) (k_returns T j (subscribing.filter_refused 143))
 
   offers_one : (client : List ℕ) (offer : Delivery) → Keeps T (subscribing.OffersOne client offer)
   offers_one client offer = k_then T j (Calls client (queues offer) stays) (λ _. Returns tt) (k_calls T j client (queues offer) stays (λ at. tt)) (λ _. k_returns T j tt)
@@ -273,8 +273,8 @@ module _ (T : Property) (j : Joins T) (answers_so : (p : Place) (h : HeldView) (
   subscribes c client s =
       k_then T j (InTurn (subscribing.Grants client (subscribing.identifier_of s)) s.filters []) (subscribing.SendsSuback c client s.identifier)
       (k_inturn T j (subscribing.Grants client (subscribing.identifier_of s)) s.filters [] (grants T j client (subscribing.identifier_of s)))
-      (λ given. k_then T j (Calls client (λ at. answers s.identifier (subscribing.reasons_of given)) stays) (λ r. subscribing.OffersAfter r.end c client s.identifier given)
-      (codes client s.identifier (subscribing.reasons_of given)) (λ r. offers_after T j r.end c client s.identifier given))
+      (λ given. k_then T j (Calls client (λ at. answers s.identifier (subscribing.granted_reasons given)) stays) (λ r. subscribing.OffersAfter r.end c client s.identifier given)
+      (codes client s.identifier (subscribing.granted_reasons given)) (λ r. offers_after T j r.end c client s.identifier given))
 
   unsubscribes : (c : ℕ) (client : List ℕ) (u : Unsubscribe) → Keeps T (unsubscribing.ServesUnsubscribe c client u)
   unsubscribes c client u =
@@ -290,16 +290,15 @@ module _ (T : Property) (j : Joins T) (answers_so : (p : Place) (h : HeldView) (
   unsubscribes_by c client (packets.Unsubscribe u) = unsubscribes c client u
   unsubscribes_by c client _ = k_returns T j _
 
-  does_asked : (ask : Option Ask) (dropped : Bool) (c : ℕ) (client : List ℕ) (k : Packet) → Keeps T (serving.DoesAsked ask dropped c client k)
-  does_asked None dropped c client k = k_if T j dropped passing.Drops (Returns tt) (drops T j) (k_returns T j tt)
-  does_asked (Some (asks.Pass m)) dropped c client k = passes T j m
-  does_asked (Some asks.Subscribe) dropped c client k = subscribes_by c client k
-  does_asked (Some asks.Unsubscribe) dropped c client k = unsubscribes_by c client k
+  does_asked : (ask : Option Ask) (c : ℕ) (client : List ℕ) (k : Packet) (room : Bool) (end : Option ℕ) → Keeps T (serving.DoesAsked ask c client k room end)
+  does_asked None c client k room end = k_if T j (serving.is_dropped k room end) passing.Drops (Returns tt) (drops T j) (k_returns T j tt)
+  does_asked (Some (asks.Pass m)) c client k room end = passes T j m
+  does_asked (Some asks.Subscribe) c client k room end = subscribes_by c client k
+  does_asked (Some asks.Unsubscribe) c client k room end = unsubscribes_by c client k
 
   pub does_reaction : (c : ℕ) (client : List ℕ) (k : Packet) (room : Bool) (r : Reaction) → Keeps T (serving.DoesReaction c client k room r)
   does_reaction c client k room r =
-      let dropped = serving.is_dropped k room r.end in
-      k_then T j (serving.DoesAsked r.ask dropped c client k) (λ _. ending.ClosesAfter r.end c client) (does_asked r.ask dropped c client k) (λ _. closes_after T j r.end c client)
+      k_then T j (serving.DoesAsked r.ask c client k room r.end) (λ _. ending.ClosesAfter r.end c client) (does_asked r.ask c client k room r.end) (λ _. closes_after T j r.end c client)
 
 -- ---- a packet of an accepted client, where each call alone keeps it
 module _ (T : Property) (j : Joins T) (called : (p : Place) (h : HeldView) (s : SessionStep) → T p h (Session (Called s) ∷ [])) where

@@ -30,7 +30,7 @@ use Rattle.node_work.specs.declared.counts.Missed.TheVariants.{LaneFull}
 use Rattle.node_work.specs.Acts.{Act, Store, Session, Bridge, Made, Passed, Runs}
 use Rattle.node_work.specs.Held.Bridge.{Put as PutInto, Left_out}
 use Rattle.node_work.specs.Held.Sessions.{SessionStep, Called}
-use Rattle.node_work.specs.Passing.{content_of}
+use Rattle.node_work.specs.Passing.{content_given}
 use Rattle.node_work.specs.View.{Place, HeldView}
 use Rattle.broker_node.specs.declared.event.Event.{Event as NodeEvent}
 use Rattle.broker_node.specs.Turns.{Decides}
@@ -80,7 +80,7 @@ pub record AcceptsPublish (s : SessionStep) (m : Message) : Type 0 where
 
 -- with RETAIN one Put gives the topic the message, or with an empty payload none; else nothing is put
 abbrev pub IsPut : Message → List Act → Type 0
-IsPut m acts = cond m.retain ((dot : Dot) × (stamp : Stamp) × (acts ≡ Store (Made (Put dot stamp (content_of m))) ∷ [])) (acts ≡ [])
+IsPut m acts = cond m.retain ((dot : Dot) × (stamp : Stamp) × (acts ≡ Store (Made (Put dot stamp (content_given m))) ∷ [])) (acts ≡ [])
 
 -- calls of sessions, one for each copy in order: it joins its client's session at the moment
 abbrev pub CopiesAreQueued : ℕ → List Copy → List Act → Type 0

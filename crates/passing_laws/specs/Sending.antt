@@ -13,10 +13,10 @@ use Rattle.broker_node.specs.declared.event.Event.{Event as NodeEvent}
 use Rattle.broker_node.specs.Turns.{Decides}
 
 -- CONNACK to a client that is refused, and DISCONNECT
-abbrev pub is_own : Packet → Bool
-is_own (packets.Connack c) = true
-is_own (packets.Disconnect d) = true
-is_own p = false
+abbrev pub is_sent_by_node : Packet → Bool
+is_sent_by_node (packets.Connack c) = true
+is_sent_by_node (packets.Disconnect d) = true
+is_sent_by_node p = false
 
 -- something is among others
 abbrev pub IsIn : {A : Type 0} → A → List A → Type 0
@@ -33,7 +33,7 @@ pub record SentBy (s : SessionStep) (connection : ℕ) (bytes : List ℕ) : Type
 -- the bytes of an own packet
 pub record IsOwnPacket (bytes : List ℕ) : Type 0 where
   pub packet : Packet
-  pub own : is_own packet ≡ true
+  pub own : is_sent_by_node packet ≡ true
   pub spelled : bytes ≡ written packet
 
 -- a call among acts does

@@ -1,5 +1,5 @@
 //! Subscriptions of a store in bytes.
-ghost use Rattle.std.specs.Prelude.{◌≡◌, ◌≢◌, ◌⊎◌, ◌+◌, ◌<◌, ◌≤◌, ◌^◌, ◌++◌, length, take, flat_map, vec_len, vec_capacity, OnOk, OnErr, IsErrOf};
+ghost use Rattle.std.specs.Prelude.{MatchOption, ◌≡◌, ◌≢◌, ◌⊎◌, ◌+◌, ◌<◌, ◌≤◌, ◌^◌, ◌++◌, length, take, flat_map, vec_len, vec_capacity, OnOk, OnErr, IsErrOf};
 ghost use Rattle.std.specs.List.{AllByRecursion};
 ghost use Rattle.mqtt_fields.specs.Reading.{Gives};
 ghost use Rattle.mqtt_message.specs.Spelling.{values_at};
@@ -74,6 +74,14 @@ fn append_entries(set: &SubscriptionSet, out: &mut Vec<u8>) -> Result<(), NoMemo
     Ok(())
 }
 
+/// How many entries there are, where four bytes can count them.
+fn count_of(set: &SubscriptionSet) -> Option<u32>
+    ensures { MatchOption result (length (standing set.now) < 2 ^ 32 → ⊥)
+        (λ count. count ≡ length (standing set.now)) }
+{
+    u32::try_from(set.entries().len()).ok()
+}
+
 /// Appends subscriptions, or their beginning where memory runs out or there are more than four bytes
 /// can count.
 #[tactic(auto, unfolding(crate::specs::Stores::subscriptions))]
@@ -87,7 +95,7 @@ pub(crate) fn append_subscriptions(set: &SubscriptionSet, out: &mut Vec<u8>) -> 
     ensures capacity { vec_capacity out.old ≤ vec_capacity out.new }
 {
     set.seen().write(out)?;
-    let Ok(count) = u32::try_from(set.entries().len()) else {
+    let Some(count) = count_of(set) else {
         return Err(NoMemory);
     };
     put_u32(count, out)?;

@@ -12,7 +12,7 @@ use Rattle.node_work.specs.Acts.{Act, MomentTaken, Began, Moved, Store, Connecti
 use Rattle.cluster_play.specs.Worlds.{World}
 use Rattle.cluster_play.specs.Runs.{Played}
 use Rattle.cluster_play.specs.Histories.{Reached, site, acts_of, ops_of, made, taken_amid}
-use Rattle.cluster_play.specs.NextOperations.{CoversWhatStands, CoversWhatStandsBelow, IsNext}
+use Rattle.cluster_play.specs.NextOperations.{CoversWhatStands, CoversWhatStandsBelow, IsNextOperation}
 use Rattle.cluster_play.proofs.Amid.{amid_acts}
 use Rattle.cluster_play.proofs.Catching.{operations_of_a_step}
 use Rattle.cluster_play.proofs.Operations.{among_some, IsFresh}
@@ -93,7 +93,7 @@ covers_made O client to cover covers d h = let there = (covers d).0 h in stood O
 covers_made_below : (O : List Operation) (client : List ℕ) (version : ℕ) (cover : Dots) → CoversWhatStandsBelow O client version cover → (d : Dot) → set.contains cover d ≡ true → IsDotOf O d
 covers_made_below O client version cover covers d h = let there = (covers d).0 h in stood O d there.0 there.1
 
-next_covers : (i version : ℕ) (O : List Operation) (o : Operation) → IsNext i version O o → (d : Dot) → set.contains (cover_of o) d ≡ true → IsDotOf O d
+next_covers : (i version : ℕ) (O : List Operation) (o : Operation) → IsNextOperation i version O o → (d : Dot) → set.contains (cover_of o) d ≡ true → IsDotOf O d
 next_covers i version O (Subscribe dot entry cover) n d h = covers_made O entry.client (Some entry.filter) cover n.1 d h
 next_covers i version O (Remove dot cover) n d h = elim n.1 [
   | inl x ↦ covers_made O x.0 x.1 cover x.2 d h

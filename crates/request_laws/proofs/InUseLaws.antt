@@ -19,7 +19,7 @@ use Rattle.node_work.specs.declared.granted.Granted.{Granted}
 use Rattle.node_work.specs.Acts.{Act, Store, Session, next}
 use Rattle.node_work.specs.Held.Sessions.{SessionStep, Called}
 use Rattle.node_work.specs.View.{Place, HeldView}
-use Rattle.node_clients.specs.Subscribing.{reasons_of}
+use Rattle.node_clients.specs.Subscribing.{granted_reasons}
 use Rattle.passing_laws.specs.Publishing.{AnswersWith}
 use Rattle.passing_laws.specs.Sending.{IsIn}
 use Rattle.passing_laws.proofs.Splits.{head_is, tail_is, runs_split}
@@ -50,10 +50,10 @@ told_apart p h client identifier f g acts (inl d) e = let z : ◌≡◌ {A = ℕ
 told_apart p h client identifier f g acts (inr (inl d)) e = let z : ◌≡◌ {A = ℕ} 151 145 = sym (ap (λ (x : Granted). x.reason) d.3) ∙ e in omega (arith, z)
 told_apart p h client identifier f g acts (inr (inr d)) e = below (qos_of f.options) (sym (ap (λ (x : Granted). x.reason) d.2) ∙ e) (granted_below f.options)
 
-filters_apart : (p : Place) (h : HeldView) (client : List ℕ) (identifier : ℕ) (fs : List SubscribeFilter) (gs : List Granted) (acts : List Act) → AreTold p h client identifier fs gs acts → IsIn 145 (reasons_of gs) → ⊥
-filters_apart p h client identifier [] gs acts d i = subst (λ zs. IsIn 145 (reasons_of zs)) d.0 i
+filters_apart : (p : Place) (h : HeldView) (client : List ℕ) (identifier : ℕ) (fs : List SubscribeFilter) (gs : List Granted) (acts : List Act) → AreTold p h client identifier fs gs acts → IsIn 145 (granted_reasons gs) → ⊥
+filters_apart p h client identifier [] gs acts d i = subst (λ zs. IsIn 145 (granted_reasons zs)) d.0 i
 filters_apart p h client identifier (f ∷ fs) gs acts (g, others, own, mid, rest, is, all, one, ran, more) i =
-    elim (subst (λ zs. IsIn 145 (reasons_of zs)) is i) [
+    elim (subst (λ zs. IsIn 145 (granted_reasons zs)) is i) [
       | inl e ↦ told_apart p h client identifier f g own one e
       | inr k ↦ filters_apart p mid client identifier fs others rest more k
     ]

@@ -17,7 +17,7 @@ use Rattle.replica_store.proofs.Views.{live_is}
 use Rattle.node_work.specs.Acts.{Act, Store, Made, Session, Runs}
 use Rattle.node_work.specs.Held.Sessions.{Called}
 use Rattle.node_work.specs.View.{HeldView}
-use Rattle.node_clients.specs.Subscribing.{entry_of, identifier_of}
+use Rattle.node_clients.specs.Subscribing.{subscription_entry, identifier_of}
 use Rattle.cluster_play.specs.Worlds.{World}
 use Rattle.cluster_play.specs.Runs.{Played, Run}
 use Rattle.cluster_play.specs.Agreement.{HoldsAmid}
@@ -82,7 +82,7 @@ module _ (run : List Played) (m : Played) (client : List ℕ) (identifier : ℕ)
   one_made : (first : List Act) (f : SubscribeFilter) (r : FilterReply) (acts : List Act) → IsAnswered first f r acts → AllByRecursion MakesOne acts
   one_made first f r acts (inl x) = subst (AllByRecursion MakesOne) (sym x.1.2) tt
   one_made first f r acts (inr (inl x)) = subst (AllByRecursion MakesOne) (sym x.2.2) tt
-  one_made first f r acts (inr (inr x)) = let own = x.2.2 in subst (AllByRecursion MakesOne) (sym own.3) ((own.0, entry_of client f identifier own.2, own.1, refl), tt)
+  one_made first f r acts (inr (inr x)) = let own = x.2.2 in subst (AllByRecursion MakesOne) (sym own.3) ((own.0, subscription_entry client f identifier own.2, own.1, refl), tt)
 
   all_ones : (first : List Act) (fs : List SubscribeFilter) (rs : List FilterReply) (acts : List Act) → AreFiltersAnswered run m first client identifier fs rs acts → AllByRecursion MakesOne acts
   all_ones first [] rs acts d = subst (AllByRecursion MakesOne) (sym d.1) tt
@@ -94,7 +94,7 @@ module _ (run : List Played) (m : Played) (client : List ℕ) (identifier : ℕ)
   other_made to first f r acts ne (inr (inl x)) = subst (AllByRecursion (MakesOther client to)) (sym x.2.2) tt
   other_made to first f r acts ne (inr (inr x)) =
       let own = x.2.2 in
-      let entry = entry_of client f identifier own.2 in
+      let entry = subscription_entry client f identifier own.2 in
       subst (AllByRecursion (MakesOther client to)) (sym own.3)
       ((λ d e c is whose filter. (let same : entry ≡ e = (let z : Store (Made (operations.Subscribe own.0 entry own.1)) ≡ Store (Made (operations.Subscribe d e c)) = is in cc) in ne (ap (λ (v : Entry). v.filter) same ∙ filter))), tt)
 
@@ -117,7 +117,7 @@ module _ (run : List Played) (m : Played) (client : List ℕ) (identifier : ℕ)
     cover : Dots
     version : ℕ
     rest : List Act
-    is : acts ≡ own ++ Store (Made (operations.Subscribe dot (entry_of client r.filter identifier version) cover)) ∷ rest
+    is : acts ≡ own ++ Store (Made (operations.Subscribe dot (subscription_entry client r.filter identifier version) cover)) ∷ rest
     none : NoneTo run (site m.fate) client r.filter.filter rest
 
   grants_first : (first : List Act) (f : SubscribeFilter) (r : FilterReply) (own rest acts : List Act) → r.filter ≡ f → acts ≡ own ++ rest → IsGrant r → IsAnswered first f r own
@@ -132,7 +132,7 @@ module _ (run : List Played) (m : Played) (client : List ℕ) (identifier : ℕ)
         cover = made.1;
         version = made.2;
         rest = rest;
-        is = parts ∙ ap (λ xs. xs ++ rest) made.3 ∙ ap (λ g. Store (Made (operations.Subscribe made.0 (entry_of client g identifier made.2) made.1)) ∷ rest) (sym of);
+        is = parts ∙ ap (λ xs. xs ++ rest) made.3 ∙ ap (λ g. Store (Made (operations.Subscribe made.0 (subscription_entry client g identifier made.2) made.1)) ∷ rest) (sym of);
         none = none;
       }
 
@@ -224,14 +224,14 @@ module _ (run later : List Played) (m : Played) (w : World) (r : Reached (run ++
   record Alone (client : List ℕ) (f : SubscribeFilter) (identifier : ℕ) : Type 0 where
     dot : Dot
     version : ℕ
-    alone : StandsAlone (operations_amid (site m.fate) run all_of_them) dot (entry_of client f identifier version)
+    alone : StandsAlone (operations_amid (site m.fate) run all_of_them) dot (subscription_entry client f identifier version)
 
   last_alone : (front back : List FilterReply) (x : FilterReply) → s.replies ≡ front ++ x ∷ back → IsGrant x → NoneEquals x back → Alone c.step.client x.filter (identifier_of a.subscribe)
   last_alone front back x is granted none =
       let client = c.step.client in
       let identifier = identifier_of a.subscribe in
       let g = grants_of run m client identifier first a.subscribe.filters s.replies s.acts s.answered front back x is granted none in
-      let entry = entry_of client x.filter identifier g.version in
+      let entry = subscription_entry client x.filter identifier g.version in
       let o = operations.Subscribe g.dot entry g.cover in
       let ones : AllByRecursion MakesOne s.acts = all_ones run m client identifier first a.subscribe.filters s.replies s.acts s.answered in
       let here = amid_them g.own (Store (Made o) ∷ g.rest) g.is in
@@ -254,7 +254,7 @@ module _ (run later : List Played) (m : Played) (w : World) (r : Reached (run ++
   one_subscription front back x is granted none =
       let t = last_alone front back x is granted none in
       let h = held_there in
-      let entry = entry_of c.step.client x.filter (identifier_of a.subscribe) t.version in
+      let entry = subscription_entry c.step.client x.filter (identifier_of a.subscribe) t.version in
       let O = operations_amid (site m.fate) run all_of_them in
       let own : HaveOwnDots O = own_some _ (λ o. taken_amid (site m.fate) run all_of_them (dot_of o)) (dots_before all_of_them [] at_answer) in
       record {

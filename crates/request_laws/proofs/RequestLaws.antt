@@ -26,10 +26,10 @@ use Rattle.session_laws.specs.Runs.{takes, answers}
 use Rattle.node_work.specs.declared.granted.Granted.{Granted}
 use Rattle.node_work.specs.Acts.{Act, Store, Made, Session, Does, Runs, next}
 use Rattle.node_work.specs.Held.Sessions.{Called}
-use Rattle.node_work.specs.Passing.{content_of}
+use Rattle.node_work.specs.Passing.{content_given}
 use Rattle.node_work.specs.View.{Place, HeldView}
 use Rattle.node_work.proofs.Working.{runs_join}
-use Rattle.node_clients.specs.Subscribing.{identifier_of, reasons_of}
+use Rattle.node_clients.specs.Subscribing.{identifier_of, granted_reasons}
 use Rattle.node_clients.proofs.Determined.{runs_determined}
 use Rattle.passing_laws.proofs.Passing.{accepted_is_passed_on}
 use Rattle.passing_laws.proofs.Splits.{runs_split}
@@ -106,10 +106,10 @@ replies_of (f ∷ fs) (g ∷ gs) = reply_of f g ∷ replies_of fs gs
 abbrev codes_in : List FilterReply → List ℕ
 codes_in replies = map_list (λ (r : FilterReply). r.code) replies
 
-codes_told : (p : Place) (h : HeldView) (client : List ℕ) (identifier : ℕ) (fs : List SubscribeFilter) (gs : List Granted) (acts : List Act) → AreTold p h client identifier fs gs acts → reasons_of gs ≡ codes_in (replies_of fs gs)
-codes_told p h client identifier [] gs acts d = ap reasons_of d.0
+codes_told : (p : Place) (h : HeldView) (client : List ℕ) (identifier : ℕ) (fs : List SubscribeFilter) (gs : List Granted) (acts : List Act) → AreTold p h client identifier fs gs acts → granted_reasons gs ≡ codes_in (replies_of fs gs)
+codes_told p h client identifier [] gs acts d = ap granted_reasons d.0
 codes_told p h client identifier (f ∷ fs) gs acts (g, others, own, mid, rest, is, all, one, ran, more) =
-    ap reasons_of is ∙ ap (λ cs. g.reason ∷ cs) (codes_told p mid client identifier fs others rest more) ∙ sym (ap (λ zs. codes_in (replies_of (f ∷ fs) zs)) is)
+    ap granted_reasons is ∙ ap (λ cs. g.reason ∷ cs) (codes_told p mid client identifier fs others rest more) ∙ sym (ap (λ zs. codes_in (replies_of (f ∷ fs) zs)) is)
 
 -- its acts are Subscribes
 ones_both : (xs ys : List Act) → AllByRecursion MakesOne xs → AllByRecursion MakesOne ys → AllByRecursion MakesOne (xs ++ ys)
@@ -277,14 +277,14 @@ module _ (run later : List Played) (m : Played) (w : World) (r : Reached (run ++
 
   -- ---- a message with RETAIN
   abbrev IsPutBy : Message → Bool → List Act → Type 0
-  IsPutBy x b puts = cond b ((dot : Dot) × (stamp : Stamp) × (puts ≡ Store (Made (operations.Put dot stamp (content_of x))) ∷ [])) (puts ≡ [])
+  IsPutBy x b puts = cond b ((dot : Dot) × (stamp : Stamp) × (puts ≡ Store (Made (operations.Put dot stamp (content_given x))) ∷ [])) (puts ≡ [])
 
   put_first : (x : Message) (puts rest : List Act) → c.after ≡ puts ++ rest → (b : Bool) → b ≡ true → IsPutBy x b puts
-      → (dot : Dot) × (stamp : Stamp) × (others : List Act) × (c.after ≡ Store (Made (operations.Put dot stamp (content_of x))) ∷ others)
+      → (dot : Dot) × (stamp : Stamp) × (others : List Act) × (c.after ≡ Store (Made (operations.Put dot stamp (content_given x))) ∷ others)
   put_first x puts rest is true e (dot, stamp, alone) = (dot, stamp, rest, is ∙ ap (λ zs. zs ++ rest) alone)
   put_first x puts rest is false e d = absurd (let z : false ≡ true = e in cc)
 
-  publishes : (x : Message) → AsksToRetain c.step x → (dot : Dot) × (stamp : Stamp) × (rest : List Act) × (c.after ≡ Store (Made (operations.Put dot stamp (content_of x))) ∷ rest)
+  publishes : (x : Message) → AsksToRetain c.step x → (dot : Dot) × (stamp : Stamp) × (rest : List Act) × (c.after ≡ Store (Made (operations.Put dot stamp (content_given x))) ∷ rest)
   publishes x s =
       let p = accepted_is_passed_on here.event place start here.finds.held (acts_of m.fate) here.decides before c.after c.step x c.acts here.finds.there.runs
       (record { publish = s.publish; now = s.now; room = s.room; event = s.event; asks = s.asks }) in

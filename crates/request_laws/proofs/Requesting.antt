@@ -122,7 +122,7 @@ pub record IsSubscribed (p : Place) (mid : HeldView) (s : SessionStep) (q : Subs
   pub grants : List Granted
   pub acts : List Act
   pub told : AreTold p mid s.client (subscribing.identifier_of q) q.filters grants acts
-  pub answered : IsAnswered s q.identifier (subscribing.reasons_of grants) acts after
+  pub answered : IsAnswered s q.identifier (subscribing.granted_reasons grants) acts after
 
 pub record IsUnsubscribed (p : Place) (mid : HeldView) (s : SessionStep) (u : Unsubscribe) (after : List Act) : Type 0 where
   pub codes : List ℕ
@@ -154,7 +154,7 @@ answered_later s id codes acts after ys d = record {
 }
 
 subscribed_later : (k : Packet) (p : Place) (mid : HeldView) (s : SessionStep) (after ys : List Act) → SubscribedBy p mid s k after → SubscribedBy p mid s k (after ++ ys)
-subscribed_later (packets.Subscribe q) p mid s after ys d = record { grants = d.grants; acts = d.acts; told = d.told; answered = answered_later s q.identifier (subscribing.reasons_of d.grants) d.acts after ys d.answered }
+subscribed_later (packets.Subscribe q) p mid s after ys d = record { grants = d.grants; acts = d.acts; told = d.told; answered = answered_later s q.identifier (subscribing.granted_reasons d.grants) d.acts after ys d.answered }
 subscribed_later _ p mid s after ys d = tt
 
 unsubscribed_later : (k : Packet) (p : Place) (mid : HeldView) (s : SessionStep) (after ys : List Act) → UnsubscribedBy p mid s k after → UnsubscribedBy p mid s k (after ++ ys)
@@ -238,8 +238,8 @@ module _ (p : Place) (mid : HeldView) (s : SessionStep) (c : ℕ) (client : List
         grants = all;
         acts = ops;
         told = subst (λ cl. AreTold p mid cl (subscribing.identifier_of q) q.filters all ops) (sym same) told;
-        answered = subst (IsAnswered s q.identifier (subscribing.reasons_of all) ops) (sym (is ∙ ap (λ zs. ops ++ zs) last))
-            (answer_at s client q.identifier (subscribing.reasons_of all) p mid2 (seat_at client mid2) has.0 r ops call rest same (seat_still mid2 ops stores runs) calls);
+        answered = subst (IsAnswered s q.identifier (subscribing.granted_reasons all) ops) (sym (is ∙ ap (λ zs. ops ++ zs) last))
+            (answer_at s client q.identifier (subscribing.granted_reasons all) p mid2 (seat_at client mid2) has.0 r ops call rest same (seat_still mid2 ops stores runs) calls);
       }
 
   unsubscribed : (u : Unsubscribe) (x : Unit {0}) (acts : List Act) → unsubscribing.ServesUnsubscribe c client u (Some x) p mid acts → IsUnsubscribed p mid s u acts
@@ -265,16 +265,16 @@ module _ (p : Place) (mid : HeldView) (s : SessionStep) (c : ℕ) (client : List
   unsubscribed_by (packets.Unsubscribe u) x acts d = unsubscribed u x acts d
   unsubscribed_by _ x acts d = tt
 
-  done_asked : (ask : Option Ask) (dropped : Bool) (k : Packet) (x : Unit {0}) (acts : List Act) → serving.DoesAsked ask dropped c client k (Some x) p mid acts → DoneBy ask p mid s k acts
-  done_asked None dropped k x acts d = tt
-  done_asked (Some (asks.Pass m)) dropped k x acts d = tt
-  done_asked (Some asks.Subscribe) dropped k x acts d = subscribed_by k x acts d
-  done_asked (Some asks.Unsubscribe) dropped k x acts d = unsubscribed_by k x acts d
+  done_asked : (ask : Option Ask) (k : Packet) (room : Bool) (end : Option ℕ) (x : Unit {0}) (acts : List Act) → serving.DoesAsked ask c client k room end (Some x) p mid acts → DoneBy ask p mid s k acts
+  done_asked None k room end x acts d = tt
+  done_asked (Some (asks.Pass m)) k room end x acts d = tt
+  done_asked (Some asks.Subscribe) k room end x acts d = subscribed_by k x acts d
+  done_asked (Some asks.Unsubscribe) k room end x acts d = unsubscribed_by k x acts d
 
   done_reaction : (k : Packet) (room : Bool) (r : Reaction) (x : Unit {0}) (acts : List Act) → serving.DoesReaction c client k room r (Some x) p mid acts → DoneBy r.ask p mid s k acts
   done_reaction k room r x acts (inl d) = none_some (sym d.0)
   done_reaction k room r x acts (inr (y, own, mid2, rest, one, runs, more, is)) =
-      subst (DoneBy r.ask p mid s k) (sym is) (done_later r.ask k p mid s own rest (done_asked r.ask (serving.is_dropped k room r.end) k y own one))
+      subst (DoneBy r.ask p mid s k) (sym is) (done_later r.ask k p mid s own rest (done_asked r.ask k room r.end y own one))
 
 serves_at : (c : ℕ) (client : List ℕ) (k : Packet) (room : Bool) (found : Option Seat) (r : Reaction) (x : Unit {0}) (p : Place) (h mid : HeldView) (own rest : List Act) → CallsAt client (λ at. takes k at room) stays found (Some r) p h own
     → Runs p h own mid → serving.DoesReaction c client k room r (Some x) p mid rest → Followed p h (own ++ rest)

@@ -9,7 +9,7 @@ use Rattle.replica_store.specs.declared.operation.Operation.{Operation}
 use Rattle.replica_store.specs.Operations.{Stands, IsLive}
 use Rattle.node_work.specs.Acts.{Act}
 use Rattle.node_work.specs.View.{HeldView}
-use Rattle.node_clients.specs.Subscribing.{entry_of, identifier_of}
+use Rattle.node_clients.specs.Subscribing.{subscription_entry, identifier_of}
 use Rattle.cluster_play.specs.Worlds.{World}
 use Rattle.cluster_play.specs.Agreement.{HoldsAmid}
 use Rattle.cluster_play.specs.Runs.{Played, Run}
@@ -29,13 +29,13 @@ pub record StandsAlone (O : List Operation) (dot : Dot) (entry : Entry) : Type 0
 pub record HasOneSubscription (run later : List Played) (m : Played) (w : World) (acts : List Act) (client : List ℕ) (f : SubscribeFilter) (identifier : ℕ) : Type 0 where
   pub dot : Dot
   pub version : ℕ
-  pub stands : StandsAlone (operations_amid (site m.fate) run acts) dot (entry_of client f identifier version)
+  pub stands : StandsAlone (operations_amid (site m.fate) run acts) dot (subscription_entry client f identifier version)
   pub world : World
   pub reached : Reached run world
   pub path : Run world (m ∷ later) w
   pub held : HeldView
   pub there : HoldsAmid world m (site m.fate) acts held
-  pub shows : find_entry dot (live held.store.subscriptions) ≡ Some (entry_of client f identifier version)
+  pub shows : find_entry dot (live held.store.subscriptions) ≡ Some (subscription_entry client f identifier version)
 
 -- a Reason Code from 128 on is that of a refusal (2.4)
 abbrev pub IsGrant : FilterReply → Type 0

@@ -17,7 +17,7 @@ use Rattle.session_laws.specs.Runs.{takes, answers}
 use Rattle.subscription_set.specs.declared.entry.Entry.{Entry}
 use Rattle.node_work.specs.Acts.{Act, Store, Made, Session}
 use Rattle.node_work.specs.Held.Sessions.{SessionStep, Called}
-use Rattle.node_work.specs.Passing.{content_of}
+use Rattle.node_work.specs.Passing.{content_given}
 use Rattle.node_clients.specs.Subscribing.{identifier_of}
 use Rattle.cluster_play.specs.Worlds.{World}
 use Rattle.cluster_play.specs.Runs.{Played}
@@ -130,7 +130,7 @@ abbrev pub PublishesHaveOperations : Type 0
 PublishesHaveOperations =
     (run later : List Played) (m : Played) (w : World) → Reached (run ++ m ∷ later) w
     → (before : List Act) (c : CallsSession m before) (x : Message) → AsksToRetain c.step x
-    → (dot : Dot) × (stamp : Stamp) × (rest : List Act) × (c.after ≡ Store (Made (operations.Put dot stamp (content_of x))) ∷ rest)
+    → (dot : Dot) × (stamp : Stamp) × (rest : List Act) × (c.after ≡ Store (Made (operations.Put dot stamp (content_given x))) ∷ rest)
 
 -- ---- each cause has its operation
 pub record CausesHaveOperations : Type 0 where

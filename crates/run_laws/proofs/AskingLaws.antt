@@ -20,7 +20,7 @@ use Rattle.node_work.specs.Held.Making.{removal}
 use Rattle.node_work.specs.Held.Sessions.{SessionStep, Called}
 use Rattle.node_work.specs.View.{Place, HeldView}
 use Rattle.node_work.proofs.Working.{runs_join}
-use Rattle.node_clients.specs.Subscribing.{entry_of, identifier_of}
+use Rattle.node_clients.specs.Subscribing.{subscription_entry, identifier_of}
 use Rattle.passing_laws.specs.Publishing.{AnswersWith}
 use Rattle.passing_laws.specs.Asking.{AreGranted, FiltersAreRemoved, AreInUse, TakesSubscribe, TakesUnsubscribe}
 use Rattle.passing_laws.proofs.Answering.{suback_tells, unsuback_tells}
@@ -76,7 +76,7 @@ module _ (run later : List Played) (m : Played) (w : World) (r : Reached (run ++
   subscribed client identifier (f ∷ fs) codes p h pre ops post all whole (code, others, own, mid, rest, is, parts, one, ran, more) =
       let next = subscribed client identifier fs others p mid (pre ++ own) rest post (all ∙ shifted pre own rest post ops parts) (whole ∙ moved pre own rest ops parts) more in
       elim one [
-        | inl d ↦ (code, others, is, inl (d.0, (_, _, h.homes.version, made_in pre ops rest post (subscribe_of p.id (entry_of client f identifier h.homes.version) h.store) all whole (parts ∙ ap (λ zs. zs ++ rest) d.1))), next)
+        | inl d ↦ (code, others, is, inl (d.0, (_, _, h.homes.version, made_in pre ops rest post (subscribe_of p.id (subscription_entry client f identifier h.homes.version) h.store) all whole (parts ∙ ap (λ zs. zs ++ rest) d.1))), next)
         | inr d ↦ (code, others, is, inr d.0, next)
       ]
 

@@ -23,7 +23,7 @@ use Rattle.broker_node.specs.Turns.{Decides}
 use Rattle.passing_laws.proofs.HandingLaws.{handed_is_queued}
 use Rattle.replica_store.specs.Operations.{dot_of}
 use Rattle.replica_store.proofs.Views.{live_is}
-use Rattle.cluster_play.specs.Worlds.{Site, World, Happens, numbered}
+use Rattle.cluster_play.specs.Worlds.{Site, World, Happens, nth_from_one}
 use Rattle.cluster_play.specs.Runs.{Played, IsHonestStep}
 use Rattle.cluster_play.specs.Histories.{Reached, site, acts_of, taken_amid, operations_amid, moves_amid}
 use Rattle.cluster_play.specs.Agreement.{HoldsAmid, AnswersByOperations}
@@ -65,13 +65,13 @@ module _ (run : List Played) (w : World) (r : Reached run w) where
   pub counts_taken : (i j : ℕ) (s : Site) (said : Lasting) → slice_get w.sites i ≡ Some s → AreLasting s.node.place s.rows said → (lane_of said.lanes j).took ≡ length (took i j run)
   counts_taken i j s said at are = (own_lane i j s said at are).taken
 
-  pub forward_frames : (number : ℕ) (sent : Frame) (f : BridgeFrame) (n : ℕ) (m : Forward) → numbered w.frames number ≡ Some sent → frame_in sent.bytes ≡ Some f → f.body ≡ bodies.Forward n m
+  pub forward_frames : (number : ℕ) (sent : Frame) (f : BridgeFrame) (n : ℕ) (m : Forward) → nth_from_one w.frames number ≡ Some sent → frame_in sent.bytes ≡ Some f → f.body ≡ bodies.Forward n m
       → IsNumbered (put f.from f.to run) n m
   forward_frames number sent f n m at read is =
       let k = number_is w.frames number sent at in
       subst (SaysOf (put f.from f.to run) (took f.from f.to run)) is ((lanes_explained run w r).frames k.0 sent f k.1 read)
 
-  pub got_frames : (number : ℕ) (sent : Frame) (f : BridgeFrame) (n : ℕ) → numbered w.frames number ≡ Some sent → frame_in sent.bytes ≡ Some f → f.body ≡ bodies.Got n → n ≤ length (took f.from f.to run)
+  pub got_frames : (number : ℕ) (sent : Frame) (f : BridgeFrame) (n : ℕ) → nth_from_one w.frames number ≡ Some sent → frame_in sent.bytes ≡ Some f → f.body ≡ bodies.Got n → n ≤ length (took f.from f.to run)
   got_frames number sent f n at read is =
       let k = number_is w.frames number sent at in
       subst (SaysOf (put f.from f.to run) (took f.from f.to run)) is ((lanes_explained run w r).frames k.0 sent f k.1 read)

@@ -18,7 +18,7 @@ use Rattle.broker_node.specs.declared.event.EventKind.TheVariants as kinds
 use Rattle.broker_node.specs.Step.{IsHeard, IsHeardIn, IsHeardOf}
 use Rattle.node_work.specs.declared.frame.Frame.{Frame}
 use Rattle.node_work.specs.Acts.{Act, Bridge, Runs, gather, heard_in}
-use Rattle.node_work.specs.Frames.{is_for, names_nodes}
+use Rattle.node_work.specs.Frames.{is_for_node, names_nodes}
 use Rattle.node_work.specs.Held.Bridge.{BridgeAct, Gave}
 use Rattle.home_table.specs.Table.{Table}
 use Rattle.node_work.specs.View.{Place, HeldView, NodeView, fresh, nodes_of}
@@ -108,7 +108,7 @@ module _ (put took : Histories) (i : ℕ) where
   all_of from (bodies.Forward number m) bs s (inr h) = subst All (sym h.2) (s, tt)
   all_of from (bodies.Got number) bs s h = subst All (sym h) (s, tt)
 
-  all_for : (p : Place) (f : BridgeFrame) (bs : List BridgeAct) (b : Bool) → p.id ≡ i → is_for p f ≡ b → SaysOf (put f.from f.to) (took f.from f.to) f.body → cond b (IsHeardOf f.from f.body bs) (bs ≡ []) → All bs
+  all_for : (p : Place) (f : BridgeFrame) (bs : List BridgeAct) (b : Bool) → p.id ≡ i → is_for_node p f ≡ b → SaysOf (put f.from f.to) (took f.from f.to) f.body → cond b (IsHeardOf f.from f.body bs) (bs ≡ []) → All bs
   all_for p f bs true own e s h =
       let named = and_true (nat_eq f.to p.id && not (nat_eq f.from p.id) && nat_lt f.from (nodes_of p)) (names_nodes (nodes_of p) f.body) e in
       let to : f.to ≡ i = nat_is f.to p.id (and_true (nat_eq f.to p.id) (not (nat_eq f.from p.id)) (and_true (nat_eq f.to p.id && not (nat_eq f.from p.id)) (nat_lt f.from (nodes_of p)) named.0).0).0 ∙ own in
@@ -118,7 +118,7 @@ module _ (put took : Histories) (i : ℕ) where
   module _ (sent : List Frame) (says : (n : ℕ) (g : Frame) (f : BridgeFrame) → slice_get sent n ≡ Some g → frame_in g.bytes ≡ Some f → SaysOf (put f.from f.to) (took f.from f.to) f.body) (p : Place) (own : p.id ≡ i) where
     all_in : (bytes : List ℕ) (bs : List BridgeAct) (n : ℕ) (g : Frame) (o : Option BridgeFrame) → slice_get sent n ≡ Some g → bytes ≡ g.bytes → frame_in bytes ≡ o → IsHeardIn p o bs → All bs
     all_in bytes bs n g None at is e h = all_none bs h
-    all_in bytes bs n g (Some f) at is e h = all_for p f bs (is_for p f) own refl (says n g f at (ap frame_in (sym is) ∙ e)) h
+    all_in bytes bs n g (Some f) at is e h = all_for p f bs (is_for_node p f) own refl (says n g f at (ap frame_in (sym is) ∙ e)) h
 
     all_heard : (k : EventKind) (bs : List BridgeAct) → IsKnown sent k → IsHeard p k bs → All bs
     all_heard kinds.Started bs known h = all_none bs h

@@ -23,7 +23,7 @@ use Rattle.node_laws.specs.Lives.{life, step_in, lost_step}
 use Rattle.node_laws.proofs.LifeLaws.{run_more}
 use Rattle.node_work.specs.Acts.{Act, Store, Session, Made}
 use Rattle.node_work.specs.Held.Sessions.{Called, HappensAt}
-use Rattle.node_work.specs.Passing.{content_of}
+use Rattle.node_work.specs.Passing.{content_given}
 use Rattle.passing_laws.specs.Publishing.{AnswersWith, Publishes, BeginsWithPassingOn, message_at}
 use Rattle.passing_laws.proofs.Acks.{puback_tells, pubrec_tells, alone, asks_pass}
 use Rattle.passing_laws.proofs.Passing.{accepted_is_passed_on}
@@ -32,7 +32,7 @@ use Rattle.cluster_play.specs.Runs.{Played}
 use Rattle.cluster_play.specs.Histories.{Reached, site, acts_of, moves_amid}
 use Rattle.cluster_play.proofs.Lives.{sessions_are_runs_amid}
 use Rattle.run_laws.specs.Staying.{CallsSession}
-use Rattle.run_laws.specs.Publishing.{TakesPublish, PutStays, IsPassedOn, WasPassedOn, StaysOpen, connected_over, PubackStaysTrue, PubrecStaysTrue, events_before, filled, message_in}
+use Rattle.run_laws.specs.Publishing.{TakesPublish, PutStays, IsPassedOn, WasPassedOn, StaysOpen, connected_over, PubackStaysTrue, PubrecStaysTrue, events_before, with_topic_told, message_after}
 use Rattle.run_laws.proofs.Opening.{OpenedIn, last_once, open_over, opened_at, opened_in}
 use Rattle.run_laws.proofs.Staying.{CalledAt, Finds, called_at, stays_made}
 
@@ -47,13 +47,13 @@ passed_on run later m w r before c x f passes = record {
   put = λ t. put_by x.retain passes.put t;
 }
   where
-    put_by : (b : Bool) → cond b ((dot : Dot) × (stamp : Stamp) × (passes.puts ≡ Store (Made (Put dot stamp (content_of x))) ∷ [])) (passes.puts ≡ []) → b ≡ true → PutStays run later m w before c x
+    put_by : (b : Bool) → cond b ((dot : Dot) × (stamp : Stamp) × (passes.puts ≡ Store (Made (Put dot stamp (content_given x))) ∷ [])) (passes.puts ≡ []) → b ≡ true → PutStays run later m w before c x
     put_by true d t =
         let call = Session (Called c.step) in
-        let a = Store (Made (Put d.0 d.1 (content_of x))) in
+        let a = Store (Made (Put d.0 d.1 (content_given x))) in
         let acts : acts_of m.fate ≡ (before ++ call ∷ []) ++ a ∷ passes.rest =
         c.acts ∙ ap (λ zs. before ++ call ∷ zs) (passes.is ∙ ap (λ zs. zs ++ passes.rest) d.2) ∙ sym (append_assoc before (call ∷ []) (a ∷ passes.rest)) in
-        record { dot = d.0; stamp = d.1; made = stays_made run later m w r (before ++ call ∷ []) passes.rest (Put d.0 d.1 (content_of x)) acts; follows = refl }
+        record { dot = d.0; stamp = d.1; made = stays_made run later m w r (before ++ call ∷ []) passes.rest (Put d.0 d.1 (content_given x)) acts; follows = refl }
     put_by false d t = absurd (let z : false ≡ true = t in cc)
 
 module _ (run later : List Played) (m : Played) (w : World) (r : Reached (run ++ m ∷ later) w) (before : List Act) (c : CallsSession m before) where
@@ -76,22 +76,22 @@ module _ (run later : List Played) (m : Played) (w : World) (r : Reached (run ++
 
   -- by what they told the PUBLISH has its topic
   under : {qos : Qos} {id : ℕ} (p : Publishes qos id c.step.event) → c.step.reaction.ask ≡ Some (Pass (message_at here.finds.seat.session p)) → (o : Option Link) → here.finds.seat.session.link ≡ o
-      → aliases.filled (aliases_of here.finds.seat.session.link) p.publish ≡ filled (topics_told steps) p.publish
+      → aliases.filled (aliases_of here.finds.seat.session.link) p.publish ≡ with_topic_told (topics_told steps) p.publish
   under p asks None e =
       let reacts = subst (λ e. Reacts here.finds.seat.session e c.step.reaction c.step.after) p.event here.reacts in
       let none = keeps_unheard here.finds.seat.session c.step.after (packets.Publish p.publish) p.now p.room c.step.reaction e reacts in
       absurd (let z : None ≡ Some (Pass (message_at here.finds.seat.session p)) = sym (ap (λ (v : Reaction). v.ask) none.0) ∙ asks in cc)
   under p asks (Some l) e = ap (λ (t : Option (List ℕ)). record p.publish { topic = unwrap_or t [] }) (told-under c.step.client steps here.finds.seat.session l p.publish runs e)
 
-  accepted : (qos : Qos) (id : ℕ) (p : Publishes qos id c.step.event) → c.step.reaction.ask ≡ Some (Pass (message_at here.finds.seat.session p)) → IsPassedOn run later m w before c (message_in steps (takes_it qos id p))
+  accepted : (qos : Qos) (id : ℕ) (p : Publishes qos id c.step.event) → c.step.reaction.ask ≡ Some (Pass (message_at here.finds.seat.session p)) → IsPassedOn run later m w before c (message_after steps (takes_it qos id p))
   accepted qos id p asks =
-      let x = message_in steps (takes_it qos id p) in
+      let x = message_after steps (takes_it qos id p) in
       let same : message_at here.finds.seat.session p ≡ x = λ i. message_of (under p asks here.finds.seat.session.link refl i) (here.client i) (at_moment p i) in
       passed_on run later m w r before c x here.finds
       (accepted_is_passed_on here.event here.finds.there.holds.site.node.place here.finds.there.held here.finds.held (acts_of m.fate) here.decides before c.after c.step x c.acts here.finds.there.runs
       (record { publish = p.publish; now = p.now; room = p.room; event = p.event; asks = asks ∙ ap (λ y. Some (Pass y)) same }))
 
-  pub once : (id : ℕ) → AnswersWith (puback id 0) c.step.reaction.packets → (t : TakesPublish AtLeastOnce id c.step) × IsPassedOn run later m w before c (message_in steps t)
+  pub once : (id : ℕ) → AnswersWith (puback id 0) c.step.reaction.packets → (t : TakesPublish AtLeastOnce id c.step) × IsPassedOn run later m w before c (message_after steps t)
   once id g =
       let t = puback_tells here.finds.seat.session c.step.after c.step.event c.step.reaction id here.reacts g in
       (takes_it AtLeastOnce id t.0, accepted AtLeastOnce id t.0 t.1)
@@ -139,7 +139,7 @@ opened_by run later m w r before c id o =
     }
 
 twice : (run later : List Played) (m : Played) (w : World) (r : Reached (run ++ m ∷ later) w) (before : List Act) (c : CallsSession m before) (id : ℕ) → AnswersWith (pubrec id 0) c.step.reaction.packets
-    → (t : TakesPublish ExactlyOnce id c.step) × (IsPassedOn run later m w before c (message_in (events_before run m before c) t) ⊎ WasPassedOn run later m w before c id)
+    → (t : TakesPublish ExactlyOnce id c.step) × (IsPassedOn run later m w before c (message_after (events_before run m before c) t) ⊎ WasPassedOn run later m w before c id)
 twice run later m w r before c id g =
     let here = called_at run later m w r before c in
     let old = here.finds.seat.session in
@@ -159,7 +159,7 @@ twice run later m w r before c id g =
         → Reacts (called_at run later m w r before c).finds.seat.session (takes (packets.Publish p.publish) p.now p.room) c.step.reaction c.step.after
         → PassesOnce (open_over false id false (life c.step.client (moves_amid (site m.fate) run before) [])) id c.step.reaction
         → (b : Bool) → open_over false id false (life c.step.client (moves_amid (site m.fate) run before) []) ≡ b
-        → IsPassedOn run later m w before c (message_in (events_before run m before c) (takes_it run later m w r before c ExactlyOnce id p)) ⊎ WasPassedOn run later m w before c id
+        → IsPassedOn run later m w before c (message_after (events_before run m before c) (takes_it run later m w r before c ExactlyOnce id p)) ⊎ WasPassedOn run later m w before c id
     by p reacts passes true e = inr (opened_by run later m w r before c id (opened_in id (life c.step.client (moves_amid (site m.fate) run before) []) e))
     by p reacts passes false e =
         let old = (called_at run later m w r before c).finds.seat.session in

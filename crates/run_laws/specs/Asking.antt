@@ -16,7 +16,7 @@ use Rattle.subscription_set.specs.declared.entry.Entry.{Entry}
 use Rattle.subscription_set.specs.Entries.{is_of}
 use Rattle.node_work.specs.Acts.{Act, Store, Session, Made}
 use Rattle.node_work.specs.Held.Sessions.{SessionStep, Called}
-use Rattle.node_clients.specs.Subscribing.{entry_of, identifier_of}
+use Rattle.node_clients.specs.Subscribing.{subscription_entry, identifier_of}
 use Rattle.passing_laws.specs.Publishing.{AnswersWith}
 use Rattle.passing_laws.specs.Asking.{AreInUse}
 use Rattle.cluster_play.specs.Worlds.{World}
@@ -34,7 +34,7 @@ pub record IsMadeIn (run later : List Played) (m : Played) (w : World) (acts : L
 -- ---- a SUBSCRIBE
 -- the client is subscribed to the filter, with its options and the identifier, under the version of the table of homes that its node held (MakesNext)
 abbrev pub IsSubscribed : List Played → List Played → Played → World → List Act → List ℕ → ℕ → SubscribeFilter → Type 0
-IsSubscribed run later m w acts client identifier f = (dot : Dot) × (cover : Dots) × (version : ℕ) × IsMadeIn run later m w acts (operations.Subscribe dot (entry_of client f identifier version) cover)
+IsSubscribed run later m w acts client identifier f = (dot : Dot) × (cover : Dots) × (version : ℕ) × IsMadeIn run later m w acts (operations.Subscribe dot (subscription_entry client f identifier version) cover)
 
 -- each filter has a code: its QoS, where the client is subscribed to it, or Topic Filter invalid or Quota exceeded
 abbrev pub AreSubscribed : List Played → List Played → Played → World → List Act → List ℕ → ℕ → List SubscribeFilter → List ℕ → Type 0

@@ -18,7 +18,7 @@ use Rattle.subscription_set.specs.declared.entry.Entry.{Entry}
 use Rattle.subscription_set.specs.Standing.{find_entry, live}
 use Rattle.causal_context.specs.Dots.{Dot}
 use Rattle.passing_laws.specs.Handing.{JoinAtOnce}
-use Rattle.cluster_play.specs.Worlds.{Site, World, numbered}
+use Rattle.cluster_play.specs.Worlds.{Site, World, nth_from_one}
 use Rattle.cluster_play.specs.Runs.{Played}
 use Rattle.cluster_play.specs.Histories.{Reached, site, acts_of, operations_amid, moment_amid}
 use Rattle.cluster_play.specs.Agreement.{HoldsAmid}
@@ -44,14 +44,14 @@ CountsWhatItTook =
 abbrev pub ForwardFrames : Type 0
 ForwardFrames =
     (run : List Played) (w : World) → Reached run w
-    → (number : ℕ) (sent : Frame) (f : BridgeFrame) (n : ℕ) (m : Forward) → numbered w.frames number ≡ Some sent → frame_in sent.bytes ≡ Some f → f.body ≡ bodies.Forward n m
+    → (number : ℕ) (sent : Frame) (f : BridgeFrame) (n : ℕ) (m : Forward) → nth_from_one w.frames number ≡ Some sent → frame_in sent.bytes ≡ Some f → f.body ≡ bodies.Forward n m
     → IsNumbered (put f.from f.to run) n m
 
 -- at least as many messages were taken as a Got frame says
 abbrev pub GotFrames : Type 0
 GotFrames =
     (run : List Played) (w : World) → Reached run w
-    → (number : ℕ) (sent : Frame) (f : BridgeFrame) (n : ℕ) → numbered w.frames number ≡ Some sent → frame_in sent.bytes ≡ Some f → f.body ≡ bodies.Got n
+    → (number : ℕ) (sent : Frame) (f : BridgeFrame) (n : ℕ) → nth_from_one w.frames number ≡ Some sent → frame_in sent.bytes ≡ Some f → f.body ≡ bodies.Got n
     → n ≤ length (took f.from f.to run)
 
 -- what was put in and taken stays so

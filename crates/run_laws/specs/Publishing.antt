@@ -17,7 +17,7 @@ use Rattle.session_laws.specs.Runs.{Step, connected_after, takes}
 use Rattle.node_laws.specs.Lives.{life, step_in}
 use Rattle.node_work.specs.Acts.{Act, Session}
 use Rattle.node_work.specs.Held.Sessions.{SessionStep, Called}
-use Rattle.node_work.specs.Passing.{content_of}
+use Rattle.node_work.specs.Passing.{content_given}
 use Rattle.node_work.specs.View.{HeldView}
 use Rattle.passing_laws.specs.Publishing.{AnswersWith, BeginsWithPassingOn}
 use Rattle.cluster_play.specs.Worlds.{World}
@@ -35,12 +35,12 @@ pub record TakesPublish (qos : Qos) (id : ℕ) (s : SessionStep) : Type 0 where
   pub identifier : publish.identifier ≡ id
 
 -- the PUBLISH, where its topic is empty under the one that its alias stands for
-abbrev pub filled : Topics → Publish → Publish
-filled told p = record p { topic = unwrap_or (topic_under told p.topic (first_two 35 p.properties)) [] }
+abbrev pub with_topic_told : Topics → Publish → Publish
+with_topic_told told p = record p { topic = unwrap_or (topic_under told p.topic (first_two 35 p.properties)) [] }
 
 -- the message of the PUBLISH, by its client at that moment, after these events of the client's session
-abbrev pub message_in : {qos : Qos} {id : ℕ} {s : SessionStep} → List Step → TakesPublish qos id s → Message
-message_in {s = s} steps t = accepted (filled (topics_told steps) t.publish) s.client s.at
+abbrev pub message_after : {qos : Qos} {id : ℕ} {s : SessionStep} → List Step → TakesPublish qos id s → Message
+message_after {s = s} steps t = accepted (with_topic_told (topics_told steps) t.publish) s.client s.at
 
 -- the events of the client's session since it last began, before a call of it
 abbrev pub events_before : (run : List Played) (m : Played) (before : List Act) → CallsSession m before → List Step
@@ -50,7 +50,7 @@ events_before run m before c = life c.step.client (moves_amid (site m.fate) run 
 pub record PutStays (run later : List Played) (m : Played) (w : World) (before : List Act) (c : CallsSession m before) (x : Message) : Type 0 where
   pub dot : Dot
   pub stamp : Stamp
-  pub made : StaysMade run later m w (Put dot stamp (content_of x))
+  pub made : StaysMade run later m w (Put dot stamp (content_given x))
   pub follows : made.first ≡ before ++ Session (Called c.step) ∷ []
 
 -- a message is passed on directly after the call: with RETAIN its Put stays, and unless its deadline has passed its copies join their
@@ -68,7 +68,7 @@ abbrev pub PubackStaysTrue : Type 0
 PubackStaysTrue =
     (run later : List Played) (m : Played) (w : World) → Reached (run ++ m ∷ later) w
     → (before : List Act) (c : CallsSession m before) (id : ℕ) → AnswersWith (puback id 0) c.step.reaction.packets
-    → (t : TakesPublish AtLeastOnce id c.step) × IsPassedOn run later m w before c (message_in (events_before run m before c) t)
+    → (t : TakesPublish AtLeastOnce id c.step) × IsPassedOn run later m w before c (message_after (events_before run m before c) t)
 
 -- ---- an exchange that is open
 
@@ -94,7 +94,7 @@ pub record WasPassedOn (run later : List Played) (m : Played) (w : World) (befor
   pub call : CallsSession opening earlier
   pub same : call.step.client ≡ c.step.client
   pub publish : TakesPublish ExactlyOnce id call.step
-  pub passed : IsPassedOn first last opening w earlier call (message_in (events_before first opening earlier call) publish)
+  pub passed : IsPassedOn first last opening w earlier call (message_after (events_before first opening earlier call) publish)
   pub past : List Step
   pub since : List Step
   pub calls : events_before run m before c ≡ past ++ step_in call.step ∷ since
@@ -107,4 +107,4 @@ PubrecStaysTrue =
     (run later : List Played) (m : Played) (w : World) → Reached (run ++ m ∷ later) w
     → (before : List Act) (c : CallsSession m before) (id : ℕ) → AnswersWith (pubrec id 0) c.step.reaction.packets
     → (t : TakesPublish ExactlyOnce id c.step)
-    × (IsPassedOn run later m w before c (message_in (events_before run m before c) t) ⊎ WasPassedOn run later m w before c id)
+    × (IsPassedOn run later m w before c (message_after (events_before run m before c) t) ⊎ WasPassedOn run later m w before c id)

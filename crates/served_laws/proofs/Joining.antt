@@ -1,8 +1,8 @@
 -- One run of a node after another.
 use Rattle.std.proofs.Common.{◌≡◌, ℕ, List, [], ◌∷◌, ◌++◌, Some, refl, sym, ap, subst, ◌∙◌, append_assoc}
 use Rattle.std.proofs.lemmas.List.{append-nil}
-use Rattle.cluster_play.specs.Runs.{IsHonest, Played, Run, released}
-use Rattle.cluster_play.specs.Worlds.{Site, World, changed, frames_in}
+use Rattle.cluster_play.specs.Runs.{IsHonest, Played, Run, frames_released}
+use Rattle.cluster_play.specs.Worlds.{Site, World, world_with, frames_in}
 use Rattle.cluster_play.proofs.Paths.{run_join}
 use Rattle.node_batches.specs.declared.batch.BatchKeeper.{BatchKeeper}
 use Rattle.node_batches.specs.Batches.{Answered}
@@ -40,25 +40,25 @@ honest_over i sent [] [] ns r h k = subst (λ fs. IsHonest fs ns) (append-nil se
 honest_over i sent [] (m ∷ ms) ns r h k = absurd r
 honest_over i sent (a ∷ xs) [] ns r h k = absurd r
 honest_over i sent (a ∷ xs) (m ∷ ms) ns r h k =
-    let gave = ap released r.1.1 in
-    let next = sent ++ released m.fate in
+    let gave = ap frames_released r.1.1 in
+    let next = sent ++ frames_released m.fate in
     let same : (sent ++ frames_of (a ∷ xs)) ≡ next ++ frames_of xs = sym (append_assoc sent (frames_in a.1) (frames_of xs)) ∙ ap (λ fs. (sent ++ fs) ++ frames_of xs) (sym gave) in
     (h.0, honest_over i next xs ms ns r.2 h.1 (subst (λ fs. IsHonest fs ns) same k))
 
-pub run_over : (w : World) (i : ℕ) (s t : Site) (xs ys : List Answered) → IsRunOf w i xs s → IsRunOf (changed w i s (frames_of xs)) i ys t → IsRunOf w i (xs ++ ys) t
+pub run_over : (w : World) (i : ℕ) (s t : Site) (xs ys : List Answered) → IsRunOf w i xs s → IsRunOf (world_with w i s (frames_of xs)) i ys t → IsRunOf w i (xs ++ ys) t
 run_over w i s t xs ys r q =
-    let mid = changed w i s (frames_of xs) in
+    let mid = world_with w i s (frames_of xs) in
     let Led : World → Type 0 = λ v. Run w (r.run ++ q.run) v in
-    let end : changed mid i t (frames_of ys) ≡ changed w i t (frames_of (xs ++ ys)) = changed_twice w i s t (frames_of xs) (frames_of ys) ∙ ap (λ fs. changed w i t fs) (sym (frames-append xs ys)) in
+    let end : world_with mid i t (frames_of ys) ≡ world_with w i t (frames_of (xs ++ ys)) = changed_twice w i s t (frames_of xs) (frames_of ys) ∙ ap (λ fs. world_with w i t fs) (sym (frames-append xs ys)) in
     record {
       run = r.run ++ q.run;
       released = released_join i xs ys r.run q.run r.released q.released;
-      leads = subst Led end (run_join r.run q.run w mid (changed mid i t (frames_of ys)) r.leads q.leads);
+      leads = subst Led end (run_join r.run q.run w mid (world_with mid i t (frames_of ys)) r.leads q.leads);
       honest = λ known.
           honest_over i w.frames xs r.run q.run r.released (r.honest (known_left w.frames xs ys known))
           (q.honest (all_later w.frames (frames_of xs) ys (known_right w.frames xs ys known)));
     }
 
 -- the world after both
-pub changed_over : (w : World) (i : ℕ) (s t : Site) (xs ys : List Answered) → changed (changed w i s (frames_of xs)) i t (frames_of ys) ≡ changed w i t (frames_of (xs ++ ys))
-changed_over w i s t xs ys = changed_twice w i s t (frames_of xs) (frames_of ys) ∙ ap (λ fs. changed w i t fs) (sym (frames-append xs ys))
+pub changed_over : (w : World) (i : ℕ) (s t : Site) (xs ys : List Answered) → world_with (world_with w i s (frames_of xs)) i t (frames_of ys) ≡ world_with w i t (frames_of (xs ++ ys))
+changed_over w i s t xs ys = changed_twice w i s t (frames_of xs) (frames_of ys) ∙ ap (λ fs. world_with w i t fs) (sym (frames-append xs ys))

@@ -7,7 +7,7 @@ use Rattle.broker_node.specs.declared.event.EventKind.{EventKind}
 use Rattle.broker_node.specs.declared.event.EventKind.TheVariants as kinds
 use Rattle.cluster_play.specs.declared.step.Step.TheVariants as steps
 use Rattle.cluster_play.specs.Runs.{IsHonest, IsKnown, Played, Run}
-use Rattle.cluster_play.specs.Worlds.{Happens, Released, Site, World, changed, frames_in}
+use Rattle.cluster_play.specs.Worlds.{Happens, Released, Site, World, world_with, frames_in}
 use Rattle.cluster_play.proofs.Paths.{run_join}
 use Rattle.cluster_play.proofs.Sites.{get-set_same, set_own}
 use Rattle.node_batches.specs.Batches.{Answered, AreHandled, IsHandled}
@@ -23,13 +23,13 @@ set-twice [] i x y = refl
 set-twice (z ∷ xs) zero x y = refl
 set-twice (z ∷ xs) (suc i) x y = ap (λ ys. z ∷ ys) (set-twice xs i x y)
 
-pub changed_twice : (w : World) (i : ℕ) (s t : Site) (fs gs : List Frame) → changed (changed w i s fs) i t gs ≡ changed w i t (fs ++ gs)
+pub changed_twice : (w : World) (i : ℕ) (s t : Site) (fs gs : List Frame) → world_with (world_with w i s fs) i t gs ≡ world_with w i t (fs ++ gs)
 changed_twice w i s t fs gs =
     let sites = set-twice w.sites i s t in
     let frames = append_assoc w.frames fs gs in
     λ j. record { sites = sites j; frames = frames j }
 
-unchanged : (w : World) (i : ℕ) (s : Site) → slice_get w.sites i ≡ Some s → changed w i s [] ≡ w
+unchanged : (w : World) (i : ℕ) (s : Site) → slice_get w.sites i ≡ Some s → world_with w i s [] ≡ w
 unchanged w i s at =
     let sites = set_own w.sites i s at in
     let frames = append-nil w.frames in
@@ -74,7 +74,7 @@ turn_is_run w i s (a ∷ more) n rows at handled =
     let between = handled.1 in
     let first = handled.2 in
     let mid : Site = record { node = m; rows = between } in
-    let next = changed w i mid (frames_in a.1) in
+    let next = world_with w i mid (frames_in a.1) in
     let later = turn_is_run next i mid more n rows (get-set_same w.sites i mid s at) handled.3 in
     let end : Site = record { node = n; rows = rows } in
     let Led : World → Type 0 = λ v. Run next later.run v in
@@ -97,7 +97,7 @@ runs_on n n' rows rows' [] h up same = (h, ap (λ (m : NodeView). m.up) same.0 �
 runs_on n n' rows rows' (a ∷ more) h up handled = runs_on handled.0 n' handled.1 rows' more handled.2.commits.done.after handled.2.commits.done.is handled.3
 
 cut : (w : World) (i : ℕ) (s : Site) (h : HeldView) → slice_get w.sites i ≡ Some s → s.node.up ≡ Some h → CutBefore w i (down s.node s.rows)
-cut w i s h at up = (changed w i (down s.node s.rows) [], (s, at, tt, (refl, (h, up), refl)), refl)
+cut w i s h at up = (world_with w i (down s.node s.rows) [], (s, at, tt, (refl, (h, up), refl)), refl)
 
 honest_end : (sent : List Frame) (i : ℕ) (run : List Played) → IsHonest sent run → IsHonest sent (run ++ crash_at i ∷ [])
 honest_end sent i [] h = (tt, tt)
@@ -108,17 +108,17 @@ cut_after : (w : World) (i : ℕ) (s : Site) (h : HeldView) (answered : List Ans
 cut_after w i s h answered n rows at up handled =
     let turn = turn_is_run w i s answered n rows at handled in
     let end : Site = record { node = n; rows = rows } in
-    let led = changed w i end (frames_of answered) in
+    let led = world_with w i end (frames_of answered) in
     let on = runs_on s.node n s.rows rows answered h up handled in
     let last = cut led i end on.0 (get-set_same w.sites i end s at) on.1 in
     let gone = down n rows in
     let Led : World → Type 0 = λ v. Run w (turn.run ++ crash_at i ∷ []) v in
-    let twice : changed led i gone [] ≡ changed w i gone (frames_of answered) =
-    changed_twice w i end gone (frames_of answered) [] ∙ ap (λ fs. changed w i gone fs) (append-nil (frames_of answered)) in
+    let twice : world_with led i gone [] ≡ world_with w i gone (frames_of answered) =
+    changed_twice w i end gone (frames_of answered) [] ∙ ap (λ fs. world_with w i gone fs) (append-nil (frames_of answered)) in
     record {
       run = turn.run;
       released = turn.released;
-      leads = subst Led twice (run_join turn.run (crash_at i ∷ []) w led (changed led i gone []) turn.leads last);
+      leads = subst Led twice (run_join turn.run (crash_at i ∷ []) w led (world_with led i gone []) turn.leads last);
       honest = λ known. honest_end w.frames i turn.run (turn.honest known);
     }
 

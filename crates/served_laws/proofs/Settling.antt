@@ -11,7 +11,7 @@ use Rattle.node_work.specs.View.{NodeView}
 use Rattle.row_store.specs.declared.row.Change.{Change}
 use Rattle.row_store.specs.Rows.{Content, after_all}
 use Rattle.served_laws.proofs.Running.{crash_is_run, runs_on, turn_is_run}
-use Rattle.served_laws.specs.Settling.{EventsAreTaken, TurnBegins, CrashAfterCommit, CrashAmidCommit, CrashBeforeCommit, CrashWhereHalted, SettledIsRun, site_of}
+use Rattle.served_laws.specs.Settling.{EventsAreTaken, TurnBegins, CrashAfterCommit, CrashAmidCommit, CrashBeforeCommit, CrashWhereHalted, SettledIsRun, served_site}
 use Rattle.served_laws.specs.Turns.{CutAfter, CutBefore, IsRunOf, down}
 
 -- ---- what is taken
@@ -42,13 +42,13 @@ module _ {R : Type 0} (is_clean is_open : R → Type 0) (content : R → Content
   settled_is_run w i k k' k'' answered b taken commit clean =
       let stands = still_open w i k k' answered b taken in
       let written = commit.written clean stands in
-      let run = turn_is_run w i (site_of content k) answered (node_in k') (committed content k') b.at (taken_handled w i k k' answered b taken) in
+      let run = turn_is_run w i (served_site content k) answered (node_in k') (committed content k') b.at (taken_handled w i k k' answered b taken) in
       let Node : NodeView → Type 0 = λ n. IsRunOf w i answered (record { node = n; rows = content (rows_in k'') }) in
       let Rows : Content → Type 0 = λ c. IsRunOf w i answered (record { node = node_in k'; rows = c }) in
       let on = runs_on (node_in k) (node_in k') (content (rows_in k)) (committed content k') answered b.held b.up (taken_handled w i k k' answered b taken) in (
         subst Node (sym commit.node) (subst Rows (sym written.1) run),
         record {
-          at = get-set_same w.sites i (site_of content k'') (site_of content k) b.at;
+          at = get-set_same w.sites i (served_site content k'') (served_site content k) b.at;
           held = on.0;
           up = ap (λ (n : NodeView). n.up) commit.node ∙ on.1;
           nothing = commit.nothing;
@@ -62,7 +62,7 @@ module _ {R : Type 0} (is_clean is_open : R → Type 0) (content : R → Content
   crashes : (w : World) (i : ℕ) (k k' : BatchKeeper R) (answered : List Answered) → TurnBegins is_open content w i k → EventsAreTaken k answered k'
       → CutBefore w i (down (node_in k) (content (rows_in k))) × CutAfter w i answered (down (node_in k') (committed content k'))
   crashes w i k k' answered b taken =
-      crash_is_run w i (site_of content k) b.held answered (node_in k') (committed content k') b.at b.up (taken_handled w i k k' answered b taken)
+      crash_is_run w i (served_site content k) b.held answered (node_in k') (committed content k') b.at b.up (taken_handled w i k k' answered b taken)
 
   was_cut : (w : World) (i : ℕ) (k k' : BatchKeeper R) (answered : List Answered) → TurnBegins is_open content w i k → EventsAreTaken k answered k'
       → (c : Content) → c ≡ content (rows_in k') → CutBefore w i (down (node_in k) c)

@@ -21,7 +21,7 @@ use Rattle.status_door.specs.Views.{inside_of as looked_at}
 use Rattle.status_tally.specs.Doors.{IsAnswered as IsCounted, IsHeard as IsCountedOfPeers, IsSettled as IsSettledBehind}
 use Rattle.status_tally.specs.Views.{inside_of as logged_in}
 use Rattle.cluster_play.proofs.Sites.{get-set_same}
-use Rattle.cluster_play.specs.Worlds.{World, changed}
+use Rattle.cluster_play.specs.Worlds.{World, world_with}
 use Rattle.node_batches.specs.declared.batch.BatchKeeper.{BatchKeeper}
 use Rattle.node_batches.specs.Batches.{Answered}
 use Rattle.node_batches.specs.Views.{node_in, rows_in}
@@ -33,8 +33,8 @@ use Rattle.row_store.specs.Rows.{Content}
 use Rattle.served_laws.proofs.Joining.{changed_over, run_over, taken_join}
 use Rattle.served_laws.proofs.Running.{turn_is_run}
 use Rattle.served_laws.proofs.Settling.{settled_is_run, taken_rows}
-use Rattle.served_laws.specs.Settling.{EventsAreTaken, TurnBegins, site_of}
-use Rattle.served_laws.specs.Sockets.{Bounded, Counted, Door, Settles, SocketTurnIsRun, Stands, StartIsTaken, served_in}
+use Rattle.served_laws.specs.Settling.{EventsAreTaken, TurnBegins, served_site}
+use Rattle.served_laws.specs.Sockets.{Bounded, Counted, Door, HasCommitted, SocketTurnIsRun, HasTakenSince, StartIsTaken, served_in}
 use Rattle.served_laws.specs.Turns.{IsRunOf, frames_of}
 
 -- ---- what is taken
@@ -74,22 +74,22 @@ module _ {R : Type 0} (is_clean is_open : R → Type 0) (content : R → Content
   abbrev Runs : ServedNode R → ServedNode R → Type 0
   Runs s s' =
       (is_clean (rows_in (keeper_of s')) → is_clean (rows_in (keeper_of s)))
-      × ((w : World) (i : ℕ) → TurnBegins is_open content w i (keeper_of s) → is_clean (rows_in (keeper_of s')) → (answered : List Answered) × Settles is_open content w i answered s')
+      × ((w : World) (i : ℕ) → TurnBegins is_open content w i (keeper_of s) → is_clean (rows_in (keeper_of s')) → (answered : List Answered) × HasCommitted is_open content w i answered s')
 
-  at_rest : (w : World) (i : ℕ) (s : ServedNode R) → TurnBegins is_open content w i (keeper_of s) → Settles is_open content w i [] s
+  at_rest : (w : World) (i : ℕ) (s : ServedNode R) → TurnBegins is_open content w i (keeper_of s) → HasCommitted is_open content w i [] s
   at_rest w i s b =
       let k = keeper_of s in
-      let site = site_of content k in
+      let site = served_site content k in
       record {
         run = turn_is_run w i site [] (node_in k) (content (rows_in k)) b.at (refl, refl);
         begins = record { at = get-set_same w.sites i site site b.at; held = b.held; up = b.up; nothing = b.nothing; stands = b.stands };
       }
 
-  settles_over : (w : World) (i : ℕ) (s t : ServedNode R) (xs ys : List Answered) → Settles is_open content w i xs s
-      → Settles is_open content (changed w i (site_of content (keeper_of s)) (frames_of xs)) i ys t → Settles is_open content w i (xs ++ ys) t
+  settles_over : (w : World) (i : ℕ) (s t : ServedNode R) (xs ys : List Answered) → HasCommitted is_open content w i xs s
+      → HasCommitted is_open content (world_with w i (served_site content (keeper_of s)) (frames_of xs)) i ys t → HasCommitted is_open content w i (xs ++ ys) t
   settles_over w i s t xs ys p q =
-      let first = site_of content (keeper_of s) in
-      let last = site_of content (keeper_of t) in
+      let first = served_site content (keeper_of s) in
+      let last = served_site content (keeper_of t) in
       let Begun : World → Type 0 = λ v. TurnBegins is_open content v i (keeper_of t) in
       record { run = run_over w i first last xs ys p.run q.run; begins = subst Begun (changed_over w i first last xs ys) q.begins }
 
@@ -97,7 +97,7 @@ module _ {R : Type 0} (is_clean is_open : R → Type 0) (content : R → Content
   runs_none s s' same =
       let Clean : ServedNode R → Type 0 = λ x. is_clean (rows_in (keeper_of x)) in (
         λ clean. subst Clean same clean,
-        λ w i b clean. let Settled : ServedNode R → Type 0 = λ x. Settles is_open content w i [] x in ([], subst Settled (sym same) (at_rest w i s b)),
+        λ w i b clean. let Settled : ServedNode R → Type 0 = λ x. HasCommitted is_open content w i [] x in ([], subst Settled (sym same) (at_rest w i s b)),
       )
 
   runs_over : (a b c : ServedNode R) → Runs a b → Runs b c → Runs a c
@@ -105,7 +105,7 @@ module _ {R : Type 0} (is_clean is_open : R → Type 0) (content : R → Content
     λ clean. p.0 (q.0 clean),
     λ w i begins clean.
         let first = p.1 w i begins (q.0 clean) in
-        let second = q.1 (changed w i (site_of content (keeper_of b)) (frames_of first.0)) i first.1.begins clean in
+        let second = q.1 (world_with w i (served_site content (keeper_of b)) (frames_of first.0)) i first.1.begins clean in
         (first.0 ++ second.0, settles_over w i b c first.0 second.0 first.1 second.1),
   )
 
@@ -191,7 +191,7 @@ module _ {R : Type 0} (is_clean is_open : R → Type 0) (content : R → Content
         (IsSettled settles) (DoorSettles E W contents) (λ a b is. is.settled.settled) lost d d' all
 
     pub start_is_taken : {S T E W : Type 0} (at : ℕ) (old new : Seat S (Door R E W) T) → IsStart (DoorHandles E W) at old new
-        → (w : World) (i : ℕ) (pending : List Answered) → Stands is_open content w i pending (served_in old) → (more : List Answered) × Stands is_open content w i more (served_in new)
+        → (w : World) (i : ℕ) (pending : List Answered) → HasTakenSince is_open content w i pending (served_in old) → (more : List Answered) × HasTakenSince is_open content w i more (served_in new)
     start_is_taken at old new start w i pending stands =
         let first = start.told.does.does.handled in
         let was = bounded_in (logged_in (looked_at old.place.reach.near.handler)) in
@@ -223,8 +223,8 @@ module _ {R : Type 0} (is_clean is_open : R → Type 0) (content : R → Content
           let answered = pending ++ all.0 in
           let before = taken_join stands.before (keeper_of s) (keeper_of last) pending all.0 stands.taken all.1 in
           let one = settled_is_run is_clean is_open content may_leave w i stands.before (keeper_of last) (keeper_of settled) answered stands.begins before commit was in
-          let done : Settles is_open content w i answered settled = record { run = one.0; begins = one.1 } in
-          let more = on.1 (changed w i (site_of content (keeper_of settled)) (frames_of answered)) i one.1 clean in (
+          let done : HasCommitted is_open content w i answered settled = record { run = one.0; begins = one.1 } in
+          let more = on.1 (world_with w i (served_site content (keeper_of settled)) (frames_of answered)) i one.1 clean in (
             answered ++ more.0,
             settles_over w i settled (served_in new) answered more.0 done more.1,
             (runs_once s last settled all commit).0 was,

@@ -1,7 +1,7 @@
 -- A served node's turn in a world of nodes: the events that it decides, the commit, and a crash before it, amid it and after it.
 use Rattle.std.specs.Prelude.{◌≡◌, ◌⊎◌, ℕ, List, [], ◌∷◌, Some, slice_get}
 use Rattle.broker_node.specs.declared.event.Event.{Event}
-use Rattle.cluster_play.specs.Worlds.{Site, World, changed}
+use Rattle.cluster_play.specs.Worlds.{Site, World, world_with}
 use Rattle.node_batches.specs.declared.batch.BatchKeeper.{BatchKeeper}
 use Rattle.node_batches.specs.Batches.{Answered}
 use Rattle.node_batches.specs.Views.{node_in, rows_in, waiting_in}
@@ -17,12 +17,12 @@ EventsAreTaken k [] k' = k' ≡ k
 EventsAreTaken {R = R} k (a ∷ more) k' = (m : BatchKeeper R) × IsTaken k a.0 a.1 m × EventsAreTaken m more k'
 
 -- a node with what its rows hold
-abbrev pub site_of : {R : Type 0} → (R → Content) → BatchKeeper R → Site
-site_of content k = record { node = node_in k; rows = content (rows_in k) }
+abbrev pub served_site : {R : Type 0} → (R → Content) → BatchKeeper R → Site
+served_site content k = record { node = node_in k; rows = content (rows_in k) }
 
 -- node i of the world is this one, it runs, nothing waits, and its rows are open: a turn begins, or what comes after a commit
 pub record TurnBegins {R : Type 0} (is_open : R → Type 0) (content : R → Content) (w : World) (i : ℕ) (k : BatchKeeper R) : Type 0 where
-  pub at : slice_get w.sites i ≡ Some (site_of content k)
+  pub at : slice_get w.sites i ≡ Some (served_site content k)
   pub held : HeldView
   pub up : (node_in k).up ≡ Some held
   pub nothing : waiting_in k ≡ []
@@ -47,7 +47,7 @@ module _ {R : Type 0} (is_clean is_open : R → Type 0) (content : R → Content
   SettledIsRun =
       (w : World) (i : ℕ) (k k' k'' : BatchKeeper R) (answered : List Answered) → TurnBegins is_open content w i k → EventsAreTaken k answered k'
       → IsCommitted is_clean is_open content may_leave k' k'' → is_clean (rows_in k'')
-      → IsRunOf w i answered (site_of content k'') × TurnBegins is_open content (changed w i (site_of content k'') (frames_of answered)) i k'' × is_clean (rows_in k)
+      → IsRunOf w i answered (served_site content k'') × TurnBegins is_open content (world_with w i (served_site content k'') (frames_of answered)) i k'' × is_clean (rows_in k)
 
   -- where the commit fails a crash leaves the rows of before the events or of after them all, and is a run in which none of them happened,
   -- or all

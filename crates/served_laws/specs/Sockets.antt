@@ -14,7 +14,7 @@ use Rattle.client_limits.specs.Views.{inside_of}
 use Rattle.client_limits.specs.declared.limited.Limited.{Limited}
 use Rattle.client_log.specs.Views.{inside_of as bounded_in}
 use Rattle.client_log.specs.declared.logged.Logged.{Logged}
-use Rattle.cluster_play.specs.Worlds.{World, changed}
+use Rattle.cluster_play.specs.Worlds.{World, world_with}
 use Rattle.node_batches.specs.declared.batch.BatchKeeper.{BatchKeeper}
 use Rattle.node_batches.specs.Batches.{Answered}
 use Rattle.node_batches.specs.Views.{rows_in}
@@ -25,7 +25,7 @@ use Rattle.status_door.specs.Views.{inside_of as looked_at}
 use Rattle.status_door.specs.declared.door.Told.{Told}
 use Rattle.status_tally.specs.Views.{inside_of as logged_in}
 use Rattle.status_tally.specs.declared.tallied.Tallied.{Tallied}
-use Rattle.served_laws.specs.Settling.{EventsAreTaken, TurnBegins, site_of}
+use Rattle.served_laws.specs.Settling.{EventsAreTaken, TurnBegins, served_site}
 use Rattle.served_laws.specs.Turns.{IsRunOf, frames_of}
 
 -- a served node behind a door with limits on its clients
@@ -50,21 +50,21 @@ served_in v = behind_doors v.place.reach.near.handler
 
 module _ {R : Type 0} (is_open : R → Type 0) (content : R → Content) where
   -- node i of the world is the served node as it was at its last commit, and it has taken these events since
-  pub record Stands (w : World) (i : ℕ) (pending : List Answered) (s : ServedNode R) : Type 0 where
+  pub record HasTakenSince (w : World) (i : ℕ) (pending : List Answered) (s : ServedNode R) : Type 0 where
     pub before : BatchKeeper R
     pub begins : TurnBegins is_open content w i before
     pub taken : EventsAreTaken before pending (keeper_of s)
 
   -- a run of node i with these events leads to the served node as it is, which has committed all
-  pub record Settles (w : World) (i : ℕ) (answered : List Answered) (s : ServedNode R) : Type 0 where
-    pub run : IsRunOf w i answered (site_of content (keeper_of s))
-    pub begins : TurnBegins is_open content (changed w i (site_of content (keeper_of s)) (frames_of answered)) i (keeper_of s)
+  pub record HasCommitted (w : World) (i : ℕ) (answered : List Answered) (s : ServedNode R) : Type 0 where
+    pub run : IsRunOf w i answered (served_site content (keeper_of s))
+    pub begins : TurnBegins is_open content (world_with w i (served_site content (keeper_of s)) (frames_of answered)) i (keeper_of s)
 
   -- before the first turn a node that stands is told that it has started, which waits for the first commit
   abbrev pub StartIsTaken : (S T E W : Type 0) → (Door R E W → Event → List Output → Door R E W → Type 0) → Type 0
   StartIsTaken S T E W handles =
       (at : ℕ) (old new : Seat S (Door R E W) T) → IsStart handles at old new
-      → (w : World) (i : ℕ) (pending : List Answered) → Stands w i pending (served_in old) → (more : List Answered) × Stands w i more (served_in new)
+      → (w : World) (i : ℕ) (pending : List Answered) → HasTakenSince w i pending (served_in old) → (more : List Answered) × HasTakenSince w i more (served_in new)
 
 module _ {R E W S L T : Type 0} (is_clean is_open : R → Type 0) (content : R → Content)
     (accepts : S → L → Option T → S → Type 0) (watches : S → T → Watched → Bool → S → Type 0) (connects : S → SocketAddr → Option T → S → Type 0)
@@ -75,5 +75,5 @@ module _ {R E W S L T : Type 0} (is_clean is_open : R → Type 0) (content : R �
   abbrev pub SocketTurnIsRun : Type 0
   SocketTurnIsRun =
       (setting : Setting L) (at : ℕ) (old new : Seat S (Door R E W) T) → IsTurn accepts watches connects reads writes finds handles hears settles setting at old new
-      → (w : World) (i : ℕ) (pending : List Answered) → Stands is_open content w i pending (served_in old) → is_clean (rows_in (keeper_of (served_in new)))
-      → (answered : List Answered) × Settles is_open content w i answered (served_in new) × is_clean (rows_in (keeper_of (served_in old)))
+      → (w : World) (i : ℕ) (pending : List Answered) → HasTakenSince is_open content w i pending (served_in old) → is_clean (rows_in (keeper_of (served_in new)))
+      → (answered : List Answered) × HasCommitted is_open content w i answered (served_in new) × is_clean (rows_in (keeper_of (served_in old)))

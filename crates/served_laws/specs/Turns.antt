@@ -4,7 +4,7 @@ use Rattle.std.specs.List.{AllByRecursion}
 use Rattle.broker_node.specs.declared.event.EventKind.TheVariants as kinds
 use Rattle.cluster_play.specs.declared.step.Step.TheVariants as steps
 use Rattle.cluster_play.specs.Runs.{IsHonest, IsKnown, Played, Run}
-use Rattle.cluster_play.specs.Worlds.{Cut, Released, Site, World, changed, frames_in}
+use Rattle.cluster_play.specs.Worlds.{Cut, Released, Site, World, world_with, frames_in}
 use Rattle.node_batches.specs.Batches.{Answered, AreHandled}
 use Rattle.node_work.specs.Acts.{Act}
 use Rattle.node_work.specs.View.{HeldView, NodeView}
@@ -31,7 +31,7 @@ AreReleased i (a ∷ more) (m ∷ run) = (m.step ≡ steps.Event i a.0) × ((act
 pub record IsRunOf (w : World) (i : ℕ) (answered : List Answered) (s : Site) : Type 0 where
   pub run : List Played
   pub released : AreReleased i answered run
-  pub leads : Run w run (changed w i s (frames_of answered))
+  pub leads : Run w run (world_with w i s (frames_of answered))
   pub honest : AreKnown w.frames answered → IsHonest w.frames run
 
 -- events that a node handles one after another are a run
@@ -52,13 +52,13 @@ down n rows = record { node = record n { up = None }; rows = rows }
 
 -- a crash took the node before all of its events
 abbrev pub CutBefore : World → ℕ → Site → Type 0
-CutBefore w i s = Run w (crash_at i ∷ []) (changed w i s [])
+CutBefore w i s = Run w (crash_at i ∷ []) (world_with w i s [])
 
 -- a crash took it after all of them, whose frames may never arrive
 pub record CutAfter (w : World) (i : ℕ) (answered : List Answered) (s : Site) : Type 0 where
   pub run : List Played
   pub released : AreReleased i answered run
-  pub leads : Run w (run ++ crash_at i ∷ []) (changed w i s (frames_of answered))
+  pub leads : Run w (run ++ crash_at i ∷ []) (world_with w i s (frames_of answered))
   pub honest : AreKnown w.frames answered → IsHonest w.frames (run ++ crash_at i ∷ [])
 
 -- a crash of a node that runs, with the rows of before its events or of after them, is a run

@@ -1,5 +1,5 @@
 -- Names character by character.
-use Rattle.std.proofs.Common.{◌≡◌, ℕ, List, [], ◌∷◌, ◌++◌, length, flat_map, chars, encode_utf8, IsUtf8, ap, ◌∙◌}
+use Rattle.std.proofs.Common.{◌≡◌, ℕ, List, [], ◌++◌, length, chars, encode_utf8, IsUtf8, ap, ◌∙◌}
 use Rattle.std.proofs.lemmas.Str.{chars_past_char, chars-nil}
 use Rattle.std.proofs.lemmas.List.{nil_from_length}
 use Rattle.status_texts.specs.Escapes.{escape_of, escaped, label, label_escape_of}

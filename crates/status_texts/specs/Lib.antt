@@ -1,3 +1,4 @@
+pub mod Elsewhere
 pub mod Escapes
 pub mod Lines
 pub mod Metrics

@@ -8,7 +8,6 @@ use Rattle.status_figures.specs.declared.peer.Peer.{Peer}
 use Rattle.status_figures.specs.Figures.{is_caught_up}
 use Rattle.status_texts.specs.Escapes.{label}
 use Rattle.status_texts.specs.Lines.{help_line, kind_line, peer_line, reason_line, with_counter, with_gauge}
-use Rattle.status_texts.specs.declared.metrics.TheConstants.{INFO, DROPPED, FRAMES_DROPPED}
 use Rattle.status_texts.specs.declared.metrics.Counted.{Counted}
 use Rattle.status_texts.specs.declared.metrics.Counted.TheVariants.{Linked, Lacking, Waiting}
 
@@ -21,8 +20,8 @@ info_number number = codes "number=\"" ++ decimal number ++ codes "\"} 1\n"
 unfoldable pub with_info : List ℕ → ℕ → List ℕ → List ℕ
 with_info name number text =
     text
-    ++ help_line INFO.now (codes "The name of the node, and its number.")
-    ++ kind_line INFO.now (codes "gauge")
+    ++ help_line (codes "mqtt_node_info") (codes "The name of the node, and its number.")
+    ++ kind_line (codes "mqtt_node_info") (codes "gauge")
     ++ info_name name
     ++ info_number number
 
@@ -54,20 +53,20 @@ with_links total text =
 unfoldable pub with_dropped : LeftOut → List ℕ → List ℕ
 with_dropped left_out text =
     text
-    ++ help_line DROPPED.now (codes "Messages that were left out.")
-    ++ kind_line DROPPED.now (codes "counter")
-    ++ reason_line DROPPED.now (codes "queue_full") left_out.queue_full
-    ++ reason_line DROPPED.now (codes "retained_full") left_out.retained_full
-    ++ reason_line DROPPED.now (codes "pick_lost") left_out.picks_lost
-    ++ reason_line DROPPED.now (codes "lane_full") left_out.lane_full
+    ++ help_line (codes "mqtt_messages_dropped_total") (codes "Messages that were left out.")
+    ++ kind_line (codes "mqtt_messages_dropped_total") (codes "counter")
+    ++ reason_line (codes "mqtt_messages_dropped_total") (codes "queue_full") left_out.queue_full
+    ++ reason_line (codes "mqtt_messages_dropped_total") (codes "retained_full") left_out.retained_full
+    ++ reason_line (codes "mqtt_messages_dropped_total") (codes "pick_lost") left_out.picks_lost
+    ++ reason_line (codes "mqtt_messages_dropped_total") (codes "lane_full") left_out.lane_full
 
 unfoldable pub with_frames_dropped : LeftOut → List ℕ → List ℕ
 with_frames_dropped left_out text =
     text
-    ++ help_line FRAMES_DROPPED.now (codes "Frames that were left out.")
-    ++ kind_line FRAMES_DROPPED.now (codes "counter")
-    ++ reason_line FRAMES_DROPPED.now (codes "bad") left_out.bad_frames
-    ++ reason_line FRAMES_DROPPED.now (codes "too_large") left_out.frames_too_large
+    ++ help_line (codes "mqtt_cluster_frames_dropped_total") (codes "Frames that were left out.")
+    ++ kind_line (codes "mqtt_cluster_frames_dropped_total") (codes "counter")
+    ++ reason_line (codes "mqtt_cluster_frames_dropped_total") (codes "bad") left_out.bad_frames
+    ++ reason_line (codes "mqtt_cluster_frames_dropped_total") (codes "too_large") left_out.frames_too_large
 
 -- 1 where it is so
 abbrev pub as_number : Bool → ℕ

@@ -1,5 +1,5 @@
 -- The page of a node. Each definition `with_..` is a text, and then what it is named for.
-use Rattle.std.specs.Prelude.{ℕ, ◌/◌, ◌==◌, List, [], ◌∷◌, ◌++◌, length, codes, count_by, not, if◌then◌else◌}
+use Rattle.std.specs.Prelude.{ℕ, ◌/◌, ◌==◌, List, [], ◌++◌, length, codes, count_by, not, if◌then◌else◌}
 use Rattle.std.specs.Fmt.{decimal}
 use Rattle.status_figures.specs.declared.figures.Figures.{Figures}
 use Rattle.status_figures.specs.declared.figures.LeftOut.{LeftOut}
@@ -8,7 +8,7 @@ use Rattle.status_figures.specs.Figures.{agrees}
 use Rattle.status_texts.specs.Escapes.{escaped}
 use Rattle.status_texts.specs.Peers.{with_peers}
 use Rattle.status_texts.specs.Rows.{uptime_text, with_number, with_row}
-use Rattle.status_texts.specs.declared.page.TheConstants.{HEAD, STYLE, SCRIPT, PEERS}
+use Rattle.status_texts.specs.declared.page.TheConstants.{HEAD, STYLE, SCRIPT}
 
 unfoldable pub with_head : List ℕ → List ℕ → List ℕ
 with_head name text =
@@ -70,6 +70,10 @@ with_frames_dropped left_out text =
 unfoldable pub with_tail : List ℕ → List ℕ
 with_tail text = text ++ codes "</main>\n<script>" ++ SCRIPT.now ++ codes "</script>\n</body>\n</html>\n"
 
+-- what stands before the lines of the peers: what each column tells
+unfoldable pub peers_head : List ℕ
+peers_head = codes "<h2>Peers</h2>\n<table>\n<tr><th>Name</th><th>Number</th><th>Link</th><th>State</th><th>Messages that wait</th></tr>\n"
+
 -- the head and whether the cluster agrees, then the node itself, its peers, what went through, and what was left out
 abbrev pub page_text : Figures → List ℕ
 page_text figures =
@@ -78,5 +82,5 @@ page_text figures =
     (with_node figures
     (with_head (escaped figures.name.bytes.items) []
     ++ verdict_text (count_by (λ peer. not (agrees peer)) figures.peers.items) (length figures.peers.items))
-    ++ PEERS.now)
+    ++ peers_head)
     ++ codes "</table>\n")))))

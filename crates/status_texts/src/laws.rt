@@ -1,5 +1,6 @@
 //! Laws of the texts.
 ghost use Rattle.std.specs.Prelude.{List, ℕ};
+ghost use Rattle.status_texts.specs.Elsewhere.{HeadLookAndScriptNameNoHost};
 ghost use Rattle.status_texts.specs.Escapes.{IsNoMarkup, IsWithinQuotes, escaped, label};
 
 /// Whatever a node is called, its name is no markup in the page.
@@ -10,4 +11,9 @@ pub fn names_are_no_markup()
 /// Whatever a node is called, its name stays within the quotes of a label.
 pub fn labels_stay_in_their_quotes()
     ensures { (name : List ℕ) → IsWithinQuotes (label name) }
+{}
+
+/// Neither the head of the page nor its look nor its script has `http` or `//` in it, as an address at another host has.
+pub fn head_look_and_script_name_no_host()
+    ensures { HeadLookAndScriptNameNoHost }
 {}

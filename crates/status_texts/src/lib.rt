@@ -9,6 +9,8 @@ mod page;
 mod peers;
 mod rows;
 
-pub use laws::{labels_stay_in_their_quotes, names_are_no_markup};
+pub use laws::{
+    head_look_and_script_name_no_host, labels_stay_in_their_quotes, names_are_no_markup,
+};
 pub use metrics::metrics_of;
 pub use page::page_of;

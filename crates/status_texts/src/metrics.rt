@@ -9,13 +9,13 @@ use status_figures::{Figures, LeftOut, Peer, Traffic};
 use std::alloc::{AllocError, Global};
 
 /// The name of the metric of the node itself.
-pub(crate) const INFO: &str = "mqtt_node_info";
+const INFO: &str = "mqtt_node_info";
 
 /// That of the messages that were left out.
-pub(crate) const DROPPED: &str = "mqtt_messages_dropped_total";
+const DROPPED: &str = "mqtt_messages_dropped_total";
 
 /// That of the frames.
-pub(crate) const FRAMES_DROPPED: &str = "mqtt_cluster_frames_dropped_total";
+const FRAMES_DROPPED: &str = "mqtt_cluster_frames_dropped_total";
 
 /// What is counted of a peer.
 #[derive(Clone, Copy)]

@@ -1,7 +1,7 @@
 //! The page of a node: one document that asks for nothing but itself, and is read without its script.
 
 ghost use Rattle.std.specs.Prelude.{◌≡◌, ◌++◌, string_bytes, IfOk, OnOk};
-ghost use Rattle.status_texts.specs.Page.{page_text, verdict_text, with_clients, with_dropped, with_frames_dropped, with_head, with_links, with_node, with_tail};
+ghost use Rattle.status_texts.specs.Page.{page_text, peers_head, verdict_text, with_clients, with_dropped, with_frames_dropped, with_head, with_links, with_node, with_tail};
 
 use crate::escape::escaped;
 use crate::peers::push_peers;
@@ -22,7 +22,7 @@ pub(crate) const SCRIPT: &str =
     "setInterval(async()=>{const shown=document.querySelector('main');try{const answer=await fetch('/',{cache:'no-store'});const page=new DOMParser().parseFromString(await answer.text(),'text/html');shown.replaceWith(page.querySelector('main'))}catch(e){shown.className='old'}},2000)";
 
 /// What stands before the lines of the peers.
-pub(crate) const PEERS: &str =
+const PEERS: &str =
     "<h2>Peers</h2>\n<table>\n<tr><th>Name</th><th>Number</th><th>Link</th><th>State</th><th>Messages that wait</th></tr>\n";
 
 /// The head of the page, and the name of the node, as it stands in HTML.
@@ -72,6 +72,14 @@ fn push_node(alloc: Global, text: &mut String, figures: &Figures) -> Result<(), 
     push_number(text, "Subscriptions", figures.subscriptions)?;
     push_number(text, "Retained topics", figures.retained)?;
     text.push_str("</table>\n")
+}
+
+/// What each column of the table of peers tells.
+#[tactic(auto, unfolding(crate::specs::Page::peers_head))]
+fn push_peers_head(text: &mut String) -> Result<(), AllocError>
+    ensures { OnOk result (string_bytes text.new ≡ string_bytes text.old ++ peers_head) }
+{
+    text.push_str(PEERS)
 }
 
 /// What went through the node for clients in the last ten seconds.
@@ -143,7 +151,7 @@ pub fn page_of(alloc: Global, figures: &Figures) -> Result<String, AllocError>
     push_head(&mut text, &name)?;
     push_verdict(&mut text, figures.apart(), figures.peers.len())?;
     push_node(alloc, &mut text, figures)?;
-    text.push_str(PEERS)?;
+    push_peers_head(&mut text)?;
     push_peers(alloc, &mut text, &figures.peers)?;
     text.push_str("</table>\n")?;
     push_clients(&mut text, &figures.recent)?;

@@ -26,7 +26,7 @@ use Rattle.node_rows.specs.Rows.{Lasting}
 use Rattle.node_rows.specs.Sessions.{opened_seat}
 use Rattle.node_work.specs.Acts.{Act, Connection, Session, Bridge, next}
 use Rattle.node_work.specs.Held.Bridge.{BridgeAct, Put, Took, Got, Believed, Gave, Left_out, bridged}
-use Rattle.node_work.specs.Held.Connections.{ConnectionAct, Opened, Fed, Accepted, Closed, connected}
+use Rattle.node_work.specs.Held.Connections.{ConnectionAct, Opened, Fed, Accepted, Closed, after_connection_act}
 use Rattle.node_work.specs.Held.Sessions.{Begun, Called, Over}
 use Rattle.node_work.specs.Lasting.{lasting, IsWoken}
 use Rattle.node_work.specs.View.{Place, HeldView, fresh}
@@ -64,7 +64,7 @@ seat_out : (client other : List ℕ) (h : HeldView) (b : Bool) → eq_by_cmp tex
 seat_out client other h true e has = inl (sym (same_text client other e))
 seat_out client other h false e has = inr (has.0, get_left h.sessions other client e ∙ has.1)
 
-connection_same : (h : HeldView) (a : ConnectionAct) → (connected h a).sessions ≡ h.sessions
+connection_same : (h : HeldView) (a : ConnectionAct) → (after_connection_act h a).sessions ≡ h.sessions
 connection_same h (Opened c) = refl
 connection_same h (Fed c piece) = refl
 connection_same h (Accepted c client) = refl
@@ -82,7 +82,7 @@ seat_act : (client : List ℕ) (h : HeldView) (a : Act) → HasSeat client h →
 seat_act client h (Session (Begun other)) has = inr (seat_put client other h _ (eq_by_cmp text_cmp client other) refl has)
 seat_act client h (Session (Called s)) has = inr (seat_put client s.client h _ (eq_by_cmp text_cmp client s.client) refl has)
 seat_act client h (Session (Over other)) has = elim (seat_out client other h (eq_by_cmp text_cmp client other) refl has) [ inl e ↦ inl (ap (λ c. Session (Over c)) e) | inr s ↦ inr s ]
-seat_act client h (Connection a) has = inr (seat_by client h (connected h a) (connection_same h a) has)
+seat_act client h (Connection a) has = inr (seat_by client h (after_connection_act h a) (connection_same h a) has)
 seat_act client h (Bridge a) has = inr (seat_by client h (bridged h a) (bridge_same h a) has)
 seat_act client h a has = inr has
 

@@ -7,7 +7,7 @@ use Rattle.message_lanes.specs.Lanes.{lane_of}
 use Rattle.node_keeper.specs.Keeping.{AreLasting}
 use Rattle.node_rows.specs.Rows.{Lasting}
 use Rattle.node_work.specs.declared.frame.Frame.{Frame}
-use Rattle.cluster_play.specs.Worlds.{Site, World, numbered}
+use Rattle.cluster_play.specs.Worlds.{Site, World, nth_from_one}
 use Rattle.cluster_play.specs.Runs.{Played}
 use Rattle.cluster_play.specs.Histories.{Reached}
 use Rattle.run_laws.specs.LaneHistories.{took}
@@ -28,5 +28,5 @@ pub record IsSoOfGot (run : List Played) (w : World) (f : BridgeFrame) (n : ℕ)
 abbrev pub GotStaysTrue : Type 0
 GotStaysTrue =
     (run : List Played) (w : World) → Reached run w
-    → (number : ℕ) (sent : Frame) (f : BridgeFrame) (n : ℕ) → numbered w.frames number ≡ Some sent → frame_in sent.bytes ≡ Some f → f.body ≡ bodies.Got n
+    → (number : ℕ) (sent : Frame) (f : BridgeFrame) (n : ℕ) → nth_from_one w.frames number ≡ Some sent → frame_in sent.bytes ≡ Some f → f.body ≡ bodies.Got n
     → IsSoOfGot run w f n

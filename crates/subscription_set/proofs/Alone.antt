@@ -9,8 +9,8 @@ use Rattle.std.specs.FinSet as set
 use Rattle.std.proofs.lemmas.Cmp.{tied_itself}
 use Rattle.causal_context.specs.Dots.{Dot, Dots, dot_cmp, dot_cmp_total, dot_cmp_antisym}
 use Rattle.mqtt_topics.specs.Matching.{Matches}
-use Rattle.subscription_set.specs.Entries.{Entry, is_of, same_subscription, same_text}
-use Rattle.subscription_set.specs.Standing.{latest}
+use Rattle.subscription_set.specs.Entries.{Entry, is_of, same_subscription, same_text, recency_cmp}
+use Rattle.subscription_set.specs.Standing.{Entries, latest}
 use Rattle.subscription_set.specs.Indexing.{ByDot, IsStanding, MatchesName, alone, stands_as}
 use Rattle.subscription_set.proofs.Latest.{recency_total}
 use Rattle.subscription_set.proofs.Merges.{no_entries}

@@ -8,6 +8,7 @@ pub mod Latest
 pub mod Lists
 pub mod Matched
 pub mod Merges
+pub mod OneDot
 pub mod Order
 pub mod Pairs
 pub mod Picking

@@ -6,6 +6,7 @@ pub mod Joining
 pub mod Leftovers
 pub mod Matching
 pub mod Merging
+pub mod Placing
 pub mod Sorted
 pub mod Standing
 pub mod Statuses

@@ -5,6 +5,7 @@
 
 mod by_client;
 mod by_filter;
+mod dot_iter;
 mod dots;
 mod entry;
 mod entry_iter;

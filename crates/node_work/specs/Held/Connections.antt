@@ -12,8 +12,8 @@ pub data ConnectionAct : Type 0 where
   Accepted : (c : ℕ) (client : List ℕ) → ConnectionAct
   Closed : (c : ℕ) → ConnectionAct
 
-abbrev pub Table : Type 0
-Table = map.FinMap nat_cmp ConnectionView
+abbrev pub ConnectionTable : Type 0
+ConnectionTable = map.FinMap nat_cmp ConnectionView
 
 -- the longest packet that a client may send, in bytes
 abbrev pub longest_packet : ℕ
@@ -31,11 +31,11 @@ fed stream piece =
     record { limit = stream.limit; rest = c.rest; failed = is_some c.fault }
 
 -- a connection that is open becomes another
-abbrev pub changed_at : (ConnectionView → ConnectionView) → ℕ → Table → Option ConnectionView → Table
+abbrev pub changed_at : (ConnectionView → ConnectionView) → ℕ → ConnectionTable → Option ConnectionView → ConnectionTable
 changed_at f c m None = m
 changed_at f c m (Some found) = map.insert m c (f found)
 
-abbrev pub changed : (ConnectionView → ConnectionView) → ℕ → Table → Table
+abbrev pub changed : (ConnectionView → ConnectionView) → ℕ → ConnectionTable → ConnectionTable
 changed f c m = changed_at f c m (map.get m c)
 
 -- with a piece taken in, and with a client
@@ -46,18 +46,18 @@ abbrev pub with_client : List ℕ → ConnectionView → ConnectionView
 with_client client x = record x { client = Some client }
 
 -- a piece comes on an open connection
-abbrev pub MayConnect : HeldView → ConnectionAct → Type 0
-MayConnect h (Opened c) = Unit {0}
-MayConnect h (Fed c piece) = is_some (map.get h.connections c) ≡ true
-MayConnect h (Accepted c client) = Unit {0}
-MayConnect h (Closed c) = Unit {0}
+abbrev pub MayActOnConnection : HeldView → ConnectionAct → Type 0
+MayActOnConnection h (Opened c) = Unit {0}
+MayActOnConnection h (Fed c piece) = is_some (map.get h.connections c) ≡ true
+MayActOnConnection h (Accepted c client) = Unit {0}
+MayActOnConnection h (Closed c) = Unit {0}
 
 -- what it leaves
-abbrev pub connected : HeldView → ConnectionAct → HeldView
-connected h (Opened c) = record h { connections = map.insert h.connections c new_connection }
-connected h (Fed c piece) = record h { connections = changed (with_piece piece) c h.connections }
-connected h (Accepted c client) = record h { connections = changed (with_client client) c h.connections }
-connected h (Closed c) = record h { connections = map.remove h.connections c }
+abbrev pub after_connection_act : HeldView → ConnectionAct → HeldView
+after_connection_act h (Opened c) = record h { connections = map.insert h.connections c new_connection }
+after_connection_act h (Fed c piece) = record h { connections = changed (with_piece piece) c h.connections }
+after_connection_act h (Accepted c client) = record h { connections = changed (with_client client) c h.connections }
+after_connection_act h (Closed c) = record h { connections = map.remove h.connections c }
 
 -- ---- what is seen of a connection
 

@@ -83,16 +83,16 @@ called h (Called s) = record h { sessions = map.insert h.sessions s.client (reco
 called h (Over client) = record h { sessions = map.remove h.sessions client }
 
 -- ---- what goes to the client: the packets, and where the connection ends with a code, a DISCONNECT
-abbrev pub last_of : ℕ → Option ℕ → List Output
-last_of c None = []
-last_of c (Some code) = cond (code == 0) [] (Send c (written (disconnect code)) ∷ [])
+abbrev pub end_outputs : ℕ → Option ℕ → List Output
+end_outputs c None = []
+end_outputs c (Some code) = cond (code == 0) [] (Send c (written (disconnect code)) ∷ [])
 
 abbrev pub packet_output : ℕ → ℕ → Packet → Output
 packet_output c at p = Send c (written (packet_of at p))
 
 abbrev pub outputs_on : Option ℕ → ℕ → Reaction → List Output
 outputs_on None at r = []
-outputs_on (Some c) at r = map_list (packet_output c at) r.packets ++ last_of c r.end
+outputs_on (Some c) at r = map_list (packet_output c at) r.packets ++ end_outputs c r.end
 
 abbrev pub session_outputs : SessionAct → List Output
 session_outputs (Begun client) = []

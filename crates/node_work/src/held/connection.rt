@@ -4,7 +4,7 @@ ghost use Rattle.std.specs.Prelude.{◌≡◌, ℕ, List, [], ◌++◌, None, So
 ghost use Rattle.std.specs.Option.{option_copied};
 ghost use Rattle.mqtt_packets.specs.Stream.{cut};
 ghost use Rattle.node_work.specs.Held.Connections.{new_connection, fed};
-ghost use Rattle.node_work.specs.Packets.{AreSpelled};
+ghost use Rattle.node_work.specs.Packets.{HaveSpellings};
 
 use mqtt_fields::Text;
 use mqtt_packets::{Fed, FeedFault, Framer};
@@ -68,7 +68,7 @@ impl Connection {
             ≡ (cut self.old.stream.limit (self.old.stream.rest ++ piece.now)).packets) }
         ensures fault { IfOk result (λ f. f.fault
             ≡ (cut self.old.stream.limit (self.old.stream.rest ++ piece.now)).fault) }
-        ensures spelled { IfOk result (λ f. AreSpelled f.packets.items) }
+        ensures spelled { IfOk result (λ f. HaveSpellings f.packets.items) }
         ensures sound { OnOk result (self.old.stream.failed ≡ false) }
         ensures failed { IsErrOf result FeedFault.Failed ↔ (self.old.stream.failed ≡ true) }
         ensures err { OnErr result (self.new ≡ self.old) }
@@ -80,5 +80,5 @@ impl Connection {
 
 /// The packets that are cut from bytes have a spelling each. This does nothing; its contract is a law.
 fn packets_are_spelled(held: &[u8], piece: &[u8])
-    ensures { (limit : ℕ) → AreSpelled (cut limit (held.now ++ piece.now)).packets }
+    ensures { (limit : ℕ) → HaveSpellings (cut limit (held.now ++ piece.now)).packets }
 {}

@@ -5,7 +5,7 @@ ghost use Rattle.bridge_frames.specs.declared.forward.Forward.{Forward};
 ghost use Rattle.message_copies.specs.declared.plain.PlainCopy.{PlainCopy as Copy};
 ghost use Rattle.node_bridge.specs.View.{is_next};
 ghost use Rattle.node_work.specs.Acts.{Bridge};
-ghost use Rattle.node_work.specs.Doings.{GivesFrame, Misses, Puts, RoutesBy};
+ghost use Rattle.node_work.specs.Doings.{GivesFrame, Misses, PutsInLane, RoutesBy};
 ghost use Rattle.node_work.specs.Handed.{IsHanded};
 ghost use Rattle.node_work.specs.Held.Bridge.{Believed, Carries, Got, Took};
 ghost use Rattle.node_work.specs.Working.{ComesTo, Acting};
@@ -47,7 +47,7 @@ impl Work {
     /// Puts a message into the lane to another node, unless too many wait there.
     fn offer(&mut self, peer: u16, message: Forward) -> Result<(), NodeFault>
         requires { peer ≢ self.old.place.id }
-        ensures { ComesTo (λ x. x) result self.old self.new (Puts peer message) }
+        ensures { ComesTo (λ x. x) result self.old self.new (PutsInLane peer message) }
     {
         match self.held.offer(peer, message, &mut self.changes)? {
             Offer::Queued(_) => Ok(()),

@@ -1,6 +1,6 @@
 use Rattle.broker_node.specs.Turns.{Decides}
 use Rattle.broker_node.proofs.Stepping.{settles, settled_idle, settled_wanting, failed_idle, failed_comes}
-use Rattle.broker_node.specs.Step.{begun}
+use Rattle.broker_node.specs.Step.{step_start}
 use Rattle.broker_node.proofs.node.settle.Goals as goal
 
 pub returns-clause-ok : goal.returns-clause-ok
@@ -12,7 +12,7 @@ returns-clause-idle c =
     settled_idle c.args.event.now c.finish.result c.args.work.now c.start.new.self c.decide.new.work c.start.ensures c.in_ok-decide.ensures.idle c.finish.ensures.given c.finish.ensures.none
 
 pub returns-clause-err : goal.returns-clause-err
-returns-clause-err c = settled_wanting c.finish.result (begun c.args.work.now) c.finish.new.self (Decides c.args.event.now) c.finish.ensures.fault
+returns-clause-err c = settled_wanting c.finish.result (step_start c.args.work.now) c.finish.new.self (Decides c.args.event.now) c.finish.ensures.fault
 
 pub returns-in_err-decide-clause-idle : goal.returns-in_err-decide-clause-idle
 returns-in_err-decide-clause-idle c =

@@ -1,5 +1,5 @@
 use Rattle.std.proofs.Common.{sym, subst, Ok}
-use Rattle.node_work.specs.Packets.{AreSpelled, CameSpelled}
+use Rattle.node_work.specs.Packets.{HaveSpellings, CameSpelled}
 use Rattle.node_work.specs.Working.{ComesTo}
 use Rattle.node_clients.specs.Pieces.{TakesPackets}
 use Rattle.node_clients.proofs.Feeding.{Took, piece_nothing, piece_failed, piece_packets}
@@ -7,7 +7,7 @@ use Rattle.node_clients.proofs.piece.take_piece.Goals as goal
 
 pub take-requires : goal.take-requires
 take-requires c =
-    let spelled : AreSpelled c.in-Packets.field-0.packets.items = subst CameSpelled c.in-Packets.is c.in_ok-feed.ensures.spelled in subst AreSpelled (sym c.deref.ensures.value) spelled
+    let spelled : HaveSpellings c.in-Packets.field-0.packets.items = subst CameSpelled c.in-Packets.is c.in_ok-feed.ensures.spelled in subst HaveSpellings (sym c.deref.ensures.value) spelled
 
 pub returns-in-Nothing-clause-comes : goal.returns-in-Nothing-clause-comes
 returns-in-Nothing-clause-comes c =

@@ -1,9 +1,9 @@
-use Rattle.std.proofs.Common.{Some, Err, subst}
+use Rattle.std.proofs.Common.{subst}
 use Rattle.mqtt_sessions.specs.Reaction.{Reaction}
-use Rattle.node_work.specs.Working.{ComesTo, Did}
+use Rattle.node_work.specs.Working.{ComesTo}
 use Rattle.node_work.proofs.Working.{then_goes, then_stops}
 use Rattle.node_clients.specs.Ending.{ClosesAfter}
-use Rattle.node_clients.specs.Serving.{DoesAsked, DoesReaction, is_dropped}
+use Rattle.node_clients.specs.Serving.{DoesAsked, DoesReaction}
 use Rattle.node_clients.proofs.serve.react.Goals as goal
 
 pub returns-in_err-do_asked : goal.returns-in_err-do_asked
@@ -18,9 +18,8 @@ returns-in_err-do_asked c =
     let m = c.do_asked.new.work in
     let r = c.from_residual.result in
     let fault = c.in_err-do_asked.field-0.0 in
-    let d = subst (λ b. ComesTo {T = Unit {0}} (λ x. x) (Err fault) w m (DoesAsked ask b at client p)) c.is_dropped-dropped.ensures c.in_err-do_asked.ensures in
     subst (λ (a : Reaction). ComesTo (λ x. x) r w m (DoesReaction at client p room a)) c.reaction.view_is
-    (then_stops (DoesAsked ask (is_dropped p room end) at client p) (λ _. ClosesAfter end at client) (λ x. x) (λ x. x) r fault w m c.from_residual.ensures.1 d)
+    (then_stops (DoesAsked ask at client p room end) (λ _. ClosesAfter end at client) (λ x. x) (λ x. x) r fault w m c.from_residual.ensures.1 c.in_err-do_asked.ensures)
 
 pub returns : goal.returns
 returns c =
@@ -34,6 +33,5 @@ returns c =
     let m = c.do_asked.new.work in
     let n = c.close_after.new.work in
     let r = c.close_after.result in
-    let d = subst (λ b. Did w m (DoesAsked ask b at client p (Some tt))) c.is_dropped-dropped.ensures c.in_ok-do_asked.ensures in
     subst (λ (a : Reaction). ComesTo (λ x. x) r w n (DoesReaction at client p room a)) c.reaction.view_is
-    (then_goes (DoesAsked ask (is_dropped p room end) at client p) (λ _. ClosesAfter end at client) (λ x. x) r w m n tt d c.close_after.ensures.comes)
+    (then_goes (DoesAsked ask at client p room end) (λ _. ClosesAfter end at client) (λ x. x) r w m n tt c.in_ok-do_asked.ensures c.close_after.ensures.comes)

@@ -5,7 +5,7 @@ use Rattle.session_table.specs.Calls.{stays}
 use Rattle.node_work.specs.Calling.{Calls}
 use Rattle.node_work.specs.Working.{ComesTo, Did}
 use Rattle.node_work.proofs.Working.{then_goes}
-use Rattle.node_clients.specs.Subscribing.{OffersAfter, reasons_of}
+use Rattle.node_clients.specs.Subscribing.{OffersAfter, granted_reasons}
 use Rattle.node_clients.proofs.subscribe.acknowledge.Goals as goal
 
 pub returns-in-None : goal.returns-in-None
@@ -18,7 +18,7 @@ returns-in-None c =
     let d = subst (λ xs. Did c.args.work.now m (Calls client (λ at. answers c.args.packet xs) stays (Some c.in_ok-reaction.reaction))) (c.deref.ensures.value ∙ c.in_ok-reasons.ensures.ok) c.in_ok-reaction.ensures in
     let end = sym c.in-None.is ∙ ap (λ (a : Reaction). a.end) c.reaction.view_is in
     let offers = subst (λ e. ComesTo (λ x. x) r m n (OffersAfter e c.args.connection client c.args.packet grants)) end c.offer_each.ensures in
-    then_goes (Calls client (λ at. answers c.args.packet (reasons_of grants)) stays) (λ a. OffersAfter a.end c.args.connection client c.args.packet grants) (λ x. x) r c.args.work.now m n c.in_ok-reaction.reaction d offers
+    then_goes (Calls client (λ at. answers c.args.packet (granted_reasons grants)) stays) (λ a. OffersAfter a.end c.args.connection client c.args.packet grants) (λ x. x) r c.args.work.now m n c.in_ok-reaction.reaction d offers
 
 pub returns : goal.returns
 returns c =
@@ -30,4 +30,4 @@ returns c =
     let d = subst (λ xs. Did c.args.work.now m (Calls client (λ at. answers c.args.packet xs) stays (Some c.in_ok-reaction.reaction))) (c.deref.ensures.value ∙ c.in_ok-reasons.ensures.ok) c.in_ok-reaction.ensures in
     let end = sym c.in-Some.is ∙ ap (λ (a : Reaction). a.end) c.reaction.view_is in
     let closed = subst (λ e. ComesTo (λ x. x) r m n (OffersAfter e c.args.connection client c.args.packet grants)) end c.close_for.ensures in
-    then_goes (Calls client (λ at. answers c.args.packet (reasons_of grants)) stays) (λ a. OffersAfter a.end c.args.connection client c.args.packet grants) (λ x. x) r c.args.work.now m n c.in_ok-reaction.reaction d closed
+    then_goes (Calls client (λ at. answers c.args.packet (granted_reasons grants)) stays) (λ a. OffersAfter a.end c.args.connection client c.args.packet grants) (λ x. x) r c.args.work.now m n c.in_ok-reaction.reaction d closed

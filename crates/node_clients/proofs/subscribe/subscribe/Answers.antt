@@ -7,7 +7,7 @@ use Rattle.node_work.specs.Held.Calling.{MayAnswer}
 use Rattle.node_work.specs.Working.{ComesTo, Did, InTurn}
 use Rattle.node_work.proofs.Spelled.{answers_length, map_length, subscribe_answers}
 use Rattle.node_work.proofs.Working.{then_goes, then_stops}
-use Rattle.node_clients.specs.Subscribing.{SendsSuback, Grants, identifier_of, reasons_of}
+use Rattle.node_clients.specs.Subscribing.{SendsSuback, Grants, identifier_of, granted_reasons}
 use Rattle.node_clients.proofs.Asking.{asked_each}
 use Rattle.node_clients.proofs.subscribe.subscribe.Goals as goal
 
@@ -23,8 +23,8 @@ acknowledge-requires c =
     let gs = c.in_ok-grants.grants.items in
     let One = Grants c.args.client.now c.identifier_of-identifier.result in
     let d = subst (λ fs. Did c.args.work.now c.grant_each.new.work (InTurn One fs [] (Some gs))) c.as_slice.ensures c.in_ok-grants.ensures in
-    subst (λ xs. MayAnswer p.identifier (reasons_of xs)) (sym c.deref.ensures.value)
-    (subscribe_answers p (reasons_of gs) c.requires (map_length (λ (g : Granted). g.reason) gs ∙ answers_length One p.filters gs _ _ d.acts d.does))
+    subst (λ xs. MayAnswer p.identifier (granted_reasons xs)) (sym c.deref.ensures.value)
+    (subscribe_answers p (granted_reasons gs) c.requires (map_length (λ (g : Granted). g.reason) gs ∙ answers_length One p.filters gs _ _ d.acts d.does))
 
 pub returns-in_err-grants : goal.returns-in_err-grants
 returns-in_err-grants c =

@@ -16,5 +16,5 @@ returns-clause-spelling c =
 pub returns-clause-begins : goal.returns-clause-begins
 returns-clause-begins c =
     let first = put_begins c.args.out.now.items c.write.new.out.items (context.bytes c.seen.result.now) c.in_ok-write.ensures.ok in
-    let second = put_begins c.write.new.out.items c.put_u32.new.out.items ((number w32).bytes c.in-Ok.count) c.in_ok-put_u32.ensures.ok in
+    let second = put_begins c.write.new.out.items c.put_u32.new.out.items ((number w32).bytes c.in-Some.count) c.in_ok-put_u32.ensures.ok in
     begins_so c.args.out.now.items c.put_u32.new.out.items c.append_entries.new.out.items (begins_so c.args.out.now.items c.write.new.out.items c.put_u32.new.out.items first second) c.append_entries.ensures.begins

@@ -5,7 +5,7 @@ use Rattle.home_table.specs.Table.{Table}
 use Rattle.node_keeper.specs.Views.{node_of, rows_of}
 use Rattle.node_rows.proofs.OneNode.{rows_tell_all}
 use Rattle.node_rows.specs.Rows.{mark, mark_key}
-use Rattle.node_work.specs.View.{NodeView, opened}
+use Rattle.node_work.specs.View.{NodeView, fresh_node}
 use Rattle.cluster_play.specs.Clusters.{are_tables, site_of}
 use Rattle.cluster_play.specs.Histories.{IsNewSite}
 use Rattle.cluster_play.proofs.Fresh.{opened_new}
@@ -38,7 +38,7 @@ loop-i-preserved c =
           (record {
             homes = c.in_ok-copy.field-0;
             fits = ap (λ (t : Table). length t.nodes) copied ∙ fits_at tables i x fit below is;
-            node = new.0 ∙ ap (λ j. opened j c.in_ok-copy.field-0) count;
+            node = new.0 ∙ ap (λ j. fresh_node j c.in_ok-copy.field-0) count;
             rows = new.1 ∙ ap (λ j. fin.insert fin.empty mark_key (mark j 0)) count;
           }) j s (subst (λ ss. slice_get ss j ≡ Some s) added h);
       homes = ap (map table_of) added

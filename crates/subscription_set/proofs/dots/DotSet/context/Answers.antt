@@ -12,4 +12,4 @@ loop-dot-preserved c = picked_yes (λ _. true) c.in-Some.dot.now c.loop-dot.cont
 
 pub returns : goal.returns
 returns c = picked_all c.loop-dot.context c.args.self.now (picked_end (λ _. true) c.loop-dot.context c.loop-dot.dot-iterator c.into_iter-dot-iterator.result c.args.self.now c.in-None.ensures.steps.0
-    (ap (λ ks. set.from_list {R = dot_cmp} ks) (c.into_iter-dot-iterator.ensures.into_iter_gives ∙ c.iter-dot-items.ensures.rest) ∙ c.self.view_is) c.loop-dot.invariant)
+    (ap (λ ks. set.from_list {R = dot_cmp} ks) c.into_iter-dot-iterator.ensures.into_iter_gives ∙ c.iter-dot-items.ensures.same) c.loop-dot.invariant)

@@ -1,13 +1,12 @@
-use Rattle.std.proofs.Common.{refl, false, sym, ap, ◌∙◌}
+use Rattle.std.proofs.Common.{sym, ap, ◌∙◌}
 use Rattle.std.specs.FinSet as set
-use Rattle.causal_context.specs.Dots.{dot_cmp_total}
-use Rattle.subscription_set.proofs.Spreading.{not_both}
-use Rattle.finite_maps.proofs.Tables.{contains_table, none_in}
+use Rattle.causal_context.specs.Dots.{dot_cmp}
+use Rattle.subscription_set.specs.Placing.{dots_placed}
+use Rattle.subscription_set.proofs.OneDot.{has_one, has_none}
 use Rattle.subscription_set.proofs.dots.DotSet.is_empty.Goals as goal
 
-pub returns-in-Some : goal.returns-in-Some
-returns-in-Some c = (c.in-Some.field-0.now, ap (λ s. set.contains s c.in-Some.field-0.now) (sym c.self.view_is) ∙ contains_table dot_cmp_total c.self.inside.dots.keys c.in-Some.field-0.now ∙ c.in-Some.ensures.member)
+pub returns-in-One : goal.returns-in-One
+returns-in-One c = (c.in-One.field-0, ap (λ s. set.contains s c.in-One.field-0) (sym c.self.view_is ∙ (λ i. set.from_list {R = dot_cmp} (dots_placed (c.in-One.is i)))) ∙ has_one c.in-One.field-0)
 
-pub returns-in-None : goal.returns-in-None
-returns-in-None c =
-    λ d. ap (λ s. set.contains s d) (sym c.self.view_is) ∙ contains_table dot_cmp_total c.self.inside.dots.keys d ∙ none_in dot_cmp_total c.self.inside.dots.keys _ (λ b. not_both false (c.in-None.ensures.variant.1 b) refl)
+pub returns-in-Many : goal.returns-in-Many
+returns-in-Many c = has_none c.in-Many.dots.keys c.args.self.now c.is_empty.result (sym (λ i. set.from_list {R = dot_cmp} (dots_placed (c.in-Many.is i))) ∙ c.self.view_is) c.is_empty.ensures.0 c.is_empty.ensures.1

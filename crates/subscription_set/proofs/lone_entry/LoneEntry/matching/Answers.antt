@@ -1,4 +1,4 @@
-use Rattle.std.proofs.Common.{◌≡◌, true, ◌↔◌, sym, subst}
+use Rattle.std.proofs.Common.{◌≡◌, true, ◌↔◌, sym, subst, ◌∙◌}
 use Rattle.std.specs.FinMap as map
 use Rattle.std.specs.FinSet as set
 use Rattle.causal_context.specs.Dots.{Dot}

@@ -1,0 +1,4 @@
+pub mod OpenLaws
+pub mod ClientLaws
+pub mod WalkLaws
+pub mod AnswerLaws

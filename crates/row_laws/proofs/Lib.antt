@@ -1,0 +1,3 @@
+pub mod LaneRows
+pub mod LaneChanges
+pub mod StateRows
