@@ -8,3 +8,4 @@ pub mod Orders
 pub mod Adopts
 pub mod Ids
 pub mod Interleaving
+pub mod Causes

@@ -2,6 +2,10 @@
 use Rattle.std.specs.Prelude.{◌≡◌, ◌≢◌, ◌⊎◌, ℕ, List, None, false, true, IsTrue}
 use Rattle.std.specs.FinMap.{empty, get, insert, remove}
 use Rattle.sqlite_trees.specs.Tree.{Trees}
+use Rattle.sqlite.specs.Disk.{MoreFaults}
+use Rattle.sqlite.specs.declared.error.Error.{Error}
+use Rattle.sqlite.specs.declared.error.Error.TheVariants.{SqliteFailure}
+use Rattle.sqlite.specs.declared.error.ErrorCode.TheVariants.{OutOfMemory}
 use Rattle.sqlite.specs.Effect.{Database}
 use Rattle.sqlite.specs.State.{State, HasCleanDisk, IsUnchanged, Shows}
 use Rattle.row_store.specs.Rows.{Content, Key}
@@ -62,6 +66,14 @@ pub record IsSameAs (old new : State) : Type 0 where
   pub is_open : IsTrue new.is_open
   pub now : new.now ≡ old.now
   pub committed : new.committed ≡ old.committed
+
+-- the connection was shut, or its disk has had more faults in the call
+abbrev pub HasDiskFailed : State → State → Type 0
+HasDiskFailed old new = (old.is_open ≡ false) ⊎ MoreFaults old.faults new.faults
+
+-- an error that the call has a cause for: want of memory, or the disk
+abbrev pub IsExcused : State → State → Error → Type 0
+IsExcused old new e = (e ≡ SqliteFailure OutOfMemory) ⊎ HasDiskFailed old new
 
 -- what a database is adopted as: it was empty, or its table has the form, and its content stays
 abbrev pub Adopts : State → State → Type 0

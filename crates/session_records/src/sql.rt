@@ -1,15 +1,15 @@
 //! Rows in a table of a SQL database.
-ghost use Rattle.std.specs.Prelude.{◌≡◌, ◌≢◌, ◌⊎◌, ◌≤◌, ◌<◌, ◌^◌, ◌-◌, false, Err, None, map, T, IsTrue, IsOk, IfOk, IfErr, OnOk, OnErr};
+ghost use Rattle.std.specs.Prelude.{◌≡◌, ◌≢◌, ◌⊎◌, ◌↔◌, ◌≤◌, ◌<◌, ◌^◌, ◌-◌, false, Err, None, map, T, IsTrue, IsOk, IfOk, IfErr, IsErrAnd, OnOk, OnErr};
 ghost use Rattle.std.specs.FinMap.{empty, is_sorted};
 ghost use Rattle.std.specs.List.Sorted.{IsPermutation};
 ghost use Rattle.std.proofs.Common.{ap, ◌∙◌};
 ghost use Rattle.sqlite.specs.Held.{state};
 ghost use Rattle.sqlite.specs.State.{HasCleanDisk, Survives};
 ghost use Rattle.sqlite.specs.View.{doubt};
-ghost use Rattle.session_records.specs.Connections.{Adopts, IsForeign, IsSameAs, Leaves, Stays};
+ghost use Rattle.session_records.specs.Connections.{Adopts, HasDiskFailed, IsForeign, IsSameAs, Leaves, Stays};
 ghost use Rattle.row_store.specs.Rows.{Content, entry_of, key_cmp};
 ghost use Rattle.session_records.specs.Stored.{IsFormed, content_in, entry_in, held};
-ghost use Rattle.session_records.specs.Table.{rows_schema};
+ghost use Rattle.session_records.specs.Table.{no_schema, rows_schema};
 
 use crate::found::read_rows;
 use crate::schema::{is_blank, is_ours};
@@ -44,6 +44,7 @@ fn fault_of(error: &Error, failures: &mut u64) -> RowFault
     ensures counts { result ≢ RowFault.Device → failures.new ≡ failures.old }
     ensures device { result ≡ RowFault.Device → (failures.old < failures.new) ⊎ (failures.new ≡ 2 ^ 64 - 1) }
     ensures never { result ≢ RowFault.BadRow }
+    ensures memory { (result ≡ RowFault.NoMemory) ↔ (error.now ≡ Error.SqliteFailure ErrorCode.OutOfMemory) }
 {
     match error {
         Error::SqliteFailure(ErrorCode::OutOfMemory) => RowFault::NoMemory,
@@ -65,6 +66,8 @@ fn all_rows<S: Alter>(conn: &mut Connection<S>, failures: &mut u64) -> Result<Ve
         → (result ≡ Err RowFault.BadRow) ⊎ IsOk result → IsSameAs (state S.Store conn.old) (state S.Store conn.new) }
     ensures stays { HasCleanDisk (state S.Store conn.new) → (state S.Store conn.old).now.schema ≡ rows_schema
         → Stays (state S.Store conn.old) (state S.Store conn.new) }
+    ensures cause { HasCleanDisk (state S.Store conn.new) → (state S.Store conn.old).now.schema ≡ rows_schema → conn.old.step_limit ≡ None
+        → result ≡ Err RowFault.Device → HasDiskFailed (state S.Store conn.old) (state S.Store conn.new) }
     ensures was_open { HasCleanDisk (state S.Store conn.new) → IsTrue (state S.Store conn.new).is_open → IsTrue (state S.Store conn.old).is_open }
     ensures clean { doubt (state S.Store conn.old).is_clean ≤ doubt (state S.Store conn.new).is_clean }
     ensures survives { (state S.Store conn.old).now.schema ≡ rows_schema → Survives (state S.Store conn.old) (state S.Store conn.new) (λ _. ⊥) }
@@ -124,6 +127,9 @@ fn take_table<S: Alter>(conn: &mut Connection<S>, failures: &mut u64) -> Result<
         → OnErr result (IsSameAs (state S.Store conn.old) (state S.Store conn.new)) }
     ensures bad { HasCleanDisk (state S.Store conn.new) → result ≡ Err RowFault.BadRow
         → (IsTrue (state S.Store conn.old).is_open → IsTrue (state S.Store conn.new).is_open) × IsForeign (state S.Store conn.old).now }
+    ensures other { (state S.Store conn.old).now.schema ≢ no_schema → (state S.Store conn.old).now.schema ≢ rows_schema → result ≡ Err RowFault.BadRow }
+    ensures cause { HasCleanDisk (state S.Store conn.new) → conn.old.step_limit ≡ None
+        → result ≡ Err RowFault.Device → HasDiskFailed (state S.Store conn.old) (state S.Store conn.new) }
     ensures crash { HasCleanDisk (state S.Store conn.new) → (c : Content) → Leaves (state S.Store conn.new) c → Leaves (state S.Store conn.old) c ⊎ (c ≡ empty) }
 {
     if !conn.is_autocommit() {
@@ -150,7 +156,8 @@ fn take_table<S: Alter>(conn: &mut Connection<S>, failures: &mut u64) -> Result<
 
 impl<S: Alter> SqlRows<S> {
     /// Takes a database that is empty, in which it makes the table, or one that has the table and
-    /// nothing else. `BadRow` is answered for any other, which is left as it was.
+    /// nothing else. `BadRow` is answered for any other, which is left as it was. `Device` is answered
+    /// only where the connection was shut, or its disk has failed.
     pub fn adopt(mut conn: Connection<S>) -> Result<SqlRows<S>, (RowFault, Connection<S>)>
         requires { conn.in_transaction ≡ false }
         ensures ok { IfOk result (λ r. HasCleanDisk (state S.Store r.0) → IsTrue (state S.Store r.0).is_open × Adopts (state S.Store conn) (state S.Store r.0)) }
@@ -158,6 +165,9 @@ impl<S: Alter> SqlRows<S> {
         ensures err { IfErr result (λ e. HasCleanDisk (state S.Store e.1) → IsTrue (state S.Store e.1).is_open → IsSameAs (state S.Store conn) (state S.Store e.1)) }
         ensures bad { IfErr result (λ e. HasCleanDisk (state S.Store e.1) → e.0 ≡ RowFault.BadRow
             → (IsTrue (state S.Store conn).is_open → IsTrue (state S.Store e.1).is_open) × IsForeign (state S.Store conn).now) }
+        // Where it has anything but the table of rows it's a bad row, and the disk is to blame only where it has failed.
+        ensures other { (state S.Store conn).now.schema ≢ no_schema → (state S.Store conn).now.schema ≢ rows_schema → IsErrAnd result (λ e. e.0 ≡ RowFault.BadRow) }
+        ensures device { IfErr result (λ e. HasCleanDisk (state S.Store e.1) → e.0 ≡ RowFault.Device → HasDiskFailed (state S.Store conn) (state S.Store e.1)) }
         ensures crash { IfOk result (λ r. HasCleanDisk (state S.Store r.0) → (c : Content) → Leaves (state S.Store r.0) c → Leaves (state S.Store conn) c ⊎ (c ≡ empty)) }
         ensures crash_err { IfErr result (λ e. HasCleanDisk (state S.Store e.1) → (c : Content) → Leaves (state S.Store e.1) c → Leaves (state S.Store conn) c ⊎ (c ≡ empty)) }
     {

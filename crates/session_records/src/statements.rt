@@ -1,15 +1,15 @@
 //! The statements that a store of rows runs.
-ghost use Rattle.std.specs.Prelude.{◌≡◌, ◌≤◌, ◌<◌, ◌↔◌, [], false, true, length, map, take, T, IsTrue, IfOk, OnOk, OnErr};
+ghost use Rattle.std.specs.Prelude.{◌≡◌, ◌≤◌, ◌<◌, ◌↔◌, [], false, true, length, map, take, T, IsTrue, None, IfOk, IfErr, OnOk, OnErr};
 ghost use Rattle.std.specs.FinMap.{empty, insert, remove, is_sorted};
 ghost use Rattle.std.specs.List.{All};
 ghost use Rattle.std.specs.List.Sorted.{IsPermutation};
 ghost use Rattle.sqlite.specs.Given.{IsPlain};
 ghost use Rattle.sqlite.specs.Held.{state};
 ghost use Rattle.sqlite.specs.Listing.{understood};
-ghost use Rattle.sqlite.specs.State.{HasCleanDisk, KeepsCommit, Shown, Survives};
+ghost use Rattle.sqlite.specs.State.{FailsToQuery, HasCleanDisk, KeepsCommit, Shown, Survives};
 ghost use Rattle.sqlite.specs.View.{doubt};
 ghost use Rattle.session_records.specs.Apart.{AreApart, after_at};
-ghost use Rattle.session_records.specs.Connections.{Becomes, Commits, GoesOn, HasMoved, HasUpdated, IsBegun, IsSameAs, Stays, StaysOrEnds};
+ghost use Rattle.session_records.specs.Connections.{Becomes, Commits, GoesOn, HasMoved, HasUpdated, IsBegun, IsExcused, IsSameAs, Stays, StaysOrEnds};
 ghost use Rattle.row_store.specs.Rows.{after, after_all, key_cmp, key_of};
 ghost use Rattle.session_records.specs.Stored.{AreTyped, IsFormed, IsShown, entry_in, entry_shown, held};
 ghost use Rattle.session_records.specs.Table.{no_schema, rows_schema};
@@ -362,6 +362,8 @@ fn create_table<S: Alter>(tx: &mut Transaction<'_, S>) -> Result<usize, Error>
     ensures same_reference { tx.new.conn.ghost_name ≡ tx.old.conn.ghost_name }
     ensures goes { HasCleanDisk (state S.Store tx.new.conn.now) → (state S.Store tx.old.conn.now).now.schema ≡ no_schema
         → OnOk result (GoesOn (state S.Store tx.old.conn.now) (state S.Store tx.new.conn.now) empty) }
+    ensures cause { HasCleanDisk (state S.Store tx.new.conn.now) → (state S.Store tx.old.conn.now).now.schema ≡ no_schema → IsTrue (state S.Store tx.old.conn.now).in_transaction
+        → IfErr result (IsExcused (state S.Store tx.old.conn.now) (state S.Store tx.new.conn.now)) }
     ensures kept { HasCleanDisk (state S.Store tx.new.conn.now) → KeepsCommit (state S.Store tx.old.conn.now) (state S.Store tx.new.conn.now) }
     ensures survives { Survives (state S.Store tx.old.conn.now) (state S.Store tx.new.conn.now) (λ _. ⊥) }
 {
@@ -379,6 +381,8 @@ pub fn make_table<S: Alter>(conn: &mut Connection<S>) -> Result<(), Error>
     ensures was_open { HasCleanDisk (state S.Store conn.new) → IsTrue (state S.Store conn.new).is_open → IsTrue (state S.Store conn.old).is_open }
     ensures ok { HasCleanDisk (state S.Store conn.new) → (state S.Store conn.old).now.schema ≡ no_schema
         → OnOk result (Becomes (state S.Store conn.new) empty) }
+    ensures cause { HasCleanDisk (state S.Store conn.new) → (state S.Store conn.old).now.schema ≡ no_schema
+        → IfErr result (IsExcused (state S.Store conn.old) (state S.Store conn.new)) }
     ensures err { HasCleanDisk (state S.Store conn.new) → IsTrue (state S.Store conn.new).is_open → IsTrue (state S.Store conn.old).is_open → (state S.Store conn.old).now.schema ≡ no_schema
         → OnErr result (((state S.Store conn.new).now ≡ (state S.Store conn.old).committed) × ((state S.Store conn.new).committed ≡ (state S.Store conn.old).committed)) }
     ensures survives { (state S.Store conn.old).now.schema ≡ no_schema → Survives (state S.Store conn.old) (state S.Store conn.new) (Commits empty) }
@@ -393,6 +397,8 @@ fn ask<S: Alter>(conn: &mut Connection<S>, sql: &str) -> Result<Vec<Found>, Erro
     requires { conn.old.in_transaction ≡ false }
     ensures mode { conn.new.in_transaction ≡ false }
     ensures shown { HasCleanDisk (state S.Store conn.new) → IfOk result (λ rows. Shown sql.now [] (state S.Store conn.old) (state S.Store conn.new) rows.items) }
+    ensures fails { HasCleanDisk (state S.Store conn.new) → IfErr result (FailsToQuery sql.now [] (state S.Store conn.old) (state S.Store conn.new)) }
+    ensures limit { conn.new.step_limit ≡ conn.old.step_limit }
     ensures same { HasCleanDisk (state S.Store conn.new) → IsPlain (understood (state S.Store conn.old).now.schema sql.now)
         → OnOk result (IsSameAs (state S.Store conn.old) (state S.Store conn.new)) }
     ensures stays { HasCleanDisk (state S.Store conn.new) → IsPlain (understood (state S.Store conn.old).now.schema sql.now)
@@ -412,6 +418,9 @@ pub fn query_rows<S: Alter>(conn: &mut Connection<S>) -> Result<Vec<Found>, Erro
         → IfOk result (λ rows. IsPermutation (map entry_in ((state S.Store conn.old).now.trees 0)) (map entry_shown rows.items)) }
     ensures formed { HasCleanDisk (state S.Store conn.new) → IsFormed (state S.Store conn.old).now
         → IfOk result (λ rows. All IsShown rows.items × T (is_sorted key_cmp (map entry_shown rows.items))) }
+    ensures cause { HasCleanDisk (state S.Store conn.new) → (state S.Store conn.old).now.schema ≡ rows_schema → conn.old.step_limit ≡ None
+        → IfErr result (IsExcused (state S.Store conn.old) (state S.Store conn.new)) }
+    ensures limit { conn.new.step_limit ≡ conn.old.step_limit }
     ensures same { HasCleanDisk (state S.Store conn.new) → (state S.Store conn.old).now.schema ≡ rows_schema
         → OnOk result (IsSameAs (state S.Store conn.old) (state S.Store conn.new)) }
     ensures stays { HasCleanDisk (state S.Store conn.new) → (state S.Store conn.old).now.schema ≡ rows_schema
@@ -432,6 +441,9 @@ pub fn has_form<S: Alter>(conn: &mut Connection<S>) -> Result<bool, Error>
     ensures mode { conn.new.in_transaction ≡ false }
     ensures typed { HasCleanDisk (state S.Store conn.new) → (state S.Store conn.old).now.schema ≡ rows_schema
         → IfOk result (λ has. IsTrue has ↔ AreTyped ((state S.Store conn.old).now.trees 0)) }
+    ensures cause { HasCleanDisk (state S.Store conn.new) → (state S.Store conn.old).now.schema ≡ rows_schema → conn.old.step_limit ≡ None
+        → IfErr result (IsExcused (state S.Store conn.old) (state S.Store conn.new)) }
+    ensures limit { conn.new.step_limit ≡ conn.old.step_limit }
     ensures same { HasCleanDisk (state S.Store conn.new) → (state S.Store conn.old).now.schema ≡ rows_schema
         → OnOk result (IsSameAs (state S.Store conn.old) (state S.Store conn.new)) }
     ensures stays { HasCleanDisk (state S.Store conn.new) → (state S.Store conn.old).now.schema ≡ rows_schema
