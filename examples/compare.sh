@@ -13,7 +13,7 @@ program=${BROKER:-$top/crates/broker_program/out/broker_program}
 room=$(mktemp -d)
 server=
 trap '[ -z "$server" ] || kill "$server" 2> "$room/killed" || :; rm -rf "$room"' EXIT
-gcc -O2 -o "$room/load" "$top/examples/load.c"
+gcc -O2 -pthread -o "$room/load" "$top/examples/load.c"
 ulimit -n 20000
 
 cat > "$room/one.toml" << 'TOML'

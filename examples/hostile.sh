@@ -49,6 +49,16 @@ try() {
     python3 "$clients" "$@" || failed=1
 }
 
+# Looks whether the broker has told that it may have no more files open.
+look_for_limit() {
+    local told
+    told=$(grep -c '^broker: accepting clients: too many open files$' "$work/n0.err" || true)
+    echo "the broker has told $told times that too many files were open"
+    if [ "$told" = 0 ]; then
+        failed=1
+    fi
+}
+
 start_broker "$(ulimit -n)" one_node
 before=$(memory)
 try slow "$port"
@@ -64,5 +74,6 @@ echo "memory of the broker: $before kB before, $(memory) kB after"
 stop_broker
 start_broker 64 one_node
 try many "$port" 100
+look_for_limit
 stop_broker
 exit "$failed"

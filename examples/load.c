@@ -1,16 +1,18 @@
 // Loads a broker of MQTT 5.0 at 127.0.0.1, and tells how many messages a second come and how long they take.
 //
-//   gcc -O2 -o load examples/load.c
-//   ./load [-p PORT] [-i IDLE] [-f FILTERS] [-n PAIRS] [-a AHEAD] [-q QOS] [-b BYTES] [-s SECONDS] [-u USER -w PASSWORD] [-m PID]
+//   gcc -O2 -pthread -o load examples/load.c
+//   ./load [-p PORT] [-i IDLE] [-f FILTERS] [-n PAIRS] [-a AHEAD] [-q QOS] [-b BYTES] [-s SECONDS] [-t THREADS] [-u USER -w PASSWORD] [-m PID]
 //
 // IDLE clients connect, subscribe to FILTERS filters each, which no message matches, and say nothing more. Then there are PAIRS of
 // a publisher and a subscriber, each pair with a topic of its own. A publisher has AHEAD messages of BYTES bytes on their way at
 // QOS: it publishes the next one once one has come (QoS 0) or its exchange has ended (QoS 1 and 2), until SECONDS are over. What
-// came is counted to the last message and divided by the time until then. With -m the memory of the process PID is told, before
-// the idle clients, with them, and with their subscriptions. The broker may be any one of MQTT 5.0.
+// came is counted to the last message and divided by the time until then. The pairs are shared out to THREADS threads, since one alone takes
+// a processor where each message wants a read and a write of it. With -m the memory that the process PID takes for each idle client and for each of their
+// subscriptions is told, and how many messages came for each second of its processor. The broker may be any one of MQTT 5.0.
 #include <arpa/inet.h>
 #include <errno.h>
 #include <netinet/tcp.h>
+#include <pthread.h>
 #include <stdint.h>
 #include <stdio.h>
 #include <stdlib.h>
@@ -19,7 +21,7 @@
 #include <time.h>
 #include <unistd.h>
 
-enum { ROOM = 65536, MOST_BYTES = 16000, MOST_TIMES = 1 << 22, EVENTS = 256 };
+enum { ROOM = 65536, MOST_BYTES = 16000, MOST_TIMES = 1 << 22, EVENTS = 256, MOST_THREADS = 64 };
 
 struct client {
     int socket;
@@ -29,13 +31,19 @@ struct client {
     uint8_t bytes[ROOM];
 };
 
-static int port = 1883, idle, filters, pairs, ahead = 1, qos, length = 64, process;
+// What a thread has counted, and when its last message came.
+struct counts {
+    size_t sent, come, acknowledged, taken_times;
+    double last;
+    double *times;
+};
+
+static int port = 1883, idle, filters, pairs, ahead = 1, qos, length = 64, threads = 1, process;
 static double seconds = 2;
 static const char *user, *password;
 static struct client *clients;
-static double *times;
-static size_t sent, come, acknowledged, taken_times;
-static double stop, last;
+static double stop;
+static _Thread_local struct counts counts;
 
 static double now(void) {
     struct timespec at;
@@ -139,7 +147,7 @@ static void publish(struct client *publisher) {
     packet[head++] = (uint8_t)left;
     memcpy(packet + head, body, count);
     send_all(publisher->socket, packet, head + count);
-    sent++;
+    counts.sent++;
 }
 
 static void publish_again(struct client *publisher) {
@@ -161,10 +169,10 @@ static void take_message(struct client *subscriber, const uint8_t *packet, const
     }
     double published;
     memcpy(&published, body + at + 1 + body[at], sizeof published);
-    last = now();
-    if (taken_times < MOST_TIMES)
-        times[taken_times++] = last - published;
-    come++;
+    counts.last = now();
+    if (counts.taken_times < MOST_TIMES)
+        counts.times[counts.taken_times++] = counts.last - published;
+    counts.come++;
     if (qos == 0)
         publish_again(&clients[2 * subscriber->pair + 1]);
 }
@@ -182,7 +190,7 @@ static void take_packet(struct client *client, const uint8_t *packet, const uint
         break;
     case 4:
     case 7:
-        acknowledged++;
+        counts.acknowledged++;
         publish_again(client);
         break;
     default:
@@ -257,33 +265,79 @@ static void connect_idle(void) {
     free(made);
 }
 
-static int connect_pairs(void) {
-    int poll = epoll_create1(0);
+static void connect_pairs(void) {
     for (int i = 0; i < 2 * pairs; i++) {
         char name[32];
         snprintf(name, sizeof name, "%s%d", i % 2 ? "publisher" : "subscriber", i / 2);
         clients[i].pair = i / 2;
         clients[i].socket = connect_client(name);
-        struct epoll_event asked = {.events = EPOLLIN, .data.ptr = &clients[i]};
-        epoll_ctl(poll, EPOLL_CTL_ADD, clients[i].socket, &asked);
         snprintf(name, sizeof name, "pair/%d", i / 2);
         if (i % 2 == 0)
             subscribe(clients[i].socket, name, 1);
     }
-    return poll;
 }
 
-// Until the end, and then until nothing comes for a second.
-static void run(int poll) {
+// The pairs whose number leaves this one when it is divided by that of the threads, until the end, and then until nothing comes for a second.
+static void *run(void *number) {
     struct epoll_event ready[EVENTS];
-    for (int i = 0; i < pairs * ahead; i++)
-        publish(&clients[2 * (i % pairs) + 1]);
+    int poll = epoll_create1(0), first = (int)(intptr_t)number;
+    counts.last = now();
+    counts.times = calloc(MOST_TIMES, sizeof *counts.times);
+    if (!counts.times)
+        end("no memory");
+    for (int i = first; i < pairs; i += threads)
+        for (int k = 2 * i; k < 2 * i + 2; k++) {
+            struct epoll_event asked = {.events = EPOLLIN, .data.ptr = &clients[k]};
+            epoll_ctl(poll, EPOLL_CTL_ADD, clients[k].socket, &asked);
+        }
+    for (int a = 0; a < ahead; a++)
+        for (int i = first; i < pairs; i += threads)
+            publish(&clients[2 * i + 1]);
     while (1) {
         int count = epoll_wait(poll, ready, EVENTS, 1000);
         if (count <= 0 && now() > stop)
             break;
         for (int i = 0; i < count; i++)
             take_bytes(ready[i].data.ptr);
+    }
+    struct counts *own = malloc(sizeof *own);
+    if (!own)
+        end("no memory");
+    *own = counts;
+    return own;
+}
+
+// The seconds of a processor that the process has taken.
+static double processor(void) {
+    char path[64];
+    unsigned long user_ticks = 0, system_ticks = 0;
+    snprintf(path, sizeof path, "/proc/%d/stat", process);
+    FILE *file = process > 0 ? fopen(path, "r") : NULL;
+    if (file) {
+        if (fscanf(file, "%*d (%*[^)]) %*c %*d %*d %*d %*d %*d %*u %*u %*u %*u %*u %lu %lu", &user_ticks, &system_ticks) != 2)
+            user_ticks = system_ticks = 0;
+        fclose(file);
+    }
+    return (double)(user_ticks + system_ticks) / (double)sysconf(_SC_CLK_TCK);
+}
+
+static void run_all(struct counts *all) {
+    pthread_t made[MOST_THREADS];
+    for (int i = 0; i < threads; i++)
+        if (pthread_create(&made[i], NULL, run, (void *)(intptr_t)i) != 0)
+            end("no thread");
+    for (int i = 0; i < threads; i++) {
+        void *found;
+        pthread_join(made[i], &found);
+        struct counts *own = found;
+        all->sent += own->sent;
+        all->come += own->come;
+        all->acknowledged += own->acknowledged;
+        all->last = own->last > all->last ? own->last : all->last;
+        for (size_t k = 0; k < own->taken_times && all->taken_times < MOST_TIMES; k++)
+            all->times[all->taken_times++] = own->times[k];
+        free(own->times);
+        free(own);
     }
 }
 
@@ -292,13 +346,13 @@ static int compare(const void *one, const void *other) {
     return (a > b) - (a < b);
 }
 
-static double percentile(double share) {
-    return taken_times == 0 ? 0 : times[(size_t)(share * (double)(taken_times - 1))] * 1e3;
+static double percentile(const struct counts *all, double share) {
+    return all->taken_times == 0 ? 0 : all->times[(size_t)(share * (double)(all->taken_times - 1))] * 1e3;
 }
 
 static void read_words(int count, char **words) {
     int letter;
-    while ((letter = getopt(count, words, "p:i:f:n:a:q:b:s:u:w:m:")) != -1) {
+    while ((letter = getopt(count, words, "p:i:f:n:a:q:b:s:t:u:w:m:")) != -1) {
         switch (letter) {
         case 'p': port = atoi(optarg); break;
         case 'i': idle = atoi(optarg); break;
@@ -308,6 +362,7 @@ static void read_words(int count, char **words) {
         case 'q': qos = atoi(optarg); break;
         case 'b': length = atoi(optarg); break;
         case 's': seconds = atof(optarg); break;
+        case 't': threads = atoi(optarg); break;
         case 'u': user = optarg; break;
         case 'w': password = optarg; break;
         case 'm': process = atoi(optarg); break;
@@ -315,26 +370,31 @@ static void read_words(int count, char **words) {
         }
     }
     if (idle < 0 || filters < 0 || pairs < 0 || ahead < 1 || qos < 0 || qos > 2 || length < (int)sizeof(double) || length > MOST_BYTES
-        || !user != !password || (user && strlen(user) + strlen(password) > 80))
+        || threads < 1 || threads > MOST_THREADS || !user != !password || (user && strlen(user) + strlen(password) > 80))
         end("a word is out of its range");
 }
 
 int main(int count, char **words) {
     read_words(count, words);
+    struct counts all = {.times = calloc(MOST_TIMES, sizeof *all.times)};
     clients = calloc(2 * (size_t)pairs + 1, sizeof *clients);
-    times = calloc(MOST_TIMES, sizeof *times);
-    if (!clients || !times)
+    if (!clients || !all.times)
         end("no memory");
     connect_idle();
     if (pairs == 0)
         return 0;
-    int poll = connect_pairs();
-    double start = now();
+    connect_pairs();
+    double start = now(), before = processor();
     stop = start + seconds;
-    last = start;
-    run(poll);
-    qsort(times, taken_times, sizeof *times, compare);
-    printf("%zu published, %zu acknowledged, %zu came: %.0f a second; half within %.3f ms, 99 of 100 within %.3f ms, all within %.3f ms\n",
-           sent, acknowledged, come, come ? (double)come / (last - start) : 0, percentile(0.5), percentile(0.99), percentile(1));
+    all.last = start;
+    run_all(&all);
+    double taken = processor() - before;
+    qsort(all.times, all.taken_times, sizeof *all.times, compare);
+    printf("%zu published, %zu acknowledged, %zu came: %.0f a second; half within %.3f ms, 99 of 100 within %.3f ms, all within %.3f ms",
+           all.sent, all.acknowledged, all.come, all.come ? (double)all.come / (all.last - start) : 0,
+           percentile(&all, 0.5), percentile(&all, 0.99), percentile(&all, 1));
+    if (taken > 0)
+        printf("; %.0f for each second of its processor", (double)all.come / taken);
+    printf("\n");
     return 0;
 }

@@ -18,6 +18,7 @@ clean_up() {
     rm -rf "$work"
 }
 trap clean_up EXIT
+trap 'exit 130' INT
 
 # The broker is run by these words, or where there are none by the launcher, which builds it first where it isn't yet.
 run_by() {
@@ -66,4 +67,47 @@ kill_node() {
 
 lines() {
     wc -l < "$1"
+}
+
+# Where the node of a number tells its status, if it is started by `start_with_status`.
+place() {
+    echo "$host:$((8083 + $1))"
+}
+
+# Starts the node of a number of examples/cluster.toml, with its status.
+start_with_status() {
+    options=(--status "$(place "$1")")
+    start_node "n$1" "$top/examples/cluster.toml" "$work/n$1.db"
+    echo "n$1: $(cat "$work/n$1"), http://$(place "$1")/"
+}
+
+# Whether the gate of a node is open: its status code.
+gate() {
+    curl -s -m 10 -o "$work/gate" -w '%{http_code}' "http://$(place "$1")/caught-up" || true
+}
+
+# Waits until the gate of each of these nodes has this code.
+await_gates() {
+    local code=$1 node
+    shift
+    for node in "$@"; do
+        for _ in $(seq 100); do
+            if [ "$(gate "$node")" = "$code" ]; then
+                break
+            fi
+            sleep 0.1
+        done
+        if [ "$(gate "$node")" != "$code" ]; then
+            echo "n$node: its gate isn't $code"
+            failed=1
+        fi
+    done
+}
+
+# Retains a message at n0, and returns once it is acknowledged.
+retain() {
+    if ! timeout 60 mosquitto_pub -V 5 -h "$host" -p 1883 -i a-publisher -q 1 -r -t "$1" -m "$2"; then
+        echo "$1: it isn't acknowledged"
+        exit 1
+    fi
 }

@@ -1,50 +1,60 @@
 #!/usr/bin/env bash
 # Runs the three nodes of examples/cluster.toml with empty databases, each with its status told at a port of its own, and shows what they tell:
-# while all run, while one is killed and others go on, and once it is back. Prints for each node its gate, its clients and its peers, and exits 1
-# where a gate is open while a peer lacks something, or stays shut.
+# while all run, while one is killed and others go on, and once it is back. Prints for each node its gate, its clients and its peers, and whether
+# its metrics are the figures of its /status.json, and have nothing that promtool finds fault with. Exits 1 where they aren't, or have, and where
+# a gate is open while a peer lacks something, or stays shut.
 #
 #   examples/status.sh             runs the program, which is built first where it isn't yet
 #   examples/status.sh PROGRAM..   runs these words in its place, with `serve CONFIG NODE DATABASE --turns N --status ADDRESS` behind them
 #
-# It needs curl and mosquitto's clients: apt-get install curl mosquitto-clients. The ports 1883 to 1885, 2883 to 2885 and 8083 to 8085 must be free.
+# It needs curl, python3 and mosquitto's clients: apt-get install curl python3 mosquitto-clients. Where promtool isn't there (apt-get install
+# prometheus), it says so and goes on without. The ports 1883 to 1885, 2883 to 2885 and 8083 to 8085 must be free.
 set -eu
 
 source "$(dirname "${BASH_SOURCE[0]}")/nodes.sh"
 run_by "$@"
-need curl mosquitto_pub
+need curl mosquitto_pub mosquitto_sub python3
 
-# Where the node of a number tells its status.
-place() {
-    echo "$host:$((8083 + $1))"
+# Subscribes in the background at n0, and waits until the retained message $1 has come.
+listen() {
+    : > "$work/listener"
+    mosquitto_sub -V 5 -h "$host" -p 1883 -i a-listener -q 1 -t 'status/#' -k 600 -W 600 -F '%p' \
+        > "$work/listener" 2> "$work/listener.err" &
+    await_line "$1" "$work/listener" "$!"
 }
 
-start() {
-    options=(--status "$(place "$1")")
-    start_node "n$1" "$top/examples/cluster.toml" "$work/n$1.db"
-    echo "n$1: $(cat "$work/n$1"), http://$(place "$1")/"
+# What a node tells at a path.
+ask() {
+    curl -s -S -m 10 "http://$(place "$1")/$2"
 }
 
-# Whether the gate of a node is open: its status code.
-gate() {
-    curl -s -o "$work/gate" -w '%{http_code}' "http://$(place "$1")/caught-up" || true
-}
-
-# Waits until the gate of each of these nodes has this code.
-await_gates() {
-    local code=$1 node
-    shift
-    for node in "$@"; do
-        for _ in $(seq 100); do
-            if [ "$(gate "$node")" = "$code" ]; then
-                break
-            fi
-            sleep 0.1
-        done
-        if [ "$(gate "$node")" != "$code" ]; then
-            echo "n$node: its gate isn't $code"
-            failed=1
+# Asks a node for its metrics and for its figures as JSON, until its metrics are the same afterwards as before.
+ask_both() {
+    for _ in $(seq 100); do
+        ask "$1" metrics > "$work/metrics"
+        ask "$1" status.json > "$work/json"
+        ask "$1" metrics > "$work/later"
+        if cmp -s "$work/metrics" "$work/later"; then
+            return
         fi
     done
+    echo "n$1: its metrics never stand still"
+    failed=1
+}
+
+# Whether the metrics of a node are its figures, and have the form of metrics.
+examine() {
+    ask_both "$1"
+    "$top/examples/status_counts.py" "$work/metrics" "$work/json" > "$work/counts" || failed=1
+    sed "s/^/n$1: /" "$work/counts"
+    if ! command -v promtool > "$work/found"; then
+        echo "n$1: promtool isn't installed, and isn't asked"
+    elif promtool check metrics < "$work/metrics" > "$work/promtool" 2>&1 && [ ! -s "$work/promtool" ]; then
+        echo "n$1: promtool has nothing to say of /metrics"
+    else
+        sed "s/^/n$1: promtool: /" "$work/promtool"
+        failed=1
+    fi
 }
 
 # What a node tells of itself and its peers, of its metrics.
@@ -52,21 +62,17 @@ show() {
     local node
     for node in "$@"; do
         echo "n$node: $(gate "$node") $(cat "$work/gate")"
-        curl -s "http://$(place "$node")/metrics" \
-            | grep -E '^mqtt_(subscriptions|retained_messages|cluster_peer_[a-z_]+)' | sed 's/^/    /'
+        ask "$node" metrics | grep -E '^mqtt_(subscriptions|retained_messages|cluster_peer_[a-z_]+)' | sed 's/^/    /'
+        examine "$node"
     done
 }
 
-# Retains a message at n0.
-retain() {
-    mosquitto_pub -V 5 -h "$host" -p 1883 -i a-publisher -q 1 -r -t "$1" -m "$2"
-}
-
 for node in 0 1 2; do
-    start "$node"
+    start_with_status "$node"
 done
 await_gates 200 0 1 2
 retain status/first 1
+listen 1
 await_gates 200 0 1 2
 echo '--- all run'
 show 0 1 2
@@ -78,12 +84,12 @@ retain status/third 3
 await_gates 503 0 1
 show 0 1
 
-start 2
+start_with_status 2
 await_gates 200 0 1 2
 echo '--- n2 is back'
 show 0 1 2
 
 if [ "$failed" -eq 0 ]; then
-    echo 'each gate was open where its peers had all'
+    echo 'each gate was open where its peers had all, and the metrics were the figures'
 fi
 exit "$failed"

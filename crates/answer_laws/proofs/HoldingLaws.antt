@@ -6,7 +6,7 @@ use Rattle.subscription_set.specs.Standing.{live}
 use Rattle.replica_store.specs.declared.kept.Kept.{Kept}
 use Rattle.replica_store.specs.declared.operation.Operation.{Operation}
 use Rattle.replica_store.specs.Operations.{HasKept}
-use Rattle.replica_store.specs.Retained.{kept_cmp_total, kept_cmp_antisym}
+use Rattle.replica_store.specs.RetainedLattice.{kept_cmp_total, kept_cmp_antisym}
 use Rattle.replica_store.specs.States.{State}
 use Rattle.replica_store.specs.StateOf.{IsStateOf}
 use Rattle.node_work.specs.View.{HeldView}

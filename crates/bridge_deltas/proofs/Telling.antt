@@ -5,9 +5,11 @@ use Rattle.std.proofs.lemmas.Bool.{cases_lt}
 use Rattle.std.proofs.lemmas.List.{drop-drop, take_all, take_more}
 use Rattle.std.proofs.lemmas.List.Elements.{All-from_recursion}
 use Rattle.bridge_frames.specs.declared.forward.Forward.{Forward}
-use Rattle.lane_rows.specs.Rows.{Messages, Plain, each, message_rows, numbers_of, rows_of, waiting_of}
+use Rattle.row_store.specs.Rows.{Plain}
+use Rattle.lane_rows.specs.Rows.{Messages, each, message_rows, numbers_of, rows_of, waiting_of}
 use Rattle.lane_rows.specs.Reading.{AreLanes, IsLane}
-use Rattle.lane_rows.specs.Changes.{IsLater, KeptLane, Left, gone_count, changes_of, message_changes, now_of, numbers_changes, put, removals, told_count, told_of}
+use Rattle.lane_rows.specs.ChangeSteps.{IsLater, gone_count, message_changes, told_count}
+use Rattle.lane_rows.specs.Changes.{KeptLane, Left, now_of, put, removals, told_of}
 use Rattle.lane_rows.proofs.Cuts.{each_last}
 use Rattle.lane_rows.proofs.Leading.{each_map}
 use Rattle.lane_rows.proofs.Order.{all_both}
@@ -127,9 +129,6 @@ pub rows_made : (ks : List KeptLane) (first mid last : List Plain) → first ≡
 rows_made ks first mid last none one two =
     two ∙ (λ i. (one ∙ ap (λ xs. xs ++ each (λ p k. waiting_of p k.lane) 0 ks) none) i ++ each (λ p k. numbers_of p k.lane) 0 ks)
     ∙ λ i. sym (each_map (λ (k : KeptLane). k.lane) waiting_of 0 ks) i ++ sym (each_map (λ (k : KeptLane). k.lane) numbers_of 0 ks) i
-
-pub changes_all : (ks : List KeptLane) (first mid last : List Left) → first ≡ [] → mid ≡ first ++ each message_changes 0 ks → last ≡ mid ++ each numbers_changes 0 ks → last ≡ changes_of ks
-changes_all ks first mid last none one two = two ∙ ap (λ xs. xs ++ each numbers_changes 0 ks) (one ∙ ap (λ xs. xs ++ each message_changes 0 ks) none)
 
 -- ---- lanes that were told as they are
 

@@ -1,8 +1,8 @@
 //! The lanes to and from one other node.
 ghost use Rattle.std.specs.Prelude.{◌≡◌, ◌<◌, ◌≤◌, ◌+◌, ◌++◌, ◌^◌, ◌↔◌, suc, nat_eq, if◌then◌else◌, take, drop, length, map, OnOk, OnErr, IfOk, IsOk, IsTrue};
 ghost use Rattle.row_store.specs.Rows.{entry_of};
-ghost use Rattle.lane_rows.specs.Changes.{left_of, message_changes, new_kept, numbers_changes, told_now};
-ghost use Rattle.lane_rows.specs.Laws.{IsSoundLane};
+ghost use Rattle.lane_rows.specs.ChangeSteps.{IsSoundLane, message_changes, numbers_changes};
+ghost use Rattle.lane_rows.specs.Changes.{left_of, new_kept, told_now};
 ghost use Rattle.lane_rows.specs.Reading.{IsLane, lane_in};
 ghost use Rattle.lane_rows.specs.Rows.{numbers_of, waiting_of};
 ghost use Rattle.message_lanes.specs.Lanes.{new_lane, with_got, with_took};

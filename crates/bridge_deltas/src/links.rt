@@ -7,14 +7,12 @@ ghost use Rattle.message_lanes.specs.Lanes.{new_lane, with_got, with_took};
 ghost use Rattle.bridge_deltas.specs.Buffer.{with_delta};
 ghost use Rattle.bridge_frames.specs.declared.forward.Forward.{Forward};
 ghost use Rattle.message_lanes.specs.Lanes.{Lanes};
-ghost use Rattle.row_changes.specs.Gathered.{AreOnce};
-ghost use Rattle.row_changes.specs.Leading.{AllDiffer, LeadWithin};
 ghost use Rattle.row_store.specs.declared.store.RowFault.TheVariants as faults;
 ghost use Rattle.row_store.specs.Rows.{entry_of};
-ghost use Rattle.lane_rows.specs.Changes.{changes_of, is_lane_kind, left_of, message_changes, new_kept, now_of, numbers_changes, told_now, told_of};
-ghost use Rattle.lane_rows.specs.Laws.{IsSoundLane};
+ghost use Rattle.lane_rows.specs.ChangeSteps.{IsSoundLane, message_changes, numbers_changes};
+ghost use Rattle.lane_rows.specs.Changes.{AreLaneChanges, left_of, new_kept, now_of, told_now, told_of};
 ghost use Rattle.lane_rows.specs.Reading.{AreLanes, AreLanesOf, IsLane, lane_in};
-ghost use Rattle.lane_rows.specs.Rows.{each, numbers_of, row_at, rows_of, waiting_of};
+ghost use Rattle.lane_rows.specs.Rows.{each, numbers_of, rows_of, waiting_of};
 ghost use Rattle.bridge_deltas.specs.Lane.{after_offer, first_frames, next_number, offer_of, told_lane};
 ghost use Rattle.bridge_deltas.specs.Links.{all_told, belief_of, kept_of, new_links, opened_links, with_kept};
 ghost use Rattle.bridge_deltas.specs.Shipped.{IsShipped};
@@ -24,7 +22,6 @@ use crate::lane::Lane;
 use crate::offer::Offer;
 use bridge_frames::{BridgeFrame, Forward, LaneNumber};
 use causal_context::{Context, Lattice};
-use lane_rows::laws::changes_lead;
 use lane_rows::{ReadLane, read_lanes};
 use mqtt_fields::{FieldFault, NoMemory};
 use replica_store::ReplicaStore;
@@ -418,19 +415,15 @@ impl Links {
         Ok(out)
     }
 
-    /// The changes that lead from the rows that were told last to those of the lanes, which count as told then. Each key is
-    /// named once, in the order of the keys, and a row that is as it was told isn't named. Where memory runs out nothing changes;
-    /// where all is as it was told none is taken.
+    /// The changes that lead from the rows that were told last to those of the lanes, which count as told then: each key at which
+    /// these differ is named once, in the order of the keys, and no other. Where memory runs out nothing changes; where all is as it
+    /// was told none is taken.
     pub fn changes(&mut self) -> Result<Vec<Change>, NoMemory>
-        ensures lead { IfOk result (λ out. LeadWithin is_lane_kind (row_at (told_of self.old.lanes)) (row_at (now_of self.old.lanes)) out.items) }
-        ensures once { IfOk result (λ out. AreOnce out.items) }
-        ensures made { IfOk result (λ out. map left_of out.items ≡ changes_of self.old.lanes) }
+        ensures changes { IfOk result (λ out. AreLaneChanges (told_of self.old.lanes) (now_of self.old.lanes) out.items) }
         ensures ok { OnOk result (self.new ≡ all_told self.old) }
         ensures err { OnErr result (self.new ≡ self.old) }
         ensures nothing { told_of self.old.lanes ≡ now_of self.old.lanes → IsOk result }
-        ensures differ { IfOk result (λ out. AllDiffer (row_at (told_of self.old.lanes)) (row_at (now_of self.old.lanes)) out.items) }
     {
-        changes_lead();
         are_sound(&self.lanes);
         let mut out = Vec::new(self.alloc);
         add_message_changes(self.alloc, self.nodes, &self.lanes, &mut out)?;

@@ -2,11 +2,11 @@
 ghost use Rattle.std.specs.Prelude.{◌≡◌, IfOk, MatchOption};
 ghost use Rattle.mqtt_fields.specs.Reading.{Gives};
 ghost use Rattle.mqtt_topics.specs.Topics.{IsShared};
-ghost use Rattle.replica_bytes.specs.Values.{filter, filter_in};
 ghost use Rattle.bridge_frames.specs.Forwards.{shared_filter};
 
-use mqtt_fields::{FieldFault, NoMemory, Text};
-use mqtt_topics::{Filter, TopicFault};
+use mqtt_fields::{FieldFault, NoMemory};
+use mqtt_topics::Filter;
+use replica_bytes::filter_at;
 use std::alloc::Global;
 use std::marker::Model;
 
@@ -27,26 +27,6 @@ impl Model for SharedFilter {
     ghost invariant = { λ f. IsShared f.filter };
 
     ghost inverse = { λ text. record { filter = text } };
-}
-
-fn filter_of(alloc: Global, text: &Text) -> Result<Filter, FieldFault>
-    ensures { Gives (λ f. f) result (filter_in text.now) }
-{
-    match Filter::parse(alloc, text.as_str()) {
-        Ok(filter) => Ok(filter),
-        Err(fault) => match fault {
-            TopicFault::NoMemory => Err(FieldFault::NoMemory),
-            _ => Err(FieldFault::Malformed),
-        },
-    }
-}
-
-fn filter_at(alloc: Global, bytes: &[u8]) -> Result<(Filter, &[u8]), FieldFault>
-    ensures { Gives (λ x. (x.0, x.1.now)) result (filter.at bytes.now) }
-{
-    let (text, rest) = Text::at(alloc, bytes)?;
-    let filter = filter_of(alloc, &text)?;
-    Ok((filter, rest))
 }
 
 impl SharedFilter {

@@ -22,7 +22,7 @@ fn is_other(work: &Work, peer: u16) -> bool
     peer != work.id() && peer < work.nodes()
 }
 
-/// GivesBody another node a frame of what the node holds.
+/// Gives another node a frame of what the node holds.
 fn give(work: &mut Work, peer: u16, body: FrameBody) -> Result<(), NodeFault>
     requires { Carries work.old.held peer body }
     ensures { (said : HeldView → FrameBody) → body ≡ said work.old.held → ComesTo (λ x. x) result work.old work.new (GivesBody peer said) }
@@ -79,7 +79,7 @@ fn ship_messages(work: &mut Work, peer: u16) -> Result<(), NodeFault>
     Ok(())
 }
 
-/// TakesBody the bytes of a frame. Bytes that are no frame, a frame that isn't for this node from another one of the cluster, and one that
+/// Takes the bytes of a frame. Bytes that are no frame, a frame that isn't for this node from another one of the cluster, and one that
 /// names a node that the cluster lacks, are dropped and counted.
 pub fn hear(work: &mut Work, bytes: &[u8]) -> Result<(), NodeFault>
     ensures { ComesTo (λ x. x) result work.old work.new (Hears bytes.now) }
@@ -122,7 +122,7 @@ fn hear_frame(work: &mut Work, frame: BridgeFrame) -> Result<(), NodeFault>
     }
 }
 
-/// TakesBody what another node says.
+/// Takes what another node says.
 fn take(work: &mut Work, from: u16, body: FrameBody) -> Result<(), NodeFault>
     requires { from ≢ work.old.place.id }
     ensures { ComesTo (λ x. x) result work.old work.new (TakesBody from body) }
@@ -152,7 +152,7 @@ fn merge(work: &mut Work, from: u16, state: ReplicaStore) -> Result<(), NodeFaul
     tell_taken(work, from)
 }
 
-/// TakesBody a message where it is the next of its lane, and answers with the number of the last one that was taken.
+/// Takes a message where it is the next of its lane, and answers with the number of the last one that was taken.
 fn take_message(
     work: &mut Work,
     from: u16,

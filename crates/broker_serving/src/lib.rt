@@ -2,6 +2,8 @@
 #![tactic(auto)]
 
 mod causes;
+mod refusal;
 mod run;
+mod telling;
 
 pub use run::serve;

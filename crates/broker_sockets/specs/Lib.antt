@@ -4,3 +4,4 @@ pub mod Buffers
 pub mod Frames
 pub mod Queued
 pub mod Ready
+pub mod Unsent

@@ -1,7 +1,7 @@
 -- What a queue of buffers holds.
 use Rattle.std.specs.Prelude.{◌≡◌, ℕ, List, ◌++◌, ◌≤◌, length, drop}
 use Rattle.std.specs.List.{All}
-use Rattle.broker_sockets.specs.declared.queue.Unsent.TheInside.{Inside}
+use Rattle.broker_sockets.specs.declared.queue.Queue.TheInside.{Inside}
 use Rattle.broker_sockets.specs.Buffers.{behind, HasBytes}
 
 -- the bytes that wait, in order

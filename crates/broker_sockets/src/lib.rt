@@ -11,6 +11,7 @@ mod polled;
 mod queue;
 mod ready;
 mod real;
+mod unsent;
 
 pub use bridge::{BridgeHandler, Given, PeerEvent, PeerEventKind, PeerFrame};
 pub use clock::{Clock, RealClock};
@@ -18,6 +19,6 @@ pub use events::{Event, EventKind, Handler, Output};
 pub use held::{Came, Held};
 pub use network::{Answer, Sockets, bind};
 pub use polled::PolledSockets;
-pub use queue::Unsent;
 pub use ready::{Readiness, Ready, Watched};
 pub use real::RealSockets;
+pub use unsent::Unsent;

@@ -1,5 +1,5 @@
 //! The sockets of the system, which tell which of them are ready.
-ghost use Rattle.std.specs.Prelude.{◌≡◌, OnOk, IfSome};
+ghost use Rattle.std.specs.Prelude.{◌≡◌, OnOk, IfSome, None};
 ghost use Rattle.broker_sockets.specs.Ready.{IsTold, token_of};
 ghost use Rattle.broker_sockets.specs.declared.ready.Watched.{Watched};
 
@@ -32,6 +32,8 @@ pub struct PolledSockets<'a, N: Net> {
     busy: bool,
     /// Whether a listener has failed since then, on which somebody may still wait.
     failed: bool,
+    /// Why a listener has failed last, where that wasn't taken yet.
+    failure: Option<io::Error>,
 }
 
 impl<'a, N: Net> Drop for PolledSockets<'a, N> {
@@ -42,6 +44,7 @@ impl<'a, N: Net> Drop for PolledSockets<'a, N> {
             events: _events,
             busy: _,
             failed: _,
+            failure: _,
         } = self;
     }
 }
@@ -81,7 +84,16 @@ impl<'a, N: Net> PolledSockets<'a, N> {
             events: Events::with_capacity(alloc, MOST)?,
             busy: true,
             failed: false,
+            failure: None,
         })
+    }
+
+    /// Why nobody could be accepted, if that has happened since it was taken last. It is forgotten then.
+    pub fn take_failure(&mut self) -> Option<io::Error>
+        ensures given { result ≡ self.old.failure }
+        ensures forgotten { self.new.failure ≡ None }
+    {
+        self.failure.take()
     }
 
     /// Notes whether a call has carried anything.
@@ -128,7 +140,10 @@ impl<'a, N: Net> Sockets for PolledSockets<'a, N> {
                 Some(stream)
             }
             Err(error) => {
-                self.failed = self.failed || error.kind() != ErrorKind::WouldBlock;
+                if error.kind() != ErrorKind::WouldBlock {
+                    self.failed = true;
+                    self.failure = Some(error);
+                }
                 None
             }
         }

@@ -1,4 +1,4 @@
-//! Bytes that wait to be written, in order.
+//! Many bytes that wait to be written, in order.
 ghost use Rattle.std.specs.Prelude.{◌≡◌, ◌≤◌, ◌<◌, ◌++◌, [], length, OnOk, OnErr, IfOk};
 ghost use Rattle.std.specs.List.{All};
 ghost use Rattle.broker_sockets.specs.Buffers.{behind, HasBytes};
@@ -11,11 +11,11 @@ use std::marker::Model;
 use std::mem;
 
 /// The room of a buffer that small packets share.
-const SHARED: usize = 16384;
+pub(crate) const SHARED: usize = 16384;
 
 /// Bytes in buffers that are never moved once they wait: the first, of which `start` bytes are written
 /// already, those behind it, and the last, which small packets fill.
-pub struct Unsent {
+pub(crate) struct Queue {
     alloc: Global,
     first: Vec<u8>,
     start: usize,
@@ -24,9 +24,9 @@ pub struct Unsent {
     len: usize,
 }
 
-impl Drop for Unsent {
+impl Drop for Queue {
     fn drop(self) {
-        let Unsent {
+        let Queue {
             alloc: _,
             first: _first,
             start: _,
@@ -37,7 +37,7 @@ impl Drop for Unsent {
     }
 }
 
-impl Model for Unsent {
+impl Model for Queue {
     ghost use Rattle.std.specs.Prelude.{List, ℕ};
     ghost use Rattle.std.specs.Coded.{coded_ℕ, coded_list};
 
@@ -101,11 +101,12 @@ fn take_next(alloc: Global, rest: &mut VecDeque<Vec<u8>>, last: &mut Vec<u8>) ->
     }
 }
 
-impl Unsent {
-    pub fn new(alloc: Global) -> Self
+impl Queue {
+    /// No bytes.
+    pub(crate) fn new(alloc: Global) -> Self
         ensures { result ≡ [] }
     {
-        Unsent {
+        Queue {
             alloc,
             first: Vec::new(alloc),
             start: 0,
@@ -115,32 +116,38 @@ impl Unsent {
         }
     }
 
-    pub fn len(&self) -> usize
+    pub(crate) fn len(&self) -> usize
         ensures { result ≡ length self.now }
     {
         self.len
     }
 
-    /// Bytes behind all others, which aren't copied where nothing waits or they are many.
-    pub fn push(&mut self, bytes: Vec<u8>) -> Result<(), AllocError>
+    /// The first bytes, which aren't copied.
+    pub(crate) fn begin(&mut self, bytes: Vec<u8>)
+        requires { length self.old ≡ 0 }
+        ensures { self.new ≡ bytes.items }
+    {
+        self.len = bytes.len();
+        self.first = bytes;
+        self.start = 0;
+    }
+
+    /// Bytes behind all others, which aren't copied where they are many.
+    pub(crate) fn push(&mut self, bytes: Vec<u8>) -> Result<(), AllocError>
+        requires { 0 < length self.old }
         ensures ok { OnOk result (self.new ≡ self.old ++ bytes.items) }
         ensures err { OnErr result (self.new ≡ self.old) }
     {
         let Some(len) = self.len.checked_add(bytes.len()) else {
             return Err(AllocError);
         };
-        if self.len == 0 {
-            self.first = bytes;
-            self.start = 0;
-        } else {
-            append(self.alloc, &mut self.rest, &mut self.last, bytes)?;
-        }
+        append(self.alloc, &mut self.rest, &mut self.last, bytes)?;
         self.len = len;
         Ok(())
     }
 
     /// Offers the first bytes to a stream, which may take some of them; the others stay.
-    pub fn write_to<S: Sockets>(&mut self, sockets: &mut S, stream: &mut S::Stream) -> Answer
+    pub(crate) fn write_to<S: Sockets>(&mut self, sockets: &mut S, stream: &mut S::Stream) -> Answer
         requires { 0 < length self.old }
         ensures { Offers S.writes self.old sockets.old stream.old result self.new sockets.new stream.new }
     {

@@ -9,12 +9,13 @@ use broker_sockets::{Output, Unsent};
 use slab::Slab;
 use std::alloc::{AllocError, Global};
 
-/// One connection: its stream, what waits to be written on it, and whether it closes after that.
+/// One connection: its stream, what waits to be written on it, and whether it closes after that. The small parts
+/// stand side by side, since each client that is there takes this room.
 #[derive(Drop)]
 pub struct Client<T: Drop> {
     pub stream: T,
-    pub unsent: Unsent,
     pub closing: bool,
+    pub unsent: Unsent,
 }
 
 impl<T: Drop> Client<T> {

@@ -4,7 +4,7 @@
 use broker_serving::serve;
 use client_limits::Limits;
 use database_examples::HOMES;
-use node_database::open_rows;
+use node_database::{Wary, open_rows};
 use sqlite::Connection;
 use std::alloc::Global;
 use std::fs;
@@ -126,7 +126,9 @@ fn a_database_that_is_none_is_told(rt: HostRuntime) {
 #[test]
 fn a_database_that_is_open_is_told(rt: HostRuntime) {
     fs::write(&rt, "open.toml", HOMES).expect(&rt, "a file");
-    let rows = open_rows(&rt, "open.db").ok().expect(&rt, "a database");
+    let rows = open_rows(&rt, "open.db", Wary)
+        .ok()
+        .expect(&rt, "a database");
     assert!(rt;
         is_told(
             &rt,

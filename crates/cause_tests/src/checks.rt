@@ -2,7 +2,7 @@
 
 use broker_checking::check;
 use database_examples::{HOMES, PACKETS, held, write_file};
-use node_database::open_rows;
+use node_database::{Wary, open_rows};
 use std::{fs, str};
 
 /// What a check of a node's rows prints, or what it leaves on standard error.
@@ -31,7 +31,9 @@ fn bytes_of(rt: &HostRuntime, database: &str, log: &str) -> Option<(Vec<u8>, Vec
 #[test]
 fn what_rows_hold_is_told(rt: HostRuntime) {
     fs::write(&rt, "held.toml", HOMES).expect(&rt, "a file");
-    let rows = open_rows(&rt, "held.db").ok().expect(&rt, "a database");
+    let rows = open_rows(&rt, "held.db", Wary)
+        .ok()
+        .expect(&rt, "a database");
     assert_eq!(rt; held(rt.alloc(), rows, &PACKETS), Some((1, 1)));
     let before = bytes_of(&rt, "held.db", "held.db-wal").expect(&rt, "files");
     let text =
@@ -86,7 +88,7 @@ fn rows_that_are_none_are_told(rt: HostRuntime) {
         );
     }
     assert!(rt; fs::metadata(&rt, "none.db").is_err());
-    let rows = open_rows(&rt, "open_told.db")
+    let rows = open_rows(&rt, "open_told.db", Wary)
         .ok()
         .expect(&rt, "a database");
     let open =

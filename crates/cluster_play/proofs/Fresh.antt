@@ -15,13 +15,13 @@ use Rattle.causal_context.proofs.RangeSets.{set_of_none}
 use Rattle.home_table.specs.Table.{Table}
 use Rattle.lane_rows.specs.Changes.{is_lane_kind}
 use Rattle.lane_rows.specs.Reading.{IsLane}
-use Rattle.lane_rows.specs.Rows.{Messages, Plain, each, numbers_of, waiting_of}
+use Rattle.lane_rows.specs.Rows.{Messages, each, numbers_of, waiting_of}
 use Rattle.lane_rows.specs.Rows as lane_rows
 use Rattle.message_lanes.specs.Lanes.{new_lane, new_lanes}
 use Rattle.replica_store.specs.declared.kept.Kept.{Kept}
 use Rattle.replica_store.specs.Retained.{topic_cmp}
 use Rattle.replica_store.specs.States.{nothing}
-use Rattle.row_store.specs.Rows.{Content, Key, key_cmp}
+use Rattle.row_store.specs.Rows.{Content, Key, key_cmp, Plain}
 use Rattle.row_store.proofs.Keys.{keys_total, exact_keys}
 use Rattle.session_table.specs.Rows.{is_session_kind}
 use Rattle.session_table.specs.Seats.{Seat, Seats}
@@ -29,7 +29,8 @@ use Rattle.finite_maps.proofs.Texts.{alike}
 use Rattle.replica_rows.specs.Reading.{IsStore}
 use Rattle.replica_rows.specs.Rows.{row_at}
 use Rattle.replica_rows.proofs.Empty.{no_rows}
-use Rattle.subscription_set.specs.Standing.{seen_of, contains-seen_of}
+use Rattle.subscription_set.specs.Standing.{seen_of}
+use Rattle.subscription_set.proofs.Seen.{contains-seen_of}
 use Rattle.subscription_set.specs.Statuses.{Status}
 use Rattle.node_keeper.specs.Keeping.{AreOf, OpensFromRows}
 use Rattle.node_rows.specs.Reading.{AreOpened, IsLasting, RowsTellAll}

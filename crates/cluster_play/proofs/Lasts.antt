@@ -3,14 +3,14 @@ use Rattle.std.proofs.Common.{◌≡◌, ◌≤◌, ◌^◌, ℕ, List, [], ◌�
 use Rattle.std.specs.FinMap as map
 use Rattle.home_table.specs.Table.{Table}
 use Rattle.mqtt_sessions.specs.Saved.{durable_of}
-use Rattle.row_store.specs.Rows.{Content, key_cmp}
+use Rattle.row_store.specs.Rows.{Content, key_cmp, Plain}
 use Rattle.session_rows.specs.Durable.{Durable, IsDurable}
 use Rattle.session_table.specs.Seats.{Seat}
 use Rattle.session_table.proofs.RowLaws.{durable-again}
 use Rattle.node_bridge.specs.View.{woken_bridge}
 use Rattle.node_keeper.specs.Keeping.{AreLasting, AreOf, AreOfNone, marked_or_raised, may_be_marked}
 use Rattle.node_rows.specs.Reading.{HasNoLane, IsAmong, IsLasting, RowsTellAll}
-use Rattle.node_rows.specs.Sessions.{Plain, opened_seat}
+use Rattle.node_rows.specs.Sessions.{opened_seat}
 use Rattle.node_rows.specs.Versions.{AreFirst}
 use Rattle.node_rows.proofs.Raising.{not_both}
 use Rattle.node_rows.specs.Rows.{Lasting, mark_key, node_row}

@@ -6,7 +6,7 @@ use broker_stop::RunFault;
 use client_limits::Limits;
 use fake_sockets::FakeSockets;
 use home_table::HomeTable;
-use node_database::open_rows;
+use node_database::{Wary, open_rows};
 use node_server::{StatusPlace, serve};
 use numbered_homes::homes_of;
 use refusing_rows::RefusingRows;
@@ -198,7 +198,9 @@ fn what_a_run_wrote_is_in_the_database_of_the_next(rt: HostRuntime) {
         // as another node
         (0, PACKETS.as_slice(), b"".as_slice(), Some(RunFault::Rows)),
     ] {
-        let rows = open_rows(&rt, "hub.db").ok().expect(&rt, "a database");
+        let rows = open_rows(&rt, "hub.db", Wary)
+            .ok()
+            .expect(&rt, "a database");
         assert!(rt; answered(&rt, rt.alloc(), rows, id, packets, got) == (fault, true));
     }
 }

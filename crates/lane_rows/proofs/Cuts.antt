@@ -8,10 +8,10 @@ use Rattle.mqtt_fields.specs.declared.fault.FieldFault.TheVariants.{Short, Malfo
 use Rattle.lane_rows.specs.declared.reading.ReadLane.{ReadLane}
 use Rattle.std.proofs.Common.{take, drop}
 use Rattle.row_store.specs.declared.row.Row.{Row}
-use Rattle.row_store.specs.Rows.{entry_of}
+use Rattle.row_store.specs.Rows.{entry_of, Plain}
 use Rattle.message_lanes.specs.Lanes.{Lanes}
 use Rattle.bridge_frames.specs.declared.forward.Forward.{Forward}
-use Rattle.lane_rows.specs.Rows.{Plain, Messages, each, numbers_of, rows_of, waiting_of}
+use Rattle.lane_rows.specs.Rows.{Messages, each, numbers_of, rows_of, waiting_of}
 use Rattle.mqtt_fields.specs.Reading.{Finds}
 use Rattle.lane_rows.specs.Reading.{AreLanes, AreLanesOf, AreParts, lane_in, IsLane, IsLaneOf, IsMessageRow, IsPeers, StartsApart}
 use Rattle.lane_rows.proofs.Lists.{mapped_both}

@@ -6,12 +6,12 @@ use Rattle.std.specs.Int.{w64}
 use Rattle.std.specs.List.{AllByRecursion}
 use Rattle.std.proofs.lemmas.Bool.{cases_Bool, cases_eq}
 use Rattle.mqtt_fields.specs.Numbers.{number}
-use Rattle.row_changes.specs.Leading.{left_by, left_or, or_else}
+use Rattle.row_changes.specs.Leading.{AllDiffer, left_by, left_or, or_else}
 use Rattle.row_store.specs.declared.row.Change.{Change}
-use Rattle.row_store.specs.Rows.{Key, key_cmp}
-use Rattle.lane_rows.specs.Rows.{Plain, last_put, message_rows, numbers_key, numbers_of, numbers_rows, numbers_value, owner, waiting_of, each, rows_of, row_at}
-use Rattle.lane_rows.specs.Changes.{KeptLane, Left, changes_of, is_lane_kind, left_of, message_changes, numbers_changes, put, told_of}
-use Rattle.lane_rows.specs.Laws.{ChangesDiffer, IsSoundLane}
+use Rattle.row_store.specs.Rows.{Key, key_cmp, Plain}
+use Rattle.lane_rows.specs.Rows.{last_put, message_rows, numbers_key, numbers_of, numbers_rows, numbers_value, owner, waiting_of, each, rows_of, row_at}
+use Rattle.lane_rows.specs.ChangeSteps.{changes_of, message_changes, numbers_changes, IsSoundLane}
+use Rattle.lane_rows.specs.Changes.{KeptLane, Left, is_lane_kind, left_of, now_of, put, told_of}
 use Rattle.lane_rows.proofs.Keys.{one_place}
 use Rattle.lane_rows.proofs.Leading.{GivesOwn, by_owner, changes_are, each_all, each_apart, each_map, kinds, lanes_lead, message_changes_of, messages_of, no_less, numbers_are, numbers_changes_of, owns, rows_rise, told_rows}
 use Rattle.lane_rows.proofs.Order.{IsAbove, Rises, all_back, all_both, all_turned, cut_changes, either, either_none, find_both, find_none, gone_by, itself, left_both, left_by_in, left_in, left_none, left_one, less_apart, or_else_none, other_key, same_is, same_key}
@@ -189,7 +189,7 @@ module _ (ks : List KeptLane) (few : length ks ≤ 2 ^ 16) (all : AllByRecursion
   left_other : (out : List Change) → map left_of out ≡ changes_of ks → (q : Key) (l : Option (List ℕ)) → left_by out q ≡ Some l → row_at (told_of ks) q ≢ l
   left_other out made q l e same = whole q l (sym (left_by_in out q ∙ ap (λ cs. left_in cs q) made) ∙ e) (ap (find key_cmp q) (sym told_are) ∙ same)
 
-pub changes_differ : ChangesDiffer
+pub changes_differ : (ks : List KeptLane) (out : List Change) → length ks ≤ 2 ^ 16 → AllByRecursion IsSoundLane ks → map left_of out ≡ changes_of ks → AllDiffer (row_at (told_of ks)) (row_at (now_of ks)) out
 changes_differ ks out few all made q named same = by (left_by out q) refl
   where
     by : (left : Option (Option (List ℕ))) → left_by out q ≡ left → ⊥

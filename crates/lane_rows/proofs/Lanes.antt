@@ -12,10 +12,10 @@ use Rattle.mqtt_fields.specs.Numbers.{number}
 use Rattle.mqtt_fields.proofs.Laws.{after_is}
 use Rattle.mqtt_fields.proofs.NumberLaws.{number_is, wide64}
 use Rattle.row_store.specs.declared.row.Row.{Row}
-use Rattle.row_store.specs.Rows.{entry_of}
+use Rattle.row_store.specs.Rows.{entry_of, Plain}
 use Rattle.bridge_frames.specs.declared.forward.Forward.{Forward}
 use Rattle.bridge_frames.specs.Forwards.{forward}
-use Rattle.lane_rows.specs.Rows.{Plain, Messages, last_put, message_row, message_rows, numbers_key, numbers_value, numbers_rows}
+use Rattle.lane_rows.specs.Rows.{Messages, last_put, message_row, message_rows, numbers_key, numbers_value, numbers_rows}
 use Rattle.mqtt_fields.specs.Reading.{Finds}
 use Rattle.lane_rows.specs.Reading.{AreMessages, AreNumbers, IsLane, IsLaneOf, IsMessage}
 use Rattle.lane_rows.proofs.Leading.{message_both}

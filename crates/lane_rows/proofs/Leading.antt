@@ -10,10 +10,10 @@ use Rattle.message_lanes.specs.Lanes.{Lanes}
 use Rattle.bridge_frames.specs.declared.forward.Forward.{Forward}
 use Rattle.row_changes.specs.Leading.{LeadWithin, left_by, left_or, or_else}
 use Rattle.row_store.specs.declared.row.Change.{Change}
-use Rattle.row_store.specs.Rows.{Key, key_cmp}
-use Rattle.lane_rows.specs.Rows.{Plain, Messages, last_put, owner, message_key, message_row, message_rows, numbers_key, numbers_value, numbers_rows, waiting_of, numbers_of, each, rows_of, row_at}
-use Rattle.lane_rows.specs.Changes.{KeptLane, Left, IsLater, changes_of, gone_count, told_count, message_changes, numbers_changes, now_of, told_of, put, removals, left_of, is_lane_kind}
-use Rattle.lane_rows.specs.Laws.{ChangesLead, IsSoundLane}
+use Rattle.row_store.specs.Rows.{Key, key_cmp, Plain}
+use Rattle.lane_rows.specs.Rows.{Messages, last_put, owner, message_key, message_row, message_rows, numbers_key, numbers_value, numbers_rows, waiting_of, numbers_of, each, rows_of, row_at}
+use Rattle.lane_rows.specs.ChangeSteps.{IsLater, changes_of, gone_count, told_count, message_changes, numbers_changes, IsSoundLane}
+use Rattle.lane_rows.specs.Changes.{KeptLane, Left, now_of, told_of, put, removals, left_of, is_lane_kind}
 use Rattle.lane_rows.proofs.Keys.{one_owner, later_place}
 use Rattle.lane_rows.proofs.Order.{Rises, IsAbove, all_both, all_front, all_back, all_turned, cut_changes, cut_leads, either, either_none, find_both, find_none, gone_by, itself, left_both, left_by_in, left_in, left_none, or_else_none, other_key, rises_both, same_is, same_key}
 
@@ -322,6 +322,3 @@ module _ (ks : List KeptLane) (few : length ks ≤ 2 ^ 16) (all : AllByRecursion
         own = λ q is. ap (find key_cmp q) now_are ∙ whole q ∙ λ i. left_or (sym (left q) i) (find key_cmp q (sym told_are i));
         others = λ q not. left q ∙ left_none q (λ k. is_lane_kind k.0 ≡ true) (changes_of ks) lane_kinds (λ yes. true≢false (sym yes ∙ not));
       }
-
-pub changes_lead : ChangesLead
-changes_lead ks out few all made = lanes_lead ks few all out made

@@ -8,3 +8,4 @@ pub mod Readers
 pub mod Lanes
 pub mod Rising
 pub mod Differing
+pub mod Named

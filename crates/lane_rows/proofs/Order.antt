@@ -8,9 +8,8 @@ use Rattle.std.specs.Ordering.{eq_by_cmp, is_eq, is_lt}
 use Rattle.std.proofs.lemmas.Bool.{cases_Bool}
 use Rattle.row_changes.specs.Leading.{or_else, left_by, left_or}
 use Rattle.row_store.specs.declared.row.Change.{Change}
-use Rattle.row_store.specs.Rows.{Key, key_cmp}
+use Rattle.row_store.specs.Rows.{Key, key_cmp, Plain}
 use Rattle.row_store.proofs.Keys.{keys_total, exact_keys, equal_is}
-use Rattle.lane_rows.specs.Rows.{Plain}
 use Rattle.lane_rows.specs.Changes.{Left, left_of, put}
 
 -- ---- keys
@@ -69,6 +68,23 @@ below_from k (e ∷ es) all = joined _ _ (subst (λ o. T (is_lt o)) (sym all.0) 
 pub rises_sorted : {V : Type 0} (es : List (Key × V)) → Rises es → T (is_sorted key_cmp es)
 rises_sorted [] up = tt
 rises_sorted (e ∷ es) up = joined _ _ (below_from e.0 es up.0) (rises_sorted es up.1)
+
+both_parts : (a b : Bool) → T (a && b) → T a × T b
+both_parts true b h = (tt, h)
+both_parts false b h = absurd h
+
+less_is : (o : Ordering) → T (is_lt o) → o ≡ Less
+less_is Less h = refl
+less_is Equal h = absurd h
+less_is Greater h = absurd h
+
+all_above : {V : Type 0} (k : Key) (es : List (Key × V)) → T (below_all key_cmp k es) → AllByRecursion (IsAbove k) es
+all_above k [] h = tt
+all_above k (e ∷ es) h = (let parts = both_parts (is_lt (key_cmp k e.0)) (below_all key_cmp k es) h in (less_is (key_cmp k e.0) parts.0, all_above k es parts.1))
+
+pub sorted_rises : {V : Type 0} (es : List (Key × V)) → T (is_sorted key_cmp es) → Rises es
+sorted_rises [] h = tt
+sorted_rises (e ∷ es) h = (let parts = both_parts (below_all key_cmp e.0 es) (is_sorted key_cmp es) h in (all_above e.0 es parts.0, sorted_rises es parts.1))
 
 pub rises_both : {V : Type 0} (xs ys : List (Key × V)) → Rises xs → Rises ys → AllByRecursion (λ x. AllByRecursion (IsAbove x.0) ys) xs → Rises (xs ++ ys)
 rises_both [] ys up also apart = also

@@ -5,12 +5,14 @@ use Rattle.std.specs.FinMap.{is_sorted}
 use Rattle.std.specs.List.{AllByRecursion}
 use Rattle.message_lanes.specs.Lanes.{Lanes}
 use Rattle.bridge_frames.specs.declared.forward.Forward.{Forward}
+use Rattle.row_changes.specs.Gathered.{AreOnce}
 use Rattle.row_store.specs.declared.row.Change.{Change}
-use Rattle.row_store.specs.Rows.{Key, key_cmp}
-use Rattle.lane_rows.specs.Rows.{Plain, Messages, each, last_put, message_rows, numbers_key, numbers_of, numbers_rows, numbers_value, owner, rows_of, waiting_of}
-use Rattle.lane_rows.specs.Changes.{KeptLane, Left, changes_of, left_of, message_changes, numbers_changes, put}
+use Rattle.row_store.specs.Rows.{Key, key_cmp, Plain}
+use Rattle.lane_rows.specs.Rows.{Messages, each, last_put, message_rows, numbers_key, numbers_of, numbers_rows, numbers_value, owner, rows_of, waiting_of}
+use Rattle.lane_rows.specs.ChangeSteps.{changes_of, message_changes, numbers_changes, IsSoundLane}
+use Rattle.lane_rows.specs.Changes.{KeptLane, Left, left_of, put}
 use Rattle.lane_rows.specs.Reading.{AreLanes, IsLane}
-use Rattle.lane_rows.specs.Laws.{ChangesAreOnce, IsSoundLane, RowsRise}
+use Rattle.lane_rows.specs.Laws.{RowsRise}
 use Rattle.lane_rows.proofs.Keys.{later_kind, later_owner}
 use Rattle.lane_rows.proofs.Leading.{IsOf, changes_are, each_all, kinds, message_changes_of, messages_of, messages_rise, numbers_are, numbers_changes_of, rows_rise}
 use Rattle.lane_rows.proofs.Order.{IsAbove, Rises, all_back, all_both, all_front, all_turned, changes_above, cut_changes, put_above, rises_both, rises_sorted}
@@ -71,7 +73,7 @@ change_rises p k = by ((last_put k.told == last_put k.lane) && (k.told.took == k
     by true = tt
     by false = (tt, tt)
 
-pub changes_once : ChangesAreOnce
+pub changes_once : (ks : List KeptLane) (out : List Change) → length ks ≤ 2 ^ 16 → AllByRecursion IsSoundLane ks → map left_of out ≡ changes_of ks → AreOnce out
 changes_once ks out small all made =
     let few : 0 + length ks ≤ 2 ^ 16 = omega (arith, small) in
     let first = each_rises 7 message_changes message_changes_of IsSoundLane lane_rises 0 ks few all in

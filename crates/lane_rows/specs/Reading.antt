@@ -5,7 +5,8 @@ use Rattle.message_lanes.specs.Lanes.{Lanes}
 use Rattle.bridge_frames.specs.declared.forward.Forward.{Forward}
 use Rattle.bridge_frames.specs.Forwards.{forward}
 use Rattle.lane_rows.specs.declared.reading.ReadLane.{ReadLane}
-use Rattle.lane_rows.specs.Rows.{Plain, Messages, last_put, message_row, message_rows, numbers_rows, waiting_of, numbers_of, owner, each, rows_of}
+use Rattle.row_store.specs.Rows.{Plain}
+use Rattle.lane_rows.specs.Rows.{Messages, last_put, message_row, message_rows, numbers_rows, waiting_of, numbers_of, owner, each, rows_of}
 
 -- what can be: at most 65,536 messages wait, each has a spelling, and all numbers are below 2^62
 pub record IsLane (l : Messages) : Type 0 where

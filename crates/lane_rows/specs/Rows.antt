@@ -5,13 +5,9 @@ use Rattle.std.specs.Int.{w16, w64}
 use Rattle.mqtt_fields.specs.Numbers.{number}
 use Rattle.message_lanes.specs.Lanes.{LaneView, Lanes}
 use Rattle.row_changes.specs.Leading.{Rows}
-use Rattle.row_store.specs.Rows.{Key, key_cmp}
+use Rattle.row_store.specs.Rows.{Key, Plain, key_cmp}
 use Rattle.bridge_frames.specs.declared.forward.Forward.{Forward}
 use Rattle.bridge_frames.specs.Forwards.{forward}
-
--- a row: its key and its value
-abbrev pub Plain : Type 0
-Plain = Key × List ℕ
 
 -- the lanes to and from one other node
 abbrev pub Messages : Type 0

@@ -22,7 +22,8 @@ use Rattle.mqtt_message.specs.declared.message.Message.{Message}
 use Rattle.mqtt_topics.specs.Matching.{Matches}
 use Rattle.subscription_set.specs.Entries.{Entry, entry_eq, entry_eq-decides, is_of, same_text, same_subscription, recency_cmp}
 use Rattle.subscription_set.specs.Standing as standing
-use Rattle.subscription_set.specs.Standing.{Entries, find_entry, is_latest, latest, live, rises-present}
+use Rattle.subscription_set.specs.Standing.{Entries, find_entry, is_latest, latest, live}
+use Rattle.subscription_set.proofs.Present.{rises-present}
 use Rattle.subscription_set.specs.Statuses.{Statuses}
 use Rattle.subscription_set.proofs.Indexing.{found_any, in_found}
 use Rattle.subscription_set.proofs.Latest.{IsIn, latest_apart}

@@ -8,13 +8,13 @@ use Rattle.qos_handshakes.specs.declared.copies.Entry.{Entry}
 use Rattle.qos_handshakes.specs.declared.copies.Stage.{Stage}
 use Rattle.qos_handshakes.specs.declared.copies.Stage.TheVariants.{Waiting, Published, Released}
 use Rattle.qos_handshakes.specs.Entries.{Entries}
-use Rattle.qos_handshakes.specs.Outbox.{Outbox, Sent, NextStep, is_owed, waits, fits, is_sendable, first_owed, after_resend, first_waiting, after_send}
+use Rattle.qos_handshakes.specs.Outbox.{Outbox, Sent, NextStep, is_owed, waits, waiting, fits, is_sendable, first_owed, after_resend, first_waiting, after_send}
 use Rattle.qos_handshakes.proofs.EntryLaws.{waits-owed}
 use Rattle.mqtt_sessions.specs.declared.reaction.Output.{Output}
 use Rattle.mqtt_sessions.specs.declared.reaction.Output.TheVariants.{Answer}
 use Rattle.mqtt_sessions.specs.Answers.{pubrel}
 use Rattle.mqtt_sessions.specs.Reaction.{AreSpelled, packet_of, publish_of, publishes_of, pubrels_of}
-use Rattle.mqtt_sessions.specs.Sending.{SendsAll, Flushes, MayFlush}
+use Rattle.mqtt_sessions.specs.Sending.{SendsAll, Flushes, MayFlush, owed}
 
 -- ---- each send leaves less to be sent
 abbrev pub weight : Entry → ℕ
@@ -108,17 +108,36 @@ pub on-err : {A E : Type 0} (r : Result A E) (P : Type 0) → P → OnErr r P
 on-err (Ok a) P p = tt
 on-err (Err e) P p = p
 
-some-owed : (now limit : ℕ) (s : Sent) (es : Entries) → first_owed now limit es ≡ Some s → es ≢ []
+some-owed : (now limit : ℕ) (s : Sent) (es : Entries) → first_owed now limit es ≡ Some s → owed es ≢ []
 some-owed now limit s [] is = λ n. (cc is)
-some-owed now limit s (e ∷ es) is = λ n. (cc n)
+some-owed now limit s (e ∷ es) is = elim (cases_Bool (is_owed e.1)) [
+  | inl o ↦ rw o (λ n. (cc n))
+  | inr o ↦ rw o (some-owed now limit s es (rw o at is))
+]
 
-some-waits : (now limit : ℕ) (d : Delivery) (es : Entries) → first_waiting now limit (after_resend now limit es) ≡ Some d → es ≢ []
+first-waits : (now limit : ℕ) (d : Delivery) (es : Entries) → first_waiting now limit es ≡ Some d → waiting es ≢ []
+first-waits now limit d [] is = λ n. (cc is)
+first-waits now limit d (e ∷ es) is = elim (cases_Bool (waits e.1.stage)) [
+  | inl w ↦ rw w (λ n. (cc n))
+  | inr w ↦ rw w (first-waits now limit d es (rw w at is))
+]
+
+some-waits : (now limit : ℕ) (d : Delivery) (es : Entries) → first_waiting now limit (after_resend now limit es) ≡ Some d → waiting es ≢ []
 some-waits now limit d [] is = λ n. (cc is)
-some-waits now limit d (e ∷ es) is = λ n. (cc n)
+some-waits now limit d (e ∷ es) is = elim (cases_Bool (waits e.1.stage)) [
+  | inl w ↦ rw w (λ n. (cc n))
+  | inr w ↦ rw w (elim (cases_Bool (is_owed e.1)) [
+    | inl o ↦ elim (cases_Bool (fits now limit e.1.delivery)) [
+      | inl g ↦ first-waits now limit d es (rw (o, g, w) at is)
+      | inr g ↦ some-waits now limit d es (rw (o, g) at is)
+    ]
+    | inr o ↦ some-waits now limit d es (rw (o, w) at is)
+  ])
+]
 
 may-send : (now limit : ℕ) (old new : Outbox) (s : Sent) → NextStep now limit old (Some s) new → MayFlush old
-may-send now limit old new s (inl n) = (n.quota, some-owed now limit s old.copies n.sent)
-may-send now limit old new s (inr n) = (n.quota, some-waits now limit s.copy old.copies n.sent)
+may-send now limit old new s (inl n) = (n.quota, inl (some-owed now limit s old.copies n.sent))
+may-send now limit old new s (inr n) = (n.quota, inr (some-waits now limit s.copy old.copies n.sent))
 
 may-from : (now limit : ℕ) (start mid : Outbox) (sents : List Sent) → SendsAll now limit start sents mid → MayFlush mid → MayFlush start
 may-from now limit start mid [] all may = subst (λ (o : Outbox). MayFlush o) all may

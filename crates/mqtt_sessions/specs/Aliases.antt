@@ -50,3 +50,7 @@ set_by (b ∷ bs) (Some alias) known = insert_entry nat_cmp known alias (b ∷ b
 
 abbrev pub set_in : Aliases → Publish → Aliases
 set_in known p = set_by p.topic (alias_of p) known
+
+-- ---- how the code keeps them: in a block, if there are any
+abbrev pub aliases_in : Option Aliases → Aliases
+aliases_in block = unwrap_or block []

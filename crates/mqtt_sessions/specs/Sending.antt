@@ -4,8 +4,10 @@ use Rattle.mqtt_fields.specs.declared.options.Qos.{Qos}
 use Rattle.mqtt_fields.specs.declared.options.Qos.TheVariants.{AtMostOnce, AtLeastOnce, ExactlyOnce}
 use Rattle.mqtt_message.specs.declared.delivery.Delivery.{Delivery}
 use Rattle.qos_handshakes.specs.declared.answers.Offer.TheVariants.{Queued, Full, AtEnd}
+use Rattle.qos_handshakes.specs.declared.copies.Entry.{Entry}
+use Rattle.qos_handshakes.specs.Entries.{Entries}
 use Rattle.qos_handshakes.specs.Outbox as outbox
-use Rattle.qos_handshakes.specs.Outbox.{Outbox, Sent, OfferStep, NextStep, in_flight}
+use Rattle.qos_handshakes.specs.Outbox.{Outbox, Sent, OfferStep, NextStep, in_flight, is_owed, waiting}
 use Rattle.mqtt_sessions.specs.declared.reaction.Output.{Output}
 use Rattle.mqtt_sessions.specs.declared.reaction.Output.TheVariants.{Publish}
 use Rattle.mqtt_sessions.specs.Reaction.{Reaction, nothing, says, sends, publishes_of}
@@ -59,9 +61,14 @@ QueueIf false old d now r new = Queues old d now r new ⊎ Overflows old d r new
 abbrev pub QueueStep : Delivery → ℕ → State → Reaction → State → Type 0
 QueueStep d now old r new = QueueIf (is_once d.qos) old d now r new
 
--- something may be sent: quota is free, and copies are kept
+-- the exchanges of which a resend is owed, in order
+abbrev pub owed : Entries → List Entry
+owed [] = []
+owed (e ∷ es) = cond (is_owed e.1) (e.1 ∷ owed es) (owed es)
+
+-- something may be sent: quota is free, and a resend is owed or a copy waits
 abbrev pub MayFlush : Outbox → Type 0
-MayFlush o = (in_flight o.copies < o.maximum) × (o.copies ≢ [])
+MayFlush o = (in_flight o.copies < o.maximum) × ((owed o.copies ≢ []) ⊎ (waiting o.copies ≢ []))
 
 -- a copy wants memory where it is sent at once, or joins the queue
 abbrev pub QueueWantsIf : Bool → Delivery → ℕ → State → Type 0

@@ -29,7 +29,7 @@ impl Running {
         ensures fault { IfErr result (λ e. e ≡ OutOfMemory) }
         ensures follows { OnOk result (Follows (watched self.old) (watched self.new)) }
     {
-        let limit = limit_in(&connect.properties);
+        let limit = u64::from(limit_in(&connect.properties));
         let answer = connack(self.alloc, continued, &connect.client, self.kept.client())?;
         self.kept.begin(self.alloc, connect)?;
         self.incoming.restart();

@@ -1,6 +1,7 @@
 //! What outlives the connections of a session, beside its exchanges.
 
 ghost use Rattle.std.specs.Prelude.{◌≡◌, ◌<◌, ◌^◌, Some, None, IfOk, OnErr, IsSome, MatchOption};
+ghost use Rattle.std.specs.Option.{option_copied};
 ghost use Rattle.mqtt_sessions.specs.Connecting.{kept_by};
 ghost use Rattle.mqtt_sessions.specs.Ending as ending;
 ghost use Rattle.mqtt_sessions.specs.State.{IsPublishableIf};
@@ -8,6 +9,7 @@ ghost use Rattle.mqtt_sessions.specs.Saved.{closed_of, phase_of};
 ghost use Rattle.session_rows.specs.Durable.{IsMomentIf};
 ghost use Rattle.mqtt_sessions.specs.declared.kept.Phase.TheVariants.{Closed};
 
+use crate::will::{BoxedWill, boxed};
 use mqtt_fields::identifier::SESSION_EXPIRY_INTERVAL;
 use mqtt_fields::{NoMemory, Text};
 use mqtt_message::{Message, Will, due};
@@ -31,7 +33,7 @@ pub(crate) struct Kept {
     /// In seconds.
     expiry: u32,
     phase: Phase,
-    will: Option<Will>,
+    will: Option<BoxedWill>,
 }
 
 impl Model for Kept {
@@ -45,11 +47,11 @@ impl Model for Kept {
     ghost invariant = { λ k. IsKept k.will k.phase };
 }
 
-fn copy_will(alloc: Global, will: &Option<Will>) -> Result<Option<Will>, NoMemory>
+fn copy_will(alloc: Global, will: &Option<Will>) -> Result<Option<BoxedWill>, NoMemory>
     ensures { IfOk result (λ w. w ≡ will.now) }
 {
     match will {
-        Some(will) => Ok(Some(will.copy(alloc)?)),
+        Some(will) => boxed(alloc, Some(will.copy(alloc)?)),
         None => Ok(None),
     }
 }
@@ -87,11 +89,14 @@ impl Kept {
         }
     }
 
-    pub(crate) fn will(&self) -> &Option<Will>
-        ensures same { result.now ≡ self.now.will }
+    pub(crate) fn will(&self) -> Option<&Will>
+        ensures same { option_copied result ≡ self.now.will }
         ensures publishable { IsPublishableIf self.now.will }
     {
-        &self.will
+        match &self.will {
+            Some(will) => Some(will),
+            None => None,
+        }
     }
 
     /// The moment since when it is closed.
@@ -105,21 +110,28 @@ impl Kept {
     }
 
     /// As it was kept.
-    pub(crate) fn open(client: Text, expiry: u32, closed: Option<u64>, will: Option<Will>) -> Kept
+    pub(crate) fn open(
+        alloc: Global,
+        client: Text,
+        expiry: u32,
+        closed: Option<u64>,
+        will: Option<Will>,
+    ) -> Result<Kept, NoMemory>
         requires publishable { IsPublishableIf will }
         requires moment { IsMomentIf closed }
-        ensures { result ≡ record { client = client; expiry = expiry; phase = phase_of closed; will = will } }
+        ensures { IfOk result (λ k. k ≡ record { client = client; expiry = expiry; phase = phase_of closed; will = will }) }
     {
         let phase = match closed {
             None => Phase::Connected,
             Some(at) => Phase::Closed(at),
         };
-        Kept {
+        let will = boxed(alloc, will)?;
+        Ok(Kept {
             client,
             expiry,
             phase,
             will,
-        }
+        })
     }
 
     /// A connection begins.

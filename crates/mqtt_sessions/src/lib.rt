@@ -16,6 +16,7 @@ mod running;
 mod saved;
 mod sending;
 mod session;
+mod will;
 
 pub use fault::SessionFault;
 pub use reaction::{Ask, Output, Publication, Reaction};

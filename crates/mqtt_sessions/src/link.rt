@@ -20,7 +20,7 @@ use std::alloc::Global;
 use std::marker::Model;
 
 /// The length of the longest packet there is (MQTT 5.0, 2.1.4).
-const LONGEST: u64 = 268_435_460;
+const LONGEST: u32 = 268_435_460;
 
 /// Which answer the connection waits for.
 #[derive(Clone, Copy, PartialEq, Eq)]
@@ -32,12 +32,12 @@ pub enum Asked {
 /// What an open connection has.
 #[derive(Drop)]
 pub(crate) struct Connection {
-    /// The longest packet that the client takes.
-    limit: u64,
-    /// In seconds.
-    keep_alive: u16,
     /// The moment of the last packet.
     last: u64,
+    /// The longest packet that the client takes.
+    limit: u32,
+    /// In seconds.
+    keep_alive: u16,
     asked: Option<Asked>,
     /// The topics that the client's aliases stand for.
     aliases: Aliases,
@@ -55,12 +55,12 @@ impl Model for Connection {
 }
 
 /// The longest packet that a client with these properties in its CONNECT takes.
-pub(crate) fn limit_in(properties: &Properties) -> u64
+pub(crate) fn limit_in(properties: &Properties) -> u32
     ensures limit { result ≡ limit_in properties.now }
     ensures most { result ≤ 268435460 }
 {
     match properties.four(MAXIMUM_PACKET_SIZE) {
-        Some(size) => LONGEST.min(u64::from(size)),
+        Some(size) => LONGEST.min(size),
         None => LONGEST,
     }
 }
@@ -70,9 +70,9 @@ pub(crate) fn begin(alloc: Global, connect: &Connect, now: u64) -> Connection
     ensures { result ≡ link_by connect.now now }
 {
     Connection {
+        last: now,
         limit: limit_in(&connect.properties),
         keep_alive: connect.keep_alive,
-        last: now,
         asked: None,
         aliases: Aliases::new(alloc),
     }
@@ -84,9 +84,9 @@ impl Connection {
         ensures { result ≡ record self { last = now } }
     {
         Connection {
+            last: now,
             limit: self.limit,
             keep_alive: self.keep_alive,
-            last: now,
             asked: self.asked,
             aliases: self.aliases,
         }
@@ -96,9 +96,9 @@ impl Connection {
         ensures { result ≡ record self { asked = asked } }
     {
         Connection {
+            last: self.last,
             limit: self.limit,
             keep_alive: self.keep_alive,
-            last: self.last,
             asked,
             aliases: self.aliases,
         }
@@ -108,7 +108,7 @@ impl Connection {
         ensures limit { result ≡ self.now.limit }
         ensures most { result ≤ 268435460 }
     {
-        self.limit
+        u64::from(self.limit)
     }
 }
 

@@ -55,18 +55,18 @@ impl Running {
     }
 
     /// Of what was kept.
-    fn open(alloc: Global, kept: Opened) -> Running
+    fn open(alloc: Global, kept: Opened) -> Result<Running, NoMemory>
         requires publishable { IsPublishableIf kept.will }
         requires moment { IsMomentIf kept.closed }
-        ensures { result ≡ tracked_in kept }
+        ensures { IfOk result (λ r. r ≡ tracked_in kept) }
     {
-        Running {
-            kept: Kept::open(kept.client, kept.expiry, kept.closed, kept.will),
+        Ok(Running {
+            kept: Kept::open(alloc, kept.client, kept.expiry, kept.closed, kept.will)?,
             incoming: kept.incoming,
             outgoing: kept.outgoing,
             connection: None,
             alloc,
-        }
+        })
     }
 
     fn rows(&self) -> Result<Vec<Row>, NoMemory>
@@ -190,7 +190,7 @@ impl Live {
         requires moment { IsMomentIf kept.closed }
         ensures { IfOk result (λ l. l ≡ record { tracked = tracked_in kept; told = told_of (durable_of (tracked_in kept).state) }) }
     {
-        let running = Running::open(alloc, kept);
+        let running = Running::open(alloc, kept)?;
         let value = running.main_value()?;
         let told = Told::of(value, running.outgoing.next_place());
         Ok(Live {

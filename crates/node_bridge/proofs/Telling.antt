@@ -1,5 +1,5 @@
 -- What a bridge shows of the links in it, and the changes that are told of their lanes.
-use Rattle.std.proofs.Common.{◌≡◌, ℕ, Result, Ok, Err, Bool, true, false, cond, List, [], ◌∷◌, map, get_or, refl, sym, ap, subst, ◌∙◌}
+use Rattle.std.proofs.Common.{◌≡◌, ℕ, Result, Ok, Err, Bool, true, false, cond, List, [], ◌∷◌, ◌++◌, map, get_or, refl, sym, ap, subst, ◌∙◌}
 use Rattle.std.specs.Prelude.{OnOk}
 use Rattle.std.proofs.Math.ListN.{set, get_or-map}
 use Rattle.std.proofs.Math.Seq.{map-set_same}
@@ -7,8 +7,9 @@ use Rattle.std.proofs.lemmas.List.{map-set, set-get_or}
 use Rattle.bridge_frames.specs.declared.forward.Forward.{Forward}
 use Rattle.row_store.specs.declared.row.Change.{Change}
 use Rattle.message_lanes.specs.Lanes.{Lanes, new_lane, with_got, with_took}
-use Rattle.lane_rows.specs.Changes.{KeptLane, new_kept, now_of, told_now, told_of}
+use Rattle.lane_rows.specs.Changes.{AreLaneChanges, KeptLane, new_kept, now_of, told_now, told_of}
 use Rattle.lane_rows.specs.Rows.{Messages}
+use Rattle.lane_rows.proofs.Named.{so_differ, so_lead}
 use Rattle.bridge_deltas.specs.declared.offer.Offer.{Offer}
 use Rattle.bridge_deltas.specs.declared.offer.Offer.TheVariants.{Queued, Full, AtEnd}
 use Rattle.bridge_deltas.specs.Lane.{after_offer}
@@ -85,6 +86,10 @@ shows_taken l peer number false = ap (λ lane. with_lane peer lane (bridge_of l)
 
 pub shows_got : (l : LinksView) (peer number : ℕ) → with_lane peer (with_got number (kept_of l peer).lane) (bridge_of l) ≡ gets peer number (bridge_of l)
 shows_got l peer number = ap (λ lane. with_lane peer (with_got number lane) (bridge_of l)) (kept_lane l peer)
+
+-- ---- changes that are told
+pub lanes_told : (old new : Lanes Forward) (before after own : List Change) → after ≡ before ++ own → AreLaneChanges old new own → LanesTell old before after new
+lanes_told old new before after own is are = (own, is, so_lead old new own are, so_differ old new own are)
 
 -- ---- where a call ended well
 pub on_ok : {A E P : Type 0} (r : Result A E) → P → OnOk r P

@@ -128,7 +128,7 @@ pub fn part(work: &mut Work, client: &Text) -> Result<(), NodeFault>
     do_due(work, client)
 }
 
-/// ClosesConnection a connection, and tells its client so.
+/// Closes a connection, and tells its client so.
 pub fn close(work: &mut Work, connection: u64) -> Result<(), NodeFault>
     ensures { ComesTo (λ x. x) result work.old work.new (ClosesConnection connection) }
 {
@@ -136,7 +136,7 @@ pub fn close(work: &mut Work, connection: u64) -> Result<(), NodeFault>
     work.tell_close(connection)
 }
 
-/// ClosesConnection the connection of a client's session.
+/// Closes the connection of a client's session.
 pub fn close_for(work: &mut Work, connection: u64, client: &Text) -> Result<(), NodeFault>
     ensures { ComesTo (λ x. x) result work.old work.new (ClosesFor connection client.now) }
 {
@@ -144,7 +144,7 @@ pub fn close_for(work: &mut Work, connection: u64, client: &Text) -> Result<(), 
     part(work, client)
 }
 
-/// ClosesConnection a connection, before a client was accepted or after.
+/// Closes a connection, before a client was accepted or after.
 pub fn close_by(work: &mut Work, connection: u64, client: Option<&Text>) -> Result<(), NodeFault>
     ensures { ComesTo (λ x. x) result work.old work.new (ClosesBy connection (option_copied client.entry)) }
 {
@@ -154,7 +154,7 @@ pub fn close_by(work: &mut Work, connection: u64, client: Option<&Text>) -> Resu
     }
 }
 
-/// ClosesConnection the connection of a client's session, where a reaction says so. Elsewhere nothing is done.
+/// Closes the connection of a client's session, where a reaction says so. Elsewhere nothing is done.
 pub fn close_after(
     work: &mut Work,
     end: Option<u8>,

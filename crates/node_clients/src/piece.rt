@@ -14,7 +14,7 @@ use crate::stream_fault::{break_off, client_of};
 use mqtt_packets::{Fed, Packet, PacketFault};
 use node_work::{Came, NodeFault, Work};
 
-/// TakesPackets in a piece of a connection's stream, and answers its packets. For a connection that isn't open nothing is done.
+/// Takes in a piece of a connection's stream, and answers its packets. For a connection that isn't open nothing is done.
 pub fn take_piece(work: &mut Work, connection: u64, bytes: &[u8]) -> Result<(), NodeFault>
     ensures idle { is_open connection work.old.held ≡ false → (result ≡ Ok tt) × (work.new ≡ work.old) }
     ensures comes { ComesTo (λ x. x) result work.old work.new (Piece connection bytes.now) }
@@ -34,7 +34,7 @@ fn shut(work: &mut Work, connection: u64) -> Result<(), NodeFault>
     close_by(work, connection, client.as_ref())
 }
 
-/// AnswersPacket packets, and then the fault.
+/// Answers packets, and then the fault.
 fn take(
     work: &mut Work,
     connection: u64,
@@ -48,7 +48,7 @@ fn take(
     break_if_open(work, connection, fault)
 }
 
-/// AnswersPacket the packets in turn. What follows the close of the connection is dropped.
+/// Answers the packets in turn. What follows the close of the connection is dropped.
 fn answer_each(work: &mut Work, connection: u64, packets: &[Packet]) -> Result<(), NodeFault>
     requires { HaveSpellings packets.now }
     ensures { ComesTo (λ x. x) result work.old work.new (Each (AnswersIfOpen connection) packets.now) }
@@ -59,7 +59,7 @@ fn answer_each(work: &mut Work, connection: u64, packets: &[Packet]) -> Result<(
     Ok(())
 }
 
-/// AnswersPacket a packet, while its connection is open.
+/// Answers a packet, while its connection is open.
 fn answer_if_open(work: &mut Work, connection: u64, packet: &Packet) -> Result<(), NodeFault>
     requires { HasSpelling packet.now }
     ensures { ComesTo (λ x. x) result work.old work.new (AnswersIfOpen connection packet.now) }
@@ -70,7 +70,7 @@ fn answer_if_open(work: &mut Work, connection: u64, packet: &Packet) -> Result<(
     answer(work, connection, packet)
 }
 
-/// AnswersPacket a packet, by whether the client of its connection is accepted.
+/// Answers a packet, by whether the client of its connection is accepted.
 fn answer(work: &mut Work, connection: u64, packet: &Packet) -> Result<(), NodeFault>
     requires { HasSpelling packet.now }
     ensures { ComesTo (λ x. x) result work.old work.new (AnswersPacket connection packet.now) }
@@ -81,7 +81,7 @@ fn answer(work: &mut Work, connection: u64, packet: &Packet) -> Result<(), NodeF
     }
 }
 
-/// AnswersPacket the first packet of a connection. One that isn't a CONNECT closes it.
+/// Answers the first packet of a connection. One that isn't a CONNECT closes it.
 fn answer_first(work: &mut Work, connection: u64, packet: &Packet) -> Result<(), NodeFault>
     requires { HasSpelling packet.now }
     ensures { ComesTo (λ x. x) result work.old work.new (AnswersFirstPacket connection packet.now) }
@@ -92,7 +92,7 @@ fn answer_first(work: &mut Work, connection: u64, packet: &Packet) -> Result<(),
     }
 }
 
-/// AnswersPacket the fault of a stream, while its connection is open.
+/// Answers the fault of a stream, while its connection is open.
 fn break_if_open(
     work: &mut Work,
     connection: u64,

@@ -1,11 +1,14 @@
 //! The database of a node: its rows in two files, which are a database and its log.
 #![tactic(auto)]
 
-ghost use Rattle.std.proofs.Common.{ap, inl, refl, ◌∙◌};
+ghost use Rattle.std.proofs.Common.{ap, ◌∙◌};
 ghost use Rattle.std.specs.Prelude.{IfOk};
 ghost use Rattle.session_records.specs.Connections.{Adopts};
 ghost use Rattle.session_records.specs.Stored.{content_in};
+ghost use Rattle.node_database.specs.Files.{AreRowsIn};
 ghost use Rattle.sqlite.specs.Held.{state};
+ghost use Rattle.sqlite.specs.State.{HasCleanDisk};
+ghost use Rattle.sqlite.specs.WalFiles.{image_at};
 ghost use Rattle.sqlite_store.specs.Laws.{settled_at};
 
 mod begun;
@@ -18,30 +21,32 @@ pub use copied::copied_rows;
 pub use fault::OpenFault;
 use row_store::{Change, Row, RowFault, RowStore};
 use session_records::SqlRows;
-use sqlite::{Alter, Connection, FileFrom, FileStore, Wary};
+pub use sqlite::Wary;
+use sqlite::{Alter, Connection, FileFrom, FileStore, Start};
+use sqlite_disk::Disk;
 
 /// Rows in the files of a database.
-pub struct DatabaseRows {
-    rows: SqlRows<FileStore<FileFrom<Wary>>>,
+pub struct DatabaseRows<D: Disk> {
+    rows: SqlRows<FileStore<D>>,
 }
 
 // It is written out, so that a caller does not prove again how each part is dropped.
-impl Drop for DatabaseRows {
+impl<D: Disk + Drop> Drop for DatabaseRows<D> {
     fn drop(self) {
         let DatabaseRows { rows: _rows } = self;
     }
 }
 
-impl RowStore for DatabaseRows {
-    ghost content = { λ d. ⟦<SqlRows<FileStore<FileFrom<Wary>>> as RowStore>⟧.content d.rows };
+impl<D: Disk> RowStore for DatabaseRows<D> {
+    ghost content = { λ d. ⟦<SqlRows<FileStore<D>> as RowStore>⟧.content d.rows };
 
-    ghost is_clean = { λ d. ⟦<SqlRows<FileStore<FileFrom<Wary>>> as RowStore>⟧.is_clean d.rows };
+    ghost is_clean = { λ d. ⟦<SqlRows<FileStore<D>> as RowStore>⟧.is_clean d.rows };
 
-    ghost is_open = { λ d. ⟦<SqlRows<FileStore<FileFrom<Wary>>> as RowStore>⟧.is_open d.rows };
+    ghost is_open = { λ d. ⟦<SqlRows<FileStore<D>> as RowStore>⟧.is_open d.rows };
 
-    ghost may_leave = { λ d. ⟦<SqlRows<FileStore<FileFrom<Wary>>> as RowStore>⟧.may_leave d.rows };
+    ghost may_leave = { λ d. ⟦<SqlRows<FileStore<D>> as RowStore>⟧.may_leave d.rows };
 
-    ghost failed = { λ d. ⟦<SqlRows<FileStore<FileFrom<Wary>>> as RowStore>⟧.failed d.rows };
+    ghost failed = { λ d. ⟦<SqlRows<FileStore<D>> as RowStore>⟧.failed d.rows };
 
     fn failures(&self) -> u64 {
         self.rows.failures()
@@ -55,12 +60,13 @@ impl RowStore for DatabaseRows {
         self.rows.load()
     }
 
-    ghost settled = { λ d c up left. left.2 ∙ ap (λ trees. content_in (trees 0)) (settled_at d.rows.0.store (λ _. inl refl) left.0 up left.1) };
+    ghost settled = { λ d c up left. left.2 ∙ ap (λ trees. content_in (trees 0)) (settled_at d.rows.0.store D.Disk.seen_may_stay left.0 up left.1) };
 }
 
 /// The rows of a connection that is in no transaction, as they are; an empty database has none.
 pub(crate) fn adopt<S: Alter + Drop>(conn: Connection<S>) -> Result<SqlRows<S>, RowFault>
     ensures open { IfOk result (λ rows. ⟦<SqlRows<S> as RowStore>⟧.is_clean rows → ⟦<SqlRows<S> as RowStore>⟧.is_open rows) }
+    ensures was_clean { IfOk result (λ rows. ⟦<SqlRows<S> as RowStore>⟧.is_clean rows → HasCleanDisk (state S.Store conn)) }
     ensures adopts { IfOk result (λ rows. ⟦<SqlRows<S> as RowStore>⟧.is_clean rows → Adopts (state S.Store conn) (state S.Store rows.0)) }
 {
     if !conn.is_autocommit() {
@@ -77,16 +83,24 @@ fn is_file(path: &str) -> bool {
     path != ":memory:" && !path.starts_with("file:")
 }
 
-/// The rows of the database at a path, which is made where there is none. They are open.
+/// The rows of the database at a path, which is made where there is none: those that its files hold as they are opened. They are open.
+///
+/// `S` stands for what the files hold, which no code can tell; its value is used up, so code over any `S` opens one database. Programs pass
+/// `Wary`. That the files are those at the path no clause says.
 ///
 /// A fault is that of its files (`fault_of_error`), or else of its rows, as `SqlRows::adopt` answers it (`fault_of_rows`).
-pub fn open_rows(rt: &HostRuntime, path: &str) -> Result<DatabaseRows, OpenFault>
-    ensures { IfOk result (λ d. ⟦<DatabaseRows as RowStore>⟧.is_clean d → ⟦<DatabaseRows as RowStore>⟧.is_open d) }
+pub fn open_rows<S: Start>(
+    rt: &HostRuntime,
+    path: &str,
+    start: S,
+) -> Result<DatabaseRows<FileFrom<S>>, OpenFault>
+    ensures open { IfOk result (λ d. ⟦<DatabaseRows<FileFrom<S>> as RowStore>⟧.is_clean d → ⟦<DatabaseRows<FileFrom<S>> as RowStore>⟧.is_open d) }
+    ensures rows { IfOk result (λ d. ⟦<DatabaseRows<FileFrom<S>> as RowStore>⟧.is_clean d → AreRowsIn (image_at S.Start) (⟦<DatabaseRows<FileFrom<S>> as RowStore>⟧.content d)) }
 {
     if is_file(path) {
         let _ = begin(rt, path);
     }
-    match Connection::open_from(rt, path, false, Wary) {
+    match Connection::open_from(rt, path, false, start) {
         Ok(conn) => match adopt(conn) {
             Ok(rows) => Ok(DatabaseRows { rows }),
             Err(fault) => Err(fault_of_rows(fault)),

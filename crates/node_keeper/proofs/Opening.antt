@@ -9,7 +9,7 @@ use Rattle.home_table.specs.Table.{Table}
 use Rattle.mqtt_sessions.specs.Saved.{durable_of}
 use Rattle.node_keeper.specs.Keeping.{RowsAreKept, AreLasting, AreOfNone, HaveOneVersion, HoldsWhatLasts, LastsIn, OpeningKeepsWhatLasts, OpensFromRows, are_raised, given_mark, marked_or_raised, may_be_raised, may_be_marked, only_mark}
 use Rattle.node_rows.specs.Reading.{IsLasting, Say, SayNothing}
-use Rattle.node_rows.specs.Sessions.{Plain, opened_seat}
+use Rattle.node_rows.specs.Sessions.{opened_seat}
 use Rattle.node_rows.specs.Versions.{AreFirst, Raise, raised_all, raised_content}
 use Rattle.node_rows.proofs.OneNode.{two_marks}
 use Rattle.node_rows.proofs.Raising.{not_both}
@@ -20,7 +20,7 @@ use Rattle.row_store.specs.declared.row.Row.{Row}
 use Rattle.row_changes.specs.Leading.{left_by, left_or}
 use Rattle.row_changes.proofs.Leaving.{changes_leave}
 use Rattle.row_store.specs.declared.row.Change.{Change}
-use Rattle.row_store.specs.Rows.{Content, Key, after_all, content_of, entry_of, key_cmp}
+use Rattle.row_store.specs.Rows.{Content, Key, after_all, content_of, entry_of, key_cmp, Plain}
 use Rattle.row_store.proofs.Keys.{exact_keys, keys_total}
 use Rattle.session_rows.specs.Durable.{Durable, IsDurable}
 use Rattle.session_table.specs.Seats.{Seat}

@@ -59,7 +59,7 @@ fn lose(node: &mut Node, before: Option<HomeTable>)
 impl<R: RowStore> Keeper<R> {
     ghost use Rattle.node_keeper.specs.Views.{node_of, rows_of};
 
-    /// OpensFromRows a node from its rows: its table of homes, and its number. Where there are no rows it first writes the mark, and
+    /// Opens a node from its rows: its table of homes, and its number. Where there are no rows it first writes the mark, and
     /// rows of version 1 it writes as rows of version 2 before it answers. A fault gives the rows back; they are what they
     /// were, but for the mark.
     pub fn open(
@@ -87,7 +87,7 @@ impl<R: RowStore> Keeper<R> {
         }
     }
 
-    /// OpensFromRows the node again from its rows: a restart, also of a node that runs. After a fault it is down.
+    /// Opens the node again from its rows: a restart, also of a node that runs. After a fault it is down.
     pub fn reopen(&mut self) -> Result<(), KeeperFault>
         ensures place { (node_of self.new).place ≡ (node_of self.old).place }
         ensures homes { (node_of self.new).homes ≡ (node_of self.old).homes }

@@ -75,7 +75,7 @@ fn write_raised<R: RowStore>(alloc: Global, rows: &mut R, loaded: &[Row]) -> Res
     rows.apply(&changes)
 }
 
-/// OpensFromRows a node from its rows, as `Keeper::open` does.
+/// Opens a node from its rows, as `Keeper::open` does.
 pub fn wake<R: RowStore>(
     alloc: Global,
     rows: &mut R,

@@ -4,12 +4,11 @@ use Rattle.std.specs.FinMap as map
 use Rattle.causal_context.specs.Dots.{Dots, greatest_of}
 use Rattle.replica_store.specs.Retained.{with_message}
 use Rattle.row_store.specs.declared.row.Row.{Row}
-use Rattle.row_store.specs.Rows.{entry_of}
+use Rattle.row_store.specs.Rows.{entry_of, Plain}
 use Rattle.subscription_set.specs.Standing.{live}
 use Rattle.node_rows.specs.declared.reading.Opened.{Opened}
 use Rattle.node_rows.specs.Reading.{IsLasting, IsOpened, Say}
 use Rattle.node_rows.specs.Rows.{Lasting}
-use Rattle.node_rows.specs.Sessions.{Plain}
 use Rattle.node_reports.specs.declared.figures.Figures.{Figures}
 
 -- two bytes that are the number of a node, the highest first

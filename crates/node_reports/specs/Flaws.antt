@@ -2,7 +2,7 @@
 use Rattle.std.specs.Prelude.{ℕ, ◌==◌, ◌&&◌, not, List, [], ◌∷◌, Option, Some, None, if◌then◌else◌}
 use Rattle.session_rows.specs.Reading.{whole}
 use Rattle.node_rows.specs.Rows.{marked}
-use Rattle.node_rows.specs.Sessions.{Plain}
+use Rattle.row_store.specs.Rows.{Plain}
 use Rattle.node_reports.specs.declared.flaw.Flaw.{Flaw}
 use Rattle.node_reports.specs.declared.flaw.Flaw.TheVariants.{NoMark, OtherVersion, OtherNode, Unsound}
 

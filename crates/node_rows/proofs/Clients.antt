@@ -8,7 +8,7 @@ use Rattle.std.specs.List.{AllByRecursion}
 use Rattle.std.specs.Ordering.{eq_by_cmp, is_eq, nat_cmp, ordering_then}
 use Rattle.std.proofs.lemmas.Bool.{and_parts, cases_Bool, cases_eq, ltb-true}
 use Rattle.std.proofs.lemmas.Map.Lookups.{exact_bytes}
-use Rattle.row_store.specs.Rows.{Key, key_cmp}
+use Rattle.row_store.specs.Rows.{Key, key_cmp, Plain}
 use Rattle.row_store.proofs.Keys.{keys_total, equal_is}
 use Rattle.qos_handshakes.specs.Entries.{Entries}
 use Rattle.qos_handshakes.specs.Restored.{agree, first_place}
@@ -16,7 +16,7 @@ use Rattle.session_rows.specs.Durable.{Durable, IsDurable}
 use Rattle.session_rows.specs.Fields.{main}
 use Rattle.session_rows.specs.Rows.{main_key, copy_key, copy_row, copy_rows, rows_of}
 use Rattle.node_rows.specs.Rows.{session_row}
-use Rattle.node_rows.specs.Sessions.{AreSessions, Plain, own_row, own_rows, all_copies, session_at}
+use Rattle.node_rows.specs.Sessions.{AreSessions, own_row, own_rows, all_copies, session_at}
 use Rattle.node_rows.proofs.Lists.{IsAbove, all_both, all_turned, either, find_both, find_none, one_list, other_key, same_key, sorted_both, sorted_head, sorted_more, sorted_tail}
 use Rattle.lane_rows.proofs.Numbers.{bytes_rise}
 

@@ -7,8 +7,8 @@ use Rattle.std.proofs.Math.Seq.{drop-cons}
 use Rattle.std.specs.FinMap.{is_sorted}
 use Rattle.std.specs.List.{AllByRecursion}
 use Rattle.row_store.specs.declared.row.Row.{Row}
-use Rattle.row_store.specs.Rows.{entry_of, key_cmp}
-use Rattle.node_rows.specs.Sessions.{IsOf, Plain, StartsApart}
+use Rattle.row_store.specs.Rows.{entry_of, key_cmp, Plain}
+use Rattle.node_rows.specs.Sessions.{IsOf, StartsApart}
 use Rattle.node_rows.proofs.Lists.{IsAbove, all_turned, kind_up, sorted_front, sorted_head, sorted_tail}
 
 mapped_last : (rs : List Row) (r : Row) → map entry_of (rs ++ r ∷ []) ≡ map entry_of rs ++ entry_of r ∷ []

@@ -4,14 +4,14 @@ use Rattle.std.specs.Prelude.{◌==◌, if◌then◌else◌}
 use Rattle.std.specs.FinMap.{find, is_sorted}
 use Rattle.std.specs.List.{AllByRecursion}
 use Rattle.std.proofs.lemmas.Bool.{cases_eq, ne_eqb}
-use Rattle.row_store.specs.Rows.{Key, key_cmp}
+use Rattle.row_store.specs.Rows.{Key, key_cmp, Plain}
 use Rattle.lane_rows.specs.Changes.{is_lane_kind}
 use Rattle.lane_rows.specs.Rows as lane_rows
 use Rattle.replica_store.specs.States.{State}
 use Rattle.session_rows.specs.Durable.{Durable}
 use Rattle.replica_rows.specs.Rows.{row_at}
 use Rattle.node_rows.specs.Rows.{Lasting, mark, mark_at, mark_key, node_row, session_row}
-use Rattle.node_rows.specs.Sessions.{AreSessions, Plain, session_at}
+use Rattle.node_rows.specs.Sessions.{AreSessions, session_at}
 use Rattle.node_rows.proofs.Lists.{either, find_both, find_none, other_key, same_key}
 use Rattle.node_rows.proofs.Clients.{are_copies, are_own, clients_apart, found}
 

@@ -19,11 +19,10 @@ use Rattle.lane_rows.proofs.Lanes.{count_rows, one_pair}
 use Rattle.lane_rows.proofs.Leading.{IsOf, each_all, each_apart, kinds, messages_of, numbers_are, owns}
 use Rattle.lane_rows.proofs.Rising.{rows_in_order}
 use Rattle.mqtt_fields.proofs.Whole.{one_value}
-use Rattle.row_store.specs.Rows.{Key, key_cmp}
+use Rattle.row_store.specs.Rows.{Key, key_cmp, Plain}
 use Rattle.replica_rows.specs.Rows.{row_at}
 use Rattle.node_rows.specs.Reading.{AreLinksOf, AreLinksToOthers, HasNoLane, NoLanesToOthers}
 use Rattle.node_rows.specs.Rows.{Lasting}
-use Rattle.node_rows.specs.Sessions.{Plain}
 use Rattle.node_rows.proofs.Lists.{all_both, all_turned, either, find_both, find_none, one_list, sorted_back}
 use Rattle.node_rows.proofs.Cuts.{last_row, no_high_row}
 

@@ -9,7 +9,7 @@ use Rattle.session_rows.specs.Reading.{whole}
 use Rattle.session_rows.proofs.DurableLaws.{whole_again, whole_takes}
 use Rattle.node_rows.specs.Reading.{IsMark, NoMark}
 use Rattle.node_rows.specs.Rows.{mark_key, marked}
-use Rattle.node_rows.specs.Sessions.{Plain}
+use Rattle.row_store.specs.Rows.{Plain}
 
 marked_is : IsField marked
 marked_is = after_is (number w16) (λ _. after (number w16) (λ _. number w64)) (number_is w16 wide16) (λ _. after_is (number w16) (λ _. number w64) (number_is w16 wide16) (λ _. number_is w64 wide64))

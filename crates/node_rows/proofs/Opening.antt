@@ -9,7 +9,8 @@ use Rattle.std.specs.Ordering.{nat_cmp}
 use Rattle.std.proofs.lemmas.List.{length-replicate}
 use Rattle.bridge_deltas.specs.Links.{LinksView, opened_links}
 use Rattle.causal_context.specs.Dots.{Dots, dot_cmp}
-use Rattle.subscription_set.specs.Standing.{contains-seen_of, seen_of}
+use Rattle.subscription_set.specs.Standing.{seen_of}
+use Rattle.subscription_set.proofs.Seen.{contains-seen_of}
 use Rattle.replica_store.specs.declared.kept.Kept.{Kept}
 use Rattle.replica_store.specs.Retained.{Retained}
 use Rattle.lane_rows.specs.Reading.{AreLanesOf}
@@ -18,7 +19,7 @@ use Rattle.replica_store.specs.States.{State, nothing}
 use Rattle.row_store.specs.declared.row.Row.{Row}
 use Rattle.row_store.specs.declared.store.RowFault.{RowFault}
 use Rattle.row_store.specs.declared.store.RowFault.TheVariants.{NoMemory, Device, BadRow}
-use Rattle.row_store.specs.Rows.{Key, content_of, entry_of, key_cmp}
+use Rattle.row_store.specs.Rows.{Key, content_of, entry_of, key_cmp, Plain}
 use Rattle.row_store.proofs.Keys.{keys_total}
 use Rattle.session_rows.specs.Durable.{Durable, IsDurable}
 use Rattle.session_table.specs.Seats.{Seats}
@@ -27,7 +28,7 @@ use Rattle.replica_rows.proofs.OneStore.{one_reading}
 use Rattle.node_rows.specs.declared.reading.Opened.{Opened}
 use Rattle.node_rows.specs.Reading.{AreAmong, AreLinksToOthers, AreNodeRows, AreOpened, Finds, IsAmong, IsCut, IsLasting, IsMark, IsOpened, IsStateOf, NoLanesToOthers, NoMark, NoState, SayNothing, SayNothingNow, SayNow}
 use Rattle.node_rows.specs.Rows.{Lasting, new_node, node_row}
-use Rattle.node_rows.specs.Sessions.{AreRead, AreSessions, NoSessions, Plain, session_at}
+use Rattle.node_rows.specs.Sessions.{AreRead, AreSessions, NoSessions, session_at}
 use Rattle.node_rows.proofs.Clients.{session_is}
 use Rattle.node_rows.proofs.Counted.{behind, first_and_behind, mapped_both}
 use Rattle.node_rows.proofs.Cuts.{last_row, say_so}

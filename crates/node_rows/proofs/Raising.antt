@@ -16,10 +16,9 @@ use Rattle.row_changes.proofs.Leaving.{or_else_else, or_else_none, second_is_las
 use Rattle.row_store.specs.declared.row.Change.{Change}
 use Rattle.row_store.specs.declared.row.Change.TheVariants.{Put}
 use Rattle.row_store.specs.declared.row.Row.{Row}
-use Rattle.row_store.specs.Rows.{Key, entry_of, key_cmp}
+use Rattle.row_store.specs.Rows.{Key, entry_of, key_cmp, Plain}
 use Rattle.session_rows.specs.Reading.{whole, whole_of}
 use Rattle.node_rows.specs.Rows.{mark, mark_key, marked}
-use Rattle.node_rows.specs.Sessions.{Plain}
 use Rattle.node_rows.specs.Versions.{AreFirst, AreRaising, Raise, SaysFirst, differs, raised, raised_all, raised_by, raised_row, raised_value}
 use Rattle.node_rows.proofs.Lists.{IsAbove, itself, less_apart, other_key, same_is, same_key, sorted_head, sorted_tail}
 

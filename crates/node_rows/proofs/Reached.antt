@@ -4,13 +4,13 @@ use Rattle.std.specs.FinMap as map
 use Rattle.row_store.specs.declared.row.Row.{Row}
 use Rattle.row_store.specs.declared.store.RowFault.{RowFault}
 use Rattle.row_store.specs.declared.store.RowFault.TheVariants.{NoMemory, Device, BadRow}
-use Rattle.row_store.specs.Rows.{entry_of, key_cmp}
+use Rattle.row_store.specs.Rows.{entry_of, key_cmp, Plain}
 use Rattle.mqtt_sessions.specs.Saved.{Saved, reopened, state_of}
 use Rattle.session_table.specs.Rows.{IsAllTold}
 use Rattle.session_table.specs.Seats.{Seats}
 use Rattle.session_table.proofs.RowLaws.{opened-told}
 use Rattle.node_rows.specs.Reading.{Finds, Tells}
-use Rattle.node_rows.specs.Sessions.{AreRead, IsReopened, NoSession, NoSessions, Plain, opened_seat}
+use Rattle.node_rows.specs.Sessions.{AreRead, IsReopened, NoSession, NoSessions, opened_seat}
 use Rattle.node_rows.proofs.Counted.{IsNextRow, none_left}
 use Rattle.node_rows.proofs.Walked.{IsWalked, walk_begins, walk_ends, walk_leaves, walk_on, walk_stops}
 

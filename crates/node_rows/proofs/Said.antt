@@ -3,14 +3,14 @@ use Rattle.std.proofs.Common.{◌≡◌, ◌≢◌, inl, inr, ℕ, zero, suc, �
 use Rattle.std.specs.FinMap.{find, get-from_entries, is_sorted}
 use Rattle.std.specs.List.{AllByRecursion}
 use Rattle.std.proofs.lemmas.Bool.{cases_Bool, cases_lt}
-use Rattle.row_store.specs.Rows.{Key, key_cmp}
+use Rattle.row_store.specs.Rows.{Key, key_cmp, Plain}
 use Rattle.row_store.proofs.Keys.{keys_total}
 use Rattle.qos_handshakes.specs.Entries.{Entries}
 use Rattle.session_rows.specs.Durable.{Durable, IsDurable}
 use Rattle.session_rows.specs.Fields.{main}
 use Rattle.session_rows.specs.Rows.{main_key, copy_rows, rows_of}
 use Rattle.node_rows.specs.Rows.{Lasting, mark, mark_key, node_row, session_row}
-use Rattle.node_rows.specs.Sessions.{AreSessions, Plain, own_row}
+use Rattle.node_rows.specs.Sessions.{AreSessions, own_row}
 use Rattle.node_rows.proofs.Lists.{IsAbove, all_front, each_found, either, find_none, itself, kind_up, least_first, other_key, same_is, same_key, sorted_back, sorted_front, sorted_head, sorted_tail}
 use Rattle.node_rows.proofs.Clients.{IsOwn, HaveOwn, complete}
 use Rattle.node_rows.proofs.Cuts.{among, copy_kind, find_cut, in_last, in_middle, last_row, no_last_row, other_row, own_kind}

@@ -8,11 +8,11 @@ use Rattle.std.specs.List.{AllByRecursion}
 use Rattle.std.specs.Option.{option_map}
 use Rattle.std.specs.Ordering.{nat_cmp, ordering_then}
 use Rattle.std.proofs.lemmas.Bool.{cases_Bool}
-use Rattle.row_store.specs.Rows.{Key, key_cmp}
+use Rattle.row_store.specs.Rows.{Key, key_cmp, Plain}
 use Rattle.session_rows.specs.Durable.{Durable, IsDurable}
 use Rattle.session_rows.specs.Rows.{main_key, copy_rows, rows_of}
 use Rattle.session_table.specs.Seats.{Seats}
-use Rattle.node_rows.specs.Sessions.{AreRead, AreSeated, AreSessions, IsOf, NoSession, NoSessions, Plain, StartsApart, own_row, own_rows, all_copies, opened_seat, session_at}
+use Rattle.node_rows.specs.Sessions.{AreRead, AreSeated, AreSessions, IsOf, NoSession, NoSessions, StartsApart, own_row, own_rows, all_copies, opened_seat, session_at}
 use Rattle.node_rows.proofs.Lists.{IsAbove, all_both, all_turned, sorted_back, sorted_head, sorted_tail}
 use Rattle.node_rows.proofs.Clients.{IsAfter, client_is, clients_above, copies_of, same_client}
 

@@ -13,14 +13,14 @@ use Rattle.replica_store.specs.States.{State}
 use Rattle.row_store.specs.declared.row.Row.{Row}
 use Rattle.row_store.specs.declared.store.RowFault.{RowFault}
 use Rattle.row_store.specs.declared.store.RowFault.TheVariants.{NoMemory, Device, BadRow}
-use Rattle.row_store.specs.Rows.{Key, key_cmp, entry_of, content_of}
+use Rattle.row_store.specs.Rows.{Key, key_cmp, entry_of, content_of, Plain}
 use Rattle.session_rows.specs.Durable.{Durable, IsDurable}
 use Rattle.session_table.specs.Seats.{Seats}
 use Rattle.replica_rows.specs.Reading.{AreAllRowsOf, IsStore}
 use Rattle.subscription_set.specs.Standing.{seen_of}
 use Rattle.node_rows.specs.declared.reading.Opened.{Opened}
 use Rattle.node_rows.specs.Rows.{Lasting, mark, mark_key, new_node, node_row}
-use Rattle.node_rows.specs.Sessions.{Plain, opened_seat}
+use Rattle.node_rows.specs.Sessions.{opened_seat}
 use Rattle.node_rows.specs.Versions.{AreFirstRows}
 
 -- ---- what can last

@@ -5,15 +5,11 @@ use Rattle.std.specs.FinMap as map
 use Rattle.std.specs.List.{AllByRecursion}
 use Rattle.std.specs.Ordering.{eq_by_cmp, nat_cmp}
 use Rattle.mqtt_sessions.specs.Saved.{Saved, reopened, state_in}
-use Rattle.row_store.specs.Rows.{Key}
+use Rattle.row_store.specs.Rows.{Key, Plain}
 use Rattle.session_rows.specs.Durable.{Durable, IsDurable}
 use Rattle.session_rows.specs.Fields.{main}
 use Rattle.session_rows.specs.Rows.{main_key, copy_rows, rows_of}
 use Rattle.session_table.specs.Seats.{Seat, Seats}
-
--- a row: its key and its value
-abbrev pub Plain : Type 0
-Plain = Key × List ℕ
 
 -- the own row of each session
 abbrev pub own_row : Durable → Plain

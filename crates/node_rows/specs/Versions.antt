@@ -8,10 +8,9 @@ use Rattle.mqtt_fields.specs.Numbers.{number}
 use Rattle.row_changes.specs.Leading.{Lead, left_by, or_else}
 use Rattle.row_store.specs.declared.row.Change.{Change}
 use Rattle.row_store.specs.declared.row.Row.{Row}
-use Rattle.row_store.specs.Rows.{Content, Key, key_cmp, entry_of}
+use Rattle.row_store.specs.Rows.{Content, Key, key_cmp, entry_of, Plain}
 use Rattle.session_rows.specs.Reading.{whole}
 use Rattle.node_rows.specs.Rows.{Lasting, mark_key, marked, node_row}
-use Rattle.node_rows.specs.Sessions.{Plain}
 
 -- the value of a mark of version 1
 abbrev pub SaysFirst : List ℕ → Type 0

@@ -2,9 +2,8 @@
 //!
 //! In version 1 a subscription doesn't say under which version of the table of homes it was made: it is version 0.
 ghost use Rattle.std.specs.Prelude.{◌≡◌, ◌↔◌, ◌∷◌, ◌++◌, List, [], drop, map as map_list, IfOk, OnOk, IsTrue};
-ghost use Rattle.row_store.specs.Rows.{entry_of};
+ghost use Rattle.row_store.specs.Rows.{entry_of, Plain};
 ghost use Rattle.node_rows.specs.Versions as spec;
-ghost use Rattle.node_rows.specs.Sessions.{Plain};
 ghost use Rattle.node_rows.specs.Versions.{AreFirst, AreRaising, Raise, SaysFirst, raised, raised_all};
 
 use crate::mark::{MARK, VERSION, whole_mark};

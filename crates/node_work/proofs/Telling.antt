@@ -9,7 +9,7 @@ use Rattle.std.specs.List.{AllByRecursion}
 use Rattle.std.specs.Ordering.{eq_by_cmp, is_eq}
 use Rattle.mqtt_sessions.specs.Saved.{durable_of}
 use Rattle.replica_store.specs.States.{State}
-use Rattle.row_changes.specs.Leading.{AllDiffer, IsNamed, Rows, Lead, LeadWithin, Begin, OthersDiffer, first_by, left_by, left_by_one, left_or, or_else}
+use Rattle.row_changes.specs.Leading.{AllDiffer, IsNamed, Rows, Lead, LeadWithin, Begin, OthersDiffer, first_by, left_by, left_by_one, left_or, or_else, key_in}
 use Rattle.row_changes.specs.Leading as leading
 use Rattle.row_changes.proofs.Leaving.{begin_on, lead_on, named_either}
 use Rattle.row_store.specs.declared.row.Row.{Row}
@@ -19,7 +19,7 @@ use Rattle.row_store.specs.Rows.{Key, key_cmp, key_of}
 use Rattle.row_store.proofs.Keys.{exact_keys, equal_is, keys_total}
 use Rattle.session_table.specs.Rows.{LeadsOn, is_session_kind, own_kind, row_in, seat_row}
 use Rattle.session_table.specs.Seats.{Seat, Seats}
-use Rattle.replica_rows.specs.Changes.{AreChanges, IsNeeded, IsRight, key_in, names}
+use Rattle.replica_rows.specs.Changes.{AreChanges, IsNeeded, IsRight, names}
 use Rattle.replica_rows.specs.Rows.{row_at}
 use Rattle.lane_rows.specs.Changes.{is_lane_kind}
 use Rattle.lane_rows.specs.Rows as lane_rows

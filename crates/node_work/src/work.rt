@@ -285,7 +285,7 @@ impl Work {
         self.held.merge(self.alloc, state, &mut self.changes)
     }
 
-    /// OpensConnection a connection that isn't open.
+    /// Opens a connection that isn't open.
     pub fn open(&mut self, connection: u64) -> Result<(), NodeFault>
         ensures comes { ComesTo (λ x. x) result self.old self.new (OpensConnection connection) }
         ensures same { self.new.changes ≡ self.old.changes }

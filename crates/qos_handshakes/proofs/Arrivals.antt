@@ -1,16 +1,17 @@
 -- How many exchanges were opened on a connection, call by call.
 use Rattle.std.proofs.Common.{◌≡◌, ◌⊎◌, ℕ, ◌+◌, true, false, cond, [], ◌∷◌, Option, Some, None, refl, sym, ◌∙◌, ap, arith, inl, inr, map}
-use Rattle.std.specs.Prelude.{Bool, is_some, nat_lt, nat_le, ◌<◌, ◌≤◌, List, ◌++◌}
+use Rattle.std.specs.Prelude.{Bool, is_some, nat_le, ◌<◌, ◌≤◌, List, ◌++◌}
 use Rattle.std.proofs.lemmas.Bool.Decides.{nat_tests}
 use Rattle.std.specs.BTreeMap.Range.{range_contains, entries_between}
 use Rattle.std.specs.declared.ops.Bound.TheVariants.{Included, Unbounded}
-use Rattle.std.proofs.lemmas.Bool.{cases_Bool, and_parts, ltb-true, false≢true}
+use Rattle.std.proofs.lemmas.Bool.{cases_Bool, false≢true}
 use Rattle.std.specs.BTreeMap.{is_at, insert_entry}
 use Rattle.std.specs.Map.{remove_entry, keys_of}
 use Rattle.std.specs.Ordering.{nat_cmp}
 use Rattle.std.specs.declared.cmp.Ordering.{Ordering}
 use Rattle.std.specs.declared.cmp.Ordering.TheVariants.{Less, Equal, Greater}
-use Rattle.qos_handshakes.specs.Incoming.{Received, opened, opened_here, of_before, first_identifier, rise, of_identifiers, identifier_from}
+use Rattle.qos_handshakes.specs.Incoming.{Received, opened, opened_here, of_before, rise, of_identifiers, identifier_from}
+use Rattle.qos_handshakes.proofs.RiseLaws.{first_of, rise-first, rise-parts}
 
 pub before-is_map : (es : Received) → of_before es ≡ map (λ (e : ℕ × Bool). (e.0, false)) es
 before-is_map [] = refl
@@ -47,7 +48,7 @@ absent None p b same is not' = sym same
 absent (Some x) p b same is not' = absurd (false≢true (sym not' ∙ is))
 
 -- ---- identifiers that were kept
-pub made-first : (id : ℕ) (m : Received) → id < first_identifier (keys_of m) → insert_entry nat_cmp m id false ≡ (id, false) ∷ m
+pub made-first : (id : ℕ) (m : Received) → id < first_of (keys_of m) → insert_entry nat_cmp m id false ≡ (id, false) ∷ m
 made-first id [] lt = refl
 made-first id (e ∷ es) lt = let less : nat_cmp id e.0 ≡ Less = grind (arith, nat_tests) in rw less refl
 
@@ -67,13 +68,13 @@ ids-back left rest is all i so at = sym (ids-one rest i is) ∙ ap (λ (t : List
 
 rise-later : (left is : List ℕ) → rise (left ++ is) ≡ true → rise is ≡ true
 rise-later [] is r = r
-rise-later (i ∷ left) is r = rise-later left is (and_parts (nat_lt i (first_identifier (left ++ is))) _ r).1
+rise-later (i ∷ left) is r = rise-later left is (rise-parts i (left ++ is) r).2
 
-pub ids-fall : (left rest is all : List ℕ) (i : ℕ) → left ++ is ≡ all → left ≡ rest ++ i ∷ [] → first_identifier is ≤ i → rise all ≡ false
+pub ids-fall : (left rest is all : List ℕ) (i : ℕ) → left ++ is ≡ all → left ≡ rest ++ i ∷ [] → first_of is ≤ i → rise all ≡ false
 ids-fall left rest is all i so at past = elim (cases_Bool (rise all)) [
   | inl r ↦ absurd (
       let b = rise-later rest (i ∷ is) (ap rise (ids-back left rest is all i so at) ∙ r) in
-      let lt = ltb-true i (first_identifier is) (and_parts (nat_lt i (first_identifier is)) _ b).0 in omega (arith, lt, past))
+      let lt = rise-first i is b in omega (arith, lt, past))
   | inr f ↦ f
 ]
 

@@ -1,6 +1,6 @@
 -- The counts that the code keeps beside the copies.
 use Rattle.std.proofs.Common.{◌≡◌, ◌≢◌, ℕ, ◌+◌, ◌<◌, ◌≤◌, Bool, true, false, cond, [], ◌∷◌, ◌++◌, Option, Some, None, length, refl, sym, ◌∙◌, ap, arith, inl, inr}
-use Rattle.std.specs.Prelude.{IsSomeAnd, IsSome}
+use Rattle.std.specs.Prelude.{IsSomeAnd, IsSome, is_some}
 use Rattle.std.proofs.lemmas.Bool.{cases_Bool, false≢true}
 use Rattle.std.specs.List.{AllByRecursion}
 use Rattle.qos_handshakes.proofs.EntryLaws.{all-dropped, all-appended, in_flight-append, in_flight-write_id, stage_has-waits}
@@ -8,11 +8,11 @@ use Rattle.mqtt_fields.specs.declared.options.Qos.TheVariants.{AtMostOnce}
 use Rattle.qos_handshakes.specs.declared.copies.Entry.{Entry}
 use Rattle.mqtt_message.specs.declared.delivery.Delivery.{Delivery}
 use Rattle.qos_handshakes.specs.Entries.{Entries, has_id, find_id, drop_id, write_id, write_at, at_place, as_released, as_published, IsLeastFree, AllPlacesBelow}
-use Rattle.qos_handshakes.specs.Outbox.{waits, waiting, in_flight, waiting_entry, is_sendable, first_waiting, after_send, without_left_out, is_owed, AreOwedFrom, AreAnswered, HaveOrders, stage_order, IsQueued, IsCounted}
+use Rattle.qos_handshakes.specs.Outbox.{waits, waiting, in_flight, waiting_entry, is_sendable, first_waiting, after_send, without_left_out, is_owed, AreOwedFrom, AreAnswered, HaveOrders, stage_id, stage_order, IsQueued, IsCounted}
 use Rattle.std.specs.BTreeMap.{is_at}
 use Rattle.std.specs.Map.{remove_entry}
 use Rattle.std.specs.Ordering.{nat_cmp}
-use Rattle.qos_handshakes.proofs.Indexed.{is_at-here, is_at-apart, at-head, at-tail, waits-has}
+use Rattle.qos_handshakes.proofs.Indexed.{some-and, is_at-here, is_at-apart, at-head, at-tail, at-written, waits-has}
 
 pub in_flight-dropped : (id : ℕ) (x : Entry) (es : Entries) → find_id id es ≡ Some x → in_flight (drop_id id es) + cond x.here 1 0 ≡ in_flight es
 in_flight-dropped id x [] is = let bad : None ≡ Some x = is in (cc)
@@ -88,27 +88,11 @@ answered-released id order (e ∷ es) h = elim (cases_Bool (has_id id e.1)) [
   | inr f ↦ rw f (h.0, answered-released id order es h.1)
 ]
 
--- a change at a place that leaves the delivery
-pub answered-at : (f : Entry → Entry) → ((x : Entry) → (f x).delivery ≡ x.delivery) → (place : ℕ) (es : Entries) → AreAnswered es → AreAnswered (write_at f place es)
-answered-at f k place [] h = tt
-answered-at f k place (e ∷ es) h = elim (cases_Bool (is_at (nat_cmp place) e.0)) [
-  | inl t ↦ rw t (λ z. h.0 (sym (ap (λ (d : Delivery). d.qos) (k e.1)) ∙ z), h.1)
-  | inr g ↦ rw g (h.0, answered-at f k place es h.1)
-]
-
 orders-released : (id order : ℕ) (es : Entries) → order < 4611686018427387904 → HaveOrders es → HaveOrders (write_id (as_released id order) id es)
 orders-released id order [] lt h = tt
 orders-released id order (e ∷ es) lt h = elim (cases_Bool (has_id id e.1)) [
   | inl t ↦ rw t (lt, h.1)
   | inr f ↦ rw f (h.0, orders-released id order es lt h.1)
-]
-
--- a change at a place to a stage that was not released more
-pub orders-at : (f : Entry → Entry) → ((x : Entry) → stage_order x.stage < 4611686018427387904 → stage_order (f x).stage < 4611686018427387904) → (place : ℕ) (es : Entries) → HaveOrders es → HaveOrders (write_at f place es)
-orders-at f k place [] h = tt
-orders-at f k place (e ∷ es) h = elim (cases_Bool (is_at (nat_cmp place) e.0)) [
-  | inl t ↦ rw t (k e.1 h.0, h.1)
-  | inr g ↦ rw g (h.0, orders-at f k place es h.1)
 ]
 
 -- what `received` leaves
@@ -231,42 +215,14 @@ least-left now limit id es h = record {
   least = λ k a b. rw (find-left now limit k es) (h.least k a b);
 }
 
-pub in_flight-left : (now limit first next : ℕ) (es : Entries) → IsQueued first next es → in_flight (without_left_out now limit es) ≡ in_flight es
-in_flight-left now limit first next [] q = refl
-in_flight-left now limit first next (e ∷ es) q = elim (cases_Bool (waits e.1.stage)) [
-  | inl v ↦ let r = rw v at q in elim (cases_Bool (is_sendable now limit e.1.delivery)) [
-    | inl g ↦ rw (v, g) refl
-    | inr g ↦ rw (v, g, r.1) (omega (arith, in_flight-left now limit (first + 1) next es r.2))
-  ]
-  | inr v ↦ let r = rw v at q in rw v (omega (arith, in_flight-left now limit first next es r.1))
-]
-
-pub below-left : (now limit next : ℕ) (es : Entries) → AllPlacesBelow es next → AllPlacesBelow (without_left_out now limit es) next
-below-left now limit next [] b = tt
-below-left now limit next (e ∷ es) b = elim (cases_Bool (waits e.1.stage)) [
-  | inl v ↦ elim (cases_Bool (is_sendable now limit e.1.delivery)) [
-    | inl g ↦ rw (v, g) b
-    | inr g ↦ rw (v, g) (below-left now limit next es b.1)
-  ]
-  | inr v ↦ rw v (b.0, below-left now limit next es b.1)
-]
-
 -- the head of the queue under an identifier
-pub queued-sent : (id first next : ℕ) (es : Entries) → IsQueued first next es → first < next → IsQueued (first + 1) next (write_at (as_published id) first es) × (in_flight (write_at (as_published id) first es) ≡ in_flight es + 1)
+pub queued-sent : (id first next : ℕ) (es : Entries) → IsQueued first next es → first < next → IsQueued (first + 1) next (write_at (as_published id) first es)
 queued-sent id first next [] q lt = absurd (omega (arith, q))
 queued-sent id first next (e ∷ es) q lt = elim (cases_Bool (waits e.1.stage)) [
-  | inl v ↦ let r = rw v at q in (rw (is_at-here first e.0 r.0) (omega (arith, r.0), r.2), rw (is_at-here first e.0 r.0, r.1) (omega arith))
+  | inl v ↦ let r = rw v at q in rw (is_at-here first e.0 r.0) (omega (arith, r.0), r.2)
   | inr v ↦ let r = rw v at q in
       let apart : e.0 ≢ first = omega (arith, r.0) in
-      let t = queued-sent id first next es r.1 lt in
-      (rw (is_at-apart first e.0 apart) (rw v (omega (arith, r.0), t.0)), rw (is_at-apart first e.0 apart) (omega (arith, t.1)))
-]
-
-pub below-at : (f : Entry → Entry) (place next : ℕ) (es : Entries) → AllPlacesBelow es next → AllPlacesBelow (write_at f place es) next
-below-at f place next [] b = tt
-below-at f place next (e ∷ es) b = elim (cases_Bool (is_at (nat_cmp place) e.0)) [
-  | inl h ↦ rw h b
-  | inr h ↦ rw h (b.0, below-at f place next es b.1)
+      rw (is_at-apart first e.0 apart) (rw v (omega (arith, r.0), queued-sent id first next es r.1 lt))
 ]
 
 pub left-shorter : (now limit : ℕ) (es : Entries) → length (waiting (without_left_out now limit es)) ≤ length (waiting es)
@@ -308,11 +264,11 @@ pub skip-none : (place next : ℕ) (es : Entries) → IsQueued place next es →
 skip-none place next es q lt at = let h = queue-head place next es q lt in let bad : Some h.0 ≡ None = sym h.1 ∙ at in (cc)
 
 -- ---- what `send_first` leaves
-pub none-first : (now limit first next : ℕ) (es cs : Entries) → cs ≡ without_left_out now limit es → IsQueued first next cs → next ≤ first → (first_waiting now limit es ≡ None) × (cs ≡ after_send now limit 0 es)
-none-first now limit first next es cs is q le =
-    let t = skip-end now limit 0 first next cs q le in
-    let s = left-same now limit 0 es in
-    (sym s.0 ∙ ap (first_waiting now limit) (sym is) ∙ t.1, sym t.2 ∙ ap (after_send now limit 0) is ∙ s.1)
+pub none-first : (now limit id first next : ℕ) (es cs : Entries) → cs ≡ without_left_out now limit es → IsQueued first next cs → next ≤ first → (first_waiting now limit es ≡ None) × (cs ≡ after_send now limit id es)
+none-first now limit id first next es cs is q le =
+    let t = skip-end now limit id first next cs q le in
+    let s = left-same now limit id es in
+    (sym s.0 ∙ ap (first_waiting now limit) (sym is) ∙ t.1, sym t.2 ∙ ap (after_send now limit id) is ∙ s.1)
 
 pub some-first : (now limit id first next : ℕ) (es cs : Entries) → cs ≡ without_left_out now limit es → IsQueued first next cs → first < next → IsSome (first_waiting now limit cs) → without_left_out now limit cs ≡ cs
     → (y : Entry) × (at_place first cs ≡ Some y) × (first_waiting now limit es ≡ Some y.delivery) × (write_at (as_published id) first cs ≡ after_send now limit id es)
@@ -326,43 +282,60 @@ some-first now limit id first next es cs is q lt some stays =
       | inr g ↦ absurd (omega (arith, queue-length first next cs q, queue-length (first + 1) next (remove_entry (is_at (nat_cmp first)) cs) (head-left now limit first next h.0 cs q h.1 h.2 g).1, left-shorter now limit (remove_entry (is_at (nat_cmp first)) cs), ap (λ (t : Entries). length (waiting t)) (sym stays ∙ (head-left now limit first next h.0 cs q h.1 h.2 g).0)))
     ]
 
-pub all-left_out : (Q : ℕ × Entry → Type 0) (now limit : ℕ) (es : Entries) → AllByRecursion Q es → AllByRecursion Q (without_left_out now limit es)
-all-left_out Q now limit [] h = tt
-all-left_out Q now limit (e ∷ es) h = elim (cases_Bool (waits e.1.stage)) [
-  | inl v ↦ elim (cases_Bool (is_sendable now limit e.1.delivery)) [ inl g ↦ rw (v, g) h | inr g ↦ rw (v, g) (all-left_out Q now limit es h.1) ]
-  | inr v ↦ rw v (h.0, all-left_out Q now limit es h.1)
+pub first-left : (now limit id first next : ℕ) (es cs ns : Entries) → cs ≡ without_left_out now limit es → IsQueued first next cs → first < next → IsSome (first_waiting now limit cs) → without_left_out now limit cs ≡ cs → ns ≡ write_at (as_published id) first cs → ns ≡ after_send now limit id es
+first-left now limit id first next es cs ns is q lt some stays written = written ∙ (some-first now limit id first next es cs is q lt some stays).3
+
+pub first-sent : (now limit id first next : ℕ) (es cs ns : Entries) → cs ≡ without_left_out now limit es → IsQueued first next cs → first < next → IsSome (first_waiting now limit cs) → without_left_out now limit cs ≡ cs → ns ≡ write_at (as_published id) first cs
+    → IsSomeAnd (at_place first ns) (λ x. (stage_id x.stage ≡ id) × (first_waiting now limit es ≡ Some x.delivery))
+first-sent now limit id first next es cs ns is q lt some stays written =
+    let n = some-first now limit id first next es cs is q lt some stays in
+    some-and (at_place first ns) (as_published id n.0) (λ x. (stage_id x.stage ≡ id) × (first_waiting now limit es ≡ Some x.delivery)) (rw written (at-written (as_published id) first n.0 cs n.1)) (refl, n.2)
+
+-- ---- what sending the first leaves
+all-send : (Q : ℕ × Entry → Type 0) (now limit id : ℕ) → ((e : ℕ × Entry) → Q e → Q (e.0, as_published id e.1)) → (es : Entries) → AllByRecursion Q es → AllByRecursion Q (after_send now limit id es)
+all-send Q now limit id keeps [] h = tt
+all-send Q now limit id keeps (e ∷ es) h = elim (cases_Bool (waits e.1.stage)) [
+  | inl v ↦ elim (cases_Bool (is_sendable now limit e.1.delivery)) [ inl g ↦ rw (v, g) (keeps e h.0, h.1) | inr g ↦ rw (v, g) (all-send Q now limit id keeps es h.1) ]
+  | inr v ↦ rw v (h.0, all-send Q now limit id keeps es h.1)
 ]
 
-pub all-sent : (id from place : ℕ) (es : Entries) → AreOwedFrom from es → AreOwedFrom from (write_at (as_published id) place es)
-all-sent id from place [] h = tt
-all-sent id from place (e ∷ es) h = elim (cases_Bool (is_at (nat_cmp place) e.0)) [
-  | inl t ↦ rw t (λ o. absurd (false≢true o), h.1)
-  | inr f ↦ rw f (h.0, all-sent id from place es h.1)
+flight-send : (now limit id first next : ℕ) (es : Entries) → IsQueued first next es → in_flight (after_send now limit id es) ≡ in_flight es + cond (is_some (first_waiting now limit es)) 1 0
+flight-send now limit id first next [] q = refl
+flight-send now limit id first next (e ∷ es) q = elim (cases_Bool (waits e.1.stage)) [
+  | inl v ↦ let r = rw v at q in elim (cases_Bool (is_sendable now limit e.1.delivery)) [
+    | inl g ↦ rw (v, g, r.1) (omega arith)
+    | inr g ↦ rw (v, g, r.1) (omega (arith, flight-send now limit id (first + 1) next es r.2))
+  ]
+  | inr v ↦ let r = rw v at q in rw v (omega (arith, flight-send now limit id first next es r.1))
 ]
 
-pub counted-left : (now limit first first' flight next from : ℕ) (es cs : Entries) → IsCounted es first flight next from → cs ≡ without_left_out now limit es → IsQueued first' next cs → IsCounted cs first' flight next from
-counted-left now limit first first' flight next from es cs h is q = record {
-  flight_is = h.flight_is ∙ sym (ap in_flight is ∙ in_flight-left now limit first next es h.queued);
-  below = rw is (below-left now limit next es h.below);
+counted-send : (now limit id first first' flight flight' next from : ℕ) (es : Entries) → IsCounted es first flight next from → flight' ≡ flight + cond (is_some (first_waiting now limit es)) 1 0 → IsQueued first' next (after_send now limit id es) → IsCounted (after_send now limit id es) first' flight' next from
+counted-send now limit id first first' flight flight' next from es h is q = record {
+  flight_is = is ∙ ap (λ (n : ℕ). n + cond (is_some (first_waiting now limit es)) 1 0) h.flight_is ∙ sym (flight-send now limit id first next es h.queued);
+  below = all-send (λ e. e.0 < next) now limit id (λ e h. h) es h.below;
   queued = q;
   start = h.start;
-  owed = rw is (all-left_out (λ e. is_owed e.1 ≡ true → from ≤ e.0) now limit es h.owed);
-  answered = rw is (all-left_out (λ e. e.1.delivery.qos ≢ AtMostOnce) now limit es h.answered);
-  orders = rw is (all-left_out (λ e. stage_order e.1.stage < 4611686018427387904) now limit es h.orders);
+  owed = all-send (λ e. is_owed e.1 ≡ true → from ≤ e.0) now limit id (λ e h o. absurd (false≢true o)) es h.owed;
+  answered = all-send (λ e. e.1.delivery.qos ≢ AtMostOnce) now limit id (λ e h. h) es h.answered;
+  orders = all-send (λ e. stage_order e.1.stage < 4611686018427387904) now limit id (λ e h. omega arith) es h.orders;
 }
 
-pub counted-sent : (id first flight next from : ℕ) (cs ns : Entries) → IsCounted cs first flight next from → first < next → ns ≡ write_at (as_published id) first cs → IsCounted ns (first + 1) (flight + 1) next from
-counted-sent id first flight next from cs ns h lt is =
-    let t = queued-sent id first next cs h.queued lt in
-    record {
-      flight_is = rw (is, t.1) (ap (λ (n : ℕ). n + 1) h.flight_is);
-      below = rw is (below-at (as_published id) first next cs h.below);
-      queued = rw is t.0;
-      start = h.start;
-      owed = rw is (all-sent id from first cs h.owed);
-      answered = rw is (answered-at (as_published id) (λ _. refl) first cs h.answered);
-      orders = rw is (orders-at (as_published id) (λ x h. omega arith) first cs h.orders);
-    }
+pub counted-sent : (now limit id first place flight next from : ℕ) (d : Delivery) (es ns : Entries) → IsCounted es first flight next from → first_waiting now limit es ≡ Some d → ns ≡ after_send now limit id es → IsQueued (place + 1) next ns → IsCounted ns (place + 1) (flight + 1) next from
+counted-sent now limit id first place flight next from d es ns h some is q = rw is (counted-send now limit id first (place + 1) flight (flight + 1) next from es h (rw some refl) (rw is at q))
+
+pub counted-unsent : (now limit id first flight next from : ℕ) (es ns : Entries) → IsCounted es first flight next from → first_waiting now limit es ≡ None → ns ≡ after_send now limit id es → IsQueued next next ns → IsCounted ns next flight next from
+counted-unsent now limit id first flight next from es ns h none is q = rw is (counted-send now limit id first next flight flight next from es h (rw none (omega arith)) (rw is at q))
+
+-- under which identifier does not matter, where none is sent
+pub nothing-sent : (now limit id : ℕ) (es : Entries) → first_waiting now limit es ≡ None → after_send now limit id es ≡ after_send now limit 0 es
+nothing-sent now limit id [] h = refl
+nothing-sent now limit id (e ∷ es) h = elim (cases_Bool (waits e.1.stage)) [
+  | inl v ↦ elim (cases_Bool (is_sendable now limit e.1.delivery)) [
+    | inl g ↦ (let bad : Some e.1.delivery ≡ None = rw (v, g) at h in cc)
+    | inr g ↦ rw (v, g) (nothing-sent now limit id es (rw (v, g) at h))
+  ]
+  | inr v ↦ rw v (ap (λ (f : Entries). e ∷ f) (nothing-sent now limit id es (rw v at h)))
+]
 
 pub sent-here : (o : Option Entry) (here : Bool) → IsSomeAnd o (λ x. x.here ≡ here) → (x : Entry) × (o ≡ Some x) × (x.here ≡ here)
 sent-here None here h = absurd h

@@ -1,6 +1,7 @@
 -- The QoS 2 exchanges that a client has opened (MQTT 5.0, 4.3.3), and what each call does to them.
 use Rattle.std.specs.Prelude.{◌≡◌, ℕ, ◌+◌, ◌<◌, ◌≤◌, ◌⊎◌, Bool, true, false, cond, List, [], ◌∷◌, Option, Some, None, is_some, nat_lt, nat_le, ◌&&◌}
 use Rattle.std.specs.BTreeMap.{is_at, insert_entry}
+use Rattle.std.specs.List.{list_all}
 use Rattle.std.specs.Map.{lookup, remove_entry}
 use Rattle.std.specs.Ordering.{nat_cmp}
 use Rattle.qos_handshakes.specs.declared.answers.Ack.{Ack}
@@ -46,14 +47,10 @@ of_before [] = []
 of_before (e ∷ es) = (e.0, false) ∷ of_before es
 
 -- ---- identifiers that were kept
-abbrev pub first_identifier : List ℕ → ℕ
-first_identifier [] = 65536
-first_identifier (i ∷ is) = i
-
--- they rise
+-- each is a Two Byte Integer (1.5.2), and below all that come after it
 abbrev pub rise : List ℕ → Bool
 rise [] = true
-rise (i ∷ is) = nat_lt i (first_identifier is) && rise is
+rise (i ∷ is) = nat_lt i 65536 && list_all (nat_lt i) is && rise is
 
 -- their exchanges are open, and there is no connection
 abbrev pub of_identifiers : List ℕ → Received

@@ -8,12 +8,12 @@ ghost use Rattle.mqtt_packets.specs.declared.packet.Packet.TheVariants.{Publish}
 ghost use Rattle.mqtt_packets.specs.Written.{HasSpelling};
 ghost use Rattle.mqtt_message.specs.Sent.{sent};
 ghost use Rattle.mqtt_fields.specs.declared.options.Qos.TheVariants.{AtMostOnce};
-ghost use Rattle.qos_handshakes.specs.Entries.{at_place, drop_id, find_id, place_from};
+ghost use Rattle.qos_handshakes.specs.Entries.{HasRoom, IsLeastFree, at_place, drop_id, find_id, place_from};
 ghost use Rattle.qos_handshakes.specs.Restored.{agree, restored};
 ghost use Rattle.qos_handshakes.specs.Lending.{LeavesNext};
 ghost use Rattle.qos_handshakes.specs.Length.{length_of};
 ghost use Rattle.qos_handshakes.specs.Touched.{ArePlaced, AreListed, Marks, TouchesChanged, credits};
-ghost use Rattle.qos_handshakes.specs.Outbox.{CanBeSent, in_flight, by_release, waiting, stage_id, ResumeStep, LostStep, ReleasesStep, NextStep, ChoosesAt, AreOwedWithin, IsFirstOwed, is_owed, without_large, OfferStep, AcknowledgeStep, CompleteStep, ReceivedStep, takes_puback, takes_pubrec, is_released, is_sendable, IsQueued, without_left_out, first_waiting};
+ghost use Rattle.qos_handshakes.specs.Outbox.{CanBeSent, in_flight, by_release, waiting, stage_id, ResumeStep, LostStep, ReleasesStep, NextStep, ChoosesAt, AreOwedFrom, AreOwedWithin, IsFirstOwed, is_owed, without_large, first_owed, after_resend, resent, OfferStep, AcknowledgeStep, CompleteStep, ReceivedStep, takes_puback, takes_pubrec, is_released, is_sendable, IsQueued, without_left_out, first_waiting, after_send};
 
 use crate::answers::{Ack, Offer, Rec};
 use crate::copies::{Copies, Entry, Stage, id_of};
@@ -56,10 +56,10 @@ pub struct Outgoing {
     resend_from: u64,
     /// The place of the first copy that waits; the others stand at the places up to the next one.
     first_waiting: u64,
-    /// How many PUBLISHes of this connection are unfinished.
-    in_flight: usize,
     next_place: u64,
     next_order: u64,
+    /// How many PUBLISHes of this connection are unfinished.
+    in_flight: u16,
     maximum: u16,
 }
 
@@ -70,9 +70,9 @@ impl Drop for Outgoing {
             log: _log,
             resend_from: _resend_from,
             first_waiting: _first_waiting,
-            in_flight: _in_flight,
             next_place: _next_place,
             next_order: _next_order,
+            in_flight: _in_flight,
             maximum: _maximum,
         } = self;
     }
@@ -204,6 +204,71 @@ fn next_owed(copies: &mut Copies, log: &mut Log, from: u64, until: u64, now: u64
         place = found + 1;
     }
     place
+}
+
+/// Sends again the first exchange owed that isn't too large, and ends those owed before it. The result is its place.
+fn resend(
+    copies: &mut Copies,
+    log: &mut Log,
+    from: u64,
+    until: u64,
+    now: u64,
+    limit: u64,
+) -> Option<u64>
+    requires within { AreOwedWithin from until copies.old.entries }
+    requires room { credits copies.old.entries ≤ log.old.room }
+    ensures left { copies.new ≡ record copies.old { entries = after_resend now limit copies.old.entries } }
+    ensures sent { MatchOption result (first_owed now limit copies.old.entries ≡ None) (λ place. IsSomeAnd (at_place place copies.new.entries) (λ x. first_owed now limit copies.old.entries ≡ Some (resent x))) }
+    ensures owed { IfSome result (λ place. AreOwedFrom place copies.new.entries) }
+    ensures marks { Marks copies.old.entries log.old copies.new.entries log.new }
+{
+    let place = next_owed(copies, log, from, until, now, limit);
+    if place >= until {
+        return None;
+    }
+    copies.send_again(place);
+    Some(place)
+}
+
+/// Makes room for an identifier more where a copy waits, from a first place to a next.
+fn reserve_first(copies: &mut Copies, first: u64, next: u64) -> Result<(), NoMemory>
+    ensures room { OnOk result (first < next → HasRoom copies.new) }
+    ensures same { copies.new.entries ≡ copies.old.entries }
+    ensures some { OnErr result (first < next) }
+{
+    if first >= next {
+        return Ok(());
+    }
+    copies.reserve()
+}
+
+/// Sends the first copy of the queue that isn't left out, under an identifier, and leaves out those before it. The result is
+/// its place.
+fn send_first(
+    copies: &mut Copies,
+    log: &mut Log,
+    first: u64,
+    next: u64,
+    id: u16,
+    now: u64,
+    limit: u64,
+) -> Option<u64>
+    requires queued { IsQueued first next copies.old.entries }
+    requires free { IsLeastFree copies.old.entries id }
+    requires slot { id ≤ copies.old.slots }
+    requires room { credits copies.old.entries ≤ log.old.room }
+    ensures left { copies.new ≡ record copies.old { entries = after_send now limit id copies.old.entries } }
+    ensures sent { MatchOption result (first_waiting now limit copies.old.entries ≡ None) (λ place. IsSomeAnd (at_place place copies.new.entries) (λ x. (stage_id x.stage ≡ id) × (first_waiting now limit copies.old.entries ≡ Some x.delivery))) }
+    ensures queued { MatchOption result (IsQueued next next copies.new.entries) (λ place. IsQueued (place + 1) next copies.new.entries) }
+    ensures marks { Marks copies.old.entries log.old copies.new.entries log.new }
+{
+    let place = skip(copies, log, first, next, now, limit);
+    if place == next {
+        return None;
+    }
+    log.mark(place);
+    copies.publish(place, id);
+    Some(place)
 }
 
 impl Outgoing {
@@ -369,67 +434,45 @@ impl Outgoing {
         ensures touched { TouchesChanged self.old self.new }
         ensures err { OnErr result (self.new ≡ self.old) }
         ensures need { OnErr result (in_flight self.old.box.copies < self.old.box.maximum) }
-        ensures some { OnErr result (self.old.box.copies ≢ []) }
+        ensures some { OnErr result (waiting self.old.box.copies ≢ []) }
         ensures sent { IfOk result (λ o. IfSome o (λ c. IsSomeAnd (at_place c.place self.new.box.copies) (λ x. CanBeSent now limit (stage_id x.stage) x.delivery))) }
     {
-        if self.in_flight >= self.maximum as usize {
+        if self.in_flight >= self.maximum {
             return Ok(None);
         }
-        if self.copies.count() == 0 {
-            return Ok(None);
-        }
+        let first = self.first_waiting;
+        let next = self.next_place;
+        reserve_first(&mut self.copies, first, next)?;
         self.copies.are_ordered();
-        if self.first_waiting == self.next_place && self.resend_from >= self.first_waiting {
-            return Ok(None);
-        }
-        self.copies.reserve()?;
-        let owed = next_owed(
-            &mut self.copies,
-            &mut self.log,
-            self.resend_from,
-            self.first_waiting,
-            now,
-            limit,
-        );
-        self.resend_from = owed;
         self.copies.are_in_range();
-        if owed < self.first_waiting {
-            self.copies.send_again(owed);
+        let from = self.resend_from;
+        let owed = resend(&mut self.copies, &mut self.log, from, first, now, limit);
+        if let Some(place) = owed {
+            self.resend_from = place;
             self.in_flight += 1;
-            return Ok(Some(Chosen {
-                place: owed,
-                dup: true,
-            }));
+            return Ok(Some(Chosen { place, dup: true }));
+        }
+        self.resend_from = first;
+        if first == next {
+            return Ok(None);
         }
         let Some(id) = self.copies.least_free() else {
             return Ok(None);
         };
-        let first = skip(
-            &mut self.copies,
-            &mut self.log,
-            self.first_waiting,
-            self.next_place,
-            now,
-            limit,
-        );
-        self.first_waiting = first;
-        if first == self.next_place {
+        let sent = send_first(&mut self.copies, &mut self.log, first, next, id, now, limit);
+        let Some(place) = sent else {
+            self.first_waiting = next;
             return Ok(None);
-        }
-        self.log.mark(first);
-        self.copies.publish(first, id);
-        self.first_waiting += 1;
+        };
+        self.first_waiting = place + 1;
         self.resend_from = self.first_waiting;
         self.in_flight += 1;
-        Ok(Some(Chosen {
-            place: first,
-            dup: false,
-        }))
+        Ok(Some(Chosen { place, dup: false }))
     }
 
     /// The next PUBLISH: while quota is free the resends owed, in order, and then, while an identifier is free, the
     /// queue. `limit` is the client's Maximum Packet Size, at most 268,435,460, the length of the longest packet there is
-    /// (MQTT 5.0, 1.5.5). For want of memory, of which there is none while the quota is full, nor where nothing is kept, nothing
+    /// (MQTT 5.0, 1.5.5). For want of memory, of which there is none while the quota is full, nor where nothing waits, nothing
     /// changes.
     pub fn next(&mut self, now: u64, limit: u64) -> Result<Option<Sending<'_>>, NoMemory>
         requires { limit ≤ 268435460 }
@@ -437,7 +480,7 @@ impl Outgoing {
         ensures fits { IfOk result (λ o. IfSome o (λ s. CanBeSent now limit s.id s.delivery.now)) }
         ensures spelled { IfOk result (λ o. IfSome o (λ s. HasSpelling (Publish (sent s.delivery.now now s.dup s.id)))) }
         ensures need { OnErr result (in_flight self.old.box.copies < self.old.box.maximum) }
-        ensures some { OnErr result (self.old.box.copies ≢ []) }
+        ensures some { OnErr result (waiting self.old.box.copies ≢ []) }
     {
         match self.advance(now, limit)? {
             None => Ok(None),

@@ -170,7 +170,7 @@ pub fn try_name_insertion(alloc: Global, number: usize) -> Trial {
     )
 }
 
-/// FilterInsertion are asked for that match a name.
+/// Filters are asked for that match a name.
 #[derive(Drop)]
 struct Matching {
     trie: FilterTrie<u8>,

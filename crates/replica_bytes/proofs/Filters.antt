@@ -1,10 +1,12 @@
 -- The test of topic filters tells which texts are filters.
 use Rattle.std.proofs.Common.{◌≡◌, ◌≢◌, ◌⊎◌, inl, inr, ℕ, Bool, true, false, not, ◌&&◌, ◌||◌, IsTrue, List, [], ◌∷◌, Ok, Err, length, refl, sym, ◌∙◌, true≢false}
+use Rattle.std.specs.Bool.{Decides}
 use Rattle.std.specs.List.{list_any}
 use Rattle.std.specs.Str.{bytes_eq}
 use Rattle.std.proofs.Math.Dec.{eqb-suc-zero}
 use Rattle.std.proofs.lemmas.Slice.Eq.{bytes_eq-Decides}
 use Rattle.mqtt_fields.specs.declared.fault.FieldFault.TheVariants.{Malformed}
+use Rattle.mqtt_fields.specs.Numbers.{IsText}
 use Rattle.mqtt_topics.specs.declared.fault.TopicFault.{TopicFault}
 use Rattle.mqtt_topics.specs.declared.fault.TopicFault.TheVariants.{Empty, BadShare, Wildcard, NoMemory}
 use Rattle.mqtt_topics.specs.Levels.{levels, is_wildcard, IsPlaced, ArePlaced, single_level, multi_level}
@@ -75,6 +77,9 @@ by_test false P passed failed = failed refl
 
 pub passes : (text : List ℕ) → IsFilter text → is_filter text ≡ true
 passes text f = by_test (is_filter text) _ (λ e. e) (λ e. absurd ((tells_filter text).fails e (f.some, (f.share, f.placed))))
+
+pub decides_filter : (text : List ℕ) → IsText text → Decides (is_filter text) (IsFilter text)
+decides_filter text fits = (λ e. let h = (tells_filter text).holds e in record { fits = fits; some = h.0; share = h.1.0; placed = h.1.1 }, passes text)
 
 pub read_filter : (text : List ℕ) → IsFilter text → filter_in text ≡ Ok text
 read_filter text f = by_test (is_filter text) _ (λ e. rw e refl) (λ e. absurd ((tells_filter text).fails e (f.some, (f.share, f.placed))))

@@ -17,7 +17,8 @@ use Rattle.subscription_set.specs.Merging.{IsSet}
 use Rattle.subscription_set.specs.Sorted.{Rises}
 use Rattle.subscription_set.specs.Standing.{find_entry, AreSeen}
 use Rattle.replica_store.specs.declared.kept.Kept.{Kept}
-use Rattle.replica_store.specs.Retained.{Retained, HaveOwnTopics, retained_join, retained_lattice, one_put, kept_cmp, topic_cmp, topic_cmp_antisym}
+use Rattle.replica_store.specs.Retained.{Retained, HaveOwnTopics, retained_join, one_put, kept_cmp, topic_cmp}
+use Rattle.replica_store.specs.RetainedLattice.{retained_lattice, topic_cmp_antisym}
 use Rattle.replica_store.proofs.Views.{by_test, tied_is, none_after, at_head}
 use Rattle.replica_store.proofs.Keeping.{empty-join}
 use Rattle.replica_bytes.specs.Values.{IsOwn, has_topic}

@@ -19,7 +19,8 @@ use Rattle.causal_context.specs.Spelling.{context, HasSpelling}
 use Rattle.causal_context.proofs.SpellingLaws.{context_is}
 use Rattle.subscription_set.specs.Entries.{can_be_asked}
 use Rattle.subscription_set.specs.Statuses.{Status, Statuses}
-use Rattle.subscription_set.specs.Standing.{Entries, statuses, seen_of, standing, entry_of, get-statuses, contains-seen_of, seen_of-statuses}
+use Rattle.subscription_set.specs.Standing.{Entries, statuses, seen_of, standing, entry_of}
+use Rattle.subscription_set.proofs.Seen.{get-statuses, contains-seen_of, seen_of-statuses}
 use Rattle.subscription_set.proofs.Standings.{find-standing, rises-standing, standing-statuses}
 use Rattle.replica_store.specs.Retained.{Retained, topic_cmp}
 use Rattle.replica_store.specs.States.{State}

@@ -63,7 +63,7 @@ fn filter_of(alloc: Global, text: &Text) -> Result<Filter, FieldFault>
 }
 
 /// A topic filter at the front, and the bytes after it.
-pub(crate) fn filter_at(alloc: Global, bytes: &[u8]) -> Result<(Filter, &[u8]), FieldFault>
+pub fn filter_at(alloc: Global, bytes: &[u8]) -> Result<(Filter, &[u8]), FieldFault>
     ensures { Gives (λ x. (x.0, x.1.now)) result (spec.filter.at bytes.now) }
 {
     let (text, rest) = Text::at(alloc, bytes)?;

@@ -19,7 +19,8 @@ use Rattle.subscription_set.specs.Standing.{seen_of}
 use Rattle.subscription_set.specs.Statuses.{Status, status_join}
 use Rattle.replica_store.specs.declared.kept.Kept.{Kept}
 use Rattle.replica_store.specs.Merging.{is_newer}
-use Rattle.replica_store.specs.Retained.{kept_cmp, kept_cmp_antisym}
+use Rattle.replica_store.specs.Retained.{kept_cmp}
+use Rattle.replica_store.specs.RetainedLattice.{kept_cmp_antisym}
 use Rattle.replica_store.specs.States.{State, state_join}
 use Rattle.row_store.specs.declared.row.Change.{Change}
 use Rattle.row_store.specs.Rows.{Key}

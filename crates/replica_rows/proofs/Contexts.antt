@@ -9,7 +9,8 @@ use Rattle.causal_context.specs.MapLattice.{option_join}
 use Rattle.causal_context.specs.SetLattice.{IsSubset, set_lattice}
 use Rattle.causal_context.specs.Spelling.{context, HasSpelling}
 use Rattle.causal_context.proofs.SpellingLaws.{context_is}
-use Rattle.subscription_set.specs.Standing.{seen_of, contains-seen_of}
+use Rattle.subscription_set.specs.Standing.{seen_of}
+use Rattle.subscription_set.proofs.Seen.{contains-seen_of}
 use Rattle.subscription_set.specs.Statuses.{Status, status_join, statuses_join}
 use Rattle.replica_store.specs.States.{State, state_join}
 use Rattle.row_store.specs.declared.row.Change.{Change}

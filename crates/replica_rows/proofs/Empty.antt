@@ -9,11 +9,13 @@ use Rattle.std.specs.FinMap as map
 use Rattle.causal_context.specs.Dots.{Dot, Dots, dot_cmp, dot_cmp_total, dot_cmp_antisym}
 use Rattle.causal_context.specs.MapLattice.{option_join, get-merge}
 use Rattle.causal_context.specs.Spelling.{context}
-use Rattle.subscription_set.specs.Standing.{seen_of, contains-seen_of}
+use Rattle.subscription_set.specs.Standing.{seen_of}
+use Rattle.subscription_set.proofs.Seen.{contains-seen_of}
 use Rattle.subscription_set.specs.Statuses.{Status, Statuses, status_join, statuses_join}
 use Rattle.replica_store.specs.declared.kept.Kept.{Kept}
 use Rattle.replica_store.specs.Retained.{topic_cmp}
-use Rattle.replica_store.specs.States.{State, StateBelow, nothing, state_join, state_lattice}
+use Rattle.replica_store.specs.States.{State, StateBelow, nothing, state_join}
+use Rattle.replica_store.specs.StateLattice.{state_lattice}
 use Rattle.replica_store.proofs.Keeping.{empty-join}
 use Rattle.row_store.specs.declared.row.Change.{Change}
 use Rattle.row_store.specs.declared.row.Row.{Row}

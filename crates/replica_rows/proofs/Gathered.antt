@@ -21,7 +21,8 @@ use Rattle.subscription_set.specs.Statuses.{Status}
 use Rattle.subscription_set.proofs.Standings.{find-standing, rises-standing}
 use Rattle.replica_store.specs.declared.kept.Kept.{Kept}
 use Rattle.replica_store.specs.Merging.{is_newer}
-use Rattle.replica_store.specs.Retained.{Retained, HaveOwnTopics, topic_cmp, topic_cmp_antisym}
+use Rattle.replica_store.specs.Retained.{Retained, HaveOwnTopics, topic_cmp}
+use Rattle.replica_store.specs.RetainedLattice.{topic_cmp_antisym}
 use Rattle.replica_store.specs.States.{State, state_join}
 use Rattle.replica_store.proofs.Views.{by_test, tied_is, none_after, at_head}
 use Rattle.row_store.specs.declared.row.Change.{Change}

@@ -13,11 +13,13 @@ use Rattle.subscription_set.specs.declared.entry.Entry.{Entry}
 use Rattle.subscription_set.specs.Entries.{entry_eq}
 use Rattle.subscription_set.specs.Joining.{is_leaving}
 use Rattle.subscription_set.specs.Merging.{same_entry}
-use Rattle.subscription_set.specs.Standing.{seen_of, contains-seen_of}
+use Rattle.subscription_set.specs.Standing.{seen_of}
+use Rattle.subscription_set.proofs.Seen.{contains-seen_of}
 use Rattle.subscription_set.specs.Statuses.{Status, status_join, statuses_join}
 use Rattle.replica_store.specs.declared.kept.Kept.{Kept}
 use Rattle.replica_store.specs.Merging.{is_newer}
-use Rattle.replica_store.specs.Retained.{retained_join, kept_cmp, kept_cmp_total, kept_cmp_antisym}
+use Rattle.replica_store.specs.Retained.{retained_join, kept_cmp}
+use Rattle.replica_store.specs.RetainedLattice.{kept_cmp_total, kept_cmp_antisym}
 use Rattle.replica_store.specs.States.{State, state_join}
 use Rattle.row_store.specs.declared.row.Row.{Row}
 use Rattle.row_store.specs.declared.row.Change.{Change}
@@ -26,7 +28,8 @@ use Rattle.row_store.specs.Rows.{Key, entry_of}
 use Rattle.replica_bytes.specs.Values.{dot, subscription, subscription_in, kept}
 use Rattle.replica_bytes.proofs.Wholes.{kept_is}
 use Rattle.replica_rows.specs.Rows.{row_at}
-use Rattle.replica_rows.specs.Changes.{key_in, names, IsRight, IsNeeded}
+use Rattle.row_changes.specs.Leading.{key_in}
+use Rattle.replica_rows.specs.Changes.{names, IsRight, IsNeeded}
 use Rattle.replica_rows.specs.Steps.{AddsDue, AddsLeaving, subscription_key, Leaves}
 use Rattle.replica_rows.proofs.Naming.{adds_none, adds_one, names_last}
 use Rattle.replica_rows.proofs.Keyed.{one_value, row_stands, row_unseen, row_removed, row_kept, row_not_kept}

@@ -12,7 +12,8 @@ use Rattle.row_store.proofs.CellLemmas.{ties}
 use Rattle.replica_store.specs.States.{State}
 use Rattle.replica_rows.specs.Rows.{row_at, AreRowsOf}
 use Rattle.replica_rows.specs.Steps.{Adds}
-use Rattle.replica_rows.specs.Changes.{key_in, names, IsRight, IsNeeded, AreChanges, Lead}
+use Rattle.row_changes.specs.Leading.{key_in}
+use Rattle.replica_rows.specs.Changes.{names, IsRight, IsNeeded, AreChanges, Lead}
 
 by_bool : (b : Bool) {P : Type 0} → (b ≡ true → P) → (b ≡ false → P) → P
 by_bool true f g = f refl

@@ -6,10 +6,11 @@ use Rattle.std.specs.FinMap as map
 use Rattle.std.specs.FinSet as set
 use Rattle.causal_context.specs.Dots.{Dot, dot_cmp_total, dot_cmp_antisym}
 use Rattle.subscription_set.specs.declared.entry.Entry.{Entry}
-use Rattle.subscription_set.specs.Standing.{seen_of, contains-seen_of}
+use Rattle.subscription_set.specs.Standing.{seen_of}
+use Rattle.subscription_set.proofs.Seen.{contains-seen_of}
 use Rattle.subscription_set.specs.Statuses.{Status}
 use Rattle.replica_store.specs.declared.kept.Kept.{Kept}
-use Rattle.replica_store.specs.Retained.{topic_cmp_antisym}
+use Rattle.replica_store.specs.RetainedLattice.{topic_cmp_antisym}
 use Rattle.replica_store.specs.States.{State}
 use Rattle.row_store.specs.Rows.{Key}
 use Rattle.replica_bytes.specs.Values.{subscription, subscription_in, entry_in, kept}

@@ -16,12 +16,13 @@ use Rattle.subscription_set.specs.Standing.{seen_of}
 use Rattle.subscription_set.specs.Statuses.{Status}
 use Rattle.replica_store.specs.declared.kept.Kept.{Kept}
 use Rattle.replica_store.specs.States.{State}
-use Rattle.row_store.specs.Rows.{Key}
+use Rattle.row_store.specs.Rows.{Key, Plain}
 use Rattle.replica_bytes.specs.Values.{dot, subscription, subscription_in, kept}
 use Rattle.replica_bytes.proofs.Wholes.{dot_is}
 use Rattle.replica_rows.specs.Rows.{spelled, subscription_of, subscription_at, kept_of, retained_at, context_at, dots_value, row_at}
 use Rattle.replica_rows.specs.Steps.{subscription_key}
-use Rattle.replica_rows.specs.Reading.{Plain, Topic, IsStore, Said, standing_at, row_of, Agrees, Contradicts, IsSubscription, IsTopic, IsDots, NoSubscription, NoDots}
+use Rattle.replica_rows.specs.ReadingSteps.{Topic, Said, standing_at, row_of, Agrees, Contradicts, IsSubscription, IsTopic, IsDots, NoSubscription, NoDots}
+use Rattle.replica_rows.specs.Reading.{IsStore}
 use Rattle.replica_rows.proofs.Keyed.{bytes_same, spelled_again, spelled_so, at_dot}
 use Rattle.replica_rows.proofs.Saying.{by_bool, no_value}
 

@@ -20,16 +20,18 @@ use Rattle.subscription_set.specs.Indexing.{ByDot}
 use Rattle.subscription_set.specs.Standing.{seen_of}
 use Rattle.subscription_set.specs.Statuses.{Status}
 use Rattle.replica_store.specs.declared.kept.Kept.{Kept}
-use Rattle.replica_store.specs.Retained.{Retained, retained_join, one_put, kept_cmp, topic_cmp, topic_cmp_antisym}
+use Rattle.replica_store.specs.Retained.{Retained, retained_join, one_put, kept_cmp, topic_cmp}
+use Rattle.replica_store.specs.RetainedLattice.{topic_cmp_antisym}
 use Rattle.replica_store.specs.States.{State}
 use Rattle.replica_store.proofs.Views.{tied_is}
-use Rattle.row_store.specs.Rows.{Key, key_cmp}
+use Rattle.row_store.specs.Rows.{Key, key_cmp, Plain}
 use Rattle.row_store.proofs.Keys.{keys_total, exact_keys}
 use Rattle.replica_bytes.specs.Values.{dot, subscription, subscription_in, kept}
 use Rattle.replica_bytes.proofs.Wholes.{dot_is}
 use Rattle.replica_rows.specs.Rows.{spelled, subscription_of, subscription_at, kept_of, retained_at, context_at, dots_value, row_at}
 use Rattle.replica_rows.specs.Steps.{subscription_key}
-use Rattle.replica_rows.specs.Reading.{Plain, Topic, IsStore, Said, IsSaid, standing_at, topic_at, dots_at, row_of, SaysMore, Agrees, Contradicts, IsSubscription, IsTopic, IsDots, TakesSubscription, TakesTopic, TakesDots, NoSubscription, NoDots}
+use Rattle.replica_rows.specs.ReadingSteps.{Topic, Said, IsSaid, standing_at, topic_at, dots_at, row_of, SaysMore, Agrees, Contradicts, IsSubscription, IsTopic, IsDots, TakesSubscription, TakesTopic, TakesDots, NoSubscription, NoDots}
+use Rattle.replica_rows.specs.Reading.{IsStore}
 use Rattle.replica_rows.proofs.Keyed.{bytes_same, spelled_again, spelled_so}
 use Rattle.replica_rows.proofs.Contexts.{value_some}
 

@@ -19,10 +19,12 @@ use Rattle.subscription_set.specs.Standing.{seen_of, standing, entry_of}
 use Rattle.subscription_set.specs.Statuses.{Statuses}
 use Rattle.subscription_set.proofs.Standings.{find-standing}
 use Rattle.replica_store.specs.declared.kept.Kept.{Kept}
-use Rattle.replica_store.specs.Retained.{Retained, topic_cmp, topic_cmp_antisym}
+use Rattle.replica_store.specs.Retained.{Retained, topic_cmp}
+use Rattle.replica_store.specs.RetainedLattice.{topic_cmp_antisym}
 use Rattle.replica_store.specs.States.{State}
 use Rattle.replica_bytes.specs.Values.{dot, kept}
-use Rattle.replica_rows.specs.Reading.{Topic, CanStand, IsStore, AllCanStand, AllHaveSpellings}
+use Rattle.replica_rows.specs.ReadingSteps.{Topic, AllCanStand, AllHaveSpellings}
+use Rattle.replica_rows.specs.Reading.{CanStand, IsStore}
 use Rattle.replica_rows.proofs.Gathered.{front_or_later}
 
 -- what holds of all that is left holds of all

@@ -12,7 +12,8 @@ use Rattle.finite_maps.proofs.Tables.{get_table, insert_table}
 use Rattle.replica_bytes.specs.Values.{dot}
 use Rattle.replica_bytes.proofs.Wholes.{dot_is}
 use Rattle.mqtt_fields.specs.Reading.{Finds}
-use Rattle.replica_rows.specs.Reading.{Plain, IsDots, IsSubscription, NoDots, NoSubscription, TakesSubscription}
+use Rattle.row_store.specs.Rows.{Plain}
+use Rattle.replica_rows.specs.ReadingSteps.{IsDots, IsSubscription, NoDots, NoSubscription, TakesSubscription}
 use Rattle.replica_rows.proofs.Keyed.{one_value}
 
 abbrev pub Pairs : Type 0

@@ -21,7 +21,8 @@ use Rattle.subscription_set.specs.declared.entry.Entry.{Entry}
 use Rattle.subscription_set.specs.Indexing.{ByDot}
 use Rattle.subscription_set.specs.Merging.{IsSet}
 use Rattle.subscription_set.specs.Sorted.{first_of}
-use Rattle.subscription_set.specs.Standing.{find_entry, statuses, seen_of, get-statuses, seen_of-statuses, contains-seen_of}
+use Rattle.subscription_set.specs.Standing.{find_entry, statuses, seen_of}
+use Rattle.subscription_set.proofs.Seen.{get-statuses, seen_of-statuses, contains-seen_of}
 use Rattle.subscription_set.specs.Statuses.{Status}
 use Rattle.subscription_set.proofs.Indexing.{entries_table}
 use Rattle.replica_store.specs.declared.kept.Kept.{Kept}
@@ -29,12 +30,13 @@ use Rattle.replica_store.specs.Retained.{Retained, topic_cmp}
 use Rattle.replica_store.specs.States.{State}
 use Rattle.replica_store.proofs.Views.{tied_is, at_head, none_after}
 use Rattle.row_store.specs.declared.row.Row.{Row}
-use Rattle.row_store.specs.Rows.{Key, key_cmp, entry_of, content_of}
+use Rattle.row_store.specs.Rows.{Key, key_cmp, entry_of, content_of, Plain}
 use Rattle.row_store.proofs.Keys.{keys_total, exact_keys}
 use Rattle.replica_bytes.specs.Values.{dot, subscription, subscription_in}
 use Rattle.replica_rows.specs.Rows.{AreRowsOf, spelled, subscription_of, subscription_at, kept_of, retained_at, context_at, dots_value, row_at}
 use Rattle.replica_rows.specs.Steps.{subscription_key}
-use Rattle.replica_rows.specs.Reading.{Plain, IsStore, AreAllRowsOf, AreOfNone, Said, IsSaid, standing_at, topic_at, dots_at, row_of, SaysMore, Agrees, Contradicts, AreSaid, state_of, AreSeenThere}
+use Rattle.replica_rows.specs.ReadingSteps.{Said, IsSaid, standing_at, topic_at, dots_at, row_of, SaysMore, Agrees, Contradicts, AreSaid, state_of, AreSeenThere}
+use Rattle.replica_rows.specs.Reading.{IsStore, AreAllRowsOf, AreOfNone}
 use Rattle.replica_rows.proofs.Keyed.{one_value, at_dot}
 use Rattle.replica_rows.proofs.Saying.{by_bool, no_value, picked}
 use Rattle.replica_rows.proofs.Refused.{said_row, value_of}

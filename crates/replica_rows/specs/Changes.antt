@@ -2,16 +2,12 @@
 use Rattle.std.specs.Prelude.{◌≡◌, ◌≢◌, ◌⊎◌, ℕ, Bool, true, List, Some, None}
 use Rattle.std.specs.List.{AllByRecursion, list_any}
 use Rattle.std.specs.Ordering.{eq_by_cmp}
+use Rattle.row_changes.specs.Leading.{key_in}
 use Rattle.row_store.specs.declared.row.Change.{Change}
 use Rattle.row_store.specs.declared.row.Change.TheVariants.{Put, Remove}
 use Rattle.row_store.specs.Rows.{Content, Key, key_cmp, key_of, after_all}
 use Rattle.replica_store.specs.States.{State}
 use Rattle.replica_rows.specs.Rows.{row_at, AreRowsOf}
-
--- the key that a change names
-abbrev pub key_in : Change → Key
-key_in (Put row) = key_of row
-key_in (Remove kind owner place) = (kind, (owner.items, place.items))
 
 -- whether one of the changes names the key
 abbrev pub names : Key → List Change → Bool

@@ -2,3 +2,4 @@ pub mod Rows
 pub mod Changes
 pub mod Steps
 pub mod Reading
+pub mod ReadingSteps

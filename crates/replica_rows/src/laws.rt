@@ -4,7 +4,8 @@ ghost use Rattle.mqtt_fields.specs.Numbers.{IsText};
 ghost use Rattle.mqtt_message.specs.Parts.{name};
 ghost use Rattle.replica_bytes.specs.Values as spec;
 ghost use Rattle.subscription_set.specs.Standing.{standing};
-ghost use Rattle.replica_rows.specs.Reading.{AllCanStand, AllHaveSpellings, CanStand, HaveOneReading, IsStore, TellAll};
+ghost use Rattle.replica_rows.specs.ReadingSteps.{AllCanStand, AllHaveSpellings};
+ghost use Rattle.replica_rows.specs.Reading.{CanStand, HaveOneReading, IsStore, TellAll};
 
 use causal_context::Dot;
 use mqtt_topics::TopicName;

@@ -11,7 +11,8 @@ ghost use Rattle.replica_store.specs.Contents.{topic_in, message_in};
 ghost use Rattle.row_store.specs.Rows.{entry_of, key_cmp, key_of};
 ghost use Rattle.replica_bytes.specs.Values.{dot, subscription, subscription_in, kept, has_topic};
 ghost use Rattle.mqtt_fields.specs.Reading.{Finds};
-ghost use Rattle.replica_rows.specs.Reading.{AreAllRowsOf, AreOfNone, AreSaid, Contradicts, IsDots, IsStore, IsSubscription, IsTopic, NoDots, NoSubscription, SaysMore, TakesDots, TakesSubscription, TakesTopic, Topic, AreSeenThere, row_of, said, state_of};
+ghost use Rattle.replica_rows.specs.ReadingSteps.{AreSaid, Contradicts, IsDots, IsSubscription, IsTopic, NoDots, NoSubscription, SaysMore, TakesDots, TakesSubscription, TakesTopic, Topic, AreSeenThere, row_of, said, state_of};
+ghost use Rattle.replica_rows.specs.Reading.{AreAllRowsOf, AreOfNone, IsStore};
 
 use crate::laws::is_store;
 use crate::row::{CONTEXT, RETAINED, SEEN, SUBSCRIPTION, TAKEN};

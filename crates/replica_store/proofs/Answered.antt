@@ -10,7 +10,8 @@ use Rattle.replica_store.specs.declared.operation.Operation.{Operation}
 use Rattle.replica_store.specs.declared.kept.Kept.{Kept}
 use Rattle.replica_store.specs.Operations.{HaveOwnDots, HasKept}
 use Rattle.causal_context.specs.OrderLattice.{same_from_order}
-use Rattle.replica_store.specs.Retained.{topic_cmp, topic_cmp_antisym, kept_cmp_total, kept_cmp_antisym, HasAlive}
+use Rattle.replica_store.specs.Retained.{topic_cmp, HasAlive}
+use Rattle.replica_store.specs.RetainedLattice.{topic_cmp_antisym, kept_cmp_total, kept_cmp_antisym}
 use Rattle.replica_store.specs.Answers.{Answers, IsAnswer, IsAnswerOf}
 use Rattle.replica_store.specs.States.{State}
 use Rattle.replica_store.specs.StateOf.{IsStateOf}

@@ -11,7 +11,8 @@ use Rattle.causal_context.specs.Dots.{Dot, Dots, dot_cmp, dot_cmp_total, dot_cmp
 use Rattle.causal_context.specs.MapLattice.{option_join, get-merge}
 use Rattle.causal_context.specs.OrderLattice.{same_from_order}
 use Rattle.subscription_set.specs.declared.entry.Entry.{Entry}
-use Rattle.subscription_set.specs.Statuses.{Status, status_join, statuses_join, none_join}
+use Rattle.subscription_set.specs.Statuses.{Status, status_join, statuses_join}
+use Rattle.subscription_set.specs.StatusLattice.{none_join}
 use Rattle.replica_store.specs.declared.operation.Operation.{Operation}
 use Rattle.replica_store.specs.declared.operation.Operation.TheVariants.{Subscribe, Remove, Put}
 use Rattle.replica_store.specs.Operations.{dot_of, cover_of, Among, HaveOwnDots, Covers, Sees, HasStatus, Puts, HasKept}
@@ -19,7 +20,8 @@ use Rattle.replica_store.specs.declared.content.Content.{Content}
 use Rattle.replica_store.specs.Stamps.{Stamp}
 use Rattle.replica_store.specs.Contents.{topic_in, message_in}
 use Rattle.replica_store.specs.declared.kept.Kept.{Kept}
-use Rattle.replica_store.specs.Retained.{one_put, kept_cmp, kept_cmp_total, kept_cmp_antisym, topic_cmp, topic_cmp_antisym}
+use Rattle.replica_store.specs.Retained.{one_put, kept_cmp, topic_cmp}
+use Rattle.replica_store.specs.RetainedLattice.{kept_cmp_total, kept_cmp_antisym, topic_cmp_antisym}
 use Rattle.replica_store.specs.States.{State}
 use Rattle.replica_store.specs.StateOf.{IsStateOf, SameOperations, removed, delta_of, joined_deltas}
 use Rattle.replica_store.proofs.Unions.{state_union}

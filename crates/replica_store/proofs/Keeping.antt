@@ -25,7 +25,8 @@ use Rattle.replica_store.specs.Contents.{topic_in, message_in}
 use Rattle.replica_store.specs.Operations.{HasKept}
 use Rattle.replica_store.specs.States.{State}
 use Rattle.replica_store.specs.StateOf.{IsStateOf}
-use Rattle.replica_store.specs.Retained.{Retained, HasAlive, HaveOwnTopics, retained_join, RetainedBelow, one_put, kept_cmp, kept_cmp_total, kept_cmp_antisym, content_cmp, topic_cmp, topic_cmp_antisym, greatest_count}
+use Rattle.replica_store.specs.Retained.{Retained, HasAlive, HaveOwnTopics, retained_join, RetainedBelow, one_put, kept_cmp, content_cmp, topic_cmp, greatest_count}
+use Rattle.replica_store.specs.RetainedLattice.{kept_cmp_total, kept_cmp_antisym, topic_cmp_antisym}
 use Rattle.replica_store.specs.Merging.{Entries, AllBelow, AllHeld, NoneHeld, KeepsOthers, fresh_in, greater_in, is_newer, is_greater, is_covered, with_all, without_all}
 use Rattle.replica_store.proofs.Views.{by_test, tied_is, none_after, at_head, some_same}
 

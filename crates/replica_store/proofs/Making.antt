@@ -7,7 +7,8 @@ use Rattle.causal_context.specs.Dots.{Dot, Dots, dot_cmp, dot_cmp_total, dot_cmp
 use Rattle.causal_context.specs.MapLattice.{option_join, get-merge}
 use Rattle.subscription_set.specs.declared.entry.Entry.{Entry}
 use Rattle.subscription_set.specs.Statuses.{status_join, statuses_join}
-use Rattle.subscription_set.specs.Standing.{find_entry, statuses, get-statuses}
+use Rattle.subscription_set.specs.Standing.{find_entry, statuses}
+use Rattle.subscription_set.proofs.Seen.{get-statuses}
 use Rattle.subscription_set.specs.Merging.{IsSet}
 use Rattle.replica_store.specs.StateOf.{removed, uncovered_entry}
 use Rattle.replica_store.proofs.Deltas.{get-removed, get_one, tied_true}

@@ -16,7 +16,8 @@ use Rattle.std.proofs.lemmas.Map.Entries.{sum_by-insert_entry, sum_by-remove_ent
 use Rattle.std.proofs.lemmas.List.Sums.{sum_by-cons}
 use Rattle.subscription_set.specs.Sorted.{Rises}
 use Rattle.replica_store.specs.declared.kept.Kept.{Kept}
-use Rattle.replica_store.specs.Retained.{Retained, topic_cmp, topic_cmp_antisym, with_message, holds_message}
+use Rattle.replica_store.specs.Retained.{Retained, topic_cmp, with_message, holds_message}
+use Rattle.replica_store.specs.RetainedLattice.{topic_cmp_antisym}
 use Rattle.replica_store.specs.Merging.{Entries}
 
 both : (a b : Bool) → T a → T b → T (a && b)

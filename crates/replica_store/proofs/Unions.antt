@@ -7,11 +7,13 @@ use Rattle.causal_context.specs.Dots.{Dot, dot_cmp_total}
 use Rattle.causal_context.specs.MapLattice.{option_join, get-merge}
 use Rattle.causal_context.specs.OrderLattice.{greater, by_greater}
 use Rattle.subscription_set.specs.declared.entry.Entry.{Entry}
-use Rattle.subscription_set.specs.Statuses.{Status, status_join, statuses_join, join-same, join_none, none_join}
+use Rattle.subscription_set.specs.Statuses.{Status, status_join, statuses_join}
+use Rattle.subscription_set.specs.StatusLattice.{join-same, join_none, none_join}
 use Rattle.replica_store.specs.declared.operation.Operation.{Operation}
 use Rattle.replica_store.specs.Operations.{Among, HaveOwnDots, Subscribes, Covers, Sees, HasStatus, Puts, IsGreatestPut, HasKept}
 use Rattle.replica_store.specs.declared.kept.Kept.{Kept}
-use Rattle.replica_store.specs.Retained.{retained_join, kept_cmp, kept_cmp_total, kept_cmp_antisym}
+use Rattle.replica_store.specs.Retained.{retained_join, kept_cmp}
+use Rattle.replica_store.specs.RetainedLattice.{kept_cmp_total, kept_cmp_antisym}
 use Rattle.replica_store.specs.States.{State, state_join}
 use Rattle.replica_store.specs.StateOf.{IsStateOf}
 

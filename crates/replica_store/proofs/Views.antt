@@ -25,7 +25,8 @@ use Rattle.subscription_set.proofs.Standings.{find-standing, rises-standing}
 use Rattle.replica_store.specs.declared.operation.Operation.{Operation}
 use Rattle.replica_store.specs.declared.kept.Kept.{Kept}
 use Rattle.replica_store.specs.Operations.{Among, HaveOwnDots, Stands, HasStatus, IsLive, Puts, HasKept, IsGreatestCount}
-use Rattle.replica_store.specs.Retained.{kept_cmp, topic_cmp, topic_cmp_antisym, greatest_count}
+use Rattle.replica_store.specs.Retained.{kept_cmp, topic_cmp, greatest_count}
+use Rattle.replica_store.specs.RetainedLattice.{topic_cmp_antisym}
 use Rattle.replica_store.specs.States.{State}
 use Rattle.replica_store.specs.StateOf.{IsStateOf, joined_deltas}
 use Rattle.replica_store.proofs.Deltas.{joined_is, tied_true}

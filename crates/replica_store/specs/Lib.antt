@@ -5,6 +5,8 @@ pub mod Making
 pub mod Merging
 pub mod Operations
 pub mod Retained
+pub mod RetainedLattice
 pub mod Stamps
 pub mod StateOf
 pub mod States
+pub mod StateLattice

@@ -5,7 +5,8 @@ ghost use Rattle.std.specs.Option.{option_copied};
 ghost use Rattle.causal_context.specs.Lattices.{lattice_from_join};
 ghost use Rattle.mqtt_message.specs.declared.message.Message.{Message as MessageValue};
 ghost use Rattle.replica_store.specs.Contents.{topic_in, message_in};
-ghost use Rattle.replica_store.specs.Retained.{HaveOwnTopics, retained_join, RetainedBelow, retained_lattice, one_put, HasAlive, with_message, greatest_count};
+ghost use Rattle.replica_store.specs.Retained.{HaveOwnTopics, retained_join, RetainedBelow, one_put, HasAlive, with_message, greatest_count};
+ghost use Rattle.replica_store.specs.RetainedLattice.{retained_lattice};
 
 use crate::content::Content;
 use crate::kept::{Kept, entry_of};

@@ -7,7 +7,8 @@ ghost use Rattle.replica_store.specs.declared.fault.StoreFault.TheVariants.{Numb
 ghost use Rattle.replica_store.specs.Answers.{IsAnswer};
 ghost use Rattle.replica_store.specs.Making.{NumberAtEnd, CountAtEnd, next_dot, subscribe_of, remove_of, remove_below_of, put_of};
 ghost use Rattle.replica_store.specs.StateOf.{delta_of as delta};
-ghost use Rattle.replica_store.specs.States.{State, nothing, state_join, StateBelow, state_lattice};
+ghost use Rattle.replica_store.specs.States.{State, nothing, state_join, StateBelow};
+ghost use Rattle.replica_store.specs.StateLattice.{state_lattice};
 ghost use Rattle.std.specs.FinMap as map;
 
 use crate::answer::answers;

@@ -8,7 +8,7 @@ mod measure;
 
 use crate::measure::{RUNS, SINGLE, Turns, fill_and_load, load_again, make_turns};
 use bench_clock::Failure;
-use node_database::open_rows;
+use node_database::{Wary, open_rows};
 use row_store::MemoryRows;
 use std::io;
 use std::process::ExitCode;
@@ -19,21 +19,21 @@ fn memory(rt: &HostRuntime) -> Result<(), Failure> {
 }
 
 fn file(rt: &HostRuntime, path: &str) -> Result<(), Failure> {
-    let Ok(mut rows) = open_rows(rt, path) else {
+    let Ok(mut rows) = open_rows(rt, path, Wary) else {
         return Err(Failure::Outside);
     };
     fill_and_load(rt, &mut rows, 1_000)
 }
 
 fn file_again(rt: &HostRuntime, path: &str) -> Result<(), Failure> {
-    let Ok(mut rows) = open_rows(rt, path) else {
+    let Ok(mut rows) = open_rows(rt, path, Wary) else {
         return Err(Failure::Outside);
     };
     load_again(rt, &mut rows)
 }
 
 fn turns(rt: &HostRuntime, path: &str, turns: Turns) -> Result<(), Failure> {
-    let Ok(mut rows) = open_rows(rt, path) else {
+    let Ok(mut rows) = open_rows(rt, path, Wary) else {
         return Err(Failure::Outside);
     };
     make_turns(rt, &mut rows, turns)

@@ -1,162 +1,43 @@
--- Changes that are told of lanes are those of the keys at which the rows differ, and there is one list of these.
-use Rattle.std.proofs.Common.{◌≡◌, ◌≢◌, ◌⊎◌, inl, inr, ℕ, Bool, true, false, cond, T, List, [], ◌∷◌, map, Option, Some, None, Less, refl, sym, ap, subst, ◌∙◌, true≢false}
+-- Changes of lanes that are told are those of the keys at which the rows differ, and there is one list of these.
+use Rattle.std.proofs.Common.{◌≡◌, inl, inr, ℕ, T, List, map, Option, Some, None, refl, sym, ap, ◌∙◌}
 use Rattle.std.specs.FinMap.{find, is_sorted, entries, from_sorted, entries-from_sorted, get-from_sorted, same_map}
-use Rattle.std.specs.List.{AllByRecursion}
-use Rattle.std.proofs.lemmas.Bool.{cases_Bool}
 use Rattle.message_lanes.specs.Lanes.{Lanes}
 use Rattle.bridge_frames.specs.declared.forward.Forward.{Forward}
-use Rattle.row_changes.specs.Leading.{IsNamed, left_by, left_or, or_else}
+use Rattle.row_changes.specs.Leading.{left_by}
 use Rattle.row_store.specs.declared.row.Change.{Change}
-use Rattle.row_store.specs.Rows.{Key, key_cmp}
+use Rattle.row_store.specs.Rows.{key_cmp, Key}
 use Rattle.row_store.proofs.Keys.{keys_total, exact_keys}
-use Rattle.lane_rows.specs.Rows.{each, last_put, numbers_of, row_at, rows_of, waiting_of}
-use Rattle.lane_rows.specs.Changes.{KeptLane, Left, is_lane_kind, left_of, now_of, told_of}
-use Rattle.lane_rows.proofs.Leading.{IsOf, each_all, messages_of, numbers_are}
-use Rattle.lane_rows.proofs.Order.{IsAbove, Rises, all_both, all_turned, find_none, itself, left_by_in, left_in, left_none, left_one, less_apart, or_else_none, same_is, same_key}
-use Rattle.row_laws.specs.Lanes.{AreLaneChanges, AreTold, ChangesAreOneList, ChangesAreThose, IsLaneChange}
-use Rattle.row_laws.proofs.LaneRows.{sorted_rises}
-
-some_is : {A : Type 0} (a b : A) → Some a ≡ Some b → a ≡ b
-some_is a b e = cc
-
--- ---- each key once
-
-abbrev Above : Key → Key → Type 0
-Above k q = key_cmp k q ≡ Less
-
-not_above : (k : Key) → Above k k → ⊥
-not_above k low = less_apart k k low refl
-
-no_later : (c : Left) (cs : List Left) → AllByRecursion (IsAbove c.0) cs → left_in cs c.0 ≡ None
-no_later c cs up = left_none c.0 (Above c.0) cs up (not_above c.0)
-
--- what is left at a key is what is found there
-left_once : (q : Key) (cs : List Left) → Rises cs → left_in cs q ≡ find key_cmp q cs
-left_once q [] up = refl
-left_once q (c ∷ cs) up = elim (cases_Bool (same_key q c.0)) [
-  | inl t ↦ (let none = ap (left_in cs) (same_is q c.0 t) ∙ no_later c cs up.0 in rw (t, none) refl)
-  | inr f ↦ rw (f, or_else_none (left_in cs q)) (left_once q cs up.1)
-]
-
--- each change is left at its key
-each_left : (cs : List Left) → Rises cs → AllByRecursion (λ c. left_in cs c.0 ≡ Some c.1) cs
-each_left [] up = tt
-each_left (c ∷ cs) up = (
-  rw (no_later c cs up.0, itself c.0) refl,
-  all_turned (λ e. left_in cs e.0 ≡ Some e.1) (λ e. left_in (c ∷ cs) e.0 ≡ Some e.1) cs (λ e is. ap (λ o. or_else o (left_one c e.0)) is) (each_left cs up.1),
-)
-
--- what is left at a key is of a change
-of_left : (P : Left → Type 0) (q : Key) (l : Option (List ℕ)) (cs : List Left) → AllByRecursion P cs → left_in cs q ≡ Some l → P (q, l)
-of_left P q l [] all e = absurd (cc)
-of_left P q l (c ∷ cs) all e = by (left_in cs q) refl (of_left P q l cs all.1) e
-  where
-    by : (last : Option (Option (List ℕ))) → left_in cs q ≡ last → (left_in cs q ≡ Some l → P (q, l)) → or_else last (left_one c q) ≡ Some l → P (q, l)
-    by (Some value) is later f = later (is ∙ f)
-    by None is later f = elim (cases_Bool (same_key q c.0)) [
-      | inl t ↦
-          let value = some_is c.1 l (sym (ap (λ b. cond b (Some c.1) None) t) ∙ f) in
-          subst P (λ i. (sym (same_is q c.0 t) i, value i)) all.0
-      | inr n ↦ absurd (let none : None ≡ Some l = sym (ap (λ b. cond b (Some c.1) None) n) ∙ f in cc)
-    ]
+use Rattle.lane_rows.specs.Changes.{AreLaneChanges, Left, left_of}
+use Rattle.lane_rows.proofs.Named.{left_once, right_at, so_changes, so_differ, so_lead}
+use Rattle.lane_rows.proofs.Order.{left_by_in, sorted_rises}
+use Rattle.row_laws.specs.Lanes.{ChangesAreOneList, ChangesAreThose}
 
 one_list : (xs ys : List Left) → T (is_sorted key_cmp xs) → T (is_sorted key_cmp ys) → ((q : Key) → find key_cmp q xs ≡ find key_cmp q ys) → xs ≡ ys
 one_list xs ys up also same =
     let maps = same_map keys_total exact_keys (from_sorted {R = key_cmp} xs) (from_sorted {R = key_cmp} ys) (λ q. get-from_sorted key_cmp xs q up ∙ same q ∙ sym (get-from_sorted key_cmp ys q also)) in
     sym (entries-from_sorted key_cmp xs up) ∙ ap entries maps ∙ entries-from_sorted key_cmp ys also
 
--- ---- no rows of other kinds
-
-no_row : (lanes : Lanes Forward) (q : Key) → is_lane_kind q.0 ≡ false → row_at lanes q ≡ None
-no_row lanes q other =
-    find_none q (λ k. is_lane_kind k.0 ≡ true) (rows_of lanes)
-    (all_both (λ e. is_lane_kind e.0.0 ≡ true) (each waiting_of 0 lanes) (each numbers_of 0 lanes)
-    (each_all (λ e. is_lane_kind e.0.0 ≡ true) waiting_of (λ p l. all_turned (IsOf 7 p) (λ e. is_lane_kind e.0.0 ≡ true) (waiting_of p l) (λ e is. ap is_lane_kind is.0) (messages_of p _ l.waiting)) 0 lanes)
-    (each_all (λ e. is_lane_kind e.0.0 ≡ true) numbers_of (λ p l. all_turned (IsOf 8 p) (λ e. is_lane_kind e.0.0 ≡ true) (numbers_of p l) (λ e is. ap is_lane_kind is.0) (numbers_are p (last_put l) l.took)) 0 lanes))
-    (λ yes. true≢false (sym yes ∙ other))
-
--- ---- the changes
-
-module _ (ks : List KeptLane) where
-  -- what is left at a key is right
-  abbrev IsRight : Left → Type 0
-  IsRight c = (is_lane_kind c.0.0 ≡ true) × (row_at (told_of ks) c.0 ≢ row_at (now_of ks) c.0) × (c.1 ≡ row_at (now_of ks) c.0)
-
-  all_to : (out : List Change) → AllByRecursion (IsLaneChange ks) out → AllByRecursion IsRight (map left_of out)
-  all_to [] all = tt
-  all_to (c ∷ out) all = ((all.0.kind, all.0.differs, all.0.leaves), all_to out all.1)
-
-  all_from : (out : List Change) → AllByRecursion IsRight (map left_of out) → AllByRecursion (IsLaneChange ks) out
-  all_from [] all = tt
-  all_from (c ∷ out) all = (record { kind = all.0.0; differs = all.0.1; leaves = all.0.2 }, all_from out all.1)
-
-  module _ (out : List Change) (told : AreTold ks out) where
-    one_right : (c : Left) → left_in (map left_of out) c.0 ≡ Some c.1 → IsRight c
-    one_right c is =
-        let left : left_by out c.0 ≡ Some c.1 = left_by_in out c.0 ∙ is in
-        let named : IsNamed out c.0 = λ none. (let e : None ≡ Some c.1 = sym none ∙ left in cc) in
-        let own : is_lane_kind c.0.0 ≡ true = elim (cases_Bool (is_lane_kind c.0.0)) [ inl t ↦ t | inr f ↦ absurd (named (told.lead.others c.0 f)) ] in
-        (own, (λ same. told.differ c.0 named (sym same)), sym (told.lead.own c.0 own ∙ ap (λ l. left_or l (row_at (told_of ks) c.0)) left))
-
-    named_or_same : (key : Key) (left : Option (Option (List ℕ))) → left_by out key ≡ left → (row_at (told_of ks) key ≡ row_at (now_of ks) key) ⊎ IsNamed out key
-    named_or_same key (Some l) is = inr (λ none. (let e : None ≡ Some l = sym none ∙ is in cc))
-    named_or_same key None is = inl (elim (cases_Bool (is_lane_kind key.0)) [
-      | inl own ↦ sym (told.lead.own key own ∙ ap (λ l. left_or l (row_at (told_of ks) key)) is)
-      | inr other ↦ no_row (told_of ks) key other ∙ sym (no_row (now_of ks) key other)
-    ])
-
-    so_changes : AreLaneChanges ks out
-    so_changes =
-        let cs = map left_of out in
-        record {
-          each = all_from out (all_turned (λ c. left_in cs c.0 ≡ Some c.1) IsRight cs one_right (each_left cs (sorted_rises cs told.once)));
-          complete = λ key. named_or_same key (left_by out key) refl;
-          once = told.once;
-        }
-
-  module _ (out : List Change) (are : AreLaneChanges ks out) where
-    right_at : (q : Key) (l : Option (List ℕ)) → left_by out q ≡ Some l → IsRight (q, l)
-    right_at q l is = of_left IsRight q l (map left_of out) (all_to out are.each) (sym (left_by_in out q) ∙ is)
-
-    leads : (key : Key) (left : Option (Option (List ℕ))) → left_by out key ≡ left → row_at (now_of ks) key ≡ left_or left (row_at (told_of ks) key)
-    leads key (Some l) is = sym (right_at key l is).2
-    leads key None is = elim (are.complete key) [ inl same ↦ sym same | inr named ↦ absurd (named is) ]
-
-    none_of_others : (key : Key) → is_lane_kind key.0 ≡ false → (left : Option (Option (List ℕ))) → left_by out key ≡ left → left_by out key ≡ None
-    none_of_others key other None is = is
-    none_of_others key other (Some l) is = absurd (true≢false (sym (right_at key l is).0 ∙ other))
-
-    so_differs : (key : Key) (left : Option (Option (List ℕ))) → left_by out key ≡ left → IsNamed out key → row_at (now_of ks) key ≢ row_at (told_of ks) key
-    so_differs key None is named same = named is
-    so_differs key (Some l) is named same = (right_at key l is).1 (sym same)
-
-    so_told : AreTold ks out
-    so_told = record {
-      lead = record {
-        own = λ key own. leads key (left_by out key) refl;
-        others = λ key other. none_of_others key other (left_by out key) refl;
-      };
-      once = are.once;
-      differ = λ key named. so_differs key (left_by out key) refl named;
-    }
-
+module _ (old new : Lanes Forward) where
   -- what one leaves at a key the other leaves there too
-  also : (these those : List Change) → AreLaneChanges ks these → AreLaneChanges ks those → (q : Key) (l : Option (List ℕ)) → left_by these q ≡ Some l → (o : Option (Option (List ℕ))) → left_by those q ≡ o → left_by those q ≡ Some l
+  also : (these those : List Change) → AreLaneChanges old new these → AreLaneChanges old new those → (q : Key) (l : Option (List ℕ)) → left_by these q ≡ Some l → (o : Option (Option (List ℕ))) → left_by those q ≡ o → left_by those q ≡ Some l
   also these those a b q l is None none =
-      elim (b.complete q) [ inl same ↦ absurd ((right_at these a q l is).1 same) | inr named ↦ absurd (named none) ]
-  also these those a b q l is (Some m) there = there ∙ ap Some ((right_at those b q m there).2 ∙ sym (right_at these a q l is).2)
+      elim (b.complete q) [ inl same ↦ absurd ((right_at old new these a q l is).1 same) | inr named ↦ absurd (named none) ]
+  also these those a b q l is (Some m) there = there ∙ ap Some ((right_at old new those b q m there).2 ∙ sym (right_at old new these a q l is).2)
 
-  same_left : (these those : List Change) → AreLaneChanges ks these → AreLaneChanges ks those → (q : Key) (x y : Option (Option (List ℕ))) → left_by these q ≡ x → left_by those q ≡ y → left_by these q ≡ left_by those q
+  same_left : (these those : List Change) → AreLaneChanges old new these → AreLaneChanges old new those → (q : Key) (x y : Option (Option (List ℕ))) → left_by these q ≡ x → left_by those q ≡ y → left_by these q ≡ left_by those q
   same_left these those a b q (Some l) y is other = is ∙ sym (also these those a b q l is y other)
   same_left these those a b q None None none other = none ∙ sym other
   same_left these those a b q None (Some m) none other = also those these b a q m other None none ∙ sym other
 
 pub changes_are : ChangesAreThose
-changes_are ks out = (so_changes ks out, so_told ks out)
+changes_are old new out = (
+  λ told. so_changes old new out told.lead told.once told.differ,
+  λ are. record { lead = so_lead old new out are; once = are.once; differ = so_differ old new out are },
+)
 
 pub one_list_of_changes : ChangesAreOneList
-one_list_of_changes ks these those a b =
+one_list_of_changes old new these those a b =
     let first = map left_of these in
     let second = map left_of those in
     one_list first second a.once b.once (λ q.
-    sym (left_once q first (sorted_rises first a.once)) ∙ sym (left_by_in these q) ∙ same_left ks these those a b q (left_by these q) (left_by those q) refl refl ∙ left_by_in those q ∙ left_once q second (sorted_rises second b.once))
+    sym (left_once q first (sorted_rises first a.once)) ∙ sym (left_by_in these q) ∙ same_left old new these those a b q (left_by these q) (left_by those q) refl refl ∙ left_by_in those q ∙ left_once q second (sorted_rises second b.once))

@@ -1,40 +1,19 @@
 -- The rows of lanes are those of the messages that wait and of the numbers that aren't both 0.
-use Rattle.std.proofs.Common.{◌≡◌, ◌≢◌, ◌⊎◌, inl, inr, ℕ, zero, suc, ◌+◌, ◌<◌, ◌≤◌, Bool, true, false, cond, ◌&&◌, T, List, [], ◌∷◌, ◌++◌, length, get_or, Some, None, Ordering, Less, Equal, Greater, refl, sym, ap, subst, ◌∙◌, true≢false, arith}
+use Rattle.std.proofs.Common.{◌≡◌, ◌≢◌, ◌⊎◌, inl, inr, ℕ, zero, suc, ◌+◌, ◌<◌, ◌≤◌, Bool, true, false, cond, ◌&&◌, List, [], ◌∷◌, ◌++◌, length, get_or, Some, None, refl, sym, ap, subst, ◌∙◌, true≢false, arith}
 use Rattle.std.specs.Prelude.{◌==◌, if◌then◌else◌, slice_get}
-use Rattle.std.specs.FinMap.{find, is_sorted}
-use Rattle.std.specs.FinMap.Entries.{below_all}
+use Rattle.std.specs.FinMap.{find}
 use Rattle.std.specs.List.{AllByRecursion}
-use Rattle.std.specs.Ordering.{is_lt}
 use Rattle.std.proofs.lemmas.Bool.{cases_Bool, cases_lt, eqb-true, and_parts}
 use Rattle.message_lanes.specs.Lanes.{Lanes, lane_of, new_lane}
 use Rattle.bridge_frames.specs.declared.forward.Forward.{Forward}
-use Rattle.row_store.specs.Rows.{Key, key_cmp}
-use Rattle.lane_rows.specs.Rows.{Plain, Messages, each, last_put, message_key, message_row, message_rows, numbers_key, numbers_of, numbers_rows, numbers_value, rows_of, waiting_of}
-use Rattle.lane_rows.proofs.Order.{IsAbove, Rises, all_both, itself, less_apart, other_key, same_is, same_key}
+use Rattle.row_store.specs.Rows.{Key, key_cmp, Plain}
+use Rattle.lane_rows.specs.Rows.{Messages, each, last_put, message_key, message_row, message_rows, numbers_key, numbers_of, numbers_rows, numbers_value, rows_of, waiting_of}
+use Rattle.lane_rows.proofs.Order.{IsAbove, Rises, all_both, itself, less_apart, other_key, same_is, same_key, sorted_rises}
 use Rattle.lane_rows.proofs.Rising.{rows_in_order}
 use Rattle.row_laws.specs.Lanes.{IsLaneRow, RowsAreOfLanes}
 
 some_is : {A : Type 0} (a b : A) → Some a ≡ Some b → a ≡ b
 some_is a b e = cc
-
--- ---- lists whose keys rise
-
-both_parts : (a b : Bool) → T (a && b) → T a × T b
-both_parts true b h = (tt, h)
-both_parts false b h = absurd h
-
-less_is : (o : Ordering) → T (is_lt o) → o ≡ Less
-less_is Less h = refl
-less_is Equal h = absurd h
-less_is Greater h = absurd h
-
-all_above : {V : Type 0} (k : Key) (es : List (Key × V)) → T (below_all key_cmp k es) → AllByRecursion (IsAbove k) es
-all_above k [] h = tt
-all_above k (e ∷ es) h = (let parts = both_parts (is_lt (key_cmp k e.0)) (below_all key_cmp k es) h in (less_is (key_cmp k e.0) parts.0, all_above k es parts.1))
-
-pub sorted_rises : {V : Type 0} (es : List (Key × V)) → T (is_sorted key_cmp es) → Rises es
-sorted_rises [] h = tt
-sorted_rises (e ∷ es) h = (let parts = both_parts (below_all key_cmp e.0 es) (is_sorted key_cmp es) h in (all_above e.0 es parts.0, sorted_rises es parts.1))
 
 -- ---- what stands in a list is found, and what is found stands there
 

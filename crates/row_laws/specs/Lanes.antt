@@ -1,15 +1,14 @@
 -- Which rows lanes have, and which changes of them are told.
-use Rattle.std.specs.Prelude.{◌≡◌, ◌≢◌, ◌⊎◌, ◌↔◌, ◌≤◌, ◌^◌, ℕ, true, List, Some, map}
-use Rattle.std.specs.List.{AllByRecursion}
+use Rattle.std.specs.Prelude.{◌≡◌, ◌≢◌, ◌⊎◌, ◌↔◌, ◌≤◌, ◌^◌, ℕ, List, Some, map}
 use Rattle.message_lanes.specs.Lanes.{Lanes, Waits, lane_of}
 use Rattle.bridge_frames.specs.declared.forward.Forward.{Forward}
 use Rattle.bridge_frames.specs.Forwards.{forward}
 use Rattle.row_changes.specs.Gathered.{AreOnce}
-use Rattle.row_changes.specs.Leading.{AllDiffer, IsNamed, LeadWithin, key_in, value_in}
+use Rattle.row_changes.specs.Leading.{AllDiffer, LeadWithin}
 use Rattle.row_store.specs.declared.row.Change.{Change}
 use Rattle.row_store.specs.Rows.{Key}
 use Rattle.lane_rows.specs.Rows.{last_put, message_key, numbers_key, numbers_value, row_at}
-use Rattle.lane_rows.specs.Changes.{KeptLane, is_lane_kind, left_of, now_of, told_of}
+use Rattle.lane_rows.specs.Changes.{AreLaneChanges, is_lane_kind, left_of}
 use Rattle.lane_rows.specs.Reading.{AreLanes}
 
 -- ---- rows
@@ -39,28 +38,16 @@ RowsAreOfLanes = (nodes : ℕ) (lanes : Lanes Forward) → nodes ≤ 2 ^ 16 → 
 
 -- ---- changes
 
--- it names a key of kind 7 or 8 at which the row of the lanes, or that there is none, isn't what was told, and leaves there what the lanes have
-pub record IsLaneChange (ks : List KeptLane) (change : Change) : Type 0 where
-  pub kind : is_lane_kind (key_in change).0 ≡ true
-  pub differs : row_at (told_of ks) (key_in change) ≢ row_at (now_of ks) (key_in change)
-  pub leaves : value_in change ≡ row_at (now_of ks) (key_in change)
-
--- each is such a one, each key at which the rows differ is named, and each once, in the order of the keys
-pub record AreLaneChanges (ks : List KeptLane) (changes : List Change) : Type 0 where
-  pub each : AllByRecursion (IsLaneChange ks) changes
-  pub complete : (key : Key) → (row_at (told_of ks) key ≡ row_at (now_of ks) key) ⊎ IsNamed changes key
+-- they lead from the rows of the old lanes to those of the new, name each key once, in the order of the keys, and none at which the rows are the same
+pub record LeadOnce (old new : Lanes Forward) (changes : List Change) : Type 0 where
+  pub lead : LeadWithin is_lane_kind (row_at old) (row_at new) changes
   pub once : AreOnce changes
+  pub differ : AllDiffer (row_at old) (row_at new) changes
 
--- what Links::changes ensures
-pub record AreTold (ks : List KeptLane) (changes : List Change) : Type 0 where
-  pub lead : LeadWithin is_lane_kind (row_at (told_of ks)) (row_at (now_of ks)) changes
-  pub once : AreOnce changes
-  pub differ : AllDiffer (row_at (told_of ks)) (row_at (now_of ks)) changes
-
--- says just that
+-- this says just that they are those of the keys at which the rows differ
 abbrev pub ChangesAreThose : Type 0
-ChangesAreThose = (ks : List KeptLane) (changes : List Change) → AreTold ks changes ↔ AreLaneChanges ks changes
+ChangesAreThose = (old new : Lanes Forward) (changes : List Change) → LeadOnce old new changes ↔ AreLaneChanges old new changes
 
 -- and there is one list of these at most
 abbrev pub ChangesAreOneList : Type 0
-ChangesAreOneList = (ks : List KeptLane) (these those : List Change) → AreLaneChanges ks these → AreLaneChanges ks those → map left_of these ≡ map left_of those
+ChangesAreOneList = (old new : Lanes Forward) (these those : List Change) → AreLaneChanges old new these → AreLaneChanges old new those → map left_of these ≡ map left_of those

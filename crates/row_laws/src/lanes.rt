@@ -6,9 +6,9 @@ pub fn lane_rows_are()
     ensures { RowsAreOfLanes }
 {}
 
-/// Changes lead from the rows that were told of lanes to those of the lanes, name each key once, in the order of the keys, and no row that
-/// is as it was told, exactly where they are those of the keys at which the rows differ, each with the row of the lanes, or its
-/// removal. There is one list of these at most.
+/// Changes lead from the rows of lanes to those of others, name each key once, in the order of the keys, and none at which the rows are
+/// the same, exactly where they are those of the keys at which the rows differ, each with the new row, or its removal. There is one
+/// list of these at most.
 pub fn lane_changes_are()
     ensures those { ChangesAreThose }
     ensures one { ChangesAreOneList }

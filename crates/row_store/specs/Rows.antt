@@ -12,6 +12,10 @@ use Rattle.row_store.specs.declared.row.Change.TheVariants.{Put, Remove}
 abbrev pub Key : Type 0
 Key = ℕ × (List ℕ × List ℕ)
 
+-- a row: its key and its value
+abbrev pub Plain : Type 0
+Plain = Key × List ℕ
+
 -- by kind, then by the bytes of the owner, then by those of the place
 abbrev pub key_cmp : Key → Key → Ordering
 key_cmp a b = ordering_then (nat_cmp a.0 b.0) (ordering_then (slice_cmp nat_cmp a.1.0 b.1.0) (slice_cmp nat_cmp a.1.1 b.1.1))
@@ -24,7 +28,7 @@ abbrev pub key_of : Row → Key
 key_of row = (row.kind, (row.owner.items, row.place.items))
 
 -- a row as an entry of a content
-abbrev pub entry_of : Row → Key × List ℕ
+abbrev pub entry_of : Row → Plain
 entry_of row = (key_of row, row.value.items)
 
 -- what rows hold; of two at one key, the first

@@ -2,12 +2,12 @@
 use Rattle.std.proofs.Common.{◌≡◌, ℕ, ◌<◌, ◌≤◌, ◌^◌, Bool, true, false, List, [], ◌∷◌, length, Option, Some, None, refl, sym, ap, arith, inl, inr}
 use Rattle.std.specs.Prelude.{◌==◌, IfSome, nat_lt, unwrap_or}
 use Rattle.std.specs.BTreeMap.{is_at, insert_entry}
-use Rattle.std.specs.List.{AllByRecursion}
+use Rattle.std.specs.List.{AllByRecursion, list_all}
 use Rattle.std.specs.Map.{remove_entry}
 use Rattle.std.specs.Ordering.{nat_cmp}
 use Rattle.std.specs.declared.cmp.Ordering.{Ordering}
 use Rattle.std.specs.declared.cmp.Ordering.TheVariants.{Less, Equal, Greater}
-use Rattle.std.proofs.lemmas.Bool.{cases_Bool, and_from, and_parts, lt-ltb, ltb-true}
+use Rattle.std.proofs.lemmas.Bool.{cases_Bool, and_from, and_parts, lt-ltb}
 use Rattle.std.proofs.lemmas.Cmp.{ranked}
 use Rattle.mqtt_fields.specs.declared.options.Qos.{Qos}
 use Rattle.mqtt_fields.specs.declared.options.Qos.TheVariants.{AtMostOnce, AtLeastOnce, ExactlyOnce}
@@ -20,7 +20,8 @@ use Rattle.mqtt_packets.specs.declared.packet.Packet.{Packet}
 use Rattle.mqtt_packets.specs.declared.packet.Packet.TheVariants as packets
 use Rattle.mqtt_packets.specs.Written.{HasSpelling}
 use Rattle.mqtt_message.specs.Accepted.{IsPublishable}
-use Rattle.qos_handshakes.specs.Incoming.{Received, first_identifier, identifiers_of, of_before, of_identifiers, rise}
+use Rattle.qos_handshakes.specs.Incoming.{Received, identifiers_of, of_before, of_identifiers, rise}
+use Rattle.qos_handshakes.proofs.RiseLaws.{rise-before, rise-from, rise-parts}
 use Rattle.mqtt_sessions.specs.declared.kept.Phase.{Phase}
 use Rattle.mqtt_sessions.specs.declared.kept.Phase.TheVariants.{Connected, Closed}
 use Rattle.mqtt_sessions.specs.Ending.{will_after}
@@ -52,58 +53,48 @@ pub record Rest (k : Kept) (i : Received) : Type 0 where
   pub counted : AreCounted (identifiers_of i)
 
 -- ---- identifiers that rise
-put-first : (k id : ℕ) (is : Received) → k < id → k < first_identifier (identifiers_of is) → k < first_identifier (identifiers_of (insert_entry nat_cmp is id true))
-put-first k id [] lt below = lt
-put-first k id (e ∷ es) lt below = by (nat_cmp id e.0) refl
-  where
-    by : (o : Ordering) → nat_cmp id e.0 ≡ o → k < first_identifier (identifiers_of (insert_entry nat_cmp (e ∷ es) id true))
-    by Less c = rw c lt
-    by Equal c = rw c below
-    by Greater c = rw c below
+module _ (p : ℕ → Bool) where
+  all-put : (id : ℕ) (is : Received) → p id ≡ true → list_all p (identifiers_of is) ≡ true → list_all p (identifiers_of (insert_entry nat_cmp is id true)) ≡ true
+  all-put id [] own all = and_from (p id) true own refl
+  all-put id (e ∷ es) own all =
+      let parts = and_parts (p e.0) (list_all p (identifiers_of es)) all in
+      by (nat_cmp id e.0) refl parts.0 (all-put id es own parts.1)
+    where
+      by : (o : Ordering) → nat_cmp id e.0 ≡ o → p e.0 ≡ true → list_all p (identifiers_of (insert_entry nat_cmp es id true)) ≡ true → list_all p (identifiers_of (insert_entry nat_cmp (e ∷ es) id true)) ≡ true
+      by Less c first more = rw c (and_from (p id) (list_all p (identifiers_of (e ∷ es))) own all)
+      by Equal c first more = rw c all
+      by Greater c first more = rw c (and_from (p e.0) (list_all p (identifiers_of (insert_entry nat_cmp es id true))) first more)
+
+  all-left : (test : ℕ → Bool) (is : Received) → list_all p (identifiers_of is) ≡ true → list_all p (identifiers_of (remove_entry test is)) ≡ true
+  all-left test [] all = refl
+  all-left test (e ∷ es) all =
+      let parts = and_parts (p e.0) (list_all p (identifiers_of es)) all in
+      elim (cases_Bool (test e.0)) [
+        | inl t ↦ rw t parts.1
+        | inr f ↦ rw f (and_from (p e.0) (list_all p (identifiers_of (remove_entry test es))) parts.0 (all-left test es parts.1))
+      ]
 
 rise-put : (id : ℕ) (is : Received) → id < 65536 → rise (identifiers_of is) ≡ true → rise (identifiers_of (insert_entry nat_cmp is id true)) ≡ true
-rise-put id [] small r = and_from (nat_lt id 65536) true (lt-ltb id 65536 small) refl
+rise-put id [] small r = rise-from id [] small refl refl
 rise-put id (e ∷ es) small r =
-    let parts = and_parts (nat_lt e.0 (first_identifier (identifiers_of es))) (rise (identifiers_of es)) r in
-    by (nat_cmp id e.0) refl (ltb-true e.0 (first_identifier (identifiers_of es)) parts.0) (rise-put id es small parts.1)
+    let parts = rise-parts e.0 (identifiers_of es) r in
+    by (nat_cmp id e.0) refl parts.0 parts.1 (rise-put id es small parts.2)
   where
-    by : (o : Ordering) → nat_cmp id e.0 ≡ o → e.0 < first_identifier (identifiers_of es) → rise (identifiers_of (insert_entry nat_cmp es id true)) ≡ true → rise (identifiers_of (insert_entry nat_cmp (e ∷ es) id true)) ≡ true
-    by Less c lt more = rw c (and_from (nat_lt id e.0) (rise (identifiers_of (e ∷ es))) (lt-ltb id e.0 (ranked id e.0 Less (sym c))) r)
-    by Equal c lt more = rw c r
-    by Greater c lt more =
-        let above : e.0 < id = ranked id e.0 Greater (sym c) in
-        let far = put-first e.0 id es above lt in
-        rw c (and_from (nat_lt e.0 (first_identifier (identifiers_of (insert_entry nat_cmp es id true)))) (rise (identifiers_of (insert_entry nat_cmp es id true))) (lt-ltb e.0 (first_identifier (identifiers_of (insert_entry nat_cmp es id true))) far) more)
+    by : (o : Ordering) → nat_cmp id e.0 ≡ o → e.0 < 65536 → list_all (nat_lt e.0) (identifiers_of es) ≡ true → rise (identifiers_of (insert_entry nat_cmp es id true)) ≡ true → rise (identifiers_of (insert_entry nat_cmp (e ∷ es) id true)) ≡ true
+    by Less c least above more = rw c (rise-from id (identifiers_of (e ∷ es)) small (rise-before id e.0 (identifiers_of es) (ranked id e.0 Less (sym c)) r) r)
+    by Equal c least above more = rw c r
+    by Greater c least above more =
+        let past : e.0 < id = ranked id e.0 Greater (sym c) in
+        rw c (rise-from e.0 (identifiers_of (insert_entry nat_cmp es id true)) least (all-put (nat_lt e.0) id es (lt-ltb e.0 id past) above) more)
 
-first-small : (is : Received) → rise (identifiers_of is) ≡ true → first_identifier (identifiers_of is) ≤ 65536
-first-small [] r = omega arith
-first-small (e ∷ es) r =
-    let p = and_parts (nat_lt e.0 (first_identifier (identifiers_of es))) (rise (identifiers_of es)) r in
-    let lt = ltb-true e.0 (first_identifier (identifiers_of es)) p.0 in
-    let le = first-small es p.1 in
-    omega (arith, lt, le)
-
-module _ (test : ℕ → Bool) where
-  first-left : (k : ℕ) (is : Received) → rise (identifiers_of is) ≡ true → k < first_identifier (identifiers_of is) → k < first_identifier (identifiers_of (remove_entry test is))
-  first-left k [] r lt = lt
-  first-left k (e ∷ es) r lt = elim (cases_Bool (test e.0)) [
-    | inl t ↦
-        let p = and_parts (nat_lt e.0 (first_identifier (identifiers_of es))) (rise (identifiers_of es)) r in
-        let more = ltb-true e.0 (first_identifier (identifiers_of es)) p.0 in
-        rw t (omega (arith, lt, more))
-    | inr f ↦ rw f lt
-  ]
-
-  rise-left : (is : Received) → rise (identifiers_of is) ≡ true → rise (identifiers_of (remove_entry test is)) ≡ true
-  rise-left [] r = refl
-  rise-left (e ∷ es) r =
-      let p = and_parts (nat_lt e.0 (first_identifier (identifiers_of es))) (rise (identifiers_of es)) r in
-      elim (cases_Bool (test e.0)) [
-        | inl t ↦ rw t p.1
-        | inr f ↦ rw f (and_from (nat_lt e.0 (first_identifier (identifiers_of (remove_entry test es)))) (rise (identifiers_of (remove_entry test es)))
-            (lt-ltb e.0 (first_identifier (identifiers_of (remove_entry test es))) (first-left e.0 es p.1 (ltb-true e.0 (first_identifier (identifiers_of es)) p.0)))
-            (rise-left es p.1))
-      ]
+rise-left : (test : ℕ → Bool) (is : Received) → rise (identifiers_of is) ≡ true → rise (identifiers_of (remove_entry test is)) ≡ true
+rise-left test [] r = refl
+rise-left test (e ∷ es) r =
+    let parts = rise-parts e.0 (identifiers_of es) r in
+    elim (cases_Bool (test e.0)) [
+      | inl t ↦ rw t parts.2
+      | inr f ↦ rw f (rise-from e.0 (identifiers_of (remove_entry test es)) parts.0 (all-left (nat_lt e.0) test es parts.1) (rise-left test es parts.2))
+    ]
 
 before-same : (is : Received) → identifiers_of (of_before is) ≡ identifiers_of is
 before-same [] = refl
@@ -212,21 +203,9 @@ closed-fits : (p : Phase) → IsMoment p → closed.Fits (closed_of p)
 closed-fits Connected m = (omega arith, omega arith)
 closed-fits (Closed at) m = (omega arith, omega (arith, m))
 
-rise-small : (l : List ℕ) → rise l ≡ true → first_identifier l ≤ 65536
-rise-small [] r = omega arith
-rise-small (i ∷ is) r =
-    let p = and_parts (nat_lt i (first_identifier is)) (rise is) r in
-    let lt = ltb-true i (first_identifier is) p.0 in
-    let le = rise-small is p.1 in
-    omega (arith, lt, le)
-
 ids-fit : (l : List ℕ) → rise l ≡ true → AllByRecursion (λ (n : ℕ). n < 2 ^ 16) l
 ids-fit [] r = tt
-ids-fit (i ∷ is) r =
-    let p = and_parts (nat_lt i (first_identifier is)) (rise is) r in
-    let lt = ltb-true i (first_identifier is) p.0 in
-    let le = rise-small is p.1 in
-    (omega (arith, lt, le), ids-fit is p.1)
+ids-fit (i ∷ is) r = let parts = rise-parts i is r in (omega (arith, parts.0), ids-fit is parts.2)
 
 pub main-fits : (s : State) → Rest s.kept s.incoming → s.outbox.next_place < 2 ^ 64 → main.Fits (main_of s)
 unfolding main

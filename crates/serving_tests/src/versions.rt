@@ -2,7 +2,7 @@
 
 use crate::served::ends_by;
 use database_examples::{HOMES, write_file};
-use node_database::open_rows;
+use node_database::{Wary, open_rows};
 use row_store::{Row, RowStore};
 use std::fs;
 
@@ -44,6 +44,8 @@ fn a_database_of_version_1_is_served(rt: HostRuntime) {
     for _ in 0..2 {
         assert!(rt; ends_by(&rt, ("two.toml", "n1", "first.db"), Ok(())));
     }
-    let rows = open_rows(&rt, "first.db").ok().expect(&rt, "a database");
+    let rows = open_rows(&rt, "first.db", Wary)
+        .ok()
+        .expect(&rt, "a database");
     assert!(rt; holds_raised(rows));
 }

@@ -121,6 +121,7 @@ impl<S: Alter> RowStore for SqlRows<S> {
 fn take_table<S: Alter>(conn: &mut Connection<S>, failures: &mut u64) -> Result<(), RowFault>
     requires { conn.old.in_transaction ≡ false }
     ensures mode { conn.new.in_transaction ≡ false }
+    ensures clean { doubt (state S.Store conn.old).is_clean ≤ doubt (state S.Store conn.new).is_clean }
     ensures ok { HasCleanDisk (state S.Store conn.new)
         → OnOk result (IsTrue (state S.Store conn.new).is_open × IsFormed (state S.Store conn.new).now × ((state S.Store conn.new).committed ≡ (state S.Store conn.new).now) × Adopts (state S.Store conn.old) (state S.Store conn.new)) }
     ensures err { HasCleanDisk (state S.Store conn.new) → IsTrue (state S.Store conn.new).is_open
@@ -161,6 +162,8 @@ impl<S: Alter> SqlRows<S> {
     pub fn adopt(mut conn: Connection<S>) -> Result<SqlRows<S>, (RowFault, Connection<S>)>
         requires { conn.in_transaction ≡ false }
         ensures ok { IfOk result (λ r. HasCleanDisk (state S.Store r.0) → IsTrue (state S.Store r.0).is_open × Adopts (state S.Store conn) (state S.Store r.0)) }
+        // What is clean was so before.
+        ensures was_clean { IfOk result (λ r. HasCleanDisk (state S.Store r.0) → HasCleanDisk (state S.Store conn)) }
         ensures fresh { IfOk result (λ r. r.1 ≡ 0) }
         ensures err { IfErr result (λ e. HasCleanDisk (state S.Store e.1) → IsTrue (state S.Store e.1).is_open → IsSameAs (state S.Store conn) (state S.Store e.1)) }
         ensures bad { IfErr result (λ e. HasCleanDisk (state S.Store e.1) → e.0 ≡ RowFault.BadRow

@@ -1,6 +1,7 @@
 //! What a session keeps beside its copies, as a row's value.
 
 ghost use Rattle.std.specs.Prelude.{◌≡◌, ◌++◌, true, OnOk};
+ghost use Rattle.std.specs.Option.{option_copied};
 ghost use Rattle.mqtt_fields.specs.Reading.{Gives};
 ghost use Rattle.qos_handshakes.specs.Incoming.{rise};
 ghost use Rattle.session_rows.specs.Durable.{IsPublishableIf};
@@ -73,14 +74,14 @@ pub(crate) fn read_main(alloc: Global, bytes: &[u8]) -> Result<MainRow, RowFault
 pub fn write_main(
     expiry: u32,
     closed: Option<u64>,
-    will: &Option<Will>,
+    will: Option<&Will>,
     incoming: &[u16],
     next_place: u64,
     out: &mut Vec<u8>,
 ) -> Result<(), NoMemory>
-    requires will { IsPublishableIf will.now }
+    requires will { IsPublishableIf (option_copied will) }
     requires incoming { rise incoming.now ≡ true }
-    ensures { OnOk result (out.new.items ≡ out.old.items ++ fields.main.bytes (record { expiry = expiry; closed = closed; will = will.now; incoming = incoming.now; next_place = next_place })) }
+    ensures { OnOk result (out.new.items ≡ out.old.items ++ fields.main.bytes (record { expiry = expiry; closed = closed; will = option_copied will.entry; incoming = incoming.now; next_place = next_place })) }
 {
     put_u32(expiry, out)?;
     put_closed(closed, out)?;

@@ -1,6 +1,7 @@
 //! Wills in rows.
 
 ghost use Rattle.std.specs.Prelude.{◌≡◌, ◌++◌, OnOk};
+ghost use Rattle.std.specs.Option.{option_copied};
 ghost use Rattle.mqtt_fields.specs.Reading.{Gives};
 ghost use Rattle.mqtt_message.specs.Spelling.{optional};
 ghost use Rattle.session_rows.specs.Durable.{IsPublishableIf};
@@ -58,9 +59,9 @@ fn put_will(will: &Will, out: &mut Vec<u8>) -> Result<(), NoMemory>
 }
 
 /// Appends a will that may be missing.
-pub(crate) fn put_will_if(will: &Option<Will>, out: &mut Vec<u8>) -> Result<(), NoMemory>
-    requires { IsPublishableIf will.now }
-    ensures { OnOk result (out.new.items ≡ out.old.items ++ (optional fields.will).bytes will.now) }
+pub(crate) fn put_will_if(will: Option<&Will>, out: &mut Vec<u8>) -> Result<(), NoMemory>
+    requires { IsPublishableIf (option_copied will) }
+    ensures { OnOk result (out.new.items ≡ out.old.items ++ (optional fields.will).bytes (option_copied will.entry)) }
 {
     put_flag(will.is_some(), out)?;
     match will {

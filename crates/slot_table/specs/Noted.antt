@@ -1,5 +1,5 @@
 -- Which slots are free, noted in bits.
-use Rattle.std.specs.Prelude.{◌≡◌, ℕ, ◌*◌, ◌/◌, ◌%◌, ◌≤◌, ◌==◌, Bool, true, false, not, List, length, slice_index}
+use Rattle.std.specs.Prelude.{◌≡◌, ℕ, ◌*◌, ◌/◌, ◌%◌, ◌≤◌, ◌==◌, Bool, true, false, not, List, [], Option, length, slice_index, unwrap_or}
 use Rattle.std.specs.Int.{bit_at}
 
 -- a bit of words, from the lowest of the first on
@@ -22,3 +22,7 @@ pub record IsNoted (values used full : List ℕ) : Type 0 where
   pub room : length values ≤ 64 * length used
   pub small : length used ≤ 1024
   pub most : length values ≤ 65536
+
+-- the slots of a table, which has none where it has no block
+abbrev pub slots_in : Option (List ℕ) → List ℕ
+slots_in block = unwrap_or block []

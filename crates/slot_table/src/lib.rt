@@ -2,6 +2,7 @@
 #![tactic(auto)]
 
 mod bits;
+mod noted;
 mod slots;
 
 pub use slots::Slots;

@@ -1,30 +1,37 @@
 //! The table.
-ghost use Rattle.std.specs.Prelude.{◌≡◌, ◌≢◌, ◌<◌, ◌≤◌, ◌++◌, ◌∷◌, [], ℕ, length, set, slice_index, OnOk, OnErr};
+ghost use Rattle.std.specs.Prelude.{◌≡◌, ◌≢◌, ◌<◌, ◌≤◌, ◌++◌, ◌∷◌, [], ℕ, length, set, slice_index, IfOk, OnOk, OnErr};
 
-use crate::bits::{clear_in, first_clear, lengthen, with_bit};
+use crate::noted::Noted;
 use mqtt_fields::NoMemory;
 use std::alloc::Global;
 use std::marker::Model;
 
-/// Numbers by slot, from 0 on, at most 65,536. A slot that has 0 is free.
+/// Numbers by slot, from 0 on, at most 65,536. A slot that has 0 is free. With no slots it has no block, and is small.
 #[derive(Drop)]
 pub struct Slots {
-    values: Vec<u64>,
-    /// A bit for each slot: whether it isn't free.
-    used: Vec<u64>,
-    /// A bit for each word of these: whether all its slots aren't.
-    full: Vec<u64>,
+    alloc: Global,
+    block: Option<Box<Noted>>,
 }
 
 impl Model for Slots {
-    ghost use Rattle.std.specs.Prelude.{List, ℕ};
-    ghost use Rattle.slot_table.specs.Noted.{IsNoted};
+    ghost use Rattle.std.specs.Prelude.{List, ℕ, option_map};
+    ghost use Rattle.slot_table.specs.Noted.{slots_in};
 
     ghost Value = { List ℕ };
 
-    ghost view = { λ a. a.values.items };
+    ghost view = { λ a. slots_in (option_map (λ b. b.value) a.block) };
+}
 
-    ghost invariant = { λ a. IsNoted a.values.items a.used.items a.full.items };
+/// Adds a free slot to a table that has none.
+fn first(alloc: Global) -> Result<Box<Noted>, NoMemory>
+    ensures { IfOk result (λ b. b.value ≡ 0 ∷ []) }
+{
+    let mut noted = Noted::new(alloc);
+    noted.add()?;
+    let Ok(block) = Box::new(alloc, noted) else {
+        return Err(NoMemory);
+    };
+    Ok(block)
 }
 
 impl Slots {
@@ -32,11 +39,7 @@ impl Slots {
     pub fn new(alloc: Global) -> Self
         ensures { result ≡ [] }
     {
-        Slots {
-            values: Vec::new(alloc),
-            used: Vec::new(alloc),
-            full: Vec::new(alloc),
-        }
+        Slots { alloc, block: None }
     }
 
     /// How many slots there are.
@@ -44,17 +47,19 @@ impl Slots {
         ensures all { result ≡ length self.now }
         ensures most { result ≤ 65536 }
     {
-        self.values.len()
+        match &self.block {
+            Some(noted) => noted.len(),
+            None => 0,
+        }
     }
 
     /// What a slot has; past the last one 0.
     pub fn get(&self, slot: usize) -> u64
         ensures { result ≡ slice_index self.now slot }
     {
-        if slot < self.values.len() {
-            self.values[slot]
-        } else {
-            0
+        match &self.block {
+            Some(noted) => noted.get(slot),
+            None => 0,
         }
     }
 
@@ -63,11 +68,9 @@ impl Slots {
         requires { slot < length self.old }
         ensures { self.new ≡ set self.old slot value }
     {
-        let word = slot / 64;
-        let noted = with_bit(self.used[word], slot % 64, value != 0);
-        self.used[word] = noted;
-        self.full[word / 64] = with_bit(self.full[word / 64], word % 64, noted == u64::MAX);
-        self.values[slot] = value;
+        if let Some(noted) = &mut self.block {
+            noted.set(slot, value);
+        }
     }
 
     /// Adds a free slot. For want of memory nothing changes.
@@ -76,10 +79,13 @@ impl Slots {
         ensures ok { OnOk result (self.new ≡ self.old ++ 0 ∷ []) }
         ensures err { OnErr result (self.new ≡ self.old) }
     {
-        lengthen(&mut self.full, self.used.len())?;
-        lengthen(&mut self.used, self.values.len())?;
-        self.values.push(0)?;
-        Ok(())
+        match &mut self.block {
+            Some(noted) => noted.add(),
+            None => {
+                self.block = Some(first(self.alloc)?);
+                Ok(())
+            }
+        }
     }
 
     /// The first free slot, or how many there are where none is.
@@ -88,10 +94,9 @@ impl Slots {
         ensures free { result < length self.now → slice_index self.now result ≡ 0 }
         ensures least { (k : ℕ) → k < result → slice_index self.now k ≢ 0 }
     {
-        let word = first_clear(&self.full);
-        if word >= self.used.len() {
-            return self.values.len();
+        match &self.block {
+            Some(noted) => noted.first_free(),
+            None => 0,
         }
-        clear_in(&self.used, word).min(self.values.len())
     }
 }

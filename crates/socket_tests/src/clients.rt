@@ -159,10 +159,10 @@ fn is_served(
 #[test]
 fn serving_starts_and_makes_turns(rt: HostRuntime) -> Result<(), Fail> {
     let alloc = rt.alloc();
-    // of what waits a turn offers one packet, and `!` waits first
+    // a turn offers all packets that wait, where they are small, and `!` waits first
     is_served(&rt, alloc, 0, (true, 0, 1, 1), b"");
-    is_served(&rt, alloc, 1, (true, 1, 2, 2), b"!");
-    is_served(&rt, alloc, 3, (true, 3, 4, 4), b"!he");
-    is_served(&rt, alloc, 9, (false, 6, 7, 6), b"!hell");
+    is_served(&rt, alloc, 1, (true, 1, 2, 2), b"!h");
+    is_served(&rt, alloc, 3, (true, 3, 4, 4), b"!hel");
+    is_served(&rt, alloc, 9, (false, 6, 7, 6), b"!hello");
     Ok(())
 }

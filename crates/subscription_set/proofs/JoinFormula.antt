@@ -8,7 +8,8 @@ use Rattle.causal_context.specs.MapLattice.{option_join, get-merge}
 use Rattle.subscription_set.specs.declared.entry.Entry.{Entry}
 use Rattle.subscription_set.specs.Entries.{entry_eq}
 use Rattle.subscription_set.specs.Statuses.{status_join, statuses_join}
-use Rattle.subscription_set.specs.Standing.{Entries, find_entry, AreSeen, statuses, get-statuses}
+use Rattle.subscription_set.specs.Standing.{Entries, find_entry, AreSeen, statuses}
+use Rattle.subscription_set.proofs.Seen.{get-statuses}
 
 -- at one dot: (s and t) or (s without the dots that t has seen) or (t without the dots that s has seen)
 abbrev pub kept_entry : Bool → Bool → Option Entry → Option Entry → Option Entry

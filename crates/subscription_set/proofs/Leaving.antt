@@ -9,7 +9,8 @@ use Rattle.subscription_set.specs.declared.entry.Entry.{Entry}
 use Rattle.subscription_set.specs.Indexing.{ByDot}
 use Rattle.subscription_set.specs.Joining.{AreLeaving, leaves_from, is_leaving}
 use Rattle.subscription_set.specs.Merging.{IsSet, same_entry}
-use Rattle.subscription_set.specs.Standing.{statuses, find_entry, get-statuses}
+use Rattle.subscription_set.specs.Standing.{statuses, find_entry}
+use Rattle.subscription_set.proofs.Seen.{get-statuses}
 
 at_status : (a b : Bool) (x y : Option Entry) → (is_some x ≡ true → a ≡ true) → (is_some x && (b && not (same_entry x y))) ≡ is_leaving (cond a (Some x) None) (cond b (Some y) None)
 at_status true true (Some e) y here = refl

@@ -14,7 +14,9 @@ pub mod Pairs
 pub mod Picking
 pub mod Places
 pub mod Plans
+pub mod Present
 pub mod Rising
+pub mod Seen
 pub mod Spans
 pub mod Spreading
 pub mod Standings

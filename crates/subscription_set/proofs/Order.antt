@@ -11,7 +11,8 @@ use Rattle.subscription_set.specs.declared.entry.Entry.{Entry}
 use Rattle.subscription_set.specs.Entries.{entry_eq-decides}
 use Rattle.subscription_set.specs.Statuses.{Status, StatusBelow, StatusesBelow}
 use Rattle.subscription_set.specs.Sorted.{first_of, has_key, Rises}
-use Rattle.subscription_set.specs.Standing.{AreSeen, Entries, find_entry, statuses, get-statuses}
+use Rattle.subscription_set.specs.Standing.{AreSeen, Entries, find_entry, statuses}
+use Rattle.subscription_set.proofs.Seen.{get-statuses}
 use Rattle.subscription_set.specs.Merging.{IsSet, same_entry}
 use Rattle.subscription_set.proofs.JoinFormula.{HaveSame}
 use Rattle.subscription_set.proofs.Places.{found_here}

@@ -6,7 +6,8 @@ use Rattle.std.specs.Ordering.{eq_by_cmp}
 use Rattle.std.specs.Cmp.{Equal-is}
 use Rattle.causal_context.specs.Dots.{Dots, Dot, dot_cmp, dot_cmp_total, dot_cmp_antisym}
 use Rattle.subscription_set.specs.declared.entry.Entry.{Entry}
-use Rattle.subscription_set.specs.Standing.{Entries, find_entry, AreSeen, statuses, get-statuses}
+use Rattle.subscription_set.specs.Standing.{Entries, find_entry, AreSeen, statuses}
+use Rattle.subscription_set.proofs.Seen.{get-statuses}
 use Rattle.subscription_set.proofs.JoinFormula.{IsJoinOf, kept_entry}
 
 module _ (c : Dots) (es : Entries) (k : Dots) (fs : Entries) where

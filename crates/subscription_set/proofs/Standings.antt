@@ -8,7 +8,9 @@ use Rattle.std.specs.Cmp.{Equal-is}
 use Rattle.causal_context.specs.Dots.{Dots, Dot, dot_cmp, dot_cmp_total, dot_cmp_antisym}
 use Rattle.subscription_set.specs.declared.entry.Entry.{Entry}
 use Rattle.subscription_set.specs.Statuses.{Status, Statuses}
-use Rattle.subscription_set.specs.Standing.{Entries, find_entry, statuses, get-statuses, present, standing, rises-present, entry_of}
+use Rattle.subscription_set.specs.Standing.{Entries, find_entry, statuses, present, standing, entry_of}
+use Rattle.subscription_set.proofs.Seen.{get-statuses}
+use Rattle.subscription_set.proofs.Present.{rises-present}
 use Rattle.subscription_set.specs.Merging.{IsSet}
 use Rattle.subscription_set.proofs.Places.{found_none, first_part, second_part}
 

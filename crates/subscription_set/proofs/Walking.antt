@@ -14,7 +14,8 @@ use Rattle.causal_context.specs.Dots.{Dot, Dots, dot_cmp, dot_cmp_total, dot_cmp
 use Rattle.mqtt_topics.specs.Matching.{Matches}
 use Rattle.filter_trie.specs.Selected.{IsSelected}
 use Rattle.subscription_set.specs.Entries.{Entry, entry_eq, entry_eq-decides}
-use Rattle.subscription_set.specs.Standing.{Entries, find_entry, is_latest, latest, present, rises-present}
+use Rattle.subscription_set.specs.Standing.{Entries, find_entry, is_latest, latest, present}
+use Rattle.subscription_set.proofs.Present.{rises-present}
 use Rattle.subscription_set.specs.Indexing.{ByDot, MatchesName}
 use Rattle.subscription_set.proofs.Indexing.{found_any, in_found}
 use Rattle.subscription_set.proofs.Latest.{IsIn, all_at, any_filter, one_is_latest}

@@ -10,3 +10,4 @@ pub mod Placing
 pub mod Sorted
 pub mod Standing
 pub mod Statuses
+pub mod StatusLattice

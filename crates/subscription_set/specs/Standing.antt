@@ -1,12 +1,10 @@
 -- What stands, and what is live.
-use Rattle.std.specs.Prelude.{◌≡◌, ℕ, Bool, true, false, cond, not, ◌&&◌, ◌||◌, T, is_some, List, [], ◌∷◌, map as map_list, Option, Some, None, refl}
-use Rattle.std.proofs.Common.{ap, sym, ◌∙◌}
+use Rattle.std.specs.Prelude.{◌≡◌, ℕ, Bool, true, not, ◌&&◌, is_some, List, [], ◌∷◌, map as map_list, Option, Some, None}
 use Rattle.std.specs.List.{list_any, list_all, filter}
-use Rattle.std.specs.Ordering.{eq_by_cmp, is_lt}
-use Rattle.std.specs.Cmp.{Equal-is}
+use Rattle.std.specs.Ordering.{is_lt}
 use Rattle.std.specs.FinSet as set
 use Rattle.std.specs.FinMap as map
-use Rattle.causal_context.specs.Dots.{Dot, Dots, dot_cmp, dot_cmp_total, dot_cmp_antisym}
+use Rattle.causal_context.specs.Dots.{Dot, Dots, dot_cmp}
 use Rattle.subscription_set.specs.declared.entry.Entry.{Entry}
 use Rattle.subscription_set.specs.Entries.{is_of, is_of_below, same_text, same_subscription, recency_cmp}
 use Rattle.subscription_set.specs.Statuses.{Status, Statuses}
@@ -80,58 +78,7 @@ live m = latest (standing m)
 abbrev pub live_of : List ℕ → Statuses → Entries
 live_of client m = filter (λ x. same_text client x.1.client) (live m)
 
-find_listed : (q : Dot) (es : Entries) (ds : List Dot) → map.find {X = Status} dot_cmp q (map_list (λ d. (d, find_entry d es)) ds) ≡ cond (list_any (eq_by_cmp dot_cmp q) ds) (Some (find_entry q es)) None
-find_listed q es [] = refl
-find_listed q es (d ∷ ds) = elim (eq_by_cmp dot_cmp q d) as (λ b. eq_by_cmp dot_cmp q d ≡ b → cond b (Some (find_entry d es)) (map.find {X = Status} dot_cmp q (map_list (λ d. (d, find_entry d es)) ds)) ≡ cond (b || list_any (eq_by_cmp dot_cmp q) ds) (Some (find_entry q es)) None) [
-  | true ↦ λ t. ap (λ x. Some (find_entry x es)) (sym (dot_cmp_antisym q d ((Equal-is (dot_cmp q d)).0 t)))
-  | false ↦ λ t. find_listed q es ds
-] refl
-
-pub get-statuses : (seen : Dots) (es : Entries) (q : Dot) → map.get (statuses seen es) q ≡ cond (set.contains seen q) (Some (find_entry q es)) None
-unfolding statuses
-get-statuses seen es q = map.get-from_entries dot_cmp_total _ q ∙ find_listed q es (set.items seen) ∙ ap (λ b. cond b (Some (find_entry q es)) None) (sym (set.contains-items seen q))
-
-some_cond : {X : Type 0} (b : Bool) (x : X) → is_some (cond b (Some x) None) ≡ b
-some_cond true x = refl
-some_cond false x = refl
-
-pub contains-seen_of : (m : Statuses) (q : Dot) → set.contains (seen_of m) q ≡ is_some (map.get m q)
-unfolding seen_of
-contains-seen_of m q = set.contains-from_list dot_cmp_total (map.keys m) q ∙ sym (map.contains_key-keys m q)
-
-pub seen_of-statuses : (seen : Dots) (es : Entries) → seen_of (statuses seen es) ≡ seen
-seen_of-statuses seen es = set.same_set dot_cmp_total dot_cmp_antisym _ _ (λ q.
-    contains-seen_of (statuses seen es) q ∙ ap is_some (get-statuses seen es q) ∙ some_cond (set.contains seen q) (find_entry q es))
-
 -- the entry of a status, if there is one
 abbrev pub entry_of : Option Status → Option Entry
 entry_of None = None
 entry_of (Some x) = x
-
-both : (a b : Bool) → T a → T b → T (a && b)
-both true b p q = q
-both false b p q = absurd p
-
-first : (a b : Bool) → T (a && b) → T a
-first true b p = tt
-first false b p = absurd p
-
-second : (a b : Bool) → T (a && b) → T b
-second true b p = p
-second false b p = absurd p
-
-below-present : (d : Dot) (xs : List (Dot × Status)) → T (map.Entries.below_all dot_cmp d xs) → T (map.Entries.below_all dot_cmp d (present xs))
-below-present d [] h = tt
-below-present d (x ∷ xs) h = one x.1 (below-present d xs (second _ _ h))
-  where
-    one : (s : Status) → T (map.Entries.below_all dot_cmp d (present xs)) → T (map.Entries.below_all dot_cmp d (present ((x.0, s) ∷ xs)))
-    one None r = r
-    one (Some e) r = both _ _ (first _ _ h) r
-
-pub rises-present : (xs : List (Dot × Status)) → T (map.is_sorted dot_cmp xs) → T (map.is_sorted dot_cmp (present xs))
-rises-present [] h = tt
-rises-present (x ∷ xs) h = one x.1 (rises-present xs (second _ _ h))
-  where
-    one : (s : Status) → T (map.is_sorted dot_cmp (present xs)) → T (map.is_sorted dot_cmp (present ((x.0, s) ∷ xs)))
-    one None r = r
-    one (Some e) r = both _ _ (below-present x.0 xs (first _ _ h)) r

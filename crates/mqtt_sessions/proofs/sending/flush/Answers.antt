@@ -1,3 +1,4 @@
+use Rattle.std.proofs.Common.{inr}
 use Rattle.session_rows.proofs.FollowLaws.{follows_then, follows_touched}
 use Rattle.mqtt_sessions.proofs.Flushed.{may-flush, may-flush-more, on-err, sent-more, sends-less}
 use Rattle.mqtt_sessions.proofs.sending.flush.Goals as goal
@@ -19,7 +20,7 @@ loop-sending-preserved c =
     }
 
 pub returns-in_err-sending-clause-want : goal.returns-in_err-sending-clause-want
-returns-in_err-sending-clause-want c = on-err _ _ (may-flush c.args.now c.args.limit _ _ _ _ c.loop-sending.invariant.sent (c.in_err-sending.ensures.need, c.in_err-sending.ensures.some))
+returns-in_err-sending-clause-want c = on-err _ _ (may-flush c.args.now c.args.limit _ _ _ _ c.loop-sending.invariant.sent (c.in_err-sending.ensures.need, inr c.in_err-sending.ensures.some))
 
 pub returns-in_err-delivery-clause-want : goal.returns-in_err-delivery-clause-want
 returns-in_err-delivery-clause-want c =

@@ -1,7 +1,7 @@
 use Rattle.std.proofs.Common.{subst, ap, ◌∙◌}
 use Rattle.std.specs.FinMap as map
 use Rattle.subscription_set.specs.Standing.{seen_of, standing}
-use Rattle.replica_rows.specs.Reading.{AllCanStand, AllHaveSpellings}
+use Rattle.replica_rows.specs.ReadingSteps.{AllCanStand, AllHaveSpellings}
 use Rattle.replica_rows.proofs.Stores.{ranges_spell, each_store}
 use Rattle.replica_rows.proofs.laws.is_store.Goals as goal
 

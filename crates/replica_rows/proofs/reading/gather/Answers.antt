@@ -3,7 +3,7 @@ use Rattle.std.specs.FinMap as maps
 use Rattle.std.proofs.lemmas.Result.{err_from_is_err_and}
 use Rattle.causal_context.specs.Dots.{dot_cmp}
 use Rattle.row_store.specs.Rows.{entry_of}
-use Rattle.replica_rows.specs.Reading.{said}
+use Rattle.replica_rows.specs.ReadingSteps.{said}
 use Rattle.replica_rows.proofs.Told.{none_gathered, one_gathered, all_gathered, next_row, no_rows, row_stops}
 use Rattle.replica_rows.proofs.reading.gather.Goals as goal
 

@@ -1,6 +1,6 @@
 use Rattle.std.proofs.Common.{map, drop}
 use Rattle.row_store.specs.Rows.{entry_of}
-use Rattle.replica_rows.specs.Reading.{said}
+use Rattle.replica_rows.specs.ReadingSteps.{said}
 use Rattle.replica_rows.proofs.Told.{IsGathered}
 use Rattle.replica_rows.proofs.reading.gather.Given as goal
 

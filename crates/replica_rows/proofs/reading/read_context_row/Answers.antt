@@ -1,7 +1,7 @@
 use Rattle.std.proofs.Common.{sym, ap, ◌∙◌}
 use Rattle.causal_context.specs.Spelling.{context}
 use Rattle.causal_context.proofs.SpellingLaws.{context_is}
-use Rattle.replica_rows.specs.Reading.{Plain}
+use Rattle.row_store.specs.Rows.{Plain}
 use Rattle.replica_rows.proofs.Keyed.{one_value}
 use Rattle.replica_rows.proofs.reading.read_context_row.Goals as goal
 

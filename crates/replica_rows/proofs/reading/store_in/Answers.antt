@@ -1,6 +1,7 @@
 use Rattle.std.proofs.Common.{map}
 use Rattle.row_store.specs.Rows.{entry_of}
-use Rattle.replica_rows.specs.Reading.{said, IsStore, AreAllRowsOf}
+use Rattle.replica_rows.specs.ReadingSteps.{said}
+use Rattle.replica_rows.specs.Reading.{IsStore, AreAllRowsOf}
 use Rattle.replica_rows.proofs.Told.{made_by, refused_by, made_rows, made_store}
 use Rattle.replica_rows.proofs.reading.store_in.Goals as goal
 

@@ -1,5 +1,5 @@
 use Rattle.std.proofs.Common.{inr}
-use Rattle.replica_rows.specs.Reading.{said}
+use Rattle.replica_rows.specs.ReadingSteps.{said}
 use Rattle.replica_rows.proofs.Told.{not_made}
 use Rattle.replica_rows.proofs.reading.store_of.Goals as goal
 

@@ -1,6 +1,6 @@
 use Rattle.row_store.specs.Rows.{entry_of}
 use Rattle.replica_bytes.proofs.Loops.{on_ok}
-use Rattle.replica_rows.specs.Reading.{said}
+use Rattle.replica_rows.specs.ReadingSteps.{said}
 use Rattle.replica_rows.proofs.Refused.{on_err, no_subscription, no_topic, no_dots}
 use Rattle.replica_rows.proofs.Saying.{say_subscription, say_topic, say_dots}
 use Rattle.replica_rows.proofs.reading.take.Goals as goal

@@ -1,150 +1,145 @@
-use Rattle.std.proofs.Common.{◌+◌, ◌<◌, ap, ◌∙◌, arith, refl}
-use Rattle.qos_handshakes.specs.Entries.{Held, at_place, as_published}
-use Rattle.qos_handshakes.specs.Outbox.{in_flight, without_left_out, without_large}
-use Rattle.qos_handshakes.proofs.Counted.{queue-length, skip-waits, counted-left, counted-sent, least-left}
-use Rattle.qos_handshakes.proofs.Owed.{within-end}
-use Rattle.qos_handshakes.proofs.Advanced.{one-free, resend-can, send-can, chooses-idle, counted-within, counted-anew, counted-large, counted-here, room-large, chooses-resend, chooses-none_free, chooses-nothing, chooses-first}
-use Rattle.qos_handshakes.proofs.Indexed.{waiting-at}
-use Rattle.qos_handshakes.proofs.Marking.{marks-then, marks-within, marks-here, marks-written, less-sent, credit-there, watched-marked}
+use Rattle.std.proofs.Common.{◌≡◌, ◌+◌, ◌<◌, Some, None, ap, ◌∙◌, arith, refl}
+use Rattle.std.specs.Prelude.{IsSomeAnd}
+use Rattle.qos_handshakes.specs.Entries.{Held, at_place}
+use Rattle.qos_handshakes.specs.Outbox.{after_resend, first_owed, first_waiting, in_flight, resent, stage_id}
+use Rattle.qos_handshakes.proofs.Counted.{counted-sent, counted-unsent, queue-length}
+use Rattle.qos_handshakes.proofs.Advanced.{chooses-first, chooses-none_free, chooses-none_waits, chooses-nothing, chooses-resend, counted-again, counted-none, counted-within, one-free, one-waits, resend-can, room-resend, send-can, there-is}
+use Rattle.qos_handshakes.proofs.Marking.{marks-then, marks-within, watched-marked}
+use Rattle.qos_handshakes.proofs.Ordered.{on-err}
 use Rattle.qos_handshakes.proofs.outgoing.Outgoing.advance.Goals as goal
 
-pub next_owed-owed-requires-clause-room : goal.next_owed-owed-requires-clause-room
-next_owed-owed-requires-clause-room c = rw c.reserve.ensures.same c.self.invariant.room
+pub returns-in_err-reserve_first-clause-some : goal.returns-in_err-reserve_first-clause-some
+returns-in_err-reserve_first-clause-some c = rw (← c.self.view_is) (on-err _ (one-waits _ _ _ c.self.invariant.counted.queued c.in_err-reserve_first.ensures.some))
 
-pub next_owed-owed-requires-clause-within : goal.next_owed-owed-requires-clause-within
-next_owed-owed-requires-clause-within c = counted-within _ _ _ _ _ _ c.self.invariant.counted c.reserve.ensures.same (rw c.reserve.ensures.same c.are_ordered.ensures)
+pub resend-owed-requires-clause-room : goal.resend-owed-requires-clause-room
+resend-owed-requires-clause-room c = rw c.reserve_first.ensures.same c.self.invariant.room
 
-pub invariant_of-self-then-owed-self : goal.invariant_of-self-then-owed-self
-invariant_of-self-then-owed-self c =
-    let is = ap (λ (h : Held). h.entries) c.next_owed-owed.ensures.entries ∙ ap (without_large c.args.now c.args.limit) c.reserve.ensures.same in
-    let again = ap (λ (h : Held). h.entries) c.send_again.ensures in
+pub resend-owed-requires-clause-within : goal.resend-owed-requires-clause-within
+resend-owed-requires-clause-within c = counted-within _ _ _ _ _ _ c.self.invariant.counted c.reserve_first.ensures.same c.are_ordered.ensures
+
+pub invariant_of-self-in-Some : goal.invariant_of-self-in-Some
+invariant_of-self-in-Some c =
+    let left : c.resend-owed.new.copies.entries ≡ after_resend c.args.now c.args.limit c.self.inside.copies.entries = ap (λ (h : Held). h.entries) c.resend-owed.ensures.left ∙ ap (after_resend c.args.now c.args.limit) c.reserve_first.ensures.same in
+    let sent : IsSomeAnd (at_place c.in-Some.place c.resend-owed.new.copies.entries) (λ x. first_owed c.args.now c.args.limit c.self.inside.copies.entries ≡ Some (resent x)) = rw c.reserve_first.ensures.same at c.in-Some.ensures.sent in
+    let its = there-is _ (λ x. first_owed c.args.now c.args.limit c.self.inside.copies.entries ≡ Some (resent x)) sent in
     record {
-      counted = counted-here c.args.now c.args.limit _ _ _ _ _ _ (counted-large c.args.now c.args.limit _ _ _ _ _ _ _ c.self.inside.first_waiting c.self.invariant.counted is c.next_owed-owed.ensures.owed) (c.next_owed-owed.ensures.found c.if-owed-self.true) again;
-      room = (marks-then _ _ _ _ _ _ (marks-within _ _ _ _ _ _ c.reserve.ensures.same c.next_owed-owed.ensures.marks refl) (marks-here _ _ _ _ again)).room c.self.invariant.room;
+      counted = counted-again c.args.now c.args.limit (resent its.0) _ _ _ _ _ _ c.in-Some.place c.self.invariant.counted its.2 left c.in-Some.ensures.owed;
+      room = (marks-within _ _ _ _ _ _ c.reserve_first.ensures.same c.resend-owed.ensures.marks refl).room c.self.invariant.room;
     }
 
-pub returns-then-owed-self-clause-touched : goal.returns-then-owed-self-clause-touched
-returns-then-owed-self-clause-touched c =
-    rw (← c.self.view_is) (watched-marked _ _ _ c.self.inside.log c.next_owed-owed.new.log c.self.invariant.counted.below (marks-then _ _ _ _ _ _ (marks-within _ _ _ _ _ _ c.reserve.ensures.same c.next_owed-owed.ensures.marks refl) (marks-here _ _ _ _ (ap (λ (h : Held). h.entries) c.send_again.ensures))))
-
-pub returns-then-owed-self-clause-step : goal.returns-then-owed-self-clause-step
-returns-then-owed-self-clause-step c =
-    let is = ap (λ (h : Held). h.entries) c.next_owed-owed.ensures.entries ∙ ap (without_large c.args.now c.args.limit) c.reserve.ensures.same in
+pub returns-in-Some-clause-step : goal.returns-in-Some-clause-step
+returns-in-Some-clause-step c =
+    let left : c.resend-owed.new.copies.entries ≡ after_resend c.args.now c.args.limit c.self.inside.copies.entries = ap (λ (h : Held). h.entries) c.resend-owed.ensures.left ∙ ap (after_resend c.args.now c.args.limit) c.reserve_first.ensures.same in
+    let sent : IsSomeAnd (at_place c.in-Some.place c.resend-owed.new.copies.entries) (λ x. first_owed c.args.now c.args.limit c.self.inside.copies.entries ≡ Some (resent x)) = rw c.reserve_first.ensures.same at c.in-Some.ensures.sent in
     let quota : in_flight c.self.inside.copies.entries < c.self.inside.maximum = omega (arith, c.self.invariant.counted.flight_is) in
-    rw (← c.self.view_is) (chooses-resend c.args.now c.args.limit c.next_owed-owed.result _ c.next_owed-owed.new.copies.entries _ quota is (c.next_owed-owed.ensures.found c.if-owed-self.true) (ap (λ (h : Held). h.entries) c.send_again.ensures))
+    rw (← c.self.view_is) (chooses-resend c.args.now c.args.limit c.in-Some.place _ c.resend-owed.new.copies.entries quota left sent)
+
+pub returns-in-Some-clause-touched : goal.returns-in-Some-clause-touched
+returns-in-Some-clause-touched c =
+    rw (← c.self.view_is) (watched-marked _ _ _ c.self.inside.log c.resend-owed.new.log c.self.invariant.counted.below (marks-within _ _ _ _ _ _ c.reserve_first.ensures.same c.resend-owed.ensures.marks refl))
+
+pub returns-in-Some-clause-sent : goal.returns-in-Some-clause-sent
+returns-in-Some-clause-sent c =
+    let sent : IsSomeAnd (at_place c.in-Some.place c.resend-owed.new.copies.entries) (λ x. first_owed c.args.now c.args.limit c.self.inside.copies.entries ≡ Some (resent x)) = rw c.reserve_first.ensures.same at c.in-Some.ensures.sent in
+    resend-can c.args.now c.args.limit c.in-Some.place _ _ c.self.invariant.counted.answered (rw c.reserve_first.ensures.same at c.are_in_range.ensures) sent
+
+pub invariant_of-self-then-first-next : goal.invariant_of-self-then-first-next
+invariant_of-self-then-first-next c =
+    let left : c.resend-owed.new.copies.entries ≡ after_resend c.args.now c.args.limit c.self.inside.copies.entries = ap (λ (h : Held). h.entries) c.resend-owed.ensures.left ∙ ap (after_resend c.args.now c.args.limit) c.reserve_first.ensures.same in
+    let none : first_owed c.args.now c.args.limit c.self.inside.copies.entries ≡ None = rw c.reserve_first.ensures.same at c.in_default.ensures.sent in
+    record { counted = counted-none c.args.now c.args.limit _ _ _ _ _ _ _ c.self.invariant.counted none left; room = (marks-within _ _ _ _ _ _ c.reserve_first.ensures.same c.resend-owed.ensures.marks refl).room c.self.invariant.room }
+
+pub returns-then-first-next-clause-step : goal.returns-then-first-next-clause-step
+returns-then-first-next-clause-step c =
+    let left : c.resend-owed.new.copies.entries ≡ after_resend c.args.now c.args.limit c.self.inside.copies.entries = ap (λ (h : Held). h.entries) c.resend-owed.ensures.left ∙ ap (after_resend c.args.now c.args.limit) c.reserve_first.ensures.same in
+    let none : first_owed c.args.now c.args.limit c.self.inside.copies.entries ≡ None = rw c.reserve_first.ensures.same at c.in_default.ensures.sent in
+    let quota : in_flight c.self.inside.copies.entries < c.self.inside.maximum = omega (arith, c.self.invariant.counted.flight_is) in
+    let counted = counted-none c.args.now c.args.limit _ _ _ _ _ _ c.self.inside.first_waiting c.self.invariant.counted none left in
+    rw (← c.self.view_is) (chooses-none_waits c.args.now c.args.limit c.self.inside.first_waiting c.self.inside.next_place _ c.resend-owed.new.copies.entries quota none left counted.queued (omega arith))
+
+pub returns-then-first-next-clause-touched : goal.returns-then-first-next-clause-touched
+returns-then-first-next-clause-touched c =
+    rw (← c.self.view_is) (watched-marked _ _ _ c.self.inside.log c.resend-owed.new.log c.self.invariant.counted.below (marks-within _ _ _ _ _ _ c.reserve_first.ensures.same c.resend-owed.ensures.marks refl))
 
 pub least_free-requires : goal.least_free-requires
-least_free-requires c = room-large c.args.now c.args.limit _ _ c.in_ok-reserve.ensures.room c.next_owed-owed.ensures.entries
+least_free-requires c =
+    let some : c.self.inside.first_waiting < c.self.inside.next_place = omega (arith, queue-length _ _ _ c.self.invariant.counted.queued) in
+    room-resend c.args.now c.args.limit _ _ (c.in_ok-reserve_first.ensures.room some) c.resend-owed.ensures.left
 
-pub invariant_of-self-in_default : goal.invariant_of-self-in_default
-invariant_of-self-in_default c =
-    let is = ap (λ (h : Held). h.entries) c.next_owed-owed.ensures.entries ∙ ap (without_large c.args.now c.args.limit) c.reserve.ensures.same in
-    record {
-      counted = counted-large c.args.now c.args.limit _ _ _ _ _ _ _ c.self.inside.first_waiting c.self.invariant.counted is c.next_owed-owed.ensures.owed;
-      room = (marks-within _ _ _ _ _ _ c.reserve.ensures.same c.next_owed-owed.ensures.marks refl).room c.self.invariant.room;
-    }
+pub invariant_of-self-in_default-least_free : goal.invariant_of-self-in_default-least_free
+invariant_of-self-in_default-least_free c =
+    let left : c.resend-owed.new.copies.entries ≡ after_resend c.args.now c.args.limit c.self.inside.copies.entries = ap (λ (h : Held). h.entries) c.resend-owed.ensures.left ∙ ap (after_resend c.args.now c.args.limit) c.reserve_first.ensures.same in
+    let none : first_owed c.args.now c.args.limit c.self.inside.copies.entries ≡ None = rw c.reserve_first.ensures.same at c.in_default.ensures.sent in
+    record { counted = counted-none c.args.now c.args.limit _ _ _ _ _ _ _ c.self.invariant.counted none left; room = (marks-within _ _ _ _ _ _ c.reserve_first.ensures.same c.resend-owed.ensures.marks refl).room c.self.invariant.room }
 
-pub returns-in_default-clause-step : goal.returns-in_default-clause-step
-returns-in_default-clause-step c =
-    let is = ap (λ (h : Held). h.entries) c.next_owed-owed.ensures.entries ∙ ap (without_large c.args.now c.args.limit) c.reserve.ensures.same in
-    let none = within-end c.next_owed-owed.result c.self.inside.first_waiting _ c.next_owed-owed.ensures.owed c.if-owed-self.false in
+pub returns-in_default-least_free-clause-step : goal.returns-in_default-least_free-clause-step
+returns-in_default-least_free-clause-step c =
+    let left : c.resend-owed.new.copies.entries ≡ after_resend c.args.now c.args.limit c.self.inside.copies.entries = ap (λ (h : Held). h.entries) c.resend-owed.ensures.left ∙ ap (after_resend c.args.now c.args.limit) c.reserve_first.ensures.same in
+    let none : first_owed c.args.now c.args.limit c.self.inside.copies.entries ≡ None = rw c.reserve_first.ensures.same at c.in_default.ensures.sent in
     let quota : in_flight c.self.inside.copies.entries < c.self.inside.maximum = omega (arith, c.self.invariant.counted.flight_is) in
-    rw (← c.self.view_is) (chooses-none_free c.args.now c.args.limit _ c.next_owed-owed.new.copies.entries quota is none c.in_default.ensures)
+    rw (← c.self.view_is) (chooses-none_free c.args.now c.args.limit _ c.resend-owed.new.copies.entries quota none left c.in_default-least_free.ensures)
 
-pub skip-first-requires-clause-room : goal.skip-first-requires-clause-room
-skip-first-requires-clause-room c = (marks-within _ _ _ _ _ _ c.reserve.ensures.same c.next_owed-owed.ensures.marks refl).room c.self.invariant.room
+pub returns-in_default-least_free-clause-touched : goal.returns-in_default-least_free-clause-touched
+returns-in_default-least_free-clause-touched c =
+    rw (← c.self.view_is) (watched-marked _ _ _ c.self.inside.log c.resend-owed.new.log c.self.invariant.counted.below (marks-within _ _ _ _ _ _ c.reserve_first.ensures.same c.resend-owed.ensures.marks refl))
 
-pub skip-first-requires-clause-queued : goal.skip-first-requires-clause-queued
-skip-first-requires-clause-queued c =
-    let is = ap (λ (h : Held). h.entries) c.next_owed-owed.ensures.entries ∙ ap (without_large c.args.now c.args.limit) c.reserve.ensures.same in
-    let counted = counted-large c.args.now c.args.limit _ _ _ _ _ _ _ c.self.inside.first_waiting c.self.invariant.counted is c.next_owed-owed.ensures.owed in
+pub send_first-sent-requires-clause-queued : goal.send_first-sent-requires-clause-queued
+send_first-sent-requires-clause-queued c =
+    let left : c.resend-owed.new.copies.entries ≡ after_resend c.args.now c.args.limit c.self.inside.copies.entries = ap (λ (h : Held). h.entries) c.resend-owed.ensures.left ∙ ap (after_resend c.args.now c.args.limit) c.reserve_first.ensures.same in
+    let none : first_owed c.args.now c.args.limit c.self.inside.copies.entries ≡ None = rw c.reserve_first.ensures.same at c.in_default.ensures.sent in
+    let counted = counted-none c.args.now c.args.limit _ _ _ _ _ _ c.self.inside.first_waiting c.self.invariant.counted none left in
     counted.queued
 
-pub invariant_of-self-then-first-self : goal.invariant_of-self-then-first-self
-invariant_of-self-then-first-self c =
-    let is = ap (λ (h : Held). h.entries) c.next_owed-owed.ensures.entries ∙ ap (without_large c.args.now c.args.limit) c.reserve.ensures.same in
-    let left = ap (λ (h : Held). h.entries) c.skip-first.ensures.entries in
+pub send_first-sent-requires-clause-room : goal.send_first-sent-requires-clause-room
+send_first-sent-requires-clause-room c = (marks-within _ _ _ _ _ _ c.reserve_first.ensures.same c.resend-owed.ensures.marks refl).room c.self.invariant.room
+
+pub invariant_of-self-in_default-sent : goal.invariant_of-self-in_default-sent
+invariant_of-self-in_default-sent c =
+    let left : c.resend-owed.new.copies.entries ≡ after_resend c.args.now c.args.limit c.self.inside.copies.entries = ap (λ (h : Held). h.entries) c.resend-owed.ensures.left ∙ ap (after_resend c.args.now c.args.limit) c.reserve_first.ensures.same in
+    let none : first_owed c.args.now c.args.limit c.self.inside.copies.entries ≡ None = rw c.reserve_first.ensures.same at c.in_default.ensures.sent in
     record {
-      counted = counted-left c.args.now c.args.limit _ _ _ _ _ c.next_owed-owed.new.copies.entries _ (counted-large c.args.now c.args.limit _ _ _ _ _ _ _ c.self.inside.first_waiting c.self.invariant.counted is c.next_owed-owed.ensures.owed) left c.skip-first.ensures.queued;
-      room = (marks-then _ _ _ _ _ _ (marks-within _ _ _ _ _ _ c.reserve.ensures.same c.next_owed-owed.ensures.marks refl) c.skip-first.ensures.marks).room c.self.invariant.room;
+      counted = counted-unsent c.args.now c.args.limit c.in-Some-least_free.id _ _ _ _ _ _ (counted-none c.args.now c.args.limit _ _ _ _ _ _ c.self.inside.first_waiting c.self.invariant.counted none left) c.in_default-sent.ensures.sent (ap (λ (h : Held). h.entries) c.send_first-sent.ensures.left) c.in_default-sent.ensures.queued;
+      room = (marks-then _ _ _ _ _ _ (marks-within _ _ _ _ _ _ c.reserve_first.ensures.same c.resend-owed.ensures.marks refl) c.send_first-sent.ensures.marks).room c.self.invariant.room;
     }
 
-pub returns-then-first-self-clause-step : goal.returns-then-first-self-clause-step
-returns-then-first-self-clause-step c =
-    let is = ap (λ (h : Held). h.entries) c.next_owed-owed.ensures.entries ∙ ap (without_large c.args.now c.args.limit) c.reserve.ensures.same in
-    let none = within-end c.next_owed-owed.result c.self.inside.first_waiting _ c.next_owed-owed.ensures.owed c.if-owed-self.false in
-    let left = ap (λ (h : Held). h.entries) c.skip-first.ensures.entries in
+pub returns-in_default-sent-clause-step : goal.returns-in_default-sent-clause-step
+returns-in_default-sent-clause-step c =
+    let left : c.resend-owed.new.copies.entries ≡ after_resend c.args.now c.args.limit c.self.inside.copies.entries = ap (λ (h : Held). h.entries) c.resend-owed.ensures.left ∙ ap (after_resend c.args.now c.args.limit) c.reserve_first.ensures.same in
+    let none : first_owed c.args.now c.args.limit c.self.inside.copies.entries ≡ None = rw c.reserve_first.ensures.same at c.in_default.ensures.sent in
     let quota : in_flight c.self.inside.copies.entries < c.self.inside.maximum = omega (arith, c.self.invariant.counted.flight_is) in
-    rw (← c.self.view_is) (chooses-nothing c.args.now c.args.limit c.skip-first.result c.self.inside.next_place _ c.next_owed-owed.new.copies.entries _ quota is none left c.skip-first.ensures.queued (omega arith) (one-free _ _ c.in-Some.ensures.0))
+    rw (← c.self.view_is) (chooses-nothing c.args.now c.args.limit c.in-Some-least_free.id _ c.resend-owed.new.copies.entries c.send_first-sent.new.copies.entries quota none left c.in_default-sent.ensures.sent (ap (λ (h : Held). h.entries) c.send_first-sent.ensures.left) (one-free _ _ c.in-Some-least_free.ensures.0))
 
-pub publish-requires-clause-waiting : goal.publish-requires-clause-waiting
-publish-requires-clause-waiting c =
-    skip-waits _ c.self.inside.next_place _ c.skip-first.ensures.queued (omega (arith, queue-length _ _ _ c.skip-first.ensures.queued))
-
-pub publish-requires-clause-free : goal.publish-requires-clause-free
-publish-requires-clause-free c =
-    let left = ap (λ (h : Held). h.entries) c.skip-first.ensures.entries in
-    rw left (least-left c.args.now c.args.limit c.in-Some.id c.next_owed-owed.new.copies.entries c.in-Some.ensures.0)
+pub returns-in_default-sent-clause-touched : goal.returns-in_default-sent-clause-touched
+returns-in_default-sent-clause-touched c =
+    rw (← c.self.view_is) (watched-marked _ _ _ c.self.inside.log c.send_first-sent.new.log c.self.invariant.counted.below (marks-then _ _ _ _ _ _ (marks-within _ _ _ _ _ _ c.reserve_first.ensures.same c.resend-owed.ensures.marks refl) c.send_first-sent.ensures.marks))
 
 pub overflow_add-self-2 : goal.overflow_add-self-2
-overflow_add-self-2 c = omega (arith, queue-length _ _ _ c.skip-first.ensures.queued)
-
-pub mark-requires : goal.mark-requires
-mark-requires c =
-    let its = waiting-at (at_place c.skip-first.result c.skip-first.new.copies.entries) (skip-waits _ c.self.inside.next_place _ c.skip-first.ensures.queued (omega (arith, queue-length _ _ _ c.skip-first.ensures.queued))) in
-    credit-there c.skip-first.result _ its.0 _ ((marks-then _ _ _ _ _ _ (marks-within _ _ _ _ _ _ c.reserve.ensures.same c.next_owed-owed.ensures.marks refl) c.skip-first.ensures.marks).room c.self.invariant.room) its.1
+overflow_add-self-2 c = omega (arith, queue-length _ _ _ c.in-Some-sent.ensures.queued)
 
 pub invariant_of-self-2 : goal.invariant_of-self-2
 invariant_of-self-2 c =
-    let its = waiting-at (at_place c.skip-first.result c.skip-first.new.copies.entries) (skip-waits _ c.self.inside.next_place _ c.skip-first.ensures.queued (omega (arith, queue-length _ _ _ c.skip-first.ensures.queued))) in
-    let is = ap (λ (h : Held). h.entries) c.next_owed-owed.ensures.entries ∙ ap (without_large c.args.now c.args.limit) c.reserve.ensures.same in
-    let none = within-end c.next_owed-owed.result c.self.inside.first_waiting _ c.next_owed-owed.ensures.owed c.if-owed-self.false in
-    let left = ap (λ (h : Held). h.entries) c.skip-first.ensures.entries in
+    let left : c.resend-owed.new.copies.entries ≡ after_resend c.args.now c.args.limit c.self.inside.copies.entries = ap (λ (h : Held). h.entries) c.resend-owed.ensures.left ∙ ap (after_resend c.args.now c.args.limit) c.reserve_first.ensures.same in
+    let none : first_owed c.args.now c.args.limit c.self.inside.copies.entries ≡ None = rw c.reserve_first.ensures.same at c.in_default.ensures.sent in
+    let its = there-is _ (λ x. (stage_id x.stage ≡ c.in-Some-least_free.id) × (first_waiting c.args.now c.args.limit c.resend-owed.new.copies.entries ≡ Some x.delivery)) c.in-Some-sent.ensures.sent in
     record {
-      counted = counted-sent c.in-Some.id c.skip-first.result _ _ _ c.skip-first.new.copies.entries _
-          (counted-left c.args.now c.args.limit _ _ _ _ _ c.next_owed-owed.new.copies.entries _ (counted-anew _ _ _ _ _ (c.skip-first.result + 1) (counted-large c.args.now c.args.limit _ _ _ _ _ _ _ c.self.inside.first_waiting c.self.invariant.counted is c.next_owed-owed.ensures.owed) none) left c.skip-first.ensures.queued)
-          (omega (arith, queue-length _ _ _ c.skip-first.ensures.queued)) (ap (λ (h : Held). h.entries) c.publish.ensures);
-      room = (marks-then _ _ _ _ _ _ (marks-then _ _ _ _ _ _ (marks-within _ _ _ _ _ _ c.reserve.ensures.same c.next_owed-owed.ensures.marks refl) c.skip-first.ensures.marks) (marks-written (as_published c.in-Some.id) _ _ _ _ c.skip-first.result its.0 its.1 (omega (arith, less-sent c.in-Some.id its.0.stage its.2)) (ap (λ (h : Held). h.entries) c.publish.ensures) c.mark.ensures.places c.mark.ensures.room)).room c.self.invariant.room;
+      counted = counted-sent c.args.now c.args.limit c.in-Some-least_free.id _ c.in-Some-sent.place _ _ _ its.0.delivery _ _ (counted-none c.args.now c.args.limit _ _ _ _ _ _ (c.in-Some-sent.place + 1) c.self.invariant.counted none left) its.2.1 (ap (λ (h : Held). h.entries) c.send_first-sent.ensures.left) c.in-Some-sent.ensures.queued;
+      room = (marks-then _ _ _ _ _ _ (marks-within _ _ _ _ _ _ c.reserve_first.ensures.same c.resend-owed.ensures.marks refl) c.send_first-sent.ensures.marks).room c.self.invariant.room;
     }
-
-pub returns-clause-touched : goal.returns-clause-touched
-returns-clause-touched c =
-    let its = waiting-at (at_place c.skip-first.result c.skip-first.new.copies.entries) (skip-waits _ c.self.inside.next_place _ c.skip-first.ensures.queued (omega (arith, queue-length _ _ _ c.skip-first.ensures.queued))) in
-    rw (← c.self.view_is) (watched-marked _ _ _ c.self.inside.log c.mark.new.self c.self.invariant.counted.below (marks-then _ _ _ _ _ _ (marks-then _ _ _ _ _ _ (marks-within _ _ _ _ _ _ c.reserve.ensures.same c.next_owed-owed.ensures.marks refl) c.skip-first.ensures.marks) (marks-written (as_published c.in-Some.id) _ _ _ _ c.skip-first.result its.0 its.1 (omega (arith, less-sent c.in-Some.id its.0.stage its.2)) (ap (λ (h : Held). h.entries) c.publish.ensures) c.mark.ensures.places c.mark.ensures.room)))
 
 pub returns-clause-step : goal.returns-clause-step
 returns-clause-step c =
-    let is = ap (λ (h : Held). h.entries) c.next_owed-owed.ensures.entries ∙ ap (without_large c.args.now c.args.limit) c.reserve.ensures.same in
-    let none = within-end c.next_owed-owed.result c.self.inside.first_waiting _ c.next_owed-owed.ensures.owed c.if-owed-self.false in
-    let left = ap (λ (h : Held). h.entries) c.skip-first.ensures.entries in
+    let left : c.resend-owed.new.copies.entries ≡ after_resend c.args.now c.args.limit c.self.inside.copies.entries = ap (λ (h : Held). h.entries) c.resend-owed.ensures.left ∙ ap (after_resend c.args.now c.args.limit) c.reserve_first.ensures.same in
+    let none : first_owed c.args.now c.args.limit c.self.inside.copies.entries ≡ None = rw c.reserve_first.ensures.same at c.in_default.ensures.sent in
     let quota : in_flight c.self.inside.copies.entries < c.self.inside.maximum = omega (arith, c.self.invariant.counted.flight_is) in
-    let lt : c.skip-first.result < c.self.inside.next_place = omega (arith, queue-length _ _ _ c.skip-first.ensures.queued) in
-    let head = c.skip-first.ensures.head lt in
-    rw (← c.self.view_is) (chooses-first c.args.now c.args.limit c.in-Some.id c.skip-first.result c.self.inside.next_place _ c.next_owed-owed.new.copies.entries c.skip-first.new.copies.entries _ quota is none c.in-Some.ensures.0 left c.skip-first.ensures.queued lt head.0 head.1 (ap (λ (h : Held). h.entries) c.publish.ensures))
+    rw (← c.self.view_is) (chooses-first c.args.now c.args.limit c.in-Some-least_free.id c.in-Some-sent.place _ c.resend-owed.new.copies.entries c.send_first-sent.new.copies.entries quota none left c.in-Some-least_free.ensures.0 (ap (λ (h : Held). h.entries) c.send_first-sent.ensures.left) c.in-Some-sent.ensures.sent)
 
-pub returns-then-self-3-clause-step : goal.returns-then-self-3-clause-step
-returns-then-self-3-clause-step c =
-    let quota : in_flight c.self.inside.copies.entries < c.self.inside.maximum = omega (arith, c.self.invariant.counted.flight_is) in
-    rw (← c.self.view_is) (chooses-idle c.args.now c.args.limit c.self.inside.first_waiting _ c.self.inside.next_place c.self.inside.resend_from _ c.self.invariant.counted c.are_ordered.ensures quota (omega arith) (omega arith))
-
-pub returns-then-owed-self-clause-sent : goal.returns-then-owed-self-clause-sent
-returns-then-owed-self-clause-sent c =
-    let is = ap (λ (h : Held). h.entries) c.next_owed-owed.ensures.entries ∙ ap (without_large c.args.now c.args.limit) c.reserve.ensures.same in
-    resend-can c.args.now c.args.limit c.next_owed-owed.result _ _ _ _ c.next_owed-owed.new.copies.entries _ (counted-large c.args.now c.args.limit _ _ _ _ _ _ _ c.self.inside.first_waiting c.self.invariant.counted is c.next_owed-owed.ensures.owed) c.are_in_range.ensures (c.next_owed-owed.ensures.found c.if-owed-self.true) (ap (λ (h : Held). h.entries) c.send_again.ensures)
+pub returns-clause-touched : goal.returns-clause-touched
+returns-clause-touched c =
+    rw (← c.self.view_is) (watched-marked _ _ _ c.self.inside.log c.send_first-sent.new.log c.self.invariant.counted.below (marks-then _ _ _ _ _ _ (marks-within _ _ _ _ _ _ c.reserve_first.ensures.same c.resend-owed.ensures.marks refl) c.send_first-sent.ensures.marks))
 
 pub returns-clause-sent : goal.returns-clause-sent
 returns-clause-sent c =
-    let is = ap (λ (h : Held). h.entries) c.next_owed-owed.ensures.entries ∙ ap (without_large c.args.now c.args.limit) c.reserve.ensures.same in
-    let left = ap (λ (h : Held). h.entries) c.skip-first.ensures.entries in
-    let lt : c.skip-first.result < c.self.inside.next_place = omega (arith, queue-length _ _ _ c.skip-first.ensures.queued) in
-    let head = c.skip-first.ensures.head lt in
-    let counted = counted-left c.args.now c.args.limit _ _ _ _ _ c.next_owed-owed.new.copies.entries _ (counted-large c.args.now c.args.limit _ _ _ _ _ _ _ c.self.inside.first_waiting c.self.invariant.counted is c.next_owed-owed.ensures.owed) left c.skip-first.ensures.queued in
-    send-can c.args.now c.args.limit c.in-Some.id c.skip-first.result _ _ _ c.next_owed-owed.new.copies.entries c.skip-first.new.copies.entries _ counted c.in-Some.ensures.0 left lt head.0 head.1 (ap (λ (h : Held). h.entries) c.publish.ensures)
-
-pub returns-in_default-clause-touched : goal.returns-in_default-clause-touched
-returns-in_default-clause-touched c =
-    rw (← c.self.view_is) (watched-marked _ _ _ c.self.inside.log c.next_owed-owed.new.log c.self.invariant.counted.below (marks-within _ _ _ _ _ _ c.reserve.ensures.same c.next_owed-owed.ensures.marks refl))
-
-pub returns-then-first-self-clause-touched : goal.returns-then-first-self-clause-touched
-returns-then-first-self-clause-touched c =
-    rw (← c.self.view_is) (watched-marked _ _ _ c.self.inside.log c.skip-first.new.log c.self.invariant.counted.below (marks-then _ _ _ _ _ _ (marks-within _ _ _ _ _ _ c.reserve.ensures.same c.next_owed-owed.ensures.marks refl) c.skip-first.ensures.marks))
+    let left : c.resend-owed.new.copies.entries ≡ after_resend c.args.now c.args.limit c.self.inside.copies.entries = ap (λ (h : Held). h.entries) c.resend-owed.ensures.left ∙ ap (after_resend c.args.now c.args.limit) c.reserve_first.ensures.same in
+    let none : first_owed c.args.now c.args.limit c.self.inside.copies.entries ≡ None = rw c.reserve_first.ensures.same at c.in_default.ensures.sent in
+    let counted = counted-none c.args.now c.args.limit _ _ _ _ _ _ c.self.inside.first_waiting c.self.invariant.counted none left in
+    send-can c.args.now c.args.limit c.in-Some-least_free.id c.in-Some-sent.place _ _ counted.answered c.in-Some-least_free.ensures.0 c.in-Some-sent.ensures.sent

@@ -1,7 +1,8 @@
 use Rattle.std.proofs.Common.{◌∙◌, ap, subst, sym, map as map_list}
 use Rattle.std.specs.FinMap as map
 use Rattle.std.specs.Map.Iter.{deref_pair}
-use Rattle.replica_store.specs.Retained.{retained_join, retained_lattice}
+use Rattle.replica_store.specs.Retained.{retained_join}
+use Rattle.replica_store.specs.RetainedLattice.{retained_lattice}
 use Rattle.replica_store.specs.Merging.{NoneHeld, AllHeld, with_all}
 use Rattle.replica_store.proofs.Keeping.{none_held, greater_held, all_joined, joined_kept}
 use Rattle.replica_store.proofs.retained.RetainedMapLattice.join.Goals as goal

@@ -1,5 +1,5 @@
 use Rattle.std.proofs.Common.{sym, ◌∙◌}
-use Rattle.replica_store.specs.States.{state_lattice}
+use Rattle.replica_store.specs.StateLattice.{state_lattice}
 use Rattle.replica_store.proofs.store.ReplicaStoreLattice.join.Goals as goal
 
 pub returns-then-is_below-clause-ok : goal.returns-then-is_below-clause-ok

@@ -1,6 +1,7 @@
 use Rattle.std.specs.FinMap as map
 use Rattle.std.proofs.Common.{sym, ap, ◌∙◌}
-use Rattle.subscription_set.specs.Standing.{seen_of, seen_of-statuses}
+use Rattle.subscription_set.specs.Standing.{seen_of}
+use Rattle.subscription_set.proofs.Seen.{seen_of-statuses}
 use Rattle.subscription_set.proofs.set.SubscriptionSet.seen.Goals as goal
 
 pub returns : goal.returns

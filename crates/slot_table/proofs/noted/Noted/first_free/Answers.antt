@@ -1,6 +1,6 @@
 use Rattle.std.proofs.Common.{◌≡◌, ℕ, get_or, arith, ap, sym, ◌∙◌}
 use Rattle.slot_table.proofs.Notes.{words-below, used-slot, free-slot, first-free}
-use Rattle.slot_table.proofs.slots.Slots.first_free.Goals as goal
+use Rattle.slot_table.proofs.noted.Noted.first_free.Goals as goal
 
 pub returns-then-word-len-clause-least : goal.returns-then-word-len-clause-least
 returns-then-word-len-clause-least c = rw (sym c.self.view_is) (λ k below. used-slot _ _ _ k c.self.invariant (words-below _ _ _ c.first_clear-word.result c.self.invariant (rw c.deref.ensures.value at c.first_clear-word.ensures.least) k (omega (arith, c.if-word-len.true, c.self.invariant.room, c.len.ensures, c.len-then-word-len.ensures, below))))

@@ -1,6 +1,6 @@
 use Rattle.std.proofs.Common.{arith, sym}
 use Rattle.slot_table.proofs.Notes.{noted-added_at}
-use Rattle.slot_table.proofs.slots.Slots.add.Goals as goal
+use Rattle.slot_table.proofs.noted.Noted.add.Goals as goal
 
 pub invariant_of-self-2 : goal.invariant_of-self-2
 invariant_of-self-2 c =

@@ -1,0 +1,13 @@
+-- What is told where nobody can be accepted.
+use Rattle.std.specs.Prelude.{ℕ, List, ◌++◌, ◌||◌, ◌==◌, if◌then◌else◌, codes}
+use Rattle.run_causes.specs.Answers.{answer_text}
+use Rattle.run_causes.specs.declared.answer.Answer.{Answer}
+use Rattle.run_causes.specs.declared.answer.Answer.TheVariants.{Number}
+
+-- the system's numbers for a limit of open files: its own, and that of the program
+abbrev pub refusal_text : Answer → List ℕ
+refusal_text (Number number) = if (number == 23) || (number == 24) then codes "too many open files" else answer_text (Number number)
+refusal_text answer = answer_text answer
+
+abbrev pub refusal_line : Answer → List ℕ
+refusal_line answer = codes "broker: accepting clients: " ++ refusal_text answer ++ codes "\n"

@@ -1,0 +1,103 @@
+//! The sockets of the system, which tell why nobody can be accepted.
+
+ghost use Rattle.std.specs.Prelude.{ℕ};
+
+use crate::refusal::tell_refusal;
+use broker_sockets::{Answer, PolledSockets, Readiness, Ready, Sockets, Watched};
+use mio::net::{TcpListener, TcpStream};
+use std::alloc::{AllocError, Global};
+use std::io::{self, Write};
+use std::net::SocketAddr;
+
+/// The sockets of the system, which write why nobody can be accepted: once, and again only after somebody was.
+#[derive(Drop)]
+pub(crate) struct TellingSockets<'a, E> {
+    sockets: PolledSockets<'a, HostRuntime>,
+    error: E,
+    /// Whether it was told since somebody was accepted last.
+    told: bool,
+}
+
+impl<'a, E> TellingSockets<'a, E> {
+    /// These sockets, with a writer for what they tell.
+    pub(crate) fn new(sockets: PolledSockets<'a, HostRuntime>, error: E) -> Self {
+        TellingSockets {
+            sockets,
+            error,
+            told: false,
+        }
+    }
+}
+
+impl<'a, E: Write> TellingSockets<'a, E> {
+    /// Tells why nobody was accepted, if a listener has failed and it wasn't told yet. A write that fails changes nothing of it.
+    fn tell(&mut self) {
+        let Some(failure) = self.sockets.take_failure() else {
+            return;
+        };
+        if !self.told {
+            self.told = true;
+            let _ = tell_refusal(&mut self.error, &failure);
+        }
+    }
+}
+
+impl<'a, E: Write> Sockets for TellingSockets<'a, E> {
+    type Listener = TcpListener;
+
+    type Stream = TcpStream;
+
+    ghost listens = { λ _ _ _ _. Unit {0} };
+
+    ghost accepts = { λ _ _ _ _. Unit {0} };
+
+    ghost connects = { λ _ _ _ _. Unit {0} };
+
+    ghost reads = { λ _ _ _ _ _ _. Unit {0} };
+
+    ghost writes = { λ _ _ _ _ _ _. Unit {0} };
+
+    fn listen(&mut self, address: SocketAddr) -> io::Result<TcpListener> {
+        self.sockets.listen(address)
+    }
+
+    fn address(&self, listener: &TcpListener) -> Option<SocketAddr> {
+        self.sockets.address(listener)
+    }
+
+    fn accept(&mut self, listener: &TcpListener) -> Option<TcpStream> {
+        let accepted = self.sockets.accept(listener);
+        if accepted.is_some() {
+            self.told = false;
+        } else {
+            self.tell();
+        }
+        accepted
+    }
+
+    fn connect(&mut self, address: SocketAddr) -> io::Result<TcpStream> {
+        self.sockets.connect(address)
+    }
+
+    fn read(&mut self, stream: &mut TcpStream, buffer: &mut [u8]) -> Answer {
+        self.sockets.read(stream, buffer)
+    }
+
+    fn write(&mut self, stream: &mut TcpStream, bytes: &[u8]) -> Answer {
+        self.sockets.write(stream, bytes)
+    }
+}
+
+impl<'a, E: Write> Readiness for TellingSockets<'a, E> {
+    ghost watches = { λ _ _ _ _ _. Unit {0} };
+
+    ghost finds = { λ _ _ _. Unit {0} };
+
+    fn watch(&mut self, stream: &mut TcpStream, name: Watched) -> bool {
+        self.sockets.watch(stream, name)
+    }
+
+    fn ready(&mut self, alloc: Global) -> Result<Ready, AllocError> {
+        self.sockets.ready(alloc)
+    }
+}
