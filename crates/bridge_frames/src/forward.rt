@@ -1,13 +1,12 @@
 //! Messages for clients of another node.
-ghost use Rattle.std.specs.Prelude.{◌≡◌, ◌++◌, length, take, IfOk, OnOk, OnErr};
+ghost use Rattle.std.specs.Prelude.{◌≡◌, ◌++◌, length, take, IfOk, OnOk};
 ghost use Rattle.mqtt_fields.specs.Reading.{Gives};
-ghost use Rattle.mqtt_message.specs.Spelling.{flag};
 ghost use Rattle.mqtt_message.specs.Spellings.{message};
 ghost use Rattle.bridge_frames.specs.Forwards as spec;
 
 use crate::pick::Picks;
-use mqtt_fields::{FieldFault, NoMemory, put_u8, u8_at};
-use mqtt_message::{Message, SharedMessage};
+use mqtt_fields::{FieldFault, NoMemory};
+use mqtt_message::{Message, SharedMessage, flag_at, put_flag};
 use std::alloc::Global;
 
 /// A message for clients of another node.
@@ -18,24 +17,6 @@ pub struct Forward {
     /// The clients there that get it for a shared group.
     pub picks: Picks,
     pub message: SharedMessage,
-}
-
-fn flag_at(bytes: &[u8]) -> Result<(bool, &[u8]), FieldFault>
-    ensures { Gives (λ x. (x.0, x.1.now)) result (flag.at bytes.now) }
-{
-    let (n, rest) = u8_at(bytes)?;
-    match n {
-        0 => Ok((false, rest)),
-        1 => Ok((true, rest)),
-        _ => Err(FieldFault::Malformed),
-    }
-}
-
-fn put_flag(set: bool, out: &mut Vec<u8>) -> Result<(), NoMemory>
-    ensures ok { OnOk result (out.new.items ≡ out.old.items ++ flag.bytes set) }
-    ensures err { OnErr result (out.new.items ≡ out.old.items) }
-{
-    put_u8(if set { 1 } else { 0 }, out)
 }
 
 fn message_at(alloc: Global, bytes: &[u8]) -> Result<(SharedMessage, &[u8]), FieldFault>

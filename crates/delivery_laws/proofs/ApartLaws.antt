@@ -12,7 +12,7 @@ use Rattle.qos_handshakes.specs.Outbox.{is_released}
 use Rattle.qos_handshakes.proofs.EntryLaws.{NoneHas, none-head, none-tail}
 use Rattle.handshake_laws.specs.Lists.{has}
 use Rattle.handshake_laws.specs.Numbers.{AreNumbered, IsNumbered}
-use Rattle.handshake_laws.specs.Resends.{Publication, published, published_part}
+use Rattle.handshake_laws.specs.Resends.{SentCopy, published, published_part}
 use Rattle.handshake_laws.proofs.OpenLaws.{all-both}
 use Rattle.handshake_laws.proofs.QuotaLaws.{numbered-later}
 use Rattle.session_laws.specs.Releases.{released_ids}
@@ -26,14 +26,14 @@ all-weaker P Q f [] h = tt
 all-weaker P Q f (x ∷ xs) h = (f x h.0, all-weaker P Q f xs h.1)
 
 -- ---- those of other identifiers
-other-part : (id : ℕ) (s : Stage) (here : Bool) (d : Delivery) → stage_has id s ≡ false → AllByRecursion (λ (y : Publication). y.0 ≢ id) (published_part (record { stage = s; here = here; delivery = d }))
+other-part : (id : ℕ) (s : Stage) (here : Bool) (d : Delivery) → stage_has id s ≡ false → AllByRecursion (λ (y : SentCopy). y.0 ≢ id) (published_part (record { stage = s; here = here; delivery = d }))
 other-part id Waiting here d h = tt
 other-part id (Published i) here d h = (λ same. both_ways (i == id) h (eq-eqb i id same), tt)
 other-part id (Released i order) here d h = tt
 
-others : (id : ℕ) (es : Entries) → NoneHas id es → AllByRecursion (λ (y : Publication). y.0 ≢ id) (published es)
+others : (id : ℕ) (es : Entries) → NoneHas id es → AllByRecursion (λ (y : SentCopy). y.0 ≢ id) (published es)
 others id [] h = tt
-others id (e ∷ es) h = all-both (λ (y : Publication). y.0 ≢ id) (published_part e.1) (published es) (other-part id e.1.stage e.1.here e.1.delivery (none-head id e es h)) (others id es (none-tail id e es h))
+others id (e ∷ es) h = all-both (λ (y : SentCopy). y.0 ≢ id) (published_part e.1) (published es) (other-part id e.1.stage e.1.here e.1.delivery (none-head id e es h)) (others id es (none-tail id e es h))
 
 distinct-head : (s : Stage) (here : Bool) (d : Delivery) (es : Entries) → IsNumbered s es → AreDistinct (published es) → AreDistinct (published_part (record { stage = s; here = here; delivery = d }) ++ published es)
 distinct-head Waiting here d es n h = h
@@ -45,7 +45,7 @@ distinct [] n = tt
 distinct (e ∷ es) n = distinct-head e.1.stage e.1.here e.1.delivery es n.0 (distinct es n.1)
 
 -- ---- each is found, and isn't released
-record IsFound (es : Entries) (x : Publication) : Type 0 where
+record IsFound (es : Entries) (x : SentCopy) : Type 0 where
   pub entry : Entry
   pub at : find_id x.0 es ≡ Some entry
   pub stage : is_released entry.stage ≡ false
@@ -55,7 +55,7 @@ found-part Waiting here d place es = tt
 found-part (Published id) here d place es = (record { entry = record { stage = Published id; here = here; delivery = d }; at = rw (eq-eqb id id refl) refl; stage = refl }, tt)
 found-part (Released id order) here d place es = tt
 
-found-later : (e : ℕ × Entry) (es : Entries) (x : Publication) → IsNumbered e.1.stage es → IsFound es x → IsFound (e ∷ es) x
+found-later : (e : ℕ × Entry) (es : Entries) (x : SentCopy) → IsNumbered e.1.stage es → IsFound es x → IsFound (e ∷ es) x
 found-later e es x n f = elim (cases_Bool (has_id x.0 e.1)) [
   | inl t ↦ absurd (let bad : None ≡ Some f.entry = sym (numbered-later x.0 e.1.stage es t n) ∙ f.at in cc)
   | inr t ↦ record { entry = f.entry; at = rw t f.at; stage = f.stage }
@@ -70,7 +70,7 @@ found (e ∷ es) n =
 pub keeps_apart : KeepsApart
 keeps_apart = λ client steps end r.
     let n = keeps_numbers client steps end r in
-    let free = all-weaker (IsFound end.outbox.copies) (λ (x : Publication). has x.0 (released_ids end) ≡ false) (λ x f. absent (Some f.entry) x.0 end n f.at f.stage) (published end.outbox.copies) (found end.outbox.copies n) in
+    let free = all-weaker (IsFound end.outbox.copies) (λ (x : SentCopy). has x.0 (released_ids end) ≡ false) (λ x f. absent (Some f.entry) x.0 end n f.at f.stage) (published end.outbox.copies) (found end.outbox.copies n) in
     record {
       going = published end.outbox.copies;
       is = keeps_open client steps end r;

@@ -4,7 +4,7 @@ use Rattle.std.specs.Prelude.{◌==◌}
 use Rattle.std.specs.List.{AllByRecursion}
 use Rattle.std.proofs.lemmas.Bool.{cases_Bool, leb-true, false≢true}
 use Rattle.handshake_laws.specs.Numbers.{AreNumbered}
-use Rattle.handshake_laws.specs.Resends.{Publication, published}
+use Rattle.handshake_laws.specs.Resends.{SentCopy, published}
 use Rattle.handshake_laws.proofs.LaidLaws.{AreLaid}
 use Rattle.mqtt_message.specs.declared.delivery.Delivery.{Delivery}
 use Rattle.mqtt_packets.specs.declared.packet.Packet.{Packet}
@@ -38,7 +38,7 @@ use Rattle.delivery_laws.proofs.ShapeLaws.{shape}
 use Rattle.delivery_laws.proofs.UnansweredLaws.{going-run, long-ends, told-calls}
 
 -- ---- what is sent isn't too long
-short-one : (now limit : ℕ) (os : List Output) → AllByRecursion (λ (o : Output). answer_packets.fits limit (packet_of now o) ≡ true) os → (x : Publication) → IsOneOf x (firsts (sends_of (sent_in os))) → fits now limit x.1 ≡ true
+short-one : (now limit : ℕ) (os : List Output) → AllByRecursion (λ (o : Output). answer_packets.fits limit (packet_of now o) ≡ true) os → (x : SentCopy) → IsOneOf x (firsts (sends_of (sent_in os))) → fits now limit x.1 ≡ true
 short-one now limit [] all x i = absurd i
 short-one now limit (Answer p ∷ os) all x i = short-one now limit os all.1 x i
 short-one now limit (Publish p ∷ os) all x i = elim (cases_Bool (p.id == 0)) [
@@ -48,11 +48,11 @@ short-one now limit (Publish p ∷ os) all x i = elim (cases_Bool (p.id == 0)) [
     | inr d ↦
         let fit : fits now limit p.delivery ≡ true = rw (publish-length p.delivery now p.id p.dup) at (all.0) in
         let j : ((p.id, p.delivery) ≡ x) ⊎ IsOneOf x (firsts (sends_of (sent_in os))) = rw (t, d) at i in
-        elim j [ inl same ↦ subst (λ (y : Publication). fits now limit y.1 ≡ true) same fit | inr k ↦ short-one now limit os all.1 x k ]
+        elim j [ inl same ↦ subst (λ (y : SentCopy). fits now limit y.1 ≡ true) same fit | inr k ↦ short-one now limit os all.1 x k ]
   ]
 ]
 
-too-long : (on : Bool) (limit : ℕ) (e : Event) (x : Publication) → IsTooLong on limit e x → limit < length_of (moment_of e) x.1
+too-long : (on : Bool) (limit : ℕ) (e : Event) (x : SentCopy) → IsTooLong on limit e x → limit < length_of (moment_of e) x.1
 too-long on limit (connects c continued now) x h = h
 too-long on limit (queues d now) x h = h.1
 too-long on limit (takes p now room) x h = h.1
@@ -84,7 +84,7 @@ firsts-last on (finishes now) ms = refl
 firsts-last on loses ms = refl
 
 -- ---- what goes on once it was sent
-open-goes : (l : Channel) (going : List Publication) (ss : List Step) (last : List Publication) (x : Publication) → OpenOver l.on l.limit l.sent going ss last → IsOneOf x going → IsOneOf x last ⊎ EndsAmong l ss x
+open-goes : (l : Channel) (going : List SentCopy) (ss : List Step) (last : List SentCopy) (x : SentCopy) → OpenOver l.on l.limit l.sent going ss last → IsOneOf x going → IsOneOf x last ⊎ EndsAmong l ss x
 open-goes l going [] last x o i = inl (subst (IsOneOf x) (sym o) i)
 open-goes l going (s ∷ ss) last x o i =
     elim (in_without (Ends l.on (limit_after l.limit s.event) l.sent s.event) x (going ++ firsts (marks_of l.on s)) o.0 o.1 (in_left x going (firsts (marks_of l.on s)) i)) [

@@ -19,7 +19,7 @@ use Rattle.qos_handshakes.specs.Outbox as outbox
 use Rattle.qos_handshakes.specs.Outbox.{Outbox, Sent, NextStep, ReceivedStep, after_resend, away, first_owed, fits, in_flight, is_owed, is_published, resent}
 use Rattle.handshake_laws.specs.Lists.{Without}
 use Rattle.handshake_laws.specs.Numbers.{AreNumbered}
-use Rattle.handshake_laws.specs.Resends.{Publication, owed, owed_part, published, published_part}
+use Rattle.handshake_laws.specs.Resends.{SentCopy, owed, owed_part, published, published_part}
 use Rattle.handshake_laws.specs.Runs.{offered, acknowledged, completed, received, resumed}
 use Rattle.handshake_laws.proofs.ChosenLaws.{append-nil, both-nil, chosen-away, without-more, without-refl, without-same}
 use Rattle.handshake_laws.proofs.NumberLaws.{numbered-step}
@@ -50,11 +50,11 @@ use Rattle.delivery_laws.proofs.QueueLaws.{flying-unowed, flying-unsent, none-or
 use Rattle.delivery_laws.proofs.UnansweredLaws.{keeps_open}
 
 -- ---- a flush
-abbrev Long : ℕ → ℕ → Publication → Type 0
+abbrev Long : ℕ → ℕ → SentCopy → Type 0
 Long now limit x = limit < length_of now x.1
 
-record Splits (now limit : ℕ) (owes : List Publication) (x : Publication) (rest : List Publication) : Type 0 where
-  pub out : List Publication
+record Splits (now limit : ℕ) (owes : List SentCopy) (x : SentCopy) (rest : List SentCopy) : Type 0 where
+  pub out : List SentCopy
   pub is : owes ≡ out ++ x ∷ rest
   pub long : AllByRecursion (Long now limit) out
 
@@ -70,7 +70,7 @@ split now limit s (e ∷ es) is = elim (cases_Bool (is_owed e.1)) [
             rw (h, g, p) (record { out = []; is = ap (λ (z : Sent). (z.id, z.copy) ∷ owed es) same; long = tt })
         | inr g ↦
             let k = split now limit s es (rw (h, g) at is) in
-            rw (h, g) (record { out = (outbox.stage_id e.1.stage, e.1.delivery) ∷ k.out; is = ap (λ (xs : List Publication). (outbox.stage_id e.1.stage, e.1.delivery) ∷ xs) k.is; long = (leb-false (length_of now e.1.delivery) limit g, k.long) })
+            rw (h, g) (record { out = (outbox.stage_id e.1.stage, e.1.delivery) ∷ k.out; is = ap (λ (xs : List SentCopy). (outbox.stage_id e.1.stage, e.1.delivery) ∷ xs) k.is; long = (leb-false (length_of now e.1.delivery) limit g, k.long) })
       ]
   | inr h ↦ rw (h, h) (split now limit s es (rw h at is))
 ]
@@ -85,9 +85,9 @@ all-long now limit (e ∷ es) is = elim (cases_Bool (is_owed e.1)) [
   | inr h ↦ rw (h, h) (all-long now limit es (rw h at is))
 ]
 
-record Again (now limit : ℕ) (owes : List Publication) (sents : List Sent) (new : Outbox) : Type 0 where
-  pub taken : List Publication
-  pub long : List Publication
+record Again (now limit : ℕ) (owes : List SentCopy) (sents : List Sent) (new : Outbox) : Type 0 where
+  pub taken : List SentCopy
+  pub long : List SentCopy
   pub splits : owes ≡ taken ++ (long ++ owed new.copies)
   pub sent : SentOf (Long now limit) taken (resends (sends_of sents))
   pub left_out : AllByRecursion (Long now limit) long
@@ -112,8 +112,8 @@ stops-again now limit old new s = elim s.step [
   ]
 ]
 
-none-taken : (now limit : ℕ) (taken : List Publication) (xs : List Publication) → taken ≡ [] → SentOf (Long now limit) taken xs → SentOf (Long now limit) [] xs
-none-taken now limit taken xs e h = subst (λ (ys : List Publication). SentOf (Long now limit) ys xs) e h
+none-taken : (now limit : ℕ) (taken : List SentCopy) (xs : List SentCopy) → taken ≡ [] → SentOf (Long now limit) taken xs → SentOf (Long now limit) [] xs
+none-taken now limit taken xs e h = subst (λ (ys : List SentCopy). SentOf (Long now limit) ys xs) e h
 
 flush-again : (now limit : ℕ) (old last new : Outbox) (sents : List Sent) → SendsAll now limit old sents last → NextStep now limit last None new → Again now limit (owed old.copies) sents new
 flush-again now limit old last new [] all stops = stops-again now limit old new (rw all at stops)
@@ -129,7 +129,7 @@ flush-again now limit old last new (s ∷ ss) all stops =
           record {
             taken = t.out ++ (s.id, s.copy) ∷ k.taken;
             long = k.long;
-            splits = owes ∙ ap (λ (w : List Publication). t.out ++ (s.id, s.copy) ∷ w) k.splits ∙ sym (append_assoc t.out ((s.id, s.copy) ∷ k.taken) (k.long ++ owed new.copies));
+            splits = owes ∙ ap (λ (w : List SentCopy). t.out ++ (s.id, s.copy) ∷ w) k.splits ∙ sym (append_assoc t.out ((s.id, s.copy) ∷ k.taken) (k.long ++ owed new.copies));
             sent = rw again (t.out, k.taken, refl, t.long, k.sent);
             left_out = k.left_out;
             room = rw first k.room;
@@ -155,9 +155,9 @@ record Goes (now limit : ℕ) (on : Bool) (e : Event) (mid : Outbox) (r : Reacti
   pub flushes : Flushes now limit mid sents new.outbox
   pub sent : sent_in r.packets ≡ sents
   pub linked : IsSome new.link
-  pub why : (x : Publication) → Long now limit x → IsTooLong on limit e x
+  pub why : (x : SentCopy) → Long now limit x → IsTooLong on limit e x
 
-record Shape (now limit : ℕ) (on : Bool) (e : Event) (start : List Publication) (r : Reaction) (new : State) : Type 0 where
+record Shape (now limit : ℕ) (on : Bool) (e : Event) (start : List SentCopy) (r : Reaction) (new : State) : Type 0 where
   pub mid : Outbox
   pub answers : Without (IsAnswered on e) start (owed mid.copies)
   pub goes : ((new.outbox ≡ mid) × (sent_in r.packets ≡ [])) ⊎ Goes now limit on e mid r new
@@ -165,23 +165,23 @@ record Shape (now limit : ℕ) (on : Bool) (e : Event) (start : List Publication
 rests : (now limit : ℕ) (on : Bool) (e : Event) (old : Outbox) (r : Reaction) (new : State) → new.outbox ≡ old → sent_in r.packets ≡ [] → Shape now limit on e (owed old.copies) r new
 rests now limit on e old r new same none = record { mid = old; answers = without-refl (IsAnswered on e) (owed old.copies); goes = inl (same, none) }
 
-after-ack : (a : Ack) (now limit : ℕ) (on : Bool) (e : Event) (mid after : Outbox) (sents : List Sent) (s new : State) (r : Reaction) → GoesOnAfter a now limit mid sents after → AreNumbered mid.copies → IsSome s.link → sent_in r.packets ≡ sent_in (publishes_of sents) → new ≡ with_outbox s after → ((x : Publication) → Long now limit x → IsTooLong on limit e x)
+after-ack : (a : Ack) (now limit : ℕ) (on : Bool) (e : Event) (mid after : Outbox) (sents : List Sent) (s new : State) (r : Reaction) → GoesOnAfter a now limit mid sents after → AreNumbered mid.copies → IsSome s.link → sent_in r.packets ≡ sent_in (publishes_of sents) → new ≡ with_outbox s after → ((x : SentCopy) → Long now limit x → IsTooLong on limit e x)
     → ((new.outbox ≡ mid) × (sent_in r.packets ≡ [])) ⊎ Goes now limit on e mid r new
 after-ack Done now limit on e mid after sents s new r g n some is left why =
     inr (record { sents = sents; flushes = rw left g; sent = is ∙ sent-publishes now limit sents (flushed now limit mid after sents n g).sound; linked = rw left some; why = why })
 after-ack Unknown now limit on e mid after sents s new r g n some is left why = inl (rw left g.1, is ∙ rw g.0 refl)
 
-by-ack : (id : ℕ) (a : Ack) (on : Bool) (k : Packet) (x : Publication) → on ≡ true → (EndsBy Any (acknowledged id Done) x → IsAnswered on (takes k 0 true) x) → EndsBy Any (acknowledged id a) x → IsAnswered on (takes k 0 true) x
+by-ack : (id : ℕ) (a : Ack) (on : Bool) (k : Packet) (x : SentCopy) → on ≡ true → (EndsBy Any (acknowledged id Done) x → IsAnswered on (takes k 0 true) x) → EndsBy Any (acknowledged id a) x → IsAnswered on (takes k 0 true) x
 by-ack id Done on k x is f h = f h
 by-ack id Unknown on k x is f h = absurd h
 
-by-rec : (id reason : ℕ) (a : Rec) (on : Bool) (k : Packet) (x : Publication) → (EndsBy Any (received id reason rec.Ended) x → IsAnswered on (takes k 0 true) x) → EndsBy Any (received id reason a) x → IsAnswered on (takes k 0 true) x
+by-rec : (id reason : ℕ) (a : Rec) (on : Bool) (k : Packet) (x : SentCopy) → (EndsBy Any (received id reason rec.Ended) x → IsAnswered on (takes k 0 true) x) → EndsBy Any (received id reason a) x → IsAnswered on (takes k 0 true) x
 by-rec id reason rec.Release on k x f h = f h
 by-rec id reason rec.Ended on k x f h = f h
 by-rec id reason rec.Unknown on k x f h = absurd h
 by-rec id reason rec.AtEnd on k x f h = absurd h
 
-pubrec-goes : (a : Rec) (id reason now limit : ℕ) (on : Bool) (e : Event) (s new : State) (mid : Outbox) (r : Reaction) → HasLimit limit s.link → IsSome s.link → AreNumbered mid.copies → ((x : Publication) → Long now limit x → IsTooLong on limit e x) → PubrecBy a id reason now limit s mid r new
+pubrec-goes : (a : Rec) (id reason now limit : ℕ) (on : Bool) (e : Event) (s new : State) (mid : Outbox) (r : Reaction) → HasLimit limit s.link → IsSome s.link → AreNumbered mid.copies → ((x : SentCopy) → Long now limit x → IsTooLong on limit e x) → PubrecBy a id reason now limit s mid r new
     → ((new.outbox ≡ mid) × (sent_in r.packets ≡ [])) ⊎ Goes now limit on e mid r new
 pubrec-goes rec.Release id reason now limit on e s new mid r is some n why h =
     let q = comes-quiet limit (pubrel id 0) (with_outbox s mid) new r is h in inl (q.same, none-sent limit r.packets q.plain)
@@ -190,7 +190,7 @@ pubrec-goes rec.Unknown id reason now limit on e s new mid r is some n why h =
     let q = unknown-quiet id reason limit (with_outbox s mid) new r is h in inl (q.same, none-sent limit r.packets q.plain)
 pubrec-goes rec.AtEnd id reason now limit on e s new mid r is some n why h = absurd h
 
-any : (xs : List Publication) → AllByRecursion Any xs
+any : (xs : List SentCopy) → AllByRecursion Any xs
 any xs = all-of Any (λ x. tt) xs
 
 handshake : (p : Packet) (now limit : ℕ) (room on : Bool) (s new : State) (r : Reaction) → on ≡ true → HasLimit limit s.link → IsSome s.link → AreNumbered s.outbox.copies → IsHandshake p now limit s r new → Shape now limit on (takes p now room) (owed s.outbox.copies) r new
@@ -227,7 +227,7 @@ none-once : (o : Option ℕ) (now : ℕ) (d : Delivery) → sent_in (once_of o n
 none-once None now d = refl
 none-once (Some limit) now d = elim (cases_Bool (outbox.fits now limit d)) [ inl h ↦ rw h refl | inr h ↦ rw h refl ]
 
-goes-on : (o : Option Link) (now limit : ℕ) (on : Bool) (e : Event) (mid after : Outbox) (sents : List Sent) (s new : State) (r : Reaction) → s.link ≡ o → on ≡ is_some o → HasLimit limit o → GoesOn (limit_of o) now mid sents after → AreNumbered mid.copies → sent_in r.packets ≡ sent_in (publishes_of sents) → new ≡ with_outbox s after → (on ≡ true → (x : Publication) → Long now limit x → IsTooLong on limit e x)
+goes-on : (o : Option Link) (now limit : ℕ) (on : Bool) (e : Event) (mid after : Outbox) (sents : List Sent) (s new : State) (r : Reaction) → s.link ≡ o → on ≡ is_some o → HasLimit limit o → GoesOn (limit_of o) now mid sents after → AreNumbered mid.copies → sent_in r.packets ≡ sent_in (publishes_of sents) → new ≡ with_outbox s after → (on ≡ true → (x : SentCopy) → Long now limit x → IsTooLong on limit e x)
     → ((new.outbox ≡ mid) × (sent_in r.packets ≡ [])) ⊎ Goes now limit on e mid r new
 goes-on None now limit on e mid after sents s new r is opens has g n sent left why = inl (rw left g.1, sent ∙ rw g.0 refl)
 goes-on (Some l) now limit on e mid after sents s new r is opens has g n sent left why =
@@ -328,7 +328,7 @@ sent-weaker : {A : Type 0} (P Q : A → Type 0) → ((x : A) → P x → Q x) �
 sent-weaker P Q f taken [] h = h
 sent-weaker P Q f taken (x ∷ xs) h = (h.0, h.1, h.2, all-weaker P Q f h.0 h.3, sent-weaker P Q f h.1 xs h.4)
 
-sends-again : (on : Bool) (t : Told) (start : List Publication) (s : Step) (new : State) → Tells t new → Shape (moment_of s.event) t.limit on s.event start s.reaction new → SendsAgain on t start s (owed new.outbox.copies)
+sends-again : (on : Bool) (t : Told) (start : List SentCopy) (s : Step) (new : State) → Tells t new → Shape (moment_of s.event) t.limit on s.event start s.reaction new → SendsAgain on t start s (owed new.outbox.copies)
 sends-again on t start s new h k =
     let again : resends (marks_of on s) ≡ resends (sends_of (sent_in s.reaction.packets)) = resends-plain (marks_by on s.event) (sends_of (sent_in s.reaction.packets)) (plain-by on s.event) in
     let first : firsts (marks_of on s) ≡ firsts (sends_of (sent_in s.reaction.packets)) = firsts-plain (marks_by on s.event) (sends_of (sent_in s.reaction.packets)) (plain-by on s.event) in

@@ -17,7 +17,7 @@ use Rattle.qos_handshakes.specs.Entries.{Entries, as_released, find_id, stage_ha
 use Rattle.qos_handshakes.specs.Outbox.{Outbox, Sent, EndStep, NextStep, ReceivedIf, after_resend, fits, is_acknowledged, is_owed, is_published, stage_id, takes_puback, takes_pubrec}
 use Rattle.handshake_laws.specs.Lists.{Without}
 use Rattle.handshake_laws.specs.Resends as low_resends
-use Rattle.handshake_laws.specs.Resends.{Publication, AnsweredIn, all_first_sends, all_resends, first_publication, first_sends_of, owed, owed_part, published, published_part, resends_of}
+use Rattle.handshake_laws.specs.Resends.{SentCopy, AnsweredIn, all_first_sends, all_resends, first_publication, first_sends_of, owed, owed_part, published, published_part, resends_of}
 use Rattle.handshake_laws.specs.Runs as low
 use Rattle.handshake_laws.specs.Runs.{offered, acknowledged, completed, received, resumed, listed, asked, lost, Takes}
 use Rattle.handshake_laws.proofs.ChosenLaws.{append-nil, chosen-none_sent, without-after, without-dropped, without-kept, without-refl, without-same, without-then, without-written}
@@ -30,19 +30,19 @@ use Rattle.session_laws.specs.Order.{firsts}
 use Rattle.session_laws.proofs.CallLaws.{Call, call_marks}
 
 -- why a call ends what was sent, where Q is of what it may send again
-abbrev pub EndsBy : (Publication → Type 0) → Call → Publication → Type 0
+abbrev pub EndsBy : (SentCopy → Type 0) → Call → SentCopy → Type 0
 EndsBy Q (acknowledged id Done) x = (x.0 ≡ id) × (x.1.qos ≡ AtLeastOnce)
 EndsBy Q (received id reason rec.Release) x = (x.0 ≡ id) × (x.1.qos ≡ ExactlyOnce)
 EndsBy Q (received id reason rec.Ended) x = (x.0 ≡ id) × (x.1.qos ≡ ExactlyOnce)
 EndsBy Q (asked now limit answer) x = (limit < length_of now x.1) × Q x
 EndsBy Q c x = ⊥
 
-abbrev pub EndsIn : (Publication → Type 0) → List Call → Publication → Type 0
+abbrev pub EndsIn : (SentCopy → Type 0) → List Call → SentCopy → Type 0
 EndsIn Q [] x = ⊥
 EndsIn Q (c ∷ cs) x = EndsBy Q c x ⊎ EndsIn Q cs x
 
 -- under an identifier at a QoS
-abbrev Own : ℕ → Qos → Publication → Type 0
+abbrev Own : ℕ → Qos → SentCopy → Type 0
 Own id q x = (x.0 ≡ id) × (x.1.qos ≡ q)
 
 own-published : (id : ℕ) (q : Qos) (s : Stage) (here : Bool) (c : Delivery) → stage_has id s ≡ true → c.qos ≡ q → AllByRecursion (Own id q) (published_part (record { stage = s; here = here; delivery = c }))
@@ -76,7 +76,7 @@ published-ack old new id s =
     let f = found-once (find_id id old.copies) s.0 in
     rw (append-nil (published old.copies), s.1) (without-dropped (Own id AtLeastOnce) published_part id f.0 old.copies f.1 (own-published id AtLeastOnce f.0.stage f.0.here f.0.delivery (found-has id f.0 old.copies f.1) f.2))
 
-published-rec : (Q : Publication → Type 0) (o : Option Entry) (old new : Outbox) (id reason : ℕ) (a : Rec) → find_id id old.copies ≡ o → ReceivedIf o old id reason a new → Without (EndsBy Q (received id reason a)) (published old.copies) (published new.copies)
+published-rec : (Q : SentCopy → Type 0) (o : Option Entry) (old new : Outbox) (id reason : ℕ) (a : Rec) → find_id id old.copies ≡ o → ReceivedIf o old id reason a new → Without (EndsBy Q (received id reason a)) (published old.copies) (published new.copies)
 published-rec Q None old new id reason a is s = rw s.1 (without-refl _ (published old.copies))
 published-rec Q (Some x) old new id reason rec.Release is (inl s) =
     rw s.3 (without-written (Own id ExactlyOnce) published_part (as_released id old.next_order) id x old.copies is refl (own-published id ExactlyOnce x.stage x.here x.delivery (found-has id x old.copies is) (twice-taken x.delivery.qos x.stage s.0)))
@@ -87,10 +87,10 @@ published-rec Q (Some x) old new id reason rec.Unknown is s = rw s.2 (without-re
 published-rec Q (Some x) old new id reason rec.AtEnd is s = rw s.3 (without-refl _ (published old.copies))
 
 -- what is too long to be sent again was owed
-abbrev Long : (Publication → Type 0) → ℕ → ℕ → Publication → Type 0
+abbrev Long : (SentCopy → Type 0) → ℕ → ℕ → SentCopy → Type 0
 Long Q now limit x = (limit < length_of now x.1) × Q x
 
-published-again : (Q : Publication → Type 0) (now limit : ℕ) (es : Entries) → AllByRecursion Q (owed es) → Without (Long Q now limit) (published es) (published (after_resend now limit es))
+published-again : (Q : SentCopy → Type 0) (now limit : ℕ) (es : Entries) → AllByRecursion Q (owed es) → Without (Long Q now limit) (published es) (published (after_resend now limit es))
 published-again Q now limit [] h = refl
 published-again Q now limit (e ∷ es) h = elim (cases_Bool (is_owed e.1)) [
   | inl t ↦
@@ -103,7 +103,7 @@ published-again Q now limit (e ∷ es) h = elim (cases_Bool (is_owed e.1)) [
   | inr t ↦ rw t (without-kept (Long Q now limit) (published_part e.1) (published es) (published (after_resend now limit es)) (published-again Q now limit es (rw t at h)))
 ]
 
-published-next : (Q : Publication → Type 0) (now limit : ℕ) (old new : Outbox) (a : Option Sent) → NextStep now limit old a new → AreLaid old.copies → AllByRecursion Q (owed old.copies) → Without (Long Q now limit) (published old.copies ++ first_publication a) (published new.copies)
+published-next : (Q : SentCopy → Type 0) (now limit : ℕ) (old new : Outbox) (a : Option Sent) → NextStep now limit old a new → AreLaid old.copies → AllByRecursion Q (owed old.copies) → Without (Long Q now limit) (published old.copies ++ first_publication a) (published new.copies)
 published-next Q now limit old new None s h k = elim s.step [
   | inl t ↦ rw (t.1, append-nil (published old.copies)) (without-refl (Long Q now limit) (published old.copies))
   | inr t ↦ elim t [
@@ -116,7 +116,7 @@ published-next Q now limit old new (Some x) (inr s) h k =
     rw (s.first, s.left, chosen-first published_part (λ y w z. published-waits y.stage y.here y.delivery w) now limit x.id x.copy (after_resend now limit old.copies) (laid-resent now limit old.copies h) s.sent)
     (without-after (Long Q now limit) (published old.copies) (published (after_resend now limit old.copies)) ((x.id, x.copy) ∷ []) (published-again Q now limit old.copies k))
 
-open-step : (Q : Publication → Type 0) (old new : Outbox) (c : Call) → Takes old c new → AreLaid old.copies → AllByRecursion Q (owed old.copies) → Without (EndsBy Q c) (published old.copies ++ first_sends_of c) (published new.copies)
+open-step : (Q : SentCopy → Type 0) (old new : Outbox) (c : Call) → Takes old c new → AreLaid old.copies → AllByRecursion Q (owed old.copies) → Without (EndsBy Q c) (published old.copies ++ first_sends_of c) (published new.copies)
 open-step Q old new (offered d a) s h k = published-step old new (offered d a) s h
 open-step Q old new (acknowledged id Done) s h k = published-ack old new id s
 open-step Q old new (acknowledged id Unknown) s h k = published-step old new (acknowledged id Unknown) s h
@@ -132,7 +132,7 @@ laid-calls start [] end r h = rw r h
 laid-calls start (c ∷ cs) end r h = laid-calls r.0 cs end r.2 (laid-step start r.0 c r.1 h)
 
 -- ---- what is owed
-without-both : (P Q : Publication → Type 0) (xs ys : List Publication) → AllByRecursion Q xs → Without P xs ys → Without (λ (x : Publication). P x × Q x) xs ys
+without-both : (P Q : SentCopy → Type 0) (xs ys : List SentCopy) → AllByRecursion Q xs → Without P xs ys → Without (λ (x : SentCopy). P x × Q x) xs ys
 without-both P Q [] ys h w = w
 without-both P Q (x ∷ xs) ys h (inl w) = inl ((w.0, h.0), without-both P Q xs ys h.1 w.1)
 without-both P Q (x ∷ xs) ys h (inr w) = inr (w.0, w.1, without-both P Q xs w.0 h.1 w.2)
@@ -142,7 +142,7 @@ owed-ack old new id s =
     let f = found-once (find_id id old.copies) s.0 in
     rw s.1 (without-dropped (Own id AtLeastOnce) owed_part id f.0 old.copies f.1 (own-owed id AtLeastOnce f.0.stage f.0.here f.0.delivery (found-has id f.0 old.copies f.1) f.2))
 
-owed-rec : (Q : Publication → Type 0) (o : Option Entry) (old new : Outbox) (id reason : ℕ) (a : Rec) → find_id id old.copies ≡ o → ReceivedIf o old id reason a new → Without (EndsBy Q (received id reason a)) (owed old.copies) (owed new.copies)
+owed-rec : (Q : SentCopy → Type 0) (o : Option Entry) (old new : Outbox) (id reason : ℕ) (a : Rec) → find_id id old.copies ≡ o → ReceivedIf o old id reason a new → Without (EndsBy Q (received id reason a)) (owed old.copies) (owed new.copies)
 owed-rec Q None old new id reason a is s = rw s.1 (without-refl _ (owed old.copies))
 owed-rec Q (Some x) old new id reason rec.Release is (inl s) =
     rw s.3 (without-written (Own id ExactlyOnce) owed_part (as_released id old.next_order) id x old.copies is refl (own-owed id ExactlyOnce x.stage x.here x.delivery (found-has id x old.copies is) (twice-taken x.delivery.qos x.stage s.0)))
@@ -152,7 +152,7 @@ owed-rec Q (Some x) old new id reason rec.Ended is s =
 owed-rec Q (Some x) old new id reason rec.Unknown is s = rw s.2 (without-refl _ (owed old.copies))
 owed-rec Q (Some x) old new id reason rec.AtEnd is s = rw s.3 (without-refl _ (owed old.copies))
 
-pub owes-step : (Q : Publication → Type 0) (old new : Outbox) (c : Call) → low_resends.StaysConnected c → Takes old c new → AllByRecursion Q (owed old.copies) → Without (EndsBy Q c) (owed old.copies) (resends_of c ++ owed new.copies)
+pub owes-step : (Q : SentCopy → Type 0) (old new : Outbox) (c : Call) → low_resends.StaysConnected c → Takes old c new → AllByRecursion Q (owed old.copies) → Without (EndsBy Q c) (owed old.copies) (resends_of c ++ owed new.copies)
 owes-step Q old new (offered d a) k s h = owed-step old new (offered d a) k s
 owes-step Q old new (acknowledged id Done) k s h = owed-ack old new id s
 owes-step Q old new (acknowledged id Unknown) k s h = owed-step old new (acknowledged id Unknown) k s
@@ -160,29 +160,29 @@ owes-step Q old new (completed id a) k s h = owed-step old new (completed id a) 
 owes-step Q old new (received id reason a) k s h = owed-rec Q (find_id id old.copies) old new id reason a refl s
 owes-step Q old new (resumed maximum) k s h = absurd k
 owes-step Q old new (listed ids) k s h = owed-step old new (listed ids) k s
-owes-step Q old new (asked now limit a) k s h = without-both (λ (x : Publication). limit < length_of now x.1) Q (owed old.copies) (resends_of (asked now limit a) ++ owed new.copies) h (owed-step old new (asked now limit a) k s)
+owes-step Q old new (asked now limit a) k s h = without-both (λ (x : SentCopy). limit < length_of now x.1) Q (owed old.copies) (resends_of (asked now limit a) ++ owed new.copies) h (owed-step old new (asked now limit a) k s)
 owes-step Q old new lost k s h = absurd k
 
 -- a call leaves what is owed of a kind, where the connection goes on or all is of it
-abbrev pub KeepsKind : (Publication → Type 0) → Call → Type 0
-KeepsKind Q c = low_resends.StaysConnected c ⊎ ((x : Publication) → Q x)
+abbrev pub KeepsKind : (SentCopy → Type 0) → Call → Type 0
+KeepsKind Q c = low_resends.StaysConnected c ⊎ ((x : SentCopy) → Q x)
 
-pub all-of : (Q : Publication → Type 0) → ((x : Publication) → Q x) → (xs : List Publication) → AllByRecursion Q xs
+pub all-of : (Q : SentCopy → Type 0) → ((x : SentCopy) → Q x) → (xs : List SentCopy) → AllByRecursion Q xs
 all-of Q f [] = tt
 all-of Q f (x ∷ xs) = (f x, all-of Q f xs)
 
-kind-step : (Q : Publication → Type 0) (old new : Outbox) (c : Call) → KeepsKind Q c → Takes old c new → AllByRecursion Q (owed old.copies) → AllByRecursion Q (owed new.copies)
+kind-step : (Q : SentCopy → Type 0) (old new : Outbox) (c : Call) → KeepsKind Q c → Takes old c new → AllByRecursion Q (owed old.copies) → AllByRecursion Q (owed new.copies)
 kind-step Q old new c (inl k) s h = all-tail Q (resends_of c) (owed new.copies) (all-left (EndsBy Q c) Q (owed old.copies) (resends_of c ++ owed new.copies) h (owes-step Q old new c k s h))
 kind-step Q old new c (inr f) s h = all-of Q f (owed new.copies)
 
-pub open-calls : (Q : Publication → Type 0) (start : Outbox) (calls : List Call) (end : Outbox) → low.Run start calls end → AreLaid start.copies → AllByRecursion (KeepsKind Q) calls → AllByRecursion Q (owed start.copies) → Without (EndsIn Q calls) (published start.copies ++ all_first_sends calls) (published end.copies)
+pub open-calls : (Q : SentCopy → Type 0) (start : Outbox) (calls : List Call) (end : Outbox) → low.Run start calls end → AreLaid start.copies → AllByRecursion (KeepsKind Q) calls → AllByRecursion Q (owed start.copies) → Without (EndsIn Q calls) (published start.copies ++ all_first_sends calls) (published end.copies)
 open-calls Q start [] end r h k q = rw r (without-same _ (published start.copies ++ []) (published start.copies) (sym (append-nil (published start.copies))))
 open-calls Q start (c ∷ cs) end r h k q =
     rw (← append_assoc (published start.copies) (first_sends_of c) (all_first_sends cs))
     (without-then (EndsBy Q c) (EndsIn Q cs) (EndsIn Q (c ∷ cs)) (λ x p. inl p) (λ x p. inr p) (published start.copies ++ first_sends_of c) (all_first_sends cs) [] (published r.0.copies) (published end.copies)
     (open-step Q start r.0 c r.1 h q) (open-calls Q r.0 cs end r.2 (laid-step start r.0 c r.1 h) k.1 (kind-step Q start r.0 c k.0 r.1 q)))
 
-abbrev pub Any : Publication → Type 0
+abbrev pub Any : SentCopy → Type 0
 Any x = Unit {0}
 
 -- ---- what the calls show
@@ -199,24 +199,24 @@ sends-marks (asked now limit (Some s) ∷ cs) = rw (sends-marks cs) refl
 sends-marks (lost ∷ cs) = sends-marks cs
 
 -- its answer is among marks
-abbrev pub AnsweredBy : Mark → Publication → Type 0
+abbrev pub AnsweredBy : Mark → SentCopy → Type 0
 AnsweredBy (acks id) x = (x.0 ≡ id) × (x.1.qos ≡ AtLeastOnce)
 AnsweredBy (recs id reason) x = (x.0 ≡ id) × (x.1.qos ≡ ExactlyOnce)
 AnsweredBy m x = ⊥
 
-abbrev pub AnsweredAmong : List Mark → Publication → Type 0
+abbrev pub AnsweredAmong : List Mark → SentCopy → Type 0
 AnsweredAmong [] x = ⊥
 AnsweredAmong (m ∷ ms) x = AnsweredBy m x ⊎ AnsweredAmong ms x
 
 -- it is too long, whatever its identifier, and of the kind, or its answer is among the marks
-abbrev pub Causes : (Publication → Type 0) → List Call → Publication → Type 0
+abbrev pub Causes : (SentCopy → Type 0) → List Call → SentCopy → Type 0
 Causes Q cs x = (((k : ℕ) → AnsweredIn cs (k, x.1)) × Q x) ⊎ AnsweredAmong (call_marks cs) x
 
-later-cause : (Q : Publication → Type 0) (c : Call) (cs : List Call) (x : Publication) → (AnsweredAmong (call_marks cs) x → AnsweredAmong (call_marks (c ∷ cs)) x) → Causes Q cs x → Causes Q (c ∷ cs) x
+later-cause : (Q : SentCopy → Type 0) (c : Call) (cs : List Call) (x : SentCopy) → (AnsweredAmong (call_marks cs) x → AnsweredAmong (call_marks (c ∷ cs)) x) → Causes Q cs x → Causes Q (c ∷ cs) x
 later-cause Q c cs x f (inl h) = inl (λ k. inr (h.0 k), h.1)
 later-cause Q c cs x f (inr h) = inr (f h)
 
-pub causes : (Q : Publication → Type 0) (cs : List Call) (x : Publication) → EndsIn Q cs x → Causes Q cs x
+pub causes : (Q : SentCopy → Type 0) (cs : List Call) (x : SentCopy) → EndsIn Q cs x → Causes Q cs x
 causes Q [] x h = absurd h
 causes Q (offered d a ∷ cs) x (inl h) = absurd h
 causes Q (offered d a ∷ cs) x (inr h) = later-cause Q (offered d a) cs x (λ t. t) (causes Q cs x h)

@@ -1,7 +1,7 @@
 -- What an event sends first is unfinished after it, unless it is too long.
 use Rattle.std.proofs.Common.{◌≡◌, ◌⊎◌, inl, inr, ℕ, Bool, true, false, cond, List, [], ◌∷◌, ◌++◌, Some, None, refl, sym, ap, ◌∙◌, subst, append_assoc}
 use Rattle.handshake_laws.specs.Lists.{Without}
-use Rattle.handshake_laws.specs.Resends.{Publication, Answers, AnsweredIn, all_first_sends, first_sends_of, published}
+use Rattle.handshake_laws.specs.Resends.{SentCopy, Answers, AnsweredIn, all_first_sends, first_sends_of, published}
 use Rattle.handshake_laws.specs.Runs as low
 use Rattle.handshake_laws.specs.Runs.{offered, acknowledged, completed, received, resumed, listed, asked, lost}
 use Rattle.handshake_laws.proofs.LaidLaws.{AreLaid, laid-step}
@@ -41,13 +41,13 @@ in_without P x (z ∷ xs) ys (inr w) (inl e) = inr (subst (IsOneOf x) (sym w.1) 
 in_without P x (z ∷ xs) ys (inr w) (inr i) = elim (in_without P x xs w.0 w.2 i) [ inl a ↦ inl a | inr b ↦ inr (subst (IsOneOf x) (sym w.1) (inr b)) ]
 
 -- a copy that was sent has its identifier
-pub in_copies : (x : Delivery) (ps : List Publication) → IsOneOf x (copies_of ps) → (id : ℕ) × IsOneOf (id, x) ps
+pub in_copies : (x : Delivery) (ps : List SentCopy) → IsOneOf x (copies_of ps) → (id : ℕ) × IsOneOf (id, x) ps
 in_copies x [] i = absurd i
 in_copies x (p ∷ ps) (inl e) = (p.0, inl (λ j. (p.0, e j)))
 in_copies x (p ∷ ps) (inr i) = let r = in_copies x ps i in (r.0, inr r.1)
 
 -- ---- what was sent first and not answered, call by call of the exchanges
-pub still_published : (x : Publication) (start : Outbox) (calls : List Call) (end : Outbox) → low.Run start calls end → AreLaid start.copies → IsOneOf x (published start.copies) → AnsweredIn calls x ⊎ IsOneOf x (published end.copies)
+pub still_published : (x : SentCopy) (start : Outbox) (calls : List Call) (end : Outbox) → low.Run start calls end → AreLaid start.copies → IsOneOf x (published start.copies) → AnsweredIn calls x ⊎ IsOneOf x (published end.copies)
 still_published x start [] end r laid i = inr (subst (λ (o : Outbox). IsOneOf x (published o.copies)) (sym r) i)
 still_published x start (c ∷ cs) end r laid i =
     elim (in_without (Answers c) x (published start.copies ++ first_sends_of c) (published r.0.copies) (published-step start r.0 c r.1 laid) (in_left x (published start.copies) (first_sends_of c) i)) [
@@ -89,7 +89,7 @@ last_by on loses ms o = only_last ms o
 last_by on e ms o = only_last ms o
 
 -- where no answer is heard, a PUBLISH is sent no more because it is too long, whatever its identifier
-long_of : (x : Publication) (cs : List Call) → OnlySends (call_marks cs) → AnsweredIn cs x → (other : ℕ) → AnsweredIn cs (other, x.1)
+long_of : (x : SentCopy) (cs : List Call) → OnlySends (call_marks cs) → AnsweredIn cs x → (other : ℕ) → AnsweredIn cs (other, x.1)
 long_of x [] o a other = a
 long_of x (offered c b ∷ cs) o (inl e) other = absurd e
 long_of x (offered c b ∷ cs) o (inr a) other = inr (long_of x cs o a other)
@@ -105,14 +105,14 @@ long_of x (asked now limit (Some s) ∷ cs) o (inl e) other = inl e
 long_of x (asked now limit (Some s) ∷ cs) o (inr a) other = inr (long_of x cs o a other)
 long_of x (lost ∷ cs) o a other = absurd o
 
-abbrev pub IsLongIn : Publication → List Call → Type 0
+abbrev pub IsLongIn : SentCopy → List Call → Type 0
 IsLongIn x cs = (other : ℕ) → AnsweredIn cs (other, x.1)
 
-later_long : (x : Publication) (c : Call) (cs : List Call) (es : Entries) → IsLongIn x cs ⊎ IsOneOf x (published es) → IsLongIn x (c ∷ cs) ⊎ IsOneOf x (published es)
+later_long : (x : SentCopy) (c : Call) (cs : List Call) (es : Entries) → IsLongIn x cs ⊎ IsOneOf x (published es) → IsLongIn x (c ∷ cs) ⊎ IsOneOf x (published es)
 later_long x c cs es (inl l) = inl (λ other. inr (l other))
 later_long x c cs es (inr i) = inr i
 
-sent_here : (x : Publication) (start : Outbox) (now limit : ℕ) (s : Sent) (cs : List Call) (end : Outbox) (r : low.Run start (asked now limit (Some s) ∷ cs) end) → AreLaid start.copies → OnlySends (call_marks cs)
+sent_here : (x : SentCopy) (start : Outbox) (now limit : ℕ) (s : Sent) (cs : List Call) (end : Outbox) (r : low.Run start (asked now limit (Some s) ∷ cs) end) → AreLaid start.copies → OnlySends (call_marks cs)
     → IsOneOf x (first_sends_of (asked now limit (Some s))) → IsLongIn x (asked now limit (Some s) ∷ cs) ⊎ IsOneOf x (published end.copies)
 sent_here x start now limit s cs end r laid o i =
     let c = asked now limit (Some s) in
@@ -121,7 +121,7 @@ sent_here x start now limit s cs end r laid o i =
       | inr j ↦ elim (still_published x r.0 cs end r.2 (laid-step start r.0 c r.1 laid) j) [ inl a ↦ inl (λ other. inr (long_of x cs o a other)) | inr b ↦ inr b ]
     ]
 
-pub sent_published : (x : Publication) (start : Outbox) (calls : List Call) (end : Outbox) → low.Run start calls end → AreLaid start.copies → SendsLast (call_marks calls) → IsOneOf x (all_first_sends calls) → IsLongIn x calls ⊎ IsOneOf x (published end.copies)
+pub sent_published : (x : SentCopy) (start : Outbox) (calls : List Call) (end : Outbox) → low.Run start calls end → AreLaid start.copies → SendsLast (call_marks calls) → IsOneOf x (all_first_sends calls) → IsLongIn x calls ⊎ IsOneOf x (published end.copies)
 sent_published x start [] end r laid o i = absurd i
 sent_published x start (offered c a ∷ cs) end r laid o i = later_long x (offered c a) cs end.copies (sent_published x r.0 cs end r.2 (laid-step start r.0 (offered c a) r.1 laid) o i)
 sent_published x start (acknowledged id a ∷ cs) end r laid o i = later_long x (acknowledged id a) cs end.copies (sent_published x r.0 cs end r.2 (laid-step start r.0 (acknowledged id a) r.1 laid) o i)
@@ -148,7 +148,7 @@ firsts_told (received id reason a ∷ cs) = firsts_told cs
 firsts_told (resumed maximum ∷ cs) = firsts_told cs
 firsts_told (listed ids ∷ cs) = firsts_told cs
 firsts_told (asked now limit None ∷ cs) = firsts_told cs
-firsts_told (asked now limit (Some s) ∷ cs) = ap (λ (ps : List Publication). cond s.dup [] ((s.id, s.copy) ∷ []) ++ ps) (firsts_told cs)
+firsts_told (asked now limit (Some s) ∷ cs) = ap (λ (ps : List SentCopy). cond s.dup [] ((s.id, s.copy) ∷ []) ++ ps) (firsts_told cs)
 firsts_told (lost ∷ cs) = firsts_told cs
 
 pub firsts_then : (ms ns : List Mark) → firsts (ms ++ ns) ≡ firsts ms ++ firsts ns
@@ -158,4 +158,4 @@ firsts_then (crashes ∷ ms) ns = firsts_then ms ns
 firsts_then (acks id ∷ ms) ns = firsts_then ms ns
 firsts_then (recs id reason ∷ ms) ns = firsts_then ms ns
 firsts_then (comps id ∷ ms) ns = firsts_then ms ns
-firsts_then (sends s ∷ ms) ns = ap (λ (ps : List Publication). first_of (sends s) ++ ps) (firsts_then ms ns) ∙ sym (append_assoc (first_of (sends s)) (firsts ms) (firsts ns))
+firsts_then (sends s ∷ ms) ns = ap (λ (ps : List SentCopy). first_of (sends s) ++ ps) (firsts_then ms ns) ∙ sym (append_assoc (first_of (sends s)) (firsts ms) (firsts ns))

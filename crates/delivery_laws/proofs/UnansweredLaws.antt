@@ -13,7 +13,7 @@ use Rattle.qos_handshakes.specs.Entries.{Entries, find_id, has_id}
 use Rattle.qos_handshakes.specs.Outbox.{Outbox, Sent, is_published}
 use Rattle.handshake_laws.specs.Numbers.{AreNumbered, IsNumbered}
 use Rattle.handshake_laws.specs.Resends as low_resends
-use Rattle.handshake_laws.specs.Resends.{Publication, AnsweredIn, all_first_sends, all_resends, owed, owed_part, published, published_part}
+use Rattle.handshake_laws.specs.Resends.{SentCopy, AnsweredIn, all_first_sends, all_resends, owed, owed_part, published, published_part}
 use Rattle.handshake_laws.specs.Runs as low
 use Rattle.handshake_laws.specs.Runs.{resumed}
 use Rattle.handshake_laws.proofs.ChosenLaws.{without-more}
@@ -49,7 +49,7 @@ other p = 0
 not-itself : (n : ℕ) → suc n ≡ n → ⊥
 not-itself n e = omega (arith, e)
 
-not-answered : (p : Packet) (x : Publication) → IsAnsweredBy p (other p, x.1) → ⊥
+not-answered : (p : Packet) (x : SentCopy) → IsAnsweredBy p (other p, x.1) → ⊥
 unfolding other
 not-answered (packets.Puback a) x h = not-itself a.identifier h
 not-answered (packets.Pubrec a) x h = not-itself a.identifier h
@@ -67,7 +67,7 @@ not-answered (packets.Unsuback p) x h = h
 not-answered packets.Pingresp x h = h
 not-answered (packets.Auth p) x h = h
 
-pub long-ends : (on : Bool) (limit : ℕ) (e : Event) (x : Publication) → ((k : ℕ) → EndsIt on limit e (k, x.1)) → IsTooLong on limit e x
+pub long-ends : (on : Bool) (limit : ℕ) (e : Event) (x : SentCopy) → ((k : ℕ) → EndsIt on limit e (k, x.1)) → IsTooLong on limit e x
 long-ends on limit (connects c continued now) x h = h 0
 long-ends on limit (queues d now) x h = h 0
 long-ends on limit (takes p now room) x h = let k = h (other p) in (k.0, elim k.1 [ inl a ↦ absurd (not-answered p x a) | inr l ↦ l ])
@@ -77,7 +77,7 @@ long-ends on limit (ticks now) x h = h 0
 long-ends on limit (finishes now) x h = h 0
 long-ends on limit loses x h = h 0
 
-in-packet : (p : Packet) (x : Publication) → AnsweredAmong (marks_in p) x → IsAnswerFor p x
+in-packet : (p : Packet) (x : SentCopy) → AnsweredAmong (marks_in p) x → IsAnswerFor p x
 in-packet (packets.Puback a) x (inl h) = h
 in-packet (packets.Puback a) x (inr h) = absurd h
 in-packet (packets.Pubrec a) x (inl h) = h
@@ -97,7 +97,7 @@ in-packet (packets.Unsuback p) x h = h
 in-packet packets.Pingresp x h = h
 in-packet (packets.Auth p) x h = h
 
-answer-ends : (on : Bool) (e : Event) (x : Publication) → AnsweredAmong (marks_by on e) x → IsAnswered on e x
+answer-ends : (on : Bool) (e : Event) (x : SentCopy) → AnsweredAmong (marks_by on e) x → IsAnswered on e x
 answer-ends on (connects c continued now) x (inl h) = absurd h
 answer-ends on (connects c continued now) x (inr h) = absurd h
 answer-ends on (queues d now) x h = absurd h
@@ -111,18 +111,18 @@ answer-ends on loses x (inl h) = h
 answer-ends on loses x (inr h) = h
 
 -- what is sent answers nothing
-not-sent : (ss : List Sent) (x : Publication) → AnsweredAmong (sends_of ss) x → ⊥
+not-sent : (ss : List Sent) (x : SentCopy) → AnsweredAmong (sends_of ss) x → ⊥
 not-sent [] x h = h
 not-sent (s ∷ ss) x (inl h) = h
 not-sent (s ∷ ss) x (inr h) = not-sent ss x h
 
-among-first : (ms : List Mark) (ss : List Sent) (x : Publication) → AnsweredAmong (ms ++ sends_of ss) x → AnsweredAmong ms x
+among-first : (ms : List Mark) (ss : List Sent) (x : SentCopy) → AnsweredAmong (ms ++ sends_of ss) x → AnsweredAmong ms x
 among-first [] ss x h = absurd (not-sent ss x h)
 among-first (m ∷ ms) ss x (inl h) = inl h
 among-first (m ∷ ms) ss x (inr h) = inr (among-first ms ss x h)
 
 -- its answer, or too long and of the kind that the calls may send again
-ends : (Q : Publication → Type 0) (on : Bool) (limit : ℕ) (e : Event) (ss : List Sent) (calls : List Call) (x : Publication) → call_marks calls ≡ marks_by on e ++ sends_of ss → ((y : Publication) → AnsweredIn calls y → EndsIt on limit e y) → EndsIn Q calls x
+ends : (Q : SentCopy → Type 0) (on : Bool) (limit : ℕ) (e : Event) (ss : List Sent) (calls : List Call) (x : SentCopy) → call_marks calls ≡ marks_by on e ++ sends_of ss → ((y : SentCopy) → AnsweredIn calls y → EndsIt on limit e y) → EndsIn Q calls x
     → IsAnswered on e x ⊎ (IsTooLong on limit e x × Q x)
 ends Q on limit e ss calls x is f h = elim (causes Q calls x h) [
   | inl long ↦ inr (long-ends on limit e x (λ k. f (k, x.1) (long.0 k)), long.1)
@@ -130,7 +130,7 @@ ends Q on limit e ss calls x is f h = elim (causes Q calls x h) [
 ]
 
 -- ---- what is owed wasn't sent by the connection
-record IsFound (es : Entries) (x : Publication) : Type 0 where
+record IsFound (es : Entries) (x : SentCopy) : Type 0 where
   pub entry : Entry
   pub at : find_id x.0 es ≡ Some entry
   pub away : entry.here ≡ false
@@ -142,7 +142,7 @@ found-part (Published id) true d place es = tt
 found-part (Published id) false d place es = (record { entry = record { stage = Published id; here = false; delivery = d }; at = rw (eq-eqb id id refl) refl; away = refl; stage = refl }, tt)
 found-part (Released id order) here d place es = tt
 
-found-later : (e : ℕ × Entry) (es : Entries) (x : Publication) → IsNumbered e.1.stage es → IsFound es x → IsFound (e ∷ es) x
+found-later : (e : ℕ × Entry) (es : Entries) (x : SentCopy) → IsNumbered e.1.stage es → IsFound es x → IsFound (e ∷ es) x
 found-later e es x n f = elim (cases_Bool (has_id x.0 e.1)) [
   | inl t ↦ absurd (let bad : None ≡ Some f.entry = sym (numbered-later x.0 e.1.stage es t n) ∙ f.at in cc)
   | inr t ↦ record { entry = f.entry; at = rw t f.at; away = f.away; stage = f.stage }
@@ -162,8 +162,8 @@ published-goes Waiting d h = absurd (false≢true h)
 published-goes (Published id) d h = refl
 published-goes (Released id order) d h = absurd (false≢true h)
 
-unsent : (x : ℕ → Exchange) (sent : ℕ → Bool) (es : Entries) → AllTold x sent es → AreNumbered es → AllByRecursion (λ (y : Publication). sent y.0 ≡ false) (owed es)
-unsent x sent es h n = all-weaker (IsFound es) (λ (y : Publication). sent y.0 ≡ false) (λ y f. elim (cases_Bool (sent y.0)) [
+unsent : (x : ℕ → Exchange) (sent : ℕ → Bool) (es : Entries) → AllTold x sent es → AreNumbered es → AllByRecursion (λ (y : SentCopy). sent y.0 ≡ false) (owed es)
+unsent x sent es h n = all-weaker (IsFound es) (λ (y : SentCopy). sent y.0 ≡ false) (λ y f. elim (cases_Bool (sent y.0)) [
   | inl t ↦
       let goes : is_none (x y.0) ≡ false = ap is_none (h.told y.0 f.entry f.at) ∙ published-goes f.entry.stage f.entry.delivery f.stage in
       let k = h.stays y.0 t goes in
@@ -186,7 +186,7 @@ any-kind : (calls : List Call) → AllByRecursion (KeepsKind (λ y. Unit {0})) c
 any-kind [] = tt
 any-kind (c ∷ cs) = (inr (λ x. tt), any-kind cs)
 
-on-kind : (Q : Publication → Type 0) (calls : List Call) → AllByRecursion low_resends.StaysConnected calls → AllByRecursion (KeepsKind Q) calls
+on-kind : (Q : SentCopy → Type 0) (calls : List Call) → AllByRecursion low_resends.StaysConnected calls → AllByRecursion (KeepsKind Q) calls
 on-kind Q [] h = tt
 on-kind Q (c ∷ cs) h = (inl h.0, on-kind Q cs h.1)
 

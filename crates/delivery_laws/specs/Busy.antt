@@ -3,7 +3,7 @@ use Rattle.std.specs.Prelude.{◌≡◌, ℕ, ◌≤◌, ◌⊎◌, Bool, true, 
 use Rattle.std.specs.List.{AllByRecursion}
 use Rattle.mqtt_packets.specs.declared.connect.Connect.{Connect}
 use Rattle.mqtt_message.specs.declared.delivery.Delivery.{Delivery}
-use Rattle.handshake_laws.specs.Resends.{Publication}
+use Rattle.handshake_laws.specs.Resends.{SentCopy}
 use Rattle.mqtt_sessions.specs.Reaction.{Reaction}
 use Rattle.mqtt_sessions.specs.State.{State, new_session}
 use Rattle.session_laws.specs.Quota.{is_none}
@@ -13,13 +13,13 @@ use Rattle.delivery_laws.specs.Queue.{QueueOver, Told, told_nothing, told_over}
 use Rattle.delivery_laws.specs.Unanswered.{IsGoing, OwedOver}
 
 -- the quota is full; or nothing is to be sent again, and each identifier has an exchange that goes on or nothing waits
-abbrev pub IsBusy : Told → List Publication → List Delivery → Type 0
+abbrev pub IsBusy : Told → List SentCopy → List Delivery → Type 0
 IsBusy t owes queue = (t.maximum ≤ length t.flying) ⊎ ((owes ≡ []) × (((k : ℕ) → 1 ≤ k → k ≤ 65535 → is_none (t.exchanges k) ≡ false) ⊎ (queue ≡ [])))
 
 -- what is still to be sent again on the connection that began after these events, what waits, and that neither is held back
 pub record HoldsNothing (before here : List Step) : Type 0 where
-  pub going : List Publication
-  pub owes : List Publication
+  pub going : List SentCopy
+  pub owes : List SentCopy
   pub queue : List Delivery
   pub was : IsGoing before going
   pub is : OwedOver (told_over told_nothing before) going here owes

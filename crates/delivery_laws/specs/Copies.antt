@@ -1,6 +1,6 @@
 -- What becomes of a copy at QoS 1 or 2 from the event on that queues it (MQTT 5.0, 3.3.2.3.3, 3.1.2.11.4, 4.3, 4.4 and 4.6).
 use Rattle.std.specs.Prelude.{◌≡◌, ◌⊎◌, ℕ, Bool, true, false, List, [], ◌∷◌, ◌++◌}
-use Rattle.handshake_laws.specs.Resends.{Publication, published}
+use Rattle.handshake_laws.specs.Resends.{SentCopy, published}
 use Rattle.mqtt_message.specs.declared.delivery.Delivery.{Delivery}
 use Rattle.mqtt_sessions.specs.Sending.{is_once}
 use Rattle.mqtt_sessions.specs.State.{State, new_session}
@@ -35,12 +35,12 @@ channel_over l [] = l
 channel_over l (s ∷ ss) = channel_over (channel_after l s) ss
 
 -- one of the events ends what was sent: its own answer comes, or it is too long when it is to be sent again
-abbrev pub EndsAmong : Channel → List Step → Publication → Type 0
+abbrev pub EndsAmong : Channel → List Step → SentCopy → Type 0
 EndsAmong l [] x = ⊥
 EndsAmong l (s ∷ ss) x = Ends l.on (limit_after l.limit s.event) l.sent s.event x ⊎ EndsAmong (channel_after l s) ss x
 
 -- an event sends the copy first under an identifier, and it is unfinished after the later ones, or one of these ends it
-abbrev pub IsSentBy : Channel → Step → List Step → Delivery → List Publication → Type 0
+abbrev pub IsSentBy : Channel → Step → List Step → Delivery → List SentCopy → Type 0
 IsSentBy l s ss x unfinished = (id : ℕ) × IsOneOf (id, x) (firsts (marks_of l.on s)) × (IsOneOf (id, x) unfinished ⊎ EndsAmong (channel_after l s) ss (id, x))
 
 -- an event leaves it out: on an open connection, where its deadline has passed, or it is longer than the client takes
@@ -48,7 +48,7 @@ abbrev pub IsLeftOutBy : Channel → Step → Delivery → Type 0
 IsLeftOutBy l s x = ((channel_after l s).on ≡ true) × IsLate (moment_of s.event) (channel_after l s).limit x
 
 -- a copy that waits goes on waiting, until one of the events sends it or leaves it out
-abbrev pub GoesFrom : Channel → List Step → Delivery → List Delivery → List Publication → Type 0
+abbrev pub GoesFrom : Channel → List Step → Delivery → List Delivery → List SentCopy → Type 0
 GoesFrom l [] x waits unfinished = IsOneOf x waits
 GoesFrom l (s ∷ ss) x waits unfinished = IsSentBy l s ss x unfinished ⊎ IsLeftOutBy l s x ⊎ GoesFrom (channel_after l s) ss x waits unfinished
 

@@ -3,7 +3,7 @@ use Rattle.std.specs.Prelude.{◌≡◌, ◌≢◌, ℕ, ◌<◌, ◌≤◌, Boo
 use Rattle.std.specs.List.{AllByRecursion}
 use Rattle.qos_handshakes.specs.Outbox.{Sent}
 use Rattle.handshake_laws.specs.Lists.{has}
-use Rattle.handshake_laws.specs.Resends.{Publication}
+use Rattle.handshake_laws.specs.Resends.{SentCopy}
 use Rattle.mqtt_sessions.specs.State.{State, new_session}
 use Rattle.session_laws.specs.Exchanges.{Exchange, none}
 use Rattle.session_laws.specs.Quota.{all_after, is_none}
@@ -34,16 +34,16 @@ KeepsLeastEach = (client : List ℕ) (steps : List Step) (end : State) → Run (
 
 -- ---- what goes on, as events tell it
 -- their identifiers are distinct, and from 1 to 65,535
-abbrev pub AreDistinct : List Publication → Type 0
+abbrev pub AreDistinct : List SentCopy → Type 0
 AreDistinct [] = Unit {0}
-AreDistinct (x ∷ xs) = ((1 ≤ x.0) × (x.0 ≤ 65535)) × AllByRecursion (λ (y : Publication). y.0 ≢ x.0) xs × AreDistinct xs
+AreDistinct (x ∷ xs) = ((1 ≤ x.0) × (x.0 ≤ 65535)) × AllByRecursion (λ (y : SentCopy). y.0 ≢ x.0) xs × AreDistinct xs
 
 -- what was sent first and has not ended, of which none has the identifier of an exchange that is released
 pub record GoesApart (steps : List Step) : Type 0 where
-  pub going : List Publication
+  pub going : List SentCopy
   pub is : IsGoing steps going
   pub distinct : AreDistinct going
-  pub apart : AllByRecursion (λ (x : Publication). has x.0 (released_over false [] steps) ≡ false) going
+  pub apart : AllByRecursion (λ (x : SentCopy). has x.0 (released_over false [] steps) ≡ false) going
 
 abbrev pub KeepsApart : Type 0
 KeepsApart = (client : List ℕ) (steps : List Step) (end : State) → Run (new_session client) steps end → GoesApart steps

@@ -7,7 +7,7 @@ use Rattle.mqtt_packets.specs.declared.packet.Packet.{Packet}
 use Rattle.mqtt_packets.specs.declared.packet.Packet.TheVariants as packets
 use Rattle.qos_handshakes.specs.Length.{length_of}
 use Rattle.handshake_laws.specs.Lists.{Without}
-use Rattle.handshake_laws.specs.Resends.{Publication, published, owed}
+use Rattle.handshake_laws.specs.Resends.{SentCopy, published, owed}
 use Rattle.mqtt_sessions.specs.Reaction.{Reaction}
 use Rattle.mqtt_sessions.specs.State.{State, new_session}
 use Rattle.session_laws.specs.Order.{firsts, resends}
@@ -18,64 +18,64 @@ use Rattle.delivery_laws.specs.Again.{all_sent_over}
 use Rattle.delivery_laws.specs.Queue.{HasQuota, SentOf, Told, told_after, told_nothing, told_over}
 
 -- the answer to a PUBLISH: PUBACK at QoS 1, and PUBREC at QoS 2
-abbrev pub IsAnswerFor : Packet → Publication → Type 0
+abbrev pub IsAnswerFor : Packet → SentCopy → Type 0
 IsAnswerFor (packets.Puback a) x = (x.0 ≡ a.identifier) × (x.1.qos ≡ AtLeastOnce)
 IsAnswerFor (packets.Pubrec a) x = (x.0 ≡ a.identifier) × (x.1.qos ≡ ExactlyOnce)
 IsAnswerFor p x = ⊥
 
-abbrev pub IsAnswered : Bool → Event → Publication → Type 0
+abbrev pub IsAnswered : Bool → Event → SentCopy → Type 0
 IsAnswered on (takes p now room) x = (on ≡ true) × IsAnswerFor p x
 IsAnswered on e x = ⊥
 
 -- it is longer than the client takes, at an event by which it may be sent again
-abbrev pub IsTooLong : Bool → ℕ → Event → Publication → Type 0
+abbrev pub IsTooLong : Bool → ℕ → Event → SentCopy → Type 0
 IsTooLong on limit (connects c continued now) x = limit < length_of now x.1
 IsTooLong on limit (queues d now) x = (on ≡ true) × (limit < length_of now x.1)
 IsTooLong on limit (takes p now room) x = (on ≡ true) × (limit < length_of now x.1)
 IsTooLong on limit e x = ⊥
 
 -- this connection didn't send it yet
-abbrev pub IsUnsent : (ℕ → Bool) → Event → Publication → Type 0
+abbrev pub IsUnsent : (ℕ → Bool) → Event → SentCopy → Type 0
 IsUnsent sent (queues d now) x = sent x.0 ≡ false
 IsUnsent sent (takes p now room) x = sent x.0 ≡ false
 IsUnsent sent e x = Unit {0}
 
 -- why an event ends what was sent: its own answer comes, or it is too long when it is to be sent again
-abbrev pub Ends : Bool → ℕ → (ℕ → Bool) → Event → Publication → Type 0
+abbrev pub Ends : Bool → ℕ → (ℕ → Bool) → Event → SentCopy → Type 0
 Ends on limit sent e x = IsAnswered on e x ⊎ (IsTooLong on limit e x × IsUnsent sent e x)
 
 -- what was sent first and has not ended, in order: each event appends what it sends first, and takes out what it ends
-abbrev pub OpenOver : Bool → ℕ → (ℕ → Bool) → List Publication → List Step → List Publication → Type 0
+abbrev pub OpenOver : Bool → ℕ → (ℕ → Bool) → List SentCopy → List Step → List SentCopy → Type 0
 OpenOver on limit sent going [] last = last ≡ going
 OpenOver on limit sent going (s ∷ ss) last =
-    (mid : List Publication) × Without (Ends on (limit_after limit s.event) sent s.event) (going ++ firsts (marks_of on s)) mid
+    (mid : List SentCopy) × Without (Ends on (limit_after limit s.event) sent s.event) (going ++ firsts (marks_of on s)) mid
     × OpenOver (connected_after on s.event s.reaction) (limit_after limit s.event) (all_sent_over sent (marks_of on s)) mid ss last
 
-abbrev pub IsGoing : List Step → List Publication → Type 0
+abbrev pub IsGoing : List Step → List SentCopy → Type 0
 IsGoing steps going = OpenOver false 0 (λ id. false) [] steps going
 
 -- An event takes from what is still to be sent again what it answers, and then a beginning: what it sends again, in order, and what is
 -- too long. What is too long after the last that is sent again leaves only where something is sent first then, or quota is left.
-pub record SendsAgain (on : Bool) (t : Told) (owes : List Publication) (s : Step) (rest : List Publication) : Type 0 where
-  pub unanswered : List Publication
-  pub taken : List Publication
-  pub long : List Publication
+pub record SendsAgain (on : Bool) (t : Told) (owes : List SentCopy) (s : Step) (rest : List SentCopy) : Type 0 where
+  pub unanswered : List SentCopy
+  pub taken : List SentCopy
+  pub long : List SentCopy
   pub answers : Without (IsAnswered on s.event) owes unanswered
   pub splits : unanswered ≡ taken ++ (long ++ rest)
   pub sent : SentOf (IsTooLong on t.limit s.event) taken (resends (marks_of on s))
   pub left_out : AllByRecursion (IsTooLong on t.limit s.event) long
   pub room : (long ≡ []) ⊎ ((firsts (marks_of on s) ≢ []) ⊎ HasQuota t)
 
-abbrev pub OwedOver : Told → List Publication → List Step → List Publication → Type 0
+abbrev pub OwedOver : Told → List SentCopy → List Step → List SentCopy → Type 0
 OwedOver t owes [] last = last ≡ owes
-OwedOver t owes (s ∷ ss) last = (rest : List Publication) × SendsAgain t.on (told_after t s) owes s rest × OwedOver (told_after t s) rest ss last
+OwedOver t owes (s ∷ ss) last = (rest : List SentCopy) × SendsAgain t.on (told_after t s) owes s rest × OwedOver (told_after t s) rest ss last
 
 abbrev pub KeepsOpen : Type 0
 KeepsOpen = (client : List ℕ) (steps : List Step) (end : State) → Run (new_session client) steps end → IsGoing steps (published end.outbox.copies)
 
 -- a connection has to send again just what was going when it began
 pub record Continues (before here : List Step) (end : State) : Type 0 where
-  pub going : List Publication
+  pub going : List SentCopy
   pub was : IsGoing before going
   pub is : OwedOver (told_over told_nothing before) going here (owed end.outbox.copies)
 

@@ -18,9 +18,9 @@ use Rattle.qos_handshakes.specs.declared.copies.Stage.{Stage}
 use Rattle.qos_handshakes.specs.declared.copies.Stage.TheVariants.{Waiting, Published, Released}
 use Rattle.mqtt_message.specs.declared.delivery.Delivery.{Delivery}
 use Rattle.qos_handshakes.specs.Entries.{Entries, stage_has, has_id, find_id, drop_id, write_id, as_released}
-use Rattle.qos_handshakes.specs.Outbox.{Outbox, Sent, waits, waiting_entry, away, is_published, is_owed, fits, is_sendable, after_resend, after_send, stage_order, order_above, NextStep, OfferStep, EndStep, ReceivedIf}
+use Rattle.qos_handshakes.specs.Outbox.{Outbox, Sent, waits, waiting_entry, away, is_published, is_owed, fits, is_sendable, after_resend, after_send, stage_order, order_above, NextStep, OfferStep, EndStep, ReceivedIf, empty_outbox}
 use Rattle.qos_handshakes.specs.Restored.{agree, first_place, all_wait, was_released, has_order, is_free, is_asked, stage_fits}
-use Rattle.handshake_laws.specs.Runs.{Step, offered, acknowledged, completed, received, resumed, listed, asked, lost, Takes, Run, empty_outbox}
+use Rattle.handshake_laws.specs.Runs.{Step, offered, acknowledged, completed, received, resumed, listed, asked, lost, Takes, Run}
 use Rattle.handshake_laws.specs.Numbers.{AreNumbered, IsNumbered, NoneHas}
 use Rattle.handshake_laws.specs.Kept.{IsAnswered, KeepsAgreed}
 use Rattle.handshake_laws.proofs.NumberLaws.{keeps_numbers, none-away}

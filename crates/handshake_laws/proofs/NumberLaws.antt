@@ -13,8 +13,8 @@ use Rattle.qos_handshakes.specs.declared.copies.Stage.{Stage}
 use Rattle.qos_handshakes.specs.declared.copies.Stage.TheVariants.{Waiting, Published, Released}
 use Rattle.mqtt_message.specs.declared.delivery.Delivery.{Delivery}
 use Rattle.qos_handshakes.specs.Entries.{Entries, stage_has, has_id, find_id, drop_id, write_id, as_released, as_published}
-use Rattle.qos_handshakes.specs.Outbox.{Outbox, Sent, waits, waiting_entry, away, is_owed, fits, is_sendable, after_resend, first_waiting, after_send, NextStep, OfferStep, EndStep, ReceivedIf}
-use Rattle.handshake_laws.specs.Runs.{Step, offered, acknowledged, completed, received, resumed, listed, asked, lost, Takes, Run, empty_outbox}
+use Rattle.qos_handshakes.specs.Outbox.{Outbox, Sent, waits, waiting_entry, away, is_owed, fits, is_sendable, after_resend, first_waiting, after_send, NextStep, OfferStep, EndStep, ReceivedIf, empty_outbox}
+use Rattle.handshake_laws.specs.Runs.{Step, offered, acknowledged, completed, received, resumed, listed, asked, lost, Takes, Run}
 use Rattle.handshake_laws.specs.Numbers.{KeepsNumbers, KeepsLeast, AreNumbered, IsNumbered, NoneHas}
 use Rattle.qos_handshakes.proofs.Indexed.{waits-has}
 use Rattle.handshake_laws.proofs.OrderLaws.{resent-dup, run-split}

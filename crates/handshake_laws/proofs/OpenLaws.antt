@@ -11,11 +11,11 @@ use Rattle.qos_handshakes.specs.declared.copies.Stage.{Stage}
 use Rattle.qos_handshakes.specs.declared.copies.Stage.TheVariants.{Waiting, Published, Released}
 use Rattle.mqtt_message.specs.declared.delivery.Delivery.{Delivery}
 use Rattle.qos_handshakes.specs.Entries.{Entries, stage_has, has_id, find_id, drop_id, write_id, as_released}
-use Rattle.qos_handshakes.specs.Outbox.{Outbox, is_owed, is_published, is_released, after_resend, ReceivedIf}
-use Rattle.handshake_laws.specs.Runs.{Step, offered, acknowledged, completed, received, resumed, listed, asked, lost, Takes, Run, empty_outbox}
+use Rattle.qos_handshakes.specs.Outbox.{Outbox, is_owed, is_published, is_released, after_resend, ReceivedIf, empty_outbox}
+use Rattle.handshake_laws.specs.Runs.{Step, offered, acknowledged, completed, received, resumed, listed, asked, lost, Takes, Run}
 use Rattle.handshake_laws.specs.Lists.{Without}
 use Rattle.handshake_laws.specs.Numbers.{AreNumbered, NoneHas}
-use Rattle.handshake_laws.specs.Resends.{Publication, first_sends_of, resends_of, Answers, published_part, published, owed, open_after, ResendsOpen, KeepsResendsOpen}
+use Rattle.handshake_laws.specs.Resends.{SentCopy, first_sends_of, resends_of, Answers, published_part, published, owed, open_after, ResendsOpen, KeepsResendsOpen}
 use Rattle.handshake_laws.proofs.OrderLaws.{resent-dup}
 use Rattle.qos_handshakes.proofs.EntryLaws.{none-head, none-tail, none-cons}
 use Rattle.handshake_laws.proofs.NumberLaws.{numbered-step}
@@ -47,7 +47,7 @@ all-join Q R S f [] h k = tt
 all-join Q R S f (x ∷ xs) h k = (f x h.0 k.0, all-join Q R S f xs h.1 k.1)
 
 -- ---- the exchanges of other identifiers
-abbrev pub Other : ℕ → Publication → Type 0
+abbrev pub Other : ℕ → SentCopy → Type 0
 Other id x = x.0 ≢ id
 
 part-other : (id : ℕ) (s : Stage) (here : Bool) (c : Delivery) → stage_has id s ≡ false → AllByRecursion (Other id) (published_part (record { stage = s; here = here; delivery = c }))
@@ -88,10 +88,10 @@ other-known id x (e ∷ es) n is r = elim (cases_Bool (has_id id e.1)) [
 ]
 
 -- ---- the copy of an exchange without PUBREC
-abbrev pub IsOpen : ℕ → Option Delivery → Publication → Type 0
+abbrev pub IsOpen : ℕ → Option Delivery → SentCopy → Type 0
 IsOpen id o x = x.0 ≡ id → o ≡ Some x.1
 
-owed-open : (Q : Publication → Type 0) (es : Entries) → AllByRecursion Q (published es) → AllByRecursion Q (owed es)
+owed-open : (Q : SentCopy → Type 0) (es : Entries) → AllByRecursion Q (published es) → AllByRecursion Q (owed es)
 owed-open Q [] h = tt
 owed-open Q (e ∷ es) h = elim (cases_Bool (is_owed e.1)) [
   | inl t ↦ let p = (and_parts (is_published e.1.stage) (not e.1.here) t).0 in let k = rw p at h in rw t (k.0, owed-open Q es k.1)

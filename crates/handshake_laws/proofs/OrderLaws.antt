@@ -14,9 +14,9 @@ use Rattle.mqtt_message.specs.declared.delivery.Delivery.{Delivery}
 use Rattle.mqtt_message.specs.Messages.{is_alive}
 use Rattle.qos_handshakes.specs.Length.{length_of}
 use Rattle.qos_handshakes.specs.Entries.{Entries, has_id, find_id, drop_id, write_id, as_released}
-use Rattle.qos_handshakes.specs.Outbox.{Outbox, Sent, waits, waiting, in_flight, waiting_entry, away, is_owed, is_published, fits, is_sendable, resent, first_owed, after_resend, first_waiting, after_send, NextStep, OfferStep, EndStep, ReceivedIf}
+use Rattle.qos_handshakes.specs.Outbox.{Outbox, Sent, waits, waiting, in_flight, waiting_entry, away, is_owed, is_published, fits, is_sendable, resent, first_owed, after_resend, first_waiting, after_send, NextStep, OfferStep, EndStep, ReceivedIf, empty_outbox}
 use Rattle.handshake_laws.proofs.ChosenLaws.{without-same, without-then, append-nil}
-use Rattle.handshake_laws.specs.Runs.{Step, offered, acknowledged, completed, received, resumed, listed, asked, lost, Takes, Run, empty_outbox}
+use Rattle.handshake_laws.specs.Runs.{Step, offered, acknowledged, completed, received, resumed, listed, asked, lost, Takes, Run}
 use Rattle.handshake_laws.specs.Quota.{KeepsQuota}
 use Rattle.handshake_laws.specs.Order.{KeepsOrder, offers_of, firsts_of, first_of, all_offers, all_firsts, LeavesOut, LeftOutIn}
 use Rattle.handshake_laws.specs.Lists.{Without}

@@ -12,8 +12,8 @@ use Rattle.qos_handshakes.specs.declared.copies.Stage.{Stage}
 use Rattle.qos_handshakes.specs.declared.copies.Stage.TheVariants.{Waiting, Published, Released}
 use Rattle.mqtt_message.specs.declared.delivery.Delivery.{Delivery}
 use Rattle.qos_handshakes.specs.Entries.{Entries, stage_has, has_id, find_id, drop_id, write_id, as_released}
-use Rattle.qos_handshakes.specs.Outbox.{Outbox, Sent, chosen, waits, waiting, in_flight, away, stage_id, is_owed, is_published, is_acknowledged, is_completed, fits, is_sendable, resent, first_owed, after_resend, first_waiting, after_send, NextStep, OfferStep, EndStep, ReceivedIf}
-use Rattle.handshake_laws.specs.Runs.{Step, offered, acknowledged, completed, received, resumed, listed, asked, lost, Takes, Run, empty_outbox}
+use Rattle.qos_handshakes.specs.Outbox.{Outbox, Sent, chosen, waits, waiting, in_flight, away, stage_id, is_owed, is_published, is_acknowledged, is_completed, fits, is_sendable, resent, first_owed, after_resend, first_waiting, after_send, NextStep, OfferStep, EndStep, ReceivedIf, empty_outbox}
+use Rattle.handshake_laws.specs.Runs.{Step, offered, acknowledged, completed, received, resumed, listed, asked, lost, Takes, Run}
 use Rattle.handshake_laws.specs.Numbers.{AreNumbered, IsNumbered, NoneHas}
 use Rattle.handshake_laws.specs.Lists.{without}
 use Rattle.handshake_laws.specs.Quota.{flying_after, maximum_after, FliesWithin, KeepsWithin, CannotSend, KeepsBusy}

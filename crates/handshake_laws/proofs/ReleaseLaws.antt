@@ -21,8 +21,8 @@ use Rattle.mqtt_fields.specs.declared.options.Qos.{Qos}
 use Rattle.mqtt_fields.specs.declared.options.Qos.TheVariants.{AtMostOnce, AtLeastOnce, ExactlyOnce}
 use Rattle.mqtt_message.specs.declared.delivery.Delivery.{Delivery}
 use Rattle.qos_handshakes.specs.Entries.{Entries, stage_has, has_id, find_id, drop_id, write_id, as_released}
-use Rattle.qos_handshakes.specs.Outbox.{Outbox, Sent, chosen, waits, is_published, is_released, is_acknowledged, is_completed, takes_pubrec, stage_pair, released_pair, sorted, by_release, stage_order, order_above, after_resend, NextStep, OfferStep, EndStep, ReceivedIf}
-use Rattle.handshake_laws.specs.Runs.{Step, offered, acknowledged, completed, received, resumed, listed, asked, lost, Takes, Run, empty_outbox}
+use Rattle.qos_handshakes.specs.Outbox.{Outbox, Sent, chosen, waits, is_published, is_released, is_acknowledged, is_completed, takes_pubrec, stage_pair, released_pair, sorted, by_release, stage_order, order_above, after_resend, NextStep, OfferStep, EndStep, ReceivedIf, empty_outbox}
+use Rattle.handshake_laws.specs.Runs.{Step, offered, acknowledged, completed, received, resumed, listed, asked, lost, Takes, Run}
 use Rattle.handshake_laws.specs.Numbers.{AreNumbered, NoneHas}
 use Rattle.handshake_laws.specs.Lists.{has, without}
 use Rattle.handshake_laws.specs.Releases.{pubrecs_after, ReleasesKnown, AllReleasesKnown, KeepsReleases, pubrecs_in, KeepsReleasesFirst}

@@ -16,10 +16,10 @@ use Rattle.mqtt_fields.specs.declared.options.Qos.TheVariants.{AtMostOnce, AtLea
 use Rattle.mqtt_message.specs.declared.delivery.Delivery.{Delivery}
 use Rattle.qos_handshakes.specs.Length.{length_of}
 use Rattle.qos_handshakes.specs.Entries.{Entries, stage_has, has_id, find_id, as_released}
-use Rattle.qos_handshakes.specs.Outbox.{Outbox, Sent, waits, away, is_released, is_owed, is_published, is_acknowledged, is_completed, takes_puback, fits, resent, first_owed, after_resend, after_send, NextStep, OfferStep, EndStep, ReceivedIf}
-use Rattle.handshake_laws.specs.Runs.{Step, offered, acknowledged, completed, received, resumed, listed, asked, lost, Takes, Run, empty_outbox}
+use Rattle.qos_handshakes.specs.Outbox.{Outbox, Sent, waits, away, is_released, is_owed, is_published, is_acknowledged, is_completed, takes_puback, fits, resent, first_owed, after_resend, after_send, NextStep, OfferStep, EndStep, ReceivedIf, empty_outbox}
+use Rattle.handshake_laws.specs.Runs.{Step, offered, acknowledged, completed, received, resumed, listed, asked, lost, Takes, Run}
 use Rattle.handshake_laws.specs.Lists.{Without}
-use Rattle.handshake_laws.specs.Resends.{Publication, first_publication, resent_publication, first_sends_of, resends_of, all_first_sends, all_resends, Answers, AnsweredIn, published_part, owed_part, published, owed, StaysConnected, KeepsResendsInOrder, sent_after, ResendsComeFirst, KeepsResendsFirst}
+use Rattle.handshake_laws.specs.Resends.{SentCopy, first_publication, resent_publication, first_sends_of, resends_of, all_first_sends, all_resends, Answers, AnsweredIn, published_part, owed_part, published, owed, StaysConnected, KeepsResendsInOrder, sent_after, ResendsComeFirst, KeepsResendsFirst}
 use Rattle.handshake_laws.proofs.ChosenLaws.{without-refl, without-same, both-nil, without-then, append-nil, without-trans, nothing-left, chosen-offered, chosen-dropped, without-dropped, without-written, chosen-away, without-resent, chosen-sent, chosen-none_sent, without-after}
 use Rattle.handshake_laws.proofs.OrderLaws.{resent-dup, run-split}
 use Rattle.handshake_laws.proofs.LaidLaws.{AreLaid, none-owed, laid-resent, laid-step, chosen-first}
@@ -35,7 +35,7 @@ found-has id x (e ∷ es) is = elim (cases_Bool (has_id id e.1)) [
 ]
 
 -- every publication has this identifier
-abbrev pub Under : ℕ → Publication → Type 0
+abbrev pub Under : ℕ → SentCopy → Type 0
 Under id x = x.0 ≡ id
 
 published-under : (id : ℕ) (s : Stage) (here : Bool) (c : Delivery) → stage_has id s ≡ true → AllByRecursion (Under id) (published_part (record { stage = s; here = here; delivery = c }))
@@ -72,7 +72,7 @@ owed-released (Published id) here c h = absurd (false≢true h)
 owed-released (Released id order) here c h = refl
 
 -- a resend is not sent where it is too large
-abbrev pub TooLarge : ℕ → ℕ → Publication → Type 0
+abbrev pub TooLarge : ℕ → ℕ → SentCopy → Type 0
 TooLarge now limit x = limit < length_of now x.1
 
 pub owed-sent : (now limit : ℕ) (s : Sent) (es : Entries) → first_owed now limit es ≡ Some s → Without (TooLarge now limit) (owed es) ((s.id, s.copy) ∷ owed (after_resend now limit es))
@@ -185,7 +185,7 @@ published-large now limit x h = elim (cases_Bool (is_published x.stage)) [
 pub published-resent : (now limit : ℕ) (es : Entries) → Without (TooLarge now limit) (published es) (published (after_resend now limit es))
 published-resent now limit es = without-resent (TooLarge now limit) published_part now limit (λ x. refl) (published-large now limit) es
 
-published-quiet : (P : Publication → Type 0) (old new : Entries) → published new ≡ published old → Without P (published old ++ []) (published new)
+published-quiet : (P : SentCopy → Type 0) (old new : Entries) → published new ≡ published old → Without P (published old ++ []) (published new)
 published-quiet P old new e = without-same P (published old ++ []) (published new) (e ∙ sym (append-nil (published old)))
 
 published-offer : (old new : Outbox) (c : Delivery) (a : Offer) → OfferStep old c a new → published new.copies ≡ published old.copies
@@ -246,12 +246,12 @@ published-run start (s ∷ ss) end r h =
     (published-step start r.0 s r.1 h) (published-run r.0 ss end r.2 (laid-step start r.0 s r.1 h)))
 
 -- ---- the law of order
-answered-before : (before here : List Step) (x : Publication) → AnsweredIn before x → AnsweredIn (before ++ here) x
+answered-before : (before here : List Step) (x : SentCopy) → AnsweredIn before x → AnsweredIn (before ++ here) x
 answered-before [] here x h = absurd h
 answered-before (s ∷ before) here x (inl h) = inl h
 answered-before (s ∷ before) here x (inr h) = inr (answered-before before here x h)
 
-answered-here : (before here : List Step) (x : Publication) → AnsweredIn here x → AnsweredIn (before ++ here) x
+answered-here : (before here : List Step) (x : SentCopy) → AnsweredIn here x → AnsweredIn (before ++ here) x
 answered-here [] here x h = h
 answered-here (s ∷ before) here x h = inr (answered-here before here x h)
 

@@ -3,10 +3,10 @@ use Rattle.std.specs.Prelude.{◌≡◌, ◌≢◌, ◌⊎◌, ℕ, true, List, 
 use Rattle.std.specs.List.{AllByRecursion}
 use Rattle.mqtt_fields.specs.declared.options.Qos.TheVariants.{AtMostOnce}
 use Rattle.qos_handshakes.specs.Entries.{at_place}
-use Rattle.qos_handshakes.specs.Outbox.{Outbox, away, LostStep}
+use Rattle.qos_handshakes.specs.Outbox.{Outbox, away, LostStep, empty_outbox}
 use Rattle.qos_handshakes.specs.Restored.{agree, restored}
 use Rattle.qos_handshakes.specs.Touched.{Watched, TouchesChanged, durable, is_in}
-use Rattle.handshake_laws.specs.Runs.{Step, Run, empty_outbox, offered}
+use Rattle.handshake_laws.specs.Runs.{Step, Run, offered}
 
 -- it is what is made again of the entries, as no connection sent them, and of the next place
 abbrev pub CrashLeavesWhatIsKept : Type 0

@@ -3,8 +3,8 @@ use Rattle.std.specs.Prelude.{◌≡◌, ℕ, ◌<◌, ◌≤◌, false, List, [
 use Rattle.qos_handshakes.specs.declared.copies.Stage.{Stage}
 use Rattle.qos_handshakes.specs.declared.copies.Stage.TheVariants.{Waiting, Published, Released}
 use Rattle.qos_handshakes.specs.Entries.{Entries, find_id}
-use Rattle.qos_handshakes.specs.Outbox.{Outbox, Sent}
-use Rattle.handshake_laws.specs.Runs.{Step, Run, empty_outbox, asked}
+use Rattle.qos_handshakes.specs.Outbox.{Outbox, Sent, empty_outbox}
+use Rattle.handshake_laws.specs.Runs.{Step, Run, asked}
 
 abbrev pub NoneHas : ℕ → Entries → Type 0
 NoneHas id es = find_id id es ≡ None

@@ -5,8 +5,8 @@ use Rattle.qos_handshakes.specs.declared.answers.Offer.TheVariants.{Queued, Full
 use Rattle.mqtt_message.specs.declared.delivery.Delivery.{Delivery}
 use Rattle.mqtt_message.specs.Messages.{is_alive}
 use Rattle.qos_handshakes.specs.Length.{length_of}
-use Rattle.qos_handshakes.specs.Outbox.{Outbox, Sent, waiting}
-use Rattle.handshake_laws.specs.Runs.{Step, Run, empty_outbox, offered, asked}
+use Rattle.qos_handshakes.specs.Outbox.{Outbox, Sent, waiting, empty_outbox}
+use Rattle.handshake_laws.specs.Runs.{Step, Run, offered, asked}
 use Rattle.handshake_laws.specs.Lists.{Without}
 
 abbrev pub offers_of : Step → List Delivery

@@ -2,8 +2,8 @@
 use Rattle.std.specs.Prelude.{◌≡◌, ℕ, ◌≤◌, ◌⊎◌, List, [], ◌∷◌, ◌++◌, Some, None, length}
 use Rattle.qos_handshakes.specs.declared.answers.Ack.TheVariants.{Done}
 use Rattle.qos_handshakes.specs.Entries.{NoneFree}
-use Rattle.qos_handshakes.specs.Outbox.{Outbox, waiting, in_flight}
-use Rattle.handshake_laws.specs.Runs.{Step, Run, empty_outbox, acknowledged, completed, received, resumed, asked, lost}
+use Rattle.qos_handshakes.specs.Outbox.{Outbox, waiting, in_flight, empty_outbox}
+use Rattle.handshake_laws.specs.Runs.{Step, Run, acknowledged, completed, received, resumed, asked, lost}
 use Rattle.handshake_laws.specs.Lists.{without}
 use Rattle.handshake_laws.specs.Resends.{owed}
 use Rattle.qos_handshakes.specs.declared.answers.Rec.TheVariants as rec

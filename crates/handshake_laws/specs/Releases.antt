@@ -1,8 +1,8 @@
 -- PUBRELs (MQTT 5.0, 4.3.3 and 4.4).
 use Rattle.std.specs.Prelude.{◌≡◌, ℕ, true, cond, nat_lt, List, [], ◌∷◌, ◌++◌}
 use Rattle.qos_handshakes.specs.declared.answers.Ack.TheVariants.{Done}
-use Rattle.qos_handshakes.specs.Outbox.{Outbox}
-use Rattle.handshake_laws.specs.Runs.{Step, Run, empty_outbox, completed, received, resumed, listed}
+use Rattle.qos_handshakes.specs.Outbox.{Outbox, empty_outbox}
+use Rattle.handshake_laws.specs.Runs.{Step, Run, completed, received, resumed, listed}
 use Rattle.handshake_laws.specs.Lists.{has, without}
 use Rattle.qos_handshakes.specs.declared.answers.Rec.TheVariants as rec
 

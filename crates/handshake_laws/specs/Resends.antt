@@ -6,62 +6,62 @@ use Rattle.qos_handshakes.specs.declared.answers.Ack.TheVariants.{Done}
 use Rattle.mqtt_message.specs.declared.delivery.Delivery.{Delivery}
 use Rattle.qos_handshakes.specs.Length.{length_of}
 use Rattle.qos_handshakes.specs.Entries.{Entries}
-use Rattle.qos_handshakes.specs.Outbox.{Outbox, Sent, chosen, stage_id, is_published, is_owed}
-use Rattle.handshake_laws.specs.Runs.{Step, Run, empty_outbox, acknowledged, received, resumed, asked, lost}
+use Rattle.qos_handshakes.specs.Outbox.{Outbox, Sent, chosen, stage_id, is_published, is_owed, empty_outbox}
+use Rattle.handshake_laws.specs.Runs.{Step, Run, acknowledged, received, resumed, asked, lost}
 use Rattle.handshake_laws.specs.Lists.{Without}
 use Rattle.qos_handshakes.specs.declared.answers.Rec.TheVariants as rec
 
 -- the identifier and the copy of a PUBLISH
-abbrev pub Publication : Type 0
-Publication = ℕ × Delivery
+abbrev pub SentCopy : Type 0
+SentCopy = ℕ × Delivery
 
-abbrev pub first_publication : Option Sent → List Publication
+abbrev pub first_publication : Option Sent → List SentCopy
 first_publication None = []
 first_publication (Some s) = cond s.dup [] ((s.id, s.copy) ∷ [])
 
-abbrev pub resent_publication : Option Sent → List Publication
+abbrev pub resent_publication : Option Sent → List SentCopy
 resent_publication None = []
 resent_publication (Some s) = cond s.dup ((s.id, s.copy) ∷ []) []
 
-abbrev pub first_sends_of : Step → List Publication
+abbrev pub first_sends_of : Step → List SentCopy
 first_sends_of (asked now limit answer) = first_publication answer
 first_sends_of s = []
 
-abbrev pub resends_of : Step → List Publication
+abbrev pub resends_of : Step → List SentCopy
 resends_of (asked now limit answer) = resent_publication answer
 resends_of s = []
 
-abbrev pub all_first_sends : List Step → List Publication
+abbrev pub all_first_sends : List Step → List SentCopy
 all_first_sends [] = []
 all_first_sends (s ∷ ss) = first_sends_of s ++ all_first_sends ss
 
-abbrev pub all_resends : List Step → List Publication
+abbrev pub all_resends : List Step → List SentCopy
 all_resends [] = []
 all_resends (s ∷ ss) = resends_of s ++ all_resends ss
 
 -- why a PUBLISH is sent no more: its answer came, or it was too large to be sent again
-abbrev pub Answers : Step → Publication → Type 0
+abbrev pub Answers : Step → SentCopy → Type 0
 Answers (acknowledged id Done) x = x.0 ≡ id
 Answers (received id reason rec.Release) x = x.0 ≡ id
 Answers (received id reason rec.Ended) x = x.0 ≡ id
 Answers (asked now limit answer) x = limit < length_of now x.1
 Answers s x = ⊥
 
-abbrev pub AnsweredIn : List Step → Publication → Type 0
+abbrev pub AnsweredIn : List Step → SentCopy → Type 0
 AnsweredIn [] x = ⊥
 AnsweredIn (s ∷ ss) x = Answers s x ⊎ AnsweredIn ss x
 
 -- the exchanges without PUBREC, and those of them whose PUBLISH was not sent on this connection
-abbrev pub published_part : Entry → List Publication
+abbrev pub published_part : Entry → List SentCopy
 published_part x = cond (is_published x.stage) ((stage_id x.stage, x.delivery) ∷ []) []
 
-abbrev pub owed_part : Entry → List Publication
+abbrev pub owed_part : Entry → List SentCopy
 owed_part x = cond (is_owed x) ((stage_id x.stage, x.delivery) ∷ []) []
 
-abbrev pub published : Entries → List Publication
+abbrev pub published : Entries → List SentCopy
 published es = chosen published_part es
 
-abbrev pub owed : Entries → List Publication
+abbrev pub owed : Entries → List SentCopy
 owed es = chosen owed_part es
 
 -- a call on the connection that goes on

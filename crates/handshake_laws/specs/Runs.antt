@@ -32,7 +32,3 @@ Takes old lost new = LostStep old new
 abbrev pub Run : Outbox → List Step → Outbox → Type 0
 Run old [] new = new ≡ old
 Run old (step ∷ steps) new = (mid : Outbox) × Takes old step mid × Run mid steps new
-
--- of a session that has just been made
-abbrev pub empty_outbox : Outbox
-empty_outbox = record { copies = []; next_place = 1; next_order = 1; maximum = 0 }

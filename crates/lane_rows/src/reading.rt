@@ -2,7 +2,6 @@
 ghost use Rattle.std.specs.Prelude.{◌≡◌, ◌≢◌, ◌+◌, ◌<◌, ◌≤◌, ◌^◌, ◌↔◌, ℕ, suc, length, take, drop, map, IsTrue, IsErrOf, MatchOption};
 ghost use Rattle.std.specs.Int.{w64};
 ghost use Rattle.std.specs.List.{AllByRecursion};
-ghost use Rattle.mqtt_fields.specs.Field.{IsBytes};
 ghost use Rattle.mqtt_fields.specs.Numbers.{number};
 ghost use Rattle.bridge_frames.specs.Forwards.{forward};
 ghost use Rattle.row_store.specs.Rows.{entry_of, key_of};
@@ -12,7 +11,7 @@ ghost use Rattle.lane_rows.specs.Rows.{message_key, numbers_key, numbers_value, 
 
 use crate::row::{MESSAGE, NUMBERS};
 use bridge_frames::Forward;
-use mqtt_fields::{FieldFault, NUMBERS_END, u16_at, u64_at};
+use mqtt_fields::{FieldFault, NUMBERS_END, are_bytes, u16_at, u64_at};
 use row_store::Row;
 use std::alloc::Global;
 use std::collections::VecDeque;
@@ -27,13 +26,6 @@ pub struct ReadLane {
     pub gone: u64,
     pub messages: VecDeque<Forward>,
     pub took: u64,
-}
-
-// Bytes are below 256. This does nothing; its contract is a law.
-fn are_bytes(bytes: &[u8])
-    ensures { IsBytes bytes.now }
-{
-    let _ = bytes;
 }
 
 fn is_owner(bytes: &[u8], peer: u16) -> bool

@@ -1,6 +1,7 @@
 //! What holds of every field, whatever reads or writes it. The functions do nothing: their
 //! contracts are the laws.
 
+ghost use Rattle.mqtt_fields.specs.Field.{IsBytes};
 ghost use Rattle.mqtt_fields.specs.Laws.{ReadAsSpelled, ReadFromTheLeft, TableIsStandard};
 ghost use Rattle.mqtt_fields.specs.Vbi.{OneSpelling};
 
@@ -9,6 +10,13 @@ ghost use Rattle.mqtt_fields.specs.Vbi.{OneSpelling};
 pub fn read_as_spelled()
     ensures { ReadAsSpelled }
 {}
+
+/// Bytes are below 256.
+pub fn are_bytes(bytes: &[u8])
+    ensures { IsBytes bytes.now }
+{
+    let _ = bytes;
+}
 
 /// A value or a fault that is read stays so, whatever follows: the first fault from the left is
 /// found.

@@ -26,7 +26,9 @@ mod vbi;
 pub use blob::Blob;
 pub use block::{properties_of, read_properties, write_properties};
 pub use fault::{FieldFault, NoMemory};
-pub use field_laws::{one_spelling, read_as_spelled, read_from_the_left, table_is_standard};
+pub use field_laws::{
+    are_bytes, one_spelling, read_as_spelled, read_from_the_left, table_is_standard,
+};
 pub use length::properties_len;
 pub use limits::NUMBERS_END;
 pub use number::{long_at, run_at, u8_at, u16_at, u32_at, u64_at};

@@ -64,8 +64,11 @@ pub(crate) fn qos_at(bytes: &[u8]) -> Result<(Qos, &[u8]), FieldFault>
     }
 }
 
-pub(crate) fn flag_at(bytes: &[u8]) -> Result<(bool, &[u8]), FieldFault>
-    ensures { Gives (λ x. (x.0, x.1.now)) result (flag.at bytes.now) }
+/// The flag at the front, a byte 0 or 1, and the bytes after it. Short where there is none, Malformed
+/// at another byte.
+pub fn flag_at(bytes: &[u8]) -> Result<(bool, &[u8]), FieldFault>
+    ensures exact { Gives (λ x. (x.0, x.1.now)) result (flag.at bytes.now) }
+    ensures no_memory { IsErrOf result FieldFault.NoMemory → ⊥ }
 {
     let (n, rest) = u8_at(bytes)?;
     match n {
@@ -121,7 +124,8 @@ pub(crate) fn put_qos(level: Qos, out: &mut Vec<u8>) -> Result<(), NoMemory>
     put_u8(level.number(), out)
 }
 
-pub(crate) fn put_flag(set: bool, out: &mut Vec<u8>) -> Result<(), NoMemory>
+/// Appends a flag: a byte 0 or 1.
+pub fn put_flag(set: bool, out: &mut Vec<u8>) -> Result<(), NoMemory>
     ensures ok { OnOk result (out.new.items ≡ out.old.items ++ flag.bytes set) }
     ensures err { OnErr result (out.new.items ≡ out.old.items) }
     ensures full { OnErr result (vec_capacity out.old < vec_len out.old + 1) }

@@ -20,7 +20,7 @@ use Rattle.qos_handshakes.specs.declared.answers.In.TheVariants.{New, Repeat, In
 use Rattle.qos_handshakes.specs.Incoming.{Received, Publish1Answer, opened, opened_here}
 use Rattle.mqtt_sessions.specs.Aliases.{Aliases, alias_of, alias_topic, filled, is_beyond, set_by, topic_by, topic_of}
 use Rattle.mqtt_sessions.specs.Answers.{fits, puback, pubrec}
-use Rattle.mqtt_sessions.specs.Arriving.{after_twice, arrival_once, arrival_twice, arrives_twice, has_property, is_unwelcome, message_in, once_by, passes_by, publish_by, published, refusal, setting, setting_by, twice_by}
+use Rattle.mqtt_sessions.specs.Arriving.{after_twice, arrival_once, arrival_twice, arrives_twice, has_property, is_unwelcome, message_in, once_by, passes_by, publish_by, publish_outcome, refusal, setting, setting_by, twice_by}
 use Rattle.mqtt_sessions.specs.Called.{IsFault}
 use Rattle.mqtt_sessions.specs.Packets.{SetsAlias, WantsFor}
 use Rattle.mqtt_sessions.specs.declared.fault.SessionFault.{SessionFault}
@@ -129,18 +129,18 @@ module _ (p : Publish) (now : ℕ) (room unwelcome : Bool) (limit : ℕ) (s : St
   abbrev passing : Outcome
   passing = passes_by p.qos p unwelcome limit (message_in p now s) s
 
-  published-is : published p now room limit s ≡ set-after p passing
+  published-is : publish_outcome p now room limit s ≡ set-after p passing
   published-is =
       ap (λ (o : Option ℕ). publish_by o p now room limit s) none ∙ ap (λ (m : Message). passes_by p.qos p (is_unwelcome p room) limit m (setting p s)) (message-set p now s)
       ∙ ap (λ (u : Bool). passes_by p.qos p u limit (message_in p now s) (setting p s)) (sym welcome) ∙ passes-after p.qos p unwelcome limit (message_in p now s) s
 
-  pub publishes : (r : Reaction) (mid new : State) → Comes passing r mid → new ≡ setting p mid → Comes (published p now room limit s) r new
+  pub publishes : (r : Reaction) (mid new : State) → Comes passing r mid → new ≡ setting p mid → Comes (publish_outcome p now room limit s) r new
   publishes r mid new h is = subst (λ (o : Outcome). Comes o r new) (sym published-is) (h.0, is ∙ ap (λ (x : State). setting p x) h.1)
 
-  pub passing-wants : gives_out passing.reaction ≡ true → WantsFor p (published p now room limit s)
+  pub passing-wants : gives_out passing.reaction ≡ true → WantsFor p (publish_outcome p now room limit s)
   passing-wants given = inl (ap (λ (o : Outcome). gives_out o.reaction) published-is ∙ given)
 
-  pub alias-wants : (r : Reaction) (mid : State) → Comes passing r mid → SetsAlias p mid → WantsFor p (published p now room limit s)
+  pub alias-wants : (r : Reaction) (mid : State) → Comes passing r mid → SetsAlias p mid → WantsFor p (publish_outcome p now room limit s)
   alias-wants r mid h a =
       inr (subst (λ (o : Outcome). SetsAlias p o.left) (sym published-is) (a.0, a.1, linked passing.left.link (subst (λ (x : State). IsSome x.link) h.1 a.2)))
     where

@@ -26,7 +26,7 @@ use Rattle.mqtt_sessions.specs.declared.link.Asked.{Asked}
 use Rattle.mqtt_sessions.specs.declared.link.Asked.TheVariants.{Subscribing, Unsubscribing}
 use Rattle.mqtt_sessions.specs.declared.reaction.Ask.{Ask}
 use Rattle.mqtt_sessions.specs.Answers.{puback, pubrec, pubrel, pubcomp, suback, unsuback, fits}
-use Rattle.mqtt_sessions.specs.Arriving.{refusal, message_in, setting, publish_by, passes_by, published, once_by, twice_by, arrival_once, arrival_twice, after_twice, is_unwelcome, released, release_code}
+use Rattle.mqtt_sessions.specs.Arriving.{refusal, message_in, setting, publish_by, passes_by, publish_outcome, once_by, twice_by, arrival_once, arrival_twice, after_twice, is_unwelcome, pubrel_outcome, release_code}
 use Rattle.mqtt_sessions.specs.Asking.{SubscribeStep, subscribed, unsubscribed, answer_of}
 use Rattle.mqtt_sessions.specs.Reaction.{Reaction, Outcome, Comes, AreSpelled, answered, pubrels_of}
 use Rattle.mqtt_sessions.specs.Sending.{is_once}
@@ -101,7 +101,7 @@ publish_in : (why : Option ℕ) (p : Publish) (now : ℕ) (room : Bool) (limit :
 publish_in (Some code) p now room limit s most h = tt
 publish_in None p now room limit s most h = passes_in p.qos p (is_unwelcome p room) now limit (message_in p now (setting p s)) (setting p s) most (publish_identified p h)
 
-pub publish_spelled : {E : Type 0} (p : Publish) (now : ℕ) (room : Bool) (limit : ℕ) (s new : State) (result : Result Reaction E) → limit ≤ 268435460 → HasSpelling (packets.Publish p) → IfOk result (λ r. Comes (published p now room limit s) r new)
+pub publish_spelled : {E : Type 0} (p : Publish) (now : ℕ) (room : Bool) (limit : ℕ) (s new : State) (result : Result Reaction E) → limit ≤ 268435460 → HasSpelling (packets.Publish p) → IfOk result (λ r. Comes (publish_outcome p now room limit s) r new)
     → IfOk result (λ r. AreSpelled now r.packets)
 publish_spelled p now room limit s new (Ok r) most h comes = rw comes.0 (publish_in (refusal (aliases_of s.link) p) p now room limit s most h)
 publish_spelled p now room limit s new (Err e) most h comes = comes
@@ -111,7 +111,7 @@ code_small : (b : Bool) → cond b 0 146 < 256
 code_small true = omega arith
 code_small false = omega arith
 
-pub release_spelled : {E : Type 0} (a : Ack) (now limit : ℕ) (s new : State) (result : Result Reaction E) → limit ≤ 268435460 → HasSpelling (packets.Pubrel a) → IfOk result (λ r. Comes (released a.identifier limit s) r new)
+pub release_spelled : {E : Type 0} (a : Ack) (now limit : ℕ) (s new : State) (result : Result Reaction E) → limit ≤ 268435460 → HasSpelling (packets.Pubrel a) → IfOk result (λ r. Comes (pubrel_outcome a.identifier limit s) r new)
     → IfOk result (λ r. AreSpelled now r.packets)
 release_spelled a now limit s new (Ok r) most h comes =
     rw comes.0 (answered_in now limit (pubcomp a.identifier (release_code s.incoming a.identifier)) _ _ most (λ _. pubcomp_spelled a.identifier (release_code s.incoming a.identifier) (pubrel_identified a h) (code_small (is_some (opened a.identifier s.incoming)))))

@@ -1,4 +1,4 @@
--- Rows of a session, and the session that is opened from them.
+-- Rows of a session, and the session that is opened_of from them.
 use Rattle.std.proofs.Common.{◌≡◌, ℕ, List, [], ◌∷◌, map, Option, Some, None, Result, Ok, Err, refl, sym, ap, subst, ◌∙◌}
 use Rattle.std.specs.Prelude.{IfOk, IfErr, Vec}
 use Rattle.qos_handshakes.specs.Entries.{Entries}
@@ -7,7 +7,7 @@ use Rattle.qos_handshakes.specs.Outbox.{away}
 use Rattle.row_store.specs.declared.row.Row.{Row}
 use Rattle.row_store.specs.Rows.{entry_of}
 use Rattle.session_rows.specs.declared.session.Opened.{Opened}
-use Rattle.session_rows.specs.Durable.{Durable, IsDurable, opened, IsPublishableIf, IsMomentIf}
+use Rattle.session_rows.specs.Durable.{Durable, IsDurable, opened_of, IsPublishableIf, IsMomentIf}
 use Rattle.session_rows.specs.Fields.{main}
 use Rattle.session_rows.specs.Rows.{copy_row, copy_rows, rows_of, main_key}
 use Rattle.mqtt_sessions.specs.declared.fault.SessionFault.{SessionFault}
@@ -38,13 +38,13 @@ main-back d = λ i. record { expiry = d.main.expiry; closed = closed-back d.main
 saved_in : Opened → Saved
 saved_in o = record { tracked = tracked_in o; told = told_of (durable_of (tracked_in o).state) }
 
-saved-reopened : (d : Durable) → saved_in (opened d) ≡ reopened d
+saved-reopened : (d : Durable) → saved_in (opened_of d) ≡ reopened d
 unfolding saved_in
-saved-reopened d = λ i. record { tracked = tracked_in (opened d); told = record { value = Some (main.bytes (main-back d i)); next_place = d.main.next_place } }
+saved-reopened d = λ i. record { tracked = tracked_in (opened_of d); told = record { value = Some (main.bytes (main-back d i)); next_place = d.main.next_place } }
 
 -- what a reader of rows says of them
 abbrev pub IsRead : List Row → Opened → Type 0
-IsRead rows o = (d : Durable) × IsDurable d × (rows_of d ≡ map entry_of rows) × (o ≡ opened d)
+IsRead rows o = (d : Durable) × IsDurable d × (rows_of d ≡ map entry_of rows) × (o ≡ opened_of d)
 
 pub read-publishable : (rows : List Row) (o : Opened) → IsRead rows o → IsPublishableIf o.will
 read-publishable rows o h = subst (λ (x : Opened). IsPublishableIf x.will) (sym h.3) h.1.sound.publishable

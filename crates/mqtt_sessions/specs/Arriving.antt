@@ -101,8 +101,8 @@ abbrev pub publish_by : Option ℕ → Publish → ℕ → Bool → ℕ → Stat
 publish_by (Some code) p now room limit s = refused limit code s
 publish_by None p now room limit s = passes_by p.qos p (is_unwelcome p room) limit (message_in p now (setting p s)) (setting p s)
 
-abbrev pub published : Publish → ℕ → Bool → ℕ → State → Outcome
-published p now room limit s = publish_by (refusal (aliases_of s.link) p) p now room limit s
+abbrev pub publish_outcome : Publish → ℕ → Bool → ℕ → State → Outcome
+publish_outcome p now room limit s = publish_by (refusal (aliases_of s.link) p) p now room limit s
 
 -- ---- PUBREL: success where it ends an exchange, or Packet Identifier not found
 abbrev pub release_code : Received → ℕ → ℕ
@@ -111,5 +111,5 @@ release_code r id = cond (is_some (opened id r)) 0 146
 abbrev pub after_release : Received → ℕ → Received
 after_release r id = cond (is_some (opened id r)) (remove_entry (is_at (nat_cmp id)) r) r
 
-abbrev pub released : ℕ → ℕ → State → Outcome
-released id limit s = answered limit (pubcomp id (release_code s.incoming id)) None (record s { incoming = after_release s.incoming id })
+abbrev pub pubrel_outcome : ℕ → ℕ → State → Outcome
+pubrel_outcome id limit s = answered limit (pubcomp id (release_code s.incoming id)) None (record s { incoming = after_release s.incoming id })

@@ -4,13 +4,13 @@ use Rattle.mqtt_fields.specs.Properties.{first_two, first_four}
 use Rattle.mqtt_packets.specs.declared.connect.Connect.{Connect}
 use Rattle.mqtt_packets.specs.declared.packet.Packet.{Packet}
 use Rattle.qos_handshakes.specs.Incoming.{of_before}
-use Rattle.qos_handshakes.specs.Outbox.{Outbox, Sent, ReleasesStep, away}
+use Rattle.qos_handshakes.specs.Outbox.{Outbox, Sent, ReleasesStep, away, empty_outbox}
 use Rattle.mqtt_sessions.specs.declared.kept.Phase.TheVariants.{Connected}
 use Rattle.mqtt_sessions.specs.declared.reaction.Output.TheVariants.{Answer}
 use Rattle.mqtt_sessions.specs.Answers.{connack, fits}
 use Rattle.mqtt_sessions.specs.Reaction.{Reaction, nothing, says, publishes_of, pubrels_of}
 use Rattle.mqtt_sessions.specs.Sending.{Flushes}
-use Rattle.mqtt_sessions.specs.State.{Kept, Link, State, cut, empty_outbox, limit_in, with_outbox}
+use Rattle.mqtt_sessions.specs.State.{Kept, Link, State, cut, limit_in, with_outbox}
 
 abbrev pub kept_by : Kept → Connect → Kept
 kept_by k c = record { client = k.client; expiry = unwrap_or (first_four 17 c.properties) 0; phase = Connected; will = c.will }

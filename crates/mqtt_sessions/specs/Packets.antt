@@ -10,7 +10,7 @@ use Rattle.qos_handshakes.specs.declared.answers.Rec.TheVariants as rec
 use Rattle.qos_handshakes.specs.Outbox.{Outbox, Sent, AcknowledgeStep, CompleteStep, ReceivedStep}
 use Rattle.mqtt_sessions.specs.Aliases.{alias_of}
 use Rattle.mqtt_sessions.specs.Answers.{fits, pubrel}
-use Rattle.mqtt_sessions.specs.Arriving.{published, released}
+use Rattle.mqtt_sessions.specs.Arriving.{publish_outcome, pubrel_outcome}
 use Rattle.mqtt_sessions.specs.Asking.{AsksNoLocalShare, SubscribeStep, subscribed, unsubscribed}
 use Rattle.mqtt_sessions.specs.Ending.{disconnected}
 use Rattle.mqtt_sessions.specs.Reaction.{Reaction, Outcome, Comes, nothing, says, publishes_of, answered, refused, gives_out}
@@ -69,10 +69,10 @@ pub record PubrecStep (id reason now limit : ℕ) (s : State) (r : Reaction) (ne
 
 -- ---- a packet of a connected client; `room` is whether a retained message would be taken
 abbrev pub KindStep : Packet → ℕ → Bool → ℕ → State → Reaction → State → Type 0
-KindStep (packets.Publish p) now room limit s r new = Comes (published p now room limit s) r new
+KindStep (packets.Publish p) now room limit s r new = Comes (publish_outcome p now room limit s) r new
 KindStep (packets.Puback a) now room limit s r new = PubackStep a.identifier now limit s r new
 KindStep (packets.Pubrec a) now room limit s r new = PubrecStep a.identifier a.reason now limit s r new
-KindStep (packets.Pubrel a) now room limit s r new = Comes (released a.identifier limit s) r new
+KindStep (packets.Pubrel a) now room limit s r new = Comes (pubrel_outcome a.identifier limit s) r new
 KindStep (packets.Pubcomp a) now room limit s r new = PubcompStep a.identifier now limit s r new
 KindStep (packets.Subscribe p) now room limit s r new = SubscribeStep p limit s r new
 KindStep (packets.Unsubscribe p) now room limit s r new = Comes (unsubscribed p limit s) r new
@@ -135,10 +135,10 @@ pub record PubrecWants (id reason limit : ℕ) (s : State) : Type 0 where
 
 -- a packet that breaks a rule wants none, nor does a DISCONNECT; the others want it for the packet that is sent
 abbrev pub KindWants : Packet → ℕ → Bool → ℕ → State → Type 0
-KindWants (packets.Publish p) now room limit s = WantsFor p (published p now room limit s)
+KindWants (packets.Publish p) now room limit s = WantsFor p (publish_outcome p now room limit s)
 KindWants (packets.Puback a) now room limit s = AcknowledgeWants a.identifier s
 KindWants (packets.Pubrec a) now room limit s = PubrecWants a.identifier a.reason limit s
-KindWants (packets.Pubrel a) now room limit s = gives_out (released a.identifier limit s).reaction ≡ true
+KindWants (packets.Pubrel a) now room limit s = gives_out (pubrel_outcome a.identifier limit s).reaction ≡ true
 KindWants (packets.Pubcomp a) now room limit s = CompleteWants a.identifier s
 KindWants (packets.Subscribe p) now room limit s = (AsksNoLocalShare p.filters → ⊥) × (gives_out (subscribed p limit s).reaction ≡ true)
 KindWants (packets.Unsubscribe p) now room limit s = gives_out (unsubscribed p limit s).reaction ≡ true

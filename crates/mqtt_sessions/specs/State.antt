@@ -5,7 +5,7 @@ use Rattle.mqtt_fields.specs.Properties.{first_four}
 use Rattle.mqtt_packets.specs.declared.connect.Will.{Will}
 pub use Rattle.session_rows.specs.Durable.{IsPublishableIf}
 use Rattle.qos_handshakes.specs.Incoming.{Received}
-use Rattle.qos_handshakes.specs.Outbox.{Outbox}
+use Rattle.qos_handshakes.specs.Outbox.{Outbox, empty_outbox}
 use Rattle.qos_handshakes.specs.Touched.{Watched}
 use Rattle.mqtt_sessions.specs.Aliases.{Aliases}
 use Rattle.mqtt_sessions.specs.declared.kept.Phase.{Phase}
@@ -42,9 +42,6 @@ pub record Tracked : Type 0 where
 
 abbrev pub watched : Tracked → Watched
 watched t = record { box = t.state.outbox; touched = t.touched }
-
-abbrev pub empty_outbox : Outbox
-empty_outbox = record { copies = []; next_place = 1; next_order = 1; maximum = 0 }
 
 -- a session before its first connection
 abbrev pub new_session : List ℕ → State

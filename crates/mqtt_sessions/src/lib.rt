@@ -20,4 +20,5 @@ mod will;
 
 pub use fault::SessionFault;
 pub use reaction::{Ask, Output, Publication, Reaction};
+pub use sending::is_once;
 pub use session::Session;

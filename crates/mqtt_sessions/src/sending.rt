@@ -60,8 +60,8 @@ pub(crate) fn release(alloc: Global, packets: &mut Vec<Output>, ids: &[u16]) -> 
     Ok(())
 }
 
-/// Whether a copy at this QoS is sent at once, or dropped.
-pub(crate) fn is_once(qos: Qos) -> bool
+/// Whether a copy at this QoS is sent at once or dropped, and isn't kept (MQTT 5.0, 4.3.1).
+pub fn is_once(qos: Qos) -> bool
     ensures { result ≡ sending.is_once qos }
 {
     match qos {

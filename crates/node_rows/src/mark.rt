@@ -1,13 +1,12 @@
 //! The row that marks a node.
 ghost use Rattle.std.specs.Prelude.{◌≡◌, ◌<◌, ◌^◌, ◌↔◌, IfOk, IsErrOf, IsTrue, MatchOption, option_map};
-ghost use Rattle.mqtt_fields.specs.Field.{IsBytes};
 ghost use Rattle.mqtt_fields.specs.Reading.{Gives};
 ghost use Rattle.row_store.specs.Rows.{entry_of};
 ghost use Rattle.session_rows.specs.Reading.{whole};
 ghost use Rattle.node_rows.specs.Reading.{IsMark, NoMark};
 ghost use Rattle.node_rows.specs.Rows.{mark, mark_key, marked};
 
-use mqtt_fields::{FieldFault, NUMBERS_END, NoMemory, put_u16, put_u64, u16_at, u64_at};
+use mqtt_fields::{FieldFault, NUMBERS_END, NoMemory, are_bytes, put_u16, put_u64, u16_at, u64_at};
 use row_store::Row;
 use std::alloc::Global;
 
@@ -31,13 +30,6 @@ pub fn mark_row(alloc: Global, id: u16, named: u64) -> Result<Row, NoMemory>
         place: Vec::new(alloc),
         value,
     })
-}
-
-// Bytes are below 256. This does nothing; its contract is a law.
-fn are_bytes(bytes: &[u8])
-    ensures { IsBytes bytes.now }
-{
-    let _ = bytes;
 }
 
 // The version, the node and the number at the front of a mark, and the bytes after them.

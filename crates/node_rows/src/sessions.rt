@@ -3,13 +3,13 @@ ghost use Rattle.std.specs.Prelude.{◌≡◌, ◌≤◌, ◌∷◌, T, length, 
 ghost use Rattle.std.specs.FinMap as map;
 ghost use Rattle.std.specs.List.{AllByRecursion};
 ghost use Rattle.row_store.specs.Rows.{entry_of, key_cmp};
-ghost use Rattle.session_rows.specs.Reading.{Opens, text_in};
 ghost use Rattle.node_rows.specs.Reading.{Finds};
 ghost use Rattle.node_rows.specs.Sessions.{AreRead, IsOf, IsReopened, NoSession, NoSessions, StartsApart};
 
-use mqtt_fields::{FieldFault, NoMemory, Text};
+use mqtt_fields::{NoMemory, Text};
 use mqtt_sessions::{Session, SessionFault};
 use row_store::{Row, RowFault};
+use session_rows::text_of;
 use session_table::Sessions;
 use std::alloc::Global;
 
@@ -49,20 +49,6 @@ fn rows_of(alloc: Global, own: &Row, copies: &[Row]) -> Result<Vec<Row>, NoMemor
         rows.push(copy_of(row)?)?;
     }
     Ok(rows)
-}
-
-#[tactic(auto, using(mqtt_fields::proofs::TextLaws::texts))]
-fn text_of(alloc: Global, bytes: &[u8]) -> Result<Text, RowFault>
-    ensures { Opens (λ t. t) result (text_in bytes.now) }
-{
-    let Ok(text) = str::from_utf8(bytes) else {
-        return Err(RowFault::BadRow);
-    };
-    match Text::new(alloc, text) {
-        Ok(text) => Ok(text),
-        Err(FieldFault::NoMemory) => Err(RowFault::NoMemory),
-        Err(_) => Err(RowFault::BadRow),
-    }
 }
 
 // The client and the session of which these are the rows.

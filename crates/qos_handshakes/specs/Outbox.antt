@@ -27,6 +27,10 @@ pub record Outbox : Type 0 where
   pub next_order : ℕ
   pub maximum : ℕ
 
+-- of a session that has just been made
+abbrev pub empty_outbox : Outbox
+empty_outbox = record { copies = []; next_place = 1; next_order = 1; maximum = 0 }
+
 -- a PUBLISH on its way
 pub record Sent : Type 0 where
   pub id : ℕ

@@ -2,13 +2,12 @@
 ghost use Rattle.std.specs.Prelude.{◌≡◌, ◌+◌, ◌<◌, ◌≤◌, ◌++◌, length, vec_len, vec_capacity, OnOk, OnErr, IsOk, IsErrOf};
 ghost use Rattle.mqtt_fields.specs.Reading.{Gives};
 ghost use Rattle.mqtt_fields.specs.Numbers.{text};
-ghost use Rattle.mqtt_message.specs.Spelling.{flag};
 ghost use Rattle.mqtt_message.specs.Parts.{name, name_in};
 ghost use Rattle.replica_bytes.specs.Values as spec;
 ghost use Rattle.replica_bytes.specs.Values.{filter_in};
 
 use causal_context::Dot;
-use mqtt_fields::{FieldFault, NoMemory, Text, put_u8, put_u16, put_u64, u8_at, u16_at, u64_at};
+use mqtt_fields::{FieldFault, NoMemory, Text, put_u16, put_u64, u16_at, u64_at};
 use mqtt_topics::{Filter, TopicFault, TopicName};
 use std::alloc::Global;
 
@@ -91,25 +90,4 @@ pub(crate) fn name_at(alloc: Global, bytes: &[u8]) -> Result<(TopicName, &[u8]),
     let (text, rest) = Text::at(alloc, bytes)?;
     let name = name_of(alloc, &text)?;
     Ok((name, rest))
-}
-
-pub(crate) fn flag_at(bytes: &[u8]) -> Result<(bool, &[u8]), FieldFault>
-    ensures exact { Gives (λ x. (x.0, x.1.now)) result (flag.at bytes.now) }
-    ensures no_memory { IsErrOf result FieldFault.NoMemory → ⊥ }
-{
-    let (n, rest) = u8_at(bytes)?;
-    match n {
-        0 => Ok((false, rest)),
-        1 => Ok((true, rest)),
-        _ => Err(FieldFault::Malformed),
-    }
-}
-
-pub(crate) fn put_flag(set: bool, out: &mut Vec<u8>) -> Result<(), NoMemory>
-    ensures ok { OnOk result (out.new.items ≡ out.old.items ++ flag.bytes set) }
-    ensures err { OnErr result (out.new.items ≡ out.old.items) }
-    ensures full { OnErr result (vec_capacity out.old < vec_len out.old + 1) }
-    ensures capacity { vec_capacity out.old ≤ vec_capacity out.new }
-{
-    put_u8(if set { 1 } else { 0 }, out)
 }

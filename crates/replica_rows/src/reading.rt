@@ -4,7 +4,6 @@ ghost use Rattle.std.specs.FinMap as map;
 ghost use Rattle.causal_context.specs.Dots.{dot_cmp};
 ghost use Rattle.causal_context.specs.Spelling.{context, HasSpelling};
 ghost use Rattle.mqtt_fields.specs.declared.fault.FieldFault.TheVariants as faults;
-ghost use Rattle.mqtt_fields.specs.Field.{IsBytes};
 ghost use Rattle.mqtt_fields.specs.Numbers.{IsText};
 ghost use Rattle.mqtt_message.specs.Parts.{name};
 ghost use Rattle.replica_store.specs.Contents.{topic_in, message_in};
@@ -17,7 +16,7 @@ ghost use Rattle.replica_rows.specs.Reading.{AreAllRowsOf, AreOfNone, IsStore};
 use crate::laws::is_store;
 use crate::row::{CONTEXT, RETAINED, SEEN, SUBSCRIPTION, TAKEN};
 use causal_context::{Context, Dot};
-use mqtt_fields::{FieldFault, NoMemory, Text};
+use mqtt_fields::{FieldFault, NoMemory, Text, are_bytes};
 use mqtt_message::SharedMessage;
 use mqtt_topics::{TopicFault, TopicName};
 use replica_bytes::{dot_at, entry_of as entry_at, kept_at};
@@ -34,13 +33,6 @@ pub(crate) struct Parts {
     pub seen: Context,
     pub standing: BTreeMap<Dot, Entry>,
     pub retained: RetainedMap,
-}
-
-// Bytes are below 256. This does nothing; its contract is a law.
-fn are_bytes(bytes: &[u8])
-    ensures { IsBytes bytes.now }
-{
-    let _ = bytes;
 }
 
 #[tactic(auto, using(mqtt_fields::proofs::TextLaws::texts))]

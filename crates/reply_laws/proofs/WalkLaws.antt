@@ -29,7 +29,7 @@ use Rattle.mqtt_sessions.specs.declared.link.Asked.{Asked}
 use Rattle.mqtt_sessions.specs.declared.reaction.Ask.{Ask}
 use Rattle.mqtt_sessions.specs.Answers.{pubrec, pubrel, connack, fits}
 use Rattle.mqtt_sessions.specs.Lengths.{assigned_length}
-use Rattle.mqtt_sessions.specs.Arriving.{refusal, message_in, setting, is_full, is_unwelcome, arrival_once, arrival_twice, once_by, arrives_twice, passes_by, publish_by, released}
+use Rattle.mqtt_sessions.specs.Arriving.{refusal, message_in, setting, is_full, is_unwelcome, arrival_once, arrival_twice, once_by, arrives_twice, passes_by, publish_by, pubrel_outcome}
 use Rattle.mqtt_sessions.specs.Asking.{SubscribeStep, answer_by, answer_on}
 use Rattle.mqtt_sessions.specs.Connecting.{OpensIf}
 use Rattle.mqtt_sessions.specs.Ending.{disconnected_by, timed_out, ticked_if}
@@ -185,7 +185,7 @@ publish-knows (Some code) limit p now room o s new r long k c = still p r o s.in
 publish-knows None limit p now room o s new r long k c = passes-knows p.qos (is_unwelcome p room) limit p (message_in p now (setting p s)) o (setting p s) new r long k refl c
 
 -- ---- PUBREL
-pubrel-knows : (x : Option Bool) (id limit : ℕ) (o : OpenExchanges) (s new : State) (r : Reaction) → opened id s.incoming ≡ x → Knows o s.incoming → Comes (released id limit s) r new → Knows (without_one id o) new.incoming
+pubrel-knows : (x : Option Bool) (id limit : ℕ) (o : OpenExchanges) (s new : State) (r : Reaction) → opened id s.incoming ≡ x → Knows o s.incoming → Comes (pubrel_outcome id limit s) r new → Knows (without_one id o) new.incoming
 pubrel-knows None id limit o s new r e k c =
     let same : new.incoming ≡ s.incoming = rw (c.1, e) (answered-leaves limit _ None _) in
     rw same (knows-unknown o s.incoming id k e)

@@ -35,7 +35,7 @@ use Rattle.session_laws.specs.Order.{queued_by}
 use Rattle.session_laws.proofs.CallLaws.{Call, numbered-calls}
 use Rattle.session_laws.proofs.ProjectLaws.{project, Projects}
 use Rattle.session_laws.proofs.QuietLaws.{HasLimit}
-use Rattle.saved_laws.specs.Histories.{Point, Move, calls, tells, Moves, History, Begins, begun, opened}
+use Rattle.saved_laws.specs.Histories.{Point, Move, calls, tells, Moves, History, Begins, begun, opened_point}
 use Rattle.saved_laws.specs.Told.{StaysSince}
 use Rattle.handshake_laws.proofs.AgreeLaws.{Stands, stands-run}
 use Rattle.saved_laws.proofs.AgreedLaws.{stands-restored, numbered-agreed, sound-below}
@@ -230,7 +230,7 @@ module _ (then : FollowsOn) where
 pub sound-begun : (client : List ℕ) → AreSound (begun client).session.tracked.state.outbox
 sound-begun client = record { stands = record { first = 1; sound = (omega arith, refl); end = omega arith; least = omega arith; most = omega arith }; numbered = tt }
 
-pub sound-opened : (d : Durable) → IsDurable d → AreSound (opened d).session.tracked.state.outbox
+pub sound-opened : (d : Durable) → IsDurable d → AreSound (opened_point d).session.tracked.state.outbox
 sound-opened d i = record { stands = stands-restored d.main.next_place d.copies i.agree; numbered = numbered-agreed d.main.next_place d.copies (ids-small d.copies i.form.copies) i.agree }
 
 on-begun : (client : List ℕ) → GoesOn (begun client)
@@ -239,9 +239,9 @@ on-begun client = record {
   sound = sound-begun client;
 }
 
-on-opened : (d : Durable) → IsDurable d → GoesOn (opened d)
+on-opened : (d : Durable) → IsDurable d → GoesOn (opened_point d)
 on-opened d i =
-    let s : AreSound (opened d).session.tracked.state.outbox = sound-opened d i in
+    let s : AreSound (opened_point d).session.tracked.state.outbox = sound-opened d i in
     let below : AllPlacesBelow d.copies d.main.next_place = placed _ s in
     let small : d.main.next_place ≤ 2 ^ 64 = sound-small _ s in
     record {

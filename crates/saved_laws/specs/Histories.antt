@@ -43,11 +43,11 @@ History old (m ∷ ms) new = (mid : Point) × Moves old m mid × History mid ms 
 abbrev pub begun : List ℕ → Point
 begun client = record { session = begun_session client; last = None }
 
-abbrev pub opened : Durable → Point
-opened d = record { session = reopened d; last = Some d }
+abbrev pub opened_point : Durable → Point
+opened_point d = record { session = reopened d; last = Some d }
 
 abbrev pub Begins : Point → Type 0
-Begins p = ((client : List ℕ) × (p ≡ begun client)) ⊎ ((d : Durable) × IsDurable d × (p ≡ opened d))
+Begins p = ((client : List ℕ) × (p ≡ begun client)) ⊎ ((d : Durable) × IsDurable d × (p ≡ opened_point d))
 
 -- a call that answers, as its contract says, is a move
 abbrev pub CallsAreMoves : Type 0

@@ -15,7 +15,7 @@ use Rattle.row_store.specs.Rows.{entry_of}
 use Rattle.session_laws.specs.Runs.{Event, connects, queues, takes, closes}
 use Rattle.session_rows.specs.Durable.{Durable, IsDurable}
 use Rattle.session_rows.specs.Rows.{rows_of}
-use Rattle.saved_laws.specs.Histories.{Point, Move, calls, tells, History, begun, opened, durable_at}
+use Rattle.saved_laws.specs.Histories.{Point, Move, calls, tells, History, begun, opened_point, durable_at}
 
 -- A CONNECT whose will can be published, as `connect` demands; that a will's payload is Binary Data, and that the Session
 -- Expiry Interval is a Four Byte Integer, the type `Connect` holds.
@@ -38,7 +38,7 @@ IsSoundMove (tells changes) = Unit {0}
 
 -- the client is a text
 abbrev pub BeginsSound : Point → Type 0
-BeginsSound p = ((client : List ℕ) × IsText client × (p ≡ begun client)) ⊎ ((d : Durable) × IsDurable d × (p ≡ opened d))
+BeginsSound p = ((client : List ℕ) × IsText client × (p ≡ begun client)) ⊎ ((d : Durable) × IsDurable d × (p ≡ opened_point d))
 
 -- the rows of a session are those of one, and so are those that were told last
 pub record AreDurable (p : Point) : Type 0 where

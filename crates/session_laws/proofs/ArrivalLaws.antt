@@ -30,7 +30,7 @@ use Rattle.mqtt_sessions.specs.declared.reaction.Ask.{Ask}
 use Rattle.mqtt_sessions.specs.declared.reaction.Ask.TheVariants.{Pass}
 use Rattle.mqtt_sessions.specs.declared.reaction.Output.TheVariants.{Answer}
 use Rattle.mqtt_sessions.specs.Answers.{ack, pubrec, pubrel, connack, fits}
-use Rattle.mqtt_sessions.specs.Arriving.{refusal, message_in, setting, is_full, is_unwelcome, arrival_once, arrival_twice, once_by, arrives_twice, passes_by, publish_by, released}
+use Rattle.mqtt_sessions.specs.Arriving.{refusal, message_in, setting, is_full, is_unwelcome, arrival_once, arrival_twice, once_by, arrives_twice, passes_by, publish_by, pubrel_outcome}
 use Rattle.mqtt_sessions.specs.Asking.{SubscribeStep, answer_by, answer_on}
 use Rattle.mqtt_sessions.specs.Connecting.{OpensIf}
 use Rattle.mqtt_sessions.specs.Ending.{disconnected_by, timed_out, ticked_if}
@@ -195,7 +195,7 @@ publish-told (Some code) on id limit p now room s new r twice c = still-told on 
 publish-told None on id limit p now room s new r twice c = passes-told p.qos on (is_unwelcome p room) id limit p now room (message_in p now (setting p s)) (setting p s) new r twice refl c
 
 -- ---- PUBREL
-pubrel-told : (o : Option Bool) (id i limit : ℕ) (s new : State) (r : Reaction) → opened i s.incoming ≡ o → NoneTwice s.incoming → Comes (released i limit s) r new → (is_some (opened id new.incoming) ≡ cond (i == id) false (is_some (opened id s.incoming))) × NoneTwice new.incoming
+pubrel-told : (o : Option Bool) (id i limit : ℕ) (s new : State) (r : Reaction) → opened i s.incoming ≡ o → NoneTwice s.incoming → Comes (pubrel_outcome i limit s) r new → (is_some (opened id new.incoming) ≡ cond (i == id) false (is_some (opened id s.incoming))) × NoneTwice new.incoming
 pubrel-told None id i limit s new r e twice c =
     let same : new.incoming ≡ s.incoming = rw (c.1, e) (answered-leaves limit _ None _) in
     rw same (elim (cases_eq i id) [ inl k ↦ rw (eq-eqb i id k, ← k, e) refl | inr ne ↦ rw (ne_eqb i id ne) refl ], twice)

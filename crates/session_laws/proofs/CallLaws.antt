@@ -16,7 +16,7 @@ use Rattle.handshake_laws.specs.Numbers.{AreNumbered, IsNumbered}
 use Rattle.handshake_laws.specs.Order as low_order
 use Rattle.handshake_laws.specs.Order.{all_offers}
 use Rattle.handshake_laws.specs.Resends as low_resends
-use Rattle.handshake_laws.specs.Resends.{Publication, AnsweredIn}
+use Rattle.handshake_laws.specs.Resends.{SentCopy, AnsweredIn}
 use Rattle.handshake_laws.proofs.NumberLaws.{numbered-step}
 use Rattle.mqtt_sessions.specs.declared.reaction.Output.{Output}
 use Rattle.mqtt_sessions.specs.Reaction.{publishes_of, pubrels_of, packet_of}
@@ -143,7 +143,7 @@ pub record Follows (now limit : ℕ) (old : Outbox) (sents : List Sent) (new : O
   pub offers : all_offers calls ≡ []
   pub marks : call_marks calls ≡ sends_of sents
   pub left_out : (x : Delivery) → low_order.LeftOutIn calls x → IsLate now limit x
-  pub answered : (x : Publication) → AnsweredIn calls x → limit < length_of now x.1
+  pub answered : (x : SentCopy) → AnsweredIn calls x → limit < length_of now x.1
   pub stays : AllByRecursion low_resends.StaysConnected calls
   pub numbers : AllByRecursion HasNumbers calls
   pub sound : AllByRecursion (IsSound now limit) sents
@@ -167,7 +167,7 @@ left-asks now limit [] x (inr h) = absurd h
 left-asks now limit (s ∷ ss) x (inl h) = h
 left-asks now limit (s ∷ ss) x (inr h) = left-asks now limit ss x h
 
-answered-asks : (now limit : ℕ) (sents : List Sent) (x : Publication) → AnsweredIn (asks now limit sents) x → limit < length_of now x.1
+answered-asks : (now limit : ℕ) (sents : List Sent) (x : SentCopy) → AnsweredIn (asks now limit sents) x → limit < length_of now x.1
 answered-asks now limit [] x (inl h) = h
 answered-asks now limit [] x (inr h) = absurd h
 answered-asks now limit (s ∷ ss) x (inl h) = h

@@ -5,14 +5,14 @@ use Rattle.std.specs.List.{AllByRecursion}
 use Rattle.std.proofs.lemmas.Bool.{cases_Bool, false≢true}
 use Rattle.mqtt_packets.specs.declared.connect.Connect.{Connect}
 use Rattle.mqtt_message.specs.declared.delivery.Delivery.{Delivery}
-use Rattle.qos_handshakes.specs.Outbox.{Outbox, waiting}
+use Rattle.qos_handshakes.specs.Outbox.{Outbox, waiting, empty_outbox}
 use Rattle.handshake_laws.specs.Runs as low
-use Rattle.handshake_laws.specs.Runs.{offered, acknowledged, completed, received, resumed, listed, asked, lost, empty_outbox}
+use Rattle.handshake_laws.specs.Runs.{offered, acknowledged, completed, received, resumed, listed, asked, lost}
 use Rattle.handshake_laws.specs.Numbers.{AreNumbered}
 use Rattle.handshake_laws.specs.Order as low_order
 use Rattle.handshake_laws.specs.Order.{all_offers, all_firsts}
 use Rattle.handshake_laws.specs.Resends as low_resends
-use Rattle.handshake_laws.specs.Resends.{Publication, AnsweredIn, all_first_sends, all_resends, owed}
+use Rattle.handshake_laws.specs.Resends.{SentCopy, AnsweredIn, all_first_sends, all_resends, owed}
 use Rattle.handshake_laws.proofs.ChosenLaws.{without-more, both-nil}
 use Rattle.handshake_laws.proofs.NumberLaws as low_numbers
 use Rattle.handshake_laws.proofs.OrderLaws as low_laws
@@ -49,7 +49,7 @@ left-then [] ys x h = inr h
 left-then (c ∷ xs) ys x (inl h) = inl (inl h)
 left-then (c ∷ xs) ys x (inr h) = elim (left-then xs ys x h) [ inl g ↦ inl (inr g) | inr g ↦ inr g ]
 
-answered-then : (xs ys : List Call) (x : Publication) → AnsweredIn (xs ++ ys) x → AnsweredIn xs x ⊎ AnsweredIn ys x
+answered-then : (xs ys : List Call) (x : SentCopy) → AnsweredIn (xs ++ ys) x → AnsweredIn xs x ⊎ AnsweredIn ys x
 answered-then [] ys x h = inr h
 answered-then (c ∷ xs) ys x (inl h) = inl (inl h)
 answered-then (c ∷ xs) ys x (inr h) = elim (answered-then xs ys x h) [ inl g ↦ inl (inr g) | inr g ↦ inr g ]
@@ -65,7 +65,7 @@ pub record ShowsAll (on : Bool) (limit : ℕ) (steps : List Step) (calls : List 
   pub once : SendsOnce on limit steps
   pub sized : SizesFit limit steps
   pub left_out : (x : Delivery) → low_order.LeftOutIn calls x → LeftOutIn on limit steps x
-  pub answered : (x : Publication) → AnsweredIn calls x → EndedIn on limit steps x
+  pub answered : (x : SentCopy) → AnsweredIn calls x → EndedIn on limit steps x
   pub stays : AllByRecursion (λ (s : Step). StaysConnected s.event) steps → AllByRecursion low_resends.StaysConnected calls
   pub numbers : AllByRecursion HasNumbers calls
 
@@ -181,12 +181,12 @@ resends-marks (asked now limit None ∷ cs) = resends-marks cs
 resends-marks (asked now limit (Some s) ∷ cs) = rw (resends-marks cs) refl
 resends-marks (lost ∷ cs) = resends-marks cs
 
-ended-before : (on : Bool) (limit : ℕ) (before after : List Step) (x : Publication) → EndedIn on limit before x → EndedIn on limit (before ++ after) x
+ended-before : (on : Bool) (limit : ℕ) (before after : List Step) (x : SentCopy) → EndedIn on limit before x → EndedIn on limit (before ++ after) x
 ended-before on limit [] after x h = absurd h
 ended-before on limit (s ∷ before) after x (inl h) = inl h
 ended-before on limit (s ∷ before) after x (inr h) = inr (ended-before (connected_after on s.event s.reaction) (limit_after limit s.event) before after x h)
 
-ended-after : (on : Bool) (limit : ℕ) (before after : List Step) (x : Publication) → EndedIn (connected_over on before) (limit_over limit before) after x → EndedIn on limit (before ++ after) x
+ended-after : (on : Bool) (limit : ℕ) (before after : List Step) (x : SentCopy) → EndedIn (connected_over on before) (limit_over limit before) after x → EndedIn on limit (before ++ after) x
 ended-after on limit [] after x h = h
 ended-after on limit (s ∷ before) after x h = inr (ended-after (connected_after on s.event s.reaction) (limit_after limit s.event) before after x h)
 
@@ -199,7 +199,7 @@ record Goes (old : State) (c : Connect) (first : Step) (here : List Step) (end :
   pub runs : low.Run old.outbox (resumed (maximum_in c) ∷ rest) end.outbox
   pub stays : AllByRecursion low_resends.StaysConnected rest
   pub resent : all_resends rest ≡ resends (all_marks false (first ∷ here))
-  pub answered : (on : Bool) (limit : ℕ) (x : Publication) → AnsweredIn rest x → EndedIn on limit (first ∷ here) x
+  pub answered : (on : Bool) (limit : ℕ) (x : SentCopy) → AnsweredIn rest x → EndedIn on limit (first ∷ here) x
 
 goes : (old mid : State) (here : List Step) (c : Connect) (continued : Bool) (now : ℕ) (r : Reaction) (end : State) → AreNumbered old.outbox.copies → AllByRecursion (λ (s : Step). StaysConnected s.event) here → ConnectStep c continued now old r mid → Run mid here end
     → Goes old c (record { event = connects c continued now; reaction = r }) here end

@@ -21,7 +21,7 @@ use Rattle.handshake_laws.specs.Numbers.{AreNumbered}
 use Rattle.handshake_laws.specs.Order as low_order
 use Rattle.handshake_laws.specs.Order.{all_offers}
 use Rattle.handshake_laws.specs.Resends as low_resends
-use Rattle.handshake_laws.specs.Resends.{Publication, Answers, AnsweredIn}
+use Rattle.handshake_laws.specs.Resends.{SentCopy, Answers, AnsweredIn}
 use Rattle.handshake_laws.proofs.NumberLaws.{numbered-step}
 use Rattle.mqtt_sessions.specs.declared.reaction.Output.{Output}
 use Rattle.mqtt_sessions.specs.Answers.{pubrel, connack, fits}
@@ -47,7 +47,7 @@ pub record Shows (on : Bool) (limit : ℕ) (e : Event) (r : Reaction) (calls : L
   pub once : sent_once_in r.packets ≡ once_by on limit e
   pub sized : AllFit limit (moment_of e) r
   pub left_out : (x : Delivery) → low_order.LeftOutIn calls x → LeavesOut on limit e r x
-  pub answered : (x : Publication) → AnsweredIn calls x → EndsIt on limit e x
+  pub answered : (x : SentCopy) → AnsweredIn calls x → EndsIt on limit e x
   pub stays : StaysConnected e → AllByRecursion low_resends.StaysConnected calls
   pub numbers : AllByRecursion HasNumbers calls
 
@@ -98,7 +98,7 @@ stays-on false r k e is = is
 record GoesOnward (now limit : ℕ) (o : Option Link) (old : Outbox) (sents : List Sent) (new : Outbox) : Type 0 where
   pub follows : Follows now limit old sents new
   pub left_out : (x : Delivery) → low_order.LeftOutIn follows.calls x → is_some o ≡ true
-  pub answered : (x : Publication) → AnsweredIn follows.calls x → is_some o ≡ true
+  pub answered : (x : SentCopy) → AnsweredIn follows.calls x → is_some o ≡ true
 
 queued : (limit : ℕ) (o : Option Link) (old new : Outbox) (now : ℕ) (sents : List Sent) → HasLimit limit o → AreNumbered old.copies → GoesOn (limit_of o) now old sents new → GoesOnward now limit o old sents new
 queued limit None old new now sents is n g = record { follows = unchanged now limit old new sents g.0 g.1; left_out = λ x h. absurd h; answered = λ x h. absurd h }
@@ -240,11 +240,11 @@ after-ack : (a : Ack) (now limit : ℕ) (old new : Outbox) (sents : List Sent) �
 after-ack Done now limit old new sents n h = flushed now limit old new sents n h
 after-ack Unknown now limit old new sents n h = unchanged now limit old new sents h.0 h.1
 
-answers-ack : (id : ℕ) (a : Ack) (x : Publication) → Answers (acknowledged id a) x → x.0 ≡ id
+answers-ack : (id : ℕ) (a : Ack) (x : SentCopy) → Answers (acknowledged id a) x → x.0 ≡ id
 answers-ack id Done x h = h
 answers-ack id Unknown x h = absurd h
 
-answers-rec : (id reason : ℕ) (a : Rec) (x : Publication) → Answers (received id reason a) x → x.0 ≡ id
+answers-rec : (id reason : ℕ) (a : Rec) (x : SentCopy) → Answers (received id reason a) x → x.0 ≡ id
 answers-rec id reason rec.Release x h = h
 answers-rec id reason rec.Ended x h = h
 answers-rec id reason rec.Unknown x h = absurd h

@@ -28,7 +28,7 @@ use Rattle.mqtt_sessions.specs.declared.reaction.Ask.{Ask}
 use Rattle.mqtt_sessions.specs.declared.reaction.Ask.TheVariants as server
 use Rattle.mqtt_sessions.specs.Answers.{puback, pubrec, pubrel, suback, unsuback, fits}
 use Rattle.mqtt_sessions.specs.Aliases.{Aliases, alias_of, alias_topic, filled, is_beyond, topic_by, topic_for, topic_of}
-use Rattle.mqtt_sessions.specs.Arriving.{has_property, is_unwelcome, arrival_once, arrival_twice, once_by, arrives_twice, message_in, passes_by, publish_by, published, refusal, setting}
+use Rattle.mqtt_sessions.specs.Arriving.{has_property, is_unwelcome, arrival_once, arrival_twice, once_by, arrives_twice, message_in, passes_by, publish_by, publish_outcome, refusal, setting}
 use Rattle.mqtt_sessions.proofs.ArrivingLaws.{set-topic}
 use Rattle.mqtt_sessions.specs.Asking.{answer_by}
 use Rattle.mqtt_sessions.specs.Ending.{disconnected_by}
@@ -124,7 +124,7 @@ beyond-replied true false o told p now room limit s same under is = absurd (fals
 beyond-replied false true o told p now room limit s same under is = absurd (false≢true same)
 beyond-replied false false o told p now room limit s same under is = under-replied o p now room limit s is ∙ ap (λ (x : Option (List ℕ)). reaction_of limit (reply_under x s p now room)) under
 
-publish-replied : (p : Publish) (now : ℕ) (room : Bool) (limit : ℕ) (s : State) → (published p now room limit s).reaction ≡ reaction_of limit (reply_publish (topics_in s) s p now room)
+publish-replied : (p : Publish) (now : ℕ) (room : Bool) (limit : ℕ) (s : State) → (publish_outcome p now room limit s).reaction ≡ reaction_of limit (reply_publish (topics_in s) s p now room)
 publish-replied p now room limit s =
     let known = aliases_of s.link in
     beyond-replied (is_beyond (alias_of p)) (is_invalid (alias_of p)) (topic_of known p) (topic_under (topics_in s) p.topic (alias_of p)) p now room limit s (invalid-is (alias_of p)) (under-is p.topic (alias_of p) known) refl

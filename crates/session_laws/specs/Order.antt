@@ -5,7 +5,7 @@ use Rattle.mqtt_message.specs.Messages.{is_alive}
 use Rattle.qos_handshakes.specs.Length.{length_of}
 use Rattle.qos_handshakes.specs.Outbox.{waiting}
 use Rattle.handshake_laws.specs.Lists.{Without}
-use Rattle.handshake_laws.specs.Resends.{Publication}
+use Rattle.handshake_laws.specs.Resends.{SentCopy}
 use Rattle.mqtt_sessions.specs.Reaction.{Reaction}
 use Rattle.mqtt_sessions.specs.Sending.{is_once}
 use Rattle.mqtt_sessions.specs.State.{State, new_session}
@@ -13,23 +13,23 @@ use Rattle.session_laws.specs.Runs.{Event, connects, queues, takes, Step, Run, c
 use Rattle.session_laws.specs.Sends.{Mark, sends, all_marks, sent_once_in, once_by}
 
 -- the PUBLISHes that are sent first, and those that are sent again
-abbrev pub first_of : Mark → List Publication
+abbrev pub first_of : Mark → List SentCopy
 first_of (sends s) = cond s.dup [] ((s.id, s.copy) ∷ [])
 first_of m = []
 
-abbrev pub again_of : Mark → List Publication
+abbrev pub again_of : Mark → List SentCopy
 again_of (sends s) = cond s.dup ((s.id, s.copy) ∷ []) []
 again_of m = []
 
-abbrev pub firsts : List Mark → List Publication
+abbrev pub firsts : List Mark → List SentCopy
 firsts [] = []
 firsts (m ∷ ms) = first_of m ++ firsts ms
 
-abbrev pub resends : List Mark → List Publication
+abbrev pub resends : List Mark → List SentCopy
 resends [] = []
 resends (m ∷ ms) = again_of m ++ resends ms
 
-abbrev pub copies_of : List Publication → List Delivery
+abbrev pub copies_of : List SentCopy → List Delivery
 copies_of [] = []
 copies_of (x ∷ xs) = x.1 ∷ copies_of xs
 

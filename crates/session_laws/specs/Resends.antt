@@ -6,7 +6,7 @@ use Rattle.mqtt_packets.specs.declared.packet.Packet.{Packet}
 use Rattle.mqtt_packets.specs.declared.packet.Packet.TheVariants as packets
 use Rattle.qos_handshakes.specs.Length.{length_of}
 use Rattle.handshake_laws.specs.Lists.{Without}
-use Rattle.handshake_laws.specs.Resends.{Publication, owed}
+use Rattle.handshake_laws.specs.Resends.{SentCopy, owed}
 use Rattle.mqtt_sessions.specs.Reaction.{Reaction}
 use Rattle.mqtt_sessions.specs.State.{State, new_session}
 use Rattle.session_laws.specs.Runs.{Event, connects, queues, takes, loses, Step, Run, connected_after, limit_after}
@@ -14,20 +14,20 @@ use Rattle.session_laws.specs.Sends.{Mark, begins, crashes, sends, all_marks}
 use Rattle.session_laws.specs.Order.{firsts, resends}
 
 -- PUBACK or PUBREC for it came
-abbrev pub IsAnsweredBy : Packet → Publication → Type 0
+abbrev pub IsAnsweredBy : Packet → SentCopy → Type 0
 IsAnsweredBy (packets.Puback a) x = x.0 ≡ a.identifier
 IsAnsweredBy (packets.Pubrec a) x = x.0 ≡ a.identifier
 IsAnsweredBy p x = ⊥
 
 -- why a PUBLISH is sent no more: its answer came, or it was longer than the client takes when it was to be sent again, while the
 -- client was connected
-abbrev pub EndsIt : Bool → ℕ → Event → Publication → Type 0
+abbrev pub EndsIt : Bool → ℕ → Event → SentCopy → Type 0
 EndsIt on limit (connects c continued now) x = limit < length_of now x.1
 EndsIt on limit (queues d now) x = (on ≡ true) × (limit < length_of now x.1)
 EndsIt on limit (takes p now room) x = (on ≡ true) × (IsAnsweredBy p x ⊎ (limit < length_of now x.1))
 EndsIt on limit e x = ⊥
 
-abbrev pub EndedIn : Bool → ℕ → List Step → Publication → Type 0
+abbrev pub EndedIn : Bool → ℕ → List Step → SentCopy → Type 0
 EndedIn on limit [] x = ⊥
 EndedIn on limit (s ∷ ss) x = EndsIt on (limit_after limit s.event) s.event x ⊎ EndedIn (connected_after on s.event s.reaction) (limit_after limit s.event) ss x
 

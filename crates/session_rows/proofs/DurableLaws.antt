@@ -16,13 +16,13 @@ use Rattle.row_store.specs.Rows.{Key}
 use Rattle.session_rows.specs.declared.session.Opened.{Opened}
 use Rattle.qos_handshakes.specs.Incoming.{rise}
 use Rattle.qos_handshakes.specs.Restored.{agree}
-use Rattle.session_rows.specs.Durable.{Durable, HasForm, IsSound, IsDurable, opened, opened_if}
+use Rattle.session_rows.specs.Durable.{Durable, HasForm, IsSound, IsDurable, opened_of, opened_if}
 use Rattle.session_rows.specs.Fields.{Main, main, Copy, copy, copy_of, entry_of, is_short}
 use Rattle.row_store.specs.declared.store.RowFault.{RowFault}
 use Rattle.row_store.specs.declared.store.RowFault.TheVariants.{NoMemory, Device, BadRow}
 use Rattle.std.specs.Prelude.{IsErrOf, IfOk}
 use Rattle.session_rows.specs.Reachable.{IsReachable}
-use Rattle.session_rows.specs.Reading.{Opens, whole_of, whole, text_in, client_in, place_in, main_in, copy_in, copies_in, durable_in, HasBytes}
+use Rattle.session_rows.specs.Reading.{Opens, whole_of, whole, text_in, client_in, copy_place, main_in, copy_in, copies_in, durable_in, HasBytes}
 use Rattle.session_rows.specs.Rows.{main_key, copy_key, copy_row, copy_rows, rows_of}
 use Rattle.session_rows.proofs.FieldLaws.{main_is, copy_is}
 
@@ -78,7 +78,7 @@ client_said (kind, (owner, place)) client e =
 client_again : (client : List ℕ) → IsText client → client_in (main_key client) ≡ Some client
 client_again client h = text_again client h
 
-place_said : (client : List ℕ) (key : Key) (p : ℕ) → IsBytes key.1.1 → place_in client key ≡ Some p → (key ≡ copy_key client p) × (p < 2 ^ 64)
+place_said : (client : List ℕ) (key : Key) (p : ℕ) → IsBytes key.1.1 → copy_place client key ≡ Some p → (key ≡ copy_key client p) × (p < 2 ^ 64)
 place_said client (kind, (owner, place)) p bytes e =
     let is = cond_some ((kind == 3) && pointwise nat_eq owner client) (whole (number w64) place) p e in
     let parts = and_parts (kind == 3) (pointwise nat_eq owner client) is.0 in
@@ -89,7 +89,7 @@ same_bytes : (xs : List ℕ) → pointwise nat_eq xs xs ≡ true
 same_bytes [] = refl
 same_bytes (x ∷ xs) = and_from (x == x) (pointwise nat_eq xs xs) (eq-eqb x x refl) (same_bytes xs)
 
-place_again : (client : List ℕ) (p : ℕ) → p < 2 ^ 64 → place_in client (copy_key client p) ≡ Some p
+place_again : (client : List ℕ) (p : ℕ) → p < 2 ^ 64 → copy_place client (copy_key client p) ≡ Some p
 place_again client p h = rw (same_bytes client) (whole_again (number w64) (number_is w64 wide64) p h)
 
 -- ---- copies
@@ -98,7 +98,7 @@ CopyFits e = (e.0 < 2 ^ 64) × (e.1.here ≡ false) × copy.Fits (copy_of e.1)
 
 copy_said : (client : List ℕ) (e : Key × List ℕ) (x : ℕ × Entry) → HasBytes e → copy_in client e ≡ Some x → (copy_row client x ≡ e) × CopyFits x
 copy_said client e x bytes is =
-    let p = and_then_some (λ place. option_map (λ y. (place, y)) (option_map entry_of (whole copy e.1))) (place_in client e.0) x is in
+    let p = and_then_some (λ place. option_map (λ y. (place, y)) (option_map entry_of (whole copy e.1))) (copy_place client e.0) x is in
     let m = map_some (λ y. (p.0, y)) (option_map entry_of (whole copy e.1)) x p.2 in
     let c = map_some entry_of (whole copy e.1) m.0 m.1 in
     let key = place_said client e.0 p.0 bytes.0 p.1 in
@@ -152,12 +152,12 @@ and_both true b x y = y
 and_both false b x y = absurd cc
 
 pub made : (es : List (Key × List ℕ)) (d : Durable) (o : Opened) → AllByRecursion HasBytes es → durable_in es ≡ Some d → IsSound d.main → IsReachable d.main.incoming d.copies → opened_if d ≡ Some o
-    → (x : Durable) × IsDurable x × (rows_of x ≡ es) × (o ≡ opened x)
+    → (x : Durable) × IsDurable x × (rows_of x ≡ es) × (o ≡ opened_of x)
 made es d o bytes said sound reachable is =
     let s = durable_said es d bytes said in
-    let c = cond_some (rise d.main.incoming && agree d.main.next_place d.copies) (Some (opened d)) o is in
+    let c = cond_some (rise d.main.incoming && agree d.main.next_place d.copies) (Some (opened_of d)) o is in
     let both = and_parts (rise d.main.incoming) (agree d.main.next_place d.copies) c.0 in
-    (d, record { form = s.1; sound = sound; rise = both.0; agree = both.1; reachable = reachable }, s.0, (let same : opened d ≡ o = (let e = c.1 in cc) in sym same))
+    (d, record { form = s.1; sound = sound; rise = both.0; agree = both.1; reachable = reachable }, s.0, (let same : opened_of d ≡ o = (let e = c.1 in cc) in sym same))
 
 -- rows that say nothing are no session's
 pub none_said : (es : List (Key × List ℕ)) (d : Durable) → IsDurable d → rows_of d ≡ es → durable_in es ≡ None → ⊥
@@ -182,12 +182,12 @@ pub not_made : (es : List (Key × List ℕ)) (d x : Durable) → IsDurable d →
 not_made es d x durable is said none =
     let same = same_said es d x durable is said in
     let both = and_both (rise d.main.incoming) (agree d.main.next_place d.copies) durable.rise durable.agree in
-    let e : opened_if d ≡ Some (opened d) = rw both refl in
-    let bad : None ≡ Some (opened d) = sym none ∙ ap opened_if same ∙ e in cc
+    let e : opened_if d ≡ Some (opened_of d) = rw both refl in
+    let bad : None ≡ Some (opened_of d) = sym none ∙ ap opened_if same ∙ e in cc
 
 -- ---- what a reader of rows returns
 abbrev IsMade : List (Key × List ℕ) → Opened → Type 0
-IsMade es o = (x : Durable) × IsDurable x × (rows_of x ≡ es) × (o ≡ opened x)
+IsMade es o = (x : Durable) × IsDurable x × (rows_of x ≡ es) × (o ≡ opened_of x)
 
 pub made_ok : (r : Result Opened RowFault) (es : List (Key × List ℕ)) (d : Durable) → AllByRecursion HasBytes es → durable_in es ≡ Some d → IsSound d.main → IsReachable d.main.incoming d.copies → Opens {X = Opened} (λ o. o) r (opened_if d) → IfOk r (IsMade es)
 made_ok (Ok o) es d bytes said sound reachable is = made es d o bytes said sound reachable is

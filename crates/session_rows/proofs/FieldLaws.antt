@@ -23,7 +23,7 @@ use Rattle.mqtt_message.proofs.WholeLaws.{delivery_is}
 use Rattle.mqtt_message.proofs.SpellingLaws.{coded_is, flag_is, optional_is, AreValues, values_takes}
 use Rattle.qos_handshakes.specs.declared.copies.Stage.{Stage}
 use Rattle.qos_handshakes.specs.declared.copies.Stage.TheVariants.{Waiting, Published, Released}
-use Rattle.session_rows.specs.Fields.{many, closed_at, closed_parts, closed, is_short, payload, WillParts, will_of, will_parts, will, MainParts, main_of, main_parts, main, stage_by, StageParts, stage_at, stage_parts, parts, stage, copy}
+use Rattle.session_rows.specs.Fields.{many, closed_at, closed_parts, closed, is_short, payload, WillParts, will_of, will_parts, will, MainParts, main_of_parts, main_parts, main, stage_by, StageParts, stage_at, stage_parts, parts, stage, copy}
 
 values_again : {A : Type 0} (f : Field A) → IsField f → (xs : List A) (rest : List ℕ) → AllByRecursion f.Fits xs → values_at f (length xs) (flat_map f.bytes xs ++ rest) ≡ Ok (xs, rest)
 values_again f F [] rest each = refl
@@ -87,7 +87,7 @@ will_is = seen_is will_of will_parts _ (λ a. refl) (λ b. refl)
 
 pub main_is : IsField main
 unfolding main
-main_is = seen_is main_of main_parts _ (λ a. refl) (λ b. refl)
+main_is = seen_is main_of_parts main_parts _ (λ a. refl) (λ b. refl)
     (after_is (number w32) _ (number_is w32 wide32) (λ _. after_is closed _ closed_is (λ _. after_is (optional will) _ (optional_is will will_is) (λ _. after_is (many (number w16)) _ (many_is (number w16) (number_is w16 wide16)) (λ _. number_is w64 wide64)))))
 
 stage_back : (state id order : ℕ) (s : Stage) → stage_by state id order ≡ Some s → stage_parts s ≡ (id, (state, order))

@@ -46,8 +46,8 @@ pub record IsDurable (d : Durable) : Type 0 where
   pub reachable : IsReachable d.main.incoming d.copies
 
 -- ---- a session that is made again of it: the exchanges are open, and there is no connection
-abbrev pub opened : Durable → Opened
-opened d = record {
+abbrev pub opened_of : Durable → Opened
+opened_of d = record {
   client = d.client;
   expiry = d.main.expiry;
   closed = d.main.closed;
@@ -58,4 +58,4 @@ opened d = record {
 
 -- where its identifiers rise and its copies agree
 abbrev pub opened_if : Durable → Option Opened
-opened_if d = cond (rise d.main.incoming && agree d.main.next_place d.copies) (Some (opened d)) None
+opened_if d = cond (rise d.main.incoming && agree d.main.next_place d.copies) (Some (opened_of d)) None

@@ -70,14 +70,14 @@ pub record Main : Type 0 where
 abbrev pub MainParts : Type 0
 MainParts = ℕ × (Option ℕ × (Option Will × (List ℕ × ℕ)))
 
-abbrev pub main_of : MainParts → Main
-main_of x = record { expiry = x.0; closed = x.1.0; will = x.1.1.0; incoming = x.1.1.1.0; next_place = x.1.1.1.1 }
+abbrev pub main_of_parts : MainParts → Main
+main_of_parts x = record { expiry = x.0; closed = x.1.0; will = x.1.1.0; incoming = x.1.1.1.0; next_place = x.1.1.1.1 }
 
 abbrev pub main_parts : Main → MainParts
 main_parts m = (m.expiry, (m.closed, (m.will, (m.incoming, m.next_place))))
 
 unfoldable pub main : Field Main
-main = seen main_of main_parts (after (number w32) (λ _. after closed (λ _. after (optional will) (λ _. after (many (number w16)) (λ _. number w64)))))
+main = seen main_of_parts main_parts (after (number w32) (λ _. after closed (λ _. after (optional will) (λ _. after (many (number w16)) (λ _. number w64)))))
 
 -- ---- a copy: its Packet Identifier, 0, 1 or 2 as it waits, was published or released, the order of its release, and
 -- the delivery; what it hasn't is 0

@@ -40,14 +40,14 @@ abbrev pub client_in : Key → Option (List ℕ)
 client_in key = cond ((key.0 == 2) && (length key.1.1 == 0)) (text_in key.1.0) None
 
 -- the place of a client's copy
-abbrev pub place_in : List ℕ → Key → Option ℕ
-place_in client key = cond ((key.0 == 3) && pointwise nat_eq key.1.0 client) (whole (number w64) key.1.1) None
+abbrev pub copy_place : List ℕ → Key → Option ℕ
+copy_place client key = cond ((key.0 == 3) && pointwise nat_eq key.1.0 client) (whole (number w64) key.1.1) None
 
 abbrev pub main_in : Key × List ℕ → Option (List ℕ × Main)
 main_in e = option_and_then (λ client. option_map (λ m. (client, m)) (whole main e.1)) (client_in e.0)
 
 abbrev pub copy_in : List ℕ → Key × List ℕ → Option (ℕ × Entry)
-copy_in client e = option_and_then (λ place. option_map (λ x. (place, x)) (option_map entry_of (whole copy e.1))) (place_in client e.0)
+copy_in client e = option_and_then (λ place. option_map (λ x. (place, x)) (option_map entry_of (whole copy e.1))) (copy_place client e.0)
 
 abbrev pub copies_in : List ℕ → List (Key × List ℕ) → Option Entries
 copies_in client [] = Some []

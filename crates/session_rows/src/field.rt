@@ -5,32 +5,16 @@ ghost use Rattle.std.specs.Int.{w16};
 ghost use Rattle.mqtt_fields.specs.Reading.{Gives};
 ghost use Rattle.mqtt_fields.specs.Numbers.{number};
 ghost use Rattle.mqtt_message.specs.Parts.{qos};
-ghost use Rattle.mqtt_message.specs.Spelling.{flag, values_at};
+ghost use Rattle.mqtt_message.specs.Spelling.{values_at};
 ghost use Rattle.qos_handshakes.specs.Incoming.{rise};
 ghost use Rattle.session_rows.specs.Fields as fields;
 
 use mqtt_fields::{
-    Blob, FieldFault, NoMemory, Qos, long_at, put_u8, put_u16, put_u32, put_u64, u8_at, u16_at,
-    u32_at, u64_at,
+    Blob, FieldFault, NoMemory, Qos, long_at, put_u16, put_u32, put_u64, u8_at, u16_at, u32_at,
+    u64_at,
 };
+use mqtt_message::{flag_at, put_flag};
 use std::alloc::Global;
-
-pub(crate) fn flag_at(bytes: &[u8]) -> Result<(bool, &[u8]), FieldFault>
-    ensures { Gives (λ x. (x.0, x.1.now)) result (flag.at bytes.now) }
-{
-    let (n, rest) = u8_at(bytes)?;
-    match n {
-        0 => Ok((false, rest)),
-        1 => Ok((true, rest)),
-        _ => Err(FieldFault::Malformed),
-    }
-}
-
-pub(crate) fn put_flag(set: bool, out: &mut Vec<u8>) -> Result<(), NoMemory>
-    ensures { OnOk result (out.new.items ≡ out.old.items ++ flag.bytes set) }
-{
-    put_u8(if set { 1 } else { 0 }, out)
-}
 
 pub(crate) fn qos_at(bytes: &[u8]) -> Result<(Qos, &[u8]), FieldFault>
     ensures { Gives (λ x. (x.0, x.1.now)) result (qos.at bytes.now) }

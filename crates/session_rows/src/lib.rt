@@ -11,5 +11,5 @@ mod will;
 
 pub use copy::write_copy;
 pub use main_row::{MainRow, write_main};
-pub use session::{Opened, read_session};
+pub use session::{Opened, read_session, text_of};
 pub use told::{Told, copy_changes, own_change, own_left, rows};

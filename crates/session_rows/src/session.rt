@@ -2,18 +2,17 @@
 
 ghost use Rattle.std.specs.Prelude.{◌≡◌, map, true, IfOk, OnOk, IsErrOf, IsTrue, ◌↔◌};
 ghost use Rattle.std.specs.List.{AllByRecursion};
-ghost use Rattle.mqtt_fields.specs.Field.{IsBytes};
 ghost use Rattle.row_store.specs.Rows as store;
 ghost use Rattle.row_store.specs.Rows.{key_of};
-ghost use Rattle.session_rows.specs.Durable.{Durable, IsDurable, IsMomentIf, IsPublishableIf, IsSound, opened, opened_if};
+ghost use Rattle.session_rows.specs.Durable.{Durable, IsDurable, IsMomentIf, IsPublishableIf, IsSound, opened_of, opened_if};
 ghost use Rattle.session_rows.specs.Reachable.{IsReachable};
-ghost use Rattle.session_rows.specs.Reading.{HasBytes, Opens, client_in, copies_in, copy_in, durable_in, place_in, text_in};
+ghost use Rattle.session_rows.specs.Reading.{HasBytes, Opens, client_in, copies_in, copy_in, durable_in, copy_place, text_in};
 ghost use Rattle.session_rows.specs.Rows.{rows_of};
 
 use crate::copy::read_copy;
 use crate::main_row::{MainRow, read_main};
 use crate::reachable::is_reachable;
-use mqtt_fields::{FieldFault, NUMBERS_END, Text, u64_at};
+use mqtt_fields::{FieldFault, NUMBERS_END, Text, are_bytes, u64_at};
 use mqtt_message::{Message, Will};
 use qos_handshakes::{Entry, Incoming, Outgoing};
 use row_store::{Row, RowFault};
@@ -55,8 +54,10 @@ impl Model for Parts {
     ghost view = { λ p. record { client = p.client; main = p.main; copies = p.copies.items } };
 }
 
+/// The text that these bytes of a row are. BadRow where they are no UTF-8 string of MQTT, NoMemory where
+/// there is none for it.
 #[tactic(auto, using(mqtt_fields::proofs::TextLaws::texts))]
-fn text_of(alloc: Global, bytes: &[u8]) -> Result<Text, RowFault>
+pub fn text_of(alloc: Global, bytes: &[u8]) -> Result<Text, RowFault>
     ensures { Opens (λ t. t) result (text_in bytes.now) }
 {
     let Ok(text) = str::from_utf8(bytes) else {
@@ -82,7 +83,7 @@ fn client_of(alloc: Global, row: &Row) -> Result<Text, RowFault>
 
 /// The place of a client's copy.
 fn place_of(client: &Text, row: &Row) -> Option<u64>
-    ensures { result ≡ place_in client.now (key_of row.now) }
+    ensures { result ≡ copy_place client.now (key_of row.now) }
 {
     if row.kind != COPY || row.owner.as_slice() != client.as_str().as_bytes() {
         return None;
@@ -91,13 +92,6 @@ fn place_of(client: &Text, row: &Row) -> Option<u64>
         Ok((place, [])) => Some(place),
         _ => None,
     }
-}
-
-/// Bytes are below 256. This does nothing; its contract is a law.
-fn are_bytes(bytes: &[u8])
-    ensures { IsBytes bytes.now }
-{
-    let _ = bytes;
 }
 
 /// The place and the value of a row are bytes. This does nothing; its contract is a law.
@@ -216,7 +210,7 @@ fn open_parts(alloc: Global, parts: Parts) -> Result<Opened, RowFault>
 ///
 /// BadRow where no session has just these rows: one isn't of its form, they contradict each other, or no calls lead to them.
 pub fn read_session(alloc: Global, rows: &[Row]) -> Result<Opened, RowFault>
-    ensures ok { IfOk result (λ o. (d : Durable) × IsDurable d × (rows_of d ≡ map store.entry_of rows.now) × (o ≡ opened d)) }
+    ensures ok { IfOk result (λ o. (d : Durable) × IsDurable d × (rows_of d ≡ map store.entry_of rows.now) × (o ≡ opened_of d)) }
     ensures bad { IsErrOf result RowFault.BadRow → (d : Durable) → IsDurable d → rows_of d ≡ map store.entry_of rows.now → ⊥ }
     ensures device { IsErrOf result RowFault.Device → ⊥ }
 {

@@ -8,11 +8,11 @@ ghost use Rattle.session_rows.specs.Durable.{IsPublishableIf};
 ghost use Rattle.mqtt_message.specs.Accepted.{IsPublishable};
 ghost use Rattle.session_rows.specs.Fields as fields;
 
-use crate::field::{flag_at, payload_at, put_flag, qos_at};
+use crate::field::{payload_at, qos_at};
 use mqtt_fields::{
     FieldFault, NoMemory, Place, Text, properties_of, put_long, put_u8, write_properties,
 };
-use mqtt_message::Will;
+use mqtt_message::{Will, flag_at, put_flag};
 use std::alloc::Global;
 
 #[tactic(auto, unfolding(crate::specs::Fields::will))]

@@ -30,7 +30,7 @@ use Rattle.mqtt_sessions.specs.Saved.{Appends, Saved, Notes, NotesIf, Tells, Tel
 use Rattle.mqtt_sessions.specs.State.{State, new_session}
 use Rattle.mqtt_sessions.proofs.SavedLaws.{main-back}
 use Rattle.session_laws.specs.Runs.{Event, Reacts}
-use Rattle.saved_laws.specs.Histories.{Point, Move, calls, tells, Moves, TellsAt, History, Begins, begun, opened, durable_at}
+use Rattle.saved_laws.specs.Histories.{Point, Move, calls, tells, Moves, TellsAt, History, Begins, begun, opened_point, durable_at}
 use Rattle.saved_laws.specs.Sound.{BeginsSound, IsSoundEvent, IsSoundMove, StaysDurable}
 use Rattle.saved_laws.specs.Told.{StaysSince, ToldChangesLead, RemovalsLeaveNone, Empties}
 use Rattle.session_table.specs.Seats.{Seat, Seats, begun as begun_seat}
@@ -576,7 +576,7 @@ durable-again d is = λ i. record {
 
 -- and they were told
 pub opened-told : (d : Durable) → IsDurable d → IsAllTold d.client (Some (reopened d))
-opened-told d is = record { start = opened d; moves = []; begins = inr (d, is, refl); sound = tt; history = λ i. record { session = reopened d; last = Some (durable-again d is i) }; owner = refl }
+opened-told d is = record { start = opened_point d; moves = []; begins = inr (d, is, refl); sound = tt; history = λ i. record { session = reopened d; last = Some (durable-again d is i) }; owner = refl }
 
 -- ---- rows that open each session again
 abbrev IsDurableOf : List ℕ → State → Type 0

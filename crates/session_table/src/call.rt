@@ -2,7 +2,6 @@
 
 ghost use Rattle.std.specs.Prelude.{◌≡◌, Err, IfOk, IfSome};
 ghost use Rattle.mqtt_sessions.specs.Saved.{NotesIf, keeps_main, state_of};
-ghost use Rattle.mqtt_sessions.specs.Sending.{is_once};
 ghost use Rattle.saved_laws.specs.Sound.{IsSoundEvent};
 ghost use Rattle.session_laws.specs.Runs.{wants_of};
 ghost use Rattle.session_table.specs.Calls.{Asks, GivesSpelled, IsTurned, MayTurn, event_of, on_of};
@@ -11,7 +10,7 @@ ghost use Rattle.session_table.specs.Wants as wants;
 use mqtt_fields::Qos;
 use mqtt_message::Delivery;
 use mqtt_packets::{Connect, Packet};
-use mqtt_sessions::{Reaction, Session, SessionFault};
+use mqtt_sessions::{Reaction, Session, SessionFault, is_once};
 use saved_laws::connect_is_sound;
 
 /// A call of a session.
@@ -80,16 +79,6 @@ pub(crate) fn is_sound(call: &Call<'_>)
         | Call::Closed(_)
         | Call::Tick(_)
         | Call::Finish(_) => {}
-    }
-}
-
-/// Whether a copy at this QoS is sent at once or dropped, and isn't kept.
-fn is_once(qos: Qos) -> bool
-    ensures { result ≡ is_once qos }
-{
-    match qos {
-        Qos::AtMostOnce => true,
-        Qos::AtLeastOnce | Qos::ExactlyOnce => false,
     }
 }
 
