@@ -1,3 +1,4 @@
+use Rattle.qos_handshakes.specs.Touched.{is_in}
 -- What goes on has distinct identifiers.
 use Rattle.std.proofs.Common.{◌≡◌, ◌≢◌, ℕ, Bool, false, List, [], ◌∷◌, ◌++◌, Some, None, refl, sym, ◌∙◌, inl, inr}
 use Rattle.std.specs.Prelude.{◌==◌}
@@ -10,7 +11,6 @@ use Rattle.qos_handshakes.specs.declared.copies.Stage.TheVariants.{Waiting, Publ
 use Rattle.qos_handshakes.specs.Entries.{Entries, find_id, has_id, stage_has}
 use Rattle.qos_handshakes.specs.Outbox.{is_released}
 use Rattle.qos_handshakes.proofs.EntryLaws.{NoneHas, none-head, none-tail}
-use Rattle.handshake_laws.specs.Lists.{has}
 use Rattle.handshake_laws.specs.Numbers.{AreNumbered, IsNumbered}
 use Rattle.handshake_laws.specs.Resends.{SentCopy, published, published_part}
 use Rattle.handshake_laws.proofs.OpenLaws.{all-both}
@@ -70,7 +70,7 @@ found (e ∷ es) n =
 pub keeps_apart : KeepsApart
 keeps_apart = λ client steps end r.
     let n = keeps_numbers client steps end r in
-    let free = all-weaker (IsFound end.outbox.copies) (λ (x : SentCopy). has x.0 (released_ids end) ≡ false) (λ x f. absent (Some f.entry) x.0 end n f.at f.stage) (published end.outbox.copies) (found end.outbox.copies n) in
+    let free = all-weaker (IsFound end.outbox.copies) (λ (x : SentCopy). is_in x.0 (released_ids end) ≡ false) (λ x f. absent (Some f.entry) x.0 end n f.at f.stage) (published end.outbox.copies) (found end.outbox.copies n) in
     record {
       going = published end.outbox.copies;
       is = keeps_open client steps end r;

@@ -15,7 +15,8 @@ use Rattle.qos_handshakes.specs.declared.copies.Stage.TheVariants.{Waiting, Publ
 use Rattle.qos_handshakes.specs.Entries.{Entries, find_id, stage_has}
 use Rattle.qos_handshakes.specs.Outbox.{Sent, by_release, is_completed, is_released, stage_pair, takes_pubrec}
 use Rattle.qos_handshakes.proofs.EntryLaws.{NoneHas, none-head, none-tail}
-use Rattle.handshake_laws.specs.Lists.{has, without}
+use Rattle.qos_handshakes.specs.Touched.{is_in}
+use Rattle.handshake_laws.specs.Lists.{without}
 use Rattle.handshake_laws.specs.Numbers.{AreNumbered}
 use Rattle.handshake_laws.specs.Runs as low
 use Rattle.handshake_laws.proofs.OpenLaws.{all-both}
@@ -39,7 +40,7 @@ use Rattle.delivery_laws.specs.Released.{AllBegin, BeginsBy, KeepsReleasesTold, 
 use Rattle.delivery_laws.proofs.ReleasingLaws.{distinct-run, released-not}
 
 -- ---- lists
-without-absent : (id : ℕ) (xs : List ℕ) → has id xs ≡ false → without id xs ≡ xs
+without-absent : (id : ℕ) (xs : List ℕ) → is_in id xs ≡ false → without id xs ≡ xs
 without-absent id [] h = refl
 without-absent id (x ∷ xs) h = elim (cases_Bool (x == id)) [
   | inl t ↦ absurd (let bad : true ≡ false = rw t at h in false≢true (sym bad))
@@ -61,7 +62,7 @@ no-pair Waiting h = refl
 no-pair (Published id) h = refl
 no-pair (Released id order) h = absurd (false≢true (sym h))
 
-pub absent : (o : Option Entry) (id : ℕ) (s : State) → AreNumbered s.outbox.copies → find_id id s.outbox.copies ≡ o → is_completed o ≡ false → has id (released_ids s) ≡ false
+pub absent : (o : Option Entry) (id : ℕ) (s : State) → AreNumbered s.outbox.copies → find_id id s.outbox.copies ≡ o → is_completed o ≡ false → is_in id (released_ids s) ≡ false
 absent None id s n is h = has-none id (by_release s.outbox.copies) (all-sorted (λ (y : Pair). y.1 ≢ id) (pairs s.outbox.copies) (none-pairs id s.outbox.copies is))
 absent (Some x) id s n is h = has-none id (by_release s.outbox.copies) (all-sorted (λ (y : Pair). y.1 ≢ id) (pairs s.outbox.copies) (not-released id x s.outbox.copies n is (no-pair x.stage h)))
 
@@ -85,11 +86,11 @@ unknown-in id reason limit ss = elim (cases_Bool (nat_lt reason 128)) [
 
 -- what a PUBREC adds, by the packets and by what the session holds
 pubrec-adds : (o : Option Entry) (id reason limit : ℕ) (s : State) (ss : List Sent) → find_id id s.outbox.copies ≡ o → AreNumbered s.outbox.copies → AreDistinct (pairs s.outbox.copies) → fits limit (pubrel id 0) ≡ true
-    → (pubrel_in id ((reaction_of limit (reply_pubrec o id reason)).packets ++ publishes_of ss) && not (has id (released_ids s))) ≡ (is_unreleased o && nat_lt reason 128)
+    → (pubrel_in id ((reaction_of limit (reply_pubrec o id reason)).packets ++ publishes_of ss) && not (is_in id (released_ids s))) ≡ (is_unreleased o && nat_lt reason 128)
 pubrec-adds None id reason limit s ss is n d fit = rw (unknown-in id reason limit ss) refl
 pubrec-adds (Some x) id reason limit s ss is n d fit = elim (cases_Bool (is_released x.stage)) [
   | inl r ↦
-      let there : has id (released_ids s) ≡ true = has-released id x s.outbox.copies d is r in
+      let there : is_in id (released_ids s) ≡ true = has-released id x s.outbox.copies d is r in
       rw (r, released-not x.delivery.qos x.stage r, fit, eq-eqb id id refl, there) refl
   | inr r ↦ elim (cases_Bool (takes_pubrec x.delivery.qos x.stage)) [
     | inl t ↦ elim (cases_Bool (nat_lt reason 128)) [

@@ -1,3 +1,4 @@
+use Rattle.qos_handshakes.specs.Touched.{is_in}
 -- What ends a connection, and that nothing goes out without one.
 use Rattle.std.proofs.Common.{◌≡◌, ℕ, ◌⊎◌, Bool, true, false, cond, List, [], ◌∷◌, Option, Some, None, refl, sym, inl, inr}
 use Rattle.std.specs.Prelude.{◌==◌, ◌&&◌, nat_lt, not, is_some, length, replicate}
@@ -18,7 +19,6 @@ use Rattle.qos_handshakes.specs.declared.copies.Entry.{Entry}
 use Rattle.qos_handshakes.specs.Entries.{find_id}
 use Rattle.qos_handshakes.specs.Incoming.{Received, opened}
 use Rattle.qos_handshakes.specs.Outbox.{is_released, takes_pubrec}
-use Rattle.handshake_laws.specs.Lists.{has}
 use Rattle.handshake_laws.specs.Numbers.{AreNumbered}
 use Rattle.mqtt_sessions.specs.declared.link.Asked.{Asked}
 use Rattle.mqtt_sessions.specs.declared.link.Asked.TheVariants.{Subscribing, Unsubscribing}
@@ -44,11 +44,11 @@ use Rattle.delivery_laws.specs.Ends.{codes_of, codes_by, EndsWithin, KeepsEndCod
 -- ---- replies
 abbrev ReplyWithin : List ℕ → Reply → Type 0
 ReplyWithin codes silent = Unit {0}
-ReplyWithin codes (says p) = has 0 codes ≡ true
+ReplyWithin codes (says p) = is_in 0 codes ≡ true
 ReplyWithin codes (asks a) = Unit {0}
-ReplyWithin codes (both p a) = has 0 codes ≡ true
-ReplyWithin codes (ends code) = (has code codes ≡ true) × (has 0 codes ≡ true)
-ReplyWithin codes leaves = has 0 codes ≡ true
+ReplyWithin codes (both p a) = is_in 0 codes ≡ true
+ReplyWithin codes (ends code) = (is_in code codes ≡ true) × (is_in 0 codes ≡ true)
+ReplyWithin codes leaves = is_in 0 codes ≡ true
 
 within-reply : (limit : ℕ) (codes : List ℕ) (x : Reply) → ReplyWithin codes x → EndsWithin codes (reaction_of limit x).end
 within-reply limit codes silent h = tt
@@ -106,7 +106,7 @@ disconnect-within : (o : Option ℕ) (expiry : ℕ) → ReplyWithin (0 ∷ 130 �
 disconnect-within None expiry = refl
 disconnect-within (Some new) expiry = either (0 ∷ 130 ∷ []) ((expiry == 0) && not (new == 0)) (ends 130) leaves (refl, refl) refl
 
-request-within : (codes : List ℕ) (r : Received) (i : ℕ) (p : Packet) (a : Ask) → has 0 codes ≡ true → ReplyWithin codes (reply_request r i p a)
+request-within : (codes : List ℕ) (r : Received) (i : ℕ) (p : Packet) (a : Ask) → is_in 0 codes ≡ true → ReplyWithin codes (reply_request r i p a)
 request-within codes r i p a h = either codes (is_some (opened i r)) (says p) (asks a) h tt
 
 packet-within : (told : Topics) (p : Packet) (now : ℕ) (room : Bool) (s : State) (x : Reply) → IsReply told p now room s x → ReplyWithin (codes_of p) x

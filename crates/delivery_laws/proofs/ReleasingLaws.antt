@@ -1,3 +1,4 @@
+use Rattle.qos_handshakes.specs.Touched.{is_in}
 -- A PUBREL is sent only for an exchange that has not ended.
 use Rattle.std.proofs.Common.{◌≡◌, ℕ, Bool, true, false, cond, List, [], ◌∷◌, ◌++◌, Option, Some, None, refl, ap, inl, inr, arith}
 use Rattle.std.specs.Prelude.{◌==◌, ◌&&◌, nat_lt, is_some}
@@ -13,7 +14,6 @@ use Rattle.qos_handshakes.specs.declared.copies.Stage.{Stage}
 use Rattle.qos_handshakes.specs.declared.copies.Stage.TheVariants.{Waiting, Published, Released}
 use Rattle.qos_handshakes.specs.Entries.{find_id}
 use Rattle.qos_handshakes.specs.Outbox.{Outbox, is_released, takes_pubrec}
-use Rattle.handshake_laws.specs.Lists.{has}
 use Rattle.handshake_laws.specs.Numbers.{AreNumbered}
 use Rattle.handshake_laws.specs.Releases.{pubrecs_after}
 use Rattle.handshake_laws.specs.Runs as low
@@ -39,14 +39,14 @@ use Rattle.delivery_laws.proofs.ShownLaws.{AreShown, Shows, Allows, AllowsBy, ev
 
 -- ---- lists
 -- what holds where an identifier is in a list holds at its place there
-all-has : (id : ℕ) (G : Type 0) (xs : List ℕ) → (has id xs ≡ true → G) → AllByRecursion (λ i. i ≡ id → G) xs
+all-has : (id : ℕ) (G : Type 0) (xs : List ℕ) → (is_in id xs ≡ true → G) → AllByRecursion (λ i. i ≡ id → G) xs
 all-has id G [] f = tt
 all-has id G (x ∷ xs) f = (
   λ same. f (rw (eq-eqb x id same) refl),
   all-has id G xs (λ h. f (elim (cases_Bool (x == id)) [ inl t ↦ rw t refl | inr t ↦ rw t h ])),
 )
 
-has-last : (id : ℕ) (xs : List ℕ) → has id (xs ++ id ∷ []) ≡ true
+has-last : (id : ℕ) (xs : List ℕ) → is_in id (xs ++ id ∷ []) ≡ true
 has-last id [] = rw (eq-eqb id id refl) refl
 has-last id (x ∷ xs) = elim (cases_Bool (x == id)) [ inl t ↦ rw t refl | inr t ↦ rw t (has-last id xs) ]
 
@@ -81,7 +81,7 @@ unknown-shown id i reason G = elim (cases_Bool (nat_lt reason 128)) [
 
 -- the exchange is among those that are released after it
 pubrec-shown : (o : Option Entry) (id i reason : ℕ) (old : State) → find_id i old.outbox.copies ≡ o → AreDistinct (pairs old.outbox.copies)
-    → Shows (IfPubrel id (has id (cond (true && (is_unreleased o && nat_lt reason 128)) (released_ids old ++ i ∷ []) (released_ids old)) ≡ true)) (reply_pubrec o i reason)
+    → Shows (IfPubrel id (is_in id (cond (true && (is_unreleased o && nat_lt reason 128)) (released_ids old ++ i ∷ []) (released_ids old)) ≡ true)) (reply_pubrec o i reason)
 pubrec-shown None id i reason old is distinct = unknown-shown id i reason _
 pubrec-shown (Some x) id i reason old is distinct = elim (cases_Bool (is_released x.stage)) [
   | inl r ↦ rw (r, released-not x.delivery.qos x.stage r) (λ e.
@@ -104,7 +104,7 @@ distinct-run K start (c ∷ cs) end r n k = distinct-run (pubrecs_after K c) r.0
 -- ---- the events
 -- the exchange is among those of the list that an event leaves
 abbrev Held : ℕ → State → Event → Type 0
-Held id old e = has id (released_after old e) ≡ true
+Held id old e = is_in id (released_after old e) ≡ true
 
 none-asked : (a : Option Asked) (id i : ℕ) (codes : List ℕ) (G : Type 0) → Shows (IfPubrel id G) (reply_codes a i codes)
 none-asked None id i codes G = tt

@@ -1,8 +1,8 @@
+use Rattle.qos_handshakes.specs.Touched.{is_in}
 -- Which events end a connection, and with which Reason Code (MQTT 5.0, 3.14 and 4.13).
 use Rattle.std.specs.Prelude.{◌≡◌, ℕ, ◌⊎◌, Bool, true, false, List, [], ◌∷◌, Option, Some, None}
 use Rattle.mqtt_packets.specs.declared.packet.Packet.{Packet}
 use Rattle.mqtt_packets.specs.declared.packet.Packet.TheVariants as packets
-use Rattle.handshake_laws.specs.Lists.{has}
 use Rattle.mqtt_sessions.specs.Reaction.{Reaction}
 use Rattle.mqtt_sessions.specs.State.{State, new_session}
 use Rattle.session_laws.specs.Runs.{Event, connects, takes, answers, ticks, Step, Reacts, Run, connected_after}
@@ -28,7 +28,7 @@ codes_by e = []
 
 abbrev pub EndsWithin : List ℕ → Option ℕ → Type 0
 EndsWithin codes None = Unit {0}
-EndsWithin codes (Some code) = has code codes ≡ true
+EndsWithin codes (Some code) = is_in code codes ≡ true
 
 -- an event ends a connection with a code of its own, or not at all
 abbrev pub KeepsEndCodes : Type 0

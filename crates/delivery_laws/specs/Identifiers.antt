@@ -1,8 +1,8 @@
+use Rattle.qos_handshakes.specs.Touched.{is_in}
 -- Packet Identifiers of first sends, packet by packet (MQTT 5.0, 2.2.1).
 use Rattle.std.specs.Prelude.{◌≡◌, ◌≢◌, ℕ, ◌<◌, ◌≤◌, Bool, true, false, List, [], ◌∷◌}
 use Rattle.std.specs.List.{AllByRecursion}
 use Rattle.qos_handshakes.specs.Outbox.{Sent}
-use Rattle.handshake_laws.specs.Lists.{has}
 use Rattle.handshake_laws.specs.Resends.{SentCopy}
 use Rattle.mqtt_sessions.specs.State.{State, new_session}
 use Rattle.session_laws.specs.Exchanges.{Exchange, none}
@@ -43,7 +43,7 @@ pub record GoesApart (steps : List Step) : Type 0 where
   pub going : List SentCopy
   pub is : IsGoing steps going
   pub distinct : AreDistinct going
-  pub apart : AllByRecursion (λ (x : SentCopy). has x.0 (released_over false [] steps) ≡ false) going
+  pub apart : AllByRecursion (λ (x : SentCopy). is_in x.0 (released_over false [] steps) ≡ false) going
 
 abbrev pub KeepsApart : Type 0
 KeepsApart = (client : List ℕ) (steps : List Step) (end : State) → Run (new_session client) steps end → GoesApart steps

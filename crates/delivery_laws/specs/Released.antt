@@ -2,7 +2,8 @@
 use Rattle.std.specs.Prelude.{◌≡◌, ℕ, ◌==◌, ◌&&◌, not, Bool, true, false, cond, List, [], ◌∷◌, ◌++◌, None}
 use Rattle.mqtt_packets.specs.declared.packet.Packet.TheVariants as packets
 use Rattle.qos_handshakes.specs.Outbox.{Sent}
-use Rattle.handshake_laws.specs.Lists.{has, without}
+use Rattle.qos_handshakes.specs.Touched.{is_in}
+use Rattle.handshake_laws.specs.Lists.{without}
 use Rattle.mqtt_sessions.specs.declared.reaction.Output.{Output}
 use Rattle.mqtt_sessions.specs.declared.reaction.Output.TheVariants.{Answer}
 use Rattle.mqtt_sessions.specs.Reaction.{Reaction, publishes_of, pubrels_of}
@@ -13,7 +14,7 @@ use Rattle.session_laws.specs.Runs.{Event, connects, takes, Step, Reacts, Run, c
 
 -- where a PUBREL with Success is sent, the session holds its exchange as released after that event
 abbrev pub KeepsReleasesHeld : Type 0
-KeepsReleasesHeld = (client : List ℕ) (id : ℕ) (before : List Step) (s : Step) (mid end : State) → Run (new_session client) before mid → Reacts mid s.event s.reaction end → Releases id s.reaction.packets → has id (released_ids end) ≡ true
+KeepsReleasesHeld = (client : List ℕ) (id : ℕ) (before : List Step) (s : Step) (mid end : State) → Run (new_session client) before mid → Reacts mid s.event s.reaction end → Releases id s.reaction.packets → is_in id (released_ids end) ≡ true
 
 -- ---- PUBRELs at the beginning of a connection, as packets tell them (4.4)
 -- whether a PUBREL with Success is among packets
@@ -24,7 +25,7 @@ pubrel_in id (o ∷ os) = pubrel_in id os
 
 -- the exchanges that are released: each from the first PUBREC that a PUBREL with Success answers to its PUBCOMP, over all connections
 abbrev pub released_told : Bool → List ℕ → Event → Reaction → List ℕ
-released_told on ids (takes (packets.Pubrec a) now room) r = cond (pubrel_in a.identifier r.packets && not (has a.identifier ids)) (ids ++ a.identifier ∷ []) ids
+released_told on ids (takes (packets.Pubrec a) now room) r = cond (pubrel_in a.identifier r.packets && not (is_in a.identifier ids)) (ids ++ a.identifier ∷ []) ids
 released_told on ids (takes (packets.Pubcomp a) now room) r = cond on (without a.identifier ids) ids
 released_told on ids e r = ids
 

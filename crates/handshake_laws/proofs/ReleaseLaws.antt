@@ -24,7 +24,8 @@ use Rattle.qos_handshakes.specs.Entries.{Entries, stage_has, has_id, find_id, dr
 use Rattle.qos_handshakes.specs.Outbox.{Outbox, Sent, chosen, waits, is_published, is_released, is_acknowledged, is_completed, takes_pubrec, stage_pair, released_pair, sorted, by_release, stage_order, order_above, after_resend, NextStep, OfferStep, EndStep, ReceivedIf, empty_outbox}
 use Rattle.handshake_laws.specs.Runs.{Step, offered, acknowledged, completed, received, resumed, listed, asked, lost, Takes, Run}
 use Rattle.handshake_laws.specs.Numbers.{AreNumbered, NoneHas}
-use Rattle.handshake_laws.specs.Lists.{has, without}
+use Rattle.qos_handshakes.specs.Touched.{is_in}
+use Rattle.handshake_laws.specs.Lists.{without}
 use Rattle.handshake_laws.specs.Releases.{pubrecs_after, ReleasesKnown, AllReleasesKnown, KeepsReleases, pubrecs_in, KeepsReleasesFirst}
 use Rattle.qos_handshakes.proofs.EntryLaws.{none-head, none-tail}
 use Rattle.handshake_laws.proofs.NumberLaws.{numbered-step}
@@ -261,11 +262,11 @@ distinct-dropped id (e ∷ es) d = elim (cases_Bool (has_id id e.1)) [
 ]
 
 -- ---- which identifiers are released
-pub has-none : (id : ℕ) (S : List Pair) → AllByRecursion (λ y. y.1 ≢ id) S → has id (values_of S) ≡ false
+pub has-none : (id : ℕ) (S : List Pair) → AllByRecursion (λ y. y.1 ≢ id) S → is_in id (values_of S) ≡ false
 has-none id [] h = refl
 has-none id (s ∷ S) h = rw (ne_eqb s.1 id h.0) (has-none id S h.1)
 
-has-inserted : (k id : ℕ) (S : List Pair) → has id (values_of (insert_entry nat_cmp S k id)) ≡ true
+has-inserted : (k id : ℕ) (S : List Pair) → is_in id (values_of (insert_entry nat_cmp S k id)) ≡ true
 has-inserted k id [] = rw (eq-eqb id id refl) refl
 has-inserted k id (s ∷ S) = elim (compared k s.0) [
   | inl c ↦ rw (less k s.0 c) (rw (eq-eqb id id refl) refl)
@@ -275,7 +276,7 @@ has-inserted k id (s ∷ S) = elim (compared k s.0) [
   ]
 ]
 
-has-kept : (k v id : ℕ) (S : List Pair) → AllByRecursion (λ s. s.0 ≢ k) S → has id (values_of S) ≡ true → has id (values_of (insert_entry nat_cmp S k v)) ≡ true
+has-kept : (k v id : ℕ) (S : List Pair) → AllByRecursion (λ s. s.0 ≢ k) S → is_in id (values_of S) ≡ true → is_in id (values_of (insert_entry nat_cmp S k v)) ≡ true
 has-kept k v id [] h t = absurd (false≢true t)
 has-kept k v id (s ∷ S) h t = elim (compared k s.0) [
   | inl c ↦ rw (less k s.0 c) (elim (cases_Bool (v == id)) [ inl q ↦ rw q refl | inr q ↦ rw q t ])
@@ -285,17 +286,17 @@ has-kept k v id (s ∷ S) h t = elim (compared k s.0) [
   ]
 ]
 
-head-has : (id : ℕ) (s : Stage) (xs : List Pair) → stage_has id s ≡ true → is_released s ≡ true → has id (values_of (sorted (stage_pair s ++ xs))) ≡ true
+head-has : (id : ℕ) (s : Stage) (xs : List Pair) → stage_has id s ≡ true → is_released s ≡ true → is_in id (values_of (sorted (stage_pair s ++ xs))) ≡ true
 head-has id Waiting xs h r = absurd (false≢true r)
 head-has id (Published i) xs h r = absurd (false≢true r)
 head-has id (Released i order) xs h r = rw (eqb-true i id h) (has-inserted order id (sorted xs))
 
-tail-has : (id : ℕ) (s : Stage) (xs : List Pair) → AreDistinct (stage_pair s ++ xs) → has id (values_of (sorted xs)) ≡ true → has id (values_of (sorted (stage_pair s ++ xs))) ≡ true
+tail-has : (id : ℕ) (s : Stage) (xs : List Pair) → AreDistinct (stage_pair s ++ xs) → is_in id (values_of (sorted xs)) ≡ true → is_in id (values_of (sorted (stage_pair s ++ xs))) ≡ true
 tail-has id Waiting xs d h = h
 tail-has id (Published i) xs d h = h
 tail-has id (Released i order) xs d h = has-kept order i id (sorted xs) (all-sorted (λ s. s.0 ≢ order) xs (all-firsts order i xs d.0)) h
 
-pub has-released : (id : ℕ) (x : Entry) (es : Entries) → AreDistinct (pairs es) → find_id id es ≡ Some x → is_released x.stage ≡ true → has id (values_of (sorted (pairs es))) ≡ true
+pub has-released : (id : ℕ) (x : Entry) (es : Entries) → AreDistinct (pairs es) → find_id id es ≡ Some x → is_released x.stage ≡ true → is_in id (values_of (sorted (pairs es))) ≡ true
 has-released id x [] d is r = (cc is)
 has-released id x (e ∷ es) d is r = elim (cases_Bool (has_id id e.1)) [
   | inl h ↦ let f : Some e.1 ≡ Some x = rw h at is in let same : e.1 ≡ x = cc in head-has id e.1.stage (pairs es) h (rw same r)
@@ -320,7 +321,7 @@ not-released id x (e ∷ es) n is p = elim (cases_Bool (has_id id e.1)) [
   | inr h ↦ all-both (λ y. y.1 ≢ id) (stage_pair e.1.stage) (pairs es) (pair-other id e.1.stage h) (not-released id x es n.1 (rw h at is) p)
 ]
 
-has-last : (id : ℕ) (ks : List ℕ) → has id (ks ++ id ∷ []) ≡ true
+has-last : (id : ℕ) (ks : List ℕ) → is_in id (ks ++ id ∷ []) ≡ true
 has-last id [] = rw (eq-eqb id id refl) refl
 has-last id (k ∷ ks) = elim (cases_Bool (k == id)) [ inl h ↦ rw h refl | inr h ↦ rw h (has-last id ks) ]
 
@@ -420,7 +421,7 @@ known-received known None old new id reason a is s n k = rw (s.0, s.1) (tt, k)
 known-received known (Some x) old new id reason rec.Release is (inl s) n k =
     let p = pair-received x.delivery.qos x.stage s.0 in
     let others = not-released id x old.copies n is p in
-    let free : has id known ≡ false = ap (has id) k.is ∙ has-none id (by_release old.copies) (all-sorted (λ y. y.1 ≢ id) (pairs old.copies) others) in
+    let free : is_in id known ≡ false = ap (is_in id) k.is ∙ has-none id (by_release old.copies) (all-sorted (λ y. y.1 ≢ id) (pairs old.copies) others) in
     rw (s.3, free, lt-ltb reason 128 s.1) (
       has-last id known,
       record {
@@ -430,7 +431,7 @@ known-received known (Some x) old new id reason rec.Release is (inl s) n k =
       },
     )
 known-received known (Some x) old new id reason rec.Release is (inr s) n k =
-    let there : has id known ≡ true = ap (has id) k.is ∙ has-released id x old.copies k.distinct is s.0 in rw (s.1, there) (there, k)
+    let there : is_in id known ≡ true = ap (is_in id) k.is ∙ has-released id x old.copies k.distinct is s.0 in rw (s.1, there) (there, k)
 known-received known (Some x) old new id reason rec.Ended is s n k =
     (tt, rw s.2 (known-same known old _ (chosen-dropped released_pair id x old.copies is (pair-received x.delivery.qos x.stage s.0)) refl k))
 known-received known (Some x) old new id reason rec.Unknown is s n k = (tt, rw s.2 k)

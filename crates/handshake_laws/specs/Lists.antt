@@ -6,10 +6,6 @@ abbrev pub Without : {A : Type 0} → (A → Type 0) → List A → List A → T
 Without P [] ys = ys ≡ []
 Without {A = A} P (x ∷ xs) ys = (P x × Without P xs ys) ⊎ ((zs : List A) × (ys ≡ x ∷ zs) × Without P xs zs)
 
-abbrev pub has : ℕ → List ℕ → Bool
-has id [] = false
-has id (k ∷ ks) = cond (k == id) true (has id ks)
-
 -- without the first that is the identifier
 abbrev pub without : ℕ → List ℕ → List ℕ
 without id [] = []

@@ -3,18 +3,19 @@ use Rattle.std.specs.Prelude.{◌≡◌, ℕ, true, cond, nat_lt, List, [], ◌�
 use Rattle.qos_handshakes.specs.declared.answers.Ack.TheVariants.{Done}
 use Rattle.qos_handshakes.specs.Outbox.{Outbox, empty_outbox}
 use Rattle.handshake_laws.specs.Runs.{Step, Run, completed, received, resumed, listed}
-use Rattle.handshake_laws.specs.Lists.{has, without}
+use Rattle.qos_handshakes.specs.Touched.{is_in}
+use Rattle.handshake_laws.specs.Lists.{without}
 use Rattle.qos_handshakes.specs.declared.answers.Rec.TheVariants as rec
 
 -- the identifiers whose PUBREC below 0x80 came and whose PUBCOMP did not, in the order of their first PUBRECs
 abbrev pub pubrecs_after : List ℕ → Step → List ℕ
-pubrecs_after known (received id reason rec.Release) = cond (has id known) known (cond (nat_lt reason 128) (known ++ id ∷ []) known)
+pubrecs_after known (received id reason rec.Release) = cond (is_in id known) known (cond (nat_lt reason 128) (known ++ id ∷ []) known)
 pubrecs_after known (completed id Done) = without id known
 pubrecs_after known s = known
 
 -- a PUBREL answers such a PUBREC, or is one of those at the beginning of a connection, which are all of them in order
 abbrev pub ReleasesKnown : List ℕ → Step → Type 0
-ReleasesKnown known (received id reason rec.Release) = has id (pubrecs_after known (received id reason rec.Release)) ≡ true
+ReleasesKnown known (received id reason rec.Release) = is_in id (pubrecs_after known (received id reason rec.Release)) ≡ true
 ReleasesKnown known (listed ids) = ids ≡ known
 ReleasesKnown known s = Unit {0}
 

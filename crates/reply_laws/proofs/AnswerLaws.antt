@@ -1,3 +1,4 @@
+use Rattle.qos_handshakes.specs.Touched.{is_in}
 -- Each PUBLISH, PUBREL, SUBSCRIBE and UNSUBSCRIBE is answered as the packets before it say.
 use Rattle.std.proofs.Common.{◌≡◌, ℕ, ◌<◌, ◌≤◌, Bool, true, false, cond, List, [], ◌∷◌, ◌++◌, Option, Some, None, length, refl, sym, ◌∙◌, ap, arith, inl, inr}
 use Rattle.std.specs.Prelude.{◌&&◌, not, is_some, replicate}
@@ -13,7 +14,6 @@ use Rattle.mqtt_topics.specs.Levels.{is_wildcard}
 use Rattle.mqtt_message.specs.Accepted.{accepted}
 use Rattle.mqtt_message.specs.declared.message.Message.{Message}
 use Rattle.qos_handshakes.specs.Incoming.{Received, opened, opened_here}
-use Rattle.handshake_laws.specs.Lists.{has}
 use Rattle.handshake_laws.proofs.ChosenLaws.{append-nil}
 use Rattle.mqtt_sessions.specs.declared.reaction.Ask.{Ask}
 use Rattle.mqtt_sessions.specs.declared.reaction.Ask.TheVariants as server
@@ -76,7 +76,7 @@ module _ (limit : ℕ) (long : 5 ≤ limit) (o : OpenExchanges) (held : Received
     | inr t ↦ elim (cases_Bool (is_some (opened id held))) [
       | inl u ↦ (in_use, (not-full t, sym (known-open o held id k) ∙ u), rw (t, u) at is ∙ said limit (puback id 145) (puback-fits limit long id).1)
       | inr u ↦
-          let new : has id o.all ≡ false = sym (known-open o held id k) ∙ u in
+          let new : is_in id o.all ≡ false = sym (known-open o held id k) ∙ u in
           elim (cases_Bool refused) [
             | inl v ↦ (over_quota, (not-full t, new, v), rw (t, u, v) at is ∙ said limit (puback id 151) (puback-fits limit long id).2)
             | inr v ↦ (passed_on, (not-full t, new, v), rw (t, u, v) at is ∙ said-both limit (puback id 0) (server.Pass m) (puback-fits limit long id).0)
@@ -95,7 +95,7 @@ module _ (limit : ℕ) (long : 5 ≤ limit) (o : OpenExchanges) (held : Received
   twice-answered None refused m id e is = elim (cases_Bool (has_hundred held)) [
     | inl t ↦ (exceeded, (full t, known-not-here o held id k e), rw t at is ∙ ended limit 147 long (omega arith))
     | inr t ↦
-        let new : has id o.all ≡ false = known-none o held id k e in
+        let new : is_in id o.all ≡ false = known-none o held id k e in
         elim (cases_Bool refused) [
           | inl v ↦ (over_quota, (not-full t, new, v), rw (t, v) at is ∙ said limit (pubrec id 151) (pubrec-fits limit long id).1)
           | inr v ↦ (passed_on, (not-full t, new, v), rw (t, v) at is ∙ said-both limit (pubrec id 0) (server.Pass m) (pubrec-fits limit long id).0)
@@ -132,8 +132,8 @@ module _ (limit : ℕ) (long : 5 ≤ limit) (o : OpenExchanges) (held : Received
   request-answered true p ask is = elim (cases_Bool (fits limit p)) [ inl f ↦ inl (rw f at is) | inr f ↦ inr (rw f at is) ]
   request-answered false p ask is = is
 
-  asks-so : (id : ℕ) (p : Packet) (ask : Ask) (x : Reply) → x ≡ reply_request held id p ask → r ≡ reaction_of limit x → AsksOrSays (has id o.all) p ask r
-  asks-so id p ask x same is = request-answered (has id o.all) p ask (is ∙ ap (reaction_of limit) (same ∙ ap (λ (b : Bool). cond b (says p) (asks ask)) (known-open o held id k)))
+  asks-so : (id : ℕ) (p : Packet) (ask : Ask) (x : Reply) → x ≡ reply_request held id p ask → r ≡ reaction_of limit x → AsksOrSays (is_in id o.all) p ask r
+  asks-so id p ask x same is = request-answered (is_in id o.all) p ask (is ∙ ap (reaction_of limit) (same ∙ ap (λ (b : Bool). cond b (says p) (asks ask)) (known-open o held id k)))
 
 -- ---- the last of a list of events
 then-none : (r : Reaction) → then_sends r [] ≡ r
@@ -190,7 +190,7 @@ keeps-pubrels = λ client before a now room r end run on.
     alone (topics_told before) x.limit (packets.Pubrel a) now room x.state r x.replied (λ never. never)
     ∙ ap (reaction_of x.limit) x.replied.is
     ∙ ap (λ (b : Bool). reaction_of x.limit (says (pubcomp a.identifier (cond b 0 146)))) (known-open o x.state.incoming a.identifier x.knows)
-    ∙ said x.limit (pubcomp a.identifier (cond (has a.identifier o.all) 0 146)) (pubcomp-fits x.limit x.long a.identifier (has a.identifier o.all))
+    ∙ said x.limit (pubcomp a.identifier (cond (is_in a.identifier o.all) 0 146)) (pubcomp-fits x.limit x.long a.identifier (is_in a.identifier o.all))
 
 asks-by : (client : List ℕ) (p : Packet) (before : List Step) (now : ℕ) (room : Bool) (r : Reaction) → Last client before p now room r → AsksBy (open_told before) p r
 asks-by client (packets.Subscribe p) before now room r x = λ fair.

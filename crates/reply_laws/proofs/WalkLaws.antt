@@ -1,3 +1,4 @@
+use Rattle.qos_handshakes.specs.Touched.{is_in}
 -- What packets show is what a session holds, event by event.
 use Rattle.std.proofs.Common.{◌≡◌, ℕ, ◌+◌, ◌≤◌, Bool, true, false, cond, List, [], ◌∷◌, Option, Some, None, length, refl, sym, ◌∙◌, ap, subst, arith, inl, inr}
 use Rattle.std.specs.Prelude.{◌==◌, ◌&&◌, nat_le, is_some, not}
@@ -23,7 +24,6 @@ use Rattle.qos_handshakes.specs.declared.answers.Rec.{Rec}
 use Rattle.qos_handshakes.specs.declared.answers.Rec.TheVariants as rec
 use Rattle.qos_handshakes.specs.Incoming.{Received, opened, of_before}
 use Rattle.qos_handshakes.specs.Outbox.{Outbox}
-use Rattle.handshake_laws.specs.Lists.{has}
 use Rattle.handshake_laws.specs.Numbers.{AreNumbered}
 use Rattle.mqtt_sessions.specs.declared.link.Asked.{Asked}
 use Rattle.mqtt_sessions.specs.declared.reaction.Ask.{Ask}
@@ -117,7 +117,7 @@ abbrev after_publish : Publish → Reaction → OpenExchanges → OpenExchanges
 after_publish p r o = cond (opens_one p r o) (with_one p.identifier o) o
 
 -- it opens nothing
-none-opens : (p : Publish) (r : Reaction) (o : OpenExchanges) → (is_exactly_once p.qos ≡ true → pubrec_in p.identifier r.packets ≡ true → has p.identifier o.all ≡ true) → after_publish p r o ≡ o
+none-opens : (p : Publish) (r : Reaction) (o : OpenExchanges) → (is_exactly_once p.qos ≡ true → pubrec_in p.identifier r.packets ≡ true → is_in p.identifier o.all ≡ true) → after_publish p r o ≡ o
 none-opens p r o h = elim (cases_Bool (is_exactly_once p.qos)) [
   | inl q ↦ elim (cases_Bool (pubrec_in p.identifier r.packets)) [
     | inl u ↦ rw (q, u, h q u) refl
@@ -127,10 +127,10 @@ none-opens p r o h = elim (cases_Bool (is_exactly_once p.qos)) [
 ]
 
 -- it opens one
-one-opens : (p : Publish) (r : Reaction) (o : OpenExchanges) → is_exactly_once p.qos ≡ true → pubrec_in p.identifier r.packets ≡ true → has p.identifier o.all ≡ false → after_publish p r o ≡ with_one p.identifier o
+one-opens : (p : Publish) (r : Reaction) (o : OpenExchanges) → is_exactly_once p.qos ≡ true → pubrec_in p.identifier r.packets ≡ true → is_in p.identifier o.all ≡ false → after_publish p r o ≡ with_one p.identifier o
 one-opens p r o q u v = rw (q, u, v) refl
 
-still : (p : Publish) (r : Reaction) (o : OpenExchanges) (old new : Received) → Knows o old → new ≡ old → (is_exactly_once p.qos ≡ true → pubrec_in p.identifier r.packets ≡ true → has p.identifier o.all ≡ true) → Knows (after_publish p r o) new
+still : (p : Publish) (r : Reaction) (o : OpenExchanges) (old new : Received) → Knows o old → new ≡ old → (is_exactly_once p.qos ≡ true → pubrec_in p.identifier r.packets ≡ true → is_in p.identifier o.all ≡ true) → Knows (after_publish p r o) new
 still p r o old new k same h = rw (none-opens p r o h, same) k
 
 silent-not : (id : ℕ) (r : Reaction) (P : Type 0) → r.packets ≡ [] → pubrec_in id r.packets ≡ true → P

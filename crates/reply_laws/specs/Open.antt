@@ -2,7 +2,8 @@
 use Rattle.std.specs.Prelude.{ℕ, ◌==◌, ◌&&◌, not, nat_lt, Bool, true, false, cond, List, [], ◌∷◌, ◌++◌}
 use Rattle.mqtt_packets.specs.declared.packet.Packet.TheVariants as packets
 use Rattle.mqtt_packets.specs.declared.publish.Publish.{Publish}
-use Rattle.handshake_laws.specs.Lists.{has, without}
+use Rattle.qos_handshakes.specs.Touched.{is_in}
+use Rattle.handshake_laws.specs.Lists.{without}
 use Rattle.mqtt_sessions.specs.declared.reaction.Output.{Output}
 use Rattle.mqtt_sessions.specs.declared.reaction.Output.TheVariants.{Answer}
 use Rattle.mqtt_sessions.specs.Reaction.{Reaction}
@@ -25,7 +26,7 @@ pubrec_in id (o ∷ os) = pubrec_in id os
 
 -- a PUBLISH at QoS 2 that PUBREC below 0x80 answers opens its exchange, unless that is open
 abbrev pub opens_one : Publish → Reaction → OpenExchanges → Bool
-opens_one p r o = is_exactly_once p.qos && (pubrec_in p.identifier r.packets && not (has p.identifier o.all))
+opens_one p r o = is_exactly_once p.qos && (pubrec_in p.identifier r.packets && not (is_in p.identifier o.all))
 
 abbrev pub with_one : ℕ → OpenExchanges → OpenExchanges
 with_one id o = record { all = o.all ++ id ∷ []; here = o.here ++ id ∷ [] }

@@ -1,3 +1,4 @@
+use Rattle.qos_handshakes.specs.Touched.{is_in}
 -- The answers to PUBLISH and PUBREL, by the packets before them (MQTT 5.0, 3.2.2.3.3, 3.3, 3.6 and 4.3).
 use Rattle.std.specs.Prelude.{◌≡◌, ℕ, ◌<◌, ◌≤◌, ◌&&◌, ◌⊎◌, not, Bool, true, false, cond, List, [], ◌∷◌, ◌++◌, length, Option, Some, None, unwrap_or}
 use Rattle.std.specs.List.{list_any}
@@ -11,7 +12,6 @@ use Rattle.mqtt_packets.specs.declared.publish.Publish.{Publish}
 use Rattle.mqtt_topics.specs.Levels.{is_wildcard}
 use Rattle.mqtt_message.specs.Accepted.{accepted}
 use Rattle.mqtt_message.specs.declared.message.Message.{Message}
-use Rattle.handshake_laws.specs.Lists.{has}
 use Rattle.mqtt_sessions.specs.declared.reaction.Ask.TheVariants.{Pass}
 use Rattle.mqtt_sessions.specs.declared.reaction.Output.TheVariants.{Answer}
 use Rattle.mqtt_sessions.specs.Answers.{puback, pubrec, pubcomp}
@@ -33,18 +33,18 @@ pub data Verdict : Type 0 where
   exceeded : Verdict
 
 abbrev pub FaresOnce : OpenExchanges → ℕ → Bool → Verdict → Type 0
-FaresOnce o id refused passed_on = (length o.here < 100) × (has id o.all ≡ false) × (refused ≡ false)
+FaresOnce o id refused passed_on = (length o.here < 100) × (is_in id o.all ≡ false) × (refused ≡ false)
 FaresOnce o id refused repeated = ⊥
-FaresOnce o id refused in_use = (length o.here < 100) × (has id o.all ≡ true)
-FaresOnce o id refused over_quota = (length o.here < 100) × (has id o.all ≡ false) × (refused ≡ true)
+FaresOnce o id refused in_use = (length o.here < 100) × (is_in id o.all ≡ true)
+FaresOnce o id refused over_quota = (length o.here < 100) × (is_in id o.all ≡ false) × (refused ≡ true)
 FaresOnce o id refused exceeded = 100 ≤ length o.here
 
 abbrev pub FaresTwice : OpenExchanges → ℕ → Bool → Verdict → Type 0
-FaresTwice o id refused passed_on = (length o.here < 100) × (has id o.all ≡ false) × (refused ≡ false)
-FaresTwice o id refused repeated = (has id o.here ≡ true) ⊎ ((length o.here < 100) × (has id o.all ≡ true))
+FaresTwice o id refused passed_on = (length o.here < 100) × (is_in id o.all ≡ false) × (refused ≡ false)
+FaresTwice o id refused repeated = (is_in id o.here ≡ true) ⊎ ((length o.here < 100) × (is_in id o.all ≡ true))
 FaresTwice o id refused in_use = ⊥
-FaresTwice o id refused over_quota = (length o.here < 100) × (has id o.all ≡ false) × (refused ≡ true)
-FaresTwice o id refused exceeded = (100 ≤ length o.here) × (has id o.here ≡ false)
+FaresTwice o id refused over_quota = (length o.here < 100) × (is_in id o.all ≡ false) × (refused ≡ true)
+FaresTwice o id refused exceeded = (100 ≤ length o.here) × (is_in id o.here ≡ false)
 
 -- what the client gets, and no more: Success; Success; Packet Identifier in use; Quota exceeded; DISCONNECT with Receive Maximum exceeded
 abbrev pub GetsBack : (ℕ → Packet) → Message → Verdict → Reaction → Type 0
@@ -91,4 +91,4 @@ KeepsPublishes = (client : List ℕ) (before : List Step) (p : Publish) (now : �
 -- PUBREL: PUBCOMP with Success, or with Packet Identifier not found
 abbrev pub KeepsPubrels : Type 0
 KeepsPubrels = (client : List ℕ) (before : List Step) (a : Ack) (now : ℕ) (room : Bool) (r : Reaction) (end : State) → Run (new_session client) (before ++ record { event = takes (packets.Pubrel a) now room; reaction = r } ∷ []) end → connected_told before ≡ true
-    → r ≡ record nothing { packets = Answer (pubcomp a.identifier (cond (has a.identifier (open_told before).all) 0 146)) ∷ [] }
+    → r ≡ record nothing { packets = Answer (pubcomp a.identifier (cond (is_in a.identifier (open_told before).all) 0 146)) ∷ [] }

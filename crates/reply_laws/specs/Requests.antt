@@ -1,8 +1,8 @@
+use Rattle.qos_handshakes.specs.Touched.{is_in}
 -- Which SUBSCRIBE or UNSUBSCRIBE asks the server, by the packets before it (MQTT 5.0, 2.2.1, 3.8 to 3.11).
 use Rattle.std.specs.Prelude.{◌≡◌, ℕ, ◌⊎◌, Bool, true, false, List, [], ◌∷◌, ◌++◌, length, replicate, Some}
 use Rattle.mqtt_packets.specs.declared.packet.Packet.{Packet}
 use Rattle.mqtt_packets.specs.declared.packet.Packet.TheVariants as packets
-use Rattle.handshake_laws.specs.Lists.{has}
 use Rattle.mqtt_sessions.specs.declared.reaction.Ask.{Ask}
 use Rattle.mqtt_sessions.specs.declared.reaction.Ask.TheVariants as server
 use Rattle.mqtt_sessions.specs.declared.reaction.Output.TheVariants.{Answer}
@@ -20,8 +20,8 @@ AsksOrSays false p ask r = r ≡ record nothing { ask = Some ask }
 
 -- Packet Identifier in use for each filter
 abbrev pub AsksBy : OpenExchanges → Packet → Reaction → Type 0
-AsksBy o (packets.Subscribe p) r = (AsksNoLocalShare p.filters → ⊥) → AsksOrSays (has p.identifier o.all) (suback p.identifier (replicate (length p.filters) 145)) server.Subscribe r
-AsksBy o (packets.Unsubscribe p) r = AsksOrSays (has p.identifier o.all) (unsuback p.identifier (replicate (length p.filters) 145)) server.Unsubscribe r
+AsksBy o (packets.Subscribe p) r = (AsksNoLocalShare p.filters → ⊥) → AsksOrSays (is_in p.identifier o.all) (suback p.identifier (replicate (length p.filters) 145)) server.Subscribe r
+AsksBy o (packets.Unsubscribe p) r = AsksOrSays (is_in p.identifier o.all) (unsuback p.identifier (replicate (length p.filters) 145)) server.Unsubscribe r
 AsksBy o p r = Unit {0}
 
 abbrev pub KeepsRequests : Type 0

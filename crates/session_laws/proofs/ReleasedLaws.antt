@@ -19,7 +19,8 @@ use Rattle.mqtt_fields.specs.declared.options.Qos.{Qos}
 use Rattle.mqtt_fields.specs.declared.options.Qos.TheVariants.{AtMostOnce, AtLeastOnce, ExactlyOnce}
 use Rattle.qos_handshakes.specs.Entries.{find_id}
 use Rattle.qos_handshakes.specs.Outbox.{Outbox, Sent, EndStep, ReceivedIf, NextStep, is_completed, is_released, takes_pubrec, stage_pair, released_pair, chosen, sorted, by_release}
-use Rattle.handshake_laws.specs.Lists.{has, without}
+use Rattle.qos_handshakes.specs.Touched.{is_in}
+use Rattle.handshake_laws.specs.Lists.{without}
 use Rattle.handshake_laws.specs.Numbers.{AreNumbered}
 use Rattle.handshake_laws.specs.Runs.{offered, acknowledged, completed, received, resumed, asked, lost}
 use Rattle.handshake_laws.specs.Releases.{pubrecs_after}
@@ -99,11 +100,11 @@ received-list : (a : Rec) (o : Option Entry) (id reason : ℕ) (old mid : Outbox
 received-list a None id reason old mid K is s numbers n k = rw s.0 refl
 received-list rec.Release (Some x) id reason old mid K is (inl s) numbers n k =
     let others = not-released id x old.copies n is (pair-unreleased x.delivery.qos x.stage s.0) in
-    let free : has id K ≡ false = ap (has id) k.is ∙ has-none id (by_release old.copies) (all-sorted (λ y. y.1 ≡ id → ⊥) (chosen released_pair old.copies) others) in
+    let free : is_in id K ≡ false = ap (is_in id) k.is ∙ has-none id (by_release old.copies) (all-sorted (λ y. y.1 ≡ id → ⊥) (chosen released_pair old.copies) others) in
     rw (s.0, free, lt-ltb reason 128 s.1) refl
 received-list rec.Release (Some x) id reason old mid K is (inr s) numbers n k =
     let there = has-released id x old.copies k.distinct is s.0 in
-    let known : has id K ≡ true = ap (has id) k.is ∙ there in
+    let known : is_in id K ≡ true = ap (is_in id) k.is ∙ there in
     rw (released-not x.delivery.qos x.stage s.0, known) refl
 received-list rec.Ended (Some x) id reason old mid K is s numbers n k = rw (s.0, le-ltb reason 128 s.1) refl
 received-list rec.Unknown (Some x) id reason old mid K is s numbers n k = rw s.0 refl
