@@ -134,7 +134,7 @@ fn names_are_escaped(rt: HostRuntime) {
     assert!(rt;
         contains(
             &page,
-            b"<p class=\"apart\">1 of 2 peers are not linked, or lack operations.</p>"
+            b"<p class=\"apart\">Apart: 1 of 2 peers (not linked, or lacking operations).</p>"
         )
     );
     let metrics = answer(

@@ -22,7 +22,7 @@ unfoldable pub verdict_text : ℕ → ℕ → List ℕ
 verdict_text apart peers =
     if peers == 0 then codes "<p class=\"agrees\">This node has no peers.</p>\n"
     else if apart == 0 then codes "<p class=\"agrees\">Each peer is linked, and has all that this node has.</p>\n"
-    else codes "<p class=\"apart\">" ++ decimal apart ++ codes " of " ++ decimal peers ++ codes " peers are not linked, or lack operations.</p>\n"
+    else codes "<p class=\"apart\">Apart: " ++ decimal apart ++ codes " of " ++ decimal peers ++ codes " peers (not linked, or lacking operations).</p>\n"
 
 unfoldable pub with_node : Figures → List ℕ → List ℕ
 with_node figures text =

@@ -13,7 +13,7 @@ abbrev pub link_of : Peer → List ℕ
 link_of peer = if peer.linked then codes "linked" else codes "not linked"
 
 abbrev pub state_text : Peer → List ℕ
-state_text peer = if is_equal peer then codes "equal" else codes "lacking " ++ decimal peer.lacking ++ codes " operations"
+state_text peer = if is_equal peer then codes "equal" else codes "lacking operations: " ++ decimal peer.lacking
 
 unfoldable pub row_start : List ℕ → List ℕ
 row_start class = codes "<tr class=\"" ++ class ++ codes "\">"

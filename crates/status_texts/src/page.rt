@@ -53,7 +53,7 @@ fn push_verdict(text: &mut String, apart: usize, peers: usize) -> Result<(), All
     } else {
         write!(
             text,
-            "<p class=\"apart\">{apart} of {peers} peers are not linked, or lack operations.</p>\n"
+            "<p class=\"apart\">Apart: {apart} of {peers} peers (not linked, or lacking operations).</p>\n"
         )
     }
 }

@@ -28,7 +28,7 @@ fn state_of(alloc: Global, peer: &Peer) -> Result<String, AllocError>
     if peer.is_equal() {
         String::from_str(alloc, "equal")
     } else {
-        format!(in alloc; "lacking {lacking} operations")
+        format!(in alloc; "lacking operations: {lacking}")
     }
 }
 
