@@ -34,7 +34,7 @@ fn name_of(alloc: Global, text: &Text) -> Result<TopicName, FieldFault>
 }
 
 /// A topic name at the front, and the bytes after it. Only a string that is read wants memory.
-pub(crate) fn name_at(alloc: Global, bytes: &[u8]) -> Result<(TopicName, &[u8]), FieldFault>
+pub fn name_at(alloc: Global, bytes: &[u8]) -> Result<(TopicName, &[u8]), FieldFault>
     ensures exact { Gives (λ x. (x.0, x.1.now)) result (name.at bytes.now) }
     ensures no_memory { IsErrOf result FieldFault.NoMemory → IsOk (text.at bytes.now) }
 {

@@ -17,7 +17,7 @@ mod written;
 
 pub use delivery::Delivery;
 pub use expiry::due;
-pub use field::{flag_at, put_flag};
+pub use field::{flag_at, name_at, put_flag};
 pub use identifiers::Identifiers;
 pub use laws::{read_as_spelled, sent_is_spelled, spelled_is_acceptable};
 pub use message::Message;

@@ -11,7 +11,7 @@ use Rattle.qos_handshakes.specs.Touched.{AreListed}
 use Rattle.row_store.specs.declared.row.Row.{Row}
 use Rattle.row_store.specs.declared.row.Change.{Change}
 use Rattle.row_store.specs.Rows.{entry_of}
-use Rattle.session_rows.specs.Changes.{Plain, Told, Follows, changes_of, is_told, plain_of, untold}
+use Rattle.session_rows.specs.Changes.{PlainChange, Told, Follows, changes_of, is_told, plain_of, untold}
 use Rattle.session_rows.specs.Durable.{Durable, IsDurable}
 use Rattle.session_rows.specs.declared.session.Opened.{Opened}
 use Rattle.session_rows.specs.Fields.{Main, main}
@@ -115,15 +115,15 @@ TellsIf (Some old) (Ok changes) new = (after : Saved) × (new ≡ Some after) ×
 TellsIf (Some old) (Err e) new = (e ≡ NoMemory) × (new ≡ None)
 
 -- what was told last of its own row, as a change, unless its value was told
-abbrev pub own_before : Bool → List ℕ → Option (List ℕ) → List Plain
+abbrev pub own_before : Bool → List ℕ → Option (List ℕ) → List PlainChange
 own_before is_told client told = cond is_told [] ((main_key client, told) ∷ [])
 
 -- what goes before the changes: where they name its own row, what was told last of that
-abbrev pub told_before : Saved → List Plain
+abbrev pub told_before : Saved → List PlainChange
 told_before s = own_before (is_told s.told.value (main.bytes (main_of s.tracked.state))) s.tracked.state.kept.client s.told.value
 
 -- changes are appended, which are these
-abbrev pub Appends : List Plain → List Change → List Change → Type 0
+abbrev pub Appends : List PlainChange → List Change → List Change → Type 0
 Appends these before after = (own : List Change) × (after ≡ before ++ own) × (map plain_of own ≡ these)
 
 -- the rows of a session

@@ -9,9 +9,8 @@ ghost use Rattle.mqtt_message.specs.Spellings as messages;
 ghost use Rattle.std.specs.Str.{bytes_eq};
 ghost use Rattle.replica_bytes.specs.Values as spec;
 
-use crate::values::name_at;
 use mqtt_fields::{FieldFault, NoMemory, put_u16, put_u64, u16_at, u64_at};
-use mqtt_message::{Message, SharedMessage, flag_at, put_flag};
+use mqtt_message::{Message, SharedMessage, flag_at, name_at, put_flag};
 use mqtt_topics::TopicName;
 use replica_store::{Kept, Stamp};
 use std::alloc::Global;

@@ -11,5 +11,6 @@ mod values;
 
 pub use entry::{entry_of, write_subscription};
 pub use kept::{kept_at, kept_fits, write_kept};
+pub use retained::content_of;
 pub use store::{read_store, write_store};
 pub use values::{dot_at, filter_at, write_dot};

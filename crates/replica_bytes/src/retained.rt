@@ -60,8 +60,8 @@ fn are_rising(entries: &[(TopicName, Kept)]) -> bool
     true
 }
 
-// What a Put gives the topic: the message, which is its own, or a tombstone.
-fn content_of(topic: TopicName, message: Option<SharedMessage>) -> Content
+/// What a Put gives the topic: the message, which is its own, or a tombstone where there is none.
+pub fn content_of(topic: TopicName, message: Option<SharedMessage>) -> Content
     requires { IsTrue (has_topic topic message) }
     ensures topic { topic_in result ≡ topic }
     ensures message { message_in result ≡ message }

@@ -1,14 +1,12 @@
 //! Readers and writers of the values in a store.
-ghost use Rattle.std.specs.Prelude.{◌≡◌, ◌+◌, ◌<◌, ◌≤◌, ◌++◌, length, vec_len, vec_capacity, OnOk, OnErr, IsOk, IsErrOf};
+ghost use Rattle.std.specs.Prelude.{◌≡◌, ◌+◌, ◌<◌, ◌≤◌, ◌++◌, length, vec_len, vec_capacity, OnOk, OnErr, IsErrOf};
 ghost use Rattle.mqtt_fields.specs.Reading.{Gives};
-ghost use Rattle.mqtt_fields.specs.Numbers.{text};
-ghost use Rattle.mqtt_message.specs.Parts.{name, name_in};
 ghost use Rattle.replica_bytes.specs.Values as spec;
 ghost use Rattle.replica_bytes.specs.Values.{filter_in};
 
 use causal_context::Dot;
 use mqtt_fields::{FieldFault, NoMemory, Text, put_u16, put_u64, u16_at, u64_at};
-use mqtt_topics::{Filter, TopicFault, TopicName};
+use mqtt_topics::{Filter, TopicFault};
 use std::alloc::Global;
 
 /// The dot at the front, and the bytes after it. Short where they end inside it, Malformed where
@@ -68,26 +66,4 @@ pub fn filter_at(alloc: Global, bytes: &[u8]) -> Result<(Filter, &[u8]), FieldFa
     let (text, rest) = Text::at(alloc, bytes)?;
     let filter = filter_of(alloc, &text)?;
     Ok((filter, rest))
-}
-
-fn name_of(alloc: Global, text: &Text) -> Result<TopicName, FieldFault>
-    ensures { Gives (λ n. n) result (name_in text.now) }
-{
-    match TopicName::of_text(alloc, text) {
-        Ok(name) => Ok(name),
-        Err(fault) => match fault {
-            TopicFault::NoMemory => Err(FieldFault::NoMemory),
-            _ => Err(FieldFault::Malformed),
-        },
-    }
-}
-
-/// A topic name at the front, and the bytes after it. Only a string that is read wants memory.
-pub(crate) fn name_at(alloc: Global, bytes: &[u8]) -> Result<(TopicName, &[u8]), FieldFault>
-    ensures exact { Gives (λ x. (x.0, x.1.now)) result (name.at bytes.now) }
-    ensures no_memory { IsErrOf result FieldFault.NoMemory → IsOk (text.at bytes.now) }
-{
-    let (text, rest) = Text::at(alloc, bytes)?;
-    let name = name_of(alloc, &text)?;
-    Ok((name, rest))
 }

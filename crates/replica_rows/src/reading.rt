@@ -6,9 +6,8 @@ ghost use Rattle.causal_context.specs.Spelling.{context, HasSpelling};
 ghost use Rattle.mqtt_fields.specs.declared.fault.FieldFault.TheVariants as faults;
 ghost use Rattle.mqtt_fields.specs.Numbers.{IsText};
 ghost use Rattle.mqtt_message.specs.Parts.{name};
-ghost use Rattle.replica_store.specs.Contents.{topic_in, message_in};
 ghost use Rattle.row_store.specs.Rows.{entry_of, key_cmp, key_of};
-ghost use Rattle.replica_bytes.specs.Values.{dot, subscription, subscription_in, kept, has_topic};
+ghost use Rattle.replica_bytes.specs.Values.{dot, subscription, subscription_in, kept};
 ghost use Rattle.mqtt_fields.specs.Reading.{Finds};
 ghost use Rattle.replica_rows.specs.ReadingSteps.{AreSaid, Contradicts, IsDots, IsSubscription, IsTopic, NoDots, NoSubscription, SaysMore, TakesDots, TakesSubscription, TakesTopic, Topic, AreSeenThere, row_of, said, state_of};
 ghost use Rattle.replica_rows.specs.Reading.{AreAllRowsOf, AreOfNone, IsStore};
@@ -17,10 +16,9 @@ use crate::laws::is_store;
 use crate::row::{CONTEXT, RETAINED, SEEN, SUBSCRIPTION, TAKEN};
 use causal_context::{Context, Dot};
 use mqtt_fields::{FieldFault, NoMemory, Text, are_bytes};
-use mqtt_message::SharedMessage;
 use mqtt_topics::{TopicFault, TopicName};
-use replica_bytes::{dot_at, entry_of as entry_at, kept_at};
-use replica_store::{Content, Kept, ReplicaStore, RetainedMap, StoreFault};
+use replica_bytes::{content_of, dot_at, entry_of as entry_at, kept_at};
+use replica_store::{Kept, ReplicaStore, RetainedMap, StoreFault};
 use row_store::{Row, are_rising};
 use std::alloc::Global;
 use std::collections::BTreeMap;
@@ -164,18 +162,6 @@ fn take_subscription(
         return Err(FieldFault::Malformed);
     }
     Ok(())
-}
-
-// What a Put gives the topic: the message, which is its own, or a tombstone.
-fn content_of(topic: TopicName, message: Option<SharedMessage>) -> Content
-    requires { IsTrue (has_topic topic message) }
-    ensures topic { topic_in result ≡ topic }
-    ensures message { message_in result ≡ message }
-{
-    match message {
-        None => Content::Cleared(topic),
-        Some(message) => Content::Set(message),
-    }
 }
 
 // What the row says beside what is kept of other topics.

@@ -27,7 +27,7 @@ use Rattle.qos_handshakes.proofs.Indexed.{is_at-here, is_at-apart}
 use Rattle.row_store.specs.declared.row.Change.TheVariants.{Put, Remove}
 use Rattle.row_store.specs.Rows.{Key, Content, key_cmp, key_of}
 use Rattle.row_store.proofs.Keys.{keys_total, exact_keys, equal_is}
-use Rattle.session_rows.specs.Changes.{Plain, Told, Stays, Moves, Follows, is_told, own_change_by, own_change, copy_change, copy_changes, changes_of}
+use Rattle.session_rows.specs.Changes.{PlainChange, Told, Stays, Moves, Follows, is_told, own_change_by, own_change, copy_change, copy_changes, changes_of}
 use Rattle.session_rows.specs.Durable.{Durable}
 use Rattle.session_rows.specs.Fields.{Main, main, copy, copy_of}
 use Rattle.saved_laws.specs.Leading.{after_plain, after_plains, told_rows, told_copies, told_next, told_box, IsSince, ChangesLead, ChangesAreMade, NameApart, AreDifferent, AreExact, ChangesAreExact}
@@ -43,20 +43,20 @@ alike : (q k : Key) → same_key q k ≡ true → q ≡ k
 alike q k h = exact_keys q k (equal_is (key_cmp q k) h)
 
 -- what a key has after changes, if it had this before
-answer : Key → List Plain → Option (List ℕ) → Option (List ℕ)
+answer : Key → List PlainChange → Option (List ℕ) → Option (List ℕ)
 answer q [] o = o
 answer q (p ∷ ps) o = answer q ps (cond (same_key q p.0) p.1 o)
 
-answer-append : (q : Key) (xs ys : List Plain) (o : Option (List ℕ)) → answer q (xs ++ ys) o ≡ answer q ys (answer q xs o)
+answer-append : (q : Key) (xs ys : List PlainChange) (o : Option (List ℕ)) → answer q (xs ++ ys) o ≡ answer q ys (answer q xs o)
 unfolding answer
 answer-append q [] ys o = refl
 answer-append q (x ∷ xs) ys o = answer-append q xs ys (cond (same_key q x.0) x.1 o)
 
-get-after : (c : Content) (p : Plain) (q : Key) → get (after_plain c p) q ≡ cond (same_key q p.0) p.1 (get c q)
+get-after : (c : Content) (p : PlainChange) (q : Key) → get (after_plain c p) q ≡ cond (same_key q p.0) p.1 (get c q)
 get-after c (k, None) q = get-remove keys_total c k q
 get-after c (k, Some v) q = get-insert keys_total c k v q
 
-get-all : (c : Content) (ps : List Plain) (q : Key) → get (after_plains c ps) q ≡ answer q ps (get c q)
+get-all : (c : Content) (ps : List PlainChange) (q : Key) → get (after_plains c ps) q ≡ answer q ps (get c q)
 unfolding answer
 get-all c [] q = refl
 get-all c (p ∷ ps) q = get-all (after_plain c p) ps q ∙ ap (answer q ps) (get-after c p q)
@@ -302,11 +302,11 @@ changes_made c (Put row ∷ more) = changes_made (insert c (key_of row) row.valu
 changes_made c (Remove kind owner place ∷ more) = changes_made (remove c (kind, (owner.items, place.items))) more
 
 -- ---- each key is named once
-abbrev IsApart : Key → List Plain → Type 0
+abbrev IsApart : Key → List PlainChange → Type 0
 IsApart q ps = AllByRecursion (λ p. q ≢ p.0) ps
 
 module _ (client : List ℕ) (next : ℕ) (es : Entries) where
-  apart-one : (q : Key) (r : ℕ) (o : Option Entry) (rest : List Plain) → q ≢ copy_key client r → IsApart q rest → IsApart q (copy_change client next r o ++ rest)
+  apart-one : (q : Key) (r : ℕ) (o : Option Entry) (rest : List PlainChange) → q ≢ copy_key client r → IsApart q rest → IsApart q (copy_change client next r o ++ rest)
   apart-one q r None rest h more = elim (cases_Bool (nat_lt r next)) [ inl t ↦ rw t (h, more) | inr f ↦ rw f more ]
   apart-one q r (Some x) rest h more = (h, more)
 
@@ -315,7 +315,7 @@ module _ (client : List ℕ) (next : ℕ) (es : Entries) where
   apart-copies q (r ∷ ps) h =
       apart-one q r (at_place r es) (copy_changes client next es ps) (h r (or_left (r == r) (is_in r ps) (eq-eqb r r refl))) (apart-copies q ps (λ p i. h p (or_right (r == p) (is_in p ps) i)))
 
-  names-one : (r : ℕ) (o : Option Entry) (rest : List Plain) → IsApart (copy_key client r) rest → NameApart rest → NameApart (copy_change client next r o ++ rest)
+  names-one : (r : ℕ) (o : Option Entry) (rest : List PlainChange) → IsApart (copy_key client r) rest → NameApart rest → NameApart (copy_change client next r o ++ rest)
   names-one r None rest h more = elim (cases_Bool (nat_lt r next)) [ inl t ↦ rw t (h, more) | inr f ↦ rw f more ]
   names-one r (Some x) rest h more = (h, more)
 
@@ -381,7 +381,7 @@ module _ (last : Option Durable) (told : Told) (client : List ℕ) (m : Main) (n
       get-from_entries keys_total (told_rows last) (copy_key client p) ∙ told-other (copy_key client p) last client since.owner refl
       ∙ rows-found client p (told_next last) (told_copies last) (in-range p h) since.then_small since.then_below
 
-  differs-one : (p : ℕ) → is_in p places ≡ true → (o : Option Entry) → at_place p now.box.copies ≡ o → (rest : List Plain) → AreDifferent content rest → AreDifferent content (copy_change client told.next_place p o ++ rest)
+  differs-one : (p : ℕ) → is_in p places ≡ true → (o : Option Entry) → at_place p now.box.copies ≡ o → (rest : List PlainChange) → AreDifferent content rest → AreDifferent content (copy_change client told.next_place p o ++ rest)
   differs-one p h (Some x) at rest more =
       let Now : Option Entry → Type 0 = λ y. progress_of (nat_lt p (told_next last)) (at_place p (told_copies last)) < progress_of (nat_lt p now.box.next_place) y in
       let less : progress_of (nat_lt p (told_next last)) (at_place p (told_copies last)) < progress_of (nat_lt p now.box.next_place) (Some x) = subst Now at (moved p h) in
@@ -405,7 +405,7 @@ module _ (last : Option Durable) (told : Told) (client : List ℕ) (m : Main) (n
   not-told None value h e = cc
   not-told (Some v) value h e = (let same : v ≡ value = cc in other_text v value (sym h) same)
 
-  differs-own : (rest : List Plain) → AreDifferent content rest → AreDifferent content (own_change told.value client (main.bytes m) ++ rest)
+  differs-own : (rest : List PlainChange) → AreDifferent content rest → AreDifferent content (own_change told.value client (main.bytes m) ++ rest)
   unfolding content
   differs-own rest more = elim (cases_Bool (is_told told.value (main.bytes m))) [
     | inl t ↦ rw t more
@@ -414,7 +414,7 @@ module _ (last : Option Durable) (told : Told) (client : List ℕ) (m : Main) (n
         rw f ((λ e. not-told told.value (main.bytes m) f (sym own ∙ e)), more)
   ]
 
-  once-own : (rest : List Plain) → IsApart (main_key client) rest → NameApart rest → NameApart (own_change told.value client (main.bytes m) ++ rest)
+  once-own : (rest : List PlainChange) → IsApart (main_key client) rest → NameApart rest → NameApart (own_change told.value client (main.bytes m) ++ rest)
   once-own rest h more = elim (cases_Bool (is_told told.value (main.bytes m))) [ inl t ↦ rw t more | inr f ↦ rw f (h, more) ]
 
   main-apart : (p : ℕ) → main_key client ≢ copy_key client p

@@ -25,7 +25,7 @@ use Rattle.qos_handshakes.specs.Touched.{Watched, is_in, durable, progress_of, s
 use Rattle.qos_handshakes.proofs.Indexed.{is_at-here, is_at-apart}
 use Rattle.row_store.specs.Rows.{Key, Content, key_cmp}
 use Rattle.row_store.proofs.Keys.{keys_total, exact_keys, equal_is}
-use Rattle.session_rows.specs.Changes.{Plain, Told, copy_changes}
+use Rattle.session_rows.specs.Changes.{PlainChange, Told, copy_changes}
 use Rattle.session_rows.specs.Durable.{Durable}
 use Rattle.session_rows.specs.Fields.{main, copy, copy_of}
 use Rattle.session_rows.specs.Rows.{main_key, copy_key, copy_rows, rows_of}
@@ -48,10 +48,10 @@ unfolding same
 itself k = ap is_eq (tied_itself keys_total k)
 
 -- ---- removals
-abbrev AreGone : List Plain → Type 0
+abbrev AreGone : List PlainChange → Type 0
 AreGone ps = AllByRecursion (λ p. p.1 ≡ None) ps
 
-abbrev IsNamed : Key → List Plain → Type 0
+abbrev IsNamed : Key → List PlainChange → Type 0
 IsNamed q [] = ⊥
 IsNamed q (p ∷ ps) = (p.0 ≡ q) ⊎ IsNamed q ps
 
@@ -59,7 +59,7 @@ removed : (b : Bool) (o : Option (List ℕ)) → o ≡ None → cond b None o �
 removed true o h = refl
 removed false o h = h
 
-removes : (ps : List Plain) (c : Content) (q : Key) → AreGone ps → (get c q ≡ None) ⊎ IsNamed q ps → get (after_plains c ps) q ≡ None
+removes : (ps : List PlainChange) (c : Content) (q : Key) → AreGone ps → (get c q ≡ None) ⊎ IsNamed q ps → get (after_plains c ps) q ≡ None
 unfolding same
 removes [] c q g (inl h) = h
 removes [] c q g (inr h) = absurd h
@@ -69,16 +69,16 @@ removes ((k, None) ∷ ps) c q g (inr (inl here)) =
 removes ((k, None) ∷ ps) c q g (inr (inr more)) = removes ps (remove c k) q g.1 (inr more)
 removes ((k, Some v) ∷ ps) c q g h = absurd (let bad = g.0 in cc)
 
-gone-both : (xs ys : List Plain) → AreGone xs → AreGone ys → AreGone (xs ++ ys)
+gone-both : (xs ys : List PlainChange) → AreGone xs → AreGone ys → AreGone (xs ++ ys)
 gone-both [] ys g h = h
 gone-both (x ∷ xs) ys g h = (g.0, gone-both xs ys g.1 h)
 
-named-left : (q : Key) (xs ys : List Plain) → IsNamed q xs → IsNamed q (xs ++ ys)
+named-left : (q : Key) (xs ys : List PlainChange) → IsNamed q xs → IsNamed q (xs ++ ys)
 named-left q [] ys h = absurd h
 named-left q (x ∷ xs) ys (inl h) = inl h
 named-left q (x ∷ xs) ys (inr h) = inr (named-left q xs ys h)
 
-named-right : (q : Key) (xs ys : List Plain) → IsNamed q ys → IsNamed q (xs ++ ys)
+named-right : (q : Key) (xs ys : List PlainChange) → IsNamed q ys → IsNamed q (xs ++ ys)
 named-right q [] ys h = h
 named-right q (x ∷ xs) ys h = inr (named-right q xs ys h)
 
@@ -290,7 +290,7 @@ gone-distinct es [] sorted = tt
 gone-distinct es (r ∷ ps) sorted = distinct-both (gone_at r (at_place r es)) (gone_of es ps) (one-distinct r (at_place r es)) (gone-distinct es ps (sorted_tail nat_cmp r ps sorted))
     (λ p h k. let is : r ≡ p = (gone-one p r (at_place r es) h).0 in let lt : r < p = later r p ps (sorted_head nat_cmp r ps sorted) (gone-from p es ps k).0 in omega (arith, is, lt))
 
-abbrev IsApart : Key → List Plain → Type 0
+abbrev IsApart : Key → List PlainChange → Type 0
 IsApart q ps = AllByRecursion (λ p. q ≢ p.0) ps
 
 module _ (client : List ℕ) (next : ℕ) (small : next ≤ 2 ^ 64) where
@@ -309,7 +309,7 @@ module _ (client : List ℕ) (next : ℕ) (small : next ≤ 2 ^ 64) where
   other-kind : (p : ℕ) → copy_key client p ≢ main_key client
   other-kind p e = (let kinds : ◌≡◌ {A = ℕ} 3 2 = ap (λ (k : Key). k.0) e in omega (arith, kinds))
 
-  apart-own : (ps : List ℕ) → AllByRecursion (λ (p : Plain). p.0 ≢ main_key client) (copy_changes client next [] ps)
+  apart-own : (ps : List ℕ) → AllByRecursion (λ (p : PlainChange). p.0 ≢ main_key client) (copy_changes client next [] ps)
   apart-own [] = tt
   apart-own (r ∷ ps) = elim (cases_Bool (nat_lt r next)) [
     | inl t ↦ rw t (other-kind r, apart-own ps)
@@ -323,11 +323,11 @@ module _ (client : List ℕ) (next : ℕ) (small : next ≤ 2 ^ 64) where
     | inr f ↦ rw f (names-copies ps d.1)
   ]
 
-  apart-last : (k q : Key) (xs : List Plain) → IsApart k xs → k ≢ q → IsApart k (xs ++ (q, None) ∷ [])
+  apart-last : (k q : Key) (xs : List PlainChange) → IsApart k xs → k ≢ q → IsApart k (xs ++ (q, None) ∷ [])
   apart-last k q [] h n = (n, tt)
   apart-last k q (x ∷ xs) h n = (h.0, apart-last k q xs h.1 n)
 
-  names-last : (q : Key) (xs : List Plain) → AllByRecursion (λ (p : Plain). p.0 ≢ q) xs → NameApart xs → NameApart (xs ++ (q, None) ∷ [])
+  names-last : (q : Key) (xs : List PlainChange) → AllByRecursion (λ (p : PlainChange). p.0 ≢ q) xs → NameApart xs → NameApart (xs ++ (q, None) ∷ [])
   names-last q [] h n = (tt, tt)
   names-last q (x ∷ xs) h n = (apart-last x.0 q xs n.0 h.0, names-last q xs h.1 n.1)
 
@@ -406,7 +406,7 @@ module _ (told : Told) (client : List ℕ) (now : Watched) (places : List ℕ) (
   differ-own None is = tt
   differ-own (Some v) is = (own-there last since.owner v (sym since.value ∙ is), tt)
 
-  differ-both : (xs ys : List Plain) → AreDifferent content xs → AreDifferent content ys → AreDifferent content (xs ++ ys)
+  differ-both : (xs ys : List PlainChange) → AreDifferent content xs → AreDifferent content ys → AreDifferent content (xs ++ ys)
   differ-both [] ys h k = k
   differ-both (x ∷ xs) ys h k = (h.0, differ-both xs ys h.1 k)
 

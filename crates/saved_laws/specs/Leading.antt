@@ -7,17 +7,17 @@ use Rattle.qos_handshakes.specs.Outbox.{away}
 use Rattle.qos_handshakes.specs.Touched.{Watched, AreListed}
 use Rattle.row_store.specs.declared.row.Change.{Change}
 use Rattle.row_store.specs.Rows.{Key, Content, after_all}
-use Rattle.session_rows.specs.Changes.{Plain, Told, Follows, changes_of, plain_of}
+use Rattle.session_rows.specs.Changes.{PlainChange, Told, Follows, changes_of, plain_of}
 use Rattle.session_rows.specs.Durable.{Durable}
 use Rattle.session_rows.specs.Fields.{Main, main}
 use Rattle.session_rows.specs.Rows.{rows_of}
 
 -- a content after a change, and after each of several in turn
-abbrev pub after_plain : Content → Plain → Content
+abbrev pub after_plain : Content → PlainChange → Content
 after_plain c (k, None) = remove c k
 after_plain c (k, Some value) = insert c k value
 
-abbrev pub after_plains : Content → List Plain → Content
+abbrev pub after_plains : Content → List PlainChange → Content
 after_plains c [] = c
 after_plains c (p ∷ ps) = after_plains (after_plain c p) ps
 
@@ -54,16 +54,16 @@ ChangesLead = (last : Option Durable) (told : Told) (client : List ℕ) (m : Mai
     → after_plains (from_entries (told_rows last)) (changes_of told client m now.box.copies places) ≡ from_entries (rows_of (record { client = client; main = m; copies = away now.box.copies }))
 
 -- no two of them name one key
-abbrev pub NameApart : List Plain → Type 0
+abbrev pub NameApart : List PlainChange → Type 0
 NameApart [] = Unit {0}
 NameApart (p ∷ ps) = AllByRecursion (λ q. p.0 ≢ q.0) ps × NameApart ps
 
 -- each changes what is there
-abbrev pub AreDifferent : Content → List Plain → Type 0
+abbrev pub AreDifferent : Content → List PlainChange → Type 0
 AreDifferent c ps = AllByRecursion (λ p. get c p.0 ≢ p.1) ps
 
 -- each row that differs is named once, and no other
-pub record AreExact (last : Option Durable) (changes : List Plain) : Type 0 where
+pub record AreExact (last : Option Durable) (changes : List PlainChange) : Type 0 where
   pub once : NameApart changes
   pub differ : AreDifferent (from_entries (told_rows last)) changes
 

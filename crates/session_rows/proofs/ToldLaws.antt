@@ -7,7 +7,7 @@ use Rattle.row_store.specs.declared.row.Row.{Row}
 use Rattle.row_store.specs.declared.row.Change.{Change}
 use Rattle.row_store.specs.declared.row.Change.TheVariants.{Put, Remove}
 use Rattle.row_store.specs.Rows.{Key, entry_of}
-use Rattle.session_rows.specs.Changes.{Plain, plain_of, copy_change, copy_changes}
+use Rattle.session_rows.specs.Changes.{PlainChange, plain_of, copy_change, copy_changes}
 use Rattle.session_rows.specs.Fields.{copy, copy_of}
 use Rattle.std.proofs.Common.{◌≢◌}
 use Rattle.std.proofs.lemmas.Cmp.{ranked}
@@ -20,7 +20,7 @@ use Rattle.std.specs.Ordering.{nat_cmp}
 use Rattle.qos_handshakes.proofs.Indexed.{is_at-here, is_at-apart}
 use Rattle.session_rows.specs.Rows.{main_key, copy_key, row_at, rows_at, copy_rows}
 
-pushed : (old new : List Change) (c : Change) (p : Plain) → new ≡ old ++ c ∷ [] → plain_of c ≡ p → map plain_of new ≡ map plain_of old ++ p ∷ []
+pushed : (old new : List Change) (c : Change) (p : PlainChange) → new ≡ old ++ c ∷ [] → plain_of c ≡ p → map plain_of new ≡ map plain_of old ++ p ∷ []
 pushed old new c p is same = ap (map plain_of) is ∙ map-append plain_of old (c ∷ []) ∙ ap (λ x. map plain_of old ++ x ∷ []) same
 
 put-plain : (row : Row) (k : Key) (v : List ℕ) → entry_of row ≡ (k, v) → plain_of (Put row) ≡ (k, Some v)
@@ -37,7 +37,7 @@ changes-next client next es ps i lt = ap (copy_changes client next es) (take_mor
     last [] = append-nil _
     last (q ∷ qs) = ap (λ r. copy_change client next q (at_place q es) ++ r) (last qs) ∙ sym (append_assoc (copy_change client next q (at_place q es)) _ _)
 
-pub changes-step : (client : List ℕ) (next : ℕ) (es : Entries) (ps : List ℕ) (i : ℕ) (base now new : List Plain) → i < length ps → new ≡ now ++ copy_change client next (get_or ps i 0) (at_place (get_or ps i 0) es)
+pub changes-step : (client : List ℕ) (next : ℕ) (es : Entries) (ps : List ℕ) (i : ℕ) (base now new : List PlainChange) → i < length ps → new ≡ now ++ copy_change client next (get_or ps i 0) (at_place (get_or ps i 0) es)
     → now ≡ base ++ copy_changes client next es (take i ps) → new ≡ base ++ copy_changes client next es (take (i + 1) ps)
 changes-step client next es ps i base now new lt one so_far =
     one ∙ ap (λ r. r ++ copy_change client next (get_or ps i 0) (at_place (get_or ps i 0) es)) so_far

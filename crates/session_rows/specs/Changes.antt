@@ -12,10 +12,10 @@ use Rattle.session_rows.specs.Fields.{Main, main, copy, copy_of}
 use Rattle.session_rows.specs.Rows.{main_key, copy_key}
 
 -- the bytes that are put at a key, or that its row is removed
-abbrev pub Plain : Type 0
-Plain = Key × Option (List ℕ)
+abbrev pub PlainChange : Type 0
+PlainChange = Key × Option (List ℕ)
 
-abbrev pub plain_of : Change → Plain
+abbrev pub plain_of : Change → PlainChange
 plain_of (Put row) = (key_of row, Some row.value.items)
 plain_of (Remove kind owner place) = ((kind, (owner.items, place.items)), None)
 
@@ -34,23 +34,23 @@ is_told None value = false
 is_told (Some told) value = pointwise nat_eq told value
 
 -- its own row is put where its value differs
-abbrev pub own_change_by : Bool → List ℕ → List ℕ → List Plain
+abbrev pub own_change_by : Bool → List ℕ → List ℕ → List PlainChange
 own_change_by is_told client value = cond is_told [] ((main_key client, Some value) ∷ [])
 
-abbrev pub own_change : Option (List ℕ) → List ℕ → List ℕ → List Plain
+abbrev pub own_change : Option (List ℕ) → List ℕ → List ℕ → List PlainChange
 own_change told client value = own_change_by (is_told told value) client value
 
 -- A copy whose durable part has changed is put; one that is gone is removed, if it had a row: its place isn't new.
-abbrev pub copy_change : List ℕ → ℕ → ℕ → Option Entry → List Plain
+abbrev pub copy_change : List ℕ → ℕ → ℕ → Option Entry → List PlainChange
 copy_change client next place None = cond (nat_lt place next) ((copy_key client place, None) ∷ []) []
 copy_change client next place (Some x) = (copy_key client place, Some (copy.bytes (copy_of x))) ∷ []
 
-abbrev pub copy_changes : List ℕ → ℕ → Entries → List ℕ → List Plain
+abbrev pub copy_changes : List ℕ → ℕ → Entries → List ℕ → List PlainChange
 copy_changes client next es [] = []
 copy_changes client next es (p ∷ ps) = copy_change client next p (at_place p es) ++ copy_changes client next es ps
 
 -- the changes, where these are the places touched
-abbrev pub changes_of : Told → List ℕ → Main → Entries → List ℕ → List Plain
+abbrev pub changes_of : Told → List ℕ → Main → Entries → List ℕ → List PlainChange
 changes_of told client m es places = own_change told.value client (main.bytes m) ++ copy_changes client told.next_place es places
 
 -- ---- One state of the copies follows another: at each place what is durable is the same and it is touched where it was,

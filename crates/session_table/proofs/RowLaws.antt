@@ -19,7 +19,7 @@ use Rattle.row_store.specs.Rows.{Key, Content, key_cmp}
 use Rattle.row_store.proofs.Keys.{keys_total, exact_keys, equal_is}
 use Rattle.row_changes.specs.Leading.{Rows, Begin, Lead, LeadWithin, OthersDiffer, first_by, key_in, left_by, left_by_one, left_or, or_else, value_in}
 use Rattle.row_changes.proofs.Leaving.{begin_on, changes_leave, lead_on, lead_on_within, named_either}
-use Rattle.session_rows.specs.Changes.{Plain, Told, plain_of, own_change, own_change_by, is_told, copy_change, copy_changes, changes_of}
+use Rattle.session_rows.specs.Changes.{PlainChange, Told, plain_of, own_change, own_change_by, is_told, copy_change, copy_changes, changes_of}
 use Rattle.session_rows.specs.Durable.{Durable, IsDurable}
 use Rattle.session_rows.specs.Fields.{Main, main, copy, copy_of}
 use Rattle.session_rows.specs.Rows.{main_key, rows_of}
@@ -60,7 +60,7 @@ itself-key : (key : Key) → eq_by_cmp key_cmp key key ≡ true
 itself-key key = ap is_eq (tied_itself keys_total key)
 
 -- ---- whose rows the changes are; no own row is named of a client whose value was told
-abbrev IsMine : List ℕ → Bool → Plain → Type 0
+abbrev IsMine : List ℕ → Bool → PlainChange → Type 0
 IsMine client is_told p = (is_session_kind p.0.0 ≡ true) × (p.0.1.0 ≡ client) × (p.0.0 ≡ own_kind → (is_told ≡ false) × (p.0 ≡ main_key client))
 
 all-both : {A : Type 0} (P : A → Type 0) (xs ys : List A) → AllByRecursion P xs → AllByRecursion P ys → AllByRecursion P (xs ++ ys)
@@ -138,10 +138,10 @@ unbegun client b key (c ∷ cs) h kind apart = elim (cases_Bool (eq_by_cmp key_c
 -- a change that leaves what is there
 module _ (client : List ℕ) (value : Option (List ℕ)) (rows : Rows) (c : Change) (was : rows (main_key client) ≡ value) (same : plain_of c ≡ (main_key client, value)) where
   its-key : key_in c ≡ main_key client
-  its-key = plain-key c ∙ ap (λ (p : Plain). p.0) same
+  its-key = plain-key c ∙ ap (λ (p : PlainChange). p.0) same
 
   leaves-it : (key : Key) → eq_by_cmp key_cmp key (key_in c) ≡ true → value_in c ≡ rows key
-  leaves-it key t = plain-value c ∙ ap (λ (p : Plain). p.1) same ∙ sym was ∙ ap rows (sym (named-key key c t ∙ its-key))
+  leaves-it key t = plain-value c ∙ ap (λ (p : PlainChange). p.1) same ∙ sym was ∙ ap rows (sym (named-key key c t ∙ its-key))
 
   one-stays : (key : Key) → rows key ≡ left_or (left_by (c ∷ []) key) (rows key)
   one-stays key = elim (cases_Bool (eq_by_cmp key_cmp key (key_in c))) [ inl t ↦ rw t (sym (leaves-it key t)) | inr f ↦ rw f refl ]
@@ -177,7 +177,7 @@ no-other client false value [] key is kind = absurd (cc is)
 no-other client false value (c ∷ []) key is kind = elim (cases_Bool (eq_by_cmp key_cmp key (key_in c))) [
   | inl t ↦
       let same : plain_of c ≡ (main_key client, value) = cc in
-      absurd (kind (ap (λ (k : Key). k.0) (named-key key c t ∙ plain-key c ∙ ap (λ (p : Plain). p.0) same)))
+      absurd (kind (ap (λ (k : Key). k.0) (named-key key c t ∙ plain-key c ∙ ap (λ (p : PlainChange). p.0) same)))
   | inr f ↦ rw f refl
 ]
 no-other client false value (c ∷ d ∷ cs) key is kind = absurd (cc is)
@@ -191,7 +191,7 @@ differ-after client b value old new first own is differ key kind named = elim (n
 after-before : (client : List ℕ) (b : Bool) (value : Option (List ℕ)) (old new : Rows) (first own : List Change) → old (main_key client) ≡ value → map_list plain_of first ≡ own_before b client value → AllByRecursion (IsMine client b) (map_list plain_of own) → Lead old new own
     → OthersDiffer own_kind old new own → OwnLead client old new (first ++ own)
 after-before client b value old new first own was is mine lead differ = record {
-  own = all-both (IsOf client) first own (are-of client b first (subst (λ (ps : List Plain). AllByRecursion (IsMine client b) ps) (sym is) (mine-before client b value))) (are-of client b own mine);
+  own = all-both (IsOf client) first own (are-of client b first (subst (λ (ps : List PlainChange). AllByRecursion (IsMine client b) ps) (sym is) (mine-before client b value))) (are-of client b own mine);
   lead = lead_on old old new first own (stays client b value old first was is) lead;
   begins = begins client b value old first own was is mine;
   differ = differ-after client b value old new first own is differ;
@@ -228,7 +228,7 @@ told-next start moves old own new b s h t =
 own-next : (old : Saved) (own : List Change) (new : Saved) → Tells old own new → AllByRecursion (IsMine old.tracked.state.kept.client (is_told old.told.value (main.bytes (main_of old.tracked.state)))) (map_list plain_of own)
 own-next old own new t =
     let s = old.tracked.state in
-    subst (λ (ps : List Plain). AllByRecursion (IsMine s.kept.client (is_told old.told.value (main.bytes (main_of s)))) ps) (sym t.named) (mine-changes old.told s.kept.client (main_of s) s.outbox.copies t.places)
+    subst (λ (ps : List PlainChange). AllByRecursion (IsMine s.kept.client (is_told old.told.value (main.bytes (main_of s)))) ps) (sym t.named) (mine-changes old.told s.kept.client (main_of s) s.outbox.copies t.places)
 
 -- ---- by the laws
 made : ChangesAreMade
@@ -322,7 +322,7 @@ removal-leaves removal since client s first own told before r =
     let e : Empties (Some (durable_of s.tracked.state)) own = removal told.start told.moves (told_point s) own began told.history r in
     let now = since told.start told.moves (told_point s) began told.history in
     let named = mine-removals s.told k s.tracked.state.outbox.copies r.places in
-    let mine = subst (λ (ps : List Plain). AllByRecursion (IsMine k false) ps) (sym r.named) named in
+    let mine = subst (λ (ps : List PlainChange). AllByRecursion (IsMine k false) ps) (sym r.named) named in
     let leaves-none : Lead (rows-before (Some (durable_of s.tracked.state))) no_row own = λ key. sym (none-before key) ∙ made-lead (Some (durable_of s.tracked.state)) own [] e.none key in
     subst (λ (c : List ℕ). OwnLead c (rows_for s.tracked.state) no_row (first ++ own)) told.owner
     (after-before k false s.told.value (rows_for s.tracked.state) no_row first own (own-row s.tracked.state ∙ sym now.value) (before ∙ there k (main.bytes (main_of s.tracked.state)) s.told.value now.value) mine
