@@ -11,7 +11,7 @@ use Rattle.qos_handshakes.specs.declared.answers.Rec.TheVariants as rec
 use Rattle.qos_handshakes.specs.declared.copies.Entry.{Entry}
 use Rattle.mqtt_message.specs.declared.delivery.Delivery.{Delivery}
 use Rattle.qos_handshakes.specs.Entries.{Entries, has_id, write_id, as_released}
-use Rattle.qos_handshakes.specs.Outbox.{Outbox, Sent, OfferStep, NextStep, EndStep, ReceivedIf, waiting_entry, waits, is_owed, is_published, fits, is_sendable, resent, first_owed, after_resend, after_send}
+use Rattle.qos_handshakes.specs.Outbox.{Outbox, Sent, OfferStep, NextStep, EndStep, ReceivedIf, waiting_entry, waits, is_owed, is_published, fits, is_sendable, resent, first_owed, after_resend, after_send, empty_outbox}
 use Rattle.qos_handshakes.proofs.EntryLaws.{NoneHas, all-dropped, all-appended, none-head, none-tail}
 use Rattle.qos_handshakes.proofs.Indexed.{owed-id}
 use Rattle.handshake_laws.specs.Runs as low
@@ -179,4 +179,4 @@ once-run id was start (c ∷ cs) end r n h =
 pub keeps_resends_once : KeepsResendsOnce
 keeps_resends_once = λ client id steps end r.
     let p = whole client steps end r in
-    rw (← p.shows.marks) (once-run id false low.empty_outbox p.calls end.outbox p.runs tt (λ t. absurd (false≢true t)))
+    rw (← p.shows.marks) (once-run id false empty_outbox p.calls end.outbox p.runs tt (λ t. absurd (false≢true t)))

@@ -13,7 +13,7 @@ use Rattle.qos_handshakes.specs.declared.copies.Entry.{Entry}
 use Rattle.qos_handshakes.specs.declared.copies.Stage.{Stage}
 use Rattle.qos_handshakes.specs.declared.copies.Stage.TheVariants.{Waiting, Published, Released}
 use Rattle.qos_handshakes.specs.Entries.{Entries, find_id, stage_has}
-use Rattle.qos_handshakes.specs.Outbox.{Sent, by_release, is_completed, is_released, stage_pair, takes_pubrec}
+use Rattle.qos_handshakes.specs.Outbox.{Sent, by_release, is_completed, is_released, stage_pair, takes_pubrec, empty_outbox}
 use Rattle.qos_handshakes.proofs.EntryLaws.{NoneHas, none-head, none-tail}
 use Rattle.qos_handshakes.specs.Touched.{is_in}
 use Rattle.handshake_laws.specs.Lists.{without}
@@ -196,7 +196,7 @@ begin-run client before on limit old [] end run is opens f n r = (tt, rw r refl)
 begin-run client before on limit old (s ∷ ss) end run is opens f n r =
     let p = project on limit old r.0 s.event s.reaction is opens n r.1 in
     let w = whole client before old run in
-    let d = distinct-run [] low.empty_outbox w.calls old.outbox w.runs tt (record { is = refl; distinct = tt; below = tt }) in
+    let d = distinct-run [] empty_outbox w.calls old.outbox w.runs tt (record { is = refl; distinct = tt; below = tt }) in
     let next : released_told on (released_ids old) s.event s.reaction ≡ released_ids r.0 = told on limit old r.0 s.event s.reaction opens is f n d r.1 ∙ sym (keeps_released client before s old r.0 run r.1) in
     let rest = begin-run client (before ++ s ∷ []) (connected_after on s.event s.reaction) (limit_after limit s.event) r.0 ss end (run-more (new_session client) old r.0 before s run r.1) p.limited p.connected (fits-on on limit old r.0 s.event s.reaction r.1 f) (numbered-calls old.outbox p.calls r.0.outbox p.runs n) r.2 in ((begins old r.0 s.event s.reaction r.1, rw next rest.0), rw next rest.1)
 

@@ -7,7 +7,7 @@ use Rattle.qos_handshakes.specs.declared.copies.Entry.{Entry}
 use Rattle.qos_handshakes.specs.declared.copies.Stage.{Stage}
 use Rattle.qos_handshakes.specs.declared.copies.Stage.TheVariants.{Waiting, Published, Released}
 use Rattle.qos_handshakes.specs.Entries.{Entries, stage_has}
-use Rattle.qos_handshakes.specs.Outbox.{Outbox, Sent, Sends, after_resend}
+use Rattle.qos_handshakes.specs.Outbox.{Outbox, Sent, Sends, after_resend, empty_outbox}
 use Rattle.handshake_laws.specs.Numbers.{AreNumbered}
 use Rattle.handshake_laws.specs.Runs as low
 use Rattle.handshake_laws.specs.Runs.{offered, acknowledged, completed, received, resumed, listed, asked, lost, Takes}
@@ -80,4 +80,4 @@ least-run x sent start (c ∷ cs) end r numbers n h =
 pub keeps_least_each : KeepsLeastEach
 keeps_least_each = λ client steps end r.
     let p = whole client steps end r in
-    rw (← p.shows.marks) (least-run (λ id. none) (λ id. false) low.empty_outbox p.calls end.outbox p.runs p.shows.numbers tt (record { told = λ id e bad. (cc bad); stays = λ id t. absurd (false≢true t) }))
+    rw (← p.shows.marks) (least-run (λ id. none) (λ id. false) empty_outbox p.calls end.outbox p.runs p.shows.numbers tt (record { told = λ id e bad. (cc bad); stays = λ id t. absurd (false≢true t) }))

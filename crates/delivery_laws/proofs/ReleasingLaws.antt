@@ -13,7 +13,7 @@ use Rattle.qos_handshakes.specs.declared.copies.Entry.{Entry}
 use Rattle.qos_handshakes.specs.declared.copies.Stage.{Stage}
 use Rattle.qos_handshakes.specs.declared.copies.Stage.TheVariants.{Waiting, Published, Released}
 use Rattle.qos_handshakes.specs.Entries.{find_id}
-use Rattle.qos_handshakes.specs.Outbox.{Outbox, is_released, takes_pubrec}
+use Rattle.qos_handshakes.specs.Outbox.{Outbox, is_released, takes_pubrec, empty_outbox}
 use Rattle.handshake_laws.specs.Numbers.{AreNumbered}
 use Rattle.handshake_laws.specs.Releases.{pubrecs_after}
 use Rattle.handshake_laws.specs.Runs as low
@@ -153,7 +153,7 @@ heard (Some l) id old new s e h t p now room is = rw e refl
 pub keeps_releases_held : KeepsReleasesHeld
 keeps_releases_held = λ client id before s mid end run step t.
     let w = whole client before mid run in
-    let d = distinct-run [] low.empty_outbox w.calls mid.outbox w.runs tt (record { is = refl; distinct = tt; below = tt }) in
+    let d = distinct-run [] empty_outbox w.calls mid.outbox w.runs tt (record { is = refl; distinct = tt; below = tt }) in
     let G = Held id mid s.event in
     rw (keeps_released client before s mid end run step)
     (among id G s.reaction.packets (event-shown (IfPubrel id G) mid end s.event s.reaction (allows s.event id mid (heard mid.link id mid end s refl step t) d) step) t)

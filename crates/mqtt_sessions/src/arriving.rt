@@ -327,8 +327,8 @@ impl Running {
         requires spelled { HasSpelling (packets.Publish publish.now) }
         requires moment { now < 2 ^ 62 }
         requires limit { limit ≤ 268435460 }
-        ensures step { IfOk result (λ r. Comes (arriving.published publish.now now room limit self.old.state) r self.new.state) }
-        ensures fault { IfErr result (λ e. IsFault (WantsFor publish.now (arriving.published publish.now now room limit self.old.state)) ⊥ e) }
+        ensures step { IfOk result (λ r. Comes (arriving.publish_outcome publish.now now room limit self.old.state) r self.new.state) }
+        ensures fault { IfErr result (λ e. IsFault (WantsFor publish.now (arriving.publish_outcome publish.now now room limit self.old.state)) ⊥ e) }
         ensures outgoing { watched self.new ≡ watched self.old }
     {
         if let Some(code) = refusal(&self.connection, publish) {
@@ -344,8 +344,8 @@ impl Running {
     /// A PUBREL.
     pub(crate) fn pubrel(&mut self, id: u16, limit: u64) -> Result<Reaction, SessionFault>
         requires { limit ≤ 268435460 }
-        ensures step { IfOk result (λ r. Comes (arriving.released id limit self.old.state) r self.new.state) }
-        ensures fault { IfErr result (λ e. IsFault (gives_out (arriving.released id limit self.old.state).reaction ≡ true) ⊥ e) }
+        ensures step { IfOk result (λ r. Comes (arriving.pubrel_outcome id limit self.old.state) r self.new.state) }
+        ensures fault { IfErr result (λ e. IsFault (gives_out (arriving.pubrel_outcome id limit self.old.state).reaction ≡ true) ⊥ e) }
         ensures outgoing { watched self.new ≡ watched self.old }
     {
         let code = release(&mut self.incoming, id);

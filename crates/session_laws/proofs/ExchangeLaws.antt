@@ -16,7 +16,7 @@ use Rattle.qos_handshakes.specs.declared.copies.Entry.{Entry}
 use Rattle.qos_handshakes.specs.declared.copies.Stage.{Stage}
 use Rattle.qos_handshakes.specs.declared.copies.Stage.TheVariants.{Waiting, Published, Released}
 use Rattle.qos_handshakes.specs.Entries.{Entries, stage_has, has_id, find_id, drop_id, write_id, as_released, as_published}
-use Rattle.qos_handshakes.specs.Outbox.{Outbox, Sent, OfferStep, NextStep, EndStep, ReceivedIf, waiting_entry, waits, is_owed, is_published, is_released, takes_puback, takes_pubrec, is_acknowledged, is_completed, stage_id, fits, is_sendable, resent, first_owed, after_resend, first_waiting, after_send, away}
+use Rattle.qos_handshakes.specs.Outbox.{Outbox, Sent, OfferStep, NextStep, EndStep, ReceivedIf, waiting_entry, waits, is_owed, is_published, is_released, takes_puback, takes_pubrec, is_acknowledged, is_completed, stage_id, fits, is_sendable, resent, first_owed, after_resend, first_waiting, after_send, away, empty_outbox}
 use Rattle.qos_handshakes.proofs.Indexed.{waits-has}
 use Rattle.handshake_laws.specs.Runs as low
 use Rattle.handshake_laws.specs.Runs.{offered, acknowledged, completed, received, resumed, listed, asked, lost, Takes}
@@ -359,7 +359,7 @@ told-run id x start (c ∷ cs) end r numbers n h =
 pub told-whole : (client : List ℕ) (id : ℕ) (steps : List Step) (end : State) → Run (new_session client) steps end → AllResends id none (all_marks false steps) × IsTold id (exchange_over id none (all_marks false steps)) end.outbox.copies
 told-whole client id steps end r =
     let p = whole client steps end r in
-    let t = told-run id none low.empty_outbox p.calls end.outbox p.runs p.shows.numbers tt (no-more id none [] refl) in
+    let t = told-run id none empty_outbox p.calls end.outbox p.runs p.shows.numbers tt (no-more id none [] refl) in
     rw (← p.shows.marks) (t.resends, t.is)
 
 pub keeps_resends : KeepsResends

@@ -13,7 +13,7 @@ use Rattle.qos_handshakes.specs.declared.copies.Entry.{Entry}
 use Rattle.qos_handshakes.specs.declared.copies.Stage.{Stage}
 use Rattle.qos_handshakes.specs.declared.copies.Stage.TheVariants.{Waiting, Published, Released}
 use Rattle.qos_handshakes.specs.Entries.{Entries, stage_has, find_id}
-use Rattle.qos_handshakes.specs.Outbox.{Outbox, EndStep, ReceivedIf, is_acknowledged, is_completed, is_released, takes_puback, takes_pubrec}
+use Rattle.qos_handshakes.specs.Outbox.{Outbox, EndStep, ReceivedIf, is_acknowledged, is_completed, is_released, takes_puback, takes_pubrec, empty_outbox}
 use Rattle.handshake_laws.specs.Runs as low
 use Rattle.handshake_laws.specs.Runs.{offered, acknowledged, completed, received, resumed, listed, asked, lost, Takes}
 use Rattle.handshake_laws.specs.Numbers.{AreNumbered}
@@ -134,4 +134,4 @@ within-run x start (c ∷ cs) end r numbers laid n q told =
 pub keeps_within : KeepsWithin
 keeps_within = λ client steps end r.
     let p = whole client steps end r in
-    rw (← p.shows.marks) (within-run (λ id. none) low.empty_outbox p.calls end.outbox p.runs p.shows.numbers tt tt (omega arith) (λ id e bad. (cc bad)))
+    rw (← p.shows.marks) (within-run (λ id. none) empty_outbox p.calls end.outbox p.runs p.shows.numbers tt tt (omega arith) (λ id e bad. (cc bad)))
