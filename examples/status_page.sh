@@ -70,6 +70,7 @@ for node in 0 1 2; do
     start_with_status "$node"
 done
 retain page/first first
+await_gates 200 0
 listen 0 a-listener
 listen 0 a-reader
 listen 1 b-listener
