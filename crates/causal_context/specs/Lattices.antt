@@ -36,13 +36,3 @@ lattice_from_join {join = join} l = record {
   antisymmetric = λ x y p q. sym (l.from_order y x q) ∙ l.commutative y x ∙ l.from_order x y p;
   transitive = λ x y z p q. l.to_order x z (ap (join x) (sym (l.from_order y z q)) ∙ sym (l.associative x y z) ∙ ap (λ m. join m z) (l.from_order x y p) ∙ l.from_order y z q);
 }
-
--- and back, where the join decides the order
-pub join_from_lattice : {M : Type 0} {join : M → M → M} {Below : M → M → Type 0} → LatticeLaws join Below → ((x y : M) → join x y ≡ y → Below x y) → JoinLaws join Below
-join_from_lattice l order = record {
-  idempotent = l.idempotent;
-  commutative = l.commutative;
-  associative = l.associative;
-  to_order = order;
-  from_order = λ x y p. l.antisymmetric _ _ (l.least x y y p (l.reflexive y)) (l.above_right x y);
-}

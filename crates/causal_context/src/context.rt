@@ -155,10 +155,14 @@ impl Context {
         self.ranges == other.ranges
     }
 
-    /// The same set once more.
+    /// The same set once more. Of an empty one it takes no memory.
     pub fn copy(&self) -> Result<Context, NoMemory>
-        ensures { IfOk result (λ copy. copy ≡ self.now) }
+        ensures same { IfOk result (λ copy. copy ≡ self.now) }
+        ensures none { self.now ≡ set.empty → IsOk result }
     {
+        if self.is_empty() {
+            return Ok(Context::new(*self.ranges.allocator()));
+        }
         let ranges = Vec::from_slice(*self.ranges.allocator(), &self.ranges)?;
         Ok(Context { ranges })
     }
