@@ -1,5 +1,5 @@
 -- A table of places by identifier finds what a search by identifier finds.
-use Rattle.std.proofs.Common.{◌≡◌, ◌≢◌, ℕ, zero, suc, ◌-◌, ◌<◌, ◌≤◌, true, false, List, [], ◌∷◌, ◌++◌, Option, Some, None, IsSome, length, refl, sym, ◌∙◌, ap, arith, get_or, set, get_or-set_other, inl, inr, length-append}
+use Rattle.std.proofs.Common.{◌≡◌, ◌≢◌, ℕ, zero, suc, ◌-◌, ◌<◌, ◌≤◌, true, false, List, [], ◌∷◌, ◌++◌, Option, Some, None, IsSome, length, refl, sym, ◌∙◌, ap, arith, get_or, set, inl, inr, length-append}
 use Rattle.std.specs.Prelude.{IsSomeAnd}
 use Rattle.std.proofs.Math.ListN.{length-set}
 use Rattle.std.proofs.lemmas.List.{get_or_past}
@@ -503,6 +503,12 @@ pub least-none : (es : Entries) (places : List ℕ) (free : ℕ) → IsIndexed e
 least-none es places free h all scan (inl full) = ready-none es places free h (omega (arith, all, full)) scan
 least-none es places free h all scan (inr room) =
     let some : IsSome (find_id room.0 es) = used-below es places free room.0 h scan room.1 (omega (arith, all, room.2)) in absurd (false≢true (rw (room.3) at some))
+
+-- where every slot is used, and one may be added, there is no room
+pub lacks-room : (es : Entries) (places : List ℕ) (free : ℕ) → IsIndexed es places → length places ≤ free → length places < 65535 → ((j : ℕ) → j < free → get_or places j 0 ≢ 0) → HasRoom (held_of es (length places)) → ⊥
+lacks-room es places free h all few scan (inl full) = omega (arith, few, full)
+lacks-room es places free h all few scan (inr room) =
+    let some : IsSome (find_id room.0 es) = used-below es places free room.0 h scan room.1 (omega (arith, all, room.2)) in false≢true (rw (room.3) at some)
 
 -- ---- an exchange that ends where it stands
 listed-at : (places : List ℕ) (id place : ℕ) (x : Entry) (es : Entries) → AllByRecursion (IsListed places) es → at_place place es ≡ Some x → has_id id x ≡ true → place_in places id ≡ place

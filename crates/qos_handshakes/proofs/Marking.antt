@@ -11,16 +11,16 @@ use Rattle.std.specs.List.Sorted.{IsStrictlySortedBy}
 use Rattle.std.proofs.lemmas.Cmp.{ranked}
 use Rattle.std.proofs.lemmas.Map.Keys.{sorted_head, sorted_tail}
 use Rattle.std.specs.Ordering.{nat_cmp}
-use Rattle.std.specs.Prelude.{◌==◌, nat_lt, IsSomeAnd}
+use Rattle.std.specs.Prelude.{◌==◌, nat_lt}
 use Rattle.qos_handshakes.specs.declared.copies.Entry.{Entry}
 use Rattle.qos_handshakes.specs.declared.copies.Stage.{Stage}
 use Rattle.qos_handshakes.specs.declared.copies.Stage.TheVariants.{Waiting, Published, Released}
 use Rattle.mqtt_fields.specs.declared.options.Qos.{Qos}
 use Rattle.mqtt_fields.specs.declared.options.Qos.TheVariants.{AtMostOnce, AtLeastOnce, ExactlyOnce}
 use Rattle.mqtt_message.specs.declared.delivery.Delivery.{Delivery}
-use Rattle.qos_handshakes.specs.Entries.{Entries, at_place, find_id, write_at, as_here, as_published, as_released, place_in, IsIndexed, AllPlacesBelow}
-use Rattle.qos_handshakes.specs.Outbox.{Outbox, away, waits, waiting_entry, is_owed, takes_pubrec}
-use Rattle.qos_handshakes.specs.Touched.{is_in, HasAll, AreListed, durable, Touches, Marked, Marks, stage_credits, credits_of, credits, IsPlaceOf, Watched, Advances, TouchesChanged, stage_progress, progress_of}
+use Rattle.qos_handshakes.specs.Entries.{Entries, at_place, find_id, write_at, as_here, place_in, IsIndexed, AllPlacesBelow}
+use Rattle.qos_handshakes.specs.Outbox.{away, waits, waiting_entry, takes_pubrec}
+use Rattle.qos_handshakes.specs.Touched.{is_in, HasAll, AreListed, durable, Touches, Marked, Marks, stage_credits, credits_of, credits, IsPlaceOf, Advances, stage_progress, progress_of}
 use Rattle.qos_handshakes.proofs.Indexed.{is_at-here, is_at-apart, at-head, at-tail, at-removed, at-written, at-written_other, points-to, find-none, none-listed, drop-indexed, find-indexed, only-listed, write-at}
 
 in-last : (p : ℕ) (ts : List ℕ) → is_in p (ts ++ p ∷ []) ≡ true

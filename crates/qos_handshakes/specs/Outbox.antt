@@ -261,7 +261,7 @@ AreAnswered es = AllByRecursion (λ e. e.1.delivery.qos ≢ AtMostOnce) es
 
 -- each order of release is below 2^62
 abbrev pub HaveOrders : Entries → Type 0
-HaveOrders es = AllByRecursion (λ e. stage_order e.1.stage < 4611686018427387904) es
+HaveOrders es = AllByRecursion (λ e. stage_order e.1.stage < 2 ^ 62) es
 
 -- what the code keeps beside the copies
 pub record IsCounted (es : Entries) (first flight next from : ℕ) : Type 0 where

@@ -1,5 +1,5 @@
 -- What is held while entries are put back.
-use Rattle.std.specs.Prelude.{◌≡◌, ℕ, ◌≤◌, Bool, true, List, length, slice_index, is_some}
+use Rattle.std.specs.Prelude.{◌≡◌, ℕ, ◌≤◌, ◌^◌, Bool, true, List, length, slice_index, is_some}
 use Rattle.std.specs.BTreeMap.{is_at}
 use Rattle.std.specs.Map.{lookup}
 use Rattle.std.specs.Ordering.{nat_cmp}
@@ -21,7 +21,7 @@ pub record IsPutting (es : Entries) (orders : List (ℕ × ℕ)) (first : ℕ) (
   pub orders_are : (order : ℕ) → is_some (lookup (is_at (nat_cmp order)) orders) ≡ has_order order es
   pub above : next_order ≡ order_above es
   pub least : 1 ≤ next_order
-  pub most : next_order ≤ 4611686018427387904
+  pub most : next_order ≤ 2 ^ 62
 
 -- a table with more free slots
 pub record IsPadded (old new : List ℕ) : Type 0 where

@@ -174,6 +174,7 @@ fn grow(places: &mut Slots, len: usize) -> Result<(), NoMemory>
     ensures padded { IsPadded places.old places.new }
     ensures small { length places.new ≤ 65535 }
     ensures long { OnOk result (len ≤ length places.new) }
+    ensures need { OnErr result (length places.old < len) }
 {
     while places.len() < len {
         places.add()?;
@@ -212,9 +213,10 @@ impl Copies {
         place_of(&self.places, id)
     }
 
-    /// The places of the entries.
+    /// The places of the entries. Of none there is no want of memory.
     pub fn places(&self, alloc: Global) -> Result<Vec<u64>, NoMemory>
-        ensures { IfOk result (λ places. places.items ≡ keys_of self.now.entries) }
+        ensures all { IfOk result (λ places. places.items ≡ keys_of self.now.entries) }
+        ensures need { OnErr result (self.now.entries ≢ []) }
     {
         let mut places = Vec::new(alloc);
         for place in self.entries.keys() {
@@ -277,10 +279,11 @@ impl Copies {
         Ok(())
     }
 
-    /// Makes room for an identifier more, where one is free.
+    /// Makes room for an identifier more, where one is free. Where there is room it takes no memory.
     pub fn reserve(&mut self) -> Result<(), NoMemory>
         ensures room { OnOk result (HasRoom self.new) }
         ensures same { self.new.entries ≡ self.old.entries }
+        ensures need { OnErr result (HasRoom self.old → ⊥) }
     {
         let free = self.places.first_free();
         if free < self.places.len() {

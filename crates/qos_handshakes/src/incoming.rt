@@ -1,5 +1,5 @@
 //! What came from one client at QoS 1 and QoS 2, over all connections of its session (MQTT 5.0, 4.3.2 and 4.3.3).
-ghost use Rattle.std.specs.Prelude.{◌≡◌, ◌<◌, [], true, false, IfOk, OnErr, MatchOption, is_some, None};
+ghost use Rattle.std.specs.Prelude.{◌≡◌, ◌≢◌, ◌<◌, [], true, false, IfOk, OnErr, MatchOption, is_some, None};
 ghost use Rattle.qos_handshakes.specs.Incoming.{Publish1Answer, Publish2Step, ReleaseStep, identifier_from, identifiers_of, of_before, of_identifiers, opened, opened_here, rise};
 
 use crate::answers::{Ack, In};
@@ -51,6 +51,7 @@ fn mark_of_before(exchanges: &mut BTreeMap<u16, bool>)
 fn identifiers_in(alloc: Global, exchanges: &BTreeMap<u16, bool>) -> Result<Vec<u16>, NoMemory>
     ensures all { IfOk result (λ ids. ids.items ≡ identifiers_of exchanges.now.entries) }
     ensures rise { IfOk result (λ ids. rise ids.items ≡ true) }
+    ensures need { OnErr result (exchanges.now.entries ≢ []) }
 {
     let mut ids = Vec::new(alloc);
     for id in exchanges.keys() {
@@ -71,11 +72,13 @@ impl Incoming {
     }
 
     /// Of identifiers whose exchanges were kept open: there is no connection. None where they don't rise.
+    /// Of none there is no want of memory.
     pub fn from_identifiers(
         alloc: Global,
         identifiers: Vec<u16>,
     ) -> Result<Option<Incoming>, NoMemory>
-        ensures { IfOk result (λ o. MatchOption o (rise identifiers.items ≡ false) (λ x. (rise identifiers.items ≡ true) × (x ≡ of_identifiers identifiers.items))) }
+        ensures made { IfOk result (λ o. MatchOption o (rise identifiers.items ≡ false) (λ x. (rise identifiers.items ≡ true) × (x ≡ of_identifiers identifiers.items))) }
+        ensures need { OnErr result (identifiers.items ≢ []) }
     {
         let mut left = identifiers;
         let mut exchanges = BTreeMap::new(alloc);
@@ -90,10 +93,11 @@ impl Incoming {
         Ok(Some(Incoming { exchanges, here: 0 }))
     }
 
-    /// The identifiers in use, which rise. They are all that is kept.
+    /// The identifiers in use, which rise. They are all that is kept. Of none there is no want of memory.
     pub fn identifiers(&self, alloc: Global) -> Result<Vec<u16>, NoMemory>
         ensures all { IfOk result (λ ids. ids.items ≡ identifiers_of self.now) }
         ensures rise { IfOk result (λ ids. rise ids.items ≡ true) }
+        ensures need { OnErr result (self.now ≢ []) }
     {
         identifiers_in(alloc, &self.exchanges)
     }

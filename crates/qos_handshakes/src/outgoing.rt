@@ -1,5 +1,5 @@
 //! What is owed to one client at QoS 1 and QoS 2, over all connections of its session (MQTT 5.0, 4.3 and 4.4).
-ghost use Rattle.std.specs.Prelude.{◌≡◌, ◌≢◌, ◌+◌, ◌<◌, ◌≤◌, ◌^◌, ◌++◌, ◌∷◌, [], ℕ, length, true, false, Some, MatchResult, IfErr, OnErr, IfOk, OnOk, MatchOption, None, IsSome, IfSome, IsSomeAnd};
+ghost use Rattle.std.specs.Prelude.{◌≡◌, ◌≢◌, ◌+◌, ◌*◌, ◌<◌, ◌≤◌, ◌^◌, ◌++◌, ◌∷◌, [], ℕ, length, true, false, Some, MatchResult, IfErr, OnErr, IfOk, OnOk, MatchOption, None, IsSome, IfSome, IsSomeAnd};
 ghost use Rattle.std.specs.Borrow.{sem};
 ghost use Rattle.std.specs.List.{AllByRecursion};
 ghost use Rattle.std.specs.Map.{keys_of};
@@ -271,6 +271,19 @@ fn send_first(
     Some(place)
 }
 
+/// With room for all changes of so many entries. For none it takes no memory.
+fn log_for(alloc: Global, entries: usize) -> Result<Log, NoMemory>
+    ensures room { IfOk result (λ log. 3 * entries ≤ log.room) }
+    ensures none { IfOk result (λ log. log.places ≡ []) }
+    ensures need { OnErr result (1 ≤ entries) }
+{
+    let mut log = Log::new(alloc);
+    if entries > 0 {
+        log.reserve(entries)?;
+    }
+    Ok(log)
+}
+
 impl Outgoing {
     /// Of a session that has just been made.
     pub fn new(alloc: Global) -> Self
@@ -289,13 +302,16 @@ impl Outgoing {
     }
 
     /// Of entries that were kept, with the next place: all that is durable, and no connection. None where they contradict
-    /// each other: an identifier twice, places that don't rise, a gap among those that wait, an order of release twice.
+    /// each other: an identifier twice, places that don't rise, a gap among those that wait, an order of release twice. Of
+    /// no entries, and where the next place is none, there is no want of memory.
     pub fn from_entries(
         alloc: Global,
         entries: Vec<(u64, Entry)>,
         next_place: u64,
     ) -> Result<Option<Outgoing>, NoMemory>
-        ensures { IfOk result (λ o. MatchOption o (agree next_place entries.items ≡ false) (λ x. (agree next_place entries.items ≡ true) × (x ≡ record { box = restored next_place entries.items; touched = [] }))) }
+        ensures made { IfOk result (λ o. MatchOption o (agree next_place entries.items ≡ false) (λ x. (agree next_place entries.items ≡ true) × (x ≡ record { box = restored next_place entries.items; touched = [] }))) }
+        ensures need { OnErr result (entries.items ≢ []) }
+        ensures numbered { OnErr result ((1 ≤ next_place) × (next_place ≤ 2 ^ 62)) }
     {
         if next_place == 0 || next_place > NUMBERS_END {
             return Ok(None);
@@ -308,8 +324,7 @@ impl Outgoing {
             }
             back = back.with(place, entry)?;
         }
-        let mut log = Log::new(alloc);
-        log.reserve(back.copies.count())?;
+        let log = log_for(alloc, back.copies.count())?;
         Ok(Some(Outgoing {
             copies: back.copies,
             log,
@@ -335,9 +350,10 @@ impl Outgoing {
         Some((found, entry))
     }
 
-    /// The places of the copies, which rise.
+    /// The places of the copies, which rise. Of none there is no want of memory.
     pub fn places(&self, alloc: Global) -> Result<Vec<u64>, NoMemory>
-        ensures { IfOk result (λ places. places.items ≡ keys_of self.now.box.copies) }
+        ensures all { IfOk result (λ places. places.items ≡ keys_of self.now.box.copies) }
+        ensures need { OnErr result (self.now.box.copies ≢ []) }
     {
         self.copies.places(alloc)
     }

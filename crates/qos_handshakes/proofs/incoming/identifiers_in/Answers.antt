@@ -1,4 +1,4 @@
-use Rattle.std.proofs.Common.{◌∙◌, sym}
+use Rattle.std.proofs.Common.{◌∙◌}
 use Rattle.qos_handshakes.proofs.RiseLaws.{ended, keys-identifiers, sorted-rise}
 use Rattle.qos_handshakes.proofs.incoming.identifiers_in.Goals as goal
 

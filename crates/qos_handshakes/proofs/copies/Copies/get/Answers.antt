@@ -1,4 +1,4 @@
-use Rattle.std.proofs.Common.{◌≡◌, ℕ, ap, ◌∙◌}
+use Rattle.std.proofs.Common.{ℕ, ap, ◌∙◌}
 use Rattle.qos_handshakes.specs.Entries.{at_place, find_id, Held}
 use Rattle.qos_handshakes.proofs.Indexed.{find-indexed}
 use Rattle.qos_handshakes.proofs.copies.Copies.get.Goals as goal

@@ -5,8 +5,8 @@ use Rattle.qos_handshakes.proofs.Arrivals.{ids-back, ids-fall, kept-here, made-f
 use Rattle.qos_handshakes.proofs.RiseLaws.{first_of, rise-more}
 use Rattle.qos_handshakes.proofs.incoming.Incoming.from_identifiers.Goals as goal
 
-pub returns-then-from-first : goal.returns-then-from-first
-returns-then-from-first c =
+pub returns-then-from-first-clause-made : goal.returns-then-from-first-clause-made
+returns-then-from-first-clause-made c =
     ids-fall c.loop-id.left.items _ (keys_of c.loop-id.exchanges.entries) c.args.identifiers.items c.in-Some.id c.loop-id.invariant.all c.in-Some.ensures.items (omega (arith, c.loop-id.invariant.first_is, c.from.ensures))
 
 pub invariant_of-result : goal.invariant_of-result

@@ -1,4 +1,4 @@
-use Rattle.std.proofs.Common.{◌-◌, ap, sym, ◌∙◌, refl, arith}
+use Rattle.std.proofs.Common.{◌-◌, ap, ◌∙◌, refl, arith}
 use Rattle.qos_handshakes.specs.Entries.{Held}
 use Rattle.qos_handshakes.proofs.Counted.{counted-dropped, in_flight-dropped, sent-here}
 use Rattle.qos_handshakes.proofs.Marking.{marks-removed, credit-there, watched-marked}

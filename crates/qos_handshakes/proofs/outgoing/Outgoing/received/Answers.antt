@@ -1,4 +1,4 @@
-use Rattle.std.proofs.Common.{ap, sym, ◌∙◌, refl, arith}
+use Rattle.std.proofs.Common.{ap, sym, ◌∙◌, arith}
 use Rattle.qos_handshakes.specs.Entries.{Held, as_released}
 use Rattle.qos_handshakes.proofs.Counted.{counted-released}
 use Rattle.qos_handshakes.proofs.Marking.{marks-written, less-released, credit-there, watched-marked}

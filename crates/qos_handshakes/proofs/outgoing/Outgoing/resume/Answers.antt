@@ -1,4 +1,4 @@
-use Rattle.std.proofs.Common.{ap, refl}
+use Rattle.std.proofs.Common.{ap}
 use Rattle.qos_handshakes.specs.Entries.{Held}
 use Rattle.qos_handshakes.proofs.Owed.{counted-resumed}
 use Rattle.qos_handshakes.proofs.Marking.{credits-away, watched-away}
