@@ -1,9 +1,8 @@
 -- Rows of copies read one after another.
-use Rattle.std.proofs.Common.{◌≡◌, ℕ, suc, ◌<◌, ◌≤◌, List, [], ◌∷◌, ◌++◌, map, length, drop, Option, Some, None, Result, Ok, Err, refl, sym, ◌∙◌, ap, append_assoc, subst, add-one, get_or, ◌+◌, take, arith}
+use Rattle.std.proofs.Common.{◌≡◌, ℕ, suc, ◌<◌, ◌≤◌, List, [], ◌∷◌, ◌++◌, map, length, drop, Option, Some, None, refl, sym, ◌∙◌, ap, append_assoc, subst, add-one, get_or, ◌+◌, take, arith}
 use Rattle.std.proofs.lemmas.List.{take_all, take_more}
 use Rattle.std.specs.List.{AllByRecursion}
 use Rattle.std.specs.Prelude.{option_map}
-use Rattle.std.specs.Option.{option_and_then}
 use Rattle.qos_handshakes.specs.declared.copies.Entry.{Entry}
 use Rattle.qos_handshakes.specs.Entries.{Entries}
 use Rattle.std.proofs.Math.Seq.{drop-cons}

@@ -1,15 +1,16 @@
 -- What rows say of a session is spelled so, and the rows of a session say it.
-use Rattle.std.proofs.Common.{◌≡◌, ℕ, zero, suc, ◌<◌, ◌^◌, ◌++◌, ◌&&◌, Bool, true, false, cond, List, [], ◌∷◌, length, Option, Some, None, Result, Ok, Err, refl, sym, ap, subst, ◌∙◌, append-nil, inl, inr, arith}
-use Rattle.std.specs.Prelude.{◌==◌, nat_eq, option_map, nat_lt, IsTrue}
-use Rattle.std.specs.Cmp.Lexicographic.{pointwise, same_text, other_text}
+use Rattle.std.proofs.Common.{◌≡◌, ℕ, ◌<◌, ◌≤◌, ◌^◌, ◌&&◌, Bool, true, false, cond, List, [], ◌∷◌, length, Option, Some, None, Result, Ok, Err, refl, sym, ap, subst, ◌∙◌, append-nil, inl, inr, arith}
+use Rattle.std.specs.Prelude.{◌==◌, ◌⊎◌, not, nat_eq, option_map, Contains, IsUtf8}
+use Rattle.std.specs.Cmp.Lexicographic.{pointwise, same_text}
 use Rattle.std.specs.Int.{w64}
 use Rattle.std.specs.Option.{option_and_then}
-use Rattle.std.specs.List.{AllByRecursion}
-use Rattle.std.proofs.lemmas.Bool.{cases_Bool, eqb-true, eq-eqb, and_parts, and_from, ltb-true, lt-ltb}
+use Rattle.std.specs.List.{AllByRecursion, list_all}
+use Rattle.std.proofs.lemmas.Bool.{cases_Bool, eqb-true, eq-eqb, and_parts, and_from, ltb-false, ltb-true, lt-ltb}
 use Rattle.mqtt_fields.specs.declared.fault.FieldFault.{FieldFault}
 use Rattle.mqtt_fields.specs.Field.{Field, IsBytes, IsField}
 use Rattle.mqtt_fields.specs.Numbers.{number, is_text, IsText}
 use Rattle.mqtt_fields.proofs.NumberLaws.{number_is, wide64}
+use Rattle.mqtt_fields.proofs.TextLaws.{is_text_from, some_zero}
 use Rattle.qos_handshakes.specs.declared.copies.Entry.{Entry}
 use Rattle.qos_handshakes.specs.Entries.{Entries}
 use Rattle.row_store.specs.Rows.{Key}
@@ -17,12 +18,12 @@ use Rattle.session_rows.specs.declared.session.Opened.{Opened}
 use Rattle.qos_handshakes.specs.Incoming.{rise}
 use Rattle.qos_handshakes.specs.Restored.{agree}
 use Rattle.session_rows.specs.Durable.{Durable, HasForm, IsSound, IsDurable, opened_of, opened_if}
-use Rattle.session_rows.specs.Fields.{Main, main, Copy, copy, copy_of, entry_of, is_short}
+use Rattle.session_rows.specs.Fields.{Main, main, copy, copy_of, entry_of, is_short}
 use Rattle.row_store.specs.declared.store.RowFault.{RowFault}
 use Rattle.row_store.specs.declared.store.RowFault.TheVariants.{NoMemory, Device, BadRow}
-use Rattle.std.specs.Prelude.{IsErrOf, IfOk}
+use Rattle.std.specs.Prelude.{IsErrOf, IfOk, IsSome}
 use Rattle.session_rows.specs.Reachable.{IsReachable}
-use Rattle.session_rows.specs.Reading.{Opens, whole_of, whole, text_in, client_in, copy_place, main_in, copy_in, copies_in, durable_in, HasBytes}
+use Rattle.session_rows.specs.Reading.{Opens, whole_of, whole, text_in, client_in, copy_place, main_in, copy_in, copies_in, durable_in, HasBytes, HasClient}
 use Rattle.session_rows.specs.Rows.{main_key, copy_key, copy_row, copy_rows, rows_of}
 use Rattle.session_rows.proofs.FieldLaws.{main_is, copy_is}
 
@@ -65,6 +66,18 @@ text_said bs t e =
     let parts = and_parts (is_short bs) (is_text bs) is.0 in
     (let same : bs ≡ t = (let made = is.1 in cc) in sym same, (ltb-true (length bs) 65536 parts.0, parts.1))
 
+-- a string that is no malformed one is a text
+pub text-wanted : (bs s : List ℕ) → s ≡ bs → IsUtf8 bs → ((2 ^ 16 ≤ length s) ⊎ Contains s 0 → ⊥) → IsSome (text_in bs)
+text-wanted bs s is utf8 sound =
+    let bad : (2 ^ 16 ≤ length bs) ⊎ Contains bs 0 → ⊥ = subst (λ (t : List ℕ). (2 ^ 16 ≤ length t) ⊎ Contains t 0 → ⊥) is sound in
+    elim (cases_Bool (is_short bs)) [
+      | inr long ↦ absurd (bad (inl (ltb-false (length bs) 65536 long)))
+      | inl short ↦ elim (cases_Bool (list_all (λ b. not (b == 0)) bs)) [
+        | inr found ↦ absurd (bad (inr (some_zero bs found)))
+        | inl none ↦ (let both = and_from (is_short bs) (is_text bs) short (is_text_from bs utf8 none) in rw both refl)
+      ]
+    ]
+
 text_again : (bs : List ℕ) → IsText bs → text_in bs ≡ Some bs
 text_again bs h = (let both = and_from (is_short bs) (is_text bs) (lt-ltb (length bs) 65536 h.0) h.1 in rw both refl)
 
@@ -77,6 +90,21 @@ client_said (kind, (owner, place)) client e =
 
 client_again : (client : List ℕ) → IsText client → client_in (main_key client) ≡ Some client
 client_again client h = text_again client h
+
+-- rows that say a session, and those of one, begin with a client's
+some-is : {A : Type 0} (o : Option A) (a : A) → o ≡ Some a → IsSome o
+some-is None a e = absurd cc
+some-is (Some x) a e = refl
+
+pub said-client : (es : List (Key × List ℕ)) (d : Durable) → durable_in es ≡ Some d → HasClient es
+said-client [] d e = absurd cc
+said-client (e ∷ es) d said =
+    let m = and_then_some _ (main_in e) d said in
+    let client = and_then_some _ (client_in e.0) m.0 m.1 in
+    some-is (client_in e.0) client.0 client.1
+
+pub durable-client : (d : Durable) → IsDurable d → HasClient (rows_of d)
+durable-client d h = some-is (client_in (main_key d.client)) d.client (client_again d.client h.form.client)
 
 place_said : (client : List ℕ) (key : Key) (p : ℕ) → IsBytes key.1.1 → copy_place client key ≡ Some p → (key ≡ copy_key client p) × (p < 2 ^ 64)
 place_said client (kind, (owner, place)) p bytes e =

@@ -1,5 +1,5 @@
 -- What is read is spelled so, and what is spelled so is read again.
-use Rattle.std.proofs.Common.{◌≡◌, ℕ, zero, suc, ◌<◌, ◌^◌, ◌++◌, Bool, true, false, cond, List, [], ◌∷◌, length, Option, Some, None, Ok, refl, sym, ap, subst, ◌∙◌, append_assoc, arith}
+use Rattle.std.proofs.Common.{◌≡◌, ℕ, zero, suc, ◌<◌, ◌^◌, ◌++◌, Bool, true, false, List, [], ◌∷◌, length, Option, Some, None, Ok, refl, sym, ap, subst, ◌∙◌, append_assoc}
 use Rattle.std.specs.Prelude.{flat_map, ◌==◌}
 use Rattle.std.proofs.Common.{◌&&◌, inl, inr}
 use Rattle.std.proofs.lemmas.Bool.{cases_Bool, eqb-true, and_parts}
@@ -10,20 +10,20 @@ use Rattle.std.specs.List.{AllByRecursion}
 use Rattle.mqtt_fields.specs.declared.fault.FieldFault.TheVariants.{Malformed}
 use Rattle.mqtt_fields.specs.declared.table.Place.TheVariants as places
 use Rattle.mqtt_fields.specs.Block.{properties}
-use Rattle.mqtt_fields.specs.Field.{Field, IsBytes, IsField, after}
+use Rattle.mqtt_fields.specs.Field.{Field, IsField}
 use Rattle.mqtt_fields.specs.Numbers.{number, text, long}
 use Rattle.mqtt_fields.specs.Options.{qos_number}
 use Rattle.mqtt_fields.proofs.Laws.{IsBytes-after, bind_ok, after_is, tested_is, seen_is}
 use Rattle.mqtt_fields.proofs.NumberLaws.{number_is, wide8, wide16, wide32, wide64, text_is, long_is}
 use Rattle.mqtt_fields.proofs.BlockLaws.{properties_is}
-use Rattle.mqtt_message.specs.Spelling.{coded, flag, optional, values_at}
+use Rattle.mqtt_message.specs.Spelling.{flag, optional, values_at}
 use Rattle.mqtt_message.specs.Parts.{qos, qos_at}
 use Rattle.mqtt_message.specs.Spellings.{delivery}
 use Rattle.mqtt_message.proofs.WholeLaws.{delivery_is}
-use Rattle.mqtt_message.proofs.SpellingLaws.{coded_is, flag_is, optional_is, AreValues, values_takes}
+use Rattle.mqtt_message.proofs.SpellingLaws.{coded_is, flag_is, optional_is, values_takes}
 use Rattle.qos_handshakes.specs.declared.copies.Stage.{Stage}
 use Rattle.qos_handshakes.specs.declared.copies.Stage.TheVariants.{Waiting, Published, Released}
-use Rattle.session_rows.specs.Fields.{many, closed_at, closed_parts, closed, is_short, payload, WillParts, will_of, will_parts, will, MainParts, main_of_parts, main_parts, main, stage_by, StageParts, stage_at, stage_parts, parts, stage, copy}
+use Rattle.session_rows.specs.Fields.{many, closed_at, closed_parts, closed, is_short, payload, will_of, will_parts, will, main_of_parts, main_parts, main, stage_by, stage_at, stage_parts, parts, stage, copy}
 
 values_again : {A : Type 0} (f : Field A) → IsField f → (xs : List A) (rest : List ℕ) → AllByRecursion f.Fits xs → values_at f (length xs) (flat_map f.bytes xs ++ rest) ≡ Ok (xs, rest)
 values_again f F [] rest each = refl

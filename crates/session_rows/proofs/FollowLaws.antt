@@ -1,7 +1,7 @@
 -- Copies that follow one another.
-use Rattle.std.proofs.Common.{◌≡◌, ℕ, ◌<◌, ◌≤◌, ◌⊎◌, Bool, true, false, refl, sym, subst, ◌∙◌, inl, inr, arith}
+use Rattle.std.proofs.Common.{◌≡◌, ℕ, ◌⊎◌, false, refl, sym, subst, ◌∙◌, inl, inr, arith}
 use Rattle.std.proofs.lemmas.Bool.{cases_Bool, false≢true}
-use Rattle.qos_handshakes.specs.Touched.{Watched, Touches, TouchesChanged, is_in, progress}
+use Rattle.qos_handshakes.specs.Touched.{Watched, TouchesChanged, is_in}
 use Rattle.session_rows.specs.Changes.{Follows, Stays, Moves}
 
 pub follows_same : (w : Watched) → Follows w w

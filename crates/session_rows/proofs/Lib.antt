@@ -4,3 +4,4 @@ pub mod FieldLaws
 pub mod FollowLaws
 pub mod RiseLaws
 pub mod ToldLaws
+pub mod WrittenLaws

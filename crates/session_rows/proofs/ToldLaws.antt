@@ -1,11 +1,11 @@
 -- Lists of changes.
-use Rattle.std.proofs.Common.{◌≡◌, ℕ, ◌<◌, ◌≤◌, ◌+◌, List, [], ◌∷◌, ◌++◌, map, length, take, get_or, Option, Some, None, refl, sym, ap, ◌∙◌, append_assoc, append-nil, arith}
+use Rattle.std.proofs.Common.{◌≡◌, ℕ, zero, suc, ◌<◌, ◌+◌, List, [], ◌∷◌, ◌++◌, map, length, take, get_or, Option, Some, refl, sym, ap, ◌∙◌, append_assoc, append-nil, arith}
 use Rattle.std.proofs.lemmas.List.{take_more, map-append}
 use Rattle.qos_handshakes.specs.declared.copies.Entry.{Entry}
 use Rattle.qos_handshakes.specs.Entries.{Entries, at_place}
 use Rattle.row_store.specs.declared.row.Row.{Row}
 use Rattle.row_store.specs.declared.row.Change.{Change}
-use Rattle.row_store.specs.declared.row.Change.TheVariants.{Put, Remove}
+use Rattle.row_store.specs.declared.row.Change.TheVariants.{Put}
 use Rattle.row_store.specs.Rows.{Key, entry_of}
 use Rattle.session_rows.specs.Changes.{PlainChange, plain_of, copy_change, copy_changes}
 use Rattle.session_rows.specs.Fields.{copy, copy_of}
@@ -18,6 +18,7 @@ use Rattle.std.specs.List.Sorted.{IsStrictlySortedBy}
 use Rattle.std.specs.Map.{keys_of}
 use Rattle.std.specs.Ordering.{nat_cmp}
 use Rattle.qos_handshakes.proofs.Indexed.{is_at-here, is_at-apart}
+use Rattle.session_rows.proofs.WrittenLaws.{none-of}
 use Rattle.session_rows.specs.Rows.{main_key, copy_key, row_at, rows_at, copy_rows}
 
 pushed : (old new : List Change) (c : Change) (p : PlainChange) → new ≡ old ++ c ∷ [] → plain_of c ≡ p → map plain_of new ≡ map plain_of old ++ p ∷ []
@@ -42,6 +43,12 @@ pub changes-step : (client : List ℕ) (next : ℕ) (es : Entries) (ps : List �
 changes-step client next es ps i base now new lt one so_far =
     one ∙ ap (λ r. r ++ copy_change client next (get_or ps i 0) (at_place (get_or ps i 0) es)) so_far
     ∙ append_assoc base (copy_changes client next es (take i ps)) (copy_change client next (get_or ps i 0) (at_place (get_or ps i 0) es)) ∙ ap (λ r. base ++ r) (sym (changes-next client next es ps i lt))
+
+-- where one of the places has a change there are some
+pub changes-some : (client : List ℕ) (next : ℕ) (es : Entries) (ps : List ℕ) (i : ℕ) → i < length ps → copy_change client next (get_or ps i 0) (at_place (get_or ps i 0) es) ≢ [] → copy_changes client next es ps ≢ []
+changes-some client next es [] i lt some = absurd (omega (arith, lt))
+changes-some client next es (p ∷ ps) zero lt some = λ e. some (none-of (copy_change client next p (at_place p es)) (copy_changes client next es ps) e).0
+changes-some client next es (p ∷ ps) (suc i) lt some = λ e. changes-some client next es ps i (omega (arith, lt)) some (none-of (copy_change client next p (at_place p es)) (copy_changes client next es ps) e).1
 
 -- ---- rows
 pub rows-step : (client : List ℕ) (es : Entries) (ps : List ℕ) (i : ℕ) (base now new : List (Key × List ℕ)) → i < length ps → new ≡ now ++ row_at client (get_or ps i 0) (at_place (get_or ps i 0) es)

@@ -1,5 +1,5 @@
 -- What has changed since the rows of a session were told last.
-use Rattle.std.specs.Prelude.{◌≡◌, ◌≢◌, ℕ, ◌<◌, ◌≤◌, ◌++◌, nat_eq, nat_lt, Bool, true, false, cond, List, [], ◌∷◌, ◌⊎◌, Option, Some, None}
+use Rattle.std.specs.Prelude.{◌≡◌, ℕ, ◌<◌, ◌≤◌, ◌++◌, nat_eq, nat_lt, Bool, true, false, cond, List, [], ◌∷◌, ◌⊎◌, Option, Some, None}
 use Rattle.std.specs.Cmp.Lexicographic.{pointwise}
 use Rattle.qos_handshakes.specs.declared.copies.Entry.{Entry}
 use Rattle.qos_handshakes.specs.Entries.{Entries, at_place}
@@ -7,7 +7,6 @@ use Rattle.qos_handshakes.specs.Touched.{Watched, is_in, durable, progress}
 use Rattle.row_store.specs.declared.row.Change.{Change}
 use Rattle.row_store.specs.declared.row.Change.TheVariants.{Put, Remove}
 use Rattle.row_store.specs.Rows.{Key, key_of}
-use Rattle.session_rows.specs.Durable.{Durable}
 use Rattle.session_rows.specs.Fields.{Main, main, copy, copy_of}
 use Rattle.session_rows.specs.Rows.{main_key, copy_key}
 

@@ -1,5 +1,5 @@
 -- Rows as they are read.
-use Rattle.std.specs.Prelude.{◌≡◌, ℕ, ◌==◌, ◌&&◌, nat_eq, Bool, cond, List, [], ◌∷◌, length, Option, Some, None, Result, Ok, Err, option_map}
+use Rattle.std.specs.Prelude.{◌≡◌, ℕ, ◌==◌, ◌&&◌, nat_eq, cond, List, [], ◌∷◌, length, Option, Some, None, IsSome, Result, Ok, Err, option_map}
 use Rattle.std.specs.Cmp.Lexicographic.{pointwise}
 use Rattle.std.specs.Int.{w64}
 use Rattle.std.specs.Option.{option_and_then}
@@ -45,6 +45,11 @@ copy_place client key = cond ((key.0 == 3) && pointwise nat_eq key.1.0 client) (
 
 abbrev pub main_in : Key × List ℕ → Option (List ℕ × Main)
 main_in e = option_and_then (λ client. option_map (λ m. (client, m)) (whole main e.1)) (client_in e.0)
+
+-- rows of which the first names a client
+abbrev pub HasClient : List (Key × List ℕ) → Type 0
+HasClient [] = ⊥
+HasClient (e ∷ es) = IsSome (client_in e.0)
 
 abbrev pub copy_in : List ℕ → Key × List ℕ → Option (ℕ × Entry)
 copy_in client e = option_and_then (λ place. option_map (λ x. (place, x)) (option_map entry_of (whole copy e.1))) (copy_place client e.0)

@@ -1,6 +1,6 @@
 //! A session's copies as values of rows.
 
-ghost use Rattle.std.specs.Prelude.{◌≡◌, ◌++◌, OnOk};
+ghost use Rattle.std.specs.Prelude.{◌≡◌, ◌<◌, ◌≤◌, ◌+◌, ◌++◌, length, take, vec_capacity, vec_len, OnErr, OnOk};
 ghost use Rattle.mqtt_fields.specs.Reading.{Gives};
 ghost use Rattle.session_rows.specs.Fields as fields;
 ghost use Rattle.session_rows.specs.Fields.{copy_of, entry_of};
@@ -74,7 +74,10 @@ pub(crate) fn read_copy(alloc: Global, bytes: &[u8]) -> Result<Entry, RowFault>
 }
 
 fn put_parts(id: u16, state: u8, order: u64, out: &mut Vec<u8>) -> Result<(), NoMemory>
-    ensures { OnOk result (out.new.items ≡ out.old.items ++ fields.parts.bytes (id, (state, order))) }
+    ensures ok { OnOk result (out.new.items ≡ out.old.items ++ fields.parts.bytes (id, (state, order))) }
+    ensures begins { take (length out.old.items) out.new.items ≡ out.old.items }
+    ensures full { OnErr result (vec_capacity out.old < vec_len out.old + length (fields.parts.bytes (id, (state, order)))) }
+    ensures capacity { vec_capacity out.old ≤ vec_capacity out.new }
 {
     put_u16(id, out)?;
     put_u8(state, out)?;
@@ -82,7 +85,10 @@ fn put_parts(id: u16, state: u8, order: u64, out: &mut Vec<u8>) -> Result<(), No
 }
 
 fn put_stage(stage: Stage, out: &mut Vec<u8>) -> Result<(), NoMemory>
-    ensures { OnOk result (out.new.items ≡ out.old.items ++ fields.stage.bytes stage) }
+    ensures ok { OnOk result (out.new.items ≡ out.old.items ++ fields.stage.bytes stage) }
+    ensures begins { take (length out.old.items) out.new.items ≡ out.old.items }
+    ensures full { OnErr result (vec_capacity out.old < vec_len out.old + length (fields.stage.bytes stage)) }
+    ensures capacity { vec_capacity out.old ≤ vec_capacity out.new }
 {
     match stage {
         Stage::Waiting => put_parts(0, 0, 0, out),
@@ -91,10 +97,13 @@ fn put_stage(stage: Stage, out: &mut Vec<u8>) -> Result<(), NoMemory>
     }
 }
 
-/// Appends the value of a copy's row.
+/// Appends the value of a copy's row, or its beginning where memory runs out.
 #[tactic(auto, unfolding(crate::specs::Fields::copy))]
 pub fn write_copy(entry: &Entry, out: &mut Vec<u8>) -> Result<(), NoMemory>
-    ensures { OnOk result (out.new.items ≡ out.old.items ++ fields.copy.bytes (copy_of entry.now)) }
+    ensures ok { OnOk result (out.new.items ≡ out.old.items ++ fields.copy.bytes (copy_of entry.now)) }
+    ensures begins { take (length out.old.items) out.new.items ≡ out.old.items }
+    ensures full { OnErr result (vec_capacity out.old < vec_len out.old + length (fields.copy.bytes (copy_of entry.now))) }
+    ensures capacity { vec_capacity out.old ≤ vec_capacity out.new }
 {
     put_stage(entry.stage, out)?;
     entry.delivery.write(out)

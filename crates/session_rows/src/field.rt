@@ -1,6 +1,6 @@
 //! Readers and writers of the parts of rows.
 
-ghost use Rattle.std.specs.Prelude.{◌≡◌, ◌++◌, true, OnOk};
+ghost use Rattle.std.specs.Prelude.{◌≡◌, ◌<◌, ◌≤◌, ◌+◌, ◌++◌, true, length, take, vec_capacity, vec_len, OnErr, OnOk};
 ghost use Rattle.std.specs.Int.{w16};
 ghost use Rattle.mqtt_fields.specs.Reading.{Gives};
 ghost use Rattle.mqtt_fields.specs.Numbers.{number};
@@ -54,7 +54,10 @@ pub(crate) fn closed_at(bytes: &[u8]) -> Result<(Option<u64>, &[u8]), FieldFault
 }
 
 pub(crate) fn put_closed(closed: Option<u64>, out: &mut Vec<u8>) -> Result<(), NoMemory>
-    ensures { OnOk result (out.new.items ≡ out.old.items ++ fields.closed.bytes closed) }
+    ensures ok { OnOk result (out.new.items ≡ out.old.items ++ fields.closed.bytes closed) }
+    ensures begins { take (length out.old.items) out.new.items ≡ out.old.items }
+    ensures full { OnErr result (vec_capacity out.old < vec_len out.old + length (fields.closed.bytes closed)) }
+    ensures capacity { vec_capacity out.old ≤ vec_capacity out.new }
 {
     put_flag(closed.is_some(), out)?;
     put_u64(closed.unwrap_or(0), out)
@@ -81,10 +84,13 @@ pub(crate) fn identifiers_at(alloc: Global, bytes: &[u8]) -> Result<(Vec<u16>, &
     numbers_at(alloc, count, rest)
 }
 
-/// Appends identifiers, with their number before them in four bytes.
+/// Appends identifiers, with their number before them in four bytes, or the beginning where memory runs out.
 pub(crate) fn put_identifiers(ids: &[u16], out: &mut Vec<u8>) -> Result<(), NoMemory>
     requires { rise ids.now ≡ true }
-    ensures { OnOk result (out.new.items ≡ out.old.items ++ (fields.many (number w16)).bytes ids.now) }
+    ensures ok { OnOk result (out.new.items ≡ out.old.items ++ (fields.many (number w16)).bytes ids.now) }
+    ensures begins { take (length out.old.items) out.new.items ≡ out.old.items }
+    ensures full { OnErr result (vec_capacity out.old < vec_len out.old + length ((fields.many (number w16)).bytes ids.now)) }
+    ensures capacity { vec_capacity out.old ≤ vec_capacity out.new }
 {
     put_u32(ids.len() as u32, out)?;
     for id in ids {

@@ -1,6 +1,6 @@
 //! What a session keeps beside its copies, as a row's value.
 
-ghost use Rattle.std.specs.Prelude.{◌≡◌, ◌++◌, true, OnOk};
+ghost use Rattle.std.specs.Prelude.{◌≡◌, ◌<◌, ◌≤◌, ◌+◌, ◌++◌, true, length, take, vec_capacity, vec_len, OnErr, OnOk};
 ghost use Rattle.std.specs.Option.{option_copied};
 ghost use Rattle.mqtt_fields.specs.Reading.{Gives};
 ghost use Rattle.qos_handshakes.specs.Incoming.{rise};
@@ -69,7 +69,7 @@ pub(crate) fn read_main(alloc: Global, bytes: &[u8]) -> Result<MainRow, RowFault
     }
 }
 
-/// Appends the value of a session's row.
+/// Appends the value of a session's row, or its beginning where memory runs out.
 #[tactic(auto, unfolding(crate::specs::Fields::main))]
 pub fn write_main(
     expiry: u32,
@@ -81,7 +81,10 @@ pub fn write_main(
 ) -> Result<(), NoMemory>
     requires will { IsPublishableIf (option_copied will) }
     requires incoming { rise incoming.now ≡ true }
-    ensures { OnOk result (out.new.items ≡ out.old.items ++ fields.main.bytes (record { expiry = expiry; closed = closed; will = option_copied will.entry; incoming = incoming.now; next_place = next_place })) }
+    ensures ok { OnOk result (out.new.items ≡ out.old.items ++ fields.main.bytes (record { expiry = expiry; closed = closed; will = option_copied will.entry; incoming = incoming.now; next_place = next_place })) }
+    ensures begins { take (length out.old.items) out.new.items ≡ out.old.items }
+    ensures full { OnErr result (vec_capacity out.old < vec_len out.old + length (fields.main.bytes (record { expiry = expiry; closed = closed; will = option_copied will.entry; incoming = incoming.now; next_place = next_place }))) }
+    ensures capacity { vec_capacity out.old ≤ vec_capacity out.new }
 {
     put_u32(expiry, out)?;
     put_closed(closed, out)?;

@@ -1,12 +1,12 @@
 //! A session that is read from its rows.
 
-ghost use Rattle.std.specs.Prelude.{◌≡◌, map, true, IfOk, OnOk, IsErrOf, IsTrue, ◌↔◌};
+ghost use Rattle.std.specs.Prelude.{◌≡◌, map, true, IfOk, OnOk, IsErrOf, IsSome, IsTrue, ◌↔◌};
 ghost use Rattle.std.specs.List.{AllByRecursion};
 ghost use Rattle.row_store.specs.Rows as store;
 ghost use Rattle.row_store.specs.Rows.{key_of};
 ghost use Rattle.session_rows.specs.Durable.{Durable, IsDurable, IsMomentIf, IsPublishableIf, IsSound, opened_of, opened_if};
 ghost use Rattle.session_rows.specs.Reachable.{IsReachable};
-ghost use Rattle.session_rows.specs.Reading.{HasBytes, Opens, client_in, copies_in, copy_in, durable_in, copy_place, text_in};
+ghost use Rattle.session_rows.specs.Reading.{HasBytes, HasClient, Opens, client_in, copies_in, copy_in, durable_in, copy_place, text_in};
 ghost use Rattle.session_rows.specs.Rows.{rows_of};
 
 use crate::copy::read_copy;
@@ -58,7 +58,8 @@ impl Model for Parts {
 /// there is none for it.
 #[tactic(auto, using(mqtt_fields::proofs::TextLaws::texts))]
 pub fn text_of(alloc: Global, bytes: &[u8]) -> Result<Text, RowFault>
-    ensures { Opens (λ t. t) result (text_in bytes.now) }
+    ensures exact { Opens (λ t. t) result (text_in bytes.now) }
+    ensures no_memory { IsErrOf result RowFault.NoMemory → IsSome (text_in bytes.now) }
 {
     let Ok(text) = str::from_utf8(bytes) else {
         return Err(RowFault::BadRow);
@@ -72,7 +73,8 @@ pub fn text_of(alloc: Global, bytes: &[u8]) -> Result<Text, RowFault>
 
 /// The client of a session's own row.
 fn client_of(alloc: Global, row: &Row) -> Result<Text, RowFault>
-    ensures { Opens (λ t. t) result (client_in (key_of row.now)) }
+    ensures exact { Opens (λ t. t) result (client_in (key_of row.now)) }
+    ensures no_memory { IsErrOf result RowFault.NoMemory → IsSome (client_in (key_of row.now)) }
 {
     if row.kind == SESSION && row.place.is_empty() {
         text_of(alloc, &row.owner)
@@ -131,6 +133,7 @@ fn read_copies(alloc: Global, client: &Text, rows: &[Row]) -> Result<Vec<(u64, E
 fn read_parts(alloc: Global, rows: &[Row]) -> Result<Parts, RowFault>
     ensures said { Opens (λ p. p) result (durable_in (map store.entry_of rows.now)) }
     ensures bytes { OnOk result (AllByRecursion HasBytes (map store.entry_of rows.now)) }
+    ensures no_memory { IsErrOf result RowFault.NoMemory → HasClient (map store.entry_of rows.now) }
 {
     let [first, others @ ..] = rows else {
         return Err(RowFault::BadRow);
@@ -209,10 +212,12 @@ fn open_parts(alloc: Global, parts: Parts) -> Result<Opened, RowFault>
 /// The session whose rows these are: its own, and then those of its copies by rising place.
 ///
 /// BadRow where no session has just these rows: one isn't of its form, they contradict each other, or no calls lead to them.
+/// NoMemory only where the first names a client.
 pub fn read_session(alloc: Global, rows: &[Row]) -> Result<Opened, RowFault>
     ensures ok { IfOk result (λ o. (d : Durable) × IsDurable d × (rows_of d ≡ map store.entry_of rows.now) × (o ≡ opened_of d)) }
     ensures bad { IsErrOf result RowFault.BadRow → (d : Durable) → IsDurable d → rows_of d ≡ map store.entry_of rows.now → ⊥ }
     ensures device { IsErrOf result RowFault.Device → ⊥ }
+    ensures no_memory { IsErrOf result RowFault.NoMemory → HasClient (map store.entry_of rows.now) }
 {
     let parts = read_parts(alloc, rows)?;
     if !is_sound(&parts.main) {

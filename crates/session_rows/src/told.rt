@@ -1,6 +1,6 @@
 //! What has changed of a session's rows.
 
-ghost use Rattle.std.specs.Prelude.{◌≡◌, ◌++◌, ◌∷◌, map, OnOk};
+ghost use Rattle.std.specs.Prelude.{◌≡◌, ◌≢◌, ◌++◌, ◌∷◌, [], false, length, map, take, OnErr, OnOk};
 ghost use Rattle.std.specs.Option.{option_copied};
 ghost use Rattle.std.specs.Int.{w64};
 ghost use Rattle.mqtt_fields.specs.Numbers.{number};
@@ -173,7 +173,7 @@ impl Told {
     }
 }
 
-/// Appends the change of its own row, unless its value was told.
+/// Appends the change of its own row, unless its value was told: then it takes no memory.
 pub fn own_change(
     alloc: Global,
     client: &Text,
@@ -181,7 +181,9 @@ pub fn own_change(
     value: &[u8],
     all: &mut Vec<Change>,
 ) -> Result<(), NoMemory>
-    ensures { OnOk result (map plain_of all.new.items ≡ map plain_of all.old.items ++ changes.own_change_by is_told client.now value.now) }
+    ensures ok { OnOk result (map plain_of all.new.items ≡ map plain_of all.old.items ++ changes.own_change_by is_told client.now value.now) }
+    ensures err { OnErr result (all.new.items ≡ all.old.items) }
+    ensures need { OnErr result (is_told ≡ false) }
 {
     if is_told {
         return Ok(());
@@ -247,7 +249,9 @@ fn push_copy(
     place: u64,
     all: &mut Vec<Change>,
 ) -> Result<(), NoMemory>
-    ensures { OnOk result (map plain_of all.new.items ≡ map plain_of all.old.items ++ copy_change client.now next place (at_place place outgoing.now.box.copies)) }
+    ensures ok { OnOk result (map plain_of all.new.items ≡ map plain_of all.old.items ++ copy_change client.now next place (at_place place outgoing.now.box.copies)) }
+    ensures begins { take (length all.old.items) all.new.items ≡ all.old.items }
+    ensures need { OnErr result (copy_change client.now next place (at_place place outgoing.now.box.copies) ≢ []) }
 {
     let Some(entry) = outgoing.entry_at(place) else {
         if place < next {
@@ -259,7 +263,8 @@ fn push_copy(
     Ok(())
 }
 
-/// Appends the changes of the places touched. `next` is the next place that was told last.
+/// Appends the changes of the places touched, or the first of them where memory runs out. Where there are none it takes no
+/// memory. `next` is the next place that was told last.
 pub fn copy_changes(
     alloc: Global,
     client: &Text,
@@ -268,7 +273,9 @@ pub fn copy_changes(
     places: &[u64],
     all: &mut Vec<Change>,
 ) -> Result<(), NoMemory>
-    ensures { OnOk result (map plain_of all.new.items ≡ map plain_of all.old.items ++ changes.copy_changes client.now next outgoing.now.box.copies places.now) }
+    ensures ok { OnOk result (map plain_of all.new.items ≡ map plain_of all.old.items ++ changes.copy_changes client.now next outgoing.now.box.copies places.now) }
+    ensures begins { take (length all.old.items) all.new.items ≡ all.old.items }
+    ensures need { OnErr result (changes.copy_changes client.now next outgoing.now.box.copies places.now ≢ []) }
 {
     for place in places {
         push_copy(alloc, client, next, outgoing, *place, all)?;

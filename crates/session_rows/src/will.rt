@@ -1,6 +1,6 @@
 //! Wills in rows.
 
-ghost use Rattle.std.specs.Prelude.{◌≡◌, ◌++◌, OnOk};
+ghost use Rattle.std.specs.Prelude.{◌≡◌, ◌<◌, ◌≤◌, ◌+◌, ◌++◌, length, take, vec_capacity, vec_len, OnErr, OnOk};
 ghost use Rattle.std.specs.Option.{option_copied};
 ghost use Rattle.mqtt_fields.specs.Reading.{Gives};
 ghost use Rattle.mqtt_message.specs.Spelling.{optional};
@@ -49,7 +49,10 @@ pub(crate) fn will_if_at(alloc: Global, bytes: &[u8]) -> Result<(Option<Will>, &
 #[tactic(auto, unfolding(crate::specs::Fields::will))]
 fn put_will(will: &Will, out: &mut Vec<u8>) -> Result<(), NoMemory>
     requires { IsPublishable will.now }
-    ensures { OnOk result (out.new.items ≡ out.old.items ++ fields.will.bytes will.now) }
+    ensures ok { OnOk result (out.new.items ≡ out.old.items ++ fields.will.bytes will.now) }
+    ensures begins { take (length out.old.items) out.new.items ≡ out.old.items }
+    ensures full { OnErr result (vec_capacity out.old < vec_len out.old + length (fields.will.bytes will.now)) }
+    ensures capacity { vec_capacity out.old ≤ vec_capacity out.new }
 {
     will.topic.write(out)?;
     put_long(will.payload.as_bytes(), out)?;
@@ -58,10 +61,13 @@ fn put_will(will: &Will, out: &mut Vec<u8>) -> Result<(), NoMemory>
     put_flag(will.retain, out)
 }
 
-/// Appends a will that may be missing.
+/// Appends a will that may be missing, or its beginning where memory runs out.
 pub(crate) fn put_will_if(will: Option<&Will>, out: &mut Vec<u8>) -> Result<(), NoMemory>
     requires { IsPublishableIf (option_copied will) }
-    ensures { OnOk result (out.new.items ≡ out.old.items ++ (optional fields.will).bytes (option_copied will.entry)) }
+    ensures ok { OnOk result (out.new.items ≡ out.old.items ++ (optional fields.will).bytes (option_copied will.entry)) }
+    ensures begins { take (length out.old.items) out.new.items ≡ out.old.items }
+    ensures full { OnErr result (vec_capacity out.old < vec_len out.old + length ((optional fields.will).bytes (option_copied will.entry))) }
+    ensures capacity { vec_capacity out.old ≤ vec_capacity out.new }
 {
     put_flag(will.is_some(), out)?;
     match will {

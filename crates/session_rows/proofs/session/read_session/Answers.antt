@@ -1,6 +1,6 @@
-use Rattle.std.proofs.Common.{ap, subst}
+use Rattle.std.proofs.Common.{ap}
 use Rattle.std.proofs.lemmas.Result.{err_from_is_err_and}
-use Rattle.session_rows.specs.Durable.{Durable, IsSound}
+use Rattle.session_rows.specs.Durable.{Durable}
 use Rattle.session_rows.proofs.DurableLaws.{made_ok, made_bad, bad_stops, not_reachable, not_sound}
 use Rattle.session_rows.proofs.session.read_session.Goals as goal
 
