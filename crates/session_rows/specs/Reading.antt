@@ -1,7 +1,7 @@
 -- Rows as they are read.
-use Rattle.std.specs.Prelude.{◌≡◌, ℕ, ◌==◌, ◌&&◌, nat_eq, cond, List, [], ◌∷◌, length, Option, Some, None, IsSome, Result, Ok, Err, option_map}
+use Rattle.std.specs.Prelude.{◌≡◌, ◌≤◌, ℕ, ◌==◌, ◌&&◌, nat_eq, cond, List, [], ◌∷◌, length, Option, Some, None, IsSome, Result, Ok, Err, option_map}
 use Rattle.std.specs.Cmp.Lexicographic.{pointwise}
-use Rattle.std.specs.Int.{w64}
+use Rattle.std.specs.Int.{w32, w64}
 use Rattle.std.specs.Option.{option_and_then}
 use Rattle.mqtt_fields.specs.declared.fault.FieldFault.{FieldFault}
 use Rattle.mqtt_fields.specs.Field.{Field, IsBytes}
@@ -30,6 +30,13 @@ whole_of (Err e) = None
 
 abbrev pub whole : {A : Type 0} → Field A → List ℕ → Option A
 whole f bs = whole_of (f.at bs)
+
+-- a number in four bytes that isn't 0, and bytes
+pub record CountsSome (bs : List ℕ) : Type 0 where
+  pub count : ℕ
+  pub rest : List ℕ
+  pub read : (number w32).at bs ≡ Ok (count, rest)
+  pub some : 1 ≤ count
 
 -- bytes that are a text
 abbrev pub text_in : List ℕ → Option (List ℕ)

@@ -1,6 +1,6 @@
 //! Readers and writers of the parts of rows.
 
-ghost use Rattle.std.specs.Prelude.{◌≡◌, ◌<◌, ◌≤◌, ◌+◌, ◌++◌, true, length, take, vec_capacity, vec_len, OnErr, OnOk};
+ghost use Rattle.std.specs.Prelude.{◌≡◌, ◌<◌, ◌≤◌, ◌+◌, ◌++◌, true, length, take, vec_capacity, vec_len, IsErrOf, IsOk, OnErr, OnOk};
 ghost use Rattle.std.specs.Int.{w16};
 ghost use Rattle.mqtt_fields.specs.Reading.{Gives};
 ghost use Rattle.mqtt_fields.specs.Numbers.{number};
@@ -8,6 +8,7 @@ ghost use Rattle.mqtt_message.specs.Parts.{qos};
 ghost use Rattle.mqtt_message.specs.Spelling.{values_at};
 ghost use Rattle.qos_handshakes.specs.Incoming.{rise};
 ghost use Rattle.session_rows.specs.Fields as fields;
+ghost use Rattle.session_rows.specs.Reading.{CountsSome};
 
 use mqtt_fields::{
     Blob, FieldFault, NoMemory, Qos, long_at, put_u16, put_u32, put_u64, u8_at, u16_at, u32_at,
@@ -17,7 +18,8 @@ use mqtt_message::{flag_at, put_flag};
 use std::alloc::Global;
 
 pub(crate) fn qos_at(bytes: &[u8]) -> Result<(Qos, &[u8]), FieldFault>
-    ensures { Gives (λ x. (x.0, x.1.now)) result (qos.at bytes.now) }
+    ensures exact { Gives (λ x. (x.0, x.1.now)) result (qos.at bytes.now) }
+    ensures no_memory { IsErrOf result FieldFault.NoMemory → ⊥ }
 {
     let (n, rest) = u8_at(bytes)?;
     match Qos::of(n) {
@@ -28,7 +30,8 @@ pub(crate) fn qos_at(bytes: &[u8]) -> Result<(Qos, &[u8]), FieldFault>
 
 /// Bytes after their length in four bytes, of which there are fewer than 65,536.
 pub(crate) fn payload_at(alloc: Global, bytes: &[u8]) -> Result<(Blob, &[u8]), FieldFault>
-    ensures { Gives (λ x. (x.0, x.1.now)) result (fields.payload.at bytes.now) }
+    ensures exact { Gives (λ x. (x.0, x.1.now)) result (fields.payload.at bytes.now) }
+    ensures no_memory { IsErrOf result FieldFault.NoMemory → IsOk (fields.payload.at bytes.now) }
 {
     let (run, rest) = long_at(bytes)?;
     if run.len() > 65_535 {
@@ -40,7 +43,8 @@ pub(crate) fn payload_at(alloc: Global, bytes: &[u8]) -> Result<(Blob, &[u8]), F
 
 /// Since when a session is closed, if it is.
 pub(crate) fn closed_at(bytes: &[u8]) -> Result<(Option<u64>, &[u8]), FieldFault>
-    ensures { Gives (λ x. (x.0, x.1.now)) result (fields.closed.at bytes.now) }
+    ensures exact { Gives (λ x. (x.0, x.1.now)) result (fields.closed.at bytes.now) }
+    ensures no_memory { IsErrOf result FieldFault.NoMemory → ⊥ }
 {
     let (is_closed, rest) = flag_at(bytes)?;
     let (moment, rest) = u64_at(rest)?;
@@ -64,7 +68,8 @@ pub(crate) fn put_closed(closed: Option<u64>, out: &mut Vec<u8>) -> Result<(), N
 }
 
 fn numbers_at(alloc: Global, count: u32, bytes: &[u8]) -> Result<(Vec<u16>, &[u8]), FieldFault>
-    ensures { Gives (λ x. (x.0.items, x.1.now)) result (values_at (number w16) count bytes.now) }
+    ensures exact { Gives (λ x. (x.0.items, x.1.now)) result (values_at (number w16) count bytes.now) }
+    ensures no_memory { IsErrOf result FieldFault.NoMemory → 1 ≤ count }
 {
     let mut numbers = Vec::new(alloc);
     let mut rest = bytes;
@@ -78,7 +83,8 @@ fn numbers_at(alloc: Global, count: u32, bytes: &[u8]) -> Result<(Vec<u16>, &[u8
 
 /// Identifiers, with their number before them in four bytes.
 pub(crate) fn identifiers_at(alloc: Global, bytes: &[u8]) -> Result<(Vec<u16>, &[u8]), FieldFault>
-    ensures { Gives (λ x. (x.0.items, x.1.now)) result ((fields.many (number w16)).at bytes.now) }
+    ensures exact { Gives (λ x. (x.0.items, x.1.now)) result ((fields.many (number w16)).at bytes.now) }
+    ensures no_memory { IsErrOf result FieldFault.NoMemory → CountsSome bytes.now }
 {
     let (count, rest) = u32_at(bytes)?;
     numbers_at(alloc, count, rest)

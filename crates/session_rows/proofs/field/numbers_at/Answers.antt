@@ -11,8 +11,8 @@ use Rattle.session_rows.proofs.field.numbers_at.Goals as goal
 left : (count i : ℕ) → i + 1 ≤ count → count - i ≡ suc (count - (i + 1))
 left count i more = omega arith
 
-pub returns-in_err-n : goal.returns-in_err-n
-returns-in_err-n c =
+pub returns-in_err-n-clause-exact : goal.returns-in_err-n-clause-exact
+returns-in_err-n-clause-exact c =
     let Left : ℕ → Type 0 = λ k. (values_at (number w16) k c.loop-i.rest.now >>= λ more. onto c.loop-i.numbers.items more) ≡ values_at (number w16) c.args.count c.args.bytes.now in
     let here = subst Left (left c.args.count c.loop-i.i (omega arith)) c.loop-i.invariant in
     let p = err_from_is_err_and c.from_residual.result c.from_residual.ensures.1 in
