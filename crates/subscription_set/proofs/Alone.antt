@@ -9,11 +9,11 @@ use Rattle.std.specs.FinSet as set
 use Rattle.std.proofs.lemmas.Cmp.{tied_itself}
 use Rattle.causal_context.specs.Dots.{Dot, Dots, dot_cmp, dot_cmp_total, dot_cmp_antisym}
 use Rattle.mqtt_topics.specs.Matching.{Matches}
-use Rattle.subscription_set.specs.Entries.{Entry, is_of, same_subscription, same_text, recency_cmp}
-use Rattle.subscription_set.specs.Standing.{Entries, latest}
+use Rattle.subscription_set.specs.Entries.{Entry, is_of, same_subscription, same_text}
+use Rattle.subscription_set.specs.Standing.{latest}
 use Rattle.subscription_set.specs.Indexing.{ByDot, IsStanding, MatchesName, alone, stands_as}
 use Rattle.subscription_set.proofs.Latest.{recency_total}
-use Rattle.subscription_set.proofs.Merges.{no_entries}
+use Rattle.subscription_set.proofs.Merges.{no_entries, none_long}
 
 itself : (d : Dot) → eq_by_cmp dot_cmp d d ≡ true
 itself d = ap is_eq (tied_itself dot_cmp_total d)
@@ -59,11 +59,20 @@ absent m d none = map.same_map dot_cmp_total dot_cmp_antisym m (map.remove m d) 
 pub none_gone : (d : Dot) → map.empty ≡ map.remove (map.empty {X = Entry} {R = dot_cmp}) d
 none_gone d = absent map.empty d (none_at d)
 
+pub none_held : (m : ByDot) → map.len m ≡ 0 → m ≡ map.empty
+none_held m none = map.same_entries_map m map.empty (none_long (map.entries m) (sym (map.len-entries m) ∙ none) ∙ sym (no_entries map.empty refl))
+
+pub none_counted : (m : ByDot) → m ≡ map.empty → map.len m ≡ 0
+none_counted m none = map.len-entries m ∙ ap length (no_entries m none)
+
 -- ---- one entry
 
 module _ (x : Dot × Entry) where
   pub alone_entries : map.entries (alone x) ≡ x ∷ []
   alone_entries = map.entries-insert dot_cmp_total map.empty x.0 x.1 ∙ ap (map.Entries.put dot_cmp x.0 x.1) (no_entries map.empty refl)
+
+  pub alone_some : alone x ≡ map.empty → ⊥
+  alone_some none = (let no = sym alone_entries ∙ no_entries (alone x) none in cc)
 
   pub alone_get : (d : Dot) → map.get (alone x) d ≡ cond (eq_by_cmp dot_cmp d x.0) (Some x.1) None
   alone_get d = map.get-insert dot_cmp_total map.empty x.0 x.1 d ∙ ap (cond (eq_by_cmp dot_cmp d x.0) (Some x.1)) (none_at d)

@@ -1,11 +1,12 @@
 -- What a merge over ordered maps comes to.
-use Rattle.std.proofs.Common.{◌≡◌, ◌<◌, ◌≤◌, Bool, true, false, cond, not, ◌&&◌, if◌then◌else◌, List, [], ◌∷◌, length, is_some, T, Option, Some, None, arith, refl, sym, ap, subst, ◌∙◌}
+use Rattle.std.proofs.Common.{◌≡◌, ◌⊎◌, inl, inr, ◌<◌, ◌≤◌, Bool, true, false, cond, not, ◌&&◌, if◌then◌else◌, List, [], ◌∷◌, length, is_some, T, Option, Some, None, arith, refl, sym, ap, subst, ◌∙◌}
 use Rattle.std.specs.List.{list_any}
 use Rattle.std.specs.Ordering.{eq_by_cmp, is_eq}
 use Rattle.std.specs.Cmp.{Equal-is}
 use Rattle.std.specs.FinMap as map
 use Rattle.std.specs.FinMap.Entries.{same_entries}
 use Rattle.std.specs.FinSet as set
+use Rattle.std.proofs.lemmas.Bool.{cases_order}
 use Rattle.std.proofs.lemmas.Cmp.{tied_itself}
 use Rattle.causal_context.specs.Dots.{Dots, Dot, dot_cmp, dot_cmp_total, dot_cmp_antisym}
 use Rattle.subscription_set.specs.Entries.{Entry, entry_eq, entry_eq-decides}
@@ -125,6 +126,7 @@ pub record IsFiledUpTo (all left : Entries) (m : ByDot) : Type 0 where
   pub apart : (q : Dot) → is_some (find_entry q left) ≡ true → map.get m q ≡ None
   pub finds : (q : Dot) → find_entry q all ≡ first_of (find_entry q left) (map.get m q)
   pub fewer : length left ≤ length all
+  pub first : length left ≡ length all → m ≡ map.empty
 
 pub none_filed : (all left : Entries) (m : ByDot) → left ≡ all → m ≡ map.empty → Rises dot_cmp all → IsFiledUpTo all left m
 none_filed all left m same none h = record {
@@ -132,6 +134,7 @@ none_filed all left m same none h = record {
   apart = λ q _. nothing q;
   finds = λ q. first_none (find_entry q all) ∙ (λ i. first_of (find_entry q (sym same i)) (sym (nothing q) i));
   fewer = subst (λ (x : Entries). length x ≤ length all) (sym same) (omega arith);
+  first = λ _. none;
 }
   where
     nothing : (q : Dot) → map.get m q ≡ None
@@ -154,12 +157,22 @@ module _ (all left rest : Entries) (d : Dot) (e : Entry) (m : ByDot) (one : left
   pub some_left : 0 < length all
   some_left = (let l = ap length one in let f = so.fewer in omega arith)
 
+  -- where something is filed already, there are several
+  pub several : (m ≡ map.empty → ⊥) → 1 < length all
+  several filed = by (cases_order (length left) (length all))
+    where
+      by : (length left ≡ length all) ⊎ ((length left < length all) ⊎ (length all < length left)) → 1 < length all
+      by (inl e) = absurd (filed (so.first e))
+      by (inr (inl less)) = (let l = ap length one in omega (arith, l, less))
+      by (inr (inr more)) = absurd (omega (arith, so.fewer, more))
+
   pub filed_more : (m' : ByDot) (x : Entry) → x ≡ e → m' ≡ map.insert m d x → IsFiledUpTo all rest m'
   filed_more m' x same is = record {
     rises = second_part _ _ up;
     apart = λ q h. apart_at q (eq_by_cmp dot_cmp q d) refl h;
     finds = λ q. so.finds q ∙ ap (λ es. first_of (find_entry q es) (map.get m q)) one ∙ at q (eq_by_cmp dot_cmp q d) refl ∙ ap (first_of (find_entry q rest)) (sym (now q));
     fewer = (let l = ap length one in let f = so.fewer in omega arith);
+    first = λ e. absurd (let l = ap length one in let f = so.fewer in omega (arith, e, l, f));
   }
     where
       now : (q : Dot) → map.get m' q ≡ cond (eq_by_cmp dot_cmp q d) (Some e) (map.get m q)

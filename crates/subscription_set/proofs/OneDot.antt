@@ -44,6 +44,21 @@ take_other x d other = set.same_set dot_cmp_total dot_cmp_antisym _ _ (λ q.
 pub has_one : (d : Dot) → set.contains (set.from_list {R = dot_cmp} (d ∷ [])) d ≡ true
 has_one d = in_one d d ∙ ap (λ r. is_eq r || false) (tied_itself dot_cmp_total d)
 
+-- a dot is in no empty set, and another one isn't in the set of this one
+pub not_empty : (d : Dot) (ks : List Dot) → set.from_list {R = dot_cmp} (d ∷ ks) ≡ set.empty → ⊥
+not_empty d ks none = (let no = sym (set.contains-from_list dot_cmp_total (d ∷ ks) d ∙ ap (λ r. is_eq r || list_any (eq_by_cmp dot_cmp d) ks) (tied_itself dot_cmp_total d)) ∙ ap (λ s. set.contains s d) none ∙ set.contains-empty dot_cmp d in cc)
+
+pub none_of_keys : (ks : List Dot) → set.from_list {R = dot_cmp} ks ≡ set.empty → length ks ≡ 0
+none_of_keys [] none = refl
+none_of_keys (k ∷ ks) none = absurd (not_empty k ks none)
+
+pub not_other : (x d : Dot) → eq_by_cmp dot_cmp x d ≡ false → set.contains (set.from_list {R = dot_cmp} (x ∷ [])) d ≡ true → ⊥
+not_other x d other there = by (eq_by_cmp dot_cmp d x) refl (sym (in_one x d) ∙ there)
+  where
+    by : (b : Bool) → eq_by_cmp dot_cmp d x ≡ b → (b || false) ≡ true → ⊥
+    by true t e = (let no = sym other ∙ ap (eq_by_cmp dot_cmp x) (tied d x t) ∙ ap is_eq (tied_itself dot_cmp_total x) in cc)
+    by false t e = cc
+
 pub has_none : (ks : List Dot) (s : Dots) (b : Bool) → set.from_list ks ≡ s → (b ≡ true → length ks ≡ 0) → (length ks ≡ 0 → b ≡ true) → IsEmptiness s b
 has_none [] s true is t f = λ q. ap (λ v. set.contains v q) (sym is) ∙ set.contains-from_list dot_cmp_total [] q
 has_none (k ∷ ks) s true is t f = absurd (let z = t refl in omega (arith, z))

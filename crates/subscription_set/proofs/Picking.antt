@@ -106,6 +106,10 @@ picked_there p x out left left' all s one passes is so =
     let in_all : list_any (eq_by_cmp dot_cmp x) all ≡ true = and_of (list_any (eq_by_cmp dot_cmp x) all) (p x) (sym (so x) ∙ (λ i. set.contains out x || (in_left i && passes i)) ∙ either (set.contains out x)) in
     member_any p (set.items s) x (sym (set.contains-items s x) ∙ ap (λ y. set.contains y x) (sym is) ∙ set.contains-from_list dot_cmp_total all x ∙ in_all) passes
 
+-- of no dots none is picked
+pub none_there : (p : Dot → Bool) (s : Dots) → s ≡ set.empty → list_any p (set.items s) ≡ true → ⊥
+none_there p s none e = (let f = any_member p (set.items s) e in let no = sym (ap (λ x. set.contains x f.0) none ∙ set.contains-empty dot_cmp f.0) ∙ set.contains-items s f.0 ∙ f.1.0 in cc)
+
 pub and_true : (b : Bool) → (b && true) ≡ b
 and_true true = refl
 and_true false = refl

@@ -9,7 +9,7 @@ use Rattle.causal_context.specs.Dots.{Dots, Dot, dot_cmp, dot_cmp_total, dot_cmp
 use Rattle.subscription_set.specs.declared.entry.Entry.{Entry}
 use Rattle.subscription_set.specs.Statuses.{Status, Statuses}
 use Rattle.subscription_set.specs.Standing.{Entries, find_entry, statuses, present, standing, entry_of}
-use Rattle.subscription_set.proofs.Seen.{get-statuses}
+use Rattle.subscription_set.proofs.Seen.{get-statuses, contains-seen_of, seen_of-statuses}
 use Rattle.subscription_set.proofs.Present.{rises-present}
 use Rattle.subscription_set.specs.Merging.{IsSet}
 use Rattle.subscription_set.proofs.Places.{found_none, first_part, second_part}
@@ -47,6 +47,18 @@ at_seen false (Some e) h = (let no = h refl in cc)
 pub standing-statuses : (c : Dots) (es : Entries) → IsSet c es → standing (statuses c es) ≡ es
 standing-statuses c es h = same_entries dot_cmp dot_cmp_total dot_cmp_antisym (standing (statuses c es)) es (rises-standing (statuses c es)) h.rises
     (λ q. find-standing (statuses c es) q ∙ ap entry_of (get-statuses c es q) ∙ at_seen (set.contains c q) (find_entry q es) (h.seen q))
+
+-- where no dot was seen, nothing stands
+pub nothing_seen : (c : Dots) (es : Entries) → statuses c es ≡ map.empty → c ≡ set.empty
+nothing_seen c es none = set.same_set dot_cmp_total dot_cmp_antisym c set.empty (λ q. ap (λ s. set.contains s q) (sym (seen_of-statuses c es)) ∙ contains-seen_of (statuses c es) q
+    ∙ ap (λ m. is_some (map.get m q)) none ∙ ap is_some (map.get-empty dot_cmp q) ∙ sym (set.contains-empty dot_cmp q))
+
+pub nothing_stands : (c : Dots) (es : Entries) → IsSet c es → statuses c es ≡ map.empty → es ≡ []
+nothing_stands c es h none = same_entries dot_cmp dot_cmp_total dot_cmp_antisym es [] h.rises tt (λ q. by q (find_entry q es) (h.seen q))
+  where
+    by : (q : Dot) (x : Option Entry) → (is_some x ≡ true → set.contains c q ≡ true) → x ≡ None
+    by q None seen = refl
+    by q (Some e) seen = (let no = sym (seen refl) ∙ ap (λ s. set.contains s q) (nothing_seen c es none) ∙ set.contains-empty dot_cmp q in cc)
 
 -- the entries inside are what stands
 pub entries_are : (c : Dots) (es : Entries) (now : Statuses) (xs : Entries) → IsSet c es → statuses c es ≡ now → xs ≡ es → xs ≡ standing now

@@ -43,6 +43,11 @@ pub no_more : {X : Type 0} (xs ys : List X) (y : X) → xs ++ y ∷ ys ≡ [] �
 no_more [] ys y e = cc
 no_more (x ∷ xs) ys y e = cc
 
+-- where none passes, none that passes is next
+pub none_next : {X : Type 0} (p : X → Bool) (x : X) (out left rest all : List X) → left ≡ x ∷ rest → p x ≡ true → out ++ filter p left ≡ filter p all → filter p all ≡ [] → ⊥
+none_next p x out left rest all one passes so none =
+    no_more out (filter p rest) x (ap (λ xs. out ++ xs) (sym (ap (filter p) one ∙ ap (λ b. cond b (x ∷ filter p rest) (filter p rest)) passes)) ∙ so ∙ none)
+
 -- ---- what is selected
 
 module _ {A : Type 0} (P : A → Type 0) where

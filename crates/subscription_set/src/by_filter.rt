@@ -99,11 +99,12 @@ fn united(alloc: Global, found: &[(&Filter, &DotSet)]) -> Result<DotSet, NoMemor
     Ok(out)
 }
 
-// The same, where they lie if there is one set.
+// The same, where they lie if there is one set. Only several take memory.
 fn gather<'a>(alloc: Global, found: &[(&'a Filter, &'a DotSet)]) -> Result<Matched<'a>, NoMemory>
     ensures dots { IfOk result (λ out. (d : DotValue) → set.contains (dots_of out) d
         ≡ list_any (λ r. set.contains r.1.now d) found.now) }
     ensures memory { OnErr result (0 < length found.now) }
+    ensures several { OnErr result (1 < length found.now) }
 {
     if let [(_, dots)] = found {
         return Ok(Matched::One(*dots));

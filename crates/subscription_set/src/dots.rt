@@ -1,5 +1,5 @@
 //! Sets of dots that take a dot out without memory.
-ghost use Rattle.std.specs.Prelude.{◌≡◌, [], ◌∷◌, IfSome, IfOk, OnOk, OnErr};
+ghost use Rattle.std.specs.Prelude.{◌≡◌, [], ◌∷◌, IfSome, IfOk, IsOk, OnOk, OnErr, true};
 ghost use Rattle.std.specs.FinSet as set;
 ghost use Rattle.std.specs.List.Sorted.{IsStrictlySortedBy};
 ghost use Rattle.std.specs.Ordering.{eq_by_cmp};
@@ -88,10 +88,22 @@ impl DotSet {
         }
     }
 
-    /// Puts the dot in.
+    /// The set of one dot. It takes no memory.
+    pub fn one(alloc: Global, dot: Dot) -> DotSet
+        ensures { result ≡ set.insert set.empty dot }
+    {
+        DotSet {
+            alloc,
+            dots: Placed::One(dot),
+        }
+    }
+
+    /// Puts the dot in. The first one takes no memory, nor does one that is there.
     pub fn insert(&mut self, dot: Dot) -> Result<(), NoMemory>
         ensures ok { OnOk result (self.new ≡ set.insert self.old dot) }
         ensures err { OnErr result (self.new ≡ self.old) }
+        ensures first { self.old ≡ set.empty → IsOk result }
+        ensures there { set.contains self.old dot ≡ true → IsOk result }
     {
         match &mut self.dots {
             Placed::One(first) => {
@@ -151,9 +163,10 @@ impl DotSet {
         }
     }
 
-    /// The set as a context.
+    /// The set as a context. Of no dots it takes no memory.
     pub fn context(&self, alloc: Global) -> Result<Context, NoMemory>
-        ensures { IfOk result (λ dots. dots ≡ self.now) }
+        ensures dots { IfOk result (λ dots. dots ≡ self.now) }
+        ensures none { self.now ≡ set.empty → IsOk result }
     {
         let mut context = Context::new(alloc);
         for dot in self.iter() {

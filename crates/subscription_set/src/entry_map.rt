@@ -24,7 +24,7 @@ use mqtt_topics::{Filter, TopicName};
 use std::alloc::Global;
 use std::marker::Model;
 
-// No entry, one, or many with an index. What has become many stays so.
+// No entry, one, or many with an index. What has become many stays so until there is none.
 #[derive(Drop)]
 enum Held {
     Nothing,
@@ -166,22 +166,29 @@ impl EntryMap {
         }
     }
 
-    /// Puts the entry in at the dot, where there is none.
+    /// Puts the entry in at the dot, where there is none. The first one takes no memory.
     pub fn add(&mut self, dot: Dot, entry: Entry) -> Result<(), NoMemory>
         requires { map.get self.old dot ≡ None }
         ensures ok { OnOk result (self.new ≡ map.insert self.old dot entry) }
         ensures err { OnErr result (self.new ≡ self.old) }
+        ensures first { self.old ≡ map.empty → IsOk result }
     {
         match &mut self.entries {
             Held::Nothing => {
-                self.entries = Held::One(LoneEntry::new(self.alloc, dot, entry)?);
+                self.entries = Held::One(LoneEntry::new(self.alloc, dot, entry));
                 Ok(())
             }
             Held::One(one) => {
                 self.entries = Held::Many(one.with(self.alloc, dot, entry)?);
                 Ok(())
             }
-            Held::Many(all) => all.add(dot, entry),
+            Held::Many(all) => {
+                if all.len() > 0 {
+                    return all.add(dot, entry);
+                }
+                self.entries = Held::One(LoneEntry::new(self.alloc, dot, entry));
+                Ok(())
+            }
         }
     }
 

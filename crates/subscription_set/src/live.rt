@@ -158,10 +158,11 @@ pub fn dots_among_below(
     }
 }
 
-/// The latest entries of each client and filter.
+/// The latest entries of each client and filter. Only these take memory.
 pub fn latest_among(alloc: Global, entries: &EntryMap) -> Result<Vec<(&Dot, &Entry)>, NoMemory>
-    ensures { IfOk result (λ out.
+    ensures latest { IfOk result (λ out.
         map_list deref_pair out.items ≡ latest (map.entries entries.now)) }
+    ensures none { latest (map.entries entries.now) ≡ [] → IsOk result }
 {
     let mut out = Vec::new(alloc);
     for (dot, entry) in entries.iter() {
@@ -180,14 +181,16 @@ fn is_live_of(entries: &EntryMap, dot: Dot, entry: &Entry, client: &Text) -> boo
     entry.has_client(client) && is_the_latest(entries, dot, entry)
 }
 
-/// The latest entries of the client, one of each filter.
+/// The latest entries of the client, one of each filter. Only these take memory.
 pub fn latest_of<'a>(
     alloc: Global,
     entries: &'a EntryMap,
     client: &Text,
 ) -> Result<Vec<(&'a Dot, &'a Entry)>, NoMemory>
-    ensures { IfOk result (λ out. map_list deref_pair out.items
+    ensures latest { IfOk result (λ out. map_list deref_pair out.items
         ≡ filter (λ x. same_text client.now x.1.client) (latest (map.entries entries.now))) }
+    ensures none { filter (λ x. same_text client.now x.1.client) (latest (map.entries entries.now)) ≡ []
+        → IsOk result }
 {
     let mut out = Vec::new(alloc);
     for (dot, entry) in entries.iter() {

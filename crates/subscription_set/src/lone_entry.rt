@@ -76,12 +76,15 @@ fn is_of(entry: &Entry, client: &Text, filter: Option<&Filter>) -> bool
 }
 
 impl LoneEntry {
-    pub fn new(alloc: Global, dot: Dot, entry: Entry) -> Result<LoneEntry, NoMemory>
-        ensures { IfOk result (λ one. one ≡ (dot, entry)) }
+    /// The entry at the dot. It takes no memory.
+    pub fn new(alloc: Global, dot: Dot, entry: Entry) -> LoneEntry
+        ensures { result ≡ (dot, entry) }
     {
-        let mut dots = DotSet::new(alloc);
-        dots.insert(dot)?;
-        Ok(LoneEntry { dot, entry, dots })
+        LoneEntry {
+            dot,
+            entry,
+            dots: DotSet::one(alloc, dot),
+        }
     }
 
     /// Whether it is at the dot.

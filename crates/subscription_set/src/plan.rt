@@ -137,7 +137,7 @@ pub fn make_plan(
     Ok(Plan { brought, gone })
 }
 
-// Copies the other's entry at the dot, where there is none here.
+// Copies the other's entry at the dot, where there is none here. Only this takes memory.
 fn bring_one(
     alloc: Global,
     entries: &mut EntryMap,
@@ -148,6 +148,8 @@ fn bring_one(
         ≡ cond (is_some (map.get entries.old q)) (map.get entries.old q)
         (cond (eq_by_cmp dot_cmp q dot) (map.get others.now q) None)) }
     ensures err { OnErr result (entries.new ≡ entries.old) }
+    ensures there { OnErr result (is_some (map.get others.now dot) ≡ true) }
+    ensures fresh { OnErr result (is_some (map.get entries.old dot) ≡ false) }
 {
     if entries.get(dot).is_some() {
         return Ok(());

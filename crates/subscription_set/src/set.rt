@@ -105,7 +105,7 @@ fn are_seen(seen: &Context, entries: &[(Dot, Entry)]) -> bool
 fn by_dot(alloc: Global, entries: Vec<(Dot, Entry)>) -> Result<EntryMap, NoMemory>
     requires { Rises dot_cmp entries.items }
     ensures made { IfOk result (λ made. map.entries made ≡ entries.items) }
-    ensures memory { OnErr result (0 < length entries.items) }
+    ensures memory { OnErr result (1 < length entries.items) }
 {
     let mut made = EntryMap::new(alloc);
     for (dot, entry) in entries {
@@ -114,9 +114,10 @@ fn by_dot(alloc: Global, entries: Vec<(Dot, Entry)>) -> Result<EntryMap, NoMemor
     Ok(made)
 }
 
-// The same entries once more.
+// The same entries once more. Only these take memory.
 fn copied(alloc: Global, entries: &EntryMap) -> Result<EntryMap, NoMemory>
-    ensures { IfOk result (λ copy. copy ≡ entries.now) }
+    ensures same { IfOk result (λ copy. copy ≡ entries.now) }
+    ensures none { map.entries entries.now ≡ [] → IsOk result }
 {
     let mut copy = EntryMap::new(alloc);
     for (dot, entry) in entries.iter() {
@@ -128,7 +129,8 @@ fn copied(alloc: Global, entries: &EntryMap) -> Result<EntryMap, NoMemory>
 
 impl SubscriptionSet {
     /// The set of these entries, among the dots that were seen. None where the entries don't
-    /// strictly rise by their dots, or the dot of one was not seen. Only entries take memory.
+    /// strictly rise by their dots, or the dot of one was not seen. Only where there are several
+    /// entries, and they are a set, does it take memory.
     pub fn new(
         seen: Context,
         entries: Vec<(Dot, Entry)>,
@@ -136,6 +138,8 @@ impl SubscriptionSet {
         ensures some { IfOk result (λ set. IfSome set (λ s. s ≡ statuses seen entries.items)) }
         ensures when { IfOk result (λ set. IsSome set ↔ IsSet seen entries.items) }
         ensures memory { OnErr result (0 < length entries.items) }
+        ensures several { OnErr result (1 < length entries.items) }
+        ensures fit { OnErr result (IsSet seen entries.items) }
     {
         if !are_rising(&entries) || !are_seen(&seen, &entries) {
             return Ok(None);
@@ -198,9 +202,10 @@ impl SubscriptionSet {
         self.entries.live()
     }
 
-    /// What is live: of what stands, the latest of each client and filter, rising by the dots.
+    /// What is live: of what stands, the latest of each client and filter, rising by the dots. Only this takes memory.
     pub fn live(&self) -> Result<Vec<(&Dot, &Entry)>, NoMemory>
-        ensures { IfOk result (λ out. map_list deref_pair out.items ≡ live self.now) }
+        ensures live { IfOk result (λ out. map_list deref_pair out.items ≡ live self.now) }
+        ensures none { live self.now ≡ [] → IsOk result }
     {
         latest_among(self.alloc, &self.entries)
     }
@@ -216,10 +221,11 @@ impl SubscriptionSet {
         latest_matching(self.alloc, &self.entries, name)
     }
 
-    /// What is live of the client, rising by the dots.
+    /// What is live of the client, rising by the dots. Only this takes memory.
     pub fn live_of(&self, client: &Text) -> Result<Vec<(&Dot, &Entry)>, NoMemory>
-        ensures { IfOk result (λ out.
+        ensures live { IfOk result (λ out.
             map_list deref_pair out.items ≡ live_of client.now self.now) }
+        ensures none { live_of client.now self.now ≡ [] → IsOk result }
     {
         latest_of(self.alloc, &self.entries, client)
     }
@@ -267,9 +273,10 @@ impl SubscriptionSet {
         dots_among_below(self.alloc, &self.entries, client, version)
     }
 
-    /// The same set once more.
+    /// The same set once more. Where no dot was seen it takes no memory.
     pub fn copy(&self) -> Result<SubscriptionSet, NoMemory>
-        ensures { IfOk result (λ copy. copy ≡ self.now) }
+        ensures same { IfOk result (λ copy. copy ≡ self.now) }
+        ensures none { self.now ≡ map.empty → IsOk result }
     {
         let seen = self.seen.copy()?;
         let entries = copied(self.alloc, &self.entries)?;

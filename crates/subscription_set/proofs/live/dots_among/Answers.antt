@@ -12,7 +12,7 @@ returns-in-None-clause-dots c = dots_none c.args.entries.now c.args.client.now (
 
 pub returns-in-Some-clause-dots : goal.returns-in-Some-clause-dots
 returns-in-Some-clause-dots c = if_ok (λ (s : Dots). s ≡ c.in-Some.dots.now) (λ s. s ≡ dots_in (is_of c.args.client.now (option_copied c.args.filter)) (map.entries c.args.entries.now)) c.context.result
-    (λ s same. same ∙ dots_all_stand c.args.entries.now c.args.client.now (option_copied c.args.filter) c.in-Some.dots.now c.in-Some.ensures.same) c.context.ensures
+    (λ s same. same ∙ dots_all_stand c.args.entries.now c.args.client.now (option_copied c.args.filter) c.in-Some.dots.now c.in-Some.ensures.same) c.context.ensures.dots
 
 pub returns-in-Some-clause-memory : goal.returns-in-Some-clause-memory
 returns-in-Some-clause-memory c = on_err c.context.result (some_stands c.args.entries.now c.args.client.now (option_copied c.args.filter) c.in-Some.ensures.some)
