@@ -2,12 +2,11 @@
 use Rattle.std.proofs.Common.{◌≡◌, ℕ, List, Option, Some, None, refl, sym, ap, ◌∙◌}
 use Rattle.std.specs.declared.cmp.Ordering.{Ordering}
 use Rattle.std.specs.declared.cmp.Ordering.TheVariants.{Equal}
-use Rattle.std.specs.Cmp.{IsTotalOrder, nat_cmp_total, then_total, on_total}
+use Rattle.std.specs.Cmp.{nat_cmp_total, then_total, on_total}
 use Rattle.std.specs.Cmp.Lexicographic.{slice_cmp}
 use Rattle.std.specs.Ordering.{nat_cmp, ordering_then}
 use Rattle.std.proofs.lemmas.Cmp.{tied_itself}
 use Rattle.mqtt_message.specs.declared.message.Message.{Message}
-use Rattle.mqtt_message.specs.Order.{message_cmp}
 use Rattle.mqtt_message.specs.Spelling.{OptionalFits, optional_bytes}
 use Rattle.mqtt_message.specs.Spellings.{message}
 use Rattle.mqtt_message.proofs.EncodingLaws.{encodings_compare}

@@ -1,10 +1,11 @@
 -- When the reading of a state wants memory.
-use Rattle.std.specs.Prelude.{◌≡◌, ◌<◌, ◌⊎◌, ℕ, List, Ok, IsOk}
+use Rattle.std.specs.Prelude.{◌≡◌, ◌<◌, ◌⊎◌, ℕ, List, true, Ok, IsOk}
 use Rattle.std.specs.Int.{w32}
 use Rattle.mqtt_fields.specs.Field.{Field}
 use Rattle.mqtt_fields.specs.Numbers.{number, text}
 use Rattle.causal_context.specs.Spelling as contexts
-use Rattle.replica_bytes.specs.Values.{dot}
+use Rattle.mqtt_message.specs.Spelling.{flag}
+use Rattle.replica_bytes.specs.Values.{dot, stamp}
 use Rattle.replica_bytes.specs.Stores.{subscriptions}
 
 -- this field has been read, and what follows wants memory
@@ -36,7 +37,17 @@ EntryWants = After dot HasText
 abbrev pub SubscriptionsWant : List ℕ → Type 0
 SubscriptionsWant bs = contexts.WantsMemory bs ⊎ After contexts.context (FirstOf EntryWants) bs
 
--- what is kept of a topic wants memory once the topic has been read
+-- a flag has been read that says that there is a message, and the message's topic
+pub record MessageBegins (bs : List ℕ) : Type 0 where
+  pub rest : List ℕ
+  pub read : flag.at bs ≡ Ok (true, rest)
+  pub topic : HasText rest
+
+-- what is kept of a given topic wants memory once its stamp has been read, and the topic of a message
+abbrev pub KeptWants : List ℕ → Type 0
+KeptWants = After stamp MessageBegins
+
+-- a topic and what is kept of it want memory once the topic has been read
 abbrev pub RetainedWants : List ℕ → Type 0
 RetainedWants = FirstOf HasText
 

@@ -3,7 +3,7 @@ ghost use Rattle.std.specs.Prelude.{◌≡◌, ◌+◌, ◌<◌, ◌≤◌, ◌+
 ghost use Rattle.mqtt_fields.specs.Reading.{Gives};
 ghost use Rattle.mqtt_fields.specs.Numbers.{text};
 ghost use Rattle.replica_bytes.specs.Values as spec;
-ghost use Rattle.replica_bytes.specs.Memory.{EntryWants};
+ghost use Rattle.replica_bytes.specs.Memory.{EntryWants, HasText};
 
 use crate::values::{dot_of, filter_at, write_dot};
 use causal_context::Dot;
@@ -17,10 +17,11 @@ use subscription_set::Entry;
 /// the bytes after them.
 ///
 /// Short where the bytes end inside them; Malformed where the filter isn't one, or no SUBSCRIBE can
-/// have the options and the identifier.
+/// have the options and the identifier. Memory is wanted only once a string has been read.
 pub fn entry_of(alloc: Global, client: Text, bytes: &[u8]) -> Result<(Entry, &[u8]), FieldFault>
-    ensures { Gives (λ x. (x.0, x.1.now)) result
+    ensures exact { Gives (λ x. (x.0, x.1.now)) result
         ((spec.entry_of_client client).at bytes.now) }
+    ensures no_memory { IsErrOf result FieldFault.NoMemory → HasText bytes.now }
 {
     let (filter, rest) = filter_at(alloc, bytes)?;
     let (options, rest) = u8_at(rest)?;

@@ -7,6 +7,7 @@ ghost use Rattle.mqtt_fields.specs.Numbers.{text};
 ghost use Rattle.mqtt_message.specs.Spelling.{optional};
 ghost use Rattle.mqtt_message.specs.Spellings as messages;
 ghost use Rattle.std.specs.Str.{bytes_eq};
+ghost use Rattle.replica_bytes.specs.Memory.{HasText, MessageBegins, KeptWants};
 ghost use Rattle.replica_bytes.specs.Values as spec;
 
 use mqtt_fields::{FieldFault, NoMemory, put_u16, put_u64, u16_at, u64_at};
@@ -23,7 +24,8 @@ fn is_of(message: &Message, topic: &TopicName) -> bool
 
 // A message at the front, and the bytes after it.
 fn message_at(alloc: Global, bytes: &[u8]) -> Result<(Message, &[u8]), FieldFault>
-    ensures { Gives (λ x. (x.0, x.1.now)) result (messages.message.at bytes.now) }
+    ensures exact { Gives (λ x. (x.0, x.1.now)) result (messages.message.at bytes.now) }
+    ensures no_memory { IsErrOf result FieldFault.NoMemory → HasText bytes.now }
 {
     let (message, used) = Message::read(alloc, bytes)?;
     Ok((message, &bytes[used..]))
@@ -38,6 +40,7 @@ fn content_at<'a>(
     ensures exact { Gives (λ x. (x.0, x.1.now)) result
         ((tested (spec.has_topic topic.now) IsMalformed (optional messages.message)).at bytes.now) }
     ensures own { IfOk result (λ x. IsTrue (spec.has_topic topic.now x.0)) }
+    ensures no_memory { IsErrOf result FieldFault.NoMemory → MessageBegins bytes.now }
 {
     let (present, rest) = flag_at(bytes)?;
     if !present {
@@ -52,7 +55,8 @@ fn content_at<'a>(
 }
 
 fn stamp_of(count: u64, node: u16) -> Result<Stamp, FieldFault>
-    ensures { Gives (λ s. s) result (spec.stamp_in count node) }
+    ensures exact { Gives (λ s. s) result (spec.stamp_in count node) }
+    ensures no_memory { IsErrOf result FieldFault.NoMemory → ⊥ }
 {
     match Stamp::new(count, node) {
         None => Err(FieldFault::Malformed),
@@ -63,7 +67,8 @@ fn stamp_of(count: u64, node: u16) -> Result<Stamp, FieldFault>
 /// What is kept of the topic at the front, and the bytes after it.
 ///
 /// Short where the bytes end inside it; Malformed where they spell none, no stamp has the count, or the
-/// message is of another topic.
+/// message is of another topic. Memory is wanted only once the topic of a message has been read: a
+/// tombstone wants none.
 #[tactic(auto, unfolding(crate::specs::Values::kept))]
 pub fn kept_at<'a>(
     alloc: Global,
@@ -72,6 +77,7 @@ pub fn kept_at<'a>(
 ) -> Result<(Kept, &'a [u8]), FieldFault>
     ensures exact { Gives (λ x. (x.0, x.1.now)) result ((spec.kept topic.now).at bytes.now) }
     ensures own { IfOk result (λ x. spec.IsOwn (topic.now, x.0)) }
+    ensures no_memory { IsErrOf result FieldFault.NoMemory → KeptWants bytes.now }
 {
     let (count, rest) = u64_at(bytes)?;
     let (node, rest) = u16_at(rest)?;

@@ -1,6 +1,8 @@
 //! Readers and writers of the values in a store.
 ghost use Rattle.std.specs.Prelude.{◌≡◌, ◌+◌, ◌<◌, ◌≤◌, ◌++◌, length, vec_len, vec_capacity, OnOk, OnErr, IsErrOf};
 ghost use Rattle.mqtt_fields.specs.Reading.{Gives};
+ghost use Rattle.mqtt_topics.specs.Topics.{IsFilter};
+ghost use Rattle.replica_bytes.specs.Memory.{HasText};
 ghost use Rattle.replica_bytes.specs.Values as spec;
 ghost use Rattle.replica_bytes.specs.Values.{filter_in};
 
@@ -48,7 +50,8 @@ pub fn write_dot(dot: Dot, out: &mut Vec<u8>) -> Result<(), NoMemory>
 }
 
 fn filter_of(alloc: Global, text: &Text) -> Result<Filter, FieldFault>
-    ensures { Gives (λ f. f) result (filter_in text.now) }
+    ensures exact { Gives (λ f. f) result (filter_in text.now) }
+    ensures no_memory { IsErrOf result FieldFault.NoMemory → IsFilter text.now }
 {
     match Filter::parse(alloc, text.as_str()) {
         Ok(filter) => Ok(filter),
@@ -59,9 +62,10 @@ fn filter_of(alloc: Global, text: &Text) -> Result<Filter, FieldFault>
     }
 }
 
-/// A topic filter at the front, and the bytes after it.
+/// A topic filter at the front, and the bytes after it. Only a string that is read wants memory.
 pub fn filter_at(alloc: Global, bytes: &[u8]) -> Result<(Filter, &[u8]), FieldFault>
-    ensures { Gives (λ x. (x.0, x.1.now)) result (spec.filter.at bytes.now) }
+    ensures exact { Gives (λ x. (x.0, x.1.now)) result (spec.filter.at bytes.now) }
+    ensures no_memory { IsErrOf result FieldFault.NoMemory → HasText bytes.now }
 {
     let (text, rest) = Text::at(alloc, bytes)?;
     let filter = filter_of(alloc, &text)?;

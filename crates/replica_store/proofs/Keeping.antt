@@ -426,6 +426,10 @@ module _ (t : Retained) where
         (λ n. all q k (head_at q e es false n ∙ f))),
   )
 
+-- the map of no topics is below each
+pub empty_below : (s t : Retained) → s ≡ map.empty → RetainedBelow s t
+empty_below s t none = λ q. subst (λ x. OptionBelow (NotAbove kept_cmp) x (map.get t q)) (sym (ap (λ m. map.get m q) none ∙ map.get-empty topic_cmp q)) tt
+
 pub below_is : (s t : Retained) → AllBelow (map.entries s) t ↔ RetainedBelow s t
 below_is s t = (
   λ h q. subst (λ x. OptionBelow (NotAbove kept_cmp) x (map.get t q)) (sym (map.get-entries s q)) (found_below t (map.entries s) q h),

@@ -1,5 +1,5 @@
 -- The times of retained messages.
-use Rattle.std.specs.Prelude.{◌≡◌, ◌&&◌, ◌^◌, ℕ, nat_le, nat_lt, Option, Some, None, if◌then◌else◌, refl}
+use Rattle.std.specs.Prelude.{◌&&◌, ◌^◌, ℕ, nat_le, nat_lt, Option, Some, None, if◌then◌else◌, refl}
 use Rattle.std.specs.declared.cmp.Ordering.{Ordering}
 use Rattle.std.specs.Ordering.{nat_cmp, then_cmp, on}
 use Rattle.std.specs.Coded.{Coded, coded×, coded_ℕ, code_by}

@@ -1,5 +1,5 @@
 //! The delta of an operation.
-ghost use Rattle.std.specs.Prelude.{◌≡◌, IfOk, IfErr, Some};
+ghost use Rattle.std.specs.Prelude.{◌≡◌, IfOk, IfErr, IsOk, Some, true};
 ghost use Rattle.std.specs.FinMap as map;
 ghost use Rattle.std.specs.FinSet as set;
 ghost use Rattle.subscription_set.specs.Statuses.{statuses_join};
@@ -36,14 +36,15 @@ fn removed_by(alloc: Global, cover: &Context) -> Result<SubscriptionSet, NoMemor
     Ok(set.unwrap())
 }
 
-// The entry at the dot, or nothing where the cover has the dot.
+// The entry at the dot, or nothing where the cover has the dot, which takes no memory.
 fn uncovered(
     alloc: Global,
     dot: Dot,
     entry: &Entry,
     cover: &Context,
 ) -> Result<Vec<(Dot, Entry)>, NoMemory>
-    ensures { IfOk result (λ out. out.items ≡ uncovered_entry dot entry.now cover.now) }
+    ensures entries { IfOk result (λ out. out.items ≡ uncovered_entry dot entry.now cover.now) }
+    ensures covered { set.contains cover.now dot ≡ true → IsOk result }
 {
     let mut entries = Vec::new(alloc);
     if !cover.contains(dot) {

@@ -1,5 +1,6 @@
 //! What is kept of a topic.
-ghost use Rattle.std.specs.Prelude.{◌≡◌, IfOk, MatchOption, Some};
+ghost use Rattle.std.specs.Prelude.{◌≡◌, IfOk, IsOk, MatchOption, Some, None};
+ghost use Rattle.std.specs.Option.{option_copied};
 ghost use Rattle.std.specs.Ordering.{is_lt};
 ghost use Rattle.mqtt_message.specs.declared.message.Message.{Message as MessageValue};
 ghost use Rattle.replica_store.specs.Contents.{topic_in, message_in};
@@ -23,7 +24,8 @@ pub struct Kept {
 
 // The message once more, if there is one.
 fn copy_of(message: &Option<SharedMessage>) -> Result<Option<SharedMessage>, NoMemory>
-    ensures { IfOk result (λ copy. copy ≡ message.now) }
+    ensures copy { IfOk result (λ copy. copy ≡ message.now) }
+    ensures none { message.now ≡ None → IsOk result }
 {
     match message {
         None => Ok(None),
@@ -31,7 +33,7 @@ fn copy_of(message: &Option<SharedMessage>) -> Result<Option<SharedMessage>, NoM
     }
 }
 
-/// The topic of a Put, and what it gives it.
+/// The topic of a Put, and what it gives it. A tombstone takes no memory.
 pub fn entry_of(
     alloc: Global,
     stamp: Stamp,
@@ -40,6 +42,7 @@ pub fn entry_of(
     ensures topic { IfOk result (λ entry. entry.0 ≡ topic_in content) }
     ensures kept { IfOk result (λ entry.
         entry.1 ≡ record { stamp = stamp; message = message_in content }) }
+    ensures none { message_in content ≡ None → IsOk result }
 {
     match content {
         Content::Set(message) => {
@@ -67,8 +70,15 @@ impl Kept {
     pub fn is_below(&self, other: &Kept) -> bool
         ensures { result ≡ is_lt (kept_cmp self.now other.now) }
     {
-        let by_stamp = self.stamp.compare(other.stamp);
-        by_stamp.then(compare_contents(&self.message, &other.message)) == Ordering::Less
+        self.gives_way(other.stamp, other.message.as_ref())
+    }
+
+    /// The same of another that has this stamp and this message, or none.
+    pub(crate) fn gives_way(&self, stamp: Stamp, message: Option<&SharedMessage>) -> bool
+        ensures { result ≡ is_lt (kept_cmp self.now (record { stamp = stamp; message = option_copied message.entry })) }
+    {
+        let by_stamp = self.stamp.compare(stamp);
+        by_stamp.then(compare_contents(self.message.as_ref(), message)) == Ordering::Less
     }
 
     /// The message, if there is one and it is alive.
@@ -89,9 +99,10 @@ impl Kept {
         }
     }
 
-    /// The same once more. Its message is shared.
+    /// The same once more. Its message is shared. A tombstone takes no memory.
     pub(crate) fn copy(&self) -> Result<Kept, NoMemory>
-        ensures { IfOk result (λ copy. copy ≡ self.now) }
+        ensures copy { IfOk result (λ copy. copy ≡ self.now) }
+        ensures none { self.now.message ≡ None → IsOk result }
     {
         let message = copy_of(&self.message)?;
         Ok(Kept {

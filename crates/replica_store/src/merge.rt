@@ -1,13 +1,15 @@
 //! What a merge brings, found before it changes anything.
-ghost use Rattle.std.specs.Prelude.{◌≡◌, ◌↔◌, IfOk, OnOk, OnErr, IsTrue, map as map_list};
+ghost use Rattle.std.specs.Prelude.{◌≡◌, ◌↔◌, ◌⊎◌, ◌<◌, IfOk, OnOk, OnErr, IsTrue, length, map as map_list};
 ghost use Rattle.std.specs.Option.{option_copied};
 ghost use Rattle.std.specs.FinMap as map;
 ghost use Rattle.std.specs.Map.Iter.{deref_pair};
 ghost use Rattle.replica_store.specs.Merging.{AllBelow, AllHeld, NoneHeld, fresh_in, greater_in, is_newer, is_greater, is_covered, with_all, without_all, KeepsOthers};
 
 use crate::kept::Kept;
+use crate::stamp::Stamp;
 use crate::topics::Topics;
 use mqtt_fields::NoMemory;
+use mqtt_message::SharedMessage;
 use mqtt_topics::TopicName;
 use std::alloc::Global;
 
@@ -20,13 +22,13 @@ pub struct News<'a> {
     pub greater: Vec<(TopicName, Kept)>,
 }
 
-/// Whether an entry is greater than what its topic has.
-pub fn wins(own: Option<&Kept>, kept: &Kept) -> bool
-    ensures { result ≡ is_newer (option_copied own.entry) kept.now }
+/// Whether an entry of this stamp and this message, or none, is greater than what its topic has.
+pub fn wins(own: Option<&Kept>, stamp: Stamp, message: Option<&SharedMessage>) -> bool
+    ensures { result ≡ is_newer (option_copied own.entry) (record { stamp = stamp; message = option_copied message.entry }) }
 {
     match own {
         None => true,
-        Some(own) => own.is_below(kept),
+        Some(own) => own.gives_way(stamp, message),
     }
 }
 
@@ -52,14 +54,15 @@ pub fn are_below(topics: &Topics, others: &Topics) -> bool
     true
 }
 
-// The other's entries of topics that aren't here.
+// The other's entries of topics that aren't here. Only these take memory.
 fn fresh<'a>(
     alloc: Global,
     topics: &Topics,
     others: &'a Topics,
 ) -> Result<Vec<(&'a TopicName, &'a Kept)>, NoMemory>
-    ensures { IfOk result (λ out.
+    ensures fresh { IfOk result (λ out.
         map_list deref_pair out.items ≡ fresh_in topics.now (map.entries others.now)) }
+    ensures memory { OnErr result (0 < length (fresh_in topics.now (map.entries others.now))) }
 {
     let mut out = Vec::new(alloc);
     for (topic, kept) in others.iter() {
@@ -80,14 +83,15 @@ fn is_greater(own: Option<&Kept>, kept: &Kept) -> bool
     }
 }
 
-// Copies of the other's entries that are greater than what is here.
+// Copies of the other's entries that are greater than what is here. Only these take memory.
 fn greater(
     alloc: Global,
     topics: &Topics,
     others: &Topics,
 ) -> Result<Vec<(TopicName, Kept)>, NoMemory>
-    ensures { IfOk result (λ out.
+    ensures greater { IfOk result (λ out.
         out.items ≡ greater_in topics.now (map.entries others.now)) }
+    ensures memory { OnErr result (0 < length (greater_in topics.now (map.entries others.now))) }
 {
     let mut out = Vec::new(alloc);
     for (topic, kept) in others.iter() {
@@ -100,19 +104,21 @@ fn greater(
     Ok(out)
 }
 
-/// What a merge with the other brings.
+/// What a merge with the other brings. Where it brings nothing this takes no memory.
 pub fn news_of<'a>(alloc: Global, topics: &Topics, others: &'a Topics) -> Result<News<'a>, NoMemory>
     ensures fresh { IfOk result (λ news.
         map_list deref_pair news.fresh.items ≡ fresh_in topics.now (map.entries others.now)) }
     ensures greater { IfOk result (λ news.
         news.greater.items ≡ greater_in topics.now (map.entries others.now)) }
+    ensures memory { OnErr result ((0 < length (fresh_in topics.now (map.entries others.now)))
+        ⊎ (0 < length (greater_in topics.now (map.entries others.now)))) }
 {
     let fresh = fresh(alloc, topics, others)?;
     let greater = greater(alloc, topics, others)?;
     Ok(News { fresh, greater })
 }
 
-// Puts copies of the entries in. Where memory runs out some of them are in.
+// Puts copies of the entries in, which alone take memory. Where it runs out some of them are in.
 fn add_some(
     alloc: Global,
     topics: &mut Topics,
@@ -120,6 +126,7 @@ fn add_some(
 ) -> Result<(), NoMemory>
     ensures ok { OnOk result (topics.new ≡ with_all topics.old (map_list deref_pair fresh.now)) }
     ensures others { KeepsOthers topics.old topics.new (map_list deref_pair fresh.now) }
+    ensures memory { OnErr result (0 < length fresh.now) }
 {
     for (topic, kept) in fresh {
         let topic = topic.copy(alloc)?;
@@ -148,6 +155,7 @@ pub fn add_fresh(
     requires { NoneHeld topics.old (map_list deref_pair fresh.now) }
     ensures ok { OnOk result (topics.new ≡ with_all topics.old (map_list deref_pair fresh.now)) }
     ensures err { OnErr result (topics.new ≡ topics.old) }
+    ensures memory { OnErr result (0 < length fresh.now) }
 {
     match add_some(alloc, topics, fresh) {
         Ok(()) => Ok(()),

@@ -1,11 +1,12 @@
 //! Retained messages.
-ghost use Rattle.std.specs.Prelude.{◌≡◌, IfOk, IfSome, IsOk, MatchOption, OnOk, OnErr, length};
+ghost use Rattle.std.specs.Prelude.{◌≡◌, IfOk, IfSome, IsOk, MatchOption, OnOk, OnErr, length, false};
 ghost use Rattle.std.specs.FinMap as map;
 ghost use Rattle.std.specs.Option.{option_copied};
 ghost use Rattle.causal_context.specs.Lattices.{lattice_from_join};
 ghost use Rattle.mqtt_message.specs.declared.message.Message.{Message as MessageValue};
 ghost use Rattle.replica_store.specs.Contents.{topic_in, message_in};
 ghost use Rattle.replica_store.specs.Retained.{HaveOwnTopics, retained_join, RetainedBelow, one_put, HasAlive, with_message, greatest_count};
+ghost use Rattle.replica_store.specs.Merging.{is_newer};
 ghost use Rattle.replica_store.specs.RetainedLattice.{retained_lattice};
 
 use crate::content::Content;
@@ -85,18 +86,21 @@ impl RetainedMap {
         self.topics.by_topic()
     }
 
-    /// Puts a message, or a tombstone, into its topic, unless what is there is greater. Where
-    /// memory runs out the map stays as it was.
+    /// Puts a message, or a tombstone, into its topic, unless what is there is no less, which takes no
+    /// memory. Where memory runs out the map stays as it was.
     pub fn put(&mut self, stamp: Stamp, content: Content) -> Result<(), NoMemory>
         ensures ok { OnOk result (self.new ≡ retained_join self.old
             (one_put (topic_in content) (record { stamp = stamp; message = message_in content }))) }
         ensures err { OnErr result (self.new ≡ self.old) }
+        ensures there { is_newer (map.get self.old (topic_in content))
+            (record { stamp = stamp; message = message_in content }) ≡ false → IsOk result }
     {
-        let (topic, kept) = entry_of(self.alloc, stamp, content)?;
-        if wins(self.topics.get(&topic), &kept) {
-            self.topics.insert(topic, kept)?;
-            self.greatest = self.greatest.max(stamp.count());
+        if !wins(self.topics.get(content.topic()), stamp, content.message()) {
+            return Ok(());
         }
+        let (topic, kept) = entry_of(self.alloc, stamp, content)?;
+        self.topics.insert(topic, kept)?;
+        self.greatest = self.greatest.max(stamp.count());
         Ok(())
     }
 
@@ -149,9 +153,10 @@ impl RetainedMap {
         self.greatest
     }
 
-    /// The same map once more. Its messages are shared.
+    /// The same map once more. Its messages are shared. One of no topics takes no memory.
     pub fn copy(&self) -> Result<RetainedMap, NoMemory>
-        ensures { IfOk result (λ copy. copy ≡ self.now) }
+        ensures copy { IfOk result (λ copy. copy ≡ self.now) }
+        ensures none { self.now ≡ map.empty → IsOk result }
     {
         let mut copy = RetainedMap::new(self.alloc);
         copy.join(self)?;

@@ -2,7 +2,7 @@ use Rattle.std.proofs.Common.{map as map_list, IsTrue, false, inl, inr, refl, sy
 use Rattle.mqtt_topics.specs.Matching.{Matches}
 use Rattle.filter_trie.proofs.Jumping.{all_between, walked_to, walked_over, walked_all, shorter_to}
 use Rattle.replica_store.specs.Answers.{IsAnswer}
-use Rattle.replica_store.proofs.Answering.{Answered, none_of_shared, answered_none, answered_with, answered_past, answered_without, answered_silent, answered_so, shared_of, plain_of, itself}
+use Rattle.replica_store.proofs.Answering.{Answered, none_of_shared, answered_none, answered_with, answered_past, answered_without, answered_silent, answered_so, shared_of, plain_of}
 use Rattle.replica_store.proofs.answer.answers.Goals as goal
 
 pub returns-then-is_some-clause-answer : goal.returns-then-is_some-clause-answer

@@ -12,7 +12,7 @@ loop-topic-preserved c =
     let m = c.loop-topic.topics in
     record {
       left = ap (λ s. with_all s (map_list deref_pair (drop (i + 1) xs))) c.in_ok-insert.ensures.ok
-          ∙ added_left xs i c.loop-topic-item.result c.loop-topic-test.true c.loop-topic-item.is _ _ c.in_ok-topic.ensures c.in_ok-kept.ensures m ∙ c.loop-topic.invariant.left;
+          ∙ added_left xs i c.loop-topic-item.result c.loop-topic-test.true c.loop-topic-item.is _ _ c.in_ok-topic.ensures c.in_ok-kept.ensures.copy m ∙ c.loop-topic.invariant.left;
       others = λ q n. ap (λ s. map.get s q) c.in_ok-insert.ensures.ok
-          ∙ added_others xs i c.loop-topic-item.result c.loop-topic-test.true c.loop-topic-item.is _ _ c.in_ok-topic.ensures c.in_ok-kept.ensures c.args.topics.now m c.loop-topic.invariant.others q n;
+          ∙ added_others xs i c.loop-topic-item.result c.loop-topic-test.true c.loop-topic-item.is _ _ c.in_ok-topic.ensures c.in_ok-kept.ensures.copy c.args.topics.now m c.loop-topic.invariant.others q n;
     }
