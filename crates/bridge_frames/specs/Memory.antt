@@ -1,21 +1,37 @@
 -- When the reading of a frame wants memory.
-use Rattle.std.specs.Prelude.{◌≡◌, ℕ, List, Ok, IsOk}
+use Rattle.std.specs.Prelude.{◌≡◌, ◌⊎◌, ℕ, List, Ok}
 use Rattle.std.specs.Int.{w16}
 use Rattle.mqtt_fields.specs.Field.{Field, after}
 use Rattle.mqtt_fields.specs.Numbers.{number, long}
+use Rattle.mqtt_message.specs.Spelling.{flag, listed}
 use Rattle.causal_context.specs.Spelling as contexts
 use Rattle.replica_bytes.specs.Memory as states
+use Rattle.replica_bytes.specs.Memory.{After, HasText, WantsSome}
+use Rattle.bridge_frames.specs.declared.body.FrameBody.{FrameBody}
+use Rattle.bridge_frames.specs.declared.body.FrameBody.TheVariants as bodies
 use Rattle.bridge_frames.specs.declared.kind.Kind.{Kind}
 use Rattle.bridge_frames.specs.declared.kind.Kind.TheVariants as kinds
 use Rattle.bridge_frames.specs.Kinds.{kind}
-use Rattle.bridge_frames.specs.Forwards.{lane_number}
+use Rattle.bridge_frames.specs.Forwards.{lane_number, pick}
 
--- Hello and Got want none. A set or a state wants some once something of it has been read, and a message once its number has.
+-- of so many picks there is a first, and its client has been read
+pub record PicksWant (bs : List ℕ) : Type 0 where
+  pub count : ℕ
+  pub rest : List ℕ
+  pub read : (number w16).at bs ≡ Ok (count, rest)
+  pub wants : WantsSome HasText count rest
+
+-- after the flag a pick's client has been read, or after all picks the topic
+abbrev pub ForwardWants : List ℕ → Type 0
+ForwardWants = After flag (λ more. PicksWant more ⊎ After (listed pick) HasText more)
+
+-- Hello and Got want none. A set or a state wants some once something of it has been read, and a message once a client of its picks or
+-- its topic has.
 abbrev pub BodyWants : Kind → List ℕ → Type 0
 BodyWants kinds.Hello bs = ⊥
 BodyWants kinds.Delta bs = states.WantsMemory bs
 BodyWants kinds.Know bs = contexts.WantsMemory bs
-BodyWants kinds.Forward bs = IsOk (lane_number.at bs)
+BodyWants kinds.Forward bs = After lane_number ForwardWants bs
 BodyWants kinds.Got bs = ⊥
 
 -- the kind, and the two nodes
@@ -34,3 +50,12 @@ pub record WantsMemory (bs : List ℕ) : Type 0 where
   pub run : List ℕ
   pub is : bs ≡ long.bytes run
   pub wants : ContentWants run
+
+-- ---- copies
+-- Hello and Got have nothing that is copied or shared
+abbrev pub CopyWants : FrameBody → Type 0
+CopyWants bodies.Hello = ⊥
+CopyWants (bodies.Delta s) = Unit {0}
+CopyWants (bodies.Know s) = Unit {0}
+CopyWants (bodies.Forward n f) = Unit {0}
+CopyWants (bodies.Got n) = ⊥

@@ -1,9 +1,9 @@
 //! What a frame says.
-ghost use Rattle.std.specs.Prelude.{◌≡◌, ◌<◌, ◌++◌, ◌^◌, IfOk, IsErrOf, IsOk, OnOk};
+ghost use Rattle.std.specs.Prelude.{◌≡◌, ◌<◌, ◌++◌, ◌^◌, length, take, IfOk, IsErrOf, OnErr, OnOk};
 ghost use Rattle.mqtt_fields.specs.Reading.{Gives};
 ghost use Rattle.bridge_frames.specs.Forwards.{got_number, lane_number, numbered};
 ghost use Rattle.bridge_frames.specs.Frames as spec;
-ghost use Rattle.bridge_frames.specs.Memory.{BodyWants};
+ghost use Rattle.bridge_frames.specs.Memory.{BodyWants, CopyWants, ForwardWants};
 ghost use Rattle.causal_context.specs.Spelling as contexts;
 ghost use Rattle.replica_bytes.specs.Memory as states;
 
@@ -60,6 +60,7 @@ fn lane_number_at(bytes: &[u8]) -> Result<(u64, &[u8]), FieldFault>
 fn append_forward(number: LaneNumber, forward: &Forward, out: &mut Vec<u8>) -> Result<(), NoMemory>
     ensures ok { OnOk result (out.new.items ≡ out.old.items ++ numbered.bytes (number, forward.now)) }
     ensures spelling { lane_number.Fits number → numbered.Fits (number, forward.now) }
+    ensures begins { take (length out.old.items) out.new.items ≡ out.old.items }
 {
     forward.has_spelling();
     put_u64(number.get(), out)?;
@@ -69,14 +70,16 @@ fn append_forward(number: LaneNumber, forward: &Forward, out: &mut Vec<u8>) -> R
 fn append_got(number: LaneNumber, out: &mut Vec<u8>) -> Result<(), NoMemory>
     ensures ok { OnOk result (out.new.items ≡ out.old.items ++ got_number.bytes number) }
     ensures spelling { got_number.Fits number }
+    ensures err { OnErr result (out.new.items ≡ out.old.items) }
 {
     put_u64(number.get(), out)
 }
 
 impl FrameBody {
-    /// An equal body. A message is shared.
+    /// An equal body. A message is shared. Of Hello and Got it takes no memory.
     pub fn copy(&self, alloc: Global) -> Result<FrameBody, NoMemory>
-        ensures { IfOk result (λ copy. copy ≡ self.now) }
+        ensures ok { IfOk result (λ copy. copy ≡ self.now) }
+        ensures memory { OnErr result (CopyWants self.now) }
     {
         match self {
             FrameBody::Hello => Ok(FrameBody::Hello),
@@ -108,6 +111,7 @@ impl FrameBody {
             ≡ out.old.items ++ (spec.body (spec.kind_of self.now)).bytes self.now) }
         ensures spelling { OnOk result (spec.IsPlain self.now
             → (spec.body (spec.kind_of self.now)).Fits self.now) }
+        ensures begins { take (length out.old.items) out.new.items ≡ out.old.items }
     {
         match self {
             FrameBody::Hello => Ok(()),
@@ -137,7 +141,7 @@ fn know_at(alloc: Global, bytes: &[u8]) -> Result<(FrameBody, &[u8]), FieldFault
 
 fn forward_at(alloc: Global, bytes: &[u8]) -> Result<(FrameBody, &[u8]), FieldFault>
     ensures exact { Gives (λ x. (x.0, x.1.now)) result (spec.forward.at bytes.now) }
-    ensures no_memory { IsErrOf result FieldFault.NoMemory → IsOk (lane_number.at bytes.now) }
+    ensures no_memory { IsErrOf result FieldFault.NoMemory → states.After lane_number ForwardWants bytes.now }
 {
     let (number, rest) = lane_number_at(bytes)?;
     let (forward, rest) = Forward::at(alloc, rest)?;

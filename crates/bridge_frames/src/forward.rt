@@ -1,8 +1,10 @@
 //! Messages for clients of another node.
-ghost use Rattle.std.specs.Prelude.{◌≡◌, ◌++◌, length, take, IfOk, OnOk};
+ghost use Rattle.std.specs.Prelude.{◌≡◌, ◌+◌, ◌<◌, ◌≤◌, ◌++◌, length, take, vec_len, vec_capacity, IfOk, IsErrOf, OnErr, OnOk};
 ghost use Rattle.mqtt_fields.specs.Reading.{Gives};
 ghost use Rattle.mqtt_message.specs.Spellings.{message};
 ghost use Rattle.bridge_frames.specs.Forwards as spec;
+ghost use Rattle.bridge_frames.specs.Memory.{ForwardWants};
+ghost use Rattle.replica_bytes.specs.Memory.{HasText};
 
 use crate::pick::Picks;
 use mqtt_fields::{FieldFault, NoMemory};
@@ -20,7 +22,8 @@ pub struct Forward {
 }
 
 fn message_at(alloc: Global, bytes: &[u8]) -> Result<(SharedMessage, &[u8]), FieldFault>
-    ensures { Gives (λ x. (x.0, x.1.now)) result (message.at bytes.now) }
+    ensures exact { Gives (λ x. (x.0, x.1.now)) result (message.at bytes.now) }
+    ensures no_memory { IsErrOf result FieldFault.NoMemory → HasText bytes.now }
 {
     let (message, used) = Message::read(alloc, bytes)?;
     let message = SharedMessage::new(alloc, message)?;
@@ -30,10 +33,12 @@ fn message_at(alloc: Global, bytes: &[u8]) -> Result<(SharedMessage, &[u8]), Fie
 impl Forward {
     /// The spelling at the front, and the bytes after it.
     ///
-    /// Short where the bytes end inside it, Malformed where they spell none.
+    /// Short where the bytes end inside it, Malformed where they spell none. Memory is asked for once a client of the picks, or
+    /// the topic, has been read.
     #[tactic(auto, unfolding(crate::specs::Forwards::forward))]
     pub fn at(alloc: Global, bytes: &[u8]) -> Result<(Forward, &[u8]), FieldFault>
-        ensures { Gives (λ x. (x.0, x.1.now)) result (spec.forward.at bytes.now) }
+        ensures exact { Gives (λ x. (x.0, x.1.now)) result (spec.forward.at bytes.now) }
+        ensures no_memory { IsErrOf result FieldFault.NoMemory → ForwardWants bytes.now }
     {
         let (plain, rest) = flag_at(bytes)?;
         let (picks, rest) = Picks::at(alloc, rest)?;
@@ -51,6 +56,8 @@ impl Forward {
     pub fn append(&self, out: &mut Vec<u8>) -> Result<(), NoMemory>
         ensures ok { OnOk result (out.new.items ≡ out.old.items ++ spec.forward.bytes self.now) }
         ensures begins { take (length out.old.items) out.new.items ≡ out.old.items }
+        ensures full { OnErr result (vec_capacity out.old < vec_len out.old + length (spec.forward.bytes self.now)) }
+        ensures capacity { vec_capacity out.old ≤ vec_capacity out.new }
     {
         put_flag(self.plain, out)?;
         self.picks.append(out)?;

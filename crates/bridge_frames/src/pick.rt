@@ -1,9 +1,11 @@
 //! Members of shared groups.
-ghost use Rattle.std.specs.Prelude.{◌≡◌, ◌↔◌, ◌<◌, ◌^◌, ◌++◌, length, take, flat_map, IfOk, MatchOption, OnOk};
+ghost use Rattle.std.specs.Prelude.{[], ◌≡◌, ◌≢◌, ◌↔◌, ◌+◌, ◌<◌, ◌≤◌, ◌^◌, ◌++◌, length, take, flat_map, vec_len, vec_capacity, IfOk, IsErrOf, MatchOption, OnErr, OnOk};
 ghost use Rattle.std.specs.List.{AllByRecursion};
 ghost use Rattle.mqtt_fields.specs.Reading.{Gives};
 ghost use Rattle.mqtt_message.specs.Spelling.{listed, values_at};
 ghost use Rattle.bridge_frames.specs.Forwards as spec;
+ghost use Rattle.bridge_frames.specs.Memory.{PicksWant};
+ghost use Rattle.replica_bytes.specs.Memory.{HasText, WantsSome};
 
 use crate::shared::SharedFilter;
 use mqtt_fields::{FieldFault, NoMemory, Text, put_u16, u16_at};
@@ -20,7 +22,8 @@ pub struct Pick {
 
 impl Pick {
     fn at(alloc: Global, bytes: &[u8]) -> Result<(Pick, &[u8]), FieldFault>
-        ensures { Gives (λ x. (x.0, x.1.now)) result (spec.pick.at bytes.now) }
+        ensures exact { Gives (λ x. (x.0, x.1.now)) result (spec.pick.at bytes.now) }
+        ensures no_memory { IsErrOf result FieldFault.NoMemory → HasText bytes.now }
     {
         let (client, rest) = Text::at(alloc, bytes)?;
         let (filter, rest) = SharedFilter::at(alloc, rest)?;
@@ -30,6 +33,8 @@ impl Pick {
     fn append(&self, out: &mut Vec<u8>) -> Result<(), NoMemory>
         ensures ok { OnOk result (out.new.items ≡ out.old.items ++ spec.pick.bytes self.now) }
         ensures begins { take (length out.old.items) out.new.items ≡ out.old.items }
+        ensures full { OnErr result (vec_capacity out.old < vec_len out.old + length (spec.pick.bytes self.now)) }
+        ensures capacity { vec_capacity out.old ≤ vec_capacity out.new }
     {
         self.client.write(out)?;
         self.filter.as_filter().as_text().write(out)
@@ -73,7 +78,8 @@ impl Model for Picks {
 }
 
 fn list_at(alloc: Global, count: u16, bytes: &[u8]) -> Result<(Vec<Pick>, &[u8]), FieldFault>
-    ensures { Gives (λ x. (x.0.items, x.1.now)) result (values_at spec.pick count bytes.now) }
+    ensures exact { Gives (λ x. (x.0.items, x.1.now)) result (values_at spec.pick count bytes.now) }
+    ensures no_memory { IsErrOf result FieldFault.NoMemory → WantsSome HasText count bytes.now }
 {
     let mut list = Vec::new(alloc);
     let mut rest = bytes;
@@ -89,6 +95,8 @@ fn list_at(alloc: Global, count: u16, bytes: &[u8]) -> Result<(Vec<Pick>, &[u8])
 fn append_list(list: &[Pick], out: &mut Vec<u8>) -> Result<(), NoMemory>
     ensures ok { OnOk result (out.new.items ≡ out.old.items ++ flat_map spec.pick.bytes list.now) }
     ensures begins { take (length out.old.items) out.new.items ≡ out.old.items }
+    ensures full { OnErr result (vec_capacity out.old < vec_len out.old + length (flat_map spec.pick.bytes list.now)) }
+    ensures capacity { vec_capacity out.old ≤ vec_capacity out.new }
 {
     for pick in list {
         pick.append(out)?;
@@ -105,7 +113,8 @@ fn all_have_spellings(list: &[Pick])
 }
 
 fn copied(alloc: Global, list: &[Pick]) -> Result<Vec<Pick>, NoMemory>
-    ensures { IfOk result (λ out. out.items ≡ list.now) }
+    ensures ok { IfOk result (λ out. out.items ≡ list.now) }
+    ensures err { OnErr result (list.now ≢ []) }
 {
     let mut out = Vec::new(alloc);
     for pick in list {
@@ -136,7 +145,8 @@ impl Picks {
 
     /// Picks at the front, and the bytes after them.
     pub(crate) fn at(alloc: Global, bytes: &[u8]) -> Result<(Picks, &[u8]), FieldFault>
-        ensures { Gives (λ x. (x.0, x.1.now)) result ((listed spec.pick).at bytes.now) }
+        ensures exact { Gives (λ x. (x.0, x.1.now)) result ((listed spec.pick).at bytes.now) }
+        ensures no_memory { IsErrOf result FieldFault.NoMemory → PicksWant bytes.now }
     {
         let (count, rest) = u16_at(bytes)?;
         let (list, rest) = list_at(alloc, count, rest)?;
@@ -147,6 +157,8 @@ impl Picks {
     pub(crate) fn append(&self, out: &mut Vec<u8>) -> Result<(), NoMemory>
         ensures ok { OnOk result (out.new.items ≡ out.old.items ++ (listed spec.pick).bytes self.now) }
         ensures begins { take (length out.old.items) out.new.items ≡ out.old.items }
+        ensures full { OnErr result (vec_capacity out.old < vec_len out.old + length ((listed spec.pick).bytes self.now)) }
+        ensures capacity { vec_capacity out.old ≤ vec_capacity out.new }
     {
         put_u16(self.list.len() as u16, out)?;
         append_list(&self.list, out)
@@ -159,9 +171,10 @@ impl Picks {
         all_have_spellings(&self.list);
     }
 
-    /// Equal picks.
+    /// Equal picks. None take no memory.
     pub fn copy(&self, alloc: Global) -> Result<Picks, NoMemory>
-        ensures { IfOk result (λ p. p ≡ self.now) }
+        ensures ok { IfOk result (λ p. p ≡ self.now) }
+        ensures err { OnErr result (self.now ≢ []) }
     {
         let list = copied(alloc, &self.list)?;
         Ok(Picks { list })

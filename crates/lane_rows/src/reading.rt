@@ -4,6 +4,7 @@ ghost use Rattle.std.specs.Int.{w64};
 ghost use Rattle.std.specs.List.{AllByRecursion};
 ghost use Rattle.mqtt_fields.specs.Numbers.{number};
 ghost use Rattle.bridge_frames.specs.Forwards.{forward};
+ghost use Rattle.bridge_frames.specs.Memory.{ForwardWants};
 ghost use Rattle.row_store.specs.Rows.{entry_of, key_of};
 ghost use Rattle.mqtt_fields.specs.Reading.{Finds};
 ghost use Rattle.lane_rows.specs.Reading.{AreLanesOf, AreMessages, AreNumbers, AreParts, IsLaneOf, IsMessage, IsMessageRow, IsPeers, StartsApart, lane_in};
@@ -62,7 +63,8 @@ fn is_numbers_at(row: &Row, peer: u16) -> bool
 
 // The message whose spelling the bytes are.
 fn forward_of(alloc: Global, bytes: &[u8]) -> Result<Forward, FieldFault>
-    ensures { Finds (λ m. m) (λ m. (bytes.now ≡ forward.bytes m) × forward.Fits m) result }
+    ensures finds { Finds (λ m. m) (λ m. (bytes.now ≡ forward.bytes m) × forward.Fits m) result }
+    ensures no_memory { IsErrOf result FieldFault.NoMemory → ForwardWants bytes.now }
 {
     are_bytes(bytes);
     match Forward::at(alloc, bytes) {
@@ -73,7 +75,8 @@ fn forward_of(alloc: Global, bytes: &[u8]) -> Result<Forward, FieldFault>
 }
 
 fn read_message(alloc: Global, peer: u16, n: u64, row: &Row) -> Result<Forward, FieldFault>
-    ensures { Finds (λ m. m) (IsMessage peer n (entry_of row.now)) result }
+    ensures finds { Finds (λ m. m) (IsMessage peer n (entry_of row.now)) result }
+    ensures no_memory { IsErrOf result FieldFault.NoMemory → key_of row.now ≡ message_key peer n }
 {
     if !is_message_at(row, peer, n) {
         return Err(FieldFault::Malformed);
@@ -89,7 +92,8 @@ fn read_messages(
     rows: &[Row],
 ) -> Result<VecDeque<Forward>, FieldFault>
     requires { base + length rows.now < 2 ^ 62 }
-    ensures { Finds (λ ms. ms.items) (AreMessages peer (suc base) (map entry_of rows.now)) result }
+    ensures finds { Finds (λ ms. ms.items) (AreMessages peer (suc base) (map entry_of rows.now)) result }
+    ensures no_memory { IsErrOf result FieldFault.NoMemory → 0 < length rows.now }
 {
     let mut messages = VecDeque::new(alloc);
     for i in 0..rows.len() {
@@ -148,7 +152,8 @@ fn read_lane(
     messages: &[Row],
     numbers: &[Row],
 ) -> Result<ReadLane, FieldFault>
-    ensures { Finds lane_in (IsLaneOf peer (map entry_of messages.now) (map entry_of numbers.now)) result }
+    ensures finds { Finds lane_in (IsLaneOf peer (map entry_of messages.now) (map entry_of numbers.now)) result }
+    ensures no_memory { IsErrOf result FieldFault.NoMemory → 0 < length messages.now }
 {
     let Some((last_put, took)) = read_numbers(peer, numbers) else {
         return Err(FieldFault::Malformed);
@@ -200,8 +205,9 @@ fn read_each(
     messages: &[Row],
     numbers: &[Row],
 ) -> Result<Vec<ReadLane>, FieldFault>
-    ensures { Finds (λ lanes. map lane_in lanes.items)
+    ensures finds { Finds (λ lanes. map lane_in lanes.items)
         (AreParts nodes (map entry_of messages.now) (map entry_of numbers.now)) result }
+    ensures no_memory { IsErrOf result FieldFault.NoMemory → 0 < nodes }
 {
     let mut lanes = Vec::new(alloc);
     let mut left = messages;
@@ -223,9 +229,10 @@ fn read_each(
 
 /// The lanes, in a cluster of so many nodes, whose rows these are, in the order of their keys.
 ///
-/// A fault other than want of memory says that no lanes have just these rows.
+/// A fault other than want of memory says that no lanes have just these rows. Of no nodes it takes no memory.
 pub fn read_lanes(alloc: Global, nodes: u16, rows: &[Row]) -> Result<Vec<ReadLane>, FieldFault>
-    ensures { Finds (λ lanes. map lane_in lanes.items) (AreLanesOf nodes (map entry_of rows.now)) result }
+    ensures finds { Finds (λ lanes. map lane_in lanes.items) (AreLanesOf nodes (map entry_of rows.now)) result }
+    ensures no_memory { IsErrOf result FieldFault.NoMemory → 0 < nodes }
 {
     let (messages, numbers) = rows.split_at(count_messages(rows));
     read_each(alloc, nodes, messages, numbers)

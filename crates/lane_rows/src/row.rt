@@ -69,7 +69,7 @@ fn numbers_row(alloc: Global, peer: u16, last_put: u64, took: u64) -> Result<Row
 }
 
 /// Appends the rows of the messages for the peer from a place on, or the first of them where memory runs out; `base` is the number
-/// before that of the first message.
+/// before that of the first message. Where there is none it takes no memory.
 pub fn append_rows(
     alloc: Global,
     peer: u16,
@@ -83,8 +83,10 @@ pub fn append_rows(
     ensures ok { OnOk result (map entry_of out.new.items ≡ map entry_of out.old.items
         ++ spec.message_rows peer (suc (base + from)) (drop from messages.now.items)) }
     ensures begins { take (length out.old.items) out.new.items ≡ out.old.items }
+    ensures memory { OnErr result (from < length messages.now.items) }
 {
-    for i in from..messages.len() {
+    let end = messages.len();
+    for i in from..end {
         let row = message_row(alloc, peer, base + i as u64 + 1, &messages[i])?;
         out.push(row)?;
     }
@@ -148,8 +150,8 @@ fn are_equal(told: (u64, u64), now: (u64, u64)) -> bool
     told.0 == now.0 && told.1 == now.1
 }
 
-/// Appends the row of the numbers of the peer's lanes, unless both are 0: that of the last message that was put in, and of
-/// the last that was taken. Where memory runs out `out` stays as it was.
+/// Appends the row of the numbers of the peer's lanes, unless both are 0, which takes no memory: that of the last message that was put
+/// in, and of the last that was taken. Where memory runs out `out` stays as it was.
 pub fn append_numbers(
     alloc: Global,
     peer: u16,
@@ -159,6 +161,7 @@ pub fn append_numbers(
 ) -> Result<(), NoMemory>
     ensures ok { OnOk result (map entry_of out.new.items ≡ map entry_of out.old.items ++ spec.numbers_rows peer last_put took) }
     ensures err { OnErr result (out.new.items ≡ out.old.items) }
+    ensures none { spec.numbers_rows peer last_put took ≡ [] → IsOk result }
 {
     if are_equal((last_put, took), (0, 0)) {
         return Ok(());

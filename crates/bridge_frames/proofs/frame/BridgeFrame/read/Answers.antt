@@ -1,8 +1,8 @@
-use Rattle.std.proofs.Common.{◌≡◌, List, ℕ, Some, None, Result, Ok, Err, refl, arith}
+use Rattle.std.proofs.Common.{Result, Ok, Err, refl, arith}
 use Rattle.std.specs.Prelude.{IfOk}
 use Rattle.mqtt_fields.specs.Field.{IsBytes}
 use Rattle.bridge_frames.specs.declared.fault.LinkFault.{LinkFault}
-use Rattle.bridge_frames.specs.Frames.{Frame, content, frame_in}
+use Rattle.bridge_frames.specs.Frames.{Frame}
 use Rattle.bridge_frames.proofs.FrameLaws.{frame_is, no_frame, no_run, not_content, spells, too_large}
 use Rattle.bridge_frames.proofs.frame.BridgeFrame.read.Goals as goal
 
