@@ -18,11 +18,12 @@ use subscription_set::Entry;
 /// A client, and its subscriptions.
 pub type Member<'a> = (&'a Text, &'a [&'a Entry]);
 
-/// Puts subscriptions in the order of their clients' bytes; those of one client stay in their order.
+/// Puts subscriptions in the order of their clients' bytes; those of one client stay in their order. Up to 20 take no memory.
 pub fn sort_by_client(entries: &mut Vec<&Entry>) -> Result<(), NoMemory>
     ensures order { OnOk result (IsSortedByKey client_of text_cmp (referents entries.new.items)) }
     ensures same { OnOk result
         (by_client (referents entries.new.items) ≡ by_client (referents entries.old.items)) }
+    ensures memory { OnErr result (20 < length entries.old.items) }
 {
     entries.sort_by(|a, b| a.client().cmp(b.client()))?;
     Ok(())
@@ -64,10 +65,11 @@ pub fn member_at<'a>(entries: &'a [&'a Entry], place: usize) -> Member<'a>
     (client, own)
 }
 
-/// The clients, each with its subscriptions, of subscriptions in the order of their clients' bytes.
+/// The clients, each with its subscriptions, of subscriptions in the order of their clients' bytes. Only these take memory.
 pub fn by_client<'a>(alloc: Global, entries: &'a [&'a Entry]) -> Result<Vec<Member<'a>>, NoMemory>
     requires { IsSortedByKey client_of text_cmp (referents entries.now) }
-    ensures { IfOk result (λ members. referred members.items ≡ by_client (referents entries.now)) }
+    ensures members { IfOk result (λ members. referred members.items ≡ by_client (referents entries.now)) }
+    ensures memory { OnErr result (0 < length entries.now) }
 {
     let mut members = Vec::with_capacity(alloc, entries.len())?;
     let mut place = 0;

@@ -54,10 +54,11 @@ pub fn counted_among<'a>(mut found: Vec<&'a Entry>, message: &Message) -> Vec<&'
     found
 }
 
-/// Those of the subscriptions that are shared.
+/// Those of the subscriptions that are shared. Only subscriptions take memory.
 pub fn shared_among<'a>(alloc: Global, found: &[&'a Entry]) -> Result<Vec<&'a Entry>, NoMemory>
-    ensures { IfOk result (λ out.
+    ensures selected { IfOk result (λ out.
         IsSelected (λ e. IsShared e.filter) (referents found.now) (referents out.items)) }
+    ensures memory { OnErr result (0 < length found.now) }
 {
     let mut out = Vec::new(alloc);
     for entry in found {

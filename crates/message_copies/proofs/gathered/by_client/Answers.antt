@@ -6,7 +6,7 @@ use Rattle.subscription_set.proofs.Spreading.{text_total, text_anti}
 use Rattle.message_copies.proofs.Gathering.{holds_nothing}
 use Rattle.message_copies.proofs.gathered.by_client.Goals as goal
 
-pub returns : goal.returns
-returns c =
+pub returns-clause-members : goal.returns-clause-members
+returns-clause-members c =
     let shown = referred c.loop-place.members.items in
     sym (append-nil shown) ∙ ap (λ ys. shown ++ ys) (holds_nothing text_total text_anti client_of _ (ap referents (drop_all c.loop-place.place c.args.entries.now c.loop-place-test.false))) ∙ c.loop-place.invariant.left

@@ -21,7 +21,7 @@ loop-entry-preserved c =
       | else-is_shared w ↦ subst Left (sym w.out-is) (goes_without P (referents es) (referents (drop c.loop-entry.entry-index es)) (referents (drop (c.loop-entry.entry-index + 1) es)) (referents c.loop-entry.out.items) c.entry-item.result.now step (λ h. let no : IsTrue false = w.if-is_shared.ensures.1 h in cc) c.loop-entry.invariant)
     ]
 
-pub returns : goal.returns
-returns c =
+pub returns-clause-selected : goal.returns-clause-selected
+returns-clause-selected c =
     let es = c.args.found.now in
     ends (λ (e : Entry). IsShared e.filter) (referents es) (referents (drop c.loop-entry.entry-index es)) (referents c.loop-entry.out.items) (ap referents (drop_all c.loop-entry.entry-index es c.loop-entry-test.false)) c.loop-entry.invariant
