@@ -1,5 +1,6 @@
 -- Rows and changes of lanes, one lane after the other.
 use Rattle.std.proofs.Common.{◌≡◌, inl, inr, Result, Ok, Err, ℕ, zero, suc, ◌+◌, ◌-◌, ◌<◌, ◌≤◌, ◌^◌, min, max, List, [], ◌∷◌, ◌++◌, map, length, take, drop, get_or, append-nil, append_assoc, length-drop, refl, sym, ap, subst, ◌∙◌, arith}
+use Rattle.std.specs.Prelude.{IsOk, OnErr}
 use Rattle.std.specs.List.{AllByRecursion}
 use Rattle.std.proofs.lemmas.Bool.{cases_lt}
 use Rattle.std.proofs.lemmas.List.{drop-drop, take_all, take_more}
@@ -13,6 +14,10 @@ use Rattle.lane_rows.specs.Changes.{KeptLane, Left, now_of, put, removals, told_
 use Rattle.lane_rows.proofs.Cuts.{each_last}
 use Rattle.lane_rows.proofs.Leading.{each_map}
 use Rattle.lane_rows.proofs.Order.{all_both}
+
+none_both : {A : Type 0} (xs ys : List A) → xs ++ ys ≡ [] → (xs ≡ []) × (ys ≡ [])
+none_both [] ys none = (refl, none)
+none_both (x ∷ xs) ys none = absurd cc
 
 count_taken : {A : Type 0} (xs : List A) (i : ℕ) → i ≤ length xs → length (take i xs) ≡ i
 count_taken xs zero few = refl
@@ -36,6 +41,19 @@ more_all P ks i k lt at all one = subst (AllByRecursion P) (sym (taken_more ks i
 
 pub all_taken : {X : Type 0} (P : X → Type 0) (ks : List X) (i : ℕ) → length ks ≤ i → AllByRecursion P (take i ks) → AllByRecursion P ks
 all_taken P ks i over all = subst (AllByRecursion P) (take_all i ks over) all
+
+-- none of all, so none of one
+none_of : {X A : Type 0} (f : ℕ → X → List A) (from : ℕ) (ks : List X) (i : ℕ) (k : X) → i < length ks → k ≡ get_or ks i k → each f from ks ≡ [] → f (from + i) k ≡ []
+none_of f from [] i k lt at none = absurd (omega (arith, lt))
+none_of f from (x ∷ xs) zero k lt at none =
+    let place : from + 0 ≡ from = omega arith in
+    (λ j. f (place j) (at j)) ∙ (none_both (f from x) (each f (suc from) xs) none).0
+none_of f from (x ∷ xs) (suc i) k lt at none =
+    let place : from + suc i ≡ suc from + i = omega arith in
+    ap (λ n. f n k) place ∙ none_of f (suc from) xs i k (omega (arith, lt)) at (none_both (f from x) (each f (suc from) xs) none).1
+
+pub none_at : {X A : Type 0} (f : ℕ → X → List A) (ks : List X) (i : ℕ) (k : X) → i < length ks → k ≡ get_or ks i k → each f 0 ks ≡ [] → f i k ≡ []
+none_at f ks i k lt at none = (let place : i ≡ 0 + i = omega arith in ap (λ n. f n k) place ∙ none_of f 0 ks i k lt at none)
 
 -- ---- one lane
 
@@ -129,6 +147,22 @@ pub rows_made : (ks : List KeptLane) (first mid last : List Plain) → first ≡
 rows_made ks first mid last none one two =
     two ∙ (λ i. (one ∙ ap (λ xs. xs ++ each (λ p k. waiting_of p k.lane) 0 ks) none) i ++ each (λ p k. numbers_of p k.lane) 0 ks)
     ∙ λ i. sym (each_map (λ (k : KeptLane). k.lane) waiting_of 0 ks) i ++ sym (each_map (λ (k : KeptLane). k.lane) numbers_of 0 ks) i
+
+pub no_rows : (ks : List KeptLane) → rows_of (now_of ks) ≡ [] → (each (λ p k. waiting_of p k.lane) 0 ks ≡ []) × (each (λ p k. numbers_of p k.lane) 0 ks ≡ [])
+no_rows ks none =
+    let both = none_both (each waiting_of 0 (now_of ks)) (each numbers_of 0 (now_of ks)) none in
+    (sym (each_map (λ (k : KeptLane). k.lane) waiting_of 0 ks) ∙ both.0, sym (each_map (λ (k : KeptLane). k.lane) numbers_of 0 ks) ∙ both.1)
+
+-- no rows of messages, so no messages
+pub no_messages : (peer n gone : ℕ) (all : List Forward) → message_rows peer n (drop gone all) ≡ [] → gone < length all → ⊥
+no_messages peer n zero (m ∷ ms) none lt = cc
+no_messages peer n zero [] none lt = omega (arith, lt)
+no_messages peer n (suc gone) [] none lt = omega (arith, lt)
+no_messages peer n (suc gone) (m ∷ ms) none lt = no_messages peer n gone ms none (omega (arith, lt))
+
+pub ok_unless : {A E P : Type 0} (r : Result A E) → OnErr r P → (P → ⊥) → IsOk r
+ok_unless (Ok x) on never = refl
+ok_unless (Err e) on never = absurd (never on)
 
 -- ---- lanes that were told as they are
 

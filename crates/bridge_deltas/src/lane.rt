@@ -1,5 +1,5 @@
 //! The lanes to and from one other node.
-ghost use Rattle.std.specs.Prelude.{◌≡◌, ◌<◌, ◌≤◌, ◌+◌, ◌++◌, ◌^◌, ◌↔◌, suc, nat_eq, if◌then◌else◌, take, drop, length, map, OnOk, OnErr, IfOk, IsOk, IsTrue};
+ghost use Rattle.std.specs.Prelude.{[], ◌≡◌, ◌<◌, ◌≤◌, ◌+◌, ◌++◌, ◌^◌, ◌↔◌, suc, nat_eq, if◌then◌else◌, take, drop, length, map, OnOk, OnErr, IfOk, IsOk, IsTrue};
 ghost use Rattle.row_store.specs.Rows.{entry_of};
 ghost use Rattle.lane_rows.specs.ChangeSteps.{IsSoundLane, message_changes, numbers_changes};
 ghost use Rattle.lane_rows.specs.Changes.{left_of, new_kept, told_now};
@@ -229,26 +229,32 @@ impl Lane {
         let _gone = self.gone;
     }
 
-    /// Appends the rows of the messages that wait for the peer.
+    /// Appends the rows of the messages that wait for the peer, or the first of them where memory runs out. Where none waits it takes
+    /// no memory.
     pub fn append_messages(
         &self,
         alloc: Global,
         peer: u16,
         out: &mut Vec<Row>,
     ) -> Result<(), NoMemory>
-        ensures { OnOk result (map entry_of out.new.items ≡ map entry_of out.old.items ++ waiting_of peer self.now.lane) }
+        ensures ok { OnOk result (map entry_of out.new.items ≡ map entry_of out.old.items ++ waiting_of peer self.now.lane) }
+        ensures begins { take (length out.old.items) out.new.items ≡ out.old.items }
+        ensures none { waiting_of peer self.now.lane ≡ [] → IsOk result }
     {
         append_rows(alloc, peer, self.base, &self.messages, self.gone, out)
     }
 
-    /// Appends the row of the numbers of the peer's lanes, if they have one.
+    /// Appends the row of the numbers of the peer's lanes, if they have one: else it takes no memory. Where memory runs out `out`
+    /// stays as it was.
     pub fn append_numbers(
         &self,
         alloc: Global,
         peer: u16,
         out: &mut Vec<Row>,
     ) -> Result<(), NoMemory>
-        ensures { OnOk result (map entry_of out.new.items ≡ map entry_of out.old.items ++ numbers_of peer self.now.lane) }
+        ensures ok { OnOk result (map entry_of out.new.items ≡ map entry_of out.old.items ++ numbers_of peer self.now.lane) }
+        ensures err { OnErr result (out.new.items ≡ out.old.items) }
+        ensures none { numbers_of peer self.now.lane ≡ [] → IsOk result }
     {
         let last_put = self.base + self.messages.len() as u64;
         append_numbers(alloc, peer, last_put, self.took, out)
@@ -284,6 +290,7 @@ impl Lane {
         out: &mut Vec<Change>,
     ) -> Result<(), NoMemory>
         ensures ok { OnOk result (map left_of out.new.items ≡ map left_of out.old.items ++ numbers_changes peer self.now) }
+        ensures err { OnErr result (out.new.items ≡ out.old.items) }
         ensures told { self.now.told ≡ self.now.lane → IsOk result }
     {
         let told = (self.base + self.told as u64, self.told_took);

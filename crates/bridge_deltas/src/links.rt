@@ -1,5 +1,5 @@
 //! What a node keeps for the other nodes of its cluster.
-ghost use Rattle.std.specs.Prelude.{◌≡◌, ◌⊎◌, ◌<◌, ◌-◌, ◌++◌, ◌↔◌, suc, length, nat_eq, if◌then◌else◌, slice_set, map, replicate, IfOk, IfErr, IfSome, IsErrOf, IsNone, IsOk, IsTrue, OnErr, OnOk};
+ghost use Rattle.std.specs.Prelude.{[], ◌≡◌, ◌⊎◌, ◌<◌, ◌-◌, ◌++◌, ◌↔◌, suc, length, nat_eq, if◌then◌else◌, slice_set, map, replicate, IfOk, IfErr, IfSome, IsErrOf, IsNone, IsOk, IsTrue, OnErr, OnOk};
 ghost use Rattle.std.specs.FinSet as set;
 ghost use Rattle.std.specs.List.{AllByRecursion};
 ghost use Rattle.causal_context.specs.SetLattice.{IsSubset};
@@ -71,7 +71,8 @@ impl Model for Links {
 }
 
 fn no_beliefs(alloc: Global, nodes: u16) -> Result<Vec<Context>, NoMemory>
-    ensures { IfOk result (λ b. b.items ≡ replicate nodes set.empty) }
+    ensures ok { IfOk result (λ b. b.items ≡ replicate nodes set.empty) }
+    ensures memory { OnErr result (0 < nodes) }
 {
     let mut beliefs = Vec::new(alloc);
     for _ in 0..nodes {
@@ -81,7 +82,8 @@ fn no_beliefs(alloc: Global, nodes: u16) -> Result<Vec<Context>, NoMemory>
 }
 
 fn no_counts(alloc: Global, nodes: u16) -> Result<Vec<usize>, NoMemory>
-    ensures { IfOk result (λ c. c.items ≡ replicate nodes 0) }
+    ensures ok { IfOk result (λ c. c.items ≡ replicate nodes 0) }
+    ensures memory { OnErr result (0 < nodes) }
 {
     let mut counts = Vec::new(alloc);
     for _ in 0..nodes {
@@ -100,7 +102,8 @@ fn lower_all(counts: &mut Vec<usize>)
 }
 
 fn new_lanes(alloc: Global, nodes: u16) -> Result<Vec<Lane>, NoMemory>
-    ensures { IfOk result (λ l. l.items ≡ replicate nodes new_kept) }
+    ensures ok { IfOk result (λ l. l.items ≡ replicate nodes new_kept) }
+    ensures memory { OnErr result (0 < nodes) }
 {
     let mut lanes = Vec::new(alloc);
     for _ in 0..nodes {
@@ -124,8 +127,9 @@ fn add_messages(
     out: &mut Vec<Row>,
 ) -> Result<(), NoMemory>
     requires { length lanes.now.items ≡ nodes }
-    ensures { OnOk result (map entry_of out.new.items
+    ensures ok { OnOk result (map entry_of out.new.items
         ≡ map entry_of out.old.items ++ each (λ p k. waiting_of p k.lane) 0 lanes.now.items) }
+    ensures none { each (λ p k. waiting_of p k.lane) 0 lanes.now.items ≡ [] → IsOk result }
 {
     for peer in 0..nodes {
         lanes[peer as usize].append_messages(alloc, peer, out)?;
@@ -140,8 +144,9 @@ fn add_numbers(
     out: &mut Vec<Row>,
 ) -> Result<(), NoMemory>
     requires { length lanes.now.items ≡ nodes }
-    ensures { OnOk result (map entry_of out.new.items
+    ensures ok { OnOk result (map entry_of out.new.items
         ≡ map entry_of out.old.items ++ each (λ p k. numbers_of p k.lane) 0 lanes.now.items) }
+    ensures none { each (λ p k. numbers_of p k.lane) 0 lanes.now.items ≡ [] → IsOk result }
 {
     for peer in 0..nodes {
         lanes[peer as usize].append_numbers(alloc, peer, out)?;
@@ -202,7 +207,8 @@ fn are_lanes(lanes: &Vec<Lane>)
 // The lanes that rows say.
 fn lanes_of(alloc: Global, read: Vec<ReadLane>) -> Result<Vec<Lane>, NoMemory>
     requires { AllByRecursion (λ r. IsLane (lane_in r)) read.items }
-    ensures { IfOk result (λ lanes. lanes.items ≡ map told_lane (map lane_in read.items)) }
+    ensures ok { IfOk result (λ lanes. lanes.items ≡ map told_lane (map lane_in read.items)) }
+    ensures memory { OnErr result (0 < length read.items) }
 {
     let mut lanes = Vec::new(alloc);
     for lane in read {
@@ -214,7 +220,8 @@ fn lanes_of(alloc: Global, read: Vec<ReadLane>) -> Result<Vec<Lane>, NoMemory>
 // What a node keeps that has these lanes, and nothing else.
 fn opened(alloc: Global, node: u16, nodes: u16, read: Vec<ReadLane>) -> Result<Links, NoMemory>
     requires { AreLanes nodes (map lane_in read.items) }
-    ensures { IfOk result (λ l. l ≡ opened_links node nodes (map lane_in read.items)) }
+    ensures ok { IfOk result (λ l. l ≡ opened_links node nodes (map lane_in read.items)) }
+    ensures memory { OnErr result (0 < nodes) }
 {
     Ok(Links {
         alloc,
@@ -228,9 +235,10 @@ fn opened(alloc: Global, node: u16, nodes: u16, read: Vec<ReadLane>) -> Result<L
 }
 
 impl Links {
-    /// What the node keeps in a new cluster of so many nodes: nothing.
+    /// What the node keeps in a new cluster of so many nodes: nothing. Of no nodes it takes no memory.
     pub fn new(alloc: Global, node: u16, nodes: u16) -> Result<Links, NoMemory>
-        ensures { IfOk result (λ l. l ≡ new_links node nodes) }
+        ensures ok { IfOk result (λ l. l ≡ new_links node nodes) }
+        ensures memory { OnErr result (0 < nodes) }
     {
         Ok(Links {
             alloc,
@@ -405,9 +413,10 @@ impl Links {
         tell_all(&mut self.lanes);
     }
 
-    /// The rows of the lanes, in the order of their keys.
+    /// The rows of the lanes, in the order of their keys. Where they have none it takes no memory.
     pub fn rows(&self) -> Result<Vec<Row>, NoMemory>
-        ensures { IfOk result (λ rows. map entry_of rows.items ≡ rows_of (now_of self.now.lanes)) }
+        ensures ok { IfOk result (λ rows. map entry_of rows.items ≡ rows_of (now_of self.now.lanes)) }
+        ensures nothing { rows_of (now_of self.now.lanes) ≡ [] → IsOk result }
     {
         let mut out = Vec::new(self.alloc);
         add_messages(self.alloc, self.nodes, &self.lanes, &mut out)?;
@@ -435,11 +444,12 @@ impl Links {
     /// What a node keeps in a cluster of so many nodes that has these rows of lanes, in the order of their keys: the lanes, and
     /// nothing else.
     ///
-    /// BadRow exactly where no lanes have just these rows.
+    /// BadRow exactly where no lanes have just these rows. Of no nodes it takes no memory.
     pub fn from_rows(alloc: Global, node: u16, nodes: u16, rows: &[Row]) -> Result<Links, RowFault>
         ensures ok { IfOk result (λ l. (lanes : Lanes Forward) × AreLanesOf nodes (map entry_of rows.now) lanes × (l ≡ opened_links node nodes lanes)) }
         ensures bad { IsErrOf result RowFault.BadRow → (lanes : Lanes Forward) → AreLanesOf nodes (map entry_of rows.now) lanes → ⊥ }
         ensures fault { IfErr result (λ e. (e ≡ faults.NoMemory) ⊎ (e ≡ faults.BadRow)) }
+        ensures memory { IsErrOf result RowFault.NoMemory → 0 < nodes }
     {
         let read = match read_lanes(alloc, nodes, rows) {
             Ok(read) => read,

@@ -2,10 +2,15 @@ use Rattle.std.proofs.Common.{◌<◌, length, map, arith}
 use Rattle.row_store.specs.Rows.{entry_of}
 use Rattle.lane_rows.specs.Changes.{KeptLane}
 use Rattle.lane_rows.specs.Rows.{numbers_of}
-use Rattle.bridge_deltas.proofs.Telling.{more_each}
+use Rattle.bridge_deltas.proofs.Telling.{more_each, none_at}
 use Rattle.bridge_deltas.proofs.links.add_numbers.Goals as goal
 
 pub loop-peer-preserved : goal.loop-peer-preserved
 loop-peer-preserved c =
     let inside : c.loop-peer.peer < length c.args.lanes.now.items = omega (arith, c.loop-peer-test.true, c.requires) in
-    more_each (λ p (k : KeptLane). numbers_of p k.lane) c.args.lanes.now.items c.loop-peer.peer c.index.result.now (map entry_of c.args.out.now.items) (map entry_of c.loop-peer.out.items) (map entry_of c.append_numbers.new.out.items) inside c.index.ensures c.loop-peer.invariant c.in_ok-append_numbers.ensures
+    more_each (λ p (k : KeptLane). numbers_of p k.lane) c.args.lanes.now.items c.loop-peer.peer c.index.result.now (map entry_of c.args.out.now.items) (map entry_of c.loop-peer.out.items) (map entry_of c.append_numbers.new.out.items) inside c.index.ensures c.loop-peer.invariant c.in_ok-append_numbers.ensures.ok
+
+pub returns-in_err-append_numbers-clause-none : goal.returns-in_err-append_numbers-clause-none
+returns-in_err-append_numbers-clause-none c = λ e.
+    let inside : c.loop-peer.peer < length c.args.lanes.now.items = omega (arith, c.loop-peer-test.true, c.requires) in
+    absurd (let no = c.in_err-append_numbers.ensures.none (none_at (λ p (k : KeptLane). numbers_of p k.lane) c.args.lanes.now.items c.loop-peer.peer c.index.result.now inside c.index.ensures e) in cc)

@@ -10,5 +10,5 @@ returns-clause-opened c = record {
   named = refl;
   sessions = λ client. ap (λ m. map.get m client) c.new-2.ensures ∙ map.get-empty (slice_cmp nat_cmp) client;
   store = c.new-store.ensures;
-  links = c.in-Ok.ensures ∙ new_opened c.args.id c.args.nodes;
+  links = c.in-Ok.ensures.ok ∙ new_opened c.args.id c.args.nodes;
 }
