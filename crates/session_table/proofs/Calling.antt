@@ -1,5 +1,5 @@
 -- What a call of a client's session comes to.
-use Rattle.std.proofs.Common.{◌≡◌, ℕ, Bool, false, List, [], Option, Some, None, Bor, IfOk, IfSome, MatchOption, is_some, Result, Ok, Err, unwrap_or, ◌||◌, ◌&&◌, inl, inr, refl, sym, ap, subst, ◌∙◌}
+use Rattle.std.proofs.Common.{◌≡◌, ℕ, Bool, false, List, [], Option, Some, None, Bor, IfOk, IfSome, MatchOption, is_some, not, Result, Ok, Err, unwrap_or, ◌||◌, ◌&&◌, inl, inr, refl, sym, ap, subst, ◌∙◌}
 use Rattle.std.specs.Ordering.{eq_by_cmp}
 use Rattle.std.specs.Option.{option_and_then, option_map}
 use Rattle.std.specs.FinMap as map
@@ -20,7 +20,7 @@ use Rattle.session_table.specs.declared.call.Call.TheVariants.{Connect}
 use Rattle.session_table.specs.Calls.{event_of, IsSpelledIf, IsCalled, IsTurned, IsSeated, MayTurn, MayTurnAt}
 use Rattle.session_table.specs.Listing.{Table, connection_in, text_cmp, seat_of, seats_in, moments_of, no_moments, listed_in, IsAt, IsListedAt, Relists, IsListed, IsKeyed, IsKept, IsBroken, Runs}
 use Rattle.session_table.specs.Rows.{IsAllTold}
-use Rattle.session_table.specs.Wants.{WantsAt, WantsToTell, HasNewMoment, keeps_rows, is_queue, leaves_rows}
+use Rattle.session_table.specs.Wants.{WantsAt, WantsToTell, HasNewMoment, keeps_rows, is_ending, is_queue, leaves_rows}
 use Rattle.session_table.specs.declared.listing.Listing.{Listing}
 use Rattle.session_table.specs.declared.moments.Moments.{Moments}
 use Rattle.session_table.specs.declared.seated.Seated.{Seated}
@@ -83,10 +83,11 @@ spelled_at (Err fault) h now = tt
 
 -- ---- where it wants memory
 -- what is known of the call before and after it
-pub leaves_as : (e : Event) (old : Option State) (r : Reaction) (keeps queued leaves b : Bool) → IfSome old (λ s. keeps ≡ keeps_rows e s) → queued ≡ is_queue e → leaves ≡ (keeps || (queued && r.full)) → leaves ≡ b
+pub leaves_as : (e : Event) (old : Option State) (r : Reaction) (keeps ending queued leaves b : Bool) → IfSome old (λ s. keeps ≡ keeps_rows e s) → ending ≡ is_ending e → queued ≡ is_queue e
+    → leaves ≡ (keeps || ((ending && not (is_some r.ask)) || (queued && r.full))) → leaves ≡ b
     → IfSome old (λ s. leaves_rows e s r ≡ b)
-leaves_as e None r keeps queued leaves b before queue is so = tt
-leaves_as e (Some s) r keeps queued leaves b before queue is so = (λ i. sym before i || (sym queue i && r.full)) ∙ sym is ∙ so
+leaves_as e None r keeps ending queued leaves b before end queue is so = tt
+leaves_as e (Some s) r keeps ending queued leaves b before end queue is so = (λ i. sym before i || ((sym end i && not (is_some r.ask)) || (sym queue i && r.full))) ∙ sym is ∙ so
 
 pub may_alter : (e : Event) (old : Option State) (r : Reaction) (left : Option State) → IfSome old (λ s. IsTurned e s (Ok r) left) → IfSome old (λ s. leaves_rows e s r ≡ false) → IfSome old (WantsToTell e)
 may_alter e None r left turns alters = tt

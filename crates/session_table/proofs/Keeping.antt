@@ -1,11 +1,12 @@
 -- Calls that leave the rows of a session as they are.
-use Rattle.std.proofs.Common.{◌≡◌, ℕ, Bool, true, false, cond, List, Option, Some, None, inl, inr, refl, sym, ap, ◌∙◌}
+use Rattle.std.proofs.Common.{◌≡◌, ℕ, Bool, true, false, cond, List, Option, Some, None, inl, inr, refl, sym, ap, subst, ◌∙◌}
 use Rattle.std.specs.Prelude.{◌||◌, not, is_some, length, replicate}
 use Rattle.std.proofs.lemmas.Bool.{false≢true}
 use Rattle.mqtt_fields.specs.declared.options.Qos.{Qos}
 use Rattle.mqtt_fields.specs.declared.options.Qos.TheVariants.{AtMostOnce, AtLeastOnce, ExactlyOnce}
 use Rattle.mqtt_message.specs.declared.delivery.Delivery.{Delivery}
 use Rattle.mqtt_message.specs.declared.message.Message.{Message}
+use Rattle.mqtt_packets.specs.declared.connect.Will.{Will}
 use Rattle.mqtt_packets.specs.declared.packet.Packet.{Packet}
 use Rattle.mqtt_packets.specs.declared.packet.Packet.TheVariants as packets
 use Rattle.mqtt_packets.specs.declared.publish.Publish.{Publish}
@@ -18,13 +19,14 @@ use Rattle.mqtt_sessions.specs.declared.reaction.Ask.{Ask}
 use Rattle.mqtt_sessions.specs.Answers.{fits, puback, suback, unsuback}
 use Rattle.mqtt_sessions.specs.Arriving.{refusal, message_in, setting, publish_by, passes_by, once_by, arrival_once, is_unwelcome}
 use Rattle.mqtt_sessions.specs.Asking.{SubscribeStep, answer_by, answer_of, answer_on, waiting_for}
+use Rattle.mqtt_sessions.specs.Ending.{ask_of, end_due, finished, has_run_out, is_due, message_of, passes_will, ticked, ticked_if, timed_out, will_due}
 use Rattle.mqtt_sessions.specs.Packets.{KindStep, PacketIf}
 use Rattle.mqtt_sessions.specs.Reaction.{Reaction, Outcome, answered}
 use Rattle.mqtt_sessions.specs.Saved.{durable_of, is_single, keeps_main}
 use Rattle.mqtt_sessions.specs.Sending.{QueueIf, is_once}
-use Rattle.mqtt_sessions.specs.State.{State, Link, aliases_of, heard, limit_of}
+use Rattle.mqtt_sessions.specs.State.{State, Link, aliases_of, cut, heard, limit_of}
 use Rattle.session_laws.specs.Runs.{Event, connects, queues, takes, answers, closes, ticks, finishes, loses, Reacts}
-use Rattle.session_table.specs.Wants.{leaves_rows}
+use Rattle.session_table.specs.Wants.{is_unexpected, leaves_rows}
 
 -- an outcome that leaves what outlives connections
 abbrev Keeps : State → Outcome → Type 0
@@ -81,9 +83,32 @@ or_none : (b : Bool) → (b || false) ≡ true → b ≡ true
 or_none true is = refl
 or_none false is = is
 
-packet_keeps : (l : Option ℕ) (p : Packet) (now : ℕ) (room : Bool) (s : State) (r : Reaction) (new : State) → (not (is_some l) || keeps_main p) ≡ true → PacketIf l p now room s r new → durable_of new ≡ durable_of s
+-- what is unexpected cuts the connection
+unexpected_keeps : (p : Packet) (now : ℕ) (room : Bool) (limit : ℕ) (s : State) (r : Reaction) (new : State) → is_unexpected p ≡ true → KindStep p now room limit s r new → durable_of new ≡ durable_of s
+unexpected_keeps (packets.Connect p) now room limit s r new is step = ap durable_of step.1
+unexpected_keeps (packets.Connack p) now room limit s r new is step = ap durable_of step.1
+unexpected_keeps (packets.Suback p) now room limit s r new is step = ap durable_of step.1
+unexpected_keeps (packets.Unsuback p) now room limit s r new is step = ap durable_of step.1
+unexpected_keeps packets.Pingresp now room limit s r new is step = ap durable_of step.1
+unexpected_keeps (packets.Auth p) now room limit s r new is step = ap durable_of step.1
+unexpected_keeps (packets.Publish p) now room limit s r new is step = absurd (false≢true is)
+unexpected_keeps (packets.Puback p) now room limit s r new is step = absurd (false≢true is)
+unexpected_keeps (packets.Pubrec p) now room limit s r new is step = absurd (false≢true is)
+unexpected_keeps (packets.Pubrel p) now room limit s r new is step = absurd (false≢true is)
+unexpected_keeps (packets.Pubcomp p) now room limit s r new is step = absurd (false≢true is)
+unexpected_keeps (packets.Subscribe p) now room limit s r new is step = absurd (false≢true is)
+unexpected_keeps (packets.Unsubscribe p) now room limit s r new is step = absurd (false≢true is)
+unexpected_keeps packets.Pingreq now room limit s r new is step = absurd (false≢true is)
+unexpected_keeps (packets.Disconnect p) now room limit s r new is step = absurd (false≢true is)
+
+either_kind : (keeps unexpected : Bool) (A : Type 0) → (keeps || unexpected) ≡ true → (keeps ≡ true → A) → (unexpected ≡ true → A) → A
+either_kind true unexpected A is f g = f refl
+either_kind false unexpected A is f g = g is
+
+packet_keeps : (l : Option ℕ) (p : Packet) (now : ℕ) (room : Bool) (s : State) (r : Reaction) (new : State) → (not (is_some l) || (keeps_main p || is_unexpected p)) ≡ true → PacketIf l p now room s r new → durable_of new ≡ durable_of s
 packet_keeps None p now room s r new is step = ap durable_of step.1
-packet_keeps (Some limit) p now room s r new is step = kind_keeps p now room limit (heard s now) r new is step
+packet_keeps (Some limit) p now room s r new is step =
+    either_kind (keeps_main p) (is_unexpected p) (durable_of new ≡ durable_of s) is (λ i. kind_keeps p now room limit (heard s now) r new i step) (λ i. unexpected_keeps p now room limit (heard s now) r new i step)
 
 -- ---- codes
 codes_keep : (a : Option Asked) (limit id : ℕ) (codes : List ℕ) (s : State) → Keeps s (answer_by a limit id codes s)
@@ -100,6 +125,26 @@ queue_keeps true d now s r new is step = ap durable_of step.1
 queue_keeps false d now s r new is (inl joins) = absurd (false≢true (sym (ap (λ (x : Reaction). x.full) joins.reacts) ∙ is))
 queue_keeps false d now s r new is (inr overflows) = ap durable_of overflows.left
 
+-- ---- wills
+no_message : (w : Option Will) (client : List ℕ) (now : ℕ) → not (is_some (ask_of (message_of w client now))) ≡ true → w ≡ None
+no_message None client now is = refl
+no_message (Some w) client now is = absurd (false≢true is)
+
+no_will : (now : ℕ) (over : Bool) (s : State) → not (is_some (passes_will now over s).reaction.ask) ≡ true → Keeps s (passes_will now over s)
+no_will now over s is = ap (λ (w : Option Will). durable_of (record s { kept = record s.kept { will = w } })) (sym (no_message s.kept.will s.kept.client now is))
+
+timed_keeps : (l : Option Link) (s : State) → Keeps s (timed_out l s)
+timed_keeps None s = refl
+timed_keeps (Some l) s = refl
+
+tick_keeps : (out will end : Bool) (now : ℕ) (s : State) → not (is_some (ticked_if out will end now s).reaction.ask) ≡ true → Keeps s (ticked_if out will end now s)
+tick_keeps true will end now s is = timed_keeps s.link s
+tick_keeps false true end now s is = no_will now false s is
+tick_keeps false false end now s is = refl
+
+asks_none : (r given : Reaction) → r ≡ given → (not (is_some r.ask) || false) ≡ true → not (is_some given.ask) ≡ true
+asks_none r given same is = subst (λ (x : Reaction). not (is_some x.ask) ≡ true) same (or_none _ is)
+
 -- ---- any call
 pub event_still : (e : Event) (s : State) (r : Reaction) (new : State) → leaves_rows e s r ≡ true → Reacts s e r new → durable_of new ≡ durable_of s
 event_still (connects c continued now) s r new is step = absurd (false≢true is)
@@ -107,6 +152,7 @@ event_still (queues d now) s r new is step = queue_keeps (is_once d.qos) d now s
 event_still (takes p now room) s r new is step = packet_keeps (limit_of s.link) p now room s r new (or_none _ is) step
 event_still (answers id codes) s r new is step = ap durable_of step.1 ∙ answer_keeps s.link id codes s
 event_still (closes now) s r new is step = absurd (false≢true is)
-event_still (ticks now) s r new is step = absurd (false≢true is)
-event_still (finishes now) s r new is step = absurd (false≢true is)
+event_still (ticks now) s r new is step =
+    ap durable_of step.1 ∙ tick_keeps (has_run_out s.link now) (is_due (will_due s.kept) now) (is_due (end_due s.kept) now) now s (asks_none r (ticked now s).reaction step.0 is)
+event_still (finishes now) s r new is step = ap durable_of step.1 ∙ no_will now true (cut s) (asks_none r (finished now s).reaction step.0 is)
 event_still loses s r new is step = absurd (false≢true is)

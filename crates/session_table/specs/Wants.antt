@@ -1,5 +1,7 @@
 -- Where a call of a client's session may want memory.
 use Rattle.std.specs.Prelude.{◌≡◌, ◌≢◌, ◌⊎◌, ◌||◌, ◌&&◌, ℕ, Bool, true, false, not, Option, IsSome, is_some}
+use Rattle.mqtt_packets.specs.declared.packet.Packet.{Packet}
+use Rattle.mqtt_packets.specs.declared.packet.Packet.TheVariants as packets
 use Rattle.mqtt_sessions.specs.Reaction.{Reaction}
 use Rattle.mqtt_sessions.specs.Saved.{keeps_main}
 use Rattle.mqtt_sessions.specs.Sending.{is_once}
@@ -9,12 +11,22 @@ use Rattle.session_table.specs.Listing.{moments_of}
 use Rattle.session_table.specs.declared.moments.Moments.{Moments}
 
 -- ---- rows
+-- a packet that ends any connection on which it comes: a second CONNECT, what only a server sends, and AUTH
+abbrev pub is_unexpected : Packet → Bool
+is_unexpected (packets.Connect p) = true
+is_unexpected (packets.Connack p) = true
+is_unexpected (packets.Suback p) = true
+is_unexpected (packets.Unsuback p) = true
+is_unexpected packets.Pingresp = true
+is_unexpected (packets.Auth p) = true
+is_unexpected p = false
+
 -- a call that leaves the rows of the session as they are, whatever it comes to: a copy at QoS 0; a packet without a connection, and on one
--- PUBLISH at QoS 0 and 1, SUBSCRIBE, UNSUBSCRIBE and PINGREQ; codes
+-- PUBLISH at QoS 0 and 1, SUBSCRIBE, UNSUBSCRIBE, PINGREQ and what is unexpected; codes
 abbrev pub keeps_rows : Event → State → Bool
 keeps_rows (connects c continued now) s = false
 keeps_rows (queues d now) s = is_once d.qos
-keeps_rows (takes p now room) s = not (is_some (limit_of s.link)) || keeps_main p
+keeps_rows (takes p now room) s = not (is_some (limit_of s.link)) || (keeps_main p || is_unexpected p)
 keeps_rows (answers id codes) s = true
 keeps_rows (closes now) s = false
 keeps_rows (ticks now) s = false
@@ -31,9 +43,20 @@ is_queue (ticks now) = false
 is_queue (finishes now) = false
 is_queue loses = false
 
--- or a copy that a full queue leaves out
+-- a call by which only a will that is published changes rows
+abbrev pub is_ending : Event → Bool
+is_ending (connects c continued now) = false
+is_ending (queues d now) = false
+is_ending (takes p now room) = false
+is_ending (answers id codes) = false
+is_ending (closes now) = false
+is_ending (ticks now) = true
+is_ending (finishes now) = true
+is_ending loses = false
+
+-- or a copy that a full queue leaves out; or a tick or an end that publishes no will
 abbrev pub leaves_rows : Event → State → Reaction → Bool
-leaves_rows e s r = keeps_rows e s || (is_queue e && r.full)
+leaves_rows e s r = keeps_rows e s || ((is_ending e && not (is_some r.ask)) || (is_queue e && r.full))
 
 -- the call answers, and rows are compared with those that were told
 pub record MayAlter (e : Event) (s : State) : Type 0 where

@@ -96,13 +96,30 @@ fn keeps_main(packet: &Packet) -> bool
     }
 }
 
+/// Whether a packet ends any connection on which it comes.
+fn is_unexpected(packet: &Packet) -> bool
+    ensures { result ≡ wants.is_unexpected packet.now }
+{
+    match packet {
+        Packet::Connect(_)
+        | Packet::Connack(_)
+        | Packet::Suback(_)
+        | Packet::Unsuback(_)
+        | Packet::Pingresp
+        | Packet::Auth(_) => true,
+        _ => false,
+    }
+}
+
 /// Whether a call leaves the rows of the session as they are, as far as is seen before it.
 pub(crate) fn keeps_rows(call: &Call<'_>, session: &Session) -> bool
     ensures { IfSome (state_of session.now) (λ s. result ≡ wants.keeps_rows (event_of call.now) s) }
 {
     match call {
         Call::Queue { delivery, .. } => is_once(delivery.qos),
-        Call::Packet { packet, .. } => session.limit().is_none() || keeps_main(packet),
+        Call::Packet { packet, .. } => {
+            session.limit().is_none() || keeps_main(packet) || is_unexpected(packet)
+        }
         Call::Answer { .. } => true,
         Call::Connect { .. } | Call::Closed(_) | Call::Tick(_) | Call::Finish(_) => false,
     }
@@ -114,6 +131,16 @@ pub(crate) fn is_queue(call: &Call<'_>) -> bool
 {
     match call {
         Call::Queue { .. } => true,
+        _ => false,
+    }
+}
+
+/// Whether only a will that is published changes rows by a call.
+pub(crate) fn is_ending(call: &Call<'_>) -> bool
+    ensures { result ≡ wants.is_ending (event_of call.now) }
+{
+    match call {
+        Call::Tick(_) | Call::Finish(_) => true,
         _ => false,
     }
 }

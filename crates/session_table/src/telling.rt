@@ -1,13 +1,13 @@
 //! What is told of a session's rows.
 
-ghost use Rattle.std.specs.Prelude.{◌≡◌, ◌||◌, ◌&&◌, ℕ, List, ◌++◌, Err, IfOk, IfSome, OnOk, Some};
+ghost use Rattle.std.specs.Prelude.{◌≡◌, ◌||◌, ◌&&◌, not, ℕ, List, ◌++◌, Err, IfOk, IfSome, OnOk, Some, is_some};
 ghost use Rattle.mqtt_sessions.specs.Saved.{state_of};
 ghost use Rattle.mqtt_sessions.specs.State.{new_session};
 ghost use Rattle.session_table.specs.Calls.{Asks, GivesSpelled, IsTurned, MayTurn, event_of};
 ghost use Rattle.session_table.specs.Wants.{WantsToTell};
 ghost use Rattle.session_table.specs.Rows.{IsAllTold, OwnLeadsOn, TellsAgain, TellsOn, no_row, saved_row};
 
-use crate::call::{Call, is_queue, is_sound, keeps_rows, turn};
+use crate::call::{Call, is_ending, is_queue, is_sound, keeps_rows, turn};
 use crate::laws::tellings_lead;
 use mqtt_fields::{NoMemory, Text};
 use mqtt_sessions::{Reaction, Session, SessionFault};
@@ -26,10 +26,10 @@ fn tell(session: &mut Session, changes: &mut Vec<Change>) -> Result<(), NoMemory
 }
 
 /// Whether no row of the session changes by a call, after it.
-fn leaves_rows(keeps: bool, queues: bool, reaction: &Reaction) -> bool
-    ensures { result ≡ (keeps || (queues && reaction.now.full)) }
+fn leaves_rows(keeps: bool, ends: bool, queues: bool, reaction: &Reaction) -> bool
+    ensures { result ≡ (keeps || ((ends && not (is_some reaction.now.ask)) || (queues && reaction.now.full))) }
 {
-    keeps || (queues && reaction.full)
+    keeps || (ends && reaction.ask.is_none()) || (queues && reaction.full)
 }
 
 /// One call of a session that isn't spent, and the changes of its rows. They aren't compared where the call leaves them as they are.
@@ -48,9 +48,10 @@ pub(crate) fn turn_and_tell(
     tellings_lead();
     is_sound(&call);
     let keeps = keeps_rows(&call, session);
+    let ends = is_ending(&call);
     let queues = is_queue(&call);
     let reaction = turn(session, call)?;
-    if leaves_rows(keeps, queues, &reaction) {
+    if leaves_rows(keeps, ends, queues, &reaction) {
         return Ok(reaction);
     }
     tell(session, changes)?;

@@ -13,9 +13,9 @@ returns-clause-tells c = λ client.
 pub returns-then-leaves_rows-clause-tells : goal.returns-then-leaves_rows-clause-tells
 returns-then-leaves_rows-clause-tells c = λ client.
     turn-leaves (event_of c.args.call) c.in_ok-reaction.reaction c.args.session.now c.turn.new.session c.args.changes.now.items client c.is_sound.ensures c.in_ok-reaction.ensures.turned c.turn.ensures.notes
-    (leaves_as (event_of c.args.call) (state_of c.args.session.now) c.in_ok-reaction.reaction c.keeps_rows-keeps.result c.is_queue-queues.result c.leaves_rows.result true c.keeps_rows-keeps.ensures c.is_queue-queues.ensures c.leaves_rows.ensures c.if-leaves_rows.true)
+    (leaves_as (event_of c.args.call) (state_of c.args.session.now) c.in_ok-reaction.reaction c.keeps_rows-keeps.result c.is_ending-ends.result c.is_queue-queues.result c.leaves_rows.result true c.keeps_rows-keeps.ensures c.is_ending-ends.ensures c.is_queue-queues.ensures c.leaves_rows.ensures c.if-leaves_rows.true)
 
 pub returns-in_err-tell-clause-wants : goal.returns-in_err-tell-clause-wants
 returns-in_err-tell-clause-wants c = λ refused.
     may_alter (event_of c.args.call) (state_of c.args.session.now) c.in_ok-reaction.reaction (state_of c.turn.new.session) c.in_ok-reaction.ensures.turned
-    (leaves_as (event_of c.args.call) (state_of c.args.session.now) c.in_ok-reaction.reaction c.keeps_rows-keeps.result c.is_queue-queues.result c.leaves_rows.result false c.keeps_rows-keeps.ensures c.is_queue-queues.ensures c.leaves_rows.ensures c.if-leaves_rows.false)
+    (leaves_as (event_of c.args.call) (state_of c.args.session.now) c.in_ok-reaction.reaction c.keeps_rows-keeps.result c.is_ending-ends.result c.is_queue-queues.result c.leaves_rows.result false c.keeps_rows-keeps.ensures c.is_ending-ends.ensures c.is_queue-queues.ensures c.leaves_rows.ensures c.if-leaves_rows.false)
