@@ -20,7 +20,7 @@ use Rattle.qos_handshakes.specs.declared.answers.In.TheVariants.{New, Repeat, In
 use Rattle.qos_handshakes.specs.Incoming.{Received, Publish1Answer, opened, opened_here}
 use Rattle.mqtt_sessions.specs.Aliases.{Aliases, alias_of, alias_topic, filled, is_beyond, set_by, topic_by, topic_of}
 use Rattle.mqtt_sessions.specs.Answers.{fits, puback, pubrec}
-use Rattle.mqtt_sessions.specs.Arriving.{after_twice, arrival_once, arrival_twice, arrives_twice, has_property, is_unwelcome, message_in, once_by, passes_by, publish_by, publish_outcome, refusal, setting, setting_by, twice_by}
+use Rattle.mqtt_sessions.specs.Arriving.{after_twice, arrival_once, arrival_twice, has_property, is_unwelcome, message_in, once_by, passes_by, publish_by, publish_outcome, refusal, setting, setting_by, twice_by}
 use Rattle.mqtt_sessions.specs.Called.{IsFault}
 use Rattle.mqtt_sessions.specs.Packets.{SetsAlias, WantsFor}
 use Rattle.mqtt_sessions.specs.declared.fault.SessionFault.{SessionFault}

@@ -1,6 +1,6 @@
 -- Packets that leave what a session's own row has as it is.
-use Rattle.std.proofs.Common.{◌≡◌, ℕ, Bool, true, false, cond, not, Option, Some, None, inl, inr, refl, sym, ap, ◌∙◌}
-use Rattle.std.specs.Prelude.{◌⊎◌, is_some, length, replicate}
+use Rattle.std.proofs.Common.{◌≡◌, ℕ, Bool, true, false, cond, Option, Some, None, inl, inr, refl, sym, ap, ◌∙◌}
+use Rattle.std.specs.Prelude.{is_some, length, replicate}
 use Rattle.std.proofs.lemmas.Bool.{false≢true}
 use Rattle.mqtt_fields.specs.declared.options.Qos.{Qos}
 use Rattle.mqtt_fields.specs.declared.options.Qos.TheVariants.{AtMostOnce, AtLeastOnce, ExactlyOnce}
@@ -17,7 +17,7 @@ use Rattle.session_rows.specs.Fields.{main}
 use Rattle.mqtt_sessions.specs.declared.reaction.Ask.{Ask}
 use Rattle.mqtt_sessions.specs.Answers.{fits, puback, suback, unsuback}
 use Rattle.mqtt_sessions.specs.Arriving.{refusal, message_in, setting, publish_by, passes_by, once_by, arrival_once, is_unwelcome}
-use Rattle.mqtt_sessions.specs.Asking.{SubscribeStep, subscribed}
+use Rattle.mqtt_sessions.specs.Asking.{SubscribeStep}
 use Rattle.mqtt_sessions.specs.Packets.{KindStep, PacketIf, PacketStep}
 use Rattle.mqtt_sessions.specs.Reaction.{Reaction, Outcome, answered}
 use Rattle.mqtt_sessions.specs.Saved.{IsFresh, is_single, keeps_main, main_of}

@@ -1,8 +1,22 @@
 -- Places whose copies are gone.
-use Rattle.std.proofs.Common.{◌≡◌, ℕ, ◌<◌, ◌+◌, List, [], ◌∷◌, ◌++◌, length, take, get_or, sym, ap, ◌∙◌, append_assoc, append-nil}
+use Rattle.std.proofs.Common.{◌≡◌, ◌≢◌, ◌⊎◌, inl, inr, ℕ, ◌<◌, ◌+◌, List, [], ◌∷◌, ◌++◌, length, take, get_or, refl, sym, ap, ◌∙◌, append_assoc, append-nil, true≢false}
+use Rattle.std.specs.Prelude.{◌==◌}
+use Rattle.std.proofs.lemmas.Bool.{eq-eqb, or_left}
 use Rattle.std.proofs.lemmas.List.{take_more}
 use Rattle.qos_handshakes.specs.Entries.{Entries, at_place}
+use Rattle.qos_handshakes.specs.Touched.{AreListed, is_in}
 use Rattle.mqtt_sessions.specs.Removed.{gone_at, gone_of}
+
+-- places are listed where some were touched
+listed-want : (ts places : List ℕ) → AreListed ts places → places ≢ [] → ts ≢ []
+listed-want ts [] listed some = absurd (some refl)
+listed-want [] (p ∷ ps) listed some = absurd (true≢false (sym (or_left (p == p) (is_in p ps) (eq-eqb p p refl)) ∙ listed.same p))
+listed-want (t ∷ ts) (p ∷ ps) listed some = λ none. absurd cc
+
+-- a removal is of a copy that is there, or of a place that was touched
+pub removals-want : (Told : Type 0) (es copies : Entries) (ts places listed : List ℕ) → copies ≡ es → AreListed ts places → listed ≡ places → (copies ≢ []) ⊎ (listed ≢ []) → Told ⊎ ((es ≢ []) ⊎ (ts ≢ []))
+removals-want Told es copies ts places listed same are is (inl some) = inr (inl (λ none. some (same ∙ none)))
+removals-want Told es copies ts places listed same are is (inr some) = inr (inr (listed-want ts places are (λ none. some (is ∙ none))))
 
 gone-last : (es : Entries) (p : ℕ) (ps : List ℕ) → gone_of es (ps ++ p ∷ []) ≡ gone_of es ps ++ gone_at p (at_place p es)
 gone-last es p [] = append-nil (gone_at p (at_place p es))

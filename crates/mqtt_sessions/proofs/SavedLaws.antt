@@ -8,7 +8,9 @@ use Rattle.row_store.specs.declared.row.Row.{Row}
 use Rattle.row_store.specs.Rows.{entry_of}
 use Rattle.session_rows.specs.declared.session.Opened.{Opened}
 use Rattle.session_rows.specs.Durable.{Durable, IsDurable, opened_of, IsPublishableIf, IsMomentIf}
+use Rattle.session_rows.proofs.DurableLaws.{durable-client}
 use Rattle.session_rows.specs.Fields.{main}
+use Rattle.session_rows.specs.Reading.{HasClient}
 use Rattle.session_rows.specs.Rows.{copy_row, copy_rows, rows_of, main_key}
 use Rattle.mqtt_sessions.specs.declared.fault.SessionFault.{SessionFault}
 use Rattle.mqtt_sessions.specs.declared.fault.SessionFault.TheVariants.{NoMemory, NumbersAtEnd, Spent, BadRow}
@@ -51,6 +53,9 @@ read-publishable rows o h = subst (λ (x : Opened). IsPublishableIf x.will) (sym
 
 pub read-moment : (rows : List Row) (o : Opened) → IsRead rows o → IsMomentIf o.closed
 read-moment rows o h = subst (λ (x : Opened). IsMomentIf x.closed) (sym h.3) h.1.sound.moment
+
+pub read-client : (rows : List Row) (o : Opened) → IsRead rows o → HasClient (map entry_of rows)
+read-client rows o h = subst HasClient h.2 (durable-client h.0 h.1)
 
 pub opens : (rows : List Row) (o : Opened) (r : Result (Option Saved) SessionFault) → IsRead rows o
     → IfOk r (λ s. s ≡ Some (record { tracked = tracked_in o; told = told_of (durable_of (tracked_in o).state) })) → IfErr r (λ e. e ≡ NoMemory) → OpensFrom rows r

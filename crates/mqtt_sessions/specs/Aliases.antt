@@ -1,5 +1,5 @@
 -- The topics that a client's aliases stand for on a connection (MQTT 5.0, 3.3.2.3.4).
-use Rattle.std.specs.Prelude.{ℕ, ◌&&◌, not, Bool, true, false, nat_le, List, [], ◌∷◌, Option, Some, None, unwrap_or}
+use Rattle.std.specs.Prelude.{ℕ, ◌&&◌, not, Bool, false, nat_le, List, [], ◌∷◌, Option, Some, None, unwrap_or}
 use Rattle.std.specs.BTreeMap.{is_at, insert_entry}
 use Rattle.std.specs.Map.{lookup}
 use Rattle.std.specs.Ordering.{nat_cmp}

@@ -1,5 +1,5 @@
 -- The beginning of a connection (MQTT 5.0, 3.1, 3.2 and 4.4).
-use Rattle.std.specs.Prelude.{◌≡◌, ℕ, Bool, true, false, List, [], ◌∷◌, ◌++◌, ◌⊎◌, Option, Some, None, unwrap_or}
+use Rattle.std.specs.Prelude.{◌≡◌, ℕ, Bool, true, false, List, [], ◌∷◌, ◌++◌, ◌⊎◌, Option, Some, None, IsSome, unwrap_or}
 use Rattle.mqtt_fields.specs.Properties.{first_two, first_four}
 use Rattle.mqtt_packets.specs.declared.connect.Connect.{Connect}
 use Rattle.mqtt_packets.specs.declared.packet.Packet.{Packet}
@@ -45,6 +45,10 @@ abbrev pub ConnectStep : Connect → Bool → ℕ → State → Reaction → Sta
 ConnectStep c continued now old r new =
     let answer = connack continued c.client old.kept.client in
     OpensIf (fits (limit_in c.properties) answer) old c answer now r new
+
+-- memory is wanted for a CONNACK that is sent, and for a will
+abbrev pub ConnectWants : Connect → Bool → State → Type 0
+ConnectWants c continued s = (fits (limit_in c.properties) (connack continued c.client s.kept.client) ≡ true) ⊎ IsSome c.will
 
 -- a session that isn't continued is new
 abbrev pub MayConnect : Bool → State → Type 0

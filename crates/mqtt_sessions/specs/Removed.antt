@@ -1,5 +1,5 @@
 -- The rows of a session that is over go.
-use Rattle.std.specs.Prelude.{◌≡◌, ℕ, map, List, [], ◌∷◌, ◌++◌, Option, Some, None, Result, Ok, Err, Vec}
+use Rattle.std.specs.Prelude.{◌≡◌, ◌≢◌, ◌⊎◌, ℕ, map, List, [], ◌∷◌, ◌++◌, Option, Some, None, IsSome, Result, Ok, Err, Vec}
 use Rattle.std.specs.Map.{keys_of}
 use Rattle.qos_handshakes.specs.declared.copies.Entry.{Entry}
 use Rattle.qos_handshakes.specs.Entries.{Entries, at_place}
@@ -43,6 +43,10 @@ pub record Removes (s : Saved) (changes : List Change) : Type 0 where
 -- what goes before them
 abbrev pub removed_before : Saved → List PlainChange
 removed_before s = own_told s.told.value s.tracked.state.kept.client
+
+-- they want memory only where a row may go: its own was told, a copy is there, or one was touched
+abbrev pub RemovalsWant : Saved → Type 0
+RemovalsWant s = IsSome s.told.value ⊎ ((s.tracked.state.outbox.copies ≢ []) ⊎ (s.tracked.touched ≢ []))
 
 abbrev pub RemovesIf : {A : Type 0} → Option Saved → Result (Vec Change A) SessionFault → Type 0
 RemovesIf None (Ok changes) = ⊥

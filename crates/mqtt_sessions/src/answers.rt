@@ -1,6 +1,6 @@
 //! The packets by which a server answers its client, and their lengths.
 
-ghost use Rattle.std.specs.Prelude.{◌≡◌, ◌<◌, ◌≤◌, ◌^◌, List, [], ℕ, IfOk, length};
+ghost use Rattle.std.specs.Prelude.{◌≡◌, ◌<◌, ◌≤◌, ◌^◌, Bool, List, [], ℕ, IfOk, length};
 ghost use Rattle.mqtt_fields.specs.Numbers.{IsText};
 ghost use Rattle.mqtt_packets.specs.Written.{HasSpelling};
 ghost use Rattle.mqtt_sessions.specs.Answers as specs;
@@ -200,22 +200,26 @@ fn assigned_length(given: &Text, client: &Text) -> usize
     }
 }
 
+/// Whether a client takes the CONNACK that accepts it.
+pub(crate) fn connack_fits(limit: u64, given: &Text, client: &Text) -> bool
+    ensures { (present : Bool) → result ≡ specs.fits limit (specs.connack present given.now client.now) }
+{
+    let properties = 11 + assigned_length(given, client);
+    let body = 2 + vbi_len(properties as u32) + properties;
+    (1 + vbi_len(body as u32) + body) as u64 <= limit
+}
+
 /// CONNACK to a client that is accepted (MQTT 5.0, 3.2).
 pub(crate) fn connack(
     alloc: Global,
     present: bool,
     given: &Text,
     client: &Text,
-) -> Result<Measured, NoMemory>
-    ensures packet { IfOk result (λ m. m.packet ≡ specs.connack present given.now client.now) }
-    ensures measured { IfOk result IsMeasured }
-    ensures spelled { IfOk result (λ m. HasSpelling m.packet) }
+) -> Result<Packet, NoMemory>
+    ensures packet { IfOk result (λ p. p ≡ specs.connack present given.now client.now) }
+    ensures spelled { IfOk result HasSpelling }
 {
-    let properties = 11 + assigned_length(given, client);
-    let body = 2 + vbi_len(properties as u32) + properties;
-    let length = (1 + vbi_len(body as u32) + body) as u64;
-    Ok(Measured {
-        packet: Packet::Connack(connack_properties(alloc, present, given, client)?),
-        length,
-    })
+    let _length = assigned_length(given, client);
+    let connack = connack_properties(alloc, present, given, client)?;
+    Ok(Packet::Connack(connack))
 }

@@ -1,13 +1,13 @@
 //! The beginning of a connection (MQTT 5.0, 3.1, 3.2 and 4.4).
 
-ghost use Rattle.std.specs.Prelude.{◌≡◌, ◌≤◌, IfOk, OnOk, IfErr};
-ghost use Rattle.mqtt_sessions.specs.Connecting.{ConnectStep};
+ghost use Rattle.std.specs.Prelude.{◌≡◌, ◌≤◌, IfOk, OnErr, OnOk, IfErr};
+ghost use Rattle.mqtt_sessions.specs.Connecting.{ConnectStep, ConnectWants};
 ghost use Rattle.mqtt_sessions.specs.Reaction.{AreSpelled};
 ghost use Rattle.mqtt_sessions.specs.State.{watched, IsPublishableIf};
 ghost use Rattle.mqtt_sessions.specs.declared.fault.SessionFault.TheVariants.{NoMemory as OutOfMemory};
 ghost use Rattle.session_rows.specs.Changes.{Follows};
 
-use crate::answers::connack;
+use crate::answers::{connack, connack_fits};
 use crate::fault::SessionFault;
 use crate::link::{begin, limit_in};
 use crate::reaction::{Output, Reaction, ends, one, says};
@@ -27,20 +27,22 @@ impl Running {
         ensures step { IfOk result (λ r. ConnectStep connect.now continued now self.old.state r self.new.state) }
         ensures spelled { IfOk result (λ r. AreSpelled now r.packets) }
         ensures fault { IfErr result (λ e. e ≡ OutOfMemory) }
+        ensures want { OnErr result (ConnectWants connect.now continued self.old.state) }
         ensures follows { OnOk result (Follows (watched self.old) (watched self.new)) }
     {
         let limit = u64::from(limit_in(&connect.properties));
-        let answer = connack(self.alloc, continued, &connect.client, self.kept.client())?;
+        let fits = connack_fits(limit, &connect.client, self.kept.client());
         self.kept.begin(self.alloc, connect)?;
         self.incoming.restart();
         self.outgoing
             .resume(connect.properties.two(RECEIVE_MAXIMUM).unwrap_or(65_535));
-        if answer.length > limit {
+        if !fits {
             self.connection = None;
             return Ok(ends(self.alloc, None, 0));
         }
+        let answer = connack(self.alloc, continued, &connect.client, self.kept.client())?;
         self.connection = Some(begin(self.alloc, connect, now));
-        let mut packets = one(self.alloc, Output::Answer(answer.packet))?;
+        let mut packets = one(self.alloc, Output::Answer(answer))?;
         let ids = self.outgoing.releases(self.alloc)?;
         release(self.alloc, &mut packets, &ids)?;
         flush(self.alloc, &mut self.outgoing, &mut packets, now, limit)?;

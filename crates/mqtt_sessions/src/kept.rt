@@ -48,7 +48,8 @@ impl Model for Kept {
 }
 
 fn copy_will(alloc: Global, will: &Option<Will>) -> Result<Option<BoxedWill>, NoMemory>
-    ensures { IfOk result (λ w. w ≡ will.now) }
+    ensures same { IfOk result (λ w. w ≡ will.now) }
+    ensures need { OnErr result (IsSome will.now) }
 {
     match will {
         Some(will) => boxed(alloc, Some(will.copy(alloc)?)),
@@ -137,7 +138,8 @@ impl Kept {
     /// A connection begins.
     pub(crate) fn begin(&mut self, alloc: Global, connect: &Connect) -> Result<(), NoMemory>
         requires { IsPublishableIf connect.now.will }
-        ensures { IfOk result (λ _. self.new ≡ kept_by self.old connect.now) }
+        ensures begins { IfOk result (λ _. self.new ≡ kept_by self.old connect.now) }
+        ensures need { OnErr result (IsSome connect.now.will) }
     {
         let will = copy_will(alloc, &connect.will)?;
         self.expiry = connect

@@ -1,6 +1,6 @@
 //! A session, and what was told last of its rows.
 
-ghost use Rattle.std.specs.Prelude.{◌≡◌, ◌<◌, ◌^◌, ◌++◌, List, [], ℕ, map, None, Some, MatchOption, IfOk, IfErr, OnOk, option_map};
+ghost use Rattle.std.specs.Prelude.{◌≡◌, ◌≢◌, ◌<◌, ◌^◌, ◌++◌, ◌⊎◌, List, [], ℕ, length, map, take, None, Some, IsSome, MatchOption, IfOk, IfErr, OnErr, OnOk, option_map};
 ghost use Rattle.row_store.specs.Rows as store;
 ghost use Rattle.qos_handshakes.specs.Touched.{AreListed};
 ghost use Rattle.session_rows.specs.Changes as changes;
@@ -10,7 +10,7 @@ ghost use Rattle.session_rows.specs.Fields as fields;
 ghost use Rattle.session_rows.specs.Rows.{rows_of};
 ghost use Rattle.qos_handshakes.specs.Entries.{at_place};
 ghost use Rattle.std.specs.Map.{keys_of};
-ghost use Rattle.mqtt_sessions.specs.Removed.{Removes, gone_at, gone_of, own_removal, own_told, removed_before};
+ghost use Rattle.mqtt_sessions.specs.Removed.{RemovalsWant, Removes, gone_at, gone_of, own_removal, own_told, removed_before};
 ghost use Rattle.mqtt_sessions.specs.Called.{IsFault};
 ghost use Rattle.mqtt_packets.specs.Written.{HasSpelling};
 ghost use Rattle.mqtt_sessions.specs.Packets.{PacketEnds, PacketStep, WantsMemory};
@@ -89,7 +89,8 @@ fn push_gone(outgoing: &Outgoing, place: u64, all: &mut Vec<u64>) -> Result<(), 
 
 /// The places of the copies, and then those touched whose copies are gone.
 fn all_places(alloc: Global, outgoing: &Outgoing, touched: &[u64]) -> Result<Vec<u64>, NoMemory>
-    ensures { IfOk result (λ all. all.items ≡ keys_of outgoing.now.box.copies ++ gone_of outgoing.now.box.copies touched.now) }
+    ensures all { IfOk result (λ all. all.items ≡ keys_of outgoing.now.box.copies ++ gone_of outgoing.now.box.copies touched.now) }
+    ensures need { OnErr result ((outgoing.now.box.copies ≢ []) ⊎ (touched.now ≢ [])) }
 {
     let mut all = outgoing.places(alloc)?;
     for place in touched {
@@ -106,7 +107,8 @@ fn push_before(
     told: Option<Vec<u8>>,
     before: &mut Vec<Change>,
 ) -> Result<(), NoMemory>
-    ensures { OnOk result (Appends (own_before is_told client.now (option_map (λ v. v.items) told)) before.old.items before.new.items) }
+    ensures before { OnOk result (Appends (own_before is_told client.now (option_map (λ v. v.items) told)) before.old.items before.new.items) }
+    ensures begins { take (length before.old.items) before.new.items ≡ before.old.items }
 {
     if is_told {
         return Ok(());
@@ -122,7 +124,9 @@ fn push_told(
     told: Option<Vec<u8>>,
     before: &mut Vec<Change>,
 ) -> Result<(), NoMemory>
-    ensures { OnOk result (Appends (own_told (option_map (λ v. v.items) told) client.now) before.old.items before.new.items) }
+    ensures before { OnOk result (Appends (own_told (option_map (λ v. v.items) told) client.now) before.old.items before.new.items) }
+    ensures begins { take (length before.old.items) before.new.items ≡ before.old.items }
+    ensures need { OnErr result (IsSome told) }
 {
     let Some(value) = told else {
         return Ok(());
@@ -254,6 +258,7 @@ impl Live {
         ensures changes { IfOk result (λ all. map plain_of all.items ≡ changes.own_change self.old.told.value self.old.tracked.state.kept.client (fields.main.bytes (main_of self.old.tracked.state))) }
         ensures told { OnOk result (self.new ≡ record self.old { told = record self.old.told { value = Some (fields.main.bytes (main_of self.old.tracked.state)) } }) }
         ensures before { OnOk result (Appends (told_before self.old) before.old.items before.new.items) }
+        ensures begins { take (length before.old.items) before.new.items ≡ before.old.items }
     {
         let value = self.own_value()?;
         let alloc = self.running.alloc();
@@ -293,6 +298,7 @@ impl Live {
     pub(crate) fn changes(&mut self, before: &mut Vec<Change>) -> Result<Vec<Change>, NoMemory>
         ensures tells { IfOk result (λ changes. Tells self.old changes.items self.new) }
         ensures before { OnOk result (Appends (told_before self.old) before.old.items before.new.items) }
+        ensures begins { take (length before.old.items) before.new.items ≡ before.old.items }
     {
         let mut all = self.tell_own(before)?;
         self.tell_copies(&mut all)?;
@@ -301,7 +307,8 @@ impl Live {
 
     /// Appends that its own row goes, if one was told.
     fn remove_own(&self, all: &mut Vec<Change>) -> Result<(), NoMemory>
-        ensures { OnOk result (map plain_of all.new.items ≡ map plain_of all.old.items ++ own_removal self.now.told.value self.now.tracked.state.kept.client) }
+        ensures ok { OnOk result (map plain_of all.new.items ≡ map plain_of all.old.items ++ own_removal self.now.told.value self.now.tracked.state.kept.client) }
+        ensures need { OnErr result (IsSome self.now.told.value) }
     {
         if !self.has_row {
             return Ok(());
@@ -313,7 +320,9 @@ impl Live {
 
     /// Appends what was told last of its own row, if one was.
     fn leave_own(&mut self, before: &mut Vec<Change>) -> Result<(), NoMemory>
-        ensures { OnOk result (Appends (own_told self.old.told.value self.old.tracked.state.kept.client) before.old.items before.new.items) }
+        ensures before { OnOk result (Appends (own_told self.old.told.value self.old.tracked.state.kept.client) before.old.items before.new.items) }
+        ensures begins { take (length before.old.items) before.new.items ≡ before.old.items }
+        ensures need { OnErr result (IsSome self.old.told.value) }
     {
         let alloc = self.running.alloc();
         let told = self.told.take();
@@ -324,7 +333,8 @@ impl Live {
 
     /// That the rows of its copies go.
     fn remove_copies(&self, touched: &[u64]) -> Result<Vec<Change>, NoMemory>
-        ensures { IfOk result (λ all. map plain_of all.items ≡ changes.copy_changes self.now.tracked.state.kept.client self.now.told.next_place [] (keys_of self.now.tracked.state.outbox.copies ++ gone_of self.now.tracked.state.outbox.copies touched.now)) }
+        ensures all { IfOk result (λ all. map plain_of all.items ≡ changes.copy_changes self.now.tracked.state.kept.client self.now.told.next_place [] (keys_of self.now.tracked.state.outbox.copies ++ gone_of self.now.tracked.state.outbox.copies touched.now)) }
+        ensures need { OnErr result ((self.now.tracked.state.outbox.copies ≢ []) ⊎ (touched.now ≢ [])) }
     {
         let alloc = self.running.alloc();
         let places = all_places(alloc, &self.running.outgoing, touched)?;
@@ -344,6 +354,8 @@ impl Live {
     pub(crate) fn removals(&mut self, before: &mut Vec<Change>) -> Result<Vec<Change>, NoMemory>
         ensures removes { IfOk result (λ changes. Removes self.old changes.items) }
         ensures before { OnOk result (Appends (removed_before self.old) before.old.items before.new.items) }
+        ensures begins { take (length before.old.items) before.new.items ≡ before.old.items }
+        ensures need { OnErr result (RemovalsWant self.old) }
     {
         let alloc = self.running.alloc();
         let touched = self.running.outgoing.touched(alloc)?;

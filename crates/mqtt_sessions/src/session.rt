@@ -1,23 +1,25 @@
 //! A session over its connections.
 
-ghost use Rattle.std.specs.Prelude.{◌≡◌, ◌≢◌, ◌<◌, ◌≤◌, ◌^◌, ℕ, [], Some, None, IfOk, IfErr, IfSome, OnOk, MatchOption, false};
+ghost use Rattle.std.specs.Prelude.{◌≡◌, ◌≢◌, ◌<◌, ◌≤◌, ◌^◌, ℕ, [], Some, None, IfOk, IfErr, IfSome, IsErrOf, OnErr, OnOk, MatchOption, false, length, map, take};
 ghost use Rattle.std.specs.Option.{option_copied};
 ghost use Rattle.mqtt_packets.specs.Written.{HasSpelling};
 ghost use Rattle.mqtt_topics.specs.Topics.{IsName};
 ghost use Rattle.mqtt_sessions.specs.Aliases.{topic_for};
 ghost use Rattle.mqtt_sessions.specs.Asking.{AnswerStep, AnswerWants};
 ghost use Rattle.mqtt_sessions.specs.Called.{Called, always, never};
-ghost use Rattle.mqtt_sessions.specs.Connecting.{ConnectStep, MayConnectIf};
+ghost use Rattle.mqtt_sessions.specs.Connecting.{ConnectStep, ConnectWants, MayConnectIf};
 ghost use Rattle.mqtt_sessions.specs.Ending as ending;
 ghost use Rattle.mqtt_sessions.specs.Ending.{ClosedStep, FinishStep, TickStep, TickWants, HasWill};
 ghost use Rattle.mqtt_sessions.specs.Packets.{PacketEnds, PacketStep, WantsMemory};
 ghost use Rattle.mqtt_sessions.specs.Reaction.{AreSpelled};
 ghost use Rattle.mqtt_sessions.specs.Sending.{QueueEnds, QueueStep, QueueWants};
-ghost use Rattle.mqtt_sessions.specs.Removed.{RemovesIf, removed_before};
+ghost use Rattle.mqtt_sessions.specs.Removed.{RemovalsWant, RemovesIf, removed_before};
 ghost use Rattle.mqtt_sessions.specs.Saved.{Appends, ListsIf, NotesIf, OpensFrom, TellsIf, begun_session, durable_of, state_of, told_before, told_of, tracked_in};
 ghost use Rattle.mqtt_sessions.specs.State.{IsPublishableIf, aliases_of, limit_of};
 ghost use Rattle.mqtt_sessions.specs.declared.fault.SessionFault.TheVariants.{NoMemory as OutOfMemory};
+ghost use Rattle.row_store.specs.Rows.{entry_of};
 ghost use Rattle.session_rows.specs.Durable.{IsMomentIf};
+ghost use Rattle.session_rows.specs.Reading.{HasClient};
 
 use crate::fault::SessionFault;
 use crate::link::{runs_out_at, topic_text};
@@ -74,7 +76,7 @@ impl Session {
     }
 
     /// The beginning of a connection: CONNACK, and where the session is continued the PUBRELs, the resends and the queue
-    /// (MQTT 5.0, 3.2 and 4.4).
+    /// (MQTT 5.0, 3.2 and 4.4). Where the client doesn't take its CONNACK only a will wants memory.
     pub fn connect(
         &mut self,
         connect: &Connect,
@@ -84,6 +86,7 @@ impl Session {
         requires continued { MayConnectIf continued (state_of self.old) }
         requires will { IsPublishableIf connect.now.will }
         ensures called { Called (ConnectStep connect.now continued now) always never (state_of self.old) result (state_of self.new) }
+        ensures want { OnErr result (IfSome (state_of self.old) (λ s. ConnectWants connect.now continued s)) }
         ensures spelled { IfOk result (λ r. AreSpelled now r.packets) }
         ensures notes { NotesIf self.old self.new }
     {
@@ -289,9 +292,11 @@ impl Session {
         }
     }
 
-    /// The session whose rows these are, in that order, without a connection. BadRow where no session has just these.
+    /// The session whose rows these are, in that order, without a connection. BadRow where no session has just these. Where the
+    /// first names no client it takes no memory.
     pub fn from_rows(alloc: Global, rows: &[Row]) -> Result<Session, SessionFault>
-        ensures { OpensFrom rows.now result }
+        ensures opens { OpensFrom rows.now result }
+        ensures no_memory { IsErrOf result SessionFault.NoMemory → HasClient (map entry_of rows.now) }
     {
         match read_session(alloc, rows) {
             Ok(kept) => open(alloc, kept),
@@ -306,6 +311,7 @@ impl Session {
     pub fn changes(&mut self, before: &mut Vec<Change>) -> Result<Vec<Change>, SessionFault>
         ensures tells { TellsIf self.old result self.new }
         ensures before { OnOk result (IfSome self.old (λ s. Appends (told_before s) before.old.items before.new.items)) }
+        ensures begins { take (length before.old.items) before.new.items ≡ before.old.items }
     {
         let Some(live) = &mut self.live else {
             return Err(SessionFault::Spent);
@@ -320,10 +326,13 @@ impl Session {
     }
 
     /// The changes after which no row that was told last is there, for a session that is over: each of these rows goes, and no
-    /// other is named. Where the session's own row was told, the change that leaves it is appended to `before`.
+    /// other is named. Where the session's own row was told, the change that leaves it is appended to `before`. Of a session of which
+    /// nothing was told, and that has no copies and had none since, it takes no memory.
     pub fn removals(self, before: &mut Vec<Change>) -> Result<Vec<Change>, SessionFault>
         ensures removes { RemovesIf self result }
         ensures before { OnOk result (IfSome self (λ s. Appends (removed_before s) before.old.items before.new.items)) }
+        ensures begins { take (length before.old.items) before.new.items ≡ before.old.items }
+        ensures need { OnErr result (IfSome self RemovalsWant) }
     {
         let Session { live } = self;
         let Some(mut live) = live else {

@@ -1,6 +1,6 @@
 //! A will in a block of its own.
 
-ghost use Rattle.std.specs.Prelude.{◌≡◌, IfOk};
+ghost use Rattle.std.specs.Prelude.{◌≡◌, IfOk, IsSome, OnErr};
 
 use mqtt_fields::NoMemory;
 use mqtt_message::Will;
@@ -36,7 +36,8 @@ impl Deref for BoxedWill {
 
 /// The same will, if there is one.
 pub(crate) fn boxed(alloc: Global, will: Option<Will>) -> Result<Option<BoxedWill>, NoMemory>
-    ensures { IfOk result (λ w. w ≡ will) }
+    ensures same { IfOk result (λ w. w ≡ will) }
+    ensures need { OnErr result (IsSome will) }
 {
     let Some(will) = will else {
         return Ok(None);

@@ -9,4 +9,4 @@ pub flush-requires-clause-spelled : goal.flush-requires-clause-spelled
 flush-requires-clause-spelled c =
     let ids = c.in_ok-ids.ids.items in
     rw (c.in_ok-release.ensures, c.in_ok-packets.ensures, c.deref.ensures.value)
-    (spelled-append c.args.now (Answer c.in_ok-answer.answer.packet ∷ []) (pubrels_of ids) (c.in_ok-answer.ensures.spelled, tt) (pubrels_spelled c.args.now ids c.in_ok-ids.ensures.identifiers))
+    (spelled-append c.args.now (Answer c.in_ok-answer.answer ∷ []) (pubrels_of ids) (c.in_ok-answer.ensures.spelled, tt) (pubrels_spelled c.args.now ids c.in_ok-ids.ensures.identifiers))

@@ -1,6 +1,6 @@
-use Rattle.std.proofs.Common.{◌≡◌, true, false, not, sym, ap, subst, ◌∙◌}
+use Rattle.std.proofs.Common.{sym, subst, ◌∙◌}
 use Rattle.std.proofs.lemmas.Bool.{false≢true, not-false}
-use Rattle.mqtt_sessions.specs.Saved.{IsFresh, keeps_main, main_of}
+use Rattle.mqtt_sessions.specs.Saved.{IsFresh}
 use Rattle.mqtt_sessions.proofs.KeepingLaws.{packet_keeps, fresh_still}
 use Rattle.mqtt_sessions.proofs.saved.Live.packet.Goals as goal
 use Rattle.mqtt_sessions.proofs.saved.Live.packet.Goals.{then-self, else-self}
