@@ -2,10 +2,8 @@
 use Rattle.std.proofs.Common.{◌≡◌, ◌⊎◌, inl, inr, ℕ, Bool, true, false, if◌then◌else◌, List, [], ◌∷◌, Option, Some, None, refl, sym, ap, subst, ◌∙◌, true≢false}
 use Rattle.std.specs.Prelude.{◌==◌}
 use Rattle.std.specs.Cmp.{unsigned_Decides}
-use Rattle.std.specs.List.{AllByRecursion}
 use Rattle.std.specs.Ordering.{is_lt, is_gt}
 use Rattle.std.specs.Str.{bytes_eq}
-use Rattle.std.specs.FinSet as set
 use Rattle.std.specs.FinMap as map
 use Rattle.std.specs.declared.cmp.Ordering.TheVariants.{Less, Equal, Greater}
 use Rattle.std.proofs.lemmas.Slice.Eq.{bytes_eq-Decides}
@@ -24,14 +22,13 @@ use Rattle.replica_store.specs.RetainedLattice.{kept_cmp_antisym}
 use Rattle.replica_store.specs.States.{State, state_join}
 use Rattle.row_store.specs.declared.row.Change.{Change}
 use Rattle.row_store.specs.Rows.{Key}
-use Rattle.replica_bytes.specs.Values.{dot, subscription, subscription_in, kept}
+use Rattle.replica_bytes.specs.Values.{dot, subscription, subscription_in}
 use Rattle.replica_rows.specs.Rows.{spelled, subscription_of, subscription_at, kept_of, dots_value, row_at}
-use Rattle.replica_rows.specs.Changes.{names, AreChanges, IsNeeded}
-use Rattle.replica_rows.specs.Steps.{Adds, AddsContext, AddsRemovals, AddsSubscriptions, AddsTopics, Leaves, subscription_key}
+use Rattle.replica_rows.specs.Changes.{names, AreChanges}
+use Rattle.replica_rows.specs.Steps.{AddsContext, AddsRemovals, AddsSubscriptions, AddsTopics, Leaves, subscription_key}
 use Rattle.replica_rows.proofs.Keyed.{spelled_so}
 use Rattle.replica_rows.proofs.Merged.{status_at, kept_there}
 use Rattle.replica_rows.proofs.Contexts.{context_added, seen_both}
-use Rattle.replica_rows.proofs.Contexts as contexts
 
 by_bool : (b : Bool) {P : Type 0} → (b ≡ true → P) → (b ≡ false → P) → P
 by_bool true f g = f refl

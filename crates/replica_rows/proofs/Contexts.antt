@@ -1,23 +1,23 @@
 -- The rows of the dots that were taken, and of those that were seen.
-use Rattle.std.proofs.Common.{◌≡◌, ◌≢◌, ◌⊎◌, inl, inr, ℕ, Bool, true, false, ◌||◌, if◌then◌else◌, List, [], ◌∷◌, ◌++◌, Option, Some, None, is_some, refl, sym, ap, subst, ◌∙◌, true≢false}
+use Rattle.std.proofs.Common.{◌≡◌, ◌≢◌, ◌⊎◌, inl, inr, ℕ, Bool, true, false, ◌||◌, if◌then◌else◌, List, [], ◌∷◌, Option, Some, None, is_some, refl, sym, ap, subst, ◌∙◌, true≢false}
 use Rattle.std.specs.Prelude.{◌==◌}
 use Rattle.std.specs.Cmp.{unsigned_Decides}
 use Rattle.std.specs.FinSet as set
 use Rattle.std.specs.FinMap as map
-use Rattle.causal_context.specs.Dots.{Dot, Dots, dot_cmp, dot_cmp_total, dot_cmp_antisym}
+use Rattle.causal_context.specs.Dots.{Dots, dot_cmp, dot_cmp_total, dot_cmp_antisym}
 use Rattle.causal_context.specs.MapLattice.{option_join}
 use Rattle.causal_context.specs.SetLattice.{IsSubset, set_lattice}
 use Rattle.causal_context.specs.Spelling.{context, HasSpelling}
 use Rattle.causal_context.proofs.SpellingLaws.{context_is}
 use Rattle.subscription_set.specs.Standing.{seen_of}
 use Rattle.subscription_set.proofs.Seen.{contains-seen_of}
-use Rattle.subscription_set.specs.Statuses.{Status, status_join, statuses_join}
+use Rattle.subscription_set.specs.Statuses.{Status, status_join}
 use Rattle.replica_store.specs.States.{State, state_join}
 use Rattle.row_store.specs.declared.row.Change.{Change}
 use Rattle.row_store.specs.declared.row.Change.TheVariants.{Put}
 use Rattle.replica_rows.specs.Rows.{dots_value, row_at}
-use Rattle.replica_rows.specs.Changes.{names, IsNeeded}
-use Rattle.replica_rows.specs.Steps.{Adds, AddsContext, PutsBoth}
+use Rattle.replica_rows.specs.Changes.{names}
+use Rattle.replica_rows.specs.Steps.{Adds, AddsContext}
 use Rattle.replica_rows.proofs.Naming.{adds_none}
 use Rattle.replica_rows.proofs.Keyed.{one_value}
 use Rattle.replica_rows.proofs.Merged.{adds_named, put_needed, status_at, none_some}

@@ -1,10 +1,8 @@
 -- Changes gathered one after another.
-use Rattle.std.proofs.Common.{◌≡◌, ◌⊎◌, inl, inr, ℕ, Bool, true, false, cond, ◌&&◌, ◌||◌, T, List, [], ◌∷◌, Option, Some, None, refl, sym, ap, subst, ◌∙◌, true≢false}
+use Rattle.std.proofs.Common.{◌≡◌, ◌⊎◌, inl, inr, ℕ, Bool, true, false, ◌&&◌, ◌||◌, T, List, [], ◌∷◌, Option, Some, None, refl, sym, ap, subst, ◌∙◌, true≢false}
 use Rattle.std.specs.List.{AllByRecursion, list_any}
-use Rattle.std.specs.Option.{option_copied}
 use Rattle.std.specs.Ordering.{eq_by_cmp, is_eq}
 use Rattle.std.specs.declared.cmp.Ordering.{Ordering}
-use Rattle.std.specs.Str.{bytes_eq}
 use Rattle.std.specs.Cmp.{IsTotalOrder}
 use Rattle.std.specs.Cmp.Lexicographic.{nat_list_cmp_total}
 use Rattle.std.specs.FinMap as map
@@ -26,7 +24,6 @@ use Rattle.replica_store.specs.RetainedLattice.{topic_cmp_antisym}
 use Rattle.replica_store.specs.States.{State, state_join}
 use Rattle.replica_store.proofs.Views.{by_test, tied_is, none_after, at_head}
 use Rattle.row_store.specs.declared.row.Change.{Change}
-use Rattle.row_store.specs.Rows.{Key}
 use Rattle.replica_bytes.specs.Values.{IsOwn, has_topic}
 use Rattle.replica_rows.specs.Changes.{names}
 use Rattle.replica_rows.specs.Steps.{Adds, AddsDue, AddsSubscriptions, AddsLeaving, AddsRemovals, AddsTopics, Leaves, subscription_key}

@@ -1,16 +1,12 @@
 -- The rows of a state, key by key.
-use Rattle.std.proofs.Common.{◌≡◌, ◌≢◌, ◌⊎◌, inl, inr, ℕ, Bool, true, false, cond, if◌then◌else◌, List, [], ◌∷◌, ◌++◌, Option, Some, None, Result, Ok, Err, refl, sym, ap, subst, ◌∙◌, true≢false}
+use Rattle.std.proofs.Common.{◌≡◌, ℕ, Bool, true, false, if◌then◌else◌, List, [], ◌∷◌, ◌++◌, Some, None, Result, Ok, Err, refl, sym, ap, subst, ◌∙◌}
 use Rattle.std.specs.Str.{bytes_eq}
-use Rattle.std.specs.FinSet as set
 use Rattle.std.specs.FinMap as map
 use Rattle.std.proofs.lemmas.Slice.Eq.{bytes_eq-Decides}
 use Rattle.mqtt_fields.specs.declared.fault.FieldFault.{FieldFault}
 use Rattle.mqtt_fields.specs.Field.{Field, IsField}
-use Rattle.mqtt_fields.proofs.Laws.{ok_is}
-use Rattle.causal_context.specs.Dots.{Dot, Dots}
-use Rattle.causal_context.specs.Spelling.{context}
+use Rattle.causal_context.specs.Dots.{Dot}
 use Rattle.subscription_set.specs.declared.entry.Entry.{Entry}
-use Rattle.subscription_set.specs.Statuses.{Status}
 use Rattle.replica_store.specs.declared.kept.Kept.{Kept}
 use Rattle.replica_store.specs.States.{State}
 use Rattle.replica_bytes.specs.Values.{dot, subscription, subscription_in, kept}

@@ -7,6 +7,7 @@ pub mod Completed
 pub mod Empty
 pub mod Whole
 pub mod Taking
+pub mod Wanting
 pub mod Saying
 pub mod Refused
 pub mod Told

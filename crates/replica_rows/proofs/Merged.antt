@@ -1,29 +1,28 @@
 -- What a merge makes of the rows.
-use Rattle.std.proofs.Common.{◌≡◌, ◌≢◌, ◌⊎◌, inl, inr, ℕ, Bool, true, false, cond, not, if◌then◌else◌, List, [], ◌∷◌, ◌++◌, Option, Some, None, is_some, refl, sym, ap, subst, ◌∙◌, true≢false}
+use Rattle.std.proofs.Common.{◌≡◌, ◌≢◌, ℕ, Bool, true, false, not, if◌then◌else◌, List, [], ◌∷◌, ◌++◌, Option, Some, None, is_some, refl, sym, ap, subst, ◌∙◌, true≢false}
 use Rattle.std.specs.Ordering.{is_lt, is_gt}
 use Rattle.std.specs.declared.cmp.Ordering.TheVariants.{Less, Equal, Greater}
 use Rattle.std.specs.Cmp.Lexicographic.{nat_list_cmp_total}
 use Rattle.std.proofs.lemmas.Cmp.{tied_itself}
 use Rattle.std.specs.FinSet as set
 use Rattle.std.specs.FinMap as map
-use Rattle.causal_context.specs.Dots.{Dot, Dots, dot_cmp_total}
+use Rattle.causal_context.specs.Dots.{Dot, dot_cmp_total}
 use Rattle.causal_context.specs.MapLattice.{option_join, get-merge}
 use Rattle.causal_context.specs.OrderLattice.{greater}
 use Rattle.subscription_set.specs.declared.entry.Entry.{Entry}
 use Rattle.subscription_set.specs.Entries.{entry_eq}
 use Rattle.subscription_set.specs.Joining.{is_leaving}
-use Rattle.subscription_set.specs.Merging.{same_entry}
 use Rattle.subscription_set.specs.Standing.{seen_of}
 use Rattle.subscription_set.proofs.Seen.{contains-seen_of}
 use Rattle.subscription_set.specs.Statuses.{Status, status_join, statuses_join}
 use Rattle.replica_store.specs.declared.kept.Kept.{Kept}
 use Rattle.replica_store.specs.Merging.{is_newer}
 use Rattle.replica_store.specs.Retained.{retained_join, kept_cmp}
-use Rattle.replica_store.specs.RetainedLattice.{kept_cmp_total, kept_cmp_antisym}
+use Rattle.replica_store.specs.RetainedLattice.{kept_cmp_total}
 use Rattle.replica_store.specs.States.{State, state_join}
 use Rattle.row_store.specs.declared.row.Row.{Row}
 use Rattle.row_store.specs.declared.row.Change.{Change}
-use Rattle.row_store.specs.declared.row.Change.TheVariants.{Put, Remove}
+use Rattle.row_store.specs.declared.row.Change.TheVariants.{Put}
 use Rattle.row_store.specs.Rows.{Key, entry_of}
 use Rattle.replica_bytes.specs.Values.{dot, subscription, subscription_in, kept}
 use Rattle.replica_bytes.proofs.Wholes.{kept_is}
@@ -140,10 +139,13 @@ module _ (s d : State) where
     named = λ none. absurd (true≢false (sym passed ∙ is ∙ contains-seen_of s.subscriptions q ∙ ap is_some none));
   }
 
+  pub brought_new : (q : Dot) (b : Bool) → b ≡ set.contains (seen_of s.subscriptions) q → b ≡ false → map.get s.subscriptions q ≡ None
+  brought_new q b seen failed = is_none_of (map.get s.subscriptions q) (sym (contains-seen_of s.subscriptions q) ∙ sym seen ∙ failed)
+
   pub brought_put : (q : Dot) (e : Entry) (row : Row) (old new : List Change) (b : Bool) → b ≡ set.contains (seen_of s.subscriptions) q → b ≡ false → dot.Fits q → map.get d.subscriptions q ≡ Some (Some e)
       → entry_of row ≡ (subscription_key e q, subscription.bytes (subscription_in e)) → new ≡ old ++ Put row ∷ [] → AddsDue s t (map.get s.subscriptions q ≡ None) (subscription_key e q) old new
   brought_put q e row old new b seen failed fits there is pushed =
-      let unseen = is_none_of (map.get s.subscriptions q) (sym (contains-seen_of s.subscriptions q) ∙ sym seen ∙ failed) in
+      let unseen = brought_new q b seen failed in
       adds_named (map.get s.subscriptions q ≡ None) (subscription_key e q) (Put row) old new pushed (ap (λ x. x.0) is) (brought_needed q e row fits there unseen is)
 
   pub removal_none : (q : Dot) (old : List Change) → ((e : Entry) → map.get s.subscriptions q ≡ Some (Some e) → ⊥) → AddsLeaving s d q old old

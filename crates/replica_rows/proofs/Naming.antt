@@ -1,16 +1,16 @@
 -- Changes, and the keys that they name.
-use Rattle.std.proofs.Common.{◌≡◌, ◌≢◌, ◌⊎◌, inl, inr, ℕ, Bool, true, false, cond, ◌||◌, List, [], ◌∷◌, ◌++◌, Option, Some, None, refl, sym, ap, subst, ◌∙◌, true≢false}
-use Rattle.std.specs.List.{AllByRecursion, list_any}
+use Rattle.std.proofs.Common.{◌≡◌, ◌⊎◌, inl, inr, Bool, true, false, cond, ◌||◌, List, [], ◌∷◌, ◌++◌, Some, None, refl, sym, ap, subst, ◌∙◌, true≢false}
+use Rattle.std.specs.List.{AllByRecursion}
 use Rattle.std.specs.Ordering.{eq_by_cmp, is_eq}
 use Rattle.std.specs.FinMap as map
 use Rattle.std.proofs.lemmas.Cmp.{tied_itself}
 use Rattle.row_store.specs.declared.row.Change.{Change}
 use Rattle.row_store.specs.declared.row.Change.TheVariants.{Put, Remove}
 use Rattle.row_store.specs.Rows.{Content, Key, key_cmp, key_of, after, after_all}
-use Rattle.row_store.proofs.Keys.{keys_total, exact_keys}
+use Rattle.row_store.proofs.Keys.{keys_total}
 use Rattle.row_store.proofs.CellLemmas.{ties}
 use Rattle.replica_store.specs.States.{State}
-use Rattle.replica_rows.specs.Rows.{row_at, AreRowsOf}
+use Rattle.replica_rows.specs.Rows.{row_at}
 use Rattle.replica_rows.specs.Steps.{Adds}
 use Rattle.row_changes.specs.Leading.{key_in}
 use Rattle.replica_rows.specs.Changes.{names, IsRight, IsNeeded, AreChanges, Lead}

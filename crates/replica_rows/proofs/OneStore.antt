@@ -1,7 +1,6 @@
 -- Two stores with the same rows are the same.
-use Rattle.std.proofs.Common.{◌≡◌, ℕ, Bool, true, false, if◌then◌else◌, List, [], ◌∷◌, Option, Some, None, is_some, refl, sym, ap, ◌∙◌, true≢false}
+use Rattle.std.proofs.Common.{◌≡◌, ℕ, List, [], ◌∷◌, Option, Some, None, is_some, refl, sym, ap, ◌∙◌, true≢false}
 use Rattle.std.specs.Cmp.Lexicographic.{nat_list_cmp_total}
-use Rattle.std.specs.Str.{bytes_eq}
 use Rattle.std.specs.FinMap as map
 use Rattle.std.specs.FinSet as set
 use Rattle.causal_context.specs.Dots.{Dot, dot_cmp_total, dot_cmp_antisym}
@@ -19,7 +18,6 @@ use Rattle.replica_rows.specs.Rows.{subscription_of, kept_of, row_at}
 use Rattle.replica_rows.specs.Steps.{subscription_key}
 use Rattle.replica_rows.specs.Reading.{IsStore, TellAll, HaveOneReading}
 use Rattle.replica_rows.proofs.Keyed.{one_value, at_dot, row_stands}
-use Rattle.replica_rows.proofs.Saying.{no_value}
 use Rattle.replica_rows.proofs.Refused.{owned}
 use Rattle.replica_rows.proofs.Told.{one_set}
 

@@ -1,5 +1,5 @@
 -- Rows that no store has.
-use Rattle.std.proofs.Common.{◌≡◌, ◌≢◌, ◌⊎◌, inl, inr, ℕ, Bool, true, false, if◌then◌else◌, List, [], ◌∷◌, Option, Some, None, Result, Ok, Err, refl, sym, ap, subst, ◌∙◌, true≢false}
+use Rattle.std.proofs.Common.{◌≡◌, ◌≢◌, ◌⊎◌, inl, inr, ℕ, Bool, if◌then◌else◌, List, [], ◌∷◌, Option, Some, None, Result, Ok, Err, refl, sym, ap, ◌∙◌, true≢false}
 use Rattle.std.specs.Prelude.{◌==◌, IfErr, option_map}
 use Rattle.std.specs.Cmp.{unsigned_Decides}
 use Rattle.std.specs.Str.{bytes_eq}
@@ -16,12 +16,12 @@ use Rattle.subscription_set.specs.Standing.{seen_of}
 use Rattle.subscription_set.specs.Statuses.{Status}
 use Rattle.replica_store.specs.declared.kept.Kept.{Kept}
 use Rattle.replica_store.specs.States.{State}
-use Rattle.row_store.specs.Rows.{Key, Plain}
-use Rattle.replica_bytes.specs.Values.{dot, subscription, subscription_in, kept}
+use Rattle.row_store.specs.Rows.{Plain}
+use Rattle.replica_bytes.specs.Values.{dot, subscription, subscription_in}
 use Rattle.replica_bytes.proofs.Wholes.{dot_is}
 use Rattle.replica_rows.specs.Rows.{spelled, subscription_of, subscription_at, kept_of, retained_at, context_at, dots_value, row_at}
 use Rattle.replica_rows.specs.Steps.{subscription_key}
-use Rattle.replica_rows.specs.ReadingSteps.{Topic, Said, standing_at, row_of, Agrees, Contradicts, IsSubscription, IsTopic, IsDots, NoSubscription, NoDots}
+use Rattle.replica_rows.specs.ReadingSteps.{Topic, Said, standing_at, row_of, Contradicts, IsSubscription, IsTopic, NoSubscription, NoDots}
 use Rattle.replica_rows.specs.Reading.{IsStore}
 use Rattle.replica_rows.proofs.Keyed.{bytes_same, spelled_again, spelled_so, at_dot}
 use Rattle.replica_rows.proofs.Saying.{by_bool, no_value}

@@ -1,37 +1,30 @@
 -- One more row says more, or no store has it.
-use Rattle.std.proofs.Common.{◌≡◌, ◌≢◌, ◌⊎◌, inl, inr, ℕ, Bool, true, false, cond, if◌then◌else◌, List, [], ◌∷◌, Option, Some, None, refl, sym, ap, subst, ◌∙◌, true≢false}
+use Rattle.std.proofs.Common.{◌≡◌, inl, inr, ℕ, Bool, true, false, cond, if◌then◌else◌, List, [], ◌∷◌, Option, Some, None, refl, sym, ap, subst, ◌∙◌, true≢false}
 use Rattle.std.specs.Prelude.{◌==◌, option_map}
 use Rattle.std.specs.Cmp.{unsigned_Decides}
 use Rattle.std.specs.Cmp.Lexicographic.{nat_list_cmp_total}
 use Rattle.std.specs.Ordering.{eq_by_cmp, is_eq}
 use Rattle.std.specs.Str.{bytes_eq}
-use Rattle.std.specs.FinSet as set
 use Rattle.std.specs.FinMap as map
 use Rattle.std.proofs.lemmas.Cmp.{tied_itself}
 use Rattle.std.proofs.lemmas.Slice.Eq.{bytes_eq-Decides}
 use Rattle.causal_context.specs.Dots.{Dot, Dots, dot_cmp, dot_cmp_total, dot_cmp_antisym}
 use Rattle.causal_context.specs.MapLattice.{option_join, get-merge}
 use Rattle.causal_context.specs.OrderLattice.{greater}
-use Rattle.causal_context.specs.Spelling.{context, HasSpelling}
 use Rattle.mqtt_fields.specs.Numbers.{IsText}
 use Rattle.mqtt_message.specs.Parts.{name}
 use Rattle.subscription_set.specs.declared.entry.Entry.{Entry}
 use Rattle.subscription_set.specs.Indexing.{ByDot}
-use Rattle.subscription_set.specs.Standing.{seen_of}
-use Rattle.subscription_set.specs.Statuses.{Status}
 use Rattle.replica_store.specs.declared.kept.Kept.{Kept}
 use Rattle.replica_store.specs.Retained.{Retained, retained_join, one_put, kept_cmp, topic_cmp}
 use Rattle.replica_store.specs.RetainedLattice.{topic_cmp_antisym}
-use Rattle.replica_store.specs.States.{State}
 use Rattle.replica_store.proofs.Views.{tied_is}
 use Rattle.row_store.specs.Rows.{Key, key_cmp, Plain}
 use Rattle.row_store.proofs.Keys.{keys_total, exact_keys}
 use Rattle.replica_bytes.specs.Values.{dot, subscription, subscription_in, kept}
 use Rattle.replica_bytes.proofs.Wholes.{dot_is}
-use Rattle.replica_rows.specs.Rows.{spelled, subscription_of, subscription_at, kept_of, retained_at, context_at, dots_value, row_at}
-use Rattle.replica_rows.specs.Steps.{subscription_key}
-use Rattle.replica_rows.specs.ReadingSteps.{Topic, Said, IsSaid, standing_at, topic_at, dots_at, row_of, SaysMore, Agrees, Contradicts, IsSubscription, IsTopic, IsDots, TakesSubscription, TakesTopic, TakesDots, NoSubscription, NoDots}
-use Rattle.replica_rows.specs.Reading.{IsStore}
+use Rattle.replica_rows.specs.Rows.{spelled, subscription_of, kept_of, dots_value}
+use Rattle.replica_rows.specs.ReadingSteps.{Topic, Said, standing_at, topic_at, dots_at, row_of, SaysMore, IsSubscription, IsTopic, IsDots, TakesSubscription, TakesTopic, TakesDots}
 use Rattle.replica_rows.proofs.Keyed.{bytes_same, spelled_again, spelled_so}
 use Rattle.replica_rows.proofs.Contexts.{value_some}
 

@@ -1,14 +1,13 @@
 -- Each store has what its rows can tell.
-use Rattle.std.proofs.Common.{◌≡◌, ◌⊎◌, inl, inr, ℕ, T, List, [], ◌∷◌, Option, Some, None, sym, ap, subst, ◌∙◌}
+use Rattle.std.proofs.Common.{◌≡◌, inl, inr, ℕ, List, [], ◌∷◌, Some, sym, ap, subst, ◌∙◌}
 use Rattle.std.specs.Cmp.{IsTotalOrder}
 use Rattle.std.specs.Cmp.Lexicographic.{nat_list_cmp_total}
 use Rattle.std.specs.List.{AllByRecursion}
-use Rattle.std.specs.Ordering.{eq_by_cmp}
 use Rattle.std.specs.declared.cmp.Ordering.{Ordering}
 use Rattle.std.specs.FinMap as map
 use Rattle.std.specs.FinMap.{IsAntisymmetric}
 use Rattle.std.specs.FinMap.Entries.{find}
-use Rattle.causal_context.specs.Dots.{Dot, Dots, dot_cmp, dot_cmp_total, dot_cmp_antisym}
+use Rattle.causal_context.specs.Dots.{Dot, Dots, dot_cmp_total, dot_cmp_antisym}
 use Rattle.causal_context.specs.Spelling.{HasSpelling}
 use Rattle.causal_context.specs.declared.ranges.Range.{Range}
 use Rattle.causal_context.specs.Ranges.{IsContext, set_of}
@@ -16,14 +15,12 @@ use Rattle.mqtt_fields.specs.Numbers.{IsText}
 use Rattle.mqtt_message.specs.Parts.{name}
 use Rattle.subscription_set.specs.declared.entry.Entry.{Entry}
 use Rattle.subscription_set.specs.Standing.{seen_of, standing, entry_of}
-use Rattle.subscription_set.specs.Statuses.{Statuses}
 use Rattle.subscription_set.proofs.Standings.{find-standing}
 use Rattle.replica_store.specs.declared.kept.Kept.{Kept}
-use Rattle.replica_store.specs.Retained.{Retained, topic_cmp}
 use Rattle.replica_store.specs.RetainedLattice.{topic_cmp_antisym}
 use Rattle.replica_store.specs.States.{State}
 use Rattle.replica_bytes.specs.Values.{dot, kept}
-use Rattle.replica_rows.specs.ReadingSteps.{Topic, AllCanStand, AllHaveSpellings}
+use Rattle.replica_rows.specs.ReadingSteps.{AllCanStand, AllHaveSpellings}
 use Rattle.replica_rows.specs.Reading.{CanStand, IsStore}
 use Rattle.replica_rows.proofs.Gathered.{front_or_later}
 

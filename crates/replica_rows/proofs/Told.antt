@@ -8,10 +8,10 @@ use Rattle.std.specs.Map.{keys_of}
 use Rattle.std.specs.Ordering.{eq_by_cmp, is_eq}
 use Rattle.std.specs.FinSet as set
 use Rattle.std.specs.FinMap as map
-use Rattle.std.specs.FinMap.Entries.{below_all, is_sorted, find}
+use Rattle.std.specs.FinMap.Entries.{is_sorted, find}
 use Rattle.std.proofs.Math.Seq.{drop-cons}
 use Rattle.std.proofs.lemmas.Cmp.{tied_itself}
-use Rattle.causal_context.specs.Dots.{Dot, Dots, dot_cmp, dot_cmp_total, dot_cmp_antisym}
+use Rattle.causal_context.specs.Dots.{Dot, Dots, dot_cmp, dot_cmp_total}
 use Rattle.causal_context.specs.Spelling.{context, HasSpelling}
 use Rattle.causal_context.proofs.RangeSets.{set_of_none}
 use Rattle.causal_context.proofs.SpellingLaws.{context_is}
@@ -21,21 +21,21 @@ use Rattle.subscription_set.specs.declared.entry.Entry.{Entry}
 use Rattle.subscription_set.specs.Indexing.{ByDot}
 use Rattle.subscription_set.specs.Merging.{IsSet}
 use Rattle.subscription_set.specs.Sorted.{first_of}
-use Rattle.subscription_set.specs.Standing.{find_entry, statuses, seen_of}
+use Rattle.subscription_set.specs.Standing.{find_entry, seen_of}
 use Rattle.subscription_set.proofs.Seen.{get-statuses, seen_of-statuses, contains-seen_of}
 use Rattle.subscription_set.specs.Statuses.{Status}
 use Rattle.subscription_set.proofs.Indexing.{entries_table}
 use Rattle.replica_store.specs.declared.kept.Kept.{Kept}
-use Rattle.replica_store.specs.Retained.{Retained, topic_cmp}
+use Rattle.replica_store.specs.Retained.{topic_cmp}
 use Rattle.replica_store.specs.States.{State}
 use Rattle.replica_store.proofs.Views.{tied_is, at_head, none_after}
 use Rattle.row_store.specs.declared.row.Row.{Row}
-use Rattle.row_store.specs.Rows.{Key, key_cmp, entry_of, content_of, Plain}
+use Rattle.row_store.specs.Rows.{Key, key_cmp, entry_of, Plain}
 use Rattle.row_store.proofs.Keys.{keys_total, exact_keys}
-use Rattle.replica_bytes.specs.Values.{dot, subscription, subscription_in}
-use Rattle.replica_rows.specs.Rows.{AreRowsOf, spelled, subscription_of, subscription_at, kept_of, retained_at, context_at, dots_value, row_at}
+use Rattle.replica_bytes.specs.Values.{dot}
+use Rattle.replica_rows.specs.Rows.{spelled, subscription_of, subscription_at, kept_of, retained_at, context_at, dots_value, row_at}
 use Rattle.replica_rows.specs.Steps.{subscription_key}
-use Rattle.replica_rows.specs.ReadingSteps.{Said, IsSaid, standing_at, topic_at, dots_at, row_of, SaysMore, Agrees, Contradicts, AreSaid, state_of, AreSeenThere}
+use Rattle.replica_rows.specs.ReadingSteps.{Said, IsSaid, standing_at, topic_at, dots_at, row_of, SaysMore, Contradicts, AreSaid, state_of, AreSeenThere}
 use Rattle.replica_rows.specs.Reading.{IsStore, AreAllRowsOf, AreOfNone}
 use Rattle.replica_rows.proofs.Keyed.{one_value, at_dot}
 use Rattle.replica_rows.proofs.Saying.{by_bool, no_value, picked}

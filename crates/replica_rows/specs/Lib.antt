@@ -1,4 +1,5 @@
 pub mod Rows
+pub mod Memory
 pub mod Changes
 pub mod Steps
 pub mod Reading

@@ -1,9 +1,10 @@
 //! The changes of rows that a merge makes.
-ghost use Rattle.std.specs.Prelude.{◌≡◌, [], ◌∷◌, IfOk, IsOk, OnOk, Some, None, true};
+ghost use Rattle.std.specs.Prelude.{◌≡◌, ◌≢◌, [], ◌∷◌, IfOk, IsOk, OnOk, OnErr, Some, None, true};
 ghost use Rattle.std.specs.FinMap as map;
+ghost use Rattle.std.specs.FinSet as set;
 ghost use Rattle.subscription_set.specs.Joining.{is_leaving};
 ghost use Rattle.replica_store.specs.Merging.{is_newer};
-ghost use Rattle.replica_store.specs.States.{StateBelow, state_join};
+ghost use Rattle.replica_store.specs.States.{StateBelow, nothing, state_join};
 ghost use Rattle.replica_bytes.specs.Values.{IsOwn, dot};
 ghost use Rattle.row_store.specs.Rows.{after_all};
 ghost use Rattle.replica_rows.specs.Changes.{AreChanges, Lead};
@@ -22,7 +23,7 @@ use row_store::Change;
 use std::alloc::Global;
 use subscription_set::Entry;
 
-// A put of the subscription that the delta brings, where its dot is new here.
+// A put of the subscription that the delta brings, where its dot is new here; else it takes no memory.
 fn add_brought(
     alloc: Global,
     store: &ReplicaStore,
@@ -32,8 +33,9 @@ fn add_brought(
     out: &mut Vec<Change>,
 ) -> Result<(), NoMemory>
     requires { map.get delta.now.subscriptions at ≡ Some (Some entry.now) }
-    ensures { OnOk result (AddsDue store.now (state_join store.now delta.now)
+    ensures put { OnOk result (AddsDue store.now (state_join store.now delta.now)
         (map.get store.now.subscriptions at ≡ None) (4, (entry.now.client, dot.bytes at)) out.old.items out.new.items) }
+    ensures memory { OnErr result (map.get store.now.subscriptions at ≡ None) }
 {
     if store.subscriptions().seen().contains(at) {
         return Ok(());
@@ -94,7 +96,7 @@ fn add_removals(
     Ok(())
 }
 
-// A put of what the delta keeps of the topic, where it is greater.
+// A put of what the delta keeps of the topic, where it is greater; else it takes no memory.
 fn add_topic(
     alloc: Global,
     store: &ReplicaStore,
@@ -105,8 +107,9 @@ fn add_topic(
 ) -> Result<(), NoMemory>
     requires there { map.get delta.now.retained topic.now ≡ Some kept.now }
     requires own { IsOwn (topic.now, kept.now) }
-    ensures { OnOk result (AddsDue store.now (state_join store.now delta.now)
+    ensures put { OnOk result (AddsDue store.now (state_join store.now delta.now)
         (is_newer (map.get store.now.retained topic.now) kept.now ≡ true) (5, (topic.now, [])) out.old.items out.new.items) }
+    ensures memory { OnErr result (is_newer (map.get store.now.retained topic.now) kept.now ≡ true) }
 {
     if let Some(own) = store.retained().kept(topic) {
         if !own.is_below(kept) {
@@ -135,7 +138,7 @@ fn add_topics(
     Ok(())
 }
 
-// A put of the dots at the place, where the other has more.
+// A put of the dots at the place, where the other has more; else it takes no memory.
 fn add_context(
     alloc: Global,
     at: u8,
@@ -143,7 +146,8 @@ fn add_context(
     other: &Context,
     out: &mut Vec<Change>,
 ) -> Result<(), NoMemory>
-    ensures { OnOk result (AddsContext at own.now other.now out.old.items out.new.items) }
+    ensures put { OnOk result (AddsContext at own.now other.now out.old.items out.new.items) }
+    ensures memory { OnErr result (set.union own.now other.now ≢ own.now) }
 {
     if other.is_below(own) {
         return Ok(());
@@ -181,9 +185,11 @@ pub fn changes_by(
     Ok(out)
 }
 
-/// Puts of the rows of the store: they lead to them from no rows.
+/// Puts of the rows of the store: they lead to them from no rows. The store of no operation has none, which
+/// takes no memory.
 pub fn puts_of(alloc: Global, store: &ReplicaStore) -> Result<Vec<Change>, NoMemory>
-    ensures { IfOk result (λ out. AreRowsOf (after_all map.empty out.items) store.now) }
+    ensures lead { IfOk result (λ out. AreRowsOf (after_all map.empty out.items) store.now) }
+    ensures none { store.now ≡ nothing → IsOk result }
 {
     let none = ReplicaStore::new(alloc);
     changes_by(alloc, &none, store)

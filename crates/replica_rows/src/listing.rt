@@ -1,5 +1,5 @@
 //! The rows of a store in the order of their keys.
-ghost use Rattle.std.specs.Prelude.{◌≡◌, IfOk, IsOk, OnOk, map as map_list};
+ghost use Rattle.std.specs.Prelude.{◌≡◌, ◌<◌, IfOk, IsOk, OnOk, OnErr, length, map as map_list};
 ghost use Rattle.std.specs.FinMap as map;
 ghost use Rattle.replica_store.specs.States.{nothing};
 ghost use Rattle.row_store.specs.Cells.{fill, plain_key, shown};
@@ -43,9 +43,10 @@ fn put_in(cells: &mut Cells, change: Change) -> Result<(), NoMemory>
     }
 }
 
-// What the changes make of no rows.
+// What the changes make of no rows. No changes take no memory.
 fn cells_of(alloc: Global, changes: Vec<Change>) -> Result<Cells, NoMemory>
-    ensures { IfOk result (λ cells. shown cells.entries ≡ after_all map.empty changes.items) }
+    ensures cells { IfOk result (λ cells. shown cells.entries ≡ after_all map.empty changes.items) }
+    ensures memory { OnErr result (0 < length changes.items) }
 {
     let mut cells = BTreeMap::new(alloc);
     for change in changes {
@@ -54,9 +55,10 @@ fn cells_of(alloc: Global, changes: Vec<Change>) -> Result<Cells, NoMemory>
     Ok(cells)
 }
 
-// The rows, whose bytes it takes.
+// The rows, whose bytes it takes. Only these take memory.
 fn rows_in(alloc: Global, cells: Cells) -> Result<Vec<Row>, NoMemory>
-    ensures { IfOk result (λ rows. map_list entry_of rows.items ≡ map.entries (shown cells.entries)) }
+    ensures rows { IfOk result (λ rows. map_list entry_of rows.items ≡ map.entries (shown cells.entries)) }
+    ensures memory { OnErr result (0 < length (map.entries (shown cells.entries))) }
 {
     let mut rows = Vec::new(alloc);
     for (key, cell) in cells {

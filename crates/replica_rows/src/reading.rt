@@ -1,15 +1,17 @@
 //! A store that is read from its rows.
-ghost use Rattle.std.specs.Prelude.{◌≡◌, ◌⊎◌, map as map_list, T, None, [], ◌∷◌, length, OnOk, IfOk, IfErr, IsErrOf, IsOk, IsTrue};
+ghost use Rattle.std.specs.Prelude.{◌≡◌, ◌<◌, ◌⊎◌, map as map_list, T, None, [], ◌∷◌, length, OnOk, IfOk, IfErr, IsErrOf, IsOk, IsTrue};
 ghost use Rattle.std.specs.FinMap as map;
 ghost use Rattle.causal_context.specs.Dots.{dot_cmp};
-ghost use Rattle.causal_context.specs.Spelling.{context, HasSpelling};
+ghost use Rattle.causal_context.specs.Spelling.{context, HasSpelling, WantsMemory};
 ghost use Rattle.mqtt_fields.specs.declared.fault.FieldFault.TheVariants as faults;
 ghost use Rattle.mqtt_fields.specs.Numbers.{IsText};
 ghost use Rattle.mqtt_message.specs.Parts.{name};
 ghost use Rattle.row_store.specs.Rows.{entry_of, key_cmp, key_of};
+ghost use Rattle.replica_bytes.specs.Memory.{HasText, KeptWants};
 ghost use Rattle.replica_bytes.specs.Values.{dot, subscription, subscription_in, kept};
 ghost use Rattle.mqtt_fields.specs.Reading.{Finds};
 ghost use Rattle.replica_rows.specs.ReadingSteps.{AreSaid, Contradicts, IsDots, IsSubscription, IsTopic, NoDots, NoSubscription, SaysMore, TakesDots, TakesSubscription, TakesTopic, Topic, AreSeenThere, row_of, said, state_of};
+ghost use Rattle.replica_rows.specs.Memory.{FirstWants, RowWants, RowsWant};
 ghost use Rattle.replica_rows.specs.Reading.{AreAllRowsOf, AreOfNone, IsStore};
 
 use crate::laws::is_store;
@@ -35,7 +37,8 @@ pub(crate) struct Parts {
 
 #[tactic(auto, using(mqtt_fields::proofs::TextLaws::texts))]
 fn text_of(alloc: Global, bytes: &[u8]) -> Result<Text, FieldFault>
-    ensures { Finds (λ t. t) (λ t. (bytes.now ≡ t) × IsText t) result }
+    ensures found { Finds (λ t. t) (λ t. (bytes.now ≡ t) × IsText t) result }
+    ensures no_memory { IsErrOf result FieldFault.NoMemory → IsText bytes.now }
 {
     let Ok(text) = str::from_utf8(bytes) else {
         return Err(FieldFault::Malformed);
@@ -44,7 +47,8 @@ fn text_of(alloc: Global, bytes: &[u8]) -> Result<Text, FieldFault>
 }
 
 fn name_of(alloc: Global, bytes: &[u8]) -> Result<TopicName, FieldFault>
-    ensures { Finds (λ n. n) (λ n. (bytes.now ≡ n) × name.Fits n) result }
+    ensures found { Finds (λ n. n) (λ n. (bytes.now ≡ n) × name.Fits n) result }
+    ensures no_memory { IsErrOf result FieldFault.NoMemory → IsText bytes.now }
 {
     let text = text_of(alloc, bytes)?;
     match TopicName::of_text(alloc, &text) {
@@ -55,7 +59,8 @@ fn name_of(alloc: Global, bytes: &[u8]) -> Result<TopicName, FieldFault>
 }
 
 fn dot_of(place: &[u8]) -> Result<Dot, FieldFault>
-    ensures { Finds (λ d. d) (λ d. (place.now ≡ dot.bytes d) × dot.Fits d) result }
+    ensures found { Finds (λ d. d) (λ d. (place.now ≡ dot.bytes d) × dot.Fits d) result }
+    ensures no_memory { IsErrOf result FieldFault.NoMemory → ⊥ }
 {
     are_bytes(place);
     match &dot_at(place) {
@@ -72,8 +77,9 @@ fn dot_of(place: &[u8]) -> Result<Dot, FieldFault>
 
 // The client's subscription whose filter, options and identifier the bytes are.
 fn entry_of(alloc: Global, client: Text, bytes: &[u8]) -> Result<Entry, FieldFault>
-    ensures { Finds (λ e. e) (λ e. (e.client ≡ client) × (bytes.now ≡ subscription.bytes (subscription_in e))
+    ensures found { Finds (λ e. e) (λ e. (e.client ≡ client) × (bytes.now ≡ subscription.bytes (subscription_in e))
         × subscription.Fits (subscription_in e)) result }
+    ensures no_memory { IsErrOf result FieldFault.NoMemory → HasText bytes.now }
 {
     are_bytes(bytes);
     match entry_at(alloc, client, bytes) {
@@ -84,7 +90,8 @@ fn entry_of(alloc: Global, client: Text, bytes: &[u8]) -> Result<Entry, FieldFau
 }
 
 fn kept_of(alloc: Global, topic: &TopicName, bytes: &[u8]) -> Result<Kept, FieldFault>
-    ensures { Finds (λ k. k) (λ k. (bytes.now ≡ (kept topic.now).bytes k) × (kept topic.now).Fits k) result }
+    ensures found { Finds (λ k. k) (λ k. (bytes.now ≡ (kept topic.now).bytes k) × (kept topic.now).Fits k) result }
+    ensures no_memory { IsErrOf result FieldFault.NoMemory → KeptWants bytes.now }
 {
     are_bytes(bytes);
     match kept_at(alloc, topic, bytes) {
@@ -95,7 +102,8 @@ fn kept_of(alloc: Global, topic: &TopicName, bytes: &[u8]) -> Result<Kept, Field
 }
 
 fn dots_of(alloc: Global, bytes: &[u8]) -> Result<Context, FieldFault>
-    ensures { Finds (λ d. d) (λ d. (bytes.now ≡ context.bytes d) × HasSpelling d) result }
+    ensures found { Finds (λ d. d) (λ d. (bytes.now ≡ context.bytes d) × HasSpelling d) result }
+    ensures no_memory { IsErrOf result FieldFault.NoMemory → WantsMemory bytes.now }
 {
     are_bytes(bytes);
     match Context::at(alloc, bytes) {
@@ -108,7 +116,8 @@ fn dots_of(alloc: Global, bytes: &[u8]) -> Result<Context, FieldFault>
 // The subscription whose row it is, and its dot.
 fn read_subscription_row(alloc: Global, row: &Row) -> Result<(Dot, Entry), FieldFault>
     requires { row.now.kind ≡ 4 }
-    ensures { Finds (λ x. x) (IsSubscription (entry_of row.now)) result }
+    ensures found { Finds (λ x. x) (IsSubscription (entry_of row.now)) result }
+    ensures no_memory { IsErrOf result FieldFault.NoMemory → IsText row.now.owner.items }
 {
     let client = text_of(alloc, &row.owner)?;
     let dot = dot_of(&row.place)?;
@@ -119,7 +128,8 @@ fn read_subscription_row(alloc: Global, row: &Row) -> Result<(Dot, Entry), Field
 // The topic whose row it is, and what is kept of it.
 fn read_retained_row(alloc: Global, row: &Row) -> Result<(TopicName, Kept), FieldFault>
     requires { row.now.kind ≡ 5 }
-    ensures { Finds (λ x. x) (IsTopic (entry_of row.now)) result }
+    ensures found { Finds (λ x. x) (IsTopic (entry_of row.now)) result }
+    ensures no_memory { IsErrOf result FieldFault.NoMemory → (row.now.place.items ≡ []) × IsText row.now.owner.items }
 {
     if !row.place.is_empty() {
         return Err(FieldFault::Malformed);
@@ -133,7 +143,8 @@ fn read_retained_row(alloc: Global, row: &Row) -> Result<(TopicName, Kept), Fiel
 fn read_context_row(alloc: Global, at: u8, row: &Row) -> Result<Context, FieldFault>
     requires kind { row.now.kind ≡ 6 }
     requires place { row.now.place.items ≡ at ∷ [] }
-    ensures { Finds (λ d. (at, d)) (IsDots (entry_of row.now)) result }
+    ensures found { Finds (λ d. (at, d)) (IsDots (entry_of row.now)) result }
+    ensures no_memory { IsErrOf result FieldFault.NoMemory → (row.now.owner.items ≡ []) × WantsMemory row.now.value.items }
 {
     if !row.owner.is_empty() {
         return Err(FieldFault::Malformed);
@@ -156,6 +167,7 @@ fn take_subscription(
         (map.from_entries standing.old.entries) (map.from_entries standing.new.entries)) }
     ensures bad { IfErr result (λ f. (f ≡ faults.NoMemory)
         ⊎ NoSubscription (entry_of row.now) (map.from_entries standing.old.entries)) }
+    ensures no_memory { IsErrOf result FieldFault.NoMemory → RowWants (entry_of row.now) }
 {
     let (dot, entry) = read_subscription_row(alloc, row)?;
     if standing.insert(dot, entry)?.is_some() {
@@ -171,6 +183,7 @@ fn take_topic(alloc: Global, row: &Row, retained: &mut RetainedMap) -> Result<()
     ensures ok { OnOk result (TakesTopic (entry_of row.now) retained.old retained.new) }
     ensures bad { IfErr result (λ f. (f ≡ faults.NoMemory)
         ⊎ ((x : Topic) → IsTopic (entry_of row.now) x → ⊥)) }
+    ensures no_memory { IsErrOf result FieldFault.NoMemory → RowWants (entry_of row.now) }
 {
     let (topic, kept) = read_retained_row(alloc, row)?;
     retained.put(kept.stamp, content_of(topic, kept.message))?;
@@ -182,6 +195,7 @@ fn take_dots(alloc: Global, row: &Row, parts: &mut Parts) -> Result<(), FieldFau
     requires { row.now.kind ≡ 6 }
     ensures ok { OnOk result (TakesDots (entry_of row.now) (said parts.old) (said parts.new)) }
     ensures bad { IfErr result (λ f. (f ≡ faults.NoMemory) ⊎ NoDots (entry_of row.now)) }
+    ensures no_memory { IsErrOf result FieldFault.NoMemory → RowWants (entry_of row.now) }
 {
     match row.place.as_slice() {
         [1] => match read_context_row(alloc, TAKEN, row) {
@@ -208,6 +222,8 @@ fn take(alloc: Global, row: &Row, parts: &mut Parts) -> Result<(), FieldFault>
         → SaysMore (entry_of row.now) (said parts.old) (said parts.new)) }
     ensures bad { IfErr result (λ f. (f ≡ faults.NoMemory)
         ⊎ Contradicts (entry_of row.now) (said parts.old)) }
+    ensures begun { OnOk result (RowWants (entry_of row.now)) }
+    ensures no_memory { IsErrOf result FieldFault.NoMemory → RowWants (entry_of row.now) }
 {
     match row.kind {
         SUBSCRIPTION => take_subscription(alloc, row, &mut parts.standing),
@@ -222,6 +238,8 @@ fn gather(alloc: Global, rows: &[Row]) -> Result<Parts, FieldFault>
     requires { T (map.is_sorted key_cmp (map_list entry_of rows.now)) }
     ensures ok { IfOk result (λ p. AreSaid (map_list entry_of rows.now) (said p)) }
     ensures bad { IfErr result (λ f. (f ≡ faults.NoMemory) ⊎ AreOfNone rows.now) }
+    ensures begun { OnOk result (0 < length rows.now → FirstWants rows.now) }
+    ensures no_memory { IsErrOf result FieldFault.NoMemory → FirstWants rows.now }
 {
     let mut parts = Parts {
         taken: Context::new(alloc),
@@ -268,6 +286,7 @@ fn store_in(alloc: Global, rows: &[Row]) -> Result<ReplicaStore, FieldFault>
     ensures ok { IfOk result (AreAllRowsOf rows.now) }
     ensures store { IfOk result IsStore }
     ensures bad { IfErr result (λ f. (f ≡ faults.NoMemory) ⊎ AreOfNone rows.now) }
+    ensures no_memory { IsErrOf result FieldFault.NoMemory → 0 < length rows.now → RowsWant rows.now }
 {
     if !are_rising(rows) {
         return Err(FieldFault::Malformed);
@@ -278,13 +297,15 @@ fn store_in(alloc: Global, rows: &[Row]) -> Result<ReplicaStore, FieldFault>
 
 /// The store whose rows these are, in the order of their keys.
 ///
-/// BadRow where no store has just these rows. No rows take no memory.
+/// BadRow where no store has just these rows. No rows take no memory: it is wanted only where rows rise by
+/// their keys, and the client, the topic or a range of the first has been read.
 pub fn from_rows(alloc: Global, rows: &[Row]) -> Result<ReplicaStore, StoreFault>
     ensures ok { IfOk result (AreAllRowsOf rows.now) }
     ensures store { IfOk result IsStore }
     ensures bad { IsErrOf result StoreFault.BadRow → AreOfNone rows.now }
     ensures fault { IfErr result (λ e. (e ≡ StoreFault.NoMemory) ⊎ (e ≡ StoreFault.BadRow)) }
     ensures none { length rows.now ≡ 0 → IsOk result }
+    ensures no_memory { IsErrOf result StoreFault.NoMemory → RowsWant rows.now }
 {
     if rows.is_empty() {
         let none = ReplicaStore::new(alloc);

@@ -15,7 +15,7 @@ pub add_topic-requires-clause-own : goal.add_topic-requires-clause-own
 add_topic-requires-clause-own c = (next_there c.args.store.now c.args.delta.now c.loop-topic.topic-iterator c.next.new.self (c.in-Some.topic.now, c.in-Some.kept.now) c.args.out.now.items c.loop-topic.out.items c.in-Some.ensures.steps c.loop-topic.invariant).1
 
 pub loop-topic-preserved : goal.loop-topic-preserved
-loop-topic-preserved c = one_kept c.args.store.now c.args.delta.now c.loop-topic.topic-iterator c.next.new.self (c.in-Some.topic.now, c.in-Some.kept.now) c.args.out.now.items c.loop-topic.out.items c.add_topic.new.out.items c.in-Some.ensures.steps c.loop-topic.invariant c.in_ok-add_topic.ensures
+loop-topic-preserved c = one_kept c.args.store.now c.args.delta.now c.loop-topic.topic-iterator c.next.new.self (c.in-Some.topic.now, c.in-Some.kept.now) c.args.out.now.items c.loop-topic.out.items c.add_topic.new.out.items c.in-Some.ensures.steps c.loop-topic.invariant c.in_ok-add_topic.ensures.put
 
 pub returns : goal.returns
 returns c = all_kept c.args.store.now c.args.delta.now c.loop-topic.topic-iterator c.args.out.now.items c.loop-topic.out.items c.in-None.ensures.steps.0 c.loop-topic.invariant

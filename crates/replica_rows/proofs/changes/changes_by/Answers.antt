@@ -14,10 +14,10 @@ they_are c =
     let one = subst (λ xs. AddsSubscriptions c.args.store.now c.args.delta.now xs c.add_subscriptions.new.out.items) c.new-out.ensures.items c.in_ok-add_subscriptions.ensures in
     let own = c.taken.ensures in
     let other = c.taken-2.ensures in
-    let four = subst (λ (x : Dots × Dots). AddsContext 1 x.0 x.1 c.add_topics.new.out.items c.add_context.new.out.items) (λ i. (own i, other i)) c.in_ok-add_context.ensures in
+    let four = subst (λ (x : Dots × Dots). AddsContext 1 x.0 x.1 c.add_topics.new.out.items c.add_context.new.out.items) (λ i. (own i, other i)) c.in_ok-add_context.ensures.put in
     let seen = c.seen-seen.ensures ∙ ap seen_of c.subscriptions.ensures in
     let theirs = c.seen.ensures ∙ ap seen_of c.subscriptions-2.ensures in
-    let five = subst (λ (x : Dots × Dots). AddsContext 2 x.0 x.1 c.add_context.new.out.items c.add_context-2.new.out.items) (λ i. (seen i, theirs i)) c.in_ok-add_context-2.ensures in
+    let five = subst (λ (x : Dots × Dots). AddsContext 2 x.0 x.1 c.add_context.new.out.items c.add_context-2.new.out.items) (λ i. (seen i, theirs i)) c.in_ok-add_context-2.ensures.put in
     changes_are c.args.store.now c.args.delta.now c.add_subscriptions.new.out.items c.add_removals.new.out.items c.add_topics.new.out.items c.add_context.new.out.items c.add_context-2.new.out.items one c.in_ok-add_removals.ensures c.in_ok-add_topics.ensures four five
 
 pub returns-clause-changes : goal.returns-clause-changes

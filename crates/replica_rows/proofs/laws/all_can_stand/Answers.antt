@@ -1,4 +1,4 @@
-use Rattle.std.proofs.Common.{subst, sym, ◌∙◌}
+use Rattle.std.proofs.Common.{subst, ◌∙◌}
 use Rattle.std.specs.List.{AllByRecursion}
 use Rattle.mqtt_fields.specs.Numbers.{IsText}
 use Rattle.replica_bytes.specs.Values.{dot}

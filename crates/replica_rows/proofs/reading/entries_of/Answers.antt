@@ -1,4 +1,4 @@
-use Rattle.std.proofs.Common.{◌≡◌, sym, ap, ◌∙◌, append-nil, ◌++◌}
+use Rattle.std.proofs.Common.{sym, ap, ◌∙◌, append-nil, ◌++◌}
 use Rattle.replica_rows.proofs.Told.{in_order}
 use Rattle.replica_rows.proofs.reading.entries_of.Goals as goal
 

@@ -1,5 +1,5 @@
-use Rattle.std.proofs.Common.{map}
-use Rattle.row_store.specs.Rows.{entry_of}
+use Rattle.std.proofs.Common.{rules}
+use Rattle.replica_rows.specs.Memory.{FirstWants, RowsWant}
 use Rattle.replica_rows.specs.ReadingSteps.{said}
 use Rattle.replica_rows.specs.Reading.{IsStore, AreAllRowsOf}
 use Rattle.replica_rows.proofs.Told.{made_by, refused_by, made_rows, made_store}
@@ -13,3 +13,11 @@ returns-clause-store c = made_by c.store_of.result IsStore (said c.in_ok-parts.p
 
 pub returns-clause-bad : goal.returns-clause-bad
 returns-clause-bad c = refused_by c.store_of.result c.args.rows.now (said c.in_ok-parts.parts) c.store_of.ensures.bad c.in_ok-parts.ensures.ok
+
+pub returns-in_err-parts-clause-no_memory : goal.returns-in_err-parts-clause-no_memory
+returns-in_err-parts-clause-no_memory c =
+    let wants : FirstWants c.args.rows.now → RowsWant c.args.rows.now = λ first. record { rise = c.are_rising.ensures.0 c.if-not-are_rising.false; first = first } in
+    search (rules, wants)
+
+pub returns-clause-no_memory : goal.returns-clause-no_memory
+returns-clause-no_memory c = λ _ some. record { rise = c.are_rising.ensures.0 c.if-not-are_rising.false; first = c.in_ok-parts.ensures.begun some }
