@@ -62,6 +62,19 @@ lanes_tell l mid told peer lane before after sound with is tells =
 with_same : (b : BridgeView) (peer : ℕ) → with_lane peer (lane_to b peer) b ≡ b
 with_same b peer = ap (λ (ls : Lanes Forward). record b { lanes = ls }) (set-get_or b.lanes peer new_lane)
 
+-- ---- lanes of which nothing is to be told
+
+pub no_changes : (lanes : Lanes Forward) (changes : List Change) → AreLaneChanges lanes lanes changes → changes ≡ []
+no_changes lanes [] are = refl
+no_changes lanes (change ∷ more) are = absurd (are.each.0.differs refl)
+
+pub nothing_told : (l mid : LinksView) (peer : ℕ) (lane : Messages) → told_of l.lanes ≡ now_of l.lanes → IsWith l peer lane mid → with_lane peer lane (bridge_of l) ≡ bridge_of l → told_of mid.lanes ≡ now_of mid.lanes
+nothing_told l mid peer lane sound with same =
+    let old : told_of mid.lanes ≡ now_of l.lanes = ap (λ (x : LinksView). told_of x.lanes) with ∙ told_with l.lanes peer lane ∙ sound in
+    let new : now_of mid.lanes ≡ now_of l.lanes =
+    ap (λ (x : LinksView). now_of x.lanes) with ∙ now_with l.lanes peer (record (kept_of l peer) { lane = lane }) ∙ ap (λ (b : BridgeView). b.lanes) same in
+    old ∙ sym new
+
 -- ---- what becomes of it
 pub shows_offered : (l : LinksView) (peer : ℕ) (offer : Offer) (m : Forward) → with_lane peer (after_offer offer m (kept_of l peer).lane) (bridge_of l) ≡ offered offer peer m (bridge_of l)
 shows_offered l peer offer m = ap (λ lane. with_lane peer (after_offer offer m lane) (bridge_of l)) (kept_lane l peer) ∙ does offer

@@ -1,11 +1,12 @@
 //! What a node keeps for the other nodes.
-ghost use Rattle.std.specs.Prelude.{◌≡◌, ◌<◌, length, nat_lt, IfOk, OnErr, OnOk, if◌then◌else◌};
+ghost use Rattle.std.specs.Prelude.{◌≡◌, ◌<◌, true, false, None, length, nat_lt, IfOk, IsOk, OnErr, OnOk, if◌then◌else◌};
 ghost use Rattle.std.specs.Option.{option_copied};
-ghost use Rattle.bridge_deltas.specs.Lane.{first_frames};
+ghost use Rattle.causal_context.specs.SetLattice.{IsSubset};
+ghost use Rattle.bridge_deltas.specs.Lane.{first_frames, next_number};
 ghost use Rattle.bridge_deltas.specs.Links.{all_told};
 ghost use Rattle.lane_rows.specs.Changes.{now_of, told_of};
 ghost use Rattle.lane_rows.specs.Reading.{AreLanes};
-ghost use Rattle.node_bridge.specs.View.{IsToShip, LanesTell, believes, gets, is_next, keeps, known_of, lane_to, offer_to, offered, takes};
+ghost use Rattle.node_bridge.specs.View.{IsToShip, LanesTell, belief_of, believes, gets, has_lanes, is_next, keeps, known_of, lane_to, offer_to, offered, takes};
 
 use bridge_deltas::{Links, Offer};
 use bridge_frames::{BridgeFrame, Forward, LaneNumber};
@@ -43,10 +44,12 @@ impl Model for Bridge {
 }
 
 // Appends the changes that lead from the rows of the lanes that were told last to those of the lanes, which count as told then, also
-// where memory is wanting.
+// where memory is wanting. Then nothing is appended. Where all is as it was told no memory is taken.
 fn tell(links: &mut Links, changes: &mut Vec<Change>) -> Result<(), NoMemory>
     ensures told { links.new ≡ all_told links.old }
     ensures tells { OnOk result (LanesTell (told_of links.old.lanes) changes.old.items changes.new.items (now_of links.old.lanes)) }
+    ensures err { OnErr result (changes.new.items ≡ changes.old.items) }
+    ensures nothing { told_of links.old.lanes ≡ now_of links.old.lanes → IsOk result }
 {
     match links.changes() {
         Ok(mut own) => {
@@ -77,10 +80,13 @@ impl Bridge {
         self.links.took(delta)
     }
 
-    /// The peer has taken these dots. Where memory runs out nothing changes.
+    /// The peer has taken these dots. Where memory runs out nothing changes; dots that it is known to have taken take none, nor do
+    /// those of a node that the cluster lacks.
     pub fn believe(&mut self, peer: u16, dots: &Context) -> Result<(), NoMemory>
         ensures ok { OnOk result (self.new ≡ believes peer dots.now self.old) }
         ensures err { OnErr result (self.new ≡ self.old) }
+        ensures known { IsSubset dots.now (belief_of self.old peer) → IsOk result }
+        ensures lacking { has_lanes self.old peer ≡ false → IsOk result }
     {
         if peer >= self.links.nodes() {
             return Ok(());
@@ -88,9 +94,10 @@ impl Bridge {
         self.links.knows(peer, dots)
     }
 
-    /// What to send of the store to the peer, if there is anything that it isn't known to have taken.
+    /// What to send of the store to the peer, if there is anything that it isn't known to have taken: else it takes no memory.
     pub fn to_ship(&self, peer: u16, store: &ReplicaStore) -> Result<Option<ReplicaStore>, NoMemory>
-        ensures { IfOk result (IsToShip peer self.now store.now) }
+        ensures ships { IfOk result (IsToShip peer self.now store.now) }
+        ensures nothing { IsToShip peer self.now store.now None → IsOk result }
     {
         if peer >= self.links.nodes() {
             return Ok(None);
@@ -99,7 +106,7 @@ impl Bridge {
     }
 
     /// Puts a message into the lane to the peer, unless too many wait there or its number can't be had, and appends the changes of
-    /// rows. After want of memory nothing is said of the lanes.
+    /// rows. Only a message that is put in takes memory. After want of it nothing is said of the lanes, and no change is appended.
     pub fn offer(
         &mut self,
         peer: u16,
@@ -109,6 +116,8 @@ impl Bridge {
         ensures answer { IfOk result (λ offer. offer ≡ offer_to peer self.old) }
         ensures after { IfOk result (λ offer. self.new ≡ offered offer peer message self.old) }
         ensures tells { OnOk result (LanesTell self.old.lanes changes.old.items changes.new.items self.new.lanes) }
+        ensures err { OnErr result (changes.new.items ≡ changes.old.items) }
+        ensures memory { OnErr result (offer_to peer self.old ≡ Offer.Queued (next_number (lane_to self.old peer))) }
     {
         if peer >= self.links.nodes() {
             return Ok(Offer::Full);
@@ -158,8 +167,8 @@ impl Bridge {
         self.links.last_taken(peer)
     }
 
-    /// Takes the message of the peer with this number, if it is the next, and appends the changes of rows. After want of memory nothing
-    /// is said of the lanes.
+    /// Takes the message of the peer with this number, if it is the next, and appends the changes of rows. Only the next one takes
+    /// memory. After want of it nothing is said of the lanes, and no change is appended.
     pub fn take(
         &mut self,
         peer: u16,
@@ -169,6 +178,8 @@ impl Bridge {
         ensures next { IfOk result (λ taken. taken ≡ is_next peer number self.old) }
         ensures after { IfOk result (λ taken. self.new ≡ (if taken then takes peer number self.old else self.old)) }
         ensures tells { OnOk result (LanesTell self.old.lanes changes.old.items changes.new.items self.new.lanes) }
+        ensures err { OnErr result (changes.new.items ≡ changes.old.items) }
+        ensures memory { OnErr result (is_next peer number self.old ≡ true) }
     {
         if peer >= self.links.nodes() {
             return Ok(false);
@@ -178,8 +189,8 @@ impl Bridge {
         Ok(taken)
     }
 
-    /// The peer has taken the messages up to the number: these no longer wait. Appends the changes of rows. After want of memory
-    /// nothing is said of the lanes.
+    /// The peer has taken the messages up to the number: these no longer wait. Appends the changes of rows. Where all of these were gone
+    /// it takes no memory. After want of it nothing is said of the lanes, and no change is appended.
     pub fn got(
         &mut self,
         peer: u16,
@@ -188,6 +199,8 @@ impl Bridge {
     ) -> Result<(), NoMemory>
         ensures after { OnOk result (self.new ≡ gets peer number self.old) }
         ensures tells { OnOk result (LanesTell self.old.lanes changes.old.items changes.new.items self.new.lanes) }
+        ensures err { OnErr result (changes.new.items ≡ changes.old.items) }
+        ensures nothing { gets peer number self.old ≡ self.old → IsOk result }
     {
         if peer >= self.links.nodes() {
             return Ok(());

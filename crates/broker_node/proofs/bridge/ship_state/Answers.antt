@@ -8,14 +8,14 @@ use Rattle.broker_node.proofs.bridge.ship_state.Goals as goal
 pub give-requires : goal.give-requires
 give-requires c =
     to_ship_here c.args.peer c.args.work.now.held c.held-held.result.now c.bridge.result.now c.store.result.now c.in_ok-found.found (Some c.in-Some.state) c.held-held.ensures c.bridge.ensures c.store.ensures c.in-Some.is
-    c.in_ok-found.ensures
+    c.in_ok-found.ensures.ships
 
 pub returns-in-None : goal.returns-in-None
 returns-in-None c =
     let w = c.args.work.now in
     let peer = c.args.peer in
     comes_finds (λ x. x) (Ok tt) w w (AreShipped peer) (GivesState peer) None
-    (to_ship_here peer w.held c.held-held.result.now c.bridge.result.now c.store.result.now c.in_ok-found.found None c.held-held.ensures c.bridge.ensures c.store.ensures c.in-None.is c.in_ok-found.ensures)
+    (to_ship_here peer w.held c.held-held.result.now c.bridge.result.now c.store.result.now c.in_ok-found.found None c.held-held.ensures c.bridge.ensures c.store.ensures c.in-None.is c.in_ok-found.ensures.ships)
     (did_nothing w tt)
 
 pub returns-in-Some : goal.returns-in-Some
@@ -24,5 +24,5 @@ returns-in-Some c =
     let peer = c.args.peer in
     let state = c.in-Some.state in
     comes_finds (λ x. x) c.give.result w c.give.new.work (AreShipped peer) (GivesState peer) (Some state)
-    (to_ship_here peer w.held c.held-held.result.now c.bridge.result.now c.store.result.now c.in_ok-found.found (Some state) c.held-held.ensures c.bridge.ensures c.store.ensures c.in-Some.is c.in_ok-found.ensures)
+    (to_ship_here peer w.held c.held-held.result.now c.bridge.result.now c.store.result.now c.in_ok-found.found (Some state) c.held-held.ensures c.bridge.ensures c.store.ensures c.in-Some.is c.in_ok-found.ensures.ships)
     (c.give.ensures (λ h. Delta state) refl)
