@@ -1,5 +1,5 @@
 //! Rows as a database gives them.
-ghost use Rattle.std.specs.Prelude.{◌≡◌, ◌≢◌, ◌↔◌, Err, map, pos, IfOk, IsTrue, MatchOption};
+ghost use Rattle.std.specs.Prelude.{◌≡◌, ◌≢◌, ◌<◌, ◌↔◌, Err, length, map, pos, IfOk, IsTrue, MatchOption, OnErr};
 ghost use Rattle.std.specs.List.{All};
 ghost use Rattle.std.specs.declared.cmp.Ordering.TheVariants.{Less};
 ghost use Rattle.sqlite_value.specs.declared.value.Value.TheVariants.{Int, Blob};
@@ -61,6 +61,7 @@ fn row_of(
 fn read_row(alloc: Global, row: &Found) -> Result<Row, RowFault>
     ensures read { IfOk result (λ r. entry_of r ≡ entry_shown row.now) }
     ensures formed { IsShown row.now → result ≢ Err RowFault.BadRow }
+    ensures unformed { (IsShown row.now → ⊥) → result ≡ Err RowFault.BadRow }
     ensures never { result ≢ Err RowFault.Device }
 {
     let columns = (
@@ -77,10 +78,11 @@ fn read_row(alloc: Global, row: &Found) -> Result<Row, RowFault>
     }
 }
 
-/// The rows that a query without rowids shows.
+/// The rows that a query without rowids shows. Of none it takes no memory.
 pub fn read_rows(alloc: Global, found: &[Found]) -> Result<Vec<Row>, RowFault>
     ensures read { IfOk result (λ rows. map entry_of rows.items ≡ map entry_shown found.now) }
     ensures formed { All IsShown found.now → result ≢ Err RowFault.BadRow }
+    ensures some { OnErr result (0 < length found.now) }
     ensures never { result ≢ Err RowFault.Device }
 {
     let mut rows = Vec::new(alloc);
