@@ -2,9 +2,10 @@
 #![tactic(auto)]
 
 ghost use Rattle.std.proofs.Common.{ap, ◌∙◌};
-ghost use Rattle.std.specs.Prelude.{IfOk};
-ghost use Rattle.session_records.specs.Connections.{Adopts};
+ghost use Rattle.std.specs.Prelude.{◌≡◌, Err, IfOk};
+ghost use Rattle.session_records.specs.Connections.{Adopts, IsForeign};
 ghost use Rattle.session_records.specs.Stored.{content_in};
+ghost use Rattle.node_database.specs.Copied.{IsNeverDirty};
 ghost use Rattle.node_database.specs.Files.{AreRowsIn};
 ghost use Rattle.sqlite.specs.Held.{state};
 ghost use Rattle.sqlite.specs.State.{HasCleanDisk};
@@ -68,6 +69,8 @@ pub(crate) fn adopt<S: Alter + Drop>(conn: Connection<S>) -> Result<SqlRows<S>, 
     ensures open { IfOk result (λ rows. ⟦<SqlRows<S> as RowStore>⟧.is_clean rows → ⟦<SqlRows<S> as RowStore>⟧.is_open rows) }
     ensures was_clean { IfOk result (λ rows. ⟦<SqlRows<S> as RowStore>⟧.is_clean rows → HasCleanDisk (state S.Store conn)) }
     ensures adopts { IfOk result (λ rows. ⟦<SqlRows<S> as RowStore>⟧.is_clean rows → Adopts (state S.Store conn) (state S.Store rows.0)) }
+    // Of a store whose disk always returns what was written.
+    ensures foreign { IsNeverDirty S.Store → result ≡ Err RowFault.BadRow → IsForeign (state S.Store conn).now }
 {
     if !conn.is_autocommit() {
         return Err(RowFault::Device);
