@@ -13,7 +13,7 @@ use Rattle.mqtt_message.specs.Spelling.{flag, listed}
 use Rattle.mqtt_message.specs.Spellings.{message}
 use Rattle.mqtt_message.proofs.SpellingLaws.{flag_is, listed_is}
 use Rattle.mqtt_message.proofs.WholeLaws.{message_is}
-use Rattle.replica_bytes.specs.Filters.{is_filter}
+use Rattle.mqtt_topics.specs.Testing.{is_filter}
 use Rattle.replica_bytes.specs.Memory.{HasText}
 use Rattle.replica_bytes.specs.Values.{filter}
 use Rattle.bridge_frames.specs.declared.pick.Pick.{Pick}

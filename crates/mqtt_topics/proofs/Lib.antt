@@ -1,3 +1,4 @@
 pub mod LevelLaws
 pub mod VerdictLaws
+pub mod Testing
 pub mod ShareLaws

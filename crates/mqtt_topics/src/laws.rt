@@ -1,6 +1,6 @@
 //! Laws of topic names and filters.
 
-ghost use Rattle.mqtt_topics.specs.Laws.{FiltersOrFaults, NamesOrFaults, SharedMatchesAlike};
+ghost use Rattle.mqtt_topics.specs.Laws.{FiltersAreTested, FiltersOrFaults, NamesOrFaults, SharedMatchesAlike};
 
 /// Each text is a topic name or has exactly one fault.
 pub fn names_or_faults()
@@ -10,6 +10,11 @@ pub fn names_or_faults()
 /// Each text is a topic filter or has exactly one fault.
 pub fn filters_or_faults()
     ensures { FiltersOrFaults }
+{}
+
+/// The test of texts in `specs/Testing.antt` passes exactly the topic filters.
+pub fn filters_are_tested()
+    ensures { FiltersAreTested }
 {}
 
 /// A shared filter matches what its filter matches.

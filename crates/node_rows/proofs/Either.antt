@@ -6,7 +6,7 @@ use Rattle.row_store.specs.declared.store.RowFault.{RowFault}
 use Rattle.row_store.specs.declared.store.RowFault.TheVariants.{NoMemory, Device, BadRow}
 use Rattle.row_store.specs.Rows.{entry_of, key_cmp}
 use Rattle.node_rows.specs.declared.reading.Opened.{Opened}
-use Rattle.node_rows.specs.Reading.{Finds, IsLasting, IsOpened, Say, SayNothing, SayNothingNow, SayNow}
+use Rattle.node_rows.specs.Reading.{Recovers, IsLasting, IsOpened, Say, SayNothing, SayNothingNow, SayNow}
 use Rattle.node_rows.specs.Rows.{Lasting}
 use Rattle.node_rows.specs.Versions.{AreFirst, raised_all}
 use Rattle.node_rows.proofs.OneNode.{no_first, two_marks}
@@ -14,8 +14,8 @@ use Rattle.node_rows.proofs.Raising.{raised_up}
 
 -- rows that aren't of version 1 say what they say in version 2
 pub second_found : (rows : List Row) (id nodes : ℕ) (r : Result Opened RowFault) → (AreFirst (map_list entry_of rows) → ⊥)
-    → Finds (λ (o : Opened). (x : Lasting) × IsLasting id nodes x × SayNow rows id x × IsOpened id nodes x o) (SayNothingNow rows id nodes) r
-    → Finds (λ (o : Opened). (x : Lasting) × IsLasting id nodes x × Say rows id x × IsOpened id nodes x o) (SayNothing rows id nodes) r
+    → Recovers (λ (o : Opened). (x : Lasting) × IsLasting id nodes x × SayNow rows id x × IsOpened id nodes x o) (SayNothingNow rows id nodes) r
+    → Recovers (λ (o : Opened). (x : Lasting) × IsLasting id nodes x × Say rows id x × IsOpened id nodes x o) (SayNothing rows id nodes) r
 second_found rows id nodes (Ok o) not found = (found.0, found.1, inl found.2, found.3)
 second_found rows id nodes (Err NoMemory) not found = tt
 second_found rows id nodes (Err BadRow) not found = none
@@ -48,8 +48,8 @@ module _ (rows made : List Row) (id : ℕ) (are : map_list entry_of made ≡ rai
   })
 
 pub raised_found : (rows made : List Row) (id nodes : ℕ) (r : Result Opened RowFault) → map_list entry_of made ≡ raised_all (map_list entry_of rows) → T (map.is_sorted key_cmp (map_list entry_of rows)) → AreFirst (map_list entry_of rows)
-    → Finds (λ (o : Opened). (x : Lasting) × IsLasting id nodes x × SayNow made id x × IsOpened id nodes x o) (SayNothingNow made id nodes) r
-    → Finds (λ (o : Opened). (x : Lasting) × IsLasting id nodes x × Say rows id x × IsOpened id nodes x o) (SayNothing rows id nodes) r
+    → Recovers (λ (o : Opened). (x : Lasting) × IsLasting id nodes x × SayNow made id x × IsOpened id nodes x o) (SayNothingNow made id nodes) r
+    → Recovers (λ (o : Opened). (x : Lasting) × IsLasting id nodes x × Say rows id x × IsOpened id nodes x o) (SayNothing rows id nodes) r
 raised_found rows made id nodes (Ok o) are up first found = (found.0, found.1, says rows made id are up first found.0 found.2, found.3)
 raised_found rows made id nodes (Err NoMemory) are up first found = tt
 raised_found rows made id nodes (Err BadRow) are up first found = λ x lasting say. found x lasting (said rows made id are up first x say)

@@ -26,7 +26,7 @@ use Rattle.session_table.specs.Seats.{Seats}
 use Rattle.replica_rows.specs.Reading.{AreAllRowsOf, IsStore}
 use Rattle.replica_rows.proofs.OneStore.{one_reading}
 use Rattle.node_rows.specs.declared.reading.Opened.{Opened}
-use Rattle.node_rows.specs.Reading.{AreAmong, AreLinksToOthers, AreNodeRows, AreOpened, Finds, IsAmong, IsCut, IsLasting, IsMark, IsOpened, IsStateOf, NoLanesToOthers, NoMark, NoState, SayNothing, SayNothingNow, SayNow}
+use Rattle.node_rows.specs.Reading.{AreAmong, AreLinksToOthers, AreNodeRows, AreOpened, Recovers, IsAmong, IsCut, IsLasting, IsMark, IsOpened, IsStateOf, NoLanesToOthers, NoMark, NoState, SayNothing, SayNothingNow, SayNow}
 use Rattle.node_rows.specs.Rows.{Lasting, new_node, node_row}
 use Rattle.node_rows.specs.Sessions.{AreRead, AreSessions, NoSessions, session_at}
 use Rattle.node_rows.proofs.Clients.{session_is}
@@ -57,8 +57,8 @@ pub new_said : (nodes : ℕ) → new_node nodes ≡ new_node (length (new_node n
 new_said nodes = ap new_node (sym (length-replicate nodes new_lane))
 
 -- what a function opens that isn't given rows
-pub new_found : (rows : List Row) (id nodes : ℕ) (r : Result Opened RowFault) → rows ≡ [] → nodes ≤ 2 ^ 16 → IsStore nothing → Finds (IsOpened id nodes (new_node nodes)) ⊥ r
-    → Finds (λ (o : Opened). (x : Lasting) × IsLasting id nodes x × SayNow rows id x × IsOpened id nodes x o) (SayNothingNow rows id nodes) r
+pub new_found : (rows : List Row) (id nodes : ℕ) (r : Result Opened RowFault) → rows ≡ [] → nodes ≤ 2 ^ 16 → IsStore nothing → Recovers (IsOpened id nodes (new_node nodes)) ⊥ r
+    → Recovers (λ (o : Opened). (x : Lasting) × IsLasting id nodes x × SayNow rows id x × IsOpened id nodes x o) (SayNothingNow rows id nodes) r
 new_found rows id nodes (Ok o) none few store is = (new_node nodes, new_lasting id nodes few store, inl (none, new_said nodes), is)
 new_found rows id nodes (Err NoMemory) none few store is = tt
 new_found rows id nodes (Err BadRow) none few store is = absurd is

@@ -9,14 +9,14 @@ use Rattle.mqtt_sessions.specs.Saved.{Saved, reopened, state_of}
 use Rattle.session_table.specs.Rows.{IsAllTold}
 use Rattle.session_table.specs.Seats.{Seats}
 use Rattle.session_table.proofs.RowLaws.{opened-told}
-use Rattle.node_rows.specs.Reading.{Finds, Tells}
+use Rattle.node_rows.specs.Reading.{Recovers, Tells}
 use Rattle.node_rows.specs.Sessions.{AreRead, IsReopened, NoSession, NoSessions, opened_seat}
 use Rattle.node_rows.proofs.Counted.{IsNextRow, none_left}
 use Rattle.node_rows.proofs.Walked.{IsWalked, walk_begins, walk_ends, walk_leaves, walk_on, walk_stops}
 
 -- ---- a fault that is handed on
-pub handed : {X : Type 0} (Is : X → Type 0) (Bad Wrong : Type 0) (r : Result X RowFault) (e f : RowFault) → r ≡ Err f → f ≡ e → (Wrong → Bad) → Tells Wrong e → Finds Is Bad r
-handed Is Bad Wrong r e f is same turn told = subst (Finds Is Bad) (sym (is ∙ ap Err same)) (by e told)
+pub handed : {X : Type 0} (Is : X → Type 0) (Bad Wrong : Type 0) (r : Result X RowFault) (e f : RowFault) → r ≡ Err f → f ≡ e → (Wrong → Bad) → Tells Wrong e → Recovers Is Bad r
+handed Is Bad Wrong r e f is same turn told = subst (Recovers Is Bad) (sym (is ∙ ap Err same)) (by e told)
   where
     by : (e : RowFault) → Tells Wrong e → Tells Bad e
     by NoMemory h = tt

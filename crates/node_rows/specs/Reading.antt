@@ -91,9 +91,9 @@ Tells Bad NoMemory = Unit {0}
 Tells Bad Device = ⊥
 
 -- what a function found is such a value
-abbrev pub Finds : {X : Type 0} → (X → Type 0) → Type 0 → Result X RowFault → Type 0
-Finds Is Bad (Ok x) = Is x
-Finds Is Bad (Err e) = Tells Bad e
+abbrev pub Recovers : {X : Type 0} → (X → Type 0) → Type 0 → Result X RowFault → Type 0
+Recovers Is Bad (Ok x) = Is x
+Recovers Is Bad (Err e) = Tells Bad e
 
 -- rows behind a mark, cut by kind: the sessions' own, those of their copies, those of the state and those of the lanes
 pub record IsCut (rows own copies state lanes : List Plain) : Type 0 where

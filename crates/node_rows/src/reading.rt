@@ -6,7 +6,7 @@ ghost use Rattle.row_store.specs.Rows.{entry_of, key_cmp};
 ghost use Rattle.replica_store.specs.States.{nothing};
 ghost use Rattle.replica_rows.specs.Reading.{IsStore};
 ghost use Rattle.node_rows.specs.Rows.{Lasting, new_node};
-ghost use Rattle.node_rows.specs.Reading.{AreLinksOf, AreLinksToOthers, Finds, IsLasting, IsOpened, IsStateOf, NoLanes, NoLanesToOthers, NoState, Say, SayNothing, SayNothingNow, SayNow};
+ghost use Rattle.node_rows.specs.Reading.{AreLinksOf, AreLinksToOthers, Recovers, IsLasting, IsOpened, IsStateOf, NoLanes, NoLanesToOthers, NoState, Say, SayNothing, SayNothingNow, SayNow};
 
 use crate::among::is_among;
 use crate::cut::cut;
@@ -32,7 +32,7 @@ pub struct Opened {
 
 // The replicated state whose rows these are.
 fn read_state(alloc: Global, rows: &[Row], nodes: u16) -> Result<ReplicaStore, RowFault>
-    ensures { Finds (IsStateOf rows.now nodes) (NoState rows.now nodes) result }
+    ensures { Recovers (IsStateOf rows.now nodes) (NoState rows.now nodes) result }
 {
     match replica_rows::from_rows(alloc, rows) {
         Ok(store) => {
@@ -49,14 +49,14 @@ fn read_state(alloc: Global, rows: &[Row], nodes: u16) -> Result<ReplicaStore, R
 
 // What the node keeps of the lanes whose rows these are.
 fn links_of(alloc: Global, rows: &[Row], id: u16, nodes: u16) -> Result<Links, RowFault>
-    ensures { Finds (AreLinksOf (map_list entry_of rows.now) id nodes) (NoLanes (map_list entry_of rows.now) nodes) result }
+    ensures { Recovers (AreLinksOf (map_list entry_of rows.now) id nodes) (NoLanes (map_list entry_of rows.now) nodes) result }
 {
     Links::from_rows(alloc, id, nodes, rows)
 }
 
 // The same where none is a lane to the node itself.
 fn read_links(alloc: Global, rows: &[Row], id: u16, nodes: u16) -> Result<Links, RowFault>
-    ensures { Finds (AreLinksToOthers (map_list entry_of rows.now) id nodes)
+    ensures { Recovers (AreLinksToOthers (map_list entry_of rows.now) id nodes)
         (NoLanesToOthers (map_list entry_of rows.now) id nodes) result }
 {
     let links = links_of(alloc, rows, id, nodes)?;
@@ -69,7 +69,7 @@ fn read_links(alloc: Global, rows: &[Row], id: u16, nodes: u16) -> Result<Links,
 
 // A node that has done nothing yet.
 fn opened_new(alloc: Global, id: u16, nodes: u16) -> Result<Opened, RowFault>
-    ensures opened { Finds (IsOpened id nodes (new_node nodes)) ⊥ result }
+    ensures opened { Recovers (IsOpened id nodes (new_node nodes)) ⊥ result }
     ensures store { IsStore nothing }
 {
     let store = ReplicaStore::new(alloc);
@@ -88,7 +88,7 @@ fn opened_new(alloc: Global, id: u16, nodes: u16) -> Result<Opened, RowFault>
 // Reads rows of version 2 that rise, cut by their kinds.
 fn read(alloc: Global, rows: &[Row], id: u16, nodes: u16) -> Result<Opened, RowFault>
     requires { T (map.is_sorted key_cmp (map_list entry_of rows.now)) }
-    ensures { Finds (λ o. (x : Lasting) × IsLasting id nodes x × SayNow rows.now id x × IsOpened id nodes x o) (SayNothingNow rows.now id nodes) result }
+    ensures { Recovers (λ o. (x : Lasting) × IsLasting id nodes x × SayNow rows.now id x × IsOpened id nodes x o) (SayNothingNow rows.now id nodes) result }
 {
     let [first, others @ ..] = rows else {
         return opened_new(alloc, id, nodes);
@@ -111,7 +111,7 @@ fn read(alloc: Global, rows: &[Row], id: u16, nodes: u16) -> Result<Opened, RowF
 // Reads rows of version 1 or 2 that rise.
 fn read_either(alloc: Global, rows: &[Row], id: u16, nodes: u16) -> Result<Opened, RowFault>
     requires { T (map.is_sorted key_cmp (map_list entry_of rows.now)) }
-    ensures { Finds (λ o. (x : Lasting) × IsLasting id nodes x × Say rows.now id x × IsOpened id nodes x o) (SayNothing rows.now id nodes) result }
+    ensures { Recovers (λ o. (x : Lasting) × IsLasting id nodes x × Say rows.now id x × IsOpened id nodes x o) (SayNothing rows.now id nodes) result }
 {
     if !are_first(rows) {
         return read(alloc, rows, id, nodes);

@@ -3,7 +3,7 @@ ghost use Rattle.std.specs.Prelude.{◌≡◌, ◌≤◌, ◌∷◌, T, length, 
 ghost use Rattle.std.specs.FinMap as map;
 ghost use Rattle.std.specs.List.{AllByRecursion};
 ghost use Rattle.row_store.specs.Rows.{entry_of, key_cmp};
-ghost use Rattle.node_rows.specs.Reading.{Finds};
+ghost use Rattle.node_rows.specs.Reading.{Recovers};
 ghost use Rattle.node_rows.specs.Sessions.{AreRead, IsOf, IsReopened, NoSession, NoSessions, StartsApart};
 
 use mqtt_fields::{NoMemory, Text};
@@ -53,7 +53,7 @@ fn rows_of(alloc: Global, own: &Row, copies: &[Row]) -> Result<Vec<Row>, NoMemor
 
 // The client and the session of which these are the rows.
 fn read_one(alloc: Global, own: &Row, copies: &[Row]) -> Result<(Text, Session), RowFault>
-    ensures { Finds (λ x. IsReopened (entry_of own.now ∷ map_list entry_of copies.now) x.0 x.1)
+    ensures { Recovers (λ x. IsReopened (entry_of own.now ∷ map_list entry_of copies.now) x.0 x.1)
         (NoSession (entry_of own.now ∷ map_list entry_of copies.now)) result }
 {
     let Ok(rows) = rows_of(alloc, own, copies) else {
@@ -74,7 +74,7 @@ pub(crate) fn read_sessions(
     copies: &[Row],
 ) -> Result<Sessions, RowFault>
     requires { T (map.is_sorted key_cmp (map_list entry_of own.now)) }
-    ensures { Finds (AreRead (map_list entry_of own.now) (map_list entry_of copies.now))
+    ensures { Recovers (AreRead (map_list entry_of own.now) (map_list entry_of copies.now))
         (NoSessions (map_list entry_of own.now) (map_list entry_of copies.now)) result }
 {
     let mut sessions = Sessions::new(alloc);

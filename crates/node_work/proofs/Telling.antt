@@ -9,8 +9,7 @@ use Rattle.std.specs.List.{AllByRecursion}
 use Rattle.std.specs.Ordering.{eq_by_cmp, is_eq}
 use Rattle.mqtt_sessions.specs.Saved.{durable_of}
 use Rattle.replica_store.specs.States.{State}
-use Rattle.row_changes.specs.Leading.{AllDiffer, IsNamed, Rows, Lead, LeadWithin, Begin, OthersDiffer, first_by, left_by, left_by_one, left_or, or_else, key_in}
-use Rattle.row_changes.specs.Leading as leading
+use Rattle.row_changes.specs.Leading.{AllDiffer, IsNamed, Rows, Lead, LeadWithin, Begin, OthersDiffer, first_by, left_by, left_by_one, left_or, or_else, key_in, value_in}
 use Rattle.row_changes.proofs.Leaving.{begin_on, lead_on, named_either}
 use Rattle.row_store.specs.declared.row.Row.{Row}
 use Rattle.row_store.specs.declared.row.Change.{Change}
@@ -274,22 +273,18 @@ name_tells id h h' row before after named value is sessions store lanes other = 
     ]
 
 -- ---- the replicated state
-same-key : (c : Change) → leading.key_in c ≡ key_in c
-same-key (Put row) = refl
-same-key (Remove kind owner place) = refl
-
 -- a right change leaves what the state has there
-right-left : (t : State) (c : Change) → IsRight t c → Some (leading.value_in c) ≡ Some (row_at t (leading.key_in c))
+right-left : (t : State) (c : Change) → IsRight t c → Some (value_in c) ≡ Some (row_at t (key_in c))
 right-left t (Put row) r = ap (λ v. Some v) (sym r)
 right-left t (Remove kind owner place) r = ap (λ v. Some v) (sym r)
 
-here-left : (t : State) (c : Change) (key : Key) → IsRight t c → eq_by_cmp key_cmp key (leading.key_in c) ≡ true → left_by_one c key ≡ Some (row_at t key)
+here-left : (t : State) (c : Change) (key : Key) → IsRight t c → eq_by_cmp key_cmp key (key_in c) ≡ true → left_by_one c key ≡ Some (row_at t key)
 here-left t c key r e =
-    let same : key ≡ leading.key_in c = exact_keys key (leading.key_in c) (equal_is (key_cmp key (leading.key_in c)) e) in
-    ap (λ b. cond b (Some (leading.value_in c)) None) e ∙ right-left t c r ∙ ap (λ k. Some (row_at t k)) (sym same)
+    let same : key ≡ key_in c = exact_keys key (key_in c) (equal_is (key_cmp key (key_in c)) e) in
+    ap (λ b. cond b (Some (value_in c)) None) e ∙ right-left t c r ∙ ap (λ k. Some (row_at t k)) (sym same)
 
-away-left : (c : Change) (key : Key) → eq_by_cmp key_cmp key (leading.key_in c) ≡ false → left_by_one c key ≡ None
-away-left c key e = ap (λ b. cond b (Some (leading.value_in c)) None) e
+away-left : (c : Change) (key : Key) → eq_by_cmp key_cmp key (key_in c) ≡ false → left_by_one c key ≡ None
+away-left c key e = ap (λ b. cond b (Some (value_in c)) None) e
 
 -- what right changes leave is what the state has
 abbrev pub Leaves : State → Option (Option (List ℕ)) → Key → Type 0
@@ -301,7 +296,7 @@ else-leaves t key last first (inr some) f = inr (ap (λ l. or_else l first) some
 
 all-leave : (s t : State) (cs : List Change) (key : Key) → AllByRecursion (IsNeeded s t) cs → Leaves t (left_by cs key) key
 all-leave s t [] key h = inl refl
-all-leave s t (c ∷ cs) key h = else-leaves t key (left_by cs key) (left_by_one c key) (all-leave s t cs key h.1) (elim (cases_Bool (eq_by_cmp key_cmp key (leading.key_in c))) [
+all-leave s t (c ∷ cs) key h = else-leaves t key (left_by cs key) (left_by_one c key) (all-leave s t cs key h.1) (elim (cases_Bool (eq_by_cmp key_cmp key (key_in c))) [
   | inl e ↦ inr (here-left t c key h.0.right e)
   | inr e ↦ inl (away-left c key e)
 ])
@@ -333,8 +328,8 @@ no-row s key e = by (key.0 == 4) (key.0 == 5) (key.0 == 6) refl refl refl
 none-outside : (s t : State) (cs : List Change) (key : Key) → AllByRecursion (IsNeeded s t) cs → is_store_kind key.0 ≡ false → left_by cs key ≡ None
 none-outside s t [] key h e = refl
 none-outside s t (c ∷ cs) key h e =
-    ap (λ l. or_else l (left_by_one c key)) (none-outside s t cs key h.1 e) ∙ elim (cases_Bool (eq_by_cmp key_cmp key (leading.key_in c))) [
-      | inl same ↦ (let k : key ≡ key_in c = exact_keys key (leading.key_in c) (equal_is (key_cmp key (leading.key_in c)) same) ∙ same-key c in
+    ap (λ l. or_else l (left_by_one c key)) (none-outside s t cs key h.1 e) ∙ elim (cases_Bool (eq_by_cmp key_cmp key (key_in c))) [
+      | inl same ↦ (let k : key ≡ key_in c = exact_keys key (key_in c) (equal_is (key_cmp key (key_in c)) same) in
           absurd (h.0.differs (subst (λ (q : Key). row_at s q ≡ row_at t q) k (no-row s key e ∙ sym (no-row t key e)))))
       | inr other ↦ away-left c key other
     ]
@@ -357,8 +352,8 @@ lane-apart n e = by_lane is_store_kind n false refl refl e
 unnamed-where : (s t : State) (cs : List Change) (key : Key) → AllByRecursion (IsNeeded s t) cs → row_at t key ≡ row_at s key → left_by cs key ≡ None
 unnamed-where s t [] key h same = refl
 unnamed-where s t (c ∷ cs) key h same =
-    ap (λ l. or_else l (left_by_one c key)) (unnamed-where s t cs key h.1 same) ∙ elim (cases_Bool (eq_by_cmp key_cmp key (leading.key_in c))) [
-      | inl is ↦ (let k : key ≡ key_in c = exact_keys key (leading.key_in c) (equal_is (key_cmp key (leading.key_in c)) is) ∙ same-key c in
+    ap (λ l. or_else l (left_by_one c key)) (unnamed-where s t cs key h.1 same) ∙ elim (cases_Bool (eq_by_cmp key_cmp key (key_in c))) [
+      | inl is ↦ (let k : key ≡ key_in c = exact_keys key (key_in c) (equal_is (key_cmp key (key_in c)) is) in
           absurd (h.0.differs (subst (λ (q : Key). row_at s q ≡ row_at t q) k (sym same))))
       | inr other ↦ away-left c key other
     ]

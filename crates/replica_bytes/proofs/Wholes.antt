@@ -25,7 +25,7 @@ use Rattle.subscription_set.proofs.Standings.{find-standing, rises-standing, sta
 use Rattle.replica_store.specs.Retained.{Retained, topic_cmp}
 use Rattle.replica_store.specs.States.{State}
 use Rattle.subscription_set.specs.Merging.{IsSet}
-use Rattle.replica_bytes.specs.Filters.{is_filter}
+use Rattle.mqtt_topics.specs.Testing.{is_filter}
 use Rattle.replica_bytes.specs.Spelling.{listed_by}
 use Rattle.replica_bytes.specs.Values.{is_number, dot, filter, asked, subscription_in, entry_in, subscription, entry, has_topic, stamp, kept_in, kept, topic_entry, dot_entry}
 use Rattle.replica_bytes.specs.Stores.{is_set, entries, subscriptions, retained, state}

@@ -1,16 +1,12 @@
 -- What holds of all states and their bytes.
 use Rattle.std.specs.Prelude.{◌≡◌, ℕ, List}
-use Rattle.std.specs.Bool.{Decides}
 use Rattle.std.specs.Cmp.Lexicographic.{slice_cmp}
 use Rattle.std.specs.Ordering.{nat_cmp}
 use Rattle.mqtt_fields.specs.Field.{IsField}
-use Rattle.mqtt_fields.specs.Numbers.{IsText}
 use Rattle.mqtt_message.specs.Spelling.{optional}
 use Rattle.mqtt_message.specs.Spellings.{message}
-use Rattle.mqtt_topics.specs.Topics.{IsFilter}
 use Rattle.replica_store.specs.declared.kept.Kept.{Kept}
 use Rattle.replica_store.specs.Retained.{kept_cmp}
-use Rattle.replica_bytes.specs.Filters.{is_filter}
 use Rattle.replica_bytes.specs.Stores.{state}
 use Rattle.replica_bytes.specs.Values.{kept}
 
@@ -22,7 +18,3 @@ ReadAsSpelled = IsField state
 abbrev pub EqualStampsGoByBytes : Type 0
 EqualStampsGoByBytes = (topic : List ℕ) (x y : Kept) → (kept topic).Fits x → (kept topic).Fits y → x.stamp ≡ y.stamp
     → kept_cmp x y ≡ slice_cmp nat_cmp ((optional message).bytes x.message) ((optional message).bytes y.message)
-
--- the test of a subscription's filter passes exactly the texts that are topic filters (MQTT 5.0, 4.7.1 and 4.8.2)
-abbrev pub FiltersAreTested : Type 0
-FiltersAreTested = (text : List ℕ) → IsText text → Decides (is_filter text) (IsFilter text)

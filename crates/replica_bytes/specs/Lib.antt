@@ -1,4 +1,3 @@
-pub mod Filters
 pub mod Spelling
 pub mod Values
 pub mod Stores

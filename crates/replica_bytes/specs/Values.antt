@@ -15,7 +15,7 @@ use Rattle.subscription_set.specs.declared.entry.Entry.{Entry}
 use Rattle.subscription_set.specs.Entries.{can_be_asked}
 use Rattle.replica_store.specs.declared.kept.Kept.{Kept}
 use Rattle.replica_store.specs.Stamps.{Stamp}
-use Rattle.replica_bytes.specs.Filters.{is_filter}
+use Rattle.mqtt_topics.specs.Testing.{is_filter}
 
 -- a number that dots have, and counts of stamps
 abbrev pub is_number : ℕ → Bool

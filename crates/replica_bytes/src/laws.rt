@@ -1,5 +1,5 @@
 //! Laws of the bytes of states. Each function does nothing: its contract is the law.
-ghost use Rattle.replica_bytes.specs.Laws.{EqualStampsGoByBytes, FiltersAreTested, ReadAsSpelled};
+ghost use Rattle.replica_bytes.specs.Laws.{EqualStampsGoByBytes, ReadAsSpelled};
 
 /// What is read is spelled so and has a spelling, and what is spelled so is read again, whatever
 /// follows. So a state has one spelling.
@@ -10,9 +10,4 @@ pub fn read_as_spelled()
 /// What is kept of a topic under one stamp is ordered by its bytes, from the flag on.
 pub fn equal_stamps_go_by_bytes()
     ensures { EqualStampsGoByBytes }
-{}
-
-/// The test that the filter of a subscription is read by passes exactly the topic filters.
-pub fn filters_are_tested()
-    ensures { FiltersAreTested }
 {}

@@ -22,7 +22,7 @@ use Rattle.row_store.specs.declared.row.Row.{Row}
 use Rattle.row_store.specs.Rows.{Key, key_cmp, after_all}
 use Rattle.replica_bytes.specs.Values.{dot}
 use Rattle.replica_rows.specs.Rows.{AreRowsOf, spelled, subscription_of, subscription_at, kept_of, retained_at, context_at, dots_value, row_at}
-use Rattle.replica_rows.specs.Changes.{AreChanges, Lead}
+use Rattle.replica_rows.specs.Changes.{AreChanges, LeadBetween}
 use Rattle.replica_rows.specs.Reading.{AreAllRowsOf}
 
 no_seen : seen_of nothing.subscriptions ≡ set.empty
@@ -76,8 +76,8 @@ none_join m = map.same_map dot_cmp_total dot_cmp_antisym _ _ (λ q. get-merge do
 pub joined_nothing : (s : State) → state_join nothing s ≡ s
 joined_nothing s = (let taken = none_union s.taken in let subs = none_join s.subscriptions in let kept = empty-join s.retained in λ i. record { taken = taken i; subscriptions = subs i; retained = kept i })
 
-pub puts_lead : (none s : State) (r : Result (Vec Change Global) NoMemory) → none ≡ nothing → IfOk r (λ out. Lead none (state_join none s) out.items) → IfOk r (λ out. AreRowsOf (after_all map.empty out.items) s)
-puts_lead none s (Ok out) is lead = subst (AreRowsOf (after_all map.empty out.items)) (joined_nothing s) (subst (λ u. Lead u (state_join u s) out.items) is lead map.empty no_rows)
+pub puts_lead : (none s : State) (r : Result (Vec Change Global) NoMemory) → none ≡ nothing → IfOk r (λ out. LeadBetween none (state_join none s) out.items) → IfOk r (λ out. AreRowsOf (after_all map.empty out.items) s)
+puts_lead none s (Ok out) is lead = subst (AreRowsOf (after_all map.empty out.items)) (joined_nothing s) (subst (λ u. LeadBetween u (state_join u s) out.items) is lead map.empty no_rows)
 puts_lead none s (Err e) is lead = tt
 
 -- ---- what is below the state of no operation, and what brings nothing

@@ -13,7 +13,7 @@ use Rattle.replica_store.specs.States.{State}
 use Rattle.replica_rows.specs.Rows.{row_at}
 use Rattle.replica_rows.specs.Steps.{Adds}
 use Rattle.row_changes.specs.Leading.{key_in}
-use Rattle.replica_rows.specs.Changes.{names, IsRight, IsNeeded, AreChanges, Lead}
+use Rattle.replica_rows.specs.Changes.{names, IsRight, IsNeeded, AreChanges, LeadBetween}
 
 by_bool : (b : Bool) {P : Type 0} → (b ≡ true → P) → (b ≡ false → P) → P
 by_bool true f g = f refl
@@ -91,5 +91,5 @@ reach s t (change ∷ more) c all there key = reach s t more (after c change) al
           ]
         ])
 
-pub changes_lead : (s t : State) (changes : List Change) → AreChanges s t changes → Lead s t changes
+pub changes_lead : (s t : State) (changes : List Change) → AreChanges s t changes → LeadBetween s t changes
 changes_lead s t changes are c rows = reach s t changes c are.needed (λ key. elim (are.complete key) [ inl same ↦ inl (rows key ∙ same) | inr named ↦ inr named ])

@@ -29,5 +29,5 @@ pub record AreChanges (s t : State) (changes : List Change) : Type 0 where
   pub complete : (key : Key) → (row_at s key ≡ row_at t key) ⊎ (names key changes ≡ true)
 
 -- they lead from the rows of s to those of t
-abbrev pub Lead : State → State → List Change → Type 0
-Lead s t changes = (c : Content) → AreRowsOf c s → AreRowsOf (after_all c changes) t
+abbrev pub LeadBetween : State → State → List Change → Type 0
+LeadBetween s t changes = (c : Content) → AreRowsOf c s → AreRowsOf (after_all c changes) t

@@ -7,7 +7,7 @@ ghost use Rattle.replica_store.specs.Merging.{is_newer};
 ghost use Rattle.replica_store.specs.States.{StateBelow, nothing, state_join};
 ghost use Rattle.replica_bytes.specs.Values.{IsOwn, dot};
 ghost use Rattle.row_store.specs.Rows.{after_all};
-ghost use Rattle.replica_rows.specs.Changes.{AreChanges, Lead};
+ghost use Rattle.replica_rows.specs.Changes.{AreChanges, LeadBetween};
 ghost use Rattle.replica_rows.specs.Rows.{AreRowsOf};
 ghost use Rattle.replica_rows.specs.Steps.{AddsContext, AddsDue, AddsLeaving, AddsRemovals, AddsSubscriptions, AddsTopics, Leaves};
 
@@ -169,7 +169,7 @@ pub fn changes_by(
     ensures changes { IfOk result (λ out.
         AreChanges store.now (state_join store.now delta.now) out.items) }
     ensures lead { IfOk result (λ out.
-        Lead store.now (state_join store.now delta.now) out.items) }
+        LeadBetween store.now (state_join store.now delta.now) out.items) }
     ensures below { StateBelow delta.now store.now → IsOk result }
 {
     let mut out = Vec::new(alloc);
