@@ -1,10 +1,12 @@
 -- When the reading of a frame wants memory.
-use Rattle.std.specs.Prelude.{◌≡◌, ◌⊎◌, ℕ, List, Ok}
+use Rattle.std.specs.Prelude.{◌≡◌, ◌≢◌, ◌⊎◌, ℕ, List, Ok}
+use Rattle.std.specs.FinSet as set
 use Rattle.std.specs.Int.{w16}
 use Rattle.mqtt_fields.specs.Field.{Field, after}
 use Rattle.mqtt_fields.specs.Numbers.{number, long}
 use Rattle.mqtt_message.specs.Spelling.{flag, listed}
 use Rattle.causal_context.specs.Spelling as contexts
+use Rattle.replica_store.specs.States.{nothing}
 use Rattle.replica_bytes.specs.Memory as states
 use Rattle.replica_bytes.specs.Memory.{After, HasText, WantsSome}
 use Rattle.bridge_frames.specs.declared.body.FrameBody.{FrameBody}
@@ -52,10 +54,10 @@ pub record WantsMemory (bs : List ℕ) : Type 0 where
   pub wants : ContentWants run
 
 -- ---- copies
--- Hello and Got have nothing that is copied or shared
+-- Hello and Got have nothing that is copied or shared, nor have a Delta of nothing and a Know of no dots
 abbrev pub CopyWants : FrameBody → Type 0
 CopyWants bodies.Hello = ⊥
-CopyWants (bodies.Delta s) = Unit {0}
-CopyWants (bodies.Know s) = Unit {0}
+CopyWants (bodies.Delta s) = s ≢ nothing
+CopyWants (bodies.Know dots) = dots ≢ set.empty
 CopyWants (bodies.Forward n f) = Unit {0}
 CopyWants (bodies.Got n) = ⊥

@@ -76,7 +76,7 @@ fn append_got(number: LaneNumber, out: &mut Vec<u8>) -> Result<(), NoMemory>
 }
 
 impl FrameBody {
-    /// An equal body. A message is shared. Of Hello and Got it takes no memory.
+    /// An equal body. A message is shared. Of Hello and Got, of a Delta of nothing and of a Know of no dots it takes no memory.
     pub fn copy(&self, alloc: Global) -> Result<FrameBody, NoMemory>
         ensures ok { IfOk result (λ copy. copy ≡ self.now) }
         ensures memory { OnErr result (CopyWants self.now) }

@@ -22,8 +22,5 @@ abbrev pub Called : (State → Reaction → State → Type 0) → (State → Typ
 Called Step Wants Ends None result new = (result ≡ Err Spent) × (new ≡ None)
 Called Step Wants Ends (Some s) result new = CalledBy Step Wants Ends s result new
 
-abbrev pub always : State → Type 0
-always s = Unit {0}
-
 abbrev pub never : State → Type 0
 never s = ⊥

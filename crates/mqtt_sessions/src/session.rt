@@ -6,7 +6,7 @@ ghost use Rattle.mqtt_packets.specs.Written.{HasSpelling};
 ghost use Rattle.mqtt_topics.specs.Topics.{IsName};
 ghost use Rattle.mqtt_sessions.specs.Aliases.{topic_for};
 ghost use Rattle.mqtt_sessions.specs.Asking.{AnswerStep, AnswerWants};
-ghost use Rattle.mqtt_sessions.specs.Called.{Called, always, never};
+ghost use Rattle.mqtt_sessions.specs.Called.{Called, never};
 ghost use Rattle.mqtt_sessions.specs.Connecting.{ConnectStep, ConnectWants, MayConnectIf};
 ghost use Rattle.mqtt_sessions.specs.Ending as ending;
 ghost use Rattle.mqtt_sessions.specs.Ending.{ClosedStep, FinishStep, TickStep, TickWants, HasWill};
@@ -85,8 +85,7 @@ impl Session {
     ) -> Result<Reaction, SessionFault>
         requires continued { MayConnectIf continued (state_of self.old) }
         requires will { IsPublishableIf connect.now.will }
-        ensures called { Called (ConnectStep connect.now continued now) always never (state_of self.old) result (state_of self.new) }
-        ensures want { OnErr result (IfSome (state_of self.old) (λ s. ConnectWants connect.now continued s)) }
+        ensures called { Called (ConnectStep connect.now continued now) (ConnectWants connect.now continued) never (state_of self.old) result (state_of self.new) }
         ensures spelled { IfOk result (λ r. AreSpelled now r.packets) }
         ensures notes { NotesIf self.old self.new }
     {

@@ -26,6 +26,12 @@ cover_of (Subscribe dot entry cover) = cover
 cover_of (Remove dot cover) = cover
 cover_of (Put dot stamp content) = set.empty
 
+-- it removes nothing
+abbrev pub IsEmptyRemove : Operation → Type 0
+IsEmptyRemove (Subscribe dot entry cover) = ⊥
+IsEmptyRemove (Remove dot cover) = cover ≡ set.empty
+IsEmptyRemove (Put dot stamp content) = ⊥
+
 -- the operation is in the list
 abbrev pub Among : Operation → List Operation → Type 0
 Among o [] = ⊥

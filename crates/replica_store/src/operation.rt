@@ -1,5 +1,5 @@
 //! What a node does to the shared state.
-ghost use Rattle.std.specs.Prelude.{◌≡◌, IfOk};
+ghost use Rattle.std.specs.Prelude.{◌≡◌, IfOk, IsOk};
 
 use crate::content::Content;
 use crate::stamp::Stamp;
@@ -32,7 +32,7 @@ pub enum Operation {
 }
 
 impl Operation {
-    ghost use Rattle.replica_store.specs.Operations.{dot_of};
+    ghost use Rattle.replica_store.specs.Operations.{dot_of, IsEmptyRemove};
 
     /// The dot of the operation.
     pub fn dot(&self) -> Dot
@@ -45,9 +45,10 @@ impl Operation {
         }
     }
 
-    /// The same operation once more. A message that it puts is shared.
+    /// The same operation once more. A message that it puts is shared. One that removes nothing takes no memory.
     pub fn copy(&self, alloc: Global) -> Result<Operation, NoMemory>
-        ensures { IfOk result (λ copy. copy ≡ self.now) }
+        ensures same { IfOk result (λ copy. copy ≡ self.now) }
+        ensures none { IsEmptyRemove self.now → IsOk result }
     {
         match self {
             Operation::Subscribe { dot, entry, cover } => {

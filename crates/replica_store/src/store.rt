@@ -124,9 +124,10 @@ impl ReplicaStore {
         answers(self.alloc, filter, now, self.retained.by_topic())
     }
 
-    /// The same state once more.
+    /// The same state once more. One of nothing takes no memory.
     pub fn copy(&self) -> Result<ReplicaStore, NoMemory>
-        ensures { IfOk result (λ copy. copy ≡ self.now) }
+        ensures same { IfOk result (λ copy. copy ≡ self.now) }
+        ensures none { self.now ≡ nothing → IsOk result }
     {
         let taken = self.taken.copy()?;
         let subscriptions = self.subscriptions.copy()?;

@@ -6,8 +6,8 @@ use Rattle.mqtt_message.specs.declared.delivery.Delivery.{Delivery}
 use Rattle.qos_handshakes.specs.Incoming.{of_before}
 use Rattle.qos_handshakes.specs.Outbox as outbox
 use Rattle.mqtt_sessions.specs.Asking.{AnswerStep, AnswerWants}
-use Rattle.mqtt_sessions.specs.Called.{Called, always, never}
-use Rattle.mqtt_sessions.specs.Connecting.{ConnectStep, MayConnect}
+use Rattle.mqtt_sessions.specs.Called.{Called, never}
+use Rattle.mqtt_sessions.specs.Connecting.{ConnectStep, ConnectWants, MayConnect}
 use Rattle.mqtt_sessions.specs.Ending.{ClosedStep, TickStep, TickWants, FinishStep, HasWill}
 use Rattle.mqtt_sessions.specs.Packets.{PacketEnds, PacketStep, WantsMemory}
 use Rattle.mqtt_sessions.specs.Reaction.{Reaction, nothing}
@@ -66,7 +66,7 @@ MayCome e s = Unit {0}
 
 -- where it may want memory, and where a number is at its end
 abbrev pub wants_of : Event → State → Type 0
-wants_of (connects c continued now) = always
+wants_of (connects c continued now) = ConnectWants c continued
 wants_of (queues d now) = QueueWants d now
 wants_of (takes p now room) = WantsMemory p now room
 wants_of (answers id codes) = AnswerWants id codes
