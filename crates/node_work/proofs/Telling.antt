@@ -312,7 +312,7 @@ named-left s t (c ∷ cs) key h e = by (eq_by_cmp key_cmp key (key_in c)) (λ mo
   where
     by : (b : Bool) → (names key cs ≡ true → left_by cs key ≢ None) → eq_by_cmp key_cmp key (key_in c) ≡ b → (b || names key cs) ≡ true → left_by (c ∷ cs) key ≢ None
     by true rest is more =
-        else-some (left_by cs key) (left_by_one c key) (λ _ n. (let z : None ≡ Some (row_at t key) = sym n ∙ here-left t c key h.0.right (ap (eq_by_cmp key_cmp key) (same-key c) ∙ is) in cc))
+        else-some (left_by cs key) (left_by_one c key) (λ _ n. (let z : None ≡ Some (row_at t key) = sym n ∙ here-left t c key h.0.right is in cc))
     by false rest is more = else-some (left_by cs key) (left_by_one c key) (λ none. absurd (rest more none))
 
 -- outside the state's kinds there is no row
