@@ -16,7 +16,7 @@ use std::collections::VecDeque;
 /// As many deltas as are kept.
 const KEPT: usize = 4096;
 
-/// Puts a delta behind the others; the oldest of too many goes. Answers whether one went.
+/// Puts a delta behind the others, in the place of the oldest where there are as many as are kept, which takes no memory. Answers whether one went.
 pub(crate) fn keep(
     deltas: &mut VecDeque<ReplicaStore>,
     delta: ReplicaStore,
@@ -27,13 +27,15 @@ pub(crate) fn keep(
         deltas.new.items ≡ (if gone then drop 1 all else all)) }
     ensures err { OnErr result (deltas.new.items ≡ deltas.old.items) }
     ensures few { length deltas.new.items ≤ 4096 }
+    ensures full { length deltas.old.items ≡ 4096 → IsOk result }
 {
-    deltas.push_back(delta)?;
-    if deltas.len() > KEPT {
-        let _oldest = deltas.pop_front();
-        return Ok(true);
+    if deltas.len() < KEPT {
+        deltas.push_back(delta)?;
+        return Ok(false);
     }
-    Ok(false)
+    let _oldest = deltas.pop_front();
+    deltas.push_back(delta)?;
+    Ok(true)
 }
 
 /// How many of the oldest deltas have no dot that the belief lacks, where so many are known to have none: those behind

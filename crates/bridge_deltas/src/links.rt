@@ -251,11 +251,12 @@ impl Links {
         })
     }
 
-    /// Keeps a delta that was made or merged here; of 4,096 the oldest goes. Where memory runs out
+    /// Keeps a delta that was made or merged here; of 4,096 the oldest goes, and then it takes no memory. Where memory runs out
     /// nothing changes.
     pub fn took(&mut self, delta: ReplicaStore) -> Result<(), NoMemory>
         ensures ok { OnOk result (self.new ≡ record self.old { deltas = with_delta delta self.old.deltas }) }
         ensures err { OnErr result (self.new ≡ self.old) }
+        ensures full { length self.old.deltas ≡ 4096 → IsOk result }
     {
         if keep(&mut self.deltas, delta)? {
             lower_all(&mut self.confirmed);

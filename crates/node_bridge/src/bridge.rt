@@ -72,10 +72,12 @@ impl Bridge {
         Bridge { links }
     }
 
-    /// Keeps a delta that was made or merged here. Where memory runs out nothing changes.
+    /// Keeps a delta that was made or merged here. Where memory runs out nothing changes; in the place of the oldest of 4,096 it takes
+    /// none.
     pub fn keep(&mut self, delta: ReplicaStore) -> Result<(), NoMemory>
         ensures ok { OnOk result (self.new ≡ keeps delta self.old) }
         ensures err { OnErr result (self.new ≡ self.old) }
+        ensures full { length self.old.deltas ≡ 4096 → IsOk result }
     {
         self.links.took(delta)
     }
