@@ -1,6 +1,6 @@
 //! What has changed of a session's rows.
 
-ghost use Rattle.std.specs.Prelude.{◌≡◌, ◌≢◌, ◌++◌, ◌∷◌, [], false, length, map, take, OnErr, OnOk};
+ghost use Rattle.std.specs.Prelude.{◌≡◌, ◌≢◌, ◌⊎◌, ◌++◌, ◌∷◌, [], false, length, map, take, OnErr, OnOk};
 ghost use Rattle.std.specs.Option.{option_copied};
 ghost use Rattle.std.specs.Int.{w64};
 ghost use Rattle.mqtt_fields.specs.Numbers.{number};
@@ -29,11 +29,23 @@ fn place_bytes(alloc: Global, place: u64) -> Result<Vec<u8>, NoMemory>
     Ok(bytes)
 }
 
-fn owner_bytes(alloc: Global, client: &Text) -> Result<Vec<u8>, NoMemory>
-    ensures { IfOk result (λ bytes. bytes.items ≡ client.now) }
+/// The bytes once more. None take no memory.
+fn copied(alloc: Global, bytes: &[u8]) -> Result<Vec<u8>, NoMemory>
+    ensures same { IfOk result (λ copy. copy.items ≡ bytes.now) }
+    ensures need { OnErr result (bytes.now ≢ []) }
 {
-    let bytes = Vec::from_slice(alloc, client.as_str().as_bytes())?;
-    Ok(bytes)
+    if bytes.is_empty() {
+        return Ok(Vec::new(alloc));
+    }
+    let copy = Vec::from_slice(alloc, bytes)?;
+    Ok(copy)
+}
+
+fn owner_bytes(alloc: Global, client: &Text) -> Result<Vec<u8>, NoMemory>
+    ensures same { IfOk result (λ bytes. bytes.items ≡ client.now) }
+    ensures need { OnErr result (client.now ≢ []) }
+{
+    copied(alloc, client.as_str().as_bytes())
 }
 
 fn copy_value(alloc: Global, entry: &Entry) -> Result<Vec<u8>, NoMemory>
@@ -56,21 +68,23 @@ fn copy_row(alloc: Global, client: &Text, place: u64, entry: &Entry) -> Result<R
     })
 }
 
-/// A session's own row, with this value.
-pub fn own_row(alloc: Global, client: &Text, value: &[u8]) -> Result<Row, NoMemory>
-    ensures { IfOk result (λ row. store.entry_of row ≡ (main_key client.now, value.now)) }
+/// A session's own row, with this value. It takes memory for the client and for the value, and for nothing else.
+fn own_row(alloc: Global, client: &Text, value: &[u8]) -> Result<Row, NoMemory>
+    ensures row { IfOk result (λ row. store.entry_of row ≡ (main_key client.now, value.now)) }
+    ensures need { OnErr result ((client.now ≢ []) ⊎ (value.now ≢ [])) }
 {
     Ok(Row {
         kind: SESSION,
         owner: owner_bytes(alloc, client)?,
         place: Vec::new(alloc),
-        value: Vec::from_slice(alloc, value)?,
+        value: copied(alloc, value)?,
     })
 }
 
-/// The change that leaves this value of a session's own row, or no row.
+/// The change that leaves this value of a session's own row, or no row. It takes memory for the client alone.
 pub fn own_left(alloc: Global, client: &Text, value: Option<Vec<u8>>) -> Result<Change, NoMemory>
-    ensures { IfOk result (λ change. plain_of change ≡ (main_key client.now, option_map (λ v. v.items) value)) }
+    ensures left { IfOk result (λ change. plain_of change ≡ (main_key client.now, option_map (λ v. v.items) value)) }
+    ensures need { OnErr result (client.now ≢ []) }
 {
     let owner = owner_bytes(alloc, client)?;
     let place = Vec::new(alloc);
