@@ -68,7 +68,7 @@ fn copy_row(alloc: Global, client: &Text, place: u64, entry: &Entry) -> Result<R
     })
 }
 
-/// A session's own row, with this value. It takes memory for the client and for the value, and for nothing else.
+/// A session's own row, with this value. It wants memory only where one of them has bytes.
 fn own_row(alloc: Global, client: &Text, value: &[u8]) -> Result<Row, NoMemory>
     ensures row { IfOk result (λ row. store.entry_of row ≡ (main_key client.now, value.now)) }
     ensures need { OnErr result ((client.now ≢ []) ⊎ (value.now ≢ [])) }
@@ -81,7 +81,7 @@ fn own_row(alloc: Global, client: &Text, value: &[u8]) -> Result<Row, NoMemory>
     })
 }
 
-/// The change that leaves this value of a session's own row, or no row. It takes memory for the client alone.
+/// The change that leaves this value of a session's own row, or no row. It wants memory only for a client that has a name.
 pub fn own_left(alloc: Global, client: &Text, value: Option<Vec<u8>>) -> Result<Change, NoMemory>
     ensures left { IfOk result (λ change. plain_of change ≡ (main_key client.now, option_map (λ v. v.items) value)) }
     ensures need { OnErr result (client.now ≢ []) }
