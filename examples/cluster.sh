@@ -4,7 +4,7 @@
 # at which was published. Prints what came, and exits 1 where something acknowledged is lost.
 #
 #   examples/cluster.sh             runs the program, which is built first where it isn't yet
-#   examples/cluster.sh PROGRAM..   runs these words in its place, with `serve CONFIG NODE DATABASE --turns N` behind them
+#   examples/cluster.sh PROGRAM..   runs these words in its place, with `run CONFIG NODE DATABASE` behind them
 #
 # It needs mosquitto's clients: apt-get install mosquitto-clients. The ports 1883 to 1885 and 2883 to 2885 must be free.
 set -eu

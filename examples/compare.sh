@@ -38,7 +38,7 @@ CONF
 # Starts a broker, and waits until it takes clients.
 start() {
     case $1 in
-    ours) rm -f "$room"/n0.db*; "$program" serve "$room/one.toml" n0 "$room/n0.db" --turns 1000000000 > "$room/said" 2>&1 & port=18831 ;;
+    ours) rm -f "$room"/n0.db*; "$program" run "$room/one.toml" n0 "$room/n0.db" > "$room/said" 2>&1 & port=18831 ;;
     *) rm -f "$room/mosquitto.db"; mosquitto -c "$room/$1.conf" > "$room/said" 2>&1 & port=18833 ;;
     esac
     server=$!

@@ -5,7 +5,7 @@
 # over its database, and what it holds has to be what it held after the last step that was acknowledged, or after the next one.
 #
 #   examples/file_stops.sh             runs the program, which is built first where it isn't yet
-#   examples/file_stops.sh PROGRAM..   runs these words in its place, with `serve CONFIG NODE DATABASE --turns N` behind them
+#   examples/file_stops.sh PROGRAM..   runs these words in its place, with `run CONFIG NODE DATABASE` behind them
 #
 # Prints a line for each call and fault with how many runs there were, and exits 1 where a run ends with anything else. It needs strace,
 # which injects the faults, and python3. The ports 1883 and 2883 must be free.
@@ -89,7 +89,7 @@ run() {
     rm -rf "$work/db"
     mkdir "$work/db"
     : > "$work/said"
-    strace -f -o "$work/trace" "$@" "${program[@]}" serve "$configuration" n0 "$work/db/broker.db" --turns 1000000000 \
+    strace -f -o "$work/trace" "$@" "${program[@]}" run "$configuration" n0 "$work/db/broker.db" \
         > "$work/said" 2> "$work/errors" &
     traced=$!
     until grep -q '^ready ' "$work/said" || ! kill -0 "$traced" 2> "$work/kill"; do

@@ -4,7 +4,7 @@
 # acknowledged and what came, and exits 1 where something acknowledged didn't come, or comes twice at QoS 2, or out of order.
 #
 #   examples/kill.sh             runs the program, which is built first where it isn't yet
-#   examples/kill.sh PROGRAM..   runs these words in its place, with `serve CONFIG NODE DATABASE --turns N` behind them
+#   examples/kill.sh PROGRAM..   runs these words in its place, with `run CONFIG NODE DATABASE` behind them
 #
 # Each kill comes after 1 to 2,000 further messages, or after at most as many as MESSAGES says. It needs python3. The ports 1883 and 2883
 # must be free.

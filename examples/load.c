@@ -1,14 +1,15 @@
-// Loads a broker of MQTT 5.0 at 127.0.0.1, and tells how many messages a second come and how long they take.
+// Loads a broker of MQTT 5.0 or 3.1.1 at 127.0.0.1, and tells how many messages a second come and how long they take.
 //
 //   gcc -O2 -pthread -o load examples/load.c
-//   ./load [-p PORT] [-i IDLE] [-f FILTERS] [-n PAIRS] [-a AHEAD] [-q QOS] [-b BYTES] [-s SECONDS] [-t THREADS] [-u USER -w PASSWORD] [-m PID]
+//   ./load [-p PORT] [-i IDLE] [-f FILTERS] [-n PAIRS] [-a AHEAD] [-q QOS] [-b BYTES] [-s SECONDS] [-t THREADS] [-u USER -w PASSWORD] [-m PID] [-v LEVEL]
 //
 // IDLE clients connect, subscribe to FILTERS filters each, which no message matches, and say nothing more. Then there are PAIRS of
 // a publisher and a subscriber, each pair with a topic of its own. A publisher has AHEAD messages of BYTES bytes on their way at
 // QOS: it publishes the next one once one has come (QoS 0) or its exchange has ended (QoS 1 and 2), until SECONDS are over. What
 // came is counted to the last message and divided by the time until then. The pairs are shared out to THREADS threads, since one alone takes
 // a processor where each message wants a read and a write of it. With -m the memory that the process PID takes for each idle client and for each of their
-// subscriptions is told, and how many messages came for each second of its processor. The broker may be any one of MQTT 5.0.
+// subscriptions is told, and how many messages came for each second of its processor. LEVEL is 5, or 4 for clients of
+// MQTT 3.1.1. The broker may be any one of that version.
 #include <arpa/inet.h>
 #include <errno.h>
 #include <netinet/tcp.h>
@@ -38,7 +39,7 @@ struct counts {
     double *times;
 };
 
-static int port = 1883, idle, filters, pairs, ahead = 1, qos, length = 64, threads = 1, process;
+static int port = 1883, idle, filters, pairs, ahead = 1, qos, length = 64, threads = 1, process, level = 5;
 static double seconds = 2;
 static const char *user, *password;
 static struct client *clients;
@@ -98,8 +99,9 @@ static int dial(void) {
 
 // Connects with Clean Start and no Keep Alive.
 static int connect_client(const char *identifier) {
-    uint8_t packet[160] = {0x10, 0, 0, 4, 'M', 'Q', 'T', 'T', 5, 2, 0, 0, 0};
-    size_t count = 13 + put_text(packet + 13, identifier);
+    uint8_t packet[160] = {0x10, 0, 0, 4, 'M', 'Q', 'T', 'T', (uint8_t)level, 2, 0, 0, 0};
+    size_t count = level == 5 ? 13 : 12;
+    count += put_text(packet + count, identifier);
     if (user) {
         packet[9] |= 0xC0;
         count += put_text(packet + count, user);
@@ -116,7 +118,8 @@ static int connect_client(const char *identifier) {
 
 static void subscribe(int socket, const char *filter, int identifier) {
     uint8_t packet[160] = {0x82, 0, (uint8_t)(identifier >> 8), (uint8_t)identifier, 0};
-    size_t count = 5 + put_text(packet + 5, filter);
+    size_t count = level == 5 ? 5 : 4;
+    count += put_text(packet + count, filter);
     packet[count++] = (uint8_t)qos;
     packet[1] = (uint8_t)(count - 2);
     send_all(socket, packet, count);
@@ -136,7 +139,8 @@ static void publish(struct client *publisher) {
         body[count++] = (uint8_t)(publisher->identifier >> 8);
         body[count++] = (uint8_t)publisher->identifier;
     }
-    body[count++] = 0;
+    if (level == 5)
+        body[count++] = 0;
     memset(body + count, 'x', (size_t)length);
     double at = now();
     memcpy(body + count, &at, sizeof at);
@@ -168,7 +172,9 @@ static void take_message(struct client *subscriber, const uint8_t *packet, const
         at += 2;
     }
     double published;
-    memcpy(&published, body + at + 1 + body[at], sizeof published);
+    if (level == 5)
+        at += 1 + (size_t)body[at];
+    memcpy(&published, body + at, sizeof published);
     counts.last = now();
     if (counts.taken_times < MOST_TIMES)
         counts.times[counts.taken_times++] = counts.last - published;
@@ -352,7 +358,7 @@ static double percentile(const struct counts *all, double share) {
 
 static void read_words(int count, char **words) {
     int letter;
-    while ((letter = getopt(count, words, "p:i:f:n:a:q:b:s:t:u:w:m:")) != -1) {
+    while ((letter = getopt(count, words, "p:i:f:n:a:q:b:s:t:u:w:m:v:")) != -1) {
         switch (letter) {
         case 'p': port = atoi(optarg); break;
         case 'i': idle = atoi(optarg); break;
@@ -366,11 +372,12 @@ static void read_words(int count, char **words) {
         case 'u': user = optarg; break;
         case 'w': password = optarg; break;
         case 'm': process = atoi(optarg); break;
+        case 'v': level = atoi(optarg); break;
         default: end("the words are at the head of its source");
         }
     }
     if (idle < 0 || filters < 0 || pairs < 0 || ahead < 1 || qos < 0 || qos > 2 || length < (int)sizeof(double) || length > MOST_BYTES
-        || threads < 1 || threads > MOST_THREADS || !user != !password || (user && strlen(user) + strlen(password) > 80))
+        || level < 4 || level > 5 || threads < 1 || threads > MOST_THREADS || !user != !password || (user && strlen(user) + strlen(password) > 80))
         end("a word is out of its range");
 }
 

@@ -4,7 +4,7 @@
 # retained that it lacks, and once it is back. Exits 1 where a step doesn't come to be seen.
 #
 #   examples/metrics.sh             runs the program, which is built first where it isn't yet
-#   examples/metrics.sh PROGRAM..   runs these words in its place, with `serve CONFIG NODE DATABASE --turns N --status ADDRESS` behind them
+#   examples/metrics.sh PROGRAM..   runs these words in its place, with `run CONFIG NODE DATABASE --status ADDRESS` behind them
 #
 # What is wanted is waited for 60 seconds, or as many as PATIENCE says. It needs curl, mosquitto's clients and Prometheus: apt-get install curl
 # mosquitto-clients prometheus. The ports 1883 to 1885, 2883 to 2885, 8083 to 8085 and 9190 must be free.

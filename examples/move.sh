@@ -4,7 +4,7 @@
 # acknowledged, how many came at which node, and which were lost with the session, and exits 1 where any other was lost.
 #
 #   examples/move.sh             runs the program, which is built first where it isn't yet
-#   examples/move.sh PROGRAM..   runs these words in its place, with `serve CONFIG NODE DATABASE --turns N` behind them
+#   examples/move.sh PROGRAM..   runs these words in its place, with `run CONFIG NODE DATABASE` behind them
 #
 # It needs python3. The ports 1883 to 1885 and 2883 to 2885 must be free.
 set -eu

@@ -55,7 +55,7 @@ start_node() {
     local name=$1 table=$2 database=$3
     shift 3
     : > "$work/$name"
-    "$@" "${program[@]}" serve "$table" "$name" "$database" --turns 1000000000 "${options[@]}" > "$work/$name" 2> "$work/$name.err" &
+    "$@" "${program[@]}" run "$table" "$name" "$database" "${options[@]}" > "$work/$name" 2> "$work/$name.err" &
     nodes[$name]=$!
     await_line 'ready ' "$work/$name" "${nodes[$name]}"
 }

@@ -6,7 +6,7 @@
 # lost, or a node waits for the other.
 #
 #   examples/split.sh             runs the program, which is built first where it isn't yet
-#   examples/split.sh PROGRAM..   runs these words in its place, with `serve CONFIG NODE DATABASE --turns N` behind them
+#   examples/split.sh PROGRAM..   runs these words in its place, with `run CONFIG NODE DATABASE` behind them
 #
 # The node stands still for 20 seconds, or for as many as STILL says, and what is wanted is waited for 60, or PATIENCE.
 # It needs python3 and mosquitto's clients: apt-get install mosquitto-clients. The ports 1883, 1884, 2883, 2884, 3883 and

@@ -5,7 +5,7 @@
 # a gate is open while a peer lacks something, or stays shut.
 #
 #   examples/status.sh             runs the program, which is built first where it isn't yet
-#   examples/status.sh PROGRAM..   runs these words in its place, with `serve CONFIG NODE DATABASE --turns N --status ADDRESS` behind them
+#   examples/status.sh PROGRAM..   runs these words in its place, with `run CONFIG NODE DATABASE --status ADDRESS` behind them
 #
 # It needs curl, python3 and mosquitto's clients: apt-get install curl python3 mosquitto-clients. Where promtool isn't there (apt-get install
 # prometheus), it says so and goes on without. The ports 1883 to 1885, 2883 to 2885 and 8083 to 8085 must be free.

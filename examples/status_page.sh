@@ -4,7 +4,7 @@
 # n2, which was killed and lacks two operations. Prints the paths of the pictures, and exits 1 where one isn't there, has another width or is blank.
 #
 #   examples/status_page.sh FOLDER             runs the program, which is built first where it isn't yet
-#   examples/status_page.sh FOLDER PROGRAM..   runs these words in its place, with `serve CONFIG NODE DATABASE --turns N --status ADDRESS`
+#   examples/status_page.sh FOLDER PROGRAM..   runs these words in its place, with `run CONFIG NODE DATABASE --status ADDRESS`
 #                                              behind them
 #
 # The pictures are FOLDER/390.png, 390_without_scripts.png, 1280.png and 1280_without_scripts.png. It needs curl, mosquitto's clients and

@@ -1,6 +1,6 @@
 -- The commands of the program, and the tasks of what follows them.
 use Rattle.std.proofs.Common.{◌≡◌, ◌∙◌, ◌≤◌, ℕ, List, [], Option, Some, None, Result, Ok, Err, Bool, true, false, codes, refl, sym, ap, subst, option_map}
-use Rattle.std.specs.Prelude.{IfSome, IsErrAnd, MatchResult}
+use Rattle.std.specs.Prelude.{IfOk, IfSome, IsErrAnd, MatchResult}
 use Rattle.std.specs.Borrow.{Bor}
 use Rattle.std.specs.Str.Parse.{ParsesUnsigned}
 use Rattle.clap.specs.Words.{App, HasKind, HasMatchesOf, Row, Text, fault_of, first_of, first_value, is_simple, is_simple_and_free, one_of, one_text, rows_of, subcommand_of, subcommand_rows_of}
@@ -9,7 +9,7 @@ use Rattle.clap.specs.declared.parser.matches.Found.{Found}
 use Rattle.clap.specs.declared.error.Error.{Error}
 use Rattle.clap.proofs.OnLiterals.{clap_on_literals}
 use Rattle.clap.proofs.WalkLemmas.{first_value-rows, one_text-rows}
-use Rattle.broker_command.specs.Line.{broker, IsFlag, IsNumber, IsOf, IsTask}
+use Rattle.broker_command.specs.Line.{broker, IsFlag, IsNode, IsNumber, IsOf, IsServe, IsTask}
 use Rattle.broker_command.specs.declared.task.Task.{Task}
 
 -- the program's commands are such that what a parse of words gives is stated exactly
@@ -83,3 +83,10 @@ refused a words e (Ok x) P is fails given = absurd given
 refused a words e (Err x) P is fails given =
     let failed = subst (λ (y : App). HasKind (fault_of y words) e) is (fails (ap is_simple_and_free is ∙ broker_is_free)) in
     subst (λ (y : Error). HasKind (fault_of broker words) y) (sym given) failed
+
+-- a node for as many turns as were read
+pub counted_if : {E : Type 0} (rows : List Row) (turns : ℕ) (r : Result (Option Task) E) → IsNumber rows (codes "turns") turns
+    → IfOk r (λ o. IfSome o (IsNode rows (Some turns))) → IfOk r (λ o. IfSome o (IsServe rows))
+counted_if rows turns (Ok None) read h = h
+counted_if rows turns (Ok (Some task)) read h = (turns, read, h)
+counted_if rows turns (Err e) read h = h

@@ -1,5 +1,5 @@
 -- The command lines of the program, and what each asks for.
-use Rattle.std.specs.Prelude.{◌≡◌, ◌≢◌, ◌≤◌, ℕ, List, [], Some, None, Option, String, Bool, true, false, pos, codes}
+use Rattle.std.specs.Prelude.{◌≡◌, ◌≢◌, ◌≤◌, ◌⊎◌, ℕ, List, [], Some, None, Option, String, Bool, true, false, pos, codes}
 use Rattle.std.specs.declared.alloc.Global.{Global}
 use Rattle.std.specs.Str.Parse.{IsNumeral, digits_value, without_leading_plus}
 use Rattle.clap.specs.Words.{App, IsAmong, Row, Rule, Text, fault_of, first_of, new_app, new_rule, one_of, subcommand_of, with_rule, with_subcommand}
@@ -54,6 +54,13 @@ play = with_rule (new_app (codes "play")) (word_rule (codes "SCRIPT"))
 abbrev pub loopback : App
 loopback = with_rule (new_app (codes "loopback")) (word_rule (codes "SCRIPT"))
 
+-- `--mqtt3`
+abbrev pub mqtt3_rule : Rule
+mqtt3_rule = record (new_rule (codes "mqtt3")) {
+  long = Some (codes "mqtt3");
+  action = Some SetTrue;
+}
+
 -- `--log`
 abbrev pub log_rule : Rule
 log_rule = record (new_rule (codes "log")) {
@@ -68,24 +75,31 @@ status_rule = record (option_rule (codes "status")) {
   value_names = 1;
 }
 
--- `serve CONFIG NODE DATABASE`, and its options behind that:
--- `--turns N [--most-clients N] [--connect-within SECONDS] [--log] [--status ADDRESS]`
-abbrev pub serve_words : App
-serve_words = with_rule (with_rule (with_rule (new_app (codes "serve")) (word_rule (codes "CONFIG"))) (word_rule (codes "NODE"))) (word_rule (codes "DATABASE"))
+-- `CONFIG NODE DATABASE` behind the name of a command
+abbrev pub node_words : Text → App
+node_words name = with_rule (with_rule (with_rule (new_app name) (word_rule (codes "CONFIG"))) (word_rule (codes "NODE"))) (word_rule (codes "DATABASE"))
 
+-- the options of a node: `[--most-clients N] [--connect-within SECONDS] [--mqtt3] [--log] [--status ADDRESS]`
+abbrev pub with_options : App → App
+with_options app = with_rule (with_rule (with_rule (with_rule (with_rule app most_clients_rule) connect_within_rule) mqtt3_rule) log_rule) status_rule
+
+-- `serve CONFIG NODE DATABASE --turns N`, and the options
 abbrev pub serve : App
-serve = with_rule (with_rule (with_rule (with_rule (with_rule serve_words turns_rule) most_clients_rule) connect_within_rule) log_rule) status_rule
+serve = with_options (with_rule (node_words (codes "serve")) turns_rule)
+
+-- `run CONFIG NODE DATABASE`, and the options
+abbrev pub run : App
+run = with_options (node_words (codes "run"))
 
 -- `check CONFIG NODE DATABASE`
 abbrev pub check : App
-check = with_rule (with_rule (with_rule (new_app (codes "check"))
-    (word_rule (codes "CONFIG"))) (word_rule (codes "NODE"))) (word_rule (codes "DATABASE"))
+check = node_words (codes "check")
 
--- the program's words: one of the four commands, without the program's name
+-- the program's words: one of the five commands, without the program's name
 unfoldable pub broker : App
-broker = with_subcommand (with_subcommand (with_subcommand (with_subcommand
+broker = with_subcommand (with_subcommand (with_subcommand (with_subcommand (with_subcommand
     (on_top (λ s. record s { no_binary_name = true; subcommand_required = true }) (new_app (codes "broker")))
-    play.top) loopback.top) serve.top) check.top
+    play.top) loopback.top) serve.top) run.top) check.top
 
 -- the path of a script
 abbrev pub IsScript : List Row → String Global → Type 0
@@ -95,14 +109,14 @@ IsScript rows script = first_of (codes "SCRIPT") rows ≡ Some script.bytes.item
 abbrev pub IsPlay : List Row → Task → Type 0
 IsPlay rows (Play script) = IsScript rows script
 IsPlay rows (Loopback script) = ⊥
-IsPlay rows (Serve configuration node database turns most_clients connect_within log status) = ⊥
+IsPlay rows (Serve configuration node database turns most_clients connect_within mqtt3 log status) = ⊥
 IsPlay rows (Check configuration node database) = ⊥
 
 -- a script to play over sockets
 abbrev pub IsLoopback : List Row → Task → Type 0
 IsLoopback rows (Play script) = ⊥
 IsLoopback rows (Loopback script) = IsScript rows script
-IsLoopback rows (Serve configuration node database turns most_clients connect_within log status) = ⊥
+IsLoopback rows (Serve configuration node database turns most_clients connect_within mqtt3 log status) = ⊥
 IsLoopback rows (Check configuration node database) = ⊥
 
 -- the number that an option is given, in range, as its text spells it
@@ -130,22 +144,30 @@ abbrev pub IsTextIf : List Row → Text → Option (String Global) → Type 0
 IsTextIf rows id None = first_of id rows ≡ None
 IsTextIf rows id (Some text) = first_of id rows ≡ Some text.bytes.items
 
--- a node to be
-abbrev pub IsServe : List Row → Task → Type 0
-IsServe rows (Play script) = ⊥
-IsServe rows (Loopback script) = ⊥
-IsServe rows (Serve configuration node database turns most_clients connect_within log status) =
+-- a node to be, for so many turns or until it is stopped
+abbrev pub IsNode : List Row → Option ℕ → Task → Type 0
+IsNode rows made (Play script) = ⊥
+IsNode rows made (Loopback script) = ⊥
+IsNode rows made (Serve configuration node database turns most_clients connect_within mqtt3 log status) =
     (first_of (codes "CONFIG") rows ≡ Some configuration.bytes.items)
     × (first_of (codes "NODE") rows ≡ Some node.bytes.items)
-    × (first_of (codes "DATABASE") rows ≡ Some database.bytes.items) × IsNumber rows (codes "turns") turns
-    × IsNumberIf rows (codes "most-clients") most_clients × IsNumberIf rows (codes "connect-within") connect_within × IsFlag rows (codes "log") log × IsTextIf rows (codes "status") status
-IsServe rows (Check configuration node database) = ⊥
+    × (first_of (codes "DATABASE") rows ≡ Some database.bytes.items) × (turns ≡ made)
+    × IsNumberIf rows (codes "most-clients") most_clients × IsNumberIf rows (codes "connect-within") connect_within × IsFlag rows (codes "mqtt3") mqtt3 × IsFlag rows (codes "log") log × IsTextIf rows (codes "status") status
+IsNode rows made (Check configuration node database) = ⊥
+
+-- one for as many turns as are asked for
+abbrev pub IsServe : List Row → Task → Type 0
+IsServe rows task = (turns : ℕ) × IsNumber rows (codes "turns") turns × IsNode rows (Some turns) task
+
+-- one until it is stopped
+abbrev pub IsRun : List Row → Task → Type 0
+IsRun rows task = IsNode rows None task
 
 -- a node whose rows are to be told
 abbrev pub IsCheck : List Row → Task → Type 0
 IsCheck rows (Play script) = ⊥
 IsCheck rows (Loopback script) = ⊥
-IsCheck rows (Serve configuration node database turns most_clients connect_within log status) = ⊥
+IsCheck rows (Serve configuration node database turns most_clients connect_within mqtt3 log status) = ⊥
 IsCheck rows (Check configuration node database) =
     (first_of (codes "CONFIG") rows ≡ Some configuration.bytes.items)
     × (first_of (codes "NODE") rows ≡ Some node.bytes.items)
@@ -156,8 +178,9 @@ abbrev pub IsOf : Option (Text × List Row) → Task → Type 0
 IsOf None task = ⊥
 IsOf (Some (name, rows)) (Play script) = (name ≡ codes "play") × IsPlay rows (Play script)
 IsOf (Some (name, rows)) (Loopback script) = (name ≡ codes "loopback") × IsLoopback rows (Loopback script)
-IsOf (Some (name, rows)) (Serve configuration node database turns most_clients connect_within log status) =
-    (name ≡ codes "serve") × IsServe rows (Serve configuration node database turns most_clients connect_within log status)
+IsOf (Some (name, rows)) (Serve configuration node database turns most_clients connect_within mqtt3 log status) =
+    ((name ≡ codes "serve") × IsServe rows (Serve configuration node database turns most_clients connect_within mqtt3 log status))
+    ⊎ ((name ≡ codes "run") × IsRun rows (Serve configuration node database turns most_clients connect_within mqtt3 log status))
 IsOf (Some (name, rows)) (Check configuration node database) =
     (name ≡ codes "check") × IsCheck rows (Check configuration node database)
 

@@ -4,7 +4,7 @@ ghost use Rattle.std.specs.Prelude.{◌≡◌, map, false, pos, Some, IfOk, IfSo
 ghost use Rattle.clap.specs.declared.builder.value_parser.ValueParser.TheVariants.{Signed};
 ghost use Rattle.clap.specs.Words.{HasKind, app_of, fault_of, found_of, kind_of, rows_of, rule_of, subcommand_rows_of};
 ghost use Rattle.clap.specs.declared.builder.command.Command.TheViews.{out-Command as fields_of};
-ghost use Rattle.broker_command.specs.Line.{broker, play, loopback, serve, serve_words, check, word_rule, option_rule, turns_rule, most_clients_rule, connect_within_rule, log_rule, status_rule, IsFlag, IsNumberIf, IsTextIf, IsTask, IsOf, IsPlay, IsLoopback, IsServe, IsCheck, IsScript, IsRefusal, IsStopOf};
+ghost use Rattle.broker_command.specs.Line.{broker, play, loopback, node_words, with_options, serve, run, check, word_rule, option_rule, turns_rule, most_clients_rule, connect_within_rule, mqtt3_rule, log_rule, status_rule, IsFlag, IsNumberIf, IsTextIf, IsTask, IsOf, IsPlay, IsLoopback, IsNode, IsServe, IsRun, IsCheck, IsScript, IsRefusal, IsStopOf};
 
 use crate::task::Task;
 use broker_stop::{RunFault, Stop};
@@ -35,6 +35,7 @@ fn commands<'a>(alloc: Global) -> Result<Command<'a>, AllocError>
     let play = play_command(alloc)?;
     let loopback = loopback_command(alloc)?;
     let serve = serve_command(alloc)?;
+    let run = run_command(alloc)?;
     let check = check_command(alloc)?;
     Command::new(alloc, "broker")
         .about("A node of a cluster of MQTT 5.0 brokers")
@@ -43,6 +44,7 @@ fn commands<'a>(alloc: Global) -> Result<Command<'a>, AllocError>
         .subcommand(play)?
         .subcommand(loopback)?
         .subcommand(serve)?
+        .subcommand(run)?
         .subcommand(check)
 }
 
@@ -62,40 +64,52 @@ fn loopback_command<'a>(alloc: Global) -> Result<Command<'a>, AllocError>
         .arg(required(alloc, "SCRIPT").help("The file of the script"))
 }
 
-/// The command to serve, before its options.
-fn serve_words<'a>(alloc: Global) -> Result<Command<'a>, AllocError>
-    ensures { IfOk result (λ c. (app_of c ≡ serve_words) × ((fields_of c).has_globals ≡ false)) }
+/// A command of this name about one node of a cluster, before its options.
+fn node_words<'a>(alloc: Global, name: &'a str, about: &'a str) -> Result<Command<'a>, AllocError>
+    ensures { IfOk result (λ c. (app_of c ≡ node_words name.entry.now) × ((fields_of c).has_globals ≡ false)) }
 {
-    Command::new(alloc, "serve")
-        .about("Serves MQTT clients as one node of a cluster")
-        .arg(required(alloc, "CONFIG").help(
-            "The file that names the nodes and their homes, in TOML",
-        ))?
-        .arg(required(alloc, "NODE").help("The name of the node to be"))?
-        .arg(required(alloc, "DATABASE").help("The file of the database that keeps what lasts"))
-}
-
-fn serve_command<'a>(alloc: Global) -> Result<Command<'a>, AllocError>
-    ensures { IfOk result (λ c. (app_of c ≡ serve) × ((fields_of c).has_globals ≡ false)) }
-{
-    serve_words(alloc)?
-        .arg(turns_option(alloc))?
-        .arg(most_clients_option(alloc))?
-        .arg(connect_within_option(alloc))?
-        .arg(log_option(alloc))?
-        .arg(status_option(alloc))
-}
-
-fn check_command<'a>(alloc: Global) -> Result<Command<'a>, AllocError>
-    ensures { IfOk result (λ c. (app_of c ≡ check) × ((fields_of c).has_globals ≡ false)) }
-{
-    Command::new(alloc, "check")
-        .about("Tells what the rows of a node that is down hold, and changes no file")
+    Command::new(alloc, name)
+        .about(about)
         .arg(required(alloc, "CONFIG").help(
             "The file that names the nodes and their homes, in TOML",
         ))?
         .arg(required(alloc, "NODE").help("The name of the node"))?
         .arg(required(alloc, "DATABASE").help("The file of the database that keeps what lasts"))
+}
+
+/// The options of a node that is to be.
+fn with_options<'a>(alloc: Global, command: Command<'a>) -> Result<Command<'a>, AllocError>
+    ensures { IfOk result (λ c. (app_of c ≡ with_options (app_of command.entry))
+        × ((fields_of command.entry).has_globals ≡ false → (fields_of c).has_globals ≡ false)) }
+{
+    command
+        .arg(most_clients_option(alloc))?
+        .arg(connect_within_option(alloc))?
+        .arg(mqtt3_option(alloc))?
+        .arg(log_option(alloc))?
+        .arg(status_option(alloc))
+}
+
+fn serve_command<'a>(alloc: Global) -> Result<Command<'a>, AllocError>
+    ensures { IfOk result (λ c. (app_of c ≡ serve) × ((fields_of c).has_globals ≡ false)) }
+{
+    let about = "Serves MQTT clients as one node of a cluster, for so many turns";
+    let words = node_words(alloc, "serve", about)?;
+    with_options(alloc, words.arg(turns_option(alloc))?)
+}
+
+fn run_command<'a>(alloc: Global) -> Result<Command<'a>, AllocError>
+    ensures { IfOk result (λ c. (app_of c ≡ run) × ((fields_of c).has_globals ≡ false)) }
+{
+    let about = "Serves MQTT clients as one node of a cluster, until it is stopped";
+    with_options(alloc, node_words(alloc, "run", about)?)
+}
+
+fn check_command<'a>(alloc: Global) -> Result<Command<'a>, AllocError>
+    ensures { IfOk result (λ c. (app_of c ≡ check) × ((fields_of c).has_globals ≡ false)) }
+{
+    let about = "Tells what the rows of a node that is down hold, and changes no file";
+    node_words(alloc, "check", about)
 }
 
 fn turns_option<'a>(alloc: Global) -> Arg<'a>
@@ -129,6 +143,16 @@ fn connect_within_option<'a>(alloc: Global) -> Arg<'a>
         .value_name("SECONDS")
         .help("After how long a client is closed that wasn't accepted");
     numbered(option)
+}
+
+fn mqtt3_option<'a>(alloc: Global) -> Arg<'a>
+    ensures rule { rule_of result ≡ mqtt3_rule }
+    ensures local { result.global ≡ false }
+{
+    Arg::new(alloc, "mqtt3")
+        .long("mqtt3")
+        .action(ArgAction::SetTrue)
+        .help("Serves clients of MQTT 3.1.1 and 3.1 too")
 }
 
 fn log_option<'a>(alloc: Global) -> Arg<'a>
@@ -196,6 +220,8 @@ fn named_task(alloc: Global, matches: &ArgMatches<'_>) -> Result<Option<Task>, A
         loopback_task(alloc, found)
     } else if name == "serve" {
         serve_task(alloc, found)
+    } else if name == "run" {
+        run_task(alloc, found)
     } else if name == "check" {
         check_task(alloc, found)
     } else {
@@ -261,12 +287,14 @@ fn text_of(alloc: Global, found: &ArgMatches<'_>, name: &str) -> Result<Option<S
     }
 }
 
-fn serve_task(alloc: Global, found: &ArgMatches<'_>) -> Result<Option<Task>, AllocError>
-    ensures { IfOk result (λ task. IfSome task (IsServe (rows_of (found_of found.now)))) }
+/// The node that the words name, for so many turns or until it is stopped.
+fn node_task(
+    alloc: Global,
+    found: &ArgMatches<'_>,
+    turns: Option<u32>,
+) -> Result<Option<Task>, AllocError>
+    ensures { IfOk result (λ task. IfSome task (IsNode (rows_of (found_of found.now)) turns)) }
 {
-    let Some(turns) = found.get_one::<u32>("turns") else {
-        return Ok(None);
-    };
     let (Some(configuration), Some(node), Some(database)) = (
         found.get_str("CONFIG"),
         found.get_str("NODE"),
@@ -274,9 +302,6 @@ fn serve_task(alloc: Global, found: &ArgMatches<'_>) -> Result<Option<Task>, All
     ) else {
         return Ok(None);
     };
-    if turns == 0 || MOST < turns {
-        return Ok(None);
-    }
     let Some(most_clients) = number_of(found, "most-clients") else {
         return Ok(None);
     };
@@ -290,9 +315,28 @@ fn serve_task(alloc: Global, found: &ArgMatches<'_>) -> Result<Option<Task>, All
         turns,
         most_clients,
         connect_within,
+        mqtt3: found.get_flag("mqtt3"),
         log: found.get_flag("log"),
         status: text_of(alloc, found, "status")?,
     }))
+}
+
+fn serve_task(alloc: Global, found: &ArgMatches<'_>) -> Result<Option<Task>, AllocError>
+    ensures { IfOk result (λ task. IfSome task (IsServe (rows_of (found_of found.now)))) }
+{
+    let Some(turns) = found.get_one::<u32>("turns") else {
+        return Ok(None);
+    };
+    if turns == 0 || MOST < turns {
+        return Ok(None);
+    }
+    node_task(alloc, found, Some(turns))
+}
+
+fn run_task(alloc: Global, found: &ArgMatches<'_>) -> Result<Option<Task>, AllocError>
+    ensures { IfOk result (λ task. IfSome task (IsRun (rows_of (found_of found.now)))) }
+{
+    node_task(alloc, found, None)
 }
 
 fn check_task(alloc: Global, found: &ArgMatches<'_>) -> Result<Option<Task>, AllocError>

@@ -21,12 +21,14 @@ pub enum Task {
         node: String,
         /// The path of the node's database.
         database: String,
-        /// How many turns to make, from 1 to 1,000,000,000.
-        turns: u32,
+        /// How many turns to make, from 1 to 1,000,000,000. None: until the program is stopped.
+        turns: Option<u32>,
         /// How many clients may be connected at a time, from 1 to 1,000,000,000, or any number.
         most_clients: Option<u32>,
         /// Within how many seconds a client has to be accepted, from 1 to 1,000,000,000, or any number.
         connect_within: Option<u32>,
+        /// Whether clients of MQTT 3.1.1 and 3.1 are served too.
+        mqtt3: bool,
         /// Whether a log is written to standard error.
         log: bool,
         /// Where its status is told, if anywhere.

@@ -10,6 +10,9 @@ use program_files::read_script;
 use run_causes::Ending;
 use script_runs::run_script;
 
+/// As many turns as no node makes: at a million a second they take 146,000 years.
+const ENDLESS: u64 = (1 << 62) - 1;
+
 /// Runs a task.
 pub fn run_task(rt: &HostRuntime, task: Task) -> Result<(), Ending> {
     match task {
@@ -22,6 +25,7 @@ pub fn run_task(rt: &HostRuntime, task: Task) -> Result<(), Ending> {
             turns,
             most_clients,
             connect_within,
+            mqtt3,
             log,
             status,
         } => serve(
@@ -30,9 +34,13 @@ pub fn run_task(rt: &HostRuntime, task: Task) -> Result<(), Ending> {
             node.as_str(),
             database.as_str(),
             Limits::new(most_clients, connect_within),
+            mqtt3,
             log,
             status.as_ref().map(|address| address.as_str()),
-            turns,
+            match turns {
+                Some(turns) => u64::from(turns),
+                None => ENDLESS,
+            },
         ),
         Task::Check {
             configuration,

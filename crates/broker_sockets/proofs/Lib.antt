@@ -1,2 +1,3 @@
 pub mod Buffering
 pub mod Cutting
+pub mod Steadying

@@ -4,4 +4,5 @@ pub mod Buffers
 pub mod Frames
 pub mod Queued
 pub mod Ready
+pub mod Steady
 pub mod Unsent

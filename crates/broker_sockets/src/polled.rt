@@ -182,6 +182,10 @@ impl<'a, N: Net> Readiness for PolledSockets<'a, N> {
         self.busy = false;
         let most = Duration::from_millis(wait);
         let _ = self.poll.poll(&mut self.events, Some(most));
+        if wait > 0 && self.events.is_empty() {
+            // a signal may have ended the wait after a long stop, in which much has come
+            let _ = self.poll.poll(&mut self.events, Some(Duration::ZERO));
+        }
         let failed = mem::replace(&mut self.failed, false);
         let mut ready = Ready::of_listeners(alloc, failed);
         for event in self.events.iter() {

@@ -4,6 +4,7 @@ pub mod Linking
 pub mod Naming
 pub mod Numbering
 pub mod OrderLaws
+pub mod Pacing
 pub mod Serving
 pub mod Settling
 pub mod Stepping

@@ -6,6 +6,8 @@ pub mod Handling
 pub mod Lines
 pub mod Numbers
 pub mod Order
+pub mod Pace
+pub mod Pacing
 pub mod Serving
 pub mod Steps
 pub mod Turns

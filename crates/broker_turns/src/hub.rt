@@ -1,8 +1,9 @@
 //! A turn over clients and other nodes, and turns one after another.
-ghost use Rattle.std.specs.Prelude.{◌≡◌, ◌<◌, ℕ, length, replicate, true, OnOk, IfOk, IfErr, None};
+ghost use Rattle.std.specs.Prelude.{◌≡◌, ◌<◌, ◌≤◌, ℕ, length, replicate, true, OnOk, IfOk, IfErr, None};
 ghost use Rattle.slab.specs.Slab.{get, slab_len};
 ghost use Rattle.broker_turns.specs.Bridging.{near, place, reach, search};
 ghost use Rattle.broker_turns.specs.Faults.{IsCaused};
+ghost use Rattle.broker_turns.specs.Pacing.{IsBegun};
 ghost use Rattle.broker_turns.specs.Serving.{IsServed, IsStopped, IsTurns, IsUnserved};
 ghost use Rattle.broker_turns.specs.Turns.{IsDecided, IsEither, IsFound, IsGivenOut, IsStart, IsTakenIn, IsTurn, site};
 
@@ -10,6 +11,7 @@ use crate::clients::Clients;
 use crate::lines::Line;
 use crate::links::{accept_links, dial_peers, read_links, read_peers, ship_all, write_links};
 use crate::numbers::united;
+use crate::pace::Pace;
 use crate::setting::Setting;
 use crate::turn::{TurnFault, accept_some, handle_event, read_all, settle, write_all};
 use broker_sockets::{BridgeHandler, Clock, Event, EventKind, Readiness, Ready, Sockets};
@@ -31,6 +33,8 @@ pub struct Hub<L: Drop, T: Drop> {
     /// When peers were dialled last.
     sought: Vec<Option<u64>>,
     buffer: Vec<u8>,
+    /// How much the next turn reads from a client's socket.
+    pace: Pace,
     ghost whole: { length buffer.items ≡ 65536 },
     ghost one_each: { length setting.peers.items ≡ length dialled.items },
     ghost sought_each: { length setting.peers.items ≡ length sought.items },
@@ -49,6 +53,7 @@ impl<L: Drop, T: Drop> Drop for Hub<L, T> {
             ready: _ready,
             sought: _sought,
             buffer: _buffer,
+            pace: _,
         } = self;
     }
 }
@@ -62,11 +67,13 @@ fn take_in<S: Readiness, H: BridgeHandler>(
     dialled: &mut [Option<Line<S::Stream>>],
     accepted: &mut Slab<Line<S::Stream>>,
     buffer: &mut [u8],
+    most: usize,
     sockets: &mut S,
     handler: &mut H,
     at: u64,
 ) -> Result<Ready, TurnFault<H::Fault>>
-    requires { length buffer.old ≡ 65536 }
+    requires buffer { length buffer.old ≡ 65536 }
+    requires most { most ≤ 65536 }
     ensures ok { IfOk result (λ more. IsTakenIn S.accepts S.watches S.reads H.handles H.hears setting.now at ready.now
         (place sockets.old (near handler.old clients.old.slab dialled.old) accepted.old) more
         (place sockets.new (near handler.new clients.new.slab dialled.new) accepted.new)) }
@@ -77,7 +84,8 @@ fn take_in<S: Readiness, H: BridgeHandler>(
     let came = accept_some(alloc, clients, listener, sockets, handler, at, asked)?;
     let linked = accept_links(alloc, accepted, &setting.bridge, sockets, asked)?;
     let keys = &ready.clients;
-    let clients_left = read_all(alloc, clients, buffer, sockets, handler, at, keys)?;
+    let piece = &mut buffer[..most];
+    let clients_left = read_all(alloc, clients, piece, sockets, handler, at, keys)?;
     let keys = &ready.links;
     let links = read_links(
         alloc, clients, dialled, accepted, buffer, sockets, handler, at, keys,
@@ -177,11 +185,13 @@ fn make_turn<S: Readiness, H: BridgeHandler>(
     ready: &mut Ready,
     sought: &mut [Option<u64>],
     buffer: &mut [u8],
+    most: usize,
     sockets: &mut S,
     handler: &mut H,
     at: u64,
 ) -> Result<(), TurnFault<H::Fault>>
     requires buffer { length buffer.old ≡ 65536 }
+    requires most { most ≤ 65536 }
     requires one_each { length setting.now.peers.items ≡ length dialled.old }
     requires sought_each { length setting.now.peers.items ≡ length sought.old }
     requires few { length dialled.old < 65536 }
@@ -191,7 +201,7 @@ fn make_turn<S: Readiness, H: BridgeHandler>(
     ensures fault { IfErr result (IsCaused H.refuses H.declines H.stops at) }
 {
     let more = take_in(
-        alloc, setting, ready, clients, dialled, accepted, buffer, sockets, handler, at,
+        alloc, setting, ready, clients, dialled, accepted, buffer, most, sockets, handler, at,
     )?;
     decide(
         alloc, setting, clients, dialled, sought, sockets, handler, at,
@@ -234,6 +244,7 @@ impl<L: Drop, T: Drop> Hub<L, T> {
             ready: Ready::of_listeners(alloc, true),
             sought,
             buffer: vec![in alloc; 0; PIECE]?,
+            pace: Pace::new(),
         })
     }
 
@@ -261,8 +272,10 @@ impl<L: Drop, T: Drop> Hub<L, T> {
             (site (place sockets.old (near handler.old self.old.clients.slab self.old.dialled.items) self.old.accepted) self.old.ready self.old.sought.items)
             (site (place sockets.new (near handler.new self.new.clients.slab self.new.dialled.items) self.new.accepted) self.new.ready self.new.sought.items)) }
         ensures setting { OnOk result (self.new.setting ≡ self.old.setting) }
+        ensures pace { IsBegun at self.old.pace self.new.pace }
         ensures fault { IfErr result (IsCaused H.refuses H.declines H.stops at) }
     {
+        let most = self.pace.begin(at);
         make_turn(
             self.alloc,
             &self.setting,
@@ -272,6 +285,7 @@ impl<L: Drop, T: Drop> Hub<L, T> {
             &mut self.ready,
             &mut self.sought,
             &mut self.buffer,
+            most,
             sockets,
             handler,
             at,
@@ -286,7 +300,7 @@ impl<L: Drop, T: Drop> Hub<L, T> {
         sockets: &mut S,
         handler: &mut H,
         clock: &mut C,
-        turns: u32,
+        turns: u64,
     ) -> Result<(), TurnFault<H::Fault>>
         ensures ok { OnOk result (IsTurns C.tells (IsTurn S.accepts S.watches S.connects S.reads S.writes S.finds H.handles H.hears H.settles self.old.setting) turns
             clock.old (site (place sockets.old (near handler.old self.old.clients.slab self.old.dialled.items) self.old.accepted) self.old.ready self.old.sought.items)
@@ -311,7 +325,7 @@ impl<L: Drop, T: Drop> Hub<L, T> {
         sockets: &mut S,
         handler: &mut H,
         clock: &mut C,
-        turns: u32,
+        turns: u64,
     ) -> Result<(), TurnFault<H::Fault>>
         ensures ok { OnOk result (IsServed C.tells (IsStart H.handles) (IsTurn S.accepts S.watches S.connects S.reads S.writes S.finds H.handles H.hears H.settles self.old.setting) turns
             clock.old (site (place sockets.old (near handler.old self.old.clients.slab self.old.dialled.items) self.old.accepted) self.old.ready self.old.sought.items)

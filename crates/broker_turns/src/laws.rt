@@ -1,6 +1,7 @@
 //! Laws of turns.
 ghost use Rattle.broker_turns.specs.Handling.{TurnSettles};
 ghost use Rattle.broker_turns.specs.Order.{NoFrameIsLost, NothingIsLost, NothingIsToldEarly};
+ghost use Rattle.broker_turns.specs.Pacing.{GrowsBack, ShrinksFast};
 
 use broker_sockets::{BridgeHandler, Readiness};
 
@@ -26,4 +27,11 @@ pub fn nothing_is_told_early<S: Readiness, H: BridgeHandler>()
 /// written to, it is told, and settles.
 pub fn turn_settles<S: Readiness, H: BridgeHandler>()
     ensures { TurnSettles S.accepts S.watches S.connects S.reads S.writes S.finds H.handles H.hears H.settles }
+{}
+
+/// What a turn reads from a client's socket at most grows back to 65,536 bytes after turns of up to 100 milliseconds, by 512 with each, and after
+/// seven longer ones it is 512.
+pub fn reading_follows_the_turns()
+    ensures grows { GrowsBack }
+    ensures shrinks { ShrinksFast }
 {}

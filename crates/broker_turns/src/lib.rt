@@ -7,6 +7,7 @@ pub mod laws;
 mod lines;
 mod links;
 mod numbers;
+mod pace;
 mod setting;
 mod turn;
 

@@ -1,5 +1,5 @@
 //! What a turn does with clients' network connections (MQTT 5.0, 4.2).
-ghost use Rattle.std.specs.Prelude.{◌≡◌, length, OnOk, IfOk, IfErr};
+ghost use Rattle.std.specs.Prelude.{◌≡◌, ◌≤◌, length, OnOk, IfOk, IfErr};
 ghost use Rattle.broker_turns.specs.Connections.{IsAccepted, IsAwaited, IsHandled, IsLetGo, IsNobodyAccepted, IsRead, IsWrote, event, world};
 ghost use Rattle.broker_turns.specs.Faults.{IsCaused};
 ghost use Rattle.broker_turns.specs.Steps.{AreLetInIf, Each, EachTells};
@@ -145,7 +145,7 @@ fn read_one<S: Sockets, H: BridgeHandler>(
     at: u64,
     key: usize,
 ) -> Result<bool, TurnFault<H::Fault>>
-    requires { length buffer.old ≡ 65536 }
+    requires { length buffer.old ≤ 65536 }
     ensures ok { IfOk result (λ more. IsRead S.reads H.handles at key
         (world sockets.old handler.old clients.old.slab) more (world sockets.new handler.new clients.new.slab)) }
     ensures fault { IfErr result (IsCaused H.refuses H.declines H.stops at) }
@@ -254,7 +254,7 @@ pub fn read_all<S: Sockets, H: BridgeHandler>(
     at: u64,
     keys: &[usize],
 ) -> Result<Vec<usize>, TurnFault<H::Fault>>
-    requires { length buffer.old ≡ 65536 }
+    requires { length buffer.old ≤ 65536 }
     ensures ok { IfOk result (λ found. EachTells (IsRead S.reads H.handles at) keys.now
         (world sockets.old handler.old clients.old.slab) found.items (world sockets.new handler.new clients.new.slab)) }
     ensures fault { IfErr result (IsCaused H.refuses H.declines H.stops at) }

@@ -22,7 +22,17 @@ fn homes_at(alloc: Global, address: &str, bridge: &str) -> Option<String> {
 fn told_at(rt: &HostRuntime, names: (&str, &str, &str), status: Option<&str>) -> String {
     let (configuration, node, database) = names;
     let none = Limits::none();
-    let text = match serve(rt, configuration, node, database, none, false, status, 1) {
+    let text = match serve(
+        rt,
+        configuration,
+        node,
+        database,
+        none,
+        false,
+        false,
+        status,
+        1,
+    ) {
         Ok(()) => Ok(String::new(rt.alloc())),
         Err(ending) => format!(in rt.alloc(); "{ending}"),
     };

@@ -77,7 +77,7 @@ fn served<R: RowStore + Drop>(
     let mut out = Vec::new(alloc);
     let nowhere: Option<StatusPlace<'_, FakeSockets>> = None;
     serve(
-        alloc, network, &mut clock, rows, place, limits, log, nowhere, 10, &mut out,
+        alloc, network, &mut clock, rows, place, limits, false, log, nowhere, 10, &mut out,
     )
     .err()
 }

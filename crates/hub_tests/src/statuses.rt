@@ -63,6 +63,7 @@ fn ends_so(
         MemoryRows::new(alloc),
         (homes, id),
         Limits::none(),
+        false,
         silent,
         Some(place),
         40,

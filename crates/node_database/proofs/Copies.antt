@@ -54,3 +54,8 @@ pub bad_row : (fault : RowFault) → fault_of_rows fault ≡ Foreign → fault �
 bad_row rows.NoMemory h = absurd (cc)
 bad_row rows.Device h = absurd (cc)
 bad_row rows.BadRow h = refl
+
+pub rows_answer : (fault : RowFault) → (fault_of_rows fault ≢ Locked) × (fault_of_rows fault ≢ Refused)
+rows_answer rows.NoMemory = (λ h. cc, λ h. cc)
+rows_answer rows.Device = (λ h. cc, λ h. cc)
+rows_answer rows.BadRow = (λ h. cc, λ h. cc)

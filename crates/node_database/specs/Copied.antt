@@ -1,5 +1,5 @@
 -- What is read from copies of the files of a database.
-use Rattle.std.specs.Prelude.{◌≡◌, ◌≢◌, List, map, IsTrue, IfErr, Result}
+use Rattle.std.specs.Prelude.{◌≡◌, ◌≢◌, ◌⊎◌, List, map, IsTrue, IfErr, Result}
 use Rattle.std.specs.FinMap.{entries}
 use Rattle.sqlite.specs.Effect.{Database}
 use Rattle.sqlite.specs.Held.{Held, state}
@@ -9,6 +9,7 @@ use Rattle.sqlite_disk.specs.declared.Disk as disk
 use Rattle.sqlite.specs.Store as store
 use Rattle.row_store.specs.declared.row.Row.{Row}
 use Rattle.row_store.specs.Rows.{Content, entry_of}
+use Rattle.row_journal.specs.Journal.{IsJournaled, shown}
 use Rattle.session_records.specs.Connections.{IsForeign}
 use Rattle.node_database.specs.declared.fault.OpenFault.{OpenFault}
 use Rattle.node_database.specs.declared.fault.OpenFault.TheVariants.{Locked, Refused}
@@ -22,17 +23,21 @@ IsHonest {D} g = (file : D) → IsTrue (g.is_clean file)
 abbrev pub IsNeverDirty : {S : Type 0} → store.Ghosts S → Type 0
 IsNeverDirty {S} g = (conn : Held S) → HasCleanDisk (state g conn)
 
--- the rows of a database, in the order of their keys
+-- what is shown of the rows of a database, in the order of the keys
 abbrev pub ShowRowsOf : Database → List Row → Type 0
-ShowRowsOf db rows = (content : Content) × AreRowsOf db content × (map entry_of rows ≡ entries content)
+ShowRowsOf db rows = (table : Content) × AreRowsOf db table × (map entry_of rows ≡ entries (shown table))
 
--- the rows that the files hold, in the order of their keys
+-- what is shown of the rows that the files hold, in the order of the keys
 abbrev pub Show : Image → List Row → Type 0
-Show files rows = (content : Content) × AreRowsIn files content × (map entry_of rows ≡ entries content)
+Show files rows = (table : Content) × AreRowsIn files table × (map entry_of rows ≡ entries (shown table))
 
--- the files hold a database that isn't empty, and hasn't the table of rows and nothing else
+-- a database that isn't empty, and hasn't the table of rows and nothing else; or the rows of the journal's kind in its table are no journal
+abbrev pub IsOther : Database → Type 0
+IsOther db = IsForeign db ⊎ ((table : Content) × AreRowsOf db table × (IsJournaled table → ⊥))
+
+-- the files hold such a database
 abbrev pub AreForeign : Image → Type 0
-AreForeign files = (db : Database) × IsIn files db × IsForeign db
+AreForeign files = (db : Database) × IsIn files db × IsOther db
 
 -- copies are never locked, and no system refuses them
 abbrev pub IsAnswer : {T : Type 0} → Result T OpenFault → Type 0

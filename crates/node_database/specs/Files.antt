@@ -6,6 +6,7 @@ use Rattle.sqlite.specs.Files.{AreFoundIn, HoldsDatabase}
 use Rattle.sqlite.specs.Recovery.{Image}
 use Rattle.sqlite.specs.Tree.{Trees}
 use Rattle.row_store.specs.Rows.{Content}
+use Rattle.row_journal.specs.Journal.{shown}
 use Rattle.session_records.specs.Stored.{IsFormed, held}
 use Rattle.session_records.specs.Table.{no_schema}
 
@@ -24,3 +25,7 @@ pub record AreRowsIn (files : Image) (rows : Content) : Type 0 where
   pub database : Database
   pub is_in : IsIn files database
   pub are_its : AreRowsOf database rows
+
+-- what is shown of the rows that the files hold: those of the table, after the changes of the journal among them
+abbrev pub AreShownIn : Image → Content → Type 0
+AreShownIn files rows = (table : Content) × AreRowsIn files table × (rows ≡ shown table)

@@ -3,13 +3,13 @@
 ghost use Rattle.std.specs.Prelude.{◌≡◌, ◌≢◌, Err, map, IfOk};
 ghost use Rattle.std.specs.FinMap.{entries};
 ghost use Rattle.row_store.specs.Rows.{entry_of};
-ghost use Rattle.session_records.specs.Connections.{IsForeign};
 ghost use Rattle.sqlite.specs.Files.{file_state, image_of};
 ghost use Rattle.sqlite_disk.specs.Memory.{memory_bytes};
-ghost use Rattle.node_database.specs.Copied.{AreForeign, IsAnswer, IsHonest, Show, ShowRowsOf};
+ghost use Rattle.node_database.specs.Copied.{AreForeign, IsAnswer, IsHonest, IsOther, Show, ShowRowsOf};
 
-use crate::adopt;
 use crate::fault::{OpenFault, fault_of_error, fault_of_rows};
+use crate::{BOUNDS, adopt};
+use row_journal::JournaledRows;
 use row_store::{Row, RowStore};
 use sqlite::{Connection, FileStore, Files, Options};
 use sqlite_disk::{Disk, Memory};
@@ -60,27 +60,34 @@ fn rows_on<D: Disk + Drop>(alloc: Global, files: Files<D>) -> Result<Vec<Row>, O
         return Err(OpenFault::Device);
     }
     match Connection::open_files(alloc, files, Options::new(0)) {
-        Ok(conn) => rows_over(conn),
+        Ok(conn) => rows_over(alloc, conn),
         Err((error, _)) => Err(fault_of_error(&error)),
     }
 }
 
 /// The rows of a connection that is in no transaction.
-fn rows_over<D: Disk + Drop>(conn: Connection<FileStore<D>>) -> Result<Vec<Row>, OpenFault>
+fn rows_over<D: Disk + Drop>(
+    alloc: Global,
+    conn: Connection<FileStore<D>>,
+) -> Result<Vec<Row>, OpenFault>
     ensures rows { IsHonest D.Disk → IfOk result (λ rows. ShowRowsOf (file_state conn).now rows.items) }
-    ensures foreign { IsHonest D.Disk → result ≡ Err OpenFault.Foreign → IsForeign (file_state conn).now }
+    ensures foreign { IsHonest D.Disk → result ≡ Err OpenFault.Foreign → IsOther (file_state conn).now }
     ensures named { IsAnswer result }
 {
     match adopt(conn) {
-        Ok(rows) => rows_in(rows),
+        Ok(rows) => match JournaledRows::open(alloc, rows, BOUNDS) {
+            Ok(rows) => rows_in(rows),
+            Err((fault, _)) => Err(fault_of_rows(fault)),
+        },
         Err(fault) => Err(fault_of_rows(fault)),
     }
 }
 
-/// The rows of a database whose file and log have these bytes, in the order of their keys. It is opened on copies in memory, so nothing
-/// is written anywhere.
+/// The rows that a database shows whose file and log have these bytes, in the order of their keys. It is opened on copies in memory, so
+/// nothing is written anywhere.
 ///
-/// `Foreign` is answered only where they hold a database with anything but the table of rows. `Locked` and `Refused` are never answered.
+/// `Foreign` is answered only where they hold a database with anything but the table of rows, or with rows of the journal's kind that are no journal. `Locked` and
+/// `Refused` are never answered.
 pub fn copied_rows(alloc: Global, database: &[u8], log: &[u8]) -> Result<Vec<Row>, OpenFault>
     ensures rows { IfOk result (λ rows. Show (record { log = log.now; db = database.now }) rows.items) }
     ensures foreign { result ≡ Err OpenFault.Foreign → AreForeign (record { log = log.now; db = database.now }) }

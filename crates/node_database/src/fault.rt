@@ -17,7 +17,7 @@ pub enum OpenFault {
     Refused,
     /// The files are no database, or damaged.
     NoDatabase,
-    /// It has anything but the table of rows.
+    /// It has anything but the table of rows, or rows of the journal's kind that are no journal.
     Foreign,
     /// The disk failed.
     Device,

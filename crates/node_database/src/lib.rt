@@ -1,4 +1,4 @@
-//! The database of a node: its rows in two files, which are a database and its log.
+//! The database of a node: its rows in two files, which are a database and its log. Each list of changes is written into a journal of rows first.
 #![tactic(auto)]
 
 ghost use Rattle.std.proofs.Common.{ap, ◌∙◌};
@@ -6,7 +6,8 @@ ghost use Rattle.std.specs.Prelude.{◌≡◌, Err, IfOk};
 ghost use Rattle.session_records.specs.Connections.{Adopts, IsForeign};
 ghost use Rattle.session_records.specs.Stored.{content_in};
 ghost use Rattle.node_database.specs.Copied.{IsNeverDirty};
-ghost use Rattle.node_database.specs.Files.{AreRowsIn};
+ghost use Rattle.node_database.specs.Files.{AreShownIn};
+ghost use Rattle.row_journal.specs.Journal.{shown};
 ghost use Rattle.sqlite.specs.Held.{state};
 ghost use Rattle.sqlite.specs.State.{HasCleanDisk};
 ghost use Rattle.sqlite.specs.WalFiles.{image_at};
@@ -20,15 +21,22 @@ use crate::begun::begin;
 use crate::fault::{fault_of_error, fault_of_rows};
 pub use copied::copied_rows;
 pub use fault::OpenFault;
+use row_journal::{Bounds, JournaledRows};
 use row_store::{Change, Row, RowFault, RowStore};
 use session_records::SqlRows;
 pub use sqlite::Wary;
 use sqlite::{Alter, Connection, FileFrom, FileStore, Start};
 use sqlite_disk::Disk;
 
+/// How many rows, and how many bytes of changes, the journal has before it is folded.
+pub(crate) const BOUNDS: Bounds = Bounds {
+    rows: 256,
+    bytes: 1_048_576,
+};
+
 /// Rows in the files of a database.
 pub struct DatabaseRows<D: Disk> {
-    rows: SqlRows<FileStore<D>>,
+    rows: JournaledRows<SqlRows<FileStore<D>>>,
 }
 
 // It is written out, so that a caller does not prove again how each part is dropped.
@@ -39,15 +47,15 @@ impl<D: Disk + Drop> Drop for DatabaseRows<D> {
 }
 
 impl<D: Disk> RowStore for DatabaseRows<D> {
-    ghost content = { λ d. ⟦<SqlRows<FileStore<D>> as RowStore>⟧.content d.rows };
+    ghost content = { λ d. ⟦<JournaledRows<SqlRows<FileStore<D>>> as RowStore>⟧.content d.rows };
 
-    ghost is_clean = { λ d. ⟦<SqlRows<FileStore<D>> as RowStore>⟧.is_clean d.rows };
+    ghost is_clean = { λ d. ⟦<JournaledRows<SqlRows<FileStore<D>>> as RowStore>⟧.is_clean d.rows };
 
-    ghost is_open = { λ d. ⟦<SqlRows<FileStore<D>> as RowStore>⟧.is_open d.rows };
+    ghost is_open = { λ d. ⟦<JournaledRows<SqlRows<FileStore<D>>> as RowStore>⟧.is_open d.rows };
 
-    ghost may_leave = { λ d. ⟦<SqlRows<FileStore<D>> as RowStore>⟧.may_leave d.rows };
+    ghost may_leave = { λ d. ⟦<JournaledRows<SqlRows<FileStore<D>>> as RowStore>⟧.may_leave d.rows };
 
-    ghost failed = { λ d. ⟦<SqlRows<FileStore<D>> as RowStore>⟧.failed d.rows };
+    ghost failed = { λ d. ⟦<JournaledRows<SqlRows<FileStore<D>>> as RowStore>⟧.failed d.rows };
 
     fn failures(&self) -> u64 {
         self.rows.failures()
@@ -61,7 +69,7 @@ impl<D: Disk> RowStore for DatabaseRows<D> {
         self.rows.load()
     }
 
-    ghost settled = { λ d c up left. left.2 ∙ ap (λ trees. content_in (trees 0)) (settled_at d.rows.0.store D.Disk.seen_may_stay left.0 up left.1) };
+    ghost settled = { λ d c up left. left.2 ∙ ap shown (left.1.2 ∙ ap (λ trees. content_in (trees 0)) (settled_at d.rows.0.0.store D.Disk.seen_may_stay left.1.0 up left.1.1)) };
 }
 
 /// The rows of a connection that is in no transaction, as they are; an empty database has none.
@@ -86,26 +94,30 @@ fn is_file(path: &str) -> bool {
     path != ":memory:" && !path.starts_with("file:")
 }
 
-/// The rows of the database at a path, which is made where there is none: those that its files hold as they are opened. They are open.
+/// The rows of the database at a path, which is made where there is none: those that its files show as they are opened, which are the rows of its table after the changes of
+/// the journal in it. They are open.
 ///
 /// `S` stands for what the files hold, which no code can tell; its value is used up, so code over any `S` opens one database. Programs pass
 /// `Wary`. That the files are those at the path no clause says.
 ///
-/// A fault is that of its files (`fault_of_error`), or else of its rows, as `SqlRows::adopt` answers it (`fault_of_rows`).
+/// A fault is that of its files (`fault_of_error`), or else of its rows (`fault_of_rows`), as `SqlRows::adopt` or `JournaledRows::open` answers it.
 pub fn open_rows<S: Start>(
     rt: &HostRuntime,
     path: &str,
     start: S,
 ) -> Result<DatabaseRows<FileFrom<S>>, OpenFault>
     ensures open { IfOk result (λ d. ⟦<DatabaseRows<FileFrom<S>> as RowStore>⟧.is_clean d → ⟦<DatabaseRows<FileFrom<S>> as RowStore>⟧.is_open d) }
-    ensures rows { IfOk result (λ d. ⟦<DatabaseRows<FileFrom<S>> as RowStore>⟧.is_clean d → AreRowsIn (image_at S.Start) (⟦<DatabaseRows<FileFrom<S>> as RowStore>⟧.content d)) }
+    ensures rows { IfOk result (λ d. ⟦<DatabaseRows<FileFrom<S>> as RowStore>⟧.is_clean d → AreShownIn (image_at S.Start) (⟦<DatabaseRows<FileFrom<S>> as RowStore>⟧.content d)) }
 {
     if is_file(path) {
         let _ = begin(rt, path);
     }
     match Connection::open_from(rt, path, false, start) {
         Ok(conn) => match adopt(conn) {
-            Ok(rows) => Ok(DatabaseRows { rows }),
+            Ok(rows) => match JournaledRows::open(rt.alloc(), rows, BOUNDS) {
+                Ok(rows) => Ok(DatabaseRows { rows }),
+                Err((fault, _)) => Err(fault_of_rows(fault)),
+            },
             Err(fault) => Err(fault_of_rows(fault)),
         },
         Err((error, _)) => Err(fault_of_error(&error)),

@@ -7,6 +7,8 @@ use Rattle.client_limits.specs.declared.fault.LimitedFault.{LimitedFault}
 use Rattle.client_limits.specs.declared.fault.LimitedFault.TheVariants as limits
 use Rattle.client_log.specs.declared.fault.LoggedFault.{LoggedFault}
 use Rattle.client_log.specs.declared.fault.LoggedFault.TheVariants as logs
+use Rattle.mqtt3_handler.specs.declared.fault.Mqtt3Fault.{Mqtt3Fault}
+use Rattle.mqtt3_handler.specs.declared.fault.Mqtt3Fault.TheVariants as wraps
 use Rattle.node_keeper.specs.declared.fault.KeeperFault.{KeeperFault}
 use Rattle.node_keeper.specs.declared.fault.KeeperFault.TheVariants as keepers
 
@@ -27,7 +29,12 @@ abbrev pub of_logged : LoggedFault (LimitedFault KeeperFault) → RunFault
 of_logged logs.NoMemory = runs.NoMemory
 of_logged (logs.Inside fault) = of_limited fault
 
+-- a fault of the node behind all handlers
+abbrev pub of_mqtt3 : Mqtt3Fault (LoggedFault (LimitedFault KeeperFault)) → RunFault
+of_mqtt3 wraps.NoMemory = runs.NoMemory
+of_mqtt3 (wraps.Inside fault) = of_logged fault
+
 -- a fault of a turn
-abbrev pub of_turn : TurnFault (LoggedFault (LimitedFault KeeperFault)) → RunFault
+abbrev pub of_turn : TurnFault (Mqtt3Fault (LoggedFault (LimitedFault KeeperFault))) → RunFault
 of_turn turns.NoMemory = runs.NoMemory
-of_turn (turns.Handler fault) = of_logged fault
+of_turn (turns.Handler fault) = of_mqtt3 fault

@@ -1,12 +1,13 @@
 //! Why a run of a node ends before its end.
 
 ghost use Rattle.std.specs.Prelude.{◌≡◌};
-ghost use Rattle.node_server.specs.Faults.{of_limited, of_logged, of_node, of_turn};
+ghost use Rattle.node_server.specs.Faults.{of_limited, of_logged, of_mqtt3, of_node, of_turn};
 
 use broker_stop::RunFault;
 use broker_turns::TurnFault;
 use client_limits::LimitedFault;
 use client_log::LoggedFault;
+use mqtt3_handler::Mqtt3Fault;
 use node_keeper::KeeperFault;
 
 /// A fault of the node, as one of the run.
@@ -41,12 +42,24 @@ pub(crate) fn of_logged(fault: LoggedFault<LimitedFault<KeeperFault>>) -> RunFau
     }
 }
 
+/// A fault of the node behind all handlers, as one of the run.
+pub(crate) fn of_mqtt3(fault: Mqtt3Fault<LoggedFault<LimitedFault<KeeperFault>>>) -> RunFault
+    ensures { result ≡ of_mqtt3 fault }
+{
+    match fault {
+        Mqtt3Fault::NoMemory => RunFault::NoMemory,
+        Mqtt3Fault::Inside(fault) => of_logged(fault),
+    }
+}
+
 /// A fault of a turn, as one of the run.
-pub(crate) fn of_turn(fault: TurnFault<LoggedFault<LimitedFault<KeeperFault>>>) -> RunFault
+pub(crate) fn of_turn(
+    fault: TurnFault<Mqtt3Fault<LoggedFault<LimitedFault<KeeperFault>>>>,
+) -> RunFault
     ensures { result ≡ of_turn fault }
 {
     match fault {
         TurnFault::NoMemory => RunFault::NoMemory,
-        TurnFault::Handler(fault) => of_logged(fault),
+        TurnFault::Handler(fault) => of_mqtt3(fault),
     }
 }

@@ -18,6 +18,7 @@ use client_limits::{Limited, Limits};
 use client_log::Logged;
 use home_table::HomeTable;
 use mqtt_fields::NoMemory;
+use mqtt3_handler::Mqtt3;
 use node_keeper::Keeper;
 use row_store::RowStore;
 use status_door::{OpenDesk, Told};
@@ -64,7 +65,7 @@ fn tell_ready<W: Write>(out: &mut W, homes: &HomeTable, id: u16) -> Result<(), R
 }
 
 /// Prints that so many turns were made.
-fn tell_turns<W: Write>(out: &mut W, turns: u32) -> Result<(), RunFault>
+fn tell_turns<W: Write>(out: &mut W, turns: u64) -> Result<(), RunFault>
     ensures { OnOk result (Appends (W.contents out.old) (W.contents out.new) (turns_line turns)) }
 {
     match writeln!(out, "turns {turns}") {
@@ -122,9 +123,10 @@ fn run_node<S: Readiness, C: Clock, R: RowStore + Drop, E: Write + Drop, Z: Sock
     setting: Setting<S::Listener>,
     keeper: Keeper<R>,
     limits: Limits,
+    mqtt3: bool,
     error: Option<E>,
     desk: Option<OpenDesk<Z, NodeTeller>>,
-    turns: u32,
+    turns: u64,
 ) -> Result<(), RunFault>
     requires { length setting.peers.items ≤ 64 }
 {
@@ -134,10 +136,11 @@ fn run_node<S: Readiness, C: Clock, R: RowStore + Drop, E: Write + Drop, Z: Sock
     };
     let limited = Limited::new(alloc, limits, ServedNode::new(alloc, keeper));
     let logged = Logged::new(alloc, error, limited);
-    let mut node = Told::new(Tallied::new(logged, tally), desk);
+    let told = Told::new(Tallied::new(logged, tally), desk);
+    let mut node = Mqtt3::new(alloc, mqtt3, told);
     match hub.serve(sockets, &mut node, clock, turns) {
         Ok(()) => {
-            let mut logged = node.into_inside().into_inside();
+            let mut logged = node.into_inside().into_inside().into_inside();
             let _ = tell_losses(&mut logged, clock);
             Ok(())
         }
@@ -166,9 +169,10 @@ pub fn serve<
     rows: R,
     place: (HomeTable, u16),
     limits: Limits,
+    mqtt3: bool,
     error: Option<E>,
     status: Option<StatusPlace<'_, Z>>,
-    turns: u32,
+    turns: u64,
     out: &mut W,
 ) -> Result<(), RunFault>
     requires { place.1 < length place.0.nodes }
@@ -184,7 +188,7 @@ pub fn serve<
     let desk = desk_at(alloc, status, clock)?;
     tell_ready(out, homes, id)?;
     run_node(
-        alloc, sockets, clock, setting, keeper, limits, error, desk, turns,
+        alloc, sockets, clock, setting, keeper, limits, mqtt3, error, desk, turns,
     )?;
     tell_turns(out, turns)
 }

@@ -28,12 +28,13 @@ fn told(rt: &impl Abort, alloc: Global, line: &str) -> String {
                 turns,
                 most_clients,
                 connect_within,
+                mqtt3,
                 log,
                 status,
             },
         ) => {
-            let options = (most_clients, connect_within, log, status);
-            format!(in alloc; "serve {configuration} {node} {database} {turns} {options:?}")
+            let options = (turns, most_clients, connect_within, mqtt3, log, status);
+            format!(in alloc; "node {configuration} {node} {database} {options:?}")
         }
         Ok(
             Task::Check {
@@ -61,37 +62,69 @@ fn reads_command_lines(rt: HostRuntime) {
         ("loopback a.script", "loopback a.script"),
         (
             "serve c.toml n0 d.db --turns 1",
-            "serve c.toml n0 d.db 1 (None, None, false, None)",
+            "node c.toml n0 d.db (Some(1), None, None, false, false, None)",
         ),
         (
             "serve --turns=1000000000 c.toml n0 d.db",
-            "serve c.toml n0 d.db 1000000000 (None, None, false, None)",
+            "node c.toml n0 d.db (Some(1000000000), None, None, false, false, None)",
         ),
         (
             "serve c.toml n0 d.db --turns 1 --most-clients 500",
-            "serve c.toml n0 d.db 1 (Some(500), None, false, None)",
+            "node c.toml n0 d.db (Some(1), Some(500), None, false, false, None)",
         ),
         (
             "serve --connect-within=1 c.toml n0 d.db --most-clients=1000000000 --turns 1",
-            "serve c.toml n0 d.db 1 (Some(1000000000), Some(1), false, None)",
+            "node c.toml n0 d.db (Some(1), Some(1000000000), Some(1), false, false, None)",
         ),
         (
             "serve c.toml --log n0 d.db --turns 1 --most-clients 2",
-            "serve c.toml n0 d.db 1 (Some(2), None, true, None)",
+            "node c.toml n0 d.db (Some(1), Some(2), None, false, true, None)",
         ),
         (
             "serve c.toml n0 d.db --status 127.0.0.1:8080 --turns 1",
-            "serve c.toml n0 d.db 1 (None, None, false, Some(\"127.0.0.1:8080\"))",
+            "node c.toml n0 d.db (Some(1), None, None, false, false, Some(\"127.0.0.1:8080\"))",
         ),
         (
             "serve c.toml n0 d.db --turns 1 --status=here --log",
-            "serve c.toml n0 d.db 1 (None, None, true, Some(\"here\"))",
+            "node c.toml n0 d.db (Some(1), None, None, false, true, Some(\"here\"))",
         ),
+        (
+            "serve c.toml n0 d.db --turns 1 --mqtt3",
+            "node c.toml n0 d.db (Some(1), None, None, true, false, None)",
+        ),
+        (
+            "run c.toml n0 d.db",
+            "node c.toml n0 d.db (None, None, None, false, false, None)",
+        ),
+        (
+            "run c.toml --log n0 --most-clients 2 d.db --connect-within=5 --status here",
+            "node c.toml n0 d.db (None, Some(2), Some(5), false, true, Some(\"here\"))",
+        ),
+        ("check c.toml n0 d.db", "check c.toml n0 d.db"),
+        ("check --help", "0 (true, false)"),
+        ("--help", "0 (true, false)"),
+        ("help", "0 (true, false)"),
+        ("serve --help", "0 (true, false)"),
+        ("run --help", "0 (true, false)"),
+        ("loopback --help", "0 (true, false)"),
+    ];
+    for (line, expected) in lines {
+        let found = told(&rt, alloc, line);
+        assert_eq!(rt; found.as_str(), expected, "{line}");
+    }
+}
+
+#[test]
+fn refuses_command_lines(rt: HostRuntime) {
+    let alloc = rt.alloc();
+    let lines = [
         ("", "2 (false, true)"),
         ("play", "2 (false, true)"),
         ("play a b", "2 (false, true)"),
         ("loopback", "2 (false, true)"),
         ("run a", "2 (false, true)"),
+        ("run c.toml n0 d.db --turns 1", "2 (false, true)"),
+        ("runs c.toml n0 d.db", "2 (false, true)"),
         ("serve c.toml n0 d.db", "2 (false, true)"),
         ("serve c.toml n0 --turns 1", "2 (false, true)"),
         ("serve c.toml n0 d.db --turns 0", "2 (false, true)"),
@@ -132,14 +165,8 @@ fn reads_command_lines(rt: HostRuntime) {
         ),
         ("check c.toml n0 d.db --most-clients 1", "2 (false, true)"),
         ("check c.toml n0 d.db --log", "2 (false, true)"),
-        ("check c.toml n0 d.db", "check c.toml n0 d.db"),
         ("check c.toml n0", "2 (false, true)"),
         ("check c.toml n0 d.db --turns 1", "2 (false, true)"),
-        ("check --help", "0 (true, false)"),
-        ("--help", "0 (true, false)"),
-        ("help", "0 (true, false)"),
-        ("serve --help", "0 (true, false)"),
-        ("loopback --help", "0 (true, false)"),
     ];
     for (line, expected) in lines {
         let found = told(&rt, alloc, line);

@@ -1,7 +1,8 @@
 //! A run over a database file and its log, either of which stops, or refuses a call: it is opened again,
-//! and has the rows of before the change that failed, or those of after it.
+//! and has the rows of before the change that failed, or those of after it. So it is with a journal before the database, and without.
 
 use crate::samples::{Sample, apply, holds};
+use row_journal::{Bounds, JournaledRows};
 use row_store::{RowFault, RowStore};
 use sqlite::{Alter, Connection, Files};
 use sqlite_disk::Disk;
@@ -145,15 +146,43 @@ fn closes(task: Task, outcome: Option<Outcome>) -> bool {
     }
 }
 
+// The journal before the database, if there is one, is folded after so many rows.
+type Journal = Option<u64>;
+
+fn done_over<R: RowStore + Drop>(
+    rt: &impl Abort,
+    alloc: Global,
+    mut rows: R,
+    journal: Journal,
+    task: Task,
+) -> (R, Option<Outcome>) {
+    let Some(most) = journal else {
+        let outcome = done(rt, alloc, &mut rows, task);
+        return (rows, outcome);
+    };
+    let bounds = Bounds {
+        rows: most,
+        bytes: 1_000_000,
+    };
+    match JournaledRows::open(alloc, rows, bounds) {
+        Ok(mut rows) => {
+            let outcome = done(rt, alloc, &mut rows, task);
+            (rows.into_rows(), outcome)
+        }
+        Err((fault, rows)) => (rows, undone(task, fault)),
+    }
+}
+
 fn done_in<S: Alter + Drop>(
     rt: &impl Abort,
     alloc: Global,
     conn: Connection<S>,
+    journal: Journal,
     task: Task,
 ) -> (Left<S>, Option<Outcome>) {
     match adopted(conn) {
-        Ok(mut rows) => {
-            let outcome = done(rt, alloc, &mut rows, task);
+        Ok(rows) => {
+            let (rows, outcome) = done_over(rt, alloc, rows, journal, task);
             (left(rows.into_connection(), closes(task, outcome)), outcome)
         }
         Err((fault, conn)) => (left(conn, false), undone(task, fault)),
@@ -166,11 +195,12 @@ fn done_with<D: Disk + Drop>(
     alloc: Global,
     files: Files<D>,
     seed: u64,
+    journal: Journal,
     task: Task,
 ) -> (Files<D>, Option<Outcome>) {
     match opened(alloc, files, seed) {
         Ok(conn) => {
-            let (left, outcome) = done_in(rt, alloc, conn, task);
+            let (left, outcome) = done_in(rt, alloc, conn, journal, task);
             (files_of(left), outcome)
         }
         Err((fault, files)) => (files, undone(task, fault)),
@@ -183,9 +213,10 @@ fn run(
     alloc: Global,
     files: Files<StoppingFile>,
     seed: u64,
+    journal: Journal,
     task: Task,
 ) -> (Files<StoppingFile>, Option<Outcome>) {
-    done_with(rt, alloc, files, seed, task)
+    done_with(rt, alloc, files, seed, journal, task)
 }
 
 fn let_go(files: Files<StoppingFile>) {
@@ -193,9 +224,16 @@ fn let_go(files: Files<StoppingFile>) {
 }
 
 // Whether files with these bytes go on from an outcome.
-fn is_there(rt: &impl Abort, alloc: Global, log: &[u8], db: &[u8], outcome: Outcome) -> bool {
+fn is_there(
+    rt: &impl Abort,
+    alloc: Global,
+    log: &[u8],
+    db: &[u8],
+    journal: Journal,
+    outcome: Outcome,
+) -> bool {
     let files = stopping_files(alloc, (log, db), None).expect(rt, "memory");
-    let (files, found) = run(rt, alloc, files, 2, Task::GoOn(outcome));
+    let (files, found) = run(rt, alloc, files, 2, journal, Task::GoOn(outcome));
     let_go(files);
     found.is_some()
 }
@@ -205,11 +243,12 @@ fn are_there(
     alloc: Global,
     logs: &[Vec<u8>],
     dbs: &[Vec<u8>],
+    journal: Journal,
     outcome: Outcome,
 ) -> bool {
     for log in logs {
         for db in dbs {
-            if !is_there(rt, alloc, log, db, outcome) {
+            if !is_there(rt, alloc, log, db, journal, outcome) {
                 return false;
             }
         }
@@ -222,22 +261,23 @@ fn is_left(
     rt: &impl Abort,
     alloc: Global,
     files: &mut Files<StoppingFile>,
+    journal: Journal,
     outcome: Outcome,
 ) -> bool {
     let logs = leavings(alloc, &mut files.log).expect(rt, "memory");
     let dbs = leavings(alloc, &mut files.db).expect(rt, "memory");
-    let is_left = are_there(rt, alloc, &logs, &dbs, outcome);
+    let is_left = are_there(rt, alloc, &logs, &dbs, journal, outcome);
     drop((logs, dbs));
     is_left
 }
 
 // Whether a run meets its trouble.
-fn meets(rt: &impl Abort, alloc: Global, trouble: Trouble) -> bool {
+fn meets(rt: &impl Abort, alloc: Global, journal: Journal, trouble: Trouble) -> bool {
     let files = stopping_files(alloc, (&[], &[]), Some(trouble)).expect(rt, "memory");
-    let (mut files, outcome) = run(rt, alloc, files, 1, Task::Make);
+    let (mut files, outcome) = run(rt, alloc, files, 1, journal, Task::Make);
     let outcome = outcome.expect(rt, "another fault than the disk's");
     let (log, db) = calls_of(&files);
-    let is_left = is_left(rt, alloc, &mut files, outcome);
+    let is_left = is_left(rt, alloc, &mut files, journal, outcome);
     let_go(files);
     assert!(rt; is_left, "after {} calls", trouble.calls);
     if trouble.is_of_log {
@@ -248,32 +288,48 @@ fn meets(rt: &impl Abort, alloc: Global, trouble: Trouble) -> bool {
 }
 
 // How many runs have trouble before one ends without any.
-fn troubled_runs(rt: &impl Abort, alloc: Global, is_of_log: bool, is_stop: bool) -> u64 {
+fn troubled_runs(
+    rt: &impl Abort,
+    alloc: Global,
+    journal: Journal,
+    is_of_log: bool,
+    is_stop: bool,
+) -> u64 {
     for calls in 0..MOST_CALLS {
         let trouble = Trouble {
             is_of_log,
             is_stop,
             calls,
         };
-        if !meets(rt, alloc, trouble) {
+        if !meets(rt, alloc, journal, trouble) {
             return calls;
         }
     }
     MOST_CALLS
 }
 
-#[test]
-fn each_stop_and_refusal_leaves_the_rows_before_or_after(rt: HostRuntime) {
+fn leaves_the_rows_before_or_after(rt: &impl Abort, alloc: Global, journal: Journal) {
     for (is_of_log, is_stop) in [(true, true), (true, false), (false, true), (false, false)] {
-        let runs = troubled_runs(&rt, rt.alloc(), is_of_log, is_stop);
+        let runs = troubled_runs(rt, alloc, journal, is_of_log, is_stop);
         assert!(rt; runs < MOST_CALLS, "log {is_of_log}, stop {is_stop}");
     }
+}
+
+#[test]
+fn each_stop_and_refusal_leaves_the_rows_before_or_after(rt: HostRuntime) {
+    leaves_the_rows_before_or_after(&rt, rt.alloc(), None);
+}
+
+// The second step is written behind the first, and both are folded before the third one.
+#[test]
+fn so_it_does_with_a_journal(rt: HostRuntime) {
+    leaves_the_rows_before_or_after(&rt, rt.alloc(), Some(2));
 }
 
 // How many calls of both files it takes to make a store, and to make no changes so many times.
 fn calls_for_no_changes(rt: &impl Abort, alloc: Global, times: u64) -> Option<u64> {
     let files = stopping_files(alloc, (&[], &[]), None).expect(rt, "memory");
-    let (files, outcome) = run(rt, alloc, files, 1, Task::Nothing(times));
+    let (files, outcome) = run(rt, alloc, files, 1, None, Task::Nothing(times));
     let (log, db) = calls_of(&files);
     let_go(files);
     assert!(rt; outcome.is_some());

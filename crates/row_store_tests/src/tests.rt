@@ -121,8 +121,8 @@ fn are_put<R: RowStore>(rt: &impl Abort, alloc: Global, rows: &mut R) -> bool {
     true
 }
 
-// Whether the example leaves its one row, the row goes by a removal, and rows are put.
-fn is_worked<R: RowStore>(rt: &impl Abort, alloc: Global, rows: &mut R) -> bool {
+/// Whether the example leaves its one row, the row goes by a removal, and rows are put.
+pub fn is_worked<R: RowStore>(rt: &impl Abort, alloc: Global, rows: &mut R) -> bool {
     apply(rt, alloc, rows, &[]).expect(rt, "no changes");
     apply(rt, alloc, rows, &CHANGES).expect(rt, "changes");
     let one = holds(rows, &[(5, "t", Some(2))]).expect(rt, "a row");

@@ -21,6 +21,7 @@ pub fn ends_by(rt: &HostRuntime, names: (&str, &str, &str), end: Result<(), Stop
         database,
         Limits::none(),
         false,
+        false,
         None,
         1,
     ) {

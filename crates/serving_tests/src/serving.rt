@@ -1,7 +1,8 @@
 //! A node with its rows in memory, and a client of it over the sockets of the system.
 
 use broker_sockets::{
-    Answer, Event, EventKind, Handler, PolledSockets, Readiness, RealClock, RealSockets, Sockets,
+    Answer, Event, EventKind, Handler, PolledSockets, Readiness, RealClocks, RealSockets, Sockets,
+    SteadyClock,
 };
 use broker_stop::RunFault;
 use broker_turns::{Hub, Setting};
@@ -133,7 +134,7 @@ fn table(rt: &impl Abort, alloc: Global, address: &str, bridge: &str) -> HomeTab
 fn serve_for(
     rt: &HostRuntime,
     homes: HomeTable,
-    turns: u32,
+    turns: u64,
     out: &mut Vec<u8>,
 ) -> Option<RunFault> {
     if homes.nodes() == 0 {
@@ -145,7 +146,7 @@ fn serve_for(
         drop(homes);
         return Some(RunFault::Socket);
     };
-    let mut clock = RealClock::new(rt);
+    let mut clock = SteadyClock::new(RealClocks::new(rt));
     let rows = MemoryRows::new(alloc);
     let silent: Option<Vec<u8>> = None;
     let nowhere: Option<StatusPlace<'_, RealSockets<'_, HostRuntime>>> = None;
@@ -156,6 +157,7 @@ fn serve_for(
         rows,
         (homes, 0),
         Limits::none(),
+        false,
         silent,
         nowhere,
         turns,

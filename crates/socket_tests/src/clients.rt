@@ -138,7 +138,7 @@ fn faults_stop_a_turn(rt: HostRuntime) -> Result<(), Fail> {
 fn is_served(
     rt: &impl Abort,
     alloc: Global,
-    turns: u32,
+    turns: u64,
     wanted: (bool, u32, u64, u64),
     taken: &[u8],
 ) {

@@ -9,6 +9,8 @@ mod echo;
 #[cfg(test)]
 mod links;
 #[cfg(test)]
+mod moments;
+#[cfg(test)]
 mod nodes;
 #[cfg(test)]
 mod ready;

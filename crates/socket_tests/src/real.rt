@@ -3,7 +3,7 @@
 use crate::echo::{Echo, hub_at, listeners, make};
 use crate::talker::Talker;
 use broker_sockets::{
-    Answer, Clock, PolledSockets, Readiness, RealClock, RealSockets, Sockets, bind,
+    Answer, Clock, PolledSockets, Readiness, RealClocks, RealSockets, Sockets, SteadyClock, bind,
 };
 use std::alloc::Global;
 use std::io::{self, ErrorKind};
@@ -44,9 +44,9 @@ fn addresses_are_bound_and_moments_told(rt: HostRuntime) -> Result<(), Fail> {
     let mut sockets = PolledSockets::new(alloc, &rt).expect(&rt, "sockets");
     binds(&rt, alloc, &mut sockets);
     // from 2020 to 5138
-    let now = RealClock::new(&rt).now();
+    let now = SteadyClock::new(RealClocks::new(&rt)).now();
     assert!(rt; now > 1577836800000 && now < 100000000000000);
-    assert!(rt; RealClock::new(&Stopped).now() == 0);
+    assert!(rt; SteadyClock::new(RealClocks::new(&Stopped)).now() == 0);
     Ok(())
 }
 
@@ -160,7 +160,7 @@ fn idles<S: Readiness>(
 fn an_idle_hub_rests(rt: HostRuntime) -> Result<(), Fail> {
     let alloc = rt.alloc();
     let mut sockets = PolledSockets::new(alloc, &rt).expect(&rt, "sockets");
-    let mut clock = RealClock::new(&rt);
+    let mut clock = SteadyClock::new(RealClocks::new(&rt));
     // of 20 turns the first waits for nothing, and the others 10 milliseconds each
     assert!(rt; idles(&rt, alloc, &mut sockets, &mut clock, 20) >= 100);
     Ok(())

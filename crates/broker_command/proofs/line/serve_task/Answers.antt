@@ -1,18 +1,11 @@
 use Rattle.std.proofs.Common.{◌≡◌, ℕ, Option, Some, None, arith, codes}
 use Rattle.std.specs.Str.Parse.{ParsesUnsigned, ExplainsUnsignedError, HasUnsignedDigitsIfOk}
 use Rattle.clap.specs.Words.{found_of}
-use Rattle.broker_command.proofs.Lines.{flag_read, number_read, word_of}
+use Rattle.broker_command.proofs.Lines.{counted_if, number_read}
 use Rattle.broker_command.proofs.line.serve_task.Goals as goal
 
 pub returns : goal.returns
-returns c = (
-  word_of (found_of c.args.found.now) (codes "CONFIG") c.get_str.result c.in-Some-Some-Some.configuration _ c.get_str.ensures c.in-Some-Some-Some.is-0 c.in_ok-from_str.ensures.ok,
-  word_of (found_of c.args.found.now) (codes "NODE") c.get_str-2.result c.in-Some-Some-Some.node _ c.get_str-2.ensures c.in-Some-Some-Some.is-1 c.in_ok-from_str-2.ensures.ok,
-  word_of (found_of c.args.found.now) (codes "DATABASE") c.get_str-3.result c.in-Some-Some-Some.database _ c.get_str-3.ensures c.in-Some-Some-Some.is-2 c.in_ok-from_str-3.ensures.ok,
-  number_read _ (λ bs r. ParsesUnsigned 32 10 bs r × ExplainsUnsignedError 10 bs r × HasUnsignedDigitsIfOk bs r) (found_of c.args.found.now) (codes "turns") c.in-Some.turns
-      (λ t r g. g.0) (λ e. let bad : ◌≡◌ {A = Option ℕ} (Some c.in-Some.turns) None = c.in-Some.ensures.none e in cc) c.in-Some.ensures.value (omega arith) (omega arith),
-  c.in-Some-number_of.ensures,
-  c.in-Some-number_of-2.ensures,
-  flag_read (found_of c.args.found.now) (codes "log") c.get_flag.result c.get_flag.ensures.none c.get_flag.ensures.other c.get_flag.ensures.value,
-  c.in_ok-text_of.ensures,
-)
+returns c =
+    let turns = number_read _ (λ bs r. ParsesUnsigned 32 10 bs r × ExplainsUnsignedError 10 bs r × HasUnsignedDigitsIfOk bs r) (found_of c.args.found.now) (codes "turns") c.in-Some.turns
+    (λ t r g. g.0) (λ e. let bad : ◌≡◌ {A = Option ℕ} (Some c.in-Some.turns) None = c.in-Some.ensures.none e in cc) c.in-Some.ensures.value (omega arith) (omega arith) in
+    counted_if _ c.in-Some.turns c.node_task.result turns c.node_task.ensures

@@ -1,0 +1,10 @@
+pub mod NumbersLaws
+pub mod SpellingLaws
+pub mod TurnLaws
+pub mod Numbers
+pub mod JournalLaws
+pub mod ShownLaws
+pub mod CallLaws
+pub mod ReadingLaws
+pub mod RunLaws
+pub mod TopsLaws

@@ -1,0 +1,7 @@
+pub mod Fields
+pub mod Spelling
+pub mod Journal
+pub mod Reading
+pub mod Tops
+pub mod Calls
+pub mod Laws

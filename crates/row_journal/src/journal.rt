@@ -1,0 +1,184 @@
+//! The changes of a journal's rows, and the rows themselves.
+
+ghost use Rattle.std.specs.Prelude.{◌≡◌, ◌<◌, ◌≤◌, ◌↔◌, ◌^◌, ◌+◌, ◌++◌, ◌∷◌, [], length, map, vec_len, vec_capacity, IfOk, IsTrue, OnOk, Some, true};
+ghost use Rattle.std.specs.List.{AllByRecursion};
+ghost use Rattle.row_changes.specs.Noted.{pair_of};
+ghost use Rattle.row_store.specs.Rows.{Content, after_all};
+ghost use Rattle.row_journal.specs.Journal.{AreOthers, after_pairs, entry_key, is_other, removals};
+ghost use Rattle.row_journal.specs.Spelling as spec;
+ghost use Rattle.row_journal.specs.Tops.{Allows, Covers, Grows};
+
+use crate::spelled::{JOURNAL, spell_turn, spelled_len};
+use crate::tops::{Tops, needed, take_changes};
+use row_changes::last_of_each;
+use row_store::{Change, Row};
+use std::alloc::{AllocError, Global};
+
+/// What is known of a journal: the changes of its rows, one after the other, how many rows it has, whose places are the numbers below,
+/// and how many bytes their changes take.
+#[derive(Drop)]
+pub(crate) struct Journal {
+    pub(crate) noted: Vec<Change>,
+    pub(crate) count: u64,
+    pub(crate) bytes: usize,
+    pub(crate) tops: Tops,
+}
+
+/// Whether the change names no row of the journal's kind.
+fn is_plain(change: &Change) -> bool
+    ensures { IsTrue result ↔ (is_other (pair_of change.now).0 ≡ true) }
+{
+    match change {
+        Change::Put(row) => row.kind != JOURNAL,
+        Change::Remove(kind, _, _) => *kind != JOURNAL,
+    }
+}
+
+/// Whether none of them names a row of the journal's kind.
+pub(crate) fn are_plain(changes: &[Change]) -> bool
+    ensures { IsTrue result ↔ AreOthers (map pair_of changes.now) }
+{
+    for change in changes {
+        if !is_plain(change) {
+            return false;
+        }
+    }
+    true
+}
+
+/// How many bytes the changes take.
+pub(crate) fn total_len(changes: &[Change]) -> usize {
+    let mut len = 0usize;
+    for change in changes {
+        len = len.saturating_add(spelled_len(change));
+    }
+    len
+}
+
+fn copy_of(alloc: Global, change: &Change) -> Result<Change, AllocError>
+    ensures { IfOk result (λ copy. pair_of copy ≡ pair_of change.now) }
+{
+    match change {
+        Change::Put(row) => Ok(Change::Put(row.copy(alloc)?)),
+        Change::Remove(kind, owner, place) => {
+            let owner = Vec::from_slice(alloc, owner)?;
+            let place = Vec::from_slice(alloc, place)?;
+            Ok(Change::Remove(*kind, owner, place))
+        }
+    }
+}
+
+fn copies_of(alloc: Global, changes: &[Change]) -> Result<Vec<Change>, AllocError>
+    ensures { IfOk result (λ copies. map pair_of copies.items ≡ map pair_of changes.now) }
+{
+    let mut copies = Vec::with_capacity(alloc, changes.len())?;
+    for change in changes {
+        copies.push(copy_of(alloc, change)?)?;
+    }
+    Ok(copies)
+}
+
+/// The spelling of a turn, whose changes take so many bytes.
+fn spelling(alloc: Global, changes: &[Change], len: usize) -> Result<Vec<u8>, AllocError>
+    requires few { length changes.now < 2 ^ 16 }
+    requires fit { AllByRecursion (λ c. spec.change.Fits (pair_of c)) changes.now }
+    ensures { IfOk result (λ value. value.items ≡ spec.turn.bytes (map pair_of changes.now)) }
+{
+    let mut value = Vec::with_capacity(alloc, len.saturating_add(2))?;
+    if spell_turn(changes, &mut value).is_err() {
+        return Err(AllocError);
+    }
+    Ok(value)
+}
+
+/// The row of the journal of this number.
+fn entry(alloc: Global, at: u64, value: Vec<u8>) -> Result<Change, AllocError>
+    ensures { IfOk result (λ entry. pair_of entry ≡ (entry_key at, Some value.items)) }
+{
+    Ok(Change::Put(Row {
+        kind: JOURNAL,
+        owner: Vec::new(alloc),
+        place: Vec::from_slice(alloc, &at.to_be_bytes())?,
+        value,
+    }))
+}
+
+/// The row of the journal for these changes, and copies of them, for which there is room.
+pub(crate) fn prepare(
+    alloc: Global,
+    journal: &mut Journal,
+    changes: &[Change],
+    len: usize,
+) -> Result<(Change, Vec<Change>), AllocError>
+    requires few { length changes.now < 2 ^ 16 }
+    requires fit { AllByRecursion (λ c. spec.change.Fits (pair_of c)) changes.now }
+    ensures entry { IfOk result (λ both. pair_of both.0 ≡ (entry_key journal.old.count, Some (spec.turn.bytes (map pair_of changes.now)))) }
+    ensures copies { IfOk result (λ both. map pair_of both.1.items ≡ map pair_of changes.now) }
+    ensures room { IfOk result (λ both. vec_len journal.new.noted + vec_len both.1 ≤ vec_capacity journal.new.noted) }
+    ensures same { (journal.new.noted.items ≡ journal.old.noted.items) × (journal.new.count ≡ journal.old.count) × (journal.new.tops ≡ journal.old.tops) }
+{
+    let copies = copies_of(alloc, changes)?;
+    let value = spelling(alloc, changes, len)?;
+    let entry = entry(alloc, journal.count, value)?;
+    journal.noted.reserve(copies.len())?;
+    Ok((entry, copies))
+}
+
+/// Appends the removals of so many rows of the journal.
+#[tactic(auto, using(crate::proofs::JournalLaws::removals_more))]
+fn append_removals(alloc: Global, count: u64, changes: &mut Vec<Change>) -> Result<(), AllocError>
+    ensures { OnOk result (map pair_of changes.new.items ≡ map pair_of changes.old.items ++ removals count) }
+{
+    for at in 0..count {
+        let place = Vec::from_slice(alloc, &at.to_be_bytes())?;
+        changes.push(Change::Remove(JOURNAL, Vec::new(alloc), place))?;
+    }
+    Ok(())
+}
+
+/// Of the changes at each key the last one, but no removal of a row that isn't there.
+fn lasts_of(alloc: Global, tops: &Tops, noted: &[Change]) -> Result<Vec<Change>, AllocError>
+    ensures { IfOk result (λ lasts. (c : Content) → Covers tops.now.entries c → after_all c lasts.items ≡ after_pairs c (map pair_of noted.now)) }
+{
+    let copies = copies_of(alloc, noted)?;
+    needed(alloc, tops, last_of_each(alloc, copies)?)
+}
+
+impl Journal {
+    /// Of the changes at each key the last one, but no removal of a row that isn't there, and then the removals of all rows of the journal. What they put
+    /// may be there from now on.
+    pub(crate) fn fold_changes(&mut self, alloc: Global) -> Result<Vec<Change>, AllocError>
+        ensures changes { IfOk result (λ changes. (c : Content) → Covers self.old.tops.entries c
+            → after_all c changes.items ≡ after_pairs c (map pair_of self.old.noted.items ++ removals self.old.count)) }
+        ensures taken { IfOk result (λ changes. AllByRecursion (Allows self.new.tops.entries) changes.items) }
+        ensures grows { Grows self.old.tops.entries self.new.tops.entries }
+        ensures same { (self.new.noted.items ≡ self.old.noted.items) × (self.new.count ≡ self.old.count) }
+    {
+        let mut changes = lasts_of(alloc, &self.tops, &self.noted)?;
+        append_removals(alloc, self.count, &mut changes)?;
+        take_changes(alloc, &mut self.tops, &changes)?;
+        Ok(changes)
+    }
+
+    /// Nothing is left.
+    pub(crate) fn clear(&mut self)
+        ensures { (self.new.noted.items ≡ []) × (self.new.count ≡ 0) × (self.new.tops ≡ self.old.tops) }
+    {
+        self.noted.clear();
+        self.count = 0;
+        self.bytes = 0;
+    }
+
+    /// One row more, with these changes, for which there is room.
+    pub(crate) fn take(&mut self, copies: &mut Vec<Change>, len: usize)
+        requires room { vec_len self.old.noted + vec_len copies.old ≤ vec_capacity self.old.noted }
+        requires few { self.old.count + 1 < 2 ^ 64 }
+        ensures noted { self.new.noted.items ≡ self.old.noted.items ++ copies.old.items }
+        ensures count { self.new.count ≡ self.old.count + 1 }
+        ensures tops { self.new.tops ≡ self.old.tops }
+    {
+        let _ = self.noted.append(copies);
+        self.count += 1;
+        self.bytes = self.bytes.saturating_add(len);
+    }
+}

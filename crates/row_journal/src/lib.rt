@@ -1,0 +1,14 @@
+//! A journal before a store of rows: each list of changes becomes one row, and many lists become few changes of the store's rows.
+#![tactic(auto)]
+
+mod calls;
+mod flag;
+mod journal;
+pub mod laws;
+mod reading;
+mod spelled;
+mod store;
+mod tops;
+
+pub use calls::Bounds;
+pub use store::JournaledRows;
