@@ -85,7 +85,8 @@ fn a_lag_goes_in_four_times_its_length(rt: HostRuntime) -> Result<(), Fail> {
     for (second, lag) in [(60, 58_750), (61, 58_500), (294, 250), (295, 0), (299, 0)] {
         let first = times.get(..second - 58).expect(&rt, "a time");
         let system = BEGIN + second as u64 * 1000;
-        assert_eq!(rt; last_of(&rt, first) + lag, system, "{second}");
+        let told = last_of(&rt, first).checked_add(lag).expect(&rt, "a sum");
+        assert_eq!(rt; told, system, "{second}");
     }
     Ok(())
 }
