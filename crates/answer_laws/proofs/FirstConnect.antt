@@ -22,7 +22,7 @@ use Rattle.session_table.specs.Seats.{Seat, begun, run_outs, wills_due, ends_due
 use Rattle.node_work.specs.declared.outcome.Output.TheVariants.{Send, Close}
 use Rattle.node_work.specs.Acts.{Act, MomentTaken, Connection, Session, Out, Runs, next}
 use Rattle.node_work.specs.Calling.{CallsAt}
-use Rattle.node_work.specs.Held.Connections.{Accepted, Closed, Fed, ConnectionTable, changed_at, changed, with_piece, client_at, is_open}
+use Rattle.node_work.specs.Held.Connections.{Accepted, Closed, Fed, ConnectionTable, changed_at, changed, with_client, with_piece, client_at, is_open, room_at}
 use Rattle.node_work.specs.Held.Feeding.{cut_of}
 use Rattle.node_work.specs.Held.Sessions.{SessionStep, Begun, Called, has_session, seat_at}
 use Rattle.node_work.specs.Packets.{refused_packet}
@@ -58,44 +58,54 @@ refused c q code reference x p h acts (inr (y, own, mid, rest, one, runs, more, 
     is ∙ (λ i. told_by (fits (limit_in q.properties) (refused_packet code reference)) c (refused_packet code reference) y p h own one i ++ closed c x p mid rest more i)
 
 -- ---- the session's call
-success_told : (fitting : Bool) (old : State) (q : Connect) (continued : Bool) (client : List ℕ) (now : ℕ) (r : Reaction) (new : State) → OpensIf fitting old q (connack continued q.client client) now r new → TellsSuccess continued r
-success_told true old q continued client now r new o = inl (_, _, ap (λ (v : Reaction). v.packets) o.reacts, refl, refl)
-success_told false old q continued client now r new o = inr (ap (λ (v : Reaction). v.packets) o.0, ap (λ (v : Reaction). v.end) o.0)
+success_told : (fitting : Bool) (old : State) (q : Connect) (continued : Bool) (client : List ℕ) (room : Option ℕ) (now : ℕ) (r : Reaction) (new : State) → OpensIf fitting old q (connack continued q.client client) room now r new → TellsSuccess continued r
+success_told true old q continued client room now r new o = inl (_, _, ap (λ (v : Reaction). v.packets) o.reacts, refl, refl)
+success_told false old q continued client room now r new o = inr (ap (λ (v : Reaction). v.packets) o.0, ap (λ (v : Reaction). v.end) o.0)
 
-record Joined (c : ℕ) (client : List ℕ) (q : Connect) (continued : Bool) (acts : List Act) : Type 0 where
+record Joined (c : ℕ) (client : List ℕ) (q : Connect) (continued : Bool) (room : Option ℕ) (acts : List Act) : Type 0 where
   begun : List Act
   call : SessionStep
   is : acts ≡ begun ++ Session (Called call) ∷ []
   begins : begun ≡ cond continued [] (Session (Begun client) ∷ [])
   of : call.client ≡ client
   on : call.on ≡ Some c
-  event : call.event ≡ connects q continued call.at
+  event : call.event ≡ connects q continued room call.at
   tells : TellsSuccess continued call.reaction
 
-called : (c : ℕ) (client : List ℕ) (q : Connect) (continued : Bool) (seat : Seat) (r : Reaction) (p : Place) (h : HeldView) (acts : List Act) → CallsAt client (connects q continued) (moves c) (Some seat) (Some r) p h acts
-    → (call : SessionStep) × (acts ≡ Session (Called call) ∷ []) × (call.client ≡ client) × (call.on ≡ Some c) × (call.event ≡ connects q continued call.at) × TellsSuccess continued call.reaction
-called c client q continued seat r p h acts (inl d) = none_some (sym d.0)
-called c client q continued seat r p h acts (inr d) = (
-  record { client = client; on = Some c; at = h.at; event = connects q continued h.at; reaction = d.0; after = d.1 },
+called : (c : ℕ) (client : List ℕ) (q : Connect) (continued : Bool) (room : Option ℕ) (seat : Seat) (r : Reaction) (p : Place) (h : HeldView) (acts : List Act) → CallsAt client (connects q continued room) (moves c) (Some seat) (Some r) p h acts
+    → (call : SessionStep) × (acts ≡ Session (Called call) ∷ []) × (call.client ≡ client) × (call.on ≡ Some c) × (call.event ≡ connects q continued room call.at) × TellsSuccess continued call.reaction
+called c client q continued room seat r p h acts (inl d) = none_some (sym d.0)
+called c client q continued room seat r p h acts (inr d) = (
+  record { client = client; on = Some c; at = h.at; event = connects q continued room h.at; reaction = d.0; after = d.1 },
   d.4,
   refl,
   refl,
   refl,
-  success_told (fits (limit_in q.properties) (connack continued q.client seat.session.kept.client)) seat.session q continued seat.session.kept.client h.at d.0 d.1 d.3.1,
+  success_told (fits (limit_in q.properties) (connack continued q.client seat.session.kept.client)) seat.session q continued seat.session.kept.client room h.at d.0 d.1 d.3.1,
 )
 
-joined : (continued : Bool) (c : ℕ) (client : List ℕ) (q : Connect) (r : Reaction) (p : Place) (h : HeldView) (acts : List Act) → has_session client h ≡ continued → connecting.JoinsBy continued c client q (Some r) p h acts → Joined c client q continued acts
-joined true c client q r p h acts has d =
+joined : (continued : Bool) (c : ℕ) (client : List ℕ) (q : Connect) (room : Option ℕ) (r : Reaction) (p : Place) (h : HeldView) (acts : List Act) → has_session client h ≡ continued → connecting.JoinsBy continued c client q room (Some r) p h acts → Joined c client q continued room acts
+joined true c client q room r p h acts has d =
     let found = has_of client h has in
-    let k = called c client q true found.0 r p h acts (subst (λ f. CallsAt client (connects q true) (moves c) f (Some r) p h acts) found.1 d) in
+    let k = called c client q true room found.0 r p h acts (subst (λ f. CallsAt client (connects q true room) (moves c) f (Some r) p h acts) found.1 d) in
     record { begun = []; call = k.0; is = k.1; begins = refl; of = k.2; on = k.3; event = k.4; tells = k.5 }
-joined false c client q r p h acts has (inl d) = none_some (sym d.0)
-joined false c client q r p h acts has (inr (y, own, mid, rest, one, runs, more, is)) =
+joined false c client q room r p h acts has (inl d) = none_some (sym d.0)
+joined false c client q room r p h acts has (inr (y, own, mid, rest, one, runs, more, is)) =
     let a = Session (Begun client) in
     let left : mid ≡ next h a = left_by p h mid a own one.1 runs in
     let found : seat_at client mid ≡ Some (begun client) = ap (λ (v : HeldView). seat_at client v) left ∙ get_inserted h.sessions client (begun client) in
-    let k = called c client q false (begun client) r p mid rest (subst (λ f. CallsAt client (connects q false) (moves c) f (Some r) p mid rest) found more) in
+    let k = called c client q false room (begun client) r p mid rest (subst (λ f. CallsAt client (connects q false room) (moves c) f (Some r) p mid rest) found more) in
     record { begun = a ∷ []; call = k.0; is = is ∙ (λ i. one.1 i ++ k.1 i); begins = refl; of = k.2; on = k.3; event = k.4; tells = k.5 }
+
+-- ---- the room of a connection
+put_at : (m : ConnectionTable) (c : ℕ) (v : ConnectionView) → map.get (map.insert m c v) c ≡ Some v
+put_at m c v = map.get-insert nat_cmp_total m c v c ∙ ap (λ b. cond b (Some v) (map.get m c)) (ap is_eq (tied_itself nat_cmp_total c))
+
+-- it stays where the connection is given its client
+room_stays : (m : ConnectionTable) (c : ℕ) (client : List ℕ) (o : Option ConnectionView) → map.get m c ≡ o
+    → option_and_then (λ (v : ConnectionView). v.room) (map.get (changed_at (with_client client) c m o) c) ≡ option_and_then (λ (v : ConnectionView). v.room) (map.get m c)
+room_stays m c client None is = refl
+room_stays m c client (Some found) is = ap (option_and_then (λ (v : ConnectionView). v.room)) (put_at m c (with_client client found)) ∙ sym (ap (option_and_then (λ (v : ConnectionView). v.room)) is)
 
 -- ---- an acceptance
 accepted : (c : ℕ) (q : Connect) (client : List ℕ) (x : Unit {0}) (p : Place) (start h : HeldView) (front acts : List Act) → IsKnownAs p start q client → Runs p start front h → connecting.Accepts c q client (Some x) p h acts → IsAccepted p start c q (front ++ acts)
@@ -106,8 +116,9 @@ accepted c q client x p start h front acts known ran (inr (y, over, mid, rest, o
 accepted c q client x p start h front acts known ran (inr (y, over, mid, rest, one, runs, (inr (y2, clean, mid2, rest2, two, runs2, (inr (y3, own3, mid3, rest3, three, runs3, (inr (r, own4, mid4, rest4, four, runs4, more, is4)), is3)), is2)), is)) =
     let a = Connection (Accepted c client) in
     let left : mid3 ≡ next mid2 a = left_by p mid2 mid3 a own3 three.1 runs3 in
+    let same_room : room_at c mid3 ≡ room_at c mid2 = ap (λ (v : HeldView). room_at c v) left ∙ room_stays mid2.connections c client (map.get mid2.connections c) refl in
     let has : has_session client mid3 ≡ has_session client mid2 = ap (λ (v : HeldView). has_session client v) left in
-    let k = joined (has_session client mid3) c client q r p mid3 own4 refl four in
+    let k = joined (has_session client mid3) c client q (room_at c mid3) r p mid3 own4 refl four in
     let earlier = front ++ (over ++ clean) in
     record {
       client = client;
@@ -125,7 +136,7 @@ accepted c q client x p start h front acts known ran (inr (y, over, mid, rest, o
       begins = k.begins;
       of = k.of;
       on = k.on;
-      event = k.event;
+      event = k.event ∙ ap (λ o. connects q (has_session client mid3) o k.call.at) same_room;
       tells = k.tells;
     }
 
@@ -182,13 +193,13 @@ answered : (c : ℕ) (q : Connect) (x : Unit {0}) (p : Place) (h : HeldView) (ac
 answered c q x p h acts d = connected (has_property 21 q.properties) (nat_lt 256 (length q.client)) c q x p h acts refl refl d
 
 -- ---- where nothing is due, nothing is done
-no_acts : (p : Place) (h mid : HeldView) (acts : List Act) → acts ≡ [] → Runs p h acts mid → mid ≡ h
+pub no_acts : (p : Place) (h mid : HeldView) (acts : List Act) → acts ≡ [] → Runs p h acts mid → mid ≡ h
 no_acts p h mid acts is runs = subst (λ zs. Runs p h zs mid) is runs
 
 each_none : {A : Type 0} (One : A → Option (Unit {0}) → Doing) (xs : List A) (x : Unit {0}) (p : Place) (h : HeldView) (acts : List Act) → xs ≡ [] → Each One xs (Some x) p h acts → acts ≡ []
 each_none One xs x p h acts none d = (subst (λ zs. Each One zs (Some x) p h acts) none d).1
 
-none_due : (x : Unit {0}) (p : Place) (h : HeldView) (acts : List Act) → NothingDue h → due.DoesDue (Some x) p h acts → acts ≡ []
+pub none_due : (x : Unit {0}) (p : Place) (h : HeldView) (acts : List Act) → NothingDue h → due.DoesDue (Some x) p h acts → acts ≡ []
 none_due x p h acts none (inl d) = none_some (sym d.0)
 none_due x p h acts none (inr (y, own, mid, rest, one, runs, (inl d), is)) = none_some (sym d.0)
 none_due x p h acts none (inr (y, own, mid, rest, one, runs, (inr (y2, own2, mid2, rest2, two, runs2, more, is2)), is)) =
@@ -202,9 +213,9 @@ none_due x p h acts none (inr (y, own, mid, rest, one, runs, (inr (y2, own2, mid
 -- ---- a piece
 took : (m : ConnectionTable) (c : ℕ) (piece : List ℕ) (found : ConnectionView) → map.get m c ≡ Some found → map.get (changed (with_piece piece) c m) c ≡ Some (with_piece piece found)
 took m c piece found is =
-    ap (λ o. map.get (changed_at (with_piece piece) c m o) c) is ∙ map.get-insert nat_cmp_total m c (with_piece piece found) c ∙ ap (λ b. cond b (Some (with_piece piece found)) (map.get m c)) (ap is_eq (tied_itself nat_cmp_total c))
+    ap (λ o. map.get (changed_at (with_piece piece) c m o) c) is ∙ put_at m c (with_piece piece found)
 
-if_so : {A : Type 0} (b : Bool) (P Q : Option A → Doing) (out : Option A) (p : Place) (h : HeldView) (acts : List Act) → b ≡ true → If b P Q out p h acts → P out p h acts
+pub if_so : {A : Type 0} (b : Bool) (P Q : Option A → Doing) (out : Option A) (p : Place) (h : HeldView) (acts : List Act) → b ≡ true → If b P Q out p h acts → P out p h acts
 if_so true P Q out p h acts e d = d
 if_so false P Q out p h acts e d = absurd (let z : false ≡ true = e in cc)
 

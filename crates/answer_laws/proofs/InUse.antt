@@ -27,7 +27,7 @@ use Rattle.mqtt_sessions.specs.Reaction.{Reaction, Comes}
 use Rattle.mqtt_sessions.specs.State.{Link, State, limit_in}
 use Rattle.session_laws.specs.Aliases.{Topics, topic_under}
 use Rattle.session_laws.specs.Replies.{Reply, silent, says, asks, both, ends, leaves, reaction_of, is_invalid, reply_publish, reply_under, reply_at, reply_exactly_once, reply_pubrec, reply_known, reply_unknown, reply_codes, reply_disconnect, has_hundred, IsReply}
-use Rattle.session_laws.specs.Runs.{Event, connects, queues, takes, answers, closes, ticks, finishes, loses, Reacts}
+use Rattle.session_laws.specs.Runs.{Event, connects, queues, rooms, takes, answers, closes, ticks, finishes, loses, Reacts}
 use Rattle.session_laws.proofs.AliasLaws.{held}
 use Rattle.session_laws.proofs.ElseLaws.{keeps_nothing_else}
 use Rattle.session_laws.proofs.ReplyLaws.{keeps_codes}
@@ -167,8 +167,9 @@ module _ (id : ℕ) (codes : List ℕ) where
       ((λ i. answers (t.1 i) (t.2 i)), ap asked_of e ∙ t.0)
 
   pub suback_is_of : (old new : State) (e : Event) (r : Reaction) → Reacts old e r new → AnswersWith (suback id codes) r.packets → TakesInUse e r ⊎ IsGiven old e
-  suback_is_of old new (connects c continued now) r h g = absurd (connect_none (suback id codes) refl (fits (limit_in c.properties) (connack continued c.client old.kept.client)) old c _ now r new refl h.1 g)
+  suback_is_of old new (connects c continued room now) r h g = absurd (connect_none (suback id codes) refl (fits (limit_in c.properties) (connack continued c.client old.kept.client)) old c _ room now r new refl h.1 g)
   suback_is_of old new (queues d now) r h g = absurd (none_published (suback id codes) r.packets (keeps_nothing_else old new (queues d now) r h) g)
+  suback_is_of old new (rooms bytes now) r h g = absurd (none_published (suback id codes) r.packets (keeps_nothing_else old new (rooms bytes now) r h) g)
   suback_is_of old new (takes k now room) r h g =
       let x = replied old new k now room r (suback id codes) h g in
       let u = replied_codes (held x.link) k now room old x.is.reply x.is.is x.says_it in

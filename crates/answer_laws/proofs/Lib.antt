@@ -9,3 +9,4 @@ pub mod Quotas
 pub mod RoomLaws
 pub mod HoldingLaws
 pub mod FirstConnect
+pub mod RoomTold

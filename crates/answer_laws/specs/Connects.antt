@@ -16,7 +16,7 @@ use Rattle.mqtt_sessions.specs.State.{limit_in}
 use Rattle.session_laws.specs.Runs.{connects}
 use Rattle.node_work.specs.declared.outcome.Output.TheVariants.{Send, Close}
 use Rattle.node_work.specs.Acts.{Act, MomentTaken, Connection, Session, Out, Runs}
-use Rattle.node_work.specs.Held.Connections.{Accepted, Closed, Fed}
+use Rattle.node_work.specs.Held.Connections.{Accepted, Closed, Fed, room_at}
 use Rattle.node_work.specs.Held.Feeding.{cut_of}
 use Rattle.node_work.specs.Held.Sessions.{SessionStep, Begun, Called, has_session}
 use Rattle.node_work.specs.Packets.{refused_packet}
@@ -77,7 +77,7 @@ TellsSuccess continued r =
     ⊎ ((r.packets ≡ []) × (r.end ≡ Some 0))
 
 -- once an older connection of the client and a session that isn't to go on have ended, the connection has its client, whose session is
--- continued where there is one, and begins else; it is called on this connection
+-- continued where there is one, and begins else; it is called on this connection, with the room that this has
 pub record IsAccepted (p : Place) (h : HeldView) (c : ℕ) (q : Connect) (acts : List Act) : Type 0 where
   pub client : List ℕ
   pub known : IsKnownAs p h q client
@@ -93,7 +93,7 @@ pub record IsAccepted (p : Place) (h : HeldView) (c : ℕ) (q : Connect) (acts :
   pub begins : begun ≡ cond continued [] (Session (Begun client) ∷ [])
   pub of : call.client ≡ client
   pub on : call.on ≡ Some c
-  pub event : call.event ≡ connects q continued call.at
+  pub event : call.event ≡ connects q continued (room_at c held) call.at
   pub tells : TellsSuccess continued call.reaction
 
 -- ---- in a step

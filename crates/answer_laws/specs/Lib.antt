@@ -3,3 +3,4 @@ pub mod Subacks
 pub mod Rooms
 pub mod Holdings
 pub mod Connects
+pub mod ConnectionRooms

@@ -1,4 +1,5 @@
-//! What is answered to the first CONNECT of a connection.
+//! What is answered to the first CONNECT of a connection, and what comes of its room.
+ghost use Rattle.answer_laws.specs.ConnectionRooms.{RoomIsTold};
 ghost use Rattle.answer_laws.specs.Connects.{FirstConnectIsAnswered};
 
 /// In each step of a node that has started, whatever it holds, where nothing is due: the first CONNECT of a connection is refused with the
@@ -6,4 +7,10 @@ ghost use Rattle.answer_laws.specs.Connects.{FirstConnectIsAnswered};
 /// is continued where there is one, gives CONNACK 0x00 first, with Session Present exactly then.
 pub fn first_connect_is_answered()
     ensures { FirstConnectIsAnswered }
+{}
+
+/// In each step of a node that has started, whatever it holds, where nothing is due and a connection is told its room: an open connection
+/// without a client keeps it, the session of its client is called with it once, and nothing else is done.
+pub fn room_is_told()
+    ensures { RoomIsTold }
 {}

@@ -28,7 +28,7 @@ use Rattle.node_work.specs.Working.{Returns, Acting, Each, Then}
 use Rattle.node_clients.specs.Ending.{ClosesConnection}
 use Rattle.node_clients.specs.Passing.{TakesForward}
 use Rattle.node_clients.proofs.Determined.{Determined, IsAlone, returns_determined, acting_determined, numbered_determined, looks_determined, finds_determined, if_determined, then_determined, each_determined, calls_determined}
-use Rattle.node_clients.proofs.DeterminedClients.{moves_away_determined, removes_determined, ticks_determined, closes_determined, piece_determined, leaves_determined, takes_forward_determined}
+use Rattle.node_clients.proofs.DeterminedClients.{moves_away_determined, removes_determined, ticks_determined, closes_determined, piece_determined, leaves_determined, makes_room_determined, takes_forward_determined}
 use Rattle.broker_node.specs.declared.event.Event.{Event}
 use Rattle.broker_node.specs.declared.event.EventKind.{EventKind}
 use Rattle.broker_node.specs.declared.event.EventKind.TheVariants as kinds
@@ -146,6 +146,7 @@ first_determined : (kind : EventKind) → Determined (AwaitsStart kind)
 first_determined kinds.Started = starts_determined
 first_determined (kinds.Opened connection) = returns_determined tt
 first_determined (kinds.Piece connection bytes) = returns_determined tt
+first_determined (kinds.Room connection bytes) = returns_determined tt
 first_determined (kinds.Closed connection) = returns_determined tt
 first_determined (kinds.Frame bytes) = returns_determined tt
 first_determined (kinds.Linked peer) = returns_determined tt
@@ -158,6 +159,7 @@ answers_determined : (kind : EventKind) → Determined (AnswersEvent kind)
 answers_determined kinds.Started = returns_determined tt
 answers_determined (kinds.Opened connection) = opens_determined connection
 answers_determined (kinds.Piece connection bytes) = piece_determined connection bytes
+answers_determined (kinds.Room connection bytes) = makes_room_determined connection bytes
 answers_determined (kinds.Closed connection) = leaves_determined connection
 answers_determined (kinds.Frame bytes) = hears_frame_determined (frame_in bytes)
 answers_determined (kinds.Linked peer) = greets_determined peer
@@ -173,6 +175,7 @@ goes_on_determined : (kind : EventKind) → Determined (AnswersAfterDue kind)
 goes_on_determined kinds.Started = returns_determined tt
 goes_on_determined (kinds.Opened connection) = due_and_answers_determined (kinds.Opened connection)
 goes_on_determined (kinds.Piece connection bytes) = due_and_answers_determined (kinds.Piece connection bytes)
+goes_on_determined (kinds.Room connection bytes) = due_and_answers_determined (kinds.Room connection bytes)
 goes_on_determined (kinds.Closed connection) = due_and_answers_determined (kinds.Closed connection)
 goes_on_determined (kinds.Frame bytes) = due_and_answers_determined (kinds.Frame bytes)
 goes_on_determined (kinds.Linked peer) = due_and_answers_determined (kinds.Linked peer)

@@ -15,6 +15,7 @@ pub goes : (kind : EventKind) → ¬ (kind ≡ kinds.Started) → (out : Option 
 goes kinds.Started other out p h acts d = absurd (other refl)
 goes (kinds.Opened connection) other out p h acts d = d
 goes (kinds.Piece connection bytes) other out p h acts d = d
+goes (kinds.Room connection bytes) other out p h acts d = d
 goes (kinds.Closed connection) other out p h acts d = d
 goes (kinds.Frame bytes) other out p h acts d = d
 goes (kinds.Linked peer) other out p h acts d = d
@@ -27,6 +28,7 @@ pub goes_idle : (kind : EventKind) → ¬ (kind ≡ kinds.Started) → (p : Plac
 goes_idle kinds.Started other p h i = absurd (other refl)
 goes_idle (kinds.Opened connection) other p h i = i
 goes_idle (kinds.Piece connection bytes) other p h i = i
+goes_idle (kinds.Room connection bytes) other p h i = i
 goes_idle (kinds.Closed connection) other p h i = i
 goes_idle (kinds.Frame bytes) other p h i = i
 goes_idle (kinds.Linked peer) other p h i = i
@@ -40,6 +42,7 @@ pub waits : (kind : EventKind) → ¬ (kind ≡ kinds.Started) → (w : WorkView
 waits kinds.Started other w = absurd (other refl)
 waits (kinds.Opened connection) other w = did_nothing w tt
 waits (kinds.Piece connection bytes) other w = did_nothing w tt
+waits (kinds.Room connection bytes) other w = did_nothing w tt
 waits (kinds.Closed connection) other w = did_nothing w tt
 waits (kinds.Frame bytes) other w = did_nothing w tt
 waits (kinds.Linked peer) other w = did_nothing w tt

@@ -27,7 +27,7 @@ use Rattle.mqtt_sessions.specs.declared.reaction.Ask.{Ask}
 use Rattle.mqtt_sessions.specs.declared.reaction.Ask.TheVariants as asks
 use Rattle.mqtt_topics.specs.Topics.{IsFilter}
 use Rattle.replica_store.specs.Making.{subscribe_of, put_of}
-use Rattle.session_laws.specs.Runs.{Event, answers, closes, connects, finishes, queues, takes, ticks}
+use Rattle.session_laws.specs.Runs.{Event, answers, closes, connects, finishes, queues, rooms, takes, ticks}
 use Rattle.session_table.specs.Calls.{leaves, moves, stays}
 use Rattle.session_table.specs.Seats.{Seat, connected, ends_due, run_outs, wills_due}
 use Rattle.subscription_set.specs.Standing.{any_of, any_below}
@@ -38,7 +38,7 @@ use Rattle.node_work.specs.Acts.{Act, Acknowledged, Began, Bridge, Connection, D
 use Rattle.node_work.specs.Calling.{Calls, CallsAt, Queues, QueuesOne}
 use Rattle.node_work.specs.Doings.{Disconnects, GivesBody, GivesFrame, MakesPut, MakesRemove, MakesRemoveBelow, MakesSubscribe, Misses, OpensConnection, PutsInLaneBy, Redirects, Removes, RemovesBelow, Routes, RoutesBy, Sends, is_small}
 use Rattle.node_work.specs.Held.Bridge.{Gave, Left_out, Put, heard_of}
-use Rattle.node_work.specs.Held.Connections.{Accepted, Closed, Fed, Opened, client_at, first_at, is_open}
+use Rattle.node_work.specs.Held.Connections.{Accepted, Closed, Fed, Opened, Roomed, client_at, first_at, is_open, room_at}
 use Rattle.node_work.specs.Held.Feeding.{cut_of}
 use Rattle.node_work.specs.Held.Making.{number_at_end, put_at_end, removal, removal_below}
 use Rattle.node_work.specs.Held.Sessions.{Begun, Over, connection_at, end_is_due, has_session, seat_at, takes_disconnect, takes_packet, will_is_due}
@@ -56,6 +56,7 @@ use Rattle.node_clients.specs.Moving as moving
 use Rattle.node_clients.specs.Naming.{IsNextNumber, automatic}
 use Rattle.node_clients.specs.Passing as passing
 use Rattle.node_clients.specs.Pieces as pieces
+use Rattle.node_clients.specs.Rooms.{GivesRoom, MakesRoom, MakesRoomBy}
 use Rattle.node_clients.specs.Serving as serving
 use Rattle.node_clients.specs.Subscribing as subscribing
 use Rattle.node_clients.specs.Unsubscribing as unsubscribing
@@ -395,16 +396,21 @@ cleans_quiet false client = returns_quiet tt
 cleans_quiet true client =
     looks_quiet (λ p h. has_session client h) (λ has. If has (ending.Finishes client) (Returns tt)) (λ has. if_quiet has (ending.Finishes client) (Returns tt) (finishes_quiet client) (returns_quiet tt))
 
-joins_by_quiet : (has : Bool) (c : ℕ) (client : List ℕ) (p : Connect) → Quiet (connecting.JoinsBy has c client p)
-joins_by_quiet true c client p = calls_quiet client (connects p true) (moves c)
-joins_by_quiet false c client p =
-    then_quiet (Acting (λ place h. Session (Begun client))) (λ _. Calls client (connects p false) (moves c)) (acting_quiet (λ place h. Session (Begun client)) (λ place h. refl)) (λ _. calls_quiet client (connects p false) (moves c))
+joins_by_quiet : (has : Bool) (c : ℕ) (client : List ℕ) (p : Connect) (room : Option ℕ) → Quiet (connecting.JoinsBy has c client p room)
+joins_by_quiet true c client p room = calls_quiet client (connects p true room) (moves c)
+joins_by_quiet false c client p room =
+    then_quiet (Acting (λ place h. Session (Begun client))) (λ _. Calls client (connects p false room) (moves c)) (acting_quiet (λ place h. Session (Begun client)) (λ place h. refl)) (λ _. calls_quiet client (connects p false room) (moves c))
+
+joins_quiet : (c : ℕ) (client : List ℕ) (p : Connect) → Quiet (connecting.Joins c client p)
+joins_quiet c client p =
+    looks_quiet (λ place h. room_at c h) (connecting.JoinsIn c client p)
+    (λ room. looks_quiet (λ place h. has_session client h) (λ has. connecting.JoinsBy has c client p room) (λ has. joins_by_quiet has c client p room))
 
 begins_quiet : (c : ℕ) (client : List ℕ) (p : Connect) → Quiet (connecting.BeginsSession c client p)
 begins_quiet c client p =
     then_quiet (Acting (λ place h. Connection (Accepted c client))) (λ _. Then (connecting.Joins c client p) (λ r. ending.ClosesAfter r.end c client)) (acting_quiet (λ place h. Connection (Accepted c client)) (λ place h. refl))
     (λ _. then_quiet (connecting.Joins c client p) (λ r. ending.ClosesAfter r.end c client)
-    (looks_quiet (λ place h. has_session client h) (λ has. connecting.JoinsBy has c client p) (λ has. joins_by_quiet has c client p)) (λ r. closes_after_quiet r.end c client))
+    (joins_quiet c client p) (λ r. closes_after_quiet r.end c client))
 
 accepts_quiet : (c : ℕ) (p : Connect) (client : List ℕ) → Quiet (connecting.Accepts c p client)
 accepts_quiet c p client =
@@ -508,6 +514,20 @@ pub leaves_quiet : (c : ℕ) → Quiet (pieces.Leaves c)
 leaves_quiet c =
     looks_quiet (λ p h. is_open c h) (λ is_there. If is_there (Looks (λ p h. client_at c h) (pieces.LeavesBy c)) (Returns tt))
     (λ is_there. if_quiet is_there (Looks (λ p h. client_at c h) (pieces.LeavesBy c)) (Returns tt) (looks_quiet (λ p h. client_at c h) (pieces.LeavesBy c) (leaves_by_quiet c)) (returns_quiet tt))
+
+-- ---- room
+
+gives_room_quiet : (bytes : ℕ) (client : List ℕ) → Quiet (GivesRoom bytes client)
+gives_room_quiet bytes client = then_quiet (Calls client (rooms bytes) stays) (λ _. Returns tt) (calls_quiet client (rooms bytes) stays) (λ _. returns_quiet tt)
+
+makes_room_by_quiet : (c bytes : ℕ) (client : Option (List ℕ)) → Quiet (MakesRoomBy c bytes client)
+makes_room_by_quiet c bytes None = acting_quiet (λ p h. Connection (Roomed c bytes)) (λ p h. refl)
+makes_room_by_quiet c bytes (Some client) = gives_room_quiet bytes client
+
+pub makes_room_quiet : (c bytes : ℕ) → Quiet (MakesRoom c bytes)
+makes_room_quiet c bytes =
+    looks_quiet (λ p h. is_open c h) (λ is_there. If is_there (Looks (λ p h. client_at c h) (MakesRoomBy c bytes)) (Returns tt))
+    (λ is_there. if_quiet is_there (Looks (λ p h. client_at c h) (MakesRoomBy c bytes)) (Returns tt) (looks_quiet (λ p h. client_at c h) (MakesRoomBy c bytes) (makes_room_by_quiet c bytes)) (returns_quiet tt))
 
 -- ---- what is due
 

@@ -34,6 +34,7 @@ not_taken false kind ts e d = d
 not_taken true kinds.Started ts e d = d
 not_taken true (kinds.Opened connection) ts e d = d
 not_taken true (kinds.Piece connection bytes) ts e d = d
+not_taken true (kinds.Room connection bytes) ts e d = d
 not_taken true (kinds.Closed connection) ts e d = d
 not_taken true (kinds.Frame bytes) ts e d = d
 not_taken true (kinds.Linked peer) ts e d = d
@@ -81,6 +82,7 @@ moves_busy false kind p h moves is idle = absurd (let z : false ≡ true = moves
 moves_busy true kinds.Started p h moves is idle = absurd (let z : false ≡ true = moves in cc)
 moves_busy true (kinds.Opened connection) p h moves is idle = absurd (let z : false ≡ true = moves in cc)
 moves_busy true (kinds.Piece connection bytes) p h moves is idle = absurd (let z : false ≡ true = moves in cc)
+moves_busy true (kinds.Room connection bytes) p h moves is idle = absurd (let z : false ≡ true = moves in cc)
 moves_busy true (kinds.Closed connection) p h moves is idle = absurd (let z : false ≡ true = moves in cc)
 moves_busy true (kinds.Frame bytes) p h moves is idle = absurd (let z : false ≡ true = moves in cc)
 moves_busy true (kinds.Linked peer) p h moves is idle = absurd (let z : false ≡ true = moves in cc)

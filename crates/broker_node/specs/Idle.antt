@@ -5,7 +5,7 @@ use Rattle.session_table.specs.Seats.{run_outs, wills_due, ends_due, connected}
 use Rattle.node_work.specs.declared.fault.NodeFault.{NodeFault}
 use Rattle.node_work.specs.declared.outcome.Outcome.{Outcome}
 use Rattle.node_work.specs.Frames.{is_other}
-use Rattle.node_work.specs.Held.Connections.{is_open}
+use Rattle.node_work.specs.Held.Connections.{client_at, is_open}
 use Rattle.node_work.specs.View.{Place, HeldView, WorkView, NodeView}
 use Rattle.broker_node.specs.declared.event.Event.{Event}
 use Rattle.broker_node.specs.declared.event.EventKind.{EventKind}
@@ -18,12 +18,13 @@ pub record NothingDue (h : HeldView) : Type 0 where
   pub wills : wills_due h.sessions h.at ≡ []
   pub ends : ends_due h.sessions h.at ≡ []
 
--- the event itself asks for nothing of a node that has started: a connection that is open already or isn't open, a peer that is no
--- other node of the cluster, a client of whom nothing stands
+-- the event itself asks for nothing of a node that has started: a connection that is open already or isn't open, or has no client that
+-- is told its room, a peer that is no other node of the cluster, a client of whom nothing stands
 abbrev pub AsksNothing : Place → HeldView → EventKind → Type 0
 AsksNothing p h kinds.Started = Unit {0}
 AsksNothing p h (kinds.Opened connection) = is_open connection h ≡ true
 AsksNothing p h (kinds.Piece connection bytes) = is_open connection h ≡ false
+AsksNothing p h (kinds.Room connection bytes) = client_at connection h ≡ None
 AsksNothing p h (kinds.Closed connection) = is_open connection h ≡ false
 AsksNothing p h (kinds.Frame bytes) = ⊥
 AsksNothing p h (kinds.Linked peer) = is_other p peer ≡ false

@@ -12,7 +12,7 @@ use crate::due::{do_due, start};
 use crate::event::{Event, EventKind};
 use crate::moving::take_table;
 use mqtt_fields::Text;
-use node_clients::{leave, take_piece};
+use node_clients::{leave, make_room, take_piece};
 use node_work::{NodeFault, Work};
 
 /// Decides one event of a node that runs.
@@ -68,6 +68,7 @@ fn answer(work: &mut Work, kind: &EventKind) -> Result<(), NodeFault>
         EventKind::Started => Ok(()),
         EventKind::Opened { connection } => work.open(*connection),
         EventKind::Piece { connection, bytes } => take_piece(work, *connection, bytes.as_slice()),
+        EventKind::Room { connection, bytes } => make_room(work, *connection, *bytes),
         EventKind::Closed { connection } => leave(work, *connection),
         EventKind::Frame { bytes } => hear(work, bytes.as_slice()),
         EventKind::Linked { peer } => greet(work, *peer),

@@ -17,6 +17,8 @@ pub enum EventKind {
     Opened { connection: u64 },
     /// Bytes came on a connection, from 1 to 65,536.
     Piece { connection: u64, bytes: Vec<u8> },
+    /// A connection takes so many bytes of PUBLISHes from now on, which replaces what was left before.
+    Room { connection: u64, bytes: u64 },
     /// A connection that was open is gone.
     Closed { connection: u64 },
     /// Time has passed.

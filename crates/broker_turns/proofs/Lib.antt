@@ -5,6 +5,7 @@ pub mod Naming
 pub mod Numbering
 pub mod OrderLaws
 pub mod Pacing
+pub mod Rooming
 pub mod Serving
 pub mod Settling
 pub mod Stepping

@@ -261,7 +261,7 @@ module _ {S H L T : Type 0} (accepts : S → L → Option T → S → Type 0) (w
       let shipped = Carries-below taken connects (λ (n : Near H T). n.dialled) (IsSupplied hears at) (Carries-supplied taken watches connects reads writes hears at) _ d.told.near d.supplied.near d.shipped.does in
       over q.reach d.reached.reach q'.reach dialled
       (over d.reached.reach d.told q'.reach (same d.reached.reach d.told d.ticked.dialled)
-      (over d.told d.supplied q'.reach shipped (same d.supplied q'.reach d.settled.does.dialled)))
+      (over d.told d.supplied q'.reach shipped (over d.supplied d.roomed q'.reach (same d.supplied d.roomed d.rooms_made.dialled) (same d.roomed q'.reach d.settled.does.dialled))))
 
   Carries-given_out :
       (taken : T → List ℕ) → TakesWhatItAnswers taken writes

@@ -6,7 +6,7 @@ use Rattle.slab.specs.Slab.{Slab, get, Updates, with_value}
 use Rattle.broker_turns.proofs.Turning.{Updates-over, at-value}
 use Rattle.broker_sockets.specs.declared.bridge.Given.{Given}
 use Rattle.broker_sockets.specs.declared.bridge.PeerEvent.{PeerEvent}
-use Rattle.broker_sockets.specs.declared.bridge.PeerEventKind.TheVariants.{Frame, Ship}
+use Rattle.broker_sockets.specs.declared.bridge.PeerEventKind.TheVariants.{Ship}
 use Rattle.broker_sockets.specs.declared.bridge.PeerFrame.{PeerFrame}
 use Rattle.broker_turns.specs.declared.lines.Line.{Line}
 use Rattle.broker_turns.specs.Bridging.{HearsAll, IsFrameHeard, IsHearing, IsKept, IsLineWritten, IsLinkRead, IsHeardFrom, IsLinkReadIn, IsLinkWrittenIn, IsMarked, IsOffered, IsPeerKept, IsPeerLinkRead, IsPeerRead, IsPeerReadIn, IsShipped, IsShippedIf, IsSupplied, Near, Place, Reach, Relinks, left_if, peer_event}

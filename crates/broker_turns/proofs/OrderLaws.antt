@@ -23,9 +23,9 @@ use Rattle.broker_turns.specs.declared.setting.Setting.{Setting}
 use Rattle.broker_turns.specs.Bridging.{HearsAll, IsBegunBy, IsDialledAt, IsDialledIf, IsHeardFrom, IsHearing, IsDialledOnce, IsLinkReadIn, IsPeerRead, IsPeerReadIn, IsShipped, IsShippedIf, IsSought, IsSupplied, Near, Place, Reach, Search}
 use Rattle.broker_turns.specs.Lines.{is_due, is_rested, link_of}
 use Rattle.broker_sockets.specs.Answers.{IsWithin, carried, left_after, Offers}
-use Rattle.broker_turns.specs.Clients.{sent, closed, told, told_all, told_at, Released}
+use Rattle.broker_turns.specs.Clients.{sent, closed, takes_more, told, told_all, told_at, Released}
 use Rattle.broker_turns.specs.Writing.{Tried}
-use Rattle.broker_turns.specs.Connections.{World, IsAccepted, IsNobodyAccepted, IsWelcomed, IsHandled, IsLetGo, IsHeard, IsRead, IsReadIn, IsReadIf, IsWrote, IsWroteIn, IsParted, IsLost}
+use Rattle.broker_turns.specs.Connections.{World, IsAccepted, IsNobodyAccepted, IsWelcomed, IsHandled, IsLetGo, IsHeard, IsRead, IsReadIn, IsReadIf, IsRoomIf, IsRoomIn, IsRoomStep, IsWrote, IsWroteIn, IsParted, IsLost}
 use Rattle.broker_turns.specs.Steps.{AreLetInIf, IsEnough, Each, EachBelow, EachTells}
 use Rattle.broker_turns.specs.Turns.{IsDecided, IsGivenOut, IsTakenIn, IsTurn, Site, front}
 use Rattle.broker_turns.specs.Order.{Extends, flow, TakesWhatItAnswers, TakesNothing, NothingIsLost}
@@ -44,7 +44,7 @@ whole (Bytes n) unsent offered first within =
 whole Gone unsent offered first within = refl
 
 module _ {T : Type 0} (taken : T → List ℕ) where
-  sent-by : (closing : Bool) (bytes : List ℕ) (client : Client T) → Extends (flow taken (if closing then client else record client { unsent = client.unsent ++ bytes })) (flow taken client)
+  sent-by : (closing : Bool) (bytes : List ℕ) (client : Client T) → Extends (flow taken (if closing then client else record client { unsent = client.unsent ++ bytes; untold = true })) (flow taken client)
   sent-by true bytes client = Extends-same _ _ refl
   sent-by false bytes client = (bytes, sym (append_assoc (taken client.stream) client.unsent bytes))
 
@@ -186,10 +186,44 @@ module _ {T : Type 0} (taken : T → List ℕ) where
     | inr apart ↦ (client, added.others other apart.1 ∙ found, Extends-same _ _ refl)
   ]
 
+  Grows-update : (c c' : Slab (Client T)) (key : ℕ) (old new : Client T) → get c key ≡ Some old → Extends (flow taken new) (flow taken old) → Updates c c' key (Some new) → Grows c c'
+  Grows-update c c' key old new found extends updates other client there = elim (eqb_tells other key) [
+    | inl same ↦
+        let is : Some old ≡ Some client = sym found ∙ ap (λ k. get c k) (sym same.1) ∙ there in
+        let at : client ≡ old = cc in
+        (new, ap (λ k. get c' k) same.1 ∙ updates.changed, rw at extends)
+    | inr apart ↦ (client, updates.others other apart.1 ∙ there, Extends-same _ _ refl)
+  ]
+
+module _ {H T : Type 0} (taken : T → List ℕ) (handles : H → Event → List Output → H → Type 0) (at : ℕ) where
+  -- while the handler is told how much a connection takes
+  Grows-room_if : (takes : Bool) (key : ℕ) (client : Client T) (h h' : H) (c c' : Slab (Client T)) → get c key ≡ Some client → IsRoomIf handles at takes key client h c h' c' → Grows taken c c'
+  Grows-room_if true key client h h' c c' found told =
+      Grows-over taken c told.noted c' (Grows-update taken c told.noted key client _ found (Extends-same _ _ refl) told.notes) (Grows-released taken told.handled.outputs told.noted c' told.handled.released)
+  Grows-room_if false key client h h' c c' found same = Grows-equal taken c c' same.1
+
+  Grows-room_in : (o : Option (Client T)) (key : ℕ) (h h' : H) (c c' : Slab (Client T)) → get c key ≡ o → IsRoomIn handles at o key h c h' c' → Grows taken c c'
+  Grows-room_in None key h h' c c' found same = Grows-equal taken c c' same.1
+  Grows-room_in (Some client) key h h' c c' found is = Grows-room_if (takes_more client) key client h h' c c' found is
+
+  Keeps-room_if : (takes : Bool) (key : ℕ) (client : Client T) (h h' : H) (c c' : Slab (Client T)) → get c key ≡ Some client → IsRoomIf handles at takes key client h c h' c' → Keeps taken c c'
+  Keeps-room_if true key client h h' c c' found told =
+      Keeps-over taken c told.noted c' (Keeps-update taken c told.noted key client _ found (Extends-same _ _ refl) told.notes) (Keeps-released taken told.handled.outputs told.noted c' told.handled.released)
+  Keeps-room_if false key client h h' c c' found same = rw same.1 (Keeps-same taken c)
+
+  Keeps-room_in : (o : Option (Client T)) (key : ℕ) (h h' : H) (c c' : Slab (Client T)) → get c key ≡ o → IsRoomIn handles at o key h c h' c' → Keeps taken c c'
+  Keeps-room_in None key h h' c c' found same = rw same.1 (Keeps-same taken c)
+  Keeps-room_in (Some client) key h h' c c' found is = Keeps-room_if (takes_more client) key client h h' c c' found is
+
+  Keeps-room : (key : ℕ) (n n' : H × Slab (Client T)) → IsRoomStep handles at key n n' → Keeps taken n.1 n'.1
+  Keeps-room key n n' made = Keeps-room_in (get n.1 key) key n.0 n'.0 n.1 n'.1 refl made.by_client
+
 module _ {S H L T : Type 0} (taken : T → List ℕ) (accepts : S → L → Option T → S → Type 0) (watches : S → T → Watched → Bool → S → Type 0) (handles : H → Event → List Output → H → Type 0) (at : ℕ) (listener : L) where
   Grows-welcomed : (watchable : Bool) (stream : T) (key : ℕ) (h h' : H) (c c' : Slab (Client T)) → get c key ≡ None → IsWelcomed handles at watchable stream key h c h' c' → Grows taken c c'
   Grows-welcomed true stream key h h' c c' free joined =
-      Grows-over taken c joined.0 c' (Grows-added taken c joined.0 key _ free joined.1) (Grows-released taken joined.2.outputs joined.0 c' joined.2.released)
+      Grows-over taken c joined.more c' (Grows-added taken c joined.more key _ free joined.added)
+      (Grows-over taken joined.more joined.opened c' (Grows-released taken joined.handled.outputs joined.more joined.opened joined.handled.released)
+      (Grows-room_in taken handles at (get joined.opened key) key joined.told h' joined.opened c' refl joined.room.by_client))
   Grows-welcomed false stream key h h' c c' free same = Grows-equal taken c c' same.1
 
   Grows-below : (n : ℕ) (w w' : World S H T) → EachBelow (λ (_ : ℕ). IsAccepted accepts watches handles at listener) n w w' → Grows taken w.clients w'.clients
@@ -307,8 +341,9 @@ module _ {S H L T : Type 0} (accepts : S → L → Option T → S → Type 0) (w
       let dialled = Keeps-below taken (λ (s : Search S H T). s.reach.near.clients) (IsSought connects watches hears at setting.peers.items) (Keeps-sought taken watches connects reads hears at setting.peers.items) _ q d.reached d.dialled in
       let ticked = Keeps-handled taken reads writes handles settles at _ _ _ d.reached.reach.near.clients d.told.near.clients d.ticked.does.handled in
       let shipped = Keeps-below taken (λ (n : Near H T). n.clients) (IsSupplied hears at) (Keeps-supplied taken watches connects reads hears at) _ d.told.near d.supplied.near d.shipped.does in
-      let settled = Keeps-equal taken (of d.supplied) (of q'.reach) d.settled.does.clients in
-      over q.reach d.reached.reach q'.reach dialled (over d.reached.reach d.told q'.reach ticked (over d.told d.supplied q'.reach shipped settled))
+      let rooms = Keeps-each taken (λ (n : H × Slab (Client T)). n.1) (IsRoomStep handles at) (Keeps-room taken handles at) d.rooms_made.does.takers _ _ d.rooms_made.does.each in
+      let settled = Keeps-equal taken (of d.roomed) (of q'.reach) d.settled.does.clients in
+      over q.reach d.reached.reach q'.reach dialled (over d.reached.reach d.told q'.reach ticked (over d.told d.supplied q'.reach shipped (over d.supplied d.roomed q'.reach rooms settled)))
 
   Keeps-given_out :
       (taken : T → List ℕ) → TakesWhatItAnswers taken writes

@@ -1,8 +1,10 @@
 -- Steps of a turn, one after another.
-use Rattle.std.proofs.Common.{◌≡◌, ℕ, List, Option, Some, None, Bool, true, false, refl, sym, ◌∙◌, subst, ap}
+use Rattle.std.proofs.Common.{◌≡◌, ◌≤◌, ℕ, length, length-drop, arith, List, Option, Some, None, Bool, true, false, refl, sym, ◌∙◌, subst, ap}
 use Rattle.slab.specs.Slab.{Slab, get, Updates, with_value}
 use Rattle.slab.proofs.SlabLemmas.{Updates-with_value}
+use Rattle.broker_sockets.specs.Answers.{left_after}
 use Rattle.broker_sockets.specs.declared.network.Answer.{Answer}
+use Rattle.broker_sockets.specs.declared.network.Answer.TheVariants.{Later, Bytes, Gone}
 use Rattle.broker_turns.specs.declared.clients.Client.{Client}
 use Rattle.broker_sockets.specs.declared.events.Event.{Event}
 use Rattle.broker_sockets.specs.declared.events.Output.{Output}
@@ -38,10 +40,33 @@ module _ {H T : Type 0} (handles : H → Event → List Output → H → Type 0)
       let P : Bool → Type 0 = λ b. IsLost handles settles at b key h c h' c' in
       subst P (sym stays) (n, let_go-over handles at key h n c m c' x over gone, settled)
 
+-- no more waits than before
+same-fewer : (xs ys : List ℕ) → xs ≡ ys → length xs ≤ length ys
+same-fewer xs ys same = omega (arith, ap (λ (t : List ℕ). length t) same)
+
+left-fewer : (answer : Answer) (left unsent : List ℕ) → left ≡ left_after answer unsent → length left ≤ length unsent
+left-fewer Later left unsent is = same-fewer left unsent is
+left-fewer (Bytes n) left unsent is = omega (arith, ap (λ (t : List ℕ). length t) is, length-drop n unsent)
+left-fewer Gone left unsent is = same-fewer left unsent is
+
 module _ {S T : Type 0} (writes : S → T → List ℕ → Answer → S → T → Type 0) where
   pub tried-closing : (answer : Option Answer) (s s' : S) (client left : Client T) → Tried writes s client answer s' left → left.closing ≡ client.closing
   tried-closing None s s' client left t = ap (λ c. c.closing) t.2
   tried-closing (Some answer) s s' client left t = t.1
+
+  tried-untold : (answer : Option Answer) (s s' : S) (client left : Client T) → Tried writes s client answer s' left → left.untold ≡ client.untold
+  tried-untold None s s' client left t = ap (λ c. c.untold) t.2
+  tried-untold (Some answer) s s' client left t = t.2
+
+  tried-fewer : (answer : Option Answer) (s s' : S) (client left : Client T) → Tried writes s client answer s' left → length left.unsent ≤ length client.unsent
+  tried-fewer None s s' client left t = same-fewer left.unsent client.unsent (ap (λ c. c.unsent) t.2)
+  tried-fewer (Some answer) s s' client left t = left-fewer answer left.unsent client.unsent t.0.left_is
+
+  pub written-untold : (fate : Fate) (s s' : S) (client left : Client T) → IsWritten writes s client fate s' left → left.untold ≡ client.untold
+  written-untold fate s s' client left w = tried-untold w.answer s s' client left w.tried
+
+  pub written-fewer : (fate : Fate) (s s' : S) (client left : Client T) → IsWritten writes s client fate s' left → length left.unsent ≤ length client.unsent
+  written-fewer fate s s' client left w = tried-fewer w.answer s s' client left w.tried
 
   pub written-closing : (fate : Fate) (s s' : S) (client left : Client T) → IsWritten writes s client fate s' left → left.closing ≡ client.closing
   written-closing fate s s' client left w = tried-closing w.answer s s' client left w.tried

@@ -6,14 +6,16 @@ use Rattle.broker_sockets.specs.declared.network.Answer.{Answer}
 use Rattle.broker_sockets.specs.declared.network.Answer.TheVariants.{Later, Bytes, Gone}
 use Rattle.broker_sockets.specs.declared.events.Event.{Event}
 use Rattle.broker_sockets.specs.declared.events.EventKind.{EventKind}
-use Rattle.broker_sockets.specs.declared.events.EventKind.TheVariants.{Opened, Piece, Closed}
+use Rattle.broker_sockets.specs.declared.events.EventKind.TheVariants.{Opened, Piece, Room, Closed}
 use Rattle.broker_sockets.specs.declared.events.Output.{Output}
 use Rattle.broker_sockets.specs.declared.ready.Watched.{Watched}
 use Rattle.broker_sockets.specs.declared.ready.Watched.TheVariants as watched
 use Rattle.broker_turns.specs.declared.clients.Client.{Client}
 use Rattle.broker_turns.specs.declared.turn.Fate.{Fate}
 use Rattle.broker_turns.specs.declared.turn.Fate.TheVariants.{Stays, Done, Lost}
-use Rattle.broker_turns.specs.Clients.{Released, fresh}
+use Rattle.broker_turns.specs.Clients.{Released, fresh, room_of, takes_more, takes_more_at}
+use Rattle.broker_turns.specs.Numbers.{AreThose}
+use Rattle.broker_turns.specs.Steps.{Each}
 use Rattle.broker_turns.specs.Writing.{IsWritten}
 
 -- the sockets, what handles events, and the clients by connection
@@ -35,10 +37,46 @@ pub record IsHandled {H T : Type 0} (handles : H → Event → List Output → H
   pub released : Released outputs c c'
 
 module _ {H T : Type 0} (handles : H → Event → List Output → H → Type 0) (at : ℕ) where
-  -- a new client is there where it can be watched, and the handler is told
+  -- the handler is told how much a connection takes from now on, which is what is missing to 1,048,576 bytes
+  pub record IsRoomTold (key : ℕ) (client : Client T) (h : H) (c : Slab (Client T)) (h' : H) (c' : Slab (Client T)) : Type 0 where
+    pub noted : Slab (Client T)
+    pub notes : Updates c noted key (Some (record client { untold = false }))
+    pub handled : IsHandled handles (event at (Room key (room_of client))) h noted h' c'
+
+  abbrev pub IsRoomIf : Bool → ℕ → Client T → H → Slab (Client T) → H → Slab (Client T) → Type 0
+  IsRoomIf true key client h c h' c' = IsRoomTold key client h c h' c'
+  IsRoomIf false key client h c h' c' = (h' ≡ h) × (c' ≡ c)
+
+  abbrev pub IsRoomIn : Option (Client T) → ℕ → H → Slab (Client T) → H → Slab (Client T) → Type 0
+  IsRoomIn None key h c h' c' = (h' ≡ h) × (c' ≡ c)
+  IsRoomIn (Some client) key h c h' c' = IsRoomIf (takes_more client) key client h c h' c'
+
+  -- it is told so just where the connection takes more
+  pub record IsRoomMade (key : ℕ) (h : H) (c : Slab (Client T)) (h' : H) (c' : Slab (Client T)) : Type 0 where
+    pub by_client : IsRoomIn (get c key) key h c h' c'
+
+  -- the same of a handler and its clients
+  abbrev pub IsRoomStep : ℕ → H × Slab (Client T) → H × Slab (Client T) → Type 0
+  IsRoomStep key n n' = IsRoomMade key n.0 n.1 n'.0 n'.1
+
+  -- it is told so of each connection that takes more, by rising number
+  pub record AreRoomsMade (n n' : H × Slab (Client T)) : Type 0 where
+    pub takers : List ℕ
+    pub all : AreThose (λ key. takes_more_at (get n.1 key)) takers
+    pub each : Each IsRoomStep takers n n'
+
+  -- a new client is there, the handler is told, and then how much the connection takes
+  pub record IsJoined (stream : T) (key : ℕ) (h : H) (c : Slab (Client T)) (h' : H) (c' : Slab (Client T)) : Type 0 where
+    pub more : Slab (Client T)
+    pub added : Updates c more key (Some (fresh stream))
+    pub told : H
+    pub opened : Slab (Client T)
+    pub handled : IsHandled handles (event at (Opened key)) h more told opened
+    pub room : IsRoomMade key told opened h' c'
+
+  -- where it can be watched
   abbrev pub IsWelcomed : Bool → T → ℕ → H → Slab (Client T) → H → Slab (Client T) → Type 0
-  IsWelcomed true stream key h c h' c' =
-      (more : Slab (Client T)) × Updates c more key (Some (fresh stream)) × IsHandled handles (event at (Opened key)) h more h' c'
+  IsWelcomed true stream key h c h' c' = IsJoined stream key h c h' c'
   IsWelcomed false stream key h c h' c' = (h' ≡ h) × (c' ≡ c)
 
   -- a connection is let go, and the handler is told

@@ -8,6 +8,7 @@ pub mod Numbers
 pub mod Order
 pub mod Pace
 pub mod Pacing
+pub mod Rooms
 pub mod Serving
 pub mod Steps
 pub mod Turns

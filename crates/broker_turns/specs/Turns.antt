@@ -10,11 +10,12 @@ use Rattle.broker_sockets.specs.declared.events.EventKind.TheVariants.{Started, 
 use Rattle.broker_sockets.specs.declared.events.Output.{Output}
 use Rattle.broker_sockets.specs.declared.ready.Ready.{Ready}
 use Rattle.broker_sockets.specs.declared.ready.Watched.{Watched}
+use Rattle.broker_turns.specs.declared.clients.Client.{Client}
 use Rattle.broker_turns.specs.declared.lines.Line.{Line}
 use Rattle.broker_turns.specs.declared.setting.Setting.{Setting}
 use Rattle.broker_turns.specs.Bridging.{IsHeardFrom, IsLinkAccepted, IsNoLinkAccepted, IsOffered, IsPeerRead, IsSought, IsSupplied, Near, Place, Reach, Search, search}
 use Rattle.broker_turns.specs.Clients.{AreDue}
-use Rattle.broker_turns.specs.Connections.{IsAccepted, IsNobodyAccepted, IsRead, IsTold, IsWrote, World, world}
+use Rattle.broker_turns.specs.Connections.{AreRoomsMade, IsAccepted, IsNobodyAccepted, IsRead, IsTold, IsWrote, World, world}
 use Rattle.broker_turns.specs.Numbers.{AreThose, is_among}
 use Rattle.broker_turns.specs.Steps.{AreLetInIf, Each, EachBelow, EachTells}
 
@@ -26,6 +27,12 @@ module _ {S H T : Type 0} where
   -- it leaves the links alone
   pub record OfClients (step : World S H T → World S H T → Type 0) (r r' : Reach S H T) : Type 0 where
     pub does : step (front r) (front r')
+    pub dialled : r'.near.dialled ≡ r.near.dialled
+
+  -- steps of the handler and the clients alone
+  pub record OfHandler (step : H × Slab (Client T) → H × Slab (Client T) → Type 0) (r r' : Reach S H T) : Type 0 where
+    pub does : step (r.near.handler, r.near.clients) (r'.near.handler, r'.near.clients)
+    pub sockets : r'.sockets ≡ r.sockets
     pub dialled : r'.near.dialled ≡ r.near.dialled
 
   -- steps without the sockets, and without the handler
@@ -77,7 +84,8 @@ module _ {S H L T : Type 0}
     (watches : S → T → Watched → Bool → S → Type 0) (connects : S → SocketAddr → Option T → S → Type 0)
     (handles : H → Event → List Output → H → Type 0) (hears : H → PeerEvent → Given → H → Type 0) (settles : H → H → Type 0)
     (setting : Setting L) (at : ℕ) where
-  -- peers without a link are dialled; a tick; each link on which nothing waits is supplied; and the handler settles
+  -- peers without a link are dialled; a tick; each link on which nothing waits is supplied; the handler is told of each connection that takes
+  -- more how much it takes; and it settles
   pub record IsDecided (q q' : Search S H T) : Type 0 where
     pub reached : Search S H T
     pub dialled : EachBelow (IsSought connects watches hears at setting.peers.items) (length setting.peers.items) q reached
@@ -85,7 +93,9 @@ module _ {S H L T : Type 0}
     pub ticked : OfClients (IsTold handles Tick at) reached.reach told
     pub supplied : Reach S H T
     pub shipped : OfNear (EachBelow (IsSupplied hears at) (length setting.peers.items)) told supplied
-    pub settled : OfNear (IsSettled settles) supplied q'.reach
+    pub roomed : Reach S H T
+    pub rooms_made : OfHandler (AreRoomsMade handles at) supplied roomed
+    pub settled : OfNear (IsSettled settles) roomed q'.reach
     pub sought : q'.sought ≡ reached.sought
 
 module _ {S H L T : Type 0} (writes : S → T → List ℕ → Answer → S → T → Type 0) (handles : H → Event → List Output → H → Type 0) (settles : H → H → Type 0) (setting : Setting L) (at : ℕ) where

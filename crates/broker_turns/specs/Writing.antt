@@ -12,7 +12,7 @@ module _ {S T : Type 0} (writes : S → T → List ℕ → Answer → S → T �
   abbrev pub Tried : S → Client T → Option Answer → S → Client T → Type 0
   Tried s client None s' left = (client.unsent ≡ []) × (s' ≡ s) × (left ≡ client)
   Tried s client (Some answer) s' left =
-      Offers writes client.unsent s client.stream answer left.unsent s' left.stream × (left.closing ≡ client.closing)
+      Offers writes client.unsent s client.stream answer left.unsent s' left.stream × (left.closing ≡ client.closing) × (left.untold ≡ client.untold)
 
 module _ {T : Type 0} where
   abbrev pub fate_by_size : Client T → Fate

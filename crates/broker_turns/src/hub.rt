@@ -13,7 +13,7 @@ use crate::links::{accept_links, dial_peers, read_links, read_peers, ship_all, w
 use crate::numbers::united;
 use crate::pace::Pace;
 use crate::setting::Setting;
-use crate::turn::{TurnFault, accept_some, handle_event, read_all, settle, write_all};
+use crate::turn::{TurnFault, accept_some, handle_event, make_rooms, read_all, settle, write_all};
 use broker_sockets::{BridgeHandler, Clock, Event, EventKind, Readiness, Ready, Sockets};
 use slab::Slab;
 use std::alloc::{AllocError, Global};
@@ -100,7 +100,8 @@ fn take_in<S: Readiness, H: BridgeHandler>(
     })
 }
 
-/// Dials peers that have no link, tells the handler that time has passed, asks it for more, and lets it settle.
+/// Dials peers that have no link, tells the handler that time has passed, asks it for more, tells it of each connection that takes more how
+/// much it takes, and lets it settle.
 fn decide<S: Readiness, H: BridgeHandler>(
     alloc: Global,
     setting: &Setting<S::Listener>,
@@ -124,6 +125,7 @@ fn decide<S: Readiness, H: BridgeHandler>(
     let kind = EventKind::Tick;
     handle_event(clients, handler, Event { at, kind })?;
     ship_all(clients, dialled, handler, at)?;
+    make_rooms(alloc, clients, handler, at)?;
     settle(handler, at)
 }
 
@@ -257,9 +259,9 @@ impl<L: Drop, T: Drop> Hub<L, T> {
 
     /// One turn at a moment in milliseconds. Clients are accepted, and links of other nodes, where some may have come; clients
     /// and links that may have something are read. Peers without a link are dialled; the handler is told that time has passed,
-    /// and asked for more for each peer on whose link nothing waits; and it settles. Each client for which something is due is
-    /// written to, and each link that was dialled on which something waits. Then the network tells what may have something,
-    /// which the next turn asks, for which it may wait a little.
+    /// asked for more for each peer on whose link nothing waits, and told how much each connection takes that takes more; and it settles. Each
+    /// client for which something is due is written to, and each link that was dialled on which something waits. Then the network tells
+    /// what may have something, which the next turn asks, for which it may wait a little.
     ///
     /// After a fault, the handler's or `NoMemory`, nothing is said of the hub.
     pub fn turn<S: Readiness<Listener = L, Stream = T>, H: BridgeHandler>(

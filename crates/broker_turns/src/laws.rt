@@ -1,8 +1,11 @@
 //! Laws of turns.
+ghost use Rattle.broker_turns.specs.Clients.{AreMinded};
 ghost use Rattle.broker_turns.specs.Handling.{TurnSettles};
 ghost use Rattle.broker_turns.specs.Order.{NoFrameIsLost, NothingIsLost, NothingIsToldEarly};
 ghost use Rattle.broker_turns.specs.Pacing.{GrowsBack, ShrinksFast};
+ghost use Rattle.broker_turns.specs.Rooms.{EveryoneIsTold, RoomFollowsOpened};
 
+use crate::hub::Hub;
 use broker_sockets::{BridgeHandler, Readiness};
 
 /// Over a turn, whatever a client's stream takes and whatever the handler sends, what the stream has taken, followed
@@ -27,6 +30,24 @@ pub fn nothing_is_told_early<S: Readiness, H: BridgeHandler>()
 /// written to, it is told, and settles.
 pub fn turn_settles<S: Readiness, H: BridgeHandler>()
     ensures { TurnSettles S.accepts S.watches S.connects S.reads S.writes S.finds H.handles H.hears H.settles }
+{}
+
+/// In a turn the handler is told of a client that is there, and next how much its connection takes, before all else that comes on it; unless it
+/// closed the connection then, or gave 262,144 bytes for it. It is never told fewer than 786,433 bytes, nor more than 1,048,576.
+pub fn room_follows_opened<S: Readiness, H: BridgeHandler>()
+    ensures { RoomFollowsOpened S.accepts S.watches S.connects S.reads S.writes S.finds H.handles H.hears H.settles }
+{}
+
+/// Whoever takes more than the handler was told, of that one it is told how much in each turn, unless it has closed the connection by then, or
+/// given so much for it that 262,144 bytes wait.
+pub fn everyone_is_told<S: Readiness, H: BridgeHandler>()
+    ensures { EveryoneIsTold S.accepts S.watches S.connects S.reads S.writes S.finds H.handles H.hears H.settles }
+{}
+
+/// Whatever turns a hub has made, a client for which 262,144 bytes wait isn't forgotten: the handler is told again how much it takes, once it
+/// takes more.
+pub fn nobody_is_forgotten<L: Drop, T: Drop>(_hub: &Hub<L, T>)
+    ensures { AreMinded _hub.now.clients.slab }
 {}
 
 /// What a turn reads from a client's socket at most grows back to 65,536 bytes after turns of up to 100 milliseconds, by 512 with each, and after

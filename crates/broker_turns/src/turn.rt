@@ -1,6 +1,6 @@
 //! What a turn does with clients' network connections (MQTT 5.0, 4.2).
 ghost use Rattle.std.specs.Prelude.{◌≡◌, ◌≤◌, length, OnOk, IfOk, IfErr};
-ghost use Rattle.broker_turns.specs.Connections.{IsAccepted, IsAwaited, IsHandled, IsLetGo, IsNobodyAccepted, IsRead, IsWrote, event, world};
+ghost use Rattle.broker_turns.specs.Connections.{AreRoomsMade, IsAccepted, IsAwaited, IsHandled, IsLetGo, IsNobodyAccepted, IsRead, IsRoomMade, IsRoomStep, IsWrote, event, world};
 ghost use Rattle.broker_turns.specs.Faults.{IsCaused};
 ghost use Rattle.broker_turns.specs.Steps.{AreLetInIf, Each, EachTells};
 ghost use Rattle.broker_turns.specs.Writing.{IsWritten, fate_by_size};
@@ -81,6 +81,54 @@ fn let_go<H: BridgeHandler, T: Drop>(
     handle_event(clients, handler, Event { at, kind })
 }
 
+/// The handler is told how much a connection takes, where that is more than it was told.
+fn make_room<H: BridgeHandler, T: Drop>(
+    clients: &mut Clients<T>,
+    handler: &mut H,
+    at: u64,
+    key: usize,
+) -> Result<(), TurnFault<H::Fault>>
+    ensures ok { OnOk result (IsRoomMade H.handles at key handler.old clients.old.slab handler.new clients.new.slab) }
+    ensures fault { IfErr result (IsCaused H.refuses H.declines H.stops at) }
+{
+    let Some(bytes) = clients.take_room(key) else {
+        return Ok(());
+    };
+    let connection = key as u64;
+    let kind = EventKind::Room { connection, bytes };
+    handle_event(clients, handler, Event { at, kind })
+}
+
+/// The handler is told so of each of these connections.
+fn tell_rooms<H: BridgeHandler, T: Drop>(
+    clients: &mut Clients<T>,
+    handler: &mut H,
+    at: u64,
+    keys: &[usize],
+) -> Result<(), TurnFault<H::Fault>>
+    ensures ok { OnOk result (Each (IsRoomStep H.handles at) keys.now (handler.old, clients.old.slab) (handler.new, clients.new.slab)) }
+    ensures fault { IfErr result (IsCaused H.refuses H.declines H.stops at) }
+{
+    for key in keys {
+        make_room(clients, handler, at, *key)?;
+    }
+    Ok(())
+}
+
+/// The handler is told so of each connection that takes more than it was told.
+pub fn make_rooms<H: BridgeHandler, T: Drop>(
+    alloc: Global,
+    clients: &mut Clients<T>,
+    handler: &mut H,
+    at: u64,
+) -> Result<(), TurnFault<H::Fault>>
+    ensures ok { OnOk result (AreRoomsMade H.handles at (handler.old, clients.old.slab) (handler.new, clients.new.slab)) }
+    ensures fault { IfErr result (IsCaused H.refuses H.declines H.stops at) }
+{
+    let takers = clients.takers(alloc)?;
+    tell_rooms(clients, handler, at, &takers)
+}
+
 /// Accepts a client, if one has connected, and tells whether one had. One that can't be watched is closed.
 fn accept_one<S: Readiness, H: BridgeHandler>(
     alloc: Global,
@@ -106,6 +154,7 @@ fn accept_one<S: Readiness, H: BridgeHandler>(
         connection: key as u64,
     };
     handle_event(clients, handler, Event { at, kind })?;
+    make_room(clients, handler, at, key)?;
     Ok(true)
 }
 

@@ -22,7 +22,7 @@ use Rattle.replica_store.specs.declared.content.Content.{Content}
 use Rattle.replica_store.specs.Making.{next_dot, next_count, subscribe_of, put_of}
 use Rattle.subscription_set.specs.declared.entry.Entry.{Entry}
 use Rattle.subscription_set.specs.Standing.{any_of, any_below}
-use Rattle.session_laws.specs.Runs.{Event, connects, queues, takes, answers, closes, ticks, finishes, loses, ends_of}
+use Rattle.session_laws.specs.Runs.{Event, connects, queues, rooms, takes, answers, closes, ticks, finishes, loses, ends_of}
 use Rattle.session_table.specs.Seats.{Seat}
 use Rattle.node_work.specs.Acts.{Act, Store, Made, Session, MomentTaken, Named, Passed, Runs}
 use Rattle.node_work.specs.Calling.{Calls, CallsAt}
@@ -93,7 +93,8 @@ packet_ends (Some limit) _ s d = absurd d
 session_ends : (e : Event) (s : State) → ends_of e s → (2 ^ 62 ≤ s.outbox.next_place) ⊎ (2 ^ 62 ≤ s.outbox.next_order)
 session_ends (queues d now) s ends = inl ends.1.1
 session_ends (takes p now room) s ends = inr (packet_ends (limit_of s.link) p s ends)
-session_ends (connects c continued now) s ends = absurd ends
+session_ends (connects c continued room now) s ends = absurd ends
+session_ends (rooms bytes now) s ends = absurd ends
 session_ends (answers id codes) s ends = absurd ends
 session_ends (closes now) s ends = absurd ends
 session_ends (ticks now) s ends = absurd ends

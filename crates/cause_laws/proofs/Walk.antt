@@ -25,7 +25,7 @@ use Rattle.home_table.specs.Table.{Table}
 use Rattle.node_bridge.specs.View.{is_next, lane_to}
 use Rattle.replica_store.specs.States.{State}
 use Rattle.due_times.specs.Dues.{Due}
-use Rattle.session_laws.specs.Runs.{Event, connects, queues, answers, closes, ticks}
+use Rattle.session_laws.specs.Runs.{Event, connects, queues, rooms, answers, closes, ticks}
 use Rattle.session_table.specs.Calls.{stays, leaves, moves}
 use Rattle.session_table.specs.Seats.{run_outs, wills_due, ends_due, connected}
 use Rattle.node_work.specs.declared.counts.Missed.{Missed}
@@ -36,7 +36,7 @@ use Rattle.node_work.specs.Acts.{Act, StoreAct, MomentTaken, Began, Moved, Store
 use Rattle.node_work.specs.Calling.{Calls, Queues, QueuesOne}
 use Rattle.node_work.specs.Doings.{Sends, Disconnects, Redirects, Misses, PutsInLane, RoutesBy, Routes, TakesMoment, GivesBody, GivesFrame, is_small}
 use Rattle.node_work.specs.Held.Bridge.{Took, Gave, Got as GotBy, Believed, Left_out}
-use Rattle.node_work.specs.Held.Connections.{Opened, Accepted, Closed, Fed, is_open, client_at, first_at}
+use Rattle.node_work.specs.Held.Connections.{Opened, Accepted, Roomed, Closed, Fed, is_open, client_at, first_at, room_at}
 use Rattle.node_work.specs.Held.Feeding.{cut_of}
 use Rattle.node_work.specs.Held.Sessions.{SessionAct, Begun, Called, Over, takes_disconnect, takes_packet, will_is_due, end_is_due, connection_at, has_session}
 use Rattle.node_work.specs.Frames.{is_for_node, is_other}
@@ -50,6 +50,7 @@ use Rattle.node_clients.specs.Moving as moving
 use Rattle.node_clients.specs.Naming.{IsNextNumber}
 use Rattle.node_clients.specs.Passing as passing
 use Rattle.node_clients.specs.Pieces as pieces
+use Rattle.node_clients.specs.Rooms as giving
 use Rattle.node_clients.specs.Serving as serving
 use Rattle.node_clients.specs.Subscribing as subscribing
 use Rattle.node_clients.specs.Unsubscribing as unsubscribing
@@ -219,15 +220,18 @@ module _ (K : (A : Type 0) → (Option A → Doing) → Type 0) (w : Walks K) wh
       cleans true client =
           w.looks (λ p h. has_session client h) (λ has. If has (ending.Finishes client) (Returns tt)) (λ has. w.by_test has (ending.Finishes client) (Returns tt) (finishes_of client) (w.returns tt))
 
-      joins : (continued : Bool) (c : ℕ) (client : List ℕ) (p : Connect) → K Reaction (connecting.JoinsBy continued c client p)
-      joins true c client p = w.calls client (connects p true) (moves c)
-      joins false c client p =
-          w.join (Acting (λ place h. Session (Begun client))) (λ _. Calls client (connects p false) (moves c)) (w.acting (λ place h. Session (Begun client)) (λ place h. tt)) (λ _. w.calls client (connects p false) (moves c))
+      joins : (continued : Bool) (c : ℕ) (client : List ℕ) (p : Connect) (room : Option ℕ) → K Reaction (connecting.JoinsBy continued c client p room)
+      joins true c client p room = w.calls client (connects p true room) (moves c)
+      joins false c client p room =
+          w.join (Acting (λ place h. Session (Begun client))) (λ _. Calls client (connects p false room) (moves c)) (w.acting (λ place h. Session (Begun client)) (λ place h. tt)) (λ _. w.calls client (connects p false room) (moves c))
+
+      joins_in : (c : ℕ) (client : List ℕ) (p : Connect) (room : Option ℕ) → K Reaction (connecting.JoinsIn c client p room)
+      joins_in c client p room = w.looks (λ place h. has_session client h) (λ has. connecting.JoinsBy has c client p room) (λ has. joins has c client p room)
 
       begins : (c : ℕ) (client : List ℕ) (p : Connect) → Does (connecting.BeginsSession c client p)
       begins c client p =
           w.join (Acting (λ place h. Connection (Accepted c client))) (λ _. Then (connecting.Joins c client p) (λ r. ending.ClosesAfter r.end c client)) (w.acting (λ place h. Connection (Accepted c client)) (λ place h. tt)) (λ _.
-          w.join (connecting.Joins c client p) (λ r. ending.ClosesAfter r.end c client) (w.looks (λ place h. has_session client h) (λ has. connecting.JoinsBy has c client p) (λ has. joins has c client p)) (λ r. closes_after r.end c client))
+          w.join (connecting.Joins c client p) (λ r. ending.ClosesAfter r.end c client) (w.looks (λ place h. room_at c h) (connecting.JoinsIn c client p) (joins_in c client p)) (λ r. closes_after r.end c client))
 
       accepts : (c : ℕ) (p : Connect) (client : List ℕ) → Does (connecting.Accepts c p client)
       accepts c p client =
@@ -312,6 +316,16 @@ module _ (K : (A : Type 0) → (Option A → Doing) → Type 0) (w : Walks K) wh
         leaves_of c =
             let there : Option (Unit {0}) → Doing = Looks (λ p h. client_at c h) (pieces.LeavesBy c) in
             w.looks (λ p h. is_open c h) (λ is. If is there (Returns tt)) (λ is. w.by_test is there (Returns tt) (w.looks (λ p h. client_at c h) (pieces.LeavesBy c) (leaves_by c)) (w.returns tt))
+
+        -- ---- room for PUBLISHes
+        makes_room_by : (c bytes : ℕ) (client : Option (List ℕ)) → Does (giving.MakesRoomBy c bytes client)
+        makes_room_by c bytes None = w.acting (λ p h. Connection (Roomed c bytes)) (λ p h. tt)
+        makes_room_by c bytes (Some client) = w.join (Calls client (rooms bytes) stays) (λ _. Returns tt) (w.calls client (rooms bytes) stays) (λ _. w.returns tt)
+
+        makes_room : (c bytes : ℕ) → Does (giving.MakesRoom c bytes)
+        makes_room c bytes =
+            let there : Option (Unit {0}) → Doing = Looks (λ p h. client_at c h) (giving.MakesRoomBy c bytes) in
+            w.looks (λ p h. is_open c h) (λ is. If is there (Returns tt)) (λ is. w.by_test is there (Returns tt) (w.looks (λ p h. client_at c h) (giving.MakesRoomBy c bytes) (makes_room_by c bytes)) (w.returns tt))
 
         -- ---- what is due
         runs_out : (d : Due) → Does (due.RunsOut d)
@@ -424,6 +438,7 @@ module _ (K : (A : Type 0) → (Option A → Doing) → Type 0) (w : Walks K) wh
             w.looks (λ p h. is_open c h) (λ there. If there (Returns tt) opens) (λ there. w.by_test there (Returns tt) opens (w.returns tt) (w.acting (λ p h. Connection (Opened c)) (λ p h. tt)))
         answers_kind (kinds.Piece c bytes) is = w.looks (λ p h. map.get h.connections c) (pieces.PieceAt c bytes) (piece_at c bytes)
         answers_kind (kinds.Closed c) is = leaves_of c
+        answers_kind (kinds.Room c bytes) is = makes_room c bytes
         answers_kind (kinds.Frame bytes) is = hears_frame (frame_in bytes)
         answers_kind (kinds.Linked peer) is = greets peer
         answers_kind (kinds.Ship peer) is = ships peer
@@ -439,6 +454,7 @@ module _ (K : (A : Type 0) → (Option A → Doing) → Type 0) (w : Walks K) wh
         goes_on (kinds.Opened c) is = after_due (kinds.Opened c) is
         goes_on (kinds.Piece c bytes) is = after_due (kinds.Piece c bytes) is
         goes_on (kinds.Closed c) is = after_due (kinds.Closed c) is
+        goes_on (kinds.Room c bytes) is = after_due (kinds.Room c bytes) is
         goes_on (kinds.Frame bytes) is = after_due (kinds.Frame bytes) is
         goes_on (kinds.Linked peer) is = after_due (kinds.Linked peer) is
         goes_on (kinds.Ship peer) is = after_due (kinds.Ship peer) is
@@ -451,6 +467,7 @@ module _ (K : (A : Type 0) → (Option A → Doing) → Type 0) (w : Walks K) wh
         first_turn (kinds.Opened c) = w.returns tt
         first_turn (kinds.Piece c bytes) = w.returns tt
         first_turn (kinds.Closed c) = w.returns tt
+        first_turn (kinds.Room c bytes) = w.returns tt
         first_turn (kinds.Frame bytes) = w.returns tt
         first_turn (kinds.Linked peer) = w.returns tt
         first_turn (kinds.Ship peer) = w.returns tt

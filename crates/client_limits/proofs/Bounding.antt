@@ -7,7 +7,7 @@ use Rattle.broker_sockets.specs.declared.bridge.Given.{Given}
 use Rattle.broker_sockets.specs.declared.bridge.PeerEvent.{PeerEvent}
 use Rattle.broker_sockets.specs.declared.events.Event.{Event}
 use Rattle.broker_sockets.specs.declared.events.EventKind.{EventKind}
-use Rattle.broker_sockets.specs.declared.events.EventKind.TheVariants.{Started, Opened, Piece, Closed, Tick}
+use Rattle.broker_sockets.specs.declared.events.EventKind.TheVariants.{Started, Opened, Piece, Room, Closed, Tick}
 use Rattle.broker_sockets.specs.declared.events.Output.{Output}
 use Rattle.client_limits.specs.Answering.{AreCut, AreCutIf, Cut, IsAnswered, IsAnsweredBy, IsAnsweredIf, IsHeard, IsSettled, IsTold, after_if, gone, is_tick, is_told, met, met_kind}
 use Rattle.client_limits.specs.Calls.{AreMade, Call, Handled, Heard, IsMade, Settled, open_after, open_past}
@@ -78,6 +78,7 @@ met_len limits most at (Opened connection) known is told within =
     let one : map.len (map.insert known connection (Some at)) ≤ map.len known + 1 = added_len known connection (Some at) in
     omega (arith, room, one)
 met_len limits most at (Piece connection bytes) known is told within = within
+met_len limits most at (Room connection bytes) known is told within = within
 met_len limits most at (Closed connection) known is told within =
     let less : map.len (map.remove known connection) ≤ map.len known = removed_len known connection in
     omega (arith, less, within)

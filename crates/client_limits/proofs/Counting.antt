@@ -5,7 +5,7 @@ use Rattle.std.specs.FinMap as map
 use Rattle.std.specs.List.{AllByRecursion}
 use Rattle.std.specs.Ordering.{eq_by_cmp}
 use Rattle.broker_sockets.specs.declared.events.EventKind.{EventKind}
-use Rattle.broker_sockets.specs.declared.events.EventKind.TheVariants.{Started, Opened, Piece, Closed, Tick}
+use Rattle.broker_sockets.specs.declared.events.EventKind.TheVariants.{Started, Opened, Piece, Room, Closed, Tick}
 use Rattle.broker_sockets.specs.declared.events.Output.{Output}
 use Rattle.broker_sockets.specs.declared.events.Output.TheVariants.{Send, Close}
 use Rattle.client_limits.specs.Answering.{met_kind}
@@ -119,6 +119,7 @@ pub open_met : (at : ℕ) (kind : EventKind) (known : Connected) (c : ℕ) → m
 open_met at Started known c = refl
 open_met at (Opened connection) known c = open_added known connection (Some at) c
 open_met at (Piece connection bytes) known c = refl
+open_met at (Room connection bytes) known c = refl
 open_met at (Closed connection) known c = open_removed known connection c
 open_met at Tick known c = refl
 

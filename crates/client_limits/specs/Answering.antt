@@ -5,7 +5,7 @@ use Rattle.broker_sockets.specs.declared.bridge.Given.{Given}
 use Rattle.broker_sockets.specs.declared.bridge.PeerEvent.{PeerEvent}
 use Rattle.broker_sockets.specs.declared.events.Event.{Event}
 use Rattle.broker_sockets.specs.declared.events.EventKind.{EventKind}
-use Rattle.broker_sockets.specs.declared.events.EventKind.TheVariants.{Started, Opened, Piece, Closed, Tick}
+use Rattle.broker_sockets.specs.declared.events.EventKind.TheVariants.{Started, Opened, Piece, Room, Closed, Tick}
 use Rattle.broker_sockets.specs.declared.events.Output.{Output}
 use Rattle.broker_sockets.specs.declared.events.Output.TheVariants.{Close}
 use Rattle.client_limits.specs.Connected.{Connected, IsLate, NoneIsLate, after}
@@ -20,6 +20,7 @@ abbrev pub is_told : Limits → Connected → EventKind → Bool
 is_told limits known Started = true
 is_told limits known (Opened connection) = has_room limits.most (map.len known)
 is_told limits known (Piece connection bytes) = map.contains_key known connection
+is_told limits known (Room connection bytes) = map.contains_key known connection
 is_told limits known (Closed connection) = map.contains_key known connection
 is_told limits known Tick = true
 
@@ -28,6 +29,7 @@ abbrev pub instead : EventKind → List Output
 instead Started = []
 instead (Opened connection) = Close connection ∷ []
 instead (Piece connection bytes) = []
+instead (Room connection bytes) = []
 instead (Closed connection) = []
 instead Tick = []
 
@@ -35,6 +37,7 @@ abbrev pub is_tick : EventKind → Bool
 is_tick Started = false
 is_tick (Opened connection) = false
 is_tick (Piece connection bytes) = false
+is_tick (Room connection bytes) = false
 is_tick (Closed connection) = false
 is_tick Tick = true
 
@@ -42,6 +45,7 @@ abbrev pub met_kind : ℕ → EventKind → Connected → Connected
 met_kind at Started known = known
 met_kind at (Opened connection) known = map.insert known connection (Some at)
 met_kind at (Piece connection bytes) known = known
+met_kind at (Room connection bytes) known = known
 met_kind at (Closed connection) known = map.remove known connection
 met_kind at Tick known = known
 

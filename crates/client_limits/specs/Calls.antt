@@ -5,7 +5,7 @@ use Rattle.broker_sockets.specs.declared.bridge.Given.{Given}
 use Rattle.broker_sockets.specs.declared.bridge.PeerEvent.{PeerEvent}
 use Rattle.broker_sockets.specs.declared.events.Event.{Event}
 use Rattle.broker_sockets.specs.declared.events.EventKind.{EventKind}
-use Rattle.broker_sockets.specs.declared.events.EventKind.TheVariants.{Started, Opened, Piece, Closed, Tick}
+use Rattle.broker_sockets.specs.declared.events.EventKind.TheVariants.{Started, Opened, Piece, Room, Closed, Tick}
 use Rattle.broker_sockets.specs.declared.events.Output.{Output}
 use Rattle.broker_sockets.specs.declared.events.Output.TheVariants.{Send, Close}
 
@@ -32,6 +32,7 @@ abbrev pub open_by : ℕ → EventKind → Bool → Bool
 open_by c Started before = before
 open_by c (Opened connection) before = (c == connection) || before
 open_by c (Piece connection bytes) before = before
+open_by c (Room connection bytes) before = before
 open_by c (Closed connection) before = not (c == connection) && before
 open_by c Tick before = before
 

@@ -52,10 +52,8 @@ fn is_told(limits: &Limits, connections: &Connections, kind: &EventKind) -> bool
     match kind {
         EventKind::Started | EventKind::Tick => true,
         EventKind::Opened { connection: _ } => limits.have_room(connections.len()),
-        EventKind::Piece {
-            connection,
-            bytes: _,
-        } => connections.contains(*connection),
+        EventKind::Piece { connection, .. } => connections.contains(*connection),
+        EventKind::Room { connection, .. } => connections.contains(*connection),
         EventKind::Closed { connection } => connections.contains(*connection),
     }
 }

@@ -5,7 +5,7 @@ use Rattle.std.specs.FinSet as set
 use Rattle.broker_sockets.specs.declared.bridge.PeerEventKind.{PeerEventKind}
 use Rattle.broker_sockets.specs.declared.bridge.PeerEventKind.TheVariants.{Linked, Frame, Ship}
 use Rattle.broker_sockets.specs.declared.events.EventKind.{EventKind}
-use Rattle.broker_sockets.specs.declared.events.EventKind.TheVariants.{Started, Opened, Piece, Closed, Tick}
+use Rattle.broker_sockets.specs.declared.events.EventKind.TheVariants.{Started, Opened, Piece, Room, Closed, Tick}
 use Rattle.broker_sockets.specs.declared.events.Output.{Output}
 use Rattle.broker_sockets.specs.declared.events.Output.TheVariants.{Send, Close}
 use Rattle.log_lines.specs.declared.line.LogLine.{LogLine}
@@ -66,6 +66,7 @@ abbrev pub met : ℕ → EventKind → Notes → Notes
 met at Started n = n
 met at (Opened connection) n = record n { clients = map.insert n.clients connection (Coming []) }
 met at (Piece connection bytes) n = came connection bytes.items n
+met at (Room connection bytes) n = n
 met at (Closed connection) n = lost at connection n
 met at Tick n = n
 

@@ -157,7 +157,7 @@ impl Notes {
         ensures { OnOk result (self.new ≡ met event.now.at event.now.kind self.old) }
     {
         match &event.kind {
-            EventKind::Started | EventKind::Tick => Ok(()),
+            EventKind::Started | EventKind::Room { .. } | EventKind::Tick => Ok(()),
             EventKind::Opened { connection } => self.open(*connection),
             EventKind::Piece { connection, bytes } => self.come(*connection, bytes),
             EventKind::Closed { connection } => self.lose(event.at, *connection),

@@ -16,7 +16,7 @@ use Rattle.node_bridge.specs.View.{BridgeView, belief_of, believes, has_lanes, k
 use Rattle.replica_store.specs.States.{State}
 use Rattle.node_work.specs.Acts.{Act, MomentTaken, Began, Moved, Store, Connection, Session, Bridge, Out, Named, Acknowledged, Passed, Dropped, Made, Merged, Does, Runs, gather, heard_in}
 use Rattle.node_work.specs.Held.Bridge.{BridgeAct, Put, Took, Got, Believed, Gave, Left_out, MayBridge, bridged, heard_of}
-use Rattle.node_work.specs.Held.Connections.{ConnectionAct, Opened, Fed, Accepted, Closed, after_connection_act}
+use Rattle.node_work.specs.Held.Connections.{ConnectionAct, Opened, Fed, Accepted, Roomed, Closed, after_connection_act}
 use Rattle.node_work.specs.Held.Sessions.{SessionAct, Begun, Called, Over, called}
 use Rattle.node_work.specs.View.{Place, HeldView}
 use Rattle.cluster_play.proofs.Bools.{or_true}
@@ -130,6 +130,7 @@ module _ (count : ℕ) (took : ℕ → Dot → Bool) where
   connection_kept h (Opened c) = refl
   connection_kept h (Fed c piece) = refl
   connection_kept h (Accepted c client) = refl
+  connection_kept h (Roomed c bytes) = refl
   connection_kept h (Closed c) = refl
 
   session_kept : (h : HeldView) (a : SessionAct) → (called h a).bridge ≡ h.bridge

@@ -60,6 +60,7 @@ module _ (p : Past) (w : World) (e : Explains p w) where
   all_brought q (kinds.Opened c) known = tt
   all_brought q (kinds.Piece c bytes) known = tt
   all_brought q (kinds.Closed c) known = tt
+  all_brought q (kinds.Room c bytes) known = tt
   all_brought q (kinds.Frame bytes) known =
       let b = brings p w e bytes known in
       subst (λ o. AllSound p.ops (brought_in q o)) (sym b.read) (all_if (is_for_node q b.frame) (states_in b.frame.body) (all_in b.frame.body b.told.sound))
@@ -93,6 +94,7 @@ module _ (p : Past) (w : World) (e : Explains p w) where
   so_brought q (kinds.Opened c) bs known h = none_so bs h
   so_brought q (kinds.Piece c bytes) bs known h = none_so bs h
   so_brought q (kinds.Closed c) bs known h = none_so bs h
+  so_brought q (kinds.Room c bytes) bs known h = none_so bs h
   so_brought q (kinds.Frame bytes) bs known h =
       let b = brings p w e bytes known in
       so_if (is_for_node q b.frame) (IsHeardOf b.frame.from b.frame.body bs) bs (so_in b.frame.from b.frame.body bs b.told.lists) (subst (λ o. IsHeardIn q o bs) b.read h)

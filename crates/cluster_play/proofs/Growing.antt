@@ -13,7 +13,7 @@ use Rattle.replica_store.proofs.Unions.{among_cases}
 use Rattle.node_bridge.specs.View.{keeps}
 use Rattle.node_work.specs.Acts.{Act, MomentTaken, Began, Moved, Store, Connection, Session, Bridge, Out, Named, Acknowledged, Passed, Dropped, Made, Merged, Does, Runs, gather, op_in, merge_in}
 use Rattle.node_work.specs.Held.Bridge.{BridgeAct, Put, Took, Got, Believed, Gave, Left_out, bridged}
-use Rattle.node_work.specs.Held.Connections.{ConnectionAct, Opened, Fed, Accepted, Closed, after_connection_act}
+use Rattle.node_work.specs.Held.Connections.{ConnectionAct, Opened, Fed, Accepted, Roomed, Closed, after_connection_act}
 use Rattle.node_work.specs.Held.Sessions.{SessionAct, Begun, Called, Over, called}
 use Rattle.node_work.specs.View.{Place, HeldView}
 use Rattle.cluster_play.specs.Histories.{same_dot, gain_in, gained}
@@ -52,6 +52,7 @@ connection_leaves : (h : HeldView) (a : ConnectionAct) → Leaves h (after_conne
 connection_leaves h (Opened c) = record { store = refl; deltas = refl }
 connection_leaves h (Fed c piece) = record { store = refl; deltas = refl }
 connection_leaves h (Accepted c client) = record { store = refl; deltas = refl }
+connection_leaves h (Roomed c bytes) = record { store = refl; deltas = refl }
 connection_leaves h (Closed c) = record { store = refl; deltas = refl }
 
 session_leaves : (h : HeldView) (a : SessionAct) → Leaves h (called h a)

@@ -2,7 +2,7 @@
 use Rattle.std.proofs.Common.{◌≡◌, max, List, [], ◌∷◌, refl, ap, ◌∙◌, arith}
 use Rattle.node_work.specs.Acts.{Act, MomentTaken, Began, Moved, Store, Connection, Session, Bridge, Out, Named, Acknowledged, Passed, Dropped, next}
 use Rattle.node_work.specs.Held.Bridge.{BridgeAct, Put, Took, Got, Believed, Gave, Left_out, bridged}
-use Rattle.node_work.specs.Held.Connections.{ConnectionAct, Opened, Fed, Accepted, Closed, after_connection_act}
+use Rattle.node_work.specs.Held.Connections.{ConnectionAct, Opened, Fed, Accepted, Roomed, Closed, after_connection_act}
 use Rattle.node_work.specs.Held.Sessions.{SessionAct, Begun, Called, Over, called}
 use Rattle.node_work.specs.View.{Place, HeldView}
 use Rattle.node_laws.specs.Moves.{Move, Acted, Reopened, Moves}
@@ -12,6 +12,7 @@ connection_moment : (h : HeldView) (a : ConnectionAct) → (after_connection_act
 connection_moment h (Opened c) = refl
 connection_moment h (Fed c piece) = refl
 connection_moment h (Accepted c client) = refl
+connection_moment h (Roomed c bytes) = refl
 connection_moment h (Closed c) = refl
 
 session_moment : (h : HeldView) (a : SessionAct) → (called h a).at ≡ h.at

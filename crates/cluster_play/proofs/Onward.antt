@@ -35,6 +35,7 @@ known_free sent kinds.Started h = tt
 known_free sent (kinds.Opened c) h = tt
 known_free sent (kinds.Piece c bytes) h = tt
 known_free sent (kinds.Closed c) h = tt
+known_free sent (kinds.Room c bytes) h = tt
 known_free sent (kinds.Frame bytes) h = absurd h
 known_free sent (kinds.Linked peer) h = tt
 known_free sent (kinds.Ship peer) h = tt

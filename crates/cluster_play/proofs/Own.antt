@@ -10,7 +10,7 @@ use Rattle.node_bridge.specs.View.{lane_to}
 use Rattle.node_rows.specs.Reading.{HasNoLane}
 use Rattle.node_work.specs.Acts.{Act, MomentTaken, Began, Moved, Store, Connection, Session, Bridge, Out, Named, Acknowledged, Passed, Dropped, Made, Merged, Allowed, next}
 use Rattle.node_work.specs.Held.Bridge.{BridgeAct, Put, Took, Got, Believed, Gave, Left_out, MayBridge, bridged}
-use Rattle.node_work.specs.Held.Connections.{Opened, Fed, Accepted, Closed}
+use Rattle.node_work.specs.Held.Connections.{Opened, Fed, Accepted, Roomed, Closed}
 use Rattle.node_work.specs.Held.Sessions.{Begun, Called, Over}
 use Rattle.node_work.specs.View.{Place, HeldView, fresh}
 use Rattle.node_laws.specs.Moves.{Move, Acted, Reopened, Moves}
@@ -44,6 +44,7 @@ module _ (p : Place) where
   next_none h (Connection (Opened c)) none may = none
   next_none h (Connection (Fed c piece)) none may = none
   next_none h (Connection (Accepted c client)) none may = none
+  next_none h (Connection (Roomed c bytes)) none may = none
   next_none h (Connection (Closed c)) none may = none
   next_none h (Session (Begun client)) none may = none
   next_none h (Session (Called step)) none may = none

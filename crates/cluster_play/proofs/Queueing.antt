@@ -24,7 +24,7 @@ use Rattle.due_times.specs.Dues.{Due}
 use Rattle.replica_store.specs.declared.operation.Operation.{Operation}
 use Rattle.replica_store.specs.Making.{subscribe_of}
 use Rattle.replica_store.specs.States.{State}
-use Rattle.session_laws.specs.Runs.{Event, connects, queues, takes, answers, closes, ticks, finishes}
+use Rattle.session_laws.specs.Runs.{Event, connects, queues, rooms, takes, answers, closes, ticks, finishes}
 use Rattle.session_table.specs.Calls.{stays, leaves, moves}
 use Rattle.session_table.specs.Seats.{Seat, run_outs, wills_due, ends_due, connected}
 use Rattle.home_table.specs.Table.{Table}
@@ -48,7 +48,7 @@ use Rattle.node_work.specs.Calling.{CallsAt, Calls, Queues, QueuesOne}
 use Rattle.node_work.specs.Doings.{TakesMoment, MakesSubscribe, MakesRemove, MakesRemoveBelow, Removes, RemovesBelow, Sends, Disconnects, Redirects, Misses, PutsInLaneBy, Routes, RoutesBy, GivesBody, GivesFrame, is_small}
 use Rattle.node_work.specs.Held.Sessions.{SessionStep, Begun, Called, connection_at, seat_at, takes_disconnect, takes_packet, will_is_due, end_is_due}
 use Rattle.node_work.specs.Held.Feeding.{cut_of}
-use Rattle.node_work.specs.Held.Connections.{Closed, Fed, Opened, is_open, client_at, first_at}
+use Rattle.node_work.specs.Held.Connections.{Closed, Fed, Opened, Roomed, is_open, client_at, first_at}
 use Rattle.node_work.specs.Held.Making.{number_at_end, removal, removal_below}
 use Rattle.node_work.specs.Frames.{is_for_node, is_other}
 use Rattle.subscription_set.specs.declared.entry.Entry.{Entry}
@@ -61,6 +61,7 @@ use Rattle.node_clients.specs.Ending as ending
 use Rattle.node_clients.specs.Moving as moving
 use Rattle.node_clients.specs.Passing as passing
 use Rattle.node_clients.specs.Pieces as pieces
+use Rattle.node_clients.specs.Rooms as giving
 use Rattle.node_clients.specs.Serving as serving
 use Rattle.node_clients.specs.Subscribing as subscribing
 use Rattle.node_clients.specs.Unsubscribing as unsubscribing
@@ -419,16 +420,19 @@ cleans : (clean : Bool) (client : List ℕ) → Keeps Answered (connecting.Clean
 cleans false client = k_returns Answered answered _
 cleans true client = k_looks Answered answered _ _ (λ has. k_if Answered answered has _ _ (finishes_of client) (k_returns Answered answered _))
 
-joins : (continued : Bool) (c : ℕ) (client : List ℕ) (p : Connect) → Keeps Answered (connecting.JoinsBy continued c client p)
-joins true c client p = calls client (connects p true) (moves c)
-joins false c client p =
-    k_then Answered answered (Acting (λ place h. Session (Begun client))) (λ _. Calls client (connects p false) (moves c))
-    (k_acting Answered answered (λ place h. Session (Begun client)) (λ place h. (tt, tt))) (λ _. calls client (connects p false) (moves c))
+joins : (continued : Bool) (c : ℕ) (client : List ℕ) (p : Connect) (room : Option ℕ) → Keeps Answered (connecting.JoinsBy continued c client p room)
+joins true c client p room = calls client (connects p true room) (moves c)
+joins false c client p room =
+    k_then Answered answered (Acting (λ place h. Session (Begun client))) (λ _. Calls client (connects p false room) (moves c))
+    (k_acting Answered answered (λ place h. Session (Begun client)) (λ place h. (tt, tt))) (λ _. calls client (connects p false room) (moves c))
+
+joins_in : (c : ℕ) (client : List ℕ) (p : Connect) (room : Option ℕ) → Keeps Answered (connecting.JoinsIn c client p room)
+joins_in c client p room = k_looks Answered answered _ _ (λ has. joins has c client p room)
 
 accepts : (c : ℕ) (p : Connect) (client : List ℕ) → Keeps Answered (connecting.Accepts c p client)
 accepts c p client =
     k_then Answered answered _ _ (k_looks Answered answered _ _ (takes_over client)) (λ _. k_then Answered answered _ _ (cleans p.clean_start client) (λ _.
-    k_then Answered answered _ _ (k_acting Answered answered _ (λ place h. (tt, tt))) (λ _. k_then Answered answered _ _ (k_looks Answered answered _ _ (λ has. joins has c client p)) (λ r. closes_after r.end c client))))
+    k_then Answered answered _ _ (k_acting Answered answered _ (λ place h. (tt, tt))) (λ _. k_then Answered answered _ _ (k_looks Answered answered _ _ (joins_in c client p)) (λ r. closes_after r.end c client))))
 
 names_by : (c : ℕ) (p : Connect) (number : Option ℕ) → Keeps Answered (connecting.NamesBy c p number)
 names_by c p None = k_stops Answered answered
@@ -583,6 +587,16 @@ leaves_of c =
     let there : Option (Unit {0}) → Doing = Looks (λ p h. client_at c h) (pieces.LeavesBy c) in
     k_looks Answered answered (λ p h. is_open c h) (λ is. If is there (Returns tt)) (λ is. k_if Answered answered is there (Returns tt) (k_looks Answered answered (λ p h. client_at c h) (pieces.LeavesBy c) (leaves_by c)) (k_returns Answered answered tt))
 
+-- ---- room for PUBLISHes
+makes_room_by : (c bytes : ℕ) (client : Option (List ℕ)) → Keeps Answered (giving.MakesRoomBy c bytes client)
+makes_room_by c bytes None = k_acting Answered answered (λ p h. Connection (Roomed c bytes)) (λ p h. (tt, tt))
+makes_room_by c bytes (Some client) = k_then Answered answered (Calls client (rooms bytes) stays) (λ _. Returns tt) (calls client (rooms bytes) stays) (λ _. k_returns Answered answered tt)
+
+makes_room : (c bytes : ℕ) → Keeps Answered (giving.MakesRoom c bytes)
+makes_room c bytes =
+    let there : Option (Unit {0}) → Doing = Looks (λ p h. client_at c h) (giving.MakesRoomBy c bytes) in
+    k_looks Answered answered (λ p h. is_open c h) (λ is. If is there (Returns tt)) (λ is. k_if Answered answered is there (Returns tt) (k_looks Answered answered (λ p h. client_at c h) (giving.MakesRoomBy c bytes) (makes_room_by c bytes)) (k_returns Answered answered tt))
+
 -- ---- what is due
 runs_out : (d : Due) → Keeps Answered (due.RunsOut d)
 runs_out d =
@@ -689,6 +703,7 @@ answers_kind (kinds.Opened c) =
     k_looks Answered answered (λ p h. is_open c h) (λ is. If is (Returns tt) opens) (λ is. k_if Answered answered is (Returns tt) opens (k_returns Answered answered tt) (k_acting Answered answered (λ p h. Connection (Opened c)) (λ p h. (tt, tt))))
 answers_kind (kinds.Piece c bytes) = k_looks Answered answered (λ p h. map.get h.connections c) (pieces.PieceAt c bytes) (piece_at c bytes)
 answers_kind (kinds.Closed c) = leaves_of c
+answers_kind (kinds.Room c bytes) = makes_room c bytes
 answers_kind (kinds.Frame bytes) = hears_frame (frame_in bytes)
 answers_kind (kinds.Linked peer) = greets peer
 answers_kind (kinds.Ship peer) = ships peer
@@ -704,6 +719,7 @@ goes_on kinds.Started = k_returns Answered answered _
 goes_on (kinds.Opened c) = after_due (kinds.Opened c)
 goes_on (kinds.Piece c bytes) = after_due (kinds.Piece c bytes)
 goes_on (kinds.Closed c) = after_due (kinds.Closed c)
+goes_on (kinds.Room c bytes) = after_due (kinds.Room c bytes)
 goes_on (kinds.Frame bytes) = after_due (kinds.Frame bytes)
 goes_on (kinds.Linked peer) = after_due (kinds.Linked peer)
 goes_on (kinds.Ship peer) = after_due (kinds.Ship peer)
@@ -716,6 +732,7 @@ first_turn kinds.Started = starts
 first_turn (kinds.Opened c) = k_returns Answered answered _
 first_turn (kinds.Piece c bytes) = k_returns Answered answered _
 first_turn (kinds.Closed c) = k_returns Answered answered _
+first_turn (kinds.Room c bytes) = k_returns Answered answered _
 first_turn (kinds.Frame bytes) = k_returns Answered answered _
 first_turn (kinds.Linked peer) = k_returns Answered answered _
 first_turn (kinds.Ship peer) = k_returns Answered answered _

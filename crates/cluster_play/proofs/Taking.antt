@@ -134,6 +134,7 @@ frame_lists p kinds.Started d h = cc
 frame_lists p (kinds.Opened c) d h = cc
 frame_lists p (kinds.Piece c bytes) d h = cc
 frame_lists p (kinds.Closed c) d h = cc
+frame_lists p (kinds.Room c bytes) d h = cc
 frame_lists p (kinds.Frame bytes) d h = read_lists p bytes d (frame_in bytes) refl h
 frame_lists p (kinds.Linked peer) d h = cc
 frame_lists p (kinds.Ship peer) d h = cc

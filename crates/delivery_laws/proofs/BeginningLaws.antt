@@ -18,7 +18,6 @@ use Rattle.qos_handshakes.proofs.EntryLaws.{NoneHas, none-head, none-tail}
 use Rattle.qos_handshakes.specs.Touched.{is_in}
 use Rattle.handshake_laws.specs.Lists.{without}
 use Rattle.handshake_laws.specs.Numbers.{AreNumbered}
-use Rattle.handshake_laws.specs.Runs as low
 use Rattle.handshake_laws.proofs.OpenLaws.{all-both}
 use Rattle.handshake_laws.proofs.ReleaseLaws.{AreDistinct, Pair, all-sorted, has-none, has-released, not-released, pairs}
 use Rattle.mqtt_sessions.specs.declared.reaction.Output.TheVariants.{Answer}
@@ -28,7 +27,7 @@ use Rattle.mqtt_sessions.specs.Reaction.{Reaction, publishes_of}
 use Rattle.mqtt_sessions.specs.State.{State, Link, limit_in, new_session}
 use Rattle.session_laws.specs.Releases.{is_unreleased, released_after, released_ids}
 use Rattle.session_laws.specs.Replies.{Reply, reaction_of, reply_pubrec, reply_unknown}
-use Rattle.session_laws.specs.Runs.{Event, connects, queues, takes, answers, closes, ticks, finishes, loses, Step, Reacts, Run, connected_after, limit_after}
+use Rattle.session_laws.specs.Runs.{Event, connects, queues, rooms, takes, answers, closes, ticks, finishes, loses, Step, Reacts, Run, connected_after, limit_after}
 use Rattle.session_laws.proofs.CallLaws.{numbered-calls}
 use Rattle.session_laws.proofs.LiftLaws.{whole}
 use Rattle.session_laws.proofs.ProjectLaws.{project}
@@ -108,17 +107,18 @@ Fit limit = (id : ℕ) → fits limit (pubrel id 0) ≡ true
 abbrev FitsOn : Bool → ℕ → Type 0
 FitsOn on limit = on ≡ true → Fit limit
 
-opens-fit : (b : Bool) (old new : State) (c : Connect) (continued : Bool) (now : ℕ) (r : Reaction) → fits (limit_in c.properties) (connack continued c.client old.kept.client) ≡ b → OpensIf b old c (connack continued c.client old.kept.client) now r new → FitsOn (not (is_some r.end)) (limit_in c.properties)
-opens-fit true old new c continued now r is h = λ _ id. pubrel-fits continued c.client old.kept.client (limit_in c.properties) id is
-opens-fit false old new c continued now r is h = rw h.0 (λ t. absurd (false≢true t))
+opens-fit : (b : Bool) (old new : State) (c : Connect) (continued : Bool) (room : Option ℕ) (now : ℕ) (r : Reaction) → fits (limit_in c.properties) (connack continued c.client old.kept.client) ≡ b → OpensIf b old c (connack continued c.client old.kept.client) room now r new → FitsOn (not (is_some r.end)) (limit_in c.properties)
+opens-fit true old new c continued room now r is h = λ _ id. pubrel-fits continued c.client old.kept.client (limit_in c.properties) id is
+opens-fit false old new c continued room now r is h = rw h.0 (λ t. absurd (false≢true t))
 
 same-fit : (on b : Bool) (limit : ℕ) → FitsOn on limit → FitsOn (on && b) limit
 same-fit true b limit h = λ _. h refl
 same-fit false b limit h = λ t. absurd (false≢true t)
 
 fits-on : (on : Bool) (limit : ℕ) (old new : State) (e : Event) (r : Reaction) → Reacts old e r new → FitsOn on limit → FitsOn (connected_after on e r) (limit_after limit e)
-fits-on on limit old new (connects c continued now) r h f = opens-fit (fits (limit_in c.properties) (connack continued c.client old.kept.client)) old new c continued now r refl h.1
+fits-on on limit old new (connects c continued room now) r h f = opens-fit (fits (limit_in c.properties) (connack continued c.client old.kept.client)) old new c continued room now r refl h.1
 fits-on on limit old new (queues d now) r h f = same-fit on (not (is_some r.end)) limit f
+fits-on on limit old new (rooms bytes now) r h f = same-fit on (not (is_some r.end)) limit f
 fits-on on limit old new (takes p now room) r h f = same-fit on (not (is_some r.end)) limit f
 fits-on on limit old new (answers id codes) r h f = same-fit on (not (is_some r.end)) limit f
 fits-on on limit old new (closes now) r h f = λ t. absurd (false≢true t)
@@ -167,8 +167,9 @@ packet-told on limit packets.Pingresp now room old new r is limited f n d h = re
 packet-told on limit (packets.Auth p) now room old new r is limited f n d h = refl
 
 told : (on : Bool) (limit : ℕ) (old new : State) (e : Event) (r : Reaction) → on ≡ is_some old.link → HasLimit limit old.link → FitsOn on limit → AreNumbered old.outbox.copies → AreDistinct (pairs old.outbox.copies) → Reacts old e r new → released_told on (released_ids old) e r ≡ released_after old e
-told on limit old new (connects c continued now) r is limited f n d h = refl
+told on limit old new (connects c continued room now) r is limited f n d h = refl
 told on limit old new (queues x now) r is limited f n d h = refl
+told on limit old new (rooms bytes now) r is limited f n d h = refl
 told on limit old new (takes p now room) r is limited f n d h = packet-told on limit p now room old new r is limited f n d h
 told on limit old new (answers id codes) r is limited f n d h = refl
 told on limit old new (closes now) r is limited f n d h = refl
@@ -178,8 +179,9 @@ told on limit old new loses r is limited f n d h = refl
 
 -- ---- the law
 begins : (old new : State) (e : Event) (r : Reaction) → Reacts old e r new → BeginsBy (released_ids old) e r
-begins old new (connects c continued now) r h = λ e. (let k = keeps_releases_first old new c continued now r h e in (Answer (connack continued c.client old.kept.client), k.0, k.1))
+begins old new (connects c continued room now) r h = λ e. (let k = keeps_releases_first old new c continued room now r h e in (Answer (connack continued c.client old.kept.client), k.0, k.1))
 begins old new (queues d now) r h = tt
+begins old new (rooms bytes now) r h = tt
 begins old new (takes p now room) r h = tt
 begins old new (answers id codes) r h = tt
 begins old new (closes now) r h = tt

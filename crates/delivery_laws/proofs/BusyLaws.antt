@@ -8,8 +8,10 @@ use Rattle.handshake_laws.proofs.QuotaLaws.{here_ids, in_flight-here}
 use Rattle.handshake_laws.proofs.ResendLaws.{found-has}
 use Rattle.mqtt_sessions.specs.State.{State, new_session}
 use Rattle.session_laws.specs.Quota.{is_none}
+use Rattle.session_laws.specs.Room.{room_over, uncounted}
 use Rattle.session_laws.specs.Runs.{connects, Step}
 use Rattle.session_laws.proofs.BusyLaws.{keeps_busy}
+use Rattle.session_laws.proofs.RoomLaws.{keeps_left, left-room}
 use Rattle.delivery_laws.specs.Busy.{IsBusy, KeepsBusyTold}
 use Rattle.delivery_laws.specs.Queue.{Told, told_nothing, told_over}
 use Rattle.delivery_laws.proofs.FlyLaws.{Tells, keeps_queue_told, tells-nothing}
@@ -30,11 +32,12 @@ busy t s h (inr (none, inl all)) = inr (
 busy t s h (inr (none, inr idle)) = inr (none, inr idle)
 
 pub keeps_busy_told : KeepsBusyTold
-keeps_busy_told = λ client before here c continued now r end stay run on.
-    let steps : List Step = before ++ record { event = connects c continued now; reaction = r } ∷ here in
-    let k = keeps_owed client before here c continued now r end stay run in
+keeps_busy_told = λ client before here c continued room now r end stay run on some.
+    let steps : List Step = before ++ record { event = connects c continued room now; reaction = r } ∷ here in
+    let k = keeps_owed client before here c continued room now r end stay run in
     let h = tells-over told_nothing (new_session client) steps end (tells-nothing client) run in
     let linked : IsSome end.link = sym h.on ∙ on in
+    let m = room_over uncounted steps in
     record {
       going = k.going;
       owes = owed end.outbox.copies;
@@ -42,5 +45,5 @@ keeps_busy_told = λ client before here c continued now r end stay run on.
       was = k.was;
       is = k.is;
       waits = keeps_queue_told client steps end run;
-      busy = busy (told_over told_nothing steps) end h (keeps_busy client steps end run linked);
+      busy = busy (told_over told_nothing steps) end h (keeps_busy client steps end run linked (rw (keeps_left client steps end run) (left-room m.given m.taken some)));
     }

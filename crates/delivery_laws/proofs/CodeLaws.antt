@@ -42,7 +42,7 @@ use Rattle.mqtt_sessions.specs.State.{Link, State, aliases_of, heard, limit_in, 
 use Rattle.session_laws.specs.Aliases.{Topics}
 use Rattle.session_laws.specs.Releases.{released_ids}
 use Rattle.session_laws.specs.Replies.{says, ends, reaction_of, reply_codes, reply_known, reply_pubrec, reply_request, reply_unknown, then_sends, IsReplied}
-use Rattle.session_laws.specs.Runs.{Event, connects, queues, takes, answers, closes, ticks, finishes, loses, Step, Reacts, Run, connected_after, limit_after}
+use Rattle.session_laws.specs.Runs.{Event, connects, queues, rooms, takes, answers, closes, ticks, finishes, loses, Step, Reacts, Run, connected_after, limit_after}
 use Rattle.session_laws.proofs.AliasLaws.{held}
 use Rattle.session_laws.proofs.CallLaws.{numbered-calls}
 use Rattle.session_laws.proofs.ProjectLaws.{project}
@@ -152,9 +152,9 @@ packet-told None on p q now room old new r is e k h = rw (is, h.0, h.1, e) k
 packet-told (Some l) on p q now room old new r is e k h = rw is (kind-told p q now room l.limit (heard old now) new (record l { last = now }) r (rw e refl) (rw e k) h)
 
 -- ---- any other event
-opens-told : (fit : Bool) (old new : State) (c : Connect) (p : Packet) (now : ℕ) (r : Reaction) → OpensIf fit old c p now r new → asked_of new.link ≡ None
-opens-told true old new c p now r h = rw h.left refl
-opens-told false old new c p now r h = rw h.1 refl
+opens-told : (fit : Bool) (old new : State) (c : Connect) (p : Packet) (room : Option ℕ) (now : ℕ) (r : Reaction) → OpensIf fit old c p room now r new → asked_of new.link ≡ None
+opens-told true old new c p room now r h = rw h.left refl
+opens-told false old new c p room now r h = rw h.1 refl
 
 queue-told : (b : Bool) (q : Option Question) (old new : State) (d : Delivery) (now : ℕ) (r : Reaction) → kind_of q ≡ asked_of old.link → QueueIf b old d now r new → kind_of (unless_ended r q) ≡ asked_of new.link
 queue-told true q old new d now r k h = rw (h.0, h.1) k
@@ -183,8 +183,9 @@ tick-told false true c q now s k = k
 tick-told false false c q now s k = k
 
 told : (on : Bool) (q : Option Question) (old new : State) (e : Event) (r : Reaction) → on ≡ is_some old.link → kind_of q ≡ asked_of old.link → Reacts old e r new → kind_of (question_after on q e r) ≡ asked_of new.link
-told on q old new (connects c continued now) r is k h = sym (opens-told (fits (limit_in c.properties) (connack continued c.client old.kept.client)) old new c (connack continued c.client old.kept.client) now r h.1)
+told on q old new (connects c continued room now) r is k h = sym (opens-told (fits (limit_in c.properties) (connack continued c.client old.kept.client)) old new c (connack continued c.client old.kept.client) room now r h.1)
 told on q old new (queues d now) r is k h = queue-told (is_once d.qos) q old new d now r k h
+told on q old new (rooms bytes now) r is k h = rw (h.reacts, h.left) k
 told on q old new (takes p now room) r is k h = packet-told old.link on p q now room old new r is refl k h
 told on q old new (answers id codes) r is k h = rw h.1 (sym (answer-told old.link id codes old refl))
 told on q old new (closes now) r is k h = rw h.1 refl
@@ -310,9 +311,10 @@ packet-own None p now room old new r e h = none-shown (takes p now room) r r.pac
 packet-own (Some l) p now room old new r e h = linked-own l p now room old new r e h
 
 codes-by : (q : Option Question) (old new : State) (e : Event) (r : Reaction) → kind_of q ≡ asked_of old.link → Reacts old e r new → CodesBy q e r
-codes-by q old new (connects c continued now) r k h =
-    own-shown (connects c continued now) r r.packets (event-shown (IfCodes (connects c continued now) r) old new (connects c continued now) r (tt, released-shown (connects c continued now) r (released_ids old)) h)
+codes-by q old new (connects c continued room now) r k h =
+    own-shown (connects c continued room now) r r.packets (event-shown (IfCodes (connects c continued room now) r) old new (connects c continued room now) r (tt, released-shown (connects c continued room now) r (released_ids old)) h)
 codes-by q old new (queues d now) r k h = own-shown (queues d now) r r.packets (event-shown (IfCodes (queues d now) r) old new (queues d now) r tt h)
+codes-by q old new (rooms bytes now) r k h = own-shown (rooms bytes now) r r.packets (event-shown (IfCodes (rooms bytes now) r) old new (rooms bytes now) r tt h)
 codes-by q old new (takes p now room) r k h = packet-own old.link p now room old new r refl h
 codes-by q old new (answers id codes) r k h = λ m. codes-answered old.link q old new id codes r refl k m h
 codes-by q old new (closes now) r k h = own-shown (closes now) r r.packets (event-shown (IfCodes (closes now) r) old new (closes now) r tt h)

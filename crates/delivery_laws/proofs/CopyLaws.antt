@@ -19,7 +19,7 @@ use Rattle.qos_handshakes.specs.Length.{length_of}
 use Rattle.qos_handshakes.specs.Outbox.{fits, waiting}
 use Rattle.session_laws.specs.Exchanges.{Exchange, none}
 use Rattle.session_laws.specs.Order.{IsLate, copies_of, firsts, queued_by}
-use Rattle.session_laws.specs.Runs.{Event, connects, queues, takes, answers, closes, ticks, finishes, loses, Step, Reacts, Run, limit_after}
+use Rattle.session_laws.specs.Runs.{Event, connects, queues, rooms, takes, answers, closes, ticks, finishes, loses, Step, Reacts, Run, limit_after}
 use Rattle.session_laws.specs.Sends.{Mark, marks_by, marks_in, marks_of, sends_of, sent_in}
 use Rattle.session_laws.specs.Sizes.{moment_of}
 use Rattle.session_laws.proofs.CallLaws.{numbered-calls}
@@ -53,8 +53,9 @@ short-one now limit (Publish p ∷ os) all x i = elim (cases_Bool (p.id == 0)) [
 ]
 
 too-long : (on : Bool) (limit : ℕ) (e : Event) (x : SentCopy) → IsTooLong on limit e x → limit < length_of (moment_of e) x.1
-too-long on limit (connects c continued now) x h = h
+too-long on limit (connects c continued room now) x h = h
 too-long on limit (queues d now) x h = h.1
+too-long on limit (rooms bytes now) x h = h.1
 too-long on limit (takes p now room) x h = h.1
 too-long on limit (answers id codes) x h = absurd h
 too-long on limit (closes now) x h = absurd h
@@ -73,10 +74,11 @@ marks-none (packets.Pubcomp a) ms = refl
 marks-none p ms = refl
 
 firsts-last : (on : Bool) (e : Event) (ms : List Mark) → firsts (marks_by on e ++ ms) ≡ firsts ms
-firsts-last on (connects c continued now) ms = refl
+firsts-last on (connects c continued room now) ms = refl
 firsts-last true (takes p now room) ms = marks-none p ms
 firsts-last false (takes p now room) ms = refl
 firsts-last on (queues d now) ms = refl
+firsts-last on (rooms bytes now) ms = refl
 firsts-last on (answers id codes) ms = refl
 firsts-last on (closes now) ms = refl
 firsts-last on (ticks now) ms = refl

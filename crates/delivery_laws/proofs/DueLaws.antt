@@ -12,7 +12,7 @@ use Rattle.mqtt_sessions.specs.declared.kept.Phase.TheVariants.{Connected, Close
 use Rattle.mqtt_sessions.specs.Ending.{ask_of, end_by, end_due, has_run_out, is_due, message_of, ticked, ticked_if, will_by, will_due}
 use Rattle.mqtt_sessions.specs.Reaction.{Reaction}
 use Rattle.mqtt_sessions.specs.State.{Kept, Link, State, new_session}
-use Rattle.session_laws.specs.Runs.{Event, connects, queues, takes, answers, closes, ticks, finishes, loses, Step, Reacts, Run, connected_after, limit_after}
+use Rattle.session_laws.specs.Runs.{Event, connects, queues, rooms, takes, answers, closes, ticks, finishes, loses, Step, Reacts, Run, connected_after, limit_after}
 use Rattle.session_laws.proofs.CallLaws.{numbered-calls}
 use Rattle.session_laws.proofs.ProjectLaws.{project}
 use Rattle.session_laws.proofs.QuietLaws.{HasLimit}
@@ -57,8 +57,9 @@ still : (on : Bool) (k l : Kept) (r : Reaction) → l.phase ≡ k.phase → IsAp
 still on k l r same h = λ at e. rw (h at (sym same ∙ e)) refl
 
 apart : (on : Bool) (k : Kept) (e : Event) (r : Reaction) → IsApart on k → IsApart (connected_after on e r) (kept_after on k e r)
-apart on k (connects c continued now) r h = λ at e. (cc e)
+apart on k (connects c continued room now) r h = λ at e. (cc e)
 apart on k (queues d now) r h = still on k k r refl h
+apart on k (rooms bytes now) r h = still on k k r refl h
 apart on k (takes p now room) r h = still on k (cond on (after_packet p k) k) r (takes-phase on p k) h
 apart on k (answers id codes) r h = still on k k r refl h
 apart on k (closes now) r h = λ at e. refl
@@ -94,8 +95,9 @@ due-link (Some l) on now s e is h =
     rw (b, c) (open-tick (has_run_out s.link now) l now s e)
 
 due : (on : Bool) (old new : State) (e : Event) (r : Reaction) → on ≡ is_some old.link → IsApart on old.kept → Reacts old e r new → DueBy old.kept e r
-due on old new (connects c continued now) r is a h = tt
+due on old new (connects c continued room now) r is a h = tt
 due on old new (queues d now) r is a h = tt
+due on old new (rooms bytes now) r is a h = tt
 due on old new (takes p now room) r is a h = tt
 due on old new (answers id codes) r is a h = tt
 due on old new (closes now) r is a h = tt

@@ -32,7 +32,7 @@ use Rattle.mqtt_sessions.specs.Reaction.{Reaction, Comes}
 use Rattle.mqtt_sessions.specs.Sending.{is_once, QueueIf}
 use Rattle.mqtt_sessions.specs.State.{State, Link, limit_in, new_session}
 use Rattle.session_laws.specs.Aliases.{Topics, topic_under}
-use Rattle.session_laws.specs.Runs.{Event, connects, queues, takes, answers, closes, ticks, finishes, loses, Step, Reacts, Run, connected_after, limit_after}
+use Rattle.session_laws.specs.Runs.{Event, connects, queues, rooms, takes, answers, closes, ticks, finishes, loses, Step, Reacts, Run, connected_after, limit_after}
 use Rattle.session_laws.specs.Replies.{Reply, silent, says, asks, both, ends, leaves, reaction_of, has_hundred, is_invalid, reply_under, reply_exactly_once, reply_at, reply_publish, reply_request, reply_disconnect, reply_unknown, reply_known, reply_pubrec, reply_codes, IsReply}
 use Rattle.session_laws.proofs.AliasLaws.{held}
 use Rattle.session_laws.proofs.CallLaws.{numbered-calls}
@@ -148,9 +148,9 @@ queue-goes_on true old new d now r q = rw q.0 refl
 queue-goes_on false old new d now r (inl q) = rw q.reacts refl
 queue-goes_on false old new d now r (inr q) = rw q.reacts refl
 
-opens-within : (b : Bool) (old new : State) (c : Connect) (p : Packet) (now : ℕ) (r : Reaction) → OpensIf b old c p now r new → EndsWithin (0 ∷ []) r.end
-opens-within true old new c p now r h = rw h.reacts tt
-opens-within false old new c p now r h = rw h.0 refl
+opens-within : (b : Bool) (old new : State) (c : Connect) (p : Packet) (room : Option ℕ) (now : ℕ) (r : Reaction) → OpensIf b old c p room now r new → EndsWithin (0 ∷ []) r.end
+opens-within true old new c p room now r h = rw h.reacts tt
+opens-within false old new c p room now r h = rw h.0 refl
 
 timed-within : (o : Option Link) (s : State) → EndsWithin (0 ∷ 141 ∷ []) (timed_out o s).reaction.end
 timed-within None s = tt
@@ -162,8 +162,9 @@ tick-within false true c now s = tt
 tick-within false false c now s = tt
 
 within : (old new : State) (e : Event) (r : Reaction) → Reacts old e r new → EndsWithin (codes_by e) r.end
-within old new (connects c continued now) r h = opens-within (fits (limit_in c.properties) (connack continued c.client old.kept.client)) old new c (connack continued c.client old.kept.client) now r h.1
+within old new (connects c continued room now) r h = opens-within (fits (limit_in c.properties) (connack continued c.client old.kept.client)) old new c (connack continued c.client old.kept.client) room now r h.1
 within old new (queues d now) r h = rw (queue-goes_on (is_once d.qos) old new d now r h) tt
+within old new (rooms bytes now) r h = rw h.reacts tt
 within old new (takes p now room) r h = takes-within old.link old new p now room r refl h
 within old new (answers id codes) r h = answers-within old.link old new id codes r refl h
 within old new (closes now) r h = rw h.0 tt
@@ -198,8 +199,9 @@ unless true o M is f = inl refl
 unless false o M is f = inr (f (no-link o (sym is)))
 
 mute-step : (on : Bool) (old new : State) (e : Event) (r : Reaction) → on ≡ is_some old.link → Reacts old e r new → IsOpenFor on e ⊎ IsMute r
-mute-step on old new (connects c continued now) r is h = inl tt
+mute-step on old new (connects c continued room now) r is h = inl tt
 mute-step on old new (queues d now) r is h = unless on old.link (IsMute r) is (λ none. record { packets = queue-mute (is_once d.qos) old new d now r none h; last = queue-goes_on (is_once d.qos) old new d now r h })
+mute-step on old new (rooms bytes now) r is h = unless on old.link (IsMute r) is (λ none. let g = rw none at h.goes_on in record { packets = rw (h.reacts, g.0) refl; last = rw h.reacts refl })
 mute-step on old new (takes p now room) r is h = unless on old.link (IsMute r) is (λ none. let g = (keeps_unheard old new p now room r none h).0 in rw g (record { packets = refl; last = refl }))
 mute-step on old new (answers id codes) r is h = unless on old.link (IsMute r) is (λ none. let g = rw none at h in rw g.0 (record { packets = refl; last = refl }))
 mute-step on old new (closes now) r is h = inr (rw h.0 (record { packets = refl; last = refl }))

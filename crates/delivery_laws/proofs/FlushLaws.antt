@@ -1,12 +1,13 @@
 -- A queue always goes on to some end.
-use Rattle.std.proofs.Common.{◌≡◌, ℕ, zero, suc, ◌+◌, ◌<◌, ◌≤◌, ◌⊎◌, true, false, cond, List, [], ◌∷◌, Option, Some, None, IsSome, refl, inl, inr, arith}
+use Rattle.std.proofs.Common.{◌≡◌, ℕ, zero, suc, ◌+◌, ◌<◌, ◌≤◌, ◌⊎◌, Bool, true, false, cond, List, [], ◌∷◌, Option, Some, None, IsSome, refl, sym, inl, inr, arith}
 use Rattle.std.specs.Prelude.{is_some}
 use Rattle.std.proofs.lemmas.Bool.{cases_Bool, cases_eq, cases_lt, false≢true}
 use Rattle.mqtt_message.specs.declared.delivery.Delivery.{Delivery}
 use Rattle.qos_handshakes.specs.declared.copies.Entry.{Entry}
 use Rattle.qos_handshakes.specs.Entries.{Entries, IsLeastFree, NoneFree, find_id}
 use Rattle.qos_handshakes.specs.Outbox.{Outbox, Sent, NextStep, after_resend, after_send, first_owed, first_waiting, fits, in_flight, is_owed, is_published, is_sendable, waits}
-use Rattle.mqtt_sessions.specs.Sending.{Flushes}
+use Rattle.mqtt_sessions.specs.Sending.{Flushes, StopsIf}
+use Rattle.mqtt_sessions.specs.State.{has_room, room_less}
 
 -- how many PUBLISHes may still be sent
 left : Entries → ℕ
@@ -105,26 +106,44 @@ next now limit old = elim (cases_lt (in_flight old.copies) old.maximum) [
 ]
 
 -- ---- all of them
-pub record HasFlush (now limit : ℕ) (old : Outbox) : Type 0 where
+pub record HasFlush (now limit : ℕ) (room : Option ℕ) (old : Outbox) : Type 0 where
   pub sents : List Sent
   pub new : Outbox
-  pub flushes : Flushes now limit old sents new
+  pub flushes : Flushes now limit room old sents new
 
-ends-now : (now limit : ℕ) (old : Outbox) → Stops now limit old → HasFlush now limit old
-ends-now now limit old k = record { sents = []; new = k.new; flushes = record { last = old; sends = refl; stops = k.step } }
+stop-if : (b : Bool) (now limit : ℕ) (old new : Outbox) → b ≡ true → NextStep now limit old None new → StopsIf b now limit old new
+stop-if true now limit old new is step = step
+stop-if false now limit old new is step = absurd (false≢true is)
 
-goes-on : (now limit : ℕ) (old : Outbox) (k : Gives now limit old) → HasFlush now limit k.new → HasFlush now limit old
-goes-on now limit old k f = record { sents = k.sent ∷ f.sents; new = f.new; flushes = record { last = f.flushes.last; sends = (k.new, k.step, f.flushes.sends); stops = f.flushes.stops } }
+keep-if : (b : Bool) (now limit : ℕ) (old : Outbox) → b ≡ false → StopsIf b now limit old old
+keep-if true now limit old is = absurd (false≢true (sym is))
+keep-if false now limit old is = refl
 
-flush-in : (fuel now limit : ℕ) (old : Outbox) → left old.copies ≤ fuel → HasFlush now limit old
-flush-in zero now limit old le = elim (next now limit old) [
-  | inl k ↦ absurd (let less = k.less in omega (arith, le, less))
-  | inr k ↦ ends-now now limit old k
+ends-now : (now limit : ℕ) (room : Option ℕ) (old : Outbox) → has_room room ≡ true → Stops now limit old → HasFlush now limit room old
+ends-now now limit room old more k = record { sents = []; new = k.new; flushes = record { last = old; sends = refl; stops = stop-if (has_room room) now limit old k.new more k.step } }
+
+goes-on : (now limit : ℕ) (room : Option ℕ) (old : Outbox) → has_room room ≡ true → (k : Gives now limit old) → HasFlush now limit (room_less now room k.sent.copy) k.new → HasFlush now limit room old
+goes-on now limit room old more k f = record { sents = k.sent ∷ f.sents; new = f.new; flushes = record { last = f.flushes.last; sends = (more, k.new, k.step, f.flushes.sends); stops = f.flushes.stops } }
+
+-- no room is left
+waits-now : (now limit : ℕ) (room : Option ℕ) (old : Outbox) → has_room room ≡ false → HasFlush now limit room old
+waits-now now limit room old none = record { sents = []; new = old; flushes = record { last = old; sends = refl; stops = keep-if (has_room room) now limit old none } }
+
+flush-in : (fuel now limit : ℕ) (room : Option ℕ) (old : Outbox) → left old.copies ≤ fuel → HasFlush now limit room old
+flush-in zero now limit room old le = elim (cases_Bool (has_room room)) [
+  | inl more ↦ elim (next now limit old) [
+    | inl k ↦ absurd (let less = k.less in omega (arith, le, less))
+    | inr k ↦ ends-now now limit room old more k
+  ]
+  | inr none ↦ waits-now now limit room old none
 ]
-flush-in (suc n) now limit old le = elim (next now limit old) [
-  | inl k ↦ goes-on now limit old k (flush-in n now limit k.new (let less = k.less in omega (arith, le, less)))
-  | inr k ↦ ends-now now limit old k
+flush-in (suc n) now limit room old le = elim (cases_Bool (has_room room)) [
+  | inl more ↦ elim (next now limit old) [
+    | inl k ↦ goes-on now limit room old more k (flush-in n now limit (room_less now room k.sent.copy) k.new (let less = k.less in omega (arith, le, less)))
+    | inr k ↦ ends-now now limit room old more k
+  ]
+  | inr none ↦ waits-now now limit room old none
 ]
 
-pub flush : (now limit : ℕ) (old : Outbox) → HasFlush now limit old
-flush now limit old = flush-in (left old.copies) now limit old (omega arith)
+pub flush : (now limit : ℕ) (room : Option ℕ) (old : Outbox) → HasFlush now limit room old
+flush now limit room old = flush-in (left old.copies) now limit room old (omega arith)

@@ -25,9 +25,9 @@ use Rattle.mqtt_sessions.specs.Asking.{AsksNoLocalShare, IsNoLocalShare, Subscri
 use Rattle.mqtt_sessions.specs.Connecting.{OpensIf, begun, resumed_by}
 use Rattle.mqtt_sessions.specs.Packets.{KindStep, PacketEndsIf, PacketIf, PubackStep, PubcompStep, PubrecStep, SaysUnknown}
 use Rattle.mqtt_sessions.specs.Reaction.{Reaction, nothing, publishes_of, pubrels_of, says}
-use Rattle.mqtt_sessions.specs.Sending.{QueueEnds, QueueIf, is_once}
-use Rattle.mqtt_sessions.specs.State.{Link, State, cut, heard, limit_in, limit_of, with_outbox}
-use Rattle.session_laws.specs.Runs.{Event, connects, queues, takes, answers, closes, ticks, finishes, loses, MayCome, ends_of}
+use Rattle.mqtt_sessions.specs.Sending.{QueueEnds, QueueIf, RoomStep, is_once, with_room}
+use Rattle.mqtt_sessions.specs.State.{Link, State, cut, heard, limit_in, limit_of, sent_from, with_outbox}
+use Rattle.session_laws.specs.Runs.{Event, connects, queues, rooms, takes, answers, closes, ticks, finishes, loses, MayCome, ends_of}
 use Rattle.delivery_laws.specs.Outcomes.{HasOutcome, KeepsOutcome}
 use Rattle.delivery_laws.proofs.FlushLaws.{flush}
 
@@ -36,23 +36,23 @@ abbrev Some-of : (Reaction → State → Type 0) → Type 0
 Some-of Step = (r : Reaction) × (new : State) × Step r new
 
 -- ---- connect
-opens-some : (b : Bool) (old : State) (c : Connect) (p : Packet) (now : ℕ) → Some-of (OpensIf b old c p now)
-opens-some true old c p now =
+opens-some : (b : Bool) (old : State) (c : Connect) (p : Packet) (room : Option ℕ) (now : ℕ) → Some-of (OpensIf b old c p room now)
+opens-some true old c p room now =
     let mid = resumed_by old.outbox c in
-    let f = flush now (limit_in c.properties) mid in
+    let f = flush now (limit_in c.properties) room mid in
     let ids = values_of (by_release mid.copies) in
-    (says (Answer p ∷ pubrels_of ids ++ publishes_of f.sents), with_outbox (begun old c now) f.new, record { after = f.new; ids = ids; sents = f.sents; lists = (refl, refl); flushes = f.flushes; reacts = refl; left = refl })
-opens-some false old c p now = (record nothing { end = Some 0 }, cut (begun old c now), (refl, refl))
+    (says (Answer p ∷ pubrels_of ids ++ publishes_of f.sents), sent_from (begun old c room now) f.new now f.sents, record { after = f.new; ids = ids; sents = f.sents; lists = (refl, refl); flushes = f.flushes; reacts = refl; left = refl })
+opens-some false old c p room now = (record nothing { end = Some 0 }, cut (begun old c room now), (refl, refl))
 
 -- ---- queue
 queues-some : (o : Option Link) (old : State) (d : Delivery) (now : ℕ) → old.link ≡ o → length (waiting old.outbox.copies) < 65536 → old.outbox.next_place < 2 ^ 62 → Some-of (QueueIf false old d now)
 queues-some None old d now e some below =
     let mid = record old.outbox { copies = old.outbox.copies ++ (old.outbox.next_place, waiting_entry d) ∷ []; next_place = old.outbox.next_place + 1 } in
-    (says (publishes_of []), with_outbox old mid, inl (record { mid = mid; after = mid; sents = []; offers = (some, below, refl); goes_on = rw e (refl, refl); reacts = refl; left = refl }))
+    (says (publishes_of []), sent_from old mid now [], inl (record { mid = mid; after = mid; sents = []; offers = (some, below, refl); goes_on = rw e (refl, refl); reacts = refl; left = refl }))
 queues-some (Some l) old d now e some below =
     let mid = record old.outbox { copies = old.outbox.copies ++ (old.outbox.next_place, waiting_entry d) ∷ []; next_place = old.outbox.next_place + 1 } in
-    let f = flush now l.limit mid in
-    (says (publishes_of f.sents), with_outbox old f.new, inl (record { mid = mid; after = f.new; sents = f.sents; offers = (some, below, refl); goes_on = rw e f.flushes; reacts = refl; left = refl }))
+    let f = flush now l.limit old.room mid in
+    (says (publishes_of f.sents), sent_from old f.new now f.sents, inl (record { mid = mid; after = f.new; sents = f.sents; offers = (some, below, refl); goes_on = rw e f.flushes; reacts = refl; left = refl }))
 
 queue-ends : (b : Bool) (old : State) (d : Delivery) (now : ℕ) → is_once d.qos ≡ b → Some-of (QueueIf b old d now) ⊎ QueueEnds d old
 queue-ends true old d now is = inl (_, old, (refl, refl))
@@ -64,22 +64,29 @@ queue-ends false old d now is = elim (cases_lt (length (waiting old.outbox.copie
   | inr full ↦ inl (record nothing { full = true }, old, inr (record { offers = (full, refl); reacts = refl; left = refl }))
 ]
 
+-- ---- room
+room-some : (o : Option Link) (old : State) (bytes now : ℕ) → old.link ≡ o → Some-of (RoomStep bytes now old)
+room-some None old bytes now e = (says (publishes_of []), sent_from (with_room old bytes) old.outbox now [], record { after = old.outbox; sents = []; goes_on = rw e (refl, refl); reacts = refl; left = refl })
+room-some (Some l) old bytes now e =
+    let f = flush now l.limit (Some bytes) old.outbox in
+    (says (publishes_of f.sents), sent_from (with_room old bytes) f.new now f.sents, record { after = f.new; sents = f.sents; goes_on = rw e f.flushes; reacts = refl; left = refl })
+
 -- ---- PUBACK and PUBCOMP
 puback-some : (b : Bool) (id now limit : ℕ) (s : State) → is_acknowledged (find_id id s.outbox.copies) ≡ b → Some-of (PubackStep id now limit s)
 puback-some true id now limit s is =
     let mid = record s.outbox { copies = drop_id id s.outbox.copies } in
-    let f = flush now limit mid in
-    (says (publishes_of f.sents), with_outbox s f.new, record { answer = Done; mid = mid; after = f.new; sents = f.sents; takes = (is, refl); goes_on = f.flushes; reacts = refl; left = refl })
+    let f = flush now limit s.room mid in
+    (says (publishes_of f.sents), sent_from s f.new now f.sents, record { answer = Done; mid = mid; after = f.new; sents = f.sents; takes = (is, refl); goes_on = f.flushes; reacts = refl; left = refl })
 puback-some false id now limit s is =
-    (says (publishes_of []), with_outbox s s.outbox, record { answer = Unknown; mid = s.outbox; after = s.outbox; sents = []; takes = (is, refl); goes_on = (refl, refl); reacts = refl; left = refl })
+    (says (publishes_of []), sent_from s s.outbox now [], record { answer = Unknown; mid = s.outbox; after = s.outbox; sents = []; takes = (is, refl); goes_on = (refl, refl); reacts = refl; left = refl })
 
 pubcomp-some : (b : Bool) (id now limit : ℕ) (s : State) → is_completed (find_id id s.outbox.copies) ≡ b → Some-of (PubcompStep id now limit s)
 pubcomp-some true id now limit s is =
     let mid = record s.outbox { copies = drop_id id s.outbox.copies } in
-    let f = flush now limit mid in
-    (says (publishes_of f.sents), with_outbox s f.new, record { answer = Done; mid = mid; after = f.new; sents = f.sents; takes = (is, refl); goes_on = f.flushes; reacts = refl; left = refl })
+    let f = flush now limit s.room mid in
+    (says (publishes_of f.sents), sent_from s f.new now f.sents, record { answer = Done; mid = mid; after = f.new; sents = f.sents; takes = (is, refl); goes_on = f.flushes; reacts = refl; left = refl })
 pubcomp-some false id now limit s is =
-    (says (publishes_of []), with_outbox s s.outbox, record { answer = Unknown; mid = s.outbox; after = s.outbox; sents = []; takes = (is, refl); goes_on = (refl, refl); reacts = refl; left = refl })
+    (says (publishes_of []), sent_from s s.outbox now [], record { answer = Unknown; mid = s.outbox; after = s.outbox; sents = []; takes = (is, refl); goes_on = (refl, refl); reacts = refl; left = refl })
 
 -- ---- PUBREC
 unknown-some : (id reason limit : ℕ) (s : State) → Some-of (SaysUnknown id reason limit s)
@@ -106,8 +113,8 @@ pubrec-ends x id reason now limit s is = elim (cases_Bool (takes_pubrec x.delive
     ]
     | inr above ↦
         let mid = record s.outbox { copies = drop_id id s.outbox.copies } in
-        let f = flush now limit mid in
-        inl (says (publishes_of f.sents), with_outbox s f.new, record { answer = rec.Ended; mid = mid; takes = rw is (t, above, refl); goes_on = record { after = f.new; sents = f.sents; flushes = f.flushes; reacts = refl; left = refl } })
+        let f = flush now limit s.room mid in
+        inl (says (publishes_of f.sents), sent_from s f.new now f.sents, record { answer = rec.Ended; mid = mid; takes = rw is (t, above, refl); goes_on = record { after = f.new; sents = f.sents; flushes = f.flushes; reacts = refl; left = refl } })
   ]
   | inr t ↦ elim (cases_Bool (is_released x.stage)) [
     | inl u ↦ inl (_, _, record { answer = rec.Release; mid = s.outbox; takes = rw is (inr (u, refl)); goes_on = (refl, refl) })
@@ -188,11 +195,12 @@ packet-ends (Some limit) p now room old = kind-ends p now room limit old
 
 -- ---- the events
 outcome : (old : State) (e : Event) → MayCome e old → HasOutcome old e ⊎ ends_of e old
-outcome old (connects c continued now) may =
+outcome old (connects c continued room now) may =
     let answer = connack continued c.client old.kept.client in
-    let s = opens-some (fits (limit_in c.properties) answer) old c answer now in
+    let s = opens-some (fits (limit_in c.properties) answer) old c answer room now in
     inl (s.0, s.1, (may, s.2))
 outcome old (queues d now) may = queue-ends (is_once d.qos) old d now refl
+outcome old (rooms bytes now) may = inl (room-some old.link old bytes now refl)
 outcome old (takes p now room) may = packet-ends (limit_of old.link) p now room old
 outcome old (answers id codes) may = inl (_, _, (refl, refl))
 outcome old (closes now) may = inl (_, _, (refl, refl))
@@ -200,8 +208,8 @@ outcome old (ticks now) may = inl (_, _, (refl, refl))
 outcome old (finishes now) may = inl (_, _, (refl, refl))
 outcome old loses may = inl (
   nothing,
-  record { kept = old.kept; outbox = record { copies = away old.outbox.copies; next_place = old.outbox.next_place; next_order = order_above old.outbox.copies; maximum = 0 }; incoming = of_before old.incoming; link = None },
-  record { quiet = refl; kept = refl; outbox = refl; incoming = refl; link = refl },
+  record { kept = old.kept; outbox = record { copies = away old.outbox.copies; next_place = old.outbox.next_place; next_order = order_above old.outbox.copies; maximum = 0 }; incoming = of_before old.incoming; link = None; room = None },
+  record { quiet = refl; kept = refl; outbox = refl; incoming = refl; link = refl; room = refl },
 )
 
 pub keeps_outcome : KeepsOutcome

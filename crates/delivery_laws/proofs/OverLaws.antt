@@ -18,7 +18,7 @@ use Rattle.mqtt_sessions.specs.Reaction.{Reaction}
 use Rattle.mqtt_sessions.specs.Sending.{QueueIf, is_once}
 use Rattle.mqtt_sessions.specs.State.{Kept, Link, State, limit_in, new_session}
 use Rattle.session_laws.specs.Replies.{Reply, silent, says, asks, both, ends, leaves, reaction_of, reply_codes}
-use Rattle.session_laws.specs.Runs.{Event, connects, queues, takes, answers, closes, ticks, finishes, loses, Step, Reacts, Run, connected_after, limit_after}
+use Rattle.session_laws.specs.Runs.{Event, connects, queues, rooms, takes, answers, closes, ticks, finishes, loses, Step, Reacts, Run, connected_after, limit_after}
 use Rattle.session_laws.proofs.CallLaws.{numbered-calls}
 use Rattle.session_laws.proofs.ProjectLaws.{project}
 use Rattle.session_laws.proofs.QuietLaws.{HasLimit}
@@ -43,9 +43,9 @@ answers-over : (o : Option Link) (old new : State) (id : ℕ) (codes : List ℕ)
 answers-over None old new id codes r e h = let g = rw e at h in rw g.0 refl
 answers-over (Some l) old new id codes r e h = rw (keeps_codes old new l id codes r e h) (reply-over l.limit (reply_codes l.asked id codes))
 
-opens-over : (b : Bool) (old new : State) (c : Connect) (p : Packet) (now : ℕ) (r : Reaction) → OpensIf b old c p now r new → r.over ≡ false
-opens-over true old new c p now r h = rw h.reacts refl
-opens-over false old new c p now r h = rw h.0 refl
+opens-over : (b : Bool) (old new : State) (c : Connect) (p : Packet) (room : Option ℕ) (now : ℕ) (r : Reaction) → OpensIf b old c p room now r new → r.over ≡ false
+opens-over true old new c p room now r h = rw h.reacts refl
+opens-over false old new c p room now r h = rw h.0 refl
 
 queue-over : (b : Bool) (old new : State) (d : Delivery) (now : ℕ) (r : Reaction) → QueueIf b old d now r new → r.over ≡ false
 queue-over true old new d now r q = rw q.0 refl
@@ -88,8 +88,9 @@ tick-over false false c now s w e t = over-by s.kept.phase s.kept now refl (e �
 
 -- ---- the events
 over : (old new : State) (e : Event) (r : Reaction) → Reacts old e r new → OverBy old.kept e r
-over old new (connects c continued now) r h = opens-over (fits (limit_in c.properties) (connack continued c.client old.kept.client)) old new c (connack continued c.client old.kept.client) now r h.1
+over old new (connects c continued room now) r h = opens-over (fits (limit_in c.properties) (connack continued c.client old.kept.client)) old new c (connack continued c.client old.kept.client) room now r h.1
 over old new (queues d now) r h = queue-over (is_once d.qos) old new d now r h
+over old new (rooms bytes now) r h = rw h.reacts refl
 over old new (takes p now room) r h = takes-over old.link old new p now room r refl h
 over old new (answers id codes) r h = answers-over old.link old new id codes r refl h
 over old new (closes now) r h = rw h.0 refl

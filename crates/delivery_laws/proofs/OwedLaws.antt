@@ -31,11 +31,11 @@ use Rattle.mqtt_sessions.specs.Answers as answer_packets
 use Rattle.mqtt_sessions.specs.Connecting.{OpensIf, resumed_by}
 use Rattle.mqtt_sessions.specs.Packets.{GoesOnAfter, PubrecBy, PacketIf}
 use Rattle.mqtt_sessions.specs.Reaction.{Reaction, publishes_of}
-use Rattle.mqtt_sessions.specs.Sending.{SendsAll, Flushes, GoesOn, is_once, once_of, QueueIf}
-use Rattle.mqtt_sessions.specs.State.{State, Link, heard, limit_in, limit_of, new_session, with_outbox}
+use Rattle.mqtt_sessions.specs.Sending.{SendsAll, StopsIf, Flushes, GoesOn, is_once, once_of, QueueIf, RoomStep, with_room}
+use Rattle.mqtt_sessions.specs.State.{State, Link, has_room, heard, limit_in, limit_of, new_session, room_after, room_less, sent_from, with_outbox}
 use Rattle.session_laws.specs.Order.{firsts, first_of, again_of, resends}
 use Rattle.session_laws.specs.Resends.{StaysConnected}
-use Rattle.session_laws.specs.Runs.{Event, connects, queues, takes, answers, closes, ticks, finishes, loses, Step, Reacts, Run, limit_after}
+use Rattle.session_laws.specs.Runs.{Event, connects, queues, rooms, takes, answers, closes, ticks, finishes, loses, Step, Reacts, Run, limit_after}
 use Rattle.session_laws.specs.Sends.{Mark, marks_by, marks_in, marks_of, maximum_in, sends_of, sent_in}
 use Rattle.session_laws.specs.Sizes.{moment_of}
 use Rattle.session_laws.proofs.CallLaws.{flushed, sent-publishes, sent-pubrels}
@@ -115,17 +115,21 @@ stops-again now limit old new s = elim s.step [
 none-taken : (now limit : ℕ) (taken : List SentCopy) (xs : List SentCopy) → taken ≡ [] → SentOf (Long now limit) taken xs → SentOf (Long now limit) [] xs
 none-taken now limit taken xs e h = subst (λ (ys : List SentCopy). SentOf (Long now limit) ys xs) e h
 
-flush-again : (now limit : ℕ) (old last new : Outbox) (sents : List Sent) → SendsAll now limit old sents last → NextStep now limit last None new → Again now limit (owed old.copies) sents new
-flush-again now limit old last new [] all stops = stops-again now limit old new (rw all at stops)
-flush-again now limit old last new (s ∷ ss) all stops =
-    let k = flush-again now limit all.0 last new ss all.2 stops in
-    elim all.1 [
+stop-again : (more : Bool) (now limit : ℕ) (old new : Outbox) → StopsIf more now limit old new → Again now limit (owed old.copies) [] new
+stop-again true now limit old new s = stops-again now limit old new s
+stop-again false now limit old new s = rw s (record { taken = []; long = []; splits = refl; sent = refl; left_out = tt; room = inl refl })
+
+flush-again : (more : Bool) (now limit : ℕ) (room : Option ℕ) (old last new : Outbox) (sents : List Sent) → SendsAll now limit room old sents last → StopsIf more now limit last new → Again now limit (owed old.copies) sents new
+flush-again more now limit room old last new [] all stops = stop-again more now limit old new (rw all at stops)
+flush-again more now limit room old last new (s ∷ ss) all stops =
+    let k = flush-again more now limit (room_less now room s.copy) all.1 last new ss all.3 stops in
+    elim all.2 [
       | inl n ↦
           let dup : s.dup ≡ true = resent-dup now limit s old.copies n.sent in
           let again : resends (sends_of (s ∷ ss)) ≡ (s.id, s.copy) ∷ resends (sends_of ss) = rw dup refl in
           let first : firsts (sends_of (s ∷ ss)) ≡ firsts (sends_of ss) = rw dup refl in
           let t = split now limit s old.copies n.sent in
-          let owes : owed old.copies ≡ t.out ++ (s.id, s.copy) ∷ owed all.0.copies = rw n.left t.is in
+          let owes : owed old.copies ≡ t.out ++ (s.id, s.copy) ∷ owed all.1.copies = rw n.left t.is in
           record {
             taken = t.out ++ (s.id, s.copy) ∷ k.taken;
             long = k.long;
@@ -136,7 +140,7 @@ flush-again now limit old last new (s ∷ ss) all stops =
           }
       | inr n ↦
           let a = all-long now limit old.copies n.none_owed in
-          let none : owed all.0.copies ≡ [] = rw n.left (owed-first now limit s.id (after_resend now limit old.copies) ∙ a.1) in
+          let none : owed all.1.copies ≡ [] = rw n.left (owed-first now limit s.id (after_resend now limit old.copies) ∙ a.1) in
           let parts = both-nil k.taken (k.long ++ owed new.copies) (sym k.splits ∙ none) in
           let rest = both-nil k.long (owed new.copies) parts.1 in
           record {
@@ -152,7 +156,8 @@ flush-again now limit old last new (s ∷ ss) all stops =
 -- ---- an event answers some, and then the queue goes on
 record Goes (now limit : ℕ) (on : Bool) (e : Event) (mid : Outbox) (r : Reaction) (new : State) : Type 0 where
   pub sents : List Sent
-  pub flushes : Flushes now limit mid sents new.outbox
+  pub room : Option ℕ
+  pub flushes : Flushes now limit room mid sents new.outbox
   pub sent : sent_in r.packets ≡ sents
   pub linked : IsSome new.link
   pub why : (x : SentCopy) → Long now limit x → IsTooLong on limit e x
@@ -165,10 +170,10 @@ record Shape (now limit : ℕ) (on : Bool) (e : Event) (start : List SentCopy) (
 rests : (now limit : ℕ) (on : Bool) (e : Event) (old : Outbox) (r : Reaction) (new : State) → new.outbox ≡ old → sent_in r.packets ≡ [] → Shape now limit on e (owed old.copies) r new
 rests now limit on e old r new same none = record { mid = old; answers = without-refl (IsAnswered on e) (owed old.copies); goes = inl (same, none) }
 
-after-ack : (a : Ack) (now limit : ℕ) (on : Bool) (e : Event) (mid after : Outbox) (sents : List Sent) (s new : State) (r : Reaction) → GoesOnAfter a now limit mid sents after → AreNumbered mid.copies → IsSome s.link → sent_in r.packets ≡ sent_in (publishes_of sents) → new ≡ with_outbox s after → ((x : SentCopy) → Long now limit x → IsTooLong on limit e x)
+after-ack : (a : Ack) (now limit : ℕ) (on : Bool) (e : Event) (mid after : Outbox) (sents : List Sent) (s new : State) (r : Reaction) → GoesOnAfter a now limit s.room mid sents after → AreNumbered mid.copies → IsSome s.link → sent_in r.packets ≡ sent_in (publishes_of sents) → new ≡ sent_from s after now sents → ((x : SentCopy) → Long now limit x → IsTooLong on limit e x)
     → ((new.outbox ≡ mid) × (sent_in r.packets ≡ [])) ⊎ Goes now limit on e mid r new
 after-ack Done now limit on e mid after sents s new r g n some is left why =
-    inr (record { sents = sents; flushes = rw left g; sent = is ∙ sent-publishes now limit sents (flushed now limit mid after sents n g).sound; linked = rw left some; why = why })
+    inr (record { sents = sents; room = s.room; flushes = rw left g; sent = is ∙ sent-publishes now limit sents (flushed now limit s.room mid after sents n g).sound; linked = rw left some; why = why })
 after-ack Unknown now limit on e mid after sents s new r g n some is left why = inl (rw left g.1, is ∙ rw g.0 refl)
 
 by-ack : (id : ℕ) (a : Ack) (on : Bool) (k : Packet) (x : SentCopy) → on ≡ true → (EndsBy Any (acknowledged id Done) x → IsAnswered on (takes k 0 true) x) → EndsBy Any (acknowledged id a) x → IsAnswered on (takes k 0 true) x
@@ -227,12 +232,12 @@ none-once : (o : Option ℕ) (now : ℕ) (d : Delivery) → sent_in (once_of o n
 none-once None now d = refl
 none-once (Some limit) now d = elim (cases_Bool (outbox.fits now limit d)) [ inl h ↦ rw h refl | inr h ↦ rw h refl ]
 
-goes-on : (o : Option Link) (now limit : ℕ) (on : Bool) (e : Event) (mid after : Outbox) (sents : List Sent) (s new : State) (r : Reaction) → s.link ≡ o → on ≡ is_some o → HasLimit limit o → GoesOn (limit_of o) now mid sents after → AreNumbered mid.copies → sent_in r.packets ≡ sent_in (publishes_of sents) → new ≡ with_outbox s after → (on ≡ true → (x : SentCopy) → Long now limit x → IsTooLong on limit e x)
+goes-on : (o : Option Link) (now limit : ℕ) (on : Bool) (e : Event) (mid after : Outbox) (sents : List Sent) (s new : State) (r : Reaction) → s.link ≡ o → on ≡ is_some o → HasLimit limit o → GoesOn (limit_of o) now s.room mid sents after → AreNumbered mid.copies → sent_in r.packets ≡ sent_in (publishes_of sents) → new ≡ sent_from s after now sents → (on ≡ true → (x : SentCopy) → Long now limit x → IsTooLong on limit e x)
     → ((new.outbox ≡ mid) × (sent_in r.packets ≡ [])) ⊎ Goes now limit on e mid r new
 goes-on None now limit on e mid after sents s new r is opens has g n sent left why = inl (rw left g.1, sent ∙ rw g.0 refl)
 goes-on (Some l) now limit on e mid after sents s new r is opens has g n sent left why =
     let f = rw has at g in
-    inr (record { sents = sents; flushes = rw left f; sent = sent ∙ sent-publishes now limit sents (flushed now limit mid after sents n f).sound; linked = rw (left, is) refl; why = why opens })
+    inr (record { sents = sents; room = s.room; flushes = rw left f; sent = sent ∙ sent-publishes now limit sents (flushed now limit s.room mid after sents n f).sound; linked = rw (left, is) refl; why = why opens })
 
 queue : (b : Bool) (limit : ℕ) (on : Bool) (old new : State) (d : Delivery) (now : ℕ) (r : Reaction) → on ≡ is_some old.link → HasLimit limit old.link → AreNumbered old.outbox.copies → QueueIf b old d now r new → Shape now limit on (queues d now) (owed old.outbox.copies) r new
 queue true limit on old new d now r opens is n q = rests now limit on (queues d now) old.outbox r new (rw q.1 refl) (rw q.0 (none-once (limit_of old.link) now d))
@@ -244,34 +249,43 @@ queue false limit on old new d now r opens is n (inl q) =
     }
 queue false limit on old new d now r opens is n (inr q) = rests now limit on (queues d now) old.outbox r new (rw q.left refl) (rw q.reacts refl)
 
+room-goes : (limit : ℕ) (on : Bool) (old new : State) (bytes now : ℕ) (r : Reaction) → on ≡ is_some old.link → HasLimit limit old.link → AreNumbered old.outbox.copies → RoomStep bytes now old r new → Shape now limit on (rooms bytes now) (owed old.outbox.copies) r new
+room-goes limit on old new bytes now r opens is n q = record {
+  mid = old.outbox;
+  answers = without-refl (IsAnswered on (rooms bytes now)) (owed old.outbox.copies);
+  goes = goes-on old.link now limit on (rooms bytes now) old.outbox q.after q.sents (with_room old bytes) new r refl opens is q.goes_on n (rw q.reacts refl) q.left (λ t x k. (t, k));
+}
+
 owed-away : (x : Entry) → owed_part (record x { here = false }) ≡ published_part x
 owed-away x = elim (cases_Bool (is_published x.stage)) [ inl h ↦ rw h refl | inr h ↦ rw h refl ]
 
-opens-shape : (b : Bool) (on : Bool) (old new : State) (c : Connect) (p : Packet) (continued : Bool) (now : ℕ) (r : Reaction) → AreNumbered old.outbox.copies → OpensIf b old c p now r new → Shape now (limit_in c.properties) on (connects c continued now) (published old.outbox.copies) r new
-opens-shape true on old new c p continued now r n h =
+opens-shape : (b : Bool) (on : Bool) (old new : State) (c : Connect) (p : Packet) (continued : Bool) (room : Option ℕ) (now : ℕ) (r : Reaction) → AreNumbered old.outbox.copies → OpensIf b old c p room now r new → Shape now (limit_in c.properties) on (connects c continued room now) (published old.outbox.copies) r new
+opens-shape true on old new c p continued room now r n h =
     let mid = resumed_by old.outbox c in
     let numbered = numbered-step old.outbox mid (resumed (maximum_in c)) refl n in
     record {
       mid = mid;
-      answers = without-same (IsAnswered on (connects c continued now)) (published old.outbox.copies) (owed (away old.outbox.copies)) (chosen-away owed_part published_part owed-away old.outbox.copies);
+      answers = without-same (IsAnswered on (connects c continued room now)) (published old.outbox.copies) (owed (away old.outbox.copies)) (chosen-away owed_part published_part owed-away old.outbox.copies);
       goes = inr (record {
         sents = h.sents;
+        room = room;
         flushes = rw h.left h.flushes;
-        sent = rw (h.reacts, sent-pubrels h.ids (publishes_of h.sents)) (sent-publishes now (limit_in c.properties) h.sents (flushed now (limit_in c.properties) mid h.after h.sents numbered h.flushes).sound);
+        sent = rw (h.reacts, sent-pubrels h.ids (publishes_of h.sents)) (sent-publishes now (limit_in c.properties) h.sents (flushed now (limit_in c.properties) room mid h.after h.sents numbered h.flushes).sound);
         linked = rw h.left refl;
         why = λ x k. k;
       });
     }
-opens-shape false on old new c p continued now r n h = record {
+opens-shape false on old new c p continued room now r n h = record {
   mid = resumed_by old.outbox c;
-  answers = without-same (IsAnswered on (connects c continued now)) (published old.outbox.copies) (owed (away old.outbox.copies)) (chosen-away owed_part published_part owed-away old.outbox.copies);
+  answers = without-same (IsAnswered on (connects c continued room now)) (published old.outbox.copies) (owed (away old.outbox.copies)) (chosen-away owed_part published_part owed-away old.outbox.copies);
   goes = inl (rw h.1 refl, rw h.0 refl);
 }
 
 -- an event on a connection that goes on
 shape : (limit : ℕ) (on : Bool) (old new : State) (e : Event) (r : Reaction) → StaysConnected e → on ≡ is_some old.link → HasLimit limit old.link → AreNumbered old.outbox.copies → Reacts old e r new → Shape (moment_of e) (limit_after limit e) on e (owed old.outbox.copies) r new
-shape limit on old new (connects c continued now) r k opens is n h = absurd k
+shape limit on old new (connects c continued room now) r k opens is n h = absurd k
 shape limit on old new (queues d now) r k opens is n h = queue (is_once d.qos) limit on old new d now r opens is n h
+shape limit on old new (rooms bytes now) r k opens is n h = room-goes limit on old new bytes now r opens is n h
 shape limit on old new (takes p now room) r k opens is n h = packet old.link limit on old new p now room r refl opens is n h
 shape limit on old new (answers id codes) r k opens is n h = let q = quiet-answer old.link limit id codes old r new refl is h in rests 0 limit on (answers id codes) old.outbox r new q.same (none-sent limit r.packets q.plain)
 shape limit on old new (closes now) r k opens is n h = rests now limit on (closes now) old.outbox r new (rw h.1 refl) (rw h.0 refl)
@@ -301,8 +315,9 @@ plain-in packets.Pingresp = tt
 plain-in (packets.Auth p) = tt
 
 plain-by : (on : Bool) (e : Event) → AllByRecursion IsPlain (marks_by on e)
-plain-by on (connects c continued now) = ((refl, refl), tt)
+plain-by on (connects c continued room now) = ((refl, refl), tt)
 plain-by on (queues d now) = tt
+plain-by on (rooms bytes now) = tt
 plain-by true (takes p now room) = plain-in p
 plain-by false (takes p now room) = tt
 plain-by on (answers id codes) = tt
@@ -344,7 +359,7 @@ sends-again on t start s new h k =
         room = inl refl;
       }
       | inr g ↦
-          let f = flush-again (moment_of s.event) t.limit k.mid g.flushes.last new.outbox g.sents g.flushes.sends g.flushes.stops in
+          let f = flush-again (has_room (room_after (moment_of s.event) g.room g.sents)) (moment_of s.event) t.limit g.room k.mid g.flushes.last new.outbox g.sents g.flushes.sends g.flushes.stops in
           record {
             unanswered = owed k.mid.copies;
             taken = f.taken;
@@ -380,8 +395,8 @@ tells-over t old [] end h r = rw r h
 tells-over t old (s ∷ ss) end h r = tells-over (told_after t s) r.0 ss end (tells-after t old s ss end r h) r.2
 
 pub keeps_owed : KeepsOwed
-keeps_owed = λ client before here c continued now r end stay run.
-    let first : Step = record { event = connects c continued now; reaction = r } in
+keeps_owed = λ client before here c continued room now r end stay run.
+    let first : Step = record { event = connects c continued room now; reaction = r } in
     let t = run-split (new_session client) before (first ∷ here) end run in
     let told = told_over told_nothing before in
     let h = tells-over told_nothing (new_session client) before t.0 (tells-nothing client) t.1 in
@@ -392,7 +407,7 @@ keeps_owed = λ client before here c continued now r end stay run.
       was = keeps_open client before t.0 t.1;
       is = (
         owed t.2.0.outbox.copies,
-        sends-again told.on (told_after told first) (published t.0.outbox.copies) first t.2.0 next (opens-shape (answer_packets.fits (limit_in c.properties) p) told.on t.0 t.2.0 c p continued now r h.numbered t.2.1.1),
+        sends-again told.on (told_after told first) (published t.0.outbox.copies) first t.2.0 next (opens-shape (answer_packets.fits (limit_in c.properties) p) told.on t.0 t.2.0 c p continued room now r h.numbered t.2.1.1),
         owed-run (told_after told first) t.2.0 here end next stay t.2.2,
       );
     }

@@ -17,11 +17,11 @@ use Rattle.mqtt_sessions.specs.Answers.{connack, fits as fits_in}
 use Rattle.mqtt_sessions.specs.Connecting.{OpensIf}
 use Rattle.mqtt_sessions.specs.Ending.{ticked_if, timed_out, has_run_out, is_due, will_due, end_due}
 use Rattle.mqtt_sessions.specs.Reaction.{Reaction}
-use Rattle.mqtt_sessions.specs.Sending.{SendsAll, is_once, QueueIf}
-use Rattle.mqtt_sessions.specs.State.{State, Link, limit_in, new_session}
+use Rattle.mqtt_sessions.specs.Sending.{SendsAll, StopsIf, is_once, QueueIf}
+use Rattle.mqtt_sessions.specs.State.{State, Link, has_room, limit_in, new_session, room_after, room_less}
 use Rattle.session_laws.specs.Order.{IsLate, copies_of, firsts}
 use Rattle.session_laws.specs.Replies.{Reply, silent, says, asks, both, ends, leaves, reaction_of, reply_codes}
-use Rattle.session_laws.specs.Runs.{Event, connects, queues, takes, answers, closes, ticks, finishes, loses, Step, Reacts, Run, limit_after}
+use Rattle.session_laws.specs.Runs.{Event, connects, queues, rooms, takes, answers, closes, ticks, finishes, loses, Step, Reacts, Run, limit_after}
 use Rattle.session_laws.specs.Sends.{sends_of}
 use Rattle.session_laws.specs.Sizes.{moment_of}
 use Rattle.session_laws.proofs.LiftLaws.{limit_over, keeps_numbers, whole}
@@ -55,9 +55,9 @@ tick-full true b c now s = timed-full s.link s
 tick-full false true c now s = refl
 tick-full false false c now s = refl
 
-opens-full : (b : Bool) (old new : State) (c : Connect) (p : Packet) (now : ℕ) (r : Reaction) → OpensIf b old c p now r new → r.full ≡ false
-opens-full true old new c p now r h = rw h.reacts refl
-opens-full false old new c p now r h = rw h.0 refl
+opens-full : (b : Bool) (old new : State) (c : Connect) (p : Packet) (room : Option ℕ) (now : ℕ) (r : Reaction) → OpensIf b old c p room now r new → r.full ≡ false
+opens-full true old new c p room now r h = rw h.reacts refl
+opens-full false old new c p room now r h = rw h.0 refl
 
 below-limit : (n : ℕ) → n < 65536 → nat_le 65536 n ≡ false
 below-limit n h = elim (cases_Bool (nat_le 65536 n)) [ inl t ↦ absurd (let le = leb-true 65536 n t in omega (arith, le, h)) | inr f ↦ f ]
@@ -68,8 +68,9 @@ queue-full false old new d now r (inl q) = rw (q.reacts, below-limit (length (wa
 queue-full false old new d now r (inr q) = rw (q.reacts, le-leb 65536 (length (waiting old.outbox.copies)) q.offers.0) refl
 
 pub full-step : (old new : State) (e : Event) (r : Reaction) → Reacts old e r new → r.full ≡ full_by e (length (waiting old.outbox.copies))
-full-step old new (connects c continued now) r h = opens-full (fits_in (limit_in c.properties) (connack continued c.client old.kept.client)) old new c (connack continued c.client old.kept.client) now r h.1
+full-step old new (connects c continued room now) r h = opens-full (fits_in (limit_in c.properties) (connack continued c.client old.kept.client)) old new c (connack continued c.client old.kept.client) room now r h.1
 full-step old new (queues d now) r h = queue-full (is_once d.qos) old new d now r h
+full-step old new (rooms bytes now) r h = rw h.reacts refl
 full-step old new (takes p now room) r h = takes-full old.link old new p now room r refl h
 full-step old new (answers id codes) r h = answers-full old.link old new id codes r refl h
 full-step old new (closes now) r h = rw h.0 refl
@@ -190,19 +191,23 @@ stops-takes now limit old new s = elim s.step [
   ]
 ]
 
-flush-takes : (now limit : ℕ) (old last new : Outbox) (sents : List Sent) → SendsAll now limit old sents last → NextStep now limit last None new → Takes now limit (waiting old.copies) sents new
-flush-takes now limit old last new [] all stops = stops-takes now limit old new (rw all at stops)
-flush-takes now limit old last new (s ∷ ss) all stops =
-    let k = flush-takes now limit all.0 last new ss all.2 stops in
-    elim all.1 [
+stop-takes : (more : Bool) (now limit : ℕ) (old new : Outbox) → StopsIf more now limit old new → Takes now limit (waiting old.copies) [] new
+stop-takes true now limit old new s = stops-takes now limit old new s
+stop-takes false now limit old new s = takes-none now limit (waiting old.copies) new (rw s refl)
+
+flush-takes : (more : Bool) (now limit : ℕ) (room : Option ℕ) (old last new : Outbox) (sents : List Sent) → SendsAll now limit room old sents last → StopsIf more now limit last new → Takes now limit (waiting old.copies) sents new
+flush-takes more now limit room old last new [] all stops = stop-takes more now limit old new (rw all at stops)
+flush-takes more now limit room old last new (s ∷ ss) all stops =
+    let k = flush-takes more now limit (room_less now room s.copy) all.1 last new ss all.3 stops in
+    elim all.2 [
       | inl n ↦
           let dup : s.dup ≡ true = resent-dup now limit s old.copies n.sent in
-          let queue : waiting old.copies ≡ waiting all.0.copies = rw n.left (sym (waiting-after_resend now limit old.copies)) in
+          let queue : waiting old.copies ≡ waiting all.1.copies = rw n.left (sym (waiting-after_resend now limit old.copies)) in
           record { taken = k.taken; late = k.late; splits = queue ∙ k.splits; sent = rw dup k.sent; left_out = k.left_out; spare = k.spare }
       | inr n ↦
           let es = after_resend now limit old.copies in
           let t = split now limit s.id s.copy es n.sent in
-          let queue : waiting old.copies ≡ t.out ++ s.copy ∷ waiting all.0.copies = rw n.left (sym (waiting-after_resend now limit old.copies) ∙ t.is) in
+          let queue : waiting old.copies ≡ t.out ++ s.copy ∷ waiting all.1.copies = rw n.left (sym (waiting-after_resend now limit old.copies) ∙ t.is) in
           record {
             taken = t.out ++ s.copy ∷ k.taken;
             late = k.late;
@@ -217,7 +222,7 @@ flush-takes now limit old last new (s ∷ ss) all stops =
 pub serves : (limit : ℕ) (old : Outbox) (s : Step) (new : State) → Shape (moment_of s.event) limit old (joins_by s.event s.reaction) s.reaction new → Serves limit (waiting old.copies) s (HasSpare new) (waiting new.outbox.copies)
 serves limit old s new (inl k) = record { taken = []; late = []; splits = sym k.queue; sent = rw k.sent refl; left_out = tt; room = inl refl }
 serves limit old s new (inr k) =
-    let t = flush-takes (moment_of s.event) limit k.mid k.flushes.last new.outbox k.sents k.flushes.sends k.flushes.stops in
+    let t = flush-takes (has_room (room_after (moment_of s.event) k.room k.sents)) (moment_of s.event) limit k.room k.mid k.flushes.last new.outbox k.sents k.flushes.sends k.flushes.stops in
     record {
       taken = t.taken;
       late = t.late;
@@ -242,7 +247,7 @@ longer : (xs ys zs : List Delivery) → length zs ≤ length (xs ++ (ys ++ zs))
 longer xs ys zs = omega (arith, length-append xs (ys ++ zs), length-append ys zs)
 
 joins-short : (e : Event) (r : Reaction) (n : ℕ) → r.full ≡ full_by e n → n ≤ 65536 → n + length (joins_by e r) ≤ 65536
-joins-short (connects c continued now) r n f h = rw f (omega (arith, h))
+joins-short (connects c continued room now) r n f h = rw f (omega (arith, h))
 joins-short (queues d now) r n f h = elim (cases_Bool (is_once d.qos)) [
   | inl once ↦ rw (f, once) (omega (arith, h))
   | inr once ↦ elim (cases_Bool (nat_le 65536 n)) [
@@ -250,6 +255,7 @@ joins-short (queues d now) r n f h = elim (cases_Bool (is_once d.qos)) [
     | inr t ↦ rw (f, once, t) (let lt = leb-false 65536 n t in omega (arith, lt))
   ]
 ]
+joins-short (rooms bytes now) r n f h = rw f (omega (arith, h))
 joins-short (takes p now room) r n f h = rw f (omega (arith, h))
 joins-short (answers id codes) r n f h = rw f (omega (arith, h))
 joins-short (closes now) r n f h = rw f (omega (arith, h))

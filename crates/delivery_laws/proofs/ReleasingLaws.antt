@@ -29,7 +29,7 @@ use Rattle.mqtt_sessions.specs.declared.link.Asked.TheVariants.{Subscribing, Uns
 use Rattle.session_laws.specs.Exchanges.{Releases}
 use Rattle.session_laws.specs.Releases.{released_ids, is_unreleased, released_after}
 use Rattle.session_laws.specs.Replies.{reply_unknown, reply_pubrec, reply_codes}
-use Rattle.session_laws.specs.Runs.{Event, connects, queues, takes, answers, closes, ticks, finishes, loses, Step, Reacts}
+use Rattle.session_laws.specs.Runs.{Event, connects, queues, rooms, takes, answers, closes, ticks, finishes, loses, Step, Reacts}
 use Rattle.session_laws.proofs.CallLaws.{Call}
 use Rattle.session_laws.proofs.LiftLaws.{whole}
 use Rattle.session_laws.proofs.ReleasedLaws.{keeps_released}
@@ -133,10 +133,11 @@ all-map P Q f [] h = tt
 all-map P Q f (x ∷ xs) h = (f x h.0, all-map P Q f xs h.1)
 
 allows : (e : Event) (id : ℕ) (old : State) → ((p : Packet) (now : ℕ) (room : Bool) → e ≡ takes p now room → is_some old.link ≡ true) → AreDistinct (pairs old.outbox.copies) → AllowsBy (IfPubrel id (Held id old e)) e old
-allows (connects c continued now) id old on d =
-    let G = Held id old (connects c continued now) in
+allows (connects c continued room now) id old on d =
+    let G = Held id old (connects c continued room now) in
     (λ e. (cc e), all-map (λ i. i ≡ id → G) (λ i. IfPubrel id G (pubrel i 0)) (λ i same e. same (same-pubrel i id 0 e).0) (released_ids old) (all-has id G (released_ids old) (λ h. h)))
 allows (queues d now) id old on k = tt
+allows (rooms bytes now) id old on d = tt
 allows (takes p now room) id old on d = packet-allows p id now room old (on p now room refl) d
 allows (answers i codes) id old on d = none-asked (asked_of old.link) id i codes _
 allows (closes now) id old on d = tt

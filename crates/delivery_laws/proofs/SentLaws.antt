@@ -82,7 +82,7 @@ one_mark (packets.Pubcomp a) ms o = only_last ms o
 one_mark p ms o = only_last ms o
 
 pub last_by : (on : Bool) (e : Event) (ms : List Mark) → OnlySends ms → SendsLast (marks_by on e ++ ms)
-last_by on (connects c continued now) ms o = only_last ms o
+last_by on (connects c continued room now) ms o = only_last ms o
 last_by true (takes p now room) ms o = one_mark p ms o
 last_by false (takes p now room) ms o = only_last ms o
 last_by on loses ms o = only_last ms o

@@ -23,10 +23,10 @@ use Rattle.mqtt_sessions.specs.Answers.{pubrel, connack, fits}
 use Rattle.mqtt_sessions.specs.Connecting.{OpensIf, resumed_by}
 use Rattle.mqtt_sessions.specs.Packets.{GoesOnAfter, PubrecBy, PacketIf}
 use Rattle.mqtt_sessions.specs.Reaction.{Reaction, publishes_of}
-use Rattle.mqtt_sessions.specs.Sending.{Flushes, GoesOn, is_once, once_of, QueueIf}
-use Rattle.mqtt_sessions.specs.State.{State, Link, heard, limit_in, limit_of, with_outbox}
+use Rattle.mqtt_sessions.specs.Sending.{Flushes, GoesOn, is_once, once_of, QueueIf, RoomStep, with_room}
+use Rattle.mqtt_sessions.specs.State.{State, Link, heard, limit_in, limit_of, sent_from, with_outbox}
 use Rattle.session_laws.specs.Order.{queued_by}
-use Rattle.session_laws.specs.Runs.{Event, connects, queues, takes, answers, closes, ticks, finishes, loses, Reacts, limit_after}
+use Rattle.session_laws.specs.Runs.{Event, connects, queues, rooms, takes, answers, closes, ticks, finishes, loses, Reacts, limit_after}
 use Rattle.session_laws.specs.Sends.{sent_in, maximum_in}
 use Rattle.session_laws.specs.Sizes.{moment_of}
 use Rattle.session_laws.proofs.CallLaws.{flushed, sent-publishes, sent-pubrels}
@@ -44,7 +44,8 @@ pub record Flows (now limit : ℕ) (old : Outbox) (joins : List Delivery) (r : R
   pub mid : Outbox
   pub sents : List Sent
   pub queue : waiting mid.copies ≡ waiting old.copies ++ joins
-  pub flushes : Flushes now limit mid sents new.outbox
+  pub room : Option ℕ
+  pub flushes : Flushes now limit room mid sents new.outbox
   pub sent : sent_in r.packets ≡ sents
   pub linked : IsSome new.link
   pub numbered : AreNumbered mid.copies
@@ -70,10 +71,10 @@ queue-ended : (ends : Bool) (old mid : Outbox) (id : ℕ) (a : Ack) → EndStep 
 queue-ended ends old mid id Done s = rw s.1 (waiting-drop_id id old.copies)
 queue-ended ends old mid id Unknown s = rw s.1 refl
 
-after-shape : (a : Ack) (now limit : ℕ) (old mid after : Outbox) (sents : List Sent) (s new : State) (r : Reaction) → GoesOnAfter a now limit mid sents after → waiting mid.copies ≡ waiting old.copies → AreNumbered mid.copies → IsSome s.link → sent_in r.packets ≡ sent_in (publishes_of sents) → new ≡ with_outbox s after
+after-shape : (a : Ack) (now limit : ℕ) (old mid after : Outbox) (sents : List Sent) (s new : State) (r : Reaction) → GoesOnAfter a now limit s.room mid sents after → waiting mid.copies ≡ waiting old.copies → AreNumbered mid.copies → IsSome s.link → sent_in r.packets ≡ sent_in (publishes_of sents) → new ≡ sent_from s after now sents
     → Shape now limit old [] r new
 after-shape Done now limit old mid after sents s new r g e n some is left =
-    inr (record { mid = mid; sents = sents; queue = with-none old.copies mid.copies e; flushes = rw left g; sent = is ∙ sent-publishes now limit sents (flushed now limit mid after sents n g).sound; linked = rw left some; numbered = n })
+    inr (record { mid = mid; sents = sents; queue = with-none old.copies mid.copies e; room = s.room; flushes = rw left g; sent = is ∙ sent-publishes now limit sents (flushed now limit s.room mid after sents n g).sound; linked = rw left some; numbered = n })
 after-shape Unknown now limit old mid after sents s new r g e n some is left = rests now limit old r new (rw (left, g.1) e) (is ∙ rw g.0 refl)
 
 queue-received : (o : Option Entry) (old mid : Outbox) (id reason : ℕ) (a : Rec) → ReceivedIf o old id reason a mid → waiting mid.copies ≡ waiting old.copies
@@ -111,37 +112,38 @@ packet-shape (Some l) limit old new p now room r e is n h =
     ]
 
 -- ---- the others
-opens-shape : (b : Bool) (old new : State) (c : Connect) (p : Packet) (now : ℕ) (r : Reaction) → AreNumbered old.outbox.copies → OpensIf b old c p now r new → Shape now (limit_in c.properties) old.outbox [] r new
-opens-shape true old new c p now r n h =
+opens-shape : (b : Bool) (old new : State) (c : Connect) (p : Packet) (room : Option ℕ) (now : ℕ) (r : Reaction) → AreNumbered old.outbox.copies → OpensIf b old c p room now r new → Shape now (limit_in c.properties) old.outbox [] r new
+opens-shape true old new c p room now r n h =
     let mid = resumed_by old.outbox c in
     let numbered = numbered-step old.outbox mid (resumed (maximum_in c)) refl n in
     inr (record {
       mid = mid;
       sents = h.sents;
       queue = with-none old.outbox.copies (away old.outbox.copies) (waiting-away old.outbox.copies);
+      room = room;
       flushes = rw h.left h.flushes;
-      sent = rw (h.reacts, sent-pubrels h.ids (publishes_of h.sents)) (sent-publishes now (limit_in c.properties) h.sents (flushed now (limit_in c.properties) mid h.after h.sents numbered h.flushes).sound);
+      sent = rw (h.reacts, sent-pubrels h.ids (publishes_of h.sents)) (sent-publishes now (limit_in c.properties) h.sents (flushed now (limit_in c.properties) room mid h.after h.sents numbered h.flushes).sound);
       linked = rw h.left refl;
       numbered = numbered;
     })
-opens-shape false old new c p now r n h = rests now (limit_in c.properties) old.outbox r new (rw h.1 (waiting-away old.outbox.copies)) (rw h.0 refl)
+opens-shape false old new c p room now r n h = rests now (limit_in c.properties) old.outbox r new (rw h.1 (waiting-away old.outbox.copies)) (rw h.0 refl)
 
 none-once : (o : Option ℕ) (now : ℕ) (d : Delivery) → sent_in (once_of o now d) ≡ []
 none-once None now d = refl
 none-once (Some limit) now d = elim (cases_Bool (outbox.fits now limit d)) [ inl h ↦ rw h refl | inr h ↦ rw h refl ]
 
-goes-shape : (o : Option Link) (now limit : ℕ) (old mid after : Outbox) (sents : List Sent) (d : Delivery) (s new : State) (r : Reaction) → s.link ≡ o → HasLimit limit o → GoesOn (limit_of o) now mid sents after → waiting mid.copies ≡ waiting old.copies ++ d ∷ [] → AreNumbered mid.copies → sent_in r.packets ≡ sent_in (publishes_of sents) → new ≡ with_outbox s after
-    → Shape now limit old (d ∷ []) r new
-goes-shape None now limit old mid after sents d s new r e is g q n sent left = inl (record { queue = rw (left, g.1) q; sent = sent ∙ rw g.0 refl })
-goes-shape (Some l) now limit old mid after sents d s new r e is g q n sent left =
+goes-shape : (o : Option Link) (now limit : ℕ) (old mid after : Outbox) (sents : List Sent) (joins : List Delivery) (s new : State) (r : Reaction) → s.link ≡ o → HasLimit limit o → GoesOn (limit_of o) now s.room mid sents after → waiting mid.copies ≡ waiting old.copies ++ joins → AreNumbered mid.copies → sent_in r.packets ≡ sent_in (publishes_of sents) → new ≡ sent_from s after now sents
+    → Shape now limit old joins r new
+goes-shape None now limit old mid after sents joins s new r e is g q n sent left = inl (record { queue = rw (left, g.1) q; sent = sent ∙ rw g.0 refl })
+goes-shape (Some l) now limit old mid after sents joins s new r e is g q n sent left =
     let f = rw is at g in
-    inr (record { mid = mid; sents = sents; queue = q; flushes = rw left f; sent = sent ∙ sent-publishes now limit sents (flushed now limit mid after sents n f).sound; linked = rw (left, e) refl; numbered = n })
+    inr (record { mid = mid; sents = sents; queue = q; room = s.room; flushes = rw left f; sent = sent ∙ sent-publishes now limit sents (flushed now limit s.room mid after sents n f).sound; linked = rw (left, e) refl; numbered = n })
 
 queue-shape : (b : Bool) (limit : ℕ) (old new : State) (d : Delivery) (now : ℕ) (r : Reaction) → is_once d.qos ≡ b → HasLimit limit old.link → AreNumbered old.outbox.copies → QueueIf b old d now r new → Shape now limit old.outbox (joins_by (queues d now) r) r new
 queue-shape true limit old new d now r once is n q = rw (q.0, once) (rests now limit old.outbox _ new (rw q.1 refl) (none-once (limit_of old.link) now d))
 queue-shape false limit old new d now r once is n (inl q) =
     let join : waiting q.mid.copies ≡ waiting old.outbox.copies ++ d ∷ [] = rw q.offers.2 (waiting-append old.outbox.copies ((old.outbox.next_place, waiting_entry d) ∷ [])) in
-    let shape = goes-shape old.link now limit old.outbox q.mid q.after q.sents d old new r refl is q.goes_on join (numbered-step old.outbox q.mid (offered d Queued) q.offers n) (rw q.reacts refl) q.left in
+    let shape = goes-shape old.link now limit old.outbox q.mid q.after q.sents (d ∷ []) old new r refl is q.goes_on join (numbered-step old.outbox q.mid (offered d Queued) q.offers n) (rw q.reacts refl) q.left in
     let full : r.full ≡ false = rw q.reacts refl in
     let joins : joins_by (queues d now) r ≡ d ∷ [] = rw (full, once) refl in
     rw joins shape
@@ -150,13 +152,18 @@ queue-shape false limit old new d now r once is n (inr q) =
     let joins : joins_by (queues d now) r ≡ [] = rw full refl in
     rw joins (rests now limit old.outbox r new (rw q.left refl) (rw q.reacts refl))
 
+room-shape : (limit : ℕ) (old new : State) (bytes now : ℕ) (r : Reaction) → HasLimit limit old.link → AreNumbered old.outbox.copies → RoomStep bytes now old r new → Shape now limit old.outbox [] r new
+room-shape limit old new bytes now r is n q =
+    goes-shape old.link now limit old.outbox old.outbox q.after q.sents [] (with_room old bytes) new r refl is q.goes_on (with-none old.outbox.copies old.outbox.copies refl) n (rw q.reacts refl) q.left
+
 -- an event other than a queued delivery adds nothing
 adds-none : (now limit : ℕ) (old : Outbox) (e : Event) (r : Reaction) (new : State) → queued_by e ≡ [] → Shape now limit old [] r new → Shape now limit old (joins_by e r) r new
 adds-none now limit old e r new none h = let same : joins_by e r ≡ [] = elim (cases_Bool r.full) [ inl t ↦ rw t refl | inr t ↦ rw t none ] in rw same h
 
 pub shape : (limit : ℕ) (old new : State) (e : Event) (r : Reaction) → HasLimit limit old.link → AreNumbered old.outbox.copies → Reacts old e r new → Shape (moment_of e) (limit_after limit e) old.outbox (joins_by e r) r new
-shape limit old new (connects c continued now) r is n h = adds-none now (limit_in c.properties) old.outbox (connects c continued now) r new refl (opens-shape (fits (limit_in c.properties) (connack continued c.client old.kept.client)) old new c (connack continued c.client old.kept.client) now r n h.1)
+shape limit old new (connects c continued room now) r is n h = adds-none now (limit_in c.properties) old.outbox (connects c continued room now) r new refl (opens-shape (fits (limit_in c.properties) (connack continued c.client old.kept.client)) old new c (connack continued c.client old.kept.client) room now r n h.1)
 shape limit old new (queues d now) r is n h = queue-shape (is_once d.qos) limit old new d now r refl is n h
+shape limit old new (rooms bytes now) r is n h = adds-none now limit old.outbox (rooms bytes now) r new refl (room-shape limit old new bytes now r is n h)
 shape limit old new (takes p now room) r is n h = adds-none now limit old.outbox (takes p now room) r new refl (packet-shape old.link limit old new p now room r refl is n h)
 shape limit old new (answers id codes) r is n h =
     let q = quiet-answer old.link limit id codes old r new refl is h in adds-none 0 limit old.outbox (answers id codes) r new refl (rests-on 0 limit old.outbox r new q.same (none-sent limit r.packets q.plain))

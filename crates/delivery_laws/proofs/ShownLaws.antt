@@ -30,7 +30,7 @@ use Rattle.mqtt_sessions.specs.Sending.{is_once, once_of, QueueIf}
 use Rattle.mqtt_sessions.specs.State.{State, Link, limit_in, limit_of}
 use Rattle.session_laws.specs.Aliases.{Topics, topic_under}
 use Rattle.session_laws.specs.Releases.{released_ids}
-use Rattle.session_laws.specs.Runs.{Event, connects, queues, takes, answers, closes, ticks, finishes, loses, Reacts}
+use Rattle.session_laws.specs.Runs.{Event, connects, queues, rooms, takes, answers, closes, ticks, finishes, loses, Reacts}
 use Rattle.session_laws.specs.Replies.{Reply, silent, says, asks, both, ends, leaves, reaction_of, has_hundred, is_invalid, reply_under, reply_exactly_once, reply_at, reply_publish, reply_disconnect, reply_pubrec, reply_codes, IsReply}
 use Rattle.session_laws.proofs.AliasLaws.{held}
 use Rattle.session_laws.proofs.ReleaseLaws.{tick-none}
@@ -147,16 +147,16 @@ packet-shown Q told (packets.Auth p) now room s x h is = rw is tt
 
 -- ---- the events
 abbrev pub AllowsBy : (Packet → Type 0) → Event → State → Type 0
-AllowsBy Q (connects c continued now) s = Q (connack continued c.client s.kept.client) × AllByRecursion (λ id. Q (pubrel id 0)) (released_ids s)
+AllowsBy Q (connects c continued room now) s = Q (connack continued c.client s.kept.client) × AllByRecursion (λ id. Q (pubrel id 0)) (released_ids s)
 AllowsBy Q (takes p now room) s = Allows Q p s
 AllowsBy Q (answers id codes) s = Shows Q (reply_codes (asked_of s.link) id codes)
 AllowsBy Q e s = Unit {0}
 
-opens-shown : (Q : Packet → Type 0) (b : Bool) (old new : State) (c : Connect) (p : Packet) (continued : Bool) (now : ℕ) (r : Reaction) → AllowsBy Q (connects c continued now) old → OpensIf b old c p now r new → Reacts old (connects c continued now) r new → AreShown Q r.packets
-opens-shown Q true old new c p continued now r h o k =
-    let first = keeps_releases_first old new c continued now r k (rw o.reacts refl) in
+opens-shown : (Q : Packet → Type 0) (b : Bool) (old new : State) (c : Connect) (p : Packet) (continued : Bool) (room : Option ℕ) (now : ℕ) (r : Reaction) → AllowsBy Q (connects c continued room now) old → OpensIf b old c p room now r new → Reacts old (connects c continued room now) r new → AreShown Q r.packets
+opens-shown Q true old new c p continued room now r h o k =
+    let first = keeps_releases_first old new c continued room now r k (rw o.reacts refl) in
     rw first.1 (h.0, pubrels-shown Q (released_ids old) first.0 h.1)
-opens-shown Q false old new c p continued now r h o k = rw o.0 tt
+opens-shown Q false old new c p continued room now r h o k = rw o.0 tt
 
 once-shown : (Q : Packet → Type 0) (o : Option ℕ) (now : ℕ) (d : Delivery) → AreShown Q (once_of o now d)
 once-shown Q None now d = tt
@@ -178,8 +178,9 @@ answers-shown Q None old new id codes r e h k = let g = rw e at k in rw g.0 tt
 answers-shown Q (Some l) old new id codes r e h k = rw (keeps_codes old new l id codes r e k) (alone-shown Q l.limit (reply_codes l.asked id codes) h)
 
 pub event-shown : (Q : Packet → Type 0) (old new : State) (e : Event) (r : Reaction) → AllowsBy Q e old → Reacts old e r new → AreShown Q r.packets
-event-shown Q old new (connects c continued now) r h k = opens-shown Q (fits (limit_in c.properties) (connack continued c.client old.kept.client)) old new c (connack continued c.client old.kept.client) continued now r h k.1 k
+event-shown Q old new (connects c continued room now) r h k = opens-shown Q (fits (limit_in c.properties) (connack continued c.client old.kept.client)) old new c (connack continued c.client old.kept.client) continued room now r h k.1 k
 event-shown Q old new (queues d now) r h k = queue-shown Q (is_once d.qos) old new d now r k
+event-shown Q old new (rooms bytes now) r h k = rw k.reacts (publishes-shown Q k.sents)
 event-shown Q old new (takes p now room) r h k = takes-shown Q old.link old new p now room r refl h k
 event-shown Q old new (answers id codes) r h k = answers-shown Q old.link old new id codes r refl h k
 event-shown Q old new (closes now) r h k = rw k.0 tt

@@ -26,7 +26,7 @@ use Rattle.session_laws.specs.Exchanges.{Exchange, none, exchange_after, exchang
 use Rattle.session_laws.specs.Order.{firsts}
 use Rattle.session_laws.specs.Quota.{is_none}
 use Rattle.session_laws.specs.Resends.{EndsIt, IsAnsweredBy, StaysConnected}
-use Rattle.session_laws.specs.Runs.{Event, connects, queues, takes, answers, closes, ticks, finishes, loses, Step, Run, connected_after, limit_after}
+use Rattle.session_laws.specs.Runs.{Event, connects, queues, rooms, takes, answers, closes, ticks, finishes, loses, Step, Run, connected_after, limit_after}
 use Rattle.session_laws.specs.Sends.{Mark, marks_by, marks_in, marks_of, sends_of, sent_in}
 use Rattle.session_laws.proofs.CallLaws.{Call, HasNumbers, call_marks, numbered-calls}
 use Rattle.session_laws.proofs.ExchangeLaws.{exchange_at, told-step}
@@ -68,8 +68,9 @@ not-answered packets.Pingresp x h = h
 not-answered (packets.Auth p) x h = h
 
 pub long-ends : (on : Bool) (limit : ℕ) (e : Event) (x : SentCopy) → ((k : ℕ) → EndsIt on limit e (k, x.1)) → IsTooLong on limit e x
-long-ends on limit (connects c continued now) x h = h 0
+long-ends on limit (connects c continued room now) x h = h 0
 long-ends on limit (queues d now) x h = h 0
+long-ends on limit (rooms bytes now) x h = h 0
 long-ends on limit (takes p now room) x h = let k = h (other p) in (k.0, elim k.1 [ inl a ↦ absurd (not-answered p x a) | inr l ↦ l ])
 long-ends on limit (answers id codes) x h = h 0
 long-ends on limit (closes now) x h = h 0
@@ -98,9 +99,10 @@ in-packet packets.Pingresp x h = h
 in-packet (packets.Auth p) x h = h
 
 answer-ends : (on : Bool) (e : Event) (x : SentCopy) → AnsweredAmong (marks_by on e) x → IsAnswered on e x
-answer-ends on (connects c continued now) x (inl h) = absurd h
-answer-ends on (connects c continued now) x (inr h) = absurd h
+answer-ends on (connects c continued room now) x (inl h) = absurd h
+answer-ends on (connects c continued room now) x (inr h) = absurd h
 answer-ends on (queues d now) x h = absurd h
+answer-ends on (rooms bytes now) x h = absurd h
 answer-ends true (takes p now room) x h = (refl, in-packet p x h)
 answer-ends false (takes p now room) x h = absurd h
 answer-ends on (answers id codes) x h = h
@@ -173,8 +175,9 @@ unsent x sent es h n = all-weaker (IsFound es) (λ (y : SentCopy). sent y.0 ≡ 
 
 -- of which kind what is owed is, by the event
 owed-kind : (x : ℕ → Exchange) (sent : ℕ → Bool) (e : Event) (es : Entries) → AllTold x sent es → AreNumbered es → AllByRecursion (IsUnsent sent e) (owed es)
-owed-kind x sent (connects c continued now) es h n = all-of (λ y. Unit {0}) (λ y. tt) (owed es)
+owed-kind x sent (connects c continued room now) es h n = all-of (λ y. Unit {0}) (λ y. tt) (owed es)
 owed-kind x sent (queues d now) es h n = unsent x sent es h n
+owed-kind x sent (rooms bytes now) es h n = unsent x sent es h n
 owed-kind x sent (takes p now room) es h n = unsent x sent es h n
 owed-kind x sent (answers id codes) es h n = all-of (λ y. Unit {0}) (λ y. tt) (owed es)
 owed-kind x sent (closes now) es h n = all-of (λ y. Unit {0}) (λ y. tt) (owed es)
@@ -191,8 +194,9 @@ on-kind Q [] h = tt
 on-kind Q (c ∷ cs) h = (inl h.0, on-kind Q cs h.1)
 
 kinds-kept : (sent : ℕ → Bool) (e : Event) (calls : List Call) → (StaysConnected e → AllByRecursion low_resends.StaysConnected calls) → AllByRecursion (KeepsKind (IsUnsent sent e)) calls
-kinds-kept sent (connects c continued now) calls k = any-kind calls
+kinds-kept sent (connects c continued room now) calls k = any-kind calls
 kinds-kept sent (queues d now) calls k = on-kind (IsUnsent sent (queues d now)) calls (k tt)
+kinds-kept sent (rooms bytes now) calls k = on-kind (IsUnsent sent (rooms bytes now)) calls (k tt)
 kinds-kept sent (takes p now room) calls k = on-kind (IsUnsent sent (takes p now room)) calls (k tt)
 kinds-kept sent (answers id codes) calls k = any-kind calls
 kinds-kept sent (closes now) calls k = any-kind calls

@@ -38,7 +38,7 @@ use Rattle.mqtt_sessions.specs.Packets.{KindStep, PacketIf, PubrecBy, SaysUnknow
 use Rattle.mqtt_sessions.specs.Reaction.{Reaction, Comes, answered}
 use Rattle.mqtt_sessions.specs.Sending.{QueueIf, is_once}
 use Rattle.mqtt_sessions.specs.State.{Kept, Link, State, aliases_of, heard, limit_in, limit_of, new_session}
-use Rattle.session_laws.specs.Runs.{Event, connects, queues, takes, answers, closes, ticks, finishes, loses, Step, Reacts, Run, connected_after, limit_after}
+use Rattle.session_laws.specs.Runs.{Event, connects, queues, rooms, takes, answers, closes, ticks, finishes, loses, Step, Reacts, Run, connected_after, limit_after}
 use Rattle.session_laws.proofs.CallLaws.{numbered-calls}
 use Rattle.session_laws.proofs.ProjectLaws.{project}
 use Rattle.session_laws.proofs.QuietLaws.{HasLimit}
@@ -118,9 +118,9 @@ packet-kept None on p now room old new r is h = rw (is, h.1) refl
 packet-kept (Some l) on p now room old new r is h = rw is (kind-kept p now room l.limit (heard old now) new r h)
 
 -- ---- any other event
-opens-kept : (fit : Bool) (old new : State) (c : Connect) (p : Packet) (continued : Bool) (on : Bool) (now : ℕ) (r : Reaction) → OpensIf fit old c p now r new → new.kept ≡ kept_after on old.kept (connects c continued now) r
-opens-kept true old new c p continued on now r h = rw h.left refl
-opens-kept false old new c p continued on now r h = rw h.1 refl
+opens-kept : (fit : Bool) (old new : State) (c : Connect) (p : Packet) (continued : Bool) (on : Bool) (room : Option ℕ) (now : ℕ) (r : Reaction) → OpensIf fit old c p room now r new → new.kept ≡ kept_after on old.kept (connects c continued room now) r
+opens-kept true old new c p continued on room now r h = rw h.left refl
+opens-kept false old new c p continued on room now r h = rw h.1 refl
 
 queue-kept : (b : Bool) (old new : State) (d : Delivery) (now : ℕ) (r : Reaction) → QueueIf b old d now r new → new.kept ≡ old.kept
 queue-kept true old new d now r q = rw q.1 refl
@@ -164,8 +164,9 @@ tick-told false false c on now s e = (refl, inl refl)
 
 -- ---- the events
 pub told : (on : Bool) (old new : State) (e : Event) (r : Reaction) → on ≡ is_some old.link → Reacts old e r new → new.kept ≡ kept_after on old.kept e r
-told on old new (connects c continued now) r is h = opens-kept (fits (limit_in c.properties) (connack continued c.client old.kept.client)) old new c (connack continued c.client old.kept.client) continued on now r h.1
+told on old new (connects c continued room now) r is h = opens-kept (fits (limit_in c.properties) (connack continued c.client old.kept.client)) old new c (connack continued c.client old.kept.client) continued on room now r h.1
 told on old new (queues d now) r is h = queue-kept (is_once d.qos) old new d now r h
+told on old new (rooms bytes now) r is h = rw h.left refl
 told on old new (takes p now room) r is h = packet-kept old.link on p now room old new r is h
 told on old new (answers id codes) r is h = rw h.1 (answer-kept old.link id codes old)
 told on old new (closes now) r is h = rw h.1 refl
@@ -173,9 +174,9 @@ told on old new (ticks now) r is h = rw (h.1, h.0) (tick-told (has_run_out old.l
 told on old new (finishes now) r is h = rw h.1 refl
 told on old new loses r is h = h.kept
 
-opens-none : (fit : Bool) (old new : State) (c : Connect) (p : Packet) (now : ℕ) (r : Reaction) → OpensIf fit old c p now r new → r.ask ≡ None
-opens-none true old new c p now r h = rw h.reacts refl
-opens-none false old new c p now r h = rw h.0 refl
+opens-none : (fit : Bool) (old new : State) (c : Connect) (p : Packet) (room : Option ℕ) (now : ℕ) (r : Reaction) → OpensIf fit old c p room now r new → r.ask ≡ None
+opens-none true old new c p room now r h = rw h.reacts refl
+opens-none false old new c p room now r h = rw h.0 refl
 
 queue-none : (b : Bool) (old new : State) (d : Delivery) (now : ℕ) (r : Reaction) → QueueIf b old d now r new → r.ask ≡ None
 queue-none true old new d now r q = rw q.0 refl
@@ -191,8 +192,9 @@ answer-none None id codes s = refl
 answer-none (Some l) id codes s = codes-none l.asked l.limit id codes s
 
 will-by : (old new : State) (e : Event) (r : Reaction) → Reacts old e r new → WillBy old.kept e r
-will-by old new (connects c continued now) r h = opens-none (fits (limit_in c.properties) (connack continued c.client old.kept.client)) old new c (connack continued c.client old.kept.client) now r h.1
+will-by old new (connects c continued room now) r h = opens-none (fits (limit_in c.properties) (connack continued c.client old.kept.client)) old new c (connack continued c.client old.kept.client) room now r h.1
 will-by old new (queues d now) r h = queue-none (is_once d.qos) old new d now r h
+will-by old new (rooms bytes now) r h = rw h.reacts refl
 will-by old new (takes p now room) r h = tt
 will-by old new (answers id codes) r h = rw h.0 (answer-none old.link id codes old)
 will-by old new (closes now) r h = rw h.0 refl

@@ -1,5 +1,5 @@
 -- Nothing is held back, as events tell it (MQTT 5.0, 4.4 and 4.9).
-use Rattle.std.specs.Prelude.{◌≡◌, ℕ, ◌≤◌, ◌⊎◌, Bool, true, false, List, [], ◌∷◌, ◌++◌, length}
+use Rattle.std.specs.Prelude.{◌≡◌, ℕ, ◌≤◌, ◌⊎◌, Bool, true, false, List, [], ◌∷◌, ◌++◌, length, Option}
 use Rattle.std.specs.List.{AllByRecursion}
 use Rattle.mqtt_packets.specs.declared.connect.Connect.{Connect}
 use Rattle.mqtt_message.specs.declared.delivery.Delivery.{Delivery}
@@ -8,6 +8,7 @@ use Rattle.mqtt_sessions.specs.Reaction.{Reaction}
 use Rattle.mqtt_sessions.specs.State.{State, new_session}
 use Rattle.session_laws.specs.Quota.{is_none}
 use Rattle.session_laws.specs.Resends.{StaysConnected}
+use Rattle.session_laws.specs.Room.{IsLeft, room_over, uncounted}
 use Rattle.session_laws.specs.Runs.{connects, Step, Run}
 use Rattle.delivery_laws.specs.Queue.{QueueOver, Told, told_nothing, told_over}
 use Rattle.delivery_laws.specs.Unanswered.{IsGoing, OwedOver}
@@ -26,8 +27,8 @@ pub record HoldsNothing (before here : List Step) : Type 0 where
   pub waits : QueueOver told_nothing [] (before ++ here) queue
   pub busy : IsBusy (told_over told_nothing (before ++ here)) owes queue
 
--- after each event on a connection that is open
+-- after each event on a connection that is open, where room is left or isn't counted
 abbrev pub KeepsBusyTold : Type 0
-KeepsBusyTold = (client : List ℕ) (before here : List Step) (c : Connect) (continued : Bool) (now : ℕ) (r : Reaction) (end : State) → AllByRecursion (λ (s : Step). StaysConnected s.event) here
-    → Run (new_session client) (before ++ record { event = connects c continued now; reaction = r } ∷ here) end
-    → (told_over told_nothing (before ++ record { event = connects c continued now; reaction = r } ∷ here)).on ≡ true → HoldsNothing before (record { event = connects c continued now; reaction = r } ∷ here)
+KeepsBusyTold = (client : List ℕ) (before here : List Step) (c : Connect) (continued : Bool) (room : Option ℕ) (now : ℕ) (r : Reaction) (end : State) → AllByRecursion (λ (s : Step). StaysConnected s.event) here
+    → Run (new_session client) (before ++ record { event = connects c continued room now; reaction = r } ∷ here) end
+    → (told_over told_nothing (before ++ record { event = connects c continued room now; reaction = r } ∷ here)).on ≡ true → IsLeft (room_over uncounted (before ++ record { event = connects c continued room now; reaction = r } ∷ here)) → HoldsNothing before (record { event = connects c continued room now; reaction = r } ∷ here)

@@ -33,7 +33,7 @@ unless_ended r q = cond (is_some r.end) None q
 
 -- it waits from the event by which the server is asked to that which answers it
 abbrev pub question_after : Bool → Option Question → Event → Reaction → Option Question
-question_after on q (connects c continued now) r = None
+question_after on q (connects c continued room now) r = None
 question_after on q (takes p now room) r = unless_ended r (cond (on && is_some r.ask) (later (question_in p) q) q)
 question_after on q (answers id codes) r = None
 question_after on q (closes now) r = None

@@ -20,7 +20,7 @@ codes_of p = 0 ∷ 130 ∷ []
 
 -- those of an event: a CONNACK or a SUBACK that is too long, and Keep Alive timeout
 abbrev pub codes_by : Event → List ℕ
-codes_by (connects c continued now) = 0 ∷ []
+codes_by (connects c continued room now) = 0 ∷ []
 codes_by (takes p now room) = codes_of p
 codes_by (answers id codes) = 0 ∷ []
 codes_by (ticks now) = 0 ∷ 141 ∷ []
@@ -36,7 +36,7 @@ KeepsEndCodes = (old new : State) (e : Event) (r : Reaction) → Reacts old e r 
 
 -- a connection is open, or begins
 abbrev pub IsOpenFor : Bool → Event → Type 0
-IsOpenFor on (connects c continued now) = Unit {0}
+IsOpenFor on (connects c continued room now) = Unit {0}
 IsOpenFor on e = on ≡ true
 
 -- neither a packet goes out, nor a DISCONNECT

@@ -35,7 +35,7 @@ released_over on ids (s ∷ ss) = released_over (connected_after on s.event s.re
 
 -- a connection that is accepted begins with one packet, then one PUBREL for each of them, in that order, then PUBLISHes
 abbrev pub BeginsBy : List ℕ → Event → Reaction → Type 0
-BeginsBy ids (connects c continued now) r = r.end ≡ None → (first : Output) × (sents : List Sent) × (r.packets ≡ first ∷ pubrels_of ids ++ publishes_of sents)
+BeginsBy ids (connects c continued room now) r = r.end ≡ None → (first : Output) × (sents : List Sent) × (r.packets ≡ first ∷ pubrels_of ids ++ publishes_of sents)
 BeginsBy ids e r = Unit {0}
 
 abbrev pub AllBegin : Bool → List ℕ → List Step → Type 0

@@ -1,5 +1,5 @@
 -- What was sent and not answered, as events tell it (MQTT 5.0, 4.3 and 4.4).
-use Rattle.std.specs.Prelude.{◌≡◌, ◌≢◌, ℕ, ◌<◌, ◌⊎◌, Bool, true, false, List, [], ◌∷◌, ◌++◌}
+use Rattle.std.specs.Prelude.{◌≡◌, ◌≢◌, ℕ, ◌<◌, ◌⊎◌, Bool, true, false, List, [], ◌∷◌, ◌++◌, Option}
 use Rattle.std.specs.List.{AllByRecursion}
 use Rattle.mqtt_fields.specs.declared.options.Qos.TheVariants.{AtLeastOnce, ExactlyOnce}
 use Rattle.mqtt_packets.specs.declared.connect.Connect.{Connect}
@@ -12,7 +12,7 @@ use Rattle.mqtt_sessions.specs.Reaction.{Reaction}
 use Rattle.mqtt_sessions.specs.State.{State, new_session}
 use Rattle.session_laws.specs.Order.{firsts, resends}
 use Rattle.session_laws.specs.Resends.{StaysConnected}
-use Rattle.session_laws.specs.Runs.{Event, connects, queues, takes, Step, Run, connected_after, limit_after}
+use Rattle.session_laws.specs.Runs.{Event, connects, queues, rooms, takes, Step, Run, connected_after, limit_after}
 use Rattle.session_laws.specs.Sends.{marks_of}
 use Rattle.delivery_laws.specs.Again.{all_sent_over}
 use Rattle.delivery_laws.specs.Queue.{HasQuota, SentOf, Told, told_after, told_nothing, told_over}
@@ -29,14 +29,16 @@ IsAnswered on e x = ⊥
 
 -- it is longer than the client takes, at an event by which it may be sent again
 abbrev pub IsTooLong : Bool → ℕ → Event → SentCopy → Type 0
-IsTooLong on limit (connects c continued now) x = limit < length_of now x.1
+IsTooLong on limit (connects c continued room now) x = limit < length_of now x.1
 IsTooLong on limit (queues d now) x = (on ≡ true) × (limit < length_of now x.1)
+IsTooLong on limit (rooms bytes now) x = (on ≡ true) × (limit < length_of now x.1)
 IsTooLong on limit (takes p now room) x = (on ≡ true) × (limit < length_of now x.1)
 IsTooLong on limit e x = ⊥
 
 -- this connection didn't send it yet
 abbrev pub IsUnsent : (ℕ → Bool) → Event → SentCopy → Type 0
 IsUnsent sent (queues d now) x = sent x.0 ≡ false
+IsUnsent sent (rooms bytes now) x = sent x.0 ≡ false
 IsUnsent sent (takes p now room) x = sent x.0 ≡ false
 IsUnsent sent e x = Unit {0}
 
@@ -80,5 +82,5 @@ pub record Continues (before here : List Step) (end : State) : Type 0 where
   pub is : OwedOver (told_over told_nothing before) going here (owed end.outbox.copies)
 
 abbrev pub KeepsOwed : Type 0
-KeepsOwed = (client : List ℕ) (before here : List Step) (c : Connect) (continued : Bool) (now : ℕ) (r : Reaction) (end : State) → AllByRecursion (λ (s : Step). StaysConnected s.event) here
-    → Run (new_session client) (before ++ record { event = connects c continued now; reaction = r } ∷ here) end → Continues before (record { event = connects c continued now; reaction = r } ∷ here) end
+KeepsOwed = (client : List ℕ) (before here : List Step) (c : Connect) (continued : Bool) (room : Option ℕ) (now : ℕ) (r : Reaction) (end : State) → AllByRecursion (λ (s : Step). StaysConnected s.event) here
+    → Run (new_session client) (before ++ record { event = connects c continued room now; reaction = r } ∷ here) end → Continues before (record { event = connects c continued room now; reaction = r } ∷ here) end

@@ -29,7 +29,7 @@ after_packet p k = k
 
 -- a CONNECT brings a will or none; one that is published, or whose session ends, is there no more
 abbrev pub kept_after : Bool → Kept → Event → Reaction → Kept
-kept_after on k (connects c continued now) r = kept_by k c
+kept_after on k (connects c continued room now) r = kept_by k c
 kept_after on k (takes p now room) r = cond on (after_packet p k) k
 kept_after on k (closes now) r = record k { phase = Closed now }
 kept_after on k (ticks now) r = cond (is_some r.ask) (record k { will = None }) k

@@ -62,7 +62,7 @@ impl Handler for Greeter {
     fn handle(&mut self, event: Event) -> Result<Vec<Output>, Refused> {
         let nothing = Vec::new(self.alloc);
         match event.kind {
-            EventKind::Started | EventKind::Tick => Ok(nothing),
+            EventKind::Started | EventKind::Room { .. } | EventKind::Tick => Ok(nothing),
             EventKind::Opened { connection } => {
                 self.opened.push(connection).map_err(|_| Refused)?;
                 Ok(nothing)

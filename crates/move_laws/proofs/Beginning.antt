@@ -16,7 +16,7 @@ use Rattle.session_table.specs.Calls.{moves}
 use Rattle.node_work.specs.declared.counts.Missed.TheVariants.{TableRefused}
 use Rattle.node_work.specs.Acts.{Act, Began, MomentTaken, Moved, Connection, Session, Named, Runs, gather, moved_in}
 use Rattle.node_work.specs.Doings.{Misses, TakesMoment}
-use Rattle.node_work.specs.Held.Connections.{Accepted, Fed, Opened, client_at, is_open}
+use Rattle.node_work.specs.Held.Connections.{Accepted, Fed, Opened, client_at, is_open, room_at}
 use Rattle.node_work.specs.Held.Feeding.{cut_of}
 use Rattle.node_work.specs.Held.Sessions.{Begun, has_session}
 use Rattle.node_work.specs.View.{Place, HeldView, ConnectionView, nodes_of}
@@ -26,6 +26,7 @@ use Rattle.node_clients.specs.Connecting as connecting
 use Rattle.node_clients.specs.Ending as endings
 use Rattle.node_clients.specs.Naming.{IsNextNumber, automatic}
 use Rattle.node_clients.specs.Pieces as pieces
+use Rattle.node_clients.specs.Rooms as giving
 use Rattle.node_clients.proofs.Determined.{runs_determined}
 use Rattle.broker_node.specs.declared.event.Event.{Event}
 use Rattle.broker_node.specs.declared.event.EventKind.{EventKind}
@@ -130,18 +131,18 @@ module _ (p : Place) (here : p.id < nodes_of p) where
       let all = f y p h own one in
       subst (Begin p h) (sym is) (both_begin p h mid own rest runs (still_begin p h own all) (g y x mid rest (subst (λ (t : Table). IsHome t client p.id) (sym (still_homes p h mid own all runs)) home) more))
 
-  joins : (has : Bool) (c : ℕ) (client : List ℕ) (q : Connect) → AtHome client Reaction (connecting.JoinsBy has c client q)
-  joins true c client q r h acts home d = still_begin p h acts (still.calling client (connects q true) (moves c) r p h acts d)
-  joins false c client q r h acts home (inl d) = none_some (sym d.0)
-  joins false c client q r h acts home (inr (y, own, mid, rest, one, runs, more, is)) =
+  joins : (has : Bool) (c : ℕ) (client : List ℕ) (q : Connect) (room : Option ℕ) → AtHome client Reaction (connecting.JoinsBy has c client q room)
+  joins true c client q room r h acts home d = still_begin p h acts (still.calling client (connects q true room) (moves c) r p h acts d)
+  joins false c client q room r h acts home (inl d) = none_some (sym d.0)
+  joins false c client q room r h acts home (inr (y, own, mid, rest, one, runs, more, is)) =
       subst (Begin p h) (sym is) (both_begin p h mid own rest runs (subst (Begin p h) (sym one.1) (begun_begin p h client home))
-      (still_begin p mid rest (still.calling client (connects q false) (moves c) r p mid rest more)))
+      (still_begin p mid rest (still.calling client (connects q false room) (moves c) r p mid rest more)))
 
   -- once it is accepted, its session is continued or begins, and then the connection may end
   joined : (c : ℕ) (client : List ℕ) (q : Connect) → AtHome client (Unit {0}) (Then (connecting.Joins c client q) (λ r. endings.ClosesAfter r.end c client))
   joined c client q x h acts home (inl d) = none_some (sym d.0)
   joined c client q x h acts home (inr (r, own, mid, rest, one, runs, more, is)) =
-      subst (Begin p h) (sym is) (both_begin p h mid own rest runs (joins (has_session client h) c client q r h own home one) (still_begin p mid rest (still.closes_after r.end c client x p mid rest more)))
+      subst (Begin p h) (sym is) (both_begin p h mid own rest runs (joins (has_session client h) c client q (room_at c h) r h own home one) (still_begin p mid rest (still.closes_after r.end c client x p mid rest more)))
 
   accepts : (c : ℕ) (q : Connect) (client : List ℕ) → AtHome client (Unit {0}) (connecting.Accepts c q client)
   accepts c q client =
@@ -230,6 +231,7 @@ module _ (p : Place) (here : p.id < nodes_of p) where
       b_looks (λ p h. is_open c h) (λ there. If there (Returns tt) opens) (λ there. b_if there (Returns tt) opens (b_returns tt) (b_act (λ p h. Connection (Opened c)) (λ h q e. cc)))
   answers_kind (kinds.Piece c bytes) = b_looks (λ p h. map.get h.connections c) (pieces.PieceAt c bytes) (piece_at c bytes)
   answers_kind (kinds.Closed c) = b_still (pieces.Leaves c) (still.leaves_of c)
+  answers_kind (kinds.Room c bytes) = b_still (giving.MakesRoom c bytes) (still.makes_room c bytes)
   answers_kind (kinds.Frame bytes) = b_still (turns.AnswersEvent (kinds.Frame bytes)) (still.hears bytes)
   answers_kind (kinds.Linked peer) = b_still (turns.AnswersEvent (kinds.Linked peer)) (still.greets peer)
   answers_kind (kinds.Ship peer) = b_still (turns.AnswersEvent (kinds.Ship peer)) (still.ships peer)
@@ -245,6 +247,7 @@ module _ (p : Place) (here : p.id < nodes_of p) where
   goes_on (kinds.Opened c) = after_due (kinds.Opened c)
   goes_on (kinds.Piece c bytes) = after_due (kinds.Piece c bytes)
   goes_on (kinds.Closed c) = after_due (kinds.Closed c)
+  goes_on (kinds.Room c bytes) = after_due (kinds.Room c bytes)
   goes_on (kinds.Frame bytes) = after_due (kinds.Frame bytes)
   goes_on (kinds.Linked peer) = after_due (kinds.Linked peer)
   goes_on (kinds.Ship peer) = after_due (kinds.Ship peer)
@@ -257,6 +260,7 @@ module _ (p : Place) (here : p.id < nodes_of p) where
   first_turn (kinds.Opened c) = b_returns tt
   first_turn (kinds.Piece c bytes) = b_returns tt
   first_turn (kinds.Closed c) = b_returns tt
+  first_turn (kinds.Room c bytes) = b_returns tt
   first_turn (kinds.Frame bytes) = b_returns tt
   first_turn (kinds.Linked peer) = b_returns tt
   first_turn (kinds.Ship peer) = b_returns tt

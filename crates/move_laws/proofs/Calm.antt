@@ -10,7 +10,7 @@ use Rattle.mqtt_sessions.specs.Reaction.{Reaction}
 use Rattle.mqtt_sessions.specs.Sending.{QueueIf, is_once}
 use Rattle.mqtt_packets.specs.declared.connect.Will.{Will}
 use Rattle.mqtt_sessions.specs.State.{Kept, State}
-use Rattle.session_laws.specs.Runs.{Event, connects, queues, takes, answers, closes, ticks, finishes, loses, Reacts}
+use Rattle.session_laws.specs.Runs.{Event, connects, queues, rooms, takes, answers, closes, ticks, finishes, loses, Reacts}
 use Rattle.session_table.specs.Listing.{text_cmp}
 use Rattle.session_table.specs.Seats.{Seat}
 use Rattle.node_work.specs.Acts.{Act, StoreAct, MomentTaken, Began, Moved, Store, Connection, Session, Bridge, Out, Named, Acknowledged, Passed, Dropped, Allowed, Runs, next}
@@ -56,8 +56,9 @@ seat_stays client own (queues d now) r seat after on may ne reacts is = λ i. (i
 seat_stays client own (closes now) r seat after on may ne reacts is = absurd (ne may)
 seat_stays client own (ticks now) r seat after on may ne reacts is = absurd (ne may)
 seat_stays client own (finishes now) r seat after on may ne reacts is = absurd (ne may)
-seat_stays client own (connects q continued now) r seat after on may ne reacts is = absurd may
+seat_stays client own (connects q continued room now) r seat after on may ne reacts is = absurd may
 seat_stays client own (takes k now room) r seat after on may ne reacts is = absurd may
+seat_stays client own (rooms bytes now) r seat after on may ne reacts is = absurd may
 seat_stays client own (answers id codes) r seat after on may ne reacts is = absurd may
 seat_stays client own loses r seat after on may ne reacts is = absurd may
 

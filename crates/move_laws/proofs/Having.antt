@@ -9,7 +9,7 @@ use Rattle.session_table.specs.Seats.{IsElsewhere, begun}
 use Rattle.node_work.specs.declared.counts.Missed.TheVariants.{TableRefused}
 use Rattle.node_work.specs.Acts.{Act, MomentTaken, Began, Moved, Store, Connection, Session, Bridge, Out, Named, Acknowledged, Passed, Dropped, Allowed, Runs, gather, moved_in, next}
 use Rattle.node_work.specs.Held.Bridge.{BridgeAct, Put, Took, Got, Believed, Gave, Left_out}
-use Rattle.node_work.specs.Held.Connections.{ConnectionAct, Opened, Fed, Accepted, Closed}
+use Rattle.node_work.specs.Held.Connections.{ConnectionAct, Opened, Fed, Accepted, Roomed, Closed}
 use Rattle.node_work.specs.Held.Sessions.{SessionAct, Begun, Called, Over, has_session}
 use Rattle.node_work.specs.View.{Place, HeldView}
 use Rattle.node_work.specs.Working.{If}
@@ -55,6 +55,7 @@ connection_was : (h : HeldView) (a : ConnectionAct) (q : List ℕ) → Has q (ne
 connection_was h (Opened c) q has = has
 connection_was h (Fed c piece) q has = has
 connection_was h (Accepted c client) q has = has
+connection_was h (Roomed c bytes) q has = has
 connection_was h (Closed c) q has = has
 
 bridge_was : (h : HeldView) (a : BridgeAct) (q : List ℕ) → Has q (next h (Bridge a)) → Has q h
@@ -133,6 +134,7 @@ no_table kind started p h rest other d = by kind started other (turn_brings star
     by (kinds.Opened connection) true other e = e
     by (kinds.Piece connection bytes) true other e = e
     by (kinds.Closed connection) true other e = e
+    by (kinds.Room connection bytes) true other e = e
     by (kinds.Frame bytes) true other e = e
     by (kinds.Linked peer) true other e = e
     by (kinds.Ship peer) true other e = e
@@ -154,6 +156,7 @@ is_table kinds.Started = inr (λ homes e. cc)
 is_table (kinds.Opened connection) = inr (λ homes e. cc)
 is_table (kinds.Piece connection bytes) = inr (λ homes e. cc)
 is_table (kinds.Closed connection) = inr (λ homes e. cc)
+is_table (kinds.Room connection bytes) = inr (λ homes e. cc)
 is_table (kinds.Frame bytes) = inr (λ homes e. cc)
 is_table (kinds.Linked peer) = inr (λ homes e. cc)
 is_table (kinds.Ship peer) = inr (λ homes e. cc)
@@ -167,6 +170,7 @@ first_nothing kinds.Started p h rest d = inl refl
 first_nothing (kinds.Opened connection) p h rest d = inr d.1
 first_nothing (kinds.Piece connection bytes) p h rest d = inr d.1
 first_nothing (kinds.Closed connection) p h rest d = inr d.1
+first_nothing (kinds.Room connection bytes) p h rest d = inr d.1
 first_nothing (kinds.Frame bytes) p h rest d = inr d.1
 first_nothing (kinds.Linked peer) p h rest d = inr d.1
 first_nothing (kinds.Ship peer) p h rest d = inr d.1

@@ -25,7 +25,7 @@ use Rattle.mqtt_topics.specs.Topics.{IsFilter}
 use Rattle.node_bridge.specs.View.{is_next, lane_to}
 use Rattle.replica_store.specs.Making.{subscribe_of}
 use Rattle.replica_store.specs.States.{State}
-use Rattle.session_laws.specs.Runs.{Event, answers, closes, finishes, queues, takes, ticks}
+use Rattle.session_laws.specs.Runs.{Event, answers, closes, finishes, queues, rooms, takes, ticks}
 use Rattle.session_table.specs.Calls.{leaves, stays}
 use Rattle.session_table.specs.Seats.{connected, ends_due, run_outs, wills_due}
 use Rattle.subscription_set.specs.declared.entry.Entry.{Entry}
@@ -39,7 +39,7 @@ use Rattle.node_work.specs.Calling.{Calls, Queues}
 use Rattle.node_work.specs.Doings.{Disconnects, GivesBody, GivesFrame, MakesRemove, MakesRemoveBelow, MakesSubscribe, Misses, Removes, RemovesBelow, Sends, is_small}
 use Rattle.node_work.specs.Frames.{is_for_node, is_other}
 use Rattle.node_work.specs.Held.Bridge.{Believed, Gave, Got as GotBy, Took}
-use Rattle.node_work.specs.Held.Connections.{Closed, client_at, first_at, is_open}
+use Rattle.node_work.specs.Held.Connections.{Closed, Roomed, client_at, first_at, is_open}
 use Rattle.node_work.specs.Held.Making.{number_at_end, removal, removal_below}
 use Rattle.node_work.specs.Held.Sessions.{Begun, Over, connection_at, end_is_due, has_session, takes_disconnect, takes_packet, will_is_due}
 use Rattle.node_work.specs.Packets.{moved_packet, refused_packet}
@@ -50,6 +50,7 @@ use Rattle.node_clients.specs.Ending as endings
 use Rattle.node_clients.specs.Moving as moving
 use Rattle.node_clients.specs.Passing as passing
 use Rattle.node_clients.specs.Pieces as pieces
+use Rattle.node_clients.specs.Rooms as giving
 use Rattle.node_clients.specs.Serving as serving
 use Rattle.node_clients.specs.Subscribing as subscribing
 use Rattle.node_clients.specs.Unsubscribing as unsubscribing
@@ -271,6 +272,16 @@ pub leaves_of : (c : ℕ) → Does (pieces.Leaves c)
 leaves_of c =
     let there : Option (Unit {0}) → Doing = Looks (λ p h. client_at c h) (pieces.LeavesBy c) in
     looks IsStill (λ p h. is_open c h) (λ is. If is there (Returns tt)) (λ is. by_test IsStill is there (Returns tt) (looks IsStill (λ p h. client_at c h) (pieces.LeavesBy c) (leaves_by c)) (returns IsStill tt))
+
+-- ---- room for PUBLISHes
+makes_room_by : (c bytes : ℕ) (client : Option (List ℕ)) → Does (giving.MakesRoomBy c bytes client)
+makes_room_by c bytes None = acting IsStill (λ p h. Connection (Roomed c bytes)) (λ p h. tt)
+makes_room_by c bytes (Some client) = join IsStill (Calls client (rooms bytes) stays) (λ _. Returns tt) (calling client (rooms bytes) stays) (λ _. returns IsStill tt)
+
+pub makes_room : (c bytes : ℕ) → Does (giving.MakesRoom c bytes)
+makes_room c bytes =
+    let there : Option (Unit {0}) → Doing = Looks (λ p h. client_at c h) (giving.MakesRoomBy c bytes) in
+    looks IsStill (λ p h. is_open c h) (λ is. If is there (Returns tt)) (λ is. by_test IsStill is there (Returns tt) (looks IsStill (λ p h. client_at c h) (giving.MakesRoomBy c bytes) (makes_room_by c bytes)) (returns IsStill tt))
 
 -- ---- what is due
 runs_out : (d : Due) → Does (due.RunsOut d)

@@ -14,7 +14,7 @@ use Rattle.node_work.specs.declared.outcome.Output.{Output}
 use Rattle.node_work.specs.declared.outcome.Output.TheVariants.{Send, Close, Frame as Release}
 use Rattle.node_work.specs.Acts.{Act, MomentTaken, Began, Moved, Store, Made, Connection, Session, Bridge, Out, Named, Acknowledged, Passed, Dropped, Runs}
 use Rattle.node_work.specs.Held.Bridge.{BridgeAct, Put, Took, Got, Believed, Gave, Left_out}
-use Rattle.node_work.specs.Held.Connections.{ConnectionAct, Opened, Fed, Accepted, Closed}
+use Rattle.node_work.specs.Held.Connections.{ConnectionAct, Opened, Fed, Accepted, Roomed, Closed}
 use Rattle.node_work.specs.Held.Making.{removal_below}
 use Rattle.node_work.specs.Held.Sessions.{Over, connection_at, seat_at, takes_packet}
 use Rattle.node_work.specs.Packets.{moved_packet}
@@ -76,6 +76,7 @@ module _ (p : Place) (client : List ℕ) (h mid : HeldView) (own : List Act) (g 
   connection_back (Opened c) x = absurd x
   connection_back (Fed c piece) x = absurd x
   connection_back (Accepted c q) x = absurd x
+  connection_back (Roomed c bytes) x = absurd x
 
   bridge_back : (a : BridgeAct) → IsForThem p mid (Bridge a) → IsForThem p h (Bridge a)
   bridge_back (Gave f) x = absurd x

@@ -5,7 +5,7 @@ use Rattle.std.proofs.lemmas.Bool.{eqb-true, eq-eqb}
 use Rattle.std.proofs.lemmas.List.{append-nil}
 use Rattle.std.proofs.lemmas.Grind.{flat_map-append}
 use Rattle.broker_sockets.specs.declared.events.EventKind.{EventKind}
-use Rattle.broker_sockets.specs.declared.events.EventKind.TheVariants.{Started, Opened, Piece, Closed, Tick}
+use Rattle.broker_sockets.specs.declared.events.EventKind.TheVariants.{Started, Opened, Piece, Room, Closed, Tick}
 use Rattle.broker_sockets.specs.declared.events.Output.{Output}
 use Rattle.broker_sockets.specs.declared.events.Output.TheVariants.{Send, Close}
 use Rattle.mqtt_packets.specs.declared.fault.PacketFault.TheVariants.{Malformed}
@@ -272,7 +272,10 @@ goes_path c kind k k' same is =
     (λ o. but c Goes k k' (λ q. met_by q (Closed c)) (λ q. piece_of q (Closed c)) [] o o is (sym (goes_here c)) refl refl (sym (append-nil (on c o)))
     (λ q e. record { meets = goes_there c q e; tells = refl; gives = refl; sends = refl }))
 
--- a start, or a tick
+-- room, a start, or a tick
+pub room_path : (c n : ℕ) (kind : EventKind) (k : Clients) → kind ≡ Room c n → IsMet kind k k
+room_path c n kind k same = subst (λ (x : EventKind). IsMet x k k) (sym same) (λ o. paths_none k o)
+
 pub started_path : (kind : EventKind) (k : Clients) → kind ≡ Started → IsMet kind k k
 started_path kind k same = subst (λ (x : EventKind). IsMet x k k) (sym same) (λ o. paths_none k o)
 

@@ -3,7 +3,7 @@ use Rattle.std.specs.Prelude.{◌≡◌, ◌==◌, ℕ, List, [], ◌∷◌, ◌
 use Rattle.std.specs.BTreeMap.{get}
 use Rattle.std.specs.Ordering.{nat_cmp}
 use Rattle.broker_sockets.specs.declared.events.EventKind.{EventKind}
-use Rattle.broker_sockets.specs.declared.events.EventKind.TheVariants.{Started, Opened, Piece, Closed, Tick}
+use Rattle.broker_sockets.specs.declared.events.EventKind.TheVariants.{Started, Opened, Piece, Room, Closed, Tick}
 use Rattle.broker_sockets.specs.declared.events.Output.{Output}
 use Rattle.broker_sockets.specs.declared.events.Output.TheVariants.{Send, Close}
 use Rattle.mqtt_packets.specs.declared.fault.PacketFault.TheVariants.{Malformed}
@@ -158,6 +158,7 @@ abbrev pub met_by : ℕ → EventKind → List Happening
 met_by q Started = []
 met_by q (Opened connection) = if connection == q then Opens ∷ [] else []
 met_by q (Piece connection bytes) = if connection == q then Comes bytes.items ∷ [] else []
+met_by q (Room connection bytes) = []
 met_by q (Closed connection) = if connection == q then Goes ∷ [] else []
 met_by q Tick = []
 

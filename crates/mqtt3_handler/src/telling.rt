@@ -254,7 +254,7 @@ fn go_on<H: Handler>(
 }
 
 /// A connection is opened or gone.
-#[tactic(auto, using(crate::proofs::Paths::opens_path, crate::proofs::Paths::goes_path, crate::proofs::Paths::plain_path, crate::proofs::Paths::started_path, crate::proofs::Paths::tick_path))]
+#[tactic(auto, using(crate::proofs::Paths::opens_path, crate::proofs::Paths::goes_path, crate::proofs::Paths::plain_path, crate::proofs::Paths::room_path, crate::proofs::Paths::started_path, crate::proofs::Paths::tick_path))]
 fn meet(alloc: Global, clients: &mut Clients, kind: &EventKind) -> Result<(), NoMemory>
     requires { is_held clients.old kind.now ≡ false }
     ensures { OnOk result (IsMet kind.now clients.old clients.new) }
@@ -269,6 +269,7 @@ fn meet(alloc: Global, clients: &mut Clients, kind: &EventKind) -> Result<(), No
             connection: _,
             bytes: _,
         } => Ok(()),
+        EventKind::Room { .. } => Ok(()),
         EventKind::Started => Ok(()),
         EventKind::Tick => Ok(()),
     }

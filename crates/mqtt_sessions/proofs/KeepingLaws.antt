@@ -1,5 +1,5 @@
 -- Packets that leave what a session's own row has as it is.
-use Rattle.std.proofs.Common.{◌≡◌, ℕ, Bool, true, false, cond, Option, Some, None, inl, inr, refl, sym, ap, ◌∙◌}
+use Rattle.std.proofs.Common.{◌≡◌, ℕ, Bool, true, false, cond, List, [], ◌∷◌, Option, Some, None, inl, inr, refl, sym, ap, ◌∙◌}
 use Rattle.std.specs.Prelude.{is_some, length, replicate}
 use Rattle.std.proofs.lemmas.Bool.{false≢true}
 use Rattle.mqtt_fields.specs.declared.options.Qos.{Qos}
@@ -11,7 +11,8 @@ use Rattle.mqtt_packets.specs.declared.subscribe.Subscribe.{Subscribe}
 use Rattle.mqtt_message.specs.declared.message.Message.{Message}
 use Rattle.qos_handshakes.specs.declared.answers.In.{In}
 use Rattle.qos_handshakes.specs.declared.answers.In.TheVariants.{New, Repeat, InUse, OverMaximum}
-use Rattle.qos_handshakes.specs.Incoming.{opened}
+use Rattle.qos_handshakes.specs.Incoming.{identifiers_of, opened}
+use Rattle.qos_handshakes.specs.Outbox.{Outbox, Sent, NextStep, SendsNothing}
 use Rattle.session_rows.specs.Changes.{Told}
 use Rattle.session_rows.specs.Fields.{main}
 use Rattle.mqtt_sessions.specs.declared.reaction.Ask.{Ask}
@@ -20,8 +21,9 @@ use Rattle.mqtt_sessions.specs.Arriving.{refusal, message_in, setting, publish_b
 use Rattle.mqtt_sessions.specs.Asking.{SubscribeStep}
 use Rattle.mqtt_sessions.specs.Packets.{KindStep, PacketIf, PacketStep}
 use Rattle.mqtt_sessions.specs.Reaction.{Reaction, Outcome, answered}
-use Rattle.mqtt_sessions.specs.Saved.{IsFresh, is_single, keeps_main, main_of}
-use Rattle.mqtt_sessions.specs.State.{State, Tracked, aliases_of, heard, limit_of}
+use Rattle.mqtt_sessions.specs.Saved.{IsFresh, closed_of, is_single, keeps_main, main_of}
+use Rattle.mqtt_sessions.specs.Sending.{GoesOn, RoomStep, SendsAll, StopsIf}
+use Rattle.mqtt_sessions.specs.State.{State, Tracked, aliases_of, heard, limit_of, room_less}
 
 -- an outcome that leaves it
 abbrev Keeps : State → Outcome → Type 0
@@ -79,6 +81,37 @@ by_limit (Some limit) p now room s r new is step = kind_keeps p now room limit (
 
 pub packet_keeps : (p : Packet) (now : ℕ) (room : Bool) (s : State) (r : Reaction) (new : State) → keeps_main p ≡ true → PacketStep p now room s r new → main_of new ≡ main_of s
 packet_keeps p now room s r new is step = by_limit (limit_of s.link) p now room s r new is step
+
+-- ---- what is sent to the client leaves it too
+next_keeps : (now limit : ℕ) (old new : Outbox) (s : Sent) → NextStep now limit old (Some s) new → new.next_place ≡ old.next_place
+next_keeps now limit old new s (inl n) = ap (λ (o : Outbox). o.next_place) n.left
+next_keeps now limit old new s (inr n) = ap (λ (o : Outbox). o.next_place) n.left
+
+nothing_keeps : (now limit : ℕ) (old new : Outbox) → SendsNothing now limit old new → new.next_place ≡ old.next_place
+nothing_keeps now limit old new n = elim n.step [
+  | inl full ↦ ap (λ (o : Outbox). o.next_place) full.1
+  | inr more ↦ elim more [
+    | inl none_free ↦ ap (λ (o : Outbox). o.next_place) none_free.3
+    | inr none_waits ↦ ap (λ (o : Outbox). o.next_place) none_waits.3
+  ]
+]
+
+sends_keep : (now limit : ℕ) (room : Option ℕ) (old new : Outbox) (sents : List Sent) → SendsAll now limit room old sents new → new.next_place ≡ old.next_place
+sends_keep now limit room old new [] all = ap (λ (o : Outbox). o.next_place) all
+sends_keep now limit room old new (s ∷ sents) all = sends_keep now limit (room_less now room s.copy) all.1 new sents all.3 ∙ next_keeps now limit old all.1 s all.2
+
+stops_keep : (now limit : ℕ) (has : Bool) (old new : Outbox) → StopsIf has now limit old new → new.next_place ≡ old.next_place
+stops_keep now limit true old new n = nothing_keeps now limit old new n
+stops_keep now limit false old new n = ap (λ (o : Outbox). o.next_place) n
+
+goes_keep : (limit : Option ℕ) (now : ℕ) (room : Option ℕ) (old new : Outbox) (sents : List Sent) → GoesOn limit now room old sents new → new.next_place ≡ old.next_place
+goes_keep None now room old new sents goes = ap (λ (o : Outbox). o.next_place) goes.1
+goes_keep (Some limit) now room old new sents goes = stops_keep now limit _ goes.last new goes.stops ∙ sends_keep now limit room old goes.last sents goes.sends
+
+pub room_keeps : (bytes now : ℕ) (s : State) (r : Reaction) (new : State) → RoomStep bytes now s r new → main_of new ≡ main_of s
+room_keeps bytes now s r new step =
+    let same = goes_keep (limit_of s.link) now (Some bytes) s.outbox step.after step.sents step.goes_on in
+    ap main_of step.left ∙ (λ i. record { expiry = s.kept.expiry; closed = closed_of s.kept.phase; will = s.kept.will; incoming = identifiers_of s.incoming; next_place = same i })
 
 -- what is known to be as it was told stays so where nothing of it changes
 pub fresh_still : (stale : Bool) (t after : Tracked) (told : Told) → (stale ≡ false → IsFresh false t told × (main_of after.state ≡ main_of t.state)) → IsFresh stale after told

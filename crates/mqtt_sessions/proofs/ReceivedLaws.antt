@@ -1,16 +1,18 @@
 -- What the code answers to a PUBREC, as steps.
-use Rattle.std.proofs.Common.{◌≡◌, true, ℕ, ◌<◌, ◌≤◌, Result, Ok, Err, None, sym, subst, inl, inr}
+use Rattle.std.proofs.Common.{◌≡◌, ◌∙◌, true, ℕ, ◌<◌, ◌≤◌, List, [], ◌++◌, Result, Ok, Err, None, ap, sym, subst, inl, inr}
 use Rattle.std.specs.Prelude.{IfErr, IfOk, OnErr}
 use Rattle.qos_handshakes.specs.declared.answers.Rec.TheVariants as rec
-use Rattle.qos_handshakes.specs.Outbox.{Outbox, ReceivedStep}
+use Rattle.qos_handshakes.specs.Outbox.{Outbox, ReceivedStep, Sent}
+use Rattle.mqtt_sessions.specs.declared.reaction.Output.{Output}
 use Rattle.mqtt_sessions.specs.declared.fault.SessionFault.{SessionFault}
 use Rattle.mqtt_sessions.specs.declared.fault.SessionFault.TheVariants.{NoMemory as OutOfMemory}
 use Rattle.mqtt_sessions.specs.Called.{IsFault}
 use Rattle.mqtt_sessions.specs.Answers.{pubrel}
 use Rattle.mqtt_sessions.specs.Packets.{PubrecStep, PubrecWants}
-use Rattle.mqtt_sessions.specs.Reaction.{Reaction, Comes, answered, gives_out, nothing}
+use Rattle.mqtt_sessions.specs.Reaction.{Reaction, Comes, answered, gives_out, nothing, publishes_of, says}
+use Rattle.mqtt_sessions.specs.Sending.{Flushes}
 use Rattle.mqtt_sessions.proofs.ArrivingLaws.{answer-fits}
-use Rattle.mqtt_sessions.specs.State.{State, with_outbox}
+use Rattle.mqtt_sessions.specs.State.{State, sent_from, with_outbox}
 
 module _ (id reason now limit : ℕ) (s : State) (mid : Outbox) where
   pub released : (result : Result Reaction SessionFault) (new : State) → ReceivedStep s.outbox id reason rec.Release mid → IfOk result (λ r. Comes (answered limit (pubrel id 0) None (with_outbox s mid)) r new)
@@ -25,6 +27,15 @@ module _ (id reason now limit : ℕ) (s : State) (mid : Outbox) where
 
   pub ignored : (r : Reaction) (new : State) → 128 ≤ reason → ReceivedStep s.outbox id reason rec.Unknown mid → r ≡ nothing → new ≡ with_outbox s mid → PubrecStep id reason now limit s r new
   ignored r new above takes is left = record { answer = rec.Unknown; mid = mid; takes = takes; goes_on = inr (above, is, left) }
+
+  pub ends : (r : Reaction) (new : State) (before packets : List Output) → ReceivedStep s.outbox id reason rec.Ended mid
+      → (sents : List Sent) × (after : Outbox) × Flushes now limit s.room mid sents after × (packets ≡ before ++ publishes_of sents) × (new ≡ sent_from s after now sents) → before ≡ [] → r ≡ says packets → PubrecStep id reason now limit s r new
+  ends r new before packets takes goes none is = record {
+    answer = rec.Ended;
+    mid = mid;
+    takes = takes;
+    goes_on = record { after = goes.1; sents = goes.0; flushes = goes.2; reacts = is ∙ ap says (rw none at goes.3); left = goes.4 };
+  }
 
   -- where it wants memory
   wants-fault : (result : Result Reaction SessionFault) (Ends : Type 0) → IfErr result (λ e. e ≡ OutOfMemory) → OnErr result (PubrecWants id reason limit s) → IfErr result (λ e. IsFault (PubrecWants id reason limit s) Ends e)

@@ -15,12 +15,12 @@ use Rattle.mqtt_sessions.specs.Asking.{AsksNoLocalShare, SubscribeStep, subscrib
 use Rattle.mqtt_sessions.specs.Ending.{disconnected}
 use Rattle.mqtt_sessions.specs.Reaction.{Reaction, Outcome, Comes, nothing, says, publishes_of, answered, refused, gives_out}
 use Rattle.mqtt_sessions.specs.Sending.{Flushes, MayFlush}
-use Rattle.mqtt_sessions.specs.State.{State, limit_of, heard, with_outbox}
+use Rattle.mqtt_sessions.specs.State.{State, limit_of, heard, sent_from, with_outbox}
 
--- ---- PUBACK and PUBCOMP (MQTT 5.0, 3.4 and 3.7): an exchange that ends makes room, and nothing is answered
-abbrev pub GoesOnAfter : Ended → ℕ → ℕ → Outbox → List Sent → Outbox → Type 0
-GoesOnAfter Done now limit old sents new = Flushes now limit old sents new
-GoesOnAfter Unknown now limit old sents new = (sents ≡ []) × (new ≡ old)
+-- ---- PUBACK and PUBCOMP (MQTT 5.0, 3.4 and 3.7): an exchange that ends frees quota, and nothing is answered
+abbrev pub GoesOnAfter : Ended → ℕ → ℕ → Option ℕ → Outbox → List Sent → Outbox → Type 0
+GoesOnAfter Done now limit room old sents new = Flushes now limit room old sents new
+GoesOnAfter Unknown now limit room old sents new = (sents ≡ []) × (new ≡ old)
 
 pub record PubackStep (id now limit : ℕ) (s : State) (r : Reaction) (new : State) : Type 0 where
   pub answer : Ended
@@ -28,9 +28,9 @@ pub record PubackStep (id now limit : ℕ) (s : State) (r : Reaction) (new : Sta
   pub after : Outbox
   pub sents : List Sent
   pub takes : AcknowledgeStep s.outbox id answer mid
-  pub goes_on : GoesOnAfter answer now limit mid sents after
+  pub goes_on : GoesOnAfter answer now limit s.room mid sents after
   pub reacts : r ≡ says (publishes_of sents)
-  pub left : new ≡ with_outbox s after
+  pub left : new ≡ sent_from s after now sents
 
 pub record PubcompStep (id now limit : ℕ) (s : State) (r : Reaction) (new : State) : Type 0 where
   pub answer : Ended
@@ -38,17 +38,17 @@ pub record PubcompStep (id now limit : ℕ) (s : State) (r : Reaction) (new : St
   pub after : Outbox
   pub sents : List Sent
   pub takes : CompleteStep s.outbox id answer mid
-  pub goes_on : GoesOnAfter answer now limit mid sents after
+  pub goes_on : GoesOnAfter answer now limit s.room mid sents after
   pub reacts : r ≡ says (publishes_of sents)
-  pub left : new ≡ with_outbox s after
+  pub left : new ≡ sent_from s after now sents
 
 -- ---- PUBREC (3.5): PUBREL, or the exchange ends
 pub record EndsExchange (now limit : ℕ) (s : State) (mid : Outbox) (r : Reaction) (new : State) : Type 0 where
   pub after : Outbox
   pub sents : List Sent
-  pub flushes : Flushes now limit mid sents after
+  pub flushes : Flushes now limit s.room mid sents after
   pub reacts : r ≡ says (publishes_of sents)
-  pub left : new ≡ with_outbox s after
+  pub left : new ≡ sent_from s after now sents
 
 -- no exchange is known: PUBREL with Packet Identifier not found, or from 0x80 on nothing
 abbrev pub SaysUnknown : ℕ → ℕ → ℕ → State → Reaction → State → Type 0
@@ -115,23 +115,23 @@ WantsFor p o = (gives_out o.reaction ≡ true) ⊎ SetsAlias p o.left
 
 -- a PUBACK or a PUBCOMP: where an exchange ends, and the queue may go on
 abbrev pub AcknowledgeWants : ℕ → State → Type 0
-AcknowledgeWants id s = (mid : Outbox) × AcknowledgeStep s.outbox id Done mid × MayFlush mid
+AcknowledgeWants id s = (mid : Outbox) × AcknowledgeStep s.outbox id Done mid × MayFlush s.room mid
 
 abbrev pub CompleteWants : ℕ → State → Type 0
-CompleteWants id s = (mid : Outbox) × CompleteStep s.outbox id Done mid × MayFlush mid
+CompleteWants id s = (mid : Outbox) × CompleteStep s.outbox id Done mid × MayFlush s.room mid
 
 -- a PUBREC: for the PUBREL that is sent, or where an exchange ends, and the queue may go on
-abbrev pub PubrecWantsBy : Rec → ℕ → ℕ → ℕ → Outbox → Type 0
-PubrecWantsBy rec.Release id reason limit mid = fits limit (pubrel id 0) ≡ true
-PubrecWantsBy rec.Ended id reason limit mid = MayFlush mid
-PubrecWantsBy rec.Unknown id reason limit mid = (reason < 128) × (fits limit (pubrel id 146) ≡ true)
-PubrecWantsBy rec.AtEnd id reason limit mid = ⊥
+abbrev pub PubrecWantsBy : Rec → ℕ → ℕ → ℕ → Option ℕ → Outbox → Type 0
+PubrecWantsBy rec.Release id reason limit room mid = fits limit (pubrel id 0) ≡ true
+PubrecWantsBy rec.Ended id reason limit room mid = MayFlush room mid
+PubrecWantsBy rec.Unknown id reason limit room mid = (reason < 128) × (fits limit (pubrel id 146) ≡ true)
+PubrecWantsBy rec.AtEnd id reason limit room mid = ⊥
 
 pub record PubrecWants (id reason limit : ℕ) (s : State) : Type 0 where
   pub answer : Rec
   pub mid : Outbox
   pub takes : ReceivedStep s.outbox id reason answer mid
-  pub wants : PubrecWantsBy answer id reason limit mid
+  pub wants : PubrecWantsBy answer id reason limit s.room mid
 
 -- a packet that breaks a rule wants none, nor does a DISCONNECT; the others want it for the packet that is sent
 abbrev pub KindWants : Packet → ℕ → Bool → ℕ → State → Type 0

@@ -44,6 +44,7 @@ state_in d = record {
   outbox = restored d.main.next_place d.copies;
   incoming = of_identifiers d.main.incoming;
   link = None;
+  room = None;
 }
 
 abbrev pub tracked_in : Opened → Tracked
@@ -53,6 +54,7 @@ tracked_in o = record {
     outbox = o.outgoing.box;
     incoming = o.incoming;
     link = None;
+    room = None;
   };
   touched = o.outgoing.touched;
 }

@@ -1,5 +1,5 @@
 -- Copies for the client (MQTT 5.0, 4.3, 4.6 and 4.9): those sent at once, and those of the queue.
-use Rattle.std.specs.Prelude.{◌≡◌, ◌≢◌, ◌<◌, ℕ, Bool, true, false, cond, List, [], ◌∷◌, ◌⊎◌, Option, Some, None}
+use Rattle.std.specs.Prelude.{◌≡◌, ◌≢◌, ◌<◌, ℕ, Bool, true, false, cond, List, [], ◌∷◌, ◌⊎◌, Option, Some, None, IsSome}
 use Rattle.mqtt_fields.specs.declared.options.Qos.{Qos}
 use Rattle.mqtt_fields.specs.declared.options.Qos.TheVariants.{AtMostOnce, AtLeastOnce, ExactlyOnce}
 use Rattle.mqtt_message.specs.declared.delivery.Delivery.{Delivery}
@@ -11,22 +11,28 @@ use Rattle.qos_handshakes.specs.Outbox.{Outbox, Sent, OfferStep, NextStep, in_fl
 use Rattle.mqtt_sessions.specs.declared.reaction.Output.{Output}
 use Rattle.mqtt_sessions.specs.declared.reaction.Output.TheVariants.{Publish}
 use Rattle.mqtt_sessions.specs.Reaction.{Reaction, nothing, says, sends, publishes_of}
-use Rattle.mqtt_sessions.specs.State.{State, limit_of, with_outbox}
+use Rattle.mqtt_sessions.specs.State.{State, has_room, limit_of, room_after, room_less, sent_from}
 
-abbrev pub SendsAll : ℕ → ℕ → Outbox → List Sent → Outbox → Type 0
-SendsAll now limit old [] new = new ≡ old
-SendsAll now limit old (s ∷ ss) new = (mid : Outbox) × NextStep now limit old (Some s) mid × SendsAll now limit mid ss new
+-- one after another, each while there is room
+abbrev pub SendsAll : ℕ → ℕ → Option ℕ → Outbox → List Sent → Outbox → Type 0
+SendsAll now limit room old [] new = new ≡ old
+SendsAll now limit room old (s ∷ ss) new = (has_room room ≡ true) × (mid : Outbox) × NextStep now limit old (Some s) mid × SendsAll now limit (room_less now room s.copy) mid ss new
 
--- all that can be sent is sent, and then nothing more can
-pub record Flushes (now limit : ℕ) (old : Outbox) (sents : List Sent) (new : Outbox) : Type 0 where
+-- no room is left, or nothing more can be sent
+abbrev pub StopsIf : Bool → ℕ → ℕ → Outbox → Outbox → Type 0
+StopsIf false now limit old new = new ≡ old
+StopsIf true now limit old new = NextStep now limit old None new
+
+-- all that can be sent is sent while there is room
+pub record Flushes (now limit : ℕ) (room : Option ℕ) (old : Outbox) (sents : List Sent) (new : Outbox) : Type 0 where
   pub last : Outbox
-  pub sends : SendsAll now limit old sents last
-  pub stops : NextStep now limit last None new
+  pub sends : SendsAll now limit room old sents last
+  pub stops : StopsIf (has_room (room_after now room sents)) now limit last new
 
 -- the queue goes on where the client is connected
-abbrev pub GoesOn : Option ℕ → ℕ → Outbox → List Sent → Outbox → Type 0
-GoesOn None now old sents new = (sents ≡ []) × (new ≡ old)
-GoesOn (Some limit) now old sents new = Flushes now limit old sents new
+abbrev pub GoesOn : Option ℕ → ℕ → Option ℕ → Outbox → List Sent → Outbox → Type 0
+GoesOn None now room old sents new = (sents ≡ []) × (new ≡ old)
+GoesOn (Some limit) now room old sents new = Flushes now limit room old sents new
 
 abbrev pub is_once : Qos → Bool
 is_once AtMostOnce = true
@@ -44,9 +50,9 @@ pub record Queues (old : State) (d : Delivery) (now : ℕ) (r : Reaction) (new :
   pub after : Outbox
   pub sents : List Sent
   pub offers : OfferStep old.outbox d Queued mid
-  pub goes_on : GoesOn (limit_of old.link) now mid sents after
+  pub goes_on : GoesOn (limit_of old.link) now old.room mid sents after
   pub reacts : r ≡ says (publishes_of sents)
-  pub left : new ≡ with_outbox old after
+  pub left : new ≡ sent_from old after now sents
 
 -- or the queue is full
 pub record Overflows (old : State) (d : Delivery) (r : Reaction) (new : State) : Type 0 where
@@ -66,9 +72,9 @@ abbrev pub owed : Entries → List Entry
 owed [] = []
 owed (e ∷ es) = cond (is_owed e.1) (e.1 ∷ owed es) (owed es)
 
--- something may be sent: quota is free, and a resend is owed or a copy waits
-abbrev pub MayFlush : Outbox → Type 0
-MayFlush o = (in_flight o.copies < o.maximum) × ((owed o.copies ≢ []) ⊎ (waiting o.copies ≢ []))
+-- something may be sent: there is room, quota is free, and a resend is owed or a copy waits
+abbrev pub MayFlush : Option ℕ → Outbox → Type 0
+MayFlush room o = (has_room room ≡ true) × (in_flight o.copies < o.maximum) × ((owed o.copies ≢ []) ⊎ (waiting o.copies ≢ []))
 
 -- a copy wants memory where it is sent at once, or joins the queue
 abbrev pub QueueWantsIf : Bool → Delivery → ℕ → State → Type 0
@@ -81,3 +87,18 @@ QueueWants d now s = QueueWantsIf (is_once d.qos) d now s
 -- no place is left for it below 2^62
 abbrev pub QueueEnds : Delivery → State → Type 0
 QueueEnds d old = (is_once d.qos ≡ false) × OfferStep old.outbox d AtEnd old.outbox
+
+-- ---- the connection takes so many bytes of PUBLISHes from now on, and the queue goes on
+abbrev pub with_room : State → ℕ → State
+with_room s bytes = record s { room = Some bytes }
+
+pub record RoomStep (bytes now : ℕ) (old : State) (r : Reaction) (new : State) : Type 0 where
+  pub after : Outbox
+  pub sents : List Sent
+  pub goes_on : GoesOn (limit_of old.link) now (Some bytes) old.outbox sents after
+  pub reacts : r ≡ says (publishes_of sents)
+  pub left : new ≡ sent_from (with_room old bytes) after now sents
+
+-- memory is wanted where the client is connected, and something may be sent
+abbrev pub RoomWants : ℕ → State → Type 0
+RoomWants bytes s = IsSome s.link × MayFlush (Some bytes) s.outbox

@@ -1,11 +1,13 @@
 -- What a session is (MQTT 5.0, 4.1): what outlives its connections, and its connection.
-use Rattle.std.specs.Prelude.{ℕ, ◌<◌, ◌^◌, min, List, [], Option, Some, None, unwrap_or}
+use Rattle.std.specs.Prelude.{ℕ, ◌<◌, ◌-◌, ◌^◌, min, Bool, true, nat_lt, List, [], ◌∷◌, Option, Some, None, unwrap_or}
 use Rattle.mqtt_fields.specs.declared.value.Property.{Property}
 use Rattle.mqtt_fields.specs.Properties.{first_four}
 use Rattle.mqtt_packets.specs.declared.connect.Will.{Will}
+use Rattle.mqtt_message.specs.declared.delivery.Delivery.{Delivery}
 pub use Rattle.session_rows.specs.Durable.{IsPublishableIf}
 use Rattle.qos_handshakes.specs.Incoming.{Received}
-use Rattle.qos_handshakes.specs.Outbox.{Outbox, empty_outbox}
+use Rattle.qos_handshakes.specs.Length.{length_of}
+use Rattle.qos_handshakes.specs.Outbox.{Outbox, Sent, empty_outbox}
 use Rattle.qos_handshakes.specs.Touched.{Watched}
 use Rattle.mqtt_sessions.specs.Aliases.{Aliases}
 use Rattle.mqtt_sessions.specs.declared.kept.Phase.{Phase}
@@ -28,12 +30,14 @@ pub record Link : Type 0 where
   pub asked : Option Asked
   pub aliases : Aliases
 
--- of the outbox and the incoming exchanges, what was sent and opened on this connection, and its quota, go with it
+-- of the outbox and the incoming exchanges, what was sent and opened on this connection, and its quota, go with it; `room` is
+-- how many bytes of PUBLISHes its connection takes from now on, where that is counted
 pub record State : Type 0 where
   pub kept : Kept
   pub outbox : Outbox
   pub incoming : Received
   pub link : Option Link
+  pub room : Option ℕ
 
 -- a session, and the places of its copies that were touched since they were last asked for
 pub record Tracked : Type 0 where
@@ -50,6 +54,7 @@ new_session client = record {
   outbox = empty_outbox;
   incoming = [];
   link = None;
+  room = None;
 }
 
 -- the connection is gone
@@ -58,6 +63,25 @@ cut s = record s { link = None }
 
 abbrev pub with_outbox : State → Outbox → State
 with_outbox s o = record s { outbox = o }
+
+-- ---- room for PUBLISHes at QoS 1 and 2
+-- some is left, or it isn't counted
+abbrev pub has_room : Option ℕ → Bool
+has_room None = true
+has_room (Some n) = nat_lt 0 n
+
+-- what is left of it after a PUBLISH; the last one may be longer than it
+abbrev pub room_less : ℕ → Option ℕ → Delivery → Option ℕ
+room_less now None d = None
+room_less now (Some n) d = Some (n - length_of now d)
+
+abbrev pub room_after : ℕ → Option ℕ → List Sent → Option ℕ
+room_after now room [] = room
+room_after now room (s ∷ ss) = room_after now (room_less now room s.copy) ss
+
+-- these were sent, and this is what is left in the outbox
+abbrev pub sent_from : State → Outbox → ℕ → List Sent → State
+sent_from s o now sents = record s { outbox = o; room = room_after now s.room sents }
 
 -- the longest packet that the client takes; none has more than 268,435,460 bytes (2.1.4, 3.1.2.11.4)
 abbrev pub limit_in : List Property → ℕ

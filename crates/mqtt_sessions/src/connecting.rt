@@ -12,7 +12,7 @@ use crate::fault::SessionFault;
 use crate::link::{begin, limit_in};
 use crate::reaction::{Output, Reaction, ends, one, says};
 use crate::running::Running;
-use crate::sending::{flush, release};
+use crate::sending::release;
 use mqtt_fields::identifier::RECEIVE_MAXIMUM;
 use mqtt_packets::Connect;
 
@@ -21,10 +21,11 @@ impl Running {
         &mut self,
         connect: &Connect,
         continued: bool,
+        room: Option<u64>,
         now: u64,
     ) -> Result<Reaction, SessionFault>
         requires { IsPublishableIf connect.now.will }
-        ensures step { IfOk result (λ r. ConnectStep connect.now continued now self.old.state r self.new.state) }
+        ensures step { IfOk result (λ r. ConnectStep connect.now continued room now self.old.state r self.new.state) }
         ensures spelled { IfOk result (λ r. AreSpelled now r.packets) }
         ensures fault { IfErr result (λ e. e ≡ OutOfMemory) }
         ensures want { OnErr result (ConnectWants connect.now continued self.old.state) }
@@ -36,6 +37,7 @@ impl Running {
         self.incoming.restart();
         self.outgoing
             .resume(connect.properties.two(RECEIVE_MAXIMUM).unwrap_or(65_535));
+        self.room = room;
         if !fits {
             self.connection = None;
             return Ok(ends(self.alloc, None, 0));
@@ -45,7 +47,7 @@ impl Running {
         let mut packets = one(self.alloc, Output::Answer(answer))?;
         let ids = self.outgoing.releases(self.alloc)?;
         release(self.alloc, &mut packets, &ids)?;
-        flush(self.alloc, &mut self.outgoing, &mut packets, now, limit)?;
+        self.go_on(&mut packets, now, limit)?;
         Ok(says(packets))
     }
 }

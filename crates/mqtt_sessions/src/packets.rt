@@ -15,7 +15,6 @@ use crate::answers::{pingresp, pubrel};
 use crate::fault::SessionFault;
 use crate::reaction::{Reaction, ends, nothing, says};
 use crate::running::Running;
-use crate::sending::flush;
 use mqtt_fields::identifier::SESSION_EXPIRY_INTERVAL;
 use mqtt_packets::{Ended, Packet, reason};
 use qos_handshakes::{Ack, Rec};
@@ -33,7 +32,7 @@ impl Running {
         if matches!(self.outgoing.acknowledge(id), Ack::Unknown) {
             return Ok(says(packets));
         }
-        flush(self.alloc, &mut self.outgoing, &mut packets, now, limit)?;
+        self.go_on(&mut packets, now, limit)?;
         Ok(says(packets))
     }
 
@@ -49,7 +48,7 @@ impl Running {
         if matches!(self.outgoing.complete(id), Ack::Unknown) {
             return Ok(says(packets));
         }
-        flush(self.alloc, &mut self.outgoing, &mut packets, now, limit)?;
+        self.go_on(&mut packets, now, limit)?;
         Ok(says(packets))
     }
 
@@ -78,7 +77,7 @@ impl Running {
             }
             Rec::Ended => {}
         }
-        flush(self.alloc, &mut self.outgoing, &mut packets, now, limit)?;
+        self.go_on(&mut packets, now, limit)?;
         Ok(says(packets))
     }
 

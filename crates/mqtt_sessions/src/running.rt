@@ -22,6 +22,8 @@ pub(crate) struct Running {
     pub(crate) incoming: Incoming,
     pub(crate) outgoing: Outgoing,
     pub(crate) connection: Option<Connection>,
+    /// How many bytes of PUBLISHes the connection takes from now on, where that is counted.
+    pub(crate) room: Option<u64>,
     pub(crate) alloc: Global,
 }
 
@@ -30,7 +32,7 @@ impl Model for Running {
 
     ghost Value = { Tracked };
 
-    ghost view = { λ s. record { state = record { kept = s.kept; outbox = s.outgoing.box; incoming = s.incoming; link = s.connection }; touched = s.outgoing.touched } };
+    ghost view = { λ s. record { state = record { kept = s.kept; outbox = s.outgoing.box; incoming = s.incoming; link = s.connection; room = s.room }; touched = s.outgoing.touched } };
 }
 
 impl Running {
@@ -42,6 +44,7 @@ impl Running {
             incoming: Incoming::new(alloc),
             outgoing: Outgoing::new(alloc),
             connection: None,
+            room: None,
             alloc,
         }
     }

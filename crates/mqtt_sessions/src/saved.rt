@@ -15,7 +15,7 @@ ghost use Rattle.mqtt_sessions.specs.Called.{IsFault};
 ghost use Rattle.mqtt_packets.specs.Written.{HasSpelling};
 ghost use Rattle.mqtt_sessions.specs.Packets.{PacketEnds, PacketStep, WantsMemory};
 ghost use Rattle.mqtt_sessions.specs.Reaction.{AreSpelled};
-ghost use Rattle.mqtt_sessions.specs.Sending.{QueueEnds, QueueStep, QueueWants};
+ghost use Rattle.mqtt_sessions.specs.Sending.{QueueEnds, QueueStep, QueueWants, RoomStep, RoomWants};
 ghost use Rattle.mqtt_sessions.specs.Saved.{Appends, Notes, Tells, begun_session, durable_of, main_of, keeps_main, own_before, told_before, told_of, tracked_in};
 
 use crate::fault::SessionFault;
@@ -65,6 +65,7 @@ impl Running {
             incoming: kept.incoming,
             outgoing: kept.outgoing,
             connection: None,
+            room: None,
             alloc,
         })
     }
@@ -216,6 +217,21 @@ impl Live {
         // After a fault nothing is known of its own row.
         self.stale = true;
         let reaction = self.running.queue(delivery, now)?;
+        self.stale = stale;
+        Ok(reaction)
+    }
+
+    /// The connection takes so many bytes of PUBLISHes from now on. What is sent changes nothing of its own row.
+    pub(crate) fn make_room(&mut self, bytes: u64, now: u64) -> Result<Reaction, NoMemory>
+        ensures step { IfOk result (λ r. RoomStep bytes now self.old.tracked.state r self.new.tracked.state) }
+        ensures spelled { IfOk result (λ r. AreSpelled now r.packets) }
+        ensures want { OnErr result (RoomWants bytes self.old.tracked.state) }
+        ensures notes { OnOk result (Notes self.old self.new) }
+    {
+        let stale = self.stale;
+        // After a fault nothing is known of its own row.
+        self.stale = true;
+        let reaction = self.running.make_room(bytes, now)?;
         self.stale = stale;
         Ok(reaction)
     }

@@ -5,12 +5,13 @@ ghost use Rattle.mqtt_packets.specs.declared.packet.Packet.TheVariants.{Publish}
 ghost use Rattle.mqtt_packets.specs.Written.{HasSpelling};
 ghost use Rattle.mqtt_message.specs.Sent.{sent};
 ghost use Rattle.qos_handshakes.specs.Outbox as outbox;
-ghost use Rattle.qos_handshakes.specs.Outbox.{Sent};
+ghost use Rattle.qos_handshakes.specs.Outbox.{Outbox, Sent};
 ghost use Rattle.mqtt_sessions.specs.Reaction.{AreSpelled, publishes_of, pubrels_of};
 ghost use Rattle.mqtt_sessions.specs.Reaction as reactions;
 ghost use Rattle.mqtt_sessions.specs.Sending as sending;
-ghost use Rattle.mqtt_sessions.specs.Sending.{Flushes, MayFlush, QueueEnds, QueueStep, QueueWants};
-ghost use Rattle.mqtt_sessions.specs.State.{watched, limit_of};
+ghost use Rattle.mqtt_sessions.specs.Sending.{Flushes, MayFlush, QueueEnds, QueueStep, QueueWants, RoomStep, RoomWants};
+ghost use Rattle.mqtt_sessions.specs.State as state;
+ghost use Rattle.mqtt_sessions.specs.State.{watched, limit_of, room_after, sent_from};
 ghost use Rattle.mqtt_sessions.specs.Called.{IsFault};
 ghost use Rattle.mqtt_sessions.specs.declared.fault.SessionFault.TheVariants.{NoMemory as OutOfMemory};
 ghost use Rattle.session_rows.specs.Changes.{Follows};
@@ -24,22 +25,48 @@ use mqtt_message::{Delivery, sent_is_spelled};
 use qos_handshakes::{Offer, Outgoing};
 use std::alloc::Global;
 
-/// Sends all that can be sent.
+/// Whether some room is left, or it isn't counted.
+fn has_room(room: Option<u64>) -> bool
+    ensures { result ≡ state.has_room room }
+{
+    match room {
+        Some(bytes) => bytes > 0,
+        None => true,
+    }
+}
+
+/// What is left of the room after a PUBLISH.
+#[tactic(auto, unfolding(qos_handshakes::specs::Length::length_of))]
+fn room_less(room: Option<u64>, delivery: &Delivery, now: u64) -> Option<u64>
+    ensures { result ≡ state.room_less now room delivery.now }
+{
+    match room {
+        Some(bytes) => Some(bytes.saturating_sub(delivery.packet_length(now))),
+        None => None,
+    }
+}
+
+/// Sends all that can be sent while there is room.
 pub(crate) fn flush(
     alloc: Global,
     outgoing: &mut Outgoing,
     packets: &mut Vec<Output>,
+    room: &mut Option<u64>,
     now: u64,
     limit: u64,
 ) -> Result<(), NoMemory>
     requires limit { limit ≤ 268435460 }
     requires spelled { AreSpelled now packets.old.items }
-    ensures step { IfOk result (λ _. (sents : List Sent) × Flushes now limit outgoing.old.box sents outgoing.new.box × (packets.new.items ≡ packets.old.items ++ publishes_of sents)) }
+    ensures step { IfOk result (λ _. (sents : List Sent) × Flushes now limit room.old outgoing.old.box sents outgoing.new.box × (packets.new.items ≡ packets.old.items ++ publishes_of sents) × (room.new ≡ room_after now room.old sents)) }
     ensures spelled { IfOk result (λ _. AreSpelled now packets.new.items) }
-    ensures want { OnErr result (MayFlush outgoing.old.box) }
+    ensures want { OnErr result (MayFlush room.old outgoing.old.box) }
     ensures follows { OnOk result (Follows outgoing.old outgoing.new) }
 {
-    while let Some(sending) = outgoing.next(now, limit)? {
+    while has_room(*room) {
+        let Some(sending) = outgoing.next(now, limit)? else {
+            return Ok(());
+        };
+        *room = room_less(*room, &sending.delivery, now);
         let delivery = sending.delivery.copy(alloc)?;
         packets.push(Output::Publish(Publication {
             id: sending.id,
@@ -138,7 +165,47 @@ impl Running {
         let Some(limit) = self.limit() else {
             return Ok(says(packets));
         };
-        flush(self.alloc, &mut self.outgoing, &mut packets, now, limit)?;
+        self.go_on(&mut packets, now, limit)?;
         Ok(says(packets))
+    }
+
+    /// The connection takes so many bytes of PUBLISHes from now on, and the queue goes on.
+    pub(crate) fn make_room(&mut self, bytes: u64, now: u64) -> Result<Reaction, NoMemory>
+        ensures step { IfOk result (λ r. RoomStep bytes now self.old.state r self.new.state) }
+        ensures spelled { IfOk result (λ r. AreSpelled now r.packets) }
+        ensures want { OnErr result (RoomWants bytes self.old.state) }
+        ensures follows { OnOk result (Follows (watched self.old) (watched self.new)) }
+    {
+        self.room = Some(bytes);
+        let mut packets = Vec::new(self.alloc);
+        let Some(limit) = self.limit() else {
+            return Ok(says(packets));
+        };
+        self.go_on(&mut packets, now, limit)?;
+        Ok(says(packets))
+    }
+
+    /// Sends all that can be sent while there is room.
+    pub(crate) fn go_on(
+        &mut self,
+        packets: &mut Vec<Output>,
+        now: u64,
+        limit: u64,
+    ) -> Result<(), NoMemory>
+        requires limit { limit ≤ 268435460 }
+        requires spelled { AreSpelled now packets.old.items }
+        ensures step { IfOk result (λ _. (sents : List Sent) × (after : Outbox) × Flushes now limit self.old.state.room self.old.state.outbox sents after × (packets.new.items ≡ packets.old.items ++ publishes_of sents) × (self.new.state ≡ sent_from self.old.state after now sents)) }
+        ensures spelled { IfOk result (λ _. AreSpelled now packets.new.items) }
+        ensures want { OnErr result (MayFlush self.old.state.room self.old.state.outbox) }
+        ensures follows { OnOk result (Follows (watched self.old) (watched self.new)) }
+    {
+        flush(
+            self.alloc,
+            &mut self.outgoing,
+            packets,
+            &mut self.room,
+            now,
+            limit,
+        )
     }
 }

@@ -12,7 +12,7 @@ ghost use Rattle.mqtt_sessions.specs.Ending as ending;
 ghost use Rattle.mqtt_sessions.specs.Ending.{ClosedStep, FinishStep, TickStep, TickWants, HasWill};
 ghost use Rattle.mqtt_sessions.specs.Packets.{PacketEnds, PacketStep, WantsMemory};
 ghost use Rattle.mqtt_sessions.specs.Reaction.{AreSpelled};
-ghost use Rattle.mqtt_sessions.specs.Sending.{QueueEnds, QueueStep, QueueWants};
+ghost use Rattle.mqtt_sessions.specs.Sending.{QueueEnds, QueueStep, QueueWants, RoomStep, RoomWants};
 ghost use Rattle.mqtt_sessions.specs.Removed.{RemovalsWant, RemovesIf, removed_before};
 ghost use Rattle.mqtt_sessions.specs.Saved.{Appends, ListsIf, NotesIf, OpensFrom, TellsIf, begun_session, durable_of, state_of, told_before, told_of, tracked_in};
 ghost use Rattle.mqtt_sessions.specs.State.{IsPublishableIf, aliases_of, limit_of};
@@ -76,16 +76,18 @@ impl Session {
     }
 
     /// The beginning of a connection: CONNACK, and where the session is continued the PUBRELs, the resends and the queue
-    /// (MQTT 5.0, 3.2 and 4.4). Where the client doesn't take its CONNACK only a will wants memory.
+    /// (MQTT 5.0, 3.2 and 4.4), for which it takes so many bytes of PUBLISHes, where that is counted. Where the client doesn't take
+    /// its CONNACK only a will wants memory.
     pub fn connect(
         &mut self,
         connect: &Connect,
         continued: bool,
+        room: Option<u64>,
         now: u64,
     ) -> Result<Reaction, SessionFault>
         requires continued { MayConnectIf continued (state_of self.old) }
         requires will { IsPublishableIf connect.now.will }
-        ensures called { Called (ConnectStep connect.now continued now) (ConnectWants connect.now continued) never (state_of self.old) result (state_of self.new) }
+        ensures called { Called (ConnectStep connect.now continued room now) (ConnectWants connect.now continued) never (state_of self.old) result (state_of self.new) }
         ensures spelled { IfOk result (λ r. AreSpelled now r.packets) }
         ensures notes { NotesIf self.old self.new }
     {
@@ -93,7 +95,7 @@ impl Session {
             return Err(SessionFault::Spent);
         };
         live.stale = true;
-        let reaction = live.running.connect(connect, continued, now)?;
+        let reaction = live.running.connect(connect, continued, room, now)?;
         self.live = Some(live);
         Ok(reaction)
     }
@@ -112,6 +114,25 @@ impl Session {
             Err(fault) => {
                 self.live = None;
                 Err(fault)
+            }
+        }
+    }
+
+    /// The connection takes so many bytes of PUBLISHes at QoS 1 and 2 from now on, the last one aside, and what waits goes on. It takes
+    /// memory only where something may be sent.
+    pub fn make_room(&mut self, bytes: u64, now: u64) -> Result<Reaction, SessionFault>
+        ensures called { Called (RoomStep bytes now) (RoomWants bytes) never (state_of self.old) result (state_of self.new) }
+        ensures spelled { IfOk result (λ r. AreSpelled now r.packets) }
+        ensures notes { NotesIf self.old self.new }
+    {
+        let Some(live) = &mut self.live else {
+            return Err(SessionFault::Spent);
+        };
+        match live.make_room(bytes, now) {
+            Ok(reaction) => Ok(reaction),
+            Err(_) => {
+                self.live = None;
+                Err(SessionFault::NoMemory)
             }
         }
     }

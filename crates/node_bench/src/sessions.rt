@@ -189,7 +189,7 @@ fn connected(alloc: Global) -> Result<Session, Failure> {
     let client = client(alloc)?;
     let connect = hello(alloc)?;
     let mut session = Session::new(alloc, client);
-    let result = session.connect(&connect, false, 0);
+    let result = session.connect(&connect, false, None, 0);
     drop(connect);
     if let Err(failure) = reacts(result, 1) {
         drop(session);

@@ -25,7 +25,7 @@ use Rattle.message_routes.specs.declared.destinations.Route.{Route}
 use Rattle.message_routes.specs.declared.destinations.Route.TheVariants as routes
 use Rattle.mqtt_message.specs.Expiry.{IsBefore}
 use Rattle.replica_store.specs.Making.{put_of, subscribe_of}
-use Rattle.session_laws.specs.Runs.{answers, closes, connects, finishes, queues, takes, ticks}
+use Rattle.session_laws.specs.Runs.{answers, closes, connects, finishes, queues, rooms, takes, ticks}
 use Rattle.session_table.specs.Calls.{leaves, moves, stays}
 use Rattle.node_work.specs.declared.granted.Granted.{Granted}
 use Rattle.node_work.specs.declared.outcome.Output.TheVariants.{Send, Close}
@@ -35,7 +35,7 @@ use Rattle.node_work.specs.declared.counts.Missed.{Missed}
 use Rattle.node_work.specs.declared.counts.Missed.TheVariants.{LaneFull}
 use Rattle.node_work.specs.Doings.{Disconnects, MakesPut, MakesRemove, MakesRemoveBelow, Misses, PutsInLaneBy, Redirects, Removes, RemovesBelow, Routes, RoutesBy, Sends}
 use Rattle.node_work.specs.Held.Bridge.{Left_out, Put, Took}
-use Rattle.node_work.specs.Held.Connections.{Accepted, Closed, Fed, client_at}
+use Rattle.node_work.specs.Held.Connections.{Accepted, Closed, Fed, Roomed, client_at}
 use Rattle.node_work.specs.Held.Feeding.{cut_of}
 use Rattle.node_work.specs.Held.Making.{number_at_end, put_at_end, removal, removal_below}
 use Rattle.node_work.specs.Held.Sessions.{Begun, Over}
@@ -43,12 +43,13 @@ use Rattle.node_work.specs.Packets.{moved_packet, refused_packet}
 use Rattle.node_work.specs.Passing.{content_given, turn_at_end}
 use Rattle.node_work.specs.View.{ConnectionView}
 use Rattle.node_work.specs.Working.{Each, Returns, Looks, FindsWhere, Then}
-use Rattle.node_clients.specs.Connecting.{Accepts, AcceptsAs, BeginsSession, Cleans, ComesHome, Connects, ConnectsAt, ConnectsBy, Joins, JoinsBy, Names, NamesBy, Refers, RefusesConnect, SendsIf, TakesOver, TakesOverFrom, WillIsNamed, connect_refusal}
+use Rattle.node_clients.specs.Connecting.{Accepts, AcceptsAs, BeginsSession, Cleans, ComesHome, Connects, ConnectsAt, ConnectsBy, Joins, JoinsBy, JoinsIn, Names, NamesBy, Refers, RefusesConnect, SendsIf, TakesOver, TakesOverFrom, WillIsNamed, connect_refusal}
 use Rattle.node_clients.specs.Ending.{ClosesConnection, ClosesAfter, ClosesBy, ClosesFor, DoesDueOf, EndsSession, Finishes, FollowsReaction, IsAtHome, Parts, PassesAsked, RemovesFor, RemovesOwn, Ticks, TicksIf}
 use Rattle.node_clients.specs.Moving.{MovesAway, PartsOn, PartsWays, RedirectsBy, RedirectsHome, RedirectsTo}
 use Rattle.node_clients.specs.Naming.{IsNextNumber}
 use Rattle.node_clients.specs.Passing.{AreMade, Copies, CopiesAt, Drops, IsHandedOver, Made, MakesCopies, Passes, PassesWill, Retains, TakesCopies, TakesForward}
 use Rattle.node_clients.specs.Pieces.{AnswersPacket, AnswersPacketBy, AnswersIfOpen, Breaks, BreaksBy, BreaksIfOpen, Feeds, AnswersFirstPacket, Leaves, LeavesBy, PartsBy, Piece, PieceAt, SendsDisconnect, SendsRefusal, Shuts, TakesPackets, TellsBy, connack_code, disconnect_code}
+use Rattle.node_clients.specs.Rooms.{GivesRoom, MakesRoom, MakesRoomBy}
 use Rattle.node_clients.specs.Serving.{DoesAsked, DoesReaction, ServesPacket, ServesIn, SubscribesBy, UnsubscribesBy, is_dropped}
 use Rattle.node_clients.specs.Subscribing.{AreOffers, Grants, GrantsBy, Offers, OffersAfter, OffersEach, OffersOne, ServesSubscribe, SubscribesTo, subscription_entry, granted, identifier_of, granted_reasons, filter_refused}
 use Rattle.node_clients.specs.Subscribing as subscribing
@@ -291,15 +292,18 @@ cleans_determined : (clean : Bool) (client : List ℕ) → Determined (Cleans cl
 cleans_determined false client = returns_determined tt
 cleans_determined true client = looks_determined _ _ (λ has. if_determined has (Finishes client) (Returns tt) (finishes_determined client) (returns_determined tt))
 
-joins_by_determined : (has : Bool) (c : ℕ) (client : List ℕ) (p : Connect) → Determined (JoinsBy has c client p)
-joins_by_determined true c client p = calls_determined client (connects p true) (moves c)
-joins_by_determined false c client p =
-    then_determined _ (λ _. Calls client (connects p false) (moves c)) (acting_determined (λ place h. Session (Begun client))) (λ _. calls_determined client (connects p false) (moves c))
+joins_by_determined : (has : Bool) (c : ℕ) (client : List ℕ) (p : Connect) (room : Option ℕ) → Determined (JoinsBy has c client p room)
+joins_by_determined true c client p room = calls_determined client (connects p true room) (moves c)
+joins_by_determined false c client p room =
+    then_determined _ (λ _. Calls client (connects p false room) (moves c)) (acting_determined (λ place h. Session (Begun client))) (λ _. calls_determined client (connects p false room) (moves c))
+
+joins_determined : (c : ℕ) (client : List ℕ) (p : Connect) → Determined (Joins c client p)
+joins_determined c client p = looks_determined _ (JoinsIn c client p) (λ room. looks_determined _ (λ has. JoinsBy has c client p room) (λ has. joins_by_determined has c client p room))
 
 begins_determined : (c : ℕ) (client : List ℕ) (p : Connect) → Determined (BeginsSession c client p)
 begins_determined c client p =
     then_determined _ (λ _. Then (Joins c client p) (λ r. ClosesAfter r.end c client)) (acting_determined (λ place h. Connection (Accepted c client)))
-    (λ _. then_determined (Joins c client p) (λ r. ClosesAfter r.end c client) (looks_determined _ (λ has. JoinsBy has c client p) (λ has. joins_by_determined has c client p)) (λ r. closes_after_determined r.end c client))
+    (λ _. then_determined (Joins c client p) (λ r. ClosesAfter r.end c client) (joins_determined c client p) (λ r. closes_after_determined r.end c client))
 
 accepts_determined : (c : ℕ) (p : Connect) (client : List ℕ) → Determined (Accepts c p client)
 accepts_determined c p client =
@@ -409,6 +413,20 @@ pub leaves_determined : (c : ℕ) → Determined (Leaves c)
 leaves_determined c =
     looks_determined _ _
     (λ is_there. if_determined is_there (Looks (λ p h. client_at c h) (LeavesBy c)) (Returns tt) (looks_determined _ (LeavesBy c) (leaves_by_determined c)) (returns_determined tt))
+
+-- ---- room
+
+gives_room_determined : (bytes : ℕ) (client : List ℕ) → Determined (GivesRoom bytes client)
+gives_room_determined bytes client = then_determined _ (λ _. Returns tt) (calls_determined client (rooms bytes) stays) (λ _. returns_determined tt)
+
+makes_room_by_determined : (c bytes : ℕ) (client : Option (List ℕ)) → Determined (MakesRoomBy c bytes client)
+makes_room_by_determined c bytes None = acting_determined (λ p h. Connection (Roomed c bytes))
+makes_room_by_determined c bytes (Some client) = gives_room_determined bytes client
+
+pub makes_room_determined : (c bytes : ℕ) → Determined (MakesRoom c bytes)
+makes_room_determined c bytes =
+    looks_determined _ _
+    (λ is_there. if_determined is_there (Looks (λ p h. client_at c h) (MakesRoomBy c bytes)) (Returns tt) (looks_determined _ (MakesRoomBy c bytes) (makes_room_by_determined c bytes)) (returns_determined tt))
 
 -- ---- a client goes whose home is elsewhere
 

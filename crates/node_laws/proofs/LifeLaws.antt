@@ -10,7 +10,7 @@ use Rattle.session_laws.proofs.ReopenedLaws.{reopens}
 use Rattle.session_table.specs.Seats.{Seat, Seats, begun}
 use Rattle.finite_maps.proofs.Texts.{same_text, get_inserted, get_apart, get_removed, get_left}
 use Rattle.node_work.specs.Acts.{Act, MomentTaken, Began, Moved, Store, Connection, Session, Bridge, Out, Named, Acknowledged, Passed, Dropped, Allowed, next}
-use Rattle.node_work.specs.Held.Connections.{ConnectionAct, Opened, Fed, Accepted, Closed}
+use Rattle.node_work.specs.Held.Connections.{ConnectionAct, Opened, Fed, Roomed, Accepted, Closed}
 use Rattle.node_work.specs.Held.Bridge.{BridgeAct, Put, Took, Got, Believed, Gave, Left_out, bridged}
 use Rattle.node_work.specs.Held.Sessions.{SessionAct, SessionStep, Begun, Called, Over, MayCall, called}
 use Rattle.node_work.specs.Lasting.{lasting, IsWoken}
@@ -62,6 +62,7 @@ lived_call h (Over other) lives may lived client seat is = ends lives h.sessions
 lived_connection : (h : HeldView) (a : ConnectionAct) (lives : List ℕ → List Step) → IsLived lives h → IsLived lives (next h (Connection a))
 lived_connection h (Opened c) lives lived = lived
 lived_connection h (Fed c piece) lives lived = lived
+lived_connection h (Roomed c bytes) lives lived = lived
 lived_connection h (Accepted c client) lives lived = lived
 lived_connection h (Closed c) lives lived = lived
 

@@ -13,6 +13,7 @@ abbrev pub kind_of : ToldKind → EventKind
 kind_of told.Started = kinds.Started
 kind_of (told.Opened connection) = kinds.Opened connection
 kind_of (told.Piece connection bytes) = kinds.Piece connection bytes.items
+kind_of (told.Room connection bytes) = kinds.Room connection bytes
 kind_of (told.Closed connection) = kinds.Closed connection
 kind_of told.Tick = kinds.Tick
 

@@ -23,6 +23,7 @@ fn kind_of(kind: ToldKind) -> EventKind
             connection,
             bytes: Bytes::new(bytes),
         },
+        ToldKind::Room { connection, bytes } => EventKind::Room { connection, bytes },
         ToldKind::Closed { connection } => EventKind::Closed { connection },
         ToldKind::Tick => EventKind::Tick,
     }

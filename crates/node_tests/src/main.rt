@@ -32,6 +32,8 @@ mod refusals;
 #[cfg(test)]
 mod retained;
 #[cfg(test)]
+mod rooms;
+#[cfg(test)]
 mod tables;
 #[cfg(test)]
 mod trial;

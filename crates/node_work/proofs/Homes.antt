@@ -3,13 +3,14 @@ use Rattle.std.proofs.Common.{◌≡◌, List, [], ◌∷◌, ◌++◌, refl, sy
 use Rattle.home_table.specs.Table.{Table, IsTable}
 use Rattle.node_work.specs.Acts.{Act, MomentTaken, Began, Moved, Store, Connection, Session, Bridge, Out, Named, Acknowledged, Passed, Dropped, Allowed, Runs, gather, moved_in, next}
 use Rattle.node_work.specs.Held.Bridge.{BridgeAct, Put, Took, Got, Believed, Gave, Left_out, bridged}
-use Rattle.node_work.specs.Held.Connections.{ConnectionAct, Opened, Fed, Accepted, Closed, after_connection_act}
+use Rattle.node_work.specs.Held.Connections.{ConnectionAct, Opened, Fed, Roomed, Accepted, Closed, after_connection_act}
 use Rattle.node_work.specs.Held.Sessions.{SessionAct, Begun, Called, Over, called}
 use Rattle.node_work.specs.View.{Place, HeldView}
 
 connection_homes : (h : HeldView) (a : ConnectionAct) → (after_connection_act h a).homes ≡ h.homes
 connection_homes h (Opened c) = refl
 connection_homes h (Fed c piece) = refl
+connection_homes h (Roomed c bytes) = refl
 connection_homes h (Accepted c client) = refl
 connection_homes h (Closed c) = refl
 

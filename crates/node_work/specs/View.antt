@@ -28,10 +28,11 @@ nodes_of p = p.nodes
 abbrev pub place_of : ℕ → Table → Place
 place_of id homes = record { id = id; nodes = length homes.nodes }
 
--- a connection: what its framer holds, and its client once that is accepted
+-- a connection: what its framer holds, its client once that is accepted, and how many bytes of PUBLISHes it takes, where it was told before that
 pub record ConnectionView : Type 0 where
   pub stream : Held
   pub client : Option (List ℕ)
+  pub room : Option ℕ
 
 -- what a running node holds: the greatest moment that it was handed, whether it has started, the table of homes that it took last, the replicated
 -- state, the open connections by their numbers, the sessions by their clients, what it keeps for the other nodes, how many messages
@@ -88,7 +89,9 @@ abbrev pub coded_stream : Coded Held
 coded_stream = code_by (ℕ × (List ℕ × Bool)) (coded× coded_ℕ (coded× (coded_list coded_ℕ) coded_bool)) (λ s. (s.limit, (s.rest, s.failed))) (λ p. record { limit = p.0; rest = p.1.0; failed = p.1.1 }) (λ _. refl)
 
 abbrev pub coded_connection : Coded ConnectionView
-coded_connection = code_by (Held × Option (List ℕ)) (coded× coded_stream (coded_option (coded_list coded_ℕ))) (λ c. (c.stream, c.client)) (λ p. record { stream = p.0; client = p.1 }) (λ _. refl)
+coded_connection =
+    code_by (Held × (Option (List ℕ) × Option ℕ)) (coded× coded_stream (coded× (coded_option (coded_list coded_ℕ)) (coded_option coded_ℕ)))
+    (λ c. (c.stream, (c.client, c.room))) (λ p. record { stream = p.0; client = p.1.0; room = p.1.1 }) (λ _. refl)
 
 abbrev pub coded_counts : Coded Counts
 coded_counts =

@@ -10,7 +10,7 @@ ghost use Rattle.mqtt_message.specs.declared.message.Message.{Message};
 ghost use Rattle.mqtt_sessions.specs.State.{IsPublishableIf};
 ghost use Rattle.mqtt_sessions.specs.Reaction.{packet_of};
 ghost use Rattle.mqtt_sessions.specs.Reaction as reactions;
-ghost use Rattle.session_laws.specs.Runs.{connects, queues, takes, answers, closes, ticks, finishes};
+ghost use Rattle.session_laws.specs.Runs.{connects, queues, rooms, takes, answers, closes, ticks, finishes};
 ghost use Rattle.subscription_set.specs.Standing.{any_of, any_below};
 ghost use Rattle.node_work.specs.Acts.{Began, Connection, Store, Merged, Session, Out, Named, Acknowledged, Passed, Dropped, Moved, MayMove, AreAnswers};
 ghost use Rattle.node_work.specs.Calling.{Calls};
@@ -20,7 +20,7 @@ ghost use Rattle.node_work.specs.Held.Calling.{MayConnectHere, MayAnswer, Reacte
 ghost use Rattle.mqtt_sessions.specs.Reaction.{AreSpelled};
 ghost use Rattle.session_table.specs.Calls.{IsSpelledIf, stays, leaves, moves, reaction_of};
 ghost use Rattle.session_table.specs.Rows.{own_kind};
-ghost use Rattle.node_work.specs.Held.Connections.{Opened, Accepted, Closed, is_open};
+ghost use Rattle.node_work.specs.Held.Connections.{Opened, Roomed, Accepted, Closed, IsWaiting, is_open};
 ghost use Rattle.node_work.specs.Held.Feeding.{IsHeldFed};
 ghost use Rattle.node_work.specs.Held.Sessions.{Begun, Over, has_session, packet_output, end_outputs, outputs_on};
 ghost use Rattle.node_work.specs.Packets.{CameSpelled};
@@ -307,6 +307,17 @@ impl Work {
         self.held.feed(connection, piece)
     }
 
+    /// Keeps how many bytes of PUBLISHes a connection takes that waits for its CONNECT. It takes no memory.
+    pub fn keep_room(&mut self, connection: u64, bytes: u64) -> Result<(), NodeFault>
+        requires { IsWaiting connection self.old.held }
+        ensures comes { ComesTo (λ x. x) result self.old self.new (Acting (λ p h. Connection (Roomed connection bytes))) }
+        ensures same { self.new.changes ≡ self.old.changes }
+        ensures done { result ≡ Ok tt }
+    {
+        self.held.keep_room(connection, bytes);
+        Ok(())
+    }
+
     /// Gives an open connection its client.
     pub fn accept(&mut self, connection: u64, client: &Text) -> Result<(), NodeFault>
         ensures comes { ComesTo (λ x. x) result self.old self.new (Acting (λ p h. Connection (Accepted connection client.now))) }
@@ -546,21 +557,27 @@ impl Work {
         self.put_out(connection, &packet)
     }
 
-    /// The beginning of a connection of a client's session.
+    /// The beginning of a connection of a client's session, which takes so many bytes of PUBLISHes, where that is counted.
     pub fn connect(
         &mut self,
         client: &Text,
         connection: u64,
         connect: &Connect,
         continued: bool,
+        room: Option<u64>,
     ) -> Result<Reaction, NodeFault>
         requires continued { MayConnectHere client.now continued self.old.held.sessions }
         requires will { IsPublishableIf connect.now.will }
-        ensures { ComesTo (λ x. x) result self.old self.new (Calls client.now (connects connect.now continued) (moves connection)) }
+        ensures { ComesTo (λ x. x) result self.old self.new (Calls client.now (connects connect.now continued room) (moves connection)) }
     {
-        let called = self
-            .held
-            .connect(client, connection, connect, continued, &mut self.changes);
+        let called = self.held.connect(
+            client,
+            connection,
+            connect,
+            continued,
+            room,
+            &mut self.changes,
+        );
         self.react(called)
     }
 
@@ -569,6 +586,14 @@ impl Work {
         ensures { ComesTo (λ x. x) result self.old self.new (Calls client.now (queues delivery) stays) }
     {
         let called = self.held.queue(client, delivery, &mut self.changes);
+        self.react(called)
+    }
+
+    /// A client's connection takes so many bytes of PUBLISHes from now on.
+    pub fn make_room(&mut self, client: &Text, bytes: u64) -> Result<Reaction, NodeFault>
+        ensures { ComesTo (λ x. x) result self.old self.new (Calls client.now (rooms bytes) stays) }
+    {
+        let called = self.held.make_room(client, bytes, &mut self.changes);
         self.react(called)
     }
 

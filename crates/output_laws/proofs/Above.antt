@@ -11,7 +11,7 @@ use Rattle.mqtt_sessions.specs.Answers.{disconnect, fits}
 use Rattle.mqtt_sessions.specs.Reaction.{Reaction}
 use Rattle.mqtt_sessions.specs.State.{limit_in}
 use Rattle.home_table.specs.Table.{Table}
-use Rattle.session_laws.specs.Runs.{connects, answers, closes}
+use Rattle.session_laws.specs.Runs.{connects, rooms, answers, closes}
 use Rattle.session_table.specs.Calls.{stays, leaves, moves}
 use Rattle.session_table.specs.Seats.{wills_due, ends_due, connected}
 use Rattle.node_work.specs.declared.counts.Missed.TheVariants.{TableRefused}
@@ -20,7 +20,7 @@ use Rattle.node_work.specs.declared.outcome.Output.TheVariants.{Close}
 use Rattle.node_work.specs.Acts.{Began, Moved, Connection, Session, Out, Named}
 use Rattle.node_work.specs.Calling.{Calls}
 use Rattle.node_work.specs.Doings.{Sends, Disconnects, Misses, OpensConnection, Redirects}
-use Rattle.node_work.specs.Held.Connections.{Opened, Accepted, Closed, Fed, is_open, client_at, first_at}
+use Rattle.node_work.specs.Held.Connections.{Opened, Accepted, Roomed, Closed, Fed, is_open, client_at, first_at, room_at}
 use Rattle.node_work.specs.Held.Feeding.{cut_of}
 use Rattle.node_work.specs.Held.Sessions.{Begun, takes_disconnect, takes_packet, connection_at, has_session}
 use Rattle.node_work.specs.Packets.{moved_packet, refused_packet}
@@ -31,6 +31,7 @@ use Rattle.node_clients.specs.Ending as ending
 use Rattle.node_clients.specs.Moving as moving
 use Rattle.node_clients.specs.Naming.{IsNextNumber, automatic}
 use Rattle.node_clients.specs.Pieces as pieces
+use Rattle.node_clients.specs.Rooms as giving
 use Rattle.node_clients.specs.Serving as serving
 use Rattle.node_clients.specs.Subscribing as subscribing
 use Rattle.node_clients.specs.Unsubscribing as unsubscribing
@@ -46,8 +47,9 @@ pub record High (K : (A : Type 0) → (Option A → Doing) → Type 0) : Type 0 
   pub close : (c : ℕ) → K (Unit {0}) (Acting (λ p h. Out (Close c)))
   pub fed : (c : ℕ) (piece : List ℕ) → K (Unit {0}) (Acting (λ p h. Connection (Fed c piece)))
   pub accepted : (c : ℕ) (client : List ℕ) → K (Unit {0}) (Acting (λ p h. Connection (Accepted c client)))
+  pub roomed : (c bytes : ℕ) → K (Unit {0}) (Acting (λ p h. Connection (Roomed c bytes)))
   pub begun : (client : List ℕ) → K (Unit {0}) (Acting (λ p h. Session (Begun client)))
-  pub joined : (c : ℕ) (client : List ℕ) (q : Connect) (continued : Bool) → K Reaction (Calls client (connects q continued) (moves c))
+  pub joined : (c : ℕ) (client : List ℕ) (q : Connect) (continued : Bool) (room : Option ℕ) → K Reaction (Calls client (connects q continued room) (moves c))
   pub named : (number : ℕ) → K (Unit {0}) (Acting (λ p h. Named number))
   pub began : K (Unit {0}) (Acting (λ p h. Began))
   pub moved : (homes : Table) → K (Unit {0}) (Acting (λ p h. Moved homes))
@@ -135,15 +137,18 @@ module _ (K : (A : Type 0) → (Option A → Doing) → Type 0) (w : Low K) (a :
   cleans true client =
       w.looks (λ p h. has_session client h) (λ has. If has (ending.Finishes client) (Returns tt)) (λ has. w.by_test has (ending.Finishes client) (Returns tt) (a.finishes_of client) (w.returns tt))
 
-  joins : (continued : Bool) (c : ℕ) (client : List ℕ) (p : Connect) → K Reaction (connecting.JoinsBy continued c client p)
-  joins true c client p = a.joined c client p true
-  joins false c client p =
-      w.join (Acting (λ place h. Session (Begun client))) (λ _. Calls client (connects p false) (moves c)) (a.begun client) (λ _. a.joined c client p false)
+  joins : (continued : Bool) (c : ℕ) (client : List ℕ) (p : Connect) (room : Option ℕ) → K Reaction (connecting.JoinsBy continued c client p room)
+  joins true c client p room = a.joined c client p true room
+  joins false c client p room =
+      w.join (Acting (λ place h. Session (Begun client))) (λ _. Calls client (connects p false room) (moves c)) (a.begun client) (λ _. a.joined c client p false room)
+
+  joins_in : (c : ℕ) (client : List ℕ) (p : Connect) (room : Option ℕ) → K Reaction (connecting.JoinsIn c client p room)
+  joins_in c client p room = w.looks (λ place h. has_session client h) (λ has. connecting.JoinsBy has c client p room) (λ has. joins has c client p room)
 
   begins : (c : ℕ) (client : List ℕ) (p : Connect) → Does (connecting.BeginsSession c client p)
   begins c client p =
       w.join (Acting (λ place h. Connection (Accepted c client))) (λ _. Then (connecting.Joins c client p) (λ r. ending.ClosesAfter r.end c client)) (a.accepted c client) (λ _.
-      w.join (connecting.Joins c client p) (λ r. ending.ClosesAfter r.end c client) (w.looks (λ place h. has_session client h) (λ has. connecting.JoinsBy has c client p) (λ has. joins has c client p)) (λ r. closes_after r.end c client))
+      w.join (connecting.Joins c client p) (λ r. ending.ClosesAfter r.end c client) (w.looks (λ place h. room_at c h) (connecting.JoinsIn c client p) (joins_in c client p)) (λ r. closes_after r.end c client))
 
   accepts : (c : ℕ) (p : Connect) (client : List ℕ) → Does (connecting.Accepts c p client)
   accepts c p client =
@@ -237,6 +242,16 @@ module _ (K : (A : Type 0) → (Option A → Doing) → Type 0) (w : Low K) (a :
   leaves_of c =
       let there : Option (Unit {0}) → Doing = Looks (λ p h. client_at c h) (pieces.LeavesBy c) in
       w.looks (λ p h. is_open c h) (λ is. If is there (Returns tt)) (λ is. w.by_test is there (Returns tt) (w.looks (λ p h. client_at c h) (pieces.LeavesBy c) (leaves_by c)) (w.returns tt))
+
+  -- ---- room for PUBLISHes
+  makes_room_by : (c bytes : ℕ) (client : Option (List ℕ)) → Does (giving.MakesRoomBy c bytes client)
+  makes_room_by c bytes None = a.roomed c bytes
+  makes_room_by c bytes (Some client) = w.join (Calls client (rooms bytes) stays) (λ _. Returns tt) (w.calls client (rooms bytes) stays (λ at. tt)) (λ _. w.returns tt)
+
+  pub makes_room : (c bytes : ℕ) → Does (giving.MakesRoom c bytes)
+  makes_room c bytes =
+      let there : Option (Unit {0}) → Doing = Looks (λ p h. client_at c h) (giving.MakesRoomBy c bytes) in
+      w.looks (λ p h. is_open c h) (λ is. If is there (Returns tt)) (λ is. w.by_test is there (Returns tt) (w.looks (λ p h. client_at c h) (giving.MakesRoomBy c bytes) (makes_room_by c bytes)) (w.returns tt))
 
   -- ---- what is due
   pub does_due : Does due.DoesDue

@@ -146,13 +146,13 @@ module _ (h : HeldView) (c : ℕ) (client : List ℕ) (on : SessionsAreOnTheirs 
       ap (option_and_then (λ (v : ConnectionView). v.client)) (others_stay n (λ e. none_some (sym is.bare ∙ ap (λ k. client_at k h) (sym e) ∙ there))) ∙ there
 
 -- its session's call on this connection
-joined_at : (kind : EventKind) (pre : List Act) (c : ℕ) (client : List ℕ) (q : Connect) (continued : Bool) (found : Option Seat) (r : Reaction) (p : Place) (h h' : HeldView) (acts : List Act) → SessionsAreOnTheirs h → client_at c h ≡ Some client
-    → CallsAt client (connects q continued) (moves c) found (Some r) p h acts → Runs p h acts h' → Calmly kind pre p h h' acts
-joined_at kind pre c client q continued None r p h h' acts on has d runs =
+joined_at : (kind : EventKind) (pre : List Act) (c : ℕ) (client : List ℕ) (q : Connect) (continued : Bool) (room : Option ℕ) (found : Option Seat) (r : Reaction) (p : Place) (h h' : HeldView) (acts : List Act) → SessionsAreOnTheirs h → client_at c h ≡ Some client
+    → CallsAt client (connects q continued room) (moves c) found (Some r) p h acts → Runs p h acts h' → Calmly kind pre p h h' acts
+joined_at kind pre c client q continued room None r p h h' acts on has d runs =
     let s = nothing_right kind pre p h h' acts d.1 runs in record { right = s.0; kept = record { connections = ap (λ (v : HeldView). v.connections) s.1; on = subst SessionsAreOnTheirs (sym s.1) on } }
-joined_at kind pre c client q continued (Some seat) r p h h' acts on has (inl d) runs = none_some (sym d.0)
-joined_at kind pre c client q continued (Some seat) r p h h' acts on has (inr (answer, after, is, reacts, acts_are)) runs =
-    let s : SessionStep = record { client = client; on = Some c; at = h.at; event = connects q continued h.at; reaction = answer; after = after } in
+joined_at kind pre c client q continued room (Some seat) r p h h' acts on has (inl d) runs = none_some (sym d.0)
+joined_at kind pre c client q continued room (Some seat) r p h h' acts on has (inr (answer, after, is, reacts, acts_are)) runs =
+    let s : SessionStep = record { client = client; on = Some c; at = h.at; event = connects q continued room h.at; reaction = answer; after = after } in
     let right : (n : ℕ) → s.on ≡ Some n → client_at n h ≡ Some client = λ n e. (let same : c ≡ n = (let z : Some c ≡ Some n = e in cc) in subst (λ k. client_at k h ≡ Some client) same has) in
     let left : h' ≡ next h (Session (Called s)) = left_by p h h' (Session (Called s)) acts acts_are runs in
     record { right = right_again kind pre p h (Session (Called s) ∷ []) acts acts_are (right_one kind pre p h (Session (Called s)) right); kept = subst (Kept h) (sym left) (called_kept h s on right) }
@@ -164,20 +164,20 @@ pub record Joined (kind : EventKind) (pre : List Act) (p : Place) (c : ℕ) (cli
   pub is : acts ≡ earlier ++ own
   pub react : Reacted own client r
 
-pub joins : (kind : EventKind) (pre : List Act) (continued : Bool) (c : ℕ) (client : List ℕ) (q : Connect) (r : Reaction) (p : Place) (h h' : HeldView) (acts : List Act) → SessionsAreOnTheirs h → client_at c h ≡ Some client
-    → connecting.JoinsBy continued c client q (Some r) p h acts → Runs p h acts h' → Joined kind pre p c client r h h' acts
-joins kind pre true c client q r p h h' acts on has d runs = record {
-  calm = joined_at kind pre c client q true (seat_at client h) r p h h' acts on has d runs;
+pub joins : (kind : EventKind) (pre : List Act) (continued : Bool) (c : ℕ) (client : List ℕ) (q : Connect) (room : Option ℕ) (r : Reaction) (p : Place) (h h' : HeldView) (acts : List Act) → SessionsAreOnTheirs h → client_at c h ≡ Some client
+    → connecting.JoinsBy continued c client q room (Some r) p h acts → Runs p h acts h' → Joined kind pre p c client r h h' acts
+joins kind pre true c client q room r p h h' acts on has d runs = record {
+  calm = joined_at kind pre c client q true room (seat_at client h) r p h h' acts on has d runs;
   earlier = [];
   own = acts;
   is = refl;
-  react = reacted client (connects q true) (moves c) (seat_at client h) r p h acts d;
+  react = reacted client (connects q true room) (moves c) (seat_at client h) r p h acts d;
 }
-joins kind pre false c client q r p h h' acts on has (inl d) runs = none_some (sym d.0)
-joins kind pre false c client q r p h h' acts on has (inr (y, own, mid, rest, one, ran, more, is)) runs =
+joins kind pre false c client q room r p h h' acts on has (inl d) runs = none_some (sym d.0)
+joins kind pre false c client q room r p h h' acts on has (inr (y, own, mid, rest, one, ran, more, is)) runs =
     let first = calmly kind pre p own h mid (subst (AllByRecursion IsCalm) (sym one.1) (tt, tt)) on ran in
     let there : client_at c mid ≡ Some client = ap (λ (m : ConnectionTable). client_at c (record h { connections = m })) first.kept.connections ∙ has in
-    let second = joined_at kind (pre ++ own) c client q false (seat_at client mid) r p mid h' rest first.kept.on there more (second_runs p h mid h' own rest acts is ran runs) in
+    let second = joined_at kind (pre ++ own) c client q false room (seat_at client mid) r p mid h' rest first.kept.on there more (second_runs p h mid h' own rest acts is ran runs) in
     record {
       calm = record {
         right = right_again kind pre p h (own ++ rest) acts is (right_both kind pre p h mid own rest ran first.right second.right);
@@ -186,5 +186,5 @@ joins kind pre false c client q r p h h' acts on has (inr (y, own, mid, rest, on
       earlier = own;
       own = rest;
       is = is;
-      react = reacted client (connects q false) (moves c) (seat_at client mid) r p mid rest more;
+      react = reacted client (connects q false room) (moves c) (seat_at client mid) r p mid rest more;
     }

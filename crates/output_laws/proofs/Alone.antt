@@ -31,7 +31,7 @@ use Rattle.output_laws.proofs.Joining.{All, Closed, all_closed, j_returns, j_sto
 
 -- a call that begins no connection
 abbrev pub IsCalmCall : Event → Type 0
-IsCalmCall (connects q continued now) = ⊥
+IsCalmCall (connects q continued room now) = ⊥
 IsCalmCall e = Unit {0}
 
 -- the acts of work on sessions and messages are of the kind
@@ -65,7 +65,7 @@ module _ (Q : Act → Type 0) (k : Kind Q) where
   calling client event on calm = j_calls (All Q) c client event on (λ p h s is. (k.called s (subst IsCalmCall (sym is) (calm h.at)), tt))
 
   small_calm : (e : Event) → IsSmall e → IsCalmCall e
-  small_calm (connects q continued now) small = small
+  small_calm (connects q continued room now) small = small
   small_calm e small = tt
 
   pub low : Low K

@@ -13,7 +13,7 @@ use Rattle.node_work.specs.declared.counts.Missed.{Missed}
 use Rattle.node_work.specs.declared.counts.Missed.TheVariants.{LaneFull, BadFrame, FrameTooLarge, TableRefused}
 use Rattle.node_work.specs.Acts.{Act, MomentTaken, Began, Moved, Store, Connection, Session, Bridge, Out, Named, Acknowledged, Passed, Dropped, Made, Merged, Runs, next}
 use Rattle.node_work.specs.Held.Bridge.{BridgeAct, Put, Took, Got, Believed, Gave, Left_out, bridged, missed}
-use Rattle.node_work.specs.Held.Connections.{ConnectionAct, Opened, Fed, Accepted, Closed, after_connection_act}
+use Rattle.node_work.specs.Held.Connections.{ConnectionAct, Opened, Fed, Accepted, Roomed, Closed, after_connection_act}
 use Rattle.node_work.specs.Held.Sessions.{SessionAct, Begun, Called, Over, called, counted}
 use Rattle.node_work.specs.View.{Place, HeldView, fresh}
 use Rattle.node_laws.specs.Moves.{Move, Acted, Reopened, Moves}
@@ -41,6 +41,7 @@ connection_bridge : (h : HeldView) (a : ConnectionAct) → (after_connection_act
 connection_bridge h (Opened c) = refl
 connection_bridge h (Fed c piece) = refl
 connection_bridge h (Accepted c client) = refl
+connection_bridge h (Roomed c bytes) = refl
 connection_bridge h (Closed c) = refl
 
 session_bridge : (h : HeldView) (a : SessionAct) → (called h a).bridge ≡ h.bridge
@@ -87,6 +88,7 @@ connection_counts : (h : HeldView) (a : ConnectionAct) → (after_connection_act
 connection_counts h (Opened c) = refl
 connection_counts h (Fed c piece) = refl
 connection_counts h (Accepted c client) = refl
+connection_counts h (Roomed c bytes) = refl
 connection_counts h (Closed c) = refl
 
 full_counted : (full : Bool) (c : Counts) → (counted full c).bad_frames ≡ c.bad_frames

@@ -16,7 +16,7 @@ use Rattle.mqtt_sessions.specs.declared.reaction.Ask.TheVariants as asks
 use Rattle.mqtt_sessions.specs.Reaction.{Reaction}
 use Rattle.node_bridge.specs.View.{offer_to}
 use Rattle.replica_store.specs.declared.content.Content.{Content}
-use Rattle.session_laws.specs.Runs.{Event, queues, answers, closes}
+use Rattle.session_laws.specs.Runs.{Event, queues, rooms, answers, closes}
 use Rattle.session_table.specs.Calls.{stays}
 use Rattle.subscription_set.specs.declared.entry.Entry.{Entry}
 use Rattle.subscription_set.specs.Standing.{any_of, any_below}
@@ -39,6 +39,7 @@ use Rattle.broker_node.specs.Turns as turns
 -- an event of a session that neither begins a connection nor takes a packet, and by which no session ends
 abbrev pub IsSmall : Event → Type 0
 IsSmall (queues d now) = Unit {0}
+IsSmall (rooms bytes now) = Unit {0}
 IsSmall (answers id codes) = Unit {0}
 IsSmall (closes now) = Unit {0}
 IsSmall e = ⊥

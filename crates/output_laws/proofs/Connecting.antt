@@ -4,7 +4,7 @@ use Rattle.std.proofs.lemmas.List.{append-nil}
 use Rattle.std.specs.FinMap as map
 use Rattle.mqtt_packets.specs.declared.connect.Connect.{Connect}
 use Rattle.node_work.specs.Acts.{Act, Connection, Named, Runs, next}
-use Rattle.node_work.specs.Held.Connections.{ConnectionTable, Accepted, client_at}
+use Rattle.node_work.specs.Held.Connections.{ConnectionTable, Accepted, client_at, room_at}
 use Rattle.node_work.specs.Held.Sessions.{connection_at, has_session}
 use Rattle.node_work.specs.View.{Place, HeldView}
 use Rattle.node_work.specs.Working.{If}
@@ -34,7 +34,7 @@ module _ (kind : EventKind) (c : ℕ) (bytes : List ℕ) (event : kind ≡ kinds
         ends = record { on = there; others = λ n ne. ap (λ (v : HeldView). map.get v.connections n) left ∙ others_stay h c client on is n ne };
       } in
       let later = second_runs p h mid h' own rest acts all ran runs in
-      let j = joins kind (pre ++ own) (has_session client mid) c client q r p mid mid2 own2 there has two ran2 in
+      let j = joins kind (pre ++ own) (has_session client mid) c client q (room_at c mid) r p mid mid2 own2 there has two ran2 in
       let still : client_at c mid2 ≡ Some client = ap (λ (m : ConnectionTable). client_at c (record mid { connections = m })) j.calm.kept.connections ∙ has in
       let why : (code : ℕ) → r.end ≡ Some code → WhyClosed kind p ((pre ++ own) ++ own2) mid2 c = λ code ends. (
       let w : WhyClosed kind p ((((pre ++ own) ++ j.earlier) ++ j.own) ++ []) mid2 c = ended_by kind p ((pre ++ own) ++ j.earlier) j.own [] mid2 c client r code still j.react ends in

@@ -8,7 +8,7 @@ use Rattle.std.specs.List.{AllByRecursion}
 use Rattle.std.specs.Ordering.{eq_by_cmp, nat_cmp}
 use Rattle.finite_maps.proofs.Tables as tables
 use Rattle.finite_maps.proofs.Texts.{same_text, get_inserted, get_apart, get_removed, get_left}
-use Rattle.session_laws.specs.Runs.{Event, connects, queues, takes, answers, closes, ticks, finishes, loses}
+use Rattle.session_laws.specs.Runs.{Event, connects, queues, rooms, takes, answers, closes, ticks, finishes, loses}
 use Rattle.session_table.specs.Listing.{text_cmp}
 use Rattle.session_table.specs.Seats.{Seat, begun}
 use Rattle.node_work.specs.Acts.{Act, Connection, Session, Bridge, Out, Allowed, Runs, next}
@@ -151,8 +151,9 @@ bridge_kept h (Left_out what) on = record { connections = refl; on = on }
 
 -- the connection of a call that begins none is the one before, or none
 was_on : (e : Event) (before on : Option ℕ) (c : ℕ) → IsCalmCall e → IsOn e before on → on ≡ Some c → before ≡ Some c
-was_on (connects q continued now) before on c calm is at = absurd calm
+was_on (connects q continued room now) before on c calm is at = absurd calm
 was_on (queues d now) before on c calm is at = sym is ∙ at
+was_on (rooms bytes now) before on c calm is at = sym is ∙ at
 was_on (takes k now room) before on c calm is at = sym is ∙ at
 was_on (answers id codes) before on c calm is at = sym is ∙ at
 was_on (closes now) before on c calm is at = absurd (let z : None ≡ Some c = sym is ∙ at in cc)

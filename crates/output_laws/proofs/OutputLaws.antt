@@ -1,5 +1,5 @@
 -- Outputs go to the connections that they are for, in every step.
-use Rattle.std.proofs.Common.{◌≡◌, ◌≢◌, inl, inr, ℕ, Bool, true, false, cond, List, [], ◌∷◌, ◌++◌, Option, Some, None, refl, sym, ap, ◌∙◌, subst}
+use Rattle.std.proofs.Common.{◌≡◌, ◌≢◌, ◌⊎◌, inl, inr, ℕ, Bool, true, false, cond, List, [], ◌∷◌, ◌++◌, Option, Some, None, refl, sym, ap, ◌∙◌, subst}
 use Rattle.std.proofs.lemmas.List.{append-nil}
 use Rattle.std.specs.FinMap as map
 use Rattle.std.specs.List.{AllByRecursion}
@@ -8,24 +8,26 @@ use Rattle.due_times.specs.Dues.{Due}
 use Rattle.mqtt_sessions.specs.Ending.{end_due, has_run_out, is_due, ticked_if, timed_out, will_due}
 use Rattle.mqtt_sessions.specs.Reaction.{Reaction}
 use Rattle.mqtt_sessions.specs.State.{Link, State}
-use Rattle.session_laws.specs.Runs.{closes, ticks}
+use Rattle.session_laws.specs.Runs.{rooms, closes, ticks}
 use Rattle.session_table.specs.Calls.{leaves, stays}
 use Rattle.session_table.specs.Seats.{Seat, connected, ends_due, run_outs, wills_due}
 use Rattle.node_work.specs.Acts.{Act, MomentTaken, Store, Connection, Bridge, Merged, Runs, next}
 use Rattle.node_work.specs.Calling.{Calls, CallsAt}
 use Rattle.node_work.specs.declared.counts.Missed.TheVariants.{BadFrame}
 use Rattle.node_work.specs.Held.Bridge.{Took, Got as GotBy, Believed, Gave, Left_out}
-use Rattle.node_work.specs.Held.Connections.{ConnectionTable, Opened, Closed, client_at, is_open, new_connection}
+use Rattle.node_work.specs.Held.Connections.{ConnectionTable, Opened, Roomed, Closed, changed_at, client_at, is_open, new_connection, with_room}
 use Rattle.node_work.specs.Held.Sessions.{seat_at}
 use Rattle.node_work.specs.View.{Place, HeldView, ConnectionView}
 use Rattle.node_work.specs.Working.{Acting, Doing, Each, If, Looks, Returns, Then}
 use Rattle.node_clients.specs.Pieces as pieces
+use Rattle.node_clients.specs.Rooms as giving
 use Rattle.broker_node.specs.declared.event.Event.{Event}
 use Rattle.broker_node.specs.declared.event.EventKind.{EventKind}
 use Rattle.broker_node.specs.declared.event.EventKind.TheVariants as kinds
 use Rattle.broker_node.specs.Due as due
 use Rattle.broker_node.specs.Moving.{SendsAway}
 use Rattle.broker_node.specs.Turns as turns
+use Rattle.cluster_play.proofs.Bools.{nat_cases}
 use Rattle.passing_laws.proofs.Keeping.{none_some}
 use Rattle.passing_laws.proofs.Splits.{left_by}
 use Rattle.output_laws.specs.Outputs.{SessionsAreOnTheirs, MaySendAway, WhyClosed}
@@ -35,7 +37,7 @@ use Rattle.output_laws.proofs.Between.{Mid, greets, hears, ships}
 use Rattle.output_laws.proofs.Closing.{AreOnBut, Done, calm_done, closed_but, closes_right, done_then, ended_by, leaves_bare, leaves_for, leaves_right, nothing_done, open_with, reacted, second_runs}
 use Rattle.output_laws.proofs.Dues.{IsSeated, ClientsApart, dues_seated, dues_apart}
 use Rattle.output_laws.proofs.Moving.{sends_away, takes_table}
-use Rattle.output_laws.proofs.On.{Right, right_one, right_again, IsCalm, calm_kind, calmly, put_apart}
+use Rattle.output_laws.proofs.On.{Right, right_one, right_again, IsCalm, calm_kind, calmly, put_apart, put_here}
 use Rattle.output_laws.proofs.Pieces.{piece_right}
 use Rattle.output_laws.proofs.Silent.{turning}
 use Rattle.output_laws.proofs.WillWork.{HasRunOut, LeavesOthers, runs_out, run_out_by}
@@ -194,12 +196,47 @@ mid_calm = record {
 by_calm : (P : Option (Unit {0}) → Doing) → Calms P → (kind : EventKind) (pre : List Act) (x : Unit {0}) (p : Place) (h h' : HeldView) (acts : List Act) → SessionsAreOnTheirs h → P (Some x) p h acts → Runs p h acts h' → Done kind pre p h h' acts
 by_calm P calm kind pre x p h h' acts on d runs = calm_done kind pre p h h' acts (calm.of x p h acts d) on runs
 
+-- ---- room for PUBLISHes
+-- a connection that changes, but for its client
+same_client : (f : ConnectionView → ConnectionView) → ((v : ConnectionView) → (f v).client ≡ v.client) → (h : HeldView) (c : ℕ) (o : Option ConnectionView) → map.get h.connections c ≡ o → (n : ℕ)
+    → client_at n (record h { connections = changed_at f c h.connections o }) ≡ client_at n h
+same_client f keeps h c None is n = refl
+same_client f keeps h c (Some found) is n = by (nat_cases n c)
+  where
+    after : HeldView
+    after = record h { connections = map.insert h.connections c (f found) }
+
+    by : (n ≡ c) ⊎ (n ≢ c) → client_at n after ≡ client_at n h
+    by (inl e) =
+        subst (λ k. client_at k after ≡ client_at k h) (sym e)
+        (ap (option_and_then (λ (v : ConnectionView). v.client)) (put_here h.connections c (f found)) ∙ keeps found ∙ sym (ap (option_and_then (λ (v : ConnectionView). v.client)) is))
+    by (inr ne) = ap (option_and_then (λ (v : ConnectionView). v.client)) (put_apart h.connections c (f found) n ne)
+
+roomed_on : (h : HeldView) (c bytes : ℕ) → SessionsAreOnTheirs h → SessionsAreOnTheirs (next h (Connection (Roomed c bytes)))
+roomed_on h c bytes on q seat n at where_on = same_client (with_room bytes) (λ v. refl) h c (map.get h.connections c) refl n ∙ on q seat n at where_on
+
+rooms_by : (client : Option (List ℕ)) (kind : EventKind) (pre : List Act) (c bytes : ℕ) (x : Unit {0}) (p : Place) (h h' : HeldView) (acts : List Act) → SessionsAreOnTheirs h → giving.MakesRoomBy c bytes client (Some x) p h acts → Runs p h acts h' → Done kind pre p h h' acts
+rooms_by None kind pre c bytes x p h h' acts on d runs =
+    let a = Connection (Roomed c bytes) in
+    let left : h' ≡ next h a = left_by p h h' a acts d.1 runs in
+    (right_again kind pre p h (a ∷ []) acts d.1 (right_one kind pre p h a tt), subst SessionsAreOnTheirs (sym left) (roomed_on h c bytes on))
+rooms_by (Some client) kind pre c bytes x p h h' acts on d runs =
+    let w = low IsCalm calm_kind in
+    let calm : Calms (giving.GivesRoom bytes client) =
+    w.join (Calls client (rooms bytes) stays) (λ _. Returns tt) (calling IsCalm calm_kind client (rooms bytes) stays (λ at. tt)) (λ _. w.returns tt) in
+    by_calm (giving.GivesRoom bytes client) calm kind pre x p h h' acts on d runs
+
+rooms_if : (b : Bool) (kind : EventKind) (pre : List Act) (c bytes : ℕ) (x : Unit {0}) (p : Place) (h h' : HeldView) (acts : List Act) → SessionsAreOnTheirs h → If b (Looks (λ p h. client_at c h) (giving.MakesRoomBy c bytes)) (Returns tt) (Some x) p h acts → Runs p h acts h' → Done kind pre p h h' acts
+rooms_if true kind pre c bytes x p h h' acts on d runs = rooms_by (client_at c h) kind pre c bytes x p h h' acts on d runs
+rooms_if false kind pre c bytes x p h h' acts on d runs = nothing_done kind pre p h h' acts d.1 on runs
+
 -- ---- events
 answers_right : (kind : EventKind) (pre : List Act) (x : Unit {0}) (p : Place) (h h' : HeldView) (acts : List Act) → SessionsAreOnTheirs h → turns.AnswersEvent kind (Some x) p h acts → Runs p h acts h' → Done kind pre p h h' acts
 answers_right kinds.Started pre x p h h' acts on d runs = nothing_done kinds.Started pre p h h' acts d.1 on runs
 answers_right (kinds.Opened c) pre x p h h' acts on d runs = opens_if (is_open c h) (kinds.Opened c) pre c x p h h' acts on refl d runs
 answers_right (kinds.Piece c bytes) pre x p h h' acts on d runs = piece_right (kinds.Piece c bytes) c bytes refl pre bytes x p h h' acts on d runs
 answers_right (kinds.Closed c) pre x p h h' acts on d runs = leaves_if (is_open c h) pre c x p h h' acts on refl d runs
+answers_right (kinds.Room c bytes) pre x p h h' acts on d runs = rooms_if (is_open c h) (kinds.Room c bytes) pre c bytes x p h h' acts on d runs
 answers_right (kinds.Frame bytes) pre x p h h' acts on d runs = by_calm _ (hears (K IsCalm calm_kind) (low IsCalm calm_kind) mid_calm bytes) (kinds.Frame bytes) pre x p h h' acts on d runs
 answers_right (kinds.Linked peer) pre x p h h' acts on d runs = by_calm _ (greets (K IsCalm calm_kind) (low IsCalm calm_kind) mid_calm peer) (kinds.Linked peer) pre x p h h' acts on d runs
 answers_right (kinds.Ship peer) pre x p h h' acts on d runs = by_calm _ (ships (K IsCalm calm_kind) (low IsCalm calm_kind) mid_calm peer) (kinds.Ship peer) pre x p h h' acts on d runs
@@ -218,6 +255,7 @@ goes_right kinds.Started pre x p h h' acts on d runs = nothing_done kinds.Starte
 goes_right (kinds.Opened c) pre x p h h' acts on d runs = after_due (kinds.Opened c) pre x p h h' acts on d runs
 goes_right (kinds.Piece c bytes) pre x p h h' acts on d runs = after_due (kinds.Piece c bytes) pre x p h h' acts on d runs
 goes_right (kinds.Closed c) pre x p h h' acts on d runs = after_due (kinds.Closed c) pre x p h h' acts on d runs
+goes_right (kinds.Room c bytes) pre x p h h' acts on d runs = after_due (kinds.Room c bytes) pre x p h h' acts on d runs
 goes_right (kinds.Frame bytes) pre x p h h' acts on d runs = after_due (kinds.Frame bytes) pre x p h h' acts on d runs
 goes_right (kinds.Linked peer) pre x p h h' acts on d runs = after_due (kinds.Linked peer) pre x p h h' acts on d runs
 goes_right (kinds.Ship peer) pre x p h h' acts on d runs = after_due (kinds.Ship peer) pre x p h h' acts on d runs
@@ -230,6 +268,7 @@ first_right kinds.Started pre x p h h' acts on d runs = starts_right kinds.Start
 first_right (kinds.Opened c) pre x p h h' acts on d runs = nothing_done (kinds.Opened c) pre p h h' acts d.1 on runs
 first_right (kinds.Piece c bytes) pre x p h h' acts on d runs = nothing_done (kinds.Piece c bytes) pre p h h' acts d.1 on runs
 first_right (kinds.Closed c) pre x p h h' acts on d runs = nothing_done (kinds.Closed c) pre p h h' acts d.1 on runs
+first_right (kinds.Room c bytes) pre x p h h' acts on d runs = nothing_done (kinds.Room c bytes) pre p h h' acts d.1 on runs
 first_right (kinds.Frame bytes) pre x p h h' acts on d runs = nothing_done (kinds.Frame bytes) pre p h h' acts d.1 on runs
 first_right (kinds.Linked peer) pre x p h h' acts on d runs = nothing_done (kinds.Linked peer) pre p h h' acts d.1 on runs
 first_right (kinds.Ship peer) pre x p h h' acts on d runs = nothing_done (kinds.Ship peer) pre p h h' acts d.1 on runs

@@ -22,7 +22,7 @@ use Rattle.node_work.specs.Acts.{Act, MomentTaken, Began, Moved, Store, Connecti
 use Rattle.message_copies.specs.declared.plain.PlainCopy.{PlainCopy as Copy}
 use Rattle.node_work.specs.Calling.{Calls, Queues}
 use Rattle.node_work.specs.Held.Bridge.{BridgeAct, Put, Took, Got, Believed, Gave, Left_out}
-use Rattle.node_work.specs.Held.Connections.{ConnectionAct, Opened, Accepted, Closed as Closed_at, Fed, after_connection_act}
+use Rattle.node_work.specs.Held.Connections.{ConnectionAct, Opened, Accepted, Roomed, Closed as Closed_at, Fed, after_connection_act}
 use Rattle.node_work.specs.Held.Sessions.{SessionAct, Begun, Called, Over, called}
 use Rattle.node_work.specs.View.{Place, HeldView}
 use Rattle.node_work.specs.Working.{Doing, Returns, Acting, Then, Each}
@@ -37,7 +37,7 @@ use Rattle.cluster_play.proofs.Bools.{nat_cases, and_true}
 use Rattle.run_laws.specs.LaneHistories.{by_bridge, took_by}
 use Rattle.passing_laws.proofs.Keeping.{Keeps, none_some}
 use Rattle.output_laws.specs.Frames.{given_in, frames_given}
-use Rattle.output_laws.proofs.Above.{High, does_due, does_reaction, piece_of, leaves_of, starts, opens, takes_table}
+use Rattle.output_laws.proofs.Above.{High, does_due, does_reaction, piece_of, leaves_of, makes_room, starts, opens, takes_table}
 use Rattle.output_laws.proofs.Below.{Low, IsNoBadFrame, each, evicts, queues_all}
 use Rattle.output_laws.proofs.Alone.{Kind, acting, finishes_of, low, ticks_of}
 use Rattle.output_laws.proofs.Joining.{All, all_closed, j_calls}
@@ -103,8 +103,9 @@ high = record {
   close = close;
   fed = λ n piece. does (λ p h. Connection (Fed n piece)) (λ p h. tt);
   accepted = λ n client. does (λ p h. Connection (Accepted n client)) (λ p h. tt);
+  roomed = λ n bytes. does (λ p h. Connection (Roomed n bytes)) (λ p h. tt);
   begun = λ client. does (λ p h. Session (Begun client)) (λ p h. tt);
-  joined = λ n client q continued. calls client (connects q continued) (moves n);
+  joined = λ n client q continued room. calls client (connects q continued room) (moves n);
   named = λ number. does (λ p h. Named number) (λ p h. tt);
   began = does (λ p h. Began) (λ p h. tt);
   moved = λ homes. does (λ p h. Moved homes) (λ p h. tt);
@@ -137,6 +138,7 @@ answers_silent (kinds.Opened n) plain = opens K w high n (does (λ p h. Connecti
 answers_silent (kinds.Piece n bytes) plain =
     piece_of K w high serves (λ n. record { of = λ x p h acts d. absurd d }) (λ n code of. record { of = λ x p h acts d. of.of x p h acts d }) (λ n client. record { of = λ x p h acts d. absurd d }) (λ n client code of. record { of = λ x p h acts d. of.of x p h acts d }) n bytes
 answers_silent (kinds.Closed n) plain = leaves_of K w high n
+answers_silent (kinds.Room n bytes) plain = makes_room K w high n bytes
 answers_silent (kinds.Frame bytes) plain = absurd plain
 answers_silent (kinds.Linked peer) plain = absurd plain
 answers_silent (kinds.Ship peer) plain = absurd plain
@@ -149,6 +151,7 @@ first_silent kinds.Started = starts K w high
 first_silent (kinds.Opened n) = w.returns tt
 first_silent (kinds.Piece n bytes) = w.returns tt
 first_silent (kinds.Closed n) = w.returns tt
+first_silent (kinds.Room n bytes) = w.returns tt
 first_silent (kinds.Frame bytes) = w.returns tt
 first_silent (kinds.Linked peer) = w.returns tt
 first_silent (kinds.Ship peer) = w.returns tt
@@ -203,6 +206,7 @@ goes kinds.Started x p h acts d = record { first = []; rest = acts; mid = h; is 
 goes (kinds.Opened n) x p h acts d = answering (kinds.Opened n) x p h acts d
 goes (kinds.Piece n bytes) x p h acts d = answering (kinds.Piece n bytes) x p h acts d
 goes (kinds.Closed n) x p h acts d = answering (kinds.Closed n) x p h acts d
+goes (kinds.Room n bytes) x p h acts d = answering (kinds.Room n bytes) x p h acts d
 goes (kinds.Frame bytes) x p h acts d = answering (kinds.Frame bytes) x p h acts d
 goes (kinds.Linked peer) x p h acts d = answering (kinds.Linked peer) x p h acts d
 goes (kinds.Ship peer) x p h acts d = answering (kinds.Ship peer) x p h acts d
@@ -277,6 +281,7 @@ connection_lanes : (h : HeldView) (a : ConnectionAct) → (after_connection_act 
 connection_lanes h (Opened n) = refl
 connection_lanes h (Fed n piece) = refl
 connection_lanes h (Accepted n client) = refl
+connection_lanes h (Roomed n bytes) = refl
 connection_lanes h (Closed_at n) = refl
 
 session_lanes : (h : HeldView) (a : SessionAct) → (called h a).bridge ≡ h.bridge

@@ -14,7 +14,7 @@ use Rattle.node_work.specs.Calling.{Calls}
 use Rattle.node_work.specs.Doings.{TakesMoment}
 use Rattle.node_work.specs.declared.counts.Missed.TheVariants.{BadFrame}
 use Rattle.node_work.specs.Held.Bridge.{Took, Got as GotBy, Believed, Gave, Left_out}
-use Rattle.node_work.specs.Held.Connections.{Opened, Accepted, Closed as Closed_at, Fed}
+use Rattle.node_work.specs.Held.Connections.{Opened, Accepted, Roomed, Closed as Closed_at, Fed}
 use Rattle.node_work.specs.Held.Sessions.{Begun, Called}
 use Rattle.node_work.specs.Passing.{content_given}
 use Rattle.node_work.specs.View.{HeldView}
@@ -34,7 +34,7 @@ use Rattle.run_laws.specs.Publishing.{PutStays}
 use Rattle.run_laws.specs.Staying.{CallsSession as Called_in}
 use Rattle.run_laws.proofs.Staying.{called_at, stays_made}
 use Rattle.output_laws.specs.Wills.{AsksForWill, BeginsDropped, IsPublished, WillIsPassedOn, WillsArePassedOn, WillsStayPassedOn}
-use Rattle.output_laws.proofs.Above.{High, does_due, does_reaction, piece_of, leaves_of, starts, opens, takes_table}
+use Rattle.output_laws.proofs.Above.{High, does_due, does_reaction, piece_of, leaves_of, makes_room, starts, opens, takes_table}
 use Rattle.output_laws.proofs.Below.{evicts}
 use Rattle.output_laws.proofs.Between.{Mid, greets, hears, ships}
 use Rattle.output_laws.proofs.Joining.{j_acting, j_numbered, j_calls}
@@ -47,8 +47,9 @@ high = record {
   close = λ n. j_acting T c (λ p h. Out (Close n)) (λ p h. one_told p h (Out (Close n)) tt);
   fed = λ n piece. j_acting T c (λ p h. Connection (Fed n piece)) (λ p h. one_told p h (Connection (Fed n piece)) tt);
   accepted = λ n client. j_acting T c (λ p h. Connection (Accepted n client)) (λ p h. one_told p h (Connection (Accepted n client)) tt);
+  roomed = λ n bytes. j_acting T c (λ p h. Connection (Roomed n bytes)) (λ p h. one_told p h (Connection (Roomed n bytes)) tt);
   begun = λ client. j_acting T c (λ p h. Session (Begun client)) (λ p h. one_told p h (Session (Begun client)) tt);
-  joined = λ n client q continued. j_calls T c client (connects q continued) (moves n) (call_other (connects q continued) (λ at will. will));
+  joined = λ n client q continued room. j_calls T c client (connects q continued room) (moves n) (call_other (connects q continued room) (λ at will. will));
   named = λ number. j_acting T c (λ p h. Named number) (λ p h. one_told p h (Named number) tt);
   began = j_acting T c (λ p h. Began) (λ p h. one_told p h Began tt);
   moved = λ homes. j_acting T c (λ p h. Moved homes) (λ p h. one_told p h (Moved homes) tt);
@@ -84,6 +85,7 @@ answers_kind (kinds.Opened n) = opens K low high n (j_acting T c (λ p h. Connec
 answers_kind (kinds.Piece n bytes) =
     piece_of K low high serves (λ n. record { of = λ x p h acts d. absurd d }) (λ n code of. record { of = λ x p h acts d. of.of x p h acts d }) (λ n client. record { of = λ x p h acts d. absurd d }) (λ n client code of. record { of = λ x p h acts d. of.of x p h acts d }) n bytes
 answers_kind (kinds.Closed n) = leaves_of K low high n
+answers_kind (kinds.Room n bytes) = makes_room K low high n bytes
 answers_kind (kinds.Frame bytes) = hears K low mid bytes
 answers_kind (kinds.Linked peer) = greets K low mid peer
 answers_kind (kinds.Ship peer) = ships K low mid peer
@@ -99,6 +101,7 @@ goes_on kinds.Started = low.returns tt
 goes_on (kinds.Opened n) = after_due (kinds.Opened n)
 goes_on (kinds.Piece n bytes) = after_due (kinds.Piece n bytes)
 goes_on (kinds.Closed n) = after_due (kinds.Closed n)
+goes_on (kinds.Room n bytes) = after_due (kinds.Room n bytes)
 goes_on (kinds.Frame bytes) = after_due (kinds.Frame bytes)
 goes_on (kinds.Linked peer) = after_due (kinds.Linked peer)
 goes_on (kinds.Ship peer) = after_due (kinds.Ship peer)
@@ -111,6 +114,7 @@ first_turn kinds.Started = starts K low high
 first_turn (kinds.Opened n) = low.returns tt
 first_turn (kinds.Piece n bytes) = low.returns tt
 first_turn (kinds.Closed n) = low.returns tt
+first_turn (kinds.Room n bytes) = low.returns tt
 first_turn (kinds.Frame bytes) = low.returns tt
 first_turn (kinds.Linked peer) = low.returns tt
 first_turn (kinds.Ship peer) = low.returns tt

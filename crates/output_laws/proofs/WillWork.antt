@@ -15,7 +15,7 @@ use Rattle.mqtt_sessions.specs.Ending.{end_due, has_run_out, is_due, ticked_if, 
 use Rattle.mqtt_sessions.specs.Reaction.{Reaction}
 use Rattle.mqtt_sessions.specs.State.{Link, State}
 use Rattle.replica_store.specs.Making.{put_of, subscribe_of}
-use Rattle.session_laws.specs.Runs.{Event, connects, queues, takes, answers, closes, ticks, finishes, loses}
+use Rattle.session_laws.specs.Runs.{Event, connects, queues, rooms, takes, answers, closes, ticks, finishes, loses}
 use Rattle.session_table.specs.Calls.{stays, leaves}
 use Rattle.session_table.specs.Listing.{text_cmp}
 use Rattle.session_table.specs.Seats.{Seat, run_outs}
@@ -88,8 +88,9 @@ puts_by peer m Full = j_acting T c (λ p h. Bridge (Left_out LaneFull)) (λ p h.
 puts_by peer m AtEnd = j_stops T c
 
 small_other : (e : Event) → IsSmall e → MayPublishWill e → ⊥
-small_other (connects q continued now) small will = small
+small_other (connects q continued room now) small will = small
 small_other (queues d now) small will = will
+small_other (rooms bytes now) small will = will
 small_other (takes k now room) small will = small
 small_other (answers id codes) small will = will
 small_other (closes now) small will = will

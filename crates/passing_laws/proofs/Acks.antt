@@ -29,7 +29,7 @@ use Rattle.mqtt_sessions.specs.Reaction.{Reaction, Comes, publishes_of, pubrels_
 use Rattle.mqtt_sessions.specs.State.{Link, State, aliases_of, limit_in}
 use Rattle.mqtt_packets.specs.declared.connect.Connect.{Connect}
 use Rattle.session_laws.specs.Replies.{Reply, silent, says, asks, both, ends, leaves, reaction_of, is_invalid, reply_at, reply_under, reply_publish, reply_exactly_once, reply_pubrec, reply_known, reply_unknown, reply_request, reply_codes, reply_disconnect, has_hundred, IsReply, IsReplied, then_sends}
-use Rattle.session_laws.specs.Runs.{Event, connects, queues, takes, answers, closes, ticks, finishes, loses, Reacts}
+use Rattle.session_laws.specs.Runs.{Event, connects, rooms, queues, takes, answers, closes, ticks, finishes, loses, Reacts}
 use Rattle.session_laws.specs.Silence.{IsPublish}
 use Rattle.session_laws.proofs.ElseLaws.{keeps_nothing_else}
 use Rattle.session_laws.specs.Aliases.{Topics, topic_under}
@@ -308,13 +308,16 @@ module _ (old new : State) (now : ℕ) (room : Bool) (r : Reaction) (id : ℕ) w
 
 -- a CONNECT, and an event that gives nothing out, give out no such answer
 module _ (p : Packet) (ack : is_answer p ≡ true) where
-  pub connect_none : (b : Bool) (old : State) (c : Connect) (answer : Packet) (now : ℕ) (r : Reaction) (new : State) → is_answer answer ≡ false → OpensIf b old c answer now r new → AnswersWith p r.packets → ⊥
-  connect_none true old c answer now r new plain o g = by (subst (λ (v : Reaction). AnswersWith p v.packets) o.reacts g)
+  pub connect_none : (b : Bool) (old : State) (c : Connect) (answer : Packet) (room : Option ℕ) (now : ℕ) (r : Reaction) (new : State) → is_answer answer ≡ false → OpensIf b old c answer room now r new → AnswersWith p r.packets → ⊥
+  connect_none true old c answer room now r new plain o g = by (subst (λ (v : Reaction). AnswersWith p v.packets) o.reacts g)
     where
       by : AnswersWith p (Answer answer ∷ pubrels_of o.ids ++ publishes_of o.sents) → ⊥
       by (inl e) = (let same : answer ≡ p = cc e in true_is_not_false (sym ack ∙ ap is_answer (sym same) ∙ plain))
       by (inr more) = none_released p o.ids (publishes_of o.sents) ack (none_sent p o.sents) more
-  connect_none false old c answer now r new plain o g = subst (λ (v : Reaction). AnswersWith p v.packets) o.0 g
+  connect_none false old c answer room now r new plain o g = subst (λ (v : Reaction). AnswersWith p v.packets) o.0 g
+
+  pub room_none : (old new : State) (bytes now : ℕ) (r : Reaction) → Reacts old (rooms bytes now) r new → AnswersWith p r.packets → ⊥
+  room_none old new bytes now r h g = none_sent p h.sents (subst (λ (v : Reaction). AnswersWith p v.packets) h.reacts g)
 
   pub nothing_given : (ps : List Output) → ps ≡ [] → AnswersWith p ps → ⊥
   nothing_given ps e g = subst (AnswersWith p) e g
@@ -344,7 +347,8 @@ record Takes (p : Packet) (old : State) (e : Event) (r : Reaction) : Type 0 wher
   reply : Replied p (packets.Publish publish) now room old r
 
 takes_publish : (p : Packet) → is_ack p ≡ true → is_answer p ≡ true → (old new : State) (e : Event) (r : Reaction) → Reacts old e r new → AnswersWith p r.packets → Takes p old e r
-takes_publish p ack answer old new (connects c continued now) r h g = absurd (connect_none p answer (fits (limit_in c.properties) (connack continued c.client old.kept.client)) old c _ now r new refl h.1 g)
+takes_publish p ack answer old new (connects c continued room now) r h g = absurd (connect_none p answer (fits (limit_in c.properties) (connack continued c.client old.kept.client)) old c _ room now r new refl h.1 g)
+takes_publish p ack answer old new (rooms bytes now) r h g = absurd (room_none p answer old new bytes now r h g)
 takes_publish p ack answer old new (queues d now) r h g = absurd (none_published p r.packets (keeps_nothing_else old new (queues d now) r h) g)
 takes_publish p ack answer old new (takes k now room) r h g =
     let x = replied old new k now room r p h g in

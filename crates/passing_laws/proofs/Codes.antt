@@ -31,12 +31,12 @@ use Rattle.mqtt_sessions.specs.Packets.{PacketIf}
 use Rattle.mqtt_sessions.specs.Reaction.{Reaction, Outcome, Comes, answered}
 use Rattle.mqtt_sessions.specs.State.{Link, State, heard, heard_by, limit_in, limit_of}
 use Rattle.session_laws.specs.Replies.{Reply, silent, says, asks, both, ends, leaves, is_invalid, reply_publish, reply_under, reply_at, reply_exactly_once, reply_pubrec, reply_known, reply_unknown, reply_codes, reply_disconnect, has_hundred, IsReply}
-use Rattle.session_laws.specs.Runs.{Event, connects, queues, takes, answers, closes, ticks, finishes, loses, Reacts}
+use Rattle.session_laws.specs.Runs.{Event, connects, rooms, queues, takes, answers, closes, ticks, finishes, loses, Reacts}
 use Rattle.session_laws.proofs.ElseLaws.{keeps_nothing_else}
 use Rattle.session_laws.proofs.ReplyLaws.{keeps_unheard, keeps_codes}
 use Rattle.passing_laws.specs.Publishing.{AnswersWith}
 use Rattle.passing_laws.specs.Asking.{AreInUse}
-use Rattle.passing_laws.proofs.Acks.{is_answer, Says, tells, said, given_by, replied, cond_false, true_is_not_false, none_published, connect_none, nothing_given}
+use Rattle.passing_laws.proofs.Acks.{is_answer, Says, tells, said, given_by, replied, cond_false, true_is_not_false, none_published, connect_none, room_none, nothing_given}
 
 abbrev is_coded : Packet → Bool
 is_coded (packets.Suback a) = true
@@ -171,7 +171,8 @@ answers_it Subscribing id codes = refl
 answers_it Unsubscribing id codes = refl
 
 pub codes_tell : (a : Asked) (id : ℕ) (codes : List ℕ) (old new : State) (e : Event) (r : Reaction) → Reacts old e r new → AnswersWith (answer_of a id codes) r.packets → AreInUse codes ⊎ ((e ≡ answers id codes) × (asked_of old.link ≡ Some a))
-codes_tell a id codes old new (connects c continued now) r h g = absurd (connect_none (answer_of a id codes) (answers_it a id codes) (fits (limit_in c.properties) (connack continued c.client old.kept.client)) old c _ now r new refl h.1 g)
+codes_tell a id codes old new (connects c continued room now) r h g = absurd (connect_none (answer_of a id codes) (answers_it a id codes) (fits (limit_in c.properties) (connack continued c.client old.kept.client)) old c _ room now r new refl h.1 g)
+codes_tell a id codes old new (rooms bytes now) r h g = absurd (room_none (answer_of a id codes) (answers_it a id codes) old new bytes now r h g)
 codes_tell a id codes old new (queues d now) r h g = absurd (none_published (answer_of a id codes) r.packets (keeps_nothing_else old new (queues d now) r h) g)
 codes_tell a id codes old new (takes k now room) r h g = let x = replied old new k now room r (answer_of a id codes) h g in inl (replied_codes a id codes (held x.link) k now room old x.is.reply x.is.is x.says_it)
 codes_tell a id codes old new (answers id' codes') r h g = inr (given_at a id codes old.link old new id' codes' r refl h g)

@@ -5,7 +5,7 @@ use Rattle.mqtt_packets.specs.declared.fault.PacketFault.{PacketFault}
 use Rattle.mqtt_packets.specs.declared.packet.Packet.{Packet}
 use Rattle.mqtt_packets.specs.declared.packet.Packet.TheVariants as packets
 use Rattle.due_times.specs.Dues.{Due}
-use Rattle.session_laws.specs.Runs.{closes, ticks}
+use Rattle.session_laws.specs.Runs.{closes, rooms, ticks}
 use Rattle.session_table.specs.Calls.{stays, leaves}
 use Rattle.session_table.specs.Seats.{run_outs, wills_due, ends_due, connected}
 use Rattle.bridge_deltas.specs.Lane.{first_frames}
@@ -23,7 +23,7 @@ use Rattle.node_work.specs.Calling.{Calls}
 use Rattle.node_work.specs.Doings.{TakesMoment, Removes, Misses, GivesBody, GivesFrame, is_small}
 use Rattle.node_work.specs.Held.Bridge.{Gave, Got as GotBy, Believed}
 use Rattle.node_work.specs.Held.Feeding.{cut_of}
-use Rattle.node_work.specs.Held.Connections.{Closed, Fed, Opened, is_open, client_at, first_at}
+use Rattle.node_work.specs.Held.Connections.{Closed, Fed, Opened, Roomed, is_open, client_at, first_at}
 use Rattle.node_work.specs.Frames.{is_for_node, is_other}
 use Rattle.node_work.specs.Packets.{refused_packet}
 use Rattle.node_work.specs.View.{HeldView, ConnectionView}
@@ -32,6 +32,7 @@ use Rattle.node_clients.specs.Ending as ending
 use Rattle.node_clients.specs.Moving as moving
 use Rattle.node_clients.specs.Passing as passing
 use Rattle.node_clients.specs.Pieces as pieces
+use Rattle.node_clients.specs.Rooms.{GivesRoom, MakesRoom, MakesRoomBy}
 use Rattle.node_clients.specs.Serving as serving
 use Rattle.broker_node.specs.declared.event.Event.{Event as NodeEvent}
 use Rattle.broker_node.specs.declared.event.EventKind.{EventKind}
@@ -105,6 +106,19 @@ module _ (T : Property) (j : Joins T) (serves : (c : ℕ) (client : List ℕ) (k
   leaves_of c =
       let there : Option (Unit {0}) → Doing = Looks (λ p h. client_at c h) (pieces.LeavesBy c) in
       k_looks T j (λ p h. is_open c h) (λ is. If is there (Returns tt)) (λ is. k_if T j is there (Returns tt) (k_looks T j (λ p h. client_at c h) (pieces.LeavesBy c) (leaves_by c)) (k_returns T j tt))
+
+  -- ---- room
+  gives_room : (bytes : ℕ) (client : List ℕ) → Keeps T (GivesRoom bytes client)
+  gives_room bytes client = k_then T j (Calls client (rooms bytes) stays) (λ _. Returns tt) (k_calls T j client (rooms bytes) stays (λ at. tt)) (λ _. k_returns T j tt)
+
+  makes_room_by : (c bytes : ℕ) (client : Option (List ℕ)) → Keeps T (MakesRoomBy c bytes client)
+  makes_room_by c bytes None = k_acting T j (λ p h. Connection (Roomed c bytes)) (λ p h. tt)
+  makes_room_by c bytes (Some client) = gives_room bytes client
+
+  makes_room : (c bytes : ℕ) → Keeps T (MakesRoom c bytes)
+  makes_room c bytes =
+      let there : Option (Unit {0}) → Doing = Looks (λ p h. client_at c h) (MakesRoomBy c bytes) in
+      k_looks T j (λ p h. is_open c h) (λ is. If is there (Returns tt)) (λ is. k_if T j is there (Returns tt) (k_looks T j (λ p h. client_at c h) (MakesRoomBy c bytes) (makes_room_by c bytes)) (k_returns T j tt))
 
   -- ---- what is due
   runs_out : (d : Due) → Keeps T (due.RunsOut d)
@@ -195,6 +209,7 @@ module _ (T : Property) (j : Joins T) (serves : (c : ℕ) (client : List ℕ) (k
       let opens : Option (Unit {0}) → Doing = Acting (λ p h. Connection (Opened c)) in
       k_looks T j (λ p h. is_open c h) (λ is. If is (Returns tt) opens) (λ is. k_if T j is (Returns tt) opens (k_returns T j tt) (k_acting T j (λ p h. Connection (Opened c)) (λ p h. tt)))
   answers_kind (kinds.Piece c bytes) = k_looks T j (λ p h. map.get h.connections c) (pieces.PieceAt c bytes) (piece_at c bytes)
+  answers_kind (kinds.Room c bytes) = makes_room c bytes
   answers_kind (kinds.Closed c) = leaves_of c
   answers_kind (kinds.Frame bytes) = hears_frame (frame_in bytes)
   answers_kind (kinds.Linked peer) = greets peer
@@ -210,6 +225,7 @@ module _ (T : Property) (j : Joins T) (serves : (c : ℕ) (client : List ℕ) (k
   goes_on kinds.Started = k_returns T j _
   goes_on (kinds.Opened c) = after_due (kinds.Opened c)
   goes_on (kinds.Piece c bytes) = after_due (kinds.Piece c bytes)
+  goes_on (kinds.Room c bytes) = after_due (kinds.Room c bytes)
   goes_on (kinds.Closed c) = after_due (kinds.Closed c)
   goes_on (kinds.Frame bytes) = after_due (kinds.Frame bytes)
   goes_on (kinds.Linked peer) = after_due (kinds.Linked peer)
@@ -222,6 +238,7 @@ module _ (T : Property) (j : Joins T) (serves : (c : ℕ) (client : List ℕ) (k
   first_turn kinds.Started = starts
   first_turn (kinds.Opened c) = k_returns T j _
   first_turn (kinds.Piece c bytes) = k_returns T j _
+  first_turn (kinds.Room c bytes) = k_returns T j _
   first_turn (kinds.Closed c) = k_returns T j _
   first_turn (kinds.Frame bytes) = k_returns T j _
   first_turn (kinds.Linked peer) = k_returns T j _

@@ -1,6 +1,6 @@
 -- What holds of no acts, of acts one after the other, and so of work that is put together of parts.
 use Rattle.std.proofs.Common.{◌≡◌, ℕ, Bool, true, false, cond, List, [], ◌∷◌, ◌++◌, Option, Some, None, inl, inr, refl, sym, subst}
-use Rattle.session_laws.specs.Runs.{Event, connects, queues, takes, answers, closes, ticks, finishes, loses}
+use Rattle.session_laws.specs.Runs.{Event, connects, rooms, queues, takes, answers, closes, ticks, finishes, loses}
 use Rattle.session_table.specs.Seats.{Seat}
 use Rattle.mqtt_sessions.specs.Reaction.{Reaction}
 use Rattle.node_work.specs.declared.outcome.Output.{Output}
@@ -19,7 +19,8 @@ Property = Place → HeldView → List Act → Type 0
 
 -- an event of a session that neither takes a packet nor gives the codes of an answer
 abbrev pub IsOther : Event → Type 0
-IsOther (connects c continued now) = Unit {0}
+IsOther (connects c continued room now) = Unit {0}
+IsOther (rooms bytes now) = Unit {0}
 IsOther (queues d now) = Unit {0}
 IsOther (takes k now room) = ⊥
 IsOther (answers id codes) = ⊥

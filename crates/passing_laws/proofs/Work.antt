@@ -192,16 +192,19 @@ module _ (T : Property) (j : Joins T) where
   cleans false client = k_returns T j _
   cleans true client = k_looks T j _ _ (λ has. k_if T j has _ _ (finishes_of client) (k_returns T j _))
 
-  pub joins : (continued : Bool) (c : ℕ) (client : List ℕ) (p : Connect) → Keeps T (connecting.JoinsBy continued c client p)
-  joins true c client p = k_calls T j client (connects p true) (moves c) (λ at. tt)
-  joins false c client p =
-      k_then T j (Acting (λ place h. Session (Begun client))) (λ _. Calls client (connects p false) (moves c))
-      (k_acting T j (λ place h. Session (Begun client)) (λ place h. tt)) (λ _. k_calls T j client (connects p false) (moves c) (λ at. tt))
+  pub joins : (continued : Bool) (c : ℕ) (client : List ℕ) (p : Connect) (room : Option ℕ) → Keeps T (connecting.JoinsBy continued c client p room)
+  joins true c client p room = k_calls T j client (connects p true room) (moves c) (λ at. tt)
+  joins false c client p room =
+      k_then T j (Acting (λ place h. Session (Begun client))) (λ _. Calls client (connects p false room) (moves c))
+      (k_acting T j (λ place h. Session (Begun client)) (λ place h. tt)) (λ _. k_calls T j client (connects p false room) (moves c) (λ at. tt))
+
+  joins_in : (c : ℕ) (client : List ℕ) (p : Connect) → Keeps T (connecting.Joins c client p)
+  joins_in c client p = k_looks T j _ (connecting.JoinsIn c client p) (λ room. k_looks T j _ (λ has. connecting.JoinsBy has c client p room) (λ has. joins has c client p room))
 
   pub accepts : (c : ℕ) (p : Connect) (client : List ℕ) → Keeps T (connecting.Accepts c p client)
   accepts c p client =
       k_then T j _ _ (k_looks T j _ _ (takes_over client)) (λ _. k_then T j _ _ (cleans p.clean_start client) (λ _.
-      k_then T j _ _ (k_acting T j _ (λ place h. tt)) (λ _. k_then T j _ _ (k_looks T j _ _ (λ has. joins has c client p)) (λ r. closes_after r.end c client))))
+      k_then T j _ _ (k_acting T j _ (λ place h. tt)) (λ _. k_then T j _ _ (joins_in c client p) (λ r. closes_after r.end c client))))
 
   pub names_by : (c : ℕ) (p : Connect) (number : Option ℕ) → Keeps T (connecting.NamesBy c p number)
   names_by c p None = k_stops T j

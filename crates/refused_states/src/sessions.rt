@@ -59,7 +59,7 @@ fn may_publish(will: &Option<Will>) -> bool
 fn connected(session: &mut Session, connect: &Packet) -> Result<(), Fault> {
     match connect {
         Packet::Connect(connect) if may_publish(&connect.will) => {
-            session.connect(connect, true, 0)?;
+            session.connect(connect, true, None, 0)?;
             Ok(())
         }
         _ => Err(Fault::Other),
@@ -98,6 +98,7 @@ fn is_spent(session: &mut Session, packets: &[Packet]) -> bool {
     }
     let spent = Some(SessionFault::Spent);
     session.closed(0).err() == spent
+        && session.make_room(1, 0).err() == spent
         && session.tick(0).err() == spent
         && session.finish(0).err() == spent
         && session.rows().err() == spent

@@ -30,7 +30,7 @@ use Rattle.mqtt_sessions.specs.Packets.{PubrecBy, SaysUnknown, KindStep, PacketI
 use Rattle.mqtt_sessions.specs.Reaction.{Reaction, Comes, answered}
 use Rattle.mqtt_sessions.specs.Sending.{is_once, QueueIf}
 use Rattle.mqtt_sessions.specs.State.{Kept, State, Link, aliases_of, heard, limit_in, limit_of}
-use Rattle.session_laws.specs.Runs.{Event, connects, queues, takes, answers, closes, ticks, finishes, loses, Reacts}
+use Rattle.session_laws.specs.Runs.{Event, connects, queues, rooms, takes, answers, closes, ticks, finishes, loses, Reacts}
 
 -- ---- what each call leaves
 abbrev Leaves : State → State → Type 0
@@ -42,9 +42,9 @@ answered-client limit p ask s = elim (cases_Bool (fits limit p)) [ inl f ↦ rw 
 comes-client : (limit : ℕ) (p : Packet) (ask : Option Ask) (s : State) (r : Reaction) (new : State) → Comes (answered limit p ask s) r new → Leaves s new
 comes-client limit p ask s r new c = rw c.1 (answered-client limit p ask s)
 
-opens-client : (b : Bool) (old new : State) (c : Connect) (p : Packet) (now : ℕ) (r : Reaction) → OpensIf b old c p now r new → new.kept.client ≡ old.kept.client
-opens-client true old new c p now r h = rw h.left refl
-opens-client false old new c p now r h = rw h.1 refl
+opens-client : (b : Bool) (old new : State) (c : Connect) (p : Packet) (room : Option ℕ) (now : ℕ) (r : Reaction) → OpensIf b old c p room now r new → new.kept.client ≡ old.kept.client
+opens-client true old new c p room now r h = rw h.left refl
+opens-client false old new c p room now r h = rw h.1 refl
 
 queue-client : (b : Bool) (old new : State) (d : Delivery) (now : ℕ) (r : Reaction) → QueueIf b old d now r new → Leaves old new
 queue-client true old new d now r q = rw q.1 refl
@@ -136,8 +136,9 @@ packet-client (Some limit) p now room old new r h = kind-client p now room limit
 
 -- a session stays its client's
 pub event-client : (old new : State) (e : Event) (r : Reaction) → Reacts old e r new → new.kept.client ≡ old.kept.client
-event-client old new (connects c continued now) r h = opens-client (fits (limit_in c.properties) (connack continued c.client old.kept.client)) old new c _ now r h.1
+event-client old new (connects c continued room now) r h = opens-client (fits (limit_in c.properties) (connack continued c.client old.kept.client)) old new c _ room now r h.1
 event-client old new (queues d now) r h = queue-client (is_once d.qos) old new d now r h
+event-client old new (rooms bytes now) r h = rw h.left refl
 event-client old new (takes p now room) r h = packet-client (limit_of old.link) p now room old new r h
 event-client old new (answers i codes) r h = rw h.1 (answer-client old.link i codes old)
 event-client old new (closes now) r h = rw h.1 refl

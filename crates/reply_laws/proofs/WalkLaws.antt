@@ -39,7 +39,7 @@ use Rattle.mqtt_sessions.specs.Sending.{is_once, QueueIf}
 use Rattle.mqtt_sessions.specs.State.{State, Link, aliases_of, heard, limit_in, limit_of, new_session}
 use Rattle.mqtt_sessions.proofs.LengthLaws.{pubrec_length, connack_fit}
 use Rattle.session_laws.specs.Arrivals.{is_exactly_once}
-use Rattle.session_laws.specs.Runs.{Event, connects, queues, takes, answers, closes, ticks, finishes, loses, Step, Reacts, Run, connected_after, limit_after}
+use Rattle.session_laws.specs.Runs.{Event, connects, queues, rooms, takes, answers, closes, ticks, finishes, loses, Step, Reacts, Run, connected_after, limit_after}
 use Rattle.session_laws.proofs.QuietLaws.{HasLimit}
 use Rattle.session_laws.proofs.CallLaws.{numbered-calls}
 use Rattle.session_laws.proofs.ProjectLaws.{project}
@@ -57,9 +57,9 @@ answered-leaves limit p ask s = elim (cases_Bool (fits limit p)) [ inl f ↦ rw 
 comes-leaves : (limit : ℕ) (p : Packet) (ask : Option Ask) (s : State) (r : Reaction) (new : State) → Comes (answered limit p ask s) r new → Leaves s new
 comes-leaves limit p ask s r new c = rw c.1 (answered-leaves limit p ask s)
 
-opens-leaves : (b : Bool) (old new : State) (c : Connect) (p : Packet) (now : ℕ) (r : Reaction) → OpensIf b old c p now r new → new.incoming ≡ of_before old.incoming
-opens-leaves true old new c p now r h = rw h.left refl
-opens-leaves false old new c p now r h = rw h.1 refl
+opens-leaves : (b : Bool) (old new : State) (c : Connect) (p : Packet) (room : Option ℕ) (now : ℕ) (r : Reaction) → OpensIf b old c p room now r new → new.incoming ≡ of_before old.incoming
+opens-leaves true old new c p room now r h = rw h.left refl
+opens-leaves false old new c p room now r h = rw h.1 refl
 
 queue-leaves : (b : Bool) (old new : State) (d : Delivery) (now : ℕ) (r : Reaction) → QueueIf b old d now r new → Leaves old new
 queue-leaves true old new d now r q = rw q.1 refl
@@ -247,10 +247,11 @@ packet-knows (Some l) on limit p now room o old new r opens is long k h =
     subst (λ (b : Bool). Knows (open_after b o (takes p now room) r) new.incoming) (sym opens) (kind-knows p now room l.limit o (heard old now) new r (rw is (long opens)) k h)
 
 event-knows : (on : Bool) (limit : ℕ) (o : OpenExchanges) (old new : State) (e : Event) (r : Reaction) → on ≡ is_some old.link → HasLimit limit old.link → IsLong on limit → Knows o old.incoming → Reacts old e r new → Knows (open_after on o e r) new.incoming
-event-knows on limit o old new (connects c continued now) r opens is long k h =
-    let before = opens-leaves (fits (limit_in c.properties) (connack continued c.client old.kept.client)) old new c _ now r h.1 in
+event-knows on limit o old new (connects c continued room now) r opens is long k h =
+    let before = opens-leaves (fits (limit_in c.properties) (connack continued c.client old.kept.client)) old new c _ room now r h.1 in
     rw before (knows-begun o old.incoming k)
 event-knows on limit o old new (queues d now) r opens is long k h = alike o old.incoming new.incoming k (queue-leaves (is_once d.qos) old new d now r h)
+event-knows on limit o old new (rooms bytes now) r opens is long k h = alike o old.incoming new.incoming k (rw h.left refl)
 event-knows on limit o old new (takes p now room) r opens is long k h = packet-knows old.link on limit p now room o old new r opens is long k h
 event-knows on limit o old new (answers i codes) r opens is long k h = alike o old.incoming new.incoming k (rw h.1 (answer-leaves old.link i codes old))
 event-knows on limit o old new (closes now) r opens is long k h = alike o old.incoming new.incoming k (rw h.1 refl)
@@ -267,16 +268,17 @@ connack-long present given client limit h =
     let le = leb-true (1 + length (vbi.bytes m) + m) limit t in
     omega (arith, le)
 
-opens-long : (b : Bool) (old new : State) (c : Connect) (continued : Bool) (now : ℕ) (r : Reaction) → fits (limit_in c.properties) (connack continued c.client old.kept.client) ≡ b → OpensIf b old c (connack continued c.client old.kept.client) now r new → IsLong (not (is_some r.end)) (limit_in c.properties)
-opens-long true old new c continued now r is h = λ _. connack-long continued c.client old.kept.client (limit_in c.properties) is
-opens-long false old new c continued now r is h = λ on. let bad : false ≡ true = rw h.0 at on in absurd (false≢true bad)
+opens-long : (b : Bool) (old new : State) (c : Connect) (continued : Bool) (room : Option ℕ) (now : ℕ) (r : Reaction) → fits (limit_in c.properties) (connack continued c.client old.kept.client) ≡ b → OpensIf b old c (connack continued c.client old.kept.client) room now r new → IsLong (not (is_some r.end)) (limit_in c.properties)
+opens-long true old new c continued room now r is h = λ _. connack-long continued c.client old.kept.client (limit_in c.properties) is
+opens-long false old new c continued room now r is h = λ on. let bad : false ≡ true = rw h.0 at on in absurd (false≢true bad)
 
 goes-on : (on ended : Bool) (limit : ℕ) → IsLong on limit → IsLong (on && not ended) limit
 goes-on on ended limit long = λ t. long (and_parts on (not ended) t).0
 
 long-after : (on : Bool) (limit : ℕ) (old new : State) (e : Event) (r : Reaction) → IsLong on limit → Reacts old e r new → IsLong (connected_after on e r) (limit_after limit e)
-long-after on limit old new (connects c continued now) r long h = opens-long (fits (limit_in c.properties) (connack continued c.client old.kept.client)) old new c continued now r refl h.1
+long-after on limit old new (connects c continued room now) r long h = opens-long (fits (limit_in c.properties) (connack continued c.client old.kept.client)) old new c continued room now r refl h.1
 long-after on limit old new (queues d now) r long h = goes-on on (is_some r.end) limit long
+long-after on limit old new (rooms bytes now) r long h = goes-on on (is_some r.end) limit long
 long-after on limit old new (takes p now room) r long h = goes-on on (is_some r.end) limit long
 long-after on limit old new (answers i codes) r long h = goes-on on (is_some r.end) limit long
 long-after on limit old new (closes now) r long h = λ t. absurd (false≢true t)

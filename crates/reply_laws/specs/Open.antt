@@ -36,7 +36,7 @@ without_one id o = record { all = without id o.all; here = without id o.here }
 
 -- PUBREL ends it; a new connection has opened none
 abbrev pub open_after : Bool → OpenExchanges → Event → Reaction → OpenExchanges
-open_after on o (connects c continued now) r = record o { here = [] }
+open_after on o (connects c continued room now) r = record o { here = [] }
 open_after on o loses r = record o { here = [] }
 open_after on o (takes (packets.Publish p) now room) r = cond (opens_one p r o) (with_one p.identifier o) o
 open_after on o (takes (packets.Pubrel a) now room) r = cond on (without_one a.identifier o) o

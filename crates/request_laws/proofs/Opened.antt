@@ -37,7 +37,7 @@ use Rattle.mqtt_sessions.specs.Reaction.{Reaction, Comes, answered, nothing}
 use Rattle.mqtt_sessions.specs.Sending.{is_once, QueueIf}
 use Rattle.mqtt_sessions.specs.State.{State, Link, aliases_of, heard, limit_in, limit_of, new_session}
 use Rattle.session_laws.specs.Arrivals.{is_exactly_once, is_for, is_open_after}
-use Rattle.session_laws.specs.Runs.{Event, connects, queues, takes, answers, closes, ticks, finishes, loses, Step, Reacts, Run, connected_after, limit_after}
+use Rattle.session_laws.specs.Runs.{Event, connects, queues, rooms, takes, answers, closes, ticks, finishes, loses, Step, Reacts, Run, connected_after, limit_after}
 use Rattle.session_laws.proofs.CallLaws.{numbered-calls}
 use Rattle.session_laws.proofs.ProjectLaws.{project}
 use Rattle.session_laws.proofs.QuietLaws.{HasLimit}
@@ -61,9 +61,9 @@ answered-asks limit p ask s = elim (cases_Bool (fits limit p)) [ inl f ↦ rw f 
 comes-leaves : (limit : ℕ) (p : Packet) (ask : Option Ask) (s : State) (r : Reaction) (new : State) → Comes (answered limit p ask s) r new → Leaves s new
 comes-leaves limit p ask s r new c = rw c.1 (answered-leaves limit p ask s)
 
-opens-leaves : (b : Bool) (old new : State) (c : Connect) (p : Packet) (now : ℕ) (r : Reaction) → OpensIf b old c p now r new → new.incoming ≡ of_before old.incoming
-opens-leaves true old new c p now r h = rw h.left refl
-opens-leaves false old new c p now r h = rw h.1 refl
+opens-leaves : (b : Bool) (old new : State) (c : Connect) (p : Packet) (room : Option ℕ) (now : ℕ) (r : Reaction) → OpensIf b old c p room now r new → new.incoming ≡ of_before old.incoming
+opens-leaves true old new c p room now r h = rw h.left refl
+opens-leaves false old new c p room now r h = rw h.1 refl
 
 queue-leaves : (b : Bool) (old new : State) (d : Delivery) (now : ℕ) (r : Reaction) → QueueIf b old d now r new → Leaves old new
 queue-leaves true old new d now r q = rw q.1 refl
@@ -229,9 +229,10 @@ packet-told None on id p now room old new r opens twice h = rw opens (unheard id
 packet-told (Some l) on id p now room old new r opens twice h = rw opens (kind-told id p now room l.limit (heard old now) new r twice h)
 
 told : (on : Bool) (id : ℕ) (old new : State) (e : Event) (r : Reaction) → on ≡ is_some old.link → NoneTwice old.incoming → Reacts old e r new → IsTold on id old.incoming e r new.incoming
-told on id old new (connects c continued now) r opens twice h =
-    let before = opens-leaves (fits (limit_in c.properties) (connack continued c.client old.kept.client)) old new c _ now r h.1 in record { is = rw before (opened-before id old.incoming); twice = rw before (twice-before old.incoming twice) }
+told on id old new (connects c continued room now) r opens twice h =
+    let before = opens-leaves (fits (limit_in c.properties) (connack continued c.client old.kept.client)) old new c _ room now r h.1 in record { is = rw before (opened-before id old.incoming); twice = rw before (twice-before old.incoming twice) }
 told on id old new (queues d now) r opens twice h = left on id old.incoming new.incoming _ r twice (queue-leaves (is_once d.qos) old new d now r h) refl
+told on id old new (rooms bytes now) r opens twice h = left on id old.incoming new.incoming _ r twice (rw h.left refl) refl
 told on id old new (takes p now room) r opens twice h = packet-told old.link on id p now room old new r opens twice h
 told on id old new (answers i codes) r opens twice h = left on id old.incoming new.incoming _ r twice (rw h.1 (answer-leaves old.link i codes old)) refl
 told on id old new (closes now) r opens twice h = left on id old.incoming new.incoming _ r twice (rw h.1 refl) refl

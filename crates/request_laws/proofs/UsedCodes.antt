@@ -17,7 +17,7 @@ use Rattle.mqtt_sessions.specs.Reaction.{Reaction, Comes, nothing}
 use Rattle.mqtt_sessions.specs.State.{Link, State}
 use Rattle.session_laws.specs.Aliases.{Topics}
 use Rattle.session_laws.specs.Replies.{Reply, silent, says, asks, ends, reaction_of, then_sends, reply_codes, reply_request, IsReplied, MakesRoom}
-use Rattle.session_laws.specs.Runs.{Event, connects, queues, takes, answers, closes, ticks, finishes, loses, Step, Reacts, connected_after}
+use Rattle.session_laws.specs.Runs.{Event, connects, queues, rooms, takes, answers, closes, ticks, finishes, loses, Step, Reacts, connected_after}
 use Rattle.session_laws.proofs.ReplyLaws.{keeps_codes}
 use Rattle.delivery_laws.specs.Codes.{Question, question_in, question_after, IsOwn, OwnCodes, CodesBy, AllCodes}
 use Rattle.passing_laws.specs.Publishing.{AnswersWith}
@@ -140,8 +140,9 @@ module _ (a : Asked) (id : ℕ) (codes : List ℕ) where
     pub is : IsRequest packet r
 
   pub codes_given : (old new : State) (e : Event) (r : Reaction) (q : Option Question) → CodesBy q e r → Reacts old e r new → AnswersWith (answer_of a id codes) r.packets → TakesOne e r ⊎ (e ≡ answers id codes)
-  codes_given old new (connects c continued now) r q all h g = absurd (own_of q (connects c continued now) r all g)
+  codes_given old new (connects c continued room now) r q all h g = absurd (own_of q (connects c continued room now) r all g)
   codes_given old new (queues d now) r q all h g = absurd (own_of q (queues d now) r all g)
+  codes_given old new (rooms bytes now) r q all h g = absurd (own_of q (rooms bytes now) r all g)
   codes_given old new (takes k now room) r q all h g =
       let o = own_of q (takes k now room) r all g in inl (record { packet = k; now = now; room = room; event = refl; is = record { question = o.0; asks = o.1 } })
   codes_given old new (answers id' codes') r q all h g = inr (given_at old.link old new id' codes' r refl h g)

@@ -34,7 +34,7 @@ use Rattle.mqtt_sessions.specs.Packets.{KindStep, PacketIf, PubrecBy, SaysUnknow
 use Rattle.mqtt_sessions.specs.Reaction.{Reaction, Outcome, Comes, answered}
 use Rattle.mqtt_sessions.specs.Sending.{QueueIf, is_once}
 use Rattle.mqtt_sessions.specs.State.{Kept, Link, State, aliases_of, heard, limit_of, new_session}
-use Rattle.session_laws.specs.Runs.{Event, connects, queues, takes, answers, closes, ticks, finishes, loses, Reacts, Run, Step}
+use Rattle.session_laws.specs.Runs.{Event, connects, queues, rooms, takes, answers, closes, ticks, finishes, loses, Reacts, Run, Step}
 
 module _ (client : List ℕ) where
   abbrev At : State → Type 0
@@ -135,9 +135,9 @@ module _ (client : List ℕ) where
   packet-at (Some limit) p now room s r new c h = kind-at p now room limit (heard s now) r new c h
 
   -- ---- the others
-  opens-at : (b : Bool) (old : State) (c : Connect) (answer : Packet) (now : ℕ) (r : Reaction) (new : State) → OpensIf b old c answer now r new → At old → At new
-  opens-at true old c answer now r new o h = moved _ new o.left h
-  opens-at false old c answer now r new o h = moved _ new o.1 h
+  opens-at : (b : Bool) (old : State) (c : Connect) (answer : Packet) (room : Option ℕ) (now : ℕ) (r : Reaction) (new : State) → OpensIf b old c answer room now r new → At old → At new
+  opens-at true old c answer room now r new o h = moved _ new o.left h
+  opens-at false old c answer room now r new o h = moved _ new o.1 h
 
   queue-at : (b : Bool) (old : State) (d : Delivery) (now : ℕ) (r : Reaction) (new : State) → QueueIf b old d now r new → At old → At new
   queue-at true old d now r new q h = moved old new q.1 h
@@ -154,8 +154,9 @@ module _ (client : List ℕ) where
   tick-at false false end now s h = h
 
   turned : (e : Event) (old : State) (r : Reaction) (new : State) → Reacts old e r new → At old → At new
-  turned (connects c continued now) old r new h p = opens-at _ old c _ now r new h.1 p
+  turned (connects c continued room now) old r new h p = opens-at _ old c _ room now r new h.1 p
   turned (queues d now) old r new h p = queue-at (is_once d.qos) old d now r new h p
+  turned (rooms bytes now) old r new h p = moved _ new h.left p
   turned (takes q now room) old r new h p = packet-at (limit_of old.link) q now room old r new h p
   turned (answers id codes) old r new h p = comes _ r new h (on-at old.link id codes old p)
   turned (closes now) old r new h p = moved _ new h.1 p

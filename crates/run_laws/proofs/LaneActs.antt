@@ -18,7 +18,7 @@ use Rattle.message_lanes.proofs.Keeping.{AreKept, act_keeps, act_begins, waits_n
 use Rattle.node_bridge.specs.View.{BridgeView, has_lanes, is_next, lane_to, offer_to}
 use Rattle.node_work.specs.Acts.{Act, MomentTaken, Began, Moved, Store, Connection, Session, Bridge, Out, Named, Acknowledged, Passed, Dropped, Runs, gather, heard_in}
 use Rattle.node_work.specs.Held.Bridge.{BridgeAct, Put, Took, Got, Believed, Gave, Left_out, Carries}
-use Rattle.node_work.specs.Held.Connections.{Opened, Fed, Accepted, Closed}
+use Rattle.node_work.specs.Held.Connections.{Opened, Fed, Accepted, Roomed, Closed}
 use Rattle.node_work.specs.Held.Sessions.{Begun, Called, Over}
 use Rattle.node_work.specs.View.{Place, HeldView}
 use Rattle.run_laws.specs.LaneHistories.{by_bridge, put_by, took_by}
@@ -152,6 +152,7 @@ module _ (p : Place) (others puts : ℕ → List Forward) where
   lanes_grow (Connection (Opened c) ∷ acts) h h' put took k le begins r all = lanes_grow acts r.0 h' put took (same_lanes r.0 _ put took r.1.1 k) le begins r.2 all
   lanes_grow (Connection (Fed c piece) ∷ acts) h h' put took k le begins r all = lanes_grow acts r.0 h' put took (same_lanes r.0 _ put took r.1.1 k) le begins r.2 all
   lanes_grow (Connection (Accepted c client) ∷ acts) h h' put took k le begins r all = lanes_grow acts r.0 h' put took (same_lanes r.0 _ put took r.1.1 k) le begins r.2 all
+  lanes_grow (Connection (Roomed c bytes) ∷ acts) h h' put took k le begins r all = lanes_grow acts r.0 h' put took (same_lanes r.0 _ put took r.1.1 k) le begins r.2 all
   lanes_grow (Connection (Closed c) ∷ acts) h h' put took k le begins r all = lanes_grow acts r.0 h' put took (same_lanes r.0 _ put took r.1.1 k) le begins r.2 all
   lanes_grow (Session (Begun client) ∷ acts) h h' put took k le begins r all = lanes_grow acts r.0 h' put took (same_lanes r.0 _ put took r.1.1 k) le begins r.2 all
   lanes_grow (Session (Called s) ∷ acts) h h' put took k le begins r all = lanes_grow acts r.0 h' put took (same_lanes r.0 _ put took r.1.1 k) le begins r.2 all

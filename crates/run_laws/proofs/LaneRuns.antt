@@ -125,6 +125,7 @@ module _ (put took : Histories) (i : ℕ) where
     all_heard (kinds.Opened c) bs known h = all_none bs h
     all_heard (kinds.Piece c bytes) bs known h = all_none bs h
     all_heard (kinds.Closed c) bs known h = all_none bs h
+    all_heard (kinds.Room c bytes) bs known h = all_none bs h
     all_heard (kinds.Frame bytes) bs known h = all_in bytes bs known.0 known.1 (frame_in bytes) known.2 known.3 refl h
     all_heard (kinds.Linked peer) bs known h = all_none bs h
     all_heard (kinds.Ship peer) bs known h = all_none bs h

@@ -4,7 +4,7 @@ use Rattle.mqtt_packets.specs.declared.packet.Packet.TheVariants as packets
 use Rattle.mqtt_packets.specs.declared.publish.Publish.{Publish}
 use Rattle.mqtt_sessions.specs.Reaction.{Reaction}
 use Rattle.session_laws.specs.Arrivals.{is_for, is_open_after, PassesBy, ComesOnce}
-use Rattle.session_laws.specs.Runs.{Event, connects, queues, takes, answers, closes, ticks, finishes, loses, Step, connected_after}
+use Rattle.session_laws.specs.Runs.{Event, connects, queues, rooms, takes, answers, closes, ticks, finishes, loses, Step, connected_after}
 use Rattle.finite_maps.proofs.Texts.{same_text}
 use Rattle.node_work.specs.Acts.{Act, MomentTaken, Began, Moved, Store, Connection, Session, Bridge, Out, Named, Acknowledged, Passed, Dropped}
 use Rattle.node_work.specs.Held.Sessions.{SessionStep, Begun, Called, Over}
@@ -53,8 +53,9 @@ never : {X : Type 0} → false ≡ true → X
 never e = absurd (let z = e in cc)
 
 opens : (on : Bool) (id : ℕ) (e : Event) (r : Reaction) → is_open_after on id false e r ≡ true → Opens id e r
-opens on id (connects c continued now) r h = never h
+opens on id (connects c continued room now) r h = never h
 opens on id (queues d now) r h = never h
+opens on id (rooms bytes now) r h = never h
 opens on id (takes (packets.Publish p) now room) r h =
     let t = both_true (is_for id p) (is_some r.ask) (if_true (is_for id p && is_some r.ask) h) in
     record { publish = p; now = now; room = room; event = refl; is_for = t.0; asks = t.1 }

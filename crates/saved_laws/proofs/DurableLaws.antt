@@ -31,7 +31,7 @@ use Rattle.mqtt_sessions.specs.Saved.{durable_of, reopened}
 use Rattle.mqtt_sessions.specs.Sending.{is_once}
 use Rattle.mqtt_sessions.specs.State.{State, Tracked}
 use Rattle.session_laws.specs.Order.{queued_by}
-use Rattle.session_laws.specs.Runs.{Event, connects, queues, takes, answers, closes, ticks, finishes, loses, Reacts}
+use Rattle.session_laws.specs.Runs.{Event, connects, queues, rooms, takes, answers, closes, ticks, finishes, loses, Reacts}
 use Rattle.session_laws.proofs.CallLaws.{Call}
 use Rattle.saved_laws.specs.Histories.{Point, Move, calls, tells, Moves, History}
 use Rattle.saved_laws.specs.Sound.{IsSoundEvent, IsSoundMove, BeginsSound, StaysDurable, DurableOpens}
@@ -142,8 +142,9 @@ queued-one true d f = tt
 queued-one false d f = (f, tt)
 
 queued-fit : (e : Event) → IsSoundEvent e → AllByRecursion delivery.Fits (queued_by e)
-queued-fit (connects c continued now) s = tt
+queued-fit (connects c continued room now) s = tt
 queued-fit (queues d now) s = queued-one (is_once d.qos) d s
+queued-fit (rooms bytes now) s = tt
 queued-fit (takes p now room) s = tt
 queued-fit (answers id codes) s = tt
 queued-fit (closes now) s = tt

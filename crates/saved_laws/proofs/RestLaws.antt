@@ -27,7 +27,7 @@ use Rattle.mqtt_sessions.specs.declared.kept.Phase.TheVariants.{Connected, Close
 use Rattle.mqtt_sessions.specs.Ending.{will_after}
 use Rattle.mqtt_sessions.specs.Saved.{closed_of, phase_of, main_of}
 use Rattle.mqtt_sessions.specs.State.{IsMoment, Kept, State, IsPublishableIf}
-use Rattle.session_laws.specs.Runs.{Event, connects, queues, takes, answers, closes, ticks, finishes, loses, Reacts}
+use Rattle.session_laws.specs.Runs.{Event, connects, queues, rooms, takes, answers, closes, ticks, finishes, loses, Reacts}
 use Rattle.session_rows.specs.Durable.{Durable, IsDurable, IsMomentIf, IsSound}
 use Rattle.session_rows.specs.Fields.{Main, main, will, closed}
 use Rattle.session_rows.proofs.RiseLaws.{rise-length}
@@ -186,8 +186,9 @@ packets-keep packets.Pingresp s = tt
 packets-keep (packets.Auth p) s = tt
 
 events-keep : (e : Event) → IsSoundEvent e → Turns Rest e
-events-keep (connects c continued now) s = λ k i h. record { client = h.client; expiry = expiry-or (first_four 17 c.properties) s.expiry; moment = tt; will = row-of c.will s.publishable s.payload; rises = rw (before-same i) h.rises; counted = rw (before-same i) h.counted }
+events-keep (connects c continued room now) s = λ k i h. record { client = h.client; expiry = expiry-or (first_four 17 c.properties) s.expiry; moment = tt; will = row-of c.will s.publishable s.payload; rises = rw (before-same i) h.rises; counted = rw (before-same i) h.counted }
 events-keep (queues d now) s = tt
+events-keep (rooms bytes now) s = tt
 events-keep (takes p now room) s = packets-keep p s
 events-keep (answers id codes) s = tt
 events-keep (closes now) s = λ k i h. record { client = h.client; expiry = h.expiry; moment = s; will = h.will; rises = h.rises; counted = h.counted }

@@ -30,7 +30,7 @@ use Rattle.mqtt_sessions.specs.Reaction.{Reaction}
 use Rattle.mqtt_sessions.specs.Saved.{Saved, Notes, Tells, durable_of}
 use Rattle.mqtt_sessions.specs.Sending.{is_once}
 use Rattle.mqtt_sessions.specs.State.{State, Kept, Link, Tracked, watched}
-use Rattle.session_laws.specs.Runs.{Event, connects, queues, takes, answers, closes, ticks, finishes, loses, Reacts}
+use Rattle.session_laws.specs.Runs.{Event, connects, queues, rooms, takes, answers, closes, ticks, finishes, loses, Reacts}
 use Rattle.session_laws.specs.Order.{queued_by}
 use Rattle.session_laws.proofs.CallLaws.{Call, numbered-calls}
 use Rattle.session_laws.proofs.ProjectLaws.{project, Projects}
@@ -64,8 +64,9 @@ module _ (client : List ℕ) where
   packets-stay (packets.Auth p) = tt
 
   events-stay : (e : Event) → Turns IsOf e
-  events-stay (connects c continued now) = λ k i h. h
+  events-stay (connects c continued room now) = λ k i h. h
   events-stay (queues d now) = tt
+  events-stay (rooms bytes now) = tt
   events-stay (takes p now room) = packets-stay p
   events-stay (answers id codes) = tt
   events-stay (closes now) = λ k i h. h
@@ -111,8 +112,9 @@ queued-asked d true h = tt
 queued-asked d false h = (not-once d.qos h, tt)
 
 queued-answered : (e : Event) → AllByRecursion (λ (d : Delivery). d.qos ≢ AtMostOnce) (queued_by e)
-queued-answered (connects c continued now) = tt
+queued-answered (connects c continued room now) = tt
 queued-answered (queues d now) = queued-asked d (is_once d.qos) refl
+queued-answered (rooms bytes now) = tt
 queued-answered (takes p now room) = tt
 queued-answered (answers id codes) = tt
 queued-answered (closes now) = tt

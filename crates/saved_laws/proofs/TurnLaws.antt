@@ -35,7 +35,7 @@ use Rattle.mqtt_sessions.specs.Packets.{KindStep, PacketIf, PubrecBy, SaysUnknow
 use Rattle.mqtt_sessions.specs.Reaction.{Reaction, Outcome, Comes, answered}
 use Rattle.mqtt_sessions.specs.Sending.{QueueIf, is_once}
 use Rattle.mqtt_sessions.specs.State.{Kept, Link, State, aliases_of, heard, limit_of}
-use Rattle.session_laws.specs.Runs.{Event, connects, queues, takes, answers, closes, ticks, finishes, loses, Reacts}
+use Rattle.session_laws.specs.Runs.{Event, connects, queues, rooms, takes, answers, closes, ticks, finishes, loses, Reacts}
 
 -- the Session Expiry Interval of a DISCONNECT, where it has one
 abbrev pub expiry_by : Option ℕ → ℕ → ℕ
@@ -50,8 +50,9 @@ TurnsPacket P (packets.Disconnect p) = (k : Kept) (i : Received) → P k i → P
 TurnsPacket P p = Unit {0}
 
 abbrev pub Turns : (Kept → Received → Type 0) → Event → Type 0
-Turns P (connects c continued now) = (k : Kept) (i : Received) → P k i → P (kept_by k c) (of_before i)
+Turns P (connects c continued room now) = (k : Kept) (i : Received) → P k i → P (kept_by k c) (of_before i)
 Turns P (queues d now) = Unit {0}
+Turns P (rooms bytes now) = Unit {0}
 Turns P (takes p now room) = TurnsPacket P p
 Turns P (answers id codes) = Unit {0}
 Turns P (closes now) = (k : Kept) (i : Received) → P k i → P (record k { phase = Closed now }) i
@@ -158,9 +159,9 @@ module _ (P : Kept → Received → Type 0) where
   packet-at (Some limit) p now room s r new t c h = kind-at p now room limit (heard s now) r new t c h
 
   -- ---- the others
-  opens-at : (b : Bool) (old : State) (c : Connect) (answer : Packet) (now : ℕ) (r : Reaction) (new : State) → OpensIf b old c answer now r new → P (kept_by old.kept c) (of_before old.incoming) → At new
-  opens-at true old c answer now r new o h = moved _ new o.left h
-  opens-at false old c answer now r new o h = moved _ new o.1 h
+  opens-at : (b : Bool) (old : State) (c : Connect) (answer : Packet) (room : Option ℕ) (now : ℕ) (r : Reaction) (new : State) → OpensIf b old c answer room now r new → P (kept_by old.kept c) (of_before old.incoming) → At new
+  opens-at true old c answer room now r new o h = moved _ new o.left h
+  opens-at false old c answer room now r new o h = moved _ new o.1 h
 
   queue-at : (b : Bool) (old : State) (d : Delivery) (now : ℕ) (r : Reaction) (new : State) → QueueIf b old d now r new → At old → At new
   queue-at true old d now r new q h = moved old new q.1 h
@@ -177,8 +178,9 @@ module _ (P : Kept → Received → Type 0) where
   tick-at false false end now s k h = h
 
   pub turned : (e : Event) (old : State) (r : Reaction) (new : State) → Turns P e → Reacts old e r new → P old.kept old.incoming → P new.kept new.incoming
-  turned (connects c continued now) old r new t h p = opens-at _ old c _ now r new h.1 (t old.kept old.incoming p)
+  turned (connects c continued room now) old r new t h p = opens-at _ old c _ room now r new h.1 (t old.kept old.incoming p)
   turned (queues d now) old r new t h p = queue-at (is_once d.qos) old d now r new h p
+  turned (rooms bytes now) old r new t h p = moved _ new h.left p
   turned (takes q now room) old r new t h p = packet-at (limit_of old.link) q now room old r new t h p
   turned (answers id codes) old r new t h p = comes _ r new h (on-at old.link id codes old p)
   turned (closes now) old r new t h p = moved _ new h.1 (t old.kept old.incoming p)

@@ -26,7 +26,7 @@ pub record IsSoundConnect (c : Connect) : Type 0 where
 
 -- A call with what the contracts of `Session` demand; each delivery has a spelling, as the law of its type says.
 abbrev pub IsSoundEvent : Event → Type 0
-IsSoundEvent (connects c continued now) = IsSoundConnect c
+IsSoundEvent (connects c continued room now) = IsSoundConnect c
 IsSoundEvent (queues d now) = delivery.Fits d
 IsSoundEvent (takes p now room) = HasSpelling p
 IsSoundEvent (closes now) = now < 2 ^ 62

@@ -46,6 +46,7 @@ pub known_later : (sent more : List Frame) (kind : EventKind) → IsKnown sent k
 known_later sent more kinds.Started h = tt
 known_later sent more (kinds.Opened c) h = tt
 known_later sent more (kinds.Piece c bytes) h = tt
+known_later sent more (kinds.Room c n) h = tt
 known_later sent more (kinds.Closed c) h = tt
 known_later sent more (kinds.Frame bytes) h = (h.0, h.1, get_left sent more h.0 h.1 h.2, h.3)
 known_later sent more (kinds.Linked peer) h = tt

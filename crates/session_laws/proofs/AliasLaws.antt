@@ -8,7 +8,7 @@ use Rattle.std.proofs.lemmas.Bool.{cases_Bool, cases_eq, eq-eqb, ne_eqb}
 use Rattle.std.proofs.lemmas.Cmp.{ranked}
 use Rattle.mqtt_fields.specs.declared.options.Qos.{Qos}
 use Rattle.mqtt_fields.specs.declared.options.Qos.TheVariants.{AtMostOnce, AtLeastOnce, ExactlyOnce}
-use Rattle.mqtt_fields.specs.Properties.{first_two, first_four}
+use Rattle.mqtt_fields.specs.Properties.{first_four}
 use Rattle.mqtt_packets.specs.declared.connect.Connect.{Connect}
 use Rattle.mqtt_packets.specs.declared.ended.Ended.{Ended}
 use Rattle.mqtt_packets.specs.declared.packet.Packet.{Packet}
@@ -39,7 +39,7 @@ use Rattle.mqtt_sessions.specs.Reaction.{Reaction, Comes, answered}
 use Rattle.mqtt_sessions.specs.Sending.{QueueIf, is_once}
 use Rattle.mqtt_sessions.specs.State.{Link, State, aliases_of, heard, heard_by, limit_in, limit_of, new_session}
 use Rattle.session_laws.specs.Aliases.{Topics, given_by, given_in, later, topic_after, topic_over, topics_told}
-use Rattle.session_laws.specs.Runs.{Event, connects, queues, takes, answers, closes, ticks, finishes, loses, Step, Reacts, Run}
+use Rattle.session_laws.specs.Runs.{Event, connects, queues, rooms, takes, answers, closes, ticks, finishes, loses, Step, Reacts, Run}
 
 -- ---- an alias that is set
 topic-set : (alias : ℕ) (topic : List ℕ) (known : Aliases) → topic_for alias (insert_entry nat_cmp known alias topic) ≡ Some topic
@@ -194,9 +194,9 @@ packet-told told None p now room old new r e a h = rw (h.1, e) tt
 packet-told told (Some l) p now room old new r e a h = kind-told told p now room l.limit (heard old now) new r (heard-told told old.link now a) h
 
 -- ---- any other event
-opens-told : (fits : Bool) (old new : State) (c : Connect) (p : Packet) (now : ℕ) (r : Reaction) → OpensIf fits old c p now r new → AreTold (λ alias. None) new.link
-opens-told true old new c p now r h = rw h.left (λ alias. refl)
-opens-told false old new c p now r h = rw h.1 tt
+opens-told : (fits : Bool) (old new : State) (c : Connect) (p : Packet) (room : Option ℕ) (now : ℕ) (r : Reaction) → OpensIf fits old c p room now r new → AreTold (λ alias. None) new.link
+opens-told true old new c p room now r h = rw h.left (λ alias. refl)
+opens-told false old new c p room now r h = rw h.1 tt
 
 queue-keeps : (b : Bool) (old new : State) (d : Delivery) (now : ℕ) (r : Reaction) → QueueIf b old d now r new → Keeps new old
 queue-keeps true old new d now r q = rw q.1 (kept old.link)
@@ -221,8 +221,9 @@ tick-keeps false true c now s = kept s.link
 tick-keeps false false c now s = kept s.link
 
 told-step : (told : Topics) (old new : State) (e : Event) (r : Reaction) → AreTold told old.link → Reacts old e r new → AreTold (λ alias. topic_after alias (told alias) e) new.link
-told-step told old new (connects c continued now) r a h = opens-told (fits (limit_in c.properties) (connack continued c.client old.kept.client)) old new c (connack continued c.client old.kept.client) now r h.1
+told-step told old new (connects c continued room now) r a h = opens-told (fits (limit_in c.properties) (connack continued c.client old.kept.client)) old new c (connack continued c.client old.kept.client) room now r h.1
 told-step told old new (queues d now) r a h = kept-told told new.link old.link (queue-keeps (is_once d.qos) old new d now r h) a
+told-step told old new (rooms bytes now) r a h = kept-told told new.link old.link (rw h.left (kept old.link)) a
 told-step told old new (takes p now room) r a h = packet-told told old.link p now room old new r refl a h
 told-step told old new (answers id codes) r a h = rw h.1 (kept-told told (answer_on old.link id codes old).left.link old.link (answer-keeps old.link id codes old) a)
 told-step told old new (closes now) r a h = rw h.1 tt

@@ -24,17 +24,21 @@ use Rattle.mqtt_sessions.specs.Answers.{pubrel, connack, fits}
 use Rattle.mqtt_sessions.specs.Connecting.{OpensIf, resumed_by}
 use Rattle.mqtt_sessions.specs.Packets.{GoesOnAfter, PubrecBy, PacketIf}
 use Rattle.mqtt_sessions.specs.Reaction.{Reaction}
-use Rattle.mqtt_sessions.specs.Sending.{Flushes, GoesOn, is_once, QueueIf}
-use Rattle.mqtt_sessions.specs.State.{State, Link, heard, limit_in, limit_of, with_outbox, new_session}
-use Rattle.session_laws.specs.Runs.{Event, connects, queues, takes, answers, closes, ticks, finishes, loses, Step, Reacts, Run}
+use Rattle.mqtt_sessions.specs.Sending.{Flushes, StopsIf, GoesOn, is_once, QueueIf, RoomStep}
+use Rattle.mqtt_sessions.specs.State.{State, Link, has_room, heard, limit_in, limit_of, room_after, with_outbox, new_session}
+use Rattle.session_laws.specs.Runs.{Event, connects, queues, rooms, takes, answers, closes, ticks, finishes, loses, Step, Reacts, Run}
 use Rattle.session_laws.specs.Numbers.{KeepsBusy}
 use Rattle.session_laws.proofs.QuietLaws.{HasLimit, IsQuiet, IsHandshake, none-some, quiet-answer, quiet-tick, kinds}
 use Rattle.session_laws.proofs.SilenceLaws.{own}
 use Rattle.session_laws.proofs.ProjectLaws.{comes-quiet, unknown-quiet, heard-limit}
 
--- after a flush nothing more can be sent
-flush-busy : (now limit : ℕ) (old new : Outbox) (sents : List Sent) → Flushes now limit old sents new → CannotSend new
-flush-busy now limit old new sents f = busy-next now limit f.last new f.stops
+-- after a flush nothing more can be sent, where room is left
+stop-busy : (more : Bool) (now limit : ℕ) (old new : Outbox) → StopsIf more now limit old new → more ≡ true → CannotSend new
+stop-busy true now limit old new s more = busy-next now limit old new s
+stop-busy false now limit old new s more = absurd (false≢true more)
+
+flush-busy : (now limit : ℕ) (room : Option ℕ) (old new : Outbox) (sents : List Sent) → Flushes now limit room old sents new → has_room (room_after now room sents) ≡ true → CannotSend new
+flush-busy now limit room old new sents f more = stop-busy (has_room (room_after now room sents)) now limit f.last new f.stops more
 
 same-busy : (old new : Outbox) → new ≡ old → CannotSend old → CannotSend new
 same-busy old new same h = rw same h
@@ -73,9 +77,11 @@ release-busy id order old (inl h) = inl (rw (in_flight-write_id (as_released id 
 release-busy id order old (inr (none, inl h)) = inr (owed-written id order old.copies none, inl (λ k a b. id-written k id order old.copies (h k a b)))
 release-busy id order old (inr (none, inr h)) = inr (owed-written id order old.copies none, inr (waiting-write_id (as_released id order) (λ _. refl) id old.copies ∙ h))
 
-ack-busy : (a : Ack) (ends : Bool) (id now limit : ℕ) (old mid new : Outbox) (sents : List Sent) → EndStep ends old id a mid → GoesOnAfter a now limit mid sents new → CannotSend old → CannotSend new
-ack-busy Done ends id now limit old mid new sents s f h = flush-busy now limit mid new sents f
-ack-busy Unknown ends id now limit old mid new sents s f h = same-busy old new (f.1 ∙ s.1) h
+-- where an exchange ends the queue goes on; else nothing is sent
+ack-busy : (a : Ack) (ends : Bool) (id now limit : ℕ) (room : Option ℕ) (old mid new : Outbox) (sents : List Sent) → EndStep ends old id a mid → GoesOnAfter a now limit room mid sents new → (has_room room ≡ true → CannotSend old) → has_room (room_after now room sents) ≡ true
+    → CannotSend new
+ack-busy Done ends id now limit room old mid new sents s f h more = flush-busy now limit room mid new sents f more
+ack-busy Unknown ends id now limit room old mid new sents s f h more = same-busy old new (f.1 ∙ s.1) (h (rw f.0 at more))
 
 known-busy : (o : Option Entry) (id reason : ℕ) (old mid : Outbox) → ReceivedIf o old id reason rec.Release mid → CannotSend old → CannotSend mid
 known-busy None id reason old mid s h = same-busy old mid s.1 h
@@ -86,55 +92,67 @@ unknown-busy : (o : Option Entry) (id reason : ℕ) (old mid : Outbox) → Recei
 unknown-busy None id reason old mid s h = same-busy old mid s.1 h
 unknown-busy (Some x) id reason old mid s h = same-busy old mid s.2 h
 
-rec-busy : (a : Rec) (limit : ℕ) (s new : State) (id reason now : ℕ) (mid : Outbox) (r : Reaction) → HasLimit limit s.link → ReceivedStep s.outbox id reason a mid → PubrecBy a id reason now limit s mid r new → CannotSend s.outbox → CannotSend new.outbox
-rec-busy rec.Release limit s new id reason now mid r is t p h = same-busy mid new.outbox (comes-quiet limit (pubrel id 0) (with_outbox s mid) new r is p).same (known-busy (find_id id s.outbox.copies) id reason s.outbox mid t h)
-rec-busy rec.Unknown limit s new id reason now mid r is t p h = same-busy mid new.outbox (unknown-quiet id reason limit (with_outbox s mid) new r is p).same (unknown-busy (find_id id s.outbox.copies) id reason s.outbox mid t h)
-rec-busy rec.Ended limit s new id reason now mid r is t p h = rw p.left (flush-busy now limit mid p.after p.sents p.flushes)
-rec-busy rec.AtEnd limit s new id reason now mid r is t p h = absurd p
-
 -- ---- the events
 abbrev IsBusy : State → Type 0
-IsBusy s = IsSome s.link → CannotSend s.outbox
+IsBusy s = IsSome s.link → has_room s.room ≡ true → CannotSend s.outbox
+
+-- where it is connected
+abbrev IsStuck : State → Type 0
+IsStuck s = has_room s.room ≡ true → CannotSend s.outbox
+
+rec-busy : (a : Rec) (limit : ℕ) (s new : State) (id reason now : ℕ) (mid : Outbox) (r : Reaction) → HasLimit limit s.link → ReceivedStep s.outbox id reason a mid → PubrecBy a id reason now limit s mid r new → IsStuck s → IsStuck new
+rec-busy rec.Release limit s new id reason now mid r is t p h =
+    let q = comes-quiet limit (pubrel id 0) (with_outbox s mid) new r is p in
+    λ more. same-busy mid new.outbox q.same (known-busy (find_id id s.outbox.copies) id reason s.outbox mid t (h (rw q.held at more)))
+rec-busy rec.Unknown limit s new id reason now mid r is t p h =
+    let q = unknown-quiet id reason limit (with_outbox s mid) new r is p in
+    λ more. same-busy mid new.outbox q.same (unknown-busy (find_id id s.outbox.copies) id reason s.outbox mid t (h (rw q.held at more)))
+rec-busy rec.Ended limit s new id reason now mid r is t p h = rw p.left (flush-busy now limit s.room mid p.after p.sents p.flushes)
+rec-busy rec.AtEnd limit s new id reason now mid r is t p h = absurd p
 
 cut-busy : (s : State) → s.link ≡ None → IsBusy s
 cut-busy s none = λ some. absurd (none-some s.link none some)
 
 quiet-busy : (limit : ℕ) (o : Option ℕ) (old new : State) (r : Reaction) → r.end ≡ o → IsQuiet limit old r new → IsBusy old → IsBusy new
-quiet-busy limit None old new r e q b = λ some. same-busy old.outbox new.outbox q.same (b (sym (q.stays e) ∙ some))
+quiet-busy limit None old new r e q b = λ some more. same-busy old.outbox new.outbox q.same (b (sym (q.stays e) ∙ some) (rw q.held at more))
 quiet-busy limit (Some code) old new r e q b = cut-busy new (q.ends (rw e refl)).1
 
-goes-busy : (o : Option Link) (now : ℕ) (old new : Outbox) (sents : List Sent) → IsSome o → GoesOn (limit_of o) now old sents new → CannotSend new
-goes-busy None now old new sents some g = absurd (false≢true some)
-goes-busy (Some l) now old new sents some g = flush-busy now l.limit old new sents g
+goes-busy : (o : Option Link) (now : ℕ) (room : Option ℕ) (old new : Outbox) (sents : List Sent) → IsSome o → GoesOn (limit_of o) now room old sents new → has_room (room_after now room sents) ≡ true → CannotSend new
+goes-busy None now room old new sents some g more = absurd (false≢true some)
+goes-busy (Some l) now room old new sents some g more = flush-busy now l.limit room old new sents g more
 
 queue-busy : (b : Bool) (old new : State) (d : Delivery) (now : ℕ) (r : Reaction) → QueueIf b old d now r new → IsBusy old → IsBusy new
 queue-busy true old new d now r q h = rw q.1 h
-queue-busy false old new d now r (inl q) h = rw q.left (λ some. goes-busy old.link now q.mid q.after q.sents some q.goes_on)
+queue-busy false old new d now r (inl q) h = rw q.left (λ some more. goes-busy old.link now old.room q.mid q.after q.sents some q.goes_on more)
 queue-busy false old new d now r (inr q) h = rw q.left h
 
-handshake-busy : (limit : ℕ) (s new : State) (p : Packet) (now : ℕ) (r : Reaction) → HasLimit limit s.link → IsHandshake p now limit s r new → CannotSend s.outbox → CannotSend new.outbox
-handshake-busy limit s new (packets.Puback a) now r is p h = rw p.left (ack-busy p.answer _ a.identifier now limit s.outbox p.mid p.after p.sents p.takes p.goes_on h)
+room-busy : (old new : State) (bytes now : ℕ) (r : Reaction) → RoomStep bytes now old r new → IsBusy new
+room-busy old new bytes now r q = rw q.left (λ some more. goes-busy old.link now (Some bytes) old.outbox q.after q.sents some q.goes_on more)
+
+handshake-busy : (limit : ℕ) (s new : State) (p : Packet) (now : ℕ) (r : Reaction) → HasLimit limit s.link → IsHandshake p now limit s r new → IsStuck s → IsStuck new
+handshake-busy limit s new (packets.Puback a) now r is p h = rw p.left (ack-busy p.answer _ a.identifier now limit s.room s.outbox p.mid p.after p.sents p.takes p.goes_on h)
 handshake-busy limit s new (packets.Pubrec a) now r is p h = rec-busy p.answer limit s new a.identifier a.reason now p.mid r is p.takes p.goes_on h
-handshake-busy limit s new (packets.Pubcomp a) now r is p h = rw p.left (ack-busy p.answer _ a.identifier now limit s.outbox p.mid p.after p.sents p.takes p.goes_on h)
+handshake-busy limit s new (packets.Pubcomp a) now r is p h = rw p.left (ack-busy p.answer _ a.identifier now limit s.room s.outbox p.mid p.after p.sents p.takes p.goes_on h)
 handshake-busy limit s new p now r is t h = absurd t
 
 packet-busy : (o : Option Link) (old new : State) (p : Packet) (now : ℕ) (room : Bool) (r : Reaction) → old.link ≡ o → PacketIf (limit_of o) p now room old r new → IsBusy old → IsBusy new
 packet-busy None old new p now room r is h b = cut-busy new (rw h.1 is)
 packet-busy (Some l) old new p now room r is h b =
-    let before : CannotSend old.outbox = b (rw is refl) in
+    let before : IsStuck old = b (rw is refl) in
     let limited = heard-limit l.limit now l old refl is in
     elim (kinds p now room l.limit (heard old now) r new limited h) [
-      | inl q ↦ λ _. same-busy old.outbox new.outbox q.0.same before
+      | inl q ↦ λ _ more. same-busy old.outbox new.outbox q.0.same (before (rw q.0.held at more))
       | inr t ↦ λ _. handshake-busy l.limit (heard old now) new p now r limited t before
     ]
 
-opens-busy : (b : Bool) (old new : State) (c : Connect) (p : Packet) (now : ℕ) (r : Reaction) → OpensIf b old c p now r new → IsBusy new
-opens-busy true old new c p now r h = rw h.left (λ some. flush-busy now (limit_in c.properties) (resumed_by old.outbox c) h.after h.sents h.flushes)
-opens-busy false old new c p now r h = cut-busy new (rw h.1 refl)
+opens-busy : (b : Bool) (old new : State) (c : Connect) (p : Packet) (room : Option ℕ) (now : ℕ) (r : Reaction) → OpensIf b old c p room now r new → IsBusy new
+opens-busy true old new c p room now r h = rw h.left (λ some. flush-busy now (limit_in c.properties) room (resumed_by old.outbox c) h.after h.sents h.flushes)
+opens-busy false old new c p room now r h = cut-busy new (rw h.1 refl)
 
 busy-step : (old new : State) (e : Event) (r : Reaction) → Reacts old e r new → IsBusy old → IsBusy new
-busy-step old new (connects c continued now) r h b = opens-busy (fits (limit_in c.properties) (connack continued c.client old.kept.client)) old new c _ now r h.1
+busy-step old new (connects c continued room now) r h b = opens-busy (fits (limit_in c.properties) (connack continued c.client old.kept.client)) old new c _ room now r h.1
 busy-step old new (queues d now) r h b = queue-busy (is_once d.qos) old new d now r h b
+busy-step old new (rooms bytes now) r h b = room-busy old new bytes now r h
 busy-step old new (takes p now room) r h b = packet-busy old.link old new p now room r refl h b
 busy-step old new (answers id codes) r h b = let w = own old.link in quiet-busy w.0 r.end old new r refl (quiet-answer old.link w.0 id codes old r new refl w.1 h) b
 busy-step old new (closes now) r h b = cut-busy new (rw h.1 refl)

@@ -1,5 +1,5 @@
 -- The calls of the handshakes that an event is made of, and what they show.
-use Rattle.std.proofs.Common.{◌≡◌, ℕ, ◌<◌, ◌≤◌, true, false, List, [], ◌∷◌, ◌++◌, Some, None, refl, ap, inl, inr, arith}
+use Rattle.std.proofs.Common.{◌≡◌, ℕ, ◌<◌, ◌≤◌, Bool, true, false, List, [], ◌∷◌, ◌++◌, Option, Some, None, refl, ap, inl, inr, arith}
 use Rattle.std.specs.Prelude.{◌==◌}
 use Rattle.std.specs.List.{AllByRecursion}
 use Rattle.std.proofs.lemmas.Bool.{cases_Bool, false≢true, eqb-true, and_parts}
@@ -23,7 +23,8 @@ use Rattle.mqtt_sessions.specs.Reaction.{publishes_of, pubrels_of, packet_of}
 use Rattle.mqtt_sessions.specs.Answers as answer_packets
 use Rattle.session_laws.proofs.LeastLaws.{IsLeast, least-flushed}
 use Rattle.session_laws.proofs.SizeLaws.{publish-length}
-use Rattle.mqtt_sessions.specs.Sending.{SendsAll, Flushes}
+use Rattle.mqtt_sessions.specs.Sending.{SendsAll, StopsIf, Flushes}
+use Rattle.mqtt_sessions.specs.State.{has_room, room_after, room_less}
 use Rattle.session_laws.specs.Sends.{Mark, begins, crashes, acks, recs, comps, sends, sends_of, sent_in, sent_once_in}
 use Rattle.session_laws.specs.Order.{IsLate}
 
@@ -95,9 +96,9 @@ next-sound : (now limit : ℕ) (s : Sent) (old new : Outbox) → AreNumbered old
 next-sound now limit s old new n (inl h) = owed-sound now limit s old.copies n h.sent
 next-sound now limit s old new n (inr h) = record { numbered = h.number.first; short = waiting-short now limit s.copy (after_resend now limit old.copies) h.sent }
 
-sends-sound : (now limit : ℕ) (old last : Outbox) (sents : List Sent) → AreNumbered old.copies → SendsAll now limit old sents last → AllByRecursion (IsSound now limit) sents
-sends-sound now limit old last [] n h = tt
-sends-sound now limit old last (s ∷ ss) n h = (next-sound now limit s old h.0 n h.1, sends-sound now limit h.0 last ss (numbered-step old h.0 (asked now limit (Some s)) h.1 n) h.2)
+sends-sound : (now limit : ℕ) (room : Option ℕ) (old last : Outbox) (sents : List Sent) → AreNumbered old.copies → SendsAll now limit room old sents last → AllByRecursion (IsSound now limit) sents
+sends-sound now limit room old last [] n h = tt
+sends-sound now limit room old last (s ∷ ss) n h = (next-sound now limit s old h.1 n h.2, sends-sound now limit (room_less now room s.copy) h.1 last ss (numbered-step old h.1 (asked now limit (Some s)) h.2 n) h.3)
 
 -- ---- the PUBLISHes among packets
 not-none : (n : ℕ) → 1 ≤ n → (n == 0) ≡ false
@@ -132,9 +133,14 @@ once-pubrels [] ps = refl
 once-pubrels (id ∷ ids) ps = once-pubrels ids ps
 
 -- ---- the calls of a flush
-abbrev pub asks : ℕ → ℕ → List Sent → List Call
-asks now limit [] = asked now limit None ∷ []
-asks now limit (s ∷ ss) = asked now limit (Some s) ∷ asks now limit ss
+-- the last one, where room is left
+abbrev stop_call : Bool → ℕ → ℕ → List Call
+stop_call false now limit = []
+stop_call true now limit = asked now limit None ∷ []
+
+abbrev asks : Bool → ℕ → ℕ → List Sent → List Call
+asks more now limit [] = stop_call more now limit
+asks more now limit (s ∷ ss) = asked now limit (Some s) ∷ asks more now limit ss
 
 -- calls after the first ones of an event
 pub record Follows (now limit : ℕ) (old : Outbox) (sents : List Sent) (new : Outbox) : Type 0 where
@@ -149,51 +155,63 @@ pub record Follows (now limit : ℕ) (old : Outbox) (sents : List Sent) (new : O
   pub sound : AllByRecursion (IsSound now limit) sents
   pub least : AllByRecursion (IsLeast new.copies) sents
 
-run-asks : (now limit : ℕ) (old last new : Outbox) (sents : List Sent) → SendsAll now limit old sents last → NextStep now limit last None new → low.Run old (asks now limit sents) new
-run-asks now limit old last new [] all stops = (new, rw all at stops, refl)
-run-asks now limit old last new (s ∷ ss) all stops = (all.0, all.1, run-asks now limit all.0 last new ss all.2 stops)
+run-stop : (more : Bool) (now limit : ℕ) (last new : Outbox) → StopsIf more now limit last new → low.Run last (stop_call more now limit) new
+run-stop true now limit last new stops = (new, stops, refl)
+run-stop false now limit last new stops = stops
 
-offers-asks : (now limit : ℕ) (sents : List Sent) → all_offers (asks now limit sents) ≡ []
-offers-asks now limit [] = refl
-offers-asks now limit (s ∷ ss) = offers-asks now limit ss
+run-asks : (more : Bool) (now limit : ℕ) (room : Option ℕ) (old last new : Outbox) (sents : List Sent) → SendsAll now limit room old sents last → StopsIf more now limit last new → low.Run old (asks more now limit sents) new
+run-asks more now limit room old last new [] all stops = run-stop more now limit old new (rw all at stops)
+run-asks more now limit room old last new (s ∷ ss) all stops = (all.1, all.2, run-asks more now limit (room_less now room s.copy) all.1 last new ss all.3 stops)
 
-marks-asks : (now limit : ℕ) (sents : List Sent) → call_marks (asks now limit sents) ≡ sends_of sents
-marks-asks now limit [] = refl
-marks-asks now limit (s ∷ ss) = ap (λ (t : List Mark). sends s ∷ t) (marks-asks now limit ss)
+offers-asks : (more : Bool) (now limit : ℕ) (sents : List Sent) → all_offers (asks more now limit sents) ≡ []
+offers-asks true now limit [] = refl
+offers-asks false now limit [] = refl
+offers-asks more now limit (s ∷ ss) = offers-asks more now limit ss
 
-left-asks : (now limit : ℕ) (sents : List Sent) (x : Delivery) → low_order.LeftOutIn (asks now limit sents) x → IsLate now limit x
-left-asks now limit [] x (inl h) = h
-left-asks now limit [] x (inr h) = absurd h
-left-asks now limit (s ∷ ss) x (inl h) = h
-left-asks now limit (s ∷ ss) x (inr h) = left-asks now limit ss x h
+marks-asks : (more : Bool) (now limit : ℕ) (sents : List Sent) → call_marks (asks more now limit sents) ≡ sends_of sents
+marks-asks true now limit [] = refl
+marks-asks false now limit [] = refl
+marks-asks more now limit (s ∷ ss) = ap (λ (t : List Mark). sends s ∷ t) (marks-asks more now limit ss)
 
-answered-asks : (now limit : ℕ) (sents : List Sent) (x : SentCopy) → AnsweredIn (asks now limit sents) x → limit < length_of now x.1
-answered-asks now limit [] x (inl h) = h
-answered-asks now limit [] x (inr h) = absurd h
-answered-asks now limit (s ∷ ss) x (inl h) = h
-answered-asks now limit (s ∷ ss) x (inr h) = answered-asks now limit ss x h
+left-asks : (more : Bool) (now limit : ℕ) (sents : List Sent) (x : Delivery) → low_order.LeftOutIn (asks more now limit sents) x → IsLate now limit x
+left-asks true now limit [] x (inl h) = h
+left-asks true now limit [] x (inr h) = absurd h
+left-asks false now limit [] x h = absurd h
+left-asks more now limit (s ∷ ss) x (inl h) = h
+left-asks more now limit (s ∷ ss) x (inr h) = left-asks more now limit ss x h
 
-stays-asks : (now limit : ℕ) (sents : List Sent) → AllByRecursion low_resends.StaysConnected (asks now limit sents)
-stays-asks now limit [] = (tt, tt)
-stays-asks now limit (s ∷ ss) = (tt, stays-asks now limit ss)
+answered-asks : (more : Bool) (now limit : ℕ) (sents : List Sent) (x : SentCopy) → AnsweredIn (asks more now limit sents) x → limit < length_of now x.1
+answered-asks true now limit [] x (inl h) = h
+answered-asks true now limit [] x (inr h) = absurd h
+answered-asks false now limit [] x h = absurd h
+answered-asks more now limit (s ∷ ss) x (inl h) = h
+answered-asks more now limit (s ∷ ss) x (inr h) = answered-asks more now limit ss x h
 
-numbers-asks : (now limit : ℕ) (sents : List Sent) → AllByRecursion HasNumbers (asks now limit sents)
-numbers-asks now limit [] = (tt, tt)
-numbers-asks now limit (s ∷ ss) = (tt, numbers-asks now limit ss)
+stays-asks : (more : Bool) (now limit : ℕ) (sents : List Sent) → AllByRecursion low_resends.StaysConnected (asks more now limit sents)
+stays-asks true now limit [] = (tt, tt)
+stays-asks false now limit [] = tt
+stays-asks more now limit (s ∷ ss) = (tt, stays-asks more now limit ss)
 
-pub flushed : (now limit : ℕ) (old new : Outbox) (sents : List Sent) → AreNumbered old.copies → Flushes now limit old sents new → Follows now limit old sents new
-flushed now limit old new sents n f = record {
-  calls = asks now limit sents;
-  runs = run-asks now limit old f.last new sents f.sends f.stops;
-  offers = offers-asks now limit sents;
-  marks = marks-asks now limit sents;
-  left_out = left-asks now limit sents;
-  answered = answered-asks now limit sents;
-  stays = stays-asks now limit sents;
-  numbers = numbers-asks now limit sents;
-  sound = sends-sound now limit old f.last sents n f.sends;
-  least = least-flushed now limit old new sents f;
-}
+numbers-asks : (more : Bool) (now limit : ℕ) (sents : List Sent) → AllByRecursion HasNumbers (asks more now limit sents)
+numbers-asks true now limit [] = (tt, tt)
+numbers-asks false now limit [] = tt
+numbers-asks more now limit (s ∷ ss) = (tt, numbers-asks more now limit ss)
+
+pub flushed : (now limit : ℕ) (room : Option ℕ) (old new : Outbox) (sents : List Sent) → AreNumbered old.copies → Flushes now limit room old sents new → Follows now limit old sents new
+flushed now limit room old new sents n f =
+    let more = has_room (room_after now room sents) in
+    record {
+      calls = asks more now limit sents;
+      runs = run-asks more now limit room old f.last new sents f.sends f.stops;
+      offers = offers-asks more now limit sents;
+      marks = marks-asks more now limit sents;
+      left_out = left-asks more now limit sents;
+      answered = answered-asks more now limit sents;
+      stays = stays-asks more now limit sents;
+      numbers = numbers-asks more now limit sents;
+      sound = sends-sound now limit room old f.last sents n f.sends;
+      least = least-flushed now limit room old new sents f;
+    }
 
 abbrev pub unchanged : (now limit : ℕ) (old new : Outbox) (sents : List Sent) → sents ≡ [] → new ≡ old → Follows now limit old sents new
 unchanged now limit old new sents none same = record {

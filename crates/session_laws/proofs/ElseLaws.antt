@@ -8,7 +8,7 @@ use Rattle.qos_handshakes.specs.Outbox.{Sent}
 use Rattle.mqtt_sessions.specs.Reaction.{Reaction, publishes_of}
 use Rattle.mqtt_sessions.specs.Sending.{is_once, once_of, QueueIf}
 use Rattle.mqtt_sessions.specs.State.{State, limit_of}
-use Rattle.session_laws.specs.Runs.{Event, connects, queues, takes, answers, closes, ticks, finishes, loses, Reacts}
+use Rattle.session_laws.specs.Runs.{Event, connects, queues, rooms, takes, answers, closes, ticks, finishes, loses, Reacts}
 use Rattle.session_laws.specs.Silence.{IsPublish, SendsOnly, KeepsNothingElse}
 use Rattle.session_laws.proofs.ReleaseLaws.{tick-none}
 
@@ -26,8 +26,9 @@ queue-publishes false old new d now r (inl q) = rw q.reacts (are-publishes q.sen
 queue-publishes false old new d now r (inr q) = rw q.reacts tt
 
 only : (old new : State) (e : Event) (r : Reaction) → Reacts old e r new → SendsOnly e r.packets
-only old new (connects c continued now) r h = tt
+only old new (connects c continued room now) r h = tt
 only old new (queues d now) r h = queue-publishes (is_once d.qos) old new d now r h
+only old new (rooms bytes now) r h = rw h.reacts (are-publishes h.sents)
 only old new (takes p now room) r h = tt
 only old new (answers id codes) r h = tt
 only old new (closes now) r h = rw h.0 refl

@@ -2,11 +2,12 @@
 use Rattle.std.proofs.Common.{◌≡◌, Some}
 use Rattle.mqtt_sessions.specs.Reaction.{Reaction}
 use Rattle.mqtt_sessions.specs.State.{State}
-use Rattle.session_laws.specs.Runs.{Event, connects, queues, takes, answers, closes, ticks, finishes, loses, Reacts, step_of, MayCome, CallsAreEvents}
+use Rattle.session_laws.specs.Runs.{Event, connects, queues, rooms, takes, answers, closes, ticks, finishes, loses, Reacts, step_of, MayCome, CallsAreEvents}
 
 by-step : (e : Event) (old new : State) (r : Reaction) → MayCome e old → step_of e old r new → Reacts old e r new
-by-step (connects c continued now) old new r may h = (may, h)
+by-step (connects c continued room now) old new r may h = (may, h)
 by-step (queues d now) old new r may h = h
+by-step (rooms bytes now) old new r may h = h
 by-step (takes p now room) old new r may h = h
 by-step (answers id codes) old new r may h = h
 by-step (closes now) old new r may h = h

@@ -1,5 +1,5 @@
 -- What is sent first has the least identifier that is free.
-use Rattle.std.proofs.Common.{◌≡◌, ℕ, ◌<◌, ◌≤◌, false, List, [], ◌∷◌, Option, Some, None, IsSome, refl, ap, inl, inr}
+use Rattle.std.proofs.Common.{◌≡◌, ℕ, ◌<◌, ◌≤◌, Bool, true, false, List, [], ◌∷◌, Option, Some, None, IsSome, refl, ap, inl, inr}
 use Rattle.std.specs.List.{AllByRecursion}
 use Rattle.std.proofs.lemmas.Bool.{cases_Bool, both_ways}
 use Rattle.qos_handshakes.specs.Entries.{Entries, find_id}
@@ -8,7 +8,8 @@ use Rattle.qos_handshakes.proofs.EntryLaws.{NoneOwed}
 use Rattle.handshake_laws.proofs.LaidLaws.{none-owed}
 use Rattle.handshake_laws.proofs.NumberLaws.{some-sent, least-next}
 use Rattle.handshake_laws.proofs.OrderLaws.{resent-dup}
-use Rattle.mqtt_sessions.specs.Sending.{SendsAll, Flushes}
+use Rattle.mqtt_sessions.specs.Sending.{SendsAll, StopsIf, Flushes}
+use Rattle.mqtt_sessions.specs.State.{has_room, room_after, room_less}
 
 -- under a first send every lesser identifier is unfinished
 abbrev pub IsLeast : Entries → Sent → Type 0
@@ -47,23 +48,27 @@ stays-next k now limit None old new n h = elim n.step [
 stays-next k now limit (Some s) old new (inl n) h = absurd (none-first now limit s old.copies h.0 n.sent)
 stays-next k now limit (Some s) old new (inr n) h = rw n.left (stays-sent k now limit s.id old.copies h.0 h.1)
 
-stays-all : (k now limit : ℕ) (old last : Outbox) (sents : List Sent) → SendsAll now limit old sents last → Stays k old → Stays k last
-stays-all k now limit old last [] all h = rw all h
-stays-all k now limit old last (s ∷ ss) all h = stays-all k now limit all.0 last ss all.2 (stays-next k now limit (Some s) old all.0 all.1 h)
+stays-all : (k now limit : ℕ) (room : Option ℕ) (old last : Outbox) (sents : List Sent) → SendsAll now limit room old sents last → Stays k old → Stays k last
+stays-all k now limit room old last [] all h = rw all h
+stays-all k now limit room old last (s ∷ ss) all h = stays-all k now limit (room_less now room s.copy) all.1 last ss all.3 (stays-next k now limit (Some s) old all.1 all.2 h)
+
+stays-stop : (k now limit : ℕ) (more : Bool) (last new : Outbox) → StopsIf more now limit last new → Stays k last → Stays k new
+stays-stop k now limit true last new stops h = stays-next k now limit None last new stops h
+stays-stop k now limit false last new stops h = rw stops h
 
 -- after a first send none is owed
 owed-first : (now limit : ℕ) (s : Sent) (old new : Outbox) → NextStep now limit old (Some s) new → s.dup ≡ false → NoneOwed new.copies
 owed-first now limit s old new (inl n) first = absurd (both_ways s.dup first (resent-dup now limit s old.copies n.sent))
 owed-first now limit s old new (inr n) first = rw n.left (owed-sent now limit s.id (after_resend now limit old.copies) (none-owed now limit old.copies n.none_owed))
 
-least-sends : (now limit : ℕ) (old last new : Outbox) (sents : List Sent) → SendsAll now limit old sents last → NextStep now limit last None new → AllByRecursion (IsLeast new.copies) sents
-least-sends now limit old last new [] all stops = tt
-least-sends now limit old last new (s ∷ ss) all stops = (
+least-sends : (now limit : ℕ) (room : Option ℕ) (more : Bool) (old last new : Outbox) (sents : List Sent) → SendsAll now limit room old sents last → StopsIf more now limit last new → AllByRecursion (IsLeast new.copies) sents
+least-sends now limit room more old last new [] all stops = tt
+least-sends now limit room more old last new (s ∷ ss) all stops = (
   λ first k low less.
-      let there : Stays k all.0 = (owed-first now limit s old all.0 all.1 first, least-next now limit k old all.0 s all.1 first low less) in
-      (stays-next k now limit None last new stops (stays-all k now limit all.0 last ss all.2 there)).1,
-  least-sends now limit all.0 last new ss all.2 stops,
+      let there : Stays k all.1 = (owed-first now limit s old all.1 all.2 first, least-next now limit k old all.1 s all.2 first low less) in
+      (stays-stop k now limit more last new stops (stays-all k now limit (room_less now room s.copy) all.1 last ss all.3 there)).1,
+  least-sends now limit (room_less now room s.copy) more all.1 last new ss all.3 stops,
 )
 
-pub least-flushed : (now limit : ℕ) (old new : Outbox) (sents : List Sent) → Flushes now limit old sents new → AllByRecursion (IsLeast new.copies) sents
-least-flushed now limit old new sents f = least-sends now limit old f.last new sents f.sends f.stops
+pub least-flushed : (now limit : ℕ) (room : Option ℕ) (old new : Outbox) (sents : List Sent) → Flushes now limit room old sents new → AllByRecursion (IsLeast new.copies) sents
+least-flushed now limit room old new sents f = least-sends now limit room (has_room (room_after now room sents)) old f.last new sents f.sends f.stops

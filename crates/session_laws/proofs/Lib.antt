@@ -18,3 +18,4 @@ pub mod EventLaws
 pub mod StepLaws
 pub mod OutcomeLaws
 pub mod ReopenedLaws
+pub mod RoomLaws

@@ -1,5 +1,5 @@
 -- The laws of the handshakes, lifted to sessions.
-use Rattle.std.proofs.Common.{◌≡◌, ℕ, Bool, true, false, List, [], ◌∷◌, ◌++◌, ◌⊎◌, Some, None, refl, sym, ◌∙◌, ap, inl, inr, append_assoc}
+use Rattle.std.proofs.Common.{◌≡◌, ℕ, Bool, true, false, List, [], ◌∷◌, ◌++◌, ◌⊎◌, Option, Some, None, refl, sym, ◌∙◌, ap, inl, inr, append_assoc}
 use Rattle.std.specs.Prelude.{is_some}
 use Rattle.std.specs.List.{AllByRecursion}
 use Rattle.std.proofs.lemmas.Bool.{cases_Bool, false≢true}
@@ -201,19 +201,19 @@ record Goes (old : State) (c : Connect) (first : Step) (here : List Step) (end :
   pub resent : all_resends rest ≡ resends (all_marks false (first ∷ here))
   pub answered : (on : Bool) (limit : ℕ) (x : SentCopy) → AnsweredIn rest x → EndedIn on limit (first ∷ here) x
 
-goes : (old mid : State) (here : List Step) (c : Connect) (continued : Bool) (now : ℕ) (r : Reaction) (end : State) → AreNumbered old.outbox.copies → AllByRecursion (λ (s : Step). StaysConnected s.event) here → ConnectStep c continued now old r mid → Run mid here end
-    → Goes old c (record { event = connects c continued now; reaction = r }) here end
-goes old mid here c continued now r end n stay begins run =
-    let first : Step = record { event = connects c continued now; reaction = r } in
-    let b = begun false 0 old mid c continued now r n begins in
+goes : (old mid : State) (here : List Step) (c : Connect) (continued : Bool) (room : Option ℕ) (now : ℕ) (r : Reaction) (end : State) → AreNumbered old.outbox.copies → AllByRecursion (λ (s : Step). StaysConnected s.event) here → ConnectStep c continued room now old r mid → Run mid here end
+    → Goes old c (record { event = connects c continued room now; reaction = r }) here end
+goes old mid here c continued room now r end n stay begins run =
+    let first : Step = record { event = connects c continued room now; reaction = r } in
+    let b = begun false 0 old mid c continued room now r n begins in
     let m = numbered-calls old.outbox (resumed (maximum_in c) ∷ b.rest) mid.outbox b.runs n in
-    let q = project-run (connected_after false (connects c continued now) r) (limit_in c.properties) mid here end b.limited b.connected m run in
+    let q = project-run (connected_after false (connects c continued room now) r) (limit_in c.properties) mid here end b.limited b.connected m run in
     record {
       rest = b.rest ++ q.calls;
       runs = run-then old.outbox mid.outbox end.outbox (resumed (maximum_in c) ∷ b.rest) q.calls b.runs q.runs;
       stays = all-then low_resends.StaysConnected b.rest q.calls b.stays (q.shows.stays stay);
       resent = resends-marks (resumed (maximum_in c) ∷ b.rest ++ q.calls) ∙ ap resends (marks-then (resumed (maximum_in c) ∷ b.rest) q.calls)
-          ∙ both-marks (call_marks (resumed (maximum_in c) ∷ b.rest)) (call_marks q.calls) (marks_of false first) (all_marks (connected_after false (connects c continued now) r) here) b.shows.marks q.shows.marks;
+          ∙ both-marks (call_marks (resumed (maximum_in c) ∷ b.rest)) (call_marks q.calls) (marks_of false first) (all_marks (connected_after false (connects c continued room now) r) here) b.shows.marks q.shows.marks;
       answered = λ on limit x h. elim (answered-then b.rest q.calls x h) [
         | inl k ↦ inl (b.shows.answered x (inr k))
         | inr k ↦ inr (q.shows.answered x k)
@@ -221,11 +221,11 @@ goes old mid here c continued now r end n stay begins run =
     }
 
 pub keeps_resends_in_order : KeepsResendsInOrder
-keeps_resends_in_order = λ client before here c continued now r end stay run.
-    let first : Step = record { event = connects c continued now; reaction = r } in
+keeps_resends_in_order = λ client before here c continued room now r end stay run.
+    let first : Step = record { event = connects c continued room now; reaction = r } in
     let t = run-split (new_session client) before (first ∷ here) end run in
     let p = whole client before t.0 t.1 in
-    let g = goes t.0 t.2.0 here c continued now r end (numbered-calls empty_outbox p.calls t.0.outbox p.runs tt) stay t.2.1.1 t.2.2 in
+    let g = goes t.0 t.2.0 here c continued room now r end (numbered-calls empty_outbox p.calls t.0.outbox p.runs tt) stay t.2.1.1 t.2.2 in
     let law = low_again.keeps_resends_in_order p.calls g.rest (maximum_in c) end.outbox g.stays (run-then empty_outbox t.0.outbox end.outbox p.calls (resumed (maximum_in c) ∷ g.rest) p.runs g.runs) in
     rw (← p.shows.marks, ← sends-marks p.calls, ← g.resent)
     (without-more (AnsweredIn (p.calls ++ g.rest)) (EndedIn false 0 (before ++ first ∷ here))
@@ -239,11 +239,11 @@ fresh-nothing : (old : Outbox) (c : Connect) (rest : List Call) (end : Outbox) �
 fresh-nothing old c rest end new stay run = (both-nil (all_resends rest) (owed end.copies) (low_again.keeps_resends_in_order [] rest (maximum_in c) end stay (rw new at run))).0
 
 pub keeps_resends_continued : KeepsResendsContinued
-keeps_resends_continued = λ client before here c now r end stay run.
-    let first : Step = record { event = connects c false now; reaction = r } in
+keeps_resends_continued = λ client before here c room now r end stay run.
+    let first : Step = record { event = connects c false room now; reaction = r } in
     let t = run-split (new_session client) before (first ∷ here) end run in
     let p = whole client before t.0 t.1 in
-    let g = goes t.0 t.2.0 here c false now r end (numbered-calls empty_outbox p.calls t.0.outbox p.runs tt) stay t.2.1.1 t.2.2 in
+    let g = goes t.0 t.2.0 here c false room now r end (numbered-calls empty_outbox p.calls t.0.outbox p.runs tt) stay t.2.1.1 t.2.2 in
     sym g.resent ∙ elim t.2.1.0 [
       | inl bad ↦ absurd (false≢true bad)
       | inr fresh ↦ fresh-nothing t.0.outbox c g.rest end.outbox fresh.0 g.stays g.runs

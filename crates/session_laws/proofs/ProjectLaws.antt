@@ -28,9 +28,9 @@ use Rattle.mqtt_sessions.specs.Answers.{pubrel, connack, fits}
 use Rattle.mqtt_sessions.specs.Connecting.{Opens, OpensIf, ConnectStep, resumed_by}
 use Rattle.mqtt_sessions.specs.Packets.{GoesOnAfter, PubackStep, PubcompStep, PubrecBy, SaysUnknown, KindStep, PacketIf}
 use Rattle.mqtt_sessions.specs.Reaction.{Reaction, Comes, answered, packet_of, publishes_of}
-use Rattle.mqtt_sessions.specs.Sending.{is_once, once_of, GoesOn, QueueIf}
+use Rattle.mqtt_sessions.specs.Sending.{is_once, once_of, GoesOn, QueueIf, RoomStep}
 use Rattle.mqtt_sessions.specs.State.{State, Link, heard, limit_in, limit_of, with_outbox}
-use Rattle.session_laws.specs.Runs.{Event, connects, queues, takes, answers, closes, ticks, finishes, loses, Reacts, connected_after, limit_after}
+use Rattle.session_laws.specs.Runs.{Event, connects, queues, rooms, takes, answers, closes, ticks, finishes, loses, Reacts, connected_after, limit_after}
 use Rattle.session_laws.specs.Sends.{marks_by, sends_of, maximum_in, sent_in, sent_once_in, once_by}
 use Rattle.session_laws.specs.Order.{queued_by, LeavesOut}
 use Rattle.session_laws.specs.Sizes.{moment_of, AllFit}
@@ -100,11 +100,11 @@ record GoesOnward (now limit : ℕ) (o : Option Link) (old : Outbox) (sents : Li
   pub left_out : (x : Delivery) → low_order.LeftOutIn follows.calls x → is_some o ≡ true
   pub answered : (x : SentCopy) → AnsweredIn follows.calls x → is_some o ≡ true
 
-queued : (limit : ℕ) (o : Option Link) (old new : Outbox) (now : ℕ) (sents : List Sent) → HasLimit limit o → AreNumbered old.copies → GoesOn (limit_of o) now old sents new → GoesOnward now limit o old sents new
-queued limit None old new now sents is n g = record { follows = unchanged now limit old new sents g.0 g.1; left_out = λ x h. absurd h; answered = λ x h. absurd h }
-queued limit (Some l) old new now sents is n g = record { follows = flushed now limit old new sents n (rw is at g); left_out = λ x h. refl; answered = λ x h. refl }
+queued : (limit : ℕ) (o : Option Link) (room : Option ℕ) (old new : Outbox) (now : ℕ) (sents : List Sent) → HasLimit limit o → AreNumbered old.copies → GoesOn (limit_of o) now room old sents new → GoesOnward now limit o old sents new
+queued limit None room old new now sents is n g = record { follows = unchanged now limit old new sents g.0 g.1; left_out = λ x h. absurd h; answered = λ x h. absurd h }
+queued limit (Some l) room old new now sents is n g = record { follows = flushed now limit room old new sents n (rw is at g); left_out = λ x h. refl; answered = λ x h. refl }
 
-none-queued : (o : Option Link) (now : ℕ) (d : Delivery) → sent_in (once_of (limit_of o) now d) ≡ []
+pub none-queued : (o : Option Link) (now : ℕ) (d : Delivery) → sent_in (once_of (limit_of o) now d) ≡ []
 none-queued None now d = refl
 none-queued (Some l) now d = elim (cases_Bool (outbox.fits now l.limit d)) [ inl h ↦ rw h refl | inr h ↦ rw h refl ]
 
@@ -139,7 +139,7 @@ project-queue true on limit old new d now r is limited opens n q = record {
   connected = rw q.1 (stays-on on r old.link (rw q.0 refl) opens);
 }
 project-queue false on limit old new d now r is limited opens n (inl q) =
-    let w = queued limit old.link q.mid q.after now q.sents limited (numbered-step old.outbox q.mid (offered d Queued) q.offers n) q.goes_on in
+    let w = queued limit old.link old.room q.mid q.after now q.sents limited (numbered-step old.outbox q.mid (offered d Queued) q.offers n) q.goes_on in
     let f = w.follows in
     record {
       calls = offered d Queued ∷ f.calls;
@@ -176,6 +176,30 @@ project-queue false on limit old new d now r is limited opens n (inr q) = record
   connected = rw q.left (stays-on on r old.link (rw q.reacts refl) opens);
 }
 
+-- ---- room
+project-room : (on : Bool) (limit : ℕ) (old new : State) (bytes now : ℕ) (r : Reaction) → HasLimit limit old.link → on ≡ is_some old.link → AreNumbered old.outbox.copies → RoomStep bytes now old r new
+    → Projects on limit old.outbox (rooms bytes now) r new
+project-room on limit old new bytes now r limited opens n q =
+    let w = queued limit old.link (Some bytes) old.outbox q.after now q.sents limited n q.goes_on in
+    let f = w.follows in
+    record {
+      calls = f.calls;
+      runs = rw q.left f.runs;
+      shows = record {
+        offers = f.offers;
+        marks = rw (q.reacts, sent-publishes now limit q.sents f.sound) f.marks;
+        once = rw q.reacts (once-publishes now limit q.sents f.sound);
+        sized = rw q.reacts (record { packets = publishes-fit now limit q.sents f.sound; last = tt });
+        left_out = λ x g. (opens ∙ w.left_out x g, f.left_out x g);
+        answered = λ x g. (opens ∙ w.answered x g, f.answered x g);
+        stays = λ _. f.stays;
+        numbers = f.numbers;
+      };
+      least = rw (q.reacts, sent-publishes now limit q.sents f.sound, q.left) f.least;
+      limited = rw q.left limited;
+      connected = rw q.left (stays-on on r old.link (rw q.reacts refl) opens);
+    }
+
 -- ---- connect
 -- its first call takes the client's Receive Maximum
 pub record Begun (on : Bool) (limit : ℕ) (old : Outbox) (c : Connect) (e : Event) (r : Reaction) (new : State) : Type 0 where
@@ -187,9 +211,9 @@ pub record Begun (on : Bool) (limit : ℕ) (old : Outbox) (c : Connect) (e : Eve
   pub connected : connected_after on e r ≡ is_some new.link
   pub stays : AllByRecursion low_resends.StaysConnected rest
 
-begun-opens : (on : Bool) (limit : ℕ) (old new : State) (c : Connect) (p : Packet) (continued : Bool) (now : ℕ) (r : Reaction) → AreNumbered old.outbox.copies → fits (limit_in c.properties) p ≡ true → ((id : ℕ) → fits (limit_in c.properties) (pubrel id 0) ≡ true) → Opens old c p now r new → Begun on limit old.outbox c (connects c continued now) r new
-begun-opens on limit old new c p continued now r n fit rels o =
-    let f = flushed now (limit_in c.properties) (resumed_by old.outbox c) o.after o.sents (numbered-step old.outbox (resumed_by old.outbox c) (resumed (maximum_in c)) refl n) o.flushes in
+begun-opens : (on : Bool) (limit : ℕ) (old new : State) (c : Connect) (p : Packet) (continued : Bool) (room : Option ℕ) (now : ℕ) (r : Reaction) → AreNumbered old.outbox.copies → fits (limit_in c.properties) p ≡ true → ((id : ℕ) → fits (limit_in c.properties) (pubrel id 0) ≡ true) → Opens old c p room now r new → Begun on limit old.outbox c (connects c continued room now) r new
+begun-opens on limit old new c p continued room now r n fit rels o =
+    let f = flushed now (limit_in c.properties) room (resumed_by old.outbox c) o.after o.sents (numbered-step old.outbox (resumed_by old.outbox c) (resumed (maximum_in c)) refl n) o.flushes in
     record {
       rest = listed o.ids ∷ f.calls;
       runs = (resumed_by old.outbox c, refl, (resumed_by old.outbox c, o.lists, rw o.left f.runs));
@@ -209,9 +233,9 @@ begun-opens on limit old new c p continued now r n fit rels o =
       stays = (tt, f.stays);
     }
 
-begun-if : (b on : Bool) (limit : ℕ) (old new : State) (c : Connect) (p : Packet) (continued : Bool) (now : ℕ) (r : Reaction) → AreNumbered old.outbox.copies → fits (limit_in c.properties) p ≡ b → (fits (limit_in c.properties) p ≡ true → (id : ℕ) → fits (limit_in c.properties) (pubrel id 0) ≡ true) → OpensIf b old c p now r new → Begun on limit old.outbox c (connects c continued now) r new
-begun-if true on limit old new c p continued now r n fit rels o = begun-opens on limit old new c p continued now r n fit (rels fit) o
-begun-if false on limit old new c p continued now r n fit rels o = record {
+begun-if : (b on : Bool) (limit : ℕ) (old new : State) (c : Connect) (p : Packet) (continued : Bool) (room : Option ℕ) (now : ℕ) (r : Reaction) → AreNumbered old.outbox.copies → fits (limit_in c.properties) p ≡ b → (fits (limit_in c.properties) p ≡ true → (id : ℕ) → fits (limit_in c.properties) (pubrel id 0) ≡ true) → OpensIf b old c p room now r new → Begun on limit old.outbox c (connects c continued room now) r new
+begun-if true on limit old new c p continued room now r n fit rels o = begun-opens on limit old new c p continued room now r n fit (rels fit) o
+begun-if false on limit old new c p continued room now r n fit rels o = record {
   rest = [];
   runs = (resumed_by old.outbox c, refl, rw o.1 refl);
   shows = record {
@@ -230,15 +254,15 @@ begun-if false on limit old new c p continued now r n fit rels o = record {
   stays = tt;
 }
 
-pub begun : (on : Bool) (limit : ℕ) (old new : State) (c : Connect) (continued : Bool) (now : ℕ) (r : Reaction) → AreNumbered old.outbox.copies → ConnectStep c continued now old r new → Begun on limit old.outbox c (connects c continued now) r new
-begun on limit old new c continued now r n h =
-    begun-if (fits (limit_in c.properties) (connack continued c.client old.kept.client)) on limit old new c (connack continued c.client old.kept.client) continued now r n refl
+pub begun : (on : Bool) (limit : ℕ) (old new : State) (c : Connect) (continued : Bool) (room : Option ℕ) (now : ℕ) (r : Reaction) → AreNumbered old.outbox.copies → ConnectStep c continued room now old r new → Begun on limit old.outbox c (connects c continued room now) r new
+begun on limit old new c continued room now r n h =
+    begun-if (fits (limit_in c.properties) (connack continued c.client old.kept.client)) on limit old new c (connack continued c.client old.kept.client) continued room now r n refl
     (λ fit id. pubrel-fits continued c.client old.kept.client (limit_in c.properties) id fit) h
 
 -- ---- answers for what was sent
-after-ack : (a : Ack) (now limit : ℕ) (old new : Outbox) (sents : List Sent) → AreNumbered old.copies → GoesOnAfter a now limit old sents new → Follows now limit old sents new
-after-ack Done now limit old new sents n h = flushed now limit old new sents n h
-after-ack Unknown now limit old new sents n h = unchanged now limit old new sents h.0 h.1
+after-ack : (a : Ack) (now limit : ℕ) (room : Option ℕ) (old new : Outbox) (sents : List Sent) → AreNumbered old.copies → GoesOnAfter a now limit room old sents new → Follows now limit old sents new
+after-ack Done now limit room old new sents n h = flushed now limit room old new sents n h
+after-ack Unknown now limit room old new sents n h = unchanged now limit old new sents h.0 h.1
 
 answers-ack : (id : ℕ) (a : Ack) (x : SentCopy) → Answers (acknowledged id a) x → x.0 ≡ id
 answers-ack id Done x h = h
@@ -253,7 +277,7 @@ answers-rec id reason rec.AtEnd x h = absurd h
 project-puback : (limit : ℕ) (s new : State) (a : ack_packets.Ack) (now : ℕ) (room : Bool) (r : Reaction) → HasLimit limit s.link → true ≡ is_some s.link → AreNumbered s.outbox.copies → PubackStep a.identifier now limit s r new
     → Projects true limit s.outbox (takes (packets.Puback a) now room) r new
 project-puback limit s new a now room r is opens n p =
-    let f = after-ack p.answer now limit p.mid p.after p.sents (numbered-step s.outbox p.mid (acknowledged a.identifier p.answer) p.takes n) p.goes_on in
+    let f = after-ack p.answer now limit s.room p.mid p.after p.sents (numbered-step s.outbox p.mid (acknowledged a.identifier p.answer) p.takes n) p.goes_on in
     record {
       calls = acknowledged a.identifier p.answer ∷ f.calls;
       runs = (p.mid, p.takes, rw p.left f.runs);
@@ -275,7 +299,7 @@ project-puback limit s new a now room r is opens n p =
 project-pubcomp : (limit : ℕ) (s new : State) (a : ack_packets.Ack) (now : ℕ) (room : Bool) (r : Reaction) → HasLimit limit s.link → true ≡ is_some s.link → AreNumbered s.outbox.copies → PubcompStep a.identifier now limit s r new
     → Projects true limit s.outbox (takes (packets.Pubcomp a) now room) r new
 project-pubcomp limit s new a now room r is opens n p =
-    let f = after-ack p.answer now limit p.mid p.after p.sents (numbered-step s.outbox p.mid (completed a.identifier p.answer) p.takes n) p.goes_on in
+    let f = after-ack p.answer now limit s.room p.mid p.after p.sents (numbered-step s.outbox p.mid (completed a.identifier p.answer) p.takes n) p.goes_on in
     record {
       calls = completed a.identifier p.answer ∷ f.calls;
       runs = (p.mid, p.takes, rw p.left f.runs);
@@ -316,11 +340,11 @@ received-quiet k limit s new a now room r mid opens numbers step q = record {
 }
 
 pub comes-quiet : (limit : ℕ) (p : Packet) (s new : State) (r : Reaction) → HasLimit limit s.link → Comes (answered limit p None s) r new → IsQuiet limit s r new
-comes-quiet limit p s new r is c = rw c.0 (rw c.1 (quiet-answered limit p None s s refl refl is))
+comes-quiet limit p s new r is c = rw c.0 (rw c.1 (quiet-answered limit p None s s refl refl refl is))
 
 pub unknown-quiet : (id reason limit : ℕ) (s new : State) (r : Reaction) → HasLimit limit s.link → SaysUnknown id reason limit s r new → IsQuiet limit s r new
 unknown-quiet id reason limit s new r is (inl h) = comes-quiet limit (pubrel id 146) s new r is h.1
-unknown-quiet id reason limit s new r is (inr h) = rw (h.1, h.2) (still limit s s None false false refl refl is)
+unknown-quiet id reason limit s new r is (inr h) = rw (h.1, h.2) (still limit s s None false false refl refl refl is)
 
 project-pubrec : (k : Rec) (limit : ℕ) (s new : State) (a : ack_packets.Ack) (now : ℕ) (room : Bool) (r : Reaction) (mid : Outbox) → HasLimit limit s.link → true ≡ is_some s.link → AreNumbered s.outbox.copies
     → ReceivedStep s.outbox a.identifier a.reason k mid → PubrecBy k a.identifier a.reason now limit s mid r new → Projects true limit s.outbox (takes (packets.Pubrec a) now room) r new
@@ -328,7 +352,7 @@ project-pubrec rec.Release limit s new a now room r mid is opens n step p = rece
 project-pubrec rec.Unknown limit s new a now room r mid is opens n step p = received-quiet rec.Unknown limit s new a now room r mid opens tt step (unknown-quiet a.identifier a.reason limit (with_outbox s mid) new r is p)
 project-pubrec rec.AtEnd limit s new a now room r mid is opens n step p = absurd p
 project-pubrec rec.Ended limit s new a now room r mid is opens n step p =
-    let f = flushed now limit mid p.after p.sents (numbered-step s.outbox mid (received a.identifier a.reason rec.Ended) step n) p.flushes in
+    let f = flushed now limit s.room mid p.after p.sents (numbered-step s.outbox mid (received a.identifier a.reason rec.Ended) step n) p.flushes in
     record {
       calls = received a.identifier a.reason rec.Ended ∷ f.calls;
       runs = (mid, step, rw p.left f.runs);
@@ -396,10 +420,11 @@ project-lost on limit old new r h = record {
 }
 
 pub project : (on : Bool) (limit : ℕ) (old new : State) (e : Event) (r : Reaction) → HasLimit limit old.link → on ≡ is_some old.link → AreNumbered old.outbox.copies → Reacts old e r new → Projects on limit old.outbox e r new
-project on limit old new (connects c continued now) r is opens n h =
-    let b = begun on limit old new c continued now r n h.1 in
+project on limit old new (connects c continued room now) r is opens n h =
+    let b = begun on limit old new c continued room now r n h.1 in
     record { calls = resumed (maximum_in c) ∷ b.rest; runs = b.runs; shows = b.shows; least = b.least; limited = b.limited; connected = b.connected }
 project on limit old new (queues d now) r is opens n h = project-queue (is_once d.qos) on limit old new d now r refl is opens n h
+project on limit old new (rooms bytes now) r is opens n h = project-room on limit old new bytes now r is opens n h
 project on limit old new (takes p now room) r is opens n h = project-packet old.link on limit old new p now room r refl is opens n h
 project on limit old new (answers id codes) r is opens n h = project-quiet on limit old new (answers id codes) r (refl, refl, refl) refl refl opens (quiet-answer old.link limit id codes old r new refl is h)
 project on limit old new (closes now) r is opens n h = quiet on limit old.outbox (closes now) r new (refl, refl, refl) (rw h.0 refl) (rw h.0 refl) (rw h.0 (record { packets = tt; last = tt })) (rw h.1 refl) (rw h.1 tt) (rw h.1 refl)

@@ -46,7 +46,7 @@ use Rattle.mqtt_sessions.specs.Sending.{is_once, once_of, QueueIf}
 use Rattle.mqtt_sessions.specs.State.{State, Link, limit_in, limit_of, new_session}
 use Rattle.session_laws.specs.Aliases.{Topics, topic_under}
 use Rattle.session_laws.proofs.AliasLaws.{held}
-use Rattle.session_laws.specs.Runs.{Event, connects, queues, takes, answers, closes, ticks, finishes, loses, Reacts}
+use Rattle.session_laws.specs.Runs.{Event, connects, queues, rooms, takes, answers, closes, ticks, finishes, loses, Reacts}
 use Rattle.session_laws.specs.Sends.{marks_by, all_marks}
 use Rattle.session_laws.specs.Replies.{Reply, silent, says, asks, both, ends, leaves, reaction_of, has_hundred, is_invalid, reply_under, reply_exactly_once, reply_at, reply_publish, reply_request, reply_disconnect, reply_unknown, reply_known, reply_pubrec, reply_codes, IsReply}
 use Rattle.session_laws.specs.Exchanges.{Exchange, none, released, after_pubrec, exchange_over, Releases, KeepsReleases}
@@ -196,9 +196,9 @@ all-values P (y ∷ ys) h = (h.0, all-values P ys h.1)
 numbered-away : (es : Entries) → AreNumbered es → AreNumbered (away es)
 numbered-away es n = numbered-step (record { copies = es; next_place = 1; next_order = 1; maximum = 0 }) (record { copies = away es; next_place = 1; next_order = 1; maximum = 0 }) (resumed 0) refl n
 
-opens-released : (b : Bool) (id : ℕ) (old new : State) (c : Connect) (p : Packet) (now : ℕ) (r : Reaction) (x : Exchange) → (p ≡ pubrel id 0 → ⊥) → AreNumbered old.outbox.copies → IsTold id x old.outbox.copies → OpensIf b old c p now r new → Releases id r.packets → x ≡ released
-opens-released false id old new c p now r x not_it n told h t = absurd (rw h.0 at t)
-opens-released true id old new c p now r x not_it n told h t = elim (rw h.reacts at t) [
+opens-released : (b : Bool) (id : ℕ) (old new : State) (c : Connect) (p : Packet) (room : Option ℕ) (now : ℕ) (r : Reaction) (x : Exchange) → (p ≡ pubrel id 0 → ⊥) → AreNumbered old.outbox.copies → IsTold id x old.outbox.copies → OpensIf b old c p room now r new → Releases id r.packets → x ≡ released
+opens-released false id old new c p room now r x not_it n told h t = absurd (rw h.0 at t)
+opens-released true id old new c p room now r x not_it n told h t = elim (rw h.reacts at t) [
   | inl e ↦ absurd (not_it (let k : p ≡ pubrel id 0 = cc in k))
   | inr k ↦
       let copies = away old.outbox.copies in
@@ -244,9 +244,10 @@ codes-released None id i codes old new r e h t = nothing-in id r.packets (let g 
 codes-released (Some l) id i codes old new r e h t = codes-none id l.asked i codes (in-reply id l.limit (reply_codes l.asked i codes) [] (rw (append-nil (reaction_of l.limit (reply_codes l.asked i codes)).packets) (rw (keeps_codes old new l i codes r e h) at t)))
 
 event-released : (id : ℕ) (old new : State) (e : Event) (r : Reaction) (x : Exchange) → AreNumbered old.outbox.copies → IsTold id x old.outbox.copies → Reacts old e r new → Releases id r.packets → exchange_over id x (marks_by true e) ≡ released
-event-released id old new (connects c continued now) r x n told h t =
-    opens-released (fits (limit_in c.properties) (connack continued c.client old.kept.client)) id old new c (connack continued c.client old.kept.client) now r x (λ e. (cc e)) n told h.1 t
+event-released id old new (connects c continued room now) r x n told h t =
+    opens-released (fits (limit_in c.properties) (connack continued c.client old.kept.client)) id old new c (connack continued c.client old.kept.client) room now r x (λ e. (cc e)) n told h.1 t
 event-released id old new (queues d now) r x n told h t = absurd (queue-none (is_once d.qos) id old new d now r h t)
+event-released id old new (rooms bytes now) r x n told h t = absurd (none-published id h.sents (rw h.reacts at t))
 event-released id old new (takes p now room) r x n told h t = takes-released old.link id old new p now room r x refl told h t
 event-released id old new (answers i codes) r x n told h t = absurd (codes-released old.link id i codes old new r refl h t)
 event-released id old new (closes now) r x n told h t = absurd (nothing-in id r.packets (rw h.0 refl) t)

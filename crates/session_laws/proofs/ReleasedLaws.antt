@@ -18,7 +18,7 @@ use Rattle.qos_handshakes.specs.declared.copies.Stage.TheVariants.{Waiting, Publ
 use Rattle.mqtt_fields.specs.declared.options.Qos.{Qos}
 use Rattle.mqtt_fields.specs.declared.options.Qos.TheVariants.{AtMostOnce, AtLeastOnce, ExactlyOnce}
 use Rattle.qos_handshakes.specs.Entries.{find_id}
-use Rattle.qos_handshakes.specs.Outbox.{Outbox, Sent, EndStep, ReceivedIf, NextStep, is_completed, is_released, takes_pubrec, stage_pair, released_pair, chosen, sorted, by_release}
+use Rattle.qos_handshakes.specs.Outbox.{Outbox, Sent, EndStep, ReceivedIf, is_completed, is_released, takes_pubrec, stage_pair, released_pair, chosen, sorted, by_release}
 use Rattle.qos_handshakes.specs.Touched.{is_in}
 use Rattle.handshake_laws.specs.Lists.{without}
 use Rattle.handshake_laws.specs.Numbers.{AreNumbered}
@@ -32,9 +32,9 @@ use Rattle.mqtt_sessions.specs.Connecting.{OpensIf, resumed_by}
 use Rattle.mqtt_sessions.specs.Packets.{GoesOnAfter, PubrecBy, KindStep, PacketIf}
 use Rattle.mqtt_sessions.specs.declared.reaction.Output.TheVariants.{Answer}
 use Rattle.mqtt_sessions.specs.Reaction.{Reaction, publishes_of, pubrels_of}
-use Rattle.mqtt_sessions.specs.Sending.{SendsAll, Flushes, GoesOn, is_once, QueueIf}
-use Rattle.mqtt_sessions.specs.State.{State, Link, heard, limit_in, limit_of, with_outbox, new_session}
-use Rattle.session_laws.specs.Runs.{Event, connects, queues, takes, answers, closes, ticks, finishes, loses, Step, Reacts, Run}
+use Rattle.mqtt_sessions.specs.Sending.{SendsAll, StopsIf, Flushes, GoesOn, is_once, QueueIf}
+use Rattle.mqtt_sessions.specs.State.{State, Link, has_room, heard, limit_in, limit_of, room_after, room_less, with_outbox, new_session}
+use Rattle.session_laws.specs.Runs.{Event, connects, queues, rooms, takes, answers, closes, ticks, finishes, loses, Step, Reacts, Run}
 use Rattle.session_laws.specs.Sends.{maximum_in}
 use Rattle.session_laws.specs.Releases.{released_ids, is_unreleased, released_after, KeepsReleased, KeepsReleasesFirst}
 use Rattle.session_laws.proofs.QuietLaws.{HasLimit, IsHandshake, quiet-answer, quiet-tick, kinds}
@@ -44,37 +44,41 @@ use Rattle.session_laws.proofs.LiftLaws.{keeps_numbers}
 use Rattle.session_laws.proofs.ProjectLaws.{comes-quiet, unknown-quiet, heard-limit}
 
 -- ---- flushes
-flush-known : (K : List ℕ) (now limit : ℕ) (old last new : Outbox) (sents : List Sent) → SendsAll now limit old sents last → NextStep now limit last None new → AreNumbered old.copies → IsKnown K old → IsKnown K new
-flush-known K now limit old last new [] all stops n k = (known-step K old new (asked now limit None) (rw all at stops) n k).1
-flush-known K now limit old last new (s ∷ ss) all stops n k =
-    flush-known K now limit all.0 last new ss all.2 stops (numbered-step old all.0 (asked now limit (Some s)) all.1 n) (known-step K old all.0 (asked now limit (Some s)) all.1 n k).1
+stop-known : (K : List ℕ) (more : Bool) (now limit : ℕ) (old new : Outbox) → StopsIf more now limit old new → AreNumbered old.copies → IsKnown K old → IsKnown K new
+stop-known K true now limit old new stops n k = (known-step K old new (asked now limit None) stops n k).1
+stop-known K false now limit old new stops n k = rw stops k
 
-flushes-known : (K : List ℕ) (now limit : ℕ) (old new : Outbox) (sents : List Sent) → Flushes now limit old sents new → AreNumbered old.copies → IsKnown K old → IsKnown K new
-flushes-known K now limit old new sents f n k = flush-known K now limit old f.last new sents f.sends f.stops n k
+flush-known : (K : List ℕ) (more : Bool) (now limit : ℕ) (room : Option ℕ) (old last new : Outbox) (sents : List Sent) → SendsAll now limit room old sents last → StopsIf more now limit last new → AreNumbered old.copies → IsKnown K old → IsKnown K new
+flush-known K more now limit room old last new [] all stops n k = stop-known K more now limit old new (rw all at stops) n k
+flush-known K more now limit room old last new (s ∷ ss) all stops n k =
+    flush-known K more now limit (room_less now room s.copy) all.1 last new ss all.3 stops (numbered-step old all.1 (asked now limit (Some s)) all.2 n) (known-step K old all.1 (asked now limit (Some s)) all.2 n k).1
+
+flushes-known : (K : List ℕ) (now limit : ℕ) (room : Option ℕ) (old new : Outbox) (sents : List Sent) → Flushes now limit room old sents new → AreNumbered old.copies → IsKnown K old → IsKnown K new
+flushes-known K now limit room old new sents f n k = flush-known K (has_room (room_after now room sents)) now limit room old f.last new sents f.sends f.stops n k
 
 same-known : (K : List ℕ) (old new : Outbox) → new ≡ old → IsKnown K old → IsKnown K new
 same-known K old new same k = rw same k
 
-goes-known : (K : List ℕ) (o : Option ℕ) (now : ℕ) (old new : Outbox) (sents : List Sent) → GoesOn o now old sents new → AreNumbered old.copies → IsKnown K old → IsKnown K new
-goes-known K None now old new sents g n k = same-known K old new g.1 k
-goes-known K (Some limit) now old new sents g n k = flushes-known K now limit old new sents g n k
+goes-known : (K : List ℕ) (o : Option ℕ) (now : ℕ) (room : Option ℕ) (old new : Outbox) (sents : List Sent) → GoesOn o now room old sents new → AreNumbered old.copies → IsKnown K old → IsKnown K new
+goes-known K None now room old new sents g n k = same-known K old new g.1 k
+goes-known K (Some limit) now room old new sents g n k = flushes-known K now limit room old new sents g n k
 
 queue-known : (K : List ℕ) (b : Bool) (old new : State) (d : Delivery) (now : ℕ) (r : Reaction) → QueueIf b old d now r new → AreNumbered old.outbox.copies → IsKnown K old.outbox → IsKnown K new.outbox
 queue-known K true old new d now r q n k = rw q.1 k
 queue-known K false old new d now r (inl q) n k =
-    rw q.left (goes-known K (limit_of old.link) now q.mid q.after q.sents q.goes_on (numbered-step old.outbox q.mid (offered d Queued) q.offers n) (known-step K old.outbox q.mid (offered d Queued) q.offers n k).1)
+    rw q.left (goes-known K (limit_of old.link) now old.room q.mid q.after q.sents q.goes_on (numbered-step old.outbox q.mid (offered d Queued) q.offers n) (known-step K old.outbox q.mid (offered d Queued) q.offers n k).1)
 queue-known K false old new d now r (inr q) n k = rw q.left k
 
-opens-known : (K : List ℕ) (b : Bool) (old new : State) (c : Connect) (p : Packet) (now : ℕ) (r : Reaction) → OpensIf b old c p now r new → AreNumbered old.outbox.copies → IsKnown K old.outbox → IsKnown K new.outbox
-opens-known K true old new c p now r h n k =
+opens-known : (K : List ℕ) (b : Bool) (old new : State) (c : Connect) (p : Packet) (room : Option ℕ) (now : ℕ) (r : Reaction) → OpensIf b old c p room now r new → AreNumbered old.outbox.copies → IsKnown K old.outbox → IsKnown K new.outbox
+opens-known K true old new c p room now r h n k =
     let mid = resumed_by old.outbox c in
-    rw h.left (flushes-known K now (limit_in c.properties) mid h.after h.sents h.flushes (numbered-step old.outbox mid (resumed (maximum_in c)) refl n) (known-step K old.outbox mid (resumed (maximum_in c)) refl n k).1)
-opens-known K false old new c p now r h n k = rw h.1 (known-step K old.outbox (resumed_by old.outbox c) (resumed (maximum_in c)) refl n k).1
+    rw h.left (flushes-known K now (limit_in c.properties) room mid h.after h.sents h.flushes (numbered-step old.outbox mid (resumed (maximum_in c)) refl n) (known-step K old.outbox mid (resumed (maximum_in c)) refl n k).1)
+opens-known K false old new c p room now r h n k = rw h.1 (known-step K old.outbox (resumed_by old.outbox c) (resumed (maximum_in c)) refl n k).1
 
 -- ---- PUBACK, PUBCOMP and PUBREC
-after-known : (K : List ℕ) (a : Ended) (now limit : ℕ) (old new : Outbox) (sents : List Sent) → GoesOnAfter a now limit old sents new → AreNumbered old.copies → IsKnown K old → IsKnown K new
-after-known K Done now limit old new sents g n k = flushes-known K now limit old new sents g n k
-after-known K Unknown now limit old new sents g n k = same-known K old new g.1 k
+after-known : (K : List ℕ) (a : Ended) (now limit : ℕ) (room : Option ℕ) (old new : Outbox) (sents : List Sent) → GoesOnAfter a now limit room old sents new → AreNumbered old.copies → IsKnown K old → IsKnown K new
+after-known K Done now limit room old new sents g n k = flushes-known K now limit room old new sents g n k
+after-known K Unknown now limit room old new sents g n k = same-known K old new g.1 k
 
 completed-list : (K : List ℕ) (id : ℕ) (a : Ended) (ends : Bool) (old mid : Outbox) → EndStep ends old id a mid → pubrecs_after K (completed id a) ≡ cond ends (without id K) K
 completed-list K id Done ends old mid s = rw s.0 refl
@@ -112,7 +116,7 @@ received-list rec.AtEnd (Some x) id reason old mid K is s numbers n k = absurd n
 
 pubrec-known : (K : List ℕ) (a : Rec) (id reason now limit : ℕ) (s new : State) (mid : Outbox) (r : Reaction) → HasLimit limit s.link → PubrecBy a id reason now limit s mid r new → AreNumbered mid.copies → IsKnown K mid → IsKnown K new.outbox
 pubrec-known K rec.Release id reason now limit s new mid r is h n k = same-known K mid new.outbox (comes-quiet limit (pubrel id 0) (with_outbox s mid) new r is h).same k
-pubrec-known K rec.Ended id reason now limit s new mid r is h n k = rw h.left (flushes-known K now limit mid h.after h.sents h.flushes n k)
+pubrec-known K rec.Ended id reason now limit s new mid r is h n k = rw h.left (flushes-known K now limit s.room mid h.after h.sents h.flushes n k)
 pubrec-known K rec.Unknown id reason now limit s new mid r is h n k = same-known K mid new.outbox (unknown-quiet id reason limit (with_outbox s mid) new r is h).same k
 pubrec-known K rec.AtEnd id reason now limit s new mid r is h n k = absurd h
 
@@ -135,11 +139,11 @@ pubrec-numbers rec.AtEnd id reason now limit s new mid r h = absurd h
 
 kind-known : (p : Packet) (now : ℕ) (room : Bool) (limit : ℕ) (old : State) (r : Reaction) (new : State) → HasLimit limit (heard old now).link → is_some old.link ≡ true → KindStep p now room limit (heard old now) r new → AreNumbered old.outbox.copies → IsKnown (released_ids old) old.outbox → IsNext old (takes p now room) new
 kind-known (packets.Puback a) now room limit old r new is opens h n k =
-    rw h.left (after-known (released_ids old) h.answer now limit h.mid h.after h.sents h.goes_on (numbered-step old.outbox h.mid (acknowledged a.identifier h.answer) h.takes n) (known-step (released_ids old) old.outbox h.mid (acknowledged a.identifier h.answer) h.takes n k).1)
+    rw h.left (after-known (released_ids old) h.answer now limit old.room h.mid h.after h.sents h.goes_on (numbered-step old.outbox h.mid (acknowledged a.identifier h.answer) h.takes n) (known-step (released_ids old) old.outbox h.mid (acknowledged a.identifier h.answer) h.takes n k).1)
 kind-known (packets.Pubcomp a) now room limit old r new is opens h n k =
     let list = completed-list (released_ids old) a.identifier h.answer (is_completed (find_id a.identifier old.outbox.copies)) old.outbox h.mid h.takes in
     let mid = rw list at (known-step (released_ids old) old.outbox h.mid (completed a.identifier h.answer) h.takes n k).1 in
-    rw (opens, h.left) (after-known _ h.answer now limit h.mid h.after h.sents h.goes_on (numbered-step old.outbox h.mid (completed a.identifier h.answer) h.takes n) mid)
+    rw (opens, h.left) (after-known _ h.answer now limit old.room h.mid h.after h.sents h.goes_on (numbered-step old.outbox h.mid (completed a.identifier h.answer) h.takes n) mid)
 kind-known (packets.Pubrec a) now room limit old r new is opens h n k =
     let list = received-list h.answer (find_id a.identifier old.outbox.copies) a.identifier a.reason old.outbox h.mid (released_ids old) refl h.takes (pubrec-numbers h.answer a.identifier a.reason now limit (heard old now) new h.mid r h.goes_on) n k in
     let mid = rw list at (known-step (released_ids old) old.outbox h.mid (received a.identifier a.reason h.answer) h.takes n k).1 in
@@ -180,8 +184,9 @@ packet-known None old new p now room r e h n k = rw (unheard-list p now room old
 packet-known (Some l) old new p now room r e h n k = kind-known p now room l.limit old r new (heard-limit l.limit now l old refl e) (rw e refl) h n k
 
 known : (old new : State) (e : Event) (r : Reaction) → Reacts old e r new → AreNumbered old.outbox.copies → IsKnown (released_ids old) old.outbox → IsNext old e new
-known old new (connects c continued now) r h n k = opens-known (released_ids old) (fits (limit_in c.properties) (connack continued c.client old.kept.client)) old new c _ now r h.1 n k
+known old new (connects c continued room now) r h n k = opens-known (released_ids old) (fits (limit_in c.properties) (connack continued c.client old.kept.client)) old new c _ room now r h.1 n k
 known old new (queues d now) r h n k = queue-known (released_ids old) (is_once d.qos) old new d now r h n k
+known old new (rooms bytes now) r h n k = rw h.left (goes-known (released_ids old) (limit_of old.link) now (Some bytes) old.outbox h.after h.sents h.goes_on n k)
 known old new (takes p now room) r h n k = packet-known old.link old new p now room r refl h n k
 known old new (answers id codes) r h n k = let w = own old.link in same-known (released_ids old) old.outbox new.outbox (quiet-answer old.link w.0 id codes old r new refl w.1 h).same k
 known old new (closes now) r h n k = rw h.1 k
@@ -208,11 +213,11 @@ keeps_released = λ client before s mid end run step.
     sym (known mid end s.event s.reaction step (keeps_numbers client before mid run) k).is
 
 -- ---- the beginning of a connection
-opens-first : (b : Bool) (old new : State) (c : Connect) (p : Packet) (now : ℕ) (r : Reaction) → OpensIf b old c p now r new → r.end ≡ None → (sents : List Sent) × (r.packets ≡ Answer p ∷ pubrels_of (released_ids old) ++ publishes_of sents)
-opens-first false old new c p now r h e = (let bad : ◌≡◌ {A = Option ℕ} (Some 0) None = rw h.0 at e in cc)
-opens-first true old new c p now r h e =
+opens-first : (b : Bool) (old new : State) (c : Connect) (p : Packet) (room : Option ℕ) (now : ℕ) (r : Reaction) → OpensIf b old c p room now r new → r.end ≡ None → (sents : List Sent) × (r.packets ≡ Answer p ∷ pubrels_of (released_ids old) ++ publishes_of sents)
+opens-first false old new c p room now r h e = (let bad : ◌≡◌ {A = Option ℕ} (Some 0) None = rw h.0 at e in cc)
+opens-first true old new c p room now r h e =
     let same : h.ids ≡ released_ids old = h.lists.0 ∙ ap (λ (xs : List (ℕ × ℕ)). values_of (sorted xs)) (chosen-away released_pair released_pair (λ x. refl) old.outbox.copies) in
     (h.sents, rw (h.reacts, same) refl)
 
 pub keeps_releases_first : KeepsReleasesFirst
-keeps_releases_first = λ old new c continued now r h e. opens-first (fits (limit_in c.properties) (connack continued c.client old.kept.client)) old new c (connack continued c.client old.kept.client) now r h.1 e
+keeps_releases_first = λ old new c continued room now r h e. opens-first (fits (limit_in c.properties) (connack continued c.client old.kept.client)) old new c (connack continued c.client old.kept.client) room now r h.1 e

@@ -28,4 +28,5 @@ reopens s = record {
   outbox = λ i. record { copies = away s.outbox.copies; next_place = s.outbox.next_place; next_order = above-away s.outbox.copies i; maximum = 0 };
   incoming = identifiers-before s.incoming;
   link = refl;
+  room = refl;
 }

@@ -27,8 +27,8 @@ use Rattle.mqtt_sessions.specs.declared.link.Asked.TheVariants.{Subscribing, Uns
 use Rattle.mqtt_sessions.specs.declared.reaction.Ask.{Ask}
 use Rattle.mqtt_sessions.specs.declared.reaction.Ask.TheVariants as server
 use Rattle.mqtt_sessions.specs.Answers.{puback, pubrec, pubrel, suback, unsuback, fits}
-use Rattle.mqtt_sessions.specs.Aliases.{Aliases, alias_of, alias_topic, filled, is_beyond, topic_by, topic_for, topic_of}
-use Rattle.mqtt_sessions.specs.Arriving.{has_property, is_unwelcome, arrival_once, arrival_twice, once_by, arrives_twice, message_in, passes_by, publish_by, publish_outcome, refusal, setting}
+use Rattle.mqtt_sessions.specs.Aliases.{Aliases, alias_of, is_beyond, topic_by, topic_for, topic_of}
+use Rattle.mqtt_sessions.specs.Arriving.{has_property, is_unwelcome, arrival_once, arrival_twice, once_by, arrives_twice, message_in, passes_by, publish_by, publish_outcome, setting}
 use Rattle.mqtt_sessions.proofs.ArrivingLaws.{set-topic}
 use Rattle.mqtt_sessions.specs.Asking.{answer_by}
 use Rattle.mqtt_sessions.specs.Ending.{disconnected_by}

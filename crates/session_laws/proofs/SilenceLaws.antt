@@ -13,9 +13,9 @@ use Rattle.mqtt_sessions.specs.Connecting.{OpensIf}
 use Rattle.mqtt_sessions.specs.Ending.{ticked_if, has_run_out, is_due, will_due, end_due}
 use Rattle.mqtt_sessions.specs.Packets.{PubrecBy, SaysUnknown, PacketIf}
 use Rattle.mqtt_sessions.specs.Reaction.{Reaction, Comes, answered}
-use Rattle.mqtt_sessions.specs.Sending.{is_once, QueueIf}
+use Rattle.mqtt_sessions.specs.Sending.{is_once, QueueIf, RoomStep}
 use Rattle.mqtt_sessions.specs.State.{State, Link, heard, limit_in, limit_of, with_outbox, new_session}
-use Rattle.session_laws.specs.Runs.{Event, connects, queues, takes, answers, closes, ticks, finishes, loses, Step, Reacts, Run}
+use Rattle.session_laws.specs.Runs.{Event, connects, queues, rooms, takes, answers, closes, ticks, finishes, loses, Step, Reacts, Run}
 use Rattle.session_laws.specs.Silence.{Closes, BeginsNone, IsSilent, KeepsSilence}
 use Rattle.session_laws.proofs.QuietLaws.{HasLimit, IsQuiet, IsHandshake, none-some, quiet-answered, quiet-answer, quiet-tick, kinds}
 
@@ -24,9 +24,9 @@ abbrev pub IsOver : Reaction → State → Type 0
 IsOver r new = (r.packets ≡ []) × (new.link ≡ None)
 
 -- ---- the event that closes
-opens-on : (b : Bool) (old new : State) (c : Connect) (p : Packet) (now : ℕ) (r : Reaction) → OpensIf b old c p now r new → IsSome r.end → IsOver r new
-opens-on true old new c p now r h t = absurd (none-some r.end (rw h.reacts refl) t)
-opens-on false old new c p now r h t = rw h.0 (rw h.1 (refl, refl))
+opens-on : (b : Bool) (old new : State) (c : Connect) (p : Packet) (room : Option ℕ) (now : ℕ) (r : Reaction) → OpensIf b old c p room now r new → IsSome r.end → IsOver r new
+opens-on true old new c p room now r h t = absurd (none-some r.end (rw h.reacts refl) t)
+opens-on false old new c p room now r h t = rw h.0 (rw h.1 (refl, refl))
 
 queue-on : (b : Bool) (old new : State) (d : Delivery) (now : ℕ) (r : Reaction) → QueueIf b old d now r new → r.end ≡ None
 queue-on true old new d now r q = rw q.0 refl
@@ -35,7 +35,7 @@ queue-on false old new d now r (inr q) = rw q.reacts refl
 
 answered-ends : (limit : ℕ) (p : Packet) (s new : State) (r : Reaction) → HasLimit limit s.link → Comes (answered limit p None s) r new → IsSome r.end → IsOver r new
 answered-ends limit p s new r is c t =
-    let q : IsQuiet limit s r new = rw c.0 (rw c.1 (quiet-answered limit p None s s refl refl is)) in q.ends t
+    let q : IsQuiet limit s r new = rw c.0 (rw c.1 (quiet-answered limit p None s s refl refl refl is)) in q.ends t
 
 unknown-ends : (id reason limit : ℕ) (s new : State) (r : Reaction) → HasLimit limit s.link → SaysUnknown id reason limit s r new → IsSome r.end → IsOver r new
 unknown-ends id reason limit s new r is (inl h) t = answered-ends limit (pubrel id 146) s new r is h.1 t
@@ -69,8 +69,9 @@ own None = (0, tt)
 own (Some l) = (l.limit, refl)
 
 closing-step : (old new : State) (e : Event) (r : Reaction) → Reacts old e r new → Closes e r → IsOver r new
-closing-step old new (connects c continued now) r h t = opens-on (fits (limit_in c.properties) (connack continued c.client old.kept.client)) old new c _ now r h.1 t
+closing-step old new (connects c continued room now) r h t = opens-on (fits (limit_in c.properties) (connack continued c.client old.kept.client)) old new c _ room now r h.1 t
 closing-step old new (queues d now) r h t = absurd (none-some r.end (queue-on (is_once d.qos) old new d now r h) t)
+closing-step old new (rooms bytes now) r h t = absurd (none-some r.end (rw h.reacts refl) t)
 closing-step old new (takes p now room) r h t = packet-ends old.link old new p now room r refl h t
 closing-step old new (answers id codes) r h t = let w = own old.link in (quiet-answer old.link w.0 id codes old r new refl w.1 h).ends t
 closing-step old new (closes now) r h t = rw h.0 (rw h.1 (refl, refl))
@@ -85,6 +86,9 @@ queue-silent false old new d now r none (inl q) =
     let g = rw none at q.goes_on in rw (q.reacts, g.0) (rw q.left (refl, none))
 queue-silent false old new d now r none (inr q) = rw q.reacts (rw q.left (refl, none))
 
+room-silent : (old new : State) (bytes now : ℕ) (r : Reaction) → old.link ≡ None → RoomStep bytes now old r new → IsOver r new
+room-silent old new bytes now r none q = let g = rw none at q.goes_on in rw (q.reacts, g.0) (rw q.left (refl, none))
+
 tick-over : (will end : Bool) (now : ℕ) (old new : State) (r : Reaction) → old.link ≡ None → Comes (ticked_if false will end now old) r new → IsOver r new
 tick-over true end now old new r none c = rw c.0 (rw c.1 (refl, none))
 tick-over false end now old new r none c = rw c.0 (rw c.1 (refl, none))
@@ -95,8 +99,9 @@ tick-silent old new now r none h =
     tick-over (is_due (will_due old.kept) now) (is_due (end_due old.kept) now) now old new r none (rw e at h)
 
 silent-step : (old new : State) (e : Event) (r : Reaction) → old.link ≡ None → BeginsNone e → Reacts old e r new → IsOver r new
-silent-step old new (connects c continued now) r none b h = absurd b
+silent-step old new (connects c continued room now) r none b h = absurd b
 silent-step old new (queues d now) r none b h = queue-silent (is_once d.qos) old new d now r none h
+silent-step old new (rooms bytes now) r none b h = room-silent old new bytes now r none h
 silent-step old new (takes p now room) r none b h = let g = rw none at h in rw g.0 (rw g.1 (refl, refl))
 silent-step old new (answers id codes) r none b h = let g = rw none at h in rw g.0 (rw g.1 (refl, refl))
 silent-step old new (closes now) r none b h = rw h.0 (rw h.1 (refl, refl))

@@ -16,7 +16,8 @@ use Rattle.qos_handshakes.specs.declared.copies.Stage.{Stage}
 use Rattle.qos_handshakes.specs.declared.copies.Stage.TheVariants.{Waiting, Published, Released}
 use Rattle.qos_handshakes.specs.Entries.{Entries, IsLeastFree, as_released, drop_id, find_id, write_id}
 use Rattle.qos_handshakes.specs.Outbox.{Outbox, Sent, NextStep, OfferStep, EndStep, ReceivedFor, ReceivedIf, SendsNothing, after_resend, after_send, first_owed, first_waiting, is_released, takes_pubrec, waiting, waiting_entry, waits}
-use Rattle.mqtt_sessions.specs.Sending.{Flushes, SendsAll}
+use Rattle.mqtt_sessions.specs.Sending.{Flushes, SendsAll, StopsIf}
+use Rattle.mqtt_sessions.specs.State.{has_room, room_after, room_less}
 
 -- ---- offers
 offer_answer : Outbox → Offer
@@ -187,14 +188,23 @@ module _ (now limit : ℕ) (old : Outbox) where
           ap (λ (i : ℕ). record { id = i; dup = s.dup; copy = s.copy }) id ∙ ap (λ (b : Bool). record { id = t.id; dup = b; copy = s.copy }) dup ∙ ap (λ (d : Delivery). record { id = t.id; dup = t.dup; copy = d }) copy
 
 -- ---- all that can be sent
-sends-once : (now limit : ℕ) (old last last' new new' : Outbox) (ss ts : List Sent) → SendsAll now limit old ss last → NextStep now limit last None new → SendsAll now limit old ts last' → NextStep now limit last' None new' → (ss ≡ ts) × (new ≡ new')
-sends-once now limit old last last' new new' [] [] all stops all' stops' = (refl, nothing-once now limit old new new' (rw all at stops) (rw all' at stops'))
-sends-once now limit old last last' new new' [] (t ∷ ts) all stops all' stops' = absurd (nothing-some now limit old new all'.0 t (rw all at stops) all'.1)
-sends-once now limit old last last' new new' (s ∷ ss) [] all stops all' stops' = absurd (nothing-some now limit old new' all.0 s (rw all' at stops') all.1)
-sends-once now limit old last last' new new' (s ∷ ss) (t ∷ ts) all stops all' stops' =
-    let one = some-once now limit old all.0 all'.0 s t all.1 all'.1 in
-    let more = sends-once now limit all.0 last last' new new' ss ts all.2 stops (rw (← one.1) at all'.2) stops' in
+stops-once : (more : Bool) (now limit : ℕ) (old new new' : Outbox) → StopsIf more now limit old new → StopsIf more now limit old new' → new ≡ new'
+stops-once true now limit old new new' s t = nothing-once now limit old new new' s t
+stops-once false now limit old new new' s t = s ∙ sym t
+
+stops-some : (more : Bool) (now limit : ℕ) (old new new' : Outbox) (s : Sent) → more ≡ true → StopsIf more now limit old new → NextStep now limit old (Some s) new' → ⊥
+stops-some true now limit old new new' s more stops next = nothing-some now limit old new new' s stops next
+stops-some false now limit old new new' s more stops next = false≢true more
+
+sends-once : (now limit : ℕ) (room : Option ℕ) (old last last' new new' : Outbox) (ss ts : List Sent) → SendsAll now limit room old ss last → StopsIf (has_room (room_after now room ss)) now limit last new → SendsAll now limit room old ts last' → StopsIf (has_room (room_after now room ts)) now limit last' new'
+    → (ss ≡ ts) × (new ≡ new')
+sends-once now limit room old last last' new new' [] [] all stops all' stops' = (refl, stops-once (has_room room) now limit old new new' (rw all at stops) (rw all' at stops'))
+sends-once now limit room old last last' new new' [] (t ∷ ts) all stops all' stops' = absurd (stops-some (has_room room) now limit old new all'.1 t all'.0 (rw all at stops) all'.2)
+sends-once now limit room old last last' new new' (s ∷ ss) [] all stops all' stops' = absurd (stops-some (has_room room) now limit old new' all.1 s all.0 (rw all' at stops') all.2)
+sends-once now limit room old last last' new new' (s ∷ ss) (t ∷ ts) all stops all' stops' =
+    let one = some-once now limit old all.1 all'.1 s t all.2 all'.2 in
+    let more = sends-once now limit (room_less now room s.copy) all.1 last last' new new' ss ts all.3 stops (rw (← one.1, ← one.0) at all'.3) (rw (← one.0) at stops') in
     (rw (one.0, more.0) refl, more.1)
 
-pub flushes-once : (now limit : ℕ) (old new new' : Outbox) (ss ts : List Sent) → Flushes now limit old ss new → Flushes now limit old ts new' → (ss ≡ ts) × (new ≡ new')
-flushes-once now limit old new new' ss ts f g = sends-once now limit old f.last g.last new new' ss ts f.sends f.stops g.sends g.stops
+pub flushes-once : (now limit : ℕ) (room : Option ℕ) (old new new' : Outbox) (ss ts : List Sent) → Flushes now limit room old ss new → Flushes now limit room old ts new' → (ss ≡ ts) × (new ≡ new')
+flushes-once now limit room old new new' ss ts f g = sends-once now limit room old f.last g.last new new' ss ts f.sends f.stops g.sends g.stops

@@ -26,7 +26,7 @@ later (Some topic) before = Some topic
 
 -- on a new connection an alias stands for none, and then for the topic that it was given last
 abbrev pub topic_after : ℕ → Option (List ℕ) → Event → Option (List ℕ)
-topic_after alias before (connects c continued now) = None
+topic_after alias before (connects c continued room now) = None
 topic_after alias before (takes p now room) = later (given_in alias p) before
 topic_after alias before e = before
 

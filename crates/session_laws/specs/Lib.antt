@@ -13,3 +13,4 @@ pub mod Releases
 pub mod Quota
 pub mod Outcomes
 pub mod Reopened
+pub mod Room

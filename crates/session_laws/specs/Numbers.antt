@@ -1,11 +1,11 @@
 -- Packet Identifiers and Receive Maximum (MQTT 5.0, 2.2.1 and 4.9).
-use Rattle.std.specs.Prelude.{◌≡◌, ℕ, ◌<◌, ◌≤◌, false, List, [], ◌∷◌, ◌++◌, IsSome}
+use Rattle.std.specs.Prelude.{◌≡◌, ℕ, ◌<◌, ◌≤◌, true, false, List, [], ◌∷◌, ◌++◌, IsSome}
 use Rattle.std.specs.List.{AllByRecursion}
 use Rattle.qos_handshakes.specs.Entries.{find_id}
 use Rattle.qos_handshakes.specs.Outbox.{Sent, in_flight}
 use Rattle.handshake_laws.specs.Numbers.{AreNumbered}
 use Rattle.handshake_laws.specs.Quota.{CannotSend}
-use Rattle.mqtt_sessions.specs.State.{State, new_session}
+use Rattle.mqtt_sessions.specs.State.{State, has_room, new_session}
 use Rattle.session_laws.specs.Runs.{Step, Run}
 use Rattle.session_laws.specs.Sends.{sent_in}
 
@@ -22,6 +22,6 @@ KeepsLeast = (client : List ℕ) (steps : List Step) (s : Step) (end : State) �
 abbrev pub KeepsQuota : Type 0
 KeepsQuota = (client : List ℕ) (steps : List Step) (end : State) → Run (new_session client) steps end → in_flight end.outbox.copies ≤ end.outbox.maximum
 
--- where the client is connected, the quota is full; or no resend is owed, and no identifier is free or nothing waits
+-- where the client is connected, and room is left or isn't counted, the quota is full; or no resend is owed, and no identifier is free or nothing waits
 abbrev pub KeepsBusy : Type 0
-KeepsBusy = (client : List ℕ) (steps : List Step) (end : State) → Run (new_session client) steps end → IsSome end.link → CannotSend end.outbox
+KeepsBusy = (client : List ℕ) (steps : List Step) (end : State) → Run (new_session client) steps end → IsSome end.link → has_room end.room ≡ true → CannotSend end.outbox

@@ -9,7 +9,7 @@ use Rattle.handshake_laws.specs.Resends.{SentCopy}
 use Rattle.mqtt_sessions.specs.Reaction.{Reaction}
 use Rattle.mqtt_sessions.specs.Sending.{is_once}
 use Rattle.mqtt_sessions.specs.State.{State, new_session}
-use Rattle.session_laws.specs.Runs.{Event, connects, queues, takes, Step, Run, connected_after, limit_after}
+use Rattle.session_laws.specs.Runs.{Event, connects, queues, rooms, takes, Step, Run, connected_after, limit_after}
 use Rattle.session_laws.specs.Sends.{Mark, sends, all_marks, sent_once_in, once_by}
 
 -- the PUBLISHes that are sent first, and those that are sent again
@@ -49,8 +49,9 @@ IsLate now limit x = (is_alive x.message now ≡ false) ⊎ (limit < length_of n
 -- why an event may leave a delivery out: the queue is full, and says so; or it is late when it is taken from the queue, while the
 -- client is connected
 abbrev pub LeavesOut : Bool → ℕ → Event → Reaction → Delivery → Type 0
-LeavesOut on limit (connects c continued now) r x = IsLate now limit x
+LeavesOut on limit (connects c continued room now) r x = IsLate now limit x
 LeavesOut on limit (queues d now) r x = ((r.full ≡ true) × (x ≡ d)) ⊎ ((on ≡ true) × IsLate now limit x)
+LeavesOut on limit (rooms bytes now) r x = (on ≡ true) × IsLate now limit x
 LeavesOut on limit (takes p now room) r x = (on ≡ true) × IsLate now limit x
 LeavesOut on limit e r x = ⊥
 

@@ -34,5 +34,5 @@ KeepsReleased = (client : List ℕ) (before : List Step) (s : Step) (mid end : S
 
 -- a connection begins with CONNACK, then one PUBREL for each of them in that order, then PUBLISHes
 abbrev pub KeepsReleasesFirst : Type 0
-KeepsReleasesFirst = (old new : State) (c : Connect) (continued : Bool) (now : ℕ) (r : Reaction) → Reacts old (connects c continued now) r new → r.end ≡ None
+KeepsReleasesFirst = (old new : State) (c : Connect) (continued : Bool) (room : Option ℕ) (now : ℕ) (r : Reaction) → Reacts old (connects c continued room now) r new → r.end ≡ None
     → (sents : List Sent) × (r.packets ≡ Answer (connack continued c.client old.kept.client) ∷ pubrels_of (released_ids old) ++ publishes_of sents)

@@ -1,5 +1,5 @@
 -- Lists of events of one session, each with its reaction.
-use Rattle.std.specs.Prelude.{◌≡◌, ℕ, Bool, false, not, ◌&&◌, List, [], ◌∷◌, Some, None, is_some, Ok}
+use Rattle.std.specs.Prelude.{◌≡◌, ℕ, Bool, false, not, ◌&&◌, List, [], ◌∷◌, Option, Some, None, is_some, Ok}
 use Rattle.mqtt_packets.specs.declared.connect.Connect.{Connect}
 use Rattle.mqtt_packets.specs.declared.packet.Packet.{Packet}
 use Rattle.mqtt_message.specs.declared.delivery.Delivery.{Delivery}
@@ -11,13 +11,14 @@ use Rattle.mqtt_sessions.specs.Connecting.{ConnectStep, ConnectWants, MayConnect
 use Rattle.mqtt_sessions.specs.Ending.{ClosedStep, TickStep, TickWants, FinishStep, HasWill}
 use Rattle.mqtt_sessions.specs.Packets.{PacketEnds, PacketStep, WantsMemory}
 use Rattle.mqtt_sessions.specs.Reaction.{Reaction, nothing}
-use Rattle.mqtt_sessions.specs.Sending.{QueueEnds, QueueStep, QueueWants}
+use Rattle.mqtt_sessions.specs.Sending.{QueueEnds, QueueStep, QueueWants, RoomStep, RoomWants}
 use Rattle.mqtt_sessions.specs.State.{State, limit_in}
 
 -- a call, or `loses`: a crash, after which the session is made again of what was kept
 pub data Event : Type 0 where
-  connects : Connect → Bool → ℕ → Event
+  connects : Connect → Bool → Option ℕ → ℕ → Event
   queues : Delivery → ℕ → Event
+  rooms : ℕ → ℕ → Event
   takes : Packet → ℕ → Bool → Event
   answers : ℕ → List ℕ → Event
   closes : ℕ → Event
@@ -36,11 +37,13 @@ pub record LostStep (old : State) (r : Reaction) (new : State) : Type 0 where
   pub outbox : outbox.LostStep old.outbox new.outbox
   pub incoming : new.incoming ≡ of_before old.incoming
   pub link : new.link ≡ None
+  pub room : new.room ≡ None
 
 -- what holds before an event and after it
 abbrev pub Reacts : State → Event → Reaction → State → Type 0
-Reacts old (connects c continued now) r new = MayConnect continued old × ConnectStep c continued now old r new
+Reacts old (connects c continued room now) r new = MayConnect continued old × ConnectStep c continued room now old r new
 Reacts old (queues d now) r new = QueueStep d now old r new
+Reacts old (rooms bytes now) r new = RoomStep bytes now old r new
 Reacts old (takes p now room) r new = PacketStep p now room old r new
 Reacts old (answers id codes) r new = AnswerStep id codes old r new
 Reacts old (closes now) r new = ClosedStep now old r new
@@ -50,8 +53,9 @@ Reacts old loses r new = LostStep old r new
 
 -- the step that the contract of a call names
 abbrev pub step_of : Event → State → Reaction → State → Type 0
-step_of (connects c continued now) = ConnectStep c continued now
+step_of (connects c continued room now) = ConnectStep c continued room now
 step_of (queues d now) = QueueStep d now
+step_of (rooms bytes now) = RoomStep bytes now
 step_of (takes p now room) = PacketStep p now room
 step_of (answers id codes) = AnswerStep id codes
 step_of (closes now) = ClosedStep now
@@ -61,13 +65,14 @@ step_of loses = LostStep
 
 -- a call demands that a session that isn't continued is new
 abbrev pub MayCome : Event → State → Type 0
-MayCome (connects c continued now) s = MayConnect continued s
+MayCome (connects c continued room now) s = MayConnect continued s
 MayCome e s = Unit {0}
 
 -- where it may want memory, and where a number is at its end
 abbrev pub wants_of : Event → State → Type 0
-wants_of (connects c continued now) = ConnectWants c continued
+wants_of (connects c continued room now) = ConnectWants c continued
 wants_of (queues d now) = QueueWants d now
+wants_of (rooms bytes now) = RoomWants bytes
 wants_of (takes p now room) = WantsMemory p now room
 wants_of (answers id codes) = AnswerWants id codes
 wants_of (closes now) = never
@@ -92,7 +97,7 @@ Run old (s ∷ ss) new = (mid : State) × Reacts old s.event s.reaction mid × R
 -- ---- the connection, as events and reactions tell it
 -- whether it is open
 abbrev pub connected_after : Bool → Event → Reaction → Bool
-connected_after on (connects c continued now) r = not (is_some r.end)
+connected_after on (connects c continued room now) r = not (is_some r.end)
 connected_after on (closes now) r = false
 connected_after on (finishes now) r = false
 connected_after on loses r = false
@@ -100,5 +105,5 @@ connected_after on e r = on && not (is_some r.end)
 
 -- the longest packet that the client of the last connection takes
 abbrev pub limit_after : ℕ → Event → ℕ
-limit_after limit (connects c continued now) = limit_in c.properties
+limit_after limit (connects c continued room now) = limit_in c.properties
 limit_after limit e = limit

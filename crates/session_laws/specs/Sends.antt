@@ -52,7 +52,7 @@ marks_in p = []
 
 -- a packet is heard on an open connection alone
 abbrev pub marks_by : Bool → Event → List Mark
-marks_by on (connects c continued now) = begins (maximum_in c) ∷ []
+marks_by on (connects c continued room now) = begins (maximum_in c) ∷ []
 marks_by on (takes p now room) = cond on (marks_in p) []
 marks_by on loses = crashes ∷ []
 marks_by on e = []

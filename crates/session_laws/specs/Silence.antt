@@ -5,7 +5,7 @@ use Rattle.mqtt_sessions.specs.declared.reaction.Output.{Output}
 use Rattle.mqtt_sessions.specs.declared.reaction.Output.TheVariants.{Publish, Answer}
 use Rattle.mqtt_sessions.specs.Reaction.{Reaction}
 use Rattle.mqtt_sessions.specs.State.{State, new_session}
-use Rattle.session_laws.specs.Runs.{Event, connects, queues, takes, answers, closes, finishes, loses, Step, Reacts, Run}
+use Rattle.session_laws.specs.Runs.{Event, connects, queues, rooms, takes, answers, closes, finishes, loses, Step, Reacts, Run}
 
 -- an event that ends the connection, or finds that it is over
 abbrev pub Closes : Event → Reaction → Type 0
@@ -16,7 +16,7 @@ Closes e r = IsSome r.end
 
 -- none of the connection's beginning
 abbrev pub BeginsNone : Event → Type 0
-BeginsNone (connects c continued now) = ⊥
+BeginsNone (connects c continued room now) = ⊥
 BeginsNone e = Unit {0}
 
 abbrev pub IsSilent : Step → Type 0
@@ -32,13 +32,14 @@ abbrev pub IsPublish : Output → Type 0
 IsPublish (Publish p) = Unit {0}
 IsPublish (Answer p) = ⊥
 
--- A delivery that is queued brings PUBLISHes alone, and a close, what is due, the end of a session and a crash bring no packet.
+-- A delivery that is queued and room bring PUBLISHes alone, and a close, what is due, the end of a session and a crash bring no packet.
 -- What a CONNECT, another packet and codes bring is said elsewhere, packet by packet.
 abbrev pub SendsOnly : Event → List Output → Type 0
-SendsOnly (connects c continued now) ps = Unit {0}
+SendsOnly (connects c continued room now) ps = Unit {0}
 SendsOnly (takes p now room) ps = Unit {0}
 SendsOnly (answers id codes) ps = Unit {0}
 SendsOnly (queues d now) ps = AllByRecursion IsPublish ps
+SendsOnly (rooms bytes now) ps = AllByRecursion IsPublish ps
 SendsOnly e ps = ps ≡ []
 
 abbrev pub KeepsNothingElse : Type 0

@@ -5,12 +5,13 @@ use Rattle.mqtt_sessions.specs.declared.reaction.Output.{Output}
 use Rattle.mqtt_sessions.specs.Answers.{fits, disconnect}
 use Rattle.mqtt_sessions.specs.Reaction.{Reaction, packet_of}
 use Rattle.mqtt_sessions.specs.State.{State, new_session}
-use Rattle.session_laws.specs.Runs.{Event, connects, queues, takes, answers, closes, ticks, finishes, loses, Step, Run, limit_after}
+use Rattle.session_laws.specs.Runs.{Event, connects, queues, rooms, takes, answers, closes, ticks, finishes, loses, Step, Run, limit_after}
 
 -- the moment at which an event's packets are written; SUBACK and UNSUBACK don't depend on it
 abbrev pub moment_of : Event → ℕ
-moment_of (connects c continued now) = now
+moment_of (connects c continued room now) = now
 moment_of (queues d now) = now
+moment_of (rooms bytes now) = now
 moment_of (takes p now room) = now
 moment_of (answers id codes) = 0
 moment_of (closes now) = now

@@ -13,3 +13,4 @@ pub mod releases;
 pub mod reopened;
 pub mod replies;
 pub mod resends;
+pub mod room;

@@ -12,7 +12,7 @@ pub fn packets_are_short()
     ensures { KeepsSizes }
 {}
 
-/// Nothing else is sent: a delivery that is queued brings PUBLISHes alone; a close, what is due, the end of a session and a
+/// Nothing else is sent: a delivery that is queued and room bring PUBLISHes alone; a close, what is due, the end of a session and a
 /// crash bring no packet. What comes with a connection, a packet and codes is said by the laws on them.
 pub fn nothing_else_is_sent()
     ensures { KeepsNothingElse }

@@ -9,8 +9,8 @@ pub fn quota_is_kept()
     ensures told { KeepsWithin }
 {}
 
-/// Nothing is held back: where the client is connected after an event, the quota is full, or no resend is owed and no
-/// identifier is free or nothing waits.
+/// Nothing is held back: where the client is connected after an event, and room is left or isn't counted, the quota is full, or no
+/// resend is owed and no identifier is free or nothing waits.
 pub fn nothing_is_held_back()
     ensures { KeepsBusy }
 {}

@@ -11,7 +11,7 @@ use Rattle.mqtt_sessions.specs.Saved.{Saved, state_of}
 use Rattle.mqtt_sessions.specs.State.{State, aliases_of, limit_of, new_session}
 use Rattle.mqtt_sessions.specs.declared.fault.SessionFault.{SessionFault}
 use Rattle.mqtt_sessions.specs.declared.fault.SessionFault.TheVariants.{NoMemory, NumbersAtEnd, Spent, BadRow}
-use Rattle.session_laws.specs.Runs.{Event, connects, queues, takes, answers, closes, ticks, finishes, loses, Reacts, step_of, MayCome, wants_of, ends_of}
+use Rattle.session_laws.specs.Runs.{Event, connects, queues, rooms, takes, answers, closes, ticks, finishes, loses, Reacts, step_of, MayCome, wants_of, ends_of}
 use Rattle.session_table.specs.Seats.{Seat, Seats}
 use Rattle.mqtt_sessions.specs.Connecting.{MayConnectIf}
 use Rattle.mqtt_packets.specs.declared.connect.Connect.{Connect as ConnectPacket}
@@ -31,8 +31,9 @@ use Rattle.session_table.proofs.Lists.{listed_again, relists_then, listed_put, l
 
 -- ---- one session
 by_step : (e : Event) (old new : State) (r : Reaction) → MayCome e old → step_of e old r new → Reacts old e r new
-by_step (connects c continued now) old new r may h = (may, h)
+by_step (connects c continued room now) old new r may h = (may, h)
 by_step (queues d now) old new r may h = h
+by_step (rooms bytes now) old new r may h = h
 by_step (takes p now room) old new r may h = h
 by_step (answers id codes) old new r may h = h
 by_step (closes now) old new r may h = h
@@ -58,9 +59,9 @@ wanted e (Some s) (Err NumbersAtEnd) new h is = absurd (cc)
 wanted e (Some s) (Err Spent) new h is = absurd (cc)
 wanted e (Some s) (Err BadRow) new h is = absurd (cc)
 
-pub may_connect : (call : Call) (connect : Bor ConnectPacket) (continued : Bool) (now : ℕ) (old : Option State) → call ≡ Connect connect continued now → MayTurn (event_of call) old → MayConnectIf continued old
-may_connect call connect continued now None is may = tt
-may_connect call connect continued now (Some s) is may = (let P : Call → Type 0 = λ k. MayCome (event_of k) s in subst P is (may s refl))
+pub may_connect : (call : Call) (connect : Bor ConnectPacket) (continued : Bool) (room : Option ℕ) (now : ℕ) (old : Option State) → call ≡ Connect connect continued room now → MayTurn (event_of call) old → MayConnectIf continued old
+may_connect call connect continued room now None is may = tt
+may_connect call connect continued room now (Some s) is may = (let P : Call → Type 0 = λ k. MayCome (event_of k) s in subst P is (may s refl))
 
 pub turned_as : (call made : Call) (old : Option State) (result : Result Reaction SessionFault) (new : Option State) → call ≡ made → MayTurn (event_of call) old
     → Called (step_of (event_of made)) (wants_of (event_of made)) (ends_of (event_of made)) old result new → IfSome old (λ s. IsTurned (event_of call) s result new)

@@ -25,7 +25,7 @@ use Rattle.mqtt_sessions.specs.Reaction.{Reaction, Outcome, answered}
 use Rattle.mqtt_sessions.specs.Saved.{durable_of, is_single, keeps_main}
 use Rattle.mqtt_sessions.specs.Sending.{QueueIf, is_once}
 use Rattle.mqtt_sessions.specs.State.{State, Link, aliases_of, cut, heard, limit_of}
-use Rattle.session_laws.specs.Runs.{Event, connects, queues, takes, answers, closes, ticks, finishes, loses, Reacts}
+use Rattle.session_laws.specs.Runs.{Event, connects, queues, rooms, takes, answers, closes, ticks, finishes, loses, Reacts}
 use Rattle.session_table.specs.Wants.{is_unexpected, leaves_rows}
 
 -- an outcome that leaves what outlives connections
@@ -147,8 +147,9 @@ asks_none r given same is = subst (λ (x : Reaction). not (is_some x.ask) ≡ tr
 
 -- ---- any call
 pub event_still : (e : Event) (s : State) (r : Reaction) (new : State) → leaves_rows e s r ≡ true → Reacts s e r new → durable_of new ≡ durable_of s
-event_still (connects c continued now) s r new is step = absurd (false≢true is)
+event_still (connects c continued room now) s r new is step = absurd (false≢true is)
 event_still (queues d now) s r new is step = queue_keeps (is_once d.qos) d now s r new is step
+event_still (rooms bytes now) s r new is step = absurd (false≢true is)
 event_still (takes p now room) s r new is step = packet_keeps (limit_of s.link) p now room s r new (or_none _ is) step
 event_still (answers id codes) s r new is step = ap durable_of step.1 ∙ answer_keeps s.link id codes s
 event_still (closes now) s r new is step = absurd (false≢true is)

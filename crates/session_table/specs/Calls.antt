@@ -9,13 +9,13 @@ use Rattle.mqtt_sessions.specs.Saved.{state_of}
 use Rattle.mqtt_sessions.specs.State.{State, IsPublishableIf}
 use Rattle.mqtt_sessions.specs.declared.fault.SessionFault.{SessionFault}
 use Rattle.mqtt_sessions.specs.declared.fault.SessionFault.TheVariants.{NoMemory, NumbersAtEnd, Spent, BadRow}
-use Rattle.session_laws.specs.Runs.{Event, connects, queues, takes, answers, closes, ticks, finishes, loses, MayCome, Reacts, ends_of}
+use Rattle.session_laws.specs.Runs.{Event, connects, queues, rooms, takes, answers, closes, ticks, finishes, loses, MayCome, Reacts, ends_of}
 use Rattle.session_table.specs.Listing.{moments_of}
 use Rattle.session_table.specs.Seats.{Seat, Seats}
 use Rattle.session_table.specs.Wants.{WantsAt}
 use Rattle.session_table.specs.declared.call.Addressed.{Addressed}
 use Rattle.session_table.specs.declared.call.Call.{Call}
-use Rattle.session_table.specs.declared.call.Call.TheVariants.{Connect, Queue, Packet, Answer, Closed, Tick, Finish}
+use Rattle.session_table.specs.declared.call.Call.TheVariants.{Connect, Queue, Room, Packet, Answer, Closed, Tick, Finish}
 use Rattle.session_table.specs.declared.call.On.{On}
 use Rattle.session_table.specs.declared.call.On.TheVariants.{Moves, Stays, Leaves}
 use Rattle.session_table.specs.declared.seated.Seated.{Seated}
@@ -48,8 +48,9 @@ MayConnectAt continued old = IfSome old (λ seat. MayConnect continued seat.sess
 
 -- ---- as the code hands them on
 abbrev pub event_of : Call → Event
-event_of (Connect connect continued now) = connects connect.now continued now
+event_of (Connect connect continued room now) = connects connect.now continued room now
 event_of (Queue delivery now) = queues delivery now
+event_of (Room bytes now) = rooms bytes now
 event_of (Packet packet now room) = takes packet.now now room
 event_of (Answer id codes) = answers id codes.now
 event_of (Closed now) = closes now
@@ -63,8 +64,9 @@ on_of Leaves = leaves
 
 -- what the session's own calls ask of their arguments
 abbrev pub Asks : Call → Type 0
-Asks (Connect connect continued now) = IsPublishableIf connect.now.will
+Asks (Connect connect continued room now) = IsPublishableIf connect.now.will
 Asks (Queue delivery now) = Unit {0}
+Asks (Room bytes now) = Unit {0}
 Asks (Packet packet now room) = HasSpelling packet.now × (now < 2 ^ 62)
 Asks (Answer id codes) = (1 ≤ id) × (codes.now ≢ [])
 Asks (Closed now) = now < 2 ^ 62
@@ -82,8 +84,9 @@ GoesTo client seats given = IfSome given (λ x. x.to ≡ option_and_then (λ s. 
 
 -- what it gives has spellings; SUBACK and UNSUBACK at any moment
 abbrev pub GivesSpelled : Event → Reaction → Type 0
-GivesSpelled (connects c continued now) r = AreSpelled now r.packets
+GivesSpelled (connects c continued room now) r = AreSpelled now r.packets
 GivesSpelled (queues d now) r = AreSpelled now r.packets
+GivesSpelled (rooms bytes now) r = AreSpelled now r.packets
 GivesSpelled (takes p now room) r = AreSpelled now r.packets
 GivesSpelled (answers id codes) r = (now : ℕ) → AreSpelled now r.packets
 GivesSpelled (closes now) r = AreSpelled now r.packets

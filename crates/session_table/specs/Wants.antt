@@ -6,7 +6,7 @@ use Rattle.mqtt_sessions.specs.Reaction.{Reaction}
 use Rattle.mqtt_sessions.specs.Saved.{keeps_main}
 use Rattle.mqtt_sessions.specs.Sending.{is_once}
 use Rattle.mqtt_sessions.specs.State.{State, limit_of}
-use Rattle.session_laws.specs.Runs.{Event, connects, queues, takes, answers, closes, ticks, finishes, loses, Reacts, wants_of}
+use Rattle.session_laws.specs.Runs.{Event, connects, queues, rooms, takes, answers, closes, ticks, finishes, loses, Reacts, wants_of}
 use Rattle.session_table.specs.Listing.{moments_of}
 use Rattle.session_table.specs.declared.moments.Moments.{Moments}
 
@@ -24,8 +24,9 @@ is_unexpected p = false
 -- a call that leaves the rows of the session as they are, whatever it comes to: a copy at QoS 0; a packet without a connection, and on one
 -- PUBLISH at QoS 0 and 1, SUBSCRIBE, UNSUBSCRIBE, PINGREQ and what is unexpected; codes
 abbrev pub keeps_rows : Event → State → Bool
-keeps_rows (connects c continued now) s = false
+keeps_rows (connects c continued room now) s = false
 keeps_rows (queues d now) s = is_once d.qos
+keeps_rows (rooms bytes now) s = false
 keeps_rows (takes p now room) s = not (is_some (limit_of s.link)) || (keeps_main p || is_unexpected p)
 keeps_rows (answers id codes) s = true
 keeps_rows (closes now) s = false
@@ -34,8 +35,9 @@ keeps_rows (finishes now) s = false
 keeps_rows loses s = false
 
 abbrev pub is_queue : Event → Bool
-is_queue (connects c continued now) = false
+is_queue (connects c continued room now) = false
 is_queue (queues d now) = true
+is_queue (rooms bytes now) = false
 is_queue (takes p now room) = false
 is_queue (answers id codes) = false
 is_queue (closes now) = false
@@ -45,8 +47,9 @@ is_queue loses = false
 
 -- a call by which only a will that is published changes rows
 abbrev pub is_ending : Event → Bool
-is_ending (connects c continued now) = false
+is_ending (connects c continued room now) = false
 is_ending (queues d now) = false
+is_ending (rooms bytes now) = false
 is_ending (takes p now room) = false
 is_ending (answers id codes) = false
 is_ending (closes now) = false

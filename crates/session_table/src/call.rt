@@ -19,10 +19,15 @@ pub enum Call<'a> {
     Connect {
         connect: &'a Connect,
         continued: bool,
+        room: Option<u64>,
         now: u64,
     },
     Queue {
         delivery: Delivery,
+        now: u64,
+    },
+    Room {
+        bytes: u64,
         now: u64,
     },
     Packet {
@@ -74,7 +79,8 @@ pub(crate) fn is_sound(call: &Call<'_>)
     match call {
         Call::Connect { connect, .. } => connect_is_sound(connect),
         Call::Queue { delivery, .. } => delivery.has_spelling(),
-        Call::Packet { .. }
+        Call::Room { .. }
+        | Call::Packet { .. }
         | Call::Answer { .. }
         | Call::Closed(_)
         | Call::Tick(_)
@@ -121,7 +127,11 @@ pub(crate) fn keeps_rows(call: &Call<'_>, session: &Session) -> bool
             session.limit().is_none() || keeps_main(packet) || is_unexpected(packet)
         }
         Call::Answer { .. } => true,
-        Call::Connect { .. } | Call::Closed(_) | Call::Tick(_) | Call::Finish(_) => false,
+        Call::Connect { .. }
+        | Call::Room { .. }
+        | Call::Closed(_)
+        | Call::Tick(_)
+        | Call::Finish(_) => false,
     }
 }
 
@@ -158,9 +168,11 @@ pub(crate) fn turn(session: &mut Session, call: Call<'_>) -> Result<Reaction, Se
         Call::Connect {
             connect,
             continued,
+            room,
             now,
-        } => session.connect(connect, continued, now),
+        } => session.connect(connect, continued, room, now),
         Call::Queue { delivery, now } => session.queue(delivery, now),
+        Call::Room { bytes, now } => session.make_room(bytes, now),
         Call::Packet { packet, now, room } => session.packet(packet, now, room),
         Call::Answer { id, codes } => session.answer(id, codes),
         Call::Closed(now) => session.closed(now),

@@ -9,7 +9,7 @@ ghost use Rattle.mqtt_sessions.specs.Aliases.{topic_for};
 ghost use Rattle.mqtt_sessions.specs.Ending as ending;
 ghost use Rattle.mqtt_sessions.specs.Saved.{state_of};
 ghost use Rattle.mqtt_sessions.specs.State.{IsPublishableIf, aliases_of, limit_of};
-ghost use Rattle.session_laws.specs.Runs.{connects, queues, takes, answers, closes, ticks, finishes};
+ghost use Rattle.session_laws.specs.Runs.{connects, queues, rooms, takes, answers, closes, ticks, finishes};
 ghost use Rattle.session_table.specs.Calls.{GivesSpelled, GoesTo, IsSpelledIf, Asks, IsCalled, MayConnectAt, MayTurnAt, event_of, leaves, moves, on_of, reaction_of, stays};
 ghost use Rattle.session_table.specs.Rows.{AllDurable, IsAllTold, LeadsOn};
 ghost use Rattle.session_table.specs.Seats.{AreElsewhere, begun, connected, ends_due, run_outs, wills_due};
@@ -239,12 +239,13 @@ impl Sessions {
         connection: u64,
         connect: &Connect,
         continued: bool,
+        room: Option<u64>,
         now: u64,
         changes: &mut Vec<Change>,
     ) -> Result<Option<Addressed>, SessionFault>
         requires continued { MayConnectAt continued (map.get self.old client.now) }
         requires will { IsPublishableIf connect.now.will }
-        ensures called { IsCalled client.now (connects connect.now continued now) (moves connection) self.old (reaction_of result) self.new }
+        ensures called { IsCalled client.now (connects connect.now continued room now) (moves connection) self.old (reaction_of result) self.new }
         ensures goes { IfOk result (GoesTo client.now self.new) }
         ensures spelled { IfOk (reaction_of result) (IsSpelledIf now) }
         ensures leads { OnOk result (LeadsOn self.old changes.old.items changes.new.items self.new) }
@@ -252,6 +253,7 @@ impl Sessions {
         let call = Call::Connect {
             connect,
             continued,
+            room,
             now,
         };
         self.call(client, call, On::Moves(connection), changes)
@@ -271,6 +273,22 @@ impl Sessions {
         ensures leads { OnOk result (LeadsOn self.old changes.old.items changes.new.items self.new) }
     {
         self.call(client, Call::Queue { delivery, now }, On::Stays, changes)
+    }
+
+    /// The client's connection takes so many bytes of PUBLISHes from now on: `Session::make_room`.
+    pub fn make_room(
+        &mut self,
+        client: &Text,
+        bytes: u64,
+        now: u64,
+        changes: &mut Vec<Change>,
+    ) -> Result<Option<Addressed>, SessionFault>
+        ensures called { IsCalled client.now (rooms bytes now) stays self.old (reaction_of result) self.new }
+        ensures goes { IfOk result (GoesTo client.now self.new) }
+        ensures spelled { IfOk (reaction_of result) (IsSpelledIf now) }
+        ensures leads { OnOk result (LeadsOn self.old changes.old.items changes.new.items self.new) }
+    {
+        self.call(client, Call::Room { bytes, now }, On::Stays, changes)
     }
 
     /// A packet that came from the client: `Session::packet`.

@@ -117,6 +117,31 @@ fn lost_clients_are_told(rt: HostRuntime) -> Result<(), Fail> {
     Ok(())
 }
 
+/// The handler answers `m` by so many bytes, of which the client takes so many at a time. In eight turns it is told these rooms.
+fn tells_rooms(rt: &impl Abort, alloc: Global, many: usize, most: usize, rooms: &[u64]) {
+    let mut network = FakeSockets::new(alloc);
+    let mut hub = hub_of(rt, alloc, &mut network, Vec::new(alloc));
+    let _ = client(rt, &mut network, b"m", 1, most);
+    let mut echo = Echo::new(alloc);
+    echo.many = many;
+    assert!(rt; make(rt, &mut hub, &mut network, &mut echo, 8) == 1);
+    assert!(rt; echo.rooms.as_slice() == rooms);
+}
+
+#[test]
+fn room_is_told_as_clients_take_bytes(rt: HostRuntime) -> Result<(), Fail> {
+    let alloc = rt.alloc();
+    // at once, where less than 262,144 bytes wait
+    tells_rooms(&rt, alloc, 262_143, 100_000, &[1_048_576, 786_433]);
+    // once they do
+    tells_rooms(&rt, alloc, 262_144, 100_000, &[1_048_576, 886_432]);
+    tells_rooms(&rt, alloc, 1_000_000, 400_000, &[1_048_576, 848_576]);
+    tells_rooms(&rt, alloc, 1_000_000, 1_000_000, &[1_048_576, 1_048_576]);
+    // and not before
+    tells_rooms(&rt, alloc, 1_000_000, 100_000, &[1_048_576]);
+    Ok(())
+}
+
 #[test]
 fn faults_stop_a_turn(rt: HostRuntime) -> Result<(), Fail> {
     let alloc = rt.alloc();

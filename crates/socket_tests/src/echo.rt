@@ -21,6 +21,8 @@ pub struct Echo {
     pub settled: u32,
     pub settles: u32,
     pub many: usize,
+    /// How much it was told that connections take.
+    pub rooms: Vec<u64>,
 }
 
 impl Drop for Echo {
@@ -34,6 +36,7 @@ impl Drop for Echo {
             settled: _,
             settles: _,
             many: _,
+            rooms: _rooms,
         } = self;
     }
 }
@@ -53,6 +56,7 @@ impl Echo {
             settled: 0,
             settles: u32::MAX,
             many: 0,
+            rooms: Vec::new(alloc),
         }
     }
 
@@ -108,6 +112,13 @@ impl Handler for Echo {
             }
             EventKind::Tick => {
                 self.ticks = self.ticks.saturating_add(1);
+                Ok(nothing)
+            }
+            EventKind::Room {
+                connection: _,
+                bytes,
+            } => {
+                self.rooms.push(bytes).map_err(|_| Refused)?;
                 Ok(nothing)
             }
             EventKind::Piece { connection, bytes } => self.answer(connection, bytes),

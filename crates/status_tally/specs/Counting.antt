@@ -4,7 +4,7 @@ use Rattle.broker_sockets.specs.declared.bridge.PeerEventKind.{PeerEventKind}
 use Rattle.broker_sockets.specs.declared.bridge.PeerEventKind.TheVariants.{Linked, Frame, Ship}
 use Rattle.broker_sockets.specs.declared.bridge.PeerFrame.{PeerFrame}
 use Rattle.broker_sockets.specs.declared.events.EventKind.{EventKind}
-use Rattle.broker_sockets.specs.declared.events.EventKind.TheVariants.{Started, Opened, Piece, Closed, Tick}
+use Rattle.broker_sockets.specs.declared.events.EventKind.TheVariants.{Started, Opened, Piece, Room, Closed, Tick}
 use Rattle.broker_sockets.specs.declared.events.Output.{Output}
 use Rattle.broker_sockets.specs.declared.events.Output.TheVariants.{Send, Close}
 use Rattle.status_figures.specs.declared.traffic.Traffic.{Traffic}
@@ -17,6 +17,7 @@ abbrev pub with_event : EventKind → Traffic → Traffic
 with_event Started t = t
 with_event (Opened connection) t = record t { opened = more 1 t.opened }
 with_event (Piece connection bytes) t = record t { bytes_received = more (length bytes.items) t.bytes_received }
+with_event (Room connection bytes) t = t
 with_event (Closed connection) t = t
 with_event Tick t = t
 
@@ -54,6 +55,7 @@ abbrev pub open_after : EventKind → ℕ → ℕ
 open_after Started count = count
 open_after (Opened connection) count = more 1 count
 open_after (Piece connection bytes) count = count
+open_after (Room connection bytes) count = count
 open_after (Closed connection) count = count - 1
 open_after Tick count = count
 

@@ -4,7 +4,7 @@ use Rattle.broker_sockets.specs.declared.bridge.PeerEventKind.{PeerEventKind}
 use Rattle.broker_sockets.specs.declared.bridge.PeerEventKind.TheVariants.{Linked, Frame, Ship}
 use Rattle.broker_sockets.specs.declared.bridge.PeerFrame.{PeerFrame}
 use Rattle.broker_sockets.specs.declared.events.EventKind.{EventKind}
-use Rattle.broker_sockets.specs.declared.events.EventKind.TheVariants.{Started, Opened, Piece, Closed, Tick}
+use Rattle.broker_sockets.specs.declared.events.EventKind.TheVariants.{Started, Opened, Piece, Room, Closed, Tick}
 use Rattle.broker_sockets.specs.declared.events.Output.{Output}
 use Rattle.status_figures.specs.declared.traffic.Traffic.{Traffic}
 use Rattle.status_tally.specs.Counting.{open_after, open_with, with_event, with_frames, with_outputs, with_peer_event}
@@ -27,6 +27,7 @@ abbrev pub window_after : ℕ → EventKind → Traffic → List Mark → List M
 window_after at Started total window = window
 window_after at (Opened connection) total window = window
 window_after at (Piece connection bytes) total window = window
+window_after at (Room connection bytes) total window = window
 window_after at (Closed connection) total window = window
 window_after at Tick total window = noted at total window
 

@@ -23,7 +23,10 @@ pub(crate) fn count_event(total: &mut Traffic, kind: &EventKind)
             connection: _,
             bytes,
         } => total.bytes_received = more(total.bytes_received, bytes.len()),
-        EventKind::Started | EventKind::Closed { connection: _ } | EventKind::Tick => {}
+        EventKind::Started
+        | EventKind::Room { .. }
+        | EventKind::Closed { connection: _ }
+        | EventKind::Tick => {}
     }
 }
 
@@ -87,7 +90,8 @@ pub(crate) fn open_after(kind: &EventKind, count: u64) -> u64
     match kind {
         EventKind::Opened { connection: _ } => more(count, 1),
         EventKind::Closed { connection: _ } => count.saturating_sub(1),
-        EventKind::Started | EventKind::Piece { .. } | EventKind::Tick => count,
+        EventKind::Started | EventKind::Piece { .. } | EventKind::Room { .. } | EventKind::Tick =>
+            count,
     }
 }
 

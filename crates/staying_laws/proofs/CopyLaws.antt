@@ -26,7 +26,7 @@ use Rattle.node_rows.specs.Rows.{Lasting}
 use Rattle.node_rows.specs.Sessions.{opened_seat}
 use Rattle.node_work.specs.Acts.{Act, Connection, Session, Bridge, next}
 use Rattle.node_work.specs.Held.Bridge.{BridgeAct, Put, Took, Got, Believed, Gave, Left_out, bridged}
-use Rattle.node_work.specs.Held.Connections.{ConnectionAct, Opened, Fed, Accepted, Closed, after_connection_act}
+use Rattle.node_work.specs.Held.Connections.{ConnectionAct, Opened, Fed, Accepted, Roomed, Closed, after_connection_act}
 use Rattle.node_work.specs.Held.Sessions.{Begun, Called, Over}
 use Rattle.node_work.specs.Lasting.{lasting, IsWoken}
 use Rattle.node_work.specs.View.{Place, HeldView, fresh}
@@ -68,6 +68,7 @@ connection_same : (h : HeldView) (a : ConnectionAct) → (after_connection_act h
 connection_same h (Opened c) = refl
 connection_same h (Fed c piece) = refl
 connection_same h (Accepted c client) = refl
+connection_same h (Roomed c bytes) = refl
 connection_same h (Closed c) = refl
 
 bridge_same : (h : HeldView) (a : BridgeAct) → (bridged h a).sessions ≡ h.sessions

@@ -9,7 +9,7 @@ use Rattle.mqtt_sessions.specs.Answers.{disconnect, fits}
 use Rattle.mqtt_sessions.specs.Ending.{will_due, end_due, is_due}
 use Rattle.mqtt_sessions.specs.Reaction.{Reaction, packet_of}
 use Rattle.mqtt_sessions.specs.State.{State, aliases_of, limit_of}
-use Rattle.session_laws.specs.Runs.{Event, connects, queues, takes, answers, closes, ticks, finishes, loses, Reacts}
+use Rattle.session_laws.specs.Runs.{Event, connects, queues, rooms, takes, answers, closes, ticks, finishes, loses, Reacts}
 use Rattle.session_table.specs.Seats.{Seat, begun}
 use Rattle.node_work.specs.declared.counts.Counts.{Counts}
 use Rattle.node_work.specs.declared.outcome.Output.{Output}
@@ -41,8 +41,9 @@ counted full counts = cond full (record counts { queue_full = more 1 counts.queu
 
 -- ---- the connection that a session is on after an event
 abbrev pub IsOn : Event → Option ℕ → Option ℕ → Type 0
-IsOn (connects p continued now) before on = is_some on ≡ true
+IsOn (connects p continued room now) before on = is_some on ≡ true
 IsOn (queues d now) before on = on ≡ before
+IsOn (rooms bytes now) before on = on ≡ before
 IsOn (takes p now room) before on = on ≡ before
 IsOn (answers id codes) before on = on ≡ before
 IsOn (closes now) before on = on ≡ None
@@ -52,8 +53,9 @@ IsOn loses before on = ⊥
 
 -- an event is at a moment
 abbrev pub HappensAt : ℕ → Event → Type 0
-HappensAt at (connects p continued now) = now ≡ at
+HappensAt at (connects p continued room now) = now ≡ at
 HappensAt at (queues d now) = now ≡ at
+HappensAt at (rooms bytes now) = now ≡ at
 HappensAt at (takes p now room) = now ≡ at
 HappensAt at (answers id codes) = Unit {0}
 HappensAt at (closes now) = now ≡ at

@@ -14,11 +14,13 @@ use std::marker::Model;
 /// The longest packet that a client may send, in bytes.
 pub const LONGEST_PACKET: usize = 1048576;
 
-/// A connection: the bytes that wait for the rest of their packet, and the client, once it is accepted.
+/// A connection: the bytes that wait for the rest of their packet, the client, once it is accepted, and how many bytes of PUBLISHes
+/// it takes, where it was told before that.
 #[derive(Drop)]
 pub struct Connection {
     framer: Framer,
     client: Option<Text>,
+    room: Option<u64>,
 }
 
 impl Model for Connection {
@@ -28,7 +30,7 @@ impl Model for Connection {
 
     ghost coded = { coded_connection };
 
-    ghost view = { λ c. record { stream = c.framer; client = c.client } };
+    ghost view = { λ c. record { stream = c.framer; client = c.client; room = c.room } };
 }
 
 impl Connection {
@@ -38,6 +40,7 @@ impl Connection {
         Connection {
             framer: Framer::new(alloc, LONGEST_PACKET),
             client: None,
+            room: None,
         }
     }
 
@@ -48,11 +51,24 @@ impl Connection {
         self.client.as_ref()
     }
 
+    /// How many bytes of PUBLISHes it takes, where it was told before its CONNECT.
+    pub fn room(&self) -> Option<u64>
+        ensures { result ≡ self.now.room }
+    {
+        self.room
+    }
+
     /// The first byte of the packet that the stream is at.
     pub fn first(&self) -> Option<u8>
         ensures { result ≡ slice_get self.now.stream.rest 0 }
     {
         self.framer.first()
+    }
+
+    pub fn keep_room(&mut self, bytes: u64)
+        ensures { self.new ≡ record self.old { room = Some bytes } }
+    {
+        self.room = Some(bytes);
     }
 
     pub fn accept(&mut self, client: Text)

@@ -3,7 +3,7 @@
 ghost use Rattle.std.specs.Prelude.{◌≡◌, List, ℕ, is_some, IfOk, OnOk, IfErr, None, Some, slice_get, option_and_then, Ok};
 ghost use Rattle.std.specs.Option.{option_copied};
 ghost use Rattle.std.specs.FinMap as map;
-ghost use Rattle.node_work.specs.Held.Connections.{new_connection, changed, with_client};
+ghost use Rattle.node_work.specs.Held.Connections.{new_connection, changed, with_client, with_room};
 ghost use Rattle.node_work.specs.Held.Feeding.{IsFed};
 ghost use Rattle.node_work.specs.Packets.{CameSpelled};
 ghost use Rattle.node_work.specs.declared.fault.NodeFault.TheVariants.{NoMemory};
@@ -106,6 +106,16 @@ impl Connections {
         }
     }
 
+    /// How many bytes of PUBLISHes a connection takes, where it was told before its CONNECT.
+    pub fn room_of(&self, connection: u64) -> Option<u64>
+        ensures { result ≡ option_and_then (λ c. c.room) (map.get self.now connection) }
+    {
+        match self.find(connection) {
+            Some(found) => found.room(),
+            None => None,
+        }
+    }
+
     /// The first byte of the packet that a connection's stream is at.
     pub fn first(&self, connection: u64) -> Option<u8>
         ensures { result ≡ option_and_then (λ c. slice_get c.stream.rest 0) (map.get self.now connection) }
@@ -131,6 +141,16 @@ impl Connections {
             Err(FeedFault::Failed) => Ok(Came::Failed),
             Err(FeedFault::NoMemory) => Err(NodeFault::NoMemory),
         }
+    }
+
+    /// Keeps how many bytes of PUBLISHes an open connection takes.
+    pub fn keep_room(&mut self, connection: u64, bytes: u64)
+        ensures { self.new ≡ changed (with_room bytes) connection self.old }
+    {
+        let Some(found) = self.table.get_mut(&connection) else {
+            return;
+        };
+        found.keep_room(bytes);
     }
 
     /// Gives an open connection its client.

@@ -17,14 +17,14 @@ ghost use Rattle.causal_context.specs.Spelling.{HasSpelling};
 ghost use Rattle.mqtt_packets.specs.Written as written;
 ghost use Rattle.subscription_set.specs.Standing.{seen_of};
 ghost use Rattle.mqtt_sessions.specs.State.{IsPublishableIf};
-ghost use Rattle.session_laws.specs.Runs.{connects, queues, takes, answers, closes, ticks, finishes};
+ghost use Rattle.session_laws.specs.Runs.{connects, queues, rooms, takes, answers, closes, ticks, finishes};
 ghost use Rattle.node_work.specs.Acts.{next, Connection};
 ghost use Rattle.node_work.specs.Held.Calling.{IsHeldCall, MayConnectHere, MayAnswer};
 ghost use Rattle.session_table.specs.Calls.{GoesTo, IsSpelledIf, stays, leaves, moves, reaction_of};
 ghost use Rattle.session_table.specs.Rows.{LeadsOn};
 ghost use Rattle.node_work.specs.Lasting.{AreOpenedWith, CanLast, StoreTells};
 ghost use Rattle.node_work.specs.Held.Sessions.{Begun, Over, called, counted, more, will_is_due, end_is_due};
-ghost use Rattle.node_work.specs.Held.Connections.{Accepted, is_open, client_at, first_at, new_connection};
+ghost use Rattle.node_work.specs.Held.Connections.{Accepted, Roomed, is_open, client_at, first_at, new_connection, room_at};
 ghost use Rattle.node_work.specs.Held.Feeding.{IsHeldFed};
 ghost use Rattle.node_work.specs.Held.Making.{Makes, number_at_end, put_at_end, removal, removal_below, with_operation};
 ghost use Rattle.node_work.specs.Packets.{CameSpelled};
@@ -205,6 +205,13 @@ impl Held {
         ensures { option_copied result ≡ client_at connection self.now }
     {
         self.connections.client_of(connection)
+    }
+
+    /// How many bytes of PUBLISHes a connection takes, where it was told before its CONNECT.
+    pub fn room_of(&self, connection: u64) -> Option<u64>
+        ensures { result ≡ room_at connection self.now }
+    {
+        self.connections.room_of(connection)
     }
 
     /// The first byte of the packet that a connection's stream is at.
@@ -451,6 +458,13 @@ impl Held {
         self.connections.feed(connection, piece)
     }
 
+    /// Keeps how many bytes of PUBLISHes an open connection takes.
+    pub fn keep_room(&mut self, connection: u64, bytes: u64)
+        ensures { self.new ≡ next self.old (Connection (Roomed connection bytes)) }
+    {
+        self.connections.keep_room(connection, bytes);
+    }
+
     /// Gives an open connection its client.
     pub fn accept(&mut self, alloc: Global, connection: u64, client: &Text) -> Result<(), NodeFault>
         ensures ok { OnOk result (self.new ≡ next self.old (Connection (Accepted connection client.now))) }
@@ -518,24 +532,26 @@ impl Held {
         Ok(())
     }
 
-    /// The beginning of a connection of the client's session.
+    /// The beginning of a connection of the client's session, which takes so many bytes of PUBLISHes, where that is counted.
     pub fn connect(
         &mut self,
         client: &Text,
         connection: u64,
         connect: &Connect,
         continued: bool,
+        room: Option<u64>,
         changes: &mut Vec<Change>,
     ) -> Result<Option<Addressed>, SessionFault>
         requires continued { MayConnectHere client.now continued self.old.sessions }
         requires will { IsPublishableIf connect.now.will }
-        ensures called { IsHeldCall client.now (connects connect.now continued self.old.at) (moves connection) self.old (reaction_of result) self.new }
+        ensures called { IsHeldCall client.now (connects connect.now continued room self.old.at) (moves connection) self.old (reaction_of result) self.new }
         ensures goes { IfOk result (GoesTo client.now self.new.sessions) }
         ensures spelled { IfOk (reaction_of result) (IsSpelledIf self.old.at) }
         ensures leads { OnOk result (LeadsOn self.old.sessions changes.old.items changes.new.items self.new.sessions) }
     {
-        self.sessions
-            .connect(client, connection, connect, continued, self.at, changes)
+        self.sessions.connect(
+            client, connection, connect, continued, room, self.at, changes,
+        )
     }
 
     /// A copy of a message for the client.
@@ -551,6 +567,21 @@ impl Held {
         ensures leads { OnOk result (LeadsOn self.old.sessions changes.old.items changes.new.items self.new.sessions) }
     {
         self.sessions.queue(client, delivery, self.at, changes)
+    }
+
+    /// The client's connection takes so many bytes of PUBLISHes from now on.
+    pub fn make_room(
+        &mut self,
+        client: &Text,
+        bytes: u64,
+        changes: &mut Vec<Change>,
+    ) -> Result<Option<Addressed>, SessionFault>
+        ensures called { IsHeldCall client.now (rooms bytes self.old.at) stays self.old (reaction_of result) self.new }
+        ensures goes { IfOk result (GoesTo client.now self.new.sessions) }
+        ensures spelled { IfOk (reaction_of result) (IsSpelledIf self.old.at) }
+        ensures leads { OnOk result (LeadsOn self.old.sessions changes.old.items changes.new.items self.new.sessions) }
+    {
+        self.sessions.make_room(client, bytes, self.at, changes)
     }
 
     /// A packet of the client.

@@ -47,17 +47,30 @@ fn begin(
 ) -> String {
     let connect = connect(rt, alloc, digits);
     drop(replace(session, fresh(rt, alloc, client)));
-    let result = session.connect(&connect, false, 0);
+    let result = session.connect(&connect, false, None, 0);
     drop(connect);
     tell(rt, alloc, result, 0)
 }
 
-/// What a later CONNECT comes to.
-fn again(rt: &impl Abort, alloc: Global, session: &mut Session, digits: &str, now: u64) -> String {
+/// What a later CONNECT comes to, on a connection that takes so many bytes of PUBLISHes, where that is counted.
+fn again(
+    rt: &impl Abort,
+    alloc: Global,
+    session: &mut Session,
+    digits: &str,
+    room: Option<u64>,
+    now: u64,
+) -> String {
     let connect = connect(rt, alloc, digits);
-    let result = session.connect(&connect, true, now);
+    let result = session.connect(&connect, true, room, now);
     drop(connect);
     tell(rt, alloc, result, now)
+}
+
+/// What it comes to that the connection takes so many bytes from now on.
+fn make_room(rt: &impl Abort, alloc: Global, session: &mut Session, bytes: u64) -> String {
+    let result = session.make_room(bytes, 0);
+    tell(rt, alloc, result, 0)
 }
 
 /// What a packet comes to.
@@ -213,6 +226,7 @@ fn of_word(
         "take" => take(rt, alloc, session, word, true),
         "refuse" => take(rt, alloc, session, word, false),
         "kinds" => kinds(rt, alloc, word),
+        "room" => make_room(rt, alloc, session, number(rt, word)),
         "open" => open(rt, alloc, session, number(rt, word)),
         "alias" => alias(rt, alloc, session, number(rt, word)),
         "aliases" => aliases(rt, alloc, session, number(rt, word)),
@@ -233,7 +247,8 @@ fn of_words(
     let (first, second) = words;
     match verb {
         "new" => begin(rt, alloc, session, first, second),
-        "again" => again(rt, alloc, session, first, number(rt, second)),
+        "again" => again(rt, alloc, session, first, None, number(rt, second)),
+        "within" => again(rt, alloc, session, first, Some(number(rt, second)), 0),
         "copy" => copy(rt, alloc, session, first, level(rt, second)),
         "answer" => answer(rt, alloc, session, number(rt, first), second),
         _ => panic!(rt; "{verb} is no call"),

@@ -3,13 +3,14 @@
 use super::Line;
 
 /// Each script begins with a session of its own.
-pub const ALL: [&[Line]; 7] = [
+pub const ALL: [&[Line]; 8] = [
     &CONNECTIONS,
     &ARRIVALS,
     &ALIASES,
     &KINDS,
     &MOMENTS,
     &LIMITS,
+    &ROOM,
     &ROWS,
 ];
 
@@ -265,6 +266,41 @@ const LIMITS: [Line; 13] = [
     ("answer 1 00", ""),
     ("take a206000200000174", " unsubscribe"),
     ("answer 2 000000000000000000000000", " end 0"),
+];
+
+/// Three copies wait, and the connection takes one byte: one goes, and the next at each room. The last PUBLISH may be longer than what
+/// is left. Without room a PUBACK sends nothing, and a copy at QoS 0 goes all the same. A connection of which no room is told is not
+/// counted.
+const ROOM: [Line; 20] = [
+    (
+        "new a 101300044d5154540502003c051100000064000161",
+        "200e00000b2100642200102700100000",
+    ),
+    ("closed 0", ""),
+    ("copy 1 1", ""),
+    ("copy 2 1", ""),
+    ("copy 3 1", ""),
+    (
+        "within 101300044d5154540500003c051100000064000161 1",
+        "200e01000b2100642200102700100000320700017400010031",
+    ),
+    ("copy 4 1", ""),
+    ("copy 0 0", "30050001740030"),
+    ("take 40020001", ""),
+    ("room 0", ""),
+    ("room 1", "320700017400010032"),
+    ("room 10", "320700017400020033320700017400030034"),
+    ("copy 5 1", ""),
+    ("room 10", "320700017400040035"),
+    ("copy 6 1", "320700017400050036"),
+    ("copy 7 1", ""),
+    ("closed 0", ""),
+    ("room 100", ""),
+    ("take c000", ""),
+    (
+        "again 101300044d5154540500003c051100000064000161 0",
+        "200e01000b21006422001027001000003a07000174000100323a07000174000200333a07000174000300343a07000174000400353a0700017400050036320700017400060037",
+    ),
 ];
 
 /// A queue of 65,536 copies is full: the copy after them is left out, and that is told.

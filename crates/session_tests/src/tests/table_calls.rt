@@ -37,7 +37,7 @@ fn open(
     let connect = connect(rt, alloc, digits);
     let (connection, now) = (moment(rt, connection), moment(rt, now));
     let mut changes = Vec::new(alloc);
-    let result = sessions.connect(client, connection, &connect, true, now, &mut changes);
+    let result = sessions.connect(client, connection, &connect, true, None, now, &mut changes);
     drop((connect, changes));
     tell(rt, alloc, result)
 }
@@ -57,6 +57,21 @@ fn take(
     let mut changes = Vec::new(alloc);
     let result = sessions.packet(client, &packet, now, true, &mut changes);
     drop((packet, changes));
+    tell(rt, alloc, result)
+}
+
+/// What it comes to that a client's connection takes so many bytes from now on.
+fn make_room(
+    rt: &impl Abort,
+    alloc: Global,
+    sessions: &mut Sessions,
+    client: &Text,
+    bytes: u64,
+    now: u64,
+) -> String {
+    let mut changes = Vec::new(alloc);
+    let result = sessions.make_room(client, bytes, now, &mut changes);
+    drop(changes);
     tell(rt, alloc, result)
 }
 
@@ -166,7 +181,13 @@ fn of_client(
     };
     match more.split_once(' ') {
         Some((connection, now)) => open(rt, alloc, sessions, client, (digits, connection, now)),
-        None => take(rt, alloc, sessions, client, digits, moment(rt, more)),
+        None => match verb {
+            "room" => {
+                let (bytes, now) = (moment(rt, digits), moment(rt, more));
+                make_room(rt, alloc, sessions, client, bytes, now)
+            }
+            _ => take(rt, alloc, sessions, client, digits, moment(rt, more)),
+        },
     }
 }
 

@@ -2,7 +2,7 @@
 
 use super::Line;
 
-pub const LINES: [Line; 62] = [
+pub const LINES: [Line; 64] = [
     // Keep Alive 60 s: a client `b` on connection 3, and `a` on 7
     ("begin b", "1"),
     ("begin a", "2"),
@@ -26,6 +26,8 @@ pub const LINES: [Line; 62] = [
     ("run_out 89999", ""),
     ("run_out 90000", "3 b;7 a;"),
     ("packet a c000 1000", "1 sent to 7"),
+    ("room a 1 1000", "0 sent to 7"),
+    ("room c 1 1000", "no session"),
     ("run_out 90000", "3 b;"),
     ("run_out 90999", "3 b;"),
     ("run_out 91000", "3 b;7 a;"),

@@ -1,12 +1,17 @@
 use Rattle.std.proofs.Common.{◌≡◌, Ok, Err, sym, subst, ◌∙◌, ap}
 use Rattle.node_work.specs.View.{WorkView}
-use Rattle.node_work.specs.Working.{Then}
-use Rattle.node_work.proofs.Working.{comes_as, then_goes, then_stops}
+use Rattle.node_work.specs.Working.{ComesTo, Then}
+use Rattle.node_work.proofs.Working.{comes_as, did_nothing, then_goes, then_stops}
 use Rattle.broker_node.specs.Due.{DoesDue}
 use Rattle.broker_node.specs.Idle.{AsksNothing}
 use Rattle.broker_node.specs.Turns.{AnswersEvent, AnswersAfterDue}
 use Rattle.broker_node.proofs.Going.{goes, goes_idle}
 use Rattle.broker_node.proofs.turn.go_on.Goals as goal
+
+pub returns-in-Started-clause-comes : goal.returns-in-Started-clause-comes
+returns-in-Started-clause-comes c =
+    let w = c.args.work.now in
+    subst (λ k. ComesTo (λ x. x) (Ok tt) w w (AnswersAfterDue k)) (sym c.in-Started.is) (did_nothing w tt)
 
 pub returns-in_err-do_due : goal.returns-in_err-do_due
 returns-in_err-do_due c =

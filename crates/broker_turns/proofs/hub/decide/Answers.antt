@@ -20,6 +20,8 @@ returns-clause-ok g c =
       ticked = record { does = record { sockets = refl; handled = c.in_ok-handle_event.ensures.ok }; dialled = refl };
       supplied = reach c.dial_peers.new.sockets (near c.ship_all.new.handler c.ship_all.new.clients.slab c.ship_all.new.links);
       shipped = record { does = counted _ _ _ _ _ e c.in_ok-ship_all.ensures.ok; sockets = refl };
+      roomed = reach c.dial_peers.new.sockets (near c.make_rooms.new.handler c.make_rooms.new.clients.slab c.ship_all.new.links);
+      rooms_made = record { does = c.in_ok-make_rooms.ensures.ok; sockets = refl; dialled = refl };
       settled = record { does = record { does = settled; clients = refl; dialled = refl }; sockets = refl };
       sought = refl;
     })

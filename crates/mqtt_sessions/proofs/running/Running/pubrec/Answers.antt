@@ -1,6 +1,6 @@
 use Rattle.std.proofs.Common.{refl, arith}
 use Rattle.mqtt_sessions.proofs.ReactionLaws.{pubrec_answered}
-use Rattle.mqtt_sessions.proofs.ReceivedLaws.{released, unknown, ignored, released-fault, unknown-fault}
+use Rattle.mqtt_sessions.proofs.ReceivedLaws.{released, unknown, ignored, ends, released-fault, unknown-fault}
 use Rattle.mqtt_sessions.proofs.running.Running.pubrec.Goals as goal
 
 pub returns-in-Release-clause-step : goal.returns-in-Release-clause-step
@@ -36,3 +36,8 @@ returns-in-Unknown-clause-fault c =
     rw (← c.self.view_is)
     (unknown-fault c.args.id c.args.code c.args.now c.args.limit _ c.received.new.self.box c.answered-in-Unknown.result _ c.if-code-ge-UNSPECIFIED_ERROR.false c.in-Unknown.ensures.step c.answered-in-Unknown.ensures.fault
     (rw c.pubrel-answer-in-Unknown.ensures.packet at c.answered-in-Unknown.ensures.want))
+
+pub returns-clause-step : goal.returns-clause-step
+returns-clause-step c =
+    rw (← c.self.view_is)
+    (ends c.args.id c.args.code c.args.now c.args.limit _ c.received.new.self.box c.says.result c.go_on.new.self.state c.new-packets.result.items c.go_on.new.packets.items c.in-Ended.ensures.step c.in_ok-go_on.ensures.step c.new-packets.ensures.items c.says.ensures)

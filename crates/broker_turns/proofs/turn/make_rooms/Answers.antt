@@ -1,0 +1,13 @@
+use Rattle.std.proofs.Common.{ℕ, List, subst}
+use Rattle.std.proofs.lemmas.Result.{on_ok_weaker}
+use Rattle.broker_turns.specs.Connections.{IsRoomStep}
+use Rattle.broker_turns.specs.Steps.{Each}
+use Rattle.broker_turns.proofs.turn.make_rooms.Goals as goal
+
+pub returns-clause-ok : goal.returns-clause-ok
+returns-clause-ok g c =
+    let Tells : List ℕ → Type 0 = λ keys.
+    Each (IsRoomStep g.H.Handler.handles c.args.at) keys (c.args.handler.now, c.args.clients.now.slab) (c.tell_rooms.new.handler, c.tell_rooms.new.clients.slab) in
+    on_ok_weaker c.tell_rooms.result
+    (λ each. record { takers = c.in_ok-takers.takers.items; all = c.in_ok-takers.ensures; each = subst Tells c.deref.ensures.value each })
+    c.tell_rooms.ensures.ok
