@@ -6,7 +6,9 @@
 
 mod measure;
 
-use crate::measure::{RUNS, SINGLE, Turns, fill_and_load, load_again, make_turns};
+use crate::measure::{
+    JOINING, PASSING, RUNS, SINGLE, Turns, fill_and_load, load_again, make_turns,
+};
 use bench_clock::Failure;
 use node_database::{Wary, open_rows};
 use row_store::MemoryRows;
@@ -56,6 +58,14 @@ fn run(rt: &HostRuntime) -> Result<(), Failure> {
             "runs" => {
                 let path = words.next().ok_or(Failure::Part)?;
                 turns(rt, path.as_str(), RUNS)?;
+            }
+            "joining" => {
+                let path = words.next().ok_or(Failure::Part)?;
+                turns(rt, path.as_str(), JOINING)?;
+            }
+            "passing" => {
+                let path = words.next().ok_or(Failure::Part)?;
+                turns(rt, path.as_str(), PASSING)?;
             }
             _ => return Err(Failure::Part),
         }

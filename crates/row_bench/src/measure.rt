@@ -3,6 +3,7 @@
 use bench_clock::{Failure, Stopwatch, ensure};
 use row_store::{Change, Row, RowStore};
 use std::alloc::Global;
+use std::time::Instant;
 
 /// How many rows there are in the end.
 const ROWS: u64 = 20_000;
@@ -10,11 +11,13 @@ const ROWS: u64 = 20_000;
 /// How many rows a large step puts.
 const STEP: u64 = 1_000;
 
-/// Turns of a broker: how many clients take part in each, how many copies each of them has, and how many turns there are.
+/// Turns of a broker: how many clients take part in each, how many copies come for each of them, whether those of the turn before go, and how many
+/// turns there are.
 #[derive(Clone, Copy)]
 pub struct Turns {
     clients: u64,
     copies: u64,
+    go: bool,
     count: u64,
 }
 
@@ -22,6 +25,7 @@ pub struct Turns {
 pub const SINGLE: Turns = Turns {
     clients: 100,
     copies: 1,
+    go: true,
     count: 50,
 };
 
@@ -29,7 +33,24 @@ pub const SINGLE: Turns = Turns {
 pub const RUNS: Turns = Turns {
     clients: 10,
     copies: 16,
+    go: true,
     count: 32,
+};
+
+/// 30,000 copies that join the queue of one client, 32 in a turn.
+pub const JOINING: Turns = Turns {
+    clients: 1,
+    copies: 32,
+    go: false,
+    count: 938,
+};
+
+/// The same, but that each copy goes in the turn after its own.
+pub const PASSING: Turns = Turns {
+    clients: 1,
+    copies: 32,
+    go: true,
+    count: 938,
 };
 
 /// The bytes of a value.
@@ -109,16 +130,18 @@ fn row_of(alloc: Global, kind: u8, client: u64, place: &[u8]) -> Result<Row, Fai
     })
 }
 
-/// What a turn makes of a client: the copies that it had go, and as many come after them.
+/// What a turn makes of a client: the copies that it had go, if they do, and as many come after them.
 fn copies(
     changes: &mut Vec<Change>,
     alloc: Global,
     client: u64,
     turn: u64,
-    count: u64,
+    turns: Turns,
 ) -> Result<(), Failure> {
+    let count = turns.copies;
     let next = turn.saturating_mul(count);
-    for place in next.saturating_sub(count)..next {
+    let gone = if turns.go { count } else { 0 };
+    for place in next.saturating_sub(gone)..next {
         let gone = row_of(alloc, 3, client, &place.to_be_bytes())?;
         changes.push(Change::Remove(gone.kind, gone.owner, gone.place))?;
     }
@@ -135,9 +158,36 @@ fn turn_of(alloc: Global, turns: Turns, turn: u64) -> Result<Vec<Change>, Failur
         changes.push(Change::Put(row_of(alloc, 2, client, &[])?))?;
     }
     for client in 0..turns.clients {
-        copies(&mut changes, alloc, client, turn, turns.copies)?;
+        copies(&mut changes, alloc, client, turn, turns)?;
     }
     Ok(changes)
+}
+
+/// Makes a turn, and gives the microseconds that it took.
+fn make_turn<R: RowStore>(
+    rt: &HostRuntime,
+    rows: &mut R,
+    turns: Turns,
+    turn: u64,
+) -> Result<u64, Failure> {
+    let changes = turn_of(rt.alloc(), turns, turn)?;
+    let start = Instant::now(rt)?;
+    ensure(rows.apply(&changes).is_ok())?;
+    Ok(u64::try_from(start.elapsed(rt)?.as_micros()).unwrap_or(u64::MAX))
+}
+
+/// Prints how long the turns took, of which the times are these: half of them, 99 of 100, and the longest.
+fn print_times(rt: &HostRuntime, mut times: Vec<u64>) -> Result<(), Failure> {
+    times.sort()?;
+    let count = times.len();
+    let at = |n: usize| times.get(n).copied().unwrap_or(0);
+    let (half, most, longest) = (
+        at(count / 2),
+        at(count - count / 100),
+        at(count.saturating_sub(1)),
+    );
+    println!(rt; "half of the turns: {half} us, 99 of 100: {most} us, the longest: {longest} us")?;
+    Ok(())
 }
 
 /// Makes the turns, with a message for each copy that comes.
@@ -147,11 +197,11 @@ pub fn make_turns<R: RowStore>(
     turns: Turns,
 ) -> Result<(), Failure> {
     let watch = Stopwatch::start(rt)?;
+    let mut times = Vec::new(rt.alloc());
     for turn in 0..turns.count {
-        let changes = turn_of(rt.alloc(), turns, turn)?;
-        ensure(rows.apply(&changes).is_ok())?;
+        times.push(make_turn(rt, rows, turns, turn)?)?;
     }
     let each = turns.clients.saturating_mul(turns.copies);
     watch.print(rt, "messages in turns", turns.count.saturating_mul(each))?;
-    Ok(())
+    print_times(rt, times)
 }

@@ -1,25 +1,27 @@
 -- What calls of the store make of what is shown.
-use Rattle.std.proofs.Common.{◌≡◌, ◌≢◌, ◌⊎◌, inl, inr, ◌<◌, ◌+◌, ◌^◌, ℕ, suc, length, List, [], ◌∷◌, ◌++◌, Some, Result, Ok, Err, OnOk, OnErr, map, refl, sym, ap, subst, ◌∙◌, arith}
+use Rattle.std.proofs.Common.{◌≡◌, ◌≢◌, ◌⊎◌, inl, inr, ◌<◌, ◌+◌, ◌^◌, ℕ, suc, length, true, false, List, [], ◌∷◌, ◌++◌, Some, Result, Ok, Err, OnOk, OnErr, map, take, drop, refl, sym, ap, subst, ◌∙◌, arith}
 use Rattle.std.specs.Prelude.{flat_map}
 use Rattle.row_store.specs.declared.row.Change.{Change}
 use Rattle.row_store.specs.declared.store.RowFault.{RowFault}
 use Rattle.row_store.specs.declared.store.RowFault.TheVariants.{BadRow}
 use Rattle.row_store.specs.declared.store.RowStore.{Ghosts}
-use Rattle.std.specs.FinMap.{entries}
+use Rattle.std.specs.FinMap.{entries, insert}
 use Rattle.std.specs.Prelude.{Vec, IfOk}
 use Rattle.std.specs.List.{AllByRecursion}
 use Rattle.std.specs.declared.alloc.Global.{Global}
 use Rattle.std.proofs.lemmas.Result.{IfOk-weaker}
+use Rattle.std.proofs.lemmas.List.{take-append-drop}
 use Rattle.row_store.specs.declared.row.Row.{Row}
 use Rattle.row_store.specs.Rows.{Content, after_all, entry_of}
 use Rattle.row_changes.specs.Noted.{Pair, pair_of}
 use Rattle.row_journal.specs.Calls.{Loads, Makes}
 use Rattle.row_journal.specs.Spelling.{change, turn}
-use Rattle.row_journal.specs.Journal.{after_pairs, shown, entry_key, removals, AreOthers, HasTurns, IsNoted}
-use Rattle.row_journal.proofs.JournalLaws.{after_all_is, flat_more, length_more, plain_leaves, turns_more}
+use Rattle.row_journal.specs.Journal.{after_pairs, names, others, shown, entry_key, removals, AreOthers, HasTurns, IsNoted, NamesWithin}
+use Rattle.row_journal.proofs.JournalLaws.{after_all_is, after_both, flat_more, length_more, others_insert, others_pairs, plain_leaves, turns_more}
+use Rattle.row_journal.proofs.NamedLaws.{hides, named_back, named_front, named_more, plain_named}
 use Rattle.row_journal.specs.Tops.{Allows, Covers, Grows, IsKept, Tops}
-use Rattle.row_journal.proofs.TopsLaws.{covers_after, covers_more}
-use Rattle.row_journal.proofs.ShownLaws.{bare_shown, fold_shown, plain_shown, turn_shown}
+use Rattle.row_journal.proofs.TopsLaws.{covers_after, covers_more, covers_others}
+use Rattle.row_journal.proofs.ShownLaws.{bare_shown, fold_shown, named_shown, plain_shown, turn_shown}
 
 abbrev Settled : {R : Type 0} → Ghosts R → Type 0
 Settled {R} g = (s : R) (c : Content) → g.is_open s → g.may_leave s c → c ≡ g.content s
@@ -135,7 +137,8 @@ none_noted c noted count has none zero_ = record {
   few = omega (arith, zero_);
   has = has;
   counted = sym zero_;
-  are = ap (map pair_of) none;
+  leave = ap (λ xs. after_pairs (others c) (map pair_of xs)) none;
+  named = λ q is. absurd (let z : false ≡ true = sym (ap (λ xs. names (map pair_of xs) q) none) ∙ is in cc);
   plain = subst (λ xs. AreOthers (map pair_of xs)) (sym none) tt;
 }
 
@@ -144,54 +147,112 @@ pub folded : (c : Content) (noted changes : List Change) (count : ℕ) → IsNot
     → after_all c changes ≡ after_pairs c (map pair_of noted ++ removals count)
     → HasTurns (after_all c changes) [] × (shown (after_all c changes) ≡ shown c)
 folded c noted changes count n makes =
-    let done = fold_shown c n.turns (map pair_of noted) (omega (arith, n.few, n.counted)) n.has n.plain n.are in
+    let done = fold_shown c n.turns (map pair_of noted) (omega (arith, n.few, n.counted)) n.has n.plain n.leave in
     let is : after_pairs c (map pair_of noted ++ removals (length n.turns)) ≡ after_all c changes = ap (λ k. after_pairs c (map pair_of noted ++ removals k)) n.counted ∙ sym makes in
     subst (λ d. HasTurns d [] × (shown d ≡ shown c)) is done
 
--- a row of the journal
-pub written : (c : Content) (noted copies changes : List Change) (entry : Change) (count : ℕ) → count + 1 < 2 ^ 64 → IsNoted c noted count
-    → turn.Fits (map pair_of changes) → AreOthers (map pair_of changes) → pair_of entry ≡ (entry_key count, Some (turn.bytes (map pair_of changes)))
-    → map pair_of copies ≡ map pair_of changes
-    → IsNoted (after_all c (entry ∷ [])) (noted ++ copies) (count + 1) × (shown (after_all c (entry ∷ [])) ≡ after_all (shown c) changes)
-written c noted copies changes entry count few n fits plain is same =
-    let xs = map pair_of changes in
-    let makes : after_all c (entry ∷ []) ≡ after_pairs c ((entry_key (length n.turns), Some (turn.bytes xs)) ∷ []) =
-    after_all_is c (entry ∷ []) ∙ ap (λ p. after_pairs c (p ∷ [])) (is ∙ ap (λ k. (entry_key k, Some (turn.bytes xs))) (sym n.counted)) in
-    let short : length n.turns < 256 ^ 8 = omega (arith, few, n.counted) in (
-      record {
-        turns = n.turns ++ xs ∷ [];
-        few = omega (arith, few);
-        has = subst (λ d. HasTurns d (n.turns ++ xs ∷ [])) (sym makes) (turns_more c n.turns xs short fits n.has);
-        counted = length_more n.turns xs ∙ ap (λ k. k + 1) n.counted;
-        are = pairs ∙ (λ i. n.are i ++ xs) ∙ sym (flat_more n.turns xs);
-        plain = subst AreOthers (sym pairs) (both (map pair_of noted) xs n.plain plain);
-      },
-      ap shown makes ∙ turn_shown c n.turns xs short fits n.has ∙ sym (after_all_is (shown c) changes),
-    )
-  where
-    parts : (us vs : List Change) → map pair_of (us ++ vs) ≡ map pair_of us ++ map pair_of vs
-    parts [] vs = refl
-    parts (u ∷ us) vs = ap (λ ps. pair_of u ∷ ps) (parts us vs)
+parts : (us vs : List Change) → map pair_of (us ++ vs) ≡ map pair_of us ++ map pair_of vs
+parts [] vs = refl
+parts (u ∷ us) vs = ap (λ ps. pair_of u ∷ ps) (parts us vs)
 
-    pairs : map pair_of (noted ++ copies) ≡ map pair_of noted ++ map pair_of changes
+both : (us vs : List Pair) → AreOthers us → AreOthers vs → AreOthers (us ++ vs)
+both [] vs a b = b
+both (u ∷ us) vs a b = (a.0, both us vs a.1 b)
+
+front : (us vs : List Pair) → AreOthers (us ++ vs) → AreOthers us
+front [] vs all = tt
+front (u ∷ us) vs all = (all.0, front us vs all.1)
+
+back : (us vs : List Pair) → AreOthers (us ++ vs) → AreOthers vs
+back [] vs all = all
+back (u ∷ us) vs all = back us vs all.1
+
+-- a piece of a fold: the front of what is noted is made
+pieced : (c : Content) (noted these rest : List Change) (count : ℕ) → these ++ rest ≡ noted → IsNoted c noted count
+    → IsNoted (after_pairs c (map pair_of these)) rest count × (shown (after_pairs c (map pair_of these)) ≡ shown c)
+pieced c noted these rest count cut n =
+    let ps = map pair_of these in
+    let qs = map pair_of rest in
+    let all = flat_map (λ t. t) n.turns in
+    let pairs : map pair_of noted ≡ ps ++ qs = ap (map pair_of) (sym cut) ∙ parts these rest in
+    let named : NamesWithin (ps ++ qs) all = subst (λ xs. NamesWithin xs all) pairs n.named in
+    let plain : AreOthers (ps ++ qs) = subst AreOthers pairs n.plain in
+    let within = named_front ps qs all named in
+    let first = front ps qs plain in (
+      record {
+        turns = n.turns;
+        few = n.few;
+        has = plain_leaves c n.turns ps n.has first;
+        counted = n.counted;
+        leave = ap (λ d. after_pairs d qs) (others_pairs c ps first) ∙ sym (after_both (others c) ps qs) ∙ ap (after_pairs (others c)) (sym pairs) ∙ n.leave
+            ∙ sym (hides (others c) ps all within) ∙ ap (λ d. after_pairs d all) (sym (others_pairs c ps first));
+        named = named_back ps qs all named;
+        plain = back ps qs plain;
+      },
+      named_shown c n.turns ps (omega (arith, n.few, n.counted)) n.has first within,
+    )
+
+-- a row of the journal
+entered : (c : Content) (noted copies : List Change) (xs : List Pair) (count : ℕ) → count + 1 < 2 ^ 64 → IsNoted c noted count → turn.Fits xs → AreOthers xs → map pair_of copies ≡ xs
+    → IsNoted (after_pairs c ((entry_key count, Some (turn.bytes xs)) ∷ [])) (noted ++ copies) (count + 1) × (shown (after_pairs c ((entry_key count, Some (turn.bytes xs)) ∷ [])) ≡ after_pairs (shown c) xs)
+entered c noted copies xs count few n fits plain same = subst (λ k. Enters k) n.counted (
+  record {
+    turns = n.turns ++ xs ∷ [];
+    few = omega (arith, few, n.counted);
+    has = turns_more c n.turns xs short fits n.has;
+    counted = length_more n.turns xs;
+    leave = ap (λ d. after_pairs d (map pair_of (noted ++ copies))) hidden ∙ ap (after_pairs (others c)) pairs ∙ after_both (others c) (map pair_of noted) xs
+        ∙ ap (λ d. after_pairs d xs) n.leave ∙ sym (after_both (others c) (flat_map (λ t. t) n.turns) xs) ∙ ap (after_pairs (others c)) (sym (flat_more n.turns xs))
+        ∙ ap (λ d. after_pairs d (flat_map (λ t. t) (n.turns ++ xs ∷ []))) (sym hidden);
+    named = λ q is. ap (λ ps. names ps q) (flat_more n.turns xs) ∙ named_more (map pair_of noted) (flat_map (λ t. t) n.turns) xs n.named q (ap (λ ps. names ps q) (sym pairs) ∙ is);
+    plain = subst AreOthers (sym pairs) (both (map pair_of noted) xs n.plain plain);
+  },
+  turn_shown c n.turns xs short fits n.has,
+)
+  where
+    Enters : ℕ → Type 0
+    Enters k = IsNoted (after_pairs c ((entry_key k, Some (turn.bytes xs)) ∷ [])) (noted ++ copies) (k + 1) × (shown (after_pairs c ((entry_key k, Some (turn.bytes xs)) ∷ [])) ≡ after_pairs (shown c) xs)
+
+    short : length n.turns < 256 ^ 8
+    short = omega (arith, few, n.counted)
+
+    hidden : others (insert c (entry_key (length n.turns)) (turn.bytes xs)) ≡ others c
+    hidden = others_insert c (entry_key (length n.turns)) (turn.bytes xs) refl
+
+    pairs : map pair_of (noted ++ copies) ≡ map pair_of noted ++ xs
     pairs = parts noted copies ∙ ap (λ ps. map pair_of noted ++ ps) same
 
-    both : (us vs : List Pair) → AreOthers us → AreOthers vs → AreOthers (us ++ vs)
-    both [] vs a b = b
-    both (u ∷ us) vs a b = (a.0, both us vs a.1 b)
+-- a piece of a fold, and a row of the journal
+pub written : (c : Content) (noted made copies changes : List Change) (at count : ℕ) → count + 1 < 2 ^ 64 → IsNoted c noted count
+    → turn.Fits (map pair_of changes) → AreOthers (map pair_of changes)
+    → map pair_of made ≡ map pair_of (take at noted) ++ (entry_key count, Some (turn.bytes (map pair_of changes))) ∷ []
+    → map pair_of copies ≡ map pair_of changes
+    → IsNoted (after_all c made) (drop at noted ++ copies) (count + 1) × (shown (after_all c made) ≡ after_all (shown c) changes)
+written c noted made copies changes at count few n fits plain is same =
+    let xs = map pair_of changes in
+    let ps = map pair_of (take at noted) in
+    let d = after_pairs c ps in
+    let one = pieced c noted (take at noted) (drop at noted) count (take-append-drop at noted) n in
+    let two = entered d (drop at noted) copies xs count few one.0 fits plain same in
+    let makes : after_all c made ≡ after_pairs d ((entry_key count, Some (turn.bytes xs)) ∷ []) = after_all_is c made ∙ ap (after_pairs c) is ∙ after_both c ps ((entry_key count, Some (turn.bytes xs)) ∷ []) in (
+      subst (λ e. IsNoted e (drop at noted ++ copies) (count + 1)) (sym makes) two.0,
+      ap shown makes ∙ two.1 ∙ ap (λ e. after_pairs e xs) one.1 ∙ sym (after_all_is (shown c) changes),
+    )
 
 -- changes without the journal, of which there is none
 pub made_plainly : (c : Content) (noted changes : List Change) → IsNoted c noted 0 → AreOthers (map pair_of changes)
     → IsNoted (after_all c changes) noted 0 × (shown (after_all c changes) ≡ after_all (shown c) changes)
 made_plainly c noted changes n plain =
     let ps = map pair_of changes in
-    let none = noted_none c noted n in (
+    let none = noted_none c noted n in
+    let within = subst (λ (ts : List (List Pair)). NamesWithin (map pair_of noted) (flat_map (λ t. t) ts)) (no_turns n.turns n.counted) n.named in (
       record {
         turns = [];
         few = omega arith;
-        has = subst (λ d. HasTurns d []) (sym (after_all_is c changes)) (plain_leaves c ps none plain);
+        has = subst (λ d. HasTurns d []) (sym (after_all_is c changes)) (plain_leaves c [] ps none plain);
         counted = refl;
-        are = n.are ∙ ap (flat_map (λ t. t)) (no_turns n.turns n.counted);
+        leave = hides (others (after_all c changes)) (map pair_of noted) [] within;
+        named = within;
         plain = n.plain;
       },
       ap shown (after_all_is c changes) ∙ plain_shown c ps none plain ∙ sym (after_all_is (shown c) changes),
@@ -264,6 +325,24 @@ kept_grown c noted noted' count count' old new is same grows k = record {
   journal = subst (λ xs. IsNoted c xs count') (sym is) (subst (λ n. IsNoted c noted n) (sym same) k.journal);
   covers = covers_more old new c grows k.covers;
 }
+
+-- a fold begins
+pub begun : (c : Content) (noted lasts : List Change) (count : ℕ) (tops : Tops) → ((d : Content) → Covers tops d → after_all d lasts ≡ after_pairs d (map pair_of noted))
+    → NamesWithin (map pair_of lasts) (map pair_of noted) → IsKept c noted count tops → IsKept c lasts count tops
+begun c noted lasts count tops makes within k =
+    let n = k.journal in
+    record {
+      journal = record {
+        turns = n.turns;
+        few = n.few;
+        has = n.has;
+        counted = n.counted;
+        leave = sym (after_all_is (others c) lasts) ∙ makes (others c) (covers_others tops c k.covers) ∙ n.leave;
+        named = λ q is. n.named q (within q is);
+        plain = plain_named (map pair_of lasts) (map pair_of noted) n.plain within;
+      };
+      covers = k.covers;
+    }
 
 pub plainly_covers : {R : Type 0} (g : Ghosts R) (mid new : R) (result : Result (Unit {0}) RowFault) (changes : List Change) (old tops : Tops)
     → Grows old tops → AllByRecursion (Allows tops) changes → (g.is_clean mid → g.is_open mid → Covers old (g.content mid))

@@ -214,6 +214,9 @@ others_removals c zero = refl
 others_removals c (suc n) = ap others (after_both c (removals n) ((entry_key n, None) ∷ []))
     ∙ others_remove (after_pairs c (removals n)) (entry_key n) refl ∙ others_removals c n
 
+pub at_itself : (q : Key) → eq_by_cmp key_cmp q q ≡ true
+at_itself q = ap is_eq (tied_itself keys_total q)
+
 at_it : (q key : Key) → q ≡ key → eq_by_cmp key_cmp q key ≡ true
 at_it q key is = ap (λ k. eq_by_cmp key_cmp q k) (sym is) ∙ ap is_eq (tied_itself keys_total q)
 
@@ -243,10 +246,10 @@ fold_leaves c turns ps has plain =
       ap others (after_both c ps (removals n)) ∙ others_removals d n ∙ others_pairs c ps plain,
     )
 
--- changes of other kinds leave no journal where there is none
-pub plain_leaves : (c : Content) (ps : List Pair) → HasTurns c [] → AreOthers ps → HasTurns (after_pairs c ps) []
-plain_leaves c ps has plain = record {
-  here = λ m h. absurd (omega (arith, h));
+-- changes of other kinds leave the journal as it is
+pub plain_leaves : (c : Content) (turns : List (List Pair)) (ps : List Pair) → HasTurns c turns → AreOthers ps → HasTurns (after_pairs c ps) turns
+plain_leaves c turns ps has plain = record {
+  here = λ n h. stay c ps (entry_key n) refl plain ∙ has.here n h;
   none = λ key is all. stay c ps key is plain ∙ has.none key is all;
-  fit = tt;
+  fit = has.fit;
 }

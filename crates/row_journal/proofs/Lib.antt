@@ -3,6 +3,7 @@ pub mod SpellingLaws
 pub mod TurnLaws
 pub mod Numbers
 pub mod JournalLaws
+pub mod NamedLaws
 pub mod ShownLaws
 pub mod CallLaws
 pub mod ReadingLaws

@@ -21,7 +21,7 @@ use Rattle.mqtt_fields.proofs.NumberLaws.{number_is, wide64}
 use Rattle.mqtt_fields.proofs.Whole.{IsWhole, one_value, whole_found, whole_same}
 use Rattle.row_journal.proofs.TurnLaws.{turn_is}
 use Rattle.row_journal.specs.Spelling.{turn}
-use Rattle.row_journal.specs.Journal.{AreOthers, IsJournaled, IsNoted, entry_key, is_entry, journal}
+use Rattle.row_journal.specs.Journal.{AreOthers, IsJournaled, IsNoted, after_pairs, entry_key, is_entry, journal, names, others}
 use Rattle.row_journal.specs.Reading.{AreTurns, IsEntry, IsRead, entries_in, numbered}
 use Rattle.row_journal.proofs.JournalLaws.{flat_more, length_more, all_more}
 use Rattle.row_journal.proofs.ShownLaws.{get_journal, journal_rows, rows_are}
@@ -137,7 +137,8 @@ read_noted c rows noted count are few r = record {
   few = omega (arith, few);
   has = rows_are c r.turns (omega (arith, few, r.counted)) r.fit (entries_are_those c ∙ ap entries_in (sym are) ∙ r.rows_are);
   counted = r.counted;
-  are = r.are;
+  leave = ap (after_pairs (others c)) r.are;
+  named = λ q is. ap (λ ps. names ps q) (sym r.are) ∙ is;
   plain = r.plain;
 }
 

@@ -6,9 +6,10 @@ use Rattle.row_store.specs.Rows.{Content}
 use Rattle.row_changes.specs.Noted.{Pair}
 use Rattle.row_journal.specs.Spelling.{turn}
 use Rattle.row_journal.specs.Journal.{HasTurns, after_pairs, entry_key, others, removals}
-use Rattle.row_journal.specs.Laws.{AllIsShown, CanBeWritten, ChangesArePairs, FoldIsTurns, JournalIsOne, TurnsAreShown, all_of, written}
+use Rattle.row_journal.specs.Laws.{AllIsShown, CanBeWritten, ChangesArePairs, FoldIsTurns, JournalIsOne, NamedAreHidden, TurnsAreShown, all_of, written}
 use Rattle.row_journal.proofs.JournalLaws.{after_all_is, length_more, others_insert, turns_more, turns_once}
-use Rattle.row_journal.proofs.ShownLaws.{bare_shown, fold_shown, others_all, shown_is}
+use Rattle.row_journal.proofs.ShownLaws.{bare_shown, fold_shown, named_shown, others_all, shown_is}
+use Rattle.row_journal.proofs.NamedLaws.{plain_named}
 
 more_than : (n : ℕ) → n + 1 ≡ suc n
 more_than n = omega arith
@@ -43,6 +44,10 @@ fold_is_turns c ts has can plain =
     let d = written c 0 ts in
     let done = fold_shown d ts (all_of ts) (omega (arith, can.few)) (run_new c ts has can) plain refl in
     sym (bare_shown (after_pairs d (all_of ts ++ removals (length ts))) done.0) ∙ done.1 ∙ turns_are_shown c ts has can
+
+pub named_are_hidden : NamedAreHidden
+named_are_hidden c ts piece has can plain within =
+    named_shown (written c 0 ts) ts piece (omega (arith, can.few)) (run_new c ts has can) (plain_named piece (all_of ts) plain within) within
 
 pub journal_is_one : JournalIsOne
 journal_is_one c ts us few less a b = turns_once c ts us few less a b

@@ -13,11 +13,12 @@ use Rattle.row_store.proofs.Sorted.{entries_are}
 use Rattle.row_store.specs.Rows.{Key, Content, key_cmp}
 use Rattle.row_changes.specs.Noted.{Pair}
 use Rattle.row_journal.specs.Spelling.{turn}
-use Rattle.row_journal.specs.Journal.{after_pairs, is_entry, journal, others, read_whole, turn_in, shown, entry_key, removals, AreOthers, HasTurns}
+use Rattle.row_journal.specs.Journal.{after_pairs, is_entry, journal, others, read_whole, turn_in, shown, entry_key, removals, AreOthers, HasTurns, NamesWithin}
 use Rattle.row_journal.specs.Reading.{numbered}
 use Rattle.row_journal.proofs.Numbers.{bytes_rise}
 use Rattle.row_journal.proofs.TurnLaws.{turn_is}
-use Rattle.row_journal.proofs.JournalLaws.{after_both, entry_apart, flat_more, fold_leaves, length_more, get_other, others_insert, plain_leaves, turns_more}
+use Rattle.row_journal.proofs.JournalLaws.{after_both, entry_apart, flat_more, fold_leaves, length_more, get_other, others_insert, others_pairs, plain_leaves, turns_more}
+use Rattle.row_journal.proofs.NamedLaws.{hides}
 
 -- ---- the rows of turns
 
@@ -154,13 +155,20 @@ turn_shown c ts xs few fits has =
     ∙ ap (λ o. after_pairs o xs) (sym (shown_is c ts (omega (arith, few)) has))
 
 -- a fold
-pub fold_shown : (c : Content) (ts : List (List Pair)) (ps : List Pair) → length ts ≤ 256 ^ 8 → HasTurns c ts → AreOthers ps → ps ≡ flat_map (λ t. t) ts
+pub fold_shown : (c : Content) (ts : List (List Pair)) (ps : List Pair) → length ts ≤ 256 ^ 8 → HasTurns c ts → AreOthers ps → after_pairs (others c) ps ≡ after_pairs (others c) (flat_map (λ t. t) ts)
     → HasTurns (after_pairs c (ps ++ removals (length ts))) [] × (shown (after_pairs c (ps ++ removals (length ts))) ≡ shown c)
 fold_shown c ts ps few has plain are =
     let left = fold_leaves c ts ps has plain in
     let d = after_pairs c (ps ++ removals (length ts)) in
-    (left.0, shown_is d [] (omega arith) left.0 ∙ left.1 ∙ ap (after_pairs (others c)) are ∙ sym (shown_is c ts few has))
+    (left.0, shown_is d [] (omega arith) left.0 ∙ left.1 ∙ are ∙ sym (shown_is c ts few has))
 
 -- changes of other kinds, where there is no journal
 pub plain_shown : (c : Content) (ps : List Pair) → HasTurns c [] → AreOthers ps → shown (after_pairs c ps) ≡ after_pairs (shown c) ps
-plain_shown c ps has plain = bare_shown (after_pairs c ps) (plain_leaves c ps has plain) ∙ ap (λ d. after_pairs d ps) (sym (bare_shown c has))
+plain_shown c ps has plain = bare_shown (after_pairs c ps) (plain_leaves c [] ps has plain) ∙ ap (λ d. after_pairs d ps) (sym (bare_shown c has))
+
+-- changes under keys that the turns name
+pub named_shown : (c : Content) (ts : List (List Pair)) (ps : List Pair) → length ts ≤ 256 ^ 8 → HasTurns c ts → AreOthers ps → NamesWithin ps (flat_map (λ t. t) ts)
+    → shown (after_pairs c ps) ≡ shown c
+named_shown c ts ps few has plain within =
+    shown_is (after_pairs c ps) ts few (plain_leaves c ts ps has plain) ∙ ap (λ o. after_pairs o (flat_map (λ t. t) ts)) (others_pairs c ps plain)
+    ∙ hides (others c) ps (flat_map (λ t. t) ts) within ∙ sym (shown_is c ts few has)

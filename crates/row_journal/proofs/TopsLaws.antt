@@ -1,11 +1,11 @@
 -- Greatest places, and the rows that may be there.
-use Rattle.std.proofs.Common.{◌≡◌, ◌≢◌, ◌⊎◌, inl, inr, ◌<◌, ◌≤◌, ◌+◌, ◌&&◌, ℕ, zero, suc, length, Bool, true, false, not, cond, List, [], ◌∷◌, ◌++◌, Option, Some, None, Vec, Ordering, Less, Equal, Greater, T, map, take, get_or, refl, sym, ap, subst, ◌∙◌, arith}
+use Rattle.std.proofs.Common.{◌≡◌, ◌⊎◌, inl, inr, ◌<◌, ◌+◌, ◌&&◌, ℕ, length, Bool, true, false, not, cond, List, [], ◌∷◌, ◌++◌, Option, Some, None, Vec, Ordering, Less, Equal, Greater, T, map, take, get_or, refl, sym, ap, subst, ◌∙◌}
 use Rattle.std.specs.Cmp.{tied_itself}
 use Rattle.std.specs.Cmp.Lexicographic.{slice_cmp, nat_list_cmp_total}
-use Rattle.std.specs.FinMap.{entries, find, get, get-entries, is_sorted, same_map}
+use Rattle.std.specs.FinMap.{entries, find, get, get-entries, same_map}
 use Rattle.std.specs.FinMap.Entries.{below_all}
 use Rattle.std.specs.List.{AllByRecursion}
-use Rattle.std.specs.Ordering.{eq_by_cmp, is_lt, is_eq, nat_cmp}
+use Rattle.std.specs.Ordering.{is_lt, is_eq, nat_cmp}
 use Rattle.std.specs.declared.alloc.Global.{Global}
 use Rattle.std.proofs.lemmas.Bool.{cases_Bool}
 use Rattle.std.proofs.lemmas.List.{take_more}
@@ -20,6 +20,8 @@ use Rattle.row_store.proofs.Keys.{keys_total, exact_keys}
 use Rattle.row_changes.specs.Gathered.{AreOnce}
 use Rattle.row_changes.specs.Leading.{key_in, value_in, left_by, left_by_one, left_or, or_else}
 use Rattle.row_changes.proofs.Leaving.{changes_leave, second_is_last}
+use Rattle.row_journal.specs.Journal.{is_other, others}
+use Rattle.row_journal.proofs.JournalLaws.{get_other}
 use Rattle.row_journal.specs.Tops.{Allows, AllowsRow, Covers, Grows, IsIdle, IsNumbered, Leaves, Tops, is_within, may_have, shelf}
 
 -- ---- a greater place
@@ -188,6 +190,13 @@ no_put tops (x ∷ xs) q all numbered none = elim (no_put tops xs q all.1 number
     one (Put row) allows (inl tie) is = let here : q ≡ key_of row = ties q (key_of row) tie in
         absurd (let z : true ≡ false = sym (allows (subst IsNumbered here numbered)) ∙ ap (may_have tops) (sym here) ∙ none in cc)
     one (Remove kind owner place) allows (inl tie) is = inr (is ∙ ap (λ b. cond b (Some None) None) tie)
+
+pub covers_others : (tops : Tops) (c : Content) → Covers tops c → Covers tops (others c)
+covers_others tops c covers q numbered none = get_other c q ∙ ap (λ o. cond (is_other q) o None) (covers q numbered none) ∙ nothing (is_other q)
+  where
+    nothing : (b : Bool) → ◌≡◌ {A = Option (List ℕ)} (cond b None None) None
+    nothing true = refl
+    nothing false = refl
 
 pub covers_after : (tops : Tops) (c : Content) (changes : List Change) → Covers tops c → AllByRecursion (Allows tops) changes → Covers tops (after_all c changes)
 covers_after tops c changes covers all q numbered none = changes_leave c changes q ∙ elim (no_put tops changes q all numbered none) [

@@ -1,12 +1,13 @@
 -- The rows that a store shows whose changes are written into a journal first.
-use Rattle.std.specs.Prelude.{◌≡◌, ◌≢◌, ◌<◌, ◌^◌, ◌==◌, ◌++◌, ℕ, zero, suc, Bool, true, not, List, [], ◌∷◌, length, get_or, Some, None, Result, Ok, Err, flat_map, map}
+use Rattle.std.specs.Prelude.{◌≡◌, ◌≢◌, ◌<◌, ◌^◌, ◌==◌, ◌++◌, ◌||◌, ℕ, zero, suc, Bool, true, false, not, List, [], ◌∷◌, length, get_or, Some, None, Result, Ok, Err, flat_map, map}
 use Rattle.std.specs.Int.{w64}
 use Rattle.std.specs.List.{AllByRecursion}
 use Rattle.std.specs.FinMap.{entries, get, insert, remove, retain_keys}
+use Rattle.std.specs.Ordering.{eq_by_cmp}
 use Rattle.mqtt_fields.specs.declared.fault.FieldFault.{FieldFault}
 use Rattle.mqtt_fields.specs.Numbers.{number}
 use Rattle.row_store.specs.declared.row.Change.{Change}
-use Rattle.row_store.specs.Rows.{Key, Plain, Content}
+use Rattle.row_store.specs.Rows.{Key, Plain, Content, key_cmp}
 use Rattle.row_changes.specs.Noted.{Pair, pair_of}
 use Rattle.row_journal.specs.Spelling.{turn}
 
@@ -18,6 +19,15 @@ after_pair c (key, Some value) = insert c key value
 abbrev pub after_pairs : Content → List Pair → Content
 after_pairs c [] = c
 after_pairs c (pair ∷ more) = after_pairs (after_pair c pair) more
+
+-- whether one of the changes names the key
+abbrev pub names : List Pair → Key → Bool
+names [] key = false
+names (pair ∷ more) key = eq_by_cmp key_cmp key pair.0 || names more key
+
+-- what the one list names, the other names too
+abbrev pub NamesWithin : List Pair → List Pair → Type 0
+NamesWithin these those = (key : Key) → names these key ≡ true → names those key ≡ true
 
 -- ---- what is shown
 
@@ -70,13 +80,14 @@ pub record IsJournaled (c : Content) : Type 0 where
   pub has : HasTurns c turns
   pub plain : AllByRecursion AreOthers turns
 
--- the journal has so many rows, and these are their changes, one after the other
+-- the journal has so many rows, and these changes make of the other rows what is shown; they name only what turns of the journal name
 pub record IsNoted (c : Content) (noted : List Change) (count : ℕ) : Type 0 where
   pub turns : List (List Pair)
   pub few : count < 256 ^ 8
   pub has : HasTurns c turns
   pub counted : length turns ≡ count
-  pub are : map pair_of noted ≡ flat_map (λ t. t) turns
+  pub leave : after_pairs (others c) (map pair_of noted) ≡ after_pairs (others c) (flat_map (λ t. t) turns)
+  pub named : NamesWithin (map pair_of noted) (flat_map (λ t. t) turns)
   pub plain : AreOthers (map pair_of noted)
 
 -- the removals of so many rows of the journal

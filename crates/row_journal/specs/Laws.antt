@@ -6,7 +6,7 @@ use Rattle.row_store.specs.declared.row.Change.{Change}
 use Rattle.row_store.specs.Rows.{Content, after_all}
 use Rattle.row_changes.specs.Noted.{Pair, pair_of}
 use Rattle.row_journal.specs.Spelling.{turn}
-use Rattle.row_journal.specs.Journal.{AreOthers, HasTurns, after_pairs, entry_key, removals, shown}
+use Rattle.row_journal.specs.Journal.{AreOthers, HasTurns, NamesWithin, after_pairs, entry_key, removals, shown}
 
 -- a content after rows of the journal for these turns, under the numbers from n on
 abbrev pub written : Content → ℕ → List (List Pair) → Content
@@ -38,6 +38,11 @@ TurnsAreShown = (c : Content) (turns : List (List Pair)) → HasTurns c [] → C
 abbrev pub FoldIsTurns : Type 0
 FoldIsTurns = (c : Content) (turns : List (List Pair)) → HasTurns c [] → CanBeWritten turns → AreOthers (all_of turns)
     → after_pairs (written c 0 turns) (all_of turns ++ removals (length turns)) ≡ after_pairs c (all_of turns)
+
+-- rows that are put or removed under keys that turns name are hidden by these: all that is shown stays
+abbrev pub NamedAreHidden : Type 0
+NamedAreHidden = (c : Content) (turns : List (List Pair)) (piece : List Pair) → HasTurns c [] → CanBeWritten turns → AreOthers (all_of turns) → NamesWithin piece (all_of turns)
+    → shown (after_pairs (written c 0 turns) piece) ≡ shown (written c 0 turns)
 
 -- a store has one journal
 abbrev pub JournalIsOne : Type 0

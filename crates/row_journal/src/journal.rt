@@ -1,12 +1,12 @@
 //! The changes of a journal's rows, and the rows themselves.
 
-ghost use Rattle.std.specs.Prelude.{◌≡◌, ◌<◌, ◌≤◌, ◌↔◌, ◌^◌, ◌+◌, ◌++◌, ◌∷◌, [], length, map, vec_len, vec_capacity, IfOk, IsTrue, OnOk, Some, true};
+ghost use Rattle.std.specs.Prelude.{◌≡◌, ◌<◌, ◌≤◌, ◌↔◌, ◌^◌, ◌+◌, ◌++◌, ◌∷◌, [], drop, length, map, take, vec_len, vec_capacity, IfOk, IsTrue, OnOk, Some, true};
 ghost use Rattle.std.specs.List.{AllByRecursion};
 ghost use Rattle.row_changes.specs.Noted.{pair_of};
 ghost use Rattle.row_store.specs.Rows.{Content, after_all};
-ghost use Rattle.row_journal.specs.Journal.{AreOthers, after_pairs, entry_key, is_other, removals};
+ghost use Rattle.row_journal.specs.Journal.{AreOthers, NamesWithin, after_pairs, entry_key, is_other, removals};
 ghost use Rattle.row_journal.specs.Spelling as spec;
-ghost use Rattle.row_journal.specs.Tops.{Allows, Covers, Grows};
+ghost use Rattle.row_journal.specs.Tops.{Allows, Covers, Grows, IsKept};
 
 use crate::spelled::{JOURNAL, spell_turn, spelled_len};
 use crate::tops::{Tops, needed, take_changes};
@@ -14,11 +14,24 @@ use row_changes::last_of_each;
 use row_store::{Change, Row};
 use std::alloc::{AllocError, Global};
 
-/// What is known of a journal: the changes of its rows, one after the other, how many rows it has, whose places are the numbers below,
-/// and how many bytes their changes take.
+/// As many changes as a piece of a fold has, and as many bytes, unless its first change takes more; or twice as many as the turn has that makes it, if
+/// that is more. So a fold comes to its end also where all turns are large.
+const PIECE: usize = 500;
+
+const PIECE_BYTES: usize = 131_072;
+
+/// Of these two the greater one: as many as a piece has, and twice as many as a turn.
+fn or_twice(piece: usize, turn: usize) -> usize {
+    piece.max(turn.saturating_mul(2))
+}
+
+/// What is known of a journal: the changes that make of the other rows what is shown, how many rows it has, whose places are the numbers below,
+/// and how many bytes their changes take. While a fold is under way so many changes at the front are of turns before it began, each of another
+/// row, and are made a piece with each turn; the others are those of the turns since.
 #[derive(Drop)]
 pub(crate) struct Journal {
     pub(crate) noted: Vec<Change>,
+    pub(crate) folding: Option<usize>,
     pub(crate) count: u64,
     pub(crate) bytes: usize,
     pub(crate) tops: Tops,
@@ -103,25 +116,70 @@ fn entry(alloc: Global, at: u64, value: Vec<u8>) -> Result<Change, AllocError>
     }))
 }
 
-/// The row of the journal for these changes, and copies of them, for which there is room.
+/// How many of these changes are a piece, for a turn of so many changes and bytes.
+fn piece_len(pending: &[Change], changes: usize, len: usize) -> usize
+    ensures { result ≤ length pending.now }
+{
+    let (most, longest) = (or_twice(PIECE, changes), or_twice(PIECE_BYTES, len));
+    let mut bytes = 0usize;
+    let mut count = 0;
+    for change in pending {
+        bytes = bytes.saturating_add(spelled_len(change));
+        if count >= most || (count > 0 && bytes > longest) {
+            return count;
+        }
+        count += 1;
+    }
+    count
+}
+
+/// What a turn writes: a piece of a fold, if one is under way, of so many changes, and the turn's row. Besides copies of the turn's changes.
+#[derive(Drop)]
+pub(crate) struct Written {
+    pub(crate) changes: Vec<Change>,
+    pub(crate) made: usize,
+    pub(crate) copies: Vec<Change>,
+}
+
+/// What is written for these changes. For their copies there is room.
 pub(crate) fn prepare(
     alloc: Global,
     journal: &mut Journal,
     changes: &[Change],
     len: usize,
-) -> Result<(Change, Vec<Change>), AllocError>
+) -> Result<Written, AllocError>
     requires few { length changes.now < 2 ^ 16 }
     requires fit { AllByRecursion (λ c. spec.change.Fits (pair_of c)) changes.now }
-    ensures entry { IfOk result (λ both. pair_of both.0 ≡ (entry_key journal.old.count, Some (spec.turn.bytes (map pair_of changes.now)))) }
-    ensures copies { IfOk result (λ both. map pair_of both.1.items ≡ map pair_of changes.now) }
-    ensures room { IfOk result (λ both. vec_len journal.new.noted + vec_len both.1 ≤ vec_capacity journal.new.noted) }
-    ensures same { (journal.new.noted.items ≡ journal.old.noted.items) × (journal.new.count ≡ journal.old.count) × (journal.new.tops ≡ journal.old.tops) }
+    ensures changes { IfOk result (λ w. map pair_of w.changes.items ≡ map pair_of (take w.made journal.old.noted.items)
+        ++ (entry_key journal.old.count, Some (spec.turn.bytes (map pair_of changes.now))) ∷ []) }
+    ensures made { IfOk result (λ w. w.made ≤ length journal.old.noted.items) }
+    ensures taken { IfOk result (λ w. AllByRecursion (Allows journal.new.tops.entries) w.changes.items) }
+    ensures copies { IfOk result (λ w. map pair_of w.copies.items ≡ map pair_of changes.now) }
+    ensures room { IfOk result (λ w. vec_len journal.new.noted + vec_len w.copies ≤ vec_capacity journal.new.noted) }
+    ensures grows { Grows journal.old.tops.entries journal.new.tops.entries }
+    ensures same { (journal.new.noted.items ≡ journal.old.noted.items) × (journal.new.count ≡ journal.old.count) }
 {
     let copies = copies_of(alloc, changes)?;
     let value = spelling(alloc, changes, len)?;
     let entry = entry(alloc, journal.count, value)?;
     journal.noted.reserve(copies.len())?;
-    Ok((entry, copies))
+    let made = journal.piece(changes.len(), len);
+    let mut changes = copies_of(alloc, &journal.noted[..made])?;
+    changes.push(entry)?;
+    take_changes(alloc, &mut journal.tops, &changes)?;
+    Ok(Written {
+        changes,
+        made,
+        copies,
+    })
+}
+
+/// What is left of a fold once so many of its changes are made.
+fn after_piece(folding: Option<usize>, made: usize) -> Option<usize> {
+    match folding {
+        Some(pending) => Some(pending.saturating_sub(made)),
+        None => None,
+    }
 }
 
 /// Appends the removals of so many rows of the journal.
@@ -138,13 +196,41 @@ fn append_removals(alloc: Global, count: u64, changes: &mut Vec<Change>) -> Resu
 
 /// Of the changes at each key the last one, but no removal of a row that isn't there.
 fn lasts_of(alloc: Global, tops: &Tops, noted: &[Change]) -> Result<Vec<Change>, AllocError>
-    ensures { IfOk result (λ lasts. (c : Content) → Covers tops.now.entries c → after_all c lasts.items ≡ after_pairs c (map pair_of noted.now)) }
+    ensures content { IfOk result (λ lasts. (c : Content) → Covers tops.now.entries c → after_all c lasts.items ≡ after_pairs c (map pair_of noted.now)) }
+    ensures named { IfOk result (λ lasts. NamesWithin (map pair_of lasts.items) (map pair_of noted.now)) }
 {
     let copies = copies_of(alloc, noted)?;
     needed(alloc, tops, last_of_each(alloc, copies)?)
 }
 
 impl Journal {
+    /// Whether a fold is under way whose pieces are made, and the changes since are one piece, for a turn of so many changes and bytes.
+    pub(crate) fn can_end(&self, changes: usize, len: usize) -> bool {
+        self.folding == Some(0) && piece_len(&self.noted, changes, len) == self.noted.len()
+    }
+
+    /// How many changes at the front a turn of so many changes and bytes makes: the next piece of a fold.
+    fn piece(&self, changes: usize, len: usize) -> usize
+        ensures { result ≤ length self.now.noted.items }
+    {
+        let pending = self.folding.unwrap_or(0).min(self.noted.len());
+        piece_len(&self.noted[..pending], changes, len)
+    }
+
+    /// A fold begins, or goes on with what was noted since, unless some of its changes are still to be made: what it is to make is gathered.
+    pub(crate) fn begin_fold(&mut self, alloc: Global) -> Result<(), AllocError>
+        ensures kept { (c : Content) → IsKept c self.old.noted.items self.old.count self.old.tops.entries → IsKept c self.new.noted.items self.new.count self.new.tops.entries }
+        ensures count { self.new.count ≡ self.old.count }
+    {
+        if self.folding.unwrap_or(0) > 0 {
+            return Ok(());
+        }
+        let lasts = lasts_of(alloc, &self.tops, &self.noted)?;
+        self.folding = Some(lasts.len());
+        self.noted = lasts;
+        Ok(())
+    }
+
     /// Of the changes at each key the last one, but no removal of a row that isn't there, and then the removals of all rows of the journal. What they put
     /// may be there from now on.
     pub(crate) fn fold_changes(&mut self, alloc: Global) -> Result<Vec<Change>, AllocError>
@@ -165,18 +251,22 @@ impl Journal {
         ensures { (self.new.noted.items ≡ []) × (self.new.count ≡ 0) × (self.new.tops ≡ self.old.tops) }
     {
         self.noted.clear();
+        self.folding = None;
         self.count = 0;
         self.bytes = 0;
     }
 
-    /// One row more, with these changes, for which there is room.
-    pub(crate) fn take(&mut self, copies: &mut Vec<Change>, len: usize)
+    /// So many changes at the front were made, and there is one row more, with these changes, for which there is room.
+    pub(crate) fn take(&mut self, made: usize, copies: &mut Vec<Change>, len: usize)
+        requires made { made ≤ length self.old.noted.items }
         requires room { vec_len self.old.noted + vec_len copies.old ≤ vec_capacity self.old.noted }
         requires few { self.old.count + 1 < 2 ^ 64 }
-        ensures noted { self.new.noted.items ≡ self.old.noted.items ++ copies.old.items }
+        ensures noted { self.new.noted.items ≡ drop made self.old.noted.items ++ copies.old.items }
         ensures count { self.new.count ≡ self.old.count + 1 }
         ensures tops { self.new.tops ≡ self.old.tops }
     {
+        self.noted.drain(..made);
+        self.folding = after_piece(self.folding, made);
         let _ = self.noted.append(copies);
         self.count += 1;
         self.bytes = self.bytes.saturating_add(len);

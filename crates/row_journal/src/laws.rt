@@ -1,7 +1,7 @@
 //! What holds of journals. The functions do nothing: their contracts are the laws.
 
 ghost use Rattle.mqtt_fields.specs.Field.{IsField};
-ghost use Rattle.row_journal.specs.Laws.{AllIsShown, ChangesArePairs, FoldIsTurns, JournalIsOne, TurnsAreShown};
+ghost use Rattle.row_journal.specs.Laws.{AllIsShown, ChangesArePairs, FoldIsTurns, JournalIsOne, NamedAreHidden, TurnsAreShown};
 ghost use Rattle.row_journal.specs.Spelling as spec;
 
 /// A turn that is read is spelled so, and one that is spelled is read again, whatever follows.
@@ -32,6 +32,12 @@ pub fn turns_are_shown()
 #[tactic(auto, using(crate::proofs::RunLaws::fold_is_turns))]
 pub fn fold_is_turns()
     ensures { FoldIsTurns }
+{}
+
+/// Rows that are put or removed under keys that turns of a journal name change nothing of what is shown.
+#[tactic(auto, using(crate::proofs::RunLaws::named_are_hidden))]
+pub fn named_are_hidden()
+    ensures { NamedAreHidden }
 {}
 
 /// The rows of a store are one journal at most.

@@ -119,6 +119,7 @@ fn read_journal(alloc: Global, rows: &[Row]) -> Result<Journal, RowFault>
 {
     let mut journal = Journal {
         noted: Vec::new(alloc),
+        folding: None,
         count: 0,
         bytes: 0,
         tops: BTreeMap::new(alloc),

@@ -27,14 +27,23 @@ const BOUNDS: [Bounds; 4] = [
     },
 ];
 
+fn journaled_within<R: RowStore + Drop>(
+    rt: &impl Abort,
+    alloc: Global,
+    rows: R,
+    bounds: Bounds,
+) -> JournaledRows<R> {
+    let opened = JournaledRows::open(alloc, rows, bounds);
+    opened.ok().expect(rt, "a journal")
+}
+
 fn journaled<R: RowStore + Drop>(
     rt: &impl Abort,
     alloc: Global,
     rows: R,
     at: usize,
 ) -> JournaledRows<R> {
-    let opened = JournaledRows::open(alloc, rows, BOUNDS[at % 4]);
-    opened.ok().expect(rt, "a journal")
+    journaled_within(rt, alloc, rows, BOUNDS[at % 4])
 }
 
 #[test]
@@ -81,6 +90,74 @@ fn a_call_is_one_row(rt: HostRuntime) {
     let mut below = rows.into_rows();
     assert!(rt; holds(&mut below, &[(5, "t", Some(2))]).expect(&rt, "rows"));
     drop(below);
+}
+
+// Bounds under which a fold begins with the fifth call.
+const FOUR: Bounds = Bounds {
+    rows: 4,
+    bytes: 1_000_000,
+};
+
+// So many calls, of which the first puts 1,100 rows and each other one a row; and how many of these rows, and of the journal's, are in the store
+// below after them: the fifth begins a fold, pieces of which have 500 changes, and the eighth ends it.
+const PIECES: [(u64, u64, u64); 5] = [
+    (4, 0, 4),
+    (5, 500, 5),
+    (6, 1000, 6),
+    (7, 1103, 7),
+    (8, 1106, 1),
+];
+
+// Puts of the rows at so many places, from this one on.
+fn puts(rt: &impl Abort, alloc: Global, first: u64, count: u64) -> Vec<Change> {
+    let mut changes = Vec::new(alloc);
+    for n in 0..count {
+        let row = Row {
+            kind: 3,
+            owner: Vec::from_slice(alloc, b"a").expect(rt, "memory"),
+            place: Vec::from_slice(alloc, &first.wrapping_add(n).to_be_bytes()).expect(
+                rt, "memory",
+            ),
+            value: Vec::from_slice(alloc, b"x").expect(rt, "memory"),
+        };
+        changes.push(Change::Put(row)).ok().expect(rt, "memory");
+    }
+    changes
+}
+
+fn calls<R: RowStore>(rt: &impl Abort, alloc: Global, rows: &mut R, count: u64) {
+    let first = puts(rt, alloc, 0, 1100);
+    rows.apply(&first).ok().expect(rt, "a call");
+    drop(first);
+    for n in 1..count {
+        let one = puts(rt, alloc, n.wrapping_add(1099), 1);
+        rows.apply(&one).ok().expect(rt, "a call");
+        drop(one);
+    }
+}
+
+// How many rows there are of other kinds than the journal's, and how many of its own.
+fn counts(rows: &[Row]) -> (u64, u64) {
+    let own = rows.iter().filter(|row| row.kind == 240).count() as u64;
+    ((rows.len() as u64).saturating_sub(own), own)
+}
+
+#[test]
+fn a_fold_is_made_in_pieces(rt: HostRuntime) {
+    for (count, others, own) in PIECES {
+        let mut rows = journaled_within(&rt, rt.alloc(), MemoryRows::new(rt.alloc()), FOUR);
+        calls(&rt, rt.alloc(), &mut rows, count);
+        let mut below = rows.into_rows();
+        let found = below.load().expect(&rt, "rows");
+        assert!(rt; counts(&found) == (others, own));
+        drop(found);
+        // Opened again all of them are shown.
+        let mut rows = journaled_within(&rt, rt.alloc(), below, FOUR);
+        let found = rows.load().expect(&rt, "rows");
+        assert!(rt; counts(&found) == (count.wrapping_add(1099), 0));
+        drop(found);
+        drop(rows);
+    }
 }
 
 // A row of the journal's kind.

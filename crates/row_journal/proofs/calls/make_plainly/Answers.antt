@@ -1,4 +1,3 @@
-use Rattle.std.proofs.Common.{refl}
 use Rattle.row_store.specs.Rows.{after_all}
 use Rattle.row_journal.specs.Journal.{shown}
 use Rattle.row_journal.proofs.CallLaws.{after_fold, applied, plainly_covers, plainly_kept, plainly_made}

@@ -1,4 +1,4 @@
-use Rattle.std.proofs.Common.{rules, ◌≡◌, List, [], ◌∷◌, ◌++◌, append_assoc, subst, sym}
+use Rattle.std.proofs.Common.{rules, List, [], ◌∷◌, ◌++◌, append_assoc, subst, sym}
 use Rattle.row_store.specs.declared.row.Change.{Change}
 use Rattle.row_changes.specs.Gathered.{AreOnce}
 use Rattle.row_journal.specs.Tops.{Leaves}
