@@ -1,0 +1,3 @@
+pub mod Bounded
+pub mod Bounds
+pub mod Laws
