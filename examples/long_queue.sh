@@ -18,9 +18,9 @@ here=$(dirname "${BASH_SOURCE[0]}")
 
 # Payloads of so many bytes, a line each, which begin with their number.
 payloads() {
-    awk -v messages="$messages" -v bytes="$bytes" 'BEGIN {
-        filled = sprintf("%" (bytes - 8) "s", ""); gsub(/ /, ".", filled)
-        for (n = 0; n < messages; n++) printf "%07d %s\n", n, filled }'
+    python3 -c 'import sys
+for number in range(int(sys.argv[1])):
+    print("%07d %s" % (number, "." * (int(sys.argv[2]) - 8)))' "$messages" "$bytes"
 }
 
 # The most memory that the node has had, in megabytes.
