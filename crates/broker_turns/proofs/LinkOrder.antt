@@ -256,7 +256,14 @@ module _ {S H L T : Type 0} (accepts : S → L → Option T → S → Type 0) (w
 
   begun_over : (taken : T → List ℕ) (setting : Setting L) (at : ℕ) (start : Search S H T) (peer : ℕ) (line line' : Line T) → Extends (link_flow taken line') (link_flow taken line) → begun taken setting at start peer line → begun taken setting at start peer line'
   begun_over taken setting at start peer line line' more new = record {
-    before = new.before; earlier = new.earlier; none = new.none; address = new.address; known = new.known; stream = new.stream; asked = new.asked; began = new.began;
+    before = new.before;
+    earlier = new.earlier;
+    none = new.none;
+    address = new.address;
+    known = new.known;
+    stream = new.stream;
+    asked = new.asked;
+    began = new.began;
     has = Extends-over _ _ _ more new.has;
   }
 
