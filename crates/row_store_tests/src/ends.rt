@@ -75,7 +75,11 @@ fn is_shown(rt: &impl Abort, alloc: Global, below: MemoryRows, rows: u8, same: u
     let found = journal.load().ok().expect(rt, "rows");
     let mut are = found.len() == rows as usize;
     for place in 0..rows {
-        are = are && has(&found[place as usize], place, same);
+        are = are
+            && match found.get(place as usize) {
+                Some(row) => has(row, place, same),
+                None => false,
+            };
     }
     drop(found);
     drop(journal);
