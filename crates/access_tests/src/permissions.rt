@@ -45,10 +45,13 @@ fn scope_of(rt: &impl Abort, alloc: Global, who: For) -> Scope {
 }
 
 fn rule(rt: &impl Abort, alloc: Global, who: For, access: Access, filter: &str) -> TopicRule {
+    let filter = text(rt, alloc, filter);
     TopicRule {
         scope: scope_of(rt, alloc, who),
         access,
-        filter: Filter::parse(alloc, filter).ok().expect(rt, "a filter"),
+        filter: Filter::parse(alloc, filter.as_str())
+            .ok()
+            .expect(rt, "a filter"),
     }
 }
 
