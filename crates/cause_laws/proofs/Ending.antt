@@ -42,7 +42,7 @@ use Rattle.broker_node.specs.declared.event.Event.{Event as NodeEvent}
 use Rattle.broker_node.specs.Turns as turns
 use Rattle.passing_laws.proofs.Keeping.{none_some}
 use Rattle.cause_laws.specs.Stops.{HasNumberAtEnd, StopsHaveNumbers}
-use Rattle.cause_laws.proofs.Walk.{IsSimple, simple, Walks, decides}
+use Rattle.cause_laws.proofs.Walk.{IsSimple, simple, Walks, copies_at, decides}
 use Rattle.cause_laws.proofs.Lower.{Makes, ticks_of, finishes_of, serves, evicts}
 
 -- ---- each number
@@ -219,7 +219,6 @@ module _ (e : NodeEvent) where
     by_whether = k_where e.at;
     join = k_then e.at;
     calls = k_calls e.at;
-    passed = passed e.at;
     puts = λ peer m. record { of = λ p h acts d. puts_by e.at peer m (offer_to peer h.bridge) p h acts refl d };
     names = λ c q f. record { of = λ p h acts d. names_by e.at c q f d.0 p h acts d.1 d.2 };
   }
@@ -231,7 +230,13 @@ module _ (e : NodeEvent) where
   ends_session client = k_then e.at (ending.RemovesOwn client) (λ _. Acting (λ p h. Session (Over client))) (removes_own client) (λ _. k_over e.at (λ p h. Session (Over client)))
 
   makes : Makes (Halts e.at)
-  makes = record { put = makes_put e.at; subscribe = makes_subscribe e.at; remove = removes e.at; end = ends_session }
+  makes = record {
+    put = makes_put e.at;
+    subscribe = makes_subscribe e.at;
+    remove = removes e.at;
+    end = ends_session;
+    copied = λ m. k_looks e.at (λ p h. h.at) (passing.CopiesAt m) (copies_at (Halts e.at) walks m (passed e.at m));
+  }
 
   takes_moment : Does (TakesMoment e.at)
   takes_moment = k_numbered e.at (λ p h. not (nat_lt e.at (2 ^ 62))) (λ p h. MomentTaken e.at) (late e.at)
