@@ -8,6 +8,7 @@ use Rattle.mqtt_message.specs.Parts.{is_name}
 use Rattle.mqtt_message.specs.declared.message.Message.{Message}
 use Rattle.mqtt_packets.specs.declared.packet.Packet.{Packet}
 use Rattle.mqtt_packets.specs.declared.packet.Packet.TheVariants as packets
+use Rattle.mqtt_packets.specs.declared.publish.Publish.{Publish}
 use Rattle.mqtt_topics.specs.Levels.{is_wildcard}
 use Rattle.mqtt_topics.specs.Topics.{IsName}
 use Rattle.mqtt_sessions.specs.declared.reaction.Ask.TheVariants.{Pass}
@@ -39,7 +40,7 @@ use Rattle.cluster_play.proofs.Showing.{node_holds_amid}
 use Rattle.run_laws.specs.Staying.{CallsSession}
 use Rattle.run_laws.specs.Publishing.{TakesPublish, events_before}
 use Rattle.run_laws.proofs.Staying.{CalledAt, called_at}
-use Rattle.answer_laws.specs.Rooms.{IsTopicHeld, HoldsTopics, LacksRoomForTopic, HasRoomForTopic, message_taken, QuotaIsExact, PassedHasRoom}
+use Rattle.answer_laws.specs.Rooms.{IsTopicHeld, HoldsTopics, LacksRoomForTopic, HasRoomForTopic, message_taken, QuotaIsExact, PassedHasRoom, RoomIsExact}
 use Rattle.answer_laws.proofs.Quotas.{is_quota, quota_refuses, refused_asks}
 use Rattle.answer_laws.proofs.Rooming.{room_is_told}
 
@@ -187,3 +188,26 @@ quota_is_exact = λ run later m w r before c qos id t name number g. quota run l
 
 pub passed_has_room : PassedHasRoom
 passed_has_room = λ run later m w r before c qos id t name x asks retained. passed run later m w r before c qos id t name x asks retained
+
+-- ---- also where nothing is answered
+own_topic : (known : aliases.Aliases) (p : Publish) → p.topic ≢ [] → (aliases.filled known p).topic ≡ p.topic
+own_topic known p some = by p.topic refl some
+  where
+    by : (t : List ℕ) → p.topic ≡ t → t ≢ [] → (aliases.filled known p).topic ≡ p.topic
+    by [] is none = absurd (none refl)
+    by (b ∷ bs) is none = ap (λ t. unwrap_or (aliases.topic_by t (aliases.alias_of p) known) []) is ∙ sym is
+
+room_exactly : (O : List Operation) (s : State) → IsStateOf O s → (topic : List ℕ) (room : Bool) → has_room topic s ≡ room → cond room (HasRoomForTopic O topic) (LacksRoomForTopic O topic)
+room_exactly O s is topic true e = has_room_if O s is topic e
+room_exactly O s is topic false e = lacks_room_if O s is topic e
+
+pub room_is_exact : RoomIsExact
+room_is_exact = λ run later m w r before c publish now room event name.
+    let here = called_at run later m w r before c in
+    let there = here.finds.there in
+    let held = here.finds.held in
+    let O = operations_amid (site m.fate) run before in
+    let state : IsStateOf O held.store = (node_holds_amid run here.finds.world here.next m here.finds.reached here.honest here.happens (site m.fate) before held there).state in
+    let told = room_is_told here.event there.holds.site.node.place there.held held (acts_of m.fate) here.decides before c.after c.step c.acts there.runs (packets.Publish publish) now room event in
+    let is : room ≡ has_room publish.topic held.store = told ∙ ap (λ t. takes_topic t held.store) (own_topic (aliases_at c.step.client held) publish name.some) ∙ takes_name publish.topic held.store name in
+    room_exactly O held.store state publish.topic room (sym is)

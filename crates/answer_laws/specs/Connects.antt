@@ -1,31 +1,29 @@
 -- How the first CONNECT of a connection is answered (MQTT 5.0, 3.1.2.4, 3.1.3.1, 3.1.4, 3.2.2 and 4.11).
-use Rattle.std.specs.Prelude.{◌≡◌, ◌≢◌, ◌⊎◌, ℕ, ◌<◌, max, Bool, true, false, cond, length, List, [], ◌∷◌, ◌++◌, Option, Some, None}
+use Rattle.std.specs.Prelude.{◌≡◌, ◌≢◌, ◌⊎◌, ℕ, ◌<◌, Bool, true, false, cond, length, List, [], ◌∷◌, ◌++◌, Option, Some, None}
 use Rattle.std.specs.FinMap as map
 use Rattle.home_table.specs.Homes.{IsHome}
 use Rattle.mqtt_packets.specs.declared.connect.Connect.{Connect}
-use Rattle.mqtt_packets.specs.declared.connack.Connack.{Connack}
 use Rattle.mqtt_packets.specs.declared.packet.Packet.{Packet}
 use Rattle.mqtt_packets.specs.declared.packet.Packet.TheVariants as packets
 use Rattle.mqtt_packets.specs.Written.{written}
 use Rattle.mqtt_sessions.specs.declared.reaction.Output.{Output}
 use Rattle.mqtt_sessions.specs.declared.reaction.Output.TheVariants.{Answer}
-use Rattle.mqtt_sessions.specs.Answers.{fits}
+use Rattle.mqtt_sessions.specs.Answers.{connack, disconnect, fits}
 use Rattle.mqtt_sessions.specs.Arriving.{has_property}
 use Rattle.mqtt_sessions.specs.Reaction.{Reaction}
 use Rattle.mqtt_sessions.specs.State.{limit_in}
-use Rattle.session_laws.specs.Runs.{connects}
+use Rattle.session_laws.specs.Runs.{closes, connects, finishes}
 use Rattle.node_work.specs.declared.outcome.Output.TheVariants.{Send, Close}
-use Rattle.node_work.specs.Acts.{Act, MomentTaken, Connection, Session, Out, Runs}
+use Rattle.node_work.specs.Acts.{Act, Connection, Session, Out, Named, Runs}
 use Rattle.node_work.specs.Held.Connections.{Accepted, Closed, Fed, room_at}
 use Rattle.node_work.specs.Held.Feeding.{cut_of}
-use Rattle.node_work.specs.Held.Sessions.{SessionStep, Begun, Called, has_session}
+use Rattle.node_work.specs.Held.Sessions.{SessionStep, Begun, Called, Over, connection_at, has_session, takes_disconnect}
 use Rattle.node_work.specs.Packets.{refused_packet}
 use Rattle.node_work.specs.View.{Place, HeldView, ConnectionView}
 use Rattle.node_clients.specs.Connecting.{address_of, WillIsNamed}
 use Rattle.node_clients.specs.Naming.{IsNextNumber, automatic}
 use Rattle.broker_node.specs.declared.event.Event.{Event}
 use Rattle.broker_node.specs.declared.event.EventKind.TheVariants as kinds
-use Rattle.broker_node.specs.Idle.{NothingDue}
 use Rattle.broker_node.specs.Turns.{Decides}
 
 -- ---- why it is refused
@@ -63,57 +61,107 @@ IsRefusedBy c q code reference acts =
 abbrev pub IsWelcome : Place → HeldView → Connect → Type 0
 IsWelcome p h q = (¬ HasMethod q) × (¬ HasLongClient q) × LivesHere p h q × WillIsNamed q.will
 
--- under its Client Identifier, or one that the node gives
-abbrev pub IsKnownAs : Place → HeldView → Connect → List ℕ → Type 0
-IsKnownAs p h q client =
-    ((q.client ≢ []) × (client ≡ q.client))
-    ⊎ ((q.client ≡ []) × ((number : ℕ) × IsNextNumber p h (Some number) × (client ≡ automatic p.id number)))
+-- under its Client Identifier; or under one that the node gives, by the next number that names no session here
+abbrev pub IsKnownAs : Place → HeldView → Connect → List ℕ → List Act → Type 0
+IsKnownAs p h q client named =
+    ((q.client ≢ []) × (client ≡ q.client) × (named ≡ []))
+    ⊎ ((q.client ≡ []) × ((number : ℕ) × IsNextNumber p h (Some number) × (client ≡ automatic p.id number) × (named ≡ Named number ∷ [])))
 
--- the session's first answer is CONNACK 0x00, with Session Present where it is continued; where that is longer than the client takes,
--- nothing is sent, and the connection ends
-abbrev pub TellsSuccess : Bool → Reaction → Type 0
-TellsSuccess continued r =
-    ((answer : Connack) × (rest : List Output) × (r.packets ≡ Answer (packets.Connack answer) ∷ rest) × (answer.reason ≡ 0) × (answer.session_present ≡ continued))
-    ⊎ ((r.packets ≡ []) × (r.end ≡ Some 0))
+-- an older connection of the client gets DISCONNECT 0x8E, unless that is longer than the client takes, and is closed, which its session is
+-- told next, before its will or its end where that is due then
+pub record LeavesOlder (h : HeldView) (client : List ℕ) (older : ℕ) (acts : List Act) : Type 0 where
+  pub leave : SessionStep
+  pub rest : List Act
+  pub is :
+      acts ≡ cond (takes_disconnect client 142 h) (Out (Send older (written (disconnect 142))) ∷ []) []
+      ++ Connection (Closed older) ∷ Out (Close older) ∷ Session (Called leave) ∷ rest
+  pub of : leave.client ≡ client
+  pub off : leave.on ≡ None
+  pub event : leave.event ≡ closes leave.at
 
--- once an older connection of the client and a session that isn't to go on have ended, the connection has its client, whose session is
--- continued where there is one, and begins else; it is called on this connection, with the room that this has
+-- where there is none, nothing is done
+abbrev pub IsTakenOver : HeldView → List ℕ → Option ℕ → List Act → Type 0
+IsTakenOver h client None acts = acts ≡ []
+IsTakenOver h client (Some older) acts = LeavesOlder h client older acts
+
+-- a session ends now, and last of all is over
+pub record EndsNow (client : List ℕ) (acts : List Act) : Type 0 where
+  pub call : SessionStep
+  pub rest : List Act
+  pub is : acts ≡ Session (Called call) ∷ (rest ++ Session (Over client) ∷ [])
+  pub of : call.client ≡ client
+  pub event : call.event ≡ finishes call.at
+
+-- Clean Start 1 ends the session that there is, and Clean Start 0 ends none (3.1.2.4)
+abbrev pub IsCleaned : Bool → List ℕ → HeldView → List Act → Type 0
+IsCleaned false client h acts = acts ≡ []
+IsCleaned true client h acts = cond (has_session client h) (EndsNow client acts) (acts ≡ [])
+
+-- the session's first answer is this CONNACK; only where it is longer than the client takes nothing is sent, and the connection ends
+abbrev pub TellsFirst : ℕ → Packet → Reaction → Type 0
+TellsFirst limit answer r = ((rest : List Output) × (r.packets ≡ Answer answer ∷ rest)) ⊎ ((fits limit answer ≡ false) × (r.packets ≡ []) × (r.end ≡ Some 0))
+
+-- CONNACK 0x00 with Session Present where the session is continued, with its identifier where the client brought none, and with the server's
+-- limits (3.2.2)
+abbrev pub TellsSuccess : Bool → Connect → List ℕ → Reaction → Type 0
+TellsSuccess continued q client r = TellsFirst (limit_in q.properties) (connack continued q.client client) r
+
+-- In this order, and nothing else before: the client is named, where it brought no identifier; an older connection of it ends; and with Clean
+-- Start its session. Then the connection has its client, whose session is continued where one is left, and begins else; it is called on this
+-- connection, with the room that this has.
 pub record IsAccepted (p : Place) (h : HeldView) (c : ℕ) (q : Connect) (acts : List Act) : Type 0 where
   pub client : List ℕ
-  pub known : IsKnownAs p h q client
-  pub earlier : List Act
+  pub named : List Act
+  pub known : IsKnownAs p h q client named
+  pub over : List Act
+  pub clean : List Act
   pub begun : List Act
   pub call : SessionStep
   pub rest : List Act
-  pub is : acts ≡ earlier ++ Connection (Accepted c client) ∷ (begun ++ Session (Called call) ∷ rest)
+  pub is : acts ≡ named ++ (over ++ (clean ++ Connection (Accepted c client) ∷ (begun ++ Session (Called call) ∷ rest)))
+  pub takes_over : IsTakenOver h client (connection_at client h) over
+  pub left : HeldView
+  pub leaves : Runs p h (named ++ over) left
+  pub cleans : IsCleaned q.clean_start client left clean
   pub held : HeldView
-  pub runs : Runs p h earlier held
+  pub runs : Runs p left clean held
   pub continued : Bool
   pub session : has_session client held ≡ continued
+  pub fresh : q.clean_start ≡ true → continued ≡ false
   pub begins : begun ≡ cond continued [] (Session (Begun client) ∷ [])
   pub of : call.client ≡ client
   pub on : call.on ≡ Some c
   pub event : call.event ≡ connects q continued (room_at c held) call.at
-  pub tells : TellsSuccess continued call.reaction
+  pub tells : TellsSuccess continued q client call.reaction
 
 -- ---- in a step
--- the moment and the piece are taken, and then the CONNECT is answered
-pub record AnswersFirst (p : Place) (h : HeldView) (at c : ℕ) (piece : List ℕ) (q : Connect) (acts : List Act) : Type 0 where
+-- the piece is taken, and then the CONNECT is answered
+pub record AnswersConnect (p : Place) (h : HeldView) (c : ℕ) (piece : List ℕ) (q : Connect) (acts : List Act) : Type 0 where
   pub own : List Act
   pub rest : List Act
-  pub is : acts ≡ MomentTaken at ∷ Connection (Fed c piece) ∷ (own ++ rest)
+  pub is : acts ≡ Connection (Fed c piece) ∷ (own ++ rest)
   pub held : HeldView
-  pub runs : Runs p h (MomentTaken at ∷ Connection (Fed c piece) ∷ []) held
+  pub runs : Runs p h (Connection (Fed c piece) ∷ []) held
   pub answer :
       ((code : ℕ) × (reference : Option (List ℕ)) × IsRefusedFor p held q code reference × IsRefusedBy c q code reference own)
       ⊎ (IsWelcome p held q × IsAccepted p held c q own)
 
--- a node that has started, at which nothing is due, is handed a piece of the stream of a connection that has no client yet, and the first
--- packet of that stream which is whole is a CONNECT
+-- a connection that has no client yet, and whose stream isn't at fault; the first packet of the stream that is whole with the piece is a CONNECT
+abbrev pub BringsConnect : ConnectionView → List ℕ → Connect → Type 0
+BringsConnect found piece q = (found.client ≡ None) × (found.stream.failed ≡ false) × ((more : List Packet) × ((cut_of found.stream piece).packets ≡ packets.Connect q ∷ more))
+
+-- first the node does what it does at a Tick of that moment, which is what is due; where the connection is still open then, its CONNECT is
+-- answered
+pub record AnswersFirst (p : Place) (h : HeldView) (at c : ℕ) (piece : List ℕ) (acts : List Act) : Type 0 where
+  pub due : List Act
+  pub rest : List Act
+  pub is : acts ≡ due ++ rest
+  pub ticks : Decides (record { at = at; kind = kinds.Tick }) (Some tt) p h due
+  pub held : HeldView
+  pub runs : Runs p h due held
+  pub answers : (found : ConnectionView) (q : Connect) → map.get held.connections c ≡ Some found → BringsConnect found piece q → AnswersConnect p held c piece q rest
+
+-- in each step of a node that has started, to which a piece of a stream comes
 abbrev pub FirstConnectIsAnswered : Type 0
 FirstConnectIsAnswered =
-    (e : Event) (p : Place) (h : HeldView) (acts : List Act) → Decides e (Some tt) p h acts
-    → (c : ℕ) (piece : List ℕ) → e.kind ≡ kinds.Piece c piece → h.started ≡ true → NothingDue (record h { at = max h.at e.at })
-    → (found : ConnectionView) → map.get h.connections c ≡ Some found → found.client ≡ None → found.stream.failed ≡ false
-    → (q : Connect) (more : List Packet) → (cut_of found.stream piece).packets ≡ packets.Connect q ∷ more
-    → AnswersFirst p h e.at c piece q acts
+    (e : Event) (p : Place) (h : HeldView) (acts : List Act) → Decides e (Some tt) p h acts → (c : ℕ) (piece : List ℕ) → e.kind ≡ kinds.Piece c piece → h.started ≡ true → AnswersFirst p h e.at c piece acts

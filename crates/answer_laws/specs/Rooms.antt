@@ -1,11 +1,14 @@
 -- When a message with RETAIN is refused for want of room (MQTT 5.0, 3.3.1.3, 3.4.2.1 and 3.5.2.1).
-use Rattle.std.specs.Prelude.{◌≡◌, ◌↔◌, ◌⊎◌, ℕ, ◌<◌, ◌≤◌, true, is_some, length, List, ◌∷◌, ◌++◌, Some}
+use Rattle.std.specs.Prelude.{◌≡◌, ◌↔◌, ◌⊎◌, ℕ, ◌<◌, ◌≤◌, Bool, true, cond, is_some, length, List, ◌∷◌, ◌++◌, Some}
 use Rattle.std.specs.FinMap.Entries.{find}
 use Rattle.mqtt_fields.specs.declared.options.Qos.{Qos}
 use Rattle.mqtt_message.specs.declared.message.Message.{Message}
+use Rattle.mqtt_packets.specs.declared.packet.Packet.TheVariants as packets
+use Rattle.mqtt_packets.specs.declared.publish.Publish.{Publish}
 use Rattle.mqtt_topics.specs.Topics.{IsName}
 use Rattle.mqtt_sessions.specs.declared.reaction.Ask.TheVariants.{Pass}
 use Rattle.mqtt_sessions.specs.Answers.{puback, pubrec}
+use Rattle.session_laws.specs.Runs.{takes}
 use Rattle.subscription_set.specs.Sorted.{Rises}
 use Rattle.replica_store.specs.declared.kept.Kept.{Kept}
 use Rattle.replica_store.specs.declared.operation.Operation.{Operation}
@@ -59,3 +62,11 @@ PassedHasRoom =
     → (before : List Act) (c : CallsSession m before) (qos : Qos) (id : ℕ) (t : TakesPublish qos id c.step) → IsName (message_taken run m before c t).topic
     → (x : Message) → c.step.reaction.ask ≡ Some (Pass x) → t.publish.retain ≡ true
     → HasRoomForTopic (operations_amid (site m.fate) run before) (message_taken run m before c t).topic
+
+-- a session is told of each PUBLISH that names its topic, also at QoS 0, whether there is room for that: never that there is where it lacks, nor
+-- that it lacks where there is
+abbrev pub RoomIsExact : Type 0
+RoomIsExact =
+    (run later : List Played) (m : Played) (w : World) → Reached (run ++ m ∷ later) w
+    → (before : List Act) (c : CallsSession m before) (publish : Publish) (now : ℕ) (room : Bool) → c.step.event ≡ takes (packets.Publish publish) now room → IsName publish.topic
+    → cond room (HasRoomForTopic (operations_amid (site m.fate) run before) publish.topic) (LacksRoomForTopic (operations_amid (site m.fate) run before) publish.topic)

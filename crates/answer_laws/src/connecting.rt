@@ -2,9 +2,10 @@
 ghost use Rattle.answer_laws.specs.ConnectionRooms.{RoomIsTold};
 ghost use Rattle.answer_laws.specs.Connects.{FirstConnectIsAnswered};
 
-/// In each step of a node that has started, whatever it holds, where nothing is due: the first CONNECT of a connection is refused with the
-/// first of 0x8C, 0x85, 0x9C and 0x90 that applies, by one CONNACK that fits and a close; or its client is accepted, and its session, which
-/// is continued where there is one, gives CONNACK 0x00 first, with Session Present exactly then.
+/// In each step of a node that has started, whatever it holds, to which a piece comes: after what is due, the first CONNECT of a connection is
+/// refused with the first of 0x8C, 0x85, 0x9C and 0x90 that applies, by one CONNACK that fits and a close; or its client is accepted. Before
+/// that an older connection of it gets 0x8E and is closed, and with Clean Start its session ends, and nothing else is done. The session is
+/// continued where one is left, and gives CONNACK 0x00 first, with Session Present exactly then, unless that is too long.
 pub fn first_connect_is_answered()
     ensures { FirstConnectIsAnswered }
 {}

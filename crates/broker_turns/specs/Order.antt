@@ -1,5 +1,5 @@
 -- That what waits for a client, or on a link, stays whole and in order.
-use Rattle.std.specs.Prelude.{◌≡◌, ◌⊎◌, ℕ, List, ◌++◌, Bool, true, Option, Some}
+use Rattle.std.specs.Prelude.{◌≡◌, ◌⊎◌, ℕ, List, ◌++◌, Bool, true, Option, Some, None, slice_index_or}
 use Rattle.std.specs.declared.net.socket_addr.SocketAddr.{SocketAddr}
 use Rattle.slab.specs.Slab.{get}
 use Rattle.broker_sockets.specs.declared.network.Answer.{Answer}
@@ -13,9 +13,10 @@ use Rattle.broker_sockets.specs.declared.ready.Watched.{Watched}
 use Rattle.broker_turns.specs.declared.lines.Line.{Line}
 use Rattle.broker_turns.specs.declared.setting.Setting.{Setting}
 use Rattle.broker_sockets.specs.Answers.{carried}
+use Rattle.broker_turns.specs.Bridging.{IsSought, Search, search}
 use Rattle.broker_turns.specs.Lines.{link_of}
 use Rattle.broker_turns.specs.Connections.{IsWrote}
-use Rattle.broker_turns.specs.Steps.{Each}
+use Rattle.broker_turns.specs.Steps.{Each, EachBelow}
 use Rattle.broker_turns.specs.Turns.{IsTurn, Site, front}
 
 -- a longer list that begins with this one
@@ -38,14 +39,24 @@ module _ {S T : Type 0} (taken : T → List ℕ) where
   abbrev pub TakesNothing : (S → T → Answer → List ℕ → S → T → Type 0) → Type 0
   TakesNothing reads = (s s' : S) (t t' : T) (answer : Answer) (bytes : List ℕ) → reads s t answer bytes s' t' → taken t' ≡ taken t
 
-  -- a link of a stream that was connected, with all that it has taken and has waiting since
-  abbrev pub IsNew : (S → SocketAddr → Option T → S → Type 0) → Line T → Type 0
-  IsNew connects line = (s : S) × (s' : S) × (address : SocketAddr) × (stream : T) × connects s address (Some stream) s' × Extends (link_flow taken line) (taken stream)
-
+module _ {T : Type 0} (taken : T → List ℕ) where
   -- a link that was there before, with all that it had and then more, or a new one
-  abbrev pub IsOf : (S → SocketAddr → Option T → S → Type 0) → Option (Line T) → Line T → Type 0
-  IsOf connects before line' =
-      ((line : Line T) × (before ≡ Some line) × Extends (link_flow taken line') (link_flow taken line)) ⊎ IsNew connects line'
+  abbrev pub IsOf : Option (Line T) → Type 0 → Line T → Type 0
+  IsOf before new line' = ((line : Line T) × (before ≡ Some line) × Extends (link_flow taken line') (link_flow taken line)) ⊎ new
+
+module _ {S H L T : Type 0} (watches : S → T → Watched → Bool → S → Type 0) (connects : S → SocketAddr → Option T → S → Type 0) (hears : H → PeerEvent → Given → H → Type 0) where
+  -- a link that was begun in this turn: peers were dialled, one after the other, and when it came to this one there was no link to it. Its
+  -- address was dialled then, and gave this stream; the link has what that has taken, and then what waits since.
+  pub record IsNew (taken : T → List ℕ) (setting : Setting L) (at : ℕ) (start : Search S H T) (peer : ℕ) (line : Line T) : Type 0 where
+    pub before : Search S H T
+    pub earlier : EachBelow (IsSought connects watches hears at setting.peers.items) peer start before
+    pub none : link_of before.reach.near.dialled peer ≡ None
+    pub address : SocketAddr
+    pub known : slice_index_or setting.peers.items peer None ≡ Some address
+    pub stream : T
+    pub asked : S
+    pub began : connects before.reach.sockets address (Some stream) asked
+    pub has : Extends (link_flow taken line) (taken stream)
 
 module _
     {S H L T : Type 0} (accepts : S → L → Option T → S → Type 0) (watches : S → T → Watched → Bool → S → Type 0) (connects : S → SocketAddr → Option T → S → Type 0)
@@ -59,13 +70,13 @@ module _
       → (key : ℕ) (client client' : Client T) → get old.place.reach.near.clients key ≡ Some client → get new.place.reach.near.clients key ≡ Some client'
       → Extends (flow taken client') (flow taken client)
 
-  -- so it is with a link to a peer, unless it was dialled anew
+  -- so it is with a link to a peer, unless it was dialled anew in the same turn
   abbrev pub NoFrameIsLost : Type 0
   NoFrameIsLost =
       (taken : T → List ℕ) → TakesWhatItAnswers taken writes → TakesNothing taken reads
-      → (setting : Setting L) (at : ℕ) (old new : Site S H T) → IsTurn accepts watches connects reads writes finds handles hears settles setting at old new
+      → (setting : Setting L) (at : ℕ) (old new : Site S H T) → (turn : IsTurn accepts watches connects reads writes finds handles hears settles setting at old new)
       → (peer : ℕ) (line' : Line T) → link_of new.place.reach.near.dialled peer ≡ Some line'
-      → IsOf taken connects (link_of old.place.reach.near.dialled peer) line'
+      → IsOf taken (link_of old.place.reach.near.dialled peer) (IsNew watches connects hears taken setting at (search turn.taken.reach.sockets turn.taken.reach.near old.sought) peer line') line'
 
   -- whoever is written to in a turn, the handler has settled since it was last told of anything: before each client, and before the links
   abbrev pub NothingIsToldEarly : Type 0

@@ -61,6 +61,7 @@ pub record BySubscribe (call : SessionStep) (p : Place) (held : HeldView) (o : O
   pub now : ℕ
   pub room : Bool
   pub event : call.event ≡ takes (packets.Subscribe subscribe) now room
+  pub asked : call.reaction.ask ≡ Some asks.Subscribe
   pub filter : SubscribeFilter
   pub among : IsIn filter subscribe.filters
   pub is : o ≡ subscribe_of p.id (subscribing.subscription_entry call.client filter (subscribing.identifier_of subscribe) held.homes.version) held.store
@@ -70,6 +71,7 @@ pub record ByUnsubscribe (call : SessionStep) (p : Place) (held : HeldView) (o :
   pub now : ℕ
   pub room : Bool
   pub event : call.event ≡ takes (packets.Unsubscribe unsubscribe) now room
+  pub asked : call.reaction.ask ≡ Some asks.Unsubscribe
   pub text : List ℕ
   pub among : IsIn text unsubscribe.filters
   pub is : o ≡ removal p.id call.client (Some text) held.store
@@ -212,10 +214,12 @@ module _ (kind : EventKind) where
     by_whether = k_where;
     join = k_then;
     calls = k_calls;
-    passed = λ m x. k_numbered turn_at_end (λ p h. Passed m x.0 x.1.0 x.1.1) (λ p h. tt);
     puts = λ peer m. k_looks (λ p h. offer_to peer h.bridge) (PutsInLaneBy peer m) (k_puts_by peer m);
     names = λ c p f. k_finds IsNextNumber (connecting.NamesBy c p) (k_names_by c p f);
   }
+
+  passed_on : (m : Message) (x : passing.Made) → Keeps (Unit {0}) (Numbered turn_at_end (λ p h. Passed m x.0 x.1.0 x.1.1))
+  passed_on m x = k_numbered turn_at_end (λ p h. Passed m x.0 x.1.0 x.1.1) (λ p h. tt)
 
   -- ---- a session's end: one Remove, and then it is over
   end_by : (stands : Bool) (client : List ℕ) (node : ℕ) (y : Bool) (p : Place) (h : HeldView) (own : List Act) → IsHome h.homes client node
@@ -304,7 +308,7 @@ module _ (kind : EventKind) where
     passes : (m : Message) (x : Unit {0}) (acts : List Act) → step.reaction.ask ≡ Some (asks.Pass m) → passing.Passes m (Some x) p mid acts → Caused p h (Session (Called step) ∷ acts)
     passes m x acts ask (inl d) = none_some (sym d.0)
     passes m x acts ask (inr (y, own, mid2, rest, one, ran, more, is)) =
-        subst (λ zs. Caused p h (Session (Called step) ∷ zs)) (sym is) (made_then mid2 own rest ran (put_by m.retain m y own rest refl ask one) ((copies_at Keeps walks m mid2.at).of x p mid2 rest more))
+        subst (λ zs. Caused p h (Session (Called step) ∷ zs)) (sym is) (made_then mid2 own rest ran (put_by m.retain m y own rest refl ask one) ((copies_at Keeps walks m (passed_on m) mid2.at).of x p mid2 rest more))
 
     will_by : (lacks : Bool) (m : Message) (x : Unit {0}) (acts : List Act) → step.reaction.ask ≡ Some (asks.Pass m) → If lacks passing.Drops (passing.Passes m) (Some x) p mid acts → Caused p h (Session (Called step) ∷ acts)
     will_by true m x acts ask d = call_then acts ((drops Keeps walks).of x p mid acts d)
@@ -360,49 +364,49 @@ module _ (kind : EventKind) where
   closes_end end c client = closes_after Keeps walks ticks_of end c client
 
   -- ---- the operations of a SUBSCRIBE and of an UNSUBSCRIBE
-  granted_one : (step : SessionStep) (q : Subscribe) (now : ℕ) (room : Bool) → step.event ≡ takes (packets.Subscribe q) now room → (p : Place) (h : HeldView) (f : SubscribeFilter) (code : ℕ) (acts : List Act) → IsIn f q.filters
+  granted_one : (step : SessionStep) (q : Subscribe) (now : ℕ) (room : Bool) → step.event ≡ takes (packets.Subscribe q) now room → step.reaction.ask ≡ Some asks.Subscribe → (p : Place) (h : HeldView) (f : SubscribeFilter) (code : ℕ) (acts : List Act) → IsIn f q.filters
       → IsGranted p h step.client (subscribing.identifier_of q) f code acts → (before after : List Act) (o : Operation) (held : HeldView) → acts ≡ before ++ Store (Made o) ∷ after → Runs p h before held → BySubscribe step p held o
-  granted_one step q now room event p h f code acts among (inr d) before after o held is ran = none_there before after (Store (Made o)) (sym d.1 ∙ is)
-  granted_one step q now room event p h f code acts among (inl d) [] after o held is ran =
+  granted_one step q now room event asked p h f code acts among (inr d) before after o held is ran = none_there before after (Store (Made o)) (sym d.1 ∙ is)
+  granted_one step q now room event asked p h f code acts among (inl d) [] after o held is ran =
       let same : subscribe_of p.id (subscribing.subscription_entry step.client f (subscribing.identifier_of q) h.homes.version) h.store ≡ o = (let z = head_is (sym d.1 ∙ is) in cc) in
       let there : held ≡ h = ran in
-      subst (λ v. BySubscribe step p v o) (sym there) (record { subscribe = q; now = now; room = room; event = event; filter = f; among = among; is = sym same })
-  granted_one step q now room event p h f code acts among (inl d) (b ∷ before) after o held is ran = none_there before after (Store (Made o)) (tail_is (sym d.1 ∙ is))
+      subst (λ v. BySubscribe step p v o) (sym there) (record { subscribe = q; now = now; room = room; event = event; asked = asked; filter = f; among = among; is = sym same })
+  granted_one step q now room event asked p h f code acts among (inl d) (b ∷ before) after o held is ran = none_there before after (Store (Made o)) (tail_is (sym d.1 ∙ is))
 
-  granted_all : (step : SessionStep) (q : Subscribe) (now : ℕ) (room : Bool) → step.event ≡ takes (packets.Subscribe q) now room → (p : Place) (h : HeldView) (fs : List SubscribeFilter) (codes : List ℕ) (acts : List Act)
+  granted_all : (step : SessionStep) (q : Subscribe) (now : ℕ) (room : Bool) → step.event ≡ takes (packets.Subscribe q) now room → step.reaction.ask ≡ Some asks.Subscribe → (p : Place) (h : HeldView) (fs : List SubscribeFilter) (codes : List ℕ) (acts : List Act)
       → ((f : SubscribeFilter) → IsIn f fs → IsIn f q.filters) → AreGranted p h step.client (subscribing.identifier_of q) fs codes acts
       → (before after : List Act) (o : Operation) (held : HeldView) → acts ≡ before ++ Store (Made o) ∷ after → Runs p h before held → BySubscribe step p held o
-  granted_all step q now room event p h [] codes acts all d before after o held is ran = none_there before after (Store (Made o)) (sym d.1 ∙ is)
-  granted_all step q now room event p h (f ∷ fs) codes acts all (code, others, own, mid, rest, codes_are, parts, one, so, more) before after o held is ran =
+  granted_all step q now room event asked p h [] codes acts all d before after o held is ran = none_there before after (Store (Made o)) (sym d.1 ∙ is)
+  granted_all step q now room event asked p h (f ∷ fs) codes acts all (code, others, own, mid, rest, codes_are, parts, one, so, more) before after o held is ran =
       elim (splits own rest before after (Store (Made o)) (sym parts ∙ is)) [
-        | inl r ↦ granted_one step q now room event p h f code own (all f (inl refl)) one before r.0 o held r.1 ran
+        | inl r ↦ granted_one step q now room event asked p h f code own (all f (inl refl)) one before r.0 o held r.1 ran
         | inr r ↦ (
             let halves = runs_split p own r.0 h held (subst (λ zs. Runs p h zs held) r.1 ran) in
             let same : halves.0 ≡ mid = runs_determined p own h halves.0 mid halves.1 so in
-            granted_all step q now room event p mid fs others rest (λ g i. all g (inr i)) more r.0 after o held r.2 (subst (λ v. Runs p v r.0 held) same halves.2))
+            granted_all step q now room event asked p mid fs others rest (λ g i. all g (inr i)) more r.0 after o held r.2 (subst (λ v. Runs p v r.0 held) same halves.2))
       ]
 
-  removed_one : (step : SessionStep) (u : Unsubscribe) (now : ℕ) (room : Bool) → step.event ≡ takes (packets.Unsubscribe u) now room → (p : Place) (h : HeldView) (text : List ℕ) (code : ℕ) (acts : List Act) → IsIn text u.filters
+  removed_one : (step : SessionStep) (u : Unsubscribe) (now : ℕ) (room : Bool) → step.event ≡ takes (packets.Unsubscribe u) now room → step.reaction.ask ≡ Some asks.Unsubscribe → (p : Place) (h : HeldView) (text : List ℕ) (code : ℕ) (acts : List Act) → IsIn text u.filters
       → FilterIsRemoved p h step.client text code acts → (before after : List Act) (o : Operation) (held : HeldView) → acts ≡ before ++ Store (Made o) ∷ after → Runs p h before held → ByUnsubscribe step p held o
-  removed_one step u now room event p h text code acts among (inr (inl d)) before after o held is ran = none_there before after (Store (Made o)) (sym d.2 ∙ is)
-  removed_one step u now room event p h text code acts among (inr (inr d)) before after o held is ran = none_there before after (Store (Made o)) (sym d.2 ∙ is)
-  removed_one step u now room event p h text code acts among (inl d) [] after o held is ran =
+  removed_one step u now room event asked p h text code acts among (inr (inl d)) before after o held is ran = none_there before after (Store (Made o)) (sym d.2 ∙ is)
+  removed_one step u now room event asked p h text code acts among (inr (inr d)) before after o held is ran = none_there before after (Store (Made o)) (sym d.2 ∙ is)
+  removed_one step u now room event asked p h text code acts among (inl d) [] after o held is ran =
       let same : removal p.id step.client (Some text) h.store ≡ o = (let z = head_is (sym d.2 ∙ is) in cc) in
       let there : held ≡ h = ran in
-      subst (λ v. ByUnsubscribe step p v o) (sym there) (record { unsubscribe = u; now = now; room = room; event = event; text = text; among = among; is = sym same })
-  removed_one step u now room event p h text code acts among (inl d) (b ∷ before) after o held is ran = none_there before after (Store (Made o)) (tail_is (sym d.2 ∙ is))
+      subst (λ v. ByUnsubscribe step p v o) (sym there) (record { unsubscribe = u; now = now; room = room; event = event; asked = asked; text = text; among = among; is = sym same })
+  removed_one step u now room event asked p h text code acts among (inl d) (b ∷ before) after o held is ran = none_there before after (Store (Made o)) (tail_is (sym d.2 ∙ is))
 
-  removed_all : (step : SessionStep) (u : Unsubscribe) (now : ℕ) (room : Bool) → step.event ≡ takes (packets.Unsubscribe u) now room → (p : Place) (h : HeldView) (texts : List (List ℕ)) (codes : List ℕ) (acts : List Act)
+  removed_all : (step : SessionStep) (u : Unsubscribe) (now : ℕ) (room : Bool) → step.event ≡ takes (packets.Unsubscribe u) now room → step.reaction.ask ≡ Some asks.Unsubscribe → (p : Place) (h : HeldView) (texts : List (List ℕ)) (codes : List ℕ) (acts : List Act)
       → ((t : List ℕ) → IsIn t texts → IsIn t u.filters) → FiltersAreRemoved p h step.client texts codes acts
       → (before after : List Act) (o : Operation) (held : HeldView) → acts ≡ before ++ Store (Made o) ∷ after → Runs p h before held → ByUnsubscribe step p held o
-  removed_all step u now room event p h [] codes acts all d before after o held is ran = none_there before after (Store (Made o)) (sym d.1 ∙ is)
-  removed_all step u now room event p h (text ∷ texts) codes acts all (code, others, own, mid, rest, codes_are, parts, one, so, more) before after o held is ran =
+  removed_all step u now room event asked p h [] codes acts all d before after o held is ran = none_there before after (Store (Made o)) (sym d.1 ∙ is)
+  removed_all step u now room event asked p h (text ∷ texts) codes acts all (code, others, own, mid, rest, codes_are, parts, one, so, more) before after o held is ran =
       elim (splits own rest before after (Store (Made o)) (sym parts ∙ is)) [
-        | inl r ↦ removed_one step u now room event p h text code own (all text (inl refl)) one before r.0 o held r.1 ran
+        | inl r ↦ removed_one step u now room event asked p h text code own (all text (inl refl)) one before r.0 o held r.1 ran
         | inr r ↦ (
             let halves = runs_split p own r.0 h held (subst (λ zs. Runs p h zs held) r.1 ran) in
             let same : halves.0 ≡ mid = runs_determined p own h halves.0 mid halves.1 so in
-            removed_all step u now room event p mid texts others rest (λ t i. all t (inr i)) more r.0 after o held r.2 (subst (λ v. Runs p v r.0 held) same halves.2))
+            removed_all step u now room event asked p mid texts others rest (λ t i. all t (inr i)) more r.0 after o held r.2 (subst (λ v. Runs p v r.0 held) same halves.2))
       ]
 
   -- ---- a packet of an accepted client
@@ -411,36 +415,36 @@ module _ (kind : EventKind) where
     abbrev amid_call : (made before : List Act) → AreOperations made → (after : List Act) (o : Operation) → made ≡ before ++ Store (Made o) ∷ after → AfterCall (Session (Called step) ∷ before)
     amid_call made before only after o is = record { call = step; earlier = []; made = before; is = refl; alone = front before (Store (Made o) ∷ after) (subst AreOperations is only) }
 
-    subscribes : (q : Subscribe) (now : ℕ) (room : Bool) (x : Unit {0}) (acts : List Act) → step.event ≡ takes (packets.Subscribe q) now room → subscribing.ServesSubscribe c client q (Some x) p mid acts → Caused p h (Session (Called step) ∷ acts)
-    subscribes q now room x acts event (inl d) = none_some (sym d.0)
-    subscribes q now room x acts event (inr (all, made, mid2, rest, one, ran, more, is)) =
+    subscribes : (q : Subscribe) (now : ℕ) (room : Bool) (x : Unit {0}) (acts : List Act) → step.event ≡ takes (packets.Subscribe q) now room → step.reaction.ask ≡ Some asks.Subscribe → subscribing.ServesSubscribe c client q (Some x) p mid acts → Caused p h (Session (Called step) ∷ acts)
+    subscribes q now room x acts event asked (inl d) = none_some (sym d.0)
+    subscribes q now room x acts event asked (inr (all, made, mid2, rest, one, ran, more, is)) =
         let g = are_granted client (subscribing.identifier_of q) q.filters [] all p mid made one in
         let codes = subscribing.granted_reasons g.others in
         let are : AreGranted p mid step.client (subscribing.identifier_of q) q.filters codes made = subst (λ v. AreGranted p mid v (subscribing.identifier_of q) q.filters codes made) (sym same) g.are in
         let only : AreOperations made = granted p mid step.client (subscribing.identifier_of q) q.filters codes made are in
         subst (λ zs. Caused p h (Session (Called step) ∷ zs)) (sym is)
         (made_then p h mid step runs mid2 made rest ran
-        (λ before after o held e so. inl (amid_call made before only after o e, inl (granted_all step q now room event p mid q.filters codes made (λ f i. i) are before after o held e so)))
+        (λ before after o held e so. inl (amid_call made before only after o e, inl (granted_all step q now room event asked p mid q.filters codes made (λ f i. i) are before after o held e so)))
         ((acknowledges Keeps walks ticks_of c client q.identifier all).of x p mid2 rest more))
 
-    unsubscribes : (u : Unsubscribe) (now : ℕ) (room : Bool) (x : Unit {0}) (acts : List Act) → step.event ≡ takes (packets.Unsubscribe u) now room → unsubscribing.ServesUnsubscribe c client u (Some x) p mid acts → Caused p h (Session (Called step) ∷ acts)
-    unsubscribes u now room x acts event (inl d) = none_some (sym d.0)
-    unsubscribes u now room x acts event (inr (all, made, mid2, rest, one, ran, more, is)) =
+    unsubscribes : (u : Unsubscribe) (now : ℕ) (room : Bool) (x : Unit {0}) (acts : List Act) → step.event ≡ takes (packets.Unsubscribe u) now room → step.reaction.ask ≡ Some asks.Unsubscribe → unsubscribing.ServesUnsubscribe c client u (Some x) p mid acts → Caused p h (Session (Called step) ∷ acts)
+    unsubscribes u now room x acts event asked (inl d) = none_some (sym d.0)
+    unsubscribes u now room x acts event asked (inr (all, made, mid2, rest, one, ran, more, is)) =
         let g = are_removed client u.filters [] all p mid made one in
         let are : FiltersAreRemoved p mid step.client u.filters g.others made = subst (λ v. FiltersAreRemoved p mid v u.filters g.others made) (sym same) g.are in
         let only : AreOperations made = removed p mid step.client u.filters g.others made are in
         subst (λ zs. Caused p h (Session (Called step) ∷ zs)) (sym is)
         (made_then p h mid step runs mid2 made rest ran
-        (λ before after o held e so. inl (amid_call made before only after o e, inr (removed_all step u now room event p mid u.filters g.others made (λ t i. i) are before after o held e so)))
+        (λ before after o held e so. inl (amid_call made before only after o e, inr (removed_all step u now room event asked p mid u.filters g.others made (λ t i. i) are before after o held e so)))
         ((unacknowledges Keeps walks ticks_of c client u.identifier all).of x p mid2 rest more))
 
-    subscribes_by : (k : Packet) (now : ℕ) (room : Bool) (x : Unit {0}) (acts : List Act) → step.event ≡ takes k now room → serving.SubscribesBy c client k (Some x) p mid acts → Caused p h (Session (Called step) ∷ acts)
-    subscribes_by (packets.Subscribe q) now room x acts event d = subscribes q now room x acts event d
-    subscribes_by k now room x acts event d = call_then p h mid step runs acts (subst (Caused p mid) (sym d.1) (none_caused p mid))
+    subscribes_by : (k : Packet) (now : ℕ) (room : Bool) (x : Unit {0}) (acts : List Act) → step.event ≡ takes k now room → step.reaction.ask ≡ Some asks.Subscribe → serving.SubscribesBy c client k (Some x) p mid acts → Caused p h (Session (Called step) ∷ acts)
+    subscribes_by (packets.Subscribe q) now room x acts event asked d = subscribes q now room x acts event asked d
+    subscribes_by k now room x acts event asked d = call_then p h mid step runs acts (subst (Caused p mid) (sym d.1) (none_caused p mid))
 
-    unsubscribes_by : (k : Packet) (now : ℕ) (room : Bool) (x : Unit {0}) (acts : List Act) → step.event ≡ takes k now room → serving.UnsubscribesBy c client k (Some x) p mid acts → Caused p h (Session (Called step) ∷ acts)
-    unsubscribes_by (packets.Unsubscribe u) now room x acts event d = unsubscribes u now room x acts event d
-    unsubscribes_by k now room x acts event d = call_then p h mid step runs acts (subst (Caused p mid) (sym d.1) (none_caused p mid))
+    unsubscribes_by : (k : Packet) (now : ℕ) (room : Bool) (x : Unit {0}) (acts : List Act) → step.event ≡ takes k now room → step.reaction.ask ≡ Some asks.Unsubscribe → serving.UnsubscribesBy c client k (Some x) p mid acts → Caused p h (Session (Called step) ∷ acts)
+    unsubscribes_by (packets.Unsubscribe u) now room x acts event asked d = unsubscribes u now room x acts event asked d
+    unsubscribes_by k now room x acts event asked d = call_then p h mid step runs acts (subst (Caused p mid) (sym d.1) (none_caused p mid))
 
     dropped_by : (dropped : Bool) (x : Unit {0}) (v : HeldView) (acts : List Act) → If dropped passing.Drops (Returns tt) (Some x) p v acts → Caused p v acts
     dropped_by true x v acts d = (drops Keeps walks).of x p v acts d
@@ -450,8 +454,8 @@ module _ (kind : EventKind) where
         → serving.DoesAsked ask c client k room end (Some x) p mid acts → Caused p h (Session (Called step) ∷ acts)
     does_asked None k now room end x acts event e d = call_then p h mid step runs acts (dropped_by (serving.is_dropped k room end) x mid acts d)
     does_asked (Some (asks.Pass m)) k now room end x acts event e d = passes p h mid step runs m x acts e d
-    does_asked (Some asks.Subscribe) k now room end x acts event e d = subscribes_by k now room x acts event d
-    does_asked (Some asks.Unsubscribe) k now room end x acts event e d = unsubscribes_by k now room x acts event d
+    does_asked (Some asks.Subscribe) k now room end x acts event e d = subscribes_by k now room x acts event e d
+    does_asked (Some asks.Unsubscribe) k now room end x acts event e d = unsubscribes_by k now room x acts event e d
 
     does_reaction : (k : Packet) (now : ℕ) (room : Bool) (r : Reaction) (x : Unit {0}) (acts : List Act) → step.event ≡ takes k now room → step.reaction ≡ r → serving.DoesReaction c client k room r (Some x) p mid acts → Caused p h (Session (Called step) ∷ acts)
     does_reaction k now room r x acts event e (inl d) = none_some (sym d.0)

@@ -1,5 +1,5 @@
 -- Work that stops does so at a number that is at its end.
-use Rattle.std.proofs.Common.{◌≡◌, ◌⊎◌, inl, inr, ℕ, ◌≤◌, ◌^◌, ◌||◌, not, nat_lt, Bool, true, false, cond, List, [], ◌∷◌, ◌++◌, Option, Some, None, refl}
+use Rattle.std.proofs.Common.{◌≡◌, ◌⊎◌, inl, inr, ℕ, ◌≤◌, ◌^◌, ◌||◌, not, nat_lt, Bool, true, false, cond, List, [], ◌∷◌, ◌++◌, Option, Some, None, refl, sym, subst}
 use Rattle.std.proofs.lemmas.Bool.{ltb-false}
 use Rattle.mqtt_message.specs.declared.message.Message.{Message}
 use Rattle.mqtt_packets.specs.declared.connect.Connect.{Connect}
@@ -37,11 +37,12 @@ use Rattle.node_clients.specs.Connecting as connecting
 use Rattle.node_clients.specs.Ending as ending
 use Rattle.node_clients.specs.Naming.{IsNextNumber, automatic}
 use Rattle.node_clients.specs.Passing as passing
+use Rattle.node_clients.proofs.Determined.{runs_determined}
 use Rattle.broker_node.specs.declared.event.Event.{Event as NodeEvent}
 use Rattle.broker_node.specs.Turns as turns
 use Rattle.passing_laws.proofs.Keeping.{none_some}
-use Rattle.cause_laws.specs.Stops.{HasNumberAtEnd, ComesToAnEnd, StopsHaveNumbers}
-use Rattle.cause_laws.proofs.Walk.{IsSimple, simple, Walks, decides}
+use Rattle.cause_laws.specs.Stops.{HasNumberAtEnd, StopsHaveNumbers}
+use Rattle.cause_laws.proofs.Walk.{IsSimple, simple, Walks, copies_at, decides}
 use Rattle.cause_laws.proofs.Lower.{Makes, ticks_of, finishes_of, serves, evicts}
 
 -- ---- each number
@@ -103,18 +104,18 @@ session_ends loses s ends = absurd ends
 
 -- ---- of work
 module _ (at : ℕ) where
-  abbrev Ends : Place → HeldView → Type 0
-  Ends p h = (2 ^ 62 ≤ at) ⊎ ComesToAnEnd p h
+  abbrev Ends : Place → HeldView → List Act → Type 0
+  Ends p h acts = (2 ^ 62 ≤ at) ⊎ ((left : HeldView) × Runs p h acts left × HasNumberAtEnd p left)
 
-  here : (p : Place) (h : HeldView) → HasNumberAtEnd p h → Ends p h
-  here p h e = inr (record { acts = []; held = h; runs = refl; end = e })
+  here : (p : Place) (h : HeldView) (acts : List Act) → acts ≡ [] → HasNumberAtEnd p h → Ends p h acts
+  here p h acts is e = inr (h, subst (λ xs. Runs p h xs h) (sym is) refl, e)
 
-  later : (p : Place) (h mid : HeldView) (own : List Act) → Runs p h own mid → Ends p mid → Ends p h
-  later p h mid own runs (inl late) = inl late
-  later p h mid own runs (inr e) = inr (record { acts = own ++ e.acts; held = e.held; runs = runs_join p own e.acts h mid e.held runs e.runs; end = e.end })
+  later : (p : Place) (h mid : HeldView) (own rest acts : List Act) → acts ≡ own ++ rest → Runs p h own mid → Ends p mid rest → Ends p h acts
+  later p h mid own rest acts is runs (inl late) = inl late
+  later p h mid own rest acts is runs (inr e) = inr (e.0, subst (λ xs. Runs p h xs e.0) (sym is) (runs_join p own rest h mid e.0 runs e.1), e.2)
 
   pub record Halts (A : Type 0) (P : Option A → Doing) : Type 0 where
-    pub of : (p : Place) (h : HeldView) (acts : List Act) → P None p h acts → Ends p h
+    pub of : (p : Place) (h : HeldView) (acts : List Act) → P None p h acts → Ends p h acts
 
   k_returns : {A : Type 0} (y : A) → Halts A (Returns y)
   k_returns y = record { of = λ p h acts d. none_some d.0 }
@@ -128,12 +129,12 @@ module _ (at : ℕ) where
   abbrev halted : Option (Unit {0})
   halted = None
 
-  numbered_by : (b : Bool) (a : Act) (acts : List Act) {X : Type 0} → (b ≡ true → X) → cond b ((halted ≡ None) × (acts ≡ [])) ((halted ≡ Some tt) × (acts ≡ a ∷ [])) → X
-  numbered_by true a acts f d = f refl
+  numbered_by : (b : Bool) (a : Act) (acts : List Act) {X : Type 0} → (b ≡ true → acts ≡ [] → X) → cond b ((halted ≡ None) × (acts ≡ [])) ((halted ≡ Some tt) × (acts ≡ a ∷ [])) → X
+  numbered_by true a acts f d = f refl d.1
   numbered_by false a acts f d = none_some d.0
 
-  k_numbered : (at_end : Place → HeldView → Bool) (a : Place → HeldView → Act) → ((p : Place) (h : HeldView) → at_end p h ≡ true → Ends p h) → Halts (Unit {0}) (Numbered at_end a)
-  k_numbered at_end a ends = record { of = λ p h acts d. numbered_by (at_end p h) (a p h) acts {X = Ends p h} (ends p h) d }
+  k_numbered : (at_end : Place → HeldView → Bool) (a : Place → HeldView → Act) → ((p : Place) (h : HeldView) (acts : List Act) → at_end p h ≡ true → acts ≡ [] → Ends p h acts) → Halts (Unit {0}) (Numbered at_end a)
+  k_numbered at_end a ends = record { of = λ p h acts d. numbered_by (at_end p h) (a p h) acts {X = Ends p h acts} (ends p h acts) d }
 
   k_looks : {A B : Type 0} (see : Place → HeldView → A) (P : A → Option B → Doing) → ((y : A) → Halts B (P y)) → Halts B (Looks see P)
   k_looks see P f = record { of = λ p h acts d. (f (see p h)).of p h acts d }
@@ -149,46 +150,46 @@ module _ (at : ℕ) where
   k_where X P Q f g = record { of = λ p h acts d. elim d [ inl e ↦ f.of p h acts e.1 | inr e ↦ g.of p h acts e.1 ] }
 
   k_then : {A B : Type 0} (P : Option A → Doing) (Q : A → Option B → Doing) → Halts A P → ((y : A) → Halts B (Q y)) → Halts B (Then P Q)
-  k_then P Q f g = record { of = λ p h acts d. elim d [ inl e ↦ f.of p h acts e.1 | inr e ↦ later p h e.2 e.1 e.5 ((g e.0).of p e.2 e.3 e.6) ] }
+  k_then P Q f g = record { of = λ p h acts d. elim d [ inl e ↦ f.of p h acts e.1 | inr e ↦ later p h e.2 e.1 e.3 acts e.7 e.5 ((g e.0).of p e.2 e.3 e.6) ] }
 
-  calls_at : (client : List ℕ) (event : ℕ → Event) (on : Option ℕ → Option ℕ) (found : Option Seat) (p : Place) (h : HeldView) (acts : List Act) → seat_at client h ≡ found → CallsAt client event on found None p h acts → Ends p h
+  calls_at : (client : List ℕ) (event : ℕ → Event) (on : Option ℕ → Option ℕ) (found : Option Seat) (p : Place) (h : HeldView) (acts : List Act) → seat_at client h ≡ found → CallsAt client event on found None p h acts → Ends p h acts
   calls_at client event on None p h acts is d = none_some d.0
   calls_at client event on (Some seat) p h acts is (inl d) =
-      here p h (inr (inr (inr (inr (inr (record { client = client; seat = seat; found = is; number = session_ends (event h.at) seat.session d.1 }))))))
+      here p h acts d.2 (inr (inr (inr (inr (inr (record { client = client; seat = seat; found = is; number = session_ends (event h.at) seat.session d.1 }))))))
   calls_at client event on (Some seat) p h acts is (inr d) = none_some d.2
 
   k_calls : (client : List ℕ) (event : ℕ → Event) (on : Option ℕ → Option ℕ) → Halts Reaction (Calls client event on)
   k_calls client event on = record { of = λ p h acts d. calls_at client event on (seat_at client h) p h acts refl d }
 
-  puts_by : (peer : ℕ) (m : Forward) (o : Offer) (p : Place) (h : HeldView) (acts : List Act) → offer_to peer h.bridge ≡ o → PutsInLaneBy peer m o None p h acts → Ends p h
+  puts_by : (peer : ℕ) (m : Forward) (o : Offer) (p : Place) (h : HeldView) (acts : List Act) → offer_to peer h.bridge ≡ o → PutsInLaneBy peer m o None p h acts → Ends p h acts
   puts_by peer m (Queued n) p h acts is d = none_some d.0
   puts_by peer m Full p h acts is d = none_some d.0
-  puts_by peer m AtEnd p h acts is d = here p h (lane_ends p h peer is)
+  puts_by peer m AtEnd p h acts is d = here p h acts d.1 (lane_ends p h peer is)
 
-  names_by : (c : ℕ) (q : Connect) → ((client : List ℕ) → Halts (Unit {0}) (connecting.Accepts c q client)) → (number : Option ℕ) (p : Place) (h : HeldView) (acts : List Act) → IsNextNumber p h number → connecting.NamesBy c q number None p h acts → Ends p h
-  names_by c q f None p h acts is d = here p h (inr (inr (inr (inl is))))
+  names_by : (c : ℕ) (q : Connect) → ((client : List ℕ) → Halts (Unit {0}) (connecting.Accepts c q client)) → (number : Option ℕ) (p : Place) (h : HeldView) (acts : List Act) → IsNextNumber p h number → connecting.NamesBy c q number None p h acts → Ends p h acts
+  names_by c q f None p h acts is d = here p h acts d.1 (inr (inr (inr (inl is))))
   names_by c q f (Some number) p h acts is d =
       (k_then (Acting (λ place h. Named number)) (λ _. Looks (λ place h. automatic place.id number) (connecting.Accepts c q)) (k_over (λ place h. Named number))
       (λ _. k_looks (λ place h. automatic place.id number) (connecting.Accepts c q) f)).of p h acts d
 
-  late : (p : Place) (h : HeldView) → not (nat_lt at (2 ^ 62)) ≡ true → Ends p h
-  late p h e = inl (past at e)
+  late : (p : Place) (h : HeldView) (acts : List Act) → not (nat_lt at (2 ^ 62)) ≡ true → acts ≡ [] → Ends p h acts
+  late p h acts e is = inl (past at e)
 
   passed : (m : Message) (x : passing.Made) → Halts (Unit {0}) (Numbered turn_at_end (λ p h. Passed m x.0 x.1.0 x.1.1))
-  passed m x = k_numbered turn_at_end (λ p h. Passed m x.0 x.1.0 x.1.1) (λ p h e. here p h (turn_ends p h e))
+  passed m x = k_numbered turn_at_end (λ p h. Passed m x.0 x.1.0 x.1.1) (λ p h acts e is. here p h acts is (turn_ends p h e))
 
   -- ---- one operation
   makes_put : (content : Content) → Halts (Unit {0}) (MakesPut content)
-  makes_put content = k_numbered (λ p h. put_at_end p.id h) (λ p h. Store (Made (put_of p.id content h.store))) (λ p h e. here p h (put_ends p h e))
+  makes_put content = k_numbered (λ p h. put_at_end p.id h) (λ p h. Store (Made (put_of p.id content h.store))) (λ p h acts e is. here p h acts is (put_ends p h e))
 
   makes_subscribe : (entry : Entry) → Halts (Unit {0}) (MakesSubscribe entry)
-  makes_subscribe entry = k_numbered (λ p h. number_at_end p.id h) (λ p h. Store (Made (subscribe_of p.id entry h.store))) (λ p h e. here p h (number_ends p h e))
+  makes_subscribe entry = k_numbered (λ p h. number_at_end p.id h) (λ p h. Store (Made (subscribe_of p.id entry h.store))) (λ p h acts e is. here p h acts is (number_ends p h e))
 
   makes_remove : (client : List ℕ) (to : Option (List ℕ)) → Halts (Unit {0}) (MakesRemove client to)
-  makes_remove client to = k_numbered (λ p h. number_at_end p.id h) (λ p h. Store (Made (removal p.id client to h.store))) (λ p h e. here p h (number_ends p h e))
+  makes_remove client to = k_numbered (λ p h. number_at_end p.id h) (λ p h. Store (Made (removal p.id client to h.store))) (λ p h acts e is. here p h acts is (number_ends p h e))
 
   makes_remove_below : (client : List ℕ) (version : ℕ) → Halts (Unit {0}) (MakesRemoveBelow client version)
-  makes_remove_below client version = k_numbered (λ p h. number_at_end p.id h) (λ p h. Store (Made (removal_below p.id client version h.store))) (λ p h e. here p h (number_ends p h e))
+  makes_remove_below client version = k_numbered (λ p h. number_at_end p.id h) (λ p h. Store (Made (removal_below p.id client version h.store))) (λ p h acts e is. here p h acts is (number_ends p h e))
 
   removes : (client : List ℕ) (to : Option (List ℕ)) → Halts Bool (Removes client to)
   removes client to =
@@ -218,7 +219,6 @@ module _ (e : NodeEvent) where
     by_whether = k_where e.at;
     join = k_then e.at;
     calls = k_calls e.at;
-    passed = passed e.at;
     puts = λ peer m. record { of = λ p h acts d. puts_by e.at peer m (offer_to peer h.bridge) p h acts refl d };
     names = λ c q f. record { of = λ p h acts d. names_by e.at c q f d.0 p h acts d.1 d.2 };
   }
@@ -230,7 +230,13 @@ module _ (e : NodeEvent) where
   ends_session client = k_then e.at (ending.RemovesOwn client) (λ _. Acting (λ p h. Session (Over client))) (removes_own client) (λ _. k_over e.at (λ p h. Session (Over client)))
 
   makes : Makes (Halts e.at)
-  makes = record { put = makes_put e.at; subscribe = makes_subscribe e.at; remove = removes e.at; end = ends_session }
+  makes = record {
+    put = makes_put e.at;
+    subscribe = makes_subscribe e.at;
+    remove = removes e.at;
+    end = ends_session;
+    copied = λ m. k_looks e.at (λ p h. h.at) (passing.CopiesAt m) (copies_at (Halts e.at) walks m (passed e.at m));
+  }
 
   takes_moment : Does (TakesMoment e.at)
   takes_moment = k_numbered e.at (λ p h. not (nat_lt e.at (2 ^ 62))) (λ p h. MomentTaken e.at) (late e.at)
@@ -239,5 +245,9 @@ module _ (e : NodeEvent) where
   halts =
       decides (Halts e.at) walks (ticks_of (Halts e.at) walks makes) (finishes_of (Halts e.at) walks makes) (serves (Halts e.at) walks makes) (λ c. record { of = λ p h acts d. absurd d }) (λ c client. record { of = λ p h acts d. absurd d }) e (λ client is. evicts (Halts e.at) walks makes client) takes_moment
 
+-- whatever is held after the acts is what they lead to
 pub stops_have_numbers : StopsHaveNumbers
-stops_have_numbers = λ p h e s. (halts e).of p h s.0 s.1
+stops_have_numbers = λ p h e acts d. elim ((halts e).of p h acts d) [
+  | inl late ↦ inl late
+  | inr end ↦ inr (record { held = end.0; runs = end.1; end = λ left runs. subst (HasNumberAtEnd p) (runs_determined p acts h end.0 left end.1 runs) end.2 })
+]

@@ -30,6 +30,7 @@ use Rattle.node_work.specs.Working.{Doing, Returns, Stops, Acting, Numbered, Loo
 use Rattle.node_clients.specs.Connecting as connecting
 use Rattle.node_clients.specs.Ending as ending
 use Rattle.node_clients.specs.Naming.{IsNextNumber, automatic}
+use Rattle.node_clients.specs.Passing as passing
 use Rattle.node_clients.proofs.Determined.{runs_determined}
 use Rattle.broker_node.specs.declared.event.Event.{Event as NodeEvent}
 use Rattle.broker_node.specs.Turns as turns
@@ -37,7 +38,7 @@ use Rattle.passing_laws.proofs.Keeping.{none_some, calling_by}
 use Rattle.passing_laws.proofs.Passing.{numbered}
 use Rattle.passing_laws.proofs.Splits.{runs_split}
 use Rattle.cause_laws.specs.Stops.{LacksOne, LacksNumber, StepsHaveNumbers}
-use Rattle.cause_laws.proofs.Walk.{IsUnnumbered, Walks, decides}
+use Rattle.cause_laws.proofs.Walk.{IsUnnumbered, Walks, copies_at, decides}
 use Rattle.cause_laws.proofs.Lower.{Makes, ticks_of, finishes_of, serves, evicts}
 
 -- ---- moments, and the numbers of the identifiers that are given
@@ -123,7 +124,6 @@ walks = record {
   by_whether = k_where;
   join = k_then;
   calls = λ client event on. record { of = λ r p h acts d. calls_at client event on (seat_at client h) r p h acts d };
-  passed = λ m x. k_numbered turn_at_end (λ p h. Passed m x.0 x.1.0 x.1.1) (λ p h. tt);
   puts = λ peer m. k_looks (λ p h. offer_to peer h.bridge) (PutsInLaneBy peer m) (k_puts_by peer m);
   names = λ c q f. record { of = λ x p h acts d. names_by c q f d.0 x p h acts d.1 d.2 };
 }
@@ -155,6 +155,7 @@ makes = record {
   subscribe = λ entry. k_numbered (λ p h. number_at_end p.id h) (λ p h. Store (Made (subscribe_of p.id entry h.store))) (λ p h. tt);
   remove = removes;
   end = λ client. k_then (ending.RemovesOwn client) (λ _. Acting (λ p h. Session (Over client))) (removes_own client) (λ _. k_acting (λ p h. Session (Over client)) (λ p h. tt));
+  copied = λ m. k_looks (λ p h. h.at) (passing.CopiesAt m) (copies_at Bounds walks m (λ x. k_numbered turn_at_end (λ p h. Passed m x.0 x.1.0 x.1.1) (λ p h. tt)));
 }
 
 moment_by : (at : ℕ) (b : Bool) (acts : List Act) → not (nat_lt at (2 ^ 62)) ≡ b → cond b ((◌≡◌ {A = Option (Unit {0})} (Some tt) None) × (acts ≡ [])) ((◌≡◌ {A = Option (Unit {0})} (Some tt) (Some tt)) × (acts ≡ MomentTaken at ∷ [])) → AreBelow acts

@@ -8,3 +8,4 @@ pub mod Overs
 pub mod EndLaws
 pub mod Evicting
 pub mod Having
+pub mod Expiring

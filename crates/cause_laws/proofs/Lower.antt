@@ -26,14 +26,15 @@ use Rattle.node_clients.specs.Serving as serving
 use Rattle.node_clients.specs.Subscribing as subscribing
 use Rattle.node_clients.specs.Unsubscribing as unsubscribing
 use Rattle.broker_node.specs.Turns as turns
-use Rattle.cause_laws.proofs.Walk.{Walks, copies_at, drops, closes_after, acknowledges, unacknowledges}
+use Rattle.cause_laws.proofs.Walk.{Walks, drops, closes_after, acknowledges, unacknowledges}
 
--- what holds of one operation, and of a session's end
+-- what holds of one operation, of a session's end, and of the copies of a message
 pub record Makes (K : (A : Type 0) → (Option A → Doing) → Type 0) : Type 0 where
   pub put : (content : Content) → K (Unit {0}) (MakesPut content)
   pub subscribe : (entry : Entry) → K (Unit {0}) (MakesSubscribe entry)
   pub remove : (client : List ℕ) (to : Option (List ℕ)) → K Bool (Removes client to)
   pub end : (client : List ℕ) → K (Unit {0}) (ending.EndsSession client)
+  pub copied : (m : Message) → K (Unit {0}) (Looks (λ p h. h.at) (passing.CopiesAt m))
 
 module _ (K : (A : Type 0) → (Option A → Doing) → Type 0) (w : Walks K) (makes : Makes K) where
   abbrev Does : (Option (Unit {0}) → Doing) → Type 0
@@ -48,7 +49,7 @@ module _ (K : (A : Type 0) → (Option A → Doing) → Type 0) (w : Walks K) (m
   retains m = w.by_test m.retain (MakesPut (content_given m)) (Returns tt) (makes.put (content_given m)) (w.returns tt)
 
   passes : (m : Message) → Does (passing.Passes m)
-  passes m = w.join (passing.Retains m) (λ _. Looks (λ p h. h.at) (passing.CopiesAt m)) (retains m) (λ _. w.looks (λ p h. h.at) (passing.CopiesAt m) (copies_at K w m))
+  passes m = w.join (passing.Retains m) (λ _. Looks (λ p h. h.at) (passing.CopiesAt m)) (retains m) (λ _. makes.copied m)
 
   passes_will : (m : Message) → Does (passing.PassesWill m)
   passes_will m =

@@ -26,13 +26,14 @@ use Rattle.node_work.proofs.Working.{runs_join}
 use Rattle.node_clients.specs.Connecting as connecting
 use Rattle.node_clients.specs.Ending as ending
 use Rattle.node_clients.specs.Naming.{IsNextNumber, automatic}
+use Rattle.node_clients.specs.Passing as passing
 use Rattle.node_clients.proofs.Determined.{runs_determined}
 use Rattle.broker_node.specs.declared.event.Event.{Event as NodeEvent}
 use Rattle.broker_node.specs.Turns as turns
 use Rattle.passing_laws.proofs.Keeping.{none_some, calling_by}
 use Rattle.passing_laws.proofs.Passing.{numbered}
 use Rattle.passing_laws.proofs.Splits.{head_is, tail_is, none_there, alone_is, splits, runs_split}
-use Rattle.cause_laws.proofs.Walk.{IsSimple, simple, Walks, decides}
+use Rattle.cause_laws.proofs.Walk.{IsSimple, simple, Walks, copies_at, decides}
 use Rattle.cause_laws.proofs.Lower.{Makes, ticks_of, finishes_of, serves, evicts}
 
 -- the last act is its Remove, by what the node held before that
@@ -153,7 +154,6 @@ walks = record {
   by_whether = k_where;
   join = k_then;
   calls = k_calls;
-  passed = λ m x. k_numbered turn_at_end (λ p h. Passed m x.0 x.1.0 x.1.1) (λ p h client e. cc e);
   puts = λ peer m. k_looks (λ p h. offer_to peer h.bridge) (PutsInLaneBy peer m) (k_puts_by peer m);
   names = λ c q f. k_finds IsNextNumber (connecting.NamesBy c q) (k_names_by c q f);
 }
@@ -221,6 +221,7 @@ makes = record {
   subscribe = λ entry. k_numbered (λ p h. number_at_end p.id h) (λ p h. Store (Made (subscribe_of p.id entry h.store))) (λ p h client e. cc e);
   remove = removes;
   end = ends_session;
+  copied = λ m. k_looks (λ p h. h.at) (passing.CopiesAt m) (copies_at Keeps walks m (λ x. k_numbered turn_at_end (λ p h. Passed m x.0 x.1.0 x.1.1) (λ p h client e. cc e)));
 }
 
 -- in every step

@@ -77,15 +77,17 @@ IsSimple (Store a) = IsSimpleStore a
 IsSimple (Session a) = IsSimpleSession a
 IsSimple a = Unit {0}
 
--- one that neither takes a moment nor gives a client its identifier
+-- one that neither takes a moment, nor gives a client its identifier, nor passes a message on
 abbrev pub IsUnnumbered : Act → Type 0
 IsUnnumbered (MomentTaken at) = ⊥
 IsUnnumbered (Named number) = ⊥
+IsUnnumbered (Passed m copies lost routes) = ⊥
 IsUnnumbered a = IsSimple a
 
 pub simple : (a : Act) → IsUnnumbered a → IsSimple a
 simple (MomentTaken at) u = tt
 simple (Named number) u = tt
+simple (Passed m copies lost routes) u = tt
 simple a u = u
 
 -- what holds of the parts, and of what is put together of them
@@ -98,7 +100,6 @@ pub record Walks (K : (A : Type 0) → (Option A → Doing) → Type 0) : Type 1
   pub by_whether : {A : Type 0} (X : Type 0) (P Q : Option A → Doing) → K A P → K A Q → K A (Where X P Q)
   pub join : {A B : Type 0} (P : Option A → Doing) (Q : A → Option B → Doing) → K A P → ((y : A) → K B (Q y)) → K B (Then P Q)
   pub calls : (client : List ℕ) (event : ℕ → Event) (on : Option ℕ → Option ℕ) → K Reaction (Calls client event on)
-  pub passed : (m : Message) (x : passing.Made) → K (Unit {0}) (Numbered turn_at_end (λ p h. Passed m x.0 x.1.0 x.1.1))
   pub puts : (peer : ℕ) (m : Forward) → K (Unit {0}) (PutsInLane peer m)
   pub names : (c : ℕ) (p : Connect) → ((client : List ℕ) → K (Unit {0}) (connecting.Accepts c p client)) → K (Unit {0}) (FindsWhere IsNextNumber (connecting.NamesBy c p))
 
@@ -134,16 +135,22 @@ module _ (K : (A : Type 0) → (Option A → Doing) → Type 0) (w : Walks K) wh
   routes peer (Lane m) = w.puts peer m
   routes peer TooLarge = misses LaneFull
 
-  makes_copies : (m : Message) (x : passing.Made) → Does (passing.MakesCopies m x)
-  makes_copies m x =
-      w.join (Numbered turn_at_end (λ p h. Passed m x.0 x.1.0 x.1.1)) (λ _. Then (Queues x.0) (λ _. Each Routes x.1.1)) (w.passed m x) (λ _.
-      w.join (Queues x.0) (λ _. Each Routes x.1.1) (queues_all x.0) (λ _. each Routes x.1.1 (λ y. routes y.0 y.1)))
+  -- a message that is passed on, by the act that stands before its copies
+  module _ (m : Message) (passed : (x : passing.Made) → Does (Numbered turn_at_end (λ p h. Passed m x.0 x.1.0 x.1.1))) where
+    makes_copies : (x : passing.Made) → Does (passing.MakesCopies m x)
+    makes_copies x =
+        w.join (Numbered turn_at_end (λ p h. Passed m x.0 x.1.0 x.1.1)) (λ _. Then (Queues x.0) (λ _. Each Routes x.1.1)) (passed x) (λ _.
+        w.join (Queues x.0) (λ _. Each Routes x.1.1) (queues_all x.0) (λ _. each Routes x.1.1 (λ y. routes y.0 y.1)))
 
-  copies : (m : Message) → Does (passing.Copies m)
-  copies m = w.finds (passing.AreMade m) (passing.MakesCopies m) (makes_copies m)
+    pub copies : Does (passing.Copies m)
+    copies = w.finds (passing.AreMade m) (passing.MakesCopies m) makes_copies
 
-  pub copies_at : (m : Message) (at : ℕ) → Does (passing.CopiesAt m at)
-  copies_at m at = w.by_whether (IsBefore at m.deadline) (passing.Copies m) (Returns tt) (copies m) (w.returns tt)
+    pub copies_at : (at : ℕ) → Does (passing.CopiesAt m at)
+    copies_at at = w.by_whether (IsBefore at m.deadline) (passing.Copies m) (Returns tt) copies (w.returns tt)
+
+  -- and the copies and the lanes after it
+  pub copies_after : (x : passing.Made) → Does (Then (Queues x.0) (λ _. Each Routes x.1.1))
+  copies_after x = w.join (Queues x.0) (λ _. Each Routes x.1.1) (queues_all x.0) (λ _. each Routes x.1.1 (λ y. routes y.0 y.1))
 
   pub drops : Does passing.Drops
   drops = w.acting (λ p h. Dropped) (λ p h. tt)

@@ -10,7 +10,7 @@ use Rattle.mqtt_packets.specs.declared.packet.Packet.TheVariants as packets
 use Rattle.mqtt_packets.specs.declared.subscribe.Subscribe.{Subscribe}
 use Rattle.mqtt_packets.specs.declared.subscribe.SubscribeFilter.{SubscribeFilter}
 use Rattle.mqtt_packets.specs.declared.unsubscribe.Unsubscribe.{Unsubscribe}
-use Rattle.mqtt_sessions.specs.declared.reaction.Ask.TheVariants.{Pass}
+use Rattle.mqtt_sessions.specs.declared.reaction.Ask.TheVariants as asks
 use Rattle.replica_store.specs.declared.operation.Operation.{Operation}
 use Rattle.replica_store.specs.declared.operation.Operation.TheVariants as operations
 use Rattle.replica_store.specs.Stamps.{Stamp}
@@ -53,14 +53,15 @@ pub record DirectlyAfter (before : List Act) : Type 0 where
 
 -- ---- five causes
 
--- the last call takes a SUBSCRIBE, and the operation subscribes its client to one of the filters, with its options and the packet's
--- identifier
+-- the last call takes a SUBSCRIBE and asks the node for it, as none does that is answered with 0x91 or ends its connection; the operation
+-- subscribes its client to one of the filters, with its options and the packet's identifier
 pub record IsOfSubscribe (before : List Act) (o : Operation) : Type 0 where
   pub after : AfterCall before
   pub subscribe : Subscribe
   pub now : ℕ
   pub room : Bool
   pub event : after.call.event ≡ takes (packets.Subscribe subscribe) now room
+  pub asked : after.call.reaction.ask ≡ Some asks.Subscribe
   pub filter : SubscribeFilter
   pub among : IsIn filter subscribe.filters
   pub dot : Dot
@@ -68,13 +69,14 @@ pub record IsOfSubscribe (before : List Act) (o : Operation) : Type 0 where
   pub version : ℕ
   pub is : o ≡ operations.Subscribe dot (subscription_entry after.call.client filter (identifier_of subscribe) version) cover
 
--- the last call takes an UNSUBSCRIBE, and the operation removes what stands of its client to one of the filters
+-- the last call takes an UNSUBSCRIBE and asks the node for it, and the operation removes what stands of its client to one of the filters
 pub record IsOfUnsubscribe (O : List Operation) (before : List Act) (o : Operation) : Type 0 where
   pub after : AfterCall before
   pub unsubscribe : Unsubscribe
   pub now : ℕ
   pub room : Bool
   pub event : after.call.event ≡ takes (packets.Unsubscribe unsubscribe) now room
+  pub asked : after.call.reaction.ask ≡ Some asks.Unsubscribe
   pub text : List ℕ
   pub among : IsIn text unsubscribe.filters
   pub dot : Dot
@@ -87,7 +89,7 @@ pub record IsOfUnsubscribe (O : List Operation) (before : List Act) (o : Operati
 pub record IsOfMessage (before : List Act) (o : Operation) : Type 0 where
   pub after : DirectlyAfter before
   pub message : Message
-  pub asks : after.call.reaction.ask ≡ Some (Pass message)
+  pub asks : after.call.reaction.ask ≡ Some (asks.Pass message)
   pub retain : message.retain ≡ true
   pub dot : Dot
   pub stamp : Stamp

@@ -1,5 +1,5 @@
 -- Where a node stops since it can't have a number: each is below 2^62.
-use Rattle.std.specs.Prelude.{◌≡◌, ◌⊎◌, ℕ, ◌<◌, ◌≤◌, ◌^◌, true, List, ◌∷◌, ◌++◌, Some}
+use Rattle.std.specs.Prelude.{◌≡◌, ◌⊎◌, ℕ, ◌<◌, ◌≤◌, ◌^◌, true, List, ◌∷◌, ◌++◌, Some, None}
 use Rattle.std.specs.FinMap as map
 use Rattle.replica_store.specs.declared.operation.Operation.{Operation}
 use Rattle.replica_store.specs.declared.operation.Operation.TheVariants.{Subscribe, Remove, Put}
@@ -14,7 +14,6 @@ use Rattle.node_work.specs.Held.Sessions.{SessionStep, Called, has_session}
 use Rattle.node_work.specs.View.{Place, HeldView}
 use Rattle.node_clients.specs.Naming.{automatic}
 use Rattle.broker_node.specs.declared.event.Event.{Event}
-use Rattle.broker_node.specs.Step.{StopsAtEnd}
 use Rattle.broker_node.specs.Turns.{Decides}
 
 -- a session's next place in its queue, or its next order of release, is 2^62
@@ -35,16 +34,16 @@ HasNumberAtEnd p h =
     ⊎ ((peer : ℕ) × (2 ^ 62 ≤ next_number (lane_to h.bridge peer)))
     ⊎ SessionIsAtEnd h
 
--- after these acts of the event one of them is
-pub record ComesToAnEnd (p : Place) (h : HeldView) : Type 0 where
-  pub acts : List Act
+-- what the node holds after these acts has one of them, and they lead to something
+pub record ComeToAnEnd (p : Place) (h : HeldView) (acts : List Act) : Type 0 where
   pub held : HeldView
   pub runs : Runs p h acts held
-  pub end : HasNumberAtEnd p held
+  pub end : (left : HeldView) → Runs p h acts left → HasNumberAtEnd p left
 
--- a node that stops at a number was handed a moment of 2^62 or later, or comes to an end of one of its own
+-- a node that stops at a number, after whatever acts of the event, was handed a moment of 2^62 or later, or one of its own numbers is at its
+-- end by what it holds after just these acts
 abbrev pub StopsHaveNumbers : Type 0
-StopsHaveNumbers = (p : Place) (h : HeldView) (e : Event) → StopsAtEnd p h e → (2 ^ 62 ≤ e.at) ⊎ ComesToAnEnd p h
+StopsHaveNumbers = (p : Place) (h : HeldView) (e : Event) (acts : List Act) → Decides e None p h acts → (2 ^ 62 ≤ e.at) ⊎ ComeToAnEnd p h acts
 
 -- ---- what is done has its numbers
 

@@ -1,6 +1,7 @@
-//! The causes of operations.
+//! The causes of operations, and of what is passed on.
 ghost use Rattle.cause_laws.specs.Causes.{OperationsHaveCauses};
 ghost use Rattle.cause_laws.specs.Ends.{EndsHaveRemoves, EvictionsHaveRemoves};
+ghost use Rattle.cause_laws.specs.Expiring.{ExpiredGoNoFurther};
 
 /// Each operation that a step makes has one of five causes, and the content that this gives it: a filter of a SUBSCRIBE or of an
 /// UNSUBSCRIBE that a call took, a message with RETAIN that a call asks to pass on, a will or not, a session that is over directly after
@@ -15,4 +16,10 @@ pub fn operations_have_causes()
 pub fn ends_have_removes()
     ensures over { EndsHaveRemoves }
     ensures eviction { EvictionsHaveRemoves }
+{}
+
+/// In each step of a node, whatever it holds: a message is passed on only before its deadline, if it has one, at the node's moment. So once that
+/// has come no copy of it is made here, and nothing of it goes to other nodes.
+pub fn expired_go_no_further()
+    ensures { ExpiredGoNoFurther }
 {}

@@ -10,7 +10,8 @@ use Rattle.std.specs.Prelude.{codes, if◌then◌else◌, nat_lt}
 use Rattle.hex.specs.Hex.{hex_digit_value, upper_digits}
 use Rattle.hex.proofs.HexLemmas.{IsDigits-upper_digits}
 use Rattle.log_lines.specs.Escaping.{digits_of, escaped, is_plain, reason_text}
-use Rattle.log_lines.specs.Lines.{departure_text, entry_text, line_text, log_text, loss_text}
+use Rattle.log_lines.specs.Lines.{departure_text, entry_text, line_text, log_text, loss_text, told_text}
+use Rattle.log_lines.specs.Reasons.{reasons, words_in, words_of}
 use Rattle.log_lines.specs.declared.line.Departure.{Departure}
 use Rattle.log_lines.specs.declared.line.Departure.TheVariants.{Closed, Lost, KeepAlive, TakenOver, Fault}
 use Rattle.log_lines.specs.declared.line.LogEntry.{LogEntry}
@@ -100,6 +101,21 @@ digits_one b =
 reason_one : (code : ℕ) → IsOne (reason_text code)
 reason_one code = joined (codes "0x") (digits_of code) refl (digits_one code)
 
+rows_one : (rows : List (ℕ × List ℕ)) (code : ℕ) → list_all (λ (row : ℕ × List ℕ). list_all is_inside row.1) rows ≡ true → IsOne (words_in rows code)
+rows_one [] code p = refl
+rows_one (row ∷ more) code p =
+    let here = left (list_all is_inside row.1) (list_all (λ (r : ℕ × List ℕ). list_all is_inside r.1) more) p in
+    let rest = right (list_all is_inside row.1) (list_all (λ (r : ℕ × List ℕ). list_all is_inside r.1) more) p in
+    onto_by (code == row.0) row.1 (words_in more code) here (rows_one more code rest)
+
+words_one : (code : ℕ) → IsOne (words_of code)
+words_one code = rows_one reasons code refl
+
+told_one : (code : ℕ) → IsOne (told_text code)
+told_one code =
+    joined (reason_text code) (codes " (" ++ words_of code ++ codes ")") (reason_one code)
+    (joined (codes " (") (words_of code ++ codes ")") refl (joined (words_of code) (codes ")") (words_one code) refl))
+
 -- ---- identifiers
 
 byte_one : (b : ℕ) (c : Bool) → is_plain b ≡ c → IsOne (if c then b ∷ [] else codes "\\x" ++ digits_of b)
@@ -117,7 +133,7 @@ departure_one Closed = refl
 departure_one Lost = refl
 departure_one KeepAlive = refl
 departure_one TakenOver = refl
-departure_one (Fault code) = joined (codes "fault ") (reason_text code) refl (reason_one code)
+departure_one (Fault code) = joined (codes "fault ") (told_text code) refl (told_one code)
 
 loss_one : (loss : Loss) → IsOne (loss_text loss)
 loss_one QueueFull = refl
@@ -134,8 +150,8 @@ named front name p = joined (front ++ codes ": ") (escaped name) (joined front (
 line_one : (line : LogLine) → IsOne (line_text line)
 line_one (ClientAccepted name) = joined (codes "client accepted: ") (escaped name) refl (escaped_one name)
 line_one (ClientRefused code (Some name)) =
-    named (codes "client refused " ++ reason_text code) name (joined (codes "client refused ") (reason_text code) refl (reason_one code))
-line_one (ClientRefused code None) = joined (codes "client refused ") (reason_text code) refl (reason_one code)
+    named (codes "client refused " ++ told_text code) name (joined (codes "client refused ") (told_text code) refl (told_one code))
+line_one (ClientRefused code None) = joined (codes "client refused ") (told_text code) refl (told_one code)
 line_one ClientUnanswered = refl
 line_one (ClientGone departure name) =
     named (codes "client gone, " ++ departure_text departure) name (joined (codes "client gone, ") (departure_text departure) refl (departure_one departure))

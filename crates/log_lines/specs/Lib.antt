@@ -1,3 +1,4 @@
 pub mod Escaping
 pub mod Laws
 pub mod Lines
+pub mod Reasons

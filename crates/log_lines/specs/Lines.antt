@@ -2,6 +2,7 @@
 use Rattle.std.specs.Prelude.{ℕ, List, [], ◌∷◌, ◌++◌, Option, Some, None, codes}
 use Rattle.std.specs.Fmt.{decimal}
 use Rattle.log_lines.specs.Escaping.{escaped, reason_text}
+use Rattle.log_lines.specs.Reasons.{words_of}
 use Rattle.log_lines.specs.declared.line.Departure.{Departure}
 use Rattle.log_lines.specs.declared.line.Departure.TheVariants.{Closed, Lost, KeepAlive, TakenOver, Fault}
 use Rattle.log_lines.specs.declared.line.LogEntry.{LogEntry}
@@ -10,12 +11,16 @@ use Rattle.log_lines.specs.declared.line.LogLine.TheVariants.{ClientAccepted, Cl
 use Rattle.log_lines.specs.declared.line.Loss.{Loss}
 use Rattle.log_lines.specs.declared.line.Loss.TheVariants.{QueueFull, RetainedFull, PicksLost, LaneFull, BadFrames, FramesTooLarge}
 
+-- a Reason Code, and what it stands for
+abbrev pub told_text : ℕ → List ℕ
+told_text code = reason_text code ++ codes " (" ++ words_of code ++ codes ")"
+
 abbrev pub departure_text : Departure → List ℕ
 departure_text Closed = codes "closed"
 departure_text Lost = codes "lost"
 departure_text KeepAlive = codes "keep alive"
 departure_text TakenOver = codes "taken over"
-departure_text (Fault code) = codes "fault " ++ reason_text code
+departure_text (Fault code) = codes "fault " ++ told_text code
 
 abbrev pub loss_text : Loss → List ℕ
 loss_text QueueFull = codes "queue_full"
@@ -27,8 +32,8 @@ loss_text FramesTooLarge = codes "frames_too_large"
 
 abbrev pub line_text : LogLine → List ℕ
 line_text (ClientAccepted name) = codes "client accepted: " ++ escaped name
-line_text (ClientRefused code (Some name)) = codes "client refused " ++ reason_text code ++ codes ": " ++ escaped name
-line_text (ClientRefused code None) = codes "client refused " ++ reason_text code
+line_text (ClientRefused code (Some name)) = codes "client refused " ++ told_text code ++ codes ": " ++ escaped name
+line_text (ClientRefused code None) = codes "client refused " ++ told_text code
 line_text ClientUnanswered = codes "client closed unanswered"
 line_text (ClientGone departure name) = codes "client gone, " ++ departure_text departure ++ codes ": " ++ escaped name
 line_text (LinkUp peer) = codes "link " ++ decimal peer ++ codes " up"

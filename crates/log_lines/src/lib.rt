@@ -4,7 +4,9 @@
 mod escaped;
 mod laws;
 mod line;
+mod reason;
 
 pub use escaped::{Escaped, ReasonText};
 pub use laws::{identifiers_read_back, lines_stay_apart};
 pub use line::{Departure, LogEntry, LogLine, Loss};
+pub use reason::words_of;

@@ -4,6 +4,7 @@ ghost use Rattle.std.specs.Prelude.{Some};
 ghost use Rattle.log_lines.specs.Lines.{departure_text, entry_text, line_text, loss_text};
 
 use crate::escaped::{Escaped, ReasonText};
+use crate::reason::words_of;
 use mqtt_fields::Text;
 use std::fmt;
 
@@ -75,8 +76,9 @@ impl fmt::Display for Departure {
             Departure::KeepAlive => write!(f, "keep alive"),
             Departure::TakenOver => write!(f, "taken over"),
             Departure::Fault(code) => {
+                let words = words_of(*code);
                 let code = ReasonText(*code);
-                write!(f, "fault {code}")
+                write!(f, "fault {code} ({words})")
             }
         }
     }
@@ -107,13 +109,15 @@ impl fmt::Display for LogLine {
                 write!(f, "client accepted: {name}")
             }
             LogLine::ClientRefused(code, Some(name)) => {
+                let words = words_of(*code);
                 let code = ReasonText(*code);
                 let name = Escaped(name.as_str().as_bytes());
-                write!(f, "client refused {code}: {name}")
+                write!(f, "client refused {code} ({words}): {name}")
             }
             LogLine::ClientRefused(code, None) => {
+                let words = words_of(*code);
                 let code = ReasonText(*code);
-                write!(f, "client refused {code}")
+                write!(f, "client refused {code} ({words})")
             }
             LogLine::ClientUnanswered => write!(f, "client closed unanswered"),
             LogLine::ClientGone(departure, name) => {

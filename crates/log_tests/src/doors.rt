@@ -65,7 +65,7 @@ fn clients_come_and_go(rt: HostRuntime) {
     let expected: &str = "0 client accepted: a\n0 client gone, closed: a\n\
         1 client accepted: a\n1 client gone, keep alive: a\n\
         2 client accepted: a\n2 client gone, taken over: a\n\
-        3 client accepted: a\n3 client gone, fault 0x82: a\n";
+        3 client accepted: a\n3 client gone, fault 0x82 (Protocol Error): a\n";
     settle(&rt, &mut door);
     drop(door);
     assert!(rt; paper.text.as_slice() == expected.as_bytes());
@@ -85,7 +85,7 @@ fn clients_are_refused_named_and_lost(rt: HostRuntime) {
     come(&rt, alloc, &mut door, (10, 4), &PLAIN);
     tell(&rt, &mut door, 11, EventKind::Closed { connection: 5 });
     tell(&rt, &mut door, 12, EventKind::Closed { connection: 3 });
-    let expected: &str = "8 client refused 0x87: \\x20\\x0A\\x5C\\xC3\\xA9~\n\
+    let expected: &str = "8 client refused 0x87 (Not authorized): \\x20\\x0A\\x5C\\xC3\\xA9~\n\
         9 client accepted: auto-0-1\n\
         10 client closed unanswered\n\
         12 client gone, lost: auto-0-1\n";

@@ -28,10 +28,11 @@ pub use sqlite::Wary;
 use sqlite::{Alter, Connection, FileFrom, FileStore, Start};
 use sqlite_disk::Disk;
 
-/// How many rows, and how many bytes of changes, the journal has before it is folded.
+/// How many rows the journal has, how many bytes are in them, and how many their changes take in memory before it is folded.
 pub(crate) const BOUNDS: Bounds = Bounds {
     rows: 256,
     bytes: 1_048_576,
+    held: 16_777_216,
 };
 
 /// Rows in the files of a database.

@@ -1,7 +1,7 @@
--- Entries agree exactly where they may be those of a session.
-use Rattle.std.proofs.Common.{◌≡◌, ◌≢◌, ℕ, ◌+◌, ◌<◌, ◌≤◌, ◌^◌, ◌⊎◌, true, false, not, [], ◌∷◌, Option, Some, None, refl, sym, ◌∙◌, arith, inl, inr}
+-- Entries are kept exactly where they may be those of a session.
+use Rattle.std.proofs.Common.{◌≡◌, ◌≢◌, ℕ, suc, ◌+◌, ◌<◌, ◌≤◌, ◌^◌, ◌⊎◌, true, false, not, List, [], ◌∷◌, length, Option, Some, None, refl, sym, ◌∙◌, arith, inl, inr}
 use Rattle.std.specs.Prelude.{◌&&◌, ◌==◌, nat_le, nat_lt, is_some, IsSomeAnd}
-use Rattle.std.specs.List.{AllByRecursion}
+use Rattle.std.specs.List.{AllByRecursion, list_all}
 use Rattle.std.specs.List.Sorted.{IsStrictlySortedBy}
 use Rattle.std.specs.Map.{keys_of}
 use Rattle.std.specs.Ordering.{nat_cmp}
@@ -17,10 +17,13 @@ use Rattle.qos_handshakes.specs.declared.copies.Entry.{Entry}
 use Rattle.qos_handshakes.specs.declared.copies.Stage.{Stage}
 use Rattle.qos_handshakes.specs.declared.copies.Stage.TheVariants.{Waiting, Published, Released}
 use Rattle.qos_handshakes.specs.Entries.{Entries, stage_has, has_id, find_id, at_place}
-use Rattle.qos_handshakes.specs.Outbox.{waits}
+use Rattle.qos_handshakes.specs.Incoming.{rise}
+use Rattle.qos_handshakes.specs.Outbox.{is_released, waiting, waits}
 use Rattle.qos_handshakes.specs.Restored.{agree, precedes, first_place, all_wait, was_released, has_order, is_free, is_asked, stage_fits}
 use Rattle.qos_handshakes.proofs.Indexed.{is_at-here, is_at-apart, at-head, at-tail}
-use Rattle.outbox_laws.specs.Kept.{IsExchange, IsReleasedAs, FitsAt, MakeASession, AgreeWhereTheyMakeASession}
+use Rattle.qos_handshakes.proofs.RiseLaws.{rise-parts, sorted-rise}
+use Rattle.session_rows.specs.Reachable.{IsReleasedAtTwo}
+use Rattle.outbox_laws.specs.Kept.{IsExchange, IsReleasedAs, FitsAt, MakeASession, AreReceiving, KeptWhereTheyMakeASession}
 
 -- ---- what holds at each place
 abbrev AllAt : (ℕ → Entry → Type 0) → Entries → Type 0
@@ -201,19 +204,29 @@ queue-of next place later Waiting f w = let p = and_parts (all_wait later) (plac
 queue-of next place later (Published id) f w = absurd (false≢true w)
 queue-of next place later (Released id order) f w = absurd (false≢true w)
 
-fits-at : (next place : ℕ) (x : Entry) (later : Entries) → first_place next later ≤ next → Head next place x later → FitsAt next place x
-fits-at next place x later most h = record {
+-- an order of release is that of one that is released
+is-released : (order : ℕ) (s : Stage) → IsReleasedAs order s → is_released s ≡ true
+is-released order Waiting h = absurd h
+is-released order (Published id) h = absurd h
+is-released order (Released id o) h = refl
+
+fits-at : (next place : ℕ) (x : Entry) (later : Entries) → first_place next later ≤ next → Head next place x later → IsReleasedAtTwo x → FitsAt next place x
+fits-at next place x later most h two = record {
   first = h.counted;
   last = let lt = h.before in omega (arith, lt, most);
   asked = asked-of x.delivery.qos h.asked;
   away = h.away;
   identifier = λ id is. (identifier-of next place later x.stage h.stage id is).0;
-  order = λ order is. (order-of next place later x.stage h.stage order is).0;
+  order = λ order is. let own = (order-of next place later x.stage h.stage order is).0 in (own.0, own.1, two (is-released order x.stage is));
 }
 
-all-fit : (next : ℕ) (es : Entries) → agree next es ≡ true → AllAt (FitsAt next) es
-all-fit next [] h = tt
-all-fit next (e ∷ es) h = let r = rest next e es h in (fits-at next e.0 e.1 es (first-most next es r) (head next e es h), all-fit next es r)
+-- what is released was sent at QoS 2
+abbrev AreReleasedAtTwo : Entries → Type 0
+AreReleasedAtTwo es = AllByRecursion (λ e. IsReleasedAtTwo e.1) es
+
+all-fit : (next : ℕ) (es : Entries) → agree next es ≡ true → AreReleasedAtTwo es → AllAt (FitsAt next) es
+all-fit next [] h two = tt
+all-fit next (e ∷ es) h two = let r = rest next e es h in (fits-at next e.0 e.1 es (first-most next es r) (head next e es h) two.0, all-fit next es r two.1)
 
 -- where all wait, one stands at each place up to the next
 abbrev WaitsAt : ℕ → Entries → Type 0
@@ -257,18 +270,25 @@ once R next none (e ∷ es) h p q x y at at' is is' = elim (at-step p x e es at)
   ]
 ]
 
-makes : (next : ℕ) (es : Entries) → agree next es ≡ true → MakeASession next es
-makes next es h = record {
+makes : (next : ℕ) (es : Entries) → agree next es ≡ true → AreReleasedAtTwo es → length (waiting es) ≤ 65536 → MakeASession next es
+makes next es h two few = record {
   least = (next-fits next es h).0;
   most = (next-fits next es h).1;
   rise = are-sorted next es h;
-  each = λ place x at. of-all (FitsAt next) place x es (all-fit next es h) at;
+  each = λ place x at. of-all (FitsAt next) place x es (all-fit next es h two) at;
   queue = queue-stands next es h;
+  few = few;
   identifiers = λ p q id x y at at' is is'. once (IsExchange id) next (λ place later s f i. (identifier-of next place later s f id i).1) es h p q x y at at' is is';
   orders = λ p q order x y at at' is is'. once (IsReleasedAs order) next (λ place later s f i. (order-of next place later s f order i).1) es h p q x y at at' is is';
 }
 
 -- ---- of entries that make a session
+fewer-waiting : (k : ℕ) (e : ℕ × Entry) (es : Entries) → length (waiting (e ∷ es)) ≤ k → length (waiting es) ≤ k
+fewer-waiting k e es le = elim (cases_Bool (waits e.1.stage)) [
+  | inl t ↦ let more : suc (length (waiting es)) ≤ k = rw t at le in omega (arith, more)
+  | inr f ↦ rw f at le
+]
+
 later-ones : (next : ℕ) (e : ℕ × Entry) (es : Entries) → MakeASession next (e ∷ es) → MakeASession next es
 later-ones next e es m = record {
   least = m.least;
@@ -279,6 +299,7 @@ later-ones next e es m = record {
       let past : e.0 < place = past-head place x e es m.rise at in
       let apart : e.0 ≢ later = omega (arith, past, le) in
       rw (is_at-apart later e.0 apart) at (m.queue place x (at-more place x e es m.rise at) is later le lt);
+  few = fewer-waiting 65536 e es m.few;
   identifiers = λ p q id x y at at' is is'. m.identifiers p q id x y (at-more p x e es m.rise at) (at-more q y e es m.rise at') is is';
   orders = λ p q order x y at at' is is'. m.orders p q order x y (at-more p x e es m.rise at) (at-more q y e es m.rise at') is is';
 }
@@ -365,5 +386,48 @@ agrees : (next : ℕ) (es : Entries) → MakeASession next es → agree next es 
 agrees next [] m = both_true (le-leb 1 next m.least) (le-leb next (2 ^ 62) m.most)
 agrees next (e ∷ es) m = both_true (precedes-all next e es m) (agrees next es (later-ones next e es m))
 
-pub agree-where : AgreeWhereTheyMakeASession
-agree-where = λ next es. (makes next es, agrees next es)
+-- each that is released has an order
+released-order : (s : Stage) → is_released s ≡ true → (order : ℕ) × IsReleasedAs order s
+released-order Waiting r = absurd (false≢true r)
+released-order (Published id) r = absurd (false≢true r)
+released-order (Released id order) r = (order, refl)
+
+released-two : (next : ℕ) (es : Entries) → MakeASession next es → AreReleasedAtTwo es
+released-two next es m = all-of (λ p x. IsReleasedAtTwo x) es m.rise (λ p x at r. let o = released-order x.stage r in ((m.each p x at).order o.0 o.1).2)
+
+-- ---- identifiers that rise
+identifiers-above : (i : ℕ) (ids : List ℕ) → list_all (nat_lt i) ids ≡ true → AllByRecursion (λ q. nat_cmp i q ≡ Less) ids
+identifiers-above i [] h = tt
+identifiers-above i (k ∷ ids) h = let p = and_parts (nat_lt i k) (list_all (nat_lt i) ids) h in (less i k (ltb-true i k p.0), identifiers-above i ids p.1)
+
+rise-sorted : (ids : List ℕ) → rise ids ≡ true → IsStrictlySortedBy nat_cmp ids
+unfolding IsStrictlySortedBy
+rise-sorted [] r = tt
+rise-sorted (i ∷ ids) r = let p = rise-parts i ids r in (identifiers-above i ids p.1, rise-sorted ids p.2)
+
+both-bounds : (ids : List ℕ) → rise ids ≡ true → AllByRecursion (λ id. 1 ≤ id) ids → AllByRecursion (λ id. (1 ≤ id) × (id < 65536)) ids
+both-bounds [] r least = tt
+both-bounds (i ∷ ids) r least = let p = rise-parts i ids r in ((least.0, p.0), both-bounds ids p.2 least.1)
+
+below-all : (ids : List ℕ) → AllByRecursion (λ id. (1 ≤ id) × (id < 65536)) ids → AllByRecursion (λ id. id < 65536) ids
+below-all [] a = tt
+below-all (i ∷ ids) a = (a.0.1, below-all ids a.1)
+
+least-all : (ids : List ℕ) → AllByRecursion (λ id. (1 ≤ id) × (id < 65536)) ids → AllByRecursion (λ id. 1 ≤ id) ids
+least-all [] a = tt
+least-all (i ∷ ids) a = (a.0.0, least-all ids a.1)
+
+receiving : (ids : List ℕ) → rise ids ≡ true → AllByRecursion (λ id. 1 ≤ id) ids → AreReceiving ids
+receiving ids r least = record { rise = rise-sorted ids r; each = both-bounds ids r least }
+
+pub kept-where : KeptWhereTheyMakeASession
+kept-where = λ d form sound. (
+  (λ is. (receiving d.main.incoming is.rise is.reachable.identifiers, makes d.main.next_place d.copies is.agree is.reachable.released is.reachable.waiting)),
+  (λ are. record {
+    form = form;
+    sound = sound;
+    rise = sorted-rise d.main.incoming are.0.rise (below-all d.main.incoming are.0.each);
+    agree = agrees d.main.next_place d.copies are.1;
+    reachable = record { identifiers = least-all d.main.incoming are.0.each; released = released-two d.main.next_place d.copies are.1; waiting = are.1.few };
+  }),
+)

@@ -18,29 +18,28 @@ use Rattle.node_work.specs.Held.Sessions.{SessionStep, Called, seat_at}
 use Rattle.node_work.specs.View.{Place, HeldView, ConnectionView}
 use Rattle.node_clients.specs.Ending as ending
 use Rattle.node_clients.proofs.Determined.{runs_determined}
-use Rattle.broker_node.specs.declared.event.EventKind.{EventKind}
 use Rattle.passing_laws.proofs.Keeping.{calling_by, none_some}
 use Rattle.passing_laws.proofs.Splits.{left_by, runs_split}
-use Rattle.output_laws.specs.Outputs.{SessionsAreOnTheirs, GoesRight, WhyClosed}
+use Rattle.output_laws.specs.Outputs.{Occasion, SessionsAreOnTheirs, GoesRight, WhyClosed}
 use Rattle.output_laws.proofs.Alone.{K, low, ticks_of}
 use Rattle.output_laws.proofs.Below.{due_of}
-use Rattle.output_laws.proofs.On.{Right, right_none, right_one, right_both, right_again, IsCalm, calm_kind, Calmly, calmly, gone_apart}
+use Rattle.output_laws.proofs.On.{Right, right_none, right_one, right_before, right_after, right_both, right_again, IsCalm, calm_kind, Calmly, calmly, gone_apart}
 
 -- what is left where one connection may have been closed
 pub record Ends (c : ℕ) (h h' : HeldView) : Type 0 where
   pub on : SessionsAreOnTheirs h'
   pub others : (q : ℕ) → q ≢ c → map.get h'.connections q ≡ map.get h.connections q
 
-pub record Ending (kind : EventKind) (pre : List Act) (p : Place) (c : ℕ) (h h' : HeldView) (acts : List Act) : Type 0 where
-  pub right : Right kind pre p h acts
+pub record Ending (occasion : Occasion) (pre : List Act) (p : Place) (c : ℕ) (h h' : HeldView) (acts : List Act) : Type 0 where
+  pub right : Right occasion pre p h acts
   pub ends : Ends c h h'
 
-pub calm_ends : (kind : EventKind) (pre : List Act) (p : Place) (c : ℕ) (h h' : HeldView) (acts : List Act) → Calmly kind pre p h h' acts → Ending kind pre p c h h' acts
-calm_ends kind pre p c h h' acts d = record { right = d.right; ends = record { on = d.kept.on; others = λ q ne. ap (λ (m : ConnectionTable). map.get m q) d.kept.connections } }
+pub calm_ends : (occasion : Occasion) (pre : List Act) (p : Place) (c : ℕ) (h h' : HeldView) (acts : List Act) → Calmly occasion pre p h h' acts → Ending occasion pre p c h h' acts
+calm_ends occasion pre p c h h' acts d = record { right = d.right; ends = record { on = d.kept.on; others = λ q ne. ap (λ (m : ConnectionTable). map.get m q) d.kept.connections } }
 
-pub ending_then : (kind : EventKind) (pre : List Act) (p : Place) (c : ℕ) (h mid h' : HeldView) (xs ys acts : List Act) → acts ≡ xs ++ ys → Runs p h xs mid → Ending kind pre p c h mid xs → Ending kind (pre ++ xs) p c mid h' ys → Ending kind pre p c h h' acts
-ending_then kind pre p c h mid h' xs ys acts is runs a b = record {
-  right = right_again kind pre p h (xs ++ ys) acts is (right_both kind pre p h mid xs ys runs a.right b.right);
+pub ending_then : (occasion : Occasion) (pre : List Act) (p : Place) (c : ℕ) (h mid h' : HeldView) (xs ys acts : List Act) → acts ≡ xs ++ ys → Runs p h xs mid → Ending occasion pre p c h mid xs → Ending occasion (pre ++ xs) p c mid h' ys → Ending occasion pre p c h h' acts
+ending_then occasion pre p c h mid h' xs ys acts is runs a b = record {
+  right = right_again occasion pre p h (xs ++ ys) acts is (right_both occasion pre p h mid xs ys runs a.right b.right);
   ends = record { on = b.ends.on; others = λ q ne. b.ends.others q ne ∙ a.ends.others q ne };
 }
 
@@ -62,16 +61,18 @@ open_with h c client there = by (map.get h.connections c) refl there
 abbrev pub closed_view : HeldView → ℕ → HeldView
 closed_view h c = next h (Connection (Closed c))
 
-pub closes_right : (kind : EventKind) (pre : List Act) (c : ℕ) (x : Unit {0}) (p : Place) (h h' : HeldView) (acts : List Act) → is_open c h ≡ true → WhyClosed kind p pre h c → ending.ClosesConnection c (Some x) p h acts → Runs p h acts h'
-    → Right kind pre p h acts × (h' ≡ closed_view h c)
-closes_right kind pre c x p h h' acts open_there why (inl d) runs = none_some (sym d.0)
-closes_right kind pre c x p h h' acts open_there why (inr (y, own, mid, rest, one, ran, more, is)) runs =
+pub closes_right : (occasion : Occasion) (pre : List Act) (c : ℕ) (x : Unit {0}) (p : Place) (h h' : HeldView) (acts : List Act) → is_open c h ≡ true → WhyClosed occasion p pre h c → ending.ClosesConnection c (Some x) p h acts → Runs p h acts h'
+    → Right occasion pre p h acts × (h' ≡ closed_view h c)
+closes_right occasion pre c x p h h' acts open_there why (inl d) runs = none_some (sym d.0)
+closes_right occasion pre c x p h h' acts open_there why (inr (y, own, mid, rest, one, ran, more, is)) runs =
     let first : mid ≡ closed_view h c = left_by p h mid (Connection (Closed c)) own one.1 ran in
     let second : h' ≡ mid = left_by p mid h' (Out (Close c)) rest more.1 (second_runs p h mid h' own rest acts is ran runs) in
-    let out : GoesRight kind p (pre ++ own) mid (Out (Close c)) = (pre, ap (λ xs. pre ++ xs) one.1) in (
-      right_again kind pre p h (own ++ rest) acts is (right_both kind pre p h mid own rest ran
-          (right_again kind pre p h (Connection (Closed c) ∷ []) own one.1 (right_one kind pre p h (Connection (Closed c)) (open_there, why)))
-          (right_again kind (pre ++ own) p mid (Out (Close c) ∷ []) rest more.1 (right_one kind (pre ++ own) p mid (Out (Close c)) out))),
+    let a = Connection (Closed c) in
+    let out : GoesRight occasion p (pre ++ own) [] mid (Out (Close c)) = (pre, ap (λ xs. pre ++ xs) one.1) in
+    let closed : GoesRight occasion p pre rest h a = (open_there, why, inr ([], more.1)) in (
+      right_again occasion pre p h (own ++ rest) acts is (right_after occasion pre p h mid own rest ran
+          (λ before after b held at run. right_before occasion pre p h a rest closed before after b held (sym one.1 ∙ at) run)
+          (right_again occasion (pre ++ own) p mid (Out (Close c) ∷ []) rest more.1 (right_one occasion (pre ++ own) p mid (Out (Close c)) out))),
       second ∙ first,
     )
 
@@ -98,18 +99,18 @@ closed_but h c client on has q seat n ne found at =
     other_client h c n q (λ e. ne (let z : Some q ≡ Some client = sym there ∙ ap (λ k. client_at k h) e ∙ has in cc)) there
 
 -- ---- and its client's session, which is on none from then on
-pub leaves_right : (kind : EventKind) (pre : List Act) (client : List ℕ) (found : Option Seat) (r : Reaction) (p : Place) (h h' : HeldView) (acts : List Act) → seat_at client h ≡ found → AreOnBut client h → CallsAt client closes leaves found (Some r) p h acts → Runs p h acts h'
-    → Calmly kind pre p h h' acts
-leaves_right kind pre client None r p h h' acts is on d runs =
+pub leaves_right : (occasion : Occasion) (pre : List Act) (client : List ℕ) (found : Option Seat) (r : Reaction) (p : Place) (h h' : HeldView) (acts : List Act) → seat_at client h ≡ found → AreOnBut client h → CallsAt client closes leaves found (Some r) p h acts → Runs p h acts h'
+    → Calmly occasion pre p h h' acts
+leaves_right occasion pre client None r p h h' acts is on d runs =
     let same : h' ≡ h = subst (λ xs. Runs p h xs h') d.1 runs in
     let theirs : SessionsAreOnTheirs h = λ q seat c found at. on q seat c (λ e. none_some (sym is ∙ ap (map.get h.sessions) (sym e) ∙ found)) found at in
-    record { right = right_again kind pre p h [] acts d.1 (right_none kind pre p h); kept = record { connections = ap (λ (v : HeldView). v.connections) same; on = subst SessionsAreOnTheirs (sym same) theirs } }
-leaves_right kind pre client (Some seat) r p h h' acts is on (inl d) runs = none_some (sym d.0)
-leaves_right kind pre client (Some seat) r p h h' acts is on (inr (q, after, answer, reacts, acts_are)) runs =
+    record { right = right_again occasion pre p h [] acts d.1 (right_none occasion pre p h); kept = record { connections = ap (λ (v : HeldView). v.connections) same; on = subst SessionsAreOnTheirs (sym same) theirs } }
+leaves_right occasion pre client (Some seat) r p h h' acts is on (inl d) runs = none_some (sym d.0)
+leaves_right occasion pre client (Some seat) r p h h' acts is on (inr (q, after, answer, reacts, acts_are)) runs =
     let s : SessionStep = record { client = client; on = None; at = h.at; event = closes h.at; reaction = q; after = after } in
     let left : h' ≡ next h (Session (Called s)) = left_by p h h' (Session (Called s)) acts acts_are runs in
     record {
-      right = right_again kind pre p h (Session (Called s) ∷ []) acts acts_are (right_one kind pre p h (Session (Called s)) (λ c at. none_some at));
+      right = right_again occasion pre p h (Session (Called s) ∷ []) acts acts_are (right_one occasion pre p h (Session (Called s)) (λ c at. none_some at));
       kept = record { connections = ap (λ (v : HeldView). v.connections) left; on = subst SessionsAreOnTheirs (sym left) (theirs s refl refl) };
     }
   where
@@ -125,33 +126,33 @@ leaves_right kind pre client (Some seat) r p h h' acts is on (inr (q, after, ans
             none_some (sym none ∙ ap (λ (v : Seat). v.connection) one ∙ at)
         by false e = on q other c (λ t. (let z : true ≡ false = sym (itself s.client) ∙ ap (λ k. eq_by_cmp text_cmp k s.client) (sym (t ∙ sym same)) ∙ e in cc)) (sym (get_apart h.sessions s.client own q e) ∙ found) at
 
-parts_right : (kind : EventKind) (pre : List Act) (client : List ℕ) (x : Unit {0}) (p : Place) (h h' : HeldView) (acts : List Act) → AreOnBut client h → ending.Parts client (Some x) p h acts → Runs p h acts h' → Calmly kind pre p h h' acts
-parts_right kind pre client x p h h' acts on (inl d) runs = none_some (sym d.0)
-parts_right kind pre client x p h h' acts on (inr (r, own, mid, rest, one, ran, more, is)) runs =
-    let first = leaves_right kind pre client (seat_at client h) r p h mid own refl on one ran in
+parts_right : (occasion : Occasion) (pre : List Act) (client : List ℕ) (x : Unit {0}) (p : Place) (h h' : HeldView) (acts : List Act) → AreOnBut client h → ending.Parts client (Some x) p h acts → Runs p h acts h' → Calmly occasion pre p h h' acts
+parts_right occasion pre client x p h h' acts on (inl d) runs = none_some (sym d.0)
+parts_right occasion pre client x p h h' acts on (inr (r, own, mid, rest, one, ran, more, is)) runs =
+    let first = leaves_right occasion pre client (seat_at client h) r p h mid own refl on one ran in
     let calm : AllByRecursion IsCalm rest = (due_of (K IsCalm calm_kind) (low IsCalm calm_kind) (ticks_of IsCalm calm_kind) client).of x p mid rest more in
-    let second = calmly kind (pre ++ own) p rest mid h' calm first.kept.on (second_runs p h mid h' own rest acts is ran runs) in
+    let second = calmly occasion (pre ++ own) p rest mid h' calm first.kept.on (second_runs p h mid h' own rest acts is ran runs) in
     record {
-      right = right_again kind pre p h (own ++ rest) acts is (right_both kind pre p h mid own rest ran first.right second.right);
+      right = right_again occasion pre p h (own ++ rest) acts is (right_both occasion pre p h mid own rest ran first.right second.right);
       kept = record { connections = second.kept.connections ∙ first.kept.connections; on = second.kept.on };
     }
 
 -- ---- closes by whether there is a client
-pub closes_bare : (kind : EventKind) (pre : List Act) (c : ℕ) (x : Unit {0}) (p : Place) (h h' : HeldView) (acts : List Act) → SessionsAreOnTheirs h → is_open c h ≡ true → client_at c h ≡ None → WhyClosed kind p pre h c
-    → ending.ClosesConnection c (Some x) p h acts → Runs p h acts h' → Ending kind pre p c h h' acts
-closes_bare kind pre c x p h h' acts on open_there bare why d runs =
-    let one = closes_right kind pre c x p h h' acts open_there why d runs in
+pub closes_bare : (occasion : Occasion) (pre : List Act) (c : ℕ) (x : Unit {0}) (p : Place) (h h' : HeldView) (acts : List Act) → SessionsAreOnTheirs h → is_open c h ≡ true → client_at c h ≡ None → WhyClosed occasion p pre h c
+    → ending.ClosesConnection c (Some x) p h acts → Runs p h acts h' → Ending occasion pre p c h h' acts
+closes_bare occasion pre c x p h h' acts on open_there bare why d runs =
+    let one = closes_right occasion pre c x p h h' acts open_there why d runs in
     record { right = one.0; ends = record { on = subst SessionsAreOnTheirs (sym one.1) (closed_bare h c on bare); others = λ q ne. ap (λ (v : HeldView). map.get v.connections q) one.1 ∙ closed_others h c q ne } }
 
-pub closes_for : (kind : EventKind) (pre : List Act) (c : ℕ) (client : List ℕ) (x : Unit {0}) (p : Place) (h h' : HeldView) (acts : List Act) → SessionsAreOnTheirs h → client_at c h ≡ Some client → WhyClosed kind p pre h c
-    → ending.ClosesFor c client (Some x) p h acts → Runs p h acts h' → Ending kind pre p c h h' acts
-closes_for kind pre c client x p h h' acts on has why (inl d) runs = none_some (sym d.0)
-closes_for kind pre c client x p h h' acts on has why (inr (y, own, mid, rest, one, ran, more, is)) runs =
-    let first = closes_right kind pre c y p h mid own (open_with h c client has) why one ran in
+pub closes_for : (occasion : Occasion) (pre : List Act) (c : ℕ) (client : List ℕ) (x : Unit {0}) (p : Place) (h h' : HeldView) (acts : List Act) → SessionsAreOnTheirs h → client_at c h ≡ Some client → WhyClosed occasion p pre h c
+    → ending.ClosesFor c client (Some x) p h acts → Runs p h acts h' → Ending occasion pre p c h h' acts
+closes_for occasion pre c client x p h h' acts on has why (inl d) runs = none_some (sym d.0)
+closes_for occasion pre c client x p h h' acts on has why (inr (y, own, mid, rest, one, ran, more, is)) runs =
+    let first = closes_right occasion pre c y p h mid own (open_with h c client has) why one ran in
     let but : AreOnBut client mid = subst (AreOnBut client) (sym first.1) (closed_but h c client on has) in
-    let second = parts_right kind (pre ++ own) client x p mid h' rest but more (second_runs p h mid h' own rest acts is ran runs) in
+    let second = parts_right occasion (pre ++ own) client x p mid h' rest but more (second_runs p h mid h' own rest acts is ran runs) in
     record {
-      right = right_again kind pre p h (own ++ rest) acts is (right_both kind pre p h mid own rest ran first.0 second.right);
+      right = right_again occasion pre p h (own ++ rest) acts is (right_both occasion pre p h mid own rest ran first.0 second.right);
       ends = record {
         on = second.kept.on;
         others = λ q ne. ap (λ (m : ConnectionTable). map.get m q) second.kept.connections ∙ ap (λ (v : HeldView). map.get v.connections q) first.1 ∙ closed_others h c q ne;
@@ -159,17 +160,17 @@ closes_for kind pre c client x p h h' acts on has why (inr (y, own, mid, rest, o
     }
 
 -- one that is closed already is left by its client's session
-pub leaves_for : (kind : EventKind) (pre : List Act) (c : ℕ) (client : List ℕ) (x : Unit {0}) (p : Place) (h mid h' : HeldView) (rest : List Act) → SessionsAreOnTheirs h → client_at c h ≡ Some client → mid ≡ next h (Connection (Closed c))
-    → ending.Parts client (Some x) p mid rest → Runs p mid rest h' → Calmly kind pre p mid h' rest
-leaves_for kind pre c client x p h mid h' rest on has left d runs = parts_right kind pre client x p mid h' rest (subst (AreOnBut client) (sym left) (closed_but h c client on has)) d runs
+pub leaves_for : (occasion : Occasion) (pre : List Act) (c : ℕ) (client : List ℕ) (x : Unit {0}) (p : Place) (h mid h' : HeldView) (rest : List Act) → SessionsAreOnTheirs h → client_at c h ≡ Some client → mid ≡ next h (Connection (Closed c))
+    → ending.Parts client (Some x) p mid rest → Runs p mid rest h' → Calmly occasion pre p mid h' rest
+leaves_for occasion pre c client x p h mid h' rest on has left d runs = parts_right occasion pre client x p mid h' rest (subst (AreOnBut client) (sym left) (closed_but h c client on has)) d runs
 
 pub leaves_bare : (h : HeldView) (c : ℕ) → SessionsAreOnTheirs h → client_at c h ≡ None → SessionsAreOnTheirs (next h (Connection (Closed c)))
 leaves_bare h c on bare = closed_bare h c on bare
 
-pub closes_after : (kind : EventKind) (pre : List Act) (end : Option ℕ) (c : ℕ) (client : List ℕ) (x : Unit {0}) (p : Place) (h h' : HeldView) (acts : List Act) → SessionsAreOnTheirs h → client_at c h ≡ Some client
-    → ((code : ℕ) → end ≡ Some code → WhyClosed kind p pre h c) → ending.ClosesAfter end c client (Some x) p h acts → Runs p h acts h' → Ending kind pre p c h h' acts
-closes_after kind pre None c client x p h h' acts on has why d runs = calm_ends kind pre p c h h' acts (calmly kind pre p acts h h' (subst (AllByRecursion IsCalm) (sym d.1) tt) on runs)
-closes_after kind pre (Some code) c client x p h h' acts on has why d runs = closes_for kind pre c client x p h h' acts on has (why code refl) d runs
+pub closes_after : (occasion : Occasion) (pre : List Act) (end : Option ℕ) (c : ℕ) (client : List ℕ) (x : Unit {0}) (p : Place) (h h' : HeldView) (acts : List Act) → SessionsAreOnTheirs h → client_at c h ≡ Some client
+    → ((code : ℕ) → end ≡ Some code → WhyClosed occasion p pre h c) → ending.ClosesAfter end c client (Some x) p h acts → Runs p h acts h' → Ending occasion pre p c h h' acts
+closes_after occasion pre None c client x p h h' acts on has why d runs = calm_ends occasion pre p c h h' acts (calmly occasion pre p acts h h' (subst (AllByRecursion IsCalm) (sym d.1) tt) on runs)
+closes_after occasion pre (Some code) c client x p h h' acts on has why d runs = closes_for occasion pre c client x p h h' acts on has (why code refl) d runs
 
 -- ---- a call, and its end
 -- acts of a call of a client's session, with its reaction, if it has one
@@ -180,9 +181,9 @@ pub reacted : (client : List ℕ) (event : ℕ → Event) (on : Option ℕ → O
 reacted client event on None r p h own d = inl (let z = d.0 in cc)
 reacted client event on (Some seat) r p h own d = let k = calling_by client event on seat r p h own d in inr (k.step, k.acts_are, k.client_is, k.reaction_is)
 
-pub ended_by : (kind : EventKind) (p : Place) (pre own later : List Act) (h : HeldView) (c : ℕ) (client : List ℕ) (r : Reaction) (code : ℕ) → client_at c h ≡ Some client → Reacted own client r → r.end ≡ Some code → WhyClosed kind p ((pre ++ own) ++ later) h c
-ended_by kind p pre own later h c client r code has (inl none) ends = none_some (ap (λ (x : Reaction). x.end) (sym none) ∙ ends)
-ended_by kind p pre own later h c client r code has (inr (s, is, same, reaction)) ends = inr (inl (record {
+pub ended_by : (occasion : Occasion) (p : Place) (pre own later : List Act) (h : HeldView) (c : ℕ) (client : List ℕ) (r : Reaction) (code : ℕ) → client_at c h ≡ Some client → Reacted own client r → r.end ≡ Some code → WhyClosed occasion p ((pre ++ own) ++ later) h c
+ended_by occasion p pre own later h c client r code has (inl none) ends = none_some (ap (λ (x : Reaction). x.end) (sym none) ∙ ends)
+ended_by occasion p pre own later h c client r code has (inr (s, is, same, reaction)) ends = inr (inl (record {
   client = client;
   there = has;
   call = s;
@@ -195,14 +196,14 @@ ended_by kind p pre own later h c client r code has (inr (s, is, same, reaction)
 }))
 
 -- ---- work that is right, and leaves sessions on their own connections
-abbrev pub Done : EventKind → List Act → Place → HeldView → HeldView → List Act → Type 0
-Done kind pre p h h' acts = Right kind pre p h acts × SessionsAreOnTheirs h'
+abbrev pub Done : Occasion → List Act → Place → HeldView → HeldView → List Act → Type 0
+Done occasion pre p h h' acts = Right occasion pre p h acts × SessionsAreOnTheirs h'
 
-pub done_then : (kind : EventKind) (pre : List Act) (p : Place) (h mid h' : HeldView) (xs ys acts : List Act) → acts ≡ xs ++ ys → Runs p h xs mid → Right kind pre p h xs → Done kind (pre ++ xs) p mid h' ys → Done kind pre p h h' acts
-done_then kind pre p h mid h' xs ys acts is runs a b = (right_again kind pre p h (xs ++ ys) acts is (right_both kind pre p h mid xs ys runs a b.0), b.1)
+pub done_then : (occasion : Occasion) (pre : List Act) (p : Place) (h mid h' : HeldView) (xs ys acts : List Act) → acts ≡ xs ++ ys → Runs p h xs mid → Right occasion pre p h xs → Done occasion (pre ++ xs) p mid h' ys → Done occasion pre p h h' acts
+done_then occasion pre p h mid h' xs ys acts is runs a b = (right_again occasion pre p h (xs ++ ys) acts is (right_both occasion pre p h mid xs ys runs a b.0), b.1)
 
-pub calm_done : (kind : EventKind) (pre : List Act) (p : Place) (h h' : HeldView) (acts : List Act) → AllByRecursion IsCalm acts → SessionsAreOnTheirs h → Runs p h acts h' → Done kind pre p h h' acts
-calm_done kind pre p h h' acts calm on runs = let d = calmly kind pre p acts h h' calm on runs in (d.right, d.kept.on)
+pub calm_done : (occasion : Occasion) (pre : List Act) (p : Place) (h h' : HeldView) (acts : List Act) → AllByRecursion IsCalm acts → SessionsAreOnTheirs h → Runs p h acts h' → Done occasion pre p h h' acts
+calm_done occasion pre p h h' acts calm on runs = let d = calmly occasion pre p acts h h' calm on runs in (d.right, d.kept.on)
 
-pub nothing_done : (kind : EventKind) (pre : List Act) (p : Place) (h h' : HeldView) (acts : List Act) → acts ≡ [] → SessionsAreOnTheirs h → Runs p h acts h' → Done kind pre p h h' acts
-nothing_done kind pre p h h' acts none on runs = calm_done kind pre p h h' acts (subst (AllByRecursion IsCalm) (sym none) tt) on runs
+pub nothing_done : (occasion : Occasion) (pre : List Act) (p : Place) (h h' : HeldView) (acts : List Act) → acts ≡ [] → SessionsAreOnTheirs h → Runs p h acts h' → Done occasion pre p h h' acts
+nothing_done occasion pre p h h' acts none on runs = calm_done occasion pre p h h' acts (subst (AllByRecursion IsCalm) (sym none) tt) on runs

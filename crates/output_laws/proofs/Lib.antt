@@ -16,6 +16,7 @@ pub mod Dues
 pub mod WillWork
 pub mod WillLaws
 pub mod On
+pub mod Fewer
 pub mod Closing
 pub mod Serving
 pub mod Accepting

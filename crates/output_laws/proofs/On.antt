@@ -11,41 +11,69 @@ use Rattle.finite_maps.proofs.Texts.{same_text, get_inserted, get_apart, get_rem
 use Rattle.session_laws.specs.Runs.{Event, connects, queues, rooms, takes, answers, closes, ticks, finishes, loses}
 use Rattle.session_table.specs.Listing.{text_cmp}
 use Rattle.session_table.specs.Seats.{Seat, begun}
+use Rattle.node_work.specs.declared.outcome.Output.TheVariants.{Send, Close}
 use Rattle.node_work.specs.Acts.{Act, Connection, Session, Bridge, Out, Allowed, Runs, next}
 use Rattle.node_work.specs.Held.Bridge.{BridgeAct, Put, Took, Got, Believed, Gave, Left_out, bridged}
-use Rattle.node_work.specs.Held.Connections.{ConnectionTable, client_at}
+use Rattle.node_work.specs.Held.Connections.{ConnectionTable, Closed, client_at}
 use Rattle.node_work.specs.Held.Sessions.{SessionStep, Begun, Called, Over, IsOn}
 use Rattle.node_work.specs.View.{Place, HeldView, ConnectionView}
 use Rattle.node_clients.proofs.Determined.{runs_determined}
-use Rattle.broker_node.specs.declared.event.EventKind.{EventKind}
 use Rattle.passing_laws.proofs.Splits.{head_is, tail_is, none_there, runs_split, splits}
-use Rattle.output_laws.specs.Outputs.{SessionsAreOnTheirs, GoesRight}
+use Rattle.output_laws.specs.Outputs.{Occasion, SessionsAreOnTheirs, IsToldTo, GoesRight}
 use Rattle.output_laws.proofs.Alone.{Kind, IsCalmCall}
 
 -- ---- the acts of a part of a step, after these that came before it in the step
-abbrev pub Right : EventKind → List Act → Place → HeldView → List Act → Type 0
-Right kind pre p h acts = (before after : List Act) (a : Act) (mid : HeldView) → acts ≡ before ++ a ∷ after → Runs p h before mid → GoesRight kind p (pre ++ before) mid a
+abbrev pub Right : Occasion → List Act → Place → HeldView → List Act → Type 0
+Right occasion pre p h acts = (before after : List Act) (a : Act) (mid : HeldView) → acts ≡ before ++ a ∷ after → Runs p h before mid → GoesRight occasion p (pre ++ before) after mid a
 
-pub right_none : (kind : EventKind) (pre : List Act) (p : Place) (h : HeldView) → Right kind pre p h []
-right_none kind pre p h before after a mid is ran = none_there before after a is
+pub right_none : (occasion : Occasion) (pre : List Act) (p : Place) (h : HeldView) → Right occasion pre p h []
+right_none occasion pre p h before after a mid is ran = none_there before after a is
 
-pub right_one : (kind : EventKind) (pre : List Act) (p : Place) (h : HeldView) (x : Act) → GoesRight kind p pre h x → Right kind pre p h (x ∷ [])
-right_one kind pre p h x right [] after a mid is ran =
-    subst (λ xs. GoesRight kind p xs mid a) (sym (append-nil pre)) (subst (λ v. GoesRight kind p pre v a) (sym ran) (subst (GoesRight kind p pre h) (head_is is) right))
-right_one kind pre p h x right (b ∷ before) after a mid is ran = none_there before after a (tail_is is)
+pub right_one : (occasion : Occasion) (pre : List Act) (p : Place) (h : HeldView) (x : Act) → GoesRight occasion p pre [] h x → Right occasion pre p h (x ∷ [])
+right_one occasion pre p h x right [] after a mid is ran =
+    subst (λ zs. GoesRight occasion p (pre ++ []) zs mid a) (tail_is is)
+    (subst (λ xs. GoesRight occasion p xs [] mid a) (sym (append-nil pre)) (subst (λ v. GoesRight occasion p pre [] v a) (sym ran) (subst (GoesRight occasion p pre [] h) (head_is is) right)))
+right_one occasion pre p h x right (b ∷ before) after a mid is ran = none_there before after a (tail_is is)
 
-pub right_both : (kind : EventKind) (pre : List Act) (p : Place) (h mid : HeldView) (xs ys : List Act) → Runs p h xs mid → Right kind pre p h xs → Right kind (pre ++ xs) p mid ys → Right kind pre p h (xs ++ ys)
-right_both kind pre p h mid xs ys runs f g before after a held is ran =
+-- one act, with these after it
+pub right_before : (occasion : Occasion) (pre : List Act) (p : Place) (h : HeldView) (x : Act) (ys : List Act) → GoesRight occasion p pre ys h x → (before after : List Act) (a : Act) (mid : HeldView) → x ∷ [] ≡ before ++ a ∷ after → Runs p h before mid
+    → GoesRight occasion p (pre ++ before) (after ++ ys) mid a
+right_before occasion pre p h x ys right [] after a mid is ran =
+    subst (λ zs. GoesRight occasion p (pre ++ []) (zs ++ ys) mid a) (tail_is is)
+    (subst (λ xs. GoesRight occasion p xs ys mid a) (sym (append-nil pre)) (subst (λ v. GoesRight occasion p pre ys v a) (sym ran) (subst (GoesRight occasion p pre ys h) (head_is is) right)))
+right_before occasion pre p h x ys right (b ∷ before) after a mid is ran = none_there before after a (tail_is is)
+
+-- a first part, of which each act goes right with the second part after it
+pub right_after : (occasion : Occasion) (pre : List Act) (p : Place) (h mid : HeldView) (xs ys : List Act) → Runs p h xs mid
+    → ((before after : List Act) (a : Act) (held : HeldView) → xs ≡ before ++ a ∷ after → Runs p h before held → GoesRight occasion p (pre ++ before) (after ++ ys) held a)
+    → Right occasion (pre ++ xs) p mid ys → Right occasion pre p h (xs ++ ys)
+right_after occasion pre p h mid xs ys runs f g before after a held is ran =
     elim (splits xs ys before after a is) [
-      | inl r ↦ f before r.0 a held r.1 ran
+      | inl r ↦ subst (λ zs. GoesRight occasion p (pre ++ before) zs held a) (sym r.2) (f before r.0 a held r.1 ran)
       | inr r ↦ (
           let parts = runs_split p xs r.0 h held (subst (λ zs. Runs p h zs held) r.1 ran) in
           let same : parts.0 ≡ mid = runs_determined p xs h parts.0 mid parts.1 runs in
-          subst (λ zs. GoesRight kind p zs held a) (append_assoc pre xs r.0 ∙ ap (λ zs. pre ++ zs) (sym r.1)) (g r.0 after a held r.2 (subst (λ v. Runs p v r.0 held) same parts.2)))
+          subst (λ zs. GoesRight occasion p zs after held a) (append_assoc pre xs r.0 ∙ ap (λ zs. pre ++ zs) (sym r.1)) (g r.0 after a held r.2 (subst (λ v. Runs p v r.0 held) same parts.2)))
     ]
 
-pub right_again : (kind : EventKind) (pre : List Act) (p : Place) (h : HeldView) (xs ys : List Act) → ys ≡ xs → Right kind pre p h xs → Right kind pre p h ys
-right_again kind pre p h xs ys is r = subst (Right kind pre p h) (sym is) r
+-- what follows an act may be more
+told_more : (occasion : Occasion) (c : ℕ) (after more : List Act) → IsToldTo occasion c after → IsToldTo occasion c (after ++ more)
+told_more occasion c after more (inl closed) = inl closed
+told_more occasion c after more (inr told) = inr (told.0 ++ more, ap (λ xs. xs ++ more) told.1)
+
+right_more : (occasion : Occasion) (p : Place) (before after more : List Act) (h : HeldView) (a : Act) → GoesRight occasion p before after h a → GoesRight occasion p before (after ++ more) h a
+right_more occasion p before after more h (Session (Called s)) right = right
+right_more occasion p before after more h (Out (Send c bytes)) right = right
+right_more occasion p before after more h (Out (Close c)) right = right
+right_more occasion p before after more h (Connection (Closed c)) right = (right.0, right.1, told_more occasion c after more right.2)
+right_more occasion p before after more h a right = tt
+
+pub right_both : (occasion : Occasion) (pre : List Act) (p : Place) (h mid : HeldView) (xs ys : List Act) → Runs p h xs mid → Right occasion pre p h xs → Right occasion (pre ++ xs) p mid ys → Right occasion pre p h (xs ++ ys)
+right_both occasion pre p h mid xs ys runs f g =
+    right_after occasion pre p h mid xs ys runs (λ before after a held is ran. right_more occasion p (pre ++ before) after ys held a (f before after a held is ran)) g
+
+pub right_again : (occasion : Occasion) (pre : List Act) (p : Place) (h : HeldView) (xs ys : List Act) → ys ≡ xs → Right occasion pre p h xs → Right occasion pre p h ys
+right_again occasion pre p h xs ys is r = subst (Right occasion pre p h) (sym is) r
 
 -- ---- keys
 pub same_number : (a b : ℕ) → eq_by_cmp nat_cmp a b ≡ true → a ≡ b
@@ -164,11 +192,11 @@ was_on loses before on c calm is at = absurd is
 call_right : (p : Place) (h : HeldView) (s : SessionStep) → SessionsAreOnTheirs h → IsCalmCall s.event → Allowed p h (Session (Called s)) → (c : ℕ) → s.on ≡ Some c → client_at c h ≡ Some s.client
 call_right p h s on calm allowed c at = on s.client allowed.seat c allowed.found (was_on s.event allowed.seat.connection s.on c calm allowed.on at)
 
-act_right : (kind : EventKind) (pre : List Act) (p : Place) (h : HeldView) (a : Act) → SessionsAreOnTheirs h → IsCalm a → Allowed p h a → GoesRight kind p pre h a
-act_right kind pre p h (Connection a) on calm allowed = absurd calm
-act_right kind pre p h (Out o) on calm allowed = absurd calm
-act_right kind pre p h (Session (Called s)) on calm allowed = call_right p h s on calm allowed
-act_right kind pre p h a on calm allowed = tt
+act_right : (occasion : Occasion) (pre : List Act) (p : Place) (h : HeldView) (a : Act) → SessionsAreOnTheirs h → IsCalm a → Allowed p h a → GoesRight occasion p pre [] h a
+act_right occasion pre p h (Connection a) on calm allowed = absurd calm
+act_right occasion pre p h (Out o) on calm allowed = absurd calm
+act_right occasion pre p h (Session (Called s)) on calm allowed = call_right p h s on calm allowed
+act_right occasion pre p h a on calm allowed = tt
 
 act_kept : (p : Place) (h : HeldView) (a : Act) → SessionsAreOnTheirs h → IsCalm a → Allowed p h a → Kept h (next h a)
 act_kept p h (Connection a) on calm allowed = absurd calm
@@ -180,16 +208,16 @@ act_kept p h (Bridge a) on calm allowed = bridge_kept h a on
 act_kept p h a on calm allowed = record { connections = refl; on = on }
 
 -- ---- of all of them
-pub record Calmly (kind : EventKind) (pre : List Act) (p : Place) (h h' : HeldView) (acts : List Act) : Type 0 where
-  pub right : Right kind pre p h acts
+pub record Calmly (occasion : Occasion) (pre : List Act) (p : Place) (h h' : HeldView) (acts : List Act) : Type 0 where
+  pub right : Right occasion pre p h acts
   pub kept : Kept h h'
 
-pub calmly : (kind : EventKind) (pre : List Act) (p : Place) (acts : List Act) (h h' : HeldView) → AllByRecursion IsCalm acts → SessionsAreOnTheirs h → Runs p h acts h' → Calmly kind pre p h h' acts
-calmly kind pre p [] h h' calm on r = record { right = right_none kind pre p h; kept = record { connections = ap (λ (v : HeldView). v.connections) r; on = subst SessionsAreOnTheirs (sym r) on } }
-calmly kind pre p (a ∷ acts) h h' calm on r =
+pub calmly : (occasion : Occasion) (pre : List Act) (p : Place) (acts : List Act) (h h' : HeldView) → AllByRecursion IsCalm acts → SessionsAreOnTheirs h → Runs p h acts h' → Calmly occasion pre p h h' acts
+calmly occasion pre p [] h h' calm on r = record { right = right_none occasion pre p h; kept = record { connections = ap (λ (v : HeldView). v.connections) r; on = subst SessionsAreOnTheirs (sym r) on } }
+calmly occasion pre p (a ∷ acts) h h' calm on r =
     let first : Kept h r.0 = subst (Kept h) (sym r.1.1) (act_kept p h a on calm.0 r.1.0) in
-    let rest = calmly kind (pre ++ a ∷ []) p acts r.0 h' calm.1 first.on r.2 in
+    let rest = calmly occasion (pre ++ a ∷ []) p acts r.0 h' calm.1 first.on r.2 in
     record {
-      right = right_both kind pre p h r.0 (a ∷ []) acts (r.0, r.1, refl) (right_one kind pre p h a (act_right kind pre p h a on calm.0 r.1.0)) rest.right;
+      right = right_both occasion pre p h r.0 (a ∷ []) acts (r.0, r.1, refl) (right_one occasion pre p h a (act_right occasion pre p h a on calm.0 r.1.0)) rest.right;
       kept = kept_then h r.0 h' first rest.kept;
     }

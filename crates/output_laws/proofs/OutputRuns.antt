@@ -89,7 +89,7 @@ pub sessions_stay_on : SessionsStayOnTheirs
 sessions_stay_on = λ run w r i h holds. all_on run w r i holds.site h holds.at holds.up
 
 -- ---- the acts of a step
-act_right : (run later : List Played) (m : Played) (w : World) → Reached (run ++ m ∷ later) w → (before after : List Act) (a : Act) → acts_of m.fate ≡ before ++ a ∷ after → ActGoesRight run m before a
+act_right : (run later : List Played) (m : Played) (w : World) → Reached (run ++ m ∷ later) w → (before after : List Act) (a : Act) → acts_of m.fate ≡ before ++ a ∷ after → ActGoesRight run m before after a
 act_right run later m w r before after a is =
     let i = site m.fate in
     let half = midway run (m ∷ later) w r in

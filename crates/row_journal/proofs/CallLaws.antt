@@ -15,7 +15,8 @@ use Rattle.row_store.specs.declared.row.Row.{Row}
 use Rattle.row_store.specs.Rows.{Content, after_all, entry_of}
 use Rattle.row_changes.specs.Noted.{Pair, pair_of}
 use Rattle.row_journal.specs.Calls.{Loads, Makes}
-use Rattle.row_journal.specs.Spelling.{change, turn}
+use Rattle.row_journal.specs.Spelling.{Tells, turn}
+use Rattle.row_journal.proofs.EndLaws.{items_fit, items_length}
 use Rattle.row_journal.specs.Journal.{after_pairs, names, others, shown, entry_key, removals, AreOthers, HasTurns, IsNoted, NamesWithin}
 use Rattle.row_journal.proofs.JournalLaws.{after_all_is, after_both, flat_more, length_more, others_insert, others_pairs, plain_leaves, turns_more}
 use Rattle.row_journal.proofs.NamedLaws.{hides, named_back, named_front, named_more, plain_named}
@@ -281,14 +282,14 @@ pub plainly_made : {R : Type 0} (g : Ghosts R) (mid : R) (noted changes : List C
 plainly_made g mid noted changes count zero_ plain kept clean up =
     (made_plainly (g.content mid) noted changes (subst (λ k. IsNoted (g.content mid) noted k) zero_ (kept clean up)) plain).1
 
-pub turn_fits : (changes : List Change) → length changes < 2 ^ 16 → AllByRecursion (λ c. change.Fits (pair_of c)) changes → turn.Fits (map pair_of changes)
-turn_fits changes few fit = (omega (arith, few, long changes), each changes fit)
+pub turn_fits : (changes : List Change) → length changes < 2 ^ 16 → AllByRecursion (λ c. Tells (pair_of c)) changes → turn.Fits (map pair_of changes)
+turn_fits changes few fit = (omega (arith, few, long changes, items_length [] (map pair_of changes)), items_fit [] (map pair_of changes) (each changes fit))
   where
     long : (xs : List Change) → length (map pair_of xs) ≡ length xs
     long [] = refl
     long (x ∷ xs) = ap suc (long xs)
 
-    each : (xs : List Change) → AllByRecursion (λ c. change.Fits (pair_of c)) xs → AllByRecursion change.Fits (map pair_of xs)
+    each : (xs : List Change) → AllByRecursion (λ c. Tells (pair_of c)) xs → AllByRecursion Tells (map pair_of xs)
     each [] all = tt
     each (x ∷ xs) all = (all.0, each xs all.1)
 

@@ -1,5 +1,6 @@
 pub mod NumbersLaws
 pub mod SpellingLaws
+pub mod EndLaws
 pub mod TurnLaws
 pub mod Numbers
 pub mod JournalLaws

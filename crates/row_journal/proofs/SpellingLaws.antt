@@ -1,23 +1,25 @@
 -- What is read is spelled so, and what is spelled so is read again, for the ways to spell a value of this crate.
-use Rattle.std.proofs.Common.{◌≡◌, ℕ, zero, suc, ◌<◌, ◌^◌, Bool, true, false, List, [], ◌∷◌, ◌++◌, length, Option, Some, None, Ok, refl, sym, ap, subst, ◌∙◌, append_assoc, arith}
+use Rattle.std.proofs.Common.{◌≡◌, ℕ, zero, suc, ◌<◌, ◌^◌, List, [], ◌∷◌, ◌++◌, length, Option, Some, None, Ok, refl, sym, ap, subst, ◌∙◌, append_assoc, arith}
 use Rattle.std.specs.Prelude.{flat_map}
-use Rattle.std.specs.Int.{w8, w16}
+use Rattle.std.specs.Int.{w8, w16, w32}
 use Rattle.std.specs.List.{AllByRecursion}
 use Rattle.mqtt_fields.specs.Reading.{◌>>=◌}
 use Rattle.mqtt_fields.specs.Field.{Field, IsBytes, IsField}
-use Rattle.mqtt_fields.specs.Numbers.{number}
-use Rattle.mqtt_fields.proofs.Laws.{IsBytes-after, bind_ok, ok_is}
-use Rattle.mqtt_fields.proofs.NumberLaws.{number_is, wide8, wide16}
-use Rattle.row_journal.specs.Fields.{coded_at, coded, bit_of, bit_at, flag, optional_at, optional, values_at, listed}
+use Rattle.mqtt_fields.specs.Numbers.{number, long}
+use Rattle.mqtt_fields.proofs.Laws.{IsBytes-after, after_is, bind_ok, ok_is}
+use Rattle.mqtt_fields.proofs.NumberLaws.{long_is, number_is, wide8, wide16, wide32}
+use Rattle.row_journal.specs.Fields.{or_malformed, coded, values_at, listed}
+use Rattle.row_journal.specs.Spelling.{Value, ending, value, value_at}
+use Rattle.row_journal.specs.Spelling.Value.{Removed, Whole, Ended}
 
-coded_ok : {B : Type 0} (o : Option B) (rest : List ℕ) (x : B × List ℕ) → coded_at o rest ≡ Ok x → (o ≡ Some x.0) × (rest ≡ x.1)
+coded_ok : {B : Type 0} (o : Option B) (rest : List ℕ) (x : B × List ℕ) → (or_malformed o >>= λ b. Ok (b, rest)) ≡ Ok x → (o ≡ Some x.0) × (rest ≡ x.1)
 coded_ok None rest x e = absurd cc
 coded_ok (Some b) rest x e = (cc, cc)
 
 pub coded_is : {A B : Type 0} (to : A → Option B) (from : B → A) (f : Field A) → ((a : A) (b : B) → to a ≡ Some b → from b ≡ a) → ((b : B) → to (from b) ≡ Some b) → IsField f → IsField (coded to from f)
 coded_is {A} {B} to from f back forth F = record {
   takes = λ bs x bytes e.
-      let a = bind_ok (f.at bs) (λ a. coded_at (to a.0) a.1) x e in
+      let a = bind_ok (f.at bs) (λ a. or_malformed (to a.0) >>= λ b. Ok (b, a.1)) x e in
       let s = F.takes bs a.0 bytes a.1 in
       let made = coded_ok (to a.0.0) a.0.1 x a.2 in
       let With : A → Type 0 = λ y. (bs ≡ f.bytes y ++ a.0.1) × f.Fits y in
@@ -26,48 +28,49 @@ coded_is {A} {B} to from f back forth F = record {
   again = λ b rest fits. rw (F.again (from b) rest fits, forth b) refl;
 }
 
-bit_back : (n : ℕ) (b : Bool) → bit_at n ≡ Some b → bit_of b ≡ n
-bit_back zero true e = absurd cc
-bit_back zero false e = refl
-bit_back (suc zero) true e = refl
-bit_back (suc zero) false e = absurd cc
-bit_back (suc (suc n)) b e = absurd cc
+byte_is : IsField (number w8)
+byte_is = number_is w8 wide8
 
-bit_forth : (b : Bool) → bit_at (bit_of b) ≡ Some b
-bit_forth true = refl
-bit_forth false = refl
+ending_is : IsField ending
+ending_is = after_is long (λ _. number w32) long_is (λ _. number_is w32 wide32)
 
-pub flag_is : IsField flag
-flag_is = coded_is bit_at bit_of (number w8) bit_back bit_forth (number_is w8 wide8)
+record IsSpelledValue (bs : List ℕ) (x : Value × List ℕ) : Type 0 where
+  spelled : bs ≡ value.bytes x.0 ++ x.1
+  fits : value.Fits x.0
 
-record IsOptional {A : Type 0} (f : Field A) (bs : List ℕ) (x : Option A × List ℕ) : Type 0 where
-  spelled : bs ≡ (optional f).bytes x.0 ++ x.1
-  fits : (optional f).Fits x.0
+value_takes : (bs : List ℕ) (n : ℕ) (rest : List ℕ) (x : Value × List ℕ) → bs ≡ (number w8).bytes n ++ rest → IsBytes rest → value_at n rest ≡ Ok x → IsSpelledValue bs x
+value_takes bs zero rest x front bytes e =
+    let made : Value × List ℕ = (Removed, rest) in
+    subst (λ (y : Value × List ℕ). IsSpelledValue bs y) (ok_is made x e) (record { spelled = front; fits = tt })
+value_takes bs (suc zero) rest x front bytes e =
+    let a = bind_ok (long.at rest) (λ v. Ok (Whole v.0, v.1)) x e in
+    let s = long_is.takes rest a.0 bytes a.1 in
+    let made : Value × List ℕ = (Whole a.0.0, a.0.1) in
+    let whole : bs ≡ ((number w8).bytes 1 ++ long.bytes a.0.0) ++ a.0.1 = front ∙ ap (λ (r : List ℕ). (number w8).bytes 1 ++ r) s.0 ∙ sym (append_assoc ((number w8).bytes 1) (long.bytes a.0.0) a.0.1) in
+    subst (λ (y : Value × List ℕ). IsSpelledValue bs y) (ok_is made x a.2) (record { spelled = whole; fits = s.1 })
+value_takes bs (suc (suc zero)) rest x front bytes e =
+    let a = bind_ok (ending.at rest) (λ v. Ok (Ended v.0.0 v.0.1, v.1)) x e in
+    let s = ending_is.takes rest a.0 bytes a.1 in
+    let made : Value × List ℕ = (Ended a.0.0.0 a.0.0.1, a.0.1) in
+    let whole : bs ≡ ((number w8).bytes 2 ++ ending.bytes a.0.0) ++ a.0.1 = front ∙ ap (λ (r : List ℕ). (number w8).bytes 2 ++ r) s.0 ∙ sym (append_assoc ((number w8).bytes 2) (ending.bytes a.0.0) a.0.1) in
+    subst (λ (y : Value × List ℕ). IsSpelledValue bs y) (ok_is made x a.2) (record { spelled = whole; fits = s.1 })
+value_takes bs (suc (suc (suc n))) rest x front bytes e = absurd cc
 
-optional_takes : {A : Type 0} (f : Field A) → IsField f → (bs : List ℕ) (b : Bool) (rest : List ℕ) (x : Option A × List ℕ) → bs ≡ flag.bytes b ++ rest → IsBytes rest → optional_at f (b, rest) ≡ Ok x → IsOptional f bs x
-optional_takes {A} f F bs false rest x front bytes e =
-    let made : Option A × List ℕ = (None, rest) in
-    subst (λ (y : Option A × List ℕ). IsOptional f bs y) (ok_is made x e) (record { spelled = front; fits = tt })
-optional_takes {A} f F bs true rest x front bytes e =
-    let a = bind_ok (f.at rest) (λ a. Ok (Some a.0, a.1)) x e in
-    let s = F.takes rest a.0 bytes a.1 in
-    let made : Option A × List ℕ = (Some a.0.0, a.0.1) in
-    let whole : bs ≡ (flag.bytes true ++ f.bytes a.0.0) ++ a.0.1 = front ∙ ap (λ (r : List ℕ). flag.bytes true ++ r) s.0 ∙ sym (append_assoc (flag.bytes true) (f.bytes a.0.0) a.0.1) in
-    subst (λ (y : Option A × List ℕ). IsOptional f bs y) (ok_is made x a.2) (record { spelled = whole; fits = s.1 })
+value_again : (v : Value) (rest : List ℕ) → value.Fits v → value.at (value.bytes v ++ rest) ≡ Ok (v, rest)
+value_again Removed rest fits = rw (byte_is.again 0 rest (omega arith)) refl
+value_again (Whole v) rest fits =
+    ap (λ (bs : List ℕ). value.at bs) (append_assoc ((number w8).bytes 1) (long.bytes v) rest) ∙ rw (byte_is.again 1 (long.bytes v ++ rest) (omega arith), long_is.again v rest fits) refl
+value_again (Ended own n) rest fits =
+    ap (λ (bs : List ℕ). value.at bs) (append_assoc ((number w8).bytes 2) (ending.bytes (own, n)) rest) ∙ rw (byte_is.again 2 (ending.bytes (own, n) ++ rest) (omega arith), ending_is.again (own, n) rest fits) refl
 
-optional_again : {A : Type 0} (f : Field A) → IsField f → (o : Option A) (rest : List ℕ) → (optional f).Fits o → (optional f).at ((optional f).bytes o ++ rest) ≡ Ok (o, rest)
-optional_again f F None rest fits = rw (flag_is.again false rest (omega arith)) refl
-optional_again f F (Some a) rest fits =
-    ap (λ (bs : List ℕ). (optional f).at bs) (append_assoc (flag.bytes true) (f.bytes a) rest) ∙ rw (flag_is.again true (f.bytes a ++ rest) (omega arith), F.again a rest fits) refl
-
-pub optional_is : {A : Type 0} (f : Field A) → IsField f → IsField (optional f)
-optional_is {A} f F = record {
+pub value_is : IsField value
+value_is = record {
   takes = λ bs x bytes e.
-      let b = bind_ok (flag.at bs) (λ b. optional_at f b) x e in
-      let s = flag_is.takes bs b.0 bytes b.1 in
-      let o = optional_takes f F bs b.0.0 b.0.1 x s.0 (IsBytes-after bs (flag.bytes b.0.0) b.0.1 bytes s.0) b.2 in
-      (o.spelled, o.fits);
-  again = λ o rest fits. optional_again f F o rest fits;
+      let n = bind_ok ((number w8).at bs) (λ n. value_at n.0 n.1) x e in
+      let s = byte_is.takes bs n.0 bytes n.1 in
+      let v = value_takes bs n.0.0 n.0.1 x s.0 (IsBytes-after bs ((number w8).bytes n.0.0) n.0.1 bytes s.0) n.2 in
+      (v.spelled, v.fits);
+  again = value_again;
 }
 
 pub record AreValues {A : Type 0} (f : Field A) (n : ℕ) (bs : List ℕ) (x : List A × List ℕ) : Type 0 where

@@ -1,5 +1,6 @@
 pub mod Fields
 pub mod Spelling
+pub mod Items
 pub mod Journal
 pub mod Reading
 pub mod Tops

@@ -9,17 +9,38 @@ ghost use Rattle.row_journal.specs.Journal.{AreOthers, shown};
 ghost use Rattle.row_journal.specs.Spelling as spec;
 ghost use Rattle.row_journal.specs.Tops.{IsKept};
 
-use crate::journal::{Journal, are_plain, prepare, total_len};
+use crate::journal::{Journal, are_plain, prepare, spelling, total_len};
 use crate::spelled::can_spell_all;
 use crate::tops::take_changes;
 use row_store::{Change, Row, RowFault, RowStore};
 use std::alloc::Global;
 
-/// How many rows, and how many bytes, the journal has before a fold of it begins. While one is under way it has twice as many at most.
+/// How many rows the journal has, how many bytes are in their values, and how many bytes their changes take in memory before a fold of it begins. While
+/// one is under way there are twice as many at most.
 #[derive(Clone, Copy, Debug)]
 pub struct Bounds {
     pub rows: u64,
     pub bytes: usize,
+    pub held: usize,
+}
+
+impl Bounds {
+    /// Twice as many of each.
+    fn twice(self) -> Bounds {
+        Bounds {
+            rows: self.rows.saturating_mul(2),
+            bytes: self.bytes.saturating_mul(2),
+            held: self.held.saturating_mul(2),
+        }
+    }
+}
+
+/// A turn's number of changes, how many bytes they take in memory, and how many the value of their row has.
+#[derive(Clone, Copy, Debug)]
+struct Size {
+    changes: usize,
+    held: usize,
+    bytes: usize,
 }
 
 /// As many changes as a turn spells.
@@ -62,58 +83,58 @@ fn make_plainly<R: RowStore>(
     rows.apply(changes)
 }
 
-/// Writes the changes, which take so many bytes, into the journal, and makes with them the next piece of a fold that is under way.
+/// Writes the changes, which are spelled by this value and take so many bytes, into the journal, and makes with them the next piece of a fold that is under way.
 fn write<R: RowStore>(
     alloc: Global,
     rows: &mut R,
     journal: &mut Journal,
     changes: &[Change],
-    len: usize,
+    value: Vec<u8>,
+    held: usize,
 ) -> Result<(), RowFault>
     requires kept { R.is_clean rows.old → R.is_open rows.old → IsKept (R.content rows.old) journal.old.noted.items journal.old.count journal.old.tops.entries }
     requires room { journal.old.count + 1 < 2 ^ 64 }
     requires plain { AreOthers (map pair_of changes.now) }
     requires few { length changes.now < 2 ^ 16 }
-    requires fit { AllByRecursion (λ c. spec.change.Fits (pair_of c)) changes.now }
+    requires fit { AllByRecursion (λ c. spec.Tells (pair_of c)) changes.now }
+    requires spelled { value.items ≡ spec.turn.bytes (map pair_of changes.now) }
     ensures made { Makes R.RowStore rows.old rows.new result (after_all (shown (R.content rows.old)) changes.now) }
     ensures kept { R.is_clean rows.new → R.is_open rows.new → IsKept (R.content rows.new) journal.new.noted.items journal.new.count journal.new.tops.entries }
 {
-    let mut written = prepare(alloc, journal, changes, len)?;
+    let bytes = value.len();
+    let mut written = prepare(alloc, journal, changes, value, held)?;
     rows.apply(&written.changes)?;
-    journal.take(written.made, &mut written.copies, len);
+    journal.take(written.made, &mut written.copies, bytes);
     Ok(())
 }
 
-/// Whether the journal has room for a row with so many bytes more.
-fn has_room(journal: &Journal, rows: u64, bytes: usize, len: usize) -> bool
+/// Whether the journal has room for a turn more within these bounds.
+fn has_room(journal: &Journal, bounds: Bounds, turn: Size) -> bool
     ensures { IsTrue result → journal.now.count + 1 < 2 ^ 64 }
 {
-    journal.count < rows && journal.bytes.saturating_add(len) <= bytes
+    journal.count < bounds.rows
+        && journal.bytes.saturating_add(turn.bytes) <= bounds.bytes
+        && journal.held.saturating_add(turn.held) <= bounds.held
 }
 
-/// Begins a fold where a row with so many changes, and so many bytes, more would exceed a bound, and ends it once its pieces are made and few changes have
-/// come since, or where the row would exceed twice a bound. Where many have come since, it goes on with these.
+/// Begins a fold where a turn more would exceed a bound, and ends it once its pieces are made and few changes have come since, or where the turn would
+/// exceed twice a bound. Where many have come since, it goes on with these.
 fn make_room<R: RowStore>(
     alloc: Global,
     bounds: Bounds,
     rows: &mut R,
     journal: &mut Journal,
-    changes: usize,
-    len: usize,
+    turn: Size,
 ) -> Result<(), RowFault>
     requires kept { R.is_clean rows.old → R.is_open rows.old → IsKept (R.content rows.old) journal.old.noted.items journal.old.count journal.old.tops.entries }
     ensures made { Makes R.RowStore rows.old rows.new result (shown (R.content rows.old)) }
     ensures kept { R.is_clean rows.new → R.is_open rows.new → IsKept (R.content rows.new) journal.new.noted.items journal.new.count journal.new.tops.entries }
     ensures room { OnOk result (journal.new.count + 1 < 2 ^ 64) }
 {
-    if journal.folding.is_none() && has_room(journal, bounds.rows, bounds.bytes, len) {
+    if journal.folding.is_none() && has_room(journal, bounds, turn) {
         return Ok(());
     }
-    let (most, longest) = (
-        bounds.rows.saturating_mul(2),
-        bounds.bytes.saturating_mul(2),
-    );
-    if journal.can_end(changes, len) || !has_room(journal, most, longest, len) {
+    if journal.can_end(turn.changes, turn.held) || !has_room(journal, bounds.twice(), turn) {
         return fold(alloc, rows, journal);
     }
     journal.begin_fold(alloc)?;
@@ -136,12 +157,20 @@ pub(crate) fn make<R: RowStore>(
     if !are_plain(changes) {
         return Err(RowFault::Device);
     }
-    let len = total_len(changes);
-    if changes.len() > MOST || len > bounds.bytes || !can_spell_all(changes) {
+    if changes.len() > MOST || !can_spell_all(changes) {
         return make_plainly(alloc, rows, journal, changes);
     }
-    make_room(alloc, bounds, rows, journal, changes.len(), len)?;
-    write(alloc, rows, journal, changes, len)
+    let value = spelling(alloc, changes)?;
+    let turn = Size {
+        changes: changes.len(),
+        held: total_len(changes),
+        bytes: value.len(),
+    };
+    if turn.bytes > bounds.bytes || turn.held > bounds.held {
+        return make_plainly(alloc, rows, journal, changes);
+    }
+    make_room(alloc, bounds, rows, journal, turn)?;
+    write(alloc, rows, journal, changes, value, turn.held)
 }
 
 /// Folds the journal, and loads the rows.

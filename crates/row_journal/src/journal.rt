@@ -8,7 +8,7 @@ ghost use Rattle.row_journal.specs.Journal.{AreOthers, NamesWithin, after_pairs,
 ghost use Rattle.row_journal.specs.Spelling as spec;
 ghost use Rattle.row_journal.specs.Tops.{Allows, Covers, Grows, IsKept};
 
-use crate::spelled::{JOURNAL, spell_turn, spelled_len};
+use crate::spelled::{JOURNAL, spell_turn, whole_len};
 use crate::tops::{Tops, needed, take_changes};
 use row_changes::last_of_each;
 use row_store::{Change, Row};
@@ -25,12 +25,13 @@ fn or_twice(piece: usize, turn: usize) -> usize {
     piece.max(turn.saturating_mul(2))
 }
 
-/// What is known of a journal: the changes that make of the other rows what is shown, how many rows it has, whose places are the numbers below,
-/// and how many bytes their changes take. While a fold is under way so many changes at the front are of turns before it began, each of another
+/// What is known of a journal: the changes that make of the other rows what is shown, and how many bytes they take; how many rows it has, whose places are the
+/// numbers below, and how many bytes their values have. While a fold is under way so many changes at the front are of turns before it began, each of another
 /// row, and are made a piece with each turn; the others are those of the turns since.
 #[derive(Drop)]
 pub(crate) struct Journal {
     pub(crate) noted: Vec<Change>,
+    pub(crate) held: usize,
     pub(crate) folding: Option<usize>,
     pub(crate) count: u64,
     pub(crate) bytes: usize,
@@ -59,11 +60,11 @@ pub(crate) fn are_plain(changes: &[Change]) -> bool
     true
 }
 
-/// How many bytes the changes take.
+/// How many bytes the changes take, where each value stands whole.
 pub(crate) fn total_len(changes: &[Change]) -> usize {
     let mut len = 0usize;
     for change in changes {
-        len = len.saturating_add(spelled_len(change));
+        len = len.saturating_add(whole_len(change));
     }
     len
 }
@@ -91,13 +92,13 @@ fn copies_of(alloc: Global, changes: &[Change]) -> Result<Vec<Change>, AllocErro
     Ok(copies)
 }
 
-/// The spelling of a turn, whose changes take so many bytes.
-fn spelling(alloc: Global, changes: &[Change], len: usize) -> Result<Vec<u8>, AllocError>
+/// The spelling of a turn.
+pub(crate) fn spelling(alloc: Global, changes: &[Change]) -> Result<Vec<u8>, AllocError>
     requires few { length changes.now < 2 ^ 16 }
-    requires fit { AllByRecursion (λ c. spec.change.Fits (pair_of c)) changes.now }
+    requires fit { AllByRecursion (λ c. spec.Tells (pair_of c)) changes.now }
     ensures { IfOk result (λ value. value.items ≡ spec.turn.bytes (map pair_of changes.now)) }
 {
-    let mut value = Vec::with_capacity(alloc, len.saturating_add(2))?;
+    let mut value = Vec::new(alloc);
     if spell_turn(changes, &mut value).is_err() {
         return Err(AllocError);
     }
@@ -117,14 +118,14 @@ fn entry(alloc: Global, at: u64, value: Vec<u8>) -> Result<Change, AllocError>
 }
 
 /// How many of these changes are a piece, for a turn of so many changes and bytes.
-fn piece_len(pending: &[Change], changes: usize, len: usize) -> usize
+fn piece_len(pending: &[Change], changes: usize, held: usize) -> usize
     ensures { result ≤ length pending.now }
 {
-    let (most, longest) = (or_twice(PIECE, changes), or_twice(PIECE_BYTES, len));
+    let (most, longest) = (or_twice(PIECE, changes), or_twice(PIECE_BYTES, held));
     let mut bytes = 0usize;
     let mut count = 0;
     for change in pending {
-        bytes = bytes.saturating_add(spelled_len(change));
+        bytes = bytes.saturating_add(whole_len(change));
         if count >= most || (count > 0 && bytes > longest) {
             return count;
         }
@@ -141,15 +142,15 @@ pub(crate) struct Written {
     pub(crate) copies: Vec<Change>,
 }
 
-/// What is written for these changes. For their copies there is room.
+/// What is written for these changes, which are spelled by this value and take so many bytes. For their copies there is room.
 pub(crate) fn prepare(
     alloc: Global,
     journal: &mut Journal,
     changes: &[Change],
-    len: usize,
+    value: Vec<u8>,
+    held: usize,
 ) -> Result<Written, AllocError>
-    requires few { length changes.now < 2 ^ 16 }
-    requires fit { AllByRecursion (λ c. spec.change.Fits (pair_of c)) changes.now }
+    requires { value.items ≡ spec.turn.bytes (map pair_of changes.now) }
     ensures changes { IfOk result (λ w. map pair_of w.changes.items ≡ map pair_of (take w.made journal.old.noted.items)
         ++ (entry_key journal.old.count, Some (spec.turn.bytes (map pair_of changes.now))) ∷ []) }
     ensures made { IfOk result (λ w. w.made ≤ length journal.old.noted.items) }
@@ -160,10 +161,9 @@ pub(crate) fn prepare(
     ensures same { (journal.new.noted.items ≡ journal.old.noted.items) × (journal.new.count ≡ journal.old.count) }
 {
     let copies = copies_of(alloc, changes)?;
-    let value = spelling(alloc, changes, len)?;
     let entry = entry(alloc, journal.count, value)?;
     journal.noted.reserve(copies.len())?;
-    let made = journal.piece(changes.len(), len);
+    let made = journal.piece(changes.len(), held);
     let mut changes = copies_of(alloc, &journal.noted[..made])?;
     changes.push(entry)?;
     take_changes(alloc, &mut journal.tops, &changes)?;
@@ -205,16 +205,16 @@ fn lasts_of(alloc: Global, tops: &Tops, noted: &[Change]) -> Result<Vec<Change>,
 
 impl Journal {
     /// Whether a fold is under way whose pieces are made, and the changes since are one piece, for a turn of so many changes and bytes.
-    pub(crate) fn can_end(&self, changes: usize, len: usize) -> bool {
-        self.folding == Some(0) && piece_len(&self.noted, changes, len) == self.noted.len()
+    pub(crate) fn can_end(&self, changes: usize, held: usize) -> bool {
+        self.folding == Some(0) && piece_len(&self.noted, changes, held) == self.noted.len()
     }
 
     /// How many changes at the front a turn of so many changes and bytes makes: the next piece of a fold.
-    fn piece(&self, changes: usize, len: usize) -> usize
+    fn piece(&self, changes: usize, held: usize) -> usize
         ensures { result ≤ length self.now.noted.items }
     {
         let pending = self.folding.unwrap_or(0).min(self.noted.len());
-        piece_len(&self.noted[..pending], changes, len)
+        piece_len(&self.noted[..pending], changes, held)
     }
 
     /// A fold begins, or goes on with what was noted since, unless some of its changes are still to be made: what it is to make is gathered.
@@ -227,6 +227,7 @@ impl Journal {
         }
         let lasts = lasts_of(alloc, &self.tops, &self.noted)?;
         self.folding = Some(lasts.len());
+        self.held = total_len(&lasts);
         self.noted = lasts;
         Ok(())
     }
@@ -251,13 +252,14 @@ impl Journal {
         ensures { (self.new.noted.items ≡ []) × (self.new.count ≡ 0) × (self.new.tops ≡ self.old.tops) }
     {
         self.noted.clear();
+        self.held = 0;
         self.folding = None;
         self.count = 0;
         self.bytes = 0;
     }
 
-    /// So many changes at the front were made, and there is one row more, with these changes, for which there is room.
-    pub(crate) fn take(&mut self, made: usize, copies: &mut Vec<Change>, len: usize)
+    /// So many changes at the front were made, and there is one row more, with so many bytes in its value and these changes, for which there is room.
+    pub(crate) fn take(&mut self, made: usize, copies: &mut Vec<Change>, bytes: usize)
         requires made { made ≤ length self.old.noted.items }
         requires room { vec_len self.old.noted + vec_len copies.old ≤ vec_capacity self.old.noted }
         requires few { self.old.count + 1 < 2 ^ 64 }
@@ -265,10 +267,12 @@ impl Journal {
         ensures count { self.new.count ≡ self.old.count + 1 }
         ensures tops { self.new.tops ≡ self.old.tops }
     {
+        let (gone, come) = (total_len(&self.noted[..made]), total_len(copies));
+        self.held = self.held.saturating_sub(gone).saturating_add(come);
         self.noted.drain(..made);
         self.folding = after_piece(self.folding, made);
         let _ = self.noted.append(copies);
         self.count += 1;
-        self.bytes = self.bytes.saturating_add(len);
+        self.bytes = self.bytes.saturating_add(bytes);
     }
 }

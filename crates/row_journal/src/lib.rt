@@ -2,7 +2,8 @@
 #![tactic(auto)]
 
 mod calls;
-mod flag;
+mod ends;
+mod items;
 mod journal;
 pub mod laws;
 mod reading;

@@ -11,8 +11,9 @@ ghost use Rattle.row_journal.specs.Journal.{AreOthers, IsJournaled, entry_key};
 ghost use Rattle.row_journal.specs.Tops.{IsKept};
 ghost use Rattle.row_journal.specs.Reading.{AreTurns, IsEntry, IsRead, IsSpelled};
 
-use crate::journal::{Journal, are_plain};
-use crate::spelled::{JOURNAL, turn_at};
+use crate::items::turn_at;
+use crate::journal::{Journal, are_plain, total_len};
+use crate::spelled::JOURNAL;
 use crate::tops::take_rows;
 use mqtt_fields::{FieldFault, are_bytes, u64_at};
 use row_store::{Change, Row, RowFault, RowStore};
@@ -87,6 +88,7 @@ fn read_entry(alloc: Global, row: &Row, journal: &mut Journal) -> Result<(), Row
     ensures never { result ≢ Err RowFault.Device }
 {
     let mut turn = turn_of(alloc, row, journal.count)?;
+    journal.held = journal.held.saturating_add(total_len(&turn));
     journal.noted.append(&mut turn)?;
     journal.count += 1;
     journal.bytes = journal.bytes.saturating_add(row.value.len());
@@ -119,6 +121,7 @@ fn read_journal(alloc: Global, rows: &[Row]) -> Result<Journal, RowFault>
 {
     let mut journal = Journal {
         noted: Vec::new(alloc),
+        held: 0,
         folding: None,
         count: 0,
         bytes: 0,

@@ -12,18 +12,22 @@ const BOUNDS: [Bounds; 4] = [
     Bounds {
         rows: 1,
         bytes: 1_000_000,
+        held: 1_000_000,
     },
     Bounds {
         rows: 3,
         bytes: 1_000_000,
+        held: 1_000_000,
     },
     Bounds {
         rows: 1000,
         bytes: 60,
+        held: 1_000_000,
     },
     Bounds {
         rows: 1000,
         bytes: 1,
+        held: 1_000_000,
     },
 ];
 
@@ -96,6 +100,7 @@ fn a_call_is_one_row(rt: HostRuntime) {
 const FOUR: Bounds = Bounds {
     rows: 4,
     bytes: 1_000_000,
+    held: 1_000_000,
 };
 
 // So many calls, of which the first puts 1,100 rows and each other one a row; and how many of these rows, and of the journal's, are in the store
@@ -170,12 +175,17 @@ fn entry(rt: &impl Abort, alloc: Global, place: &[u8], value: &[u8]) -> Change {
     })
 }
 
-// Rows that are no journal: the first number is missing, the value is cut off or has a byte more, or it names the journal's kind.
-const OTHERS: [(&[u8], &[u8]); 4] = [
+// Rows that are no journal: the first number is missing, the value is cut off or has a byte more, it names the journal's kind, or it ends as a value
+// does that isn't there.
+const OTHERS: [(&[u8], &[u8]); 5] = [
     (b"\0\0\0\0\0\0\0\x01", b"\0\0"),
     (b"\0\0\0\0\0\0\0\0", b"\0\x01\x05\0\0\0\x01t\0\0\0\0"),
     (b"\0\0\0\0\0\0\0\0", b"\0\0\0"),
     (b"\0\0\0\0\0\0\0\0", b"\0\x01\xf0\0\0\0\0\0\0\0\0\0"),
+    (
+        b"\0\0\0\0\0\0\0\0",
+        b"\0\x01\x05\0\0\0\x01t\0\0\0\0\x02\0\0\0\0\0\0\x01\0",
+    ),
 ];
 
 fn is_refused(rt: &impl Abort, alloc: Global, place: &[u8], value: &[u8]) -> bool {

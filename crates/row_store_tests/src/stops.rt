@@ -163,6 +163,7 @@ fn done_over<R: RowStore + Drop>(
     let bounds = Bounds {
         rows: most,
         bytes: 1_000_000,
+        held: 1_000_000,
     };
     match JournaledRows::open(alloc, rows, bounds) {
         Ok(mut rows) => {

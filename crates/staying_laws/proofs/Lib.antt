@@ -1,2 +1,3 @@
 pub mod GotLaws
 pub mod CopyLaws
+pub mod ClearedLaws

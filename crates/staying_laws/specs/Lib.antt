@@ -1,2 +1,3 @@
 pub mod Gots
 pub mod Copies
+pub mod Cleared

@@ -9,4 +9,4 @@ returns-clause-changes c =
     let piece : map pair_of c.in_ok-changes.changes.items ≡ map pair_of (take c.piece-made.result c.args.journal.now.noted.items) =
     c.in_ok-changes.ensures ∙ ap (λ xs. map pair_of (take c.piece-made.result xs)) (c.deref.ensures.value ∙ c.in_ok-reserve.ensures.items) in
     ap (map pair_of) c.in_ok-push.ensures.items ∙ map-append pair_of c.in_ok-changes.changes.items (c.in_ok-entry.entry ∷ [])
-    ∙ (λ i. piece i ++ (c.in_ok-entry.ensures ∙ ap (λ bytes. (entry_key c.args.journal.now.count, Some bytes)) c.in_ok-value.ensures) i ∷ [])
+    ∙ (λ i. piece i ++ (c.in_ok-entry.ensures ∙ ap (λ bytes. (entry_key c.args.journal.now.count, Some bytes)) c.requires) i ∷ [])
