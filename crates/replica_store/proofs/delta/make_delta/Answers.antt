@@ -12,11 +12,3 @@ parts a b s t r q x y z = λ i. record { taken = x i; subscriptions = y i; retai
 pub returns-in_ok-subscriptions-in-Subscribe : goal.returns-in_ok-subscriptions-in-Subscribe
 unfolding delta_of
 returns-in_ok-subscriptions-in-Subscribe c = parts _ _ _ _ _ _ c.in_ok-taken-in-Subscribe.ensures c.in_ok-subscriptions-in-Subscribe.ensures c.new-retained.ensures ∙ ap delta_of (sym c.in-Subscribe.is)
-
-pub returns-in_ok-subscriptions-in-Remove : goal.returns-in_ok-subscriptions-in-Remove
-unfolding delta_of
-returns-in_ok-subscriptions-in-Remove c = parts _ _ _ _ _ _ c.in_ok-taken-in-Remove.ensures c.in_ok-subscriptions-in-Remove.ensures c.new-retained-in-Remove.ensures ∙ ap delta_of (sym c.in-Remove.is)
-
-pub returns-in_ok-retained-in-Put : goal.returns-in_ok-retained-in-Put
-unfolding delta_of
-returns-in_ok-retained-in-Put c = parts _ _ _ _ _ _ c.in_ok-taken-in-Put.ensures c.empty-subscriptions.ensures c.in_ok-retained-in-Put.ensures ∙ ap delta_of (sym c.in-Put.is)
