@@ -32,10 +32,6 @@ picked turn es = slice_get (by_client es) (turn % length (by_client es))
 abbrev pub AreShared : List GroupPick → Type 0
 AreShared picks = AllByRecursion (λ x. IsShared x.filter) picks
 
--- one pick for each group with a shared one of some subscriptions that match, in the order of the groups
-abbrev pub ArePicksAmong : ℕ → List Entry → Message → List GroupPick → Type 0
-ArePicksAmong turn found m out = (shared : List Entry) × IsSelected (λ e. IsShared e.filter) found shared × (out ≡ flat_map (λ g. pick_of m (picked turn g.1)) (by_group shared))
-
 -- one pick for each group with a live subscription that matches, in the order of the groups' names and then of their filters
 abbrev pub ArePicks : ℕ → Entries → Message → List GroupPick → Type 0
 ArePicks turn live m out = (shared : List Entry) × AreLive (IsSharedFor m) live shared × (out ≡ flat_map (λ g. pick_of m (picked turn g.1)) (by_group shared))
