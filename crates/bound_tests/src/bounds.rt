@@ -127,6 +127,46 @@ fn a_publish_that_breaks_a_limit_is_answered(rt: HostRuntime) {
 }
 
 #[test]
+fn a_repeat_and_an_alias_that_break_a_limit_end_the_connection(rt: HostRuntime) {
+    let alloc = rt.alloc();
+    let mut node = accepted(&rt, alloc, &[]);
+    // three levels at QoS 2 with DUP, as packet 10, and PINGREQ
+    let again = b"\x3c\x0a\x00\x05a/b/c\x00\x0a\x00\xc0\x00";
+    let answer = come(&rt, alloc, &mut node, again);
+    assert!(rt; answer.as_slice() == b"\xe0\x01\x90\x00".as_slice());
+    let told = node
+        .inside()
+        .told
+        .as_slice()
+        .get(CONNECT.len()..)
+        .expect(&rt, "told");
+    assert!(rt; told == b"\x3c\xff\xff\xff\x7f".as_slice());
+    // at QoS 0, with a Topic Alias
+    let mut node = accepted(&rt, alloc, &[]);
+    let set = b"\x30\x0b\x00\x05a/b/c\x03\x23\x00\x01";
+    assert!(rt; come(&rt, alloc, &mut node, set).is_empty());
+    let told = node
+        .inside()
+        .told
+        .as_slice()
+        .get(CONNECT.len()..)
+        .expect(&rt, "told");
+    assert!(rt; told == b"\x30\xff\xff\xff\x7f".as_slice());
+    drop(node);
+}
+
+#[test]
+fn limits_that_are_given_win(rt: HostRuntime) {
+    let one = BoundLimits {
+        most_memory: Some(5),
+        ..BoundLimits::none()
+    };
+    let all = one.or(&FEW);
+    assert_eq!(rt; all.most_memory, Some(5));
+    assert!(rt; all.packets == FEW.packets);
+}
+
+#[test]
 fn filters_that_break_a_limit_are_refused_in_their_places(rt: HostRuntime) {
     let alloc = rt.alloc();
     let mut node = accepted(&rt, alloc, &[]);

@@ -4,7 +4,8 @@ use broker_sockets::{Event, EventKind, Handler, Output};
 use memory_gauge::Gauge;
 use std::alloc::Global;
 
-/// Keeps what it is told, and counts the clients that come and go. It accepts a CONNECT, and answers a SUBSCRIBE as packet 7 with two codes.
+/// Keeps what it is told, and counts the clients that come and go. It accepts a CONNECT, answers a SUBSCRIBE as packet 7 with two codes, and a repeat at
+/// QoS 2 that is too large with a DISCONNECT and a close.
 pub struct Recorder {
     alloc: Global,
     pub told: Vec<u8>,
@@ -35,6 +36,9 @@ const CONNACK: &[u8] = b"\x20\x0e\x00\x00\x0b\x21\x00\x64\x22\x00\x10\x27\x00\x1
 /// SUBACK as packet 7, with two codes.
 const SUBACK: &[u8] = b"\x90\x05\x00\x07\x00\x00\x01";
 
+/// DISCONNECT with Packet too large.
+const TOO_LARGE: &[u8] = b"\xe0\x01\x95";
+
 impl Recorder {
     /// It was told nothing.
     pub fn new(alloc: Global) -> Recorder {
@@ -55,6 +59,11 @@ impl Recorder {
         let output = match bytes {
             [0x10, ..] => Some(self.send(connection, CONNACK)?),
             [0x82, ..] => Some(self.send(connection, SUBACK)?),
+            [0x3c, 0xff, ..] => {
+                let last = self.send(connection, TOO_LARGE)?;
+                outputs.push(last).map_err(|_| Refused)?;
+                Some(Output::Close { connection })
+            }
             _ => None,
         };
         if let Some(output) = output {

@@ -23,7 +23,7 @@ use Rattle.client_bounds.specs.declared.limits.BoundLimits.{BoundLimits}
 use Rattle.client_bounds.proofs.Letting.{come_let}
 use Rattle.client_bounds.proofs.Told.{ToldSo, all_then, so_none, steps_so}
 
-weighed_limits : (kind : EventKind) (k m : Door) → IsWeighed kind k m → m.limits ≡ k.limits
+pub weighed_limits : (kind : EventKind) (k m : Door) → IsWeighed kind k m → m.limits ≡ k.limits
 weighed_limits Started k m is = ap (λ (x : Door). x.limits) is
 weighed_limits (Opened c) k m is = ap (λ (x : Door). x.limits) is
 weighed_limits (Piece c bytes) k m is = ap (λ (x : Door). x.limits) is
@@ -32,9 +32,9 @@ weighed_limits (Closed c) k m is = ap (λ (x : Door). x.limits) is
 weighed_limits Tick k m is = ap (λ (x : Door). x.limits) is.1
 
 -- the handler inside was told so, and the limits are as they were
-record Answered {H : Type 0} (handles : H → Event → List Output → H → Type 0) (m k' : Door) (h h' : H) : Type 0 where
-  so : ToldSo handles (IsLet m.limits.packets m.full) h h'
-  limits : k'.limits ≡ m.limits
+pub record Answered {H : Type 0} (handles : H → Event → List Output → H → Type 0) (m k' : Door) (h h' : H) : Type 0 where
+  pub so : ToldSo handles (IsLet m.limits.packets m.full) h h'
+  pub limits : k'.limits ≡ m.limits
 
 module _ {H : Type 0} (handles : H → Event → List Output → H → Type 0) where
   plain_so : (e : Event) (outputs : List Output) (h h' : H) (k k' : Door) → OfPiece (IsLet k.limits.packets k.full) e.kind → IsPlainOn handles e h h' k k' outputs → Answered handles k k' h h'
@@ -65,19 +65,28 @@ module _ {H : Type 0} (handles : H → Event → List Output → H → Type 0) w
   answered_so false e outputs h h' k k' (out, same, kept) = record { so = so_none handles (IsLet k.limits.packets k.full) h h' same; limits = ap (λ (x : Door). x.limits) kept }
 
   -- an event, where there are limits
-  record Handed (e : Event) (k k' : Door) (h h' : H) : Type 0 where
-    weighs : Door
-    is : IsWeighed e.kind k weighs
-    answered : Answered handles weighs k' h h'
+  pub record Handed (e : Event) (k k' : Door) (h h' : H) : Type 0 where
+    pub weighs : Door
+    pub is : IsWeighed e.kind k weighs
+    pub answered : Answered handles weighs k' h h'
 
-  handed : (door door' : Option Door) (k : Door) (e : Event) (outputs : List Output) (h h' : H) → door ≡ Some k → IsAnsweredIf handles door door' e h h' outputs → (k' : Door) × (door' ≡ Some k') × Handed e k k' h h'
+  pub handed : (door door' : Option Door) (k : Door) (e : Event) (outputs : List Output) (h h' : H) → door ≡ Some k → IsAnsweredIf handles door door' e h h' outputs → (k' : Door) × (door' ≡ Some k') × Handed e k k' h h'
   handed None door' k e outputs h h' is a = absurd cc
   handed (Some x) None k e outputs h h' is a = absurd a
   handed (Some x) (Some k') k e outputs h h' is (m, w, a) =
       let same : x ≡ k = same_Some x k is in
       (k', refl, record { weighs = m; is = subst (λ (y : Door). IsWeighed e.kind y m) same w; answered = answered_so (is_let_in m e.kind) e outputs h h' m k' a })
 
-  heard_limits : (door door' : Option Door) (k : Door) (outputs : List Output) → door ≡ Some k → IsHeardIf door door' outputs → (k' : Door) × (door' ≡ Some k') × (k'.limits ≡ k.limits)
+  some_told_if : (door door' : Option Door) (e : Event) (outputs : List Output) (h h' : H) → IsAnsweredIf handles door door' e h h' outputs → (told : List Told) × AreTold handles told h h'
+  some_told_if None door' e outputs h h' a = ((e, outputs) ∷ [], (h', a.0, refl))
+  some_told_if (Some k) None e outputs h h' a = absurd a
+  some_told_if (Some k) (Some k') e outputs h h' (m, w, a) = let x = answered_so (is_let_in m e.kind) e outputs h h' m k' a in (x.so.told, x.so.made)
+
+  -- with limits or without, an event is events of the handler inside
+  pub some_told : {G : Type 0} (d : Bounded H G) (e : Event) (outputs : List Output) (d' : Bounded H G) → IsAnswered handles d e outputs d' → (told : List Told) × AreTold handles told d.inside d'.inside
+  some_told d e outputs d' a = some_told_if d.door d'.door e outputs d.inside d'.inside a
+
+  pub heard_limits : (door door' : Option Door) (k : Door) (outputs : List Output) → door ≡ Some k → IsHeardIf door door' outputs → (k' : Door) × (door' ≡ Some k') × (k'.limits ≡ k.limits)
   heard_limits None door' k outputs is a = absurd cc
   heard_limits (Some x) None k outputs is a = absurd a
   heard_limits (Some x) (Some k') k outputs is a = let same : x ≡ k = same_Some x k is in (k', refl, a.1.0 ∙ ap (λ (y : Door). y.limits) same)

@@ -88,6 +88,7 @@ told_let : (b : Bounds) (full : Bool) (w : Walked) (x : List ℕ) (m : Mend) →
 told_let b full w x mends.Nothing is read = more_let b full w x is (inl read)
 told_let b full w x (mends.Connack longest expiry) is read = step_let b full w (steps.Tells x (mends.Connack longest expiry)) is (let_one b full x (inl read))
 told_let b full w x (mends.Suback identifier codes) is read = step_let b full w (steps.Tells x (mends.Suback identifier codes)) is (let_one b full x (inl read))
+told_let b full w x (mends.Disconnect reason) is read = step_let b full w (steps.Tells x (mends.Disconnect reason)) is (let_one b full x (inl read))
 
 answered_let : (b : Bounds) (full : Bool) (w : Walked) (answer : Option Packet) → IsWalkLet b full w → IsWalkLet b full (answered_with w answer)
 answered_let b full w None is = is
@@ -101,6 +102,7 @@ put_let : (b : Bounds) (full : Bool) (w : Walked) (x : List ℕ) (v : Verdict) �
 put_let b full w x (verdicts.Goes m) e is = told_let b full w x m is (goes_read b full m x e)
 put_let b full w x (verdicts.Becomes q m) e is = step_let b full w (steps.Asks q m) is (asks_let b full q m (becomes_case b full q m (packet_at x) e))
 put_let b full w x (verdicts.Refused answer) e is = refused_case b full w x answer w.greeted is
+put_let b full w x (verdicts.Ends reason) e is = step_let b full w (steps.Tells (too_large x) (mends.Disconnect reason)) is (let_one b full (too_large x) (inr (inr (inl (x, refl)))))
 
 took_let : (b : Bounds) (full : Bool) (w : Walked) (x : List ℕ) → IsWalkLet b full w → IsWalkLet b full (took b full w x)
 took_let b full w x is = put_let b full (record w { greeted = w.greeted || begins_connect x }) x (verdict_at b full (packet_at x)) refl (record { steps = is.steps; run = is.run })

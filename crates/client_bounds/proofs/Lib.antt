@@ -1,3 +1,4 @@
+pub mod Answers
 pub mod Coming
 pub mod Following
 pub mod Fronts

@@ -28,7 +28,7 @@ use Rattle.client_bounds.specs.declared.step.Step.TheVariants as steps
 abbrev told_in : Walked → List ℕ
 told_in w = flat_map told_by w.steps ++ w.run
 
-abbrev answers_in : Walked → List Packet
+abbrev pub answers_in : Walked → List Packet
 answers_in w = flat_map is_answer w.steps
 
 goes_case : (b : Bounds) (full : Bool) (r : Result (Option (Packet × List ℕ)) PacketFault) → ((p : Packet) (rest : List ℕ) → r ≡ Ok (Some (p, rest)) → IsWithin b full p) → (m : Mend) × (verdict_at b full r ≡ verdicts.Goes m)
@@ -49,10 +49,11 @@ step_answers w x m =
     flat_map-append is_answer (w.steps ++ steps.Tells w.run mends.Nothing ∷ []) (steps.Tells x m ∷ []) ∙ append-nil (flat_map is_answer (w.steps ++ steps.Tells w.run mends.Nothing ∷ []))
     ∙ flat_map-append is_answer w.steps (steps.Tells w.run mends.Nothing ∷ []) ∙ append-nil (flat_map is_answer w.steps)
 
-with_told : (w : Walked) (x : List ℕ) (m : Mend) → (told_in (told_with w x m) ≡ told_in w ++ x) × (answers_in (told_with w x m) ≡ answers_in w)
+pub with_told : (w : Walked) (x : List ℕ) (m : Mend) → (told_in (told_with w x m) ≡ told_in w ++ x) × (answers_in (told_with w x m) ≡ answers_in w)
 with_told w x mends.Nothing = (sym (append_assoc (flat_map told_by w.steps) w.run x), refl)
 with_told w x (mends.Connack longest expiry) = (step_told w x (mends.Connack longest expiry), step_answers w x (mends.Connack longest expiry))
 with_told w x (mends.Suback identifier codes) = (step_told w x (mends.Suback identifier codes), step_answers w x (mends.Suback identifier codes))
+with_told w x (mends.Disconnect reason) = (step_told w x (mends.Disconnect reason), step_answers w x (mends.Disconnect reason))
 
 took_told : (b : Bounds) (full : Bool) (w : Walked) (x : List ℕ) → IsReadWithin b full x → (told_in (took b full w x) ≡ told_in w ++ x) × (answers_in (took b full w x) ≡ answers_in w)
 took_told b full w x is =

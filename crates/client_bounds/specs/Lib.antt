@@ -1,4 +1,5 @@
 pub mod Answering
+pub mod Answers
 pub mod Calls
 pub mod Clients
 pub mod Faults

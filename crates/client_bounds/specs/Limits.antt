@@ -19,3 +19,21 @@ full_after most held full = full
 abbrev pub limit_of : Option ℕ → ℕ
 limit_of None = 1048576
 limit_of (Some longest) = min 1048576 longest
+
+-- what is given, or the other one
+abbrev pub number_or : Option ℕ → Option ℕ → Option ℕ
+number_or (Some given) other = Some given
+number_or None other = other
+
+-- each limit so
+abbrev pub limits_or : BoundLimits → BoundLimits → BoundLimits
+limits_or l m = record {
+  packets = record {
+    longest_packet = number_or l.packets.longest_packet m.packets.longest_packet;
+    most_filters = number_or l.packets.most_filters m.packets.most_filters;
+    most_levels = number_or l.packets.most_levels m.packets.most_levels;
+    most_properties = number_or l.packets.most_properties m.packets.most_properties;
+    longest_expiry = number_or l.packets.longest_expiry m.packets.longest_expiry;
+  };
+  most_memory = number_or l.most_memory m.most_memory;
+}

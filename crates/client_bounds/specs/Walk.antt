@@ -61,6 +61,7 @@ abbrev pub told_with : Walked → List ℕ → Mend → Walked
 told_with w bs mends.Nothing = record w { run = w.run ++ bs }
 told_with w bs (mends.Connack longest expiry) = with_step w (steps.Tells bs (mends.Connack longest expiry))
 told_with w bs (mends.Suback identifier codes) = with_step w (steps.Tells bs (mends.Suback identifier codes))
+told_with w bs (mends.Disconnect reason) = with_step w (steps.Tells bs (mends.Disconnect reason))
 
 abbrev pub answered_with : Walked → Option Packet → Walked
 answered_with w None = w
@@ -70,10 +71,12 @@ answered_with w (Some p) = with_step w (steps.Answers p)
 abbrev pub refused : Walked → List ℕ → Option Packet → Walked
 refused w bs answer = if w.greeted then answered_with w answer else record w { run = w.run ++ too_large bs }
 
+-- where the connection ends it is told as a packet that is too large, and the DISCONNECT that this brings has another reason
 abbrev pub put : Walked → List ℕ → Verdict → Walked
 put w bs (verdicts.Goes mend) = told_with w bs mend
 put w bs (verdicts.Becomes p mend) = with_step w (steps.Asks p mend)
 put w bs (verdicts.Refused answer) = refused w bs answer
+put w bs (verdicts.Ends reason) = with_step w (steps.Tells (too_large bs) (mends.Disconnect reason))
 
 abbrev pub took : Bounds → Bool → Walked → List ℕ → Walked
 took b full w bs = put (record w { greeted = w.greeted || begins_connect bs }) bs (verdict_at b full (packet_at bs))

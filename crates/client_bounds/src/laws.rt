@@ -1,4 +1,5 @@
 //! Laws of a handler with limits.
+ghost use Rattle.client_bounds.specs.Answers.{RefusalsAreTold};
 ghost use Rattle.client_bounds.specs.Laws.{AllGoOn, NoLimitsChangeNothing, NoLimitsNoFaults, OnlyWithinIsTold};
 
 use crate::bounded::Bounded;
@@ -23,4 +24,11 @@ pub fn only_within_is_told<H: BridgeHandler, G: Gauge>()
 /// Packets that come and break no limit go on as they came and in their order, and nothing is answered in their place.
 pub fn all_go_on()
     ensures { AllGoOn }
+{}
+
+/// Whatever calls were made of a handler with limits before: each packet of a client that is refused has its answer, in their order, unless the
+/// connection was closed; a client that connects while too much is held is closed; and whether too much is held is seen at each tick.
+pub fn refusals_are_told<H: BridgeHandler, G: Gauge>()
+    ensures { RefusalsAreTold
+        ⟦<Bounded<H, G> as Handler>⟧.handles ⟦<Bounded<H, G> as BridgeHandler>⟧.hears ⟦<Bounded<H, G> as Handler>⟧.settles }
 {}

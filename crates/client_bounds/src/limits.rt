@@ -1,7 +1,7 @@
 //! What is asked.
 
 ghost use Rattle.std.specs.Prelude.{◌≡◌, true};
-ghost use Rattle.client_bounds.specs.Limits.{are_none, full_after, limit_of};
+ghost use Rattle.client_bounds.specs.Limits.{are_none, full_after, limit_of, limits_or, number_or};
 
 use packet_bounds::Bounds;
 
@@ -26,7 +26,7 @@ pub const CAREFUL: BoundLimits = BoundLimits {
         most_properties: Some(32),
         longest_expiry: Some(86_400),
     },
-    most_memory: Some(1_073_741_824),
+    most_memory: Some(1_000_000_000),
 };
 
 /// Whether too much is held. Where too much was, that ends once nine tenths are held or less.
@@ -55,7 +55,38 @@ pub(crate) fn limit_of(longest: Option<u32>) -> usize
     }
 }
 
+/// A limit, or another one where it isn't given.
+fn number_or(given: Option<u32>, other: Option<u32>) -> Option<u32>
+    ensures { result ≡ number_or given other }
+{
+    match given {
+        Some(number) => Some(number),
+        None => other,
+    }
+}
+
 impl BoundLimits {
+    /// Each limit that is given here, and others in place of those that aren't.
+    pub fn or(&self, others: &BoundLimits) -> BoundLimits
+        ensures { result ≡ limits_or self.now others.now }
+    {
+        let given = &self.packets;
+        let other = &others.packets;
+        BoundLimits {
+            packets: Bounds {
+                longest_packet: number_or(given.longest_packet, other.longest_packet),
+                most_filters: number_or(given.most_filters, other.most_filters),
+                most_levels: number_or(given.most_levels, other.most_levels),
+                most_properties: number_or(given.most_properties, other.most_properties),
+                longest_expiry: number_or(given.longest_expiry, other.longest_expiry),
+            },
+            most_memory: match self.most_memory {
+                Some(most) => Some(most),
+                None => others.most_memory,
+            },
+        }
+    }
+
     /// Nothing is asked.
     pub fn none() -> BoundLimits
         ensures { are_none result ≡ true }

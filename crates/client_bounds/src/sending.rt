@@ -120,5 +120,6 @@ pub(crate) fn put_given(
         }
         Mend::Connack(_, _) => put_each(alloc, connection, mend, given, outputs),
         Mend::Suback(_, _) => put_each(alloc, connection, mend, given, outputs),
+        Mend::Disconnect(_) => put_each(alloc, connection, mend, given, outputs),
     }
 }

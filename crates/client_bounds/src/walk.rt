@@ -2,6 +2,8 @@
 
 ghost use Rattle.std.specs.Prelude.{◌≡◌, ◌++◌, IfOk, OnOk};
 ghost use Rattle.mqtt_packets.specs.Stream.{packet_at};
+ghost use Rattle.packet_bounds.specs.declared.verdict.Mend.TheVariants.{Disconnect};
+ghost use Rattle.client_bounds.specs.declared.step.Step.TheVariants.{Tells};
 ghost use Rattle.client_bounds.specs.Walk.{begins_connect, put, refused, seen, started, told_with, too_large, took, verdict_at, with_step};
 
 use crate::front::front_packet;
@@ -117,6 +119,18 @@ impl Walk {
         }
     }
 
+    /// A packet whose bytes these are ends the connection with this Reason Code.
+    fn end(&mut self, alloc: Global, bytes: &[u8], reason: u8) -> Result<(), NoMemory>
+        ensures { OnOk result (seen self.new ≡ with_step (seen self.old) (Tells (too_large bytes.now) (Disconnect reason))) }
+    {
+        let mut told = Vec::new(alloc);
+        put_too_large(bytes, &mut told)?;
+        self.push(
+            alloc,
+            Step::Tells(Bytes::new(told), Mend::Disconnect(reason)),
+        )
+    }
+
     /// What is done by a verdict on a packet whose bytes these are.
     fn put(&mut self, alloc: Global, bytes: &[u8], verdict: Verdict) -> Result<(), NoMemory>
         ensures { OnOk result (seen self.new ≡ put (seen self.old) bytes.now verdict) }
@@ -125,6 +139,7 @@ impl Walk {
             Verdict::Goes(mend) => self.tell(alloc, bytes, mend),
             Verdict::Becomes(packet, mend) => self.push(alloc, Step::Asks(packet, mend)),
             Verdict::Refused(answer) => self.refuse(alloc, bytes, answer),
+            Verdict::Ends(reason) => self.end(alloc, bytes, reason),
         }
     }
 

@@ -2,14 +2,17 @@
 
 use crate::lent::LentSockets;
 use broker_sockets::Clock;
+use client_bounds::BoundLimits;
 use client_limits::Limits;
 use fake_sockets::FakeSockets;
+use memory_gauge::NoGauge;
 use node_server::{StatusPlace, serve};
 use numbered_homes::homes_of;
 use row_store::MemoryRows;
 use std::alloc::Global;
 use std::hash::RandomState;
 use std::process::Abort;
+use table_door::NoTables;
 
 /// CONNECT of client `a`, whose home of one node or two is the last one, a retained PUBLISH of `on` to `t`, and SUBSCRIBE to `t`.
 const PACKETS: &[u8] =
@@ -56,12 +59,15 @@ fn ends_so(
     };
     let mut out = Vec::new(alloc);
     let silent: Option<Vec<u8>> = None;
+    let no_tables: Option<NoTables> = None;
     let ended = serve(
         alloc,
         &mut network,
         &mut Striding { told: 0 },
         MemoryRows::new(alloc),
         (homes, id),
+        no_tables,
+        (BoundLimits::none(), NoGauge),
         Limits::none(),
         false,
         silent,

@@ -1,5 +1,5 @@
 -- Which packets go on.
-use Rattle.std.proofs.Common.{◌≡◌, ◌≢◌, ◌≤◌, ◌<◌, ◌+◌, ℕ, zero, suc, Bool, true, false, cond, not, ◌&&◌, ◌||◌, eqb, ltb, List, [], ◌∷◌, ◌++◌, length, take, drop, map, min, Option, Some, None, is_none, is_some, refl, sym, ap, subst, ◌∙◌, inl, inr, arith}
+use Rattle.std.proofs.Common.{◌≡◌, ◌≢◌, ◌≤◌, ◌<◌, ◌+◌, ℕ, zero, suc, Bool, true, false, cond, not, ◌&&◌, ◌||◌, eqb, ltb, ◌⊎◌, List, [], ◌∷◌, ◌++◌, length, take, drop, map, min, Option, Some, None, is_none, is_some, refl, sym, ap, subst, ◌∙◌, inl, inr, arith}
 use Rattle.std.specs.List.{AllByRecursion, filter, list_all}
 use Rattle.std.proofs.lemmas.Bool.{cases_Bool, eq-eqb, le-ltb, ltb-false}
 use Rattle.std.proofs.lemmas.List.{append-nil, length-drop, length-take}
@@ -16,7 +16,7 @@ use Rattle.mqtt_packets.specs.declared.packet.Packet.TheVariants as packets
 use Rattle.mqtt_packets.specs.declared.publish.Publish.{Publish}
 use Rattle.mqtt_packets.specs.declared.subscribe.Subscribe.{Subscribe}
 use Rattle.mqtt_packets.specs.declared.subscribe.SubscribeFilter.{SubscribeFilter}
-use Rattle.packet_bounds.specs.Bounded.{all_refused, bounded, codes_of, connect_by, disconnect_by, filter_code, fitting, four_of, four_put, is_asked, publish_by, publish_code, shorter_of, smaller, subscribe_verdict, told_in, user_properties}
+use Rattle.packet_bounds.specs.Bounded.{all_refused, bounded, codes_of, connect_by, disconnect_by, ends_if_refused, filter_code, fitting, four_of, four_put, is_asked, publish_by, publish_code, refusal, shorter_of, smaller, subscribe_verdict, told_in, user_properties}
 use Rattle.packet_bounds.specs.Bounds.{is_above, levels}
 use Rattle.packet_bounds.specs.Laws.{AreUpTo, ExpiresWithin, GoesWhereWithin, IsPublishWithin, IsSubscribeWithin, IsUpTo, IsWithin, OnlyWithinGoes}
 use Rattle.packet_bounds.specs.declared.bounds.Bounds.{Bounds}
@@ -33,11 +33,11 @@ taken (suc n) [] le = refl
 taken zero (f ∷ fs) le = absurd (omega arith)
 taken (suc n) (f ∷ fs) le = ap (λ (xs : List SubscribeFilter). f ∷ xs) (taken n fs (omega arith))
 
-up_to : (most : Option ℕ) (count : ℕ) → is_above most count ≡ false → IsUpTo most count
+pub up_to : (most : Option ℕ) (count : ℕ) → is_above most count ≡ false → IsUpTo most count
 up_to None count e = tt
 up_to (Some most) count e = ltb-false most count e
 
-not_above : (most : Option ℕ) (count : ℕ) → IsUpTo most count → is_above most count ≡ false
+pub not_above : (most : Option ℕ) (count : ℕ) → IsUpTo most count → is_above most count ≡ false
 not_above None count le = refl
 not_above (Some most) count le = le-ltb most count le
 
@@ -116,13 +116,17 @@ code_none false true z c d e = absurd cc
 code_none false false true c d e = absurd cc
 code_none false false false c d e = (refl, refl, refl)
 
+ends_case : (t : Bool) (r : ℕ) (o : Option Packet) (v : Verdict) → cond t (verdicts.Ends r) (verdicts.Refused o) ≡ v → (v ≡ verdicts.Ends r) ⊎ (v ≡ verdicts.Refused o)
+ends_case true r o v e = inl (sym e)
+ends_case false r o v e = inr (sym e)
+
 publish_none : (p : Publish) (o : Option ℕ) (m : Mend) → publish_by p o ≡ verdicts.Goes m → o ≡ None
 publish_none p None m e = refl
-publish_none p (Some r) m e = absurd cc
+publish_none p (Some r) m e = elim (ends_case (ends_if_refused p) r (refusal p r) (verdicts.Goes m) e) [ inl x ↦ absurd cc | inr x ↦ absurd cc ]
 
 publish_kept : (p : Publish) (o : Option ℕ) (q : Packet) (m : Mend) → publish_by p o ≡ verdicts.Becomes q m → ⊥
 publish_kept p None q m e = absurd cc
-publish_kept p (Some r) q m e = absurd cc
+publish_kept p (Some r) q m e = elim (ends_case (ends_if_refused p) r (refusal p r) (verdicts.Becomes q m) e) [ inl x ↦ absurd cc | inr x ↦ absurd cc ]
 
 publish_same : (b : Bounds) (full : Bool) (p : Publish) (m : Mend) → bounded b full (packets.Publish p) ≡ verdicts.Goes m → IsPublishWithin b full p
 publish_same b full p m e =
@@ -212,7 +216,7 @@ goes_case true y r w m last first e = refl
 goes_case false true r w m last first e = absurd (first m e)
 goes_case false false r w m last first e = absurd (last m e)
 
-becomes_case : (x y : Bool) (r w v : Verdict) (q : Packet) (m : Mend) → (r ≡ verdicts.Becomes q m → ⊥) → cond x (verdicts.Goes mends.Nothing) (cond y r w) ≡ verdicts.Becomes q m → (y ≡ false) × (w ≡ verdicts.Becomes q m)
+pub becomes_case : (x y : Bool) (r w v : Verdict) (q : Packet) (m : Mend) → (r ≡ verdicts.Becomes q m → ⊥) → cond x (verdicts.Goes mends.Nothing) (cond y r w) ≡ verdicts.Becomes q m → (y ≡ false) × (w ≡ verdicts.Becomes q m)
 becomes_case true y r w v q m none e = absurd cc
 becomes_case false true r w v q m none e = absurd (none e)
 becomes_case false false r w v q m none e = (refl, e)
@@ -242,7 +246,7 @@ subscribe_same b full s m e =
     let all = all_there b s.filters (subst (λ (t : Bool). list_all is_none (codes_of b t s.filters) ≡ true) room both.1) in
     record { room = room; filters = fits_all b.most_filters (length s.filters) all.0; levels = none_levels b s.filters all.1 }
 
-becomes_full : (b : Bounds) (full : Bool) (fs : List SubscribeFilter) → list_all is_some (codes_of b full fs) ≡ false → full ≡ false
+pub becomes_full : (b : Bounds) (full : Bool) (fs : List SubscribeFilter) → list_all is_some (codes_of b full fs) ≡ false → full ≡ false
 becomes_full b true fs e =
     let n : ℕ = fitting b.most_filters (length fs) in
     let all : list_all is_some (codes_of b true fs) ≡ true = full_all b (take n fs) (drop n fs) in

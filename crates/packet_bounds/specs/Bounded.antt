@@ -2,7 +2,7 @@
 use Rattle.std.specs.Prelude.{ℕ, ◌==◌, ◌||◌, ◌&&◌, not, nat_lt, List, [], ◌∷◌, ◌++◌, length, Bool, true, false, Option, Some, None, is_none, is_some, map, filter, take, drop, count_by, if◌then◌else◌}
 use Rattle.std.specs.List.{list_all}
 use Rattle.std.specs.Prelude.{min}
-use Rattle.mqtt_fields.specs.Properties.{first_four}
+use Rattle.mqtt_fields.specs.Properties.{first_four, first_two}
 use Rattle.mqtt_fields.specs.declared.options.Qos.{Qos}
 use Rattle.mqtt_fields.specs.declared.options.Qos.TheVariants.{AtMostOnce, AtLeastOnce, ExactlyOnce}
 use Rattle.mqtt_fields.specs.declared.value.Property.{Property}
@@ -48,9 +48,23 @@ refusal_at ExactlyOnce ack = Some (packets.Pubrec ack)
 abbrev pub refusal : Publish → ℕ → Option Packet
 refusal p reason = refusal_at p.qos (ack_with p reason)
 
+-- it comes again at QoS 2: an exchange may be open for it (MQTT 5.0, 4.3.3)
+abbrev pub is_repeat_at : Qos → Bool → Bool
+is_repeat_at AtMostOnce dup = false
+is_repeat_at AtLeastOnce dup = false
+is_repeat_at ExactlyOnce dup = dup
+
+-- its client takes its topic to have an alias from now on (MQTT 5.0, 3.3.2.3.4)
+abbrev pub sets_alias : Publish → Bool
+sets_alias p = not (length p.topic == 0) && is_some (first_two 35 p.properties)
+
+-- an answer alone would leave the client and the node apart: the connection ends in its place
+abbrev pub ends_if_refused : Publish → Bool
+ends_if_refused p = is_repeat_at p.qos p.dup || sets_alias p
+
 abbrev pub publish_by : Publish → Option ℕ → Verdict
 publish_by p None = verdicts.Goes mends.Nothing
-publish_by p (Some reason) = verdicts.Refused (refusal p reason)
+publish_by p (Some reason) = if ends_if_refused p then verdicts.Ends reason else verdicts.Refused (refusal p reason)
 
 abbrev pub publish_verdict : Bounds → Bool → Publish → Verdict
 publish_verdict b full p = publish_by p (publish_code b full p)
@@ -167,4 +181,5 @@ suback_if false codes s = None
 abbrev pub mended : Mend → Packet → Option Packet
 mended (mends.Connack longest expiry) (packets.Connack c) = Some (packets.Connack (connack_mended longest expiry c))
 mended (mends.Suback identifier codes) (packets.Suback s) = suback_if (s.identifier == identifier) codes s
+mended (mends.Disconnect reason) (packets.Disconnect e) = Some (packets.Disconnect (record e { reason = reason }))
 mended mend p = None

@@ -1,3 +1,4 @@
 pub mod Bounded
 pub mod Bounds
 pub mod Laws
+pub mod Refusing

@@ -7,7 +7,7 @@ use crate::expiry::with_four;
 use crate::verdict::Mend;
 use mqtt_fields::identifier::{MAXIMUM_PACKET_SIZE, SESSION_EXPIRY_INTERVAL};
 use mqtt_fields::{NoMemory, Properties};
-use mqtt_packets::{Bytes, Connack, Packet, Reasons};
+use mqtt_packets::{Bytes, Connack, Ended, Packet, Reasons};
 use std::alloc::Global;
 
 /// The codes of all filters in their order: those of the filters that were asked for are these.
@@ -96,6 +96,13 @@ pub fn mended(alloc: Global, mend: &Mend, packet: Packet) -> Result<Option<Packe
                 let suback = suback_mended(alloc, codes.as_slice(), suback)?;
                 Ok(Some(Packet::Suback(suback)))
             }
+            _ => Ok(None),
+        },
+        Mend::Disconnect(reason) => match packet {
+            Packet::Disconnect(ended) => Ok(Some(Packet::Disconnect(Ended {
+                reason: *reason,
+                properties: ended.properties,
+            }))),
             _ => Ok(None),
         },
     }

@@ -1,11 +1,11 @@
 //! PUBLISH.
 
 ghost use Rattle.std.specs.Prelude.{◌≡◌, ◌==◌};
-ghost use Rattle.packet_bounds.specs.Bounded.{publish_code, publish_verdict, refusal, user_properties};
+ghost use Rattle.packet_bounds.specs.Bounded.{ends_if_refused, is_repeat_at, publish_code, publish_verdict, refusal, sets_alias, user_properties};
 
 use crate::bounds::{Bounds, is_above, levels};
 use crate::verdict::{Mend, Verdict};
-use mqtt_fields::identifier::USER_PROPERTY;
+use mqtt_fields::identifier::{TOPIC_ALIAS, USER_PROPERTY};
 use mqtt_fields::{Properties, Property, Qos};
 use mqtt_packets::reason::{QUOTA_EXCEEDED, TOPIC_NAME_INVALID};
 use mqtt_packets::{Ack, Packet, Publish};
@@ -55,6 +55,32 @@ fn refusal(alloc: Global, publish: &Publish, reason: u8) -> Option<Packet>
     }
 }
 
+/// Whether it comes again at QoS 2.
+fn is_repeat(qos: Qos, dup: bool) -> bool
+    ensures { result ≡ is_repeat_at qos dup }
+{
+    match qos {
+        Qos::AtMostOnce => false,
+        Qos::AtLeastOnce => false,
+        Qos::ExactlyOnce => dup,
+    }
+}
+
+/// Whether it gives a topic's name an alias.
+fn sets_alias(publish: &Publish) -> bool
+    ensures { result ≡ sets_alias publish.now }
+{
+    !publish.topic.as_str().is_empty() && publish.properties.two(TOPIC_ALIAS).is_some()
+}
+
+/// Whether the connection ends where a PUBLISH is refused: the node may hold an exchange that is open for it, or its client takes its topic to
+/// have an alias from now on.
+fn ends_if_refused(publish: &Publish) -> bool
+    ensures { result ≡ ends_if_refused publish.now }
+{
+    is_repeat(publish.qos, publish.dup) || sets_alias(publish)
+}
+
 pub(crate) fn publish_verdict(
     alloc: Global,
     bounds: &Bounds,
@@ -65,6 +91,12 @@ pub(crate) fn publish_verdict(
 {
     match publish_code(bounds, full, publish) {
         None => Verdict::Goes(Mend::Nothing),
-        Some(reason) => Verdict::Refused(refusal(alloc, publish, reason)),
+        Some(reason) => {
+            if ends_if_refused(publish) {
+                Verdict::Ends(reason)
+            } else {
+                Verdict::Refused(refusal(alloc, publish, reason))
+            }
+        }
     }
 }

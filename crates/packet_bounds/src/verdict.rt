@@ -22,6 +22,8 @@ pub enum Mend {
     Connack(Option<u32>, Option<u32>),
     /// A SUBACK with this identifier has these codes too.
     Suback(u16, Codes),
+    /// A DISCONNECT has this Reason Code.
+    Disconnect(u8),
 }
 
 /// What comes of a packet.
@@ -33,6 +35,8 @@ pub enum Verdict {
     Becomes(Packet, Mend),
     /// It doesn't go on. This answers it; nothing does where it was a PUBLISH at QoS 0.
     Refused(Option<Packet>),
+    /// It doesn't go on, and the connection ends with this Reason Code.
+    Ends(u8),
 }
 
 /// What is told in CONNACK where this Session Expiry Interval is used, or the one that was asked for.
