@@ -1,0 +1,14 @@
+pub mod Faults
+pub mod Following
+pub mod Fronts
+pub mod Going
+pub mod Meets
+pub mod Merging
+pub mod Off
+pub mod Ordering
+pub mod Outs
+pub mod Paths
+pub mod Restaging
+pub mod Sent
+pub mod Steps
+pub mod Theirs

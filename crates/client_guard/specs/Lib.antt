@@ -1,0 +1,17 @@
+pub mod Answering
+pub mod Answers
+pub mod Calls
+pub mod Clients
+pub mod Counts
+pub mod Doing
+pub mod Faults
+pub mod Front
+pub mod Giving
+pub mod Laws
+pub mod Marks
+pub mod Packets
+pub mod Rights
+pub mod Sending
+pub mod Stages
+pub mod Telling
+pub mod Walk
