@@ -1,0 +1,3 @@
+pub mod Hmac
+pub mod Keyed
+pub mod Pbkdf2

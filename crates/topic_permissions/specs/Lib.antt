@@ -1,0 +1,4 @@
+pub mod Comparing
+pub mod Filled
+pub mod Laws
+pub mod Rules

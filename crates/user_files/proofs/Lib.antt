@@ -1,0 +1,4 @@
+pub mod CountLaws
+pub mod FilterLaws
+pub mod LineLaws
+pub mod TextLaws

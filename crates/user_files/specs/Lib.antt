@@ -1,0 +1,7 @@
+pub mod Accounts
+pub mod Admitting
+pub mod Lines
+pub mod Outcomes
+pub mod RuleLines
+pub mod Rules
+pub mod Writing
