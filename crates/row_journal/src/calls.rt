@@ -157,20 +157,21 @@ pub(crate) fn make<R: RowStore>(
     if !are_plain(changes) {
         return Err(RowFault::Device);
     }
-    if changes.len() > MOST || !can_spell_all(changes) {
+    let held = total_len(changes);
+    if changes.len() > MOST || held > bounds.held || !can_spell_all(changes) {
         return make_plainly(alloc, rows, journal, changes);
     }
     let value = spelling(alloc, changes)?;
     let turn = Size {
         changes: changes.len(),
-        held: total_len(changes),
+        held,
         bytes: value.len(),
     };
-    if turn.bytes > bounds.bytes || turn.held > bounds.held {
+    if turn.bytes > bounds.bytes {
         return make_plainly(alloc, rows, journal, changes);
     }
     make_room(alloc, bounds, rows, journal, turn)?;
-    write(alloc, rows, journal, changes, value, turn.held)
+    write(alloc, rows, journal, changes, value, held)
 }
 
 /// Folds the journal, and loads the rows.
