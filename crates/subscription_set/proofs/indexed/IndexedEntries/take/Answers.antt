@@ -6,7 +6,8 @@ use Rattle.subscription_set.specs.Indexing.{ByDot, stands_as}
 use Rattle.subscription_set.proofs.Filtered.{matched_taken}
 use Rattle.finite_maps.proofs.Tables.{get_table, remove_table}
 use Rattle.subscription_set.proofs.Indexing.{live_less, live_left, stands_by, stands_not, taken}
-use Rattle.subscription_set.proofs.indexed.IndexedEntries.remove.Goals as goal
+use Rattle.subscription_set.proofs.indexed.IndexedEntries.take.Goals as goal
+use Rattle.subscription_set.proofs.indexed.IndexedEntries.take.Goals.{then-is_none, else-is_none}
 
 pub overflow_sub-self : goal.overflow_sub-self
 overflow_sub-self c =
@@ -19,8 +20,8 @@ overflow_sub-self c =
     (s.0, (λ i. stands_as (c.client.ensures i) (Some (c.filter.ensures i)) (map.get left s.0)) ∙ s.1)) in
     let counted = c.self.invariant.indexed.live in omega (arith, less, counted)
 
-pub invariant_of-self : goal.invariant_of-self
-invariant_of-self c =
+pub invariant_of-self-then-is_none : goal.invariant_of-self-then-is_none
+invariant_of-self-then-is_none c =
     let m : ByDot = map.from_entries c.self.inside.entries.entries in
     let e = c.in-Some.entry in
     let here : map.get m c.args.dot ≡ Some e = get_table dot_cmp_total c.self.inside.entries.entries c.args.dot ∙ sym c.remove.ensures.value ∙ c.in-Some.is in
@@ -35,9 +36,6 @@ invariant_of-self c =
           (omega (arith, less, counted));
       matched = matched_taken m c.args.dot e c.self.inside.index.matches c.self.invariant.matched (map.from_entries c.remove.new.self.entries) c.unfile.new.self.matches here gone c.unfile.ensures.matches;
     }
-
-pub returns-then-is_none : goal.returns-then-is_none
-returns-then-is_none c = remove_table dot_cmp_total dot_cmp_antisym c.self.inside.entries.entries c.remove.new.self.entries c.args.dot c.remove.ensures.updates.0 ∙ ap (λ x. map.remove x c.args.dot) c.self.view_is
 
 pub invariant_of-self-else-is_none : goal.invariant_of-self-else-is_none
 invariant_of-self-else-is_none c =
@@ -55,8 +53,16 @@ invariant_of-self-else-is_none c =
       matched = matched_taken m c.args.dot e c.self.inside.index.matches c.self.invariant.matched (map.from_entries c.remove.new.self.entries) c.unfile.new.self.matches here gone c.unfile.ensures.matches;
     }
 
-pub returns-in-Some : goal.returns-in-Some
-returns-in-Some c = remove_table dot_cmp_total dot_cmp_antisym c.self.inside.entries.entries c.remove.new.self.entries c.args.dot c.remove.ensures.updates.0 ∙ ap (λ x. map.remove x c.args.dot) c.self.view_is
+pub returns-in_default-clause-value : goal.returns-in_default-clause-value
+returns-in_default-clause-value c = sym (get_table dot_cmp_total c.self.inside.entries.entries c.args.dot ∙ sym c.remove.ensures.value ∙ c.in_default.is) ∙ ap (λ (x : ByDot). map.get x c.args.dot) c.self.view_is
 
-pub returns : goal.returns
-returns c = remove_table dot_cmp_total dot_cmp_antisym c.self.inside.entries.entries c.remove.new.self.entries c.args.dot c.remove.ensures.updates.0 ∙ ap (λ x. map.remove x c.args.dot) c.self.view_is
+pub returns-in_default-clause-left : goal.returns-in_default-clause-left
+returns-in_default-clause-left c = remove_table dot_cmp_total dot_cmp_antisym c.self.inside.entries.entries c.remove.new.self.entries c.args.dot c.remove.ensures.updates.0 ∙ ap (λ (x : ByDot). map.remove x c.args.dot) c.self.view_is
+
+pub returns-clause-value : goal.returns-clause-value
+returns-clause-value c = sym (get_table dot_cmp_total c.self.inside.entries.entries c.args.dot ∙ sym c.remove.ensures.value ∙ c.in-Some.is) ∙ ap (λ (x : ByDot). map.get x c.args.dot) c.self.view_is
+
+pub returns-clause-left : goal.returns-clause-left
+returns-clause-left c =
+    let gone = remove_table dot_cmp_total dot_cmp_antisym c.self.inside.entries.entries c.remove.new.self.entries c.args.dot c.remove.ensures.updates.0 ∙ ap (λ (x : ByDot). map.remove x c.args.dot) c.self.view_is in
+    elim c.if-is_none.branch [ then-is_none w ↦ w.self-is ∙ gone | else-is_none w ↦ w.self-is ∙ gone ]
