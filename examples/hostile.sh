@@ -3,7 +3,7 @@
 # may have open, streams with changed bytes, and noise at the port for other nodes. Beside each a witness publishes and is served. Prints what
 # was done and how much memory the broker had before and after, and ends with status 1 where something isn't as it should be.
 #
-#   examples/hostile.sh             runs the program, which is built first where it isn't yet
+#   examples/hostile.sh             runs the program that ./build has built
 #   examples/hostile.sh PROGRAM..   runs these words in its place, with `run CONFIG NODE DATABASE` behind them
 #
 # STREAMS says how many streams (10,000), NOISE how many bytes (10,000,000), SEED with which random numbers. It needs python3. The ports 1883,
