@@ -1,0 +1,17 @@
+pub mod Leaving
+pub mod Small
+pub mod Untaken
+pub mod Serving
+pub mod Turning
+pub mod TakenLaws
+pub mod BareLaws
+pub mod RunOuts
+pub mod DueDone
+pub mod DueLaws
+pub mod Walking
+pub mod Staying
+pub mod Ends
+pub mod OverLaws
+pub mod Additions
+pub mod AddLaws
+pub mod LiftedLaws
