@@ -1,9 +1,10 @@
 //! How long the parts take that a broker runs most, on the machine it runs on: one line for each
-//! figure of the parts that are named as arguments (`contexts`, `store`, `codec`, `wide`).
+//! figure of the parts that are named as arguments (`contexts`, `store`, `codec`, `wide`, `groups`).
 #![tactic(auto)]
 
 mod codec;
 mod contexts;
+mod groups;
 mod stores;
 mod wide;
 
@@ -17,6 +18,7 @@ fn run(rt: &HostRuntime, part: &str) -> Result<(), Failure> {
         "store" => stores::run(rt),
         "codec" => codec::run(rt),
         "wide" => wide::run(rt),
+        "groups" => groups::run(rt),
         _ => Err(Failure::Part),
     }
 }

@@ -6,8 +6,10 @@ use broker_sockets::{
 };
 use broker_stop::RunFault;
 use broker_turns::{Hub, Setting};
+use client_bounds::BoundLimits;
 use client_limits::Limits;
 use home_table::HomeTable;
+use memory_gauge::NoGauge;
 use mio::net::{TcpListener, TcpStream};
 use node_keeper::{Keeper, KeeperFault};
 use node_server::{ServedNode, StatusPlace, serve};
@@ -16,6 +18,7 @@ use row_store::MemoryRows;
 use std::alloc::Global;
 use std::net::SocketAddr;
 use std::process::Abort;
+use table_door::NoTables;
 
 /// CONNECT of client `a`, whose home of two nodes is the second one, a retained PUBLISH of `on` to `t`, and SUBSCRIBE to `t`.
 pub const PACKETS: [&[u8]; 3] = [
@@ -150,15 +153,19 @@ fn serve_for(
     let rows = MemoryRows::new(alloc);
     let silent: Option<Vec<u8>> = None;
     let nowhere: Option<StatusPlace<'_, RealSockets<'_, HostRuntime>>> = None;
+    let no_tables: Option<NoTables> = None;
     serve(
         alloc,
         &mut sockets,
         &mut clock,
         rows,
         (homes, 0),
+        no_tables,
+        (BoundLimits::none(), NoGauge),
         Limits::none(),
         false,
         silent,
+        None,
         nowhere,
         turns,
         out,
