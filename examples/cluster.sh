@@ -3,7 +3,7 @@
 # receive by MQTT 5.0: plain, shared and retained. One node is killed in between and started again, and then the one
 # at which was published. Prints what came, and exits 1 where something acknowledged is lost.
 #
-#   examples/cluster.sh             runs the program, which is built first where it isn't yet
+#   examples/cluster.sh             runs the program that ./build has built
 #   examples/cluster.sh PROGRAM..   runs these words in its place, with `run CONFIG NODE DATABASE` behind them
 #
 # It needs mosquitto's clients: apt-get install mosquitto-clients. The ports 1883 to 1885 and 2883 to 2885 must be free.

@@ -3,13 +3,13 @@
 #
 #   examples/compare.sh [ROUNDS] [SECONDS]
 #
-# It needs gcc, mosquitto and the built program (./broker builds it). Each load gets brokers that have just been started: this one
+# It needs gcc, mosquitto and the built program (./build builds it). Each load gets brokers that have just been started: this one
 # with a new database, mosquitto once with nothing on disk and once with its state saved at each change.
 set -eu
 top=$(cd "$(dirname "${BASH_SOURCE[0]}")/.." && pwd)
 rounds=${1:-3}
 seconds=${2:-2}
-program=${BROKER:-$top/crates/broker_program/out/broker_program}
+program=${BROKER:-$top/dist/broker}
 room=$(mktemp -d)
 server=
 trap '[ -z "$server" ] || kill "$server" 2> "$room/killed" || :; rm -rf "$room"' EXIT

@@ -4,7 +4,7 @@
 # publishes retained messages, unsubscribes and removes a message, and notes what is acknowledged. After each run the node is started again
 # over its database, and what it holds has to be what it held after the last step that was acknowledged, or after the next one.
 #
-#   examples/file_stops.sh             runs the program, which is built first where it isn't yet
+#   examples/file_stops.sh             runs the program that ./build has built
 #   examples/file_stops.sh PROGRAM..   runs these words in its place, with `run CONFIG NODE DATABASE` behind them
 #
 # Prints a line for each call and fault with how many runs there were, and exits 1 where a run ends with anything else. It needs strace,
@@ -17,7 +17,7 @@ if [ "$#" -gt 0 ]; then
     program=("$@")
 else
     "$top/broker" play "$top/examples/stored_run.script" > /dev/null
-    program=("$top/crates/broker_program/out/broker_program")
+    program=("$top/dist/broker")
 fi
 configuration=$top/examples/one_node.toml
 most=500

@@ -3,7 +3,7 @@
 # times while that subscriber receives. Each time the node is started again over its database, and the clients go on. Prints what was
 # acknowledged and what came, and exits 1 where something acknowledged didn't come, or comes twice at QoS 2, or out of order.
 #
-#   examples/kill.sh             runs the program, which is built first where it isn't yet
+#   examples/kill.sh             runs the program that ./build has built
 #   examples/kill.sh PROGRAM..   runs these words in its place, with `run CONFIG NODE DATABASE` behind them
 #
 # Each kill comes after 1 to 2,000 further messages, or after at most as many as MESSAGES says. It needs python3. The ports 1883 and 2883

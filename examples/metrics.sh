@@ -3,7 +3,7 @@
 # each for its metrics once a second. Prints what Prometheus has of them, by its HTTP API, as they come up, while one is killed and a message is
 # retained that it lacks, and once it is back. Exits 1 where a step doesn't come to be seen.
 #
-#   examples/metrics.sh             runs the program, which is built first where it isn't yet
+#   examples/metrics.sh             runs the program that ./build has built
 #   examples/metrics.sh PROGRAM..   runs these words in its place, with `run CONFIG NODE DATABASE --status ADDRESS` behind them
 #
 # What is wanted is waited for 60 seconds, or as many as PATIENCE says. It needs curl, mosquitto's clients and Prometheus: apt-get install curl
@@ -84,7 +84,7 @@ echo '--- n2 is killed, and another message is retained'
 await_values '1 1 0' up
 retain metrics/second 2
 await_values '2 2 -' mqtt_retained_messages
-await_values '1 1 -' mqtt_cluster_peer_lacking_operations ',peer="127.0.0.1:2885"'
+await_values '1 1 -' mqtt_cluster_peer_lacking_operations ',peer="n2"'
 await_values '0 0 -' mqtt_cluster_caught_up
 
 start_with_status 2

@@ -3,7 +3,7 @@
 # at n2 publishes for it at QoS 1. The client follows the server that it is told. Prints what the client was told, how many messages were
 # acknowledged, how many came at which node, and which were lost with the session, and exits 1 where any other was lost.
 #
-#   examples/move.sh             runs the program, which is built first where it isn't yet
+#   examples/move.sh             runs the program that ./build has built
 #   examples/move.sh PROGRAM..   runs these words in its place, with `run CONFIG NODE DATABASE` behind them
 #
 # It needs python3. The ports 1883 to 1885 and 2883 to 2885 must be free.

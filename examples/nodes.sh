@@ -20,7 +20,7 @@ clean_up() {
 trap clean_up EXIT
 trap 'exit 130' INT
 
-# The broker is run by these words, or where there are none by the launcher, which builds it first where it isn't yet.
+# The broker is run by these words, or where there are none by `broker` at the top, which runs what ./build has built.
 run_by() {
     program=("$top/broker")
     if [ "$#" -gt 0 ]; then

@@ -3,8 +3,8 @@
 # Prints what came, and exits 1 where that isn't what was sent.
 #
 #   examples/pub_sub.sh [HOST [PORT]]   asks a broker that runs, at 127.0.0.1 and 1883 where nothing else is given
-#   examples/pub_sub.sh --start         starts one node with an empty database, asks it, and ends it; the program is built first where it
-#                                       isn't yet, or the words that follow run in its place
+#   examples/pub_sub.sh --start         starts one node with an empty database, asks it, and ends it; it runs the program that ./build
+#                                       has built, or the words that follow in its place
 #
 # It needs mosquitto's clients: apt-get install mosquitto-clients. The broker may be any one of MQTT 5.0.
 set -eu

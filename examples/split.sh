@@ -5,7 +5,7 @@
 # new subscribers get at each node and what came, and exits 1 where the nodes don't agree in the end, something acknowledged is
 # lost, or a node waits for the other.
 #
-#   examples/split.sh             runs the program, which is built first where it isn't yet
+#   examples/split.sh             runs the program that ./build has built
 #   examples/split.sh PROGRAM..   runs these words in its place, with `run CONFIG NODE DATABASE` behind them
 #
 # The node stands still for 20 seconds, or for as many as STILL says, and what is wanted is waited for 60, or PATIENCE.

@@ -4,7 +4,7 @@
 # its metrics are the figures of its /status.json, and have nothing that promtool finds fault with. Exits 1 where they aren't, or have, and where
 # a gate is open while a peer lacks something, or stays shut.
 #
-#   examples/status.sh             runs the program, which is built first where it isn't yet
+#   examples/status.sh             runs the program that ./build has built
 #   examples/status.sh PROGRAM..   runs these words in its place, with `run CONFIG NODE DATABASE --status ADDRESS` behind them
 #
 # It needs curl, python3 and mosquitto's clients: apt-get install curl python3 mosquitto-clients. Where promtool isn't there (apt-get install

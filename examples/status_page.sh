@@ -3,7 +3,7 @@
 # page of n0, as a browser shows it: 390 and 1,280 pixels wide, with scripts and without. It has clients, and two peers: n1, which has all, and
 # n2, which was killed and lacks two operations. Prints the paths of the pictures, and exits 1 where one isn't there, has another width or is blank.
 #
-#   examples/status_page.sh FOLDER             runs the program, which is built first where it isn't yet
+#   examples/status_page.sh FOLDER             runs the program that ./build has built
 #   examples/status_page.sh FOLDER PROGRAM..   runs these words in its place, with `run CONFIG NODE DATABASE --status ADDRESS`
 #                                              behind them
 #
@@ -21,7 +21,7 @@ shift
 source "$(dirname "${BASH_SOURCE[0]}")/nodes.sh"
 run_by "$@"
 need chromium curl mosquitto_pub mosquitto_sub
-height=1250
+height=1900
 # A picture of fewer bytes is blank: a blank one has 4,000 to 8,000, and the page 65,000 to 85,000.
 least=20000
 browser=(chromium --headless --hide-scrollbars --virtual-time-budget=5000)

@@ -6,6 +6,7 @@ ghost use Rattle.clap.specs.Words.{HasKind, app_of, fault_of, found_of, kind_of,
 ghost use Rattle.clap.specs.declared.builder.command.Command.TheViews.{out-Command as fields_of};
 ghost use Rattle.broker_command.specs.Line.{broker, play, loopback, node_words, with_options, serve, run, check, word_rule, option_rule, turns_rule, most_clients_rule, connect_within_rule, mqtt3_rule, log_rule, status_rule, IsFlag, IsNumberIf, IsTextIf, IsTask, IsOf, IsPlay, IsLoopback, IsNode, IsServe, IsRun, IsCheck, IsScript, IsRefusal, IsStopOf};
 
+use crate::limits::{limits_of, with_limits};
 use crate::task::Task;
 use broker_stop::{RunFault, Stop};
 use clap::error::ErrorKind;
@@ -82,12 +83,13 @@ fn with_options<'a>(alloc: Global, command: Command<'a>) -> Result<Command<'a>, 
     ensures { IfOk result (λ c. (app_of c ≡ with_options (app_of command.entry))
         × ((fields_of command.entry).has_globals ≡ false → (fields_of c).has_globals ≡ false)) }
 {
-    command
+    let command = command
         .arg(most_clients_option(alloc))?
         .arg(connect_within_option(alloc))?
         .arg(mqtt3_option(alloc))?
         .arg(log_option(alloc))?
-        .arg(status_option(alloc))
+        .arg(status_option(alloc))?;
+    with_limits(alloc, command)
 }
 
 fn serve_command<'a>(alloc: Global) -> Result<Command<'a>, AllocError>
@@ -176,7 +178,7 @@ fn status_option<'a>(alloc: Global) -> Arg<'a>
 }
 
 /// The argument's value is a number from 1 to 1,000,000,000.
-fn numbered<'a>(option: Arg<'a>) -> Arg<'a>
+pub(crate) fn numbered<'a>(option: Arg<'a>) -> Arg<'a>
     ensures rule { rule_of result ≡ record (rule_of option.entry) { parser = Some (Signed (pos 1) (pos 1000000000)) } }
     ensures local { result.global ≡ option.entry.global }
 {
@@ -184,7 +186,7 @@ fn numbered<'a>(option: Arg<'a>) -> Arg<'a>
 }
 
 /// An argument that may be there, with one value.
-fn optional<'a>(alloc: Global, name: &'a str) -> Arg<'a>
+pub(crate) fn optional<'a>(alloc: Global, name: &'a str) -> Arg<'a>
     ensures rule { rule_of result ≡ option_rule name.entry.now }
     ensures local { result.global ≡ false }
 {
@@ -259,7 +261,7 @@ fn loopback_task(alloc: Global, found: &ArgMatches<'_>) -> Result<Option<Task>, 
 }
 
 /// The number that an option is given, or none where it isn't given; nothing where it is given anything else.
-fn number_of(found: &ArgMatches<'_>, name: &str) -> Option<Option<u32>>
+pub(crate) fn number_of(found: &ArgMatches<'_>, name: &str) -> Option<Option<u32>>
     ensures { IfSome result (IsNumberIf (rows_of (found_of found.now)) name.now) }
 {
     match found.try_get_one::<u32>(name) {
@@ -308,6 +310,9 @@ fn node_task(
     let Some(connect_within) = number_of(found, "connect-within") else {
         return Ok(None);
     };
+    let Some(limits) = limits_of(found) else {
+        return Ok(None);
+    };
     Ok(Some(Task::Serve {
         configuration: String::from_str(alloc, configuration)?,
         node: String::from_str(alloc, node)?,
@@ -315,6 +320,7 @@ fn node_task(
         turns,
         most_clients,
         connect_within,
+        limits,
         mqtt3: found.get_flag("mqtt3"),
         log: found.get_flag("log"),
         status: text_of(alloc, found, "status")?,

@@ -1,5 +1,6 @@
 //! What each command runs.
 
+use crate::limits::bounds_of;
 use broker_checking::check;
 use broker_command::Task;
 use broker_serving::serve;
@@ -25,6 +26,7 @@ pub fn run_task(rt: &HostRuntime, task: Task) -> Result<(), Ending> {
             turns,
             most_clients,
             connect_within,
+            limits,
             mqtt3,
             log,
             status,
@@ -33,6 +35,7 @@ pub fn run_task(rt: &HostRuntime, task: Task) -> Result<(), Ending> {
             configuration.as_str(),
             node.as_str(),
             database.as_str(),
+            bounds_of(&limits),
             Limits::new(most_clients, connect_within),
             mqtt3,
             log,

@@ -5,17 +5,17 @@ ghost use Rattle.std.specs.Prelude.{◌<◌, length};
 use broker_stop::{RunFault, Stop};
 use home_table::HomeTable;
 use node_database::OpenFault;
-use resting_rows::{found_of_open, held, refused};
+use resting_rows::{found_of_open, held, refused, unwritten};
 use run_causes::{Answer, Cause, Ending, Found, Tried, answer_of, rows_fault};
 use std::net::{SocketAddr, TcpListener};
 
-/// The end of a run whose database at a path isn't opened; the system is asked about the path only where it refused it.
+/// The end of a run whose database at a path isn't opened; the system is asked about the path where it refused it, and about the disk where that failed.
 pub fn unopened(rt: &HostRuntime, path: &str, fault: OpenFault) -> Ending {
-    let answer = match fault {
+    let found = match fault {
         OpenFault::Refused => refused(rt, path),
-        _ => Found::Failed,
+        OpenFault::Device => unwritten(rt, path),
+        _ => found_of_open(fault, Found::Failed),
     };
-    let found = found_of_open(fault, answer);
     Ending {
         stop: Stop::Run(rows_fault(&found)),
         cause: Cause::opening(rt.alloc(), path, found),
@@ -24,9 +24,13 @@ pub fn unopened(rt: &HostRuntime, path: &str, fault: OpenFault) -> Ending {
 
 /// What is found of rows from which a node isn't opened, or which couldn't be changed.
 fn cause_of_rows(rt: &HostRuntime, path: &str, id: u16, nodes: u16) -> Option<Cause> {
-    match held(rt, path, id, nodes) {
-        Ok(_) => Cause::keeping(rt.alloc(), path, Found::Failed),
-        Err(cause) => cause,
+    let cause = match held(rt, path, id, nodes) {
+        Ok(_) => return Cause::keeping(rt.alloc(), path, unwritten(rt, path)),
+        Err(cause) => cause?,
+    };
+    match &cause.found {
+        Found::NoRows => Cause::keeping(rt.alloc(), path, unwritten(rt, path)),
+        _ => Some(cause),
     }
 }
 

@@ -2,6 +2,7 @@
 #![tactic(auto)]
 
 mod causes;
+mod gauge;
 mod refusal;
 mod run;
 mod telling;

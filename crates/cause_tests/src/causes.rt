@@ -2,6 +2,7 @@
 //! was found.
 
 use broker_serving::serve;
+use client_bounds::BoundLimits;
 use client_limits::Limits;
 use database_examples::HOMES;
 use node_database::{Wary, open_rows};
@@ -27,6 +28,7 @@ fn told_at(rt: &HostRuntime, names: (&str, &str, &str), status: Option<&str>) ->
         configuration,
         node,
         database,
+        BoundLimits::none(),
         none,
         false,
         false,

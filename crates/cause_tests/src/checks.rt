@@ -3,6 +3,7 @@
 use broker_checking::check;
 use database_examples::{HOMES, PACKETS, held, write_file};
 use node_database::{Wary, open_rows};
+use std::os::unix::fs::PermissionsExt;
 use std::{fs, str};
 
 /// What a check of a node's rows prints, or what it leaves on standard error.
@@ -74,7 +75,7 @@ fn rows_that_are_none_are_told(rt: HostRuntime) {
         (
             "n0",
             "blank.db",
-            "node n0 number 0\nsessions 0\nsubscriptions 0\nretained 0\nlane 1 waiting 0\ntaken 0 0\ntaken 1 0\n",
+            "broker: run: Rows\nbroker: opening the database blank.db: it has no rows: it is empty, or its log is not beside it",
         ),
         (
             "n2",
@@ -94,5 +95,19 @@ fn rows_that_are_none_are_told(rt: HostRuntime) {
     let open =
         "broker: run: Rows\nbroker: opening the database open_told.db: a program that runs has it open";
     assert!(rt; is_checked(&rt, ("none.toml", "n0", "open_told.db"), open));
+    drop(rows);
+}
+
+/// A new database, which may be read and written by its owner alone.
+#[test]
+fn files_are_for_their_owner_alone(rt: HostRuntime) {
+    let rows = open_rows(&rt, "private.db", Wary)
+        .ok()
+        .expect(&rt, "a database");
+    for path in ["private.db", "private.db-wal"] {
+        let found = fs::metadata(&rt, path).expect(&rt, "a file");
+        let mode = found.permissions().mode();
+        assert_eq!(rt; mode & 0o777, 0o600);
+    }
     drop(rows);
 }

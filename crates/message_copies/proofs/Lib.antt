@@ -4,3 +4,4 @@ pub mod InOrder
 pub mod Sharing
 pub mod Ascending
 pub mod Putting
+pub mod InTurn

@@ -1,18 +1,21 @@
 -- What is selected of what is live.
-use Rattle.std.proofs.Common.{◌≡◌, ◌↔◌, Bool, true, false, List, [], ◌∷◌, map, length, ℕ, ◌<◌, Result, Ok, Err, OnErr, IsOk, Bor, inl, inr, refl, sym, ap, subst, ◌∙◌, arith}
+use Rattle.std.proofs.Common.{◌≡◌, ◌↔◌, Bool, true, false, List, [], ◌∷◌, map, flat_map, length, ℕ, ◌<◌, Result, Ok, Err, OnErr, IsOk, Bor, inl, inr, refl, sym, ap, subst, ◌∙◌, arith}
 use Rattle.std.proofs.lemmas.Bool.{false≢true}
 use Rattle.std.specs.List.{items_where_true}
 use Rattle.std.specs.List.Retain.{IsFiltered, ReturnsInTurn}
 use Rattle.mqtt_topics.specs.Topics.{IsShared}
 use Rattle.mqtt_message.specs.declared.message.Message.{Message}
-use Rattle.subscription_set.specs.Entries.{Entry}
+use Rattle.subscription_set.specs.Entries.{Entry, same_text}
 use Rattle.subscription_set.specs.Standing.{Entries}
 use Rattle.message_copies.specs.declared.plain.PlainCopy.{PlainCopy}
-use Rattle.message_copies.specs.declared.groups.GroupPick.{GroupPick}
 use Rattle.message_copies.specs.Copies.{AreCopies, AreCopiesAmong, AreLive, Counts, MayCount, IsFor, IsPlainFor, entries_in}
-use Rattle.message_copies.specs.Picks.{ArePicks, ArePicksAmong, IsSharedFor}
 use Rattle.message_copies.specs.Tables.{referents}
 use Rattle.filter_trie.specs.Selected.{IsSelected}
+use Rattle.std.specs.Cmp.Lexicographic.{bytes_decides}
+use Rattle.mqtt_topics.specs.Matching.{Matches}
+use Rattle.subscription_set.specs.Members.{AreInTurn, HasLive, in_turn, to_filter}
+use Rattle.subscription_set.proofs.Grouping.{no_match}
+use Rattle.subscription_set.proofs.Walking.{nothing_in}
 
 module _ {A : Type 0} (P : A → Type 0) where
   pub selected_once : (xs out other : List A) → IsSelected P xs out → IsSelected P xs other → out ≡ other
@@ -47,17 +50,30 @@ selected_within P Q f = selected_both P Q Q (λ x p q. q) (λ x q. (f x q, q))
 pub copies_found : (live : Entries) (m : Message) (found : List Entry) (out : List PlainCopy) → AreLive (IsFor m) live found → AreCopiesAmong found m out → AreCopies live m out
 copies_found live m found out h a = (a.0, selected_both (IsFor m) (MayCount m) (Counts m) (λ e p q. ((q.0, p), q.1)) (λ e k. (k.0.1, (k.0.0, k.1))) (entries_in live) found a.0 h a.1, a.2)
 
--- and what is plain of it is what is live, plain, and matches
-pub plain_found : (live : Entries) (m : Message) (found out : List Entry) → AreLive (IsFor m) live found → IsSelected (λ e. IsShared e.filter → ⊥) found out → AreLive (IsPlainFor m) live out
-plain_found live m found out h a = selected_both (IsFor m) (λ e. IsShared e.filter → ⊥) (IsPlainFor m) (λ e p q. (q, p)) (λ e k. (k.1, k.0)) (entries_in live) found out h a
+-- copies among what is plain of it are copies by what is live
+pub plain_copies : (live : Entries) (m : Message) (plain : List Entry) (out : List PlainCopy) → AreLive (IsPlainFor m) live plain → AreCopiesAmong plain m out → AreCopies live m out
+plain_copies live m plain out h a = (a.0, selected_both (IsPlainFor m) (MayCount m) (Counts m) (λ e p q. (p, q.1)) (λ e k. (k.0, (k.0.0, k.1))) (entries_in live) plain a.0 h a.1, a.2)
 
--- and so are picks
-pub picks_found : (turn : ℕ) (live : Entries) (m : Message) (found : List Entry) (out : List GroupPick) → AreLive (IsFor m) live found → ArePicksAmong turn found m out → ArePicks turn live m out
-picks_found turn live m found out h a = (a.0, selected_both (IsFor m) (λ e. IsShared e.filter) (IsSharedFor m) (λ e p q. (q, p)) (λ e k. (k.1, k.0)) (entries_in live) found a.0 h a.1, a.2)
+-- what is plain of what is plain and matches is all of it
+pub plain_again : (live : Entries) (m : Message) (plain out : List Entry) → AreLive (IsPlainFor m) live plain → IsSelected (λ e. IsShared e.filter → ⊥) plain out → AreLive (IsPlainFor m) live out
+plain_again live m plain out h a = selected_both (IsPlainFor m) (λ e. IsShared e.filter → ⊥) (IsPlainFor m) (λ e p q. p) (λ e p. (p, p.0)) (entries_in live) plain out h a
 
 -- where nothing that is live matches, nothing is found
 pub nothing_found : (live : Entries) (m : Message) (rs : List (Bor Entry)) → AreLive (IsFor m) live (referents rs) → AreLive (IsFor m) live [] → length rs ≡ 0
 nothing_found live m rs h none = no_references rs (selected_once (IsFor m) (entries_in live) (referents rs) [] h none)
+
+none_weaker : {A : Type 0} (P Q : A → Type 0) → ((x : A) → Q x → P x) → (xs : List A) → IsSelected P xs [] → IsSelected Q xs []
+none_weaker P Q f [] h = refl
+none_weaker P Q f (x ∷ xs) (inl h) = absurd (let no = h.1.1 in cc)
+none_weaker P Q f (x ∷ xs) (inr h) = inr ((λ q. h.0 (f x q)), none_weaker P Q f xs h.1)
+
+pub nothing_plain : (live : Entries) (m : Message) (rs : List (Bor Entry)) → AreLive (IsPlainFor m) live (referents rs) → AreLive (IsFor m) live [] → length rs ≡ 0
+nothing_plain live m rs h none = no_references rs (selected_once (IsPlainFor m) (entries_in live) (referents rs) [] h (none_weaker (IsFor m) (IsPlainFor m) (λ e p. p.1) (entries_in live) none))
+
+pub nothing_in_turn : (turn : ℕ) (live : Entries) (m : Message) (rs : List (Bor Entry)) → AreInTurn turn m.topic (entries_in live) (referents rs) → AreLive (IsFor m) live [] → length rs ≡ 0
+nothing_in_turn turn live m rs a none =
+    let no = no_match (HasLive (entries_in live)) m.topic a.0 (λ f h k. nothing_in (IsFor m) (λ e. same_text f e.filter) (λ e t. subst (λ g. Matches g m.topic) ((bytes_decides f e.filter).0 t) k) (entries_in live) none h) a.1 in
+    no_references rs (a.2 ∙ ap (flat_map (λ f. in_turn turn (to_filter f (entries_in live)))) no)
 
 -- what fails only where there is something doesn't fail where there is nothing
 pub is_ok_of_none : {T E : Type 0} (n : ℕ) (r : Result T E) → n ≡ 0 → OnErr r (0 < n) → IsOk r

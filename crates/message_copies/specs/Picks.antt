@@ -3,7 +3,6 @@ use Rattle.std.specs.Prelude.{◌≡◌, ℕ, ◌%◌, List, [], ◌∷◌, leng
 use Rattle.std.specs.List.{flat_map, AllByRecursion}
 use Rattle.mqtt_message.specs.declared.message.Message.{Message}
 use Rattle.mqtt_topics.specs.Topics.{IsShared}
-use Rattle.filter_trie.specs.Selected.{IsSelected}
 use Rattle.subscription_set.specs.Entries.{Entry}
 use Rattle.subscription_set.specs.Standing.{Entries}
 use Rattle.message_copies.specs.declared.groups.GroupPick.{GroupPick}
@@ -31,10 +30,6 @@ picked turn es = slice_get (by_client es) (turn % length (by_client es))
 -- the filters are those of shared subscriptions
 abbrev pub AreShared : List GroupPick → Type 0
 AreShared picks = AllByRecursion (λ x. IsShared x.filter) picks
-
--- one pick for each group with a shared one of some subscriptions that match, in the order of the groups
-abbrev pub ArePicksAmong : ℕ → List Entry → Message → List GroupPick → Type 0
-ArePicksAmong turn found m out = (shared : List Entry) × IsSelected (λ e. IsShared e.filter) found shared × (out ≡ flat_map (λ g. pick_of m (picked turn g.1)) (by_group shared))
 
 -- one pick for each group with a live subscription that matches, in the order of the groups' names and then of their filters
 abbrev pub ArePicks : ℕ → Entries → Message → List GroupPick → Type 0

@@ -6,12 +6,11 @@ ghost use Rattle.std.specs.List.Sorted.{IsSortedByKey};
 ghost use Rattle.std.specs.Option.{option_to_list};
 ghost use Rattle.subscription_set.specs.Filing.{text_cmp};
 ghost use Rattle.message_copies.specs.Gathered.{by_group, client_of};
-ghost use Rattle.message_copies.specs.Picks.{ArePicksAmong, pick_by, pick_of, picked};
+ghost use Rattle.message_copies.specs.Picks.{pick_by, pick_of, picked};
 ghost use Rattle.message_copies.specs.Tables.{referents};
 
 use crate::deliveries::copy_for;
 use crate::gathered::{by_client, by_group, sort_by_client};
-use crate::selected::shared_among;
 use mqtt_fields::{NoMemory, Text};
 use mqtt_message::{Delivery, SharedMessage};
 use mqtt_topics::Filter;
@@ -105,19 +104,19 @@ fn picks_of(
     Ok(out)
 }
 
-/// One pick for each group with a shared subscription, among these, which match. Only these take memory.
+/// One pick for each group of these shared subscriptions. Only these take memory.
 pub fn picks_among(
     alloc: Global,
     message: &SharedMessage,
-    found: &[&Entry],
+    shared: &[&Entry],
     turn: u64,
 ) -> Result<Vec<GroupPick>, NoMemory>
-    ensures picks { IfOk result (λ out. ArePicksAmong turn (referents found.now) message.now out.items) }
-    ensures memory { OnErr result (0 < length found.now) }
+    ensures picks { IfOk result (λ out. out.items
+        ≡ flat_map (λ g. pick_of message.now (picked turn g.1)) (by_group (referents shared.now))) }
+    ensures memory { OnErr result (0 < length shared.now) }
 {
-    if found.is_empty() {
+    if shared.is_empty() {
         return Ok(Vec::new(alloc));
     }
-    let shared = shared_among(alloc, found)?;
-    picks_of(alloc, message, shared.as_slice(), turn)
+    picks_of(alloc, message, shared, turn)
 }

@@ -8,11 +8,11 @@ ghost use Rattle.message_copies.specs.Tables.{referents};
 
 use crate::groups::{GroupPick, picks_among};
 use crate::plain::{PlainCopy, copies_among};
-use crate::selected::{found, plain_among};
+use crate::selected::{found_apart, plain_among};
 use mqtt_fields::NoMemory;
 use mqtt_message::SharedMessage;
 use std::alloc::Global;
-use subscription_set::{Entry, SubscriptionSet};
+use subscription_set::{Entry, MatchingApart, SubscriptionSet};
 
 /// Whom a message is for: the copies by plain subscriptions, the picks of shared groups, and the live plain subscriptions that
 /// match, also those that No Local leaves out.
@@ -39,10 +39,11 @@ pub fn copies_and_picks<'a>(
     ensures matching { IfOk result (λ out. AreLive (IsPlainFor message.now) (live subscriptions.now) (referents out.matching.items)) }
     ensures none { AreLive (IsFor message.now) (live subscriptions.now) [] → IsOk result }
 {
-    let found = found(subscriptions, message)?;
-    let picks = picks_among(alloc, message, found.as_slice(), turn)?;
-    let matching = plain_among(alloc, found.as_slice())?;
-    let copies = copies_among(alloc, message, found)?;
+    let found = found_apart(subscriptions, message, turn)?;
+    let MatchingApart { plain, in_turn } = found;
+    let picks = picks_among(alloc, message, in_turn.as_slice(), turn)?;
+    let matching = plain_among(alloc, plain.as_slice())?;
+    let copies = copies_among(alloc, message, plain)?;
     Ok(CopiesAndPicks {
         copies,
         picks,

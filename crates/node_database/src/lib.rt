@@ -95,7 +95,7 @@ fn is_file(path: &str) -> bool {
     path != ":memory:" && !path.starts_with("file:")
 }
 
-/// The rows of the database at a path, which is made where there is none: those that its files show as they are opened, which are the rows of its table after the changes of
+/// The rows of the database at a path, which is made where there is none, for its owner alone: those that its files show as they are opened, which are the rows of its table after the changes of
 /// the journal in it. They are open.
 ///
 /// `S` stands for what the files hold, which no code can tell; its value is used up, so code over any `S` opens one database. Programs pass
@@ -111,7 +111,7 @@ pub fn open_rows<S: Start>(
     ensures rows { IfOk result (λ d. ⟦<DatabaseRows<FileFrom<S>> as RowStore>⟧.is_clean d → AreShownIn (image_at S.Start) (⟦<DatabaseRows<FileFrom<S>> as RowStore>⟧.content d)) }
 {
     if is_file(path) {
-        let _ = begin(rt, path);
+        begin(rt, path);
     }
     match Connection::open_from(rt, path, false, start) {
         Ok(conn) => match adopt(conn) {

@@ -7,8 +7,11 @@ mod losses;
 mod peers;
 mod run;
 mod served;
+mod stack;
 mod status;
+mod watchers;
 
 pub use run::serve;
 pub use served::ServedNode;
+pub use stack::{BoundedNode, LimitedNode, LoggedNode, TalliedNode, ToldNode};
 pub use status::{NodeTeller, StatusPlace};

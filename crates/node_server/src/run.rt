@@ -10,13 +10,17 @@ use crate::fault::{of_node, of_turn};
 use crate::losses::losses_of;
 use crate::peers::peers_of;
 use crate::served::ServedNode;
+use crate::stack::LoggedNode;
 use crate::status::{NodeTeller, StatusPlace, open_desk};
+use crate::watchers::Watchers;
 use broker_sockets::{Clock, Readiness, Sockets, bind};
 use broker_stop::RunFault;
 use broker_turns::{Hub, Setting};
+use client_bounds::{BoundLimits, Bounded};
 use client_limits::{Limited, Limits};
 use client_log::Logged;
 use home_table::HomeTable;
+use memory_gauge::Gauge;
 use mqtt_fields::NoMemory;
 use mqtt3_handler::Mqtt3;
 use node_keeper::Keeper;
@@ -75,14 +79,14 @@ fn tell_turns<W: Write>(out: &mut W, turns: u64) -> Result<(), RunFault>
 }
 
 /// Tells what the node has left out, where there is a log.
-fn tell_losses<R: RowStore, C: Clock, E: Write>(
-    node: &mut Logged<Limited<ServedNode<R>>, E>,
+fn tell_losses<R: RowStore, G, C: Clock, E: Write>(
+    node: &mut LoggedNode<R, G, E>,
     clock: &mut C,
 ) -> Result<(), NoMemory>
     ensures { OnOk result (ToldLosses C.tells E.contents node.old clock.old node.new clock.new) }
 {
     let at = clock.now();
-    let losses = losses_of(&node.inside().inside().counts());
+    let losses = losses_of(&node.inside().inside().inside().counts());
     node.finish(at, &losses)
 }
 
@@ -114,17 +118,27 @@ fn tally_if(alloc: Global, wanted: bool, nodes: u16) -> Result<Option<Tally>, Ru
     }
 }
 
-/// Starts a node behind a door with these limits, one with a log, if there is a writer for that, and those of a status, if there is a desk for
-/// it, and makes so many turns over the clients that come and the other nodes. Where all were made the log tells what the node has left out.
-fn run_node<S: Readiness, C: Clock, R: RowStore + Drop, E: Write + Drop, Z: Sockets + Drop>(
+/// Starts a node behind these limits on what clients send, with a gauge of memory, and these on clients, behind a log, if there is a writer for
+/// that, and behind a status, if there is a desk for it, and makes so many turns over the clients that come and the other nodes. What the node leaves out is
+/// told while it runs, if there is a writer for that, and the log tells it where all turns were made.
+fn run_node<
+    S: Readiness,
+    C: Clock,
+    R: RowStore + Drop,
+    G: Gauge + Drop,
+    E: Write + Drop,
+    Z: Sockets + Drop,
+>(
     alloc: Global,
     sockets: &mut S,
     clock: &mut C,
     setting: Setting<S::Listener>,
     keeper: Keeper<R>,
+    bounds: (BoundLimits, G),
     limits: Limits,
     mqtt3: bool,
     error: Option<E>,
+    losses: Option<E>,
     desk: Option<OpenDesk<Z, NodeTeller>>,
     turns: u64,
 ) -> Result<(), RunFault>
@@ -134,9 +148,12 @@ fn run_node<S: Readiness, C: Clock, R: RowStore + Drop, E: Write + Drop, Z: Sock
     let Ok(mut hub) = Hub::new(alloc, setting) else {
         return Err(RunFault::NoMemory);
     };
-    let limited = Limited::new(alloc, limits, ServedNode::new(alloc, keeper));
+    let (asked, gauge) = bounds;
+    let bounded = Bounded::new(alloc, asked, gauge, ServedNode::new(alloc, keeper));
+    let limited = Limited::new(alloc, limits, bounded);
     let logged = Logged::new(alloc, error, limited);
-    let told = Told::new(Tallied::new(logged, tally), desk);
+    let watchers = Watchers::new(alloc, desk, losses)?;
+    let told = Told::new(Tallied::new(logged, tally), Some(watchers));
     let mut node = Mqtt3::new(alloc, mqtt3, told);
     match hub.serve(sockets, &mut node, clock, turns) {
         Ok(()) => {
@@ -149,8 +166,8 @@ fn run_node<S: Readiness, C: Clock, R: RowStore + Drop, E: Write + Drop, Z: Sock
 }
 
 /// Opens a node from its rows, waits at its addresses for clients and for other nodes, prints that it is ready, starts it behind
-/// a door with these limits, makes so many turns, and prints that they were made. Where a writer is given for it a log is written there,
-/// and where a place is given its status is told there.
+/// these limits on what clients send, with a gauge of memory, and these on clients, makes so many turns, and prints that they were made. Where a writer
+/// is given for it a log is written there, and what is left out while it runs to another one; where a place is given its status is told there.
 ///
 /// The faults in their order: the node's where it can't be opened, `Socket` where one of its addresses, another node's
 /// bridge or the status's address isn't an IP address with a port, or can't be waited at, `Output` where a line can't be printed, and the
@@ -159,6 +176,7 @@ pub fn serve<
     S: Readiness,
     C: Clock,
     R: RowStore + Drop,
+    G: Gauge + Drop,
     E: Write + Drop,
     Z: Sockets + Drop,
     W: Write,
@@ -168,9 +186,11 @@ pub fn serve<
     clock: &mut C,
     rows: R,
     place: (HomeTable, u16),
+    bounds: (BoundLimits, G),
     limits: Limits,
     mqtt3: bool,
     error: Option<E>,
+    losses: Option<E>,
     status: Option<StatusPlace<'_, Z>>,
     turns: u64,
     out: &mut W,
@@ -188,7 +208,7 @@ pub fn serve<
     let desk = desk_at(alloc, status, clock)?;
     tell_ready(out, homes, id)?;
     run_node(
-        alloc, sockets, clock, setting, keeper, limits, mqtt3, error, desk, turns,
+        alloc, sockets, clock, setting, keeper, bounds, limits, mqtt3, error, losses, desk, turns,
     )?;
     tell_turns(out, turns)
 }

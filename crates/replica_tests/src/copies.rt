@@ -1,7 +1,7 @@
 //! What each client of the subscriptions gets of one message.
 
 use crate::values::{filter, text};
-use causal_context::{Context, Dot};
+use causal_context::{Context, Dot, Lattice};
 use message_copies::{CopiesAndPicks, copies, copies_and_picks, offer_of};
 use mqtt_fields::{Qos, SubscriptionOptions};
 use mqtt_message::{Delivery, Identifiers, Message, SharedMessage};
@@ -142,6 +142,72 @@ fn a_member_of_each_group_is_picked(rt: HostRuntime) {
     ] {
         let found = told_picks(&rt, rt.alloc(), &set, turn);
         assert_eq!(rt; found.as_str(), told, "at {turn}");
+    }
+    drop(set);
+}
+
+// Merges a set that has seen a dot, with this subscription there or with none.
+fn merge(
+    rt: &impl Abort,
+    alloc: Global,
+    set: &mut SubscriptionSet,
+    number: usize,
+    row: Option<&Row>,
+) {
+    let mut seen = Context::new(alloc);
+    seen.insert(dot(rt, number)).expect(rt, "memory");
+    let mut entries = Vec::new(alloc);
+    if let Some(row) = row {
+        let entry = (dot(rt, number), entry(rt, alloc, row));
+        entries.push(entry).expect(rt, "memory");
+    }
+    let other = SubscriptionSet::new(seen, entries);
+    let other = other.expect(rt, "memory").expect(rt, "a set");
+    set.join(&other).expect(rt, "memory");
+    drop(other);
+}
+
+// The client that a message for `$share/g/t/u` goes to at each of four turns, in order.
+fn told_turns(rt: &impl Abort, alloc: Global, set: &SubscriptionSet) -> String {
+    let message = message(rt, alloc);
+    let mut told = String::new(alloc);
+    for turn in 0..4 {
+        let both = copies_and_picks(alloc, set, &message, turn).expect(rt, "memory");
+        for pick in both.picks.as_slice() {
+            write!(told, "{} ", pick.client.as_str()).expect(rt, "memory");
+        }
+        drop(both);
+    }
+    drop(message);
+    told
+}
+
+/// Members of one group, in the order in which they come.
+const MEMBERS: [Row; 4] = [
+    ("m", "$share/g/t/u", 0, 0),
+    ("b", "$share/g/t/u", 1, 0),
+    ("x", "$share/g/t/u", 2, 0),
+    ("b", "$share/g/t/u", 2, 3),
+];
+
+#[test]
+fn members_come_and_go(rt: HostRuntime) {
+    let mut set = SubscriptionSet::empty(rt.alloc());
+    // Each comes under its dot; `b` twice, as from two nodes. Then those at these dots go.
+    for (number, told) in [
+        (0, "m m m m "),
+        (1, "b m b m "),
+        (2, "b m x b "),
+        (3, "b m x b "),
+    ] {
+        merge(&rt, rt.alloc(), &mut set, number, Some(&MEMBERS[number]));
+        let found = told_turns(&rt, rt.alloc(), &set);
+        assert_eq!(rt; found.as_str(), told, "with {number}");
+    }
+    for (number, told) in [(1, "b m x b "), (0, "b x b x "), (3, "x x x x "), (2, "")] {
+        merge(&rt, rt.alloc(), &mut set, number, None);
+        let found = told_turns(&rt, rt.alloc(), &set);
+        assert_eq!(rt; found.as_str(), told, "without {number}");
     }
     drop(set);
 }

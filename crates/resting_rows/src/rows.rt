@@ -20,13 +20,17 @@ fn rows_at(rt: &HostRuntime, path: &str) -> Result<Vec<Row>, Found> {
 }
 
 /// What the rows of node `id` of a cluster of `nodes` nodes hold, which are in the database at a path. The database's files are only read.
-/// A cause tells why they are none; it is lacking where there is no memory for it.
+/// A cause tells why they are none; it is lacking where there is no memory for it. A database without rows is no node's: one that was
+/// opened for a node has its mark.
 pub fn held(rt: &HostRuntime, path: &str, id: u16, nodes: u16) -> Result<Figures, Option<Cause>> {
     let alloc = rt.alloc();
     let rows = match rows_at(rt, path) {
         Ok(rows) => rows,
         Err(found) => return Err(Cause::opening(alloc, path, found)),
     };
+    if rows.is_empty() {
+        return Err(Cause::opening(alloc, path, Found::NoRows));
+    }
     match figures_of(alloc, &rows, id, nodes) {
         Ok(figures) => Ok(figures),
         Err(flaw) => Err(Cause::keeping(alloc, path, found_of_flaw(flaw))),

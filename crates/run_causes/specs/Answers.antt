@@ -20,6 +20,7 @@ answer_in kinds.NotADirectory number = NoFolder
 answer_in kinds.AddrInUse number = InUse
 answer_in kinds.AddrNotAvailable number = Elsewhere
 answer_in kinds.StorageFull number = NoRoom
+answer_in kinds.QuotaExceeded number = NoRoom
 answer_in kinds.ReadOnlyFilesystem number = ReadOnly
 answer_in kinds.OutOfMemory number = NoMemory
 answer_in _ number = numbered_in number

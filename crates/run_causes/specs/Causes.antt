@@ -4,7 +4,7 @@ use Rattle.std.specs.Fmt.{decimal}
 use Rattle.broker_stop.specs.Stops.{stop_text}
 use Rattle.run_causes.specs.declared.cause.Cause.{Cause}
 use Rattle.run_causes.specs.declared.cause.Found.{Found}
-use Rattle.run_causes.specs.declared.cause.Found.TheVariants.{Answered, TooLong, NotText, NotToml, NotTable, NoNodes, TwiceNamed, NoHome, NotNamed, NoAddress, Unmade, NotPlain, Locked, NoDatabase, Foreign, NoMark, OtherVersion, OtherNode, Unsound, Failed, NoMemory}
+use Rattle.run_causes.specs.declared.cause.Found.TheVariants.{Answered, TooLong, NotText, NotToml, NotTable, NoNodes, TwiceNamed, NoHome, NotNamed, NoAddress, Unmade, NotPlain, Locked, NoDatabase, Foreign, NoRows, NoMark, OtherVersion, OtherNode, Unsound, Failed, NoMemory}
 use Rattle.run_causes.specs.declared.cause.Tried.{Tried}
 use Rattle.run_causes.specs.declared.cause.Tried.TheVariants.{Reading, Opening, Keeping, Waiting, Finding, Printing}
 use Rattle.run_causes.specs.declared.ending.Ending.{Ending}
@@ -34,8 +34,9 @@ found_text NotPlain = codes "it is no plain file with one name, or a journal of 
 found_text Locked = codes "a program that runs has it open"
 found_text NoDatabase = codes "it is no database, or damaged"
 found_text Foreign = codes "it is the database of another program"
+found_text NoRows = codes "it has no rows: it is empty, or its log is not beside it"
 found_text NoMark = codes "they do not begin with the mark of a node"
-found_text (OtherVersion version) = codes "they are of version " ++ decimal version ++ codes ", and versions 1 and 2 are read"
+found_text (OtherVersion version) = codes "they are of version " ++ decimal version ++ codes ", and versions 1 to 3 are read"
 found_text (OtherNode node) = codes "they are those of node " ++ decimal node ++ codes " of the table, counted from 0"
 found_text Unsound = codes "no node of the table has such rows"
 found_text Failed = codes "the disk or the database failed"

@@ -22,7 +22,7 @@ pub enum Answer {
     InUse,
     /// The address is none of this machine.
     Elsewhere,
-    /// There is no room for more.
+    /// There is no room for more, on the disk or in the owner's share of it.
     NoRoom,
     /// What is there can't be changed.
     ReadOnly,
@@ -75,7 +75,7 @@ pub fn answer_of(error: &Error) -> Answer
         ErrorKind::NotADirectory => Answer::NoFolder,
         ErrorKind::AddrInUse => Answer::InUse,
         ErrorKind::AddrNotAvailable => Answer::Elsewhere,
-        ErrorKind::StorageFull => Answer::NoRoom,
+        ErrorKind::StorageFull | ErrorKind::QuotaExceeded => Answer::NoRoom,
         ErrorKind::ReadOnlyFilesystem => Answer::ReadOnly,
         ErrorKind::OutOfMemory => Answer::NoMemory,
         _ => numbered(error.raw_os_error()),

@@ -57,6 +57,8 @@ pub enum Found {
     NoDatabase,
     /// The database is another program's.
     Foreign,
+    /// There are no rows.
+    NoRows,
     /// The rows don't begin with the mark of a node.
     NoMark,
     /// The rows are of a version that isn't read.
@@ -116,10 +118,14 @@ impl fmt::Display for Found {
             Found::Locked => write!(f, "a program that runs has it open"),
             Found::NoDatabase => write!(f, "it is no database, or damaged"),
             Found::Foreign => write!(f, "it is the database of another program"),
+            Found::NoRows => write!(
+                f,
+                "it has no rows: it is empty, or its log is not beside it"
+            ),
             Found::NoMark => write!(f, "they do not begin with the mark of a node"),
             Found::OtherVersion(version) => write!(
                 f,
-                "they are of version {version}, and versions 1 and 2 are read"
+                "they are of version {version}, and versions 1 to 3 are read"
             ),
             Found::OtherNode(node) => write!(
                 f,

@@ -2,6 +2,7 @@
 
 use broker_serving::serve;
 use broker_stop::{RunFault, Stop};
+use client_bounds::BoundLimits;
 use client_limits::Limits;
 use database_examples::HOMES;
 use home_table::TableFault;
@@ -19,6 +20,7 @@ pub fn ends_by(rt: &HostRuntime, names: (&str, &str, &str), end: Result<(), Stop
         configuration,
         node,
         database,
+        BoundLimits::none(),
         Limits::none(),
         false,
         false,

@@ -6,8 +6,10 @@ use broker_sockets::{
 };
 use broker_stop::RunFault;
 use broker_turns::{Hub, Setting};
+use client_bounds::BoundLimits;
 use client_limits::Limits;
 use home_table::HomeTable;
+use memory_gauge::NoGauge;
 use mio::net::{TcpListener, TcpStream};
 use node_keeper::{Keeper, KeeperFault};
 use node_server::{ServedNode, StatusPlace, serve};
@@ -156,6 +158,7 @@ fn serve_for(
         &mut clock,
         rows,
         (homes, 0),
+        (BoundLimits::none(), NoGauge),
         Limits::none(),
         false,
         silent,

@@ -1,9 +1,19 @@
 -- Who is at the places of a desk.
-use Rattle.std.specs.Prelude.{ℕ, List, Option, IfSome}
+use Rattle.std.specs.Prelude.{ℕ, zero, suc, ◌<◌, ◌≤◌, List, length, Option, Some, None, IfSome, slice_index_or}
 use Rattle.std.specs.List.{All}
 use Rattle.status_sockets.specs.Waiting.{IsInTime}
 use Rattle.status_sockets.specs.declared.visitor.Visitor.{Visitor}
 
--- each who is there had a whole request, or came, within ten seconds
+-- each who is there had a whole request, or came, within ten seconds, and has begun none two seconds ago
 abbrev pub AreInTime : {T : Type 0} → ℕ → List (Option (Visitor T)) → Type 0
-AreInTime at places = All (λ place. IfSome place (λ visitor. IsInTime at visitor.since)) places
+AreInTime at places = All (λ place. IfSome place (λ visitor. IsInTime at visitor.since visitor.begun)) places
+
+-- a free place comes first, and then the one who has been there longest without a whole request
+abbrev pub rank_of : {T : Type 0} → Option (Visitor T) → ℕ
+rank_of None = zero
+rank_of (Some visitor) = suc visitor.since
+
+-- the place of whoever comes: no other one comes before it
+pub record IsSeat {T : Type 0} (places : List (Option (Visitor T))) (k : ℕ) : Type 0 where
+  pub there : k < length places
+  pub first : (j : ℕ) → j < length places → rank_of (slice_index_or places k None) ≤ rank_of (slice_index_or places j None)

@@ -8,10 +8,9 @@ use Rattle.std.specs.FinMap.Entries.{where_key}
 use Rattle.std.specs.FinSet as set
 use Rattle.std.proofs.lemmas.Cmp.{tied_itself}
 use Rattle.causal_context.specs.Dots.{Dot, Dots, dot_cmp, dot_cmp_total, dot_cmp_antisym}
-use Rattle.mqtt_topics.specs.Matching.{Matches}
 use Rattle.subscription_set.specs.Entries.{Entry, is_of, same_subscription, same_text}
 use Rattle.subscription_set.specs.Standing.{latest}
-use Rattle.subscription_set.specs.Indexing.{ByDot, IsStanding, MatchesName, alone, stands_as}
+use Rattle.subscription_set.specs.Indexing.{ByDot, IsFilterAt, IsStanding, alone, stands_as}
 use Rattle.subscription_set.proofs.Latest.{recency_total}
 use Rattle.subscription_set.proofs.Merges.{no_entries, none_long}
 
@@ -39,14 +38,14 @@ pub none_stands : (client : List ℕ) (o : Option (List ℕ)) (d : Dot) → stan
 none_stands client o d = ap (stands_as client o) (none_at d)
 
 -- no dot matches, and none is in the empty set
-pub none_match : (name : List ℕ) (s : Dots) (g : Dot → Option Entry) → s ≡ set.empty → ((d : Dot) → MatchesName name (g d) → ⊥) → (d : Dot) → (set.contains s d ≡ true) ↔ MatchesName name (g d)
-none_match name s g is never d = (λ e. absurd (empty (sym (ap (λ t. set.contains t d) is ∙ set.contains-empty dot_cmp d) ∙ e)), λ m. absurd (never d m))
+pub none_match : (P : List ℕ → Type 0) (s : Dots) (g : Dot → Option Entry) → s ≡ set.empty → ((d : Dot) → IsFilterAt P (g d) → ⊥) → (d : Dot) → (set.contains s d ≡ true) ↔ IsFilterAt P (g d)
+none_match P s g is never d = (λ e. absurd (empty (sym (ap (λ t. set.contains t d) is ∙ set.contains-empty dot_cmp d) ∙ e)), λ m. absurd (never d m))
   where
     empty : false ≡ true → ⊥
     empty e = cc
 
-pub unmatched : (name : List ℕ) (d : Dot) → MatchesName name (map.get (map.empty {X = Entry} {R = dot_cmp}) d) → ⊥
-unmatched name d m = subst (MatchesName name) (none_at d) m
+pub unmatched : (P : List ℕ → Type 0) (d : Dot) → IsFilterAt P (map.get (map.empty {X = Entry} {R = dot_cmp}) d) → ⊥
+unmatched P d m = subst (IsFilterAt P) (none_at d) m
 
 -- where there is no entry, none is taken out
 pub absent : (m : ByDot) (d : Dot) → map.get m d ≡ None → m ≡ map.remove m d
@@ -104,7 +103,7 @@ module _ (x : Dot × Entry) where
       by true = refl
       by false = refl
 
-  stands_at : (client : List ℕ) (o : Option (List ℕ)) (d : Dot) → stands_as client o (map.get (alone x) d) ≡ (eq_by_cmp dot_cmp d x.0 && is_of client o x.1)
+  pub stands_at : (client : List ℕ) (o : Option (List ℕ)) (d : Dot) → stands_as client o (map.get (alone x) d) ≡ (eq_by_cmp dot_cmp d x.0 && is_of client o x.1)
   stands_at client o d = ap (stands_as client o) (alone_get d) ∙ by (eq_by_cmp dot_cmp d x.0)
     where
       by : (b : Bool) → stands_as client o (cond b (Some x.1) None) ≡ (b && is_of client o x.1)
@@ -131,20 +130,23 @@ module _ (x : Dot × Entry) where
     some = (x.0, stands_at client o x.0 ∙ (λ i. itself x.0 i && so i));
   }
 
-  -- only its dot matches
-  pub alone_matches : (name : List ℕ) (s : Dots) → Matches x.1.filter name → s ≡ set.insert set.empty x.0 → (d : Dot) → (set.contains s d ≡ true) ↔ MatchesName name (map.get (alone x) d)
-  alone_matches name s so is d = by (eq_by_cmp dot_cmp d x.0) refl
+  -- only at its dot there is one whose filter has the property
+  pub alone_matches : (P : List ℕ → Type 0) (s : Dots) → P x.1.filter → s ≡ set.insert set.empty x.0 → (d : Dot) → (set.contains s d ≡ true) ↔ IsFilterAt P (map.get (alone x) d)
+  alone_matches P s so is d = by (eq_by_cmp dot_cmp d x.0) refl
     where
-      by : (b : Bool) → eq_by_cmp dot_cmp d x.0 ≡ b → (set.contains s d ≡ true) ↔ MatchesName name (map.get (alone x) d)
-      by true t = (λ _. subst (MatchesName name) (get_by d true t) so, λ _. contains_by s is d ∙ ap (λ b. b && true) t)
-      by false t = (λ e. absurd (let never : false ≡ true = sym (contains_by s is d ∙ ap (λ b. b && true) t) ∙ e in cc), λ m. absurd (subst (MatchesName name) (sym (get_by d false t)) m))
+      by : (b : Bool) → eq_by_cmp dot_cmp d x.0 ≡ b → (set.contains s d ≡ true) ↔ IsFilterAt P (map.get (alone x) d)
+      by true t = (λ _. subst (IsFilterAt P) (get_by d true t) so, λ _. contains_by s is d ∙ ap (λ b. b && true) t)
+      by false t = (λ e. absurd (let never : false ≡ true = sym (contains_by s is d ∙ ap (λ b. b && true) t) ∙ e in cc), λ m. absurd (subst (IsFilterAt P) (sym (get_by d false t)) m))
 
-  pub alone_unmatched : (name : List ℕ) → (Matches x.1.filter name → ⊥) → (d : Dot) → MatchesName name (map.get (alone x) d) → ⊥
-  alone_unmatched name never d m = by (eq_by_cmp dot_cmp d x.0) refl
+  pub alone_unmatched : (P : List ℕ → Type 0) → (P x.1.filter → ⊥) → (d : Dot) → IsFilterAt P (map.get (alone x) d) → ⊥
+  alone_unmatched P never d m = by (eq_by_cmp dot_cmp d x.0) refl
     where
       by : (b : Bool) → eq_by_cmp dot_cmp d x.0 ≡ b → ⊥
-      by true t = never (subst (MatchesName name) (sym (get_by d true t)) m)
-      by false t = subst (MatchesName name) (sym (get_by d false t)) m
+      by true t = never (subst (IsFilterAt P) (sym (get_by d true t)) m)
+      by false t = subst (IsFilterAt P) (sym (get_by d false t)) m
+
+  pub alone_at : (P : List ℕ → Type 0) → P x.1.filter → IsFilterAt P (map.get (alone x) x.0)
+  alone_at P p = subst (IsFilterAt P) (get_by x.0 true (itself x.0)) p
 
   -- taken out, none is left
   pub alone_gone : (d : Dot) → eq_by_cmp dot_cmp d x.0 ≡ true → map.empty ≡ map.remove (alone x) d

@@ -6,11 +6,10 @@ use Rattle.std.specs.Ordering.{eq_by_cmp}
 use Rattle.std.specs.FinMap as map
 use Rattle.std.specs.FinSet as set
 use Rattle.causal_context.specs.Dots.{Dot, Dots, dot_cmp, dot_cmp_total, dot_cmp_antisym}
-use Rattle.mqtt_topics.specs.Matching.{Matches}
 use Rattle.subscription_set.specs.Entries.{Entry, same_text}
 use Rattle.subscription_set.specs.Filing.{Filed, text_cmp, pair_cmp}
-use Rattle.subscription_set.specs.Indexing.{ByDot, MatchesName, stands_to}
-use Rattle.subscription_set.specs.Matching.{HasMatch, IsMatched}
+use Rattle.subscription_set.specs.Indexing.{ByDot, IsFilterAt, stands_to}
+use Rattle.subscription_set.proofs.Matched.{IsUnder}
 use Rattle.subscription_set.proofs.Latest.{text_eq}
 use Rattle.subscription_set.proofs.Spreading.{text_total, text_anti, filed_total, pair_eq}
 
@@ -72,23 +71,23 @@ module _ (m : ByDot) (d : Dot) (e : Entry) (v : Filed) (at : AreMatched m v) whe
   pub matched_kept : (m' : ByDot) (v' : Filed) → m' ≡ m → v' ≡ v → AreMatched m' v'
   matched_kept m' v' is a f q = ap (λ s. set.contains s (f, q)) a ∙ at f q ∙ ap (λ x. stands_to f (map.get x q)) (sym is)
 
--- ---- what matches a name
+-- ---- entries whose filter has a property
 
-module _ (name : List ℕ) where
-  to_entry : (o : Option Entry) (f : List ℕ) → stands_to f o ≡ true → Matches f name → MatchesName name o
+module _ (P : List ℕ → Type 0) where
+  pub to_entry : (o : Option Entry) (f : List ℕ) → stands_to f o ≡ true → P f → IsFilterAt P o
   to_entry None f e h = cc
-  to_entry (Some e) f is h = subst (λ g. Matches g name) ((bytes_decides f e.filter).0 is) h
+  to_entry (Some e) f is h = subst P ((bytes_decides f e.filter).0 is) h
 
-  from_entry : (o : Option Entry) → MatchesName name o → (f : List ℕ) × (stands_to f o ≡ true) × Matches f name
+  from_entry : (o : Option Entry) → IsFilterAt P o → (f : List ℕ) × (stands_to f o ≡ true) × P f
   from_entry None h = absurd h
   from_entry (Some e) h = (e.filter, (bytes_decides e.filter e.filter).1 refl, h)
 
   module _ (m : ByDot) (v : Filed) (at : AreMatched m v) where
-    pub matched_dots : (s : Dots) → IsMatched v name s → (d : Dot) → (set.contains s d ≡ true) ↔ MatchesName name (map.get m d)
+    pub matched_dots : (s : Dots) → ((d : Dot) → (set.contains s d ≡ true) ↔ IsUnder P v d) → (d : Dot) → (set.contains s d ≡ true) ↔ IsFilterAt P (map.get m d)
     matched_dots s is d = (
       (λ e. (let h = (is d).0 e in to_entry (map.get m d) h.0 (sym (at h.0 d) ∙ h.1) h.2)),
       (λ h. (let g = from_entry (map.get m d) h in (is d).1 (g.0, at g.0 d ∙ g.1, g.2))),
     )
 
-    pub matched_nothing : ((d : Dot) → MatchesName name (map.get m d) → ⊥) → HasMatch v name → ⊥
+    pub matched_nothing : ((d : Dot) → IsFilterAt P (map.get m d) → ⊥) → (d : Dot) × IsUnder P v d → ⊥
     matched_nothing none h = none h.0 (to_entry (map.get m h.0) h.1.0 (sym (at h.1.0 h.0) ∙ h.1.1) h.1.2)

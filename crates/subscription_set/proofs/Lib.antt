@@ -7,6 +7,8 @@ pub mod Joins
 pub mod Latest
 pub mod Lists
 pub mod Matched
+pub mod Membership
+pub mod Grouping
 pub mod Merges
 pub mod OneDot
 pub mod Order
@@ -16,6 +18,7 @@ pub mod Places
 pub mod Plans
 pub mod Present
 pub mod Rising
+pub mod Seating
 pub mod Seen
 pub mod Spans
 pub mod Spreading
@@ -23,3 +26,4 @@ pub mod Standings
 pub mod Leaving
 pub mod Below
 pub mod Walking
+pub mod Turns

@@ -1,5 +1,5 @@
 -- Dots under the filters that match a name.
-use Rattle.std.proofs.Common.{◌≡◌, ℕ, ◌+◌, ◌<◌, length, get_or, take, arith, Bool, true, false, ◌||◌, ◌&&◌, List, [], ◌∷◌, map as map_list, Result, Ok, Err, inl, inr, refl, sym, ap, subst, ◌∙◌}
+use Rattle.std.proofs.Common.{◌≡◌, ℕ, ◌+◌, ◌<◌, length, get_or, take, arith, Bool, true, false, ◌||◌, ◌&&◌, ◌↔◌, List, [], ◌∷◌, map as map_list, Result, Ok, Err, inl, inr, refl, sym, ap, subst, ◌∙◌}
 use Rattle.std.specs.Prelude.{IsOk, OnErr}
 use Rattle.std.specs.List.{list_any}
 use Rattle.std.specs.Cmp.{Equal-is}
@@ -9,10 +9,8 @@ use Rattle.std.specs.FinSet as set
 use Rattle.std.proofs.lemmas.Cmp.{tied_itself}
 use Rattle.std.proofs.lemmas.List.{take_more}
 use Rattle.causal_context.specs.Dots.{Dot, Dots, dot_cmp, dot_cmp_total, dot_cmp_antisym}
-use Rattle.mqtt_topics.specs.Matching.{Matches}
 use Rattle.filter_trie.specs.Selected.{IsSelected}
-use Rattle.subscription_set.specs.Filing.{HasUnder, IsFilled, spread, text_cmp}
-use Rattle.subscription_set.specs.Matching.{HasMatch, IsMatched}
+use Rattle.subscription_set.specs.Filing.{Filed, HasUnder, IsFilled, spread, text_cmp}
 use Rattle.subscription_set.proofs.Latest.{IsIn, any_map}
 use Rattle.subscription_set.proofs.Spreading.{text_total, text_anti, in_group, any_both, any_entry, contains-spread, under_some}
 
@@ -79,9 +77,13 @@ and_parts false b e = cc
 
 -- ---- the dots of each filter, in a trie
 
-module _ (m : map.FinMap text_cmp Dots) (filled : IsFilled m) (name : List ℕ) where
+-- a dot is under a filter with a property
+abbrev pub IsUnder : (List ℕ → Type 0) → Filed → Dot → Type 0
+IsUnder P v d = (f : List ℕ) × (set.contains v (f, d) ≡ true) × P f
+
+module _ (m : map.FinMap text_cmp Dots) (filled : IsFilled m) (P : List ℕ → Type 0) where
   abbrev matches : List ℕ × Dots → Type 0
-  matches e = Matches e.0 name
+  matches e = P e.0
 
   -- a filter with a dot, among the entries
   abbrev has : List ℕ → Dot → List ℕ × Dots → Bool
@@ -95,27 +97,27 @@ module _ (m : map.FinMap text_cmp Dots) (filled : IsFilled m) (name : List ℕ) 
   entry_has e d h = ap (λ r. is_eq r && set.contains e.1 d) (tied_itself text_total e.0) ∙ h
 
   -- a filter of the trie has a dot
-  has_dot : (e : List ℕ × Dots) → IsIn (map.entries m) e → HasUnder text_cmp dot_cmp (spread m) e.0
+  pub has_dot : (e : List ℕ × Dots) → IsIn (map.entries m) e → HasUnder text_cmp dot_cmp (spread m) e.0
   has_dot e h = under_some text_total text_anti dot_cmp_total dot_cmp_antisym m e.0
       (map.contains_key-keys m e.0 ∙ any_map (eq_by_cmp text_cmp e.0) (λ x. x.0) (map.entries m) ∙ h (λ x. eq_by_cmp text_cmp e.0 x.0) (ap is_eq (tied_itself text_total e.0))) filled
 
   -- the dots under the filters that are found
-  pub found_dots : (found : List (List ℕ × Dots)) (s : Dots) → IsSelected matches (map.entries m) found → ((d : Dot) → set.contains s d ≡ list_any (λ e. set.contains e.1 d) found) → IsMatched (spread m) name s
+  pub found_dots : (found : List (List ℕ × Dots)) (s : Dots) → IsSelected matches (map.entries m) found → ((d : Dot) → set.contains s d ≡ list_any (λ e. set.contains e.1 d) found) → (d : Dot) → (set.contains s d ≡ true) ↔ IsUnder P (spread m) d
   found_dots found s h is d = (
     (λ e. (let one = selected_one matches (λ x. set.contains x.1 d) (map.entries m) found h (sym (is d) ∙ e) in
         (one.0.0, listed one.0.0 d ∙ one.3 (has one.0.0 d) (entry_has one.0 d one.1), one.2))),
     (λ at. is d ∙ selected_any matches (λ x. set.contains x.1 d) (has at.0 d)
         (λ x t. (let both = and_parts (eq_by_cmp text_cmp at.0 x.0) (set.contains x.1 d) t in
-        (both.1, subst (λ f. Matches f name) (text_anti at.0 x.0 ((Equal-is (text_cmp at.0 x.0)).0 both.0)) at.2)))
+        (both.1, subst P (text_anti at.0 x.0 ((Equal-is (text_cmp at.0 x.0)).0 both.0)) at.2)))
         (map.entries m) found h (sym (listed at.0 d) ∙ at.1)),
   )
 
   -- where no dot is under one that matches, none matches
-  pub nothing_found : ¬ (HasMatch (spread m) name) → IsSelected matches (map.entries m) []
+  pub nothing_found : ¬ ((d : Dot) × IsUnder P (spread m) d) → IsSelected matches (map.entries m) []
   nothing_found none = selected_none matches (map.entries m) (λ e h at. (let dot = has_dot e h in none (dot.0, (e.0, dot.1, at))))
 
   -- what is found has a dot under it
-  pub something_found : (found : List (List ℕ × Dots)) → IsSelected matches (map.entries m) found → (e : List ℕ × Dots) → IsIn found e → HasMatch (spread m) name
+  pub something_found : (found : List (List ℕ × Dots)) → IsSelected matches (map.entries m) found → (e : List ℕ × Dots) → IsIn found e → (d : Dot) × IsUnder P (spread m) d
   something_found found h e is =
       let one = selected_one matches (λ _. true) (map.entries m) found h (is (λ _. true) refl) in
       let dot = has_dot one.0 one.3 in (dot.0, (one.0.0, dot.1, one.2))

@@ -11,12 +11,14 @@ use Rattle.std.specs.FinMap.Entries.{below_all, is_sorted, where_key, same_entri
 use Rattle.std.specs.FinSet as set
 use Rattle.std.proofs.lemmas.Cmp.{tied_itself}
 use Rattle.causal_context.specs.Dots.{Dot, Dots, dot_cmp, dot_cmp_total, dot_cmp_antisym}
-use Rattle.mqtt_topics.specs.Matching.{Matches}
 use Rattle.filter_trie.specs.Selected.{IsSelected}
 use Rattle.subscription_set.specs.Entries.{Entry, entry_eq, entry_eq-decides}
 use Rattle.subscription_set.specs.Standing.{Entries, find_entry, is_latest, latest, present}
 use Rattle.subscription_set.proofs.Present.{rises-present}
-use Rattle.subscription_set.specs.Indexing.{ByDot, MatchesName}
+use Rattle.subscription_set.specs.Indexing.{ByDot, IsFilterAt}
+use Rattle.subscription_set.specs.Members.{latest_entries, latest_of_dots}
+use Rattle.subscription_set.proofs.Lists.{filter-filter}
+use Rattle.std.proofs.lemmas.List.Elements.{filter_agree}
 use Rattle.subscription_set.proofs.Indexing.{found_any, in_found}
 use Rattle.subscription_set.proofs.Latest.{IsIn, all_at, any_filter, one_is_latest}
 
@@ -48,6 +50,29 @@ pub none_next : {X : Type 0} (p : X → Bool) (x : X) (out left rest all : List 
 none_next p x out left rest all one passes so none =
     no_more out (filter p rest) x (ap (λ xs. out ++ xs) (sym (ap (filter p) one ∙ ap (λ b. cond b (x ∷ filter p rest) (filter p rest)) passes)) ∙ so ∙ none)
 
+either : (b : Bool) → (b || true) ≡ true
+either true = refl
+either false = refl
+
+-- ---- tests of a list
+
+swapped : {X : Type 0} (p q : X → Bool) (xs : List X) → filter p (filter q xs) ≡ filter q (filter p xs)
+swapped p q xs = filter-filter p q xs ∙ filter_agree (λ x. p x && q x) (λ x. q x && p x) (λ x. turned (p x) (q x)) xs ∙ sym (filter-filter q p xs)
+  where
+    turned : (a b : Bool) → (a && b) ≡ (b && a)
+    turned true true = refl
+    turned true false = refl
+    turned false true = refl
+    turned false false = refl
+
+any_left : {X : Type 0} (t p : X → Bool) (xs : List X) → list_any (λ x. t x && p x) xs ≡ true → list_any t xs ≡ true
+any_left t p [] e = cc
+any_left t p (x ∷ xs) e = elim (t x) as (λ b. ((b && p x) || list_any (λ y. t y && p y) xs) ≡ true → (b || list_any t xs) ≡ true) [ true ↦ λ _. refl | false ↦ λ f. any_left t p xs f ] e
+
+-- what passes a test is among all
+pub in_filtered : {X : Type 0} (p : X → Bool) (xs : List X) (x : X) → IsIn (filter p xs) x → IsIn xs x
+in_filtered p xs x h t e = any_left t p xs (sym (any_filter t p xs) ∙ h t e)
+
 -- ---- what is selected
 
 module _ {A : Type 0} (P : A → Type 0) where
@@ -58,7 +83,7 @@ module _ {A : Type 0} (P : A → Type 0) where
   selected_same (x ∷ xs) out other (inr a) (inl b) = absurd (a.0 b.0)
   selected_same (x ∷ xs) out other (inr a) (inr b) = selected_same xs out other a.1 b.1
 
-  nothing_in : (u : A → Bool) → ((x : A) → u x ≡ true → P x) → (xs : List A) → IsSelected P xs [] → list_any u xs ≡ true → ⊥
+  pub nothing_in : (u : A → Bool) → ((x : A) → u x ≡ true → P x) → (xs : List A) → IsSelected P xs [] → list_any u xs ≡ true → ⊥
   nothing_in u f [] h e = cc
   nothing_in u f (x ∷ xs) (inl h) e = absurd (let no = h.1.1 in cc)
   nothing_in u f (x ∷ xs) (inr h) e = elim (u x) as (λ b. u x ≡ b → (b || list_any u xs) ≡ true → ⊥) [
@@ -66,26 +91,16 @@ module _ {A : Type 0} (P : A → Type 0) where
     | false ↦ λ is g. nothing_in u f xs h.1 g
   ] refl e
 
-  -- what passes a test that decides the property, among those that pass another
-  selected_by : (p L : A → Bool) (xs : List A) → ((x : A) → IsIn xs x → (p x ≡ true) ↔ P x) → IsSelected P (filter L xs) (filter L (filter p xs))
-  selected_by p L [] f = refl
-  selected_by p L (x ∷ xs) f =
-      let rest = selected_by p L xs (λ y h. f y (λ t e. ap (λ b. t x || b) (h t e) ∙ either (t x))) in
+  -- what passes a test that decides the property
+  pub selected_filter : (p : A → Bool) (xs : List A) → ((x : A) → IsIn xs x → (p x ≡ true) ↔ P x) → IsSelected P xs (filter p xs)
+  selected_filter p [] f = refl
+  selected_filter p (x ∷ xs) f =
+      let rest = selected_filter p xs (λ y h. f y (λ t e. ap (λ b. t x || b) (h t e) ∙ either (t x))) in
       let own = f x (λ t e. ap (λ b. b || list_any t xs) e) in
-      elim (L x) as (λ b. L x ≡ b → IsSelected P (cond b (x ∷ filter L xs) (filter L xs)) (filter L (cond (p x) (x ∷ filter p xs) (filter p xs)))) [
-        | true ↦ λ l. elim (p x) as (λ b. p x ≡ b → IsSelected P (x ∷ filter L xs) (filter L (cond b (x ∷ filter p xs) (filter p xs)))) [
-          | true ↦ λ is. inl (own.0 is, (filter L (filter p xs), ap (λ b. cond b (x ∷ filter L (filter p xs)) (filter L (filter p xs))) l, rest))
-          | false ↦ λ is. inr ((λ h. absurd (let no = sym is ∙ own.1 h in cc)), rest)
-        ] refl
-        | false ↦ λ l. elim (p x) as (λ b. IsSelected P (filter L xs) (filter L (cond b (x ∷ filter p xs) (filter p xs)))) [
-          | true ↦ subst (IsSelected P (filter L xs)) (ap (λ b. cond b (x ∷ filter L (filter p xs)) (filter L (filter p xs))) (sym l)) rest
-          | false ↦ rest
-        ]
+      elim (p x) as (λ b. p x ≡ b → IsSelected P (x ∷ xs) (cond b (x ∷ filter p xs) (filter p xs))) [
+        | true ↦ λ is. inl (own.0 is, (filter p xs, refl, rest))
+        | false ↦ λ is. inr ((λ h. absurd (let no = sym is ∙ own.1 h in cc)), rest)
       ] refl
-    where
-      either : (b : Bool) → (b || true) ≡ true
-      either true = refl
-      either false = refl
 
 selected_map : {A B : Type 0} (P : B → Type 0) (f : A → B) (xs out : List A) → IsSelected (λ x. P (f x)) xs out → IsSelected P (map_list f xs) (map_list f out)
 selected_map P f [] out h = ap (map_list f) h
@@ -156,46 +171,51 @@ module _ (m : ByDot) where
       (λ q. find_at q ds ∙ ap (λ y. cond (p q) y None) (map.get-entries m q) ∙ sym (find-where_key dot_cmp p q (λ x t. ap p (sym (dot_cmp_antisym q x t))) (map.entries m)))
 
   -- what is in the map is found at its dot
-  found_in : (x : Dot × Entry) → IsIn (map.entries m) x → map.get m x.0 ≡ Some x.1
+  pub found_in : (x : Dot × Entry) → IsIn (map.entries m) x → map.get m x.0 ≡ Some x.1
   found_in x h =
       let f = found_any (λ y. eq_by_cmp dot_cmp x.0 y.0 && entry_eq x.1 y.1) (map.entries m) (map.entries_sorted m)
       (h (λ y. eq_by_cmp dot_cmp x.0 y.0 && entry_eq x.1 y.1) (λ i. is_eq (tied_itself dot_cmp_total x.0 i) && (entry_eq-decides x.1 x.1).1 refl i)) in
       ap (map.get m) (tied x.0 f.0 (first_true _ _ f.2.1)) ∙ map.get-entries m f.0 ∙ f.2.0 ∙ ap Some (sym ((entry_eq-decides x.1 f.1).0 (second_true _ _ f.2.1)))
 
-  module _ (name : List ℕ) where
-    abbrev matches : Dot × Entry → Type 0
-    matches x = Matches x.1.filter name
+  -- the walk finds what is live at the dots
+  pub walk_is : (ds : List Dot) (s : Dots) → IsStrictlySortedBy dot_cmp ds → set.from_list {R = dot_cmp} ds ≡ s → map_list (λ x. x.1) (latest_at ds) ≡ latest_of_dots m s
+  walk_is ds s h same =
+      let among : Dot × Entry → Bool = λ x. list_any (eq_by_cmp dot_cmp x.0) ds in
+      let inside : Dot × Entry → Bool = λ x. set.contains s x.0 in
+      ap (map_list (λ x. x.1))
+      (ap (filter (is_latest (map.entries m))) (at_rising ds h) ∙ swapped (is_latest (map.entries m)) among (map.entries m)
+      ∙ filter_agree among inside (λ x. sym (set.contains-from_list dot_cmp_total ds x.0) ∙ ap (λ y. set.contains y x.0) same) (latest (map.entries m)))
 
-    -- the walk finds what is live and matches
-    pub walk_all : (ds : List Dot) (s : Dots) → IsStrictlySortedBy dot_cmp ds → set.from_list {R = dot_cmp} ds ≡ s → ((d : Dot) → (set.contains s d ≡ true) ↔ MatchesName name (map.get m d))
-        → IsSelected matches (latest (map.entries m)) (latest_at ds)
-    walk_all ds s h same is =
-        subst (λ xs. IsSelected matches (latest (map.entries m)) (filter (is_latest (map.entries m)) xs)) (sym (at_rising ds h))
-        (selected_by matches (λ x. list_any (eq_by_cmp dot_cmp x.0) ds) (is_latest (map.entries m)) (map.entries m) (λ x in_m.
-        let found = found_in x in_m in
-        let there : set.contains s x.0 ≡ list_any (eq_by_cmp dot_cmp x.0) ds = ap (λ y. set.contains y x.0) (sym same) ∙ set.contains-from_list dot_cmp_total ds x.0 in
-        ((λ e. subst (MatchesName name) found ((is x.0).0 (there ∙ e))), (λ h. sym there ∙ (is x.0).1 (subst (MatchesName name) (sym found) h)))))
+  module _ (P : List ℕ → Type 0) where
+    abbrev fits : Dot × Entry → Type 0
+    fits x = P x.1.filter
 
-    -- where nothing live matches, nothing that stands does
-    pub none_stands : IsSelected matches (latest (map.entries m)) [] → (d : Dot) → MatchesName name (map.get m d) → ⊥
-    none_stands none d h = elim (map.get m d) as (λ o. map.get m d ≡ o → MatchesName name o → ⊥) [
+    selected_dots : (s : Dots) → ((d : Dot) → (set.contains s d ≡ true) ↔ IsFilterAt P (map.get m d)) → IsSelected fits (latest (map.entries m)) (filter (λ x. set.contains s x.0) (latest (map.entries m)))
+    selected_dots s is =
+        selected_filter fits (λ x. set.contains s x.0) (latest (map.entries m)) (λ x in_latest.
+        let found = found_in x (in_filtered (is_latest (map.entries m)) (map.entries m) x in_latest) in
+        ((λ e. subst (IsFilterAt P) found ((is x.0).0 e)), (λ h. (is x.0).1 (subst (IsFilterAt P) (sym found) h))))
+
+    -- where nothing live has the property, nothing that stands has
+    none_stands : IsSelected fits (latest (map.entries m)) [] → (d : Dot) → IsFilterAt P (map.get m d) → ⊥
+    none_stands none d h = elim (map.get m d) as (λ o. map.get m d ≡ o → IsFilterAt P o → ⊥) [
       | None ↦ λ _ no. no
       | Some e ↦ λ is h.
           let l = one_is_latest (map.entries m) (d, e) (in_found (map.entries m) d e (sym (map.get-entries m d) ∙ is)) in
           let y = l.0 in
           let same : y.1.filter ≡ e.filter = (bytes_decides y.1.filter e.filter).0 (second_true _ _ l.1.1.0) in
           let u : Dot × Entry → Bool = λ x. eq_by_cmp dot_cmp y.0 x.0 && entry_eq y.1 x.1 in
-          nothing_in matches u (λ x t. subst (λ f. Matches f name) (sym same ∙ ap (λ z. z.filter) ((entry_eq-decides y.1 x.1).0 (second_true _ _ t))) h) (latest (map.entries m)) none
+          nothing_in fits u (λ x t. subst P (sym same ∙ ap (λ z. z.filter) ((entry_eq-decides y.1 x.1).0 (second_true _ _ t))) h) (latest (map.entries m)) none
           (any_filter u (is_latest (map.entries m)) (map.entries m) ∙ l.1.0 (λ x. u x && is_latest (map.entries m) x) (λ i. (is_eq (tied_itself dot_cmp_total y.0 i) && (entry_eq-decides y.1 y.1).1 refl i) && l.1.1.1 i))
     ] refl h
 
-    -- the same without their dots
-    pub walk_entries : (ds : List Dot) → IsSelected matches (latest (map.entries m)) (latest_at ds) → IsSelected (λ (e : Entry). Matches e.filter name) (map_list (λ x. x.1) (latest (map.entries m))) (map_list (λ x. x.1) (latest_at ds))
-    walk_entries ds h = selected_map (λ (e : Entry). Matches e.filter name) (λ x. x.1) (latest (map.entries m)) (latest_at ds) h
+    -- the dots of what has the property have just what is live and has it
+    pub selected_entries : (s : Dots) → ((d : Dot) → (set.contains s d ≡ true) ↔ IsFilterAt P (map.get m d)) → IsSelected (λ (e : Entry). P e.filter) (latest_entries m) (latest_of_dots m s)
+    selected_entries s is = selected_map (λ (e : Entry). P e.filter) (λ x. x.1) (latest (map.entries m)) (filter (λ x. set.contains s x.0) (latest (map.entries m))) (selected_dots s is)
 
-    pub none_entries : IsSelected (λ (e : Entry). Matches e.filter name) (map_list (λ x. x.1) (latest (map.entries m))) [] → IsSelected matches (latest (map.entries m)) []
-    none_entries h = none_mapped (λ (e : Entry). Matches e.filter name) (λ x. x.1) (latest (map.entries m)) h
+    pub none_there : IsSelected (λ (e : Entry). P e.filter) (latest_entries m) [] → (d : Dot) → IsFilterAt P (map.get m d) → ⊥
+    none_there none = none_stands (none_mapped (λ (e : Entry). P e.filter) (λ x. x.1) (latest (map.entries m)) none)
 
-    -- where nothing live matches, the walk finds nothing
-    pub walk_nothing : (ds : List Dot) → IsSelected matches (latest (map.entries m)) (latest_at ds) → IsSelected matches (latest (map.entries m)) [] → latest_at ds ≡ []
-    walk_nothing ds a b = selected_same matches (latest (map.entries m)) (latest_at ds) [] a b
+    -- where nothing live has it, nothing is at the dots
+    pub nothing_at : (s : Dots) → ((d : Dot) → (set.contains s d ≡ true) ↔ IsFilterAt P (map.get m d)) → IsSelected (λ (e : Entry). P e.filter) (latest_entries m) [] → latest_of_dots m s ≡ []
+    nothing_at s is none = selected_same (λ (e : Entry). P e.filter) (latest_entries m) (latest_of_dots m s) [] (selected_entries s is) none

@@ -56,7 +56,11 @@ abbrev pub below_at : ℕ → Option Entry → Bool
 below_at version None = false
 below_at version (Some e) = nat_lt e.version version
 
+-- there is an entry, and its filter has the property
+abbrev pub IsFilterAt : (List ℕ → Type 0) → Option Entry → Type 0
+IsFilterAt P None = ⊥
+IsFilterAt P (Some e) = P e.filter
+
 -- there is an entry, and its filter matches the name
 abbrev pub MatchesName : List ℕ → Option Entry → Type 0
-MatchesName name None = ⊥
-MatchesName name (Some e) = Matches e.filter name
+MatchesName name = IsFilterAt (λ f. Matches f name)

@@ -1,8 +1,6 @@
 -- What an iterator over entries has left.
-use Rattle.std.specs.Prelude.{Option, Some, None, [], ◌∷◌}
+use Rattle.std.specs.Prelude.{Some, None, [], ◌∷◌}
 use Rattle.std.specs.Map.Iter.{deref_pair}
-use Rattle.causal_context.specs.Dots.{Dot}
-use Rattle.subscription_set.specs.Entries.{Entry}
 use Rattle.subscription_set.specs.Standing.{Entries}
 use Rattle.subscription_set.specs.declared.entry_iter.Left.{Left}
 use Rattle.subscription_set.specs.declared.entry_iter.Left.TheVariants as whole

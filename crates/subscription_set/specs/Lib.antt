@@ -5,6 +5,7 @@ pub mod Indexing
 pub mod Joining
 pub mod Leftovers
 pub mod Matching
+pub mod Members
 pub mod Merging
 pub mod Placing
 pub mod Sorted

@@ -1,10 +1,15 @@
 //! Dots under filters, found by the topic names that the filters match.
-ghost use Rattle.std.specs.Prelude.{◌≡◌, ◌<◌, ◌||◌, None, OnOk, OnErr, IfOk, IsOk, length};
-ghost use Rattle.std.specs.List.{list_any};
+ghost use Rattle.std.specs.Prelude.{◌≡◌, ◌↔◌, ◌<◌, ◌||◌, [], ◌∷◌, None, OnOk, OnErr, IfOk, IsOk, IsTrue, length, map as map_list};
+ghost use Rattle.std.specs.List.{AllByRecursion, list_any};
 ghost use Rattle.std.specs.FinMap as map;
 ghost use Rattle.std.specs.FinSet as set;
 ghost use Rattle.causal_context.specs.Dots.{Dot as DotValue};
-ghost use Rattle.subscription_set.specs.Matching.{HasMatch, IsMatched, dots_of};
+ghost use Rattle.filter_trie.specs.Selected.{IsSelected};
+ghost use Rattle.mqtt_topics.specs.Topics.{IsFilter, IsShared};
+ghost use Rattle.subscription_set.specs.Filing.{HasUnder, text_cmp};
+ghost use Rattle.causal_context.specs.Dots.{dot_cmp};
+ghost use Rattle.subscription_set.specs.Matching.{HasMatch, HasPlainFilter, IsMatched, IsPlainMatched, dots_of};
+ghost use Rattle.subscription_set.specs.Members.{AreGroups};
 
 use crate::dots::DotSet;
 use causal_context::Dot;
@@ -112,6 +117,95 @@ fn gather<'a>(alloc: Global, found: &[(&'a Filter, &'a DotSet)]) -> Result<Match
     Ok(Matched::Many(united(alloc, found)?))
 }
 
+/// The dots under the plain filters that match a name, and the shared filters that do.
+#[derive(Drop)]
+pub struct Apart<'a> {
+    pub plain: Matched<'a>,
+    pub groups: Vec<&'a Filter>,
+}
+
+impl<'a> Apart<'a> {
+    /// No dots, and no filters. It takes no memory.
+    pub fn none(alloc: Global) -> Apart<'a>
+        ensures plain { dots_of result.plain ≡ set.empty }
+        ensures groups { result.groups.items ≡ [] }
+    {
+        Apart {
+            plain: Matched::Many(DotSet::new(alloc)),
+            groups: Vec::new(alloc),
+        }
+    }
+
+    /// These dots, and no filters. It takes no memory.
+    pub fn plain(alloc: Global, dots: &'a DotSet) -> Apart<'a>
+        ensures plain { dots_of result.plain ≡ dots.now }
+        ensures groups { result.groups.items ≡ [] }
+    {
+        Apart {
+            plain: Matched::One(dots),
+            groups: Vec::new(alloc),
+        }
+    }
+
+    /// No dots, and this filter.
+    pub fn shared(alloc: Global, filter: &'a Filter) -> Result<Apart<'a>, NoMemory>
+        ensures plain { IfOk result (λ out. dots_of out.plain ≡ set.empty) }
+        ensures groups { IfOk result (λ out. map_list (λ r. r.now) out.groups.items ≡ filter.now ∷ []) }
+    {
+        let mut groups = Vec::new(alloc);
+        groups.push(filter)?;
+        Ok(Apart {
+            plain: Matched::Many(DotSet::new(alloc)),
+            groups,
+        })
+    }
+}
+
+/// Whether a filter is a shared one (MQTT 5.0, 4.8.2).
+pub fn is_shared(filter: &Filter) -> bool
+    ensures shared { IsTrue result ↔ IsShared filter.now }
+    ensures filter { IsFilter filter.now }
+{
+    let _text = filter.as_text();
+    filter.group().is_some()
+}
+
+// Whether the filter of a pair is a plain one.
+fn is_plain(pair: &(&Filter, &DotSet)) -> bool
+    ensures { IsTrue result ↔ (IsShared pair.now.0.now → ⊥) }
+{
+    let (filter, _) = pair;
+    !is_shared(*filter)
+}
+
+// Those of the pairs whose filter is a plain one.
+fn plain_in<'a>(mut found: Vec<(&'a Filter, &'a DotSet)>) -> Vec<(&'a Filter, &'a DotSet)>
+    ensures { IsSelected HasPlainFilter (map_list (λ r. (r.0.now, r.1.now)) found.entry.items)
+        (map_list (λ r. (r.0.now, r.1.now)) result.items) }
+{
+    found.retain(|pair| is_plain(pair));
+    found
+}
+
+// The shared filters of the pairs. Only these take memory.
+fn shared_in<'a>(
+    alloc: Global,
+    found: &[(&'a Filter, &'a DotSet)],
+) -> Result<Vec<&'a Filter>, NoMemory>
+    ensures shared { IfOk result (λ out. IsSelected IsShared (map_list (λ r. r.0.now) found.now)
+        (map_list (λ r. r.now) out.items)) }
+    ensures filters { IfOk result (λ out. AllByRecursion IsFilter (map_list (λ r. r.now) out.items)) }
+    ensures memory { OnErr result (0 < length found.now) }
+{
+    let mut out = Vec::new(alloc);
+    for (filter, _) in found {
+        if is_shared(*filter) {
+            out.push(*filter)?;
+        }
+    }
+    Ok(out)
+}
+
 impl ByFilter {
     /// No dots.
     pub fn new(alloc: Global) -> ByFilter
@@ -158,5 +252,19 @@ impl ByFilter {
     {
         let found = self.dots.matching(name)?;
         gather(self.alloc, found.as_slice())
+    }
+
+    /// The dots under the plain filters that match the name, and the shared filters that do. Only where one does it takes memory.
+    pub fn apart(&self, name: &TopicName) -> Result<Apart<'_>, NoMemory>
+        ensures plain { IfOk result (λ out. IsPlainMatched self.now name.now (dots_of out.plain)) }
+        ensures groups { IfOk result (λ out. AreGroups (HasUnder text_cmp dot_cmp self.now) name.now
+            (map_list (λ r. r.now) out.groups.items)) }
+        ensures none { (HasMatch self.now name.now → ⊥) → IsOk result }
+    {
+        let found = self.dots.matching(name)?;
+        let groups = shared_in(self.alloc, found.as_slice())?;
+        let found = plain_in(found);
+        let plain = gather(self.alloc, found.as_slice())?;
+        Ok(Apart { plain, groups })
     }
 }

@@ -1,5 +1,5 @@
 //! Entries under their dots, found by client and filter too. One takes no trees.
-ghost use Rattle.std.specs.Prelude.{◌≡◌, ◌<◌, ◌^◌, ℕ, List, None, Some, false, true, MatchOption, OnOk, OnErr, IfOk, IsOk, ◌↔◌, length};
+ghost use Rattle.std.specs.Prelude.{◌≡◌, ◌<◌, ◌^◌, ℕ, List, None, Some, false, true, MatchOption, OnOk, OnErr, IfOk, IsOk, ◌↔◌, length, map as map_list};
 ghost use Rattle.std.specs.Option.{option_copied};
 ghost use Rattle.std.specs.FinMap as map;
 ghost use Rattle.std.specs.FinSet as set;
@@ -10,13 +10,15 @@ ghost use Rattle.std.specs.FinMap.Entries.{where_key};
 ghost use Rattle.subscription_set.specs.Entries.{same_text};
 ghost use Rattle.subscription_set.specs.Standing.{latest};
 ghost use Rattle.subscription_set.specs.Matching.{dots_of};
+ghost use Rattle.mqtt_topics.specs.Topics.{IsShared};
 ghost use Rattle.subscription_set.specs.Indexing.{IsStanding, MatchesName, stands_as};
+ghost use Rattle.subscription_set.specs.Members.{AreGroups, HasEntry, IsInTurn, IsPlainAt};
 
-use crate::by_filter::Matched;
+use crate::by_filter::{Apart, Matched};
 use crate::dots::DotSet;
 use crate::entry::Entry;
 use crate::entry_iter::{EntryIter, RangeIter};
-use crate::indexed::IndexedEntries;
+use crate::grouped::GroupedEntries;
 use crate::lone_entry::LoneEntry;
 use causal_context::{Dot, Range};
 use mqtt_fields::{NoMemory, Text};
@@ -29,7 +31,7 @@ use std::marker::Model;
 enum Held {
     Nothing,
     One(LoneEntry),
-    Many(IndexedEntries),
+    Many(GroupedEntries),
 }
 
 /// Entries under their dots. How many of them are the latest of their client and filter, and what
@@ -163,6 +165,33 @@ impl EntryMap {
             Held::Nothing => Ok(Matched::Many(DotSet::new(self.alloc))),
             Held::One(one) => Ok(one.matching(self.alloc, name)),
             Held::Many(all) => all.matching(name),
+        }
+    }
+
+    /// The dots of the entries whose filter is a plain one that matches the name, and the shared filters that do. Only where one does
+    /// it takes memory.
+    pub fn apart(&self, name: &TopicName) -> Result<Apart<'_>, NoMemory>
+        ensures plain { IfOk result (λ out. (d : DotValue) → (set.contains (dots_of out.plain) d ≡ true) ↔ IsPlainAt name.now (map.get self.now d)) }
+        ensures groups { IfOk result (λ out. AreGroups (HasEntry self.now) name.now (map_list (λ r. r.now) out.groups.items)) }
+        ensures none { ((d : DotValue) → MatchesName name.now (map.get self.now d) → ⊥) → IsOk result }
+    {
+        match &self.entries {
+            Held::Nothing => Ok(Apart::none(self.alloc)),
+            Held::One(one) => one.apart(self.alloc, name),
+            Held::Many(all) => all.apart(name),
+        }
+    }
+
+    /// Of the clients of which something stands to the shared filter, in the order of their bytes, the one in the place `turn` modulo
+    /// their number. It takes no memory.
+    pub fn in_turn(&self, filter: &Filter, turn: u64) -> Option<&Text>
+        requires { IsShared filter.now }
+        ensures { IsInTurn self.now filter.now turn (option_copied result) }
+    {
+        match &self.entries {
+            Held::Nothing => None,
+            Held::One(one) => one.in_turn(filter),
+            Held::Many(all) => all.in_turn(filter, turn),
         }
     }
 

@@ -1,5 +1,5 @@
 //! Entries under their dots, and an index beside them.
-ghost use Rattle.std.specs.Prelude.{◌≡◌, ◌<◌, ◌^◌, ℕ, List, None, Some, false, true, MatchOption, OnOk, OnErr, IfOk, IsOk, ◌↔◌, length};
+ghost use Rattle.std.specs.Prelude.{◌≡◌, ◌<◌, ◌^◌, ℕ, List, None, Some, false, true, MatchOption, OnOk, OnErr, IfOk, IsOk, ◌↔◌, length, map as map_list};
 ghost use Rattle.std.specs.Option.{option_copied};
 ghost use Rattle.std.specs.FinMap as map;
 ghost use Rattle.std.specs.FinSet as set;
@@ -12,9 +12,10 @@ ghost use Rattle.subscription_set.specs.Standing.{latest};
 ghost use Rattle.subscription_set.specs.Filing.{IsPlaced};
 ghost use Rattle.subscription_set.specs.Matching.{dots_of};
 ghost use Rattle.subscription_set.specs.Indexing.{IsStanding, MatchesName, stands_as};
+ghost use Rattle.subscription_set.specs.Members.{AreGroups, HasEntry, IsPlainAt};
 
 use crate::by_client::ByClient;
-use crate::by_filter::{ByFilter, Matched};
+use crate::by_filter::{Apart, ByFilter, Matched};
 use crate::dots::DotSet;
 use crate::entry::Entry;
 use crate::groups::Groups;
@@ -208,6 +209,16 @@ impl IndexedEntries {
         self.index.matches.matching(name)
     }
 
+    /// The dots of the entries whose filter is a plain one that matches the name, and the shared filters that do. Only where one does
+    /// it takes memory.
+    pub fn apart(&self, name: &TopicName) -> Result<Apart<'_>, NoMemory>
+        ensures plain { IfOk result (λ out. (d : DotValue) → (set.contains (dots_of out.plain) d ≡ true) ↔ IsPlainAt name.now (map.get self.now d)) }
+        ensures groups { IfOk result (λ out. AreGroups (HasEntry self.now) name.now (map_list (λ r. r.now) out.groups.items)) }
+        ensures none { ((d : DotValue) → MatchesName name.now (map.get self.now d) → ⊥) → IsOk result }
+    {
+        self.index.matches.apart(name)
+    }
+
     /// Puts the entry in at the dot, where there is none.
     pub fn add(&mut self, dot: Dot, entry: Entry) -> Result<(), NoMemory>
         requires { map.get self.old dot ≡ None }
@@ -229,15 +240,18 @@ impl IndexedEntries {
         Ok(())
     }
 
-    /// Takes the entry at the dot out, if there is one.
-    pub fn remove(&mut self, dot: Dot)
-        ensures { self.new ≡ map.remove self.old dot }
+    /// Takes the entry at the dot out, if there is one, and answers it.
+    pub fn take(&mut self, dot: Dot) -> Option<Entry>
+        ensures value { result ≡ map.get self.old dot }
+        ensures left { self.new ≡ map.remove self.old dot }
     {
-        if let Some(entry) = self.entries.remove(&dot) {
-            self.index.unfile(dot, &entry);
-            if self.index.under(entry.client(), entry.filter()).is_none() {
-                self.live -= 1;
-            }
+        let Some(entry) = self.entries.remove(&dot) else {
+            return None;
+        };
+        self.index.unfile(dot, &entry);
+        if self.index.under(entry.client(), entry.filter()).is_none() {
+            self.live -= 1;
         }
+        Some(entry)
     }
 }

@@ -5,20 +5,24 @@
 
 mod by_client;
 mod by_filter;
+mod clients;
 mod dot_iter;
 mod dots;
 mod entry;
 mod entry_iter;
 mod entry_map;
+mod grouped;
 mod groups;
 mod indexed;
 mod live;
 mod lone_entry;
+mod members;
 mod plan;
 mod ready;
 mod set;
 
 pub use entry::Entry;
 pub use entry_iter::EntryIter;
+pub use live::MatchingApart;
 pub use ready::Ready;
 pub use set::SubscriptionSet;

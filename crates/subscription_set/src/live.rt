@@ -1,16 +1,18 @@
 //! What stands of a client, and what is live.
-ghost use Rattle.std.specs.Prelude.{◌≡◌, ◌&&◌, [], IfOk, IsOk, OnErr, true, map as map_list};
-ghost use Rattle.std.specs.List.{filter, list_all, list_any};
+ghost use Rattle.std.specs.Prelude.{◌≡◌, ◌&&◌, ◌++◌, ◌<◌, [], IfOk, IsOk, OnOk, OnErr, true, length, flat_map, map as map_list};
+ghost use Rattle.std.specs.List.{AllByRecursion, filter, list_all, list_any};
 ghost use Rattle.std.specs.Map.Iter.{deref_pair};
 ghost use Rattle.std.specs.Option.{option_copied};
 ghost use Rattle.std.specs.FinMap as map;
 ghost use Rattle.std.specs.FinSet as set;
 ghost use Rattle.causal_context.specs.Dots.{Dot as DotValue};
 ghost use Rattle.mqtt_topics.specs.Matching.{Matches};
+ghost use Rattle.mqtt_topics.specs.Topics.{IsShared};
 ghost use Rattle.filter_trie.specs.Selected.{IsSelected};
 ghost use Rattle.subscription_set.specs.Entries.{is_of, is_of_below, same_text};
 ghost use Rattle.subscription_set.specs.Standing.{is_latest, latest, dots_in};
 ghost use Rattle.subscription_set.specs.Indexing.{later_at, below_at};
+ghost use Rattle.subscription_set.specs.Members.{AreInTurn, IsPlainFor, in_turn, latest_of_dots, latest_entries, to_filter};
 
 use crate::dots::DotSet;
 use crate::entry::Entry;
@@ -208,6 +210,28 @@ fn are_all_latest(entries: &EntryMap) -> bool
     entries.live() == entries.len()
 }
 
+// Adds the latest entries of each client and filter that are at the dots, rising by these. Only such entries take memory.
+fn add_latest<'a>(
+    out: &mut Vec<&'a Entry>,
+    entries: &'a EntryMap,
+    dots: &DotSet,
+) -> Result<(), NoMemory>
+    ensures latest { OnOk result (map_list (λ r. r.now) out.new.items
+        ≡ map_list (λ r. r.now) out.old.items ++ latest_of_dots entries.now dots.now) }
+    ensures none { latest_of_dots entries.now dots.now ≡ [] → IsOk result }
+{
+    let all_latest = are_all_latest(entries);
+    for dot in dots.iter() {
+        let Some(entry) = entries.get(*dot) else {
+            continue;
+        };
+        if all_latest || is_the_latest(entries, *dot, entry) {
+            out.push(entry)?;
+        }
+    }
+    Ok(())
+}
+
 /// The latest entries of each client and filter whose filter matches the name, rising by their dots. Only these take memory.
 pub fn latest_matching<'a>(
     alloc: Global,
@@ -220,16 +244,75 @@ pub fn latest_matching<'a>(
         (map_list (λ x. x.1) (latest (map.entries entries.now))) [] → IsOk result }
 {
     let found = entries.matching(name)?;
-    let dots = found.dots();
-    let all_latest = are_all_latest(entries);
     let mut out = Vec::new(alloc);
-    for dot in dots.iter() {
-        let Some(entry) = entries.get(*dot) else {
-            continue;
-        };
-        if all_latest || is_the_latest(entries, *dot, entry) {
-            out.push(entry)?;
-        }
+    add_latest(&mut out, entries, found.dots())?;
+    Ok(out)
+}
+
+/// The live subscriptions to plain filters that match a name, and of each shared filter that does that of the client whose turn it
+/// is.
+#[derive(Drop)]
+pub struct MatchingApart<'a> {
+    pub plain: Vec<&'a Entry>,
+    pub in_turn: Vec<&'a Entry>,
+}
+
+// Adds the latest entries to a shared filter of the client whose turn it is.
+fn add_in_turn<'a>(
+    out: &mut Vec<&'a Entry>,
+    entries: &'a EntryMap,
+    filter: &Filter,
+    turn: u64,
+) -> Result<(), NoMemory>
+    requires { IsShared filter.now }
+    ensures { OnOk result (map_list (λ r. r.now) out.new.items
+        ≡ map_list (λ r. r.now) out.old.items ++ in_turn turn (to_filter filter.now (latest_entries entries.now))) }
+{
+    let Some(client) = entries.in_turn(filter, turn) else {
+        return Ok(());
+    };
+    match entries.standing(client, Some(filter)) {
+        None => Ok(()),
+        Some(dots) => add_latest(out, entries, dots),
+    }
+}
+
+// The latest entries to each of the shared filters of the client whose turn it is. Only these filters take memory.
+fn all_in_turn<'a>(
+    alloc: Global,
+    entries: &'a EntryMap,
+    groups: &[&Filter],
+    turn: u64,
+) -> Result<Vec<&'a Entry>, NoMemory>
+    requires { AllByRecursion IsShared (map_list (λ r. r.now) groups.now) }
+    ensures in_turn { IfOk result (λ out. map_list (λ r. r.now) out.items
+        ≡ flat_map (λ f. in_turn turn (to_filter f (latest_entries entries.now))) (map_list (λ r. r.now) groups.now)) }
+    ensures memory { OnErr result (0 < length groups.now) }
+{
+    let mut out = Vec::new(alloc);
+    for filter in groups {
+        add_in_turn(&mut out, entries, *filter, turn)?;
     }
     Ok(out)
+}
+
+/// The latest entries of each client and filter: those to plain filters that match the name, rising by their dots, and of each
+/// shared filter that does those of the client whose turn it is. Only where one matches it takes memory.
+pub fn latest_apart<'a>(
+    alloc: Global,
+    entries: &'a EntryMap,
+    name: &TopicName,
+    turn: u64,
+) -> Result<MatchingApart<'a>, NoMemory>
+    ensures plain { IfOk result (λ out. IsSelected (IsPlainFor name.now)
+        (latest_entries entries.now) (map_list (λ r. r.now) out.plain.items)) }
+    ensures in_turn { IfOk result (λ out. AreInTurn turn name.now
+        (latest_entries entries.now) (map_list (λ r. r.now) out.in_turn.items)) }
+    ensures none { IsSelected (λ e. Matches e.filter name.now) (latest_entries entries.now) [] → IsOk result }
+{
+    let found = entries.apart(name)?;
+    let mut plain = Vec::new(alloc);
+    add_latest(&mut plain, entries, found.plain.dots())?;
+    let in_turn = all_in_turn(alloc, entries, found.groups.as_slice(), turn)?;
+    Ok(MatchingApart { plain, in_turn })
 }

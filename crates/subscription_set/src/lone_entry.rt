@@ -1,5 +1,5 @@
 //! One entry at its dot.
-ghost use Rattle.std.specs.Prelude.{◌≡◌, ◌↔◌, None, true, false, MatchOption, IfOk, length};
+ghost use Rattle.std.specs.Prelude.{◌≡◌, ◌↔◌, ℕ, None, true, false, MatchOption, IfOk, IsOk, length, map as map_list};
 ghost use Rattle.std.specs.Option.{option_copied};
 ghost use Rattle.std.specs.Ordering.{eq_by_cmp};
 ghost use Rattle.std.specs.FinMap as map;
@@ -12,12 +12,13 @@ ghost use Rattle.subscription_set.specs.Entries.{is_of, same_text};
 ghost use Rattle.subscription_set.specs.Standing.{latest};
 ghost use Rattle.subscription_set.specs.Matching.{dots_of};
 ghost use Rattle.subscription_set.specs.Indexing.{IsStanding, MatchesName, alone, stands_as};
+ghost use Rattle.subscription_set.specs.Members.{AreGroups, HasEntry, IsInTurn, IsPlainAt};
 
-use crate::by_filter::Matched;
+use crate::by_filter::{Apart, Matched, is_shared};
 use crate::dots::DotSet;
 use crate::entry::Entry;
 use crate::entry_iter::{EntryIter, RangeIter};
-use crate::indexed::IndexedEntries;
+use crate::grouped::GroupedEntries;
 use causal_context::{Dot, Range};
 use mqtt_fields::{NoMemory, Text};
 use mqtt_topics::{Filter, TopicName};
@@ -155,12 +156,39 @@ impl LoneEntry {
         Matched::One(&self.dots)
     }
 
+    /// The set of its dot where its filter is a plain one that matches the name, or its filter where that is a shared one that does.
+    /// Only the latter takes memory.
+    pub fn apart(&self, alloc: Global, name: &TopicName) -> Result<Apart<'_>, NoMemory>
+        ensures plain { IfOk result (λ out. (d : DotValue) → (set.contains (dots_of out.plain) d ≡ true) ↔ IsPlainAt name.now (map.get (alone self.now) d)) }
+        ensures groups { IfOk result (λ out. AreGroups (HasEntry (alone self.now)) name.now (map_list (λ r. r.now) out.groups.items)) }
+        ensures none { ((d : DotValue) → MatchesName name.now (map.get (alone self.now) d) → ⊥) → IsOk result }
+    {
+        let filter = self.entry.filter();
+        if !filter.matches(name) {
+            return Ok(Apart::none(alloc));
+        }
+        if is_shared(filter) {
+            return Apart::shared(alloc, filter);
+        }
+        Ok(Apart::plain(alloc, &self.dots))
+    }
+
+    /// Its client, where it is to the filter.
+    pub fn in_turn(&self, filter: &Filter) -> Option<&Text>
+        ensures { (turn : ℕ) → IsInTurn (alone self.now) filter.now turn (option_copied result) }
+    {
+        if !self.entry.has_filter(filter) {
+            return None;
+        }
+        Some(self.entry.client())
+    }
+
     /// A copy of the entry and another one, with an index.
-    pub fn with(&self, alloc: Global, dot: Dot, entry: Entry) -> Result<IndexedEntries, NoMemory>
+    pub fn with(&self, alloc: Global, dot: Dot, entry: Entry) -> Result<GroupedEntries, NoMemory>
         requires { map.get (alone self.now) dot ≡ None }
         ensures { IfOk result (λ all. all ≡ map.insert (alone self.now) dot entry) }
     {
-        let mut all = IndexedEntries::new(alloc);
+        let mut all = GroupedEntries::new(alloc);
         let first = self.entry.copy(alloc)?;
         all.add(self.dot, first)?;
         all.add(dot, entry)?;

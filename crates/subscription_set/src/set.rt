@@ -9,6 +9,7 @@ ghost use Rattle.causal_context.specs.Dots.{Dot as DotValue, dot_cmp};
 ghost use Rattle.causal_context.specs.Lattices.{lattice_from_join};
 ghost use Rattle.mqtt_topics.specs.Matching.{Matches};
 ghost use Rattle.filter_trie.specs.Selected.{IsSelected};
+ghost use Rattle.subscription_set.specs.Members.{AreInTurn, IsPlainFor};
 ghost use Rattle.subscription_set.specs.Statuses.{statuses_join, StatusesBelow};
 ghost use Rattle.subscription_set.specs.StatusLattice.{statuses_lattice};
 ghost use Rattle.subscription_set.specs.Standing.{AreSeen, find_entry, statuses, seen_of, standing, any_of, any_below, dots_of, dots_below, live, live_of};
@@ -20,8 +21,8 @@ use crate::entry::Entry;
 use crate::entry_iter::EntryIter;
 use crate::entry_map::EntryMap;
 use crate::live::{
-    any_among, any_among_below, dots_among, dots_among_below, latest_among, latest_matching,
-    latest_of,
+    MatchingApart, any_among, any_among_below, dots_among, dots_among_below, latest_among,
+    latest_apart, latest_matching, latest_of,
 };
 use crate::plan::{any_leaving, leaving, make_plan};
 use crate::ready::Ready;
@@ -219,6 +220,20 @@ impl SubscriptionSet {
             (map_list (λ x. x.1) (live self.now)) [] → IsOk result }
     {
         latest_matching(self.alloc, &self.entries, name)
+    }
+
+    /// What is live to plain filters that match the name, rising by the dots; and of each shared filter that does what is live of one
+    /// of its clients: in the order of their bytes, the one in the place `turn` modulo their number (MQTT 5.0, 4.7 and 4.8.2). Only where
+    /// something live matches it takes memory. It asks indexes of the filters and of their clients, and doesn't walk over the others.
+    pub fn matching_apart(&self, name: &TopicName, turn: u64) -> Result<MatchingApart<'_>, NoMemory>
+        ensures plain { IfOk result (λ out. IsSelected (IsPlainFor name.now)
+            (map_list (λ x. x.1) (live self.now)) (map_list (λ r. r.now) out.plain.items)) }
+        ensures in_turn { IfOk result (λ out. AreInTurn turn name.now
+            (map_list (λ x. x.1) (live self.now)) (map_list (λ r. r.now) out.in_turn.items)) }
+        ensures none { IsSelected (λ e. Matches e.filter name.now)
+            (map_list (λ x. x.1) (live self.now)) [] → IsOk result }
+    {
+        latest_apart(self.alloc, &self.entries, name, turn)
     }
 
     /// What is live of the client, rising by the dots. Only this takes memory.

@@ -2,7 +2,7 @@
 
 use super::Example;
 
-pub const EXAMPLES: [Example; 22] = [
+pub const EXAMPLES: [Example; 23] = [
     Example {
         name: "a client at its home",
         script: "nodes 2\nstart 0 0\nstart 1 0\nopen 1 1 0\nbytes 1 1 0 100e00044d5154540502003c00000161\n",
@@ -155,6 +155,13 @@ pub const EXAMPLES: [Example; 22] = [
         script: "nodes 2\nstart 0 0\nstart 1 0\nopen 1 1 0\nbytes 1 1 0 101300044d5154540502003c052700000010000161\nbytes 1 1 0 820700010000017400\nopen 1 2 0\nbytes 1 2 0 100e00044d5154540502003c00000163\nbytes 1 2 0 300e0001740031323334353637383930\nbytes 1 2 0 300f000174003132333435363738393031\nbytes 1 1 0 c000\n",
         status: 0,
         out: "sent 1 1 200e00000b2100642200102700100000\nsent 1 1 900400010000\nsent 1 2 200e00000b2100642200102700100000\nsent 1 1 300e0001740031323334353637383930\nsent 1 1 d000\nnode 0 subscriptions 0 retained 0\nnode 1 subscriptions 1 retained 0\ntaken 0 1 differ\n",
+        err: "",
+    },
+    Example {
+        name: "Clean Start ends a session that would have lasted: what waits and what it subscribed to are gone",
+        script: "nodes 1\nstart 0 0\nopen 0 1 0\nbytes 0 1 0 101300044d5154540502003c051100000064000161\nbytes 0 1 0 820700010000017401\nclose 0 1 10\nopen 0 2 10\nbytes 0 2 10 100e00044d5154540502003c00000162\nbytes 0 2 10 320700017400010078\nopen 0 3 20\nbytes 0 3 20 101300044d5154540502003c051100000064000161\nbytes 0 2 20 320700017400020078\n",
+        status: 0,
+        out: "sent 0 1 200e00000b2100642200102700100000\nsent 0 1 900400010001\nsent 0 2 200e00000b2100642200102700100000\nsent 0 2 40020001\nsent 0 3 200e00000b2100642200102700100000\nsent 0 2 40020002\nnode 0 subscriptions 0 retained 0\n",
         err: "",
     },
 ];

@@ -1,7 +1,5 @@
-use Rattle.std.proofs.Common.{◌≡◌, [], flat_map, length, refl, sym, ap, subst, ◌∙◌, arith}
+use Rattle.std.proofs.Common.{◌≡◌, flat_map, length, ap, ◌∙◌, arith}
 use Rattle.std.proofs.lemmas.Grind.{common_steps}
-use Rattle.mqtt_topics.specs.Topics.{IsShared}
-use Rattle.filter_trie.specs.Selected.{IsSelected}
 use Rattle.subscription_set.proofs.Spreading.{text_total, text_anti, pair_total, pair_anti}
 use Rattle.message_copies.specs.Gathered.{group_of}
 use Rattle.message_copies.specs.Picks.{pick_of, picked}
@@ -11,5 +9,5 @@ use Rattle.message_copies.proofs.groups.picks_among.Goals as goal
 
 pub returns-then-is_empty-clause-picks : goal.returns-then-is_empty-clause-picks
 returns-then-is_empty-clause-picks c =
-    let zero : length c.args.found.now ≡ 0 = grind (arith, common_steps) in
-    ([], subst (λ es. IsSelected (λ e. IsShared e.filter) es []) (sym (no_referents c.args.found.now zero)) refl, c.new.ensures.items ∙ ap (flat_map (λ g. pick_of c.args.message.now (picked c.args.turn g.1))) (holds_nothing (pair_total text_total text_anti text_total text_anti) (pair_anti text_total text_anti text_total text_anti) group_of [] refl))
+    let zero : length c.args.shared.now ≡ 0 = grind (arith, common_steps) in
+    c.new.ensures.items ∙ ap (flat_map (λ g. pick_of c.args.message.now (picked c.args.turn g.1))) (holds_nothing (pair_total text_total text_anti text_total text_anti) (pair_anti text_total text_anti text_total text_anti) group_of _ (no_referents c.args.shared.now zero))

@@ -15,7 +15,7 @@ use Rattle.subscription_set.proofs.by_filter.ByFilter.matching.Goals as goal
 pub returns-in_err-found-clause-none : goal.returns-in_err-found-clause-none
 returns-in_err-found-clause-none c = λ none.
     let N : Filed → Type 0 = λ v. ¬ (HasMatch v c.args.name.now) in
-    absurd (let no = c.in_err-found.ensures.none (nothing_found c.self.inside.dots c.self.invariant c.args.name.now (subst N (sym c.self.view_is) none)) in cc)
+    absurd (let no = c.in_err-found.ensures.none (nothing_found c.self.inside.dots c.self.invariant (λ f. Matches f c.args.name.now) (subst N (sym c.self.view_is) none)) in cc)
 
 pub returns-clause-dots : goal.returns-clause-dots
 returns-clause-dots c =
@@ -24,7 +24,7 @@ returns-clause-dots c =
     IfOk-weaker c.gather.result (λ out. (d : Dot) → set.contains (dots_of out) d ≡ list_any (λ r. set.contains r.1.now d) found) (λ out. IsMatched c.args.self.now c.args.name.now (dots_of out))
     (λ out is.
     let M : Filed → Type 0 = λ v. IsMatched v c.args.name.now (dots_of out) in
-    subst M c.self.view_is (found_dots c.self.inside.dots c.self.invariant c.args.name.now (map_list (λ r. (r.0.now, r.1.now)) found) (dots_of out) pairs
+    subst M c.self.view_is (found_dots c.self.inside.dots c.self.invariant (λ f. Matches f c.args.name.now) (map_list (λ r. (r.0.now, r.1.now)) found) (dots_of out) pairs
     (λ d. is d ∙ sym (any_map (λ e. set.contains e.1 d) (λ r. (r.0.now, r.1.now)) found))))
     c.gather.ensures.dots
 
@@ -36,5 +36,5 @@ returns-clause-none c = λ none.
     ok_where c.gather.result
     (λ some.
     let one = some_in found some in
-    subst N (sym c.self.view_is) none (something_found c.self.inside.dots c.self.invariant c.args.name.now (map_list (λ r. (r.0.now, r.1.now)) found) pairs _ (in_map (λ r. (r.0.now, r.1.now)) found one.0 one.1)))
+    subst N (sym c.self.view_is) none (something_found c.self.inside.dots c.self.invariant (λ f. Matches f c.args.name.now) (map_list (λ r. (r.0.now, r.1.now)) found) pairs _ (in_map (λ r. (r.0.now, r.1.now)) found one.0 one.1)))
     c.gather.ensures.memory

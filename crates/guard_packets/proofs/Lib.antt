@@ -1,0 +1,7 @@
+pub mod Aliasing
+pub mod Fronts
+pub mod Going
+pub mod Marking
+pub mod Merging
+pub mod Ordering
+pub mod Sent
