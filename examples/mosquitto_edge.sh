@@ -13,22 +13,13 @@ PATH=$PATH:/usr/sbin
 run_by "$@"
 need mosquitto mosquitto_pub mosquitto_sub
 
-check() {
-    if [ "$2" = "$3" ]; then
-        echo "$1: as it should be"
-    else
-        echo "$1: got '$3', wanted '$2'"
-        failed=1
-    fi
-}
-
 publish() {
     local port=$1
     shift
     timeout 20 mosquitto_pub -V 5 -h "$host" -p "$port" -q 1 "$@"
 }
 
-# What a subscriber at a port gets in three seconds, in one line.
+# What a subscriber to the filter $2 at the port $1 gets in $3 seconds, in one line.
 listen() {
     mosquitto_sub -V 5 -h "$host" -p "$1" -q 1 -t "$2" -F '%t %r %p' -W "$3" 2> "$work/listen" | sort | paste -sd,
 }

@@ -26,16 +26,6 @@ start_at_free_port() {
     start_node n0 "$work/homes.toml" "$work/n0.db"
 }
 
-# Tells whether a check came to what it should.
-check() {
-    if [ "$2" = "$3" ]; then
-        echo "$1: as it should be"
-    else
-        echo "$1: got '$3', wanted '$2'"
-        failed=1
-    fi
-}
-
 publish() {
     timeout 20 mosquitto_pub -h "$host" -p "$port" "$@" 2>> "$work/publish.err"
 }

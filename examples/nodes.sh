@@ -111,3 +111,13 @@ retain() {
         exit 1
     fi
 }
+
+# Prints whether what came ($3) is what was wanted ($2); if it isn't, the script ends with status 1.
+check() {
+    if [ "$2" = "$3" ]; then
+        echo "$1: as it should be"
+    else
+        echo "$1: got '$3', wanted '$2'"
+        failed=1
+    fi
+}
