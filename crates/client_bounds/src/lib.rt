@@ -19,3 +19,4 @@ mod walk;
 pub use bounded::Bounded;
 pub use fault::BoundedFault;
 pub use limits::{BoundLimits, CAREFUL};
+pub use step::Step;

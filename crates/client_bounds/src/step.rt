@@ -4,7 +4,7 @@ use packet_bounds::Mend;
 
 /// One thing that is done, after those before it.
 #[derive(Drop)]
-pub(crate) enum Step {
+pub enum Step {
     /// The handler inside is told these bytes, as they came; what it gives then is mended so.
     Tells(Bytes, Mend),
     /// The handler inside is told this packet.
