@@ -23,6 +23,7 @@ import asyncio
 import collections
 import os
 import random
+import shutil
 import signal
 import sys
 import tempfile
@@ -273,6 +274,8 @@ class Load:
         home, port = self.random.choice(self.homes)
         self.wills += 1
         client = Willing(f"{home}-will-{self.wills}", port, self.wills)
+        node = self.cluster.nodes[port - BASE]
+        starts = node.starts
         try:
             await client.open()
         except (Gone, OSError, asyncio.IncompleteReadError, asyncio.TimeoutError):
@@ -286,9 +289,10 @@ class Load:
             return
         try:
             client.leave()
-            # the node closes the connection once it has taken the DISCONNECT
+            # the node closes the connection once it has taken the DISCONNECT; where it was killed meanwhile, the system closed it
             await asyncio.wait_for(client.reader.read(), 3)
-            self.unsure.append(client.name) if self.cluster.busy else self.left.append(client.name)
+            was_up = node.starts == starts and not self.cluster.busy
+            (self.left if was_up else self.unsure).append(client.name)
         except (Gone, OSError, asyncio.TimeoutError):
             self.unsure.append(client.name)
         finally:
@@ -445,8 +449,12 @@ def main():
     reads.add_argument("--folder", default=None)
     reads.add_argument("program", nargs="+")
     words = reads.parse_args()
-    words.folder = words.folder or tempfile.mkdtemp(prefix="faults-")
-    sys.exit(asyncio.run(run(words)))
+    folder = words.folder
+    words.folder = folder or tempfile.mkdtemp(prefix="faults-")
+    status = asyncio.run(run(words))
+    if status == 0 and folder is None:
+        shutil.rmtree(words.folder)
+    sys.exit(status)
 
 
 if __name__ == "__main__":
