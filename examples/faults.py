@@ -23,6 +23,7 @@ import asyncio
 import collections
 import os
 import random
+import shutil
 import signal
 import sys
 import tempfile
@@ -445,8 +446,12 @@ def main():
     reads.add_argument("--folder", default=None)
     reads.add_argument("program", nargs="+")
     words = reads.parse_args()
-    words.folder = words.folder or tempfile.mkdtemp(prefix="faults-")
-    sys.exit(asyncio.run(run(words)))
+    folder = words.folder
+    words.folder = folder or tempfile.mkdtemp(prefix="faults-")
+    status = asyncio.run(run(words))
+    if status == 0 and folder is None:
+        shutil.rmtree(words.folder)
+    sys.exit(status)
 
 
 if __name__ == "__main__":

@@ -1,6 +1,7 @@
 #!/usr/bin/env bash
 # Stops a node at each call by which it writes its database: killed at the first pwrite64, then in another run at the second, and so on until
-# a run ends without; then likewise with EIO as that call's answer; then the same of fdatasync and of fsync. A client connects, subscribes,
+# a run ends without; then likewise with EIO as that call's answer; then with a disk that is full from that call on (ENOSPC), until the node is started again; then
+# killed and EIO of fdatasync and of fsync. A client connects, subscribes,
 # publishes retained messages, unsubscribes and removes a message, and notes what is acknowledged. After each run the node is started again
 # over its database, and what it holds has to be what it held after the last step that was acknowledged, or after the next one.
 #
@@ -113,11 +114,11 @@ is_kept() {
     [ "$held" = "$(held_after "$made")" ] || [ "$held" = "$(held_after $((made + 1)))" ]
 }
 
-# Stops the node at each call of this name in turn.
+# Stops the node at each call of this name in turn; with '+' as the last word at that call and all later ones.
 stop_at() {
-    local call=$1 how=$2 fault=$3 number
+    local call=$1 how=$2 fault=$3 later=${4-} number
     for number in $(seq "$most"); do
-        run -e "trace=$call" -e "inject=$call:$fault:when=$number"
+        run -e "trace=$call" -e "inject=$call:$fault:when=$number$later"
         if ! is_kept; then
             echo "$call, $how at number $number: after $made steps the node holds: ${held-nothing}"
             exit 1
@@ -136,4 +137,7 @@ stop_at() {
 for call in pwrite64 fdatasync fsync; do
     stop_at "$call" killed signal=KILL
     stop_at "$call" failed error=EIO
+    if [ "$call" = pwrite64 ]; then
+        stop_at "$call" 'without room from then on' error=ENOSPC +
+    fi
 done

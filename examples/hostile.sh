@@ -1,6 +1,7 @@
 #!/usr/bin/env bash
 # A broker with clients and peers that it must bear: one that sends a byte a second, one that never reads, bursts that come and go, more than it
-# may have open, streams with changed bytes, and noise at the port for other nodes. Beside each a witness publishes and is served. Prints what
+# may have open, streams with changed bytes, and noise at the port for other nodes; and, with limits and 2 GB of memory, clients that would fill it: by
+# a queue, by retained messages, by filters, by user properties, by packets that aren't finished. Beside each a witness publishes and is served. Prints what
 # was done and how much memory the broker had before and after, and ends with status 1 where something isn't as it should be.
 #
 #   examples/hostile.sh             runs the program that ./build has built
@@ -76,4 +77,22 @@ start_broker 64 one_node
 try many "$port" 100
 look_for_limit
 stop_broker
+# Within 2 GB of the system's, a broker that takes nothing new above 500 MB; after each attack it opens again within the same.
+held() {
+    ulimit -v 2000000
+    exec "$@"
+}
+for attack in "queue 60000" "retained 8000" "wildcards 3000" "properties 40000" "unfinished 2000"; do
+    options=(--careful --most-memory 500)
+    start_node n0 "$top/examples/one_node.toml" "$work/held.${attack%% *}.db" held
+    broker=${nodes[n0]}
+    before=$(memory)
+    try ${attack%% *} "$port" ${attack##* }
+    echo "memory of the broker: $before kB before, $(memory) kB after"
+    stop_broker
+    start_node n0 "$top/examples/one_node.toml" "$work/held.${attack%% *}.db" held
+    broker=${nodes[n0]}
+    echo "it has opened again, with $(memory) kB"
+    stop_broker
+done
 exit "$failed"

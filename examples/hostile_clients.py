@@ -6,10 +6,16 @@
     hostile_clients.py bursts PORT COUNT    so many clients come and go, two hundred at once
     hostile_clients.py many PORT COUNT      so many connect, more than the broker may have open; the first half goes, and the others are answered
     hostile_clients.py streams PORT COUNT SEED   so many streams of packets with changed bytes
+    hostile_clients.py queue PORT COUNT     so many messages of a kilobyte at QoS 1 wait for a client that is away
+    hostile_clients.py retained PORT COUNT  so many topics get a retained message of a hundred kilobytes at QoS 1
+    hostile_clients.py wildcards PORT COUNT a SUBSCRIBE has so many times `#`, over a retained message
+    hostile_clients.py properties PORT COUNT     a PUBLISH has so many user properties
+    hostile_clients.py unfinished PORT COUNT     so many clients send a quarter of a megabyte of a packet that they don't finish
     hostile_clients.py noise BRIDGE BYTES SEED PORT PEER   so many random bytes at the port for other nodes, while node 1 of the
                                             cluster, which listens at PEER, has its link
 
-Each has a witness beside it, a client that publishes and gets its own message back. It prints what was done, and ends with status 1 where
+Each has a witness beside it, a client that publishes and gets its own message back. With limits (examples/hostile.sh) a witness publishes at QoS 1,
+and is served too where it is told that there is no room (0x97). It prints what was done, and ends with status 1 where
 something isn't as it should be.
 """
 import random
@@ -19,7 +25,8 @@ import time
 
 HOST = "127.0.0.1"
 PATIENCE = 20
-CONNACK, PUBLISH = 2, 3
+CONNACK, PUBLISH, PUBACK, SUBACK = 2, 3, 4, 9
+NO_ROOM = 0x97
 KNOW = 3
 
 
@@ -51,6 +58,10 @@ def subscribe(topic):
 
 def publish(topic, payload):
     return packet(0x30, text(topic) + b"\x00" + payload)
+
+
+def publish_1(topic, payload, number, properties=b"", retain=0):
+    return packet(0x32 | retain, text(topic) + number.to_bytes(2, "big") + sized(len(properties)) + properties + payload)
 
 
 def opened(port):
@@ -106,6 +117,111 @@ class Witness(Client):
 
     def told(self):
         return f"the witness was served {self.served} times, within {self.longest * 1000:.0f} ms"
+
+
+class Bounded(Witness):
+    """A witness at a broker with limits: an answer is a service, whether the message was taken or there was no room for it."""
+
+    def __init__(self, port):
+        super().__init__(port)
+        self.refused = 0
+
+    def look(self):
+        payload = str(self.served).encode()
+        began = time.monotonic()
+        self.socket.sendall(publish_1("witness", payload, 1))
+        seen = {}
+        while PUBACK not in seen:
+            seen.update([self.next()])
+        if seen[PUBACK][2:3] == bytes([NO_ROOM]):
+            self.refused += 1
+        else:
+            body = seen[PUBLISH] if PUBLISH in seen else self.next()[1]
+            assert body == text("witness") + b"\x00" + payload, body
+        self.served += 1
+        self.longest = max(self.longest, time.monotonic() - began)
+
+    def told(self):
+        return f"{super().told()}, and {self.refused} times of these told that there was no room"
+
+
+def acknowledged(client, count):
+    """How many of so many PUBLISHes were taken, and how many refused for want of room."""
+    taken = refused = 0
+    for _ in range(count):
+        kind, body = client.next()
+        assert kind == PUBACK, (kind, body)
+        if len(body) > 2 and body[2] >= 0x80:
+            assert body[2] == NO_ROOM, body
+            refused += 1
+        else:
+            taken += 1
+    return taken, refused
+
+
+def flood(port, count, told, message):
+    """Publishes so many messages at QoS 1, fifty ahead."""
+    witness, sender, taken, refused = Bounded(port), Client(port, "sender"), 0, 0
+    for begin in range(0, count, 50):
+        some = range(begin, min(begin + 50, count))
+        sender.socket.sendall(b"".join(message(place, place % 50 + 1) for place in some))
+        more = acknowledged(sender, len(some))
+        taken, refused = taken + more[0], refused + more[1]
+        witness.look()
+    print(f"of {count} {told} {taken} were taken and {refused} refused; {witness.told()}")
+
+
+def queue(port, count):
+    away = opened(port)
+    away.sendall(packet(0x10, text("MQTT") + b"\x05\x02\x00\x00\x05\x11\x00\x00\x0e\x10" + text("away")) + packet(0x82, b"\x00\x01\x00" + text("queue") + b"\x01"))
+    assert away.recv(4)[0] >> 4 == CONNACK
+    time.sleep(1)
+    away.close()
+    flood(port, count, "messages for a client that is away", lambda place, number: publish_1("queue", bytes(1024), number))
+
+
+def retained(port, count):
+    flood(port, count, "retained messages", lambda place, number: publish_1(f"kept/{place}", bytes(100_000), number, retain=1))
+
+
+def wildcards(port, count):
+    witness, client = Bounded(port), Client(port, "wildcards")
+    client.socket.sendall(publish_1("large", bytes(200_000), 1, retain=1))
+    acknowledged(client, 1)
+    client.socket.sendall(packet(0x82, b"\x00\x02\x00" + (text("#") + b"\x00") * count))
+    while True:
+        kind, body = client.next()
+        if kind == SUBACK:
+            break
+    granted = sum(code < 0x80 for code in body[3:])
+    assert len(body) - 3 == count and body.count(NO_ROOM) >= count - granted, (len(body), granted)
+    witness.look()
+    print(f"of a SUBSCRIBE with {count} filters {granted} were granted; {witness.told()}")
+
+
+def properties(port, count):
+    witness, client = Bounded(port), Client(port, "properties")
+    client.socket.sendall(publish_1("many", b"", 1, (b"\x26" + text("") * 2) * count))
+    kind, body = client.next()
+    witness.look()
+    print(f"a PUBLISH with {count} user properties was answered by a packet of type {kind} with {body.hex()}; {witness.told()}")
+
+
+def unfinished(port, count):
+    witness, all_of_them = Bounded(port), []
+    for place in range(count):
+        each = opened(port)
+        try:
+            each.sendall(connect(f"unfinished-{place}") + b"\x30" + sized(260_000) + bytes(250_000))
+            all_of_them.append(each)
+        except (ConnectionResetError, BrokenPipeError):
+            each.close()
+        if place % 50 == 0:
+            witness.look()
+    for each in all_of_them:
+        each.close()
+    witness.look()
+    print(f"{len(all_of_them)} of {count} clients sent a packet that they didn't finish; {witness.told()}")
 
 
 def slow(port):
@@ -300,7 +416,8 @@ def noise(bridge, count, seed, port, listens):
 
 
 def main(words):
-    tasks = {"slow": slow, "deaf": deaf, "bursts": bursts, "many": many, "streams": streams, "noise": noise}
+    tasks = {"slow": slow, "deaf": deaf, "bursts": bursts, "many": many, "streams": streams, "noise": noise, "queue": queue, "retained": retained,
+             "wildcards": wildcards, "properties": properties, "unfinished": unfinished}
     if not words or words[0] not in tasks:
         sys.exit(__doc__)
     try:

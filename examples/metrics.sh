@@ -84,7 +84,7 @@ echo '--- n2 is killed, and another message is retained'
 await_values '1 1 0' up
 retain metrics/second 2
 await_values '2 2 -' mqtt_retained_messages
-await_values '1 1 -' mqtt_cluster_peer_lacking_operations ',peer="127.0.0.1:2885"'
+await_values '1 1 -' mqtt_cluster_peer_lacking_operations ',peer="n2"'
 await_values '0 0 -' mqtt_cluster_caught_up
 
 start_with_status 2

@@ -1,15 +1,22 @@
 #!/usr/bin/env bash
-# Moves a client from node n0 to node n1 by a new table of homes, node by node, each by a restart, while the client receives and a publisher
-# at n2 publishes for it at QoS 1. The client follows the server that it is told. Prints what the client was told, how many messages were
-# acknowledged, how many came at which node, and which were lost with the session, and exits 1 where any other was lost.
+# Moves a client from node n0 to node n1 by a new table of homes, which one node after another takes while it runs, or by a restart, while the client
+# receives and a publisher at n2 publishes for it at QoS 1. The client follows the server that it is told. Prints what the client was told, how many
+# messages were acknowledged, how many came at which node, and which were lost with the session, and exits 1 where any other was lost. At the end n0
+# finds a table that it doesn't take, and says why, once.
 #
-#   examples/move.sh             runs the program that ./build has built
-#   examples/move.sh PROGRAM..   runs these words in its place, with `run CONFIG NODE DATABASE` behind them
+#   examples/move.sh                         runs the program that ./build has built
+#   examples/move.sh PROGRAM..               runs these words in its place, with `run CONFIG NODE DATABASE` behind them
+#   examples/move.sh --restart [PROGRAM..]   gives each node the new table by a restart
 #
 # It needs python3. The ports 1883 to 1885 and 2883 to 2885 must be free.
 set -eu
 
 source "$(dirname "${BASH_SOURCE[0]}")/nodes.sh"
+restarts=0
+if [ "${1:-}" = --restart ]; then
+    restarts=1
+    shift
+fi
 run_by "$@"
 need python3
 client=$top/examples/kill_client.py
@@ -40,15 +47,41 @@ node = "n2"
 TOML
 }
 
+# Puts the table of version $2 where the node $1 looks for it, at once.
+put_table() {
+    cp "$work/$2.toml" "$work/$1.new"
+    mv "$work/$1.new" "$work/$1.toml"
+}
+
 # Starts the node $1 with the table of version $2.
 start() {
-    start_node "$1" "$work/$2.toml" "$work/$1.db"
+    put_table "$1" "$2"
+    start_node "$1" "$work/$1.toml" "$work/$1.db"
     echo "$1 serves by the table of version $2"
 }
 
-restart() {
-    kill_node "$1"
-    start "$1" 1
+# Waits until the node $1 has said this of its table.
+await_said() {
+    local said="broker: $work/$1.toml $2"
+    until grep -qxF "$said" "$work/$1.err"; do
+        if ! kill -0 "${nodes[$1]}" 2> "$work/kill"; then
+            cat "$work/$1.err" >&2
+            exit 1
+        fi
+        sleep 0.05
+    done
+}
+
+# Gives the node $1 the table of version 1.
+hand() {
+    if [ "$restarts" -eq 1 ]; then
+        kill_node "$1"
+        start "$1" 1
+    else
+        put_table "$1" 1
+        await_said "$1" 'is taken: version 1'
+        echo "$1 has taken the table of version 1"
+    fi
 }
 
 # Waits until the client has been told a line that begins so.
@@ -103,14 +136,14 @@ publishing=$!
 await_more 200
 
 # The new home first, then the old one, and then the others.
-restart n1
+hand n1
 await_more 200
 sure=$(lines "$work/acknowledged")
 await_number "$sure"
-restart n0
+hand n0
 await_told '1884: subscribed'
 at_home=$(lines "$work/came")
-restart n2
+hand n2
 await_more 200
 again=$(tail -n 1 "$work/came")
 await_more 200
@@ -129,12 +162,32 @@ echo "$(lines "$work/acknowledged") acknowledged, $at_home came at n0, $(($(line
 if [ -s "$work/lost" ]; then
     echo "with the session $(lines "$work/lost") were lost, of $(head -n 1 "$work/lost") to $(tail -n 1 "$work/lost")"
 fi
-# Numbers are acknowledged in order: `sure` of them were, and had come, before n0 was restarted.
+# Numbers are acknowledged in order: `sure` of them were, and had come, before n0 had the new table.
 if awk -v sure="$sure" -v again="$again" '$1 <= sure || $1 >= again { lost = 1 } END { exit !lost }' "$work/lost"; then
-    echo "some were lost that were acknowledged long before n0 was restarted, up to $sure, or once messages came at n1, from $again"
+    echo "some were lost that were acknowledged long before n0 had the new table, up to $sure, or once messages came at n1, from $again"
     failed=1
 fi
 if [ "$failed" -eq 0 ]; then
     echo 'nothing else that was acknowledged was lost'
+fi
+
+# A table that isn't one, and one that was taken before; the file is touched while it is there.
+if [ "$restarts" -eq 0 ]; then
+    echo 'version = ' > "$work/n0.toml"
+    await_said n0 'is not taken: line 1 is not TOML'
+    sleep 3
+    touch "$work/n0.toml"
+    sleep 3
+    put_table n0 0
+    await_said n0 'is not taken: its version 0 is not greater than that of the table in force'
+    put_table n0 1
+    sleep 3
+    said=$(grep -c 'is not taken' "$work/n0.err")
+    echo "n0 said of its table:"
+    sed "s|$work/||; s/^/    /" "$work/n0.err"
+    if [ "$said" -ne 2 ]; then
+        echo "n0 said $said times that a table isn't taken, and not twice"
+        failed=1
+    fi
 fi
 exit "$failed"

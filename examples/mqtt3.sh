@@ -4,8 +4,8 @@
 #
 #   examples/mqtt3.sh [PROGRAM ..]   starts a node with an empty database by these words, or by the launcher, and ends it
 #
-# It needs mosquitto and mosquitto's clients: apt-get install mosquitto mosquitto-clients. Clients of Paho for Python (python3-paho-mqtt) and of
-# MQTT.js (node-mqtt) are asked too where they are installed.
+# It needs mosquitto and mosquitto's clients: apt-get install mosquitto mosquitto-clients. Clients of Paho for Python (python3-paho-mqtt), of Paho for C
+# (libpaho-mqtt-dev and a compiler) and of MQTT.js (node-mqtt) are asked too where they are installed.
 set -u
 
 source "$(dirname "${BASH_SOURCE[0]}")/nodes.sh"
@@ -172,9 +172,31 @@ EOF
     wait "$process" 2> "$work/kill"
 }
 
-start_at_free_port
+# A session of Clean Session 0 that nobody is connected to lasts as long as --longest-expiry says.
+bounded_session() {
+    listen bounded -V "$1" -c -i "bounded-$1" -q 1 -t bounded -E
+    wait "$listener"
+    sleep "$2"
+    publish -V 5 -q 1 -t bounded -m waiting
+    listen bounded -V "$1" -c -i "bounded-$1" -q 1 -t other -W 1
+    wait "$listener"
+    check "$1, a session after $2 seconds where --longest-expiry is 4" "$3" "$(got bounded)"
+}
+
+start_at_free_port --log
 publish -V mqttv311 -t x -m x && taken=taken || taken=refused
 check "without --mqtt3 a client of 3.1.1 is refused" refused "$taken"
+publish -V mqttv31 -t x -m x
+sleep 1
+check "a log names its version" "refused 0x84 (MQTT 3.1.1; --mqtt3 serves it),refused 0x84 (MQTT 3.1; --mqtt3 serves it)" \
+    "$(sed -n 's/^[0-9]* client \(refused 0x84 .*\)/\1/p' "$work/n0.err" | LC_ALL=C sort -u | paste -sd, -)"
+kill_node n0
+
+start_at_free_port --mqtt3 --longest-expiry 4
+for version in mqttv311 mqttv31; do
+    bounded_session "$version" 1 "bounded 1 0 waiting"
+    bounded_session "$version" 7 ""
+done
 kill_node n0
 
 start_at_free_port --mqtt3 --log
@@ -195,6 +217,10 @@ for version in mqttv311 mqttv31; do
 done
 if /usr/bin/python3 -c 'import paho.mqtt.client' 2> "$work/kill"; then
     timeout 300 /usr/bin/python3 "$top/examples/mqtt3_paho.py" "$port" || failed=1
+fi
+if [ -f /usr/include/MQTTClient.h ] && command -v cc > "$work/found"; then
+    cc -o "$work/mqtt3_paho" "$top/examples/mqtt3_paho.c" -lpaho-mqtt3c || failed=1
+    timeout 300 "$work/mqtt3_paho" "$host" "$port" || failed=1
 fi
 if [ -d /usr/share/nodejs/mqtt ] && command -v node > "$work/found"; then
     NODE_PATH=/usr/share/nodejs timeout 300 node "$top/examples/mqtt3_node.js" "$port" || failed=1

@@ -2,9 +2,9 @@
 # Publishes to a broker and receives from it by MQTT 5.0: a retained message, a message at each QoS, and a will.
 # Prints what came, and exits 1 where that isn't what was sent.
 #
-#   examples/pub_sub.sh [HOST [PORT]]   asks a broker that runs, at 127.0.0.1 and 1883 where nothing else is given
-#   examples/pub_sub.sh --start         starts one node with an empty database, asks it, and ends it; it runs the program that ./build
-#                                       has built, or the words that follow in its place
+#   examples/pub_sub.sh                     starts one node with an empty database, asks it, and ends it; it runs the program that ./build has built
+#   examples/pub_sub.sh PROGRAM..           runs these words in its place, with `run CONFIG NODE DATABASE` behind them
+#   examples/pub_sub.sh --at [HOST [PORT]]  asks a broker that runs, at 127.0.0.1 and 1883 where nothing else is given
 #
 # It needs mosquitto's clients: apt-get install mosquitto-clients. The broker may be any one of MQTT 5.0.
 set -eu
@@ -54,13 +54,13 @@ compare() {
     fi
 }
 
-if [ "${1-}" = --start ]; then
-    run_by "${@:2}"
+if [ "${1-}" = --at ]; then
+    host=${2-$host}
+    port=${3-$port}
+else
+    run_by "$@"
     start_node n0 "$top/examples/one_node.toml" "$work/n0.db"
     cat "$work/n0"
-else
-    host=${1-$host}
-    port=${2-$port}
 fi
 
 publish -q 1 -r -t pub_sub/ready -m 'kept'

@@ -12,7 +12,7 @@ import sys
 def samples(text):
     """The value of each metric, by its name with its labels."""
     lines = (it for it in text.splitlines() if not it.startswith("#"))
-    return {name: int(value) for name, _, value in (it.rpartition(" ") for it in lines)}
+    return {name: float(value) for name, _, value in (it.rpartition(" ") for it in lines)}
 
 
 def of_node(figures):
@@ -24,6 +24,9 @@ def of_node(figures):
         "mqtt_sessions": figures["sessions"],
         "mqtt_subscriptions": figures["subscriptions"],
         "mqtt_retained_messages": figures["retained"],
+        "mqtt_topics_held": figures["topics"],
+        "mqtt_table_version": figures["table"],
+        "mqtt_longest_turn_seconds": figures["longest_turn_milliseconds"] / 1000,
         "mqtt_connections_opened_total": total["opened"],
         "mqtt_bytes_received_total": total["bytes_received"],
         "mqtt_packets_sent_total": total["packets_sent"],
@@ -45,20 +48,31 @@ def of_what_was_left_out(left_out):
         f'{messages}{{reason="lane_full"}}': left_out["lane_full"],
         f'{frames}{{reason="bad"}}': left_out["bad_frames"],
         f'{frames}{{reason="too_large"}}': left_out["frames_too_large"],
+        "mqtt_tables_refused_total": left_out["tables_refused"],
     }
+
+
+def of_codes(name, codes):
+    """The values of a metric, one for each Reason Code that was given."""
+    return {f'{name}{{code="0x{it["code"]:02X}"}}': it["count"] for it in codes}
 
 
 def of_peer(peer):
     label = f'{{peer="{peer["name"]}"}}'
     return {
         f"mqtt_cluster_peer_linked{label}": int(peer["linked"]),
+        f"mqtt_cluster_peer_away_seconds{label}": peer["away_milliseconds"] // 1000,
+        f"mqtt_cluster_peer_heard{label}": int(peer["heard"]),
         f"mqtt_cluster_peer_lacking_operations{label}": peer["lacking"],
+        f"mqtt_cluster_peer_missing_operations{label}": peer["missing"],
         f"mqtt_cluster_peer_waiting_messages{label}": peer["waiting"],
     }
 
 
 def wanted(figures):
     found = {**of_node(figures), **of_what_was_left_out(figures["left_out"])}
+    found.update(of_codes("mqtt_connections_refused_total", figures["refused"]))
+    found.update(of_codes("mqtt_connections_ended_total", figures["ended"]))
     for peer in figures["peers"]:
         found.update(of_peer(peer))
     return found

@@ -21,7 +21,7 @@ shift
 source "$(dirname "${BASH_SOURCE[0]}")/nodes.sh"
 run_by "$@"
 need chromium curl mosquitto_pub mosquitto_sub
-height=1250
+height=1900
 # A picture of fewer bytes is blank: a blank one has 4,000 to 8,000, and the page 65,000 to 85,000.
 least=20000
 browser=(chromium --headless --hide-scrollbars --virtual-time-budget=5000)

@@ -1,16 +1,19 @@
 -- The commands of the program, and the tasks of what follows them.
-use Rattle.std.proofs.Common.{◌≡◌, ◌∙◌, ◌≤◌, ℕ, List, [], Option, Some, None, Result, Ok, Err, Bool, true, false, codes, refl, sym, ap, subst, option_map}
+use Rattle.std.proofs.Common.{◌≡◌, ◌∙◌, ◌≤◌, ℕ, List, [], Option, Some, None, Result, Ok, Err, Bool, true, false, codes, inl, inr, refl, sym, ap, subst, option_map}
 use Rattle.std.specs.Prelude.{IfOk, IfSome, IsErrAnd, MatchResult}
 use Rattle.std.specs.Borrow.{Bor}
+use Rattle.std.specs.Box.{box_value}
 use Rattle.std.specs.Str.Parse.{ParsesUnsigned}
-use Rattle.clap.specs.Words.{App, HasKind, HasMatchesOf, Row, Text, fault_of, first_of, first_value, is_simple, is_simple_and_free, one_of, one_text, rows_of, subcommand_of, subcommand_rows_of}
+use Rattle.clap.specs.Words.{App, HasKind, HasMatchesOf, Row, Text, fault_of, first_of, first_value, is_simple, is_simple_and_free, one_of, found_of, one_text, rows_of, subcommand_name_of, subcommand_of, subcommand_rows_of}
 use Rattle.clap.specs.declared.parser.matches.ArgMatches.{ArgMatches}
 use Rattle.clap.specs.declared.parser.matches.Found.{Found}
+use Rattle.clap.specs.declared.parser.matches.ArgMatches.TheViews.{out-ArgMatches, out-SubCommand}
 use Rattle.clap.specs.declared.error.Error.{Error}
 use Rattle.clap.proofs.OnLiterals.{clap_on_literals}
 use Rattle.clap.proofs.WalkLemmas.{first_value-rows, one_text-rows}
-use Rattle.broker_command.specs.Line.{broker, IsFlag, IsNode, IsNumber, IsOf, IsServe, IsTask}
+use Rattle.broker_command.specs.Line.{broker, IsFlag, IsNode, IsNumber, IsOf, IsRun, IsServe, IsTask}
 use Rattle.broker_command.specs.declared.task.Task.{Task}
+use Rattle.broker_command.specs.declared.task.Task.TheVariants.{Play, Loopback, Serve, Check}
 
 -- the program's commands are such that what a parse of words gives is stated exactly
 pub broker_is_simple : is_simple broker ≡ true
@@ -90,3 +93,47 @@ pub counted_if : {E : Type 0} (rows : List Row) (turns : ℕ) (r : Result (Optio
 counted_if rows turns (Ok None) read h = h
 counted_if rows turns (Ok (Some task)) read h = (turns, read, h)
 counted_if rows turns (Err e) read h = h
+
+pub firsts : {A X Y : Type 0} (f : A → X) (g : A → Y) (o : Option A) → option_map (λ (p : X × Y). p.0) (option_map (λ (a : A). (f a, g a)) o) ≡ option_map f o
+firsts f g None = refl
+firsts f g (Some a) = refl
+
+-- the name of the subcommand that a parse entered is the first part of its rows
+pub named_rows : (m : ArgMatches) → option_map (λ p. p.0) (subcommand_rows_of m) ≡ subcommand_name_of m
+named_rows m = firsts (λ b. (out-SubCommand (box_value b)).name.now) (λ b. rows_of (found_of (out-SubCommand (box_value b)).matches)) (out-ArgMatches m).subcommand
+
+-- the subcommand that a parse entered, by its name and by its rows
+entered : (o : Option (Text × List Row)) (name : Text) (rows : List Row) → option_map (λ p. p.0) o ≡ Some name → option_map (λ p. p.1) o ≡ Some rows → o ≡ Some (name, rows)
+entered None name rows named rowed = let bad : ◌≡◌ {A = Option Text} None (Some name) = named in cc
+entered (Some (n, r)) name rows named rowed = cc (named, rowed)
+
+served_is : (rows : List Row) (o : Option Task) → IfSome o (IsServe rows) → IfSome o (IsOf (Some (codes "serve", rows)))
+served_is rows None h = h
+served_is rows (Some (Play script)) h = absurd h.2
+served_is rows (Some (Loopback script)) h = absurd h.2
+served_is rows (Some (Serve configuration node database turns most_clients connect_within limits mqtt3 log status listen bridge_listen)) h = inl (refl, h)
+served_is rows (Some (Check configuration node database)) h = absurd h.2
+
+run_is : (rows : List Row) (o : Option Task) → IfSome o (IsRun rows) → IfSome o (IsOf (Some (codes "run", rows)))
+run_is rows None h = h
+run_is rows (Some (Play script)) h = absurd h
+run_is rows (Some (Loopback script)) h = absurd h
+run_is rows (Some (Serve configuration node database turns most_clients connect_within limits mqtt3 log status listen bridge_listen)) h = inr (refl, h)
+run_is rows (Some (Check configuration node database)) h = absurd h
+
+-- so a command's task is what the words ask for
+task_of_command : {E : Type 0} (P : List Row → Task → Type 0) (word : Text) (whole : (rows : List Row) (o : Option Task) → IfSome o (P rows) → IfSome o (IsOf (Some (word, rows))))
+    (o : Option (Text × List Row)) (name : Text) (rows : List Row) (r : Result (Option Task) E)
+    → option_map (λ p. p.0) o ≡ Some name → option_map (λ p. p.1) o ≡ Some rows → name ≡ word → IfOk r (λ t. IfSome t (P rows)) → IfOk r (λ t. IfSome t (IsOf o))
+task_of_command P word whole o name rows (Ok t) named rowed is h =
+    let entered_is : o ≡ Some (word, rows) = entered o word rows (named ∙ ap Some is) rowed in
+    subst (λ (s : Option (Text × List Row)). IfSome t (IsOf s)) (sym entered_is) (whole rows t h)
+task_of_command P word whole o name rows (Err e) named rowed is h = h
+
+pub task_of_serve : {E : Type 0} (o : Option (Text × List Row)) (name : Text) (rows : List Row) (r : Result (Option Task) E)
+    → option_map (λ p. p.0) o ≡ Some name → option_map (λ p. p.1) o ≡ Some rows → name ≡ codes "serve" → IfOk r (λ t. IfSome t (IsServe rows)) → IfOk r (λ t. IfSome t (IsOf o))
+task_of_serve o name rows r named rowed is h = task_of_command IsServe (codes "serve") served_is o name rows r named rowed is h
+
+pub task_of_run : {E : Type 0} (o : Option (Text × List Row)) (name : Text) (rows : List Row) (r : Result (Option Task) E)
+    → option_map (λ p. p.0) o ≡ Some name → option_map (λ p. p.1) o ≡ Some rows → name ≡ codes "run" → IfOk r (λ t. IfSome t (IsRun rows)) → IfOk r (λ t. IfSome t (IsOf o))
+task_of_run o name rows r named rowed is h = task_of_command IsRun (codes "run") run_is o name rows r named rowed is h

@@ -7,10 +7,11 @@ use Rattle.clap.specs.Simple.{on_top}
 use Rattle.clap.specs.declared.builder.action.ArgAction.TheVariants.{Set, SetTrue}
 use Rattle.clap.specs.declared.builder.value_parser.ValueParser.TheVariants.{Signed}
 use Rattle.clap.specs.declared.error.kind.ErrorKind.{ErrorKind}
-use Rattle.clap.specs.declared.error.kind.ErrorKind.TheVariants.{DisplayHelp, OutOfMemory}
+use Rattle.clap.specs.declared.error.kind.ErrorKind.TheVariants.{DisplayHelp, DisplayVersion, OutOfMemory}
 use Rattle.broker_stop.specs.declared.stop.Stop.{Stop}
 use Rattle.broker_stop.specs.declared.stop.Stop.TheVariants.{Help, CommandLine, Run}
 use Rattle.broker_stop.specs.declared.run_fault.RunFault.TheVariants.{NoMemory}
+use Rattle.broker_command.specs.declared.task.AskedLimits.{AskedLimits}
 use Rattle.broker_command.specs.declared.task.Task.{Task}
 use Rattle.broker_command.specs.declared.task.Task.TheVariants.{Play, Loopback, Serve, Check}
 
@@ -68,20 +69,47 @@ log_rule = record (new_rule (codes "log")) {
   action = Some SetTrue;
 }
 
--- `--status ADDRESS`
-abbrev pub status_rule : Rule
-status_rule = record (option_rule (codes "status")) {
-  long = Some (codes "status");
+-- `--ID ADDRESS`
+abbrev pub address_rule : Text → Rule
+address_rule id = record (option_rule id) {
+  long = Some id;
   value_names = 1;
 }
+
+-- `--ID N`, with N from 1 to 1,000,000,000
+abbrev pub number_rule : Text → Rule
+number_rule id = record (option_rule id) {
+  long = Some id;
+  value_names = 1;
+  parser = Some (Signed (pos 1) (pos 1000000000));
+}
+
+-- `--careful`
+abbrev pub careful_rule : Rule
+careful_rule = record (new_rule (codes "careful")) {
+  long = Some (codes "careful");
+  action = Some SetTrue;
+}
+
+-- the limits on what clients send: `[--most-memory MEGABYTES] [--longest-packet BYTES] [--most-filters N] [--most-levels N] [--most-properties N]
+-- [--longest-expiry SECONDS] [--careful]`
+abbrev pub with_limits : App → App
+with_limits app =
+    with_rule (with_rule (with_rule (with_rule (with_rule (with_rule (with_rule app
+    (number_rule (codes "most-memory"))) (number_rule (codes "longest-packet"))) (number_rule (codes "most-filters"))) (number_rule (codes "most-levels")))
+    (number_rule (codes "most-properties"))) (number_rule (codes "longest-expiry"))) careful_rule
 
 -- `CONFIG NODE DATABASE` behind the name of a command
 abbrev pub node_words : Text → App
 node_words name = with_rule (with_rule (with_rule (new_app name) (word_rule (codes "CONFIG"))) (word_rule (codes "NODE"))) (word_rule (codes "DATABASE"))
 
--- the options of a node: `[--most-clients N] [--connect-within SECONDS] [--mqtt3] [--log] [--status ADDRESS]`
+-- where a node tells its status, and where it waits for clients and for other nodes: `[--status ADDRESS] [--listen ADDRESS] [--bridge-listen ADDRESS]`
+abbrev pub with_addresses : App → App
+with_addresses app = with_rule (with_rule (with_rule app (address_rule (codes "status"))) (address_rule (codes "listen"))) (address_rule (codes "bridge-listen"))
+
+-- the options of a node: `[--most-clients N] [--connect-within SECONDS] [--mqtt3] [--log]`, the addresses and the limits
 abbrev pub with_options : App → App
-with_options app = with_rule (with_rule (with_rule (with_rule (with_rule app most_clients_rule) connect_within_rule) mqtt3_rule) log_rule) status_rule
+with_options app = with_limits (with_addresses (with_rule (with_rule (with_rule (with_rule app most_clients_rule) connect_within_rule) mqtt3_rule) log_rule))
 
 -- `serve CONFIG NODE DATABASE --turns N`, and the options
 abbrev pub serve : App
@@ -98,7 +126,7 @@ check = node_words (codes "check")
 -- the program's words: one of the five commands, without the program's name
 unfoldable pub broker : App
 broker = with_subcommand (with_subcommand (with_subcommand (with_subcommand (with_subcommand
-    (on_top (λ s. record s { no_binary_name = true; subcommand_required = true }) (new_app (codes "broker")))
+    (on_top (λ s. record s { has_version = true; no_binary_name = true; subcommand_required = true }) (new_app (codes "broker")))
     play.top) loopback.top) serve.top) run.top) check.top
 
 -- the path of a script
@@ -109,14 +137,14 @@ IsScript rows script = first_of (codes "SCRIPT") rows ≡ Some script.bytes.item
 abbrev pub IsPlay : List Row → Task → Type 0
 IsPlay rows (Play script) = IsScript rows script
 IsPlay rows (Loopback script) = ⊥
-IsPlay rows (Serve configuration node database turns most_clients connect_within mqtt3 log status) = ⊥
+IsPlay rows (Serve configuration node database turns most_clients connect_within limits mqtt3 log status listen bridge_listen) = ⊥
 IsPlay rows (Check configuration node database) = ⊥
 
 -- a script to play over sockets
 abbrev pub IsLoopback : List Row → Task → Type 0
 IsLoopback rows (Play script) = ⊥
 IsLoopback rows (Loopback script) = IsScript rows script
-IsLoopback rows (Serve configuration node database turns most_clients connect_within mqtt3 log status) = ⊥
+IsLoopback rows (Serve configuration node database turns most_clients connect_within limits mqtt3 log status listen bridge_listen) = ⊥
 IsLoopback rows (Check configuration node database) = ⊥
 
 -- the number that an option is given, in range, as its text spells it
@@ -144,15 +172,27 @@ abbrev pub IsTextIf : List Row → Text → Option (String Global) → Type 0
 IsTextIf rows id None = first_of id rows ≡ None
 IsTextIf rows id (Some text) = first_of id rows ≡ Some text.bytes.items
 
+-- the limits on what clients send, each as its option is given
+pub record AreLimits (rows : List Row) (limits : AskedLimits) : Type 0 where
+  pub memory : IsNumberIf rows (codes "most-memory") limits.most_memory
+  pub packet : IsNumberIf rows (codes "longest-packet") limits.longest_packet
+  pub filters : IsNumberIf rows (codes "most-filters") limits.most_filters
+  pub levels : IsNumberIf rows (codes "most-levels") limits.most_levels
+  pub properties : IsNumberIf rows (codes "most-properties") limits.most_properties
+  pub expiry : IsNumberIf rows (codes "longest-expiry") limits.longest_expiry
+  pub careful : IsFlag rows (codes "careful") limits.careful
+
 -- a node to be, for so many turns or until it is stopped
 abbrev pub IsNode : List Row → Option ℕ → Task → Type 0
 IsNode rows made (Play script) = ⊥
 IsNode rows made (Loopback script) = ⊥
-IsNode rows made (Serve configuration node database turns most_clients connect_within mqtt3 log status) =
+IsNode rows made (Serve configuration node database turns most_clients connect_within limits mqtt3 log status listen bridge_listen) =
     (first_of (codes "CONFIG") rows ≡ Some configuration.bytes.items)
     × (first_of (codes "NODE") rows ≡ Some node.bytes.items)
     × (first_of (codes "DATABASE") rows ≡ Some database.bytes.items) × (turns ≡ made)
     × IsNumberIf rows (codes "most-clients") most_clients × IsNumberIf rows (codes "connect-within") connect_within × IsFlag rows (codes "mqtt3") mqtt3 × IsFlag rows (codes "log") log × IsTextIf rows (codes "status") status
+    × IsTextIf rows (codes "listen") listen × IsTextIf rows (codes "bridge-listen") bridge_listen
+    × AreLimits rows limits
 IsNode rows made (Check configuration node database) = ⊥
 
 -- one for as many turns as are asked for
@@ -167,7 +207,7 @@ IsRun rows task = IsNode rows None task
 abbrev pub IsCheck : List Row → Task → Type 0
 IsCheck rows (Play script) = ⊥
 IsCheck rows (Loopback script) = ⊥
-IsCheck rows (Serve configuration node database turns most_clients connect_within mqtt3 log status) = ⊥
+IsCheck rows (Serve configuration node database turns most_clients connect_within limits mqtt3 log status listen bridge_listen) = ⊥
 IsCheck rows (Check configuration node database) =
     (first_of (codes "CONFIG") rows ≡ Some configuration.bytes.items)
     × (first_of (codes "NODE") rows ≡ Some node.bytes.items)
@@ -178,9 +218,9 @@ abbrev pub IsOf : Option (Text × List Row) → Task → Type 0
 IsOf None task = ⊥
 IsOf (Some (name, rows)) (Play script) = (name ≡ codes "play") × IsPlay rows (Play script)
 IsOf (Some (name, rows)) (Loopback script) = (name ≡ codes "loopback") × IsLoopback rows (Loopback script)
-IsOf (Some (name, rows)) (Serve configuration node database turns most_clients connect_within mqtt3 log status) =
-    ((name ≡ codes "serve") × IsServe rows (Serve configuration node database turns most_clients connect_within mqtt3 log status))
-    ⊎ ((name ≡ codes "run") × IsRun rows (Serve configuration node database turns most_clients connect_within mqtt3 log status))
+IsOf (Some (name, rows)) (Serve configuration node database turns most_clients connect_within limits mqtt3 log status listen bridge_listen) =
+    ((name ≡ codes "serve") × IsServe rows (Serve configuration node database turns most_clients connect_within limits mqtt3 log status listen bridge_listen))
+    ⊎ ((name ≡ codes "run") × IsRun rows (Serve configuration node database turns most_clients connect_within limits mqtt3 log status listen bridge_listen))
 IsOf (Some (name, rows)) (Check configuration node database) =
     (name ≡ codes "check") × IsCheck rows (Check configuration node database)
 
@@ -191,14 +231,14 @@ pub record IsTask (words : List Text) (task : Task) : Type 0 where
 
 -- what is said of an error of that kind
 abbrev pub IsStopOf : ErrorKind → Stop → Type 0
-IsStopOf kind (Help text) = kind ≡ DisplayHelp
+IsStopOf kind (Help text) = (kind ≡ DisplayHelp) ⊎ (kind ≡ DisplayVersion)
 IsStopOf kind (CommandLine text) = kind ≢ OutOfMemory
 IsStopOf kind (Run fault) = fault ≡ NoMemory
 IsStopOf kind other = ⊥
 
--- the words ask for help, or there is something wrong with them, or memory ran out
+-- the words ask for help or for the version, or there is something wrong with them, or memory ran out
 abbrev pub IsRefusal : List Text → Stop → Type 0
-IsRefusal words (Help text) = IsAmong DisplayHelp (fault_of broker words)
+IsRefusal words (Help text) = IsAmong DisplayHelp (fault_of broker words) ⊎ IsAmong DisplayVersion (fault_of broker words)
 IsRefusal words (CommandLine text) = Unit {0}
 IsRefusal words (Run fault) = fault ≡ NoMemory
 IsRefusal words other = ⊥

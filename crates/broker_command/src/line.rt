@@ -4,8 +4,10 @@ ghost use Rattle.std.specs.Prelude.{◌≡◌, map, false, pos, Some, IfOk, IfSo
 ghost use Rattle.clap.specs.declared.builder.value_parser.ValueParser.TheVariants.{Signed};
 ghost use Rattle.clap.specs.Words.{HasKind, app_of, fault_of, found_of, kind_of, rows_of, rule_of, subcommand_rows_of};
 ghost use Rattle.clap.specs.declared.builder.command.Command.TheViews.{out-Command as fields_of};
-ghost use Rattle.broker_command.specs.Line.{broker, play, loopback, node_words, with_options, serve, run, check, word_rule, option_rule, turns_rule, most_clients_rule, connect_within_rule, mqtt3_rule, log_rule, status_rule, IsFlag, IsNumberIf, IsTextIf, IsTask, IsOf, IsPlay, IsLoopback, IsNode, IsServe, IsRun, IsCheck, IsScript, IsRefusal, IsStopOf};
+ghost use Rattle.broker_command.specs.Line.{broker, play, loopback, node_words, with_options, serve, run, check, word_rule, option_rule, turns_rule, most_clients_rule, connect_within_rule, mqtt3_rule, log_rule, IsFlag, IsNumberIf, IsTextIf, IsTask, IsOf, IsPlay, IsLoopback, IsNode, IsServe, IsRun, IsCheck, IsScript, IsRefusal, IsStopOf};
 
+use crate::addresses::with_addresses;
+use crate::limits::{limits_of, with_limits};
 use crate::task::Task;
 use broker_stop::{RunFault, Stop};
 use clap::error::ErrorKind;
@@ -15,7 +17,10 @@ use std::alloc::{AllocError, Global};
 /// The greatest number that an option may be given.
 const MOST: u32 = 1_000_000_000;
 
-/// The task that the words after the program's name ask for. `Stop::Help` has the help that they ask for
+/// What `--version` says.
+const VERSION: &str = "0.1.0";
+
+/// The task that the words after the program's name ask for. `Stop::Help` has the help or the version that they ask for
 /// instead; `Stop::CommandLine` says what is wrong with them, and `Stop::Run` that memory ran out.
 pub fn task_of(alloc: Global, words: &[String]) -> Result<Task, Stop>
     ensures { MatchResult result (IsTask (map (λ w. w.bytes.items) words.now))
@@ -39,6 +44,7 @@ fn commands<'a>(alloc: Global) -> Result<Command<'a>, AllocError>
     let check = check_command(alloc)?;
     Command::new(alloc, "broker")
         .about("A node of a cluster of MQTT 5.0 brokers")
+        .version(VERSION)
         .no_binary_name(true)
         .subcommand_required(true)
         .subcommand(play)?
@@ -82,12 +88,12 @@ fn with_options<'a>(alloc: Global, command: Command<'a>) -> Result<Command<'a>, 
     ensures { IfOk result (λ c. (app_of c ≡ with_options (app_of command.entry))
         × ((fields_of command.entry).has_globals ≡ false → (fields_of c).has_globals ≡ false)) }
 {
-    command
+    let command = command
         .arg(most_clients_option(alloc))?
         .arg(connect_within_option(alloc))?
         .arg(mqtt3_option(alloc))?
-        .arg(log_option(alloc))?
-        .arg(status_option(alloc))
+        .arg(log_option(alloc))?;
+    with_limits(alloc, with_addresses(alloc, command)?)
 }
 
 fn serve_command<'a>(alloc: Global) -> Result<Command<'a>, AllocError>
@@ -165,18 +171,8 @@ fn log_option<'a>(alloc: Global) -> Arg<'a>
         .help("Tells on standard error which clients come and go, and which links are up")
 }
 
-fn status_option<'a>(alloc: Global) -> Arg<'a>
-    ensures rule { rule_of result ≡ status_rule }
-    ensures local { result.global ≡ false }
-{
-    optional(alloc, "status")
-        .long("status")
-        .value_name("ADDRESS")
-        .help("Tells over HTTP at an IP address with a port how the node is")
-}
-
 /// The argument's value is a number from 1 to 1,000,000,000.
-fn numbered<'a>(option: Arg<'a>) -> Arg<'a>
+pub(crate) fn numbered<'a>(option: Arg<'a>) -> Arg<'a>
     ensures rule { rule_of result ≡ record (rule_of option.entry) { parser = Some (Signed (pos 1) (pos 1000000000)) } }
     ensures local { result.global ≡ option.entry.global }
 {
@@ -184,7 +180,7 @@ fn numbered<'a>(option: Arg<'a>) -> Arg<'a>
 }
 
 /// An argument that may be there, with one value.
-fn optional<'a>(alloc: Global, name: &'a str) -> Arg<'a>
+pub(crate) fn optional<'a>(alloc: Global, name: &'a str) -> Arg<'a>
     ensures rule { rule_of result ≡ option_rule name.entry.now }
     ensures local { result.global ≡ false }
 {
@@ -259,7 +255,7 @@ fn loopback_task(alloc: Global, found: &ArgMatches<'_>) -> Result<Option<Task>, 
 }
 
 /// The number that an option is given, or none where it isn't given; nothing where it is given anything else.
-fn number_of(found: &ArgMatches<'_>, name: &str) -> Option<Option<u32>>
+pub(crate) fn number_of(found: &ArgMatches<'_>, name: &str) -> Option<Option<u32>>
     ensures { IfSome result (IsNumberIf (rows_of (found_of found.now)) name.now) }
 {
     match found.try_get_one::<u32>(name) {
@@ -308,6 +304,9 @@ fn node_task(
     let Some(connect_within) = number_of(found, "connect-within") else {
         return Ok(None);
     };
+    let Some(limits) = limits_of(found) else {
+        return Ok(None);
+    };
     Ok(Some(Task::Serve {
         configuration: String::from_str(alloc, configuration)?,
         node: String::from_str(alloc, node)?,
@@ -315,9 +314,12 @@ fn node_task(
         turns,
         most_clients,
         connect_within,
+        limits,
         mqtt3: found.get_flag("mqtt3"),
         log: found.get_flag("log"),
         status: text_of(alloc, found, "status")?,
+        listen: text_of(alloc, found, "listen")?,
+        bridge_listen: text_of(alloc, found, "bridge-listen")?,
     }))
 }
 
@@ -370,7 +372,7 @@ fn stop_of(alloc: Global, error: &Error) -> Stop
         text.pop();
     }
     match error.kind() {
-        ErrorKind::DisplayHelp => Stop::Help(text),
+        ErrorKind::DisplayHelp | ErrorKind::DisplayVersion => Stop::Help(text),
         ErrorKind::OutOfMemory => Stop::Run(RunFault::NoMemory),
         _ => Stop::CommandLine(text),
     }

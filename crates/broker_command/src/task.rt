@@ -1,5 +1,24 @@
 //! What the program is asked to do.
 
+/// Limits on what clients send that a command line asks for, each from 1 to 1,000,000,000, or none.
+#[derive(Clone, Copy, Debug, PartialEq, Eq)]
+pub struct AskedLimits {
+    /// How many megabytes the program may hold, of 1,000,000 bytes each.
+    pub most_memory: Option<u32>,
+    /// How many bytes a packet may have.
+    pub longest_packet: Option<u32>,
+    /// How many filters a SUBSCRIBE may have.
+    pub most_filters: Option<u32>,
+    /// How many levels a topic and a filter may have.
+    pub most_levels: Option<u32>,
+    /// How many user properties a PUBLISH may have.
+    pub most_properties: Option<u32>,
+    /// How many seconds a session may last that nobody is connected to.
+    pub longest_expiry: Option<u32>,
+    /// Whether the limits that aren't given are those for strangers.
+    pub careful: bool,
+}
+
 /// What a command line asks for.
 #[derive(Debug, PartialEq, Eq, Drop)]
 pub enum Task {
@@ -27,12 +46,18 @@ pub enum Task {
         most_clients: Option<u32>,
         /// Within how many seconds a client has to be accepted, from 1 to 1,000,000,000, or any number.
         connect_within: Option<u32>,
+        /// Limits on what clients send.
+        limits: AskedLimits,
         /// Whether clients of MQTT 3.1.1 and 3.1 are served too.
         mqtt3: bool,
         /// Whether a log is written to standard error.
         log: bool,
         /// Where its status is told, if anywhere.
         status: Option<String>,
+        /// Where it waits for clients, if not at the address that the configuration tells.
+        listen: Option<String>,
+        /// Where it waits for other nodes, if not at the address of its bridge.
+        bridge_listen: Option<String>,
     },
     /// Tell what the rows of a node that is down hold.
     Check {

@@ -1,6 +1,7 @@
 //! The program: its command line, and what each command runs.
 #![tactic(auto)]
 
+mod limits;
 mod run;
 
 use crate::run::run_task;

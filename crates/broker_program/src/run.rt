@@ -1,17 +1,16 @@
 //! What each command runs.
 
+use crate::limits::bounds_of;
 use broker_checking::check;
 use broker_command::Task;
 use broker_serving::serve;
 use broker_sockets::RealSockets;
 use client_limits::Limits;
 use loopback_runs::loop_script;
+use node_server::ListenAt;
 use program_files::read_script;
 use run_causes::Ending;
 use script_runs::run_script;
-
-/// As many turns as no node makes: at a million a second they take 146,000 years.
-const ENDLESS: u64 = (1 << 62) - 1;
 
 /// Runs a task.
 pub fn run_task(rt: &HostRuntime, task: Task) -> Result<(), Ending> {
@@ -25,22 +24,27 @@ pub fn run_task(rt: &HostRuntime, task: Task) -> Result<(), Ending> {
             turns,
             most_clients,
             connect_within,
+            limits,
             mqtt3,
             log,
             status,
+            listen,
+            bridge_listen,
         } => serve(
             rt,
             configuration.as_str(),
             node.as_str(),
             database.as_str(),
+            ListenAt {
+                clients: listen.as_ref().map(|address| address.as_str()),
+                nodes: bridge_listen.as_ref().map(|address| address.as_str()),
+            },
+            bounds_of(&limits),
             Limits::new(most_clients, connect_within),
             mqtt3,
             log,
             status.as_ref().map(|address| address.as_str()),
-            match turns {
-                Some(turns) => u64::from(turns),
-                None => ENDLESS,
-            },
+            turns,
         ),
         Task::Check {
             configuration,

@@ -1,4 +1,4 @@
--- What is told where nobody can be accepted.
+-- What is told where nobody can be accepted, and where nobody can tell how much memory is held.
 use Rattle.std.specs.Prelude.{ℕ, List, ◌++◌, ◌||◌, ◌==◌, if◌then◌else◌, codes}
 use Rattle.run_causes.specs.Answers.{answer_text}
 use Rattle.run_causes.specs.declared.answer.Answer.{Answer}
@@ -11,3 +11,7 @@ refusal_text answer = answer_text answer
 
 abbrev pub refusal_line : Answer → List ℕ
 refusal_line answer = codes "broker: accepting clients: " ++ refusal_text answer ++ codes "\n"
+
+-- the limit on memory doesn't hold
+abbrev pub unread_line : List ℕ
+unread_line = codes "broker: reading /proc/self/statm: it can not be read, so --most-memory limits nothing\n"

@@ -5,6 +5,7 @@ ghost use Rattle.std.specs.Prelude.{◌<◌, length};
 use broker_stop::{RunFault, Stop};
 use home_table::HomeTable;
 use node_database::OpenFault;
+use node_server::ListenAt;
 use resting_rows::{found_of_open, held, refused, unwritten};
 use run_causes::{Answer, Cause, Ending, Found, Tried, answer_of, rows_fault};
 use std::net::{SocketAddr, TcpListener};
@@ -68,12 +69,13 @@ fn cause_of_sockets(
     rt: &HostRuntime,
     homes: &HomeTable,
     id: u16,
+    at: &ListenAt<'_>,
     status: Option<&str>,
 ) -> Option<Cause>
     requires { id < length homes.now.nodes }
 {
-    let address = homes.reference(id);
-    let bridge = homes.bridge(id);
+    let address = at.clients.unwrap_or(homes.reference(id));
+    let bridge = at.nodes.unwrap_or(homes.bridge(id));
     if let Some(found) = found_at(rt, address) {
         return Cause::waiting(rt.alloc(), address, found);
     }
@@ -92,6 +94,7 @@ pub fn cause_of(
     stop: &Stop,
     homes: &HomeTable,
     id: u16,
+    at: &ListenAt<'_>,
     path: &str,
     status: Option<&str>,
 ) -> Option<Cause>
@@ -99,7 +102,7 @@ pub fn cause_of(
 {
     match stop {
         Stop::Run(RunFault::Rows) => cause_of_rows(rt, path, id, homes.nodes()),
-        Stop::Run(RunFault::Socket) => cause_of_sockets(rt, homes, id, status),
+        Stop::Run(RunFault::Socket) => cause_of_sockets(rt, homes, id, at, status),
         Stop::Run(RunFault::Output) => Some(Cause {
             tried: Tried::Printing,
             found: Found::Answered(Answer::Unnumbered),

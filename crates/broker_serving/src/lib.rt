@@ -2,8 +2,10 @@
 #![tactic(auto)]
 
 mod causes;
+mod gauge;
 mod refusal;
 mod run;
+mod source;
 mod telling;
 
 pub use run::serve;

@@ -2,9 +2,11 @@
 //! was found.
 
 use broker_serving::serve;
+use client_bounds::BoundLimits;
 use client_limits::Limits;
 use database_examples::HOMES;
 use node_database::{Wary, open_rows};
+use node_server::ListenAt;
 use sqlite::Connection;
 use std::alloc::Global;
 use std::fs;
@@ -18,8 +20,13 @@ fn homes_at(alloc: Global, address: &str, bridge: &str) -> Option<String> {
     text.ok()
 }
 
-/// What serving a node for one turn ends with, with its status told at an address or nowhere, and nothing where all went well.
-fn told_at(rt: &HostRuntime, names: (&str, &str, &str), status: Option<&str>) -> String {
+/// What serving a node for one turn ends with that waits at these addresses, with its status told at an address or nowhere, and nothing where all went well.
+fn told_at(
+    rt: &HostRuntime,
+    names: (&str, &str, &str),
+    at: ListenAt<'_>,
+    status: Option<&str>,
+) -> String {
     let (configuration, node, database) = names;
     let none = Limits::none();
     let text = match serve(
@@ -27,11 +34,13 @@ fn told_at(rt: &HostRuntime, names: (&str, &str, &str), status: Option<&str>) ->
         configuration,
         node,
         database,
+        at,
+        BoundLimits::none(),
         none,
         false,
         false,
         status,
-        1,
+        Some(1),
     ) {
         Ok(()) => Ok(String::new(rt.alloc())),
         Err(ending) => format!(in rt.alloc(); "{ending}"),
@@ -43,7 +52,7 @@ fn told_at(rt: &HostRuntime, names: (&str, &str, &str), status: Option<&str>) ->
 }
 
 fn is_told(rt: &HostRuntime, names: (&str, &str, &str), text: &str) -> bool {
-    told_at(rt, names, None).as_str() == text
+    told_at(rt, names, ListenAt::table(), None).as_str() == text
 }
 
 /// Writes a database that has a table of another program.
@@ -187,6 +196,30 @@ fn an_address_that_is_none_is_told(rt: HostRuntime) {
 }
 
 #[test]
+fn an_address_to_wait_at_that_is_none_is_told(rt: HostRuntime) {
+    let any = Some("127.0.0.1:0");
+    let named = "node.example:1883";
+    let homes = homes_at(rt.alloc(), named, named).expect(&rt, "memory");
+    fs::write(&rt, "listen.toml", homes.as_str()).expect(&rt, "a file");
+    let names = ("listen.toml", "n0", "listen.db");
+    for (clients, nodes, text) in [
+        (
+            Some("192.0.2.1:1883"),
+            any,
+            "broker: run: Socket\nbroker: waiting at 192.0.2.1:1883: the address is none of this machine",
+        ),
+        (
+            any,
+            Some("here"),
+            "broker: run: Socket\nbroker: waiting at here: it is no IP address with a port",
+        ),
+    ] {
+        let at = ListenAt { clients, nodes };
+        assert!(rt; told_at(&rt, names, at, None).as_str() == text, "{text}");
+    }
+}
+
+#[test]
 fn an_address_for_the_status_that_is_none_is_told(rt: HostRuntime) {
     let listener = TcpListener::bind(&rt, "127.0.0.1:0").expect(&rt, "a listener");
     let taken = listener.local_addr().expect(&rt, "its address");
@@ -195,7 +228,7 @@ fn an_address_for_the_status_that_is_none_is_told(rt: HostRuntime) {
     let homes = homes_at(rt.alloc(), any, any).expect(&rt, "memory");
     fs::write(&rt, "status.toml", homes.as_str()).expect(&rt, "a file");
     let names = ("status.toml", "n0", "status.db");
-    assert!(rt; told_at(&rt, names, Some(any)).is_empty());
+    assert!(rt; told_at(&rt, names, ListenAt::table(), Some(any)).is_empty());
     for (status, cause) in [
         (taken.as_str(), "the address is in use"),
         ("localhost", "it is no IP address with a port"),
@@ -203,6 +236,9 @@ fn an_address_for_the_status_that_is_none_is_told(rt: HostRuntime) {
         let text = format!(in rt.alloc();
             "broker: run: Socket\nbroker: waiting at {status}: {cause}"
         ).expect(&rt, "memory");
-        assert!(rt; told_at(&rt, names, Some(status)) == text, "{cause}");
+        assert!(rt;
+            told_at(&rt, names, ListenAt::table(), Some(status)) == text,
+            "{cause}"
+        );
     }
 }

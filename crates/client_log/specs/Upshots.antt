@@ -6,10 +6,16 @@ use Rattle.mqtt_packets.specs.declared.connack.Connack.{Connack as ConnackPacket
 use Rattle.mqtt_packets.specs.declared.fault.PacketFault.{PacketFault}
 use Rattle.mqtt_packets.specs.declared.packet.Packet.{Packet}
 use Rattle.mqtt_packets.specs.declared.packet.Packet.TheVariants.{Connect, Connack, Disconnect}
+use Rattle.mqtt3_packets.specs.Version.{version_of}
+use Rattle.mqtt3_packets.specs.declared.level.Level.TheVariants.{Three, Four}
+use Rattle.mqtt3_packets.specs.declared.version.Version.{Version}
+use Rattle.mqtt3_packets.specs.declared.version.Version.TheVariants.{Before}
 use Rattle.log_lines.specs.declared.line.Departure.{Departure}
 use Rattle.log_lines.specs.declared.line.Departure.TheVariants.{Closed, Lost, KeepAlive, TakenOver, Fault}
+use Rattle.log_lines.specs.declared.line.Earlier.{Earlier}
+use Rattle.log_lines.specs.declared.line.Earlier.TheVariants.{Mqtt311, Mqtt31}
 use Rattle.log_lines.specs.declared.line.LogLine.{LogLine}
-use Rattle.log_lines.specs.declared.line.LogLine.TheVariants.{ClientAccepted, ClientRefused, ClientUnanswered, ClientGone}
+use Rattle.log_lines.specs.declared.line.LogLine.TheVariants.{ClientAccepted, ClientRefused, ClientOfEarlier, ClientUnanswered, ClientGone}
 use Rattle.client_log.specs.declared.clients.Stage.{Stage}
 use Rattle.client_log.specs.declared.clients.Stage.TheVariants.{Coming, Accepted}
 
@@ -40,15 +46,29 @@ name_with None None = []
 abbrev pub accepted : List ℕ → Upshot
 accepted name = (Some (Accepted name), ClientAccepted name)
 
+-- the version before 5 that a client's first bytes tell, where it is one that --mqtt3 serves
+abbrev pub earlier_at : Option Version → Option Earlier
+earlier_at (Some (Before Four bridge)) = Some Mqtt311
+earlier_at (Some (Before Three bridge)) = Some Mqtt31
+earlier_at _ = None
+
+-- reason code 0x84, Unsupported Protocol Version, names that version (3.2.2.2)
+abbrev pub refused_by : ℕ → Option (List ℕ) → Option Earlier → LogLine
+refused_by reason asked None = ClientRefused reason asked
+refused_by reason asked (Some earlier) = if reason == 132 then ClientOfEarlier earlier else ClientRefused reason asked
+
+abbrev pub refused : ℕ → Option (List ℕ) → List ℕ → LogLine
+refused reason asked held = refused_by reason asked (earlier_at (version_of 1048576 held))
+
 -- reason code 0 accepts a client, and any other refuses it (3.2.2.2); property 18 is the identifier that the server assigns
-abbrev pub by_connack : ConnackPacket → Option (List ℕ) → Upshot
-by_connack packet asked =
+abbrev pub by_connack : ConnackPacket → Option (List ℕ) → List ℕ → Upshot
+by_connack packet asked held =
     if packet.reason == 0 then accepted (name_with (first_text 18 packet.properties) asked)
-    else (None, ClientRefused packet.reason asked)
+    else (None, refused packet.reason asked held)
 
 -- to a client that wasn't answered yet, of which this came
 abbrev pub answered : Option Packet → List ℕ → Option Upshot
-answered (Some (Connack packet)) held = Some (by_connack packet (asked_by (packet_in held)))
+answered (Some (Connack packet)) held = Some (by_connack packet (asked_by (packet_in held)) held)
 answered _ held = None
 
 -- why a client is gone to which a DISCONNECT with this reason code is sent (3.14.2.1)

@@ -2,13 +2,18 @@
 
 ghost use Rattle.std.specs.Prelude.{◌≡◌, IfOk, IfSome, Some};
 ghost use Rattle.mqtt_fields.specs.Properties.{first_text};
-ghost use Rattle.client_log.specs.Upshots.{answered, asked_by, by_connack, closing, departure_by, upshot_of, is_disconnect, losing, name_with, packet_in, parted};
+ghost use Rattle.mqtt3_packets.specs.Version.{version_of};
+ghost use Rattle.client_log.specs.Upshots.{answered, asked_by, by_connack, closing, departure_by, earlier_at, upshot_of, is_disconnect, losing, name_with, packet_in, parted, refused};
 
 use crate::clients::Stage;
-use log_lines::{Departure, LogLine};
+use log_lines::{Departure, Earlier, LogLine};
 use mqtt_fields::{NoMemory, Text, identifier};
 use mqtt_packets::{Bytes, Connack, Packet, PacketFault, read_packet};
+use mqtt3_packets::{Level, Version, version_of};
 use std::alloc::Global;
+
+/// The most bytes that a packet has.
+const MOST: usize = 1_048_576;
 
 /// The first byte of a DISCONNECT (MQTT 5.0, 3.14.1).
 const DISCONNECT: u8 = 0xE0;
@@ -57,12 +62,44 @@ fn name_with(alloc: Global, connack: &Connack, asked: Option<Text>) -> Result<Te
     }
 }
 
-/// A CONNACK accepts a client, or refuses it.
-fn by_connack(alloc: Global, connack: &Connack, asked: Option<Text>) -> Result<Upshot, NoMemory>
-    ensures { IfOk result (λ upshot. upshot ≡ by_connack connack.now asked) }
+/// The version before 5 that a client's first bytes tell, where it is one that `--mqtt3` serves.
+fn earlier_of(held: &[u8]) -> Option<Earlier>
+    ensures { result ≡ earlier_at (version_of 1048576 held.now) }
+{
+    match version_of(MOST, held) {
+        Some(Version::Before(Level::Four, _)) => Some(Earlier::Mqtt311),
+        Some(Version::Before(Level::Three, _)) => Some(Earlier::Mqtt31),
+        _ => None,
+    }
+}
+
+/// What is told of a client that is refused with this reason code, of which this came.
+fn refused(reason: u8, asked: Option<Text>, held: &[u8]) -> LogLine
+    ensures { result ≡ refused reason asked held.now }
+{
+    match earlier_of(held) {
+        Some(earlier) => {
+            if reason == 0x84 {
+                LogLine::ClientOfEarlier(earlier)
+            } else {
+                LogLine::ClientRefused(reason, asked)
+            }
+        }
+        None => LogLine::ClientRefused(reason, asked),
+    }
+}
+
+/// A CONNACK accepts a client of which this came, or refuses it.
+fn by_connack(
+    alloc: Global,
+    connack: &Connack,
+    asked: Option<Text>,
+    held: &[u8],
+) -> Result<Upshot, NoMemory>
+    ensures { IfOk result (λ upshot. upshot ≡ by_connack connack.now asked held.now) }
 {
     if connack.reason != 0 {
-        return Ok((None, LogLine::ClientRefused(connack.reason, asked)));
+        return Ok((None, refused(connack.reason, asked, held)));
     }
     let name = name_with(alloc, connack, asked)?;
     let told = name.copy(alloc)?;
@@ -76,7 +113,7 @@ fn answered(alloc: Global, held: &Bytes, bytes: &[u8]) -> Result<Option<Upshot>,
     match packet_in(alloc, bytes)? {
         Some(Packet::Connack(connack)) => {
             let asked = asked_in(alloc, held)?;
-            Ok(Some(by_connack(alloc, &connack, asked)?))
+            Ok(Some(by_connack(alloc, &connack, asked, held.as_slice())?))
         }
         _ => Ok(None),
     }

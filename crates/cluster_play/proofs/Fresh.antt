@@ -21,6 +21,7 @@ use Rattle.message_lanes.specs.Lanes.{new_lane, new_lanes}
 use Rattle.replica_store.specs.declared.kept.Kept.{Kept}
 use Rattle.replica_store.specs.Retained.{topic_cmp}
 use Rattle.replica_store.specs.States.{nothing}
+use Rattle.replica_store.proofs.Seeing.{nothing_seen}
 use Rattle.row_store.specs.Rows.{Content, Key, key_cmp, Plain}
 use Rattle.row_store.proofs.Keys.{keys_total, exact_keys}
 use Rattle.session_table.specs.Rows.{is_session_kind}
@@ -71,6 +72,7 @@ none_kept topic k e = none-some (sym (map.get-empty {X = Kept} topic_cmp topic) 
 
 nothing_is_store : IsStore nothing
 nothing_is_store = record {
+  all_seen = nothing_seen;
   taken = none_spelled;
   seen = subst HasSpelling (sym no_seen) none_spelled;
   dots = λ q e is. none_stands q (Some (Some e)) is refl;

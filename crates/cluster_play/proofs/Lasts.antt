@@ -11,7 +11,7 @@ use Rattle.node_bridge.specs.View.{woken_bridge}
 use Rattle.node_keeper.specs.Keeping.{AreLasting, AreOf, AreOfNone, marked_or_raised, may_be_marked}
 use Rattle.node_rows.specs.Reading.{HasNoLane, IsAmong, IsLasting, RowsTellAll}
 use Rattle.node_rows.specs.Sessions.{opened_seat}
-use Rattle.node_rows.specs.Versions.{AreFirst}
+use Rattle.node_rows.specs.Versions.{AreOlder}
 use Rattle.node_rows.proofs.Raising.{not_both}
 use Rattle.node_rows.specs.Rows.{Lasting, mark_key, node_row}
 use Rattle.node_work.specs.Lasting.{CanLast, IsWoken, lasting}
@@ -70,17 +70,17 @@ none_without p x (inr says) =
     let none : Content = map.empty in
     no_first (map.entries none) (sym (map.len-entries none) ∙ map.len-empty key_cmp (List ℕ)) says.1
   where
-    no_first : (rows : List Plain) → length rows ≡ 0 → AreFirst rows → ⊥
+    no_first : (rows : List Plain) → length rows ≡ 0 → AreOlder rows → ⊥
     no_first [] none first = first
     no_first (row ∷ rows) none first = absurd (omega (arith, none))
 
--- the rows of what a node holds are of version 2
-not_first : (p : Place) (rows : Content) (h : HeldView) → AreOf p rows h → AreFirst (map.entries rows) → ⊥
-not_first p rows h are = not_both p.id (lasting h).named (map.entries rows) (sym (map.get-entries rows mark_key) ∙ are mark_key)
+-- the rows of what a node holds are of version 3
+not_older : (p : Place) (rows : Content) (h : HeldView) → AreOf p rows h → AreOlder (map.entries rows) → ⊥
+not_older p rows h are = not_both p.id (lasting h).named (map.entries rows) (sym (map.get-entries rows mark_key) ∙ are mark_key)
 
 marked_same : (p : Place) (rows rows' : Content) (h : HeldView) → AreOf p rows h → marked_or_raised p.id rows rows' → rows' ≡ rows
 marked_same p rows rows' h are (inl e) = absurd (has_rows p rows h are e.0)
-marked_same p rows rows' h are (inr (some, inl first)) = absurd (not_first p rows h are first.0)
+marked_same p rows rows' h are (inr (some, inl first)) = absurd (not_older p rows h are first.0)
 marked_same p rows rows' h are (inr (some, inr same)) = same.1
 
 pub may_be_same : (p : Place) (rows rows' : Content) (h : HeldView) → AreOf p rows h → may_be_marked p.id rows rows' → rows' ≡ rows

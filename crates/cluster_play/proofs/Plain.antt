@@ -111,7 +111,10 @@ acts_plain p count (a ∷ acts) ms h h' low g r all plain =
 module _ (count : ℕ) (O : List Operation) (s : State) (state : IsStateOf O s) (plain : AllPlain count O) where
   seen_plain : (d : Dot) (o : Option Status) → HasStatus O d o → is_some o ≡ true → d.node < count
   seen_plain d None h is = absurd (let no : false ≡ true = is in cc)
-  seen_plain d (Some None) h is = (plain h.0 h.1).cover d h.2
+  seen_plain d (Some None) h is = elim h.seen [
+    | inl at ↦ subst (λ (q : Dot). q.node < count) at.2 (plain at.0 at.1).dot
+    | inr covered ↦ (plain covered.0 covered.1).cover d covered.2
+  ]
   seen_plain d (Some (Some f)) h is = let by = h.subscribed in (plain (Subscribe d f by.0) by.1).dot
 
   pub is_among : IsAmong count s

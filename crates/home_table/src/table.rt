@@ -244,6 +244,14 @@ impl HomeTable {
         self.shared.as_ref().nodes[node as usize].bridge.as_str()
     }
 
+    /// The name of a node.
+    pub fn name(&self, node: u16) -> &str
+        requires { node < length self.now.nodes }
+        ensures { option_map (λ n. n.name) (slice_get self.now.nodes node) ≡ Some result.now }
+    {
+        self.shared.as_ref().nodes[node as usize].name.as_str()
+    }
+
     /// A table has 1 to 64 nodes, and each of its prefixes is at one of them.
     pub fn is_table(&self)
         ensures { IsTable self.now }

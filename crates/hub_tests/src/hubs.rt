@@ -3,16 +3,20 @@ ghost use Rattle.std.specs.Prelude.{◌<◌, length};
 
 use broker_sockets::Clock;
 use broker_stop::RunFault;
+use client_bounds::BoundLimits;
 use client_limits::Limits;
 use fake_sockets::FakeSockets;
 use home_table::HomeTable;
+use memory_gauge::Gauge;
 use node_database::{Wary, open_rows};
-use node_server::{StatusPlace, serve};
+use node_server::{ListenAt, StatusPlace, serve};
 use numbered_homes::homes_of;
+use packet_bounds::Bounds;
 use refusing_rows::RefusingRows;
 use row_store::{MemoryRows, RowStore};
 use std::alloc::Global;
 use std::process::Abort;
+use table_door::NoTables;
 
 /// CONNECT of client `a`, whose home of two nodes is the second one, a retained PUBLISH of `on` to `t`, and SUBSCRIBE to `t`.
 const PACKETS: [&[u8]; 3] = [
@@ -62,12 +66,30 @@ impl Clock for Rising {
     }
 }
 
+/// Always tells so many bytes.
+#[derive(Drop)]
+struct Holding {
+    held: u64,
+}
+
+impl Gauge for Holding {
+    fn held(&mut self) -> Option<u64> {
+        Some(self.held)
+    }
+}
+
+/// No limits on what clients send, and nothing held.
+fn unbounded() -> (BoundLimits, Holding) {
+    (BoundLimits::none(), Holding { held: 0 })
+}
+
 /// Serves a node for ten turns within limits and with a log, if there is one, and answers what ends the run early, if anything does.
 fn served<R: RowStore + Drop>(
     alloc: Global,
     network: &mut FakeSockets,
     rows: R,
     place: (HomeTable, u16),
+    bounds: (BoundLimits, Holding),
     limits: Limits,
     log: Option<&mut Vec<u8>>,
 ) -> Option<RunFault>
@@ -76,8 +98,23 @@ fn served<R: RowStore + Drop>(
     let mut clock = Rising { told: 0 };
     let mut out = Vec::new(alloc);
     let nowhere: Option<StatusPlace<'_, FakeSockets>> = None;
+    let no_tables: Option<NoTables> = None;
     serve(
-        alloc, network, &mut clock, rows, place, limits, false, log, nowhere, 10, &mut out,
+        alloc,
+        network,
+        &mut clock,
+        rows,
+        place,
+        ListenAt::table(),
+        no_tables,
+        bounds,
+        limits,
+        false,
+        log,
+        None,
+        nowhere,
+        10,
+        &mut out,
     )
     .err()
 }
@@ -92,7 +129,15 @@ fn refused(rt: &impl Abort, alloc: Global, call: u64, got: &[u8]) -> (Option<Run
     }
     let homes = homes_of(alloc, 1).expect(rt, "a table");
     let rows = RefusingRows::new(MemoryRows::new(alloc), call);
-    let fault = served(alloc, &mut network, rows, (homes, 0), Limits::none(), None);
+    let fault = served(
+        alloc,
+        &mut network,
+        rows,
+        (homes, 0),
+        unbounded(),
+        Limits::none(),
+        None,
+    );
     // the clients' ends are the first, the third and the fifth
     let all = network.came(0) == got && network.came(2) == got && network.came(4) == got;
     drop(network);
@@ -127,6 +172,7 @@ fn bounded(rt: &impl Abort, alloc: Global, limits: Limits, got: [&[u8]; 3], line
         &mut network,
         MemoryRows::new(alloc),
         (homes, 0),
+        unbounded(),
         limits,
         Some(&mut log),
     );
@@ -167,11 +213,12 @@ fn a_node_serves_as_many_clients_as_it_may(rt: HostRuntime) {
     }
 }
 
-/// A client sends packets to a node of two with these rows: what ends the run, and whether the client has got just these bytes.
+/// A client sends packets to a node of two with these rows and limits: what ends the run, and whether the client has got just these bytes.
 fn answered<R: RowStore + Drop>(
     rt: &impl Abort,
     alloc: Global,
     rows: R,
+    bounds: (BoundLimits, Holding),
     id: u16,
     packets: &[&[u8]],
     got: &[u8],
@@ -183,7 +230,15 @@ fn answered<R: RowStore + Drop>(
     }
     let homes = homes_of(alloc, 2).expect(rt, "a table");
     assert!(rt; id < homes.nodes());
-    let fault = served(alloc, &mut network, rows, (homes, id), Limits::none(), None);
+    let fault = served(
+        alloc,
+        &mut network,
+        rows,
+        (homes, id),
+        bounds,
+        Limits::none(),
+        None,
+    );
     let all = network.came(end) == got;
     drop(network);
     (fault, all)
@@ -201,6 +256,44 @@ fn what_a_run_wrote_is_in_the_database_of_the_next(rt: HostRuntime) {
         let rows = open_rows(&rt, "hub.db", Wary)
             .ok()
             .expect(&rt, "a database");
-        assert!(rt; answered(&rt, rt.alloc(), rows, id, packets, got) == (fault, true));
+        let end = answered(&rt, rt.alloc(), rows, unbounded(), id, packets, got);
+        assert!(rt; end == (fault, true));
+    }
+}
+
+/// PUBLISH at QoS 1 to `a/b`, as packet 9.
+const PUBLISH: &[u8] = b"\x32\x08\x00\x03a/b\x00\x09\x00";
+
+/// CONNACK with Maximum Packet Size 64.
+const SMALL: &[u8] = b"\x20\x0e\x00\x00\x0b\x21\x00\x64\x22\x00\x10\x27\x00\x00\x00\x40";
+
+#[test]
+fn a_node_refuses_what_breaks_a_limit(rt: HostRuntime) {
+    let alloc = rt.alloc();
+    let levels = BoundLimits {
+        packets: Bounds {
+            longest_packet: Some(64),
+            most_filters: None,
+            most_levels: Some(1),
+            most_properties: None,
+            longest_expiry: None,
+        },
+        most_memory: None,
+    };
+    let memory = BoundLimits {
+        packets: BoundLimits::none().packets,
+        most_memory: Some(1_000),
+    };
+    for (limits, held, connack, puback) in [
+        (levels, 0, SMALL, b"\x40\x03\x00\x09\x90".as_slice()),
+        (memory, 1_001, CONNACK, b"\x40\x03\x00\x09\x97".as_slice()),
+    ] {
+        let mut got = Vec::from_slice(alloc, connack).expect(&rt, "memory");
+        got.extend_from_slice(puback).expect(&rt, "memory");
+        let packets = [PACKETS[0], PUBLISH];
+        let bounds = (limits, Holding { held });
+        let rows = MemoryRows::new(alloc);
+        let end = answered(&rt, alloc, rows, bounds, 1, packets.as_slice(), &got);
+        assert!(rt; end == (None, true));
     }
 }

@@ -7,6 +7,8 @@ mod hubs;
 mod lent;
 #[cfg(test)]
 mod statuses;
+#[cfg(test)]
+mod tables;
 
 /// Does nothing: the examples are the tests.
 fn main() {}

@@ -2,14 +2,17 @@
 
 use crate::lent::LentSockets;
 use broker_sockets::Clock;
+use client_bounds::BoundLimits;
 use client_limits::Limits;
 use fake_sockets::FakeSockets;
-use node_server::{StatusPlace, serve};
+use memory_gauge::NoGauge;
+use node_server::{ListenAt, StatusPlace, serve};
 use numbered_homes::homes_of;
 use row_store::MemoryRows;
 use std::alloc::Global;
 use std::hash::RandomState;
 use std::process::Abort;
+use table_door::NoTables;
 
 /// CONNECT of client `a`, whose home of one node or two is the last one, a retained PUBLISH of `on` to `t`, and SUBSCRIBE to `t`.
 const PACKETS: &[u8] =
@@ -56,15 +59,20 @@ fn ends_so(
     };
     let mut out = Vec::new(alloc);
     let silent: Option<Vec<u8>> = None;
+    let no_tables: Option<NoTables> = None;
     let ended = serve(
         alloc,
         &mut network,
         &mut Striding { told: 0 },
         MemoryRows::new(alloc),
         (homes, id),
+        ListenAt::table(),
+        no_tables,
+        (BoundLimits::none(), NoGauge),
         Limits::none(),
         false,
         silent,
+        None,
         Some(place),
         40,
         &mut out,
@@ -80,10 +88,14 @@ fn a_node_tells_how_it_is(rt: HostRuntime) {
     let gate = b"GET /caught-up HTTP/1.1\r\nhost: a\r\n\r\n".as_slice();
     // the other node says nothing, so that it isn't known to have any of the two operations
     let peers =
-        b"\"peers\":[{\"name\":\"127.0.0.1:2883\",\"number\":0,\"linked\":true,\"equal\":false,\"lacking\":2,\"waiting\":0}]}\n".as_slice();
+        b"\"peers\":[{\"name\":\"n0\",\"number\":0,\"bridge\":\"127.0.0.1:2883\",\"linked\":true,\"away_milliseconds\":0,\"heard\":false,\"equal\":false,\"lacking\":2,\"missing\":0,\"waiting\":0}]}\n".as_slice();
     for (nodes, request, end) in [
         (2, all, peers),
-        (2, gate, b"\r\n\r\nnot caught up\n".as_slice()),
+        (
+            2,
+            gate,
+            b"\r\n\r\nnot caught up\nn0: linked, not heard since the start\n".as_slice(),
+        ),
         (1, gate, b"\r\n\r\ncaught up\n".as_slice()),
     ] {
         let keys = RandomState::new(&rt).expect(&rt, "keys");

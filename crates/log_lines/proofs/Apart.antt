@@ -10,13 +10,15 @@ use Rattle.std.specs.Prelude.{codes, if◌then◌else◌, nat_lt}
 use Rattle.hex.specs.Hex.{hex_digit_value, upper_digits}
 use Rattle.hex.proofs.HexLemmas.{IsDigits-upper_digits}
 use Rattle.log_lines.specs.Escaping.{digits_of, escaped, is_plain, reason_text}
-use Rattle.log_lines.specs.Lines.{departure_text, entry_text, line_text, log_text, loss_text, told_text}
+use Rattle.log_lines.specs.Lines.{departure_text, earlier_text, entry_text, line_text, log_text, loss_text, told_text}
 use Rattle.log_lines.specs.Reasons.{reasons, words_in, words_of}
 use Rattle.log_lines.specs.declared.line.Departure.{Departure}
 use Rattle.log_lines.specs.declared.line.Departure.TheVariants.{Closed, Lost, KeepAlive, TakenOver, Fault}
+use Rattle.log_lines.specs.declared.line.Earlier.{Earlier}
+use Rattle.log_lines.specs.declared.line.Earlier.TheVariants.{Mqtt311, Mqtt31}
 use Rattle.log_lines.specs.declared.line.LogEntry.{LogEntry}
 use Rattle.log_lines.specs.declared.line.LogLine.{LogLine}
-use Rattle.log_lines.specs.declared.line.LogLine.TheVariants.{ClientAccepted, ClientRefused, ClientUnanswered, ClientGone, LinkUp, LinkDown, LeftOut}
+use Rattle.log_lines.specs.declared.line.LogLine.TheVariants.{ClientAccepted, ClientRefused, ClientOfEarlier, ClientUnanswered, ClientGone, LinkUp, LinkDown, LeftOut}
 use Rattle.log_lines.specs.declared.line.Loss.{Loss}
 use Rattle.log_lines.specs.declared.line.Loss.TheVariants.{QueueFull, RetainedFull, PicksLost, LaneFull, BadFrames, FramesTooLarge}
 use Rattle.log_lines.proofs.Escapes.{first_same, nothing_more, rest_same}
@@ -143,6 +145,10 @@ loss_one LaneFull = refl
 loss_one BadFrames = refl
 loss_one FramesTooLarge = refl
 
+earlier_one : (earlier : Earlier) → IsOne (earlier_text earlier)
+earlier_one Mqtt311 = refl
+earlier_one Mqtt31 = refl
+
 -- an identifier at the end
 named : (front name : List ℕ) → IsOne front → IsOne (front ++ codes ": " ++ escaped name)
 named front name p = joined (front ++ codes ": ") (escaped name) (joined front (codes ": ") p refl) (escaped_one name)
@@ -152,6 +158,8 @@ line_one (ClientAccepted name) = joined (codes "client accepted: ") (escaped nam
 line_one (ClientRefused code (Some name)) =
     named (codes "client refused " ++ told_text code) name (joined (codes "client refused ") (told_text code) refl (told_one code))
 line_one (ClientRefused code None) = joined (codes "client refused ") (told_text code) refl (told_one code)
+line_one (ClientOfEarlier earlier) =
+    joined (codes "client refused 0x84 (") (earlier_text earlier ++ codes "; --mqtt3 serves it)") refl (joined (earlier_text earlier) (codes "; --mqtt3 serves it)") (earlier_one earlier) refl)
 line_one ClientUnanswered = refl
 line_one (ClientGone departure name) =
     named (codes "client gone, " ++ departure_text departure) name (joined (codes "client gone, ") (departure_text departure) refl (departure_one departure))

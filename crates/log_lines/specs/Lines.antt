@@ -5,9 +5,11 @@ use Rattle.log_lines.specs.Escaping.{escaped, reason_text}
 use Rattle.log_lines.specs.Reasons.{words_of}
 use Rattle.log_lines.specs.declared.line.Departure.{Departure}
 use Rattle.log_lines.specs.declared.line.Departure.TheVariants.{Closed, Lost, KeepAlive, TakenOver, Fault}
+use Rattle.log_lines.specs.declared.line.Earlier.{Earlier}
+use Rattle.log_lines.specs.declared.line.Earlier.TheVariants.{Mqtt311, Mqtt31}
 use Rattle.log_lines.specs.declared.line.LogEntry.{LogEntry}
 use Rattle.log_lines.specs.declared.line.LogLine.{LogLine}
-use Rattle.log_lines.specs.declared.line.LogLine.TheVariants.{ClientAccepted, ClientRefused, ClientUnanswered, ClientGone, LinkUp, LinkDown, LeftOut}
+use Rattle.log_lines.specs.declared.line.LogLine.TheVariants.{ClientAccepted, ClientRefused, ClientOfEarlier, ClientUnanswered, ClientGone, LinkUp, LinkDown, LeftOut}
 use Rattle.log_lines.specs.declared.line.Loss.{Loss}
 use Rattle.log_lines.specs.declared.line.Loss.TheVariants.{QueueFull, RetainedFull, PicksLost, LaneFull, BadFrames, FramesTooLarge}
 
@@ -30,10 +32,16 @@ loss_text LaneFull = codes "lane_full"
 loss_text BadFrames = codes "bad_frames"
 loss_text FramesTooLarge = codes "frames_too_large"
 
+-- a version before 5
+abbrev pub earlier_text : Earlier → List ℕ
+earlier_text Mqtt311 = codes "MQTT 3.1.1"
+earlier_text Mqtt31 = codes "MQTT 3.1"
+
 abbrev pub line_text : LogLine → List ℕ
 line_text (ClientAccepted name) = codes "client accepted: " ++ escaped name
 line_text (ClientRefused code (Some name)) = codes "client refused " ++ told_text code ++ codes ": " ++ escaped name
 line_text (ClientRefused code None) = codes "client refused " ++ told_text code
+line_text (ClientOfEarlier earlier) = codes "client refused 0x84 (" ++ earlier_text earlier ++ codes "; --mqtt3 serves it)"
 line_text ClientUnanswered = codes "client closed unanswered"
 line_text (ClientGone departure name) = codes "client gone, " ++ departure_text departure ++ codes ": " ++ escaped name
 line_text (LinkUp peer) = codes "link " ++ decimal peer ++ codes " up"

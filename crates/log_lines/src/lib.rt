@@ -8,5 +8,5 @@ mod reason;
 
 pub use escaped::{Escaped, ReasonText};
 pub use laws::{identifiers_read_back, lines_stay_apart};
-pub use line::{Departure, LogEntry, LogLine, Loss};
+pub use line::{Departure, Earlier, LogEntry, LogLine, Loss};
 pub use reason::words_of;

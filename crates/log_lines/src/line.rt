@@ -1,7 +1,7 @@
 //! What a log tells, each in a line.
 
 ghost use Rattle.std.specs.Prelude.{Some};
-ghost use Rattle.log_lines.specs.Lines.{departure_text, entry_text, line_text, loss_text};
+ghost use Rattle.log_lines.specs.Lines.{departure_text, earlier_text, entry_text, line_text, loss_text};
 
 use crate::escaped::{Escaped, ReasonText};
 use crate::reason::words_of;
@@ -40,6 +40,13 @@ pub enum Loss {
     FramesTooLarge,
 }
 
+/// A version of MQTT before 5 that `--mqtt3` serves. Its `Display` is its name.
+#[derive(Clone, Copy, Debug, PartialEq, Eq)]
+pub enum Earlier {
+    Mqtt311,
+    Mqtt31,
+}
+
 /// What a line tells. Its `Display` is the words for it. A peer is named by its number in the cluster.
 #[derive(Drop)]
 pub enum LogLine {
@@ -47,6 +54,8 @@ pub enum LogLine {
     ClientAccepted(Text),
     /// A client was refused with this reason code; it asked for this identifier, where it got so far.
     ClientRefused(u8, Option<Text>),
+    /// A client was refused with reason code 0x84: it is of an earlier version, which is served where that is asked for.
+    ClientOfEarlier(Earlier),
     /// A client's connection was closed before anything was answered on it.
     ClientUnanswered,
     /// A client that was accepted under this identifier is gone.
@@ -99,6 +108,17 @@ impl fmt::Display for Loss {
     }
 }
 
+impl fmt::Display for Earlier {
+    ghost output = { λ earlier. Some (earlier_text earlier) };
+
+    fn fmt<W: fmt::Write>(&self, f: &mut fmt::Formatter<W>) -> fmt::Result {
+        match self {
+            Earlier::Mqtt311 => write!(f, "MQTT 3.1.1"),
+            Earlier::Mqtt31 => write!(f, "MQTT 3.1"),
+        }
+    }
+}
+
 impl fmt::Display for LogLine {
     ghost output = { λ line. Some (line_text line) };
 
@@ -118,6 +138,9 @@ impl fmt::Display for LogLine {
                 let words = words_of(*code);
                 let code = ReasonText(*code);
                 write!(f, "client refused {code} ({words})")
+            }
+            LogLine::ClientOfEarlier(earlier) => {
+                write!(f, "client refused 0x84 ({earlier}; --mqtt3 serves it)")
             }
             LogLine::ClientUnanswered => write!(f, "client closed unanswered"),
             LogLine::ClientGone(departure, name) => {

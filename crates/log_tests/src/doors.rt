@@ -96,6 +96,26 @@ fn clients_are_refused_named_and_lost(rt: HostRuntime) {
 }
 
 #[test]
+fn clients_of_earlier_versions_are_named(rt: HostRuntime) {
+    let alloc = rt.alloc();
+    let mut paper = Paper::new(alloc, false);
+    let mut door = door_of(alloc, &mut paper);
+    for connection in 6..8 {
+        open(&rt, &mut door, 1, connection);
+    }
+    let four = b"\x10\x0d\x00\x04MQTT\x04\x02\x00\x0a\x00\x01a";
+    come(&rt, alloc, &mut door, (2, 6), four);
+    let three = b"\x10\x0f\x00\x06MQIsdp\x03\x02\x00\x0a\x00\x01a";
+    come(&rt, alloc, &mut door, (3, 7), three);
+    let expected: &str = "2 client refused 0x84 (MQTT 3.1.1; --mqtt3 serves it)\n\
+        3 client refused 0x84 (MQTT 3.1; --mqtt3 serves it)\n";
+    settle(&rt, &mut door);
+    drop(door);
+    assert!(rt; paper.text.as_slice() == expected.as_bytes());
+    drop(paper);
+}
+
+#[test]
 fn links_are_up_and_down_and_counts_are_told(rt: HostRuntime) {
     let alloc = rt.alloc();
     let mut paper = Paper::new(alloc, false);

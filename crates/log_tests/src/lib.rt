@@ -4,6 +4,8 @@
 #[cfg(test)]
 mod doors;
 #[cfg(test)]
+mod losses;
+#[cfg(test)]
 mod paper;
 #[cfg(test)]
 mod porter;

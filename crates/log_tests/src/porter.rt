@@ -3,8 +3,8 @@
 use broker_sockets::{BridgeHandler, Event, EventKind, Given, Handler, Output, PeerEvent};
 use std::alloc::{AllocError, Global};
 
-/// Answers the end of a CONNECT: connection 2 is refused with 0x87, connection 3 is given an identifier, connection 4 is closed, and any other
-/// is accepted. A piece of one byte ends a connection, with a DISCONNECT of this reason code unless it is 0.
+/// Answers the end of a CONNECT: connection 2 is refused with 0x87, connection 3 is given an identifier, connection 4 is closed, connections 6 and 7
+/// are refused with 0x84, and any other is accepted. A piece of one byte ends a connection, with a DISCONNECT of this reason code unless it is 0.
 pub struct Porter {
     alloc: Global,
 }
@@ -48,6 +48,7 @@ impl Porter {
             2 => self.give(connection, &[0x20, 3, 0, 0x87, 0], true),
             3 => self.give(connection, &ASSIGNED, false),
             4 => self.give(connection, &[], true),
+            6 | 7 => self.give(connection, &[0x20, 3, 0, 0x84, 0], true),
             _ => self.give(connection, &[0x20, 3, 0, 0, 0], false),
         }
     }

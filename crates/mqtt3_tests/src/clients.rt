@@ -26,7 +26,7 @@ fn sent_at(rt: &impl Abort, alloc: Global, node: &mut Mqtt3<Recorder>, kind: Eve
 }
 
 /// These bytes come on connection 1.
-fn come(rt: &impl Abort, alloc: Global, node: &mut Mqtt3<Recorder>, bytes: &[u8]) -> Vec<u8> {
+pub fn come(rt: &impl Abort, alloc: Global, node: &mut Mqtt3<Recorder>, bytes: &[u8]) -> Vec<u8> {
     let bytes = Vec::from_slice(alloc, bytes).expect(rt, "memory");
     let kind = EventKind::Piece {
         connection: 1,
@@ -35,14 +35,15 @@ fn come(rt: &impl Abort, alloc: Global, node: &mut Mqtt3<Recorder>, bytes: &[u8]
     sent_at(rt, alloc, node, kind)
 }
 
-fn opened(rt: &impl Abort, alloc: Global, translates: bool) -> Mqtt3<Recorder> {
+/// A handler at which connection 1 is open.
+pub fn opened(rt: &impl Abort, alloc: Global, translates: bool) -> Mqtt3<Recorder> {
     let mut node = Mqtt3::new(alloc, translates, Recorder::new(alloc));
     sent_at(rt, alloc, &mut node, EventKind::Opened { connection: 1 });
     node
 }
 
 /// CONNECT of MQTT 3.1.1 with Clean Session, a Keep Alive of 10 seconds and the identifier "a".
-const CONNECT: &[u8] = b"\x10\x0d\x00\x04MQTT\x04\x02\x00\x0a\x00\x01a";
+pub const CONNECT: &[u8] = b"\x10\x0d\x00\x04MQTT\x04\x02\x00\x0a\x00\x01a";
 
 #[test]
 fn a_client_of_3_1_1_is_told_in_5_0(rt: HostRuntime) {
@@ -89,7 +90,7 @@ fn the_101st_exchange_waits(rt: HostRuntime) {
     }
     assert_eq!(rt; node.inside().pieces, 101);
     let answer = come(&rt, alloc, &mut node, b"\x62\x02\x00\x01");
-    assert!(rt; answer.as_slice() == b"\x70\x02\x00\x01".as_slice());
+    assert!(rt; answer.as_slice() == b"\x70\x02\x00\x01\x50\x02\x00\x65".as_slice());
     // PUBREL, and then the PUBLISH that has waited
     assert_eq!(rt; node.inside().pieces, 103);
     assert!(rt;
@@ -97,5 +98,35 @@ fn the_101st_exchange_waits(rt: HostRuntime) {
             .told
             .ends_with(b"\x34\x06\x00\x01a\x00\x65\x00")
     );
+    drop(node);
+}
+
+#[test]
+fn what_cannot_be_told_ends_the_connection(rt: HostRuntime) {
+    let alloc = rt.alloc();
+    let mut node = opened(&rt, alloc, true);
+    come(&rt, alloc, &mut node, CONNECT);
+    // PUBLISH at QoS 1 on "a" as packet 254, which is taken, as packet 255, which isn't, and as packet 1
+    let three = b"\x32\x05\x00\x01a\x00\xfe\x32\x05\x00\x01a\x00\xff\x32\x05\x00\x01a\x00\x01";
+    let answer = come(&rt, alloc, &mut node, three);
+    assert!(rt; answer.as_slice() == b"\x40\x02\x00\xfe".as_slice());
+    assert!(rt; node.inside().told.ends_with(&[0]));
+    drop(node);
+}
+
+#[test]
+fn a_session_that_is_not_clean_lasts(rt: HostRuntime) {
+    let alloc = rt.alloc();
+    let mut node = opened(&rt, alloc, true);
+    // CONNECT without Clean Session
+    come(
+        &rt,
+        alloc,
+        &mut node,
+        b"\x10\x0d\x00\x04MQTT\x04\x00\x00\x0a\x00\x01a",
+    );
+    // Clean Start 0, Session Expiry Interval 4,294,967,295 and Receive Maximum 20
+    let told = b"\x10\x16\x00\x04MQTT\x05\x00\x00\x0a\x08\x11\xff\xff\xff\xff\x21\x00\x14\x00\x01a";
+    assert!(rt; node.inside().told.as_slice() == told.as_slice());
     drop(node);
 }

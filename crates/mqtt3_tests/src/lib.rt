@@ -6,4 +6,6 @@ mod clients;
 #[cfg(test)]
 mod packets;
 #[cfg(test)]
+mod pieces;
+#[cfg(test)]
 mod recorder;

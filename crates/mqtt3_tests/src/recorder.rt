@@ -1,9 +1,12 @@
 //! What stands behind the handler that translates, in these examples.
 
+ghost use Rattle.std.specs.Prelude.{◌≤◌, length};
+
 use broker_sockets::{BridgeHandler, Event, EventKind, Given, Handler, Output, PeerEvent};
 use std::alloc::Global;
 
-/// Keeps what it is told. It answers CONNECT by a CONNACK of MQTT 5.0 and PUBREL by PUBCOMP, and closes a connection on which 0 comes.
+/// Keeps what it is told. It answers each packet as a node would that takes everything, and closes a connection on which DISCONNECT or 0 comes. A topic has
+/// one byte there, a SUBSCRIBE one filter, and a packet less than 128 bytes. PUBLISH with identifier 255 is refused with reason code 0x97.
 pub struct Recorder {
     alloc: Global,
     pub told: Vec<u8>,
@@ -20,6 +23,17 @@ impl Drop for Recorder {
     }
 }
 
+/// How many of these bytes the first packet takes.
+fn size_of(bytes: &[u8]) -> usize
+    ensures { result ≤ length bytes.now }
+{
+    let size = match bytes {
+        [_, length, ..] => 2 + usize::from(*length),
+        _ => bytes.len(),
+    };
+    size.min(bytes.len())
+}
+
 /// No memory.
 #[derive(Debug, Drop, PartialEq, Eq)]
 pub struct Refused;
@@ -34,21 +48,46 @@ impl Recorder {
         }
     }
 
-    /// Keeps a piece, and answers its first packet.
+    /// Keeps a piece, and answers its packets.
     fn answer(&mut self, connection: u64, bytes: &[u8]) -> Result<Vec<Output>, Refused> {
         self.told.extend_from_slice(bytes).map_err(|_| Refused)?;
         self.pieces = self.pieces.wrapping_add(1);
         let mut outputs = Vec::new(self.alloc);
-        let output = match bytes {
-            [0x10, ..] => Some(self.send(connection, &[0x20, 3, 0, 0, 0])?),
-            [0x62, 2, high, low, ..] => Some(self.send(connection, &[0x70, 2, *high, *low])?),
-            [0, ..] => Some(Output::Close { connection }),
-            _ => None,
-        };
-        if let Some(output) = output {
-            outputs.push(output).map_err(|_| Refused)?;
+        let mut rest = bytes;
+        for _ in 0..bytes.len() {
+            let (packet, more) = rest.split_at(size_of(rest));
+            if let Some(output) = self.answer_to(connection, packet)? {
+                outputs.push(output).map_err(|_| Refused)?;
+            }
+            rest = more;
         }
         Ok(outputs)
+    }
+
+    /// What answers one packet.
+    fn answer_to(&self, connection: u64, packet: &[u8]) -> Result<Option<Output>, Refused> {
+        let output = match packet {
+            [0x10, ..] => self.send(connection, &[0x20, 3, 0, 0, 0])?,
+            [0x32, _, 0, 1, _, high, low, ..] => self.acknowledge(connection, *high, *low)?,
+            [0x34, _, 0, 1, _, high, low, ..] => self.send(connection, &[0x50, 2, *high, *low])?,
+            [0x3c, _, 0, 1, _, high, low, ..] => self.send(connection, &[0x50, 2, *high, *low])?,
+            [0x62, 2, high, low, ..] => self.send(connection, &[0x70, 2, *high, *low])?,
+            [0x82, _, high, low, ..] => self.send(connection, &[0x90, 4, *high, *low, 0, 1])?,
+            [0xa2, _, high, low, ..] => self.send(connection, &[0xb0, 4, *high, *low, 0, 0])?,
+            [0xc0, ..] => self.send(connection, &[0xd0, 0])?,
+            [0, ..] => Output::Close { connection },
+            [0xe0, ..] => Output::Close { connection },
+            _ => return Ok(None),
+        };
+        Ok(Some(output))
+    }
+
+    /// PUBACK; with 0x97 for identifier 255.
+    fn acknowledge(&self, connection: u64, high: u8, low: u8) -> Result<Output, Refused> {
+        if high == 0 && low == 255 {
+            return self.send(connection, &[0x40, 3, 0, 255, 0x97]);
+        }
+        self.send(connection, &[0x40, 2, high, low])
     }
 
     fn send(&self, connection: u64, bytes: &[u8]) -> Result<Output, Refused> {

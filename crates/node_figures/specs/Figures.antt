@@ -8,7 +8,7 @@ use Rattle.replica_store.specs.Retained.{with_message}
 use Rattle.subscription_set.specs.Standing.{live}
 use Rattle.status_figures.specs.declared.figures.Figures.{Figures}
 use Rattle.status_figures.specs.declared.figures.LeftOut.{LeftOut}
-use Rattle.status_tally.specs.Tallying.{recent}
+use Rattle.status_tally.specs.Tallying.{ended_told, longest_turn, recent, refused_told}
 use Rattle.status_tally.specs.Views.{clients_of, total_of}
 use Rattle.status_tally.specs.declared.tally.Tally.{Tally}
 
@@ -20,18 +20,24 @@ left_out counts = record {
   lane_full = counts.lane_full;
   bad_frames = counts.bad_frames;
   frames_too_large = counts.frames_too_large;
+  tables_refused = counts.tables_refused;
 }
 
 -- the figures of a node of this name that runs since a moment, at another one, by what it holds and what was counted before it
 pub record AreFigures (own_name : List ℕ) (since at : ℕ) (n : NodeView) (h : HeldView) (tally : Tally) (f : Figures) : Type 0 where
   pub name : string_bytes f.name ≡ own_name
   pub number : f.number ≡ n.place.id
+  pub table : f.table ≡ n.homes.version
   pub uptime : f.uptime ≡ at - since
   pub clients : f.clients ≡ clients_of tally
   pub sessions : f.sessions ≡ fin_map.len h.sessions
   pub subscriptions : f.subscriptions ≡ length (live h.store.subscriptions)
   pub retained : f.retained ≡ length (with_message (fin_map.entries h.store.retained))
+  pub topics : f.topics ≡ fin_map.len h.store.retained
+  pub longest_turn : f.longest_turn ≡ longest_turn at tally
+  pub refused : f.refused.items ≡ refused_told tally
+  pub ended : f.ended.items ≡ ended_told tally
   pub missed : f.left_out ≡ left_out h.counts
   pub total : f.total ≡ total_of tally
   pub last_seconds : f.recent ≡ recent at tally
-  pub peers : map seen f.peers.items ≡ map (peer_at n.homes h tally) (others n.place.id (length n.homes.nodes))
+  pub peers : map seen f.peers.items ≡ map (peer_at n.homes h tally since at) (others n.place.id (length n.homes.nodes))

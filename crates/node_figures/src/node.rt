@@ -22,6 +22,7 @@ fn left_out(counts: &Counts) -> LeftOut
         lane_full: counts.lane_full,
         bad_frames: counts.bad_frames,
         frames_too_large: counts.frames_too_large,
+        tables_refused: counts.tables_refused,
     }
 }
 
@@ -38,16 +39,23 @@ pub fn figures_of(
     ensures { IfOk result (λ figures. (h : HeldView) → node.now.up ≡ Some h → AreFigures name.now since at node.now h tally.now figures) }
 {
     let name = String::from_str(alloc, name)?;
-    let peers = peers_of(alloc, node, tally)?;
+    let peers = peers_of(alloc, node, tally, since, at)?;
+    let refused = tally.refused(alloc)?;
+    let ended = tally.ended(alloc)?;
     let store = node.store();
     Ok(Figures {
         name,
         number: node.id(),
+        table: node.homes().version(),
         uptime: at.saturating_sub(since),
         clients: tally.clients(),
         sessions: node.sessions() as u64,
         subscriptions: store.subscriptions().live_count() as u64,
         retained: store.retained().messages() as u64,
+        topics: store.retained().len() as u64,
+        longest_turn: tally.longest_turn(at),
+        refused,
+        ended,
         left_out: left_out(&node.counts()),
         total: tally.total(),
         recent: tally.recent(at),

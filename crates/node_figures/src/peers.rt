@@ -2,7 +2,7 @@
 
 ghost use Rattle.std.specs.Prelude.{◌≡◌, ◌<◌, Some, IfOk, length, map};
 ghost use Rattle.std.specs.Option.{option_copied};
-ghost use Rattle.node_figures.specs.Peers.{lacking_by, lacking_of, others, peer_at, seen, waiting_of};
+ghost use Rattle.node_figures.specs.Peers.{away_by, lacking_by, lacking_of, missing_by, missing_of, others, peer_at, seen, waiting_of};
 ghost use Rattle.node_work.specs.View.{HeldView};
 
 use broker_node::Node;
@@ -10,7 +10,7 @@ use causal_context::Context;
 use dot_counts::count_lacking;
 use mqtt_fields::NoMemory;
 use status_figures::Peer;
-use status_tally::Tally;
+use status_tally::{Link, Tally};
 use std::alloc::Global;
 
 /// How many dots of these aren't known of, where these are known, or where nothing is.
@@ -30,31 +30,79 @@ fn lacking_of(alloc: Global, node: &Node, number: u16) -> Result<u64, NoMemory>
     count_of(alloc, node.store().taken(), node.belief(number))
 }
 
-/// What is told of another node, which goes by the address of its bridge.
-fn peer_of(alloc: Global, node: &Node, tally: &Tally, number: u16) -> Result<Peer, NoMemory>
+/// How many dots are known of that aren't of these.
+fn missing_by(taken: &Context, known: Option<&Context>) -> Result<u64, NoMemory>
+    ensures { IfOk result (λ count. count ≡ missing_by taken.now (option_copied known.entry)) }
+{
+    match known {
+        Some(known) => count_lacking(known, taken),
+        None => Ok(0),
+    }
+}
+
+/// How many operations another node is known to have that a node hasn't taken.
+fn missing_of(node: &Node, number: u16) -> Result<u64, NoMemory>
+    ensures { IfOk result (λ count. (h : HeldView) → node.now.up ≡ Some h → count ≡ missing_of h number) }
+{
+    missing_by(node.store().taken(), node.belief(number))
+}
+
+/// For how many milliseconds there has been no link, at a node that runs since a moment.
+fn away_by(since: u64, at: u64, link: Link) -> u64
+    ensures { result ≡ away_by since at link }
+{
+    if link.up {
+        0
+    } else {
+        at.saturating_sub(link.since.max(since))
+    }
+}
+
+/// What is told of another node.
+fn peer_of(
+    alloc: Global,
+    node: &Node,
+    tally: &Tally,
+    since: u64,
+    at: u64,
+    number: u16,
+) -> Result<Peer, NoMemory>
     requires { number < length node.now.homes.nodes }
-    ensures { IfOk result (λ peer. (h : HeldView) → node.now.up ≡ Some h → seen peer ≡ peer_at node.now.homes h tally.now number) }
+    ensures { IfOk result (λ peer. (h : HeldView) → node.now.up ≡ Some h → seen peer ≡ peer_at node.now.homes h tally.now since at number) }
 {
     let lacking = lacking_of(alloc, node, number)?;
-    let name = String::from_str(alloc, node.homes().bridge(number))?;
+    let missing = missing_of(node, number)?;
+    let name = String::from_str(alloc, node.homes().name(number))?;
+    let bridge = String::from_str(alloc, node.homes().bridge(number))?;
+    let link = tally.link(number);
     Ok(Peer {
         name,
         number,
-        linked: tally.is_linked(number),
+        bridge,
+        linked: link.up,
+        away: away_by(since, at, link),
+        heard: link.is_heard(at),
         lacking,
+        missing,
         waiting: node.waiting(number) as u64,
     })
 }
 
 /// What is told of the other nodes, by their numbers.
-pub(crate) fn peers_of(alloc: Global, node: &Node, tally: &Tally) -> Result<Vec<Peer>, NoMemory>
+pub(crate) fn peers_of(
+    alloc: Global,
+    node: &Node,
+    tally: &Tally,
+    since: u64,
+    at: u64,
+) -> Result<Vec<Peer>, NoMemory>
     ensures { IfOk result (λ peers. (h : HeldView) → node.now.up ≡ Some h
-        → map seen peers.items ≡ map (peer_at node.now.homes h tally.now) (others node.now.place.id (length node.now.homes.nodes))) }
+        → map seen peers.items ≡ map (peer_at node.now.homes h tally.now since at) (others node.now.place.id (length node.now.homes.nodes))) }
 {
     let mut peers = Vec::new(alloc);
     for number in 0..node.homes().nodes() {
         if number != node.id() {
-            peers.push(peer_of(alloc, node, tally, number)?)?;
+            peers.push(peer_of(alloc, node, tally, since, at, number)?)?;
         }
     }
     Ok(peers)

@@ -10,7 +10,7 @@ use Rattle.mqtt_sessions.specs.Saved.{durable_of}
 use Rattle.node_keeper.specs.Keeping.{RowsAreKept, AreLasting, AreOfNone, HaveOneVersion, HoldsWhatLasts, LastsIn, OpeningKeepsWhatLasts, OpensFromRows, are_raised, given_mark, marked_or_raised, may_be_raised, may_be_marked, only_mark}
 use Rattle.node_rows.specs.Reading.{IsLasting, Say, SayNothing}
 use Rattle.node_rows.specs.Sessions.{opened_seat}
-use Rattle.node_rows.specs.Versions.{AreFirst, Raise, raised_all, raised_content}
+use Rattle.node_rows.specs.Versions.{AreOlder, Raise, raised_all, raised_content}
 use Rattle.node_rows.proofs.OneNode.{two_marks}
 use Rattle.node_rows.proofs.Raising.{not_both}
 use Rattle.node_rows.specs.Rows.{Lasting, mark, mark_key, node_row}
@@ -89,10 +89,10 @@ some_row id old c (inl m) none =
     cc (here, gone)
 some_row id old c (inr m) none = m.0 (sym m.1 ∙ none)
 
--- ---- rows of version 1
+-- ---- rows of older versions
 
--- the mark of a new node is of version 2
-new_mark : (id : ℕ) (c : Content) → c ≡ only_mark id → ¬ AreFirst (map.entries c)
+-- the mark of a new node is of version 3
+new_mark : (id : ℕ) (c : Content) → c ≡ only_mark id → ¬ AreOlder (map.entries c)
 new_mark id c is = not_both id 0 (map.entries c) (sym (get-entries c mark_key) ∙ ap (λ (x : Content). map.get x mark_key) is ∙ get-insert keys_total map.empty mark_key (mark id 0) mark_key)
 
 pub raised_after : (rows : List Row) (c : Content) (changes : List Change) → map_list entry_of rows ≡ map.entries c → Raise (map_list entry_of rows) changes → after_all c changes ≡ raised_content c
@@ -101,11 +101,11 @@ raised_after rows c changes is raise =
     same_map keys_total exact_keys (after_all c changes) (raised_content c)
     (λ key. changes_leave c changes key ∙ ap (left_or (left_by changes key)) (get-entries c key) ∙ sym (lead key) ∙ sym (get-from_entries keys_total (raised_all (map.entries c)) key))
 
-pub stays_first : (rows : List Row) (c : Content) → map_list entry_of rows ≡ map.entries c → AreFirst (map_list entry_of rows) → AreFirst (map.entries c)
-stays_first rows c is first = subst AreFirst is first
+pub stays_older : (rows : List Row) (c : Content) → map_list entry_of rows ≡ map.entries c → AreOlder (map_list entry_of rows) → AreOlder (map.entries c)
+stays_older rows c is first = subst AreOlder is first
 
-pub not_first : (rows : List Row) (c : Content) → map_list entry_of rows ≡ map.entries c → (AreFirst (map_list entry_of rows) → ⊥) → ¬ AreFirst (map.entries c)
-not_first rows c is not first = not (subst AreFirst (sym is) first)
+pub not_older : (rows : List Row) (c : Content) → map_list entry_of rows ≡ map.entries c → (AreOlder (map_list entry_of rows) → ⊥) → ¬ AreOlder (map.entries c)
+not_older rows c is not first = not (subst AreOlder (sym is) first)
 
 -- the rows that were there are marked, and then raised
 pub both : (id : ℕ) (old mid new : Content) → given_mark id old mid → are_raised mid new → marked_or_raised id old new
@@ -117,7 +117,7 @@ pub may_be_both : (id : ℕ) (old mid new : Content) → given_mark id old mid �
 may_be_both id old mid new m (inl e) = inl (subst (may_be_marked id old) (sym e) (marked_may id old mid m))
 may_be_both id old mid new m (inr (inr r)) = inl (subst (may_be_marked id old) (sym r.1) (marked_may id old mid m))
 may_be_both id old mid new (inl m) (inr (inl r)) = absurd (new_mark id mid m.1 r.0)
-may_be_both id old mid new (inr m) (inr (inl r)) = inr (subst (λ (c : Content). AreFirst (map.entries c) × (new ≡ raised_content c)) m.1 r)
+may_be_both id old mid new (inr m) (inr (inl r)) = inr (subst (λ (c : Content). AreOlder (map.entries c) × (new ≡ raised_content c)) m.1 r)
 
 -- ---- what they say
 
@@ -126,10 +126,10 @@ raised_rows c rows is key = ap (λ (es : List Plain). map.get {R = key_cmp} (map
 
 say_lasting : (p : Place) (rows : List Row) (mid c : Content) (x : Lasting) → ¬ (mid ≡ map.empty) → map_list entry_of rows ≡ map.entries mid → are_raised mid c → IsLasting p.id (nodes_of p) x → Say rows p.id x → AreLasting p c x
 say_lasting p rows mid c x some is r can (inl (inl new)) = absurd (some (none_loaded rows mid new.0 is))
-say_lasting p rows mid c x some is (inl r) can (inl (inr are)) = absurd (two_marks p.id rows x are (subst AreFirst (sym is) r.0))
+say_lasting p rows mid c x some is (inl r) can (inl (inr are)) = absurd (two_marks p.id rows x are (subst AreOlder (sym is) r.0))
 say_lasting p rows mid c x some is (inr r) can (inl (inr are)) = (can, λ key. ap (λ (m : Content). map.get m key) r.1 ∙ sym (get_loaded rows mid is key) ∙ are.are key)
-say_lasting p rows mid c x some is (inl r) can (inr first) = (can, λ key. ap (λ (m : Content). map.get m key) r.1 ∙ raised_rows mid rows is key ∙ first.are key)
-say_lasting p rows mid c x some is (inr r) can (inr first) = absurd (r.0 (subst AreFirst is first.first))
+say_lasting p rows mid c x some is (inl r) can (inr older) = (can, λ key. ap (λ (m : Content). map.get m key) r.1 ∙ raised_rows mid rows is key ∙ older.are key)
+say_lasting p rows mid c x some is (inr r) can (inr older) = absurd (r.0 (subst AreOlder is older.older))
 
 pub opens : (id : ℕ) (homes : Table) (rows : List Row) (old mid c : Content) (n : NodeView) → given_mark id old mid → map_list entry_of rows ≡ map.entries mid → are_raised mid c → IsOpenedFrom rows id homes n
     → OpensFromRows (place_of id homes) homes old c n
@@ -143,7 +143,7 @@ none_have p rows c is nothing x (inl are) =
     nothing x are.0 (inl (inr (record { rise = subst (λ es. T (map.is_sorted key_cmp es)) (sym is) (entries_sorted c); are = λ key. get_loaded rows c is key ∙ are.1 key })))
 none_have p rows c is nothing x (inr are) =
     nothing x are.0 (inr (record {
-      first = subst AreFirst (sym is) are.1;
+      older = subst AreOlder (sym is) are.1;
       rise = subst (λ es. T (map.is_sorted key_cmp es)) (sym is) (entries_sorted c);
       are = λ key. sym (raised_rows c rows is key) ∙ are.2 key;
     }))
@@ -156,10 +156,10 @@ has_mark p c x are none =
     let gone : map.get c mark_key ≡ None = ap (λ (y : Content). map.get y mark_key) none ∙ get-empty key_cmp mark_key in
     cc (here, gone)
 
-has_first : (c : Content) → AreFirst (map.entries c) → ¬ (c ≡ map.empty)
-has_first c first none = by (map.entries c) first (sym (len-entries c) ∙ ap map.len none ∙ map.len-empty key_cmp (List ℕ))
+has_older : (c : Content) → AreOlder (map.entries c) → ¬ (c ≡ map.empty)
+has_older c first none = by (map.entries c) first (sym (len-entries c) ∙ ap map.len none ∙ map.len-empty key_cmp (List ℕ))
   where
-    by : (rows : List Plain) → AreFirst rows → length rows ≡ 0 → ⊥
+    by : (rows : List Plain) → AreOlder rows → length rows ≡ 0 → ⊥
     by [] first few = first
     by (row ∷ rows) first few = absurd (omega (arith, few))
 
@@ -169,6 +169,6 @@ have_one_version p rows x y are first = not_both p.id x.named (map.entries rows)
 pub opening_keeps : OpeningKeepsWhatLasts
 opening_keeps p rows rows' x (inl (inl same)) lasts = subst (λ (c : Content). LastsIn p c x) (sym same) lasts
 opening_keeps p rows rows' x (inl (inr marked_or_raised)) (inl are) = absurd (has_mark p rows x are marked_or_raised.0)
-opening_keeps p rows rows' x (inl (inr marked_or_raised)) (inr first) = absurd (has_first rows first.1 marked_or_raised.0)
+opening_keeps p rows rows' x (inl (inr marked_or_raised)) (inr older) = absurd (has_older rows older.1 marked_or_raised.0)
 opening_keeps p rows rows' x (inr raised) (inl are) = absurd (not_both p.id x.named (map.entries rows) (sym (get-entries rows mark_key) ∙ are.1 mark_key) raised.0)
-opening_keeps p rows rows' x (inr raised) (inr first) = inl (first.0, λ key. ap (λ (c : Content). map.get c key) raised.1 ∙ first.2 key)
+opening_keeps p rows rows' x (inr raised) (inr older) = inl (older.0, λ key. ap (λ (c : Content). map.get c key) raised.1 ∙ older.2 key)

@@ -10,7 +10,7 @@ use Rattle.node_keeper.specs.declared.fault.KeeperFault.{KeeperFault}
 use Rattle.node_keeper.specs.declared.fault.KeeperFault.TheVariants.{NoMemory, Rows, NumbersAtEnd, Stopped}
 use Rattle.node_rows.specs.Reading.{IsLasting}
 use Rattle.node_rows.specs.Rows.{Lasting, mark, mark_key, node_row}
-use Rattle.node_rows.specs.Versions.{AreFirst, raised_content}
+use Rattle.node_rows.specs.Versions.{AreOlder, raised_content}
 use Rattle.node_work.specs.Lasting.{IsWoken, held_row}
 use Rattle.node_work.specs.View.{HeldView, NodeView, Place, nodes_of}
 use Rattle.node_work.specs.declared.outcome.Output.{Output}
@@ -33,13 +33,13 @@ RowsAreKept n c = (h : HeldView) → n.up ≡ Some h → AreOf n.place c h
 abbrev pub AreLasting : Place → Content → Lasting → Type 0
 AreLasting p c x = IsLasting p.id (nodes_of p) x × ((key : Key) → map.get c key ≡ node_row p.id x key)
 
--- they are those in version 1: in version 2 they are its rows
-abbrev pub AreFirstLasting : Place → Content → Lasting → Type 0
-AreFirstLasting p c x = IsLasting p.id (nodes_of p) x × AreFirst (map.entries c) × ((key : Key) → map.get (raised_content c) key ≡ node_row p.id x key)
+-- they are those in version 1 or 2: in version 3 they are its rows
+abbrev pub AreOlderLasting : Place → Content → Lasting → Type 0
+AreOlderLasting p c x = IsLasting p.id (nodes_of p) x × AreOlder (map.entries c) × ((key : Key) → map.get (raised_content c) key ≡ node_row p.id x key)
 
--- in either
+-- in any version
 abbrev pub LastsIn : Place → Content → Lasting → Type 0
-LastsIn p c x = AreLasting p c x ⊎ AreFirstLasting p c x
+LastsIn p c x = AreLasting p c x ⊎ AreOlderLasting p c x
 
 -- no such node has these rows
 abbrev pub AreOfNone : Place → Content → Type 0
@@ -123,15 +123,15 @@ pub record HoldsWhatLasts (p : Place) (homes : Table) (rows : Content) (n : Node
 abbrev pub only_mark : ℕ → Content
 only_mark id = map.insert map.empty mark_key (mark id 0)
 
--- rows of version 1 in version 2, and others as they are
+-- rows of version 1 or 2 in version 3, and others as they are
 abbrev pub are_raised : Content → Content → Type 0
-are_raised rows rows' = (AreFirst (map.entries rows) × (rows' ≡ raised_content rows)) ⊎ ((¬ AreFirst (map.entries rows)) × (rows' ≡ rows))
+are_raised rows rows' = (AreOlder (map.entries rows) × (rows' ≡ raised_content rows)) ⊎ ((¬ AreOlder (map.entries rows)) × (rows' ≡ rows))
 
 -- the rows of a node: where there are none, its mark
 abbrev pub given_mark : ℕ → Content → Content → Type 0
 given_mark id rows rows' = ((rows ≡ map.empty) × (rows' ≡ only_mark id)) ⊎ ((¬ (rows ≡ map.empty)) × (rows' ≡ rows))
 
--- the rows with which a node is opened: where there are none, its mark; and in version 2
+-- the rows with which a node is opened: where there are none, its mark; and in version 3
 abbrev pub marked_or_raised : ℕ → Content → Content → Type 0
 marked_or_raised id rows rows' = ((rows ≡ map.empty) × (rows' ≡ only_mark id)) ⊎ ((¬ (rows ≡ map.empty)) × are_raised rows rows')
 
@@ -141,9 +141,9 @@ may_be_marked id rows rows' = (rows' ≡ rows) ⊎ ((rows ≡ map.empty) × (row
 
 -- what a crash leaves while a node is opened
 abbrev pub may_be_raised : ℕ → Content → Content → Type 0
-may_be_raised id rows rows' = may_be_marked id rows rows' ⊎ (AreFirst (map.entries rows) × (rows' ≡ raised_content rows))
+may_be_raised id rows rows' = may_be_marked id rows rows' ⊎ (AreOlder (map.entries rows) × (rows' ≡ raised_content rows))
 
--- the node is opened: it has the rows in version 2, and its mark where there were none
+-- the node is opened: it has the rows in version 3, and its mark where there were none
 pub record OpensFromRows (p : Place) (homes : Table) (rows rows' : Content) (n : NodeView) : Type 0 where
   pub mark : marked_or_raised p.id rows rows'
   pub reopened : HoldsWhatLasts p homes rows' n
@@ -151,10 +151,10 @@ pub record OpensFromRows (p : Place) (homes : Table) (rows rows' : Content) (n :
 
 -- ---- laws
 
--- rows that a crash leaves while a node is opened say what they said, in either version
+-- rows that a crash leaves while a node is opened say what they said, in any version
 abbrev pub OpeningKeepsWhatLasts : Type 0
 OpeningKeepsWhatLasts = (p : Place) (rows rows' : Content) (x : Lasting) → may_be_raised p.id rows rows' → LastsIn p rows x → LastsIn p rows' x
 
--- rows are of one version
+-- rows aren't of version 3 and of an older one
 abbrev pub HaveOneVersion : Type 0
-HaveOneVersion = (p : Place) (rows : Content) (x y : Lasting) → AreLasting p rows x → AreFirstLasting p rows y → ⊥
+HaveOneVersion = (p : Place) (rows : Content) (x y : Lasting) → AreLasting p rows x → AreOlderLasting p rows y → ⊥

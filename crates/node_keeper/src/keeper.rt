@@ -60,7 +60,7 @@ impl<R: RowStore> Keeper<R> {
     ghost use Rattle.node_keeper.specs.Views.{node_of, rows_of};
 
     /// Opens a node from its rows: its table of homes, and its number. Where there are no rows it first writes the mark, and
-    /// rows of version 1 it writes as rows of version 2 before it answers. A fault gives the rows back; they are what they
+    /// rows of version 1 or 2 it writes as rows of version 3 before it answers. A fault gives the rows back; they are what they
     /// were, but for the mark.
     pub fn open(
         alloc: Global,

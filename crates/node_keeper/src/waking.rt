@@ -9,7 +9,7 @@ ghost use Rattle.row_store.specs.Rows.{Content, entry_of};
 
 use broker_node::Node;
 use home_table::HomeTable;
-use node_rows::{are_first, mark_row, raise};
+use node_rows::{are_older, mark_row, raise};
 use row_store::{Change, Row, RowFault, RowStore};
 use std::alloc::Global;
 
@@ -53,7 +53,7 @@ fn load_marked<R: RowStore>(alloc: Global, rows: &mut R, id: u16) -> Result<Vec<
     rows.load()
 }
 
-/// Writes rows of version 1 as rows of version 2, and leaves others as they are. `loaded` are the rows that the store has.
+/// Writes rows of version 1 or 2 as rows of version 3, and leaves others as they are. `loaded` are the rows that the store has.
 fn write_raised<R: RowStore>(alloc: Global, rows: &mut R, loaded: &[Row]) -> Result<(), RowFault>
     ensures ok { R.is_clean rows.new → R.is_open rows.old → map entry_of loaded.now ≡ entries (R.content rows.old)
         → OnOk result (R.is_open rows.new × are_raised (R.content rows.old) (R.content rows.new)) }
@@ -66,7 +66,7 @@ fn write_raised<R: RowStore>(alloc: Global, rows: &mut R, loaded: &[Row]) -> Res
     ensures was_clean { R.is_clean rows.new → R.is_clean rows.old }
     ensures was_open { R.is_clean rows.new → R.is_open rows.new → R.is_open rows.old }
 {
-    if !are_first(loaded) {
+    if !are_older(loaded) {
         return Ok(());
     }
     let Ok(changes) = raise(alloc, loaded) else {

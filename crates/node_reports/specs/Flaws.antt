@@ -6,11 +6,11 @@ use Rattle.row_store.specs.Rows.{Plain}
 use Rattle.node_reports.specs.declared.flaw.Flaw.{Flaw}
 use Rattle.node_reports.specs.declared.flaw.Flaw.TheVariants.{NoMark, OtherVersion, OtherNode, Unsound}
 
--- a mark of node `id` says version 1 or 2 and its number
+-- a mark of node `id` says version 1, 2 or 3 and its number
 abbrev pub marked_flaw : ℕ → Option (ℕ × (ℕ × ℕ)) → Flaw
 marked_flaw id None = NoMark
 marked_flaw id (Some (version, (node, named))) =
-    if not (version == 1) && not (version == 2) then OtherVersion version
+    if not (version == 1) && not (version == 2) && not (version == 3) then OtherVersion version
     else if not (node == id) then OtherNode node
     else Unsound
 

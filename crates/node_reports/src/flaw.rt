@@ -56,7 +56,7 @@ fn marked_flaw(mark: Option<(u16, u16, u64)>, id: u16) -> Flaw
 {
     match mark {
         Some((version, node, _)) => {
-            if version != 1 && version != 2 {
+            if version != 1 && version != 2 && version != 3 {
                 Flaw::OtherVersion(version)
             } else if node != id {
                 Flaw::OtherNode(node)

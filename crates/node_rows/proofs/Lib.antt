@@ -1,4 +1,5 @@
 mod Lists
+mod Placing
 pub mod Raising
 mod Clients
 mod Cuts

@@ -16,7 +16,7 @@ use Rattle.session_rows.specs.Rows.{main_key, copy_rows, rows_of}
 use Rattle.session_rows.proofs.DurableLaws.{durable_again, whole_again}
 use Rattle.replica_rows.proofs.OneStore.{one_store}
 use Rattle.node_rows.specs.Reading.{AreNodeRows, IsLasting, RowsTellAll, SayOneThing}
-use Rattle.node_rows.specs.Versions.{AreFirst}
+use Rattle.node_rows.specs.Versions.{AreOlder}
 use Rattle.node_rows.specs.Rows.{Lasting, mark, mark_key, new_node, node_row, session_row}
 use Rattle.node_rows.proofs.Clients.{client_is, client_itself, copies_of, rows_rise, same_client}
 use Rattle.node_rows.proofs.Cuts.{copy_kind, last_row, no_high_row, no_low_row, other_row, own_kind}
@@ -137,20 +137,20 @@ no_mark : (id : ℕ) (rows : List Row) (x : Lasting) → rows ≡ [] → AreNode
 no_mark id rows x none are = (let other : None ≡ Some (mark id x.named) = sym (map.get-from_entries keys_total [] mark_key) ∙ ap (λ (es : List Row). map.get (content_of es) mark_key) (sym none) ∙ are.are mark_key in cc)
 
 -- the mark is of one version
-pub two_marks : (id : ℕ) (rows : List Row) (x : Lasting) → AreNodeRows rows id x → AreFirst (map_list entry_of rows) → ⊥
+pub two_marks : (id : ℕ) (rows : List Row) (x : Lasting) → AreNodeRows rows id x → AreOlder (map_list entry_of rows) → ⊥
 two_marks id rows x are first = not_both id x.named (map_list entry_of rows) (sym (map.get-from_entries keys_total (map_list entry_of rows) mark_key) ∙ are.are mark_key) first
 
-pub no_first : (rows : List Row) → rows ≡ [] → AreFirst (map_list entry_of rows) → ⊥
+pub no_first : (rows : List Row) → rows ≡ [] → AreOlder (map_list entry_of rows) → ⊥
 no_first [] none first = first
 no_first (row ∷ rows) none first = absurd (cc)
 
 pub say_one_thing : SayOneThing
 say_one_thing nodes id rows x y a b (inl (inl h)) (inl (inl k)) = h.1 ∙ ap new_node (a.lanes.count ∙ sym b.lanes.count) ∙ sym k.1
 say_one_thing nodes id rows x y a b (inl (inl h)) (inl (inr are)) = absurd (no_mark id rows y h.0 are)
-say_one_thing nodes id rows x y a b (inl (inl h)) (inr first) = absurd (no_first rows h.0 first.first)
+say_one_thing nodes id rows x y a b (inl (inl h)) (inr older) = absurd (no_first rows h.0 older.older)
 say_one_thing nodes id rows x y a b (inl (inr are)) (inl (inl k)) = absurd (no_mark id rows x k.0 are)
 say_one_thing nodes id rows x y a b (inl (inr are)) (inl (inr also)) = rows_tell_all nodes id x y a b (λ key. sym (are.are key) ∙ also.are key)
-say_one_thing nodes id rows x y a b (inl (inr are)) (inr first) = absurd (two_marks id rows x are first.first)
-say_one_thing nodes id rows x y a b (inr first) (inl (inl k)) = absurd (no_first rows k.0 first.first)
-say_one_thing nodes id rows x y a b (inr first) (inl (inr are)) = absurd (two_marks id rows y are first.first)
-say_one_thing nodes id rows x y a b (inr first) (inr also) = rows_tell_all nodes id x y a b (λ key. sym (first.are key) ∙ also.are key)
+say_one_thing nodes id rows x y a b (inl (inr are)) (inr older) = absurd (two_marks id rows x are older.older)
+say_one_thing nodes id rows x y a b (inr older) (inl (inl k)) = absurd (no_first rows k.0 older.older)
+say_one_thing nodes id rows x y a b (inr older) (inl (inr are)) = absurd (two_marks id rows y are older.older)
+say_one_thing nodes id rows x y a b (inr older) (inr also) = rows_tell_all nodes id x y a b (λ key. sym (older.are key) ∙ also.are key)

@@ -21,7 +21,7 @@ use Rattle.subscription_set.specs.Standing.{seen_of}
 use Rattle.node_rows.specs.declared.reading.Opened.{Opened}
 use Rattle.node_rows.specs.Rows.{Lasting, mark, mark_key, new_node, node_row}
 use Rattle.node_rows.specs.Sessions.{opened_seat}
-use Rattle.node_rows.specs.Versions.{AreFirstRows}
+use Rattle.node_rows.specs.Versions.{AreOlderRows}
 
 -- ---- what can last
 
@@ -56,19 +56,19 @@ pub record AreNodeRows (rows : List Row) (id : ℕ) (x : Lasting) : Type 0 where
   pub rise : T (map.is_sorted key_cmp (map_list entry_of rows))
   pub are : (key : Key) → map.get (content_of rows) key ≡ node_row id x key
 
--- in version 2 they say this of node `id`; a node without rows is new
+-- in version 3 they say this of node `id`; a node without rows is new
 abbrev pub SayNow : List Row → ℕ → Lasting → Type 0
 SayNow rows id x = ((rows ≡ []) × (x ≡ new_node (length x.lanes))) ⊎ AreNodeRows rows id x
 
--- in version 1 or 2 they say this of node `id`
+-- in version 1, 2 or 3 they say this of node `id`
 abbrev pub Say : List Row → ℕ → Lasting → Type 0
-Say rows id x = SayNow rows id x ⊎ AreFirstRows rows id x
+Say rows id x = SayNow rows id x ⊎ AreOlderRows rows id x
 
--- no node `id` of a cluster of so many has these rows in version 2
+-- no node `id` of a cluster of so many has these rows in version 3
 abbrev pub SayNothingNow : List Row → ℕ → ℕ → Type 0
 SayNothingNow rows id nodes = (x : Lasting) → IsLasting id nodes x → SayNow rows id x → ⊥
 
--- nor in version 1
+-- nor in version 1 or 2
 abbrev pub SayNothing : List Row → ℕ → ℕ → Type 0
 SayNothing rows id nodes = (x : Lasting) → IsLasting id nodes x → Say rows id x → ⊥
 

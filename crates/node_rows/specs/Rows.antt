@@ -28,9 +28,9 @@ pub record Lasting : Type 0 where
 abbrev pub new_node : ℕ → Lasting
 new_node nodes = record { named = 0; sessions = λ _. None; store = nothing; lanes = new_lanes nodes }
 
--- kind 1, without owner and place: the version of the rows, which is 2, the node, and the last identifier's number
+-- kind 1, without owner and place: the version of the rows, which is 3, the node, and the last identifier's number
 abbrev pub mark : ℕ → ℕ → List ℕ
-mark id named = (number w16).bytes 2 ++ (number w16).bytes id ++ (number w64).bytes named
+mark id named = (number w16).bytes 3 ++ (number w16).bytes id ++ (number w64).bytes named
 
 -- the version, the node and the number in a mark
 abbrev pub marked : Field (ℕ × (ℕ × ℕ))

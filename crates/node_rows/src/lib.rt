@@ -12,4 +12,4 @@ pub mod versions;
 pub use among::{are_dots_among, is_state_among};
 pub use mark::mark_row;
 pub use reading::{Opened, open};
-pub use versions::{are_first, raise};
+pub use versions::{are_older, raise};

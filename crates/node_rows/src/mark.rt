@@ -14,7 +14,7 @@ use std::alloc::Global;
 pub const MARK: u8 = 1;
 
 /// The version of the rows.
-pub(crate) const VERSION: u16 = 2;
+pub(crate) const VERSION: u16 = 3;
 
 /// The row that says which node it is, and the number of the last client identifier that it gave.
 pub fn mark_row(alloc: Global, id: u16, named: u64) -> Result<Row, NoMemory>
@@ -55,7 +55,7 @@ pub(crate) fn whole_mark(bytes: &[u8]) -> Option<(u16, u16, u64)>
 }
 
 fn is_of(version: u16, node: u16, named: u64, id: u16) -> bool
-    ensures { IsTrue result ↔ (version ≡ 2) × (node ≡ id) × (named < 2 ^ 62) }
+    ensures { IsTrue result ↔ (version ≡ 3) × (node ≡ id) × (named < 2 ^ 62) }
 {
     version == VERSION && node == id && named < NUMBERS_END
 }

@@ -12,7 +12,7 @@ use crate::among::is_among;
 use crate::cut::cut;
 use crate::mark::named_in;
 use crate::sessions::read_sessions;
-use crate::versions::{are_first, raised_rows};
+use crate::versions::{are_older, raised_rows};
 use bridge_deltas::Links;
 use replica_rows::laws::is_store;
 use replica_store::{ReplicaStore, StoreFault};
@@ -85,7 +85,7 @@ fn opened_new(alloc: Global, id: u16, nodes: u16) -> Result<Opened, RowFault>
     })
 }
 
-// Reads rows of version 2 that rise, cut by their kinds.
+// Reads rows of version 3 that rise, cut by their kinds.
 fn read(alloc: Global, rows: &[Row], id: u16, nodes: u16) -> Result<Opened, RowFault>
     requires { T (map.is_sorted key_cmp (map_list entry_of rows.now)) }
     ensures { Recovers (λ o. (x : Lasting) × IsLasting id nodes x × SayNow rows.now id x × IsOpened id nodes x o) (SayNothingNow rows.now id nodes) result }
@@ -108,12 +108,12 @@ fn read(alloc: Global, rows: &[Row], id: u16, nodes: u16) -> Result<Opened, RowF
     })
 }
 
-// Reads rows of version 1 or 2 that rise.
+// Reads rows of any version that rise.
 fn read_either(alloc: Global, rows: &[Row], id: u16, nodes: u16) -> Result<Opened, RowFault>
     requires { T (map.is_sorted key_cmp (map_list entry_of rows.now)) }
     ensures { Recovers (λ o. (x : Lasting) × IsLasting id nodes x × Say rows.now id x × IsOpened id nodes x o) (SayNothing rows.now id nodes) result }
 {
-    if !are_first(rows) {
+    if !are_older(rows) {
         return read(alloc, rows, id, nodes);
     }
     let Ok(raised) = raised_rows(alloc, rows) else {
@@ -122,7 +122,7 @@ fn read_either(alloc: Global, rows: &[Row], id: u16, nodes: u16) -> Result<Opene
     read(alloc, &raised, id, nodes)
 }
 
-/// Reads the rows of node `id` of a cluster of `nodes` nodes, in the order of their keys, in version 1 or 2. A node without
+/// Reads the rows of node `id` of a cluster of `nodes` nodes, in the order of their keys, in version 1, 2 or 3. A node without
 /// rows is new.
 ///
 /// BadRow exactly where no such node has just these rows: there is no mark or one of another version or node, a key or value

@@ -1,4 +1,6 @@
 -- What sockets tell a node, as the node's events.
+use Rattle.std.specs.Prelude.{ℕ}
+use Rattle.home_table.specs.Table.{Table}
 use Rattle.broker_node.specs.declared.event.Event.{Event}
 use Rattle.broker_node.specs.declared.event.EventKind.{EventKind}
 use Rattle.broker_node.specs.declared.event.EventKind.TheVariants as kinds
@@ -28,3 +30,7 @@ peer_kind_of (peers.Ship peer) = kinds.Ship peer
 
 abbrev pub peer_event_of : PeerEvent → Event
 peer_event_of e = record { at = e.at; kind = peer_kind_of e.kind }
+
+-- a table of homes that it is given at a moment
+abbrev pub table_event : ℕ → Table → Event
+table_event at homes = record { at = at; kind = kinds.Table homes }

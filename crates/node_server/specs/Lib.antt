@@ -5,5 +5,6 @@ pub mod Outputs
 pub mod Peers
 pub mod Printing
 pub mod Serving
+pub mod Stack
 pub mod Status
 pub mod Views

@@ -1,15 +1,12 @@
 -- What a node has left out, as what a log tells of.
 use Rattle.std.specs.Prelude.{◌≡◌, ℕ, List, [], ◌∷◌, Option, Some}
-use Rattle.client_limits.specs.Views.{inside_of as node_behind}
-use Rattle.client_limits.specs.declared.limited.Limited.{Limited}
 use Rattle.client_log.specs.Answering.{IsFinished}
 use Rattle.client_log.specs.Views.{inside_of}
-use Rattle.client_log.specs.declared.logged.Logged.{Logged}
 use Rattle.log_lines.specs.declared.line.Loss.{Loss}
 use Rattle.log_lines.specs.declared.line.Loss.TheVariants.{QueueFull, RetainedFull, PicksLost, LaneFull, BadFrames, FramesTooLarge}
 use Rattle.node_batches.specs.Views.{node_in}
+use Rattle.node_server.specs.Stack.{LoggedNode, node_behind}
 use Rattle.node_server.specs.Views.{keeper_of}
-use Rattle.node_server.specs.declared.served.ServedNode.{ServedNode}
 use Rattle.node_work.specs.View.{HeldView}
 use Rattle.node_work.specs.declared.counts.Counts.{Counts}
 
@@ -20,8 +17,8 @@ losses_of counts =
     ∷ (BadFrames, counts.bad_frames) ∷ (FramesTooLarge, counts.frames_too_large) ∷ []
 
 -- the clock told a moment, and the log tells then what the node has left out, if that runs
-pub record ToldLosses {R E C : Type 0} (tells : C → ℕ → C → Type 0) (contents : E → Option (List ℕ)) (d : Logged (Limited (ServedNode R)) E) (clock : C)
-    (d' : Logged (Limited (ServedNode R)) E) (clock' : C) : Type 0 where
+pub record ToldLosses {R F G E C : Type 0} (tells : C → ℕ → C → Type 0) (contents : E → Option (List ℕ)) (d : LoggedNode R F G E) (clock : C)
+    (d' : LoggedNode R F G E) (clock' : C) : Type 0 where
   pub at : ℕ
   pub told : tells clock at clock'
   pub counts : Counts

@@ -1,26 +1,23 @@
 -- What is told of a node behind its doors.
 use Rattle.std.specs.Prelude.{◌≡◌, ℕ, Some, string_bytes}
-use Rattle.client_limits.specs.Views.{inside_of as node_behind}
-use Rattle.client_limits.specs.declared.limited.Limited.{Limited}
-use Rattle.client_log.specs.Views.{inside_of as bounded_in}
-use Rattle.client_log.specs.declared.logged.Logged.{Logged}
+use Rattle.client_log.specs.Views.{inside_of as limited_in}
 use Rattle.node_batches.specs.Views.{node_in}
 use Rattle.node_figures.specs.Figures.{AreFigures}
+use Rattle.node_server.specs.Stack.{TalliedNode, node_behind}
 use Rattle.node_server.specs.Views.{keeper_of}
 use Rattle.node_server.specs.declared.served.ServedNode.{ServedNode}
 use Rattle.node_server.specs.declared.status.NodeTeller.{NodeTeller}
 use Rattle.node_work.specs.View.{HeldView}
 use Rattle.status_figures.specs.declared.figures.Figures.{Figures}
 use Rattle.status_tally.specs.Views.{inside_of, tally_of}
-use Rattle.status_tally.specs.declared.tallied.Tallied.{Tallied}
 use Rattle.status_tally.specs.declared.tally.Tally.{Tally}
 
 -- the node behind its doors
-abbrev pub served_behind : {R E : Type 0} → Tallied (Logged (Limited (ServedNode R)) E) → ServedNode R
-served_behind d = node_behind (bounded_in (inside_of d))
+abbrev pub served_behind : {R F G E : Type 0} → TalliedNode R F G E → ServedNode R
+served_behind d = node_behind (limited_in (inside_of d))
 
 -- the door counts, and the figures are those of the node, if it runs, and of what was counted
-pub record IsTold {R E : Type 0} (teller : NodeTeller) (d : Tallied (Logged (Limited (ServedNode R)) E)) (at : ℕ) (figures : Figures) : Type 0 where
+pub record IsTold {R F G E : Type 0} (teller : NodeTeller) (d : TalliedNode R F G E) (at : ℕ) (figures : Figures) : Type 0 where
   pub tally : Tally
   pub counts : tally_of d ≡ Some tally
   pub are : (h : HeldView) → (node_in (keeper_of (served_behind d))).up ≡ Some h

@@ -1,10 +1,12 @@
 //! Why a run of a node ends before its end.
 
 ghost use Rattle.std.specs.Prelude.{◌≡◌};
-ghost use Rattle.node_server.specs.Faults.{of_limited, of_logged, of_mqtt3, of_node, of_turn};
+ghost use Rattle.node_server.specs.Faults.{of_bounded, of_limited, of_logged, of_mqtt3, of_node, of_turn};
 
+use crate::stack::{BoundedNodeFault, LimitedNodeFault, LoggedNodeFault, NodeFault};
 use broker_stop::RunFault;
 use broker_turns::TurnFault;
+use client_bounds::BoundedFault;
 use client_limits::LimitedFault;
 use client_log::LoggedFault;
 use mqtt3_handler::Mqtt3Fault;
@@ -22,18 +24,28 @@ pub(crate) fn of_node(fault: KeeperFault) -> RunFault
     }
 }
 
-/// A fault of the node behind its door, as one of the run.
-pub(crate) fn of_limited(fault: LimitedFault<KeeperFault>) -> RunFault
+/// A fault of the node behind limits on what clients send, as one of the run.
+pub(crate) fn of_bounded(fault: BoundedNodeFault) -> RunFault
+    ensures { result ≡ of_bounded fault }
+{
+    match fault {
+        BoundedFault::NoMemory => RunFault::NoMemory,
+        BoundedFault::Inside(fault) => of_node(fault),
+    }
+}
+
+/// A fault of the node behind limits on clients, as one of the run.
+pub(crate) fn of_limited(fault: LimitedNodeFault) -> RunFault
     ensures { result ≡ of_limited fault }
 {
     match fault {
         LimitedFault::NoMemory => RunFault::NoMemory,
-        LimitedFault::Inside(fault) => of_node(fault),
+        LimitedFault::Inside(fault) => of_bounded(fault),
     }
 }
 
-/// A fault of the node behind both doors, as one of the run.
-pub(crate) fn of_logged(fault: LoggedFault<LimitedFault<KeeperFault>>) -> RunFault
+/// A fault of the node behind its log, as one of the run.
+pub(crate) fn of_logged(fault: LoggedNodeFault) -> RunFault
     ensures { result ≡ of_logged fault }
 {
     match fault {
@@ -43,7 +55,7 @@ pub(crate) fn of_logged(fault: LoggedFault<LimitedFault<KeeperFault>>) -> RunFau
 }
 
 /// A fault of the node behind all handlers, as one of the run.
-pub(crate) fn of_mqtt3(fault: Mqtt3Fault<LoggedFault<LimitedFault<KeeperFault>>>) -> RunFault
+pub(crate) fn of_mqtt3(fault: NodeFault) -> RunFault
     ensures { result ≡ of_mqtt3 fault }
 {
     match fault {
@@ -53,9 +65,7 @@ pub(crate) fn of_mqtt3(fault: Mqtt3Fault<LoggedFault<LimitedFault<KeeperFault>>>
 }
 
 /// A fault of a turn, as one of the run.
-pub(crate) fn of_turn(
-    fault: TurnFault<Mqtt3Fault<LoggedFault<LimitedFault<KeeperFault>>>>,
-) -> RunFault
+pub(crate) fn of_turn(fault: TurnFault<NodeFault>) -> RunFault
     ensures { result ≡ of_turn fault }
 {
     match fault {

@@ -7,8 +7,12 @@ mod losses;
 mod peers;
 mod run;
 mod served;
+mod stack;
 mod status;
+mod tables;
+mod watchers;
 
-pub use run::serve;
+pub use run::{ListenAt, serve};
 pub use served::ServedNode;
+pub use stack::{BoundedNode, LimitedNode, LoggedNode, TabledNode, TalliedNode, ToldNode};
 pub use status::{NodeTeller, StatusPlace};

@@ -1,6 +1,6 @@
 //! A run of a node over sockets.
 
-ghost use Rattle.std.specs.Prelude.{◌≡◌, ◌++◌, ◌<◌, ◌≤◌, length, is_some, IfOk, OnOk};
+ghost use Rattle.std.specs.Prelude.{◌≡◌, ◌++◌, ◌<◌, ◌≤◌, length, is_some, None, IfOk, OnOk};
 ghost use Rattle.std.specs.Io.KnownBytes.{Appends};
 ghost use Rattle.node_server.specs.Losses.{ToldLosses};
 ghost use Rattle.node_server.specs.Peers.{ArePeers};
@@ -10,13 +10,17 @@ use crate::fault::{of_node, of_turn};
 use crate::losses::losses_of;
 use crate::peers::peers_of;
 use crate::served::ServedNode;
+use crate::stack::LoggedNode;
 use crate::status::{NodeTeller, StatusPlace, open_desk};
+use crate::watchers::Watchers;
 use broker_sockets::{Clock, Readiness, Sockets, bind};
 use broker_stop::RunFault;
 use broker_turns::{Hub, Setting};
+use client_bounds::{BoundLimits, Bounded};
 use client_limits::{Limited, Limits};
 use client_log::Logged;
 use home_table::HomeTable;
+use memory_gauge::Gauge;
 use mqtt_fields::NoMemory;
 use mqtt3_handler::Mqtt3;
 use node_keeper::Keeper;
@@ -25,22 +29,48 @@ use status_door::{OpenDesk, Told};
 use status_tally::{Tallied, Tally};
 use std::alloc::Global;
 use std::io::Write;
+use table_door::{Tabled, Tables};
 
-/// Waits for clients at the node's address, and for other nodes at its bridge, and finds the addresses of these.
+/// Where a node waits, where these aren't the addresses at which clients and other nodes find it.
+#[derive(Clone, Copy, Debug)]
+pub struct ListenAt<'a> {
+    /// An IP address with a port, for clients.
+    pub clients: Option<&'a str>,
+    /// An IP address with a port, for other nodes.
+    pub nodes: Option<&'a str>,
+}
+
+impl<'a> ListenAt<'a> {
+    /// The node's own addresses in the table of homes.
+    pub fn table() -> ListenAt<'a>
+        ensures clients { result.clients ≡ None }
+        ensures nodes { result.nodes ≡ None }
+    {
+        ListenAt {
+            clients: None,
+            nodes: None,
+        }
+    }
+}
+
+/// Waits for clients at the node's address, and for other nodes at its bridge, or where else it is to wait, and finds the addresses of the others.
 fn listen<S: Sockets>(
     alloc: Global,
     sockets: &mut S,
     homes: &HomeTable,
     id: u16,
+    at: &ListenAt<'_>,
 ) -> Result<Setting<S::Listener>, RunFault>
     requires { id < length homes.now.nodes }
     ensures peers { IfOk result (λ setting. ArePeers homes.now.nodes id setting.peers.items) }
     ensures few { IfOk result (λ setting. length setting.peers.items ≤ 64) }
 {
-    let Some(listener) = bind(sockets, homes.reference(id)) else {
+    let clients = at.clients.unwrap_or(homes.reference(id));
+    let Some(listener) = bind(sockets, clients) else {
         return Err(RunFault::Socket);
     };
-    let Some(bridge) = bind(sockets, homes.bridge(id)) else {
+    let nodes = at.nodes.unwrap_or(homes.bridge(id));
+    let Some(bridge) = bind(sockets, nodes) else {
         return Err(RunFault::Socket);
     };
     let peers = peers_of(alloc, homes, id)?;
@@ -75,14 +105,14 @@ fn tell_turns<W: Write>(out: &mut W, turns: u64) -> Result<(), RunFault>
 }
 
 /// Tells what the node has left out, where there is a log.
-fn tell_losses<R: RowStore, C: Clock, E: Write>(
-    node: &mut Logged<Limited<ServedNode<R>>, E>,
+fn tell_losses<R: RowStore, F, G, C: Clock, E: Write>(
+    node: &mut LoggedNode<R, F, G, E>,
     clock: &mut C,
 ) -> Result<(), NoMemory>
     ensures { OnOk result (ToldLosses C.tells E.contents node.old clock.old node.new clock.new) }
 {
     let at = clock.now();
-    let losses = losses_of(&node.inside().inside().counts());
+    let losses = losses_of(&node.inside().inside().inside().inside().counts());
     node.finish(at, &losses)
 }
 
@@ -114,17 +144,29 @@ fn tally_if(alloc: Global, wanted: bool, nodes: u16) -> Result<Option<Tally>, Ru
     }
 }
 
-/// Starts a node behind a door with these limits, one with a log, if there is a writer for that, and those of a status, if there is a desk for
-/// it, and makes so many turns over the clients that come and the other nodes. Where all were made the log tells what the node has left out.
-fn run_node<S: Readiness, C: Clock, R: RowStore + Drop, E: Write + Drop, Z: Sockets + Drop>(
+/// Starts a node, to which newer tables of homes come from here, if there may be any, behind these limits on what clients send, with a gauge of memory, and
+/// these on clients, behind a log, if there is a writer for that, and behind a status, if there is a desk for it, and makes so many turns over the clients that
+/// come and the other nodes. What the node leaves out is told while it runs, if there is a writer for that, and the log tells it where all turns were made.
+fn run_node<
+    S: Readiness,
+    C: Clock,
+    R: RowStore + Drop,
+    F: Tables + Drop,
+    G: Gauge + Drop,
+    E: Write + Drop,
+    Z: Sockets + Drop,
+>(
     alloc: Global,
     sockets: &mut S,
     clock: &mut C,
     setting: Setting<S::Listener>,
     keeper: Keeper<R>,
+    tables: Option<F>,
+    bounds: (BoundLimits, G),
     limits: Limits,
     mqtt3: bool,
     error: Option<E>,
+    losses: Option<E>,
     desk: Option<OpenDesk<Z, NodeTeller>>,
     turns: u64,
 ) -> Result<(), RunFault>
@@ -134,9 +176,13 @@ fn run_node<S: Readiness, C: Clock, R: RowStore + Drop, E: Write + Drop, Z: Sock
     let Ok(mut hub) = Hub::new(alloc, setting) else {
         return Err(RunFault::NoMemory);
     };
-    let limited = Limited::new(alloc, limits, ServedNode::new(alloc, keeper));
+    let (asked, gauge) = bounds;
+    let tabled = Tabled::new(ServedNode::new(alloc, keeper), tables);
+    let bounded = Bounded::new(alloc, asked, gauge, tabled);
+    let limited = Limited::new(alloc, limits, bounded);
     let logged = Logged::new(alloc, error, limited);
-    let told = Told::new(Tallied::new(logged, tally), desk);
+    let watchers = Watchers::new(alloc, desk, losses)?;
+    let told = Told::new(Tallied::new(logged, tally), Some(watchers));
     let mut node = Mqtt3::new(alloc, mqtt3, told);
     match hub.serve(sockets, &mut node, clock, turns) {
         Ok(()) => {
@@ -148,9 +194,10 @@ fn run_node<S: Readiness, C: Clock, R: RowStore + Drop, E: Write + Drop, Z: Sock
     }
 }
 
-/// Opens a node from its rows, waits at its addresses for clients and for other nodes, prints that it is ready, starts it behind
-/// a door with these limits, makes so many turns, and prints that they were made. Where a writer is given for it a log is written there,
-/// and where a place is given its status is told there.
+/// Opens a node from its rows, waits at its addresses or at those that are given for clients and for other nodes, prints that it is ready, starts it behind
+/// these limits on what clients send, with a gauge of memory, and these on clients, makes so many turns, and prints that they were made. Where a writer
+/// is given for it a log is written there, and what is left out while it runs to another one; where a place is given its status is told there. Where newer
+/// tables of homes may come the node takes them.
 ///
 /// The faults in their order: the node's where it can't be opened, `Socket` where one of its addresses, another node's
 /// bridge or the status's address isn't an IP address with a port, or can't be waited at, `Output` where a line can't be printed, and the
@@ -159,6 +206,8 @@ pub fn serve<
     S: Readiness,
     C: Clock,
     R: RowStore + Drop,
+    F: Tables + Drop,
+    G: Gauge + Drop,
     E: Write + Drop,
     Z: Sockets + Drop,
     W: Write,
@@ -168,9 +217,13 @@ pub fn serve<
     clock: &mut C,
     rows: R,
     place: (HomeTable, u16),
+    at: ListenAt<'_>,
+    tables: Option<F>,
+    bounds: (BoundLimits, G),
     limits: Limits,
     mqtt3: bool,
     error: Option<E>,
+    losses: Option<E>,
     status: Option<StatusPlace<'_, Z>>,
     turns: u64,
     out: &mut W,
@@ -184,11 +237,12 @@ pub fn serve<
         Err((fault, _)) => return Err(of_node(fault)),
     };
     let homes = keeper.node().homes();
-    let setting = listen(alloc, sockets, homes, id)?;
+    let setting = listen(alloc, sockets, homes, id, &at)?;
     let desk = desk_at(alloc, status, clock)?;
     tell_ready(out, homes, id)?;
     run_node(
-        alloc, sockets, clock, setting, keeper, limits, mqtt3, error, desk, turns,
+        alloc, sockets, clock, setting, keeper, tables, bounds, limits, mqtt3, error, losses, desk,
+        turns,
     )?;
     tell_turns(out, turns)
 }

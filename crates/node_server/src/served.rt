@@ -17,8 +17,8 @@ use std::alloc::Global;
 /// A node with its rows, which answers the clients and the other nodes of sockets.
 #[derive(Drop)]
 pub struct ServedNode<R> {
-    alloc: Global,
-    keeper: BatchKeeper<R>,
+    pub(crate) alloc: Global,
+    pub(crate) keeper: BatchKeeper<R>,
 }
 
 impl<R: RowStore> ServedNode<R> {
@@ -53,7 +53,7 @@ impl<R: RowStore> ServedNode<R> {
 }
 
 /// Hands over what of the outputs is for clients. Where there is no memory for it the node stops, as in a crash.
-fn hand_over<R: RowStore>(
+pub(crate) fn hand_over<R: RowStore>(
     alloc: Global,
     keeper: &mut BatchKeeper<R>,
     made: Vec<Made>,

@@ -2,17 +2,14 @@
 
 ghost use Rattle.std.specs.Prelude.{◌≡◌, IfOk, string_bytes};
 
-use crate::served::ServedNode;
+use crate::stack::TalliedNode;
 use broker_sockets::{Sockets, bind};
 use broker_stop::RunFault;
-use client_limits::Limited;
-use client_log::Logged;
 use node_figures::figures_of;
 use row_store::RowStore;
 use status_door::{OpenDesk, Teller};
 use status_figures::Figures;
 use status_sockets::Desk;
-use status_tally::Tallied;
 use std::alloc::{AllocError, Global};
 use std::hash::RandomState;
 
@@ -45,7 +42,7 @@ impl NodeTeller {
     }
 }
 
-impl<R: RowStore, E> Teller<Tallied<Logged<Limited<ServedNode<R>>, E>>> for NodeTeller {
+impl<R: RowStore, F, G, E> Teller<TalliedNode<R, F, G, E>> for NodeTeller {
     ghost use Rattle.node_server.specs.Status.{IsTold};
 
     ghost tells = { IsTold };
@@ -54,13 +51,13 @@ impl<R: RowStore, E> Teller<Tallied<Logged<Limited<ServedNode<R>>, E>>> for Node
     fn tell(
         &self,
         alloc: Global,
-        handler: &Tallied<Logged<Limited<ServedNode<R>>, E>>,
+        handler: &TalliedNode<R, F, G, E>,
         at: u64,
     ) -> Result<Option<Figures>, AllocError> {
         let Some(tally) = handler.tally() else {
             return Ok(None);
         };
-        let node = handler.inside().inside().inside().node();
+        let node = handler.inside().inside().inside().inside().inside().node();
         match figures_of(alloc, self.name.as_str(), self.since, node, tally, at) {
             Ok(figures) => Ok(Some(figures)),
             Err(_) => Err(AllocError),

@@ -8,7 +8,7 @@ use std::alloc::Global;
 use std::process::Abort;
 
 /// Frames that come to node 0 of two, and none of which is for it from the other one.
-const BAD: [(&str, &[u8]); 13] = [
+const BAD: [(&str, &[u8]); 14] = [
     ("Hello of node 0 for node 1", b"\0\0\0\x05\x01\0\0\0\x01"),
     ("Hello of node 1 for itself", b"\0\0\0\x05\x01\0\x01\0\x01"),
     ("Hello of node 0 for itself", b"\0\0\0\x05\x01\0\0\0\0"),
@@ -25,6 +25,7 @@ const BAD: [(&str, &[u8]); 13] = [
     ("a Delta that has taken a dot of node 2", TAKEN),
     ("a Delta that has seen a dot of node 2", SEEN),
     ("a Delta with a stamp of node 2", STAMP),
+    ("a Delta that has taken a dot and not seen it", UNSEEN),
 ];
 
 /// A state of nothing, from node 1 to node 0, under kind 2.
@@ -35,20 +36,26 @@ const KNOW: &[u8] =
     b"\0\0\0-\x03\0\x01\0\0\0\0\0\x02\0\x01\0\0\0\0\0\0\0\x01\0\0\0\0\0\0\0\x01\0\x02\0\0\0\0\0\0\0\
     \x01\0\0\0\0\0\0\0\x01";
 
-/// A state that has taken the dot (2, 1), from node 1 to node 0.
-const TAKEN: &[u8] =
-    b"\0\0\0'\x06\0\x01\0\0\0\0\0\x01\0\x02\0\0\0\0\0\0\0\x01\0\0\0\0\0\0\0\x01\0\0\0\0\0\0\0\0\0\0\0\
-    \0";
+/// A state that has taken the dot (2, 1), and seen it, from node 1 to node 0.
+const TAKEN: &[u8] = b"\0\0\0\x39\x06\0\x01\0\0\
+    \0\0\0\x01\0\x02\0\0\0\0\0\0\0\x01\0\0\0\0\0\0\0\x01\
+    \0\0\0\x01\0\x02\0\0\0\0\0\0\0\x01\0\0\0\0\0\0\0\x01\0\0\0\0\0\0\0\0";
 
-/// A state that has taken (1, 1) and seen (2, 1), from node 1 to node 0.
-const SEEN: &[u8] =
-    b"\0\0\0\x39\x06\0\x01\0\0\0\0\0\x01\0\x01\0\0\0\0\0\0\0\x01\0\0\0\0\0\0\0\x01\0\0\0\x01\0\x02\0\0\0\
-    \0\0\0\0\x01\0\0\0\0\0\0\0\x01\0\0\0\0\0\0\0\0";
+/// A state that has taken (1, 1), and seen it and (2, 1), from node 1 to node 0.
+const SEEN: &[u8] = b"\0\0\0\x4b\x06\0\x01\0\0\
+    \0\0\0\x01\0\x01\0\0\0\0\0\0\0\x01\0\0\0\0\0\0\0\x01\
+    \0\0\0\x02\0\x01\0\0\0\0\0\0\0\x01\0\0\0\0\0\0\0\x01\0\x02\0\0\0\0\0\0\0\x01\0\0\0\0\0\0\0\x01\
+    \0\0\0\0\0\0\0\0";
 
-/// A state that has taken (1, 1), of no message to `t` under the stamp (1, 2), from node 1 to node 0.
-const STAMP: &[u8] =
-    b"\0\0\0\x35\x06\0\x01\0\0\0\0\0\x01\0\x01\0\0\0\0\0\0\0\x01\0\0\0\0\0\0\0\x01\0\0\0\0\0\0\0\0\0\0\0\
-    \x01\0\x01t\0\0\0\0\0\0\0\x01\0\x02\0";
+/// A state that has taken (1, 1), and seen it, of no message to `t` under the stamp (1, 2), from node 1 to node 0.
+const STAMP: &[u8] = b"\0\0\0\x47\x06\0\x01\0\0\
+    \0\0\0\x01\0\x01\0\0\0\0\0\0\0\x01\0\0\0\0\0\0\0\x01\
+    \0\0\0\x01\0\x01\0\0\0\0\0\0\0\x01\0\0\0\0\0\0\0\x01\
+    \0\0\0\0\0\0\0\x01\0\x01t\0\0\0\0\0\0\0\x01\0\x02\0";
+
+/// A state that has taken (1, 1), and seen nothing, from node 1 to node 0.
+const UNSEEN: &[u8] = b"\0\0\0'\x06\0\x01\0\0\
+    \0\0\0\x01\0\x01\0\0\0\0\0\0\0\x01\0\0\0\0\0\0\0\x01\0\0\0\0\0\0\0\0\0\0\0\0";
 
 /// Hello of node 1 for node 0.
 const HELLO: &[u8] = b"\0\0\0\x05\x01\0\x01\0\0";
@@ -73,7 +80,7 @@ fn a_frame_for_another_node_is_counted_and_changes_nothing(rt: HostRuntime) {
         let found = taken(&rt, alloc, &mut keeper, bytes);
         assert_eq!(rt; found, (0, count), "{name}");
     }
-    assert_eq!(rt; taken(&rt, alloc, &mut keeper, HELLO), (1, 13));
+    assert_eq!(rt; taken(&rt, alloc, &mut keeper, HELLO), (1, 14));
     let again = opened(&rt, alloc, keeper.into_rows(), 0);
     assert_eq!(rt; again.node().counts().bad_frames, 0);
     drop(again);

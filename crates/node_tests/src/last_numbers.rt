@@ -21,15 +21,22 @@ struct Case {
 }
 
 /// The mark of node 1, which has given no identifier; and one whose last identifier had the number 2^62 - 2.
-const MARK: Plain = (1, b"", b"", b"\0\x02\0\x01\0\0\0\0\0\0\0\0");
+const MARK: Plain = (1, b"", b"", b"\0\x03\0\x01\0\0\0\0\0\0\0\0");
 
-const NAMED: Plain = (1, b"", b"", b"\0\x02\0\x01\x3f\xff\xff\xff\xff\xff\xff\xfe");
+const NAMED: Plain = (1, b"", b"", b"\0\x03\0\x01\x3f\xff\xff\xff\xff\xff\xff\xfe");
 
-/// That the dot (1, 2^62 - 2) was taken.
+/// That the dot (1, 2^62 - 2) was taken, and that it was seen.
 const TAKEN: Plain = (
     6,
     b"",
     b"\x01",
+    b"\0\0\0\x01\0\x01\x3f\xff\xff\xff\xff\xff\xff\xfe\x3f\xff\xff\xff\xff\xff\xff\xfe",
+);
+
+const SEEN: Plain = (
+    6,
+    b"",
+    b"\x02",
     b"\0\0\0\x01\0\x01\x3f\xff\xff\xff\xff\xff\xff\xfe\x3f\xff\xff\xff\xff\xff\xff\xfe",
 );
 
@@ -118,19 +125,19 @@ const RECEIVED: &[u8] = b"\x40\x02\0\x07";
 const CASES: [Case; 8] = [
     Case {
         name: "an operation, of a SUBSCRIBE",
-        rows: &[MARK, TAKEN],
+        rows: &[MARK, TAKEN, SEEN],
         taken: &[(1, CONNECT, ACCEPTED), (1, SUBSCRIBE, GRANTED)],
         lacking: (1, TO_U),
     },
     Case {
         name: "an operation, of an UNSUBSCRIBE",
-        rows: &[MARK, TAKEN],
+        rows: &[MARK, TAKEN, SEEN],
         taken: &[(1, CONNECT, ACCEPTED), (1, SUBSCRIBE, GRANTED)],
         lacking: (1, FROM_T),
     },
     Case {
         name: "an operation, of a message that stays",
-        rows: &[MARK, TAKEN],
+        rows: &[MARK, TAKEN, SEEN],
         taken: &[
             (1, CONNECT, ACCEPTED),
             (1, STAYS_AT_T, RECEIVED),

@@ -20,9 +20,9 @@ const LONGEST: usize = 1_048_576 - 10;
 /// for properties, QoS, RETAIN and deadline.
 const PAYLOAD: usize = 1_048_576 - 32;
 
-/// That of the last topic, with which a frame is full: the frame also has its kind and nodes in five bytes, two ranges of dots taken and one seen,
-/// of 18 each, one subscription of 25, and four counts of four.
-const LAST: usize = PAYLOAD - 100;
+/// That of the last topic, with which a frame is full: the frame also has its kind and nodes in five bytes, two ranges of dots taken and two
+/// seen, of 18 each, one subscription of 25, and four counts of four.
+const LAST: usize = PAYLOAD - 118;
 
 /// A frame that is full: 268,435,456 bytes after its length in four.
 const FULL: usize = 268_435_460;

@@ -12,7 +12,7 @@ use std::process::Abort;
 pub type Plain = (u8, &'static [u8], &'static [u8], &'static [u8]);
 
 /// The mark of node 1: the version, the node, and that no identifier was given.
-const MARK: &[u8] = b"\0\x02\0\x01\0\0\0\0\0\0\0\0";
+const MARK: &[u8] = b"\0\x03\0\x01\0\0\0\0\0\0\0\0";
 
 /// The one dot (1, 2^62 - 1), as a range.
 const TAKEN: &[u8] =
@@ -50,7 +50,15 @@ pub fn rows_of(rt: &impl Abort, alloc: Global, plain: &[Plain]) -> MemoryRows {
 #[test]
 fn a_subscribe_past_the_last_number_stops_the_node(rt: HostRuntime) {
     let alloc = rt.alloc();
-    let rows = rows_of(&rt, alloc, &[(1, b"", b"", MARK), (6, b"", b"\x01", TAKEN)]);
+    let rows = rows_of(
+        &rt,
+        alloc,
+        &[
+            (1, b"", b"", MARK),
+            (6, b"", b"\x01", TAKEN),
+            (6, b"", b"\x02", TAKEN),
+        ],
+    );
     let mut keeper = opened(&rt, alloc, rows, 1);
     connect(&rt, alloc, &mut keeper, CONNECT);
     let subscribe = piece(&rt, alloc, 1, SUBSCRIBE);

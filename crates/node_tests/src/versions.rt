@@ -1,4 +1,4 @@
-//! Rows of node 1 in version 1, in version 2, and in none; and rows that it never has.
+//! Rows of node 1 in versions 1, 2 and 3, and in none; and rows that it never has.
 
 use node_keeper::{Keeper, KeeperFault};
 use numbered_homes::homes_of;
@@ -10,12 +10,14 @@ use std::process::Abort;
 /// A row: its kind, owner, place and value.
 type Plain = (u8, &'static [u8], &'static [u8], &'static [u8]);
 
-/// The mark in version 1 and in version 2: the node, and that it has given no identifier.
+/// The mark in each version: the node, and that it has given no identifier.
 const FIRST_MARK: &[u8] = b"\0\x01\0\x01\0\0\0\0\0\0\0\0";
 
 const SECOND_MARK: &[u8] = b"\0\x02\0\x01\0\0\0\0\0\0\0\0";
 
-/// A subscription to `t` with options 0 and no identifier: in version 1, in version 2 under version 0 of the table of homes, and
+const THIRD_MARK: &[u8] = b"\0\x03\0\x01\0\0\0\0\0\0\0\0";
+
+/// A subscription to `t` with options 0 and no identifier: in version 1, in later ones under version 0 of the table of homes, and
 /// under the last one.
 const FIRST_VALUE: &[u8] = b"\0\x01t\0\0\0\0\0";
 
@@ -23,10 +25,15 @@ const SECOND_VALUE: &[u8] = b"\0\x01t\0\0\0\0\0\0\0\0\0";
 
 const LAST_VALUE: &[u8] = b"\0\x01t\0\0\0\0\0\xff\xff\xff\xff";
 
-/// The dot (1, 1), and the set of it.
+/// The dot (1, 1), the set of it, and the set of it and (1, 2).
 const DOT: &[u8] = b"\0\x01\0\0\0\0\0\0\0\x01";
 
 const DOTS: &[u8] = b"\0\0\0\x01\0\x01\0\0\0\0\0\0\0\x01\0\0\0\0\0\0\0\x01";
+
+const BOTH: &[u8] = b"\0\0\0\x01\0\x01\0\0\0\0\0\0\0\x01\0\0\0\0\0\0\0\x02";
+
+/// That no message is kept of a topic, under the stamp (1, 1).
+const CLEARED: &[u8] = b"\0\0\0\0\0\0\0\x01\0\x01\0";
 
 /// The number of another node, and that of the node.
 const OTHER: &[u8] = b"\0\0";
@@ -38,19 +45,19 @@ const ONE_PUT: &[u8] = b"\0\0\0\0\0\0\0\x01\0\0\0\0\0\0\0\0";
 
 const ONE_TAKEN: &[u8] = b"\0\0\0\0\0\0\0\0\0\0\0\0\0\0\0\x01";
 
-/// The rows of a node with one subscription, of `a`.
-fn rows_with(mark: &'static [u8], subscription: &'static [u8]) -> [Plain; 4] {
+/// The rows of a node with one subscription, of `a`, which has made another operation, and has seen these dots.
+fn rows_with(mark: &'static [u8], subscription: &'static [u8], seen: &'static [u8]) -> [Plain; 4] {
     [
         (1, b"", b"", mark),
         (4, b"a", DOT, subscription),
-        (6, b"", b"\x01", DOTS),
-        (6, b"", b"\x02", DOTS),
+        (6, b"", b"\x01", BOTH),
+        (6, b"", b"\x02", seen),
     ]
 }
 
 /// The rows of a node with these numbers of the lanes to and from a node.
 fn rows_of_lanes(node: &'static [u8], numbers: &'static [u8]) -> [Plain; 2] {
-    [(1, b"", b"", SECOND_MARK), (8, node, b"", numbers)]
+    [(1, b"", b"", THIRD_MARK), (8, node, b"", numbers)]
 }
 
 fn row(rt: &impl Abort, alloc: Global, plain: &Plain) -> Row {
@@ -116,27 +123,60 @@ fn opened(
     }
 }
 
-#[test]
-fn rows_of_version_1_are_written_as_version_2(rt: HostRuntime) {
-    let alloc = rt.alloc();
-    let rows = rows_with(FIRST_MARK, FIRST_VALUE);
-    let raised = rows_with(SECOND_MARK, SECOND_VALUE);
-    let (found, mut store) = opened(&rt, alloc, store(&rt, alloc, &rows, 0));
-    assert!(rt; found == Ok(1));
+/// A node is opened from these rows, which are written as others, and then again from those.
+fn are_written(rt: &impl Abort, alloc: Global, rows: &[Plain], raised: &[Plain], stand: usize) {
+    let (found, mut store) = opened(rt, alloc, store(rt, alloc, rows, 0));
+    assert!(rt; found == Ok(stand));
     assert_eq!(rt; store.writes(), 1);
-    assert!(rt; has(&rt, &mut store, &raised));
-    let (found, mut store) = opened(&rt, alloc, store);
-    assert!(rt; found == Ok(1));
+    assert!(rt; has(rt, &mut store, raised));
+    let (found, mut store) = opened(rt, alloc, store);
+    assert!(rt; found == Ok(stand));
     assert_eq!(rt; store.writes(), 1);
-    assert!(rt; has(&rt, &mut store, &raised));
+    assert!(rt; has(rt, &mut store, raised));
     drop(store);
 }
 
 #[test]
-fn rows_of_version_2_are_left_as_they_are(rt: HostRuntime) {
+fn older_rows_are_written_as_version_3(rt: HostRuntime) {
+    for (mark, value, raised) in [
+        (FIRST_MARK, FIRST_VALUE, SECOND_VALUE),
+        (SECOND_MARK, SECOND_VALUE, SECOND_VALUE),
+        (SECOND_MARK, LAST_VALUE, LAST_VALUE),
+    ] {
+        let rows = rows_with(mark, value, DOTS);
+        let raised = rows_with(THIRD_MARK, raised, BOTH);
+        are_written(&rt, rt.alloc(), &rows, &raised, 1);
+    }
+}
+
+#[test]
+fn a_node_that_has_seen_nothing_has_seen_what_it_took(rt: HostRuntime) {
+    for mark in [FIRST_MARK, SECOND_MARK] {
+        let rows: [Plain; 4] = [
+            (1, b"", b"", mark),
+            (5, b"t", b"", CLEARED),
+            (6, b"", b"\x01", DOTS),
+            (8, OTHER, b"", ONE_PUT),
+        ];
+        let raised: [Plain; 5] = [
+            (1, b"", b"", THIRD_MARK),
+            (5, b"t", b"", CLEARED),
+            (6, b"", b"\x01", DOTS),
+            (6, b"", b"\x02", DOTS),
+            (8, OTHER, b"", ONE_PUT),
+        ];
+        are_written(&rt, rt.alloc(), &rows, &raised, 0);
+        let rows = [rows[0], rows[1], rows[2]];
+        let raised = [raised[0], raised[1], raised[2], raised[3]];
+        are_written(&rt, rt.alloc(), &rows, &raised, 0);
+    }
+}
+
+#[test]
+fn rows_of_version_3_are_left_as_they_are(rt: HostRuntime) {
     let alloc = rt.alloc();
     for value in [SECOND_VALUE, LAST_VALUE] {
-        let rows = rows_with(SECOND_MARK, value);
+        let rows = rows_with(THIRD_MARK, value, BOTH);
         let (found, mut store) = opened(&rt, alloc, store(&rt, alloc, &rows, 0));
         assert!(rt; found == Ok(1));
         assert_eq!(rt; store.writes(), 0);
@@ -148,14 +188,22 @@ fn rows_of_version_2_are_left_as_they_are(rt: HostRuntime) {
 #[test]
 fn rows_of_no_version_are_bad(rt: HostRuntime) {
     let alloc = rt.alloc();
-    for (mark, value) in [
-        (b"\0\0\0\x01\0\0\0\0\0\0\0\0".as_slice(), FIRST_VALUE),
-        (b"\0\x03\0\x01\0\0\0\0\0\0\0\0".as_slice(), SECOND_VALUE),
-        (b"\0\x01\0\0\0\0\0\0\0\0\0\0".as_slice(), FIRST_VALUE),
-        (FIRST_MARK, SECOND_VALUE),
-        (SECOND_MARK, FIRST_VALUE),
+    for (mark, value, seen) in [
+        (b"\0\0\0\x01\0\0\0\0\0\0\0\0".as_slice(), FIRST_VALUE, BOTH),
+        (
+            b"\0\x04\0\x01\0\0\0\0\0\0\0\0".as_slice(),
+            SECOND_VALUE,
+            BOTH,
+        ),
+        (b"\0\x01\0\0\0\0\0\0\0\0\0\0".as_slice(), FIRST_VALUE, BOTH),
+        (FIRST_MARK, SECOND_VALUE, BOTH),
+        (SECOND_MARK, FIRST_VALUE, BOTH),
+        (THIRD_MARK, FIRST_VALUE, BOTH),
+        (FIRST_MARK, FIRST_VALUE, b"\0".as_slice()),
+        (SECOND_MARK, SECOND_VALUE, b"\0".as_slice()),
+        (THIRD_MARK, SECOND_VALUE, DOTS),
     ] {
-        let rows = rows_with(mark, value);
+        let rows = rows_with(mark, value, seen);
         let (found, mut store) = opened(&rt, alloc, store(&rt, alloc, &rows, 0));
         assert!(rt; found == Err(KeeperFault::Rows(RowFault::BadRow)));
         assert_eq!(rt; store.writes(), 0);
@@ -184,9 +232,9 @@ fn lanes_of_a_node_to_itself_are_bad(rt: HostRuntime) {
 }
 
 #[test]
-fn a_refused_call_leaves_version_1(rt: HostRuntime) {
+fn a_refused_call_leaves_older_rows(rt: HostRuntime) {
     let alloc = rt.alloc();
-    let rows = rows_with(FIRST_MARK, FIRST_VALUE);
+    let rows = rows_with(FIRST_MARK, FIRST_VALUE, DOTS);
     // The rows are loaded, and then raised.
     for refused in 1..3 {
         let (found, mut store) = opened(&rt, alloc, store(&rt, alloc, &rows, refused));
@@ -194,7 +242,7 @@ fn a_refused_call_leaves_version_1(rt: HostRuntime) {
         assert!(rt; has(&rt, &mut store, &rows));
         let (found, mut store) = opened(&rt, alloc, store);
         assert!(rt; found == Ok(1));
-        assert!(rt; has(&rt, &mut store, &rows_with(SECOND_MARK, SECOND_VALUE)));
+        assert!(rt; has(&rt, &mut store, &rows_with(THIRD_MARK, SECOND_VALUE, BOTH)));
         drop(store);
     }
 }

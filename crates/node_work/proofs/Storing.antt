@@ -16,6 +16,7 @@ use Rattle.subscription_set.specs.Statuses.{Status, Statuses, status_join, statu
 use Rattle.replica_store.specs.declared.kept.Kept.{Kept}
 use Rattle.replica_store.specs.Retained.{Retained, kept_cmp, retained_join}
 use Rattle.replica_store.specs.States.{State, state_join}
+use Rattle.replica_store.proofs.Seeing.{joined_seen}
 use Rattle.replica_bytes.specs.Values.{dot, kept}
 use Rattle.replica_rows.specs.Reading.{CanStand, IsStore}
 
@@ -56,6 +57,7 @@ was_kept s t topic k is = one_kept (map.get s topic) (map.get t topic) k (sym (g
 
 pub join_is_store : (s t : State) → IsStore s → IsStore t → HasSpelling (state_join s t).taken → HasSpelling (seen_of (state_join s t).subscriptions) → IsStore (state_join s t)
 join_is_store s t a b taken seen = record {
+  all_seen = joined_seen s t a.all_seen b.all_seen;
   taken = taken;
   seen = seen;
   dots = λ q e is. elim (stood s.subscriptions t.subscriptions q e is) [

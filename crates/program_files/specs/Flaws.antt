@@ -7,8 +7,6 @@ use Rattle.home_table.specs.declared.fault.TableFault.{TableFault}
 use Rattle.home_table.specs.declared.fault.TableFault.TheVariants as faults
 use Rattle.home_table.specs.Table.{Table, reading}
 use Rattle.broker_configuration.specs.Configurations.{configuration}
-use Rattle.broker_stop.specs.declared.stop.Stop.{Stop}
-use Rattle.broker_stop.specs.declared.stop.Stop.TheVariants.{Configuration}
 use Rattle.run_causes.specs.declared.cause.Found.{Found}
 use Rattle.run_causes.specs.declared.cause.Found.TheVariants.{NotToml, NotTable, NoNodes, TwiceNamed, NoHome, NotNamed, NoMemory}
 
@@ -47,7 +45,6 @@ IsFlaw faults.TwiceNamed text node found = found ≡ TwiceNamed
 IsFlaw faults.UnknownNode text node found = IsNodeFlaw found (reading text) node
 IsFlaw faults.NoMemory text node found = found ≡ NoMemory
 
--- the end tells the fault by which the text is no configuration, or want of memory
-abbrev pub IsRefused : List ℕ → List ℕ → Stop → Type 0
-IsRefused text node (Configuration fault) = (fault ≡ faults.NoMemory) ⊎ (configuration text node ≡ Err fault)
-IsRefused text node _ = ⊥
+-- the fault by which the text is no configuration, or want of memory
+abbrev pub IsRefused : List ℕ → List ℕ → TableFault → Type 0
+IsRefused text node fault = (fault ≡ faults.NoMemory) ⊎ (configuration text node ≡ Err fault)

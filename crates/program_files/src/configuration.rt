@@ -3,14 +3,15 @@
 ghost use Rattle.std.specs.Prelude.{◌≡◌, ◌<◌, length, Ok, IfOk, IfErr};
 ghost use Rattle.broker_configuration.specs.Configurations.{configuration};
 ghost use Rattle.broker_stop.specs.declared.stop.Stop.TheVariants.{Configuration};
-ghost use Rattle.program_files.specs.Flaws.{IsRefused};
+ghost use Rattle.program_files.specs.Flaws.{IsFlaw, IsRefused};
+ghost use Rattle.run_causes.specs.Faults.{table_fault};
 
 use crate::file::read_file;
 use crate::flaw::flaw_of;
 use broker_configuration::configure;
 use broker_stop::Stop;
 use home_table::{HomeTable, TableFault};
-use run_causes::{Cause, Ending, Found, answer_of, table_fault};
+use run_causes::{Answer, Cause, Ending, Found, answer_of, table_fault};
 use std::alloc::Global;
 use std::str;
 
@@ -27,22 +28,76 @@ fn refused(alloc: Global, path: &str, fault: TableFault, found: Found) -> Ending
     }
 }
 
-/// The configuration that a text is, with the number of the node of a name.
-fn configured(alloc: Global, path: &str, text: &str, node: &str) -> Result<(HomeTable, u16), Ending>
+/// The configuration that a text is, with the number of the node of a name, or its fault and what is wrong with it.
+fn configured(
+    alloc: Global,
+    text: &str,
+    node: &str,
+) -> Result<(HomeTable, u16), (TableFault, Found)>
     ensures configured { IfOk result (λ place. configuration text.now node.now ≡ Ok place) }
     ensures below { IfOk result (λ place. place.1 < length place.0.nodes) }
-    ensures refused { IfErr result (λ ending. IsRefused text.now node.now ending.stop) }
+    ensures refused { IfErr result (λ flaw. IsRefused text.now node.now flaw.0) }
+    ensures flaw { IfErr result (λ flaw. IsFlaw flaw.0 text.now node.now flaw.1) }
 {
     match configure(alloc, text, node) {
         Ok(place) => Ok(place),
         Err(fault) => {
             let found = flaw_of(alloc, text, node, fault);
-            Err(refused(alloc, path, fault, found))
+            Err((fault, found))
         }
     }
 }
 
-/// The table of homes of a configuration, and the number of the named node.
+/// The bytes of the file of a configuration; of one that is too long only the first ones, and one too many.
+pub fn configuration_bytes(rt: &HostRuntime, path: &str) -> Result<Vec<u8>, Answer> {
+    match read_file(rt, path, MOST_BYTES) {
+        Ok(bytes) => Ok(bytes),
+        Err(error) => Err(answer_of(&error)),
+    }
+}
+
+/// The table of homes of a configuration that these bytes are, and the number of the named node, or its fault and what is wrong with it.
+pub fn configuration_in(
+    alloc: Global,
+    bytes: &[u8],
+    node: &str,
+) -> Result<(HomeTable, u16), (TableFault, Found)>
+    ensures configured { IfOk result (λ place. configuration bytes.now node.now ≡ Ok place) }
+    ensures below { IfOk result (λ place. place.1 < length place.0.nodes) }
+{
+    if bytes.len() > MOST_BYTES {
+        return Err((TableFault::Syntax, Found::TooLong(MOST_BYTES as u64)));
+    }
+    match str::from_utf8(bytes) {
+        Ok(text) => configured(alloc, text, node),
+        Err(_) => Err((TableFault::Syntax, Found::NotText)),
+    }
+}
+
+/// The table of homes of the configuration that these bytes of a file are, and the number of the named node.
+pub fn configuration_of(
+    alloc: Global,
+    path: &str,
+    bytes: &[u8],
+    node: &str,
+) -> Result<(HomeTable, u16), Ending>
+    ensures configured { IfOk result (λ place. configuration bytes.now node.now ≡ Ok place) }
+    ensures below { IfOk result (λ place. place.1 < length place.0.nodes) }
+{
+    match configuration_in(alloc, bytes, node) {
+        Ok(place) => Ok(place),
+        Err((fault, found)) => Err(refused(alloc, path, fault, found)),
+    }
+}
+
+/// The end of a program that can't read the file of its configuration.
+pub fn unread(alloc: Global, path: &str, answer: Answer) -> Ending
+    ensures stop { result.stop ≡ Configuration (table_fault answer) }
+{
+    refused(alloc, path, table_fault(answer), Found::Answered(answer))
+}
+
+/// The table of homes of the configuration in a file, and the number of the named node.
 pub fn read_configuration(
     rt: &HostRuntime,
     path: &str,
@@ -50,22 +105,8 @@ pub fn read_configuration(
 ) -> Result<(HomeTable, u16), Ending>
     ensures { IfOk result (λ place. place.1 < length place.0.nodes) }
 {
-    let alloc = rt.alloc();
-    let unread = TableFault::Syntax;
-    let bytes = match read_file(rt, path, MOST_BYTES) {
-        Ok(bytes) => bytes,
-        Err(error) => {
-            let answer = answer_of(&error);
-            let found = Found::Answered(answer);
-            return Err(refused(alloc, path, table_fault(answer), found));
-        }
-    };
-    if bytes.len() > MOST_BYTES {
-        let found = Found::TooLong(MOST_BYTES as u64);
-        return Err(refused(alloc, path, unread, found));
-    }
-    match str::from_utf8(&bytes) {
-        Ok(text) => configured(alloc, path, text, node),
-        Err(_) => Err(refused(alloc, path, unread, Found::NotText)),
+    match configuration_bytes(rt, path) {
+        Ok(bytes) => configuration_of(rt.alloc(), path, &bytes, node),
+        Err(answer) => Err(unread(rt.alloc(), path, answer)),
     }
 }

@@ -5,5 +5,7 @@ mod configuration;
 mod file;
 mod flaw;
 
-pub use configuration::read_configuration;
+pub use configuration::{
+    configuration_bytes, configuration_in, configuration_of, read_configuration, unread,
+};
 pub use file::{read_file, read_script};

@@ -1,6 +1,6 @@
 //! Worked examples: command lines, and the tasks that they ask for or the statuses that they end with.
 
-use broker_command::{Task, task_of};
+use broker_command::{AskedLimits, Task, task_of};
 use std::alloc::Global;
 use std::process::Abort;
 
@@ -28,13 +28,34 @@ fn told(rt: &impl Abort, alloc: Global, line: &str) -> String {
                 turns,
                 most_clients,
                 connect_within,
+                limits,
                 mqtt3,
                 log,
                 status,
+                listen,
+                bridge_listen,
             },
         ) => {
+            let waits = (listen, bridge_listen);
             let options = (turns, most_clients, connect_within, mqtt3, log, status);
-            format!(in alloc; "node {configuration} {node} {database} {options:?}")
+            let AskedLimits {
+                most_memory,
+                longest_packet,
+                most_filters,
+                most_levels,
+                most_properties,
+                longest_expiry,
+                careful,
+            } = limits;
+            let packets = (longest_packet, most_filters, most_levels, most_properties);
+            let limits = (most_memory, packets, longest_expiry, careful);
+            if waits != (None, None) {
+                format!(in alloc; "node {configuration} {node} {database} {options:?} {waits:?}")
+            } else if limits == (None, (None, None, None, None), None, false) {
+                format!(in alloc; "node {configuration} {node} {database} {options:?}")
+            } else {
+                format!(in alloc; "node {configuration} {node} {database} {options:?} {limits:?}")
+            }
         }
         Ok(
             Task::Check {
@@ -100,9 +121,27 @@ fn reads_command_lines(rt: HostRuntime) {
             "run c.toml --log n0 --most-clients 2 d.db --connect-within=5 --status here",
             "node c.toml n0 d.db (None, Some(2), Some(5), false, true, Some(\"here\"))",
         ),
+        (
+            "run c.toml n0 d.db --careful",
+            "node c.toml n0 d.db (None, None, None, false, false, None) (None, (None, None, None, None), None, true)",
+        ),
+        (
+            "run c.toml n0 d.db --most-memory 500 --longest-packet=65536 --most-filters 9 --most-levels 8 --most-properties 7 --longest-expiry 3600",
+            "node c.toml n0 d.db (None, None, None, false, false, None) (Some(500), (Some(65536), Some(9), Some(8), Some(7)), Some(3600), false)",
+        ),
+        (
+            "run c.toml n0 d.db --listen 0.0.0.0:1883 --bridge-listen=[::]:2883",
+            "node c.toml n0 d.db (None, None, None, false, false, None) (Some(\"0.0.0.0:1883\"), Some(\"[::]:2883\"))",
+        ),
+        (
+            "serve c.toml n0 d.db --turns 1 --bridge-listen here",
+            "node c.toml n0 d.db (Some(1), None, None, false, false, None) (None, Some(\"here\"))",
+        ),
         ("check c.toml n0 d.db", "check c.toml n0 d.db"),
         ("check --help", "0 (true, false)"),
         ("--help", "0 (true, false)"),
+        ("--version", "0 (true, false)"),
+        ("-V", "0 (true, false)"),
         ("help", "0 (true, false)"),
         ("serve --help", "0 (true, false)"),
         ("run --help", "0 (true, false)"),
@@ -154,6 +193,14 @@ fn refuses_command_lines(rt: HostRuntime) {
             "serve c.toml n0 d.db --turns 1 --connect-within 1000000001",
             "2 (false, true)",
         ),
+        ("run c.toml n0 d.db --most-memory 0", "2 (false, true)"),
+        ("run c.toml n0 d.db --longest-packet 1k", "2 (false, true)"),
+        ("run c.toml n0 d.db --most-filters", "2 (false, true)"),
+        ("run c.toml n0 d.db --careful=yes", "2 (false, true)"),
+        ("check c.toml n0 d.db --careful", "2 (false, true)"),
+        ("run c.toml n0 d.db --listen", "2 (false, true)"),
+        ("check c.toml n0 d.db --listen here", "2 (false, true)"),
+        ("run --version", "2 (false, true)"),
         ("serve c.toml n0 d.db --turns 1 --status", "2 (false, true)"),
         (
             "serve c.toml n0 d.db --turns 1 --log yes",

@@ -1,28 +1,31 @@
 -- Sets of subscriptions and maps of retained messages, as they are made of lists.
 use Rattle.std.proofs.Common.{◌≡◌, ◌⊎◌, inl, inr, ℕ, suc, Bool, true, false, cond, ◌&&◌, T, List, [], ◌∷◌, Option, Some, None, is_some, refl, sym, ap, subst, ◌∙◌, true≢false, arith}
-use Rattle.std.specs.List.{All, AllByRecursion, list_all}
+use Rattle.std.specs.List.{All, AllByRecursion, list_all, list_any}
 use Rattle.std.specs.Ordering.{eq_by_cmp, is_eq}
 use Rattle.std.specs.FinSet as set
 use Rattle.std.specs.FinMap as map
 use Rattle.std.specs.FinMap.Entries.{find}
 use Rattle.std.specs.Cmp.Lexicographic.{nat_list_cmp_total}
+use Rattle.std.proofs.lemmas.Bool.{or_cases, or_left, or_right}
 use Rattle.std.proofs.lemmas.Cmp.{tied_itself}
 use Rattle.std.proofs.lemmas.Slice.Eq.{bytes_eq-Decides}
 use Rattle.causal_context.specs.Dots.{Dot, Dots, dot_cmp, dot_cmp_total, dot_cmp_antisym}
 use Rattle.causal_context.specs.MapLattice.{option_join, get-merge}
 use Rattle.causal_context.specs.OrderLattice.{greater}
+use Rattle.causal_context.specs.SetLattice.{IsSubset}
 use Rattle.mqtt_message.specs.declared.message.Message.{Message}
 use Rattle.subscription_set.specs.declared.entry.Entry.{Entry}
 use Rattle.subscription_set.specs.Merging.{IsSet}
 use Rattle.subscription_set.specs.Sorted.{Rises}
-use Rattle.subscription_set.specs.Standing.{find_entry, AreSeen}
+use Rattle.subscription_set.specs.Standing.{find_entry, AreSeen, seen_of}
+use Rattle.subscription_set.specs.Statuses.{Statuses}
 use Rattle.replica_store.specs.declared.kept.Kept.{Kept}
 use Rattle.replica_store.specs.Retained.{Retained, HaveOwnTopics, retained_join, one_put, kept_cmp, topic_cmp}
 use Rattle.replica_store.specs.RetainedLattice.{retained_lattice, topic_cmp_antisym}
 use Rattle.replica_store.proofs.Views.{by_test, tied_is, none_after, at_head}
 use Rattle.replica_store.proofs.Keeping.{empty-join}
 use Rattle.replica_bytes.specs.Values.{IsOwn, has_topic}
-use Rattle.replica_bytes.specs.Stores.{is_set}
+use Rattle.replica_bytes.specs.Stores.{have_seen, is_set}
 
 pub all_rec : {A : Type 0} (P : A → Type 0) (xs : List A) → All P xs → AllByRecursion P xs
 all_rec P [] all = tt
@@ -79,6 +82,33 @@ passed_set c es e = record { seen = seen_all c es (second_true (map.is_sorted do
 
 pub set_fails : (c : Dots) (es : List (Dot × Entry)) → (IsSet c es → ⊥) → is_set c es ≡ false
 set_fails c es against = by_test (is_set c es) _ (λ e. absurd (against (passed_set c es e))) (λ e. e)
+
+-- ---- dots that were seen
+
+any_in : (t : Dots) (ds : List Dot) (q : Dot) → list_all (set.contains t) ds ≡ true → list_any (eq_by_cmp dot_cmp q) ds ≡ true → set.contains t q ≡ true
+any_in t [] q all there = absurd (cc)
+any_in t (d ∷ ds) q all there = elim (or_cases (eq_by_cmp dot_cmp q d) (list_any (eq_by_cmp dot_cmp q) ds) there) [
+  | inl tie ↦ ap (set.contains t) (tied_is {R = dot_cmp} dot_cmp_antisym q d tie) ∙ first_true (set.contains t d) _ all
+  | inr later ↦ any_in t ds q (second_true (set.contains t d) _ all) later
+]
+
+all_in : (t : Dots) (ds : List Dot) → ((q : Dot) → list_any (eq_by_cmp dot_cmp q) ds ≡ true → set.contains t q ≡ true) → list_all (set.contains t) ds ≡ true
+all_in t [] each = refl
+all_in t (d ∷ ds) each =
+    let first = each d (or_left (eq_by_cmp dot_cmp d d) (list_any (eq_by_cmp dot_cmp d) ds) (ap is_eq (tied_itself dot_cmp_total d))) in
+    let rest = all_in t ds (λ q there. each q (or_right (eq_by_cmp dot_cmp q d) (list_any (eq_by_cmp dot_cmp q) ds) there)) in
+    rw (first, rest) refl
+
+pub seen_passes : (dots : Dots) (m : Statuses) → IsSubset dots (seen_of m) → have_seen dots m ≡ true
+unfolding have_seen
+seen_passes dots m all = all_in (seen_of m) (set.items dots) (λ q there. all q (set.contains-items dots q ∙ there))
+
+pub passed_seen : (dots : Dots) (m : Statuses) → have_seen dots m ≡ true → IsSubset dots (seen_of m)
+unfolding have_seen
+passed_seen dots m e q there = any_in (seen_of m) (set.items dots) q e (sym (set.contains-items dots q) ∙ there)
+
+pub seen_fails : (dots : Dots) (m : Statuses) → (IsSubset dots (seen_of m) → ⊥) → have_seen dots m ≡ false
+seen_fails dots m against = by_test (have_seen dots m) _ (λ e. absurd (against (passed_seen dots m e))) (λ e. e)
 
 -- ---- retained messages
 

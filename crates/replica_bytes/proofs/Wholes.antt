@@ -23,13 +23,13 @@ use Rattle.subscription_set.specs.Standing.{Entries, statuses, seen_of, standing
 use Rattle.subscription_set.proofs.Seen.{get-statuses, contains-seen_of, seen_of-statuses}
 use Rattle.subscription_set.proofs.Standings.{find-standing, rises-standing, standing-statuses}
 use Rattle.replica_store.specs.Retained.{Retained, topic_cmp}
-use Rattle.replica_store.specs.States.{State}
+use Rattle.replica_store.specs.States.{State, TakenIsSeen}
 use Rattle.subscription_set.specs.Merging.{IsSet}
 use Rattle.mqtt_topics.specs.Testing.{is_filter}
 use Rattle.replica_bytes.specs.Spelling.{listed_by}
 use Rattle.replica_bytes.specs.Values.{is_number, dot, filter, asked, subscription_in, entry_in, subscription, entry, has_topic, stamp, kept_in, kept, topic_entry, dot_entry}
-use Rattle.replica_bytes.specs.Stores.{is_set, entries, subscriptions, retained, state}
-use Rattle.replica_bytes.proofs.Sets.{passed_set, set_passes, t_true, true_t}
+use Rattle.replica_bytes.specs.Stores.{have_seen, is_set, entries, seeing, subscriptions, retained, state}
+use Rattle.replica_bytes.proofs.Sets.{passed_set, seen_passes, set_passes, t_true, true_t}
 
 values_again : {A : Type 0} (f : Field A) → IsField f → (xs : List A) (rest : List ℕ) → AllByRecursion f.Fits xs → values_at f (length xs) (flat_map f.bytes xs ++ rest) ≡ Ok (xs, rest)
 values_again f F [] rest each = refl
@@ -120,10 +120,14 @@ retained_is = seen_fits map.from_sorted map.entries (tested (map.is_sorted topic
     (λ m. map.same_entries_map _ m (map.entries-from_sorted topic_cmp (map.entries m) (map.entries_sorted m)))
     (tested_is (map.is_sorted topic_cmp) Malformed (listed_by w32 topic_entry) (listed_by_is w32 topic_entry wide32 topic_entry_is))
 
+seeing_is : (dots : Dots) → IsField (seeing dots)
+unfolding seeing
+seeing_is dots = tested_is (have_seen dots) Malformed subscriptions subscriptions_is
+
 pub state_is : IsField state
 unfolding state
-state_is = seen_is (λ x. record { taken = x.0; subscriptions = x.1.0; retained = x.1.1 }) (λ s. (s.taken, (s.subscriptions, s.retained))) (after context (λ _. after subscriptions (λ _. retained))) (λ _. refl) (λ _. refl)
-    (after_is context (λ _. after subscriptions (λ _. retained)) context_is (λ _. after_is subscriptions (λ _. retained) subscriptions_is (λ _. retained_is)))
+state_is = seen_is (λ x. record { taken = x.0; subscriptions = x.1.0; retained = x.1.1 }) (λ s. (s.taken, (s.subscriptions, s.retained))) (after context (λ taken. after (seeing taken) (λ _. retained))) (λ _. refl) (λ _. refl)
+    (after_is context (λ taken. after (seeing taken) (λ _. retained)) context_is (λ taken. after_is (seeing taken) (λ _. retained) (seeing_is taken) (λ _. retained_is)))
 
 -- ---- what has a spelling
 
@@ -154,9 +158,9 @@ pub subscriptions_bytes : (m : Statuses) (count : ℕ) (seen : List ℕ) → see
 unfolding subscriptions
 subscriptions_bytes m count seen is counted = λ i. is i ++ ((number w32).bytes (counted i) ++ flat_map dot_entry.bytes (standing m))
 
-pub state_fits : (s : State) → HasSpelling s.taken → subscriptions.Fits s.subscriptions → retained.Fits s.retained → state.Fits s
-unfolding state context
-state_fits s taken subs kept = (taken, (subs, kept))
+pub state_fits : (s : State) → HasSpelling s.taken → TakenIsSeen s → subscriptions.Fits s.subscriptions → retained.Fits s.retained → state.Fits s
+unfolding state context seeing
+state_fits s taken all subs kept = (taken, ((subs, seen_passes s.taken s.subscriptions all), kept))
 
 pub few_topics : (r : Retained) → retained.Fits r → map.len r < 2 ^ 32
 unfolding retained

@@ -40,9 +40,17 @@ retained_in es = if map.is_sorted topic_cmp es then Ok (map.from_sorted es) else
 unfoldable pub retained : Field Retained
 retained = seen map.from_sorted map.entries (tested (map.is_sorted topic_cmp) Malformed (listed_by w32 topic_entry))
 
--- a state: the dots that were taken, the subscriptions and the retained messages
+-- each of the dots was seen
+unfoldable pub have_seen : Dots → Statuses → Bool
+have_seen dots m = list_all (set.contains (seen_of m)) (set.items dots)
+
+-- subscriptions, where each of these dots was seen
+unfoldable pub seeing : Dots → Field Statuses
+seeing dots = tested (have_seen dots) Malformed subscriptions
+
+-- a state: the dots that were taken, the subscriptions, where each of these dots was seen, and the retained messages
 unfoldable pub state : Field State
-state = seen (λ x. record { taken = x.0; subscriptions = x.1.0; retained = x.1.1 }) (λ s. (s.taken, (s.subscriptions, s.retained))) (after context (λ _. after subscriptions (λ _. retained)))
+state = seen (λ x. record { taken = x.0; subscriptions = x.1.0; retained = x.1.1 }) (λ s. (s.taken, (s.subscriptions, s.retained))) (after context (λ taken. after (seeing taken) (λ _. retained)))
 
 -- there are no more subscriptions, and no more topics, than four bytes can count
 pub record IsCounted (s : State) : Type 0 where

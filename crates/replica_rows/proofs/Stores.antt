@@ -18,7 +18,7 @@ use Rattle.subscription_set.specs.Standing.{seen_of, standing, entry_of}
 use Rattle.subscription_set.proofs.Standings.{find-standing}
 use Rattle.replica_store.specs.declared.kept.Kept.{Kept}
 use Rattle.replica_store.specs.RetainedLattice.{topic_cmp_antisym}
-use Rattle.replica_store.specs.States.{State}
+use Rattle.replica_store.specs.States.{State, TakenIsSeen}
 use Rattle.replica_bytes.specs.Values.{dot, kept}
 use Rattle.replica_rows.specs.ReadingSteps.{AllCanStand, AllHaveSpellings}
 use Rattle.replica_rows.specs.Reading.{CanStand, IsStore}
@@ -48,13 +48,14 @@ module _ {K X : Type 0} {R : K → K → Ordering} (o : IsTotalOrder R) (anti : 
 pub ranges_spell : (dots own : Dots) (ranges : List Range) → own ≡ dots → IsContext ranges → set_of ranges ≡ own → HasSpelling dots
 ranges_spell dots own ranges is context made = record { ranges = ranges; context = context; set = made ∙ is }
 
-pub each_store : (s : State) → HasSpelling s.taken → HasSpelling (seen_of s.subscriptions) → AllCanStand (standing s.subscriptions) → AllHaveSpellings (map.entries s.retained) → IsStore s
-each_store s taken seen standing_all kept_all =
+pub each_store : (s : State) → TakenIsSeen s → HasSpelling s.taken → HasSpelling (seen_of s.subscriptions) → AllCanStand (standing s.subscriptions) → AllHaveSpellings (map.entries s.retained) → IsStore s
+each_store s all_seen taken seen standing_all kept_all =
     let stands : (q : Dot) (e : Entry) → map.get s.subscriptions q ≡ Some (Some e) → dot.Fits q × IsText e.client × CanStand e = λ q e is.
     found dot_cmp_total dot_cmp_antisym (λ x. dot.Fits x.0 × IsText x.1.client × CanStand x.1) (standing s.subscriptions) standing_all q e (find-standing s.subscriptions q ∙ ap entry_of is) in
     let keeps : (topic : List ℕ) (k : Kept) → map.get s.retained topic ≡ Some k → name.Fits topic × (kept topic).Fits k = λ topic k is.
     found nat_list_cmp_total topic_cmp_antisym (λ x. name.Fits x.0 × (kept x.0).Fits x.1) (map.entries s.retained) kept_all topic k (sym (map.get-entries s.retained topic) ∙ is) in
     record {
+      all_seen = all_seen;
       taken = taken;
       seen = seen;
       dots = λ q e is. (stands q e is).0;

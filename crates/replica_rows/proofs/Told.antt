@@ -12,6 +12,7 @@ use Rattle.std.specs.FinMap.Entries.{is_sorted, find}
 use Rattle.std.proofs.Math.Seq.{drop-cons}
 use Rattle.std.proofs.lemmas.Cmp.{tied_itself}
 use Rattle.causal_context.specs.Dots.{Dot, Dots, dot_cmp, dot_cmp_total}
+use Rattle.causal_context.specs.SetLattice.{IsSubset}
 use Rattle.causal_context.specs.Spelling.{context, HasSpelling}
 use Rattle.causal_context.proofs.RangeSets.{set_of_none}
 use Rattle.causal_context.proofs.SpellingLaws.{context_is}
@@ -219,7 +220,7 @@ module _ (x : Said) (seen : AreSeenThere x) where
   s = state_of x
 
   is_seen : (q : Dot) → is_some (map.get x.standing q) ≡ true → set.contains x.seen q ≡ true
-  is_seen q some = seen q (ap is_some (find_is x.standing q) ∙ some)
+  is_seen q some = seen.standing q (ap is_some (find_is x.standing q) ∙ some)
 
   status : (q : Dot) → map.get s.subscriptions q ≡ cond (set.contains x.seen q) (Some (map.get x.standing q)) None
   status q = get-statuses x.seen (map.entries x.standing) q ∙ ap (λ o. cond (set.contains x.seen q) (Some o) None) (find_is x.standing q)
@@ -252,6 +253,7 @@ module _ (x : Said) (seen : AreSeenThere x) where
 
   pub made_store : IsSaid x → IsStore s
   made_store sound = record {
+    all_seen = λ q there. ap (λ d. set.contains d q) same_seen ∙ seen.taken q there;
     taken = sound.taken;
     seen = subst HasSpelling (sym same_seen) sound.seen;
     dots = λ q e is. sound.dots q e (stands q e is);
@@ -276,8 +278,18 @@ there_is client None v h = absurd (cc)
 there_is client (Some y) v h = refl
 
 pub unseen : (rows : List Row) (x : Said) → AreSaid (map_list entry_of rows) x → (AreSeenThere x → ⊥) → AreOfNone rows
-unseen rows x said none = λ s store are. none (λ q some. each s store are q (map.get x.standing q) refl (sym (ap is_some (find_is x.standing q)) ∙ some))
+unseen rows x said none = λ s store are. none (record {
+  standing = λ q some. each s store are q (map.get x.standing q) refl (sym (ap is_some (find_is x.standing q)) ∙ some);
+  taken = all_taken s store are;
+})
   where
+    all_taken : (s : State) → IsStore s → AreAllRowsOf rows s → IsSubset x.taken x.seen
+    all_taken s store are q there =
+        let at : (key : Key) → row_at s key ≡ row_of x key = λ key. at_key rows s are key ∙ said.rows key in
+        let taken = one_set s.taken x.taken store.taken said.sound.taken (at (6, ([], 1 ∷ []))) in
+        let same = one_set (seen_of s.subscriptions) x.seen store.seen said.sound.seen (at (6, ([], 2 ∷ []))) in
+        ap (λ d. set.contains d q) (sym same) ∙ store.all_seen q (ap (λ d. set.contains d q) taken ∙ there)
+
     each : (s : State) → IsStore s → AreAllRowsOf rows s → (q : Dot) (o : Option Entry) → map.get x.standing q ≡ o → is_some (map.get x.standing q) ≡ true → set.contains x.seen q ≡ true
     each s store are q None is some = absurd (true≢false (sym some ∙ ap is_some is))
     each s store are q (Some e) is some =
@@ -309,7 +321,7 @@ pub in_order : (entries fs : List (Dot × Entry)) → IsStrictlySortedBy dot_cmp
 in_order entries fs up is = is ∙ sym (entries_table fs up)
 
 pub not_made : {X : Type 0} (x : Said) (entries : List (Dot × Entry)) (made : Option X) → entries ≡ map.entries x.standing → (IsSet x.seen entries → IsSome made) → made ≡ None → AreSeenThere x → ⊥
-not_made x entries made is some none seen = nothing_made made none (some (subst (IsSet x.seen) (sym is) (record { seen = seen; rises = map.entries_sorted x.standing })))
+not_made x entries made is some none seen = nothing_made made none (some (subst (IsSet x.seen) (sym is) (record { seen = seen.standing; rises = map.entries_sorted x.standing })))
   where
     nothing_made : {Y : Type 0} (o : Option Y) → o ≡ None → IsSome o → ⊥
     nothing_made None e h = absurd (cc)

@@ -8,7 +8,7 @@ use Rattle.causal_context.specs.Spelling.{HasSpelling}
 use Rattle.subscription_set.specs.declared.entry.Entry.{Entry}
 use Rattle.subscription_set.specs.Standing.{seen_of}
 use Rattle.replica_store.specs.declared.kept.Kept.{Kept}
-use Rattle.replica_store.specs.States.{State}
+use Rattle.replica_store.specs.States.{State, TakenIsSeen}
 use Rattle.row_store.specs.declared.row.Row.{Row}
 use Rattle.row_store.specs.Rows.{Key, key_cmp, entry_of, content_of}
 use Rattle.replica_bytes.specs.Values.{dot, subscription, subscription_in, kept}
@@ -23,8 +23,9 @@ pub record AreAllRowsOf (rows : List Row) (s : State) : Type 0 where
 abbrev pub CanStand : Entry → Type 0
 CanStand e = subscription.Fits (subscription_in e)
 
--- what holds of each store: its sets, its subscriptions and what it keeps of topics have spellings
+-- what holds of each store: each dot that was taken was seen, and its sets, its subscriptions and what it keeps of topics have spellings
 pub record IsStore (s : State) : Type 0 where
+  pub all_seen : TakenIsSeen s
   pub taken : HasSpelling s.taken
   pub seen : HasSpelling (seen_of s.subscriptions)
   pub dots : (q : Dot) (e : Entry) → map.get s.subscriptions q ≡ Some (Some e) → dot.Fits q

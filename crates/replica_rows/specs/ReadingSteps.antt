@@ -8,6 +8,7 @@ use Rattle.std.specs.FinMap as map
 use Rattle.mqtt_fields.specs.Numbers.{IsText}
 use Rattle.mqtt_message.specs.Parts.{name}
 use Rattle.causal_context.specs.Dots.{Dot, Dots, dot_cmp}
+use Rattle.causal_context.specs.SetLattice.{IsSubset}
 use Rattle.causal_context.specs.Spelling.{context, HasSpelling}
 use Rattle.subscription_set.specs.declared.entry.Entry.{Entry}
 use Rattle.subscription_set.specs.Indexing.{ByDot}
@@ -103,12 +104,13 @@ pub record AreSaid (all : List Plain) (x : Said) : Type 0 where
   pub sound : IsSaid x
   pub rows : (key : Key) → map.find key_cmp key all ≡ row_of x key
 
--- the state that it makes, where each dot of what stands was seen
+-- the state that it makes, where each dot of what stands was seen, and each that was taken
 abbrev pub state_of : Said → State
 state_of x = record { taken = x.taken; subscriptions = statuses x.seen (map.entries x.standing); retained = x.retained }
 
-abbrev pub AreSeenThere : Said → Type 0
-AreSeenThere x = AreSeen x.seen (map.entries x.standing)
+pub record AreSeenThere (x : Said) : Type 0 where
+  pub standing : AreSeen x.seen (map.entries x.standing)
+  pub taken : IsSubset x.taken x.seen
 
 -- a subscription at a dot that had none
 pub record TakesSubscription (row : Plain) (old new : ByDot) : Type 0 where

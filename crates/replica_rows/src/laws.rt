@@ -67,6 +67,7 @@ fn all_have_spellings(retained: &RetainedMap)
 pub fn is_store(store: &ReplicaStore)
     ensures { IsStore store.now }
 {
+    store.has_seen();
     let _taken = store.taken().ranges();
     let _seen = store.subscriptions().seen().ranges();
     all_can_stand(store.subscriptions());

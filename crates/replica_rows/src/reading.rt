@@ -16,7 +16,7 @@ ghost use Rattle.replica_rows.specs.Reading.{AreAllRowsOf, AreOfNone, IsStore};
 
 use crate::laws::is_store;
 use crate::row::{CONTEXT, RETAINED, SEEN, SUBSCRIPTION, TAKEN};
-use causal_context::{Context, Dot};
+use causal_context::{Context, Dot, Lattice};
 use mqtt_fields::{FieldFault, NoMemory, Text, are_bytes};
 use mqtt_topics::{TopicFault, TopicName};
 use replica_bytes::{content_of, dot_at, entry_of as entry_at, kept_at};
@@ -264,7 +264,7 @@ fn entries_of(alloc: Global, standing: BTreeMap<Dot, Entry>) -> Result<Vec<(Dot,
     Ok(entries)
 }
 
-// The store that the parts make, if each dot of what stands was seen.
+// The store that the parts make, if each dot of what stands was seen, and each that was taken.
 fn store_of(alloc: Global, parts: Parts) -> Result<ReplicaStore, FieldFault>
     ensures ok { IfOk result (λ s. (s ≡ state_of (said parts)) × AreSeenThere (said parts)) }
     ensures bad { IfErr result (λ f. (f ≡ faults.NoMemory) ⊎ (AreSeenThere (said parts) → ⊥)) }
@@ -276,6 +276,9 @@ fn store_of(alloc: Global, parts: Parts) -> Result<ReplicaStore, FieldFault>
         retained,
     } = parts;
     let entries = entries_of(alloc, standing)?;
+    if !taken.is_below(&seen) {
+        return Err(FieldFault::Malformed);
+    }
     match SubscriptionSet::new(seen, entries)? {
         None => Err(FieldFault::Malformed),
         Some(set) => Ok(ReplicaStore::of_parts(alloc, taken, set, retained)),

@@ -1,5 +1,5 @@
 -- The joined deltas of a list of operations are their state, in any order.
-use Rattle.std.proofs.Common.{◌≡◌, ℕ, Bool, true, false, cond, ◌||◌, List, [], ◌∷◌, map as map_list, Option, Some, None, ◌↔◌, inl, inr, refl, sym, ap, subst, ◌∙◌}
+use Rattle.std.proofs.Common.{◌≡◌, ℕ, Bool, true, false, cond, ◌||◌, List, [], ◌∷◌, map as map_list, Option, Some, None, ◌↔◌, ◌⊎◌, inl, inr, refl, sym, ap, subst, ◌∙◌}
 use Rattle.std.specs.FinSet as set
 use Rattle.std.specs.FinMap as map
 use Rattle.std.specs.List.{list_any}
@@ -15,7 +15,7 @@ use Rattle.subscription_set.specs.Statuses.{Status, status_join, statuses_join}
 use Rattle.subscription_set.specs.StatusLattice.{none_join}
 use Rattle.replica_store.specs.declared.operation.Operation.{Operation}
 use Rattle.replica_store.specs.declared.operation.Operation.TheVariants.{Subscribe, Remove, Put}
-use Rattle.replica_store.specs.Operations.{dot_of, cover_of, Among, HaveOwnDots, Covers, Sees, HasStatus, Puts, HasKept}
+use Rattle.replica_store.specs.Operations.{dot_of, cover_of, Among, HaveOwnDots, Covers, Sees, Stands, IsRemoved, HasStatus, Puts, HasKept}
 use Rattle.replica_store.specs.declared.content.Content.{Content}
 use Rattle.replica_store.specs.Stamps.{Stamp}
 use Rattle.replica_store.specs.Contents.{topic_in, message_in}
@@ -68,17 +68,42 @@ by_bool false P t f = f refl
 covers_only : (o : Operation) (d : Dot) → Covers (o ∷ []) d → set.contains (cover_of o) d ≡ true
 covers_only o d c = ap (λ p. set.contains (cover_of p) d) (sym (only o c.0 c.1)) ∙ c.2
 
-remove_status : (d : Dot) (c : Dots) (q : Dot) → HasStatus (Remove d c ∷ []) q (map.get (removed c) q)
-remove_status d c q = by_bool (set.contains c q) _
-    (λ e. subst (HasStatus (Remove d c ∷ []) q) (sym (get-removed c q ∙ ap (λ b. cond b (Some None) None) e)) (Remove d c, inl refl, e))
-    (λ e. subst (HasStatus (Remove d c ∷ []) q) (sym (get-removed c q ∙ ap (λ b. cond b (Some None) None) e)) (λ s. elim s [
-      | inl w ↦ (let is = only (Remove d c) _ w.1.1 in cc)
-      | inr w ↦ (let is = covers_only (Remove d c) q w in cc)
-    ]))
+either_true : (a b : Bool) → (a || b) ≡ true → (a ≡ true) ⊎ (b ≡ true)
+either_true true b e = inl refl
+either_true false b e = inr e
 
-put_status : (d : Dot) (s : Stamp) (c : Content) (q : Dot) → HasStatus (Put d s c ∷ []) q None
-put_status d s c q (inl w) = (let is = only (Put d s c) _ w.1.1 in cc)
-put_status d s c q (inr w) = (let is = covers_only (Put d s c) q w in let no = set.contains-empty dot_cmp q in cc)
+first_true : (a b : Bool) → a ≡ true → (a || b) ≡ true
+first_true true b e = refl
+first_true false b e = cc
+
+second_true : (a b : Bool) → b ≡ true → (a || b) ≡ true
+second_true true b e = refl
+second_true false b e = e
+
+-- an operation sees its dot and those of its cover
+sees_one : (o : Operation) (q : Dot) → (set.contains (set.insert (cover_of o) (dot_of o)) q ≡ true) ↔ Sees (o ∷ []) q
+sees_one o q =
+    let test = set.contains-insert dot_cmp_total (cover_of o) (dot_of o) q in (
+      λ e. elim (either_true (eq_by_cmp dot_cmp q (dot_of o)) (set.contains (cover_of o) q) (sym test ∙ e)) [
+        | inl t ↦ inl (o, inl refl, sym (tied_true q (dot_of o) t))
+        | inr c ↦ inr (o, inl refl, c)
+      ],
+      λ s. test ∙ elim s [
+        | inl p ↦ first_true _ _ (ap (λ x. eq_by_cmp dot_cmp x (dot_of o)) (sym p.2 ∙ ap dot_of (only o p.0 p.1)) ∙ tied_self (dot_of o))
+        | inr c ↦ second_true _ _ (covers_only o q c)
+      ],
+    )
+
+-- where it is no Subscribe, it removes them all
+removes_status : (o : Operation) → ((d : Dot) (e : Entry) (c : Dots) → Subscribe d e c ≡ o → ⊥) → (q : Dot) → HasStatus (o ∷ []) q (map.get (removed (set.insert (cover_of o) (dot_of o))) q)
+removes_status o none q =
+    let seen = set.insert (cover_of o) (dot_of o) in
+    by_bool (set.contains seen q) _
+    (λ h. subst (HasStatus (o ∷ []) q) (sym (get-removed seen q ∙ ap (λ b. cond b (Some None) None) h)) (record {
+      seen = (sees_one o q).0 h;
+      nothing = λ e st. none q e st.subscribed.0 (only o _ st.subscribed.1);
+    }))
+    (λ h. subst (HasStatus (o ∷ []) q) (sym (get-removed seen q ∙ ap (λ b. cond b (Some None) None) h)) (λ s. (let is = (sees_one o q).1 s in cc)))
 
 empty_statuses : (q : Dot) → map.get (map.empty {X = Status} {R = dot_cmp}) q ≡ None
 empty_statuses q = map.get-empty dot_cmp q
@@ -98,17 +123,20 @@ subscribe_status d e c q =
     let P = HasStatus (Subscribe d e c ∷ []) q in
     by_bool (set.contains c q) _
     (λ h. by_bool (eq_by_cmp dot_cmp q d) _
-    (λ k. subst P (sym (is _ _ (held true h) (at true k) ∙ ap Some (none_join (Some e)))) (Subscribe d e c, inl refl, h))
-    (λ k. subst P (sym (is _ _ (held true h) (at false k))) (Subscribe d e c, inl refl, h)))
+    (λ k. subst P (sym (is _ _ (held true h) (at true k) ∙ ap Some (none_join (Some e)))) (gone h))
+    (λ k. subst P (sym (is _ _ (held true h) (at false k))) (gone h)))
     (λ h. by_bool (eq_by_cmp dot_cmp q d) _
     (λ k. subst P (sym (is _ _ (held false h) (at true k))) (record {
       subscribed = (c, inl (λ i. Subscribe (tied_true q d k i) e c));
       uncovered = λ w. (let in_c = covers_only (Subscribe d e c) q w in cc);
     }))
     (λ k. subst P (sym (is _ _ (held false h) (at false k))) (λ s. elim s [
-      | inl w ↦ (let one = only (Subscribe d e c) _ w.1.1 in let dots = ap dot_of one in let same = ap (λ x. eq_by_cmp dot_cmp x d) dots ∙ tied_self d in cc)
+      | inl w ↦ (let dots : q ≡ d = sym w.2 ∙ ap dot_of (only (Subscribe d e c) w.0 w.1) in let same = ap (λ x. eq_by_cmp dot_cmp x d) dots ∙ tied_self d in cc)
       | inr w ↦ (let in_c = covers_only (Subscribe d e c) q w in cc)
     ])))
+  where
+    gone : set.contains c q ≡ true → IsRemoved (Subscribe d e c ∷ []) q
+    gone h = record { seen = inr (Subscribe d e c, inl refl, h); nothing = λ f st. st.uncovered (Subscribe d e c, inl refl, h) }
 
 no_puts : (o : Operation) (u : List ℕ) (k : Kept) → ((d : Dot) (s : Stamp) (c : Content) → Put d s c ≡ o → ⊥) → Puts (o ∷ []) u k → ⊥
 no_puts o u k not p = not p.0 k.stamp p.1 (only o _ p.2)
@@ -122,12 +150,12 @@ delta_is (Subscribe d e c) = record {
 }
 delta_is (Remove d c) = record {
   taken = one_taken (Remove d c);
-  subscriptions = remove_status d c;
+  subscriptions = removes_status (Remove d c) (λ x e y is. cc);
   retained = λ u. subst (HasKept (Remove d c ∷ []) u) (sym (empty_kept u)) (λ k p. no_puts (Remove d c) u k (λ d s m is. cc) p);
 }
 delta_is (Put d s c) = record {
   taken = one_taken (Put d s c);
-  subscriptions = λ q. subst (HasStatus (Put d s c ∷ []) q) (sym (empty_statuses q)) (put_status d s c q);
+  subscriptions = removes_status (Put d s c) (λ x e y is. cc);
   retained = λ u.
       let value : Kept = record { stamp = s; message = message_in c } in
       let t = topic_in c in
@@ -146,7 +174,7 @@ delta_is (Put d s c) = record {
 pub joined_is : (O : List Operation) → HaveOwnDots O → IsStateOf O (joined_deltas O)
 joined_is [] own = record {
   taken = λ d. (λ e. (let no = set.contains-empty dot_cmp d in cc), λ p. absurd p.1);
-  subscriptions = λ d. subst (HasStatus [] d) (sym (empty_statuses d)) (λ s. elim s [ inl w ↦ w.1.1 | inr w ↦ w.1 ]);
+  subscriptions = λ d. subst (HasStatus [] d) (sym (empty_statuses d)) (λ s. elim s [ inl w ↦ w.1 | inr w ↦ w.1 ]);
   retained = λ u. subst (HasKept [] u) (sym (empty_kept u)) (λ k p. p.2);
 }
 joined_is (o ∷ O) own = state_union (o ∷ []) O _ _ own (delta_is o) (joined_is O (λ p q a b. own p q (inr a) (inr b)))
@@ -161,22 +189,28 @@ module _ (O P : List Operation) (same : SameOperations O P) (own : HaveOwnDots O
   covers_back d c = (c.0, same.back _ c.1, c.2)
 
   sees_there : (d : Dot) → Sees O d → Sees P d
-  sees_there d (inl s) = inl (s.0, (s.1.0, same.there _ s.1.1))
+  sees_there d (inl o) = inl (o.0, same.there _ o.1, o.2)
   sees_there d (inr c) = inr (covers_there d c)
 
   sees_back : (d : Dot) → Sees P d → Sees O d
-  sees_back d (inl s) = inl (s.0, (s.1.0, same.back _ s.1.1))
+  sees_back d (inl o) = inl (o.0, same.back _ o.1, o.2)
   sees_back d (inr c) = inr (covers_back d c)
+
+  stands_there : (d : Dot) (e : Entry) → Stands O d e → Stands P d e
+  stands_there d e s = record { subscribed = (s.subscribed.0, same.there _ s.subscribed.1); uncovered = λ c. s.uncovered (covers_back d c) }
+
+  stands_back : (d : Dot) (e : Entry) → Stands P d e → Stands O d e
+  stands_back d e s = record { subscribed = (s.subscribed.0, same.back _ s.subscribed.1); uncovered = λ c. s.uncovered (covers_there d c) }
 
   one_status : (d : Dot) (x y : Option Status) → HasStatus O d x → HasStatus P d y → x ≡ y
   one_status d None None h k = refl
-  one_status d None (Some None) h k = absurd (h (inr (covers_back d k)))
-  one_status d None (Some (Some e)) h k = absurd (h (sees_back d (inl (e, k.subscribed))))
-  one_status d (Some None) None h k = absurd (k (inr (covers_there d h)))
-  one_status d (Some (Some e)) None h k = absurd (k (sees_there d (inl (e, h.subscribed))))
+  one_status d None (Some None) h k = absurd (h (sees_back d k.seen))
+  one_status d None (Some (Some e)) h k = absurd (h (sees_back d (inl (_, k.subscribed.1, refl))))
+  one_status d (Some None) None h k = absurd (k (sees_there d h.seen))
+  one_status d (Some (Some e)) None h k = absurd (k (sees_there d (inl (_, h.subscribed.1, refl))))
   one_status d (Some None) (Some None) h k = refl
-  one_status d (Some None) (Some (Some e)) h k = absurd (k.uncovered (covers_there d h))
-  one_status d (Some (Some e)) (Some None) h k = absurd (h.uncovered (covers_back d k))
+  one_status d (Some None) (Some (Some e)) h k = absurd (h.nothing e (stands_back d e k))
+  one_status d (Some (Some e)) (Some None) h k = absurd (k.nothing e (stands_there d e h))
   one_status d (Some (Some e)) (Some (Some f)) h k =
       let one = own _ _ h.subscribed.1 (same.back _ k.subscribed.1) refl in
       let e_f : e ≡ f = cc in

@@ -3,6 +3,7 @@ pub mod Answering
 pub mod Deltas
 pub mod Keeping
 pub mod Making
+pub mod Seeing
 pub mod Trees
 pub mod Unions
 pub mod Views

@@ -10,7 +10,8 @@ use Rattle.subscription_set.specs.declared.entry.Entry.{Entry}
 use Rattle.subscription_set.specs.Statuses.{Status, status_join, statuses_join}
 use Rattle.subscription_set.specs.StatusLattice.{join-same, join_none, none_join}
 use Rattle.replica_store.specs.declared.operation.Operation.{Operation}
-use Rattle.replica_store.specs.Operations.{Among, HaveOwnDots, Subscribes, Covers, Sees, HasStatus, Puts, IsGreatestPut, HasKept}
+use Rattle.replica_store.specs.declared.operation.Operation.TheVariants.{Subscribe}
+use Rattle.replica_store.specs.Operations.{Among, HaveOwnDots, Subscribes, Covers, Sees, IsRemoved, HasStatus, Puts, IsGreatestPut, HasKept}
 use Rattle.replica_store.specs.declared.kept.Kept.{Kept}
 use Rattle.replica_store.specs.Retained.{retained_join, kept_cmp}
 use Rattle.replica_store.specs.RetainedLattice.{kept_cmp_total, kept_cmp_antisym}
@@ -50,18 +51,53 @@ module _ (O P : List Operation) where
   covers_cases : (d : Dot) → Covers (O ++ P) d → Covers O d ⊎ Covers P d
   covers_cases d c = elim (among_cases _ O P c.1) [ inl a ↦ inl (c.0, a, c.2) | inr a ↦ inr (c.0, a, c.2) ]
 
+  sees_left : (d : Dot) → Sees O d → Sees (O ++ P) d
+  sees_left d (inl o) = inl (o.0, among_left _ O P o.1, o.2)
+  sees_left d (inr c) = inr (covers_left d c)
+
+  sees_right : (d : Dot) → Sees P d → Sees (O ++ P) d
+  sees_right d (inl o) = inl (o.0, among_right _ O P o.1, o.2)
+  sees_right d (inr c) = inr (covers_right d c)
+
   sees_cases : (d : Dot) → Sees (O ++ P) d → Sees O d ⊎ Sees P d
-  sees_cases d (inl s) = elim (subscribes_cases d s.0 s.1) [ inl a ↦ inl (inl (s.0, a)) | inr a ↦ inr (inl (s.0, a)) ]
+  sees_cases d (inl o) = elim (among_cases _ O P o.1) [ inl a ↦ inl (inl (o.0, a, o.2)) | inr a ↦ inr (inl (o.0, a, o.2)) ]
   sees_cases d (inr c) = elim (covers_cases d c) [ inl a ↦ inl (inr a) | inr a ↦ inr (inr a) ]
+
+  -- a dot that is removed in one of the lists is so in both together
+  removed_left : HaveOwnDots (O ++ P) → (d : Dot) → IsRemoved O d → IsRemoved (O ++ P) d
+  removed_left own d h = record {
+    seen = sees_left d h.seen;
+    nothing = λ e st. elim (subscribes_cases d e st.subscribed) [
+      | inl a ↦ h.nothing e (record { subscribed = a; uncovered = λ c. st.uncovered (covers_left d c) })
+      | inr a ↦ elim h.seen [
+        | inl o ↦ (let one = own o.0 (Subscribe d e a.0) (among_left _ O P o.1) (among_right _ O P a.1) o.2 in
+            h.nothing e (record { subscribed = (a.0, subst (λ (x : Operation). Among x O) one o.1); uncovered = λ c. st.uncovered (covers_left d c) }))
+        | inr c ↦ st.uncovered (covers_left d c)
+      ]
+    ];
+  }
+
+  removed_right : HaveOwnDots (O ++ P) → (d : Dot) → IsRemoved P d → IsRemoved (O ++ P) d
+  removed_right own d h = record {
+    seen = sees_right d h.seen;
+    nothing = λ e st. elim (subscribes_cases d e st.subscribed) [
+      | inl a ↦ elim h.seen [
+        | inl o ↦ (let one = own o.0 (Subscribe d e a.0) (among_right _ O P o.1) (among_left _ O P a.1) o.2 in
+            h.nothing e (record { subscribed = (a.0, subst (λ (x : Operation). Among x P) one o.1); uncovered = λ c. st.uncovered (covers_right d c) }))
+        | inr c ↦ st.uncovered (covers_right d c)
+      ]
+      | inr a ↦ h.nothing e (record { subscribed = a; uncovered = λ c. st.uncovered (covers_right d c) })
+    ];
+  }
 
   status_union : HaveOwnDots (O ++ P) → (d : Dot) (x y : Option Status) → HasStatus O d x → HasStatus P d y → HasStatus (O ++ P) d (option_join status_join x y)
   status_union own d None None h k = λ s. elim (sees_cases d s) [ inl a ↦ h a | inr a ↦ k a ]
-  status_union own d None (Some None) h k = covers_right d k
+  status_union own d None (Some None) h k = removed_right own d k
   status_union own d None (Some (Some e)) h k = record { subscribed = subscribes_right d e k.subscribed; uncovered = λ c. elim (covers_cases d c) [ inl a ↦ h (inr a) | inr a ↦ k.uncovered a ] }
-  status_union own d (Some None) None h k = covers_left d h
+  status_union own d (Some None) None h k = removed_left own d h
   status_union own d (Some (Some e)) None h k = record { subscribed = subscribes_left d e h.subscribed; uncovered = λ c. elim (covers_cases d c) [ inl a ↦ h.uncovered a | inr a ↦ k (inr a) ] }
-  status_union own d (Some None) (Some y) h k = subst (λ z. HasStatus (O ++ P) d (Some z)) (sym (none_join y)) (covers_left d h)
-  status_union own d (Some (Some e)) (Some None) h k = subst (λ z. HasStatus (O ++ P) d (Some z)) (sym (join_none (Some e))) (covers_right d k)
+  status_union own d (Some None) (Some y) h k = subst (λ z. HasStatus (O ++ P) d (Some z)) (sym (none_join y)) (removed_left own d h)
+  status_union own d (Some (Some e)) (Some None) h k = subst (λ z. HasStatus (O ++ P) d (Some z)) (sym (join_none (Some e))) (removed_right own d k)
   status_union own d (Some (Some e)) (Some (Some f)) h k =
       let one = own _ _ (among_left _ O P h.subscribed.1) (among_right _ O P k.subscribed.1) refl in
       let same : e ≡ f = cc in

@@ -184,8 +184,8 @@ module _ (O : List Operation) (s : State) (own : HaveOwnDots O) (is : IsStateOf 
   if_stands d e st = find-standing s.subscriptions d ∙ by (map.get s.subscriptions d) (is.subscriptions d)
     where
       by : (x : Option Status) → HasStatus O d x → entry_of x ≡ Some e
-      by None h = absurd (h (inl (e, st.subscribed)))
-      by (Some None) h = absurd (st.uncovered h)
+      by None h = absurd (h (inl (_, st.subscribed.1, refl)))
+      by (Some None) h = absurd (h.nothing e st)
       by (Some (Some g)) h = (let one = own _ _ h.subscribed.1 st.subscribed.1 refl in let same : g ≡ e = cc in ap Some same)
 
   pub live_if : (d : Dot) (e : Entry) → (find_entry d (live s.subscriptions) ≡ Some e) ↔ IsLive O d e

@@ -5,9 +5,9 @@ use Rattle.std.specs.FinMap as map
 use Rattle.causal_context.specs.Dots.{Dot}
 use Rattle.subscription_set.specs.declared.entry.Entry.{Entry}
 use Rattle.subscription_set.specs.Entries.{is_of, is_of_below}
-use Rattle.subscription_set.specs.Standing.{find_entry, live, dots_of, dots_below}
+use Rattle.subscription_set.specs.Standing.{find_entry, live, dots_of, dots_below, seen_of}
 use Rattle.replica_store.specs.declared.operation.Operation.{Operation}
-use Rattle.replica_store.specs.Operations.{HaveOwnDots, Stands, IsLive, IsGreatestCount}
+use Rattle.replica_store.specs.Operations.{HaveOwnDots, Sees, Stands, IsLive, IsGreatestCount}
 use Rattle.replica_store.specs.Retained.{HaveOwnTopics, greatest_count}
 use Rattle.mqtt_message.specs.declared.message.Message.{Message}
 use Rattle.replica_store.specs.Answers.{IsAnswer, IsAnswerOf}
@@ -33,6 +33,11 @@ StateOfBoth = (O P : List Operation) (s t : State) → HaveOwnDots (O ++ P) → 
 -- the deltas of some of the operations make the state of these
 abbrev pub StateOfSome : Type 0
 StateOfSome = (O : List Operation) (some : Operation → Bool) → HaveOwnDots O → IsStateOf (filter some O) (joined_deltas (filter some O))
+
+-- a state has seen what the operations see: their dots, and the dots of their covers
+abbrev pub SeenIsOfTheOperations : Type 0
+SeenIsOfTheOperations = (O : List Operation) (s : State) → IsStateOf O s
+    → (dot : Dot) → (set.contains (seen_of s.subscriptions) dot ≡ true) ↔ Sees O dot
 
 -- what is live in the state is what is live among the operations
 abbrev pub LiveIsOfTheOperations : Type 0

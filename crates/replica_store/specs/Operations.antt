@@ -49,9 +49,13 @@ Subscribes O dot entry = (cover : Dots) × Among (Subscribe dot entry cover) O
 abbrev pub Covers : List Operation → Dot → Type 0
 Covers O dot = (o : Operation) × Among o O × (set.contains (cover_of o) dot ≡ true)
 
--- seen: it is the dot of a Subscribe, or in a cover
+-- there is an operation at the dot
+abbrev pub HasOperation : List Operation → Dot → Type 0
+HasOperation O dot = (o : Operation) × Among o O × (dot_of o ≡ dot)
+
+-- seen: it is the dot of an operation, or in a cover
 abbrev pub Sees : List Operation → Dot → Type 0
-Sees O dot = ((entry : Entry) × Subscribes O dot entry) ⊎ Covers O dot
+Sees O dot = HasOperation O dot ⊎ Covers O dot
 
 -- stands: a Subscribe whose dot is in no cover
 pub record Stands (O : List Operation) (dot : Dot) (entry : Entry) : Type 0 where
@@ -63,10 +67,15 @@ pub record IsLive (O : List Operation) (dot : Dot) (entry : Entry) : Type 0 wher
   pub stands : Stands O dot entry
   pub latest : (other : Dot) (its : Entry) → Stands O other its → same_subscription entry its ≡ true → is_lt (recency_cmp (dot, entry) (other, its)) ≡ false
 
+-- removed: it was seen, and nothing stands at it
+pub record IsRemoved (O : List Operation) (dot : Dot) : Type 0 where
+  pub seen : Sees O dot
+  pub nothing : (entry : Entry) → ¬ Stands O dot entry
+
 -- the status of a dot: unseen, removed, or present with the entry that stands
 abbrev pub HasStatus : List Operation → Dot → Option Status → Type 0
 HasStatus O dot None = ¬ Sees O dot
-HasStatus O dot (Some None) = Covers O dot
+HasStatus O dot (Some None) = IsRemoved O dot
 HasStatus O dot (Some (Some entry)) = Stands O dot entry
 
 -- there is a Put of the topic with this stamp and message, or with this stamp and none

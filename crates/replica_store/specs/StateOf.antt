@@ -8,13 +8,13 @@ use Rattle.subscription_set.specs.Statuses.{Statuses, statuses_join}
 use Rattle.replica_store.specs.declared.operation.Operation.{Operation}
 use Rattle.replica_store.specs.declared.operation.Operation.TheVariants.{Subscribe, Remove, Put}
 use Rattle.replica_store.specs.Contents.{topic_in, message_in}
-use Rattle.replica_store.specs.Operations.{dot_of, Among, HasStatus, HasKept}
+use Rattle.replica_store.specs.Operations.{Among, HasOperation, HasStatus, HasKept}
 use Rattle.replica_store.specs.Retained.{one_put}
 use Rattle.replica_store.specs.States.{State, nothing, state_join}
 
 -- the state has the dots of the operations, the status of each dot, and of each topic what is kept
 pub record IsStateOf (O : List Operation) (s : State) : Type 0 where
-  pub taken : (dot : Dot) → (set.contains s.taken dot ≡ true) ↔ ((o : Operation) × Among o O × (dot_of o ≡ dot))
+  pub taken : (dot : Dot) → (set.contains s.taken dot ≡ true) ↔ HasOperation O dot
   pub subscriptions : (dot : Dot) → HasStatus O dot (map.get s.subscriptions dot)
   pub retained : (topic : List ℕ) → HasKept O topic (map.get s.retained topic)
 
@@ -29,8 +29,8 @@ uncovered_entry dot entry cover = if set.contains cover dot then [] else ((dot, 
 -- the delta of one operation: what it adds to any state
 unfoldable pub delta_of : Operation → State
 delta_of (Subscribe dot entry cover) = record { taken = set.insert set.empty dot; subscriptions = statuses_join (removed cover) (map.insert map.empty dot (Some entry)); retained = map.empty }
-delta_of (Remove dot cover) = record { taken = set.insert set.empty dot; subscriptions = removed cover; retained = map.empty }
-delta_of (Put dot stamp content) = record { taken = set.insert set.empty dot; subscriptions = map.empty; retained = one_put (topic_in content) (record { stamp = stamp; message = message_in content }) }
+delta_of (Remove dot cover) = record { taken = set.insert set.empty dot; subscriptions = removed (set.insert cover dot); retained = map.empty }
+delta_of (Put dot stamp content) = record { taken = set.insert set.empty dot; subscriptions = removed (set.insert set.empty dot); retained = one_put (topic_in content) (record { stamp = stamp; message = message_in content }) }
 
 -- the deltas of the operations, joined in turn
 abbrev pub joined_deltas : List Operation → State

@@ -5,6 +5,7 @@ use Rattle.std.specs.FinMap as map
 use Rattle.std.specs.FinSet as set
 use Rattle.causal_context.specs.Dots.{Dots, coded_dot}
 use Rattle.causal_context.specs.SetLattice.{IsSubset}
+use Rattle.subscription_set.specs.Standing.{seen_of}
 use Rattle.subscription_set.specs.Statuses.{Statuses, statuses_join, StatusesBelow, coded_statuses}
 use Rattle.replica_store.specs.Retained.{Retained, retained_join, RetainedBelow, coded_retained}
 
@@ -21,6 +22,10 @@ nothing = record { taken = set.empty; subscriptions = map.empty; retained = map.
 -- part by part
 abbrev pub state_join : State → State → State
 state_join s t = record { taken = set.union s.taken t.taken; subscriptions = statuses_join s.subscriptions t.subscriptions; retained = retained_join s.retained t.retained }
+
+-- each dot that was taken was seen
+abbrev pub TakenIsSeen : State → Type 0
+TakenIsSeen s = IsSubset s.taken (seen_of s.subscriptions)
 
 pub record StateBelow (s t : State) : Type 0 where
   pub taken : IsSubset s.taken t.taken

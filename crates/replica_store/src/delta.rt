@@ -27,11 +27,10 @@ fn one_dot(alloc: Global, dot: Dot) -> Result<Context, NoMemory>
     Ok(dots)
 }
 
-// The set in which each dot of the cover is removed.
-fn removed_by(alloc: Global, cover: &Context) -> Result<SubscriptionSet, NoMemory>
-    ensures { IfOk result (λ s. s ≡ removed cover.now) }
+// The set in which each of these dots is removed.
+fn removed_by(alloc: Global, seen: Context) -> Result<SubscriptionSet, NoMemory>
+    ensures { IfOk result (λ s. s ≡ removed seen) }
 {
-    let seen = cover.copy()?;
     let set = SubscriptionSet::new(seen, Vec::new(alloc))?;
     Ok(set.unwrap())
 }
@@ -100,7 +99,9 @@ fn make_delta(alloc: Global, operation: &Operation) -> Result<ReplicaStore, NoMe
         }
         Operation::Remove { dot, cover } => {
             let taken = one_dot(alloc, *dot)?;
-            let subscriptions = removed_by(alloc, cover)?;
+            let mut seen = cover.copy()?;
+            seen.insert(*dot)?;
+            let subscriptions = removed_by(alloc, seen)?;
             let retained = RetainedMap::new(alloc);
             Ok(ReplicaStore {
                 alloc,
@@ -115,8 +116,9 @@ fn make_delta(alloc: Global, operation: &Operation) -> Result<ReplicaStore, NoMe
             content,
         } => {
             let taken = one_dot(alloc, *dot)?;
+            let seen = one_dot(alloc, *dot)?;
+            let subscriptions = removed_by(alloc, seen)?;
             let retained = retained_by(alloc, *stamp, content)?;
-            let subscriptions = SubscriptionSet::empty(alloc);
             Ok(ReplicaStore {
                 alloc,
                 taken,

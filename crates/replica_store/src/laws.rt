@@ -1,5 +1,5 @@
 //! Laws of operations and their states. Each function does nothing: its contract is the law.
-ghost use Rattle.replica_store.specs.Laws.{DeltasMakeTheState, OrderIsFree, OneState, StateOfBoth, StateOfSome, LiveIsOfTheOperations, CoverIsOfTheOperations, CoverBelowIsOfTheOperations, CountIsOfTheOperations, TopicsAreTheMessages, AnswerIsOfTheOperations, OneAnswer};
+ghost use Rattle.replica_store.specs.Laws.{DeltasMakeTheState, OrderIsFree, OneState, StateOfBoth, StateOfSome, SeenIsOfTheOperations, LiveIsOfTheOperations, CoverIsOfTheOperations, CoverBelowIsOfTheOperations, CountIsOfTheOperations, TopicsAreTheMessages, AnswerIsOfTheOperations, OneAnswer};
 
 /// Joining the deltas of operations makes their state, in whatever order and however often each
 /// comes.
@@ -23,8 +23,9 @@ pub fn state_of_some()
     ensures { StateOfSome }
 {}
 
-/// What the state says of subscriptions and counts is what the operations say.
+/// What the state says of dots, subscriptions and counts is what the operations say.
 pub fn state_shows_the_operations()
+    ensures seen { SeenIsOfTheOperations }
     ensures live { LiveIsOfTheOperations }
     ensures cover { CoverIsOfTheOperations }
     ensures cover_below { CoverBelowIsOfTheOperations }

@@ -7,7 +7,7 @@ ghost use Rattle.replica_store.specs.declared.fault.StoreFault.TheVariants.{Numb
 ghost use Rattle.replica_store.specs.Answers.{IsAnswer};
 ghost use Rattle.replica_store.specs.Making.{NumberAtEnd, CountAtEnd, next_dot, subscribe_of, remove_of, remove_below_of, put_of};
 ghost use Rattle.replica_store.specs.StateOf.{delta_of as delta};
-ghost use Rattle.replica_store.specs.States.{State, nothing, state_join, StateBelow};
+ghost use Rattle.replica_store.specs.States.{State, TakenIsSeen, nothing, state_join, StateBelow};
 ghost use Rattle.replica_store.specs.StateLattice.{state_lattice};
 ghost use Rattle.std.specs.FinMap as map;
 
@@ -49,7 +49,7 @@ impl Drop for ReplicaStore {
 }
 
 impl Model for ReplicaStore {
-    ghost use Rattle.replica_store.specs.States.{State, coded_state};
+    ghost use Rattle.replica_store.specs.States.{State, TakenIsSeen, coded_state};
 
     ghost Value = { State };
 
@@ -60,6 +60,12 @@ impl Model for ReplicaStore {
       subscriptions = s.subscriptions;
       retained = s.retained;
     } };
+
+    ghost invariant = { λ s. TakenIsSeen (record {
+      taken = s.taken;
+      subscriptions = s.subscriptions;
+      retained = s.retained;
+    }) };
 }
 
 impl ReplicaStore {
@@ -75,13 +81,14 @@ impl ReplicaStore {
         }
     }
 
-    /// The state of these parts. It takes no memory.
+    /// The state of these parts, where each dot that was taken was seen. It takes no memory.
     pub fn of_parts(
         alloc: Global,
         taken: Context,
         subscriptions: SubscriptionSet,
         retained: RetainedMap,
     ) -> ReplicaStore
+        requires { TakenIsSeen (record { taken = taken; subscriptions = subscriptions; retained = retained }) }
         ensures { result ≡ record { taken = taken; subscriptions = subscriptions; retained = retained } }
     {
         ReplicaStore {
@@ -97,6 +104,13 @@ impl ReplicaStore {
         ensures { result.now ≡ self.now.taken }
     {
         &self.taken
+    }
+
+    /// Each dot that was taken was seen.
+    pub fn has_seen(&self)
+        ensures { TakenIsSeen self.now }
+    {
+        let _taken = &self.taken;
     }
 
     /// The subscriptions.

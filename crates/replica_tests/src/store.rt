@@ -97,7 +97,7 @@ fn has_dots(rt: &impl Abort, alloc: Global, found: &Context, dots: &[(u16, u64)]
     context(rt, alloc, dots).same(found)
 }
 
-// Whether just these dots were taken, were a subscription's, and stand.
+// Whether just these dots were taken, were seen, and stand.
 fn is_row(
     rt: &impl Abort,
     alloc: Global,
@@ -163,7 +163,7 @@ fn spare(rt: &impl Abort, alloc: Global, zero: &mut ReplicaStore, one: &mut Repl
     assert!(rt; is_row(rt, alloc, one, &[(1, 1)], &[(1, 1)], &[(1, 1)]));
     receive(rt, alloc, zero, &first, &first);
     let eviction = evict(rt, alloc, zero, 0);
-    assert!(rt; is_row(rt, alloc, zero, &[(0, 1), (1, 1)], &[(1, 1)], &[]));
+    assert!(rt; is_row(rt, alloc, zero, &[(0, 1), (1, 1)], &[(0, 1), (1, 1)], &[]));
     let second = subscribe(rt, alloc, one, 1, "t");
     assert!(rt;
         is_row(
@@ -179,8 +179,8 @@ fn spare(rt: &impl Abort, alloc: Global, zero: &mut ReplicaStore, one: &mut Repl
     receive(rt, alloc, zero, &second, &first);
     receive(rt, alloc, one, &eviction, &first);
     let end = [(0, 1), (1, 1), (1, 2)];
-    assert!(rt; is_row(rt, alloc, zero, &end, &[(1, 1), (1, 2)], &[(1, 2)]));
-    assert!(rt; is_row(rt, alloc, one, &end, &[(1, 1), (1, 2)], &[(1, 2)]));
+    assert!(rt; is_row(rt, alloc, zero, &end, &end, &[(1, 2)]));
+    assert!(rt; is_row(rt, alloc, one, &end, &end, &[(1, 2)]));
     assert!(rt; are_same(zero, one));
     drop([first, eviction, second]);
 }
@@ -197,16 +197,7 @@ fn a_removal_spares_what_it_did_not_see(rt: HostRuntime) {
     drop(subscribe(&rt, alloc, &mut one, 1, "u"));
     meet(&rt, &mut zero, &mut one);
     let taken = [(0, 1), (0, 2), (1, 1), (1, 2), (1, 3)];
-    assert!(rt;
-        is_row(
-            &rt,
-            alloc,
-            &zero,
-            &taken,
-            &[(1, 1), (1, 2), (1, 3)],
-            &[(1, 3)]
-        )
-    );
+    assert!(rt; is_row(&rt, alloc, &zero, &taken, &taken, &[(1, 3)]));
     assert!(rt; are_same(&zero, &one));
     drop([zero, one]);
 }

@@ -8,8 +8,8 @@ use std::process::Abort;
 /// A row: its kind, owner, place and value.
 type Plain = (u8, &'static [u8], &'static [u8], &'static [u8]);
 
-/// The mark of node 1 in version 2: it has given no identifier.
-const MARK: Plain = (1, b"", b"", b"\0\x02\0\x01\0\0\0\0\0\0\0\0");
+/// The mark of node 1 in version 3: it has given no identifier.
+const MARK: Plain = (1, b"", b"", b"\0\x03\0\x01\0\0\0\0\0\0\0\0");
 
 /// A subscription of `a` to `t` under the dot (1, 1).
 const SUBSCRIPTION: Plain = (
@@ -106,15 +106,15 @@ fn figures_are_told(rt: HostRuntime) {
 
 #[test]
 fn flaws_are_told(rt: HostRuntime) {
-    let other_version: Plain = (1, b"", b"", b"\0\x03\0\x01\0\0\0\0\0\0\0\0");
-    let other_node: Plain = (1, b"", b"", b"\0\x02\0\0\0\0\0\0\0\0\0\0");
-    let short: Plain = (1, b"", b"", b"\0\x02\0\x01");
-    let owned: Plain = (1, b"a", b"", b"\0\x02\0\x01\0\0\0\0\0\0\0\0");
+    let other_version: Plain = (1, b"", b"", b"\0\x04\0\x01\0\0\0\0\0\0\0\0");
+    let other_node: Plain = (1, b"", b"", b"\0\x03\0\0\0\0\0\0\0\0\0\0");
+    let short: Plain = (1, b"", b"", b"\0\x03\0\x01");
+    let owned: Plain = (1, b"a", b"", b"\0\x03\0\x01\0\0\0\0\0\0\0\0");
     for (first, flaw) in [
         (SUBSCRIPTION, Flaw::NoMark),
         (short, Flaw::NoMark),
         (owned, Flaw::NoMark),
-        (other_version, Flaw::OtherVersion(3)),
+        (other_version, Flaw::OtherVersion(4)),
         (other_node, Flaw::OtherNode(0)),
     ] {
         assert!(rt; is_told(&rt, rt.alloc(), &[first], Err(flaw)));

@@ -125,7 +125,7 @@ impl fmt::Display for Found {
             Found::NoMark => write!(f, "they do not begin with the mark of a node"),
             Found::OtherVersion(version) => write!(
                 f,
-                "they are of version {version}, and versions 1 and 2 are read"
+                "they are of version {version}, and versions 1 to 3 are read"
             ),
             Found::OtherNode(node) => write!(
                 f,

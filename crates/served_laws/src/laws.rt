@@ -5,13 +5,12 @@ ghost use Rattle.served_laws.specs.Sockets.{SocketTurnIsRun, StartIsTaken};
 ghost use Rattle.served_laws.specs.Turns.{CrashIsRun, TurnIsRun};
 
 use broker_sockets::{BridgeHandler, Handler, Readiness};
-use client_limits::Limited;
-use client_log::Logged;
-use node_server::ServedNode;
+use memory_gauge::Gauge;
+use node_server::{TalliedNode, ToldNode};
 use row_store::RowStore;
-use status_door::{Told, Watcher};
-use status_tally::Tallied;
+use status_door::Watcher;
 use std::io::Write;
+use table_door::Tables;
 
 /// Events that are handled one after another are a run, and so is a crash with the rows of before them or of after them.
 pub fn turns_are_runs()
@@ -30,17 +29,20 @@ pub fn served_turns_are_runs<R: RowStore>()
     ensures after { CrashAfterCommit R.is_clean R.is_open R.content R.may_leave }
 {}
 
-/// So a turn over sockets of a served node behind its doors is a run, whatever the limits, with a log or without and whoever looks at it, and in
-/// the world to which it leads the next turn may begin. What the node is told before the first turn is part of that one's run.
+/// So a turn over sockets of a served node behind its doors is a run, whatever tables of homes come, whatever the limits on clients and on what these send,
+/// with a log or without and whoever looks at it, and in the world to which it leads the next turn may begin. What the node is told before the first turn
+/// is part of that one's run.
 pub fn socket_turns_are_runs<
     S: Readiness,
     R: RowStore,
+    F: Tables,
+    G: Gauge,
     E: Write,
-    W: Watcher<Tallied<Logged<Limited<ServedNode<R>>, E>>>,
+    W: Watcher<TalliedNode<R, F, G, E>>,
 >()
-    ensures start { StartIsTaken R.is_open R.content S S.Stream E W ⟦<Told<Tallied<Logged<Limited<ServedNode<R>>, E>>, W> as Handler>⟧.handles }
+    ensures start { StartIsTaken R.is_open R.content S S.Stream F G E W ⟦<ToldNode<R, F, G, E, W> as Handler>⟧.handles }
     ensures turns { SocketTurnIsRun R.is_clean R.is_open R.content S.accepts S.watches S.connects S.reads S.writes S.finds
-        ⟦<Told<Tallied<Logged<Limited<ServedNode<R>>, E>>, W> as Handler>⟧.handles
-        ⟦<Told<Tallied<Logged<Limited<ServedNode<R>>, E>>, W> as BridgeHandler>⟧.hears
-        ⟦<Told<Tallied<Logged<Limited<ServedNode<R>>, E>>, W> as Handler>⟧.settles }
+        ⟦<ToldNode<R, F, G, E, W> as Handler>⟧.handles
+        ⟦<ToldNode<R, F, G, E, W> as BridgeHandler>⟧.hears
+        ⟦<ToldNode<R, F, G, E, W> as Handler>⟧.settles }
 {}

@@ -2,9 +2,11 @@
 
 use broker_serving::serve;
 use broker_stop::{RunFault, Stop};
+use client_bounds::BoundLimits;
 use client_limits::Limits;
 use database_examples::HOMES;
 use home_table::TableFault;
+use node_server::ListenAt;
 use run_causes::Ending;
 use std::fs;
 
@@ -19,11 +21,13 @@ pub fn ends_by(rt: &HostRuntime, names: (&str, &str, &str), end: Result<(), Stop
         configuration,
         node,
         database,
+        ListenAt::table(),
+        BoundLimits::none(),
         Limits::none(),
         false,
         false,
         None,
-        1,
+        Some(1),
     ) {
         Ok(()) => Ok(()),
         Err(

@@ -6,16 +6,19 @@ use broker_sockets::{
 };
 use broker_stop::RunFault;
 use broker_turns::{Hub, Setting};
+use client_bounds::BoundLimits;
 use client_limits::Limits;
 use home_table::HomeTable;
+use memory_gauge::NoGauge;
 use mio::net::{TcpListener, TcpStream};
 use node_keeper::{Keeper, KeeperFault};
-use node_server::{ServedNode, StatusPlace, serve};
+use node_server::{ListenAt, ServedNode, StatusPlace, serve};
 use numbered_homes::homes_of;
 use row_store::MemoryRows;
 use std::alloc::Global;
 use std::net::SocketAddr;
 use std::process::Abort;
+use table_door::NoTables;
 
 /// CONNECT of client `a`, whose home of two nodes is the second one, a retained PUBLISH of `on` to `t`, and SUBSCRIBE to `t`.
 pub const PACKETS: [&[u8]; 3] = [
@@ -134,6 +137,7 @@ fn table(rt: &impl Abort, alloc: Global, address: &str, bridge: &str) -> HomeTab
 fn serve_for(
     rt: &HostRuntime,
     homes: HomeTable,
+    at: ListenAt<'_>,
     turns: u64,
     out: &mut Vec<u8>,
 ) -> Option<RunFault> {
@@ -150,15 +154,20 @@ fn serve_for(
     let rows = MemoryRows::new(alloc);
     let silent: Option<Vec<u8>> = None;
     let nowhere: Option<StatusPlace<'_, RealSockets<'_, HostRuntime>>> = None;
+    let no_tables: Option<NoTables> = None;
     serve(
         alloc,
         &mut sockets,
         &mut clock,
         rows,
         (homes, 0),
+        at,
+        no_tables,
+        (BoundLimits::none(), NoGauge),
         Limits::none(),
         false,
         silent,
+        None,
         nowhere,
         turns,
         out,
@@ -190,7 +199,32 @@ fn a_run_tells_its_turns(rt: HostRuntime) {
     ] {
         let mut out = Vec::new(rt.alloc());
         let homes = table(&rt, rt.alloc(), address, bridge);
-        assert!(rt; serve_for(&rt, homes, turns, &mut out) == fault);
+        assert!(rt; serve_for(&rt, homes, ListenAt::table(), turns, &mut out) == fault);
+        assert!(rt; out.as_slice() == lines.as_bytes());
+    }
+}
+
+#[test]
+fn a_node_waits_where_it_is_told_to(rt: HostRuntime) {
+    let any = Some("127.0.0.1:0");
+    let elsewhere = Some("192.0.2.1:1883");
+    let socket = Some(RunFault::Socket);
+    for (clients, nodes, fault, lines) in [
+        (
+            any,
+            any,
+            None,
+            "ready node.example:1883 node.example:2883\nturns 1\n",
+        ),
+        (any, None, socket, ""),
+        (None, any, socket, ""),
+        (elsewhere, any, socket, ""),
+        (any, elsewhere, socket, ""),
+    ] {
+        let mut out = Vec::new(rt.alloc());
+        let homes = table(&rt, rt.alloc(), "node.example:1883", "node.example:2883");
+        let at = ListenAt { clients, nodes };
+        assert!(rt; serve_for(&rt, homes, at, 1, &mut out) == fault);
         assert!(rt; out.as_slice() == lines.as_bytes());
     }
 }

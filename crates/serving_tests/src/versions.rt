@@ -6,16 +6,19 @@ use node_database::{Wary, open_rows};
 use row_store::{Row, RowStore};
 use std::fs;
 
-/// Its mark and its subscription's value, in version 2.
-const MARK: &[u8] = b"\0\x02\0\x01\0\0\0\0\0\0\0\0";
+/// Its mark, its subscription's value, and its dots (1, 1) and (1, 2), as those that were taken and as those that were seen, in version 3.
+const MARK: &[u8] = b"\0\x03\0\x01\0\0\0\0\0\0\0\0";
 
 const SUBSCRIPTION: &[u8] = b"\0\x01t\x01\0\0\0\0\0\0\0\0";
 
-/// Whether a row is of version 2, where the versions differ.
+const DOTS: &[u8] = b"\0\0\0\x01\0\x01\0\0\0\0\0\0\0\x01\0\0\0\0\0\0\0\x02";
+
+/// Whether a row is of version 3, where the versions differ.
 fn is_raised(row: &Row) -> bool {
     match row.kind {
         1 => row.value.as_slice() == MARK,
         4 => row.value.as_slice() == SUBSCRIPTION,
+        6 => row.value.as_slice() == DOTS,
         _ => true,
     }
 }

@@ -1,8 +1,9 @@
 //! What is told of a node.
 
 ghost use Rattle.std.specs.Prelude.{◌≡◌, count_by, not};
-ghost use Rattle.status_figures.specs.Figures.{agrees, is_caught_up};
+ghost use Rattle.status_figures.specs.Figures.{agrees, is_caught_up, is_whole};
 
+use crate::codes::CodeCount;
 use crate::peer::Peer;
 use crate::traffic::Traffic;
 
@@ -21,6 +22,23 @@ pub struct LeftOut {
     pub bad_frames: u64,
     /// Frames that were too large to be sent.
     pub frames_too_large: u64,
+    /// Tables of homes that weren't newer than the node's, or were for another number of nodes.
+    pub tables_refused: u64,
+}
+
+impl LeftOut {
+    /// Whether nothing was left out.
+    pub fn is_whole(&self) -> bool
+        ensures { result ≡ is_whole self.now }
+    {
+        self.queue_full == 0
+            && self.retained_full == 0
+            && self.picks_lost == 0
+            && self.lane_full == 0
+            && self.bad_frames == 0
+            && self.frames_too_large == 0
+            && self.tables_refused == 0
+    }
 }
 
 /// What is told of a node.
@@ -28,6 +46,8 @@ pub struct LeftOut {
 pub struct Figures {
     pub name: String,
     pub number: u16,
+    /// The version of the table of homes that it holds.
+    pub table: u32,
     /// For how many milliseconds it has run.
     pub uptime: u64,
     /// How many connections of clients are open.
@@ -38,6 +58,14 @@ pub struct Figures {
     pub subscriptions: u64,
     /// How many topics have a retained message.
     pub retained: u64,
+    /// How many topics are held: those, and those whose message was cleared, which the limit counts too.
+    pub topics: u64,
+    /// In milliseconds, the longest time between two ticks in the last ten seconds: the longest turn, and what was waited in it.
+    pub longest_turn: u64,
+    /// How many clients were refused, by the Reason Code of CONNACK, where any were.
+    pub refused: Vec<CodeCount>,
+    /// How many connections the node ended, by the Reason Code of DISCONNECT, where any were.
+    pub ended: Vec<CodeCount>,
     pub left_out: LeftOut,
     /// What went through it since it started.
     pub total: Traffic,
@@ -48,14 +76,14 @@ pub struct Figures {
 }
 
 impl Figures {
-    /// Whether each peer is known to have taken all operations that the node has.
+    /// Whether each peer is linked and was heard, and it and the node are known to have taken the same operations.
     pub fn is_caught_up(&self) -> bool
         ensures { result ≡ is_caught_up self.now }
     {
-        self.peers.iter().all(|peer| peer.is_equal())
+        self.peers.iter().all(|peer| peer.agrees())
     }
 
-    /// How many peers aren't linked, or lack operations.
+    /// How many peers aren't linked, weren't heard, lack operations or have more of them.
     pub fn apart(&self) -> usize
         ensures { result ≡ count_by (λ peer. not (agrees peer)) self.now.peers.items }
     {

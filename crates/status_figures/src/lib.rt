@@ -1,10 +1,12 @@
 //! What is told of a node while it runs, in figures.
 #![tactic(auto)]
 
+mod codes;
 mod figures;
 mod peer;
 mod traffic;
 
+pub use codes::CodeCount;
 pub use figures::{Figures, LeftOut};
 pub use peer::Peer;
 pub use traffic::Traffic;

@@ -6,22 +6,31 @@ ghost use Rattle.status_figures.specs.Figures.{agrees, is_equal};
 /// Another node of the cluster.
 #[derive(Drop)]
 pub struct Peer {
+    /// Its name in the table of homes.
     pub name: String,
     pub number: u16,
+    /// The address of its bridge.
+    pub bridge: String,
     /// Whether the node has a link to it.
     pub linked: bool,
+    /// For how many milliseconds there has been no link to it; 0 where there is one.
+    pub away: u64,
+    /// Whether it was heard since the node started.
+    pub heard: bool,
     /// How many operations the node has taken that this one isn't known to have.
     pub lacking: u64,
+    /// How many operations this one is known to have that the node hasn't taken.
+    pub missing: u64,
     /// How many messages wait for it.
     pub waiting: u64,
 }
 
 impl Peer {
-    /// Whether it is known to have taken all operations that the node has.
+    /// Whether it was heard, and it and the node are known to have taken the same operations.
     pub fn is_equal(&self) -> bool
         ensures { result ≡ is_equal self.now }
     {
-        self.lacking == 0
+        self.heard && self.lacking == 0 && self.missing == 0
     }
 
     /// Whether it is linked too.

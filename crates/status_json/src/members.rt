@@ -4,6 +4,7 @@ ghost use Rattle.std.specs.Prelude.{◌≡◌, ◌++◌, string_bytes, IfOk, OnO
 ghost use Rattle.serde_json.specs.Data.{string};
 ghost use Rattle.serde_json.specs.Written.{compact_text};
 ghost use Rattle.status_json.specs.Members.{member, number_member, truth};
+ghost use Rattle.status_json.specs.Status.{before_of};
 
 use serde_json::Value;
 use std::alloc::{AllocError, Global};
@@ -20,6 +21,13 @@ pub(crate) fn truth(is_so: bool) -> &'static str
     ensures { result.now ≡ truth is_so }
 {
     if is_so { "true" } else { "false" }
+}
+
+/// What stands before the one of several with this index.
+pub(crate) fn before_of(index: usize) -> &'static str
+    ensures { result.now ≡ before_of index }
+{
+    if index == 0 { "{" } else { ",{" }
 }
 
 /// A member, behind what stands before it.

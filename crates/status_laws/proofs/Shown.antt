@@ -1,5 +1,5 @@
 -- What the figures of a node say of its cluster is so.
-use Rattle.std.proofs.Common.{◌≡◌, ◌∙◌, ℕ, ◌<◌, Bool, true, false, cond, List, length, map, Option, Some, None, get_or, eqb, refl, sym, ap, subst, arith}
+use Rattle.std.proofs.Common.{◌≡◌, ◌∙◌, ℕ, ◌<◌, ◌==◌, ◌&&◌, Bool, true, false, cond, List, length, map, Option, Some, None, get_or, eqb, refl, sym, ap, subst, arith}
 use Rattle.std.specs.Prelude.{Contains}
 use Rattle.std.specs.List.{list_all}
 use Rattle.std.specs.Cmp.{both_ways}
@@ -18,12 +18,12 @@ use Rattle.cluster_play.proofs.Believing.{lacks_nothing_there}
 use Rattle.dot_counts.specs.Counts.{lacking}
 use Rattle.dot_counts.proofs.Counting.{none_lacks}
 use Rattle.node_bridge.specs.View.{BridgeView, belief_of, has_lanes, known_of}
-use Rattle.node_figures.specs.Peers.{Seen, lacking_by, others, peer_at, seen}
+use Rattle.node_figures.specs.Peers.{Seen, lacking_by, missing_by, others, peer_at, seen}
 use Rattle.node_work.specs.View.{HeldView}
-use Rattle.status_figures.specs.Figures.{is_caught_up, is_equal}
+use Rattle.status_figures.specs.Figures.{agrees, is_caught_up, is_equal}
 use Rattle.status_figures.specs.declared.figures.Figures.{Figures}
 use Rattle.status_figures.specs.declared.peer.Peer.{Peer}
-use Rattle.status_laws.specs.Agreeing.{BothEqualAgree, CaughtUpIsSo, EqualIsSo, HasAllOf, Shows}
+use Rattle.status_laws.specs.Agreeing.{BothEqualAgree, CaughtUpIsSo, EqualHasNoMore, EqualIsSo, HasAllOf, HasWhatItKnows, Shows}
 
 -- ---- what isn't lacking is known
 
@@ -37,17 +37,43 @@ subset_by own b peer (Some known) is none q has =
     let same : known ≡ belief_of b peer = known_is (has_lanes b peer) (belief_of b peer) known is in
     subst (λ (dots : Dots). set.contains dots q ≡ true) same ((none_lacks own known).0 none q has)
 
+-- what is known of a peer, where nothing of it is missing
+known_here : (own : Dots) (o : Option Dots) → missing_by own o ≡ 0 → (known : Dots) → o ≡ Some known → IsSubset known own
+known_here own None none known is = absurd (cc)
+known_here own (Some dots) none known is =
+    let same : dots ≡ known = cc in
+    subst (λ (ds : Dots). IsSubset ds own) same ((none_lacks dots own).0 none)
+
+both_left : (a b : Bool) → (a && b) ≡ true → a ≡ true
+both_left true b e = refl
+both_left false b e = e
+
+both_right : (a b : Bool) → (a && b) ≡ true → b ≡ true
+both_right true b e = e
+both_right false b e = cc
+
+lacks_none : (peer : Peer) → is_equal peer ≡ true → peer.lacking ≡ 0
+lacks_none peer e =
+    let counts = both_right peer.heard (peer.lacking == 0 && peer.missing == 0) e in
+    eqb-true peer.lacking 0 (both_left (peer.lacking == 0) (peer.missing == 0) counts)
+
+misses_none : (peer : Peer) → is_equal peer ≡ true → peer.missing ≡ 0
+misses_none peer e =
+    let counts = both_right peer.heard (peer.lacking == 0 && peer.missing == 0) e in
+    eqb-true peer.missing 0 (both_right (peer.lacking == 0) (peer.missing == 0) counts)
+
 -- ---- who is shown
 
 -- each peer that is shown is one of the other nodes, as it is
 pub record IsShown (w : World) (i : ℕ) (figures : Figures) (shows : Shows w i figures) (peer : Peer) : Type 0 where
   pub lacks : peer.lacking ≡ lacking_by shows.held.store.taken (known_of shows.held.bridge peer.number)
+  pub misses : peer.missing ≡ missing_by shows.held.store.taken (known_of shows.held.bridge peer.number)
 
 shown : (w : World) (i : ℕ) (figures : Figures) (shows : Shows w i figures) (peer : Peer) → Contains figures.peers.items peer → IsShown w i figures shows peer
 shown w i figures shows peer among =
     let peers = figures.peers.items in
     let k = among.0 in
-    let at = peer_at shows.holds.site.node.homes shows.held shows.tally in
+    let at = peer_at shows.holds.site.node.homes shows.held shows.tally shows.since shows.at in
     let numbers = others shows.holds.site.node.place.id (length shows.holds.site.node.homes.nodes) in
     let same : map seen peers ≡ map at numbers = shows.are.peers in
     let as_many : length numbers ≡ length peers = sym (length-map numbers at) ∙ sym (ap (λ (xs : List Seen). length xs) same) ∙ length-map peers seen in
@@ -56,26 +82,41 @@ shown w i figures shows peer among =
     let there : get_or (map at numbers) k (seen peer) ≡ at (get_or numbers k 0) = get_or-map at numbers k 0 (seen peer) within in
     let is : seen peer ≡ at (get_or numbers k 0) = sym here ∙ ap (λ (xs : List Seen). get_or xs k (seen peer)) same ∙ there in
     let number : get_or numbers k 0 ≡ peer.number = sym (ap (λ (s : Seen). s.number) is) in
-    record { lacks = ap (λ (s : Seen). s.lacking) is ∙ ap (λ n. lacking_by shows.held.store.taken (known_of shows.held.bridge n)) number }
+    record {
+      lacks = ap (λ (s : Seen). s.lacking) is ∙ ap (λ n. lacking_by shows.held.store.taken (known_of shows.held.bridge n)) number;
+      misses = ap (λ (s : Seen). s.missing) is ∙ ap (λ n. missing_by shows.held.store.taken (known_of shows.held.bridge n)) number;
+    }
 
 pub equal_has_all : EqualIsSo
 equal_has_all run w r i figures shows peer among equal =
-    let none : peer.lacking ≡ 0 = eqb-true peer.lacking 0 equal in
+    let none : peer.lacking ≡ 0 = lacks_none peer equal in
     let lacks = (shown w i figures shows peer among).lacks in
     lacks_nothing_there run w r i shows.held shows.holds peer.number
     (subset_by shows.held.store.taken shows.held.bridge peer.number (known_of shows.held.bridge peer.number) refl (sym lacks ∙ none))
 
--- ---- all are equal
+pub equal_has_no_more : EqualHasNoMore
+equal_has_no_more w i figures shows peer among equal =
+    let misses = (shown w i figures shows peer among).misses in
+    known_here shows.held.store.taken (known_of shows.held.bridge peer.number) (sym misses ∙ misses_none peer equal)
 
-all_pass : (b : Bool) (peers : List Peer) (peer : Peer) → is_equal peer ≡ b → list_all is_equal peers ≡ true → Contains peers peer → b ≡ true
+-- ---- all agree
+
+all_pass : (b : Bool) (peers : List Peer) (peer : Peer) → agrees peer ≡ b → list_all agrees peers ≡ true → Contains peers peer → b ≡ true
 all_pass true peers peer is all among = refl
 all_pass false peers peer is all among =
-    let not_all = list_all_at is_equal peers among.0 peer among.1 (ap is_equal among.2 ∙ is) in
+    let not_all = list_all_at agrees peers among.0 peer among.1 (ap agrees among.2 ∙ is) in
     cc
 
 pub caught_up_has_all : CaughtUpIsSo
 caught_up_has_all run w r i figures shows all peer among =
-    equal_has_all run w r i figures shows peer among (all_pass (is_equal peer) figures.peers.items peer refl all among)
+    let agrees_so = all_pass (agrees peer) figures.peers.items peer refl all among in
+    let equal = both_right peer.linked (is_equal peer) agrees_so in
+    record {
+      linked = both_left peer.linked (is_equal peer) agrees_so;
+      heard = both_left peer.heard (peer.lacking == 0 && peer.missing == 0) equal;
+      all = equal_has_all run w r i figures shows peer among equal;
+      no_more = equal_has_no_more w i figures shows peer among equal;
+    }
 
 pub both_agree : BothEqualAgree
 both_agree run w r i j f g shows other of_j of_i =

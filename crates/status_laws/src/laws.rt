@@ -1,9 +1,12 @@
 //! The laws.
-ghost use Rattle.status_laws.specs.Agreeing.{BothEqualAgree, CaughtUpIsSo, EqualIsSo};
+ghost use Rattle.status_laws.specs.Agreeing.{BothEqualAgree, CaughtUpIsSo, EqualHasNoMore, EqualIsSo};
 
-/// Where the figures of a running node say that another one lacks nothing, that one has taken each operation that the node has taken.
+/// Where the figures of a running node say that another one is equal, that one has taken each operation that the node has taken, and the node each
+/// that it knows the other one to have; where they say that the node is caught up, all the others are linked, have told what they have, and are
+/// equal in this sense.
 pub fn equal_is_so()
     ensures peer { EqualIsSo }
+    ensures no_more { EqualHasNoMore }
     ensures all { CaughtUpIsSo }
 {}
 

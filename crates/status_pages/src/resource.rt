@@ -7,7 +7,7 @@ ghost use Rattle.status_pages.specs.Resources.{IsAt, kind_of, status_of, text_of
 use http::{HeaderValue, StatusCode};
 use status_figures::Figures;
 use status_json::json_of;
-use status_texts::{metrics_of, page_of};
+use status_texts::{gate_of, metrics_of, page_of};
 use std::alloc::{AllocError, Global};
 
 /// What can be asked for.
@@ -21,7 +21,7 @@ pub enum Resource {
     Json,
     /// Whether the node runs, at `/healthz`.
     Health,
-    /// Whether each peer is known to have all that the node has, at `/caught-up`.
+    /// Whether each peer is linked, was heard and has what the node has, at `/caught-up`.
     CaughtUp,
 }
 
@@ -61,7 +61,7 @@ impl Resource {
         }
     }
 
-    /// 503 for `/caught-up` where a peer isn't known to have all, and else 200.
+    /// 503 for `/caught-up` where a peer isn't linked, wasn't heard, or hasn't what the node has, and else 200.
     pub(crate) fn status(self, figures: &Figures) -> StatusCode
         ensures { result ≡ status_of self figures.now }
     {
@@ -84,7 +84,7 @@ impl Resource {
                 if figures.is_caught_up() {
                     String::from_str(alloc, "caught up\n")
                 } else {
-                    String::from_str(alloc, "not caught up\n")
+                    gate_of(alloc, &figures.peers)
                 }
             }
         }

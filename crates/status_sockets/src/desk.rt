@@ -1,9 +1,9 @@
 //! All connections.
 
-ghost use Rattle.std.specs.Prelude.{◌≡◌, ◌-◌, ◌<◌, ◌≤◌, length, replicate, None, IfOk, IfSome};
+ghost use Rattle.std.specs.Prelude.{◌≡◌, ◌-◌, ◌<◌, ◌≤◌, ◌↔◌, length, replicate, None, IfOk, IfSome, IsTrue};
 ghost use Rattle.std.specs.List.{All};
 ghost use Rattle.status_sockets.specs.Waiting.{IsInTime};
-ghost use Rattle.status_sockets.specs.Desks.{AreInTime};
+ghost use Rattle.status_sockets.specs.Desks.{AreInTime, IsFirst, IsSeat, rank_of};
 
 use crate::visitor::{PIECE, Visitor};
 use broker_sockets::Sockets;
@@ -35,25 +35,41 @@ fn free_places<T: Drop>(alloc: Global) -> Result<Vec<Option<Visitor<T>>>, AllocE
     Ok(places)
 }
 
-/// Lets somebody in who has come, where the place is free. `false`: it is, and nobody has.
-fn let_in<S: Sockets>(
-    alloc: Global,
-    keys: RandomState,
-    place: &mut Option<Visitor<S::Stream>>,
-    sockets: &mut S,
-    listener: &S::Listener,
-    at: u64,
-) -> bool {
-    if place.is_some() {
-        return true;
+/// Whether the first place comes before the second for somebody who comes: it is free and the other one isn't, or its visitor has been
+/// there longer without a whole request.
+fn is_before<T: Drop>(first: &Option<Visitor<T>>, second: &Option<Visitor<T>>) -> bool
+    ensures { IsTrue result ↔ (rank_of first.now < rank_of second.now) }
+{
+    match (first, second) {
+        (_, None) => false,
+        (None, Some(_)) => true,
+        (Some(first), Some(second)) => first.since < second.since,
     }
-    match sockets.accept(listener) {
-        Some(stream) => {
-            *place = Some(Visitor::new(alloc, keys, stream, at));
-            true
-        }
-        None => false,
+}
+
+/// Of two places the one that comes first for somebody who comes.
+fn first_of<T: Drop>(places: &[Option<Visitor<T>>], one: usize, other: usize) -> usize
+    requires one { one < length places.now }
+    requires other { other < length places.now }
+    ensures { IsFirst places.now one other result }
+{
+    if is_before(&places[other], &places[one]) {
+        other
+    } else {
+        one
     }
+}
+
+/// The place for somebody who comes: a free one, or that of the one who has been there longest without a whole request.
+fn seat_of<T: Drop>(places: &[Option<Visitor<T>>]) -> usize
+    requires { 0 < length places.now }
+    ensures { IsSeat places.now result }
+{
+    let mut seat = 0;
+    for index in 0..places.len() {
+        seat = first_of(places, seat, index);
+    }
+    seat
 }
 
 /// Lets the one in this place read, ask and go.
@@ -65,7 +81,7 @@ fn attend<S: Sockets>(
     figures: &Figures,
     at: u64,
 )
-    ensures { IfSome place.new (λ visitor. IsInTime at visitor.since) }
+    ensures { IfSome place.new (λ visitor. IsInTime at visitor.since visitor.begun) }
 {
     let stays = match place {
         Some(visitor) => visitor.visit(alloc, sockets, buffer, figures, at),
@@ -76,7 +92,7 @@ fn attend<S: Sockets>(
     }
 }
 
-/// Lets those in who have come, while places are free.
+/// Lets those in who have come, at most sixteen. Where no place is free the one goes who has been there longest without a whole request.
 fn let_in_all<S: Sockets>(
     alloc: Global,
     keys: RandomState,
@@ -84,10 +100,18 @@ fn let_in_all<S: Sockets>(
     sockets: &mut S,
     listener: &S::Listener,
     at: u64,
-) {
-    for place in places.iter_mut() {
-        if !let_in(alloc, keys, place, sockets, listener, at) {
-            return;
+)
+    requires { length places.old ≡ 16 }
+{
+    for _ in 0..MOST {
+        match sockets.accept(listener) {
+            Some(stream) => {
+                let seat = seat_of(places);
+                if let Some(place) = places.get_mut(seat) {
+                    *place = Some(Visitor::new(alloc, keys, stream, at));
+                }
+            }
+            None => return,
         }
     }
 }
@@ -130,7 +154,8 @@ impl<L: Drop, T: Drop> Desk<L, T> {
         self.places.iter().filter(|place| place.is_some()).count()
     }
 
-    /// Lets those in who have come, at a moment in milliseconds, while places are free.
+    /// Lets those in who have come, at a moment in milliseconds. Where no place is free the one goes who has been there longest without a
+    /// whole request.
     pub fn let_in<S: Sockets<Listener = L, Stream = T>>(&mut self, sockets: &mut S, at: u64)
         ensures { self.new.listener ≡ self.old.listener }
     {
@@ -145,7 +170,8 @@ impl<L: Drop, T: Drop> Desk<L, T> {
     }
 
     /// Attends to those who are there, at a moment in milliseconds: each reads, is answered by these figures, and is written to,
-    /// at most once. Who is done or gone is let go, and who had no whole request for ten seconds.
+    /// at most once. Who is done or gone is let go, who had no whole request for ten seconds, and who has
+    /// begun one two seconds ago that isn't there whole.
     pub fn attend<S: Sockets<Listener = L, Stream = T>>(
         &mut self,
         sockets: &mut S,

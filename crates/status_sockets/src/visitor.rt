@@ -1,6 +1,6 @@
 //! One connection.
 
-ghost use Rattle.std.specs.Prelude.{◌≡◌, ◌≤◌, ◌↔◌, ◌-◌, ◌<◌, length, IsTrue};
+ghost use Rattle.std.specs.Prelude.{◌≡◌, ◌≤◌, ◌↔◌, ◌-◌, ◌<◌, length, None, IsTrue};
 ghost use Rattle.http_server.specs.Connection.{history};
 ghost use Rattle.status_sockets.specs.Waiting.{IsInTime};
 
@@ -18,6 +18,9 @@ pub(crate) const PIECE: usize = 4096;
 /// For so many milliseconds a connection may be open without a whole request.
 pub(crate) const PATIENCE: u64 = 10_000;
 
+/// In so many milliseconds a request that was begun is to be there whole.
+const HASTE: u64 = 2_000;
+
 /// A head has 8 KiB at most, and nobody has to send a body.
 const CONFIG: Config = Config {
     limits: Limits {
@@ -30,35 +33,53 @@ const CONFIG: Config = Config {
     read_size: 4096,
 };
 
-/// Somebody who is connected, and since when there was no whole request.
+/// Somebody who is connected, since when there was no whole request, and when one was begun that isn't there whole.
 #[derive(Drop)]
 pub(crate) struct Visitor<T: Drop> {
     stream: T,
     connection: Connection,
     pub(crate) since: u64,
+    pub(crate) begun: Option<u64>,
 }
 
 impl<T: Drop> Visitor<T> {
     /// Somebody who has connected at this moment.
     pub(crate) fn new(alloc: Global, keys: RandomState, stream: T, at: u64) -> Visitor<T>
-        ensures { result.since ≡ at }
+        ensures since { result.since ≡ at }
+        ensures begun { result.begun ≡ None }
     {
         Visitor {
             stream,
             connection: Connection::new(alloc, keys, CONFIG),
             since: at,
+            begun: None,
         }
     }
 
-    /// Whether there was a whole request within ten seconds.
+    /// Whether there was a whole request within ten seconds, and one that was begun isn't older than two.
     fn is_in_time(&self, at: u64) -> bool
-        ensures { IsTrue result ↔ IsInTime at self.now.since }
+        ensures { IsTrue result ↔ IsInTime at self.now.since self.now.begun }
     {
-        at.saturating_sub(self.since) < PATIENCE
+        if PATIENCE <= at.saturating_sub(self.since) {
+            return false;
+        }
+        match self.begun {
+            Some(begun) => at.saturating_sub(begun) < HASTE,
+            None => true,
+        }
+    }
+
+    /// A request is begun, where none was.
+    fn begin(&mut self, at: u64)
+        ensures { self.new.since ≡ self.old.since }
+    {
+        if self.begun.is_none() {
+            self.begun = Some(at);
+        }
     }
 
     /// Takes what has come, at most once. `false`: nothing more can come.
-    fn read<S: Sockets<Stream = T>>(&mut self, sockets: &mut S, buffer: &mut [u8]) -> bool
+    fn read<S: Sockets<Stream = T>>(&mut self, sockets: &mut S, buffer: &mut [u8], at: u64) -> bool
         ensures { self.new.since ≡ self.old.since }
     {
         if !self.connection.wants_read() {
@@ -68,6 +89,7 @@ impl<T: Drop> Visitor<T> {
             Answer::Later => true,
             Answer::Gone => false,
             Answer::Bytes(count) => {
+                self.begin(at);
                 let mut piece = &buffer[..count];
                 match self.connection.read_from(&mut piece) {
                     Ok(taken) => taken == count,
@@ -83,6 +105,7 @@ impl<T: Drop> Visitor<T> {
         self.connection.advance(&mut pages);
         if pages.asked() {
             self.since = at;
+            self.begun = None;
         }
     }
 
@@ -112,9 +135,9 @@ impl<T: Drop> Visitor<T> {
         figures: &Figures,
         at: u64,
     ) -> bool
-        ensures { IsTrue result → IsInTime at self.new.since }
+        ensures { IsTrue result → IsInTime at self.new.since self.new.begun }
     {
-        if !self.read(sockets, buffer) {
+        if !self.read(sockets, buffer, at) {
             return false;
         }
         self.answer(alloc, figures, at);

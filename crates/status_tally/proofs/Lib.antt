@@ -1,2 +1,4 @@
 pub mod Counted
+pub mod Heard
 pub mod Inside
+pub mod Longest

@@ -25,8 +25,8 @@ pub record IsStopped {H F : Type 0} (stops : H → F → H → Type 0) (d : Tall
 
 pub record IsHeard {H : Type 0} (hears : H → PeerEvent → Given → H → Type 0) (d : Tallied H) (e : PeerEvent) (given : Given) (d' : Tallied H) : Type 0 where
   pub heard : hears d.inside e given d'.inside
-  pub tally : d'.tally ≡ option_map (λ t. gave_frames given.frames.items (gave given.outputs.items (heard_of e.kind t))) d.tally
+  pub tally : d'.tally ≡ option_map (λ t. gave_frames given.frames.items (gave given.outputs.items (heard_of e.at e.kind t))) d.tally
 
 pub record IsDeclined {H F : Type 0} (declines : H → PeerEvent → F → H → Type 0) (d : Tallied H) (e : PeerEvent) (fault : F) (d' : Tallied H) : Type 0 where
   pub declined : declines d.inside e fault d'.inside
-  pub tally : d'.tally ≡ option_map (heard_of e.kind) d.tally
+  pub tally : d'.tally ≡ option_map (heard_of e.at e.kind) d.tally

@@ -1,6 +1,9 @@
+pub mod Codes
 pub mod Counting
 pub mod Doors
 pub mod Laws
+pub mod Links
 pub mod Tallying
+pub mod Ticks
 pub mod Views
 pub mod Windows

@@ -1,5 +1,5 @@
 //! Laws of the door.
-ghost use Rattle.status_tally.specs.Laws.{ChangesNothing, IdleChangesNothing};
+ghost use Rattle.status_tally.specs.Laws.{ChangesNothing, HeardWasThere, IdleChangesNothing};
 
 use crate::tallied::Tallied;
 use broker_sockets::{BridgeHandler, Handler};
@@ -14,4 +14,9 @@ pub fn tally_changes_nothing<H: BridgeHandler>()
 pub fn idle_door_changes_nothing<H: BridgeHandler>()
     ensures { IdleChangesNothing H.handles H.hears H.settles
         ⟦<Tallied<H> as Handler>⟧.handles ⟦<Tallied<H> as BridgeHandler>⟧.hears ⟦<Tallied<H> as Handler>⟧.settles }
+{}
+
+/// A peer is told as heard only where a frame of it came, in one of the calls since nothing was counted.
+pub fn heard_was_there<H: BridgeHandler>()
+    ensures { HeardWasThere ⟦<Tallied<H> as Handler>⟧.handles ⟦<Tallied<H> as BridgeHandler>⟧.hears ⟦<Tallied<H> as Handler>⟧.settles }
 {}

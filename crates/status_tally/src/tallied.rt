@@ -72,11 +72,11 @@ fn give(tally: &mut Option<Tally>, outputs: &[Output])
 }
 
 /// Counts an event of other nodes.
-fn hear(tally: &mut Option<Tally>, kind: &PeerEventKind)
-    ensures { tally.new ≡ option_map (heard kind.now) tally.old }
+fn hear(tally: &mut Option<Tally>, at: u64, kind: &PeerEventKind)
+    ensures { tally.new ≡ option_map (heard at kind.now) tally.old }
 {
     match tally {
-        Some(tally) => tally.hear(kind),
+        Some(tally) => tally.hear(at, kind),
         None => {}
     }
 }
@@ -131,7 +131,7 @@ impl<H: BridgeHandler> BridgeHandler for Tallied<H> {
 
     /// Tells the handler inside.
     fn hear(&mut self, event: PeerEvent) -> Result<Given, H::Fault> {
-        hear(&mut self.tally, &event.kind);
+        hear(&mut self.tally, event.at, &event.kind);
         match self.inside.hear(event) {
             Ok(given) => {
                 give(&mut self.tally, &given.outputs);

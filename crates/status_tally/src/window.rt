@@ -1,7 +1,7 @@
 //! What went through in the last ten seconds.
 
 ghost use Rattle.std.specs.Prelude.{◌≡◌, [], IfOk};
-ghost use Rattle.status_tally.specs.Windows.{base, is_due, less, noted};
+ghost use Rattle.status_tally.specs.Windows.{base, is_due, less, longest_of, noted, with_mark};
 
 use circular_buffer::HeapCircularBuffer;
 use status_figures::Traffic;
@@ -29,11 +29,12 @@ pub(crate) const NOTHING: Traffic = Traffic {
     frame_bytes_sent: 0,
 };
 
-/// What had gone through at a moment.
+/// What had gone through at a moment, and the longest time between two ticks since the mark before.
 #[derive(Clone, Copy, Debug, PartialEq, Eq)]
 pub struct Mark {
     pub at: u64,
     pub total: Traffic,
+    pub longest: u64,
 }
 
 /// The last totals, the oldest first, one a second.
@@ -73,6 +74,28 @@ pub(crate) fn less(total: Traffic, before: Traffic) -> Traffic
     }
 }
 
+/// The longer of a time and that of a mark, where it is at most ten seconds away.
+fn with_mark(at: u64, longest: u64, mark: &Mark) -> u64
+    ensures { result ≡ with_mark at longest mark.now }
+{
+    if mark.at.abs_diff(at) <= RECENT {
+        longest.max(mark.longest)
+    } else {
+        longest
+    }
+}
+
+/// The longest of these, if it is longer than this.
+fn longest_in(marks: &[Mark], at: u64, from: u64) -> u64
+    ensures { result ≡ longest_of at from marks.now }
+{
+    let mut longest = from;
+    for mark in marks {
+        longest = with_mark(at, longest, mark);
+    }
+    longest
+}
+
 impl Window {
     /// No totals.
     pub(crate) fn new(alloc: Global) -> Result<Window, AllocError>
@@ -83,7 +106,7 @@ impl Window {
     }
 
     /// Whether a total is to be noted: the last one is a second away, or there is none.
-    fn is_due(&self, at: u64) -> bool
+    pub(crate) fn is_due(&self, at: u64) -> bool
         ensures { result ≡ is_due at self.now }
     {
         match self.marks.back() {
@@ -92,13 +115,22 @@ impl Window {
         }
     }
 
-    /// Notes what has gone through by this moment, once a second.
-    pub(crate) fn note(&mut self, at: u64, total: Traffic)
-        ensures { self.new ≡ noted at total self.old }
+    /// Notes what has gone through by this moment, and the longest time between two ticks, once a second.
+    pub(crate) fn note(&mut self, at: u64, total: Traffic, longest: u64)
+        ensures { self.new ≡ noted at total longest self.old }
     {
         if self.is_due(at) {
-            let _ = self.marks.push_back(Mark { at, total });
+            let _ = self.marks.push_back(Mark { at, total, longest });
         }
+    }
+
+    /// The longest time between two ticks that is noted with a total that is at most ten seconds away, if it is longer than this.
+    #[tactic(auto, using(crate::proofs::Longest::longest_both))]
+    pub(crate) fn longest(&self, at: u64, from: u64) -> u64
+        ensures { result ≡ longest_of at from self.now }
+    {
+        let (first, second) = self.marks.as_slices();
+        longest_in(second, at, longest_in(first, at, from))
     }
 
     /// What had gone through by the oldest of the totals that is at most ten seconds away, and nothing where none is.

@@ -1,6 +1,6 @@
 //! What is answered to each request.
 
-use crate::figures::figures;
+use crate::figures::{equal_peer, figures};
 use crate::turns::{desk, make};
 use fake_sockets::FakeSockets;
 use std::alloc::Global;
@@ -24,7 +24,7 @@ const CASES: [Case; 12] = [
     (
         "GET /caught-up HTTP/1.1\r\nhost: a\r\n\r\n",
         "HTTP/1.1 503 Service Unavailable\r\n",
-        "\r\n\r\nnot caught up\n",
+        "\r\n\r\nnot caught up\n<b>&\"n2\\: linked, lacking operations: 5, more than here: 0\n",
     ),
     (
         "GET /metrics?now HTTP/1.1\r\nhost: a\r\n\r\n",
@@ -34,7 +34,7 @@ const CASES: [Case; 12] = [
     (
         "GET /status.json HTTP/1.1\r\nhost: a\r\n\r\n",
         "HTTP/1.1 200 OK\r\ncontent-type: application/json\r\n",
-        ",\"lacking\":5,\"waiting\":7}]}\n",
+        ",\"lacking\":5,\"missing\":0,\"waiting\":7}]}\n",
     ),
     (
         "GET / HTTP/1.1\r\nhost: a\r\n\r\n",
@@ -134,7 +134,7 @@ fn names_are_escaped(rt: HostRuntime) {
     assert!(rt;
         contains(
             &page,
-            b"<p class=\"apart\">Apart: 1 of 2 peers (not linked, or lacking operations).</p>"
+            b"<p class=\"apart\">Apart: 1 of 2 peers (not linked, not heard, or with other operations).</p>"
         )
     );
     let metrics = answer(
@@ -156,4 +156,59 @@ fn names_are_escaped(rt: HostRuntime) {
         b"GET /status.json HTTP/1.1\r\nhost: a\r\n\r\n",
     );
     assert!(rt; contains(&json, b"{\"name\":\"<b>&\\\"n2\\\\\",\"number\":2,"));
+}
+
+#[test]
+fn what_misleads_is_told(rt: HostRuntime) {
+    let alloc = rt.alloc();
+    let keys = RandomState::new(&rt).expect(&rt, "keys");
+    let page = answer(&rt, alloc, keys, b"GET / HTTP/1.1\r\nhost: a\r\n\r\n");
+    for part in [
+        "<p class=\"apart\">This node has left something out since it started (below).</p>",
+        "<tr class=\"apart\"><th>Copies for a full queue</th><td>21</td></tr>",
+        "<tr><th>Refused: Not authorized (0x87)</th><td>17</td></tr>",
+        "<tr><th>Ended: Keep Alive timeout (0x8D)</th><td>18</td></tr>",
+        "<tr><th>Topics that are held, with those that were cleared</th><td>15</td></tr>",
+    ] {
+        assert!(rt; contains(&page, part.as_bytes()));
+    }
+    let metrics = answer(
+        &rt,
+        alloc,
+        keys,
+        b"GET /metrics HTTP/1.1\r\nhost: a\r\n\r\n",
+    );
+    for part in [
+        "\nmqtt_connections_refused_total{code=\"0x87\"} 17\n",
+        "\nmqtt_connections_ended_total{code=\"0x8D\"} 18\n",
+        "\nmqtt_longest_turn_seconds 0.016\n",
+        "\nmqtt_table_version 3\n",
+        "\nmqtt_tables_refused_total 27\n",
+        "\nmqtt_cluster_peer_heard{peer=\"n1\"} 1\n",
+    ] {
+        assert!(rt; contains(&metrics, part.as_bytes()));
+    }
+}
+
+#[test]
+fn peers_hold_the_gate(rt: HostRuntime) {
+    let alloc = rt.alloc();
+    for (linked, heard, lacking, missing, is_open) in [
+        (true, true, 0, 0, true),
+        (false, true, 0, 0, false),
+        (true, false, 0, 0, false),
+        (true, true, 1, 0, false),
+        (true, true, 0, 1, false),
+    ] {
+        let mut told = figures(&rt, alloc, 0);
+        let mut peer = equal_peer(&rt, alloc);
+        peer.linked = linked;
+        peer.heard = heard;
+        peer.lacking = lacking;
+        peer.missing = missing;
+        told.peers.push(peer).expect(&rt, "memory");
+        assert_eq!(rt; told.is_caught_up(), is_open);
+        assert_eq!(rt; told.apart() == 0, is_open);
+        drop(told);
+    }
 }

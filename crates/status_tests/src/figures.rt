@@ -1,6 +1,6 @@
 //! The figures that are told.
 
-use status_figures::{Figures, LeftOut, Peer, Traffic};
+use status_figures::{CodeCount, Figures, LeftOut, Peer, Traffic};
 use std::alloc::Global;
 use std::process::Abort;
 
@@ -22,33 +22,63 @@ fn text(rt: &impl Abort, alloc: Global, from: &str) -> String {
     String::from_str(alloc, from).expect(rt, "memory")
 }
 
+/// A peer that is linked, was heard, and has what the node has.
+pub(crate) fn equal_peer(rt: &impl Abort, alloc: Global) -> Peer {
+    Peer {
+        name: text(rt, alloc, "n1"),
+        number: 1,
+        bridge: text(rt, alloc, "127.0.0.1:2884"),
+        linked: true,
+        away: 0,
+        heard: true,
+        lacking: 0,
+        missing: 0,
+        waiting: 0,
+    }
+}
+
+/// One that lacks so many operations.
+fn lacking_peer(rt: &impl Abort, alloc: Global, lacking: u64) -> Peer {
+    Peer {
+        name: text(rt, alloc, "<b>&\"n2\\"),
+        number: 2,
+        bridge: text(rt, alloc, "127.0.0.1:2885"),
+        linked: true,
+        away: 0,
+        heard: true,
+        lacking,
+        missing: 0,
+        waiting: 7,
+    }
+}
+
+/// A Reason Code that was given so often.
+fn given(rt: &impl Abort, alloc: Global, code: u8, count: u64) -> Vec<CodeCount> {
+    let mut all = Vec::new(alloc);
+    all.push(CodeCount { code, count }).expect(rt, "memory");
+    all
+}
+
 /// A node with two peers, of which the second lacks so many operations.
 pub(crate) fn figures(rt: &impl Abort, alloc: Global, lacking: u64) -> Figures {
     let mut peers = Vec::new(alloc);
-    let first = Peer {
-        name: text(rt, alloc, "n1"),
-        number: 1,
-        linked: true,
-        lacking: 0,
-        waiting: 0,
-    };
-    peers.push(first).expect(rt, "memory");
-    let second = Peer {
-        name: text(rt, alloc, "<b>&\"n2\\"),
-        number: 2,
-        linked: true,
-        lacking,
-        waiting: 7,
-    };
-    peers.push(second).expect(rt, "memory");
+    peers.push(equal_peer(rt, alloc)).expect(rt, "memory");
+    peers
+        .push(lacking_peer(rt, alloc, lacking))
+        .expect(rt, "memory");
     Figures {
         name: text(rt, alloc, "n0"),
         number: 0,
+        table: 3,
         uptime: 93_784_567,
         clients: 11,
         sessions: 12,
         subscriptions: 13,
         retained: 14,
+        topics: 15,
+        longest_turn: 16,
+        refused: given(rt, alloc, 0x87, 17),
+        ended: given(rt, alloc, 0x8D, 18),
         left_out: LeftOut {
             queue_full: 21,
             retained_full: 22,
@@ -56,6 +86,7 @@ pub(crate) fn figures(rt: &impl Abort, alloc: Global, lacking: u64) -> Figures {
             lane_full: 24,
             bad_frames: 25,
             frames_too_large: 26,
+            tables_refused: 27,
         },
         total: traffic(100),
         recent: traffic(30),

@@ -2,7 +2,7 @@
 
 use crate::mirror::Mirror;
 use broker_sockets::{BridgeHandler, Event, EventKind, Handler, PeerEvent, PeerEventKind};
-use status_figures::Traffic;
+use status_figures::{CodeCount, Traffic};
 use status_tally::{Tallied, Tally};
 use std::alloc::Global;
 use std::process::Abort;
@@ -71,8 +71,8 @@ fn links_are_up_once_all_is_written(rt: HostRuntime) {
     ] {
         hear(&rt, &mut door, kind);
         let tally = door.tally().expect(&rt, "it counts");
-        assert_eq!(rt; tally.is_linked(2), linked);
-        assert!(rt; !tally.is_linked(3));
+        assert_eq!(rt; tally.link(2).up, linked);
+        assert!(rt; !tally.link(3).up);
     }
     drop(door);
 }
@@ -94,4 +94,104 @@ fn what_is_recent_came_in_ten_seconds(rt: HostRuntime) {
     // the clock is put back
     assert_eq!(rt; tally.recent(0).opened, 40);
     drop(door);
+}
+
+#[test]
+fn peers_are_away_since_their_link_failed(rt: HostRuntime) {
+    let mut door = door(&rt, rt.alloc());
+    for (at, kind, since) in [
+        (10, PeerEventKind::Linked { peer: 2 }, 0),
+        (20, PeerEventKind::Ship { peer: 2 }, 20),
+        (30, PeerEventKind::Ship { peer: 2 }, 20),
+        (40, PeerEventKind::Linked { peer: 2 }, 40),
+        (50, PeerEventKind::Linked { peer: 2 }, 40),
+    ] {
+        assert!(rt; door.hear(PeerEvent { at, kind }).is_ok());
+        let tally = door.tally().expect(&rt, "it counts");
+        assert_eq!(rt; tally.link(2).since, since);
+    }
+    drop(door);
+}
+
+#[test]
+fn peers_are_heard_once_they_tell_what_they_have(rt: HostRuntime) {
+    let alloc = rt.alloc();
+    let mut door = door(&rt, alloc);
+    // Hello of node 2 and of node 1, and a Know of node 1 with no dots
+    for (at, frame, first, second) in [
+        (
+            10,
+            b"\x00\x00\x00\x05\x01\x00\x02\x00\x00".as_slice(),
+            false,
+            false,
+        ),
+        (
+            20,
+            b"\x00\x00\x00\x05\x01\x00\x01\x00\x00".as_slice(),
+            false,
+            false,
+        ),
+        (
+            30,
+            b"\x00\x00\x00\x09\x03\x00\x01\x00\x00\x00\x00\x00\x00".as_slice(),
+            true,
+            false,
+        ),
+        (1_010, b"\x00".as_slice(), true, true),
+    ] {
+        let bytes = Vec::from_slice(alloc, frame).expect(&rt, "memory");
+        let kind = PeerEventKind::Frame { bytes };
+        assert!(rt; door.hear(PeerEvent { at, kind }).is_ok());
+        let tally = door.tally().expect(&rt, "it counts");
+        assert_eq!(rt; tally.link(1).is_heard(at), first);
+        assert_eq!(rt; tally.link(2).is_heard(at), second);
+    }
+    drop(door);
+}
+
+#[test]
+fn the_longest_turn_is_told_for_ten_seconds(rt: HostRuntime) {
+    let mut door = door(&rt, rt.alloc());
+    for at in [1_000_000, 1_000_010, 1_000_400, 1_000_410, 1_002_000] {
+        tell(&rt, &mut door, at, EventKind::Tick);
+    }
+    let tally = door.tally().expect(&rt, "it counts");
+    assert_eq!(rt; tally.longest_turn(1_002_000), 1_590);
+    assert_eq!(rt; tally.longest_turn(1_012_001), 0);
+    drop(door);
+}
+
+#[test]
+fn refused_clients_are_counted_by_their_codes(rt: HostRuntime) {
+    let alloc = rt.alloc();
+    let mut door = door(&rt, alloc);
+    for bytes in [
+        b"\x20\x03\x00\x87\x00".as_slice(),
+        b"\x20\x03\x00\x00\x00",
+        b"\x20\x03\x00\x87\x00",
+        b"\xe0\x02\x8d\x00",
+        b"\xe0\x00",
+    ] {
+        come(&rt, alloc, &mut door, 1, bytes);
+    }
+    let tally = door.tally().expect(&rt, "it counts");
+    let refused = tally.refused(alloc).expect(&rt, "memory");
+    assert!(rt;
+        refused.as_slice()
+            == [CodeCount {
+                code: 0x87,
+                count: 2
+            }]
+            .as_slice()
+    );
+    let ended = tally.ended(alloc).expect(&rt, "memory");
+    assert!(rt;
+        ended.as_slice()
+            == [CodeCount {
+                code: 0x8D,
+                count: 1
+            }]
+            .as_slice()
+    );
+    drop((refused, ended, door));
 }

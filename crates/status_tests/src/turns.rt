@@ -35,29 +35,26 @@ pub(crate) fn make(
 }
 
 #[test]
-fn sixteen_are_let_in_and_one_waits(rt: HostRuntime) {
+fn sixteen_are_let_in_and_the_oldest_goes(rt: HostRuntime) {
     let alloc = rt.alloc();
     let keys = RandomState::new(&rt).expect(&rt, "keys");
     let mut network = FakeSockets::new(alloc);
     let mut desk = desk(&rt, alloc, keys, &mut network);
     let told = figures(&rt, alloc, 0);
-    let first = network.client(1, b"", 100, 100).expect(&rt, "memory");
-    for _ in 0..15 {
+    for _ in 0..16 {
         network.client(1, b"", 100, 100).expect(&rt, "memory");
     }
     let asks = b"GET /healthz HTTP/1.1\r\nhost: a\r\n\r\n";
-    let last = network.client(1, asks, 100, 1000).expect(&rt, "memory");
-    make(&mut desk, &mut network, &told, (0, 5));
+    make(&mut desk, &mut network, &told, (1, 5));
     assert_eq!(rt; desk.visitors(), 16);
-    assert!(rt; network.came(last).is_empty());
-    network.close(first);
+    let last = network.client(1, asks, 100, 1000).expect(&rt, "memory");
     make(&mut desk, &mut network, &told, (5, 10));
     assert_eq!(rt; desk.visitors(), 16);
     assert!(rt; network.came(last).ends_with(b"up\n"));
     // and those who say nothing are let go ten seconds after they came
-    make(&mut desk, &mut network, &told, (9_999, 10_000));
-    assert_eq!(rt; desk.visitors(), 16);
     make(&mut desk, &mut network, &told, (10_000, 10_001));
+    assert_eq!(rt; desk.visitors(), 16);
+    make(&mut desk, &mut network, &told, (10_001, 10_002));
     assert_eq!(rt; desk.visitors(), 1);
     drop((desk, network, told));
 }
@@ -92,5 +89,25 @@ fn requests_come_in_any_pieces(rt: HostRuntime) {
     make(&mut desk, &mut network, &told, (0, 1000));
     assert!(rt; network.came(whole).ends_with(b"caught up\n"));
     assert!(rt; network.came(whole) == network.came(piecewise));
+    drop((desk, network, told));
+}
+
+#[test]
+fn half_requests_end_after_two_seconds(rt: HostRuntime) {
+    let alloc = rt.alloc();
+    let keys = RandomState::new(&rt).expect(&rt, "keys");
+    let mut network = FakeSockets::new(alloc);
+    let mut desk = desk(&rt, alloc, keys, &mut network);
+    let told = figures(&rt, alloc, 0);
+    network
+        .client(1, b"GET /hea", 100, 100)
+        .expect(&rt, "memory");
+    network.client(1, b"", 100, 100).expect(&rt, "memory");
+    make(&mut desk, &mut network, &told, (0, 5));
+    assert_eq!(rt; desk.visitors(), 2);
+    make(&mut desk, &mut network, &told, (1_999, 2_000));
+    assert_eq!(rt; desk.visitors(), 2);
+    make(&mut desk, &mut network, &told, (2_000, 2_001));
+    assert_eq!(rt; desk.visitors(), 1);
     drop((desk, network, told));
 }

@@ -1,3 +1,4 @@
+pub mod Codes
 pub mod Elsewhere
 pub mod Escapes
 pub mod Lines

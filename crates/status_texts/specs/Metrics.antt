@@ -1,15 +1,17 @@
 -- The metrics of a node. Each definition `with_..` is a text, and then what it is named for.
-use Rattle.std.specs.Prelude.{ℕ, ◌/◌, Bool, List, [], ◌∷◌, ◌++◌, codes, if◌then◌else◌}
+use Rattle.std.specs.Prelude.{ℕ, ◌/◌, ◌%◌, Bool, List, [], ◌∷◌, ◌++◌, codes, if◌then◌else◌}
 use Rattle.std.specs.Fmt.{decimal}
+use Rattle.status_figures.specs.declared.codes.CodeCount.{CodeCount}
 use Rattle.status_figures.specs.declared.figures.Figures.{Figures}
 use Rattle.status_figures.specs.declared.figures.LeftOut.{LeftOut}
 use Rattle.status_figures.specs.declared.traffic.Traffic.{Traffic}
 use Rattle.status_figures.specs.declared.peer.Peer.{Peer}
 use Rattle.status_figures.specs.Figures.{is_caught_up}
+use Rattle.status_texts.specs.Codes.{with_code_lines}
 use Rattle.status_texts.specs.Escapes.{label}
 use Rattle.status_texts.specs.Lines.{help_line, kind_line, peer_line, reason_line, with_counter, with_gauge}
 use Rattle.status_texts.specs.declared.metrics.Counted.{Counted}
-use Rattle.status_texts.specs.declared.metrics.Counted.TheVariants.{Linked, Lacking, Waiting}
+use Rattle.status_texts.specs.declared.metrics.Counted.TheVariants.{Linked, Away, Heard, Lacking, Missing, Waiting}
 
 unfoldable pub info_name : List ℕ → List ℕ
 info_name name = codes "mqtt_node_info{node=\"" ++ name ++ codes "\","
@@ -33,6 +35,28 @@ with_node figures text =
     (with_gauge (codes "mqtt_clients_connected") (codes "Connections of clients that are open.") figures.clients
     (with_gauge (codes "mqtt_uptime_seconds") (codes "Seconds since the node started.") (figures.uptime / 1000)
     text))))
+
+unfoldable pub with_held : Figures → List ℕ → List ℕ
+with_held figures text =
+    with_gauge (codes "mqtt_table_version") (codes "The version of the table of homes.") figures.table
+    (with_gauge (codes "mqtt_topics_held") (codes "Topics that have or had a retained message.") figures.topics
+    text)
+
+-- so many milliseconds, in seconds with three digits behind the point
+unfoldable pub thousandths_line : List ℕ → ℕ → List ℕ
+thousandths_line name n =
+    name ++ codes " " ++ decimal (n / 1000) ++ codes "." ++ decimal (n / 100 % 10) ++ decimal (n / 10 % 10) ++ decimal (n % 10) ++ codes "\n"
+
+-- a metric of one time, in milliseconds
+unfoldable pub with_seconds : List ℕ → List ℕ → ℕ → List ℕ → List ℕ
+with_seconds name help n text = (text ++ help_line name help ++ kind_line name (codes "gauge")) ++ thousandths_line name n
+
+unfoldable pub with_turns : ℕ → List ℕ → List ℕ
+with_turns longest text = with_seconds (codes "mqtt_longest_turn_seconds") (codes "The longest turn of the last ten seconds.") longest text
+
+-- the clients that were refused, and the connections that were ended, by their Reason Codes
+unfoldable pub with_codes : List ℕ → List ℕ → List CodeCount → List ℕ → List ℕ
+with_codes name help all text = with_code_lines name all (text ++ help_line name help ++ kind_line name (codes "counter"))
 
 unfoldable pub with_clients : Traffic → List ℕ → List ℕ
 with_clients total text =
@@ -68,13 +92,20 @@ with_frames_dropped left_out text =
     ++ reason_line (codes "mqtt_cluster_frames_dropped_total") (codes "bad") left_out.bad_frames
     ++ reason_line (codes "mqtt_cluster_frames_dropped_total") (codes "too_large") left_out.frames_too_large
 
+unfoldable pub with_tables : LeftOut → List ℕ → List ℕ
+with_tables left_out text =
+    with_counter (codes "mqtt_tables_refused_total") (codes "Tables of homes that were not taken.") left_out.tables_refused text
+
 -- 1 where it is so
 abbrev pub as_number : Bool → ℕ
 as_number so = if so then 1 else 0
 
 abbrev pub number_of : Counted → Peer → ℕ
 number_of Linked peer = as_number peer.linked
+number_of Away peer = peer.away / 1000
+number_of Heard peer = as_number peer.heard
 number_of Lacking peer = peer.lacking
+number_of Missing peer = peer.missing
 number_of Waiting peer = peer.waiting
 
 -- the line of a peer
@@ -92,15 +123,34 @@ with_peer_metric name help counted peers text =
 
 unfoldable pub with_cluster : Figures → List ℕ → List ℕ
 with_cluster figures text =
-    with_gauge (codes "mqtt_cluster_caught_up") (codes "Whether each peer is known to have all.") (as_number (is_caught_up figures))
+    with_gauge (codes "mqtt_cluster_caught_up") (codes "Whether each peer is linked, was heard, and has what the node has.") (as_number (is_caught_up figures))
     (with_peer_metric (codes "mqtt_cluster_peer_waiting_messages") (codes "Messages that wait for the peer.") Waiting figures.peers.items
+    (with_peer_metric (codes "mqtt_cluster_peer_missing_operations") (codes "Operations that the peer has and the node lacks.") Missing figures.peers.items
     (with_peer_metric (codes "mqtt_cluster_peer_lacking_operations") (codes "Operations that the peer is not known to have.") Lacking figures.peers.items
-    (with_peer_metric (codes "mqtt_cluster_peer_linked") (codes "Whether there is a link to the peer.") Linked figures.peers.items
     text)))
 
--- the node, what it holds, what went through, what was left out, and its peers
+unfoldable pub with_peer_links : Figures → List ℕ → List ℕ
+with_peer_links figures text =
+    with_peer_metric (codes "mqtt_cluster_peer_heard") (codes "Whether the peer was heard since the node started.") Heard figures.peers.items
+    (with_peer_metric (codes "mqtt_cluster_peer_away_seconds") (codes "Seconds without a link to the peer.") Away figures.peers.items
+    (with_peer_metric (codes "mqtt_cluster_peer_linked") (codes "Whether there is a link to the peer.") Linked figures.peers.items
+    text))
+
+-- what the node holds, and what went through it
+unfoldable pub with_counts : Figures → List ℕ → List ℕ
+with_counts figures text =
+    with_links figures.total (with_clients figures.total (with_turns figures.longest_turn (with_held figures (with_node figures text))))
+
+unfoldable pub with_refused : Figures → List ℕ → List ℕ
+with_refused figures text =
+    with_codes (codes "mqtt_connections_ended_total") (codes "Connections that were ended, by the code of DISCONNECT.") figures.ended.items
+    (with_codes (codes "mqtt_connections_refused_total") (codes "Clients that were refused, by the code of CONNACK.") figures.refused.items text)
+
+unfoldable pub with_losses : LeftOut → List ℕ → List ℕ
+with_losses left_out text = with_tables left_out (with_frames_dropped left_out (with_dropped left_out text))
+
+-- the node, what it holds, what went through, who was refused, what was left out, and its peers
 abbrev pub metrics_text : Figures → List ℕ
 metrics_text figures =
-    with_cluster figures (with_frames_dropped figures.left_out (with_dropped figures.left_out
-    (with_links figures.total (with_clients figures.total (with_node figures
-    (with_info (label figures.name.bytes.items) figures.number []))))))
+    with_cluster figures (with_peer_links figures (with_losses figures.left_out (with_refused figures (with_counts figures
+    (with_info (label figures.name.bytes.items) figures.number [])))))

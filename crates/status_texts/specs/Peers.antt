@@ -1,22 +1,28 @@
 -- The peers of a node, as the page shows them.
-use Rattle.std.specs.Prelude.{ℕ, List, [], ◌∷◌, ◌++◌, codes, if◌then◌else◌}
+use Rattle.std.specs.Prelude.{ℕ, ◌/◌, ◌==◌, List, [], ◌∷◌, ◌++◌, codes, if◌then◌else◌}
 use Rattle.std.specs.Fmt.{decimal}
 use Rattle.status_figures.specs.declared.peer.Peer.{Peer}
 use Rattle.status_figures.specs.Figures.{agrees, is_equal}
 use Rattle.status_texts.specs.Escapes.{escaped}
-use Rattle.status_texts.specs.Rows.{cell, number_cell}
+use Rattle.status_texts.specs.Rows.{cell, number_cell, row_start, uptime_text}
 
 abbrev pub class_of : Peer → List ℕ
 class_of peer = if agrees peer then codes "agrees" else codes "apart"
 
-abbrev pub link_of : Peer → List ℕ
-link_of peer = if peer.linked then codes "linked" else codes "not linked"
+-- for how long there has been no link
+abbrev pub link_text : Peer → List ℕ
+link_text peer = if peer.linked then codes "linked" else codes "not linked for " ++ uptime_text (peer.away / 1000)
+
+-- what it lacks, and what it has more than the node
+unfoldable pub counts_text : ℕ → ℕ → List ℕ
+counts_text lacking missing = codes "lacking operations: " ++ decimal lacking ++ codes ", more than here: " ++ decimal missing
+
+-- where it isn't equal
+abbrev pub differing_text : Peer → List ℕ
+differing_text peer = if peer.heard then counts_text peer.lacking peer.missing else codes "not heard since the start"
 
 abbrev pub state_text : Peer → List ℕ
-state_text peer = if is_equal peer then codes "equal" else codes "lacking operations: " ++ decimal peer.lacking
-
-unfoldable pub row_start : List ℕ → List ℕ
-row_start class = codes "<tr class=\"" ++ class ++ codes "\">"
+state_text peer = if is_equal peer then codes "equal" else differing_text peer
 
 -- the text, and then the line of a peer
 unfoldable pub with_peer : Peer → List ℕ → List ℕ
@@ -24,8 +30,8 @@ with_peer peer text =
     text
     ++ row_start (class_of peer)
     ++ cell (escaped peer.name.bytes.items)
-    ++ number_cell peer.number
-    ++ cell (link_of peer)
+    ++ cell (escaped peer.bridge.bytes.items)
+    ++ cell (link_text peer)
     ++ cell (state_text peer)
     ++ number_cell peer.waiting
     ++ codes "</tr>\n"
@@ -34,3 +40,19 @@ with_peer peer text =
 abbrev pub with_peers : List Peer → List ℕ → List ℕ
 with_peers [] text = text
 with_peers (peer ∷ peers) text = with_peers peers (with_peer peer text)
+
+-- ---- whether a node is caught up, and which peers hold it up
+
+unfoldable pub apart_line : List ℕ → List ℕ → List ℕ → List ℕ
+apart_line name link state = name ++ codes ": " ++ link ++ codes ", " ++ state ++ codes "\n"
+
+-- a line for a peer that isn't linked or isn't equal
+unfoldable pub apart_text : Peer → List ℕ
+apart_text peer = if agrees peer then [] else apart_line peer.name.bytes.items (link_text peer) (state_text peer)
+
+abbrev pub with_apart : List Peer → List ℕ → List ℕ
+with_apart [] text = text
+with_apart (peer ∷ peers) text = with_apart peers (text ++ apart_text peer)
+
+abbrev pub gate_text : List Peer → List ℕ
+gate_text peers = with_apart peers (codes "not caught up\n")

@@ -1,5 +1,5 @@
 -- Lines of the tables of the page.
-use Rattle.std.specs.Prelude.{ℕ, ◌/◌, ◌%◌, List, ◌++◌, codes}
+use Rattle.std.specs.Prelude.{ℕ, ◌/◌, ◌%◌, ◌==◌, List, ◌++◌, codes, if◌then◌else◌}
 use Rattle.std.specs.Fmt.{decimal}
 
 unfoldable pub label_cell : List ℕ → List ℕ
@@ -17,6 +17,19 @@ with_row label value text = text ++ label_cell label ++ cell value ++ codes "</t
 
 unfoldable pub with_number : List ℕ → ℕ → List ℕ → List ℕ
 with_number label n text = text ++ label_cell label ++ number_cell n ++ codes "</tr>\n"
+
+-- of a number that is a loss, which is red where there is any
+abbrev pub loss_class : ℕ → List ℕ
+loss_class n = if n == 0 then codes "none" else codes "apart"
+
+unfoldable pub row_start : List ℕ → List ℕ
+row_start class = codes "<tr class=\"" ++ class ++ codes "\">"
+
+unfoldable pub head_cell : List ℕ → List ℕ
+head_cell label = codes "<th>" ++ label ++ codes "</th>"
+
+unfoldable pub with_loss : List ℕ → ℕ → List ℕ → List ℕ
+with_loss label n text = text ++ row_start (loss_class n) ++ head_cell label ++ number_cell n ++ codes "</tr>\n"
 
 unfoldable pub days_text : ℕ → List ℕ
 days_text seconds = decimal (seconds / 86400) ++ codes " d " ++ decimal (seconds / 3600 % 24) ++ codes " h "

@@ -1,6 +1,7 @@
 //! The status of a node as texts: a page for people, and metrics for Prometheus.
 #![tactic(auto)]
 
+mod codes;
 mod escape;
 mod laws;
 mod lines;
@@ -14,3 +15,4 @@ pub use laws::{
 };
 pub use metrics::metrics_of;
 pub use page::page_of;
+pub use peers::gate_of;

@@ -1,11 +1,12 @@
 //! The metrics of a node, in Prometheus' text format.
 
-ghost use Rattle.std.specs.Prelude.{◌≡◌, ◌++◌, string_bytes, IfOk, OnOk};
-ghost use Rattle.status_texts.specs.Metrics.{as_number, info_name, info_number, metrics_text, number_of, sample, with_clients, with_cluster, with_dropped, with_frames_dropped, with_info, with_links, with_node, with_peer_metric, with_samples};
+ghost use Rattle.std.specs.Prelude.{◌≡◌, ◌++◌, ◌/◌, ◌%◌, string_bytes, IfOk, OnOk};
+ghost use Rattle.status_texts.specs.Metrics.{as_number, info_name, info_number, metrics_text, number_of, sample, thousandths_line, with_clients, with_cluster, with_codes, with_counts, with_dropped, with_frames_dropped, with_held, with_info, with_links, with_losses, with_node, with_peer_links, with_peer_metric, with_refused, with_samples, with_seconds, with_tables, with_turns};
 
+use crate::codes::push_code_lines;
 use crate::escape::label;
 use crate::lines::{push_counter, push_family, push_gauge, push_peer, push_reason};
-use status_figures::{Figures, LeftOut, Peer, Traffic};
+use status_figures::{CodeCount, Figures, LeftOut, Peer, Traffic};
 use std::alloc::{AllocError, Global};
 
 /// The name of the metric of the node itself.
@@ -22,7 +23,12 @@ const FRAMES_DROPPED: &str = "mqtt_cluster_frames_dropped_total";
 pub(crate) enum Counted {
     /// 1 where it is linked.
     Linked,
+    /// For how many seconds it isn't.
+    Away,
+    /// 1 where it was heard.
+    Heard,
     Lacking,
+    Missing,
     Waiting,
 }
 
@@ -87,6 +93,74 @@ fn push_node(text: &mut String, figures: &Figures) -> Result<(), AllocError>
         "Topics that have a retained message.",
         figures.retained,
     )
+}
+
+/// What else it holds.
+#[tactic(auto, unfolding(crate::specs::Metrics::with_held))]
+fn push_held(text: &mut String, figures: &Figures) -> Result<(), AllocError>
+    ensures { OnOk result (string_bytes text.new ≡ with_held figures.now (string_bytes text.old)) }
+{
+    push_gauge(
+        text,
+        "mqtt_topics_held",
+        "Topics that have or had a retained message.",
+        figures.topics,
+    )?;
+    push_gauge(
+        text,
+        "mqtt_table_version",
+        "The version of the table of homes.",
+        u64::from(figures.table),
+    )
+}
+
+/// So many milliseconds, in seconds with three digits behind the point.
+#[tactic(auto, unfolding(crate::specs::Metrics::thousandths_line))]
+fn push_thousandths(text: &mut String, name: &str, number: u64) -> Result<(), AllocError>
+    ensures { OnOk result (string_bytes text.new ≡ string_bytes text.old ++ thousandths_line name.now number) }
+{
+    let seconds = number / 1000;
+    let tenths = number / 100 % 10;
+    let hundredths = number / 10 % 10;
+    let rest = number % 10;
+    write!(text, "{name} {seconds}.{tenths}{hundredths}{rest}\n")
+}
+
+/// A metric of one time, in milliseconds.
+#[tactic(auto, unfolding(crate::specs::Metrics::with_seconds))]
+fn push_seconds(text: &mut String, name: &str, help: &str, number: u64) -> Result<(), AllocError>
+    ensures { OnOk result (string_bytes text.new ≡ with_seconds name.now help.now number (string_bytes text.old)) }
+{
+    push_family(text, name, "gauge", help)?;
+    push_thousandths(text, name, number)
+}
+
+/// How long its turns take.
+#[tactic(auto, unfolding(crate::specs::Metrics::with_turns))]
+fn push_turns(text: &mut String, longest: u64) -> Result<(), AllocError>
+    ensures { OnOk result (string_bytes text.new ≡ with_turns longest (string_bytes text.old)) }
+{
+    push_seconds(
+        text,
+        "mqtt_longest_turn_seconds",
+        "The longest turn of the last ten seconds.",
+        longest,
+    )
+}
+
+/// A metric with one value for each Reason Code that was given.
+#[tactic(auto, unfolding(crate::specs::Metrics::with_codes))]
+fn push_codes(
+    alloc: Global,
+    text: &mut String,
+    name: &str,
+    help: &str,
+    all: &[CodeCount],
+) -> Result<(), AllocError>
+    ensures { OnOk result (string_bytes text.new ≡ with_codes name.now help.now all.now (string_bytes text.old)) }
+{
+    push_family(text, name, "counter", help)?;
+    push_code_lines(alloc, text, name, all)
 }
 
 /// What went through the node for clients since it started.
@@ -178,6 +252,19 @@ fn push_frames_dropped(text: &mut String, left_out: &LeftOut) -> Result<(), Allo
     push_reason(text, FRAMES_DROPPED, "too_large", left_out.frames_too_large)
 }
 
+/// The tables of homes that it didn't take.
+#[tactic(auto, unfolding(crate::specs::Metrics::with_tables))]
+fn push_tables(text: &mut String, left_out: &LeftOut) -> Result<(), AllocError>
+    ensures { OnOk result (string_bytes text.new ≡ with_tables left_out.now (string_bytes text.old)) }
+{
+    push_counter(
+        text,
+        "mqtt_tables_refused_total",
+        "Tables of homes that were not taken.",
+        left_out.tables_refused,
+    )
+}
+
 /// 1 where it is so.
 fn as_number(is_so: bool) -> u64
     ensures { result ≡ as_number is_so }
@@ -190,7 +277,10 @@ fn number_of(peer: &Peer, counted: Counted) -> u64
 {
     match counted {
         Counted::Linked => as_number(peer.linked),
+        Counted::Away => peer.away / 1000,
+        Counted::Heard => as_number(peer.heard),
         Counted::Lacking => peer.lacking,
+        Counted::Missing => peer.missing,
         Counted::Waiting => peer.waiting,
     }
 }
@@ -242,6 +332,23 @@ fn push_peer_metric(
     push_samples(alloc, text, name, counted, peers)
 }
 
+/// How it stands with the links to the peers.
+#[tactic(auto, unfolding(crate::specs::Metrics::with_peer_links))]
+fn push_peer_links(alloc: Global, text: &mut String, figures: &Figures) -> Result<(), AllocError>
+    ensures { OnOk result (string_bytes text.new ≡ with_peer_links figures.now (string_bytes text.old)) }
+{
+    let peers = &figures.peers;
+    let name = "mqtt_cluster_peer_linked";
+    let help = "Whether there is a link to the peer.";
+    push_peer_metric(alloc, text, name, help, Counted::Linked, peers)?;
+    let name = "mqtt_cluster_peer_away_seconds";
+    let help = "Seconds without a link to the peer.";
+    push_peer_metric(alloc, text, name, help, Counted::Away, peers)?;
+    let name = "mqtt_cluster_peer_heard";
+    let help = "Whether the peer was heard since the node started.";
+    push_peer_metric(alloc, text, name, help, Counted::Heard, peers)
+}
+
 /// What is known of the peers.
 #[tactic(auto, unfolding(crate::specs::Metrics::with_cluster))]
 fn push_cluster(alloc: Global, text: &mut String, figures: &Figures) -> Result<(), AllocError>
@@ -249,39 +356,56 @@ fn push_cluster(alloc: Global, text: &mut String, figures: &Figures) -> Result<(
 {
     let caught_up = as_number(figures.is_caught_up());
     let peers = &figures.peers;
-    let help = "Whether there is a link to the peer.";
-    push_peer_metric(
-        alloc,
-        text,
-        "mqtt_cluster_peer_linked",
-        help,
-        Counted::Linked,
-        peers,
-    )?;
+    let name = "mqtt_cluster_peer_lacking_operations";
     let help = "Operations that the peer is not known to have.";
-    push_peer_metric(
-        alloc,
-        text,
-        "mqtt_cluster_peer_lacking_operations",
-        help,
-        Counted::Lacking,
-        peers,
-    )?;
+    push_peer_metric(alloc, text, name, help, Counted::Lacking, peers)?;
+    let name = "mqtt_cluster_peer_missing_operations";
+    let help = "Operations that the peer has and the node lacks.";
+    push_peer_metric(alloc, text, name, help, Counted::Missing, peers)?;
+    let name = "mqtt_cluster_peer_waiting_messages";
     let help = "Messages that wait for the peer.";
-    push_peer_metric(
-        alloc,
-        text,
-        "mqtt_cluster_peer_waiting_messages",
-        help,
-        Counted::Waiting,
-        peers,
-    )?;
+    push_peer_metric(alloc, text, name, help, Counted::Waiting, peers)?;
     push_gauge(
         text,
         "mqtt_cluster_caught_up",
-        "Whether each peer is known to have all.",
+        "Whether each peer is linked, was heard, and has what the node has.",
         caught_up,
     )
+}
+
+/// What the node holds, and what went through it.
+#[tactic(auto, unfolding(crate::specs::Metrics::with_counts))]
+fn push_counts(text: &mut String, figures: &Figures) -> Result<(), AllocError>
+    ensures { OnOk result (string_bytes text.new ≡ with_counts figures.now (string_bytes text.old)) }
+{
+    push_node(text, figures)?;
+    push_held(text, figures)?;
+    push_turns(text, figures.longest_turn)?;
+    push_clients(text, &figures.total)?;
+    push_links(text, &figures.total)
+}
+
+/// The clients that were refused, and the connections that were ended.
+#[tactic(auto, unfolding(crate::specs::Metrics::with_refused))]
+fn push_refused(alloc: Global, text: &mut String, figures: &Figures) -> Result<(), AllocError>
+    ensures { OnOk result (string_bytes text.new ≡ with_refused figures.now (string_bytes text.old)) }
+{
+    let name = "mqtt_connections_refused_total";
+    let help = "Clients that were refused, by the code of CONNACK.";
+    push_codes(alloc, text, name, help, &figures.refused)?;
+    let name = "mqtt_connections_ended_total";
+    let help = "Connections that were ended, by the code of DISCONNECT.";
+    push_codes(alloc, text, name, help, &figures.ended)
+}
+
+/// What it left out.
+#[tactic(auto, unfolding(crate::specs::Metrics::with_losses))]
+fn push_losses(text: &mut String, left_out: &LeftOut) -> Result<(), AllocError>
+    ensures { OnOk result (string_bytes text.new ≡ with_losses left_out.now (string_bytes text.old)) }
+{
+    push_dropped(text, left_out)?;
+    push_frames_dropped(text, left_out)?;
+    push_tables(text, left_out)
 }
 
 /// The metrics of a node, in Prometheus' text format, version 0.0.4. No client is named.
@@ -291,11 +415,10 @@ pub fn metrics_of(alloc: Global, figures: &Figures) -> Result<String, AllocError
     let name = label(alloc, &figures.name)?;
     let mut text = String::new(alloc);
     push_info(&mut text, &name, figures.number)?;
-    push_node(&mut text, figures)?;
-    push_clients(&mut text, &figures.total)?;
-    push_links(&mut text, &figures.total)?;
-    push_dropped(&mut text, &figures.left_out)?;
-    push_frames_dropped(&mut text, &figures.left_out)?;
+    push_counts(&mut text, figures)?;
+    push_refused(alloc, &mut text, figures)?;
+    push_losses(&mut text, &figures.left_out)?;
+    push_peer_links(alloc, &mut text, figures)?;
     push_cluster(alloc, &mut text, figures)?;
     Ok(text)
 }

@@ -1,11 +1,12 @@
 //! The page of a node: one document that asks for nothing but itself, and is read without its script.
 
 ghost use Rattle.std.specs.Prelude.{◌≡◌, ◌++◌, string_bytes, IfOk, OnOk};
-ghost use Rattle.status_texts.specs.Page.{page_text, peers_head, verdict_text, with_clients, with_dropped, with_frames_dropped, with_head, with_links, with_node, with_tail};
+ghost use Rattle.status_texts.specs.Page.{loss_text, page_text, peers_head, verdict_text, with_clients, with_codes, with_dropped, with_frames_dropped, with_head, with_held, with_links, with_node, with_tail, with_turns};
 
+use crate::codes::push_code_rows;
 use crate::escape::escaped;
 use crate::peers::push_peers;
-use crate::rows::{push_number, push_row, uptime_text};
+use crate::rows::{push_loss, push_number, push_row, uptime_text};
 use status_figures::{Figures, LeftOut, Traffic};
 use std::alloc::{AllocError, Global};
 
@@ -15,7 +16,7 @@ pub(crate) const HEAD: &str =
 
 /// How the page looks.
 pub(crate) const STYLE: &str =
-    "body{font:16px/1.5 system-ui,sans-serif;max-width:46rem;margin:2rem auto;padding:0 1rem;color-scheme:light dark}table{border-collapse:collapse;width:100%;margin:0 0 1.5rem}th,td{text-align:left;padding:.25rem .75rem;border-bottom:1px solid #8884}th{font-weight:normal}td{font-variant-numeric:tabular-nums}p{padding:.75rem;border-radius:.4rem}.agrees{background:#2a82}.apart{background:#d322}.old{opacity:.4}@media(max-width:40rem){th,td{padding:.25rem;font-size:.85rem}td:first-child{overflow-wrap:anywhere}}";
+    "body{font:16px/1.5 system-ui,sans-serif;max-width:46rem;margin:2rem auto;padding:0 1rem;color-scheme:light dark}table{border-collapse:collapse;width:100%;margin:0 0 1.5rem}th,td{text-align:left;padding:.25rem .75rem;border-bottom:1px solid #8884}th{font-weight:normal}td{font-variant-numeric:tabular-nums}p{padding:.75rem;border-radius:.4rem}.agrees{background:#2a82}.apart{background:#d322}.old{opacity:.4}@media(max-width:40rem){th,td{padding:.25rem;font-size:.85rem}td:first-child{overflow-wrap:anywhere}th:nth-child(2):nth-last-child(4),td:nth-child(2):nth-last-child(4){display:none}}";
 
 /// Asks every two seconds for the page again, and shows it; it is pale where no answer comes.
 pub(crate) const SCRIPT: &str =
@@ -23,7 +24,7 @@ pub(crate) const SCRIPT: &str =
 
 /// What stands before the lines of the peers.
 const PEERS: &str =
-    "<h2>Peers</h2>\n<table>\n<tr><th>Name</th><th>Number</th><th>Link</th><th>State</th><th>Messages that wait</th></tr>\n";
+    "<h2>Peers</h2>\n<table>\n<tr><th>Name</th><th>Bridge</th><th>Link</th><th>State</th><th>Messages that wait</th></tr>\n";
 
 /// The head of the page, and the name of the node, as it stands in HTML.
 #[tactic(auto, unfolding(crate::specs::Page::with_head))]
@@ -39,7 +40,8 @@ fn push_head(text: &mut String, name: &str) -> Result<(), AllocError>
     text.push_str("</h1>\n")
 }
 
-/// Whether the cluster agrees, as far as the node knows: how many of so many peers aren't linked, or lack operations.
+/// Whether the cluster agrees, as far as the node knows: how many of so many peers aren't linked, weren't heard, or haven't what
+/// the node has.
 #[tactic(auto, unfolding(crate::specs::Page::verdict_text))]
 fn push_verdict(text: &mut String, apart: usize, peers: usize) -> Result<(), AllocError>
     ensures { OnOk result (string_bytes text.new ≡ string_bytes text.old ++ verdict_text apart peers) }
@@ -47,18 +49,29 @@ fn push_verdict(text: &mut String, apart: usize, peers: usize) -> Result<(), All
     if peers == 0 {
         text.push_str("<p class=\"agrees\">This node has no peers.</p>\n")
     } else if apart == 0 {
-        text.push_str(
-            "<p class=\"agrees\">Each peer is linked, and has all that this node has.</p>\n",
-        )
+        text.push_str("<p class=\"agrees\">Each peer is linked, and has what this node has.</p>\n")
     } else {
         write!(
             text,
-            "<p class=\"apart\">Apart: {apart} of {peers} peers (not linked, or lacking operations).</p>\n"
+            "<p class=\"apart\">Apart: {apart} of {peers} peers (not linked, not heard, or with other operations).</p>\n"
         )
     }
 }
 
-/// What the node holds.
+/// Whether anything was left out.
+fn push_whole(text: &mut String, whole: bool) -> Result<(), AllocError>
+    ensures { OnOk result (string_bytes text.new ≡ string_bytes text.old ++ loss_text whole) }
+{
+    if whole {
+        Ok(())
+    } else {
+        text.push_str(
+            "<p class=\"apart\">This node has left something out since it started (below).</p>\n",
+        )
+    }
+}
+
+/// Which node it is, and who is there.
 #[tactic(auto, unfolding(crate::specs::Page::with_node))]
 fn push_node(alloc: Global, text: &mut String, figures: &Figures) -> Result<(), AllocError>
     ensures { OnOk result (string_bytes text.new ≡ with_node figures.now (string_bytes text.old)) }
@@ -66,11 +79,40 @@ fn push_node(alloc: Global, text: &mut String, figures: &Figures) -> Result<(), 
     let uptime = uptime_text(alloc, figures.uptime)?;
     text.push_str("<table>\n")?;
     push_number(text, "Number", u64::from(figures.number))?;
+    push_number(
+        text,
+        "Version of the table of homes",
+        u64::from(figures.table),
+    )?;
     push_row(text, "Uptime", &uptime)?;
-    push_number(text, "Clients", figures.clients)?;
+    push_number(text, "Clients", figures.clients)
+}
+
+/// What it holds.
+#[tactic(auto, unfolding(crate::specs::Page::with_held))]
+fn push_held(text: &mut String, figures: &Figures) -> Result<(), AllocError>
+    ensures { OnOk result (string_bytes text.new ≡ with_held figures.now (string_bytes text.old)) }
+{
     push_number(text, "Sessions", figures.sessions)?;
     push_number(text, "Subscriptions", figures.subscriptions)?;
-    push_number(text, "Retained topics", figures.retained)?;
+    push_number(text, "Retained messages", figures.retained)?;
+    push_number(
+        text,
+        "Topics that are held, with those that were cleared",
+        figures.topics,
+    )
+}
+
+/// How long its turns take.
+#[tactic(auto, unfolding(crate::specs::Page::with_turns))]
+fn push_turns(text: &mut String, longest: u64) -> Result<(), AllocError>
+    ensures { OnOk result (string_bytes text.new ≡ with_turns longest (string_bytes text.old)) }
+{
+    push_number(
+        text,
+        "Longest turn of ten seconds, in milliseconds",
+        longest,
+    )?;
     text.push_str("</table>\n")
 }
 
@@ -112,14 +154,14 @@ fn push_dropped(text: &mut String, left_out: &LeftOut) -> Result<(), AllocError>
     ensures { OnOk result (string_bytes text.new ≡ with_dropped left_out.now (string_bytes text.old)) }
 {
     text.push_str("<h2>Left out since the start</h2>\n<table>\n")?;
-    push_number(text, "Copies for a full queue", left_out.queue_full)?;
-    push_number(
+    push_loss(text, "Copies for a full queue", left_out.queue_full)?;
+    push_loss(
         text,
         "Retained messages without room",
         left_out.retained_full,
     )?;
-    push_number(text, "Lost picks of shared groups", left_out.picks_lost)?;
-    push_number(text, "Messages for a full lane", left_out.lane_full)
+    push_loss(text, "Lost picks of shared groups", left_out.picks_lost)?;
+    push_loss(text, "Messages for a full lane", left_out.lane_full)
 }
 
 /// The frames that it left out.
@@ -127,8 +169,24 @@ fn push_dropped(text: &mut String, left_out: &LeftOut) -> Result<(), AllocError>
 fn push_frames_dropped(text: &mut String, left_out: &LeftOut) -> Result<(), AllocError>
     ensures { OnOk result (string_bytes text.new ≡ with_frames_dropped left_out.now (string_bytes text.old)) }
 {
-    push_number(text, "Frames that can not be read", left_out.bad_frames)?;
-    push_number(text, "Frames that are too large", left_out.frames_too_large)?;
+    push_loss(text, "Frames that can not be read", left_out.bad_frames)?;
+    push_loss(text, "Frames that are too large", left_out.frames_too_large)?;
+    push_loss(
+        text,
+        "Tables of homes that were refused",
+        left_out.tables_refused,
+    )?;
+    text.push_str("</table>\n")
+}
+
+/// The clients that were refused, and the connections that were ended, by their Reason Codes.
+#[tactic(auto, unfolding(crate::specs::Page::with_codes))]
+fn push_codes(text: &mut String, figures: &Figures) -> Result<(), AllocError>
+    ensures { OnOk result (string_bytes text.new ≡ with_codes figures.now (string_bytes text.old)) }
+{
+    text.push_str("<h2>Refused and ended since the start</h2>\n<table>\n")?;
+    push_code_rows(text, "Refused: ", &figures.refused)?;
+    push_code_rows(text, "Ended: ", &figures.ended)?;
     text.push_str("</table>\n")
 }
 
@@ -150,12 +208,16 @@ pub fn page_of(alloc: Global, figures: &Figures) -> Result<String, AllocError>
     let mut text = String::new(alloc);
     push_head(&mut text, &name)?;
     push_verdict(&mut text, figures.apart(), figures.peers.len())?;
+    push_whole(&mut text, figures.left_out.is_whole())?;
     push_node(alloc, &mut text, figures)?;
+    push_held(&mut text, figures)?;
+    push_turns(&mut text, figures.longest_turn)?;
     push_peers_head(&mut text)?;
     push_peers(alloc, &mut text, &figures.peers)?;
     text.push_str("</table>\n")?;
     push_clients(&mut text, &figures.recent)?;
     push_links(&mut text, &figures.recent)?;
+    push_codes(&mut text, figures)?;
     push_dropped(&mut text, &figures.left_out)?;
     push_frames_dropped(&mut text, &figures.left_out)?;
     push_tail(&mut text)?;

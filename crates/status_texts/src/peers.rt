@@ -1,10 +1,11 @@
 //! The peers of a node, as the page shows them.
 
 ghost use Rattle.std.specs.Prelude.{◌≡◌, ◌++◌, string_bytes, IfOk, OnOk};
-ghost use Rattle.status_texts.specs.Peers.{class_of, link_of, row_start, state_text, with_peer, with_peers};
+ghost use Rattle.std.specs.Fmt.{decimal};
+ghost use Rattle.status_texts.specs.Peers.{apart_line, apart_text, class_of, counts_text, differing_text, gate_text, link_text, state_text, with_apart, with_peer, with_peers};
 
 use crate::escape::escaped;
-use crate::rows::{push_cell, push_number_cell};
+use crate::rows::{push_cell, push_number_cell, push_start, uptime_text};
 use status_figures::Peer;
 use std::alloc::{AllocError, Global};
 
@@ -14,42 +15,81 @@ fn class_of(peer: &Peer) -> &'static str
     if peer.agrees() { "agrees" } else { "apart" }
 }
 
-fn link_of(peer: &Peer) -> &'static str
-    ensures { result.now ≡ link_of peer.now }
+/// Whether a peer is linked, or for how long it hasn't been.
+fn link_of(alloc: Global, peer: &Peer) -> Result<String, AllocError>
+    ensures { IfOk result (λ text. string_bytes text ≡ link_text peer.now) }
 {
-    if peer.linked { "linked" } else { "not linked" }
+    if peer.linked {
+        return String::from_str(alloc, "linked");
+    }
+    let away = uptime_text(alloc, peer.away)?;
+    format!(in alloc; "not linked for {away}")
 }
 
-/// Whether a peer has all that the node has, or how many operations it lacks.
-fn state_of(alloc: Global, peer: &Peer) -> Result<String, AllocError>
-    ensures { IfOk result (λ text. string_bytes text ≡ state_text peer.now) }
+/// Appends two numbers, each after its text.
+fn push_two(
+    text: &mut String,
+    first: &str,
+    one: u64,
+    second: &str,
+    other: u64,
+) -> Result<(), AllocError>
+    ensures { OnOk result (string_bytes text.new ≡ string_bytes text.old ++ first.now ++ decimal one ++ second.now ++ decimal other) }
 {
-    let lacking = peer.lacking;
-    if peer.is_equal() {
-        String::from_str(alloc, "equal")
+    write!(text, "{first}{one}{second}{other}")
+}
+
+/// How many operations a peer lacks, and how many it has more than the node.
+#[tactic(auto, unfolding(crate::specs::Peers::counts_text))]
+fn counts_of(alloc: Global, lacking: u64, missing: u64) -> Result<String, AllocError>
+    ensures { IfOk result (λ text. string_bytes text ≡ counts_text lacking missing) }
+{
+    let mut text = String::new(alloc);
+    push_two(
+        &mut text,
+        "lacking operations: ",
+        lacking,
+        ", more than here: ",
+        missing,
+    )?;
+    Ok(text)
+}
+
+/// How a peer differs that isn't equal.
+fn differing_of(alloc: Global, peer: &Peer) -> Result<String, AllocError>
+    ensures { IfOk result (λ text. string_bytes text ≡ differing_text peer.now) }
+{
+    if peer.heard {
+        counts_of(alloc, peer.lacking, peer.missing)
     } else {
-        format!(in alloc; "lacking operations: {lacking}")
+        String::from_str(alloc, "not heard since the start")
     }
 }
 
-#[tactic(auto, unfolding(crate::specs::Peers::row_start))]
-fn push_start(text: &mut String, class: &str) -> Result<(), AllocError>
-    ensures { OnOk result (string_bytes text.new ≡ string_bytes text.old ++ row_start class.now) }
+/// Whether a peer is equal, or how it differs.
+fn state_of(alloc: Global, peer: &Peer) -> Result<String, AllocError>
+    ensures { IfOk result (λ text. string_bytes text ≡ state_text peer.now) }
 {
-    write!(text, "<tr class=\"{class}\">")
+    if peer.is_equal() {
+        String::from_str(alloc, "equal")
+    } else {
+        differing_of(alloc, peer)
+    }
 }
 
-/// The line of a peer: its name, its number, the link, the state, and how many messages wait.
+/// The line of a peer: its name, its bridge, the link, the state, and how many messages wait.
 #[tactic(auto, unfolding(crate::specs::Peers::with_peer))]
 fn push_peer(alloc: Global, text: &mut String, peer: &Peer) -> Result<(), AllocError>
     ensures { OnOk result (string_bytes text.new ≡ with_peer peer.now (string_bytes text.old)) }
 {
     let name = escaped(alloc, &peer.name)?;
+    let bridge = escaped(alloc, &peer.bridge)?;
+    let link = link_of(alloc, peer)?;
     let state = state_of(alloc, peer)?;
     push_start(text, class_of(peer))?;
     push_cell(text, &name)?;
-    push_number_cell(text, u64::from(peer.number))?;
-    push_cell(text, link_of(peer))?;
+    push_cell(text, &bridge)?;
+    push_cell(text, &link)?;
     push_cell(text, &state)?;
     push_number_cell(text, peer.waiting)?;
     text.push_str("</tr>\n")
@@ -63,4 +103,42 @@ pub(crate) fn push_peers(alloc: Global, text: &mut String, peers: &[Peer]) -> Re
         push_peer(alloc, text, peer)?;
     }
     Ok(())
+}
+
+#[tactic(auto, unfolding(crate::specs::Peers::apart_line))]
+fn push_apart_line(text: &mut String, name: &str, link: &str, state: &str) -> Result<(), AllocError>
+    ensures { OnOk result (string_bytes text.new ≡ string_bytes text.old ++ apart_line name.now link.now state.now) }
+{
+    write!(text, "{name}: {link}, {state}\n")
+}
+
+/// A line for a peer that isn't linked or isn't equal.
+#[tactic(auto, unfolding(crate::specs::Peers::apart_text))]
+fn push_apart(alloc: Global, text: &mut String, peer: &Peer) -> Result<(), AllocError>
+    ensures { OnOk result (string_bytes text.new ≡ string_bytes text.old ++ apart_text peer.now) }
+{
+    if peer.agrees() {
+        return Ok(());
+    }
+    let link = link_of(alloc, peer)?;
+    let state = state_of(alloc, peer)?;
+    push_apart_line(text, &peer.name, &link, &state)
+}
+
+fn push_all_apart(alloc: Global, text: &mut String, peers: &[Peer]) -> Result<(), AllocError>
+    ensures { OnOk result (string_bytes text.new ≡ with_apart peers.now (string_bytes text.old)) }
+{
+    for peer in peers {
+        push_apart(alloc, text, peer)?;
+    }
+    Ok(())
+}
+
+/// Which peers keep a node from being caught up, and why, each in a line.
+pub fn gate_of(alloc: Global, peers: &[Peer]) -> Result<String, AllocError>
+    ensures { IfOk result (λ text. string_bytes text ≡ gate_text peers.now) }
+{
+    let mut text = String::from_str(alloc, "not caught up\n")?;
+    push_all_apart(alloc, &mut text, peers)?;
+    Ok(text)
 }

@@ -1,7 +1,7 @@
 //! Lines of the tables of the page.
 
 ghost use Rattle.std.specs.Prelude.{◌≡◌, ◌++◌, ◌/◌, string_bytes, IfOk, OnOk};
-ghost use Rattle.status_texts.specs.Rows.{cell, days_text, label_cell, minutes_text, number_cell, uptime_text, with_number, with_row};
+ghost use Rattle.status_texts.specs.Rows.{cell, days_text, head_cell, label_cell, loss_class, minutes_text, number_cell, row_start, uptime_text, with_loss, with_number, with_row};
 
 use std::alloc::{AllocError, Global};
 
@@ -29,6 +29,39 @@ pub(crate) fn push_number(text: &mut String, label: &str, number: u64) -> Result
     ensures { OnOk result (string_bytes text.new ≡ with_number label.now number (string_bytes text.old)) }
 {
     push_label_cell(text, label)?;
+    push_number_cell(text, number)?;
+    text.push_str("</tr>\n")
+}
+
+fn loss_class(number: u64) -> &'static str
+    ensures { result.now ≡ loss_class number }
+{
+    if number == 0 { "none" } else { "apart" }
+}
+
+/// The start of a line that is green or red, by its class.
+#[tactic(auto, unfolding(crate::specs::Rows::row_start))]
+pub(crate) fn push_start(text: &mut String, class: &str) -> Result<(), AllocError>
+    ensures { OnOk result (string_bytes text.new ≡ string_bytes text.old ++ row_start class.now) }
+{
+    write!(text, "<tr class=\"{class}\">")
+}
+
+/// The label in it.
+#[tactic(auto, unfolding(crate::specs::Rows::head_cell))]
+fn push_head_cell(text: &mut String, label: &str) -> Result<(), AllocError>
+    ensures { OnOk result (string_bytes text.new ≡ string_bytes text.old ++ head_cell label.now) }
+{
+    write!(text, "<th>{label}</th>")
+}
+
+/// A label and a number that is a loss, which is red where there is any.
+#[tactic(auto, unfolding(crate::specs::Rows::with_loss))]
+pub(crate) fn push_loss(text: &mut String, label: &str, number: u64) -> Result<(), AllocError>
+    ensures { OnOk result (string_bytes text.new ≡ with_loss label.now number (string_bytes text.old)) }
+{
+    push_start(text, loss_class(number))?;
+    push_head_cell(text, label)?;
     push_number_cell(text, number)?;
     text.push_str("</tr>\n")
 }

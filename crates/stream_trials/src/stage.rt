@@ -209,6 +209,11 @@ impl Stage {
         self.told(EventKind::Frame { bytes })
     }
 
+    /// The number of the last operation of a node of which this one knows.
+    pub fn last_number(&self, node: u16) -> u64 {
+        self.keeper.node().store().taken().greatest(node)
+    }
+
     /// What the node holds, and has left out.
     pub fn holdings(&self) -> Holdings {
         let node = self.keeper.node();

@@ -1,6 +1,6 @@
 //! Rows with a journal among them, at a node that is opened without reading it, as a program from before the journal does.
 
-use crate::versions::put_first;
+use crate::versions::{Version, put_older};
 use node_keeper::{Keeper, KeeperFault};
 use numbered_homes::homes_of;
 use row_store::{Change, MemoryRows, Row, RowFault, RowStore};
@@ -25,7 +25,7 @@ fn count<R: RowStore>(rt: &impl Abort, rows: &mut R) -> usize {
     count
 }
 
-/// Whether the node is refused for its rows, of which all five are left.
+/// Whether the node is refused for its rows, of which all six are left.
 fn is_refused<R: RowStore + Drop>(rt: &impl Abort, alloc: Global, rows: R) -> bool {
     let homes = homes_of(alloc, 2).expect(rt, "a table");
     match Keeper::open(alloc, rows, homes, 1) {
@@ -36,7 +36,7 @@ fn is_refused<R: RowStore + Drop>(rt: &impl Abort, alloc: Global, rows: R) -> bo
         Err((fault, mut rows)) => {
             let left = count(rt, &mut rows);
             drop(rows);
-            fault == KeeperFault::Rows(RowFault::BadRow) && left == 5
+            fault == KeeperFault::Rows(RowFault::BadRow) && left == 6
         }
     }
 }
@@ -44,7 +44,7 @@ fn is_refused<R: RowStore + Drop>(rt: &impl Abort, alloc: Global, rows: R) -> bo
 #[test]
 fn a_journal_that_is_not_read_is_refused(rt: HostRuntime) {
     let mut rows = MemoryRows::new(rt.alloc());
-    put_first(&rt, rt.alloc(), &mut rows);
+    put_older(&rt, rt.alloc(), &mut rows, Version::First);
     rows.apply(&[entry(&rt, rt.alloc())])
         .ok()
         .expect(&rt, "a row");

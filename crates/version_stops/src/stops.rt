@@ -1,7 +1,7 @@
-//! Rows of version 1 in a database file and its log, either of which stops, or refuses a call, while a node is opened from them:
-//! opened again, the database has those rows, or all of version 2, and a node is opened from it.
+//! Rows of version 1 or 2 in a database file and its log, either of which stops, or refuses a call, while a node is opened from them:
+//! opened again, the database has those rows, or all of version 3, and a node is opened from it.
 
-use crate::versions::{Version, put_first, version_in};
+use crate::versions::{Version, put_older, version_in};
 use node_keeper::{Keeper, KeeperFault};
 use numbered_homes::homes_of;
 use row_store::{RowFault, RowStore};
@@ -20,12 +20,13 @@ const MOST_CALLS: u64 = 1000;
 /// What is done with the rows of a database.
 #[derive(Clone, Copy)]
 enum Task {
-    /// Puts rows of version 1, and closes it.
-    Put,
-    /// Opens a node from rows of version 1, and closes it where the node is opened.
+    /// Puts rows of an older version, and closes it.
+    Put(Version),
+    /// Opens a node from rows of an older version, and closes it where the node is opened.
     Raise,
-    /// Finds rows of version 1 or 2, or those of version 2 alone where a node was opened from them, and opens a node from them.
-    Look { is_raised: bool },
+    /// Finds rows of this version or of version 3, or those of version 3 alone where a node was opened from them, and opens a node from
+    /// them.
+    Look(Version, bool),
 }
 
 /// Opens node 1 from the rows: how many subscriptions stand, or the fault; and the rows.
@@ -56,19 +57,16 @@ fn raised<R: RowStore + Drop>(rt: &impl Abort, alloc: Global, rows: R) -> (R, Op
 }
 
 // Whether these are the rows of a run.
-fn are_left<R: RowStore>(rt: &impl Abort, rows: &mut R, is_raised: bool) -> bool {
-    match version_in(rows).expect(rt, "rows") {
-        Version::First => !is_raised,
-        Version::Second => true,
-        Version::Neither => false,
-    }
+fn are_left<R: RowStore>(rt: &impl Abort, rows: &mut R, from: Version, is_raised: bool) -> bool {
+    let found = version_in(rows).expect(rt, "rows");
+    found == Version::Third || (found == from && !is_raised)
 }
 
-// Whether a node is opened from the rows, which are of version 2 then.
+// Whether a node is opened from the rows, which are of version 3 then.
 fn goes_on<R: RowStore + Drop>(rt: &impl Abort, alloc: Global, rows: R) -> (R, bool) {
     let (mut rows, is_raised) = raised(rt, alloc, rows);
     let version = version_in(&mut rows).expect(rt, "rows");
-    (rows, is_raised == Some(true) && version == Version::Second)
+    (rows, is_raised == Some(true) && version == Version::Third)
 }
 
 // Whether a node was opened by the task, or none where it doesn't come to what it must.
@@ -79,13 +77,13 @@ fn done<R: RowStore + Drop>(
     task: Task,
 ) -> (R, Option<bool>) {
     match task {
-        Task::Put => {
-            put_first(rt, alloc, &mut rows);
+        Task::Put(version) => {
+            put_older(rt, alloc, &mut rows, version);
             (rows, Some(false))
         }
         Task::Raise => raised(rt, alloc, rows),
-        Task::Look { is_raised } => {
-            let are_left = are_left(rt, &mut rows, is_raised);
+        Task::Look(from, is_raised) => {
+            let are_left = are_left(rt, &mut rows, from, is_raised);
             let (rows, goes_on) = goes_on(rt, alloc, rows);
             (rows, (are_left && goes_on).then_some(true))
         }
@@ -102,9 +100,9 @@ fn undone(task: Task, fault: RowFault) -> Option<bool> {
 
 fn closes(task: Task, is_raised: Option<bool>) -> bool {
     match task {
-        Task::Put => true,
+        Task::Put(_) => true,
         Task::Raise => is_raised == Some(true),
-        Task::Look { .. } => false,
+        Task::Look(_, _) => false,
     }
 }
 
@@ -169,10 +167,10 @@ fn image_of(rt: &impl Abort, alloc: Global, files: &Files<StoppingFile>) -> Imag
     Image { log, db }
 }
 
-// A database that was closed with rows of version 1.
-fn first_image(rt: &impl Abort, alloc: Global) -> Image {
+// A database that was closed with rows of an older version.
+fn older_image(rt: &impl Abort, alloc: Global, version: Version) -> Image {
     let files = stopping_files(alloc, (&[], &[]), None).expect(rt, "memory");
-    let (files, is_put) = run(rt, alloc, files, 1, Task::Put);
+    let (files, is_put) = run(rt, alloc, files, 1, Task::Put(version));
     assert!(rt; is_put.is_some(), "the rows can't be put");
     let image = image_of(rt, alloc, &files);
     let_go(files);
@@ -180,9 +178,9 @@ fn first_image(rt: &impl Abort, alloc: Global) -> Image {
 }
 
 // Whether files with these bytes have what a run leaves.
-fn is_there(rt: &impl Abort, alloc: Global, log: &[u8], db: &[u8], is_raised: bool) -> bool {
+fn is_there(rt: &impl Abort, alloc: Global, log: &[u8], db: &[u8], look: Task) -> bool {
     let files = stopping_files(alloc, (log, db), None).expect(rt, "memory");
-    let (files, found) = run(rt, alloc, files, 3, Task::Look { is_raised });
+    let (files, found) = run(rt, alloc, files, 3, look);
     let_go(files);
     found.is_some()
 }
@@ -192,11 +190,11 @@ fn are_there(
     alloc: Global,
     logs: &[Vec<u8>],
     dbs: &[Vec<u8>],
-    is_raised: bool,
+    look: Task,
 ) -> bool {
     for log in logs {
         for db in dbs {
-            if !is_there(rt, alloc, log, db, is_raised) {
+            if !is_there(rt, alloc, log, db, look) {
                 return false;
             }
         }
@@ -205,27 +203,28 @@ fn are_there(
 }
 
 // Whether the files of a run can be opened again, whichever of them lost what was not synced.
-fn is_left(
-    rt: &impl Abort,
-    alloc: Global,
-    files: &mut Files<StoppingFile>,
-    is_raised: bool,
-) -> bool {
+fn is_left(rt: &impl Abort, alloc: Global, files: &mut Files<StoppingFile>, look: Task) -> bool {
     let logs = leavings(alloc, &mut files.log).expect(rt, "memory");
     let dbs = leavings(alloc, &mut files.db).expect(rt, "memory");
-    let is_left = are_there(rt, alloc, &logs, &dbs, is_raised);
+    let is_left = are_there(rt, alloc, &logs, &dbs, look);
     drop((logs, dbs));
     is_left
 }
 
 // Whether a run meets its trouble.
-fn meets(rt: &impl Abort, alloc: Global, first: &Image, trouble: Trouble) -> bool {
-    let bytes = (first.log.as_slice(), first.db.as_slice());
+fn meets(
+    rt: &impl Abort,
+    alloc: Global,
+    older: &Image,
+    version: Version,
+    trouble: Trouble,
+) -> bool {
+    let bytes = (older.log.as_slice(), older.db.as_slice());
     let files = stopping_files(alloc, bytes, Some(trouble)).expect(rt, "memory");
     let (mut files, is_raised) = run(rt, alloc, files, 2, Task::Raise);
     let is_raised = is_raised.expect(rt, "another answer than the disk's fault");
     let (log, db) = calls_of(&files);
-    let is_left = is_left(rt, alloc, &mut files, is_raised);
+    let is_left = is_left(rt, alloc, &mut files, Task::Look(version, is_raised));
     let_go(files);
     assert!(rt; is_left, "after {} calls", trouble.calls);
     let calls = if trouble.is_of_log { log } else { db };
@@ -240,7 +239,8 @@ fn meets(rt: &impl Abort, alloc: Global, first: &Image, trouble: Trouble) -> boo
 fn troubled_runs(
     rt: &impl Abort,
     alloc: Global,
-    first: &Image,
+    older: &Image,
+    version: Version,
     is_of_log: bool,
     is_stop: bool,
 ) -> u64 {
@@ -250,22 +250,32 @@ fn troubled_runs(
             is_stop,
             calls,
         };
-        if !meets(rt, alloc, first, trouble) {
+        if !meets(rt, alloc, older, version, trouble) {
             return calls;
         }
     }
     MOST_CALLS
 }
 
-#[test]
-fn each_stop_and_refusal_leaves_version_1_or_version_2(rt: HostRuntime) {
-    let first = first_image(&rt, rt.alloc());
+// Each stop and refusal leaves the rows of this version, or those of version 3.
+fn leaves_either(rt: &impl Abort, alloc: Global, version: Version) {
+    let older = older_image(rt, alloc, version);
     for (is_of_log, is_stop) in [(true, true), (true, false), (false, true), (false, false)] {
-        let runs = troubled_runs(&rt, rt.alloc(), &first, is_of_log, is_stop);
+        let runs = troubled_runs(rt, alloc, &older, version, is_of_log, is_stop);
         assert!(rt;
             runs > 0 && runs < MOST_CALLS,
             "log {is_of_log}, stop {is_stop}"
         );
     }
-    drop(first);
+    drop(older);
+}
+
+#[test]
+fn each_stop_and_refusal_leaves_version_1_or_version_3(rt: HostRuntime) {
+    leaves_either(&rt, rt.alloc(), Version::First);
+}
+
+#[test]
+fn each_stop_and_refusal_leaves_version_2_or_version_3(rt: HostRuntime) {
+    leaves_either(&rt, rt.alloc(), Version::Second);
 }

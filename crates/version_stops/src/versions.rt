@@ -1,4 +1,4 @@
-//! The rows of a node in version 1 and in version 2.
+//! The rows of a node in each version.
 
 use row_store::{Change, Row, RowFault, RowStore};
 use std::alloc::Global;
@@ -7,25 +7,42 @@ use std::process::Abort;
 /// A row: its kind, owner, place and value.
 type Plain = (u8, &'static [u8], &'static [u8], &'static [u8]);
 
-/// The dot (1, 1), and the set of it.
+/// The dot (1, 1), the set of it, and the set of it and (1, 2), under which a topic was cleared.
 const DOT: &[u8] = b"\0\x01\0\0\0\0\0\0\0\x01";
 
-const DOTS: &[u8] = b"\0\0\0\x01\0\x01\0\0\0\0\0\0\0\x01\0\0\0\0\0\0\0\x01";
+const ONE: &[u8] = b"\0\0\0\x01\0\x01\0\0\0\0\0\0\0\x01\0\0\0\0\0\0\0\x01";
 
-/// Rows of node 1, with one subscription, of `a` to `t`: the mark, the subscription and both contexts.
-const FIRST: [Plain; 4] = [
+const BOTH: &[u8] = b"\0\0\0\x01\0\x01\0\0\0\0\0\0\0\x01\0\0\0\0\0\0\0\x02";
+
+/// That no message is kept of a topic, under the stamp (1, 1).
+const CLEARED: &[u8] = b"\0\0\0\0\0\0\0\x01\0\x01\0";
+
+/// Rows of node 1, with one subscription, of `a` to `t`, and a topic that was cleared: the mark, the subscription, the topic and both
+/// contexts.
+const FIRST: [Plain; 5] = [
     (1, b"", b"", b"\0\x01\0\x01\0\0\0\0\0\0\0\0"),
     (4, b"a", DOT, b"\0\x01t\0\0\0\0\0"),
-    (6, b"", b"\x01", DOTS),
-    (6, b"", b"\x02", DOTS),
+    (5, b"u", b"", CLEARED),
+    (6, b"", b"\x01", BOTH),
+    (6, b"", b"\x02", ONE),
 ];
 
 /// The same in version 2.
-const SECOND: [Plain; 4] = [
+const SECOND: [Plain; 5] = [
     (1, b"", b"", b"\0\x02\0\x01\0\0\0\0\0\0\0\0"),
     (4, b"a", DOT, b"\0\x01t\0\0\0\0\0\0\0\0\0"),
-    (6, b"", b"\x01", DOTS),
-    (6, b"", b"\x02", DOTS),
+    (5, b"u", b"", CLEARED),
+    (6, b"", b"\x01", BOTH),
+    (6, b"", b"\x02", ONE),
+];
+
+/// The same in version 3.
+const THIRD: [Plain; 5] = [
+    (1, b"", b"", b"\0\x03\0\x01\0\0\0\0\0\0\0\0"),
+    (4, b"a", DOT, b"\0\x01t\0\0\0\0\0\0\0\0\0"),
+    (5, b"u", b"", CLEARED),
+    (6, b"", b"\x01", BOTH),
+    (6, b"", b"\x02", BOTH),
 ];
 
 /// Which rows a store has.
@@ -33,8 +50,9 @@ const SECOND: [Plain; 4] = [
 pub enum Version {
     First,
     Second,
+    Third,
     /// Anything else.
-    Neither,
+    Other,
 }
 
 fn row(rt: &impl Abort, alloc: Global, plain: &Plain) -> Row {
@@ -47,10 +65,18 @@ fn row(rt: &impl Abort, alloc: Global, plain: &Plain) -> Row {
     }
 }
 
-/// Puts the rows of version 1.
-pub fn put_first<R: RowStore>(rt: &impl Abort, alloc: Global, rows: &mut R) {
+/// The rows of an older version.
+fn rows_of(version: Version) -> [Plain; 5] {
+    match version {
+        Version::First => FIRST,
+        _ => SECOND,
+    }
+}
+
+/// Puts the rows of an older version.
+pub fn put_older<R: RowStore>(rt: &impl Abort, alloc: Global, rows: &mut R, version: Version) {
     let mut changes = Vec::new(alloc);
-    for plain in FIRST {
+    for plain in rows_of(version) {
         let put = Change::Put(row(rt, alloc, &plain));
         changes.push(put).expect(rt, "memory");
     }
@@ -79,8 +105,10 @@ fn version_of(rows: &[Row]) -> Version {
         Version::First
     } else if are_rows(rows, &SECOND) {
         Version::Second
+    } else if are_rows(rows, &THIRD) {
+        Version::Third
     } else {
-        Version::Neither
+        Version::Other
     }
 }
 

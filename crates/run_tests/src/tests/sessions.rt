@@ -2,7 +2,7 @@
 
 use super::Example;
 
-pub const EXAMPLES: [Example; 23] = [
+pub const EXAMPLES: [Example; 24] = [
     Example {
         name: "a client at its home",
         script: "nodes 2\nstart 0 0\nstart 1 0\nopen 1 1 0\nbytes 1 1 0 100e00044d5154540502003c00000161\n",
@@ -15,6 +15,13 @@ pub const EXAMPLES: [Example; 23] = [
         script: "nodes 2\nstart 0 0\nstart 1 0\nopen 0 1 0\nbytes 0 1 0 100e00044d5154540502003c00000161\n",
         status: 0,
         out: "sent 0 1 2014009c111c000e3132372e302e302e313a31383834\nclosed 0 1\nnode 0 subscriptions 0 retained 0\nnode 1 subscriptions 0 retained 0\ntaken 0 1 equal\n",
+        err: "",
+    },
+    Example {
+        name: "Use another server, after what is due at that moment: a Keep Alive has run out",
+        script: "nodes 2\nstart 0 0\nstart 1 0\nopen 0 2 0\nbytes 0 2 0 100e00044d5154540502003c00000162\nopen 0 1 89999\nbytes 0 1 90000 100e00044d5154540502003c00000161\n",
+        status: 0,
+        out: "sent 0 2 200e00000b2100642200102700100000\nsent 0 2 e0018d\nclosed 0 2\nsent 0 1 2014009c111c000e3132372e302e302e313a31383834\nclosed 0 1\nnode 0 subscriptions 0 retained 0\nnode 1 subscriptions 0 retained 0\ntaken 0 1 equal\n",
         err: "",
     },
     Example {

@@ -9,7 +9,8 @@ pub returns : goal.returns
 unfolding broker
 returns c =
     let bare : app_of c.about.result ≡ new_app (codes "broker") = ap app_of_fields c.about.ensures ∙ c.new.ensures.app in
-    let unnamed = ap app_of_fields c.no_binary_name.ensures ∙ ap (on_top (λ s. record s { no_binary_name = true })) bare in
+    let numbered = ap app_of_fields c.version.ensures ∙ ap (on_top (λ s. record s { has_version = true })) bare in
+    let unnamed = ap app_of_fields c.no_binary_name.ensures ∙ ap (on_top (λ s. record s { no_binary_name = true })) numbered in
     let top = ap app_of_fields c.subcommand_required.ensures ∙ ap (on_top (λ s. record s { subcommand_required = true })) unnamed in
     let played = c.in_ok-subcommand.ensures.shape c.in_ok-play.ensures.1 ∙ ap₂ with_subcommand top (ap (λ (a : App). a.top) c.in_ok-play.ensures.0) in
     let looped = c.in_ok-subcommand-2.ensures.shape c.in_ok-loopback.ensures.1 ∙ ap₂ with_subcommand played (ap (λ (a : App). a.top) c.in_ok-loopback.ensures.0) in

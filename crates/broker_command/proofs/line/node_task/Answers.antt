@@ -14,4 +14,7 @@ returns c = (
   flag_read (found_of c.args.found.now) (codes "mqtt3") c.get_flag.result c.get_flag.ensures.none c.get_flag.ensures.other c.get_flag.ensures.value,
   flag_read (found_of c.args.found.now) (codes "log") c.get_flag-2.result c.get_flag-2.ensures.none c.get_flag-2.ensures.other c.get_flag-2.ensures.value,
   c.in_ok-text_of.ensures,
+  c.in_ok-text_of-2.ensures,
+  c.in_ok-text_of-3.ensures,
+  c.in-Some-limits_of.ensures,
 )

@@ -1,6 +1,7 @@
-use Rattle.std.proofs.Common.{◌∙◌, ◌||◌, Bool, ap₂, refl}
+use Rattle.std.proofs.Common.{◌∙◌, ◌||◌, Bool, ap, ap₂, refl}
 use Rattle.std.proofs.lemmas.Result.{IfOk-weaker}
 use Rattle.clap.specs.Words.{with_rule}
+use Rattle.broker_command.specs.Line.{with_addresses, with_limits}
 use Rattle.broker_command.proofs.line.with_options.Goals as goal
 
 pub returns : goal.returns
@@ -8,13 +9,14 @@ returns c =
     let one = c.in_ok-arg.ensures.shape c.most_clients_option.ensures.local ∙ ap₂ with_rule refl c.most_clients_option.ensures.rule in
     let two = c.in_ok-arg-2.ensures.shape c.connect_within_option.ensures.local ∙ ap₂ with_rule one c.connect_within_option.ensures.rule in
     let three = c.in_ok-arg-3.ensures.shape c.mqtt3_option.ensures.local ∙ ap₂ with_rule two c.mqtt3_option.ensures.rule in
-    let four = c.in_ok-arg-4.ensures.shape c.log_option.ensures.local ∙ ap₂ with_rule three c.log_option.ensures.rule in
-    IfOk-weaker c.arg-5.result _ _ (λ r added. (
-      added.shape c.status_option.ensures.local ∙ ap₂ with_rule four c.status_option.ensures.rule,
+    let four = c.in_ok-command.ensures.shape c.log_option.ensures.local ∙ ap₂ with_rule three c.log_option.ensures.rule in
+    let five = c.in_ok-with_addresses.ensures.0 ∙ ap with_addresses four in
+    IfOk-weaker c.with_limits.result _ _ (λ r added. (
+      added.0 ∙ ap with_limits five,
       λ none.
           let first = c.in_ok-arg.ensures.globals ∙ ap₂ (λ (x y : Bool). x || y) none c.most_clients_option.ensures.local in
           let second = c.in_ok-arg-2.ensures.globals ∙ ap₂ (λ (x y : Bool). x || y) first c.connect_within_option.ensures.local in
           let third = c.in_ok-arg-3.ensures.globals ∙ ap₂ (λ (x y : Bool). x || y) second c.mqtt3_option.ensures.local in
-          let fourth = c.in_ok-arg-4.ensures.globals ∙ ap₂ (λ (x y : Bool). x || y) third c.log_option.ensures.local in
-          added.globals ∙ ap₂ (λ (x y : Bool). x || y) fourth c.status_option.ensures.local,
-    )) c.arg-5.ensures
+          let fourth = c.in_ok-command.ensures.globals ∙ ap₂ (λ (x y : Bool). x || y) third c.log_option.ensures.local in
+          added.1 (c.in_ok-with_addresses.ensures.1 fourth),
+    )) c.with_limits.ensures

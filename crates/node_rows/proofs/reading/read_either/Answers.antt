@@ -1,12 +1,12 @@
 use Rattle.std.proofs.Common.{true≢false, map as map_list, sym, ap, subst, ◌∙◌, T}
 use Rattle.std.specs.FinMap.{is_sorted}
 use Rattle.row_store.specs.Rows.{entry_of, key_cmp}
-use Rattle.node_rows.proofs.Either.{raised_found, second_found}
+use Rattle.node_rows.proofs.Either.{raised_found, third_found}
 use Rattle.node_rows.proofs.Raising.{raised_up}
 use Rattle.node_rows.proofs.reading.read_either.Goals as goal
 
-pub returns-then-not-are_first : goal.returns-then-not-are_first
-returns-then-not-are_first c = second_found c.args.rows.now c.args.id c.args.nodes c.read.result (λ first. true≢false (sym (c.are_first.ensures.1 first) ∙ c.if-not-are_first.true)) c.read.ensures
+pub returns-then-not-are_older : goal.returns-then-not-are_older
+returns-then-not-are_older c = third_found c.args.rows.now c.args.id c.args.nodes c.read.result (λ older. true≢false (sym (c.are_older.ensures.1 older) ∙ c.if-not-are_older.true)) c.read.ensures
 
 pub read-requires-2 : goal.read-requires-2
 read-requires-2 c =
@@ -14,4 +14,4 @@ read-requires-2 c =
 
 pub returns : goal.returns
 returns c =
-    raised_found c.args.rows.now c.deref.result.now c.args.id c.args.nodes c.read-2.result (ap (map_list entry_of) c.deref.ensures.value ∙ c.in-Ok.ensures) c.requires (c.are_first.ensures.0 c.if-not-are_first.false) c.read-2.ensures
+    raised_found c.args.rows.now c.deref.result.now c.args.id c.args.nodes c.read-2.result (ap (map_list entry_of) c.deref.ensures.value ∙ c.in-Ok.ensures) c.requires (c.are_older.ensures.0 c.if-not-are_older.false) c.read-2.ensures

@@ -1,16 +1,19 @@
-use Rattle.std.proofs.Common.{arith, map as map_list, subst, sym, take}
+use Rattle.std.proofs.Common.{map as map_list, subst, sym}
 use Rattle.row_store.specs.Rows.{entry_of}
-use Rattle.node_rows.specs.Versions.{AreRaising}
-use Rattle.node_rows.proofs.Counted.{all_before_end, taken_more}
-use Rattle.node_rows.proofs.Raising.{raise_so}
+use Rattle.node_rows.specs.Versions.{AreRaising, Raise}
+use Rattle.node_rows.proofs.Raising.{raise_so, with_put}
 use Rattle.node_rows.proofs.versions.raise.Goals as goal
 
-pub loop-row-preserved : goal.loop-row-preserved
-loop-row-preserved c =
-    subst (λ rows. AreRaising rows c.raise_row.new.changes.items) (sym (taken_more c.args.rows.now c.loop-row.row-index c.row-item.result c.loop-row-test.true c.row-item.is))
-    (c.in_ok-raise_row.ensures (map_list entry_of (take c.loop-row.row-index c.args.rows.now)) c.loop-row.invariant)
+pub returns-in-None : goal.returns-in-None
+returns-in-None c =
+    let rows = map_list entry_of c.args.rows.now in
+    let changes = c.in_ok-changes.changes.items in
+    subst (λ seen. Raise rows (with_put seen changes)) c.in-None.is
+    (raise_so rows changes c.in_ok-seen_row.field-0 (subst (λ first. AreRaising first rows changes) c.are_first.ensures c.in_ok-changes.ensures) c.in_ok-seen_row.ensures)
 
-pub returns : goal.returns
-returns c =
-    raise_so (map_list entry_of c.args.rows.now) c.loop-row.changes.items
-    (subst (λ rows. AreRaising rows c.loop-row.changes.items) (all_before_end c.args.rows.now c.loop-row.row-index (let h = c.loop-row-test.false in omega (arith, h))) c.loop-row.invariant)
+pub returns-in_ok-push-in-Some : goal.returns-in_ok-push-in-Some
+returns-in_ok-push-in-Some c =
+    let rows = map_list entry_of c.args.rows.now in
+    let changes = c.in_ok-changes.changes.items in
+    subst (Raise rows) (sym c.in_ok-push-in-Some.ensures.items) (subst (λ seen. Raise rows (with_put seen changes)) c.in-Some.is
+    (raise_so rows changes c.in_ok-seen_row.field-0 (subst (λ first. AreRaising first rows changes) c.are_first.ensures c.in_ok-changes.ensures) c.in_ok-seen_row.ensures))

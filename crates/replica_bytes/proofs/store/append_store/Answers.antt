@@ -10,7 +10,7 @@ pub returns-clause-spelling : goal.returns-clause-spelling
 returns-clause-spelling c =
     let taken = subst HasSpelling c.taken.ensures c.in_ok-write.ensures.spelling in
     let subs = subst subscriptions.Fits c.subscriptions.ensures c.in_ok-append_subscriptions.ensures.spelling in
-    on_ok c.append_retained.result (λ kept. state_fits c.args.store.now taken subs (subst retained.Fits c.retained.ensures kept)) c.append_retained.ensures.spelling
+    on_ok c.append_retained.result (λ kept. state_fits c.args.store.now taken c.has_seen.ensures subs (subst retained.Fits c.retained.ensures kept)) c.append_retained.ensures.spelling
 
 pub returns-clause-counted : goal.returns-clause-counted
 returns-clause-counted c =

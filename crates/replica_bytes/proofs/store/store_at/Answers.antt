@@ -18,6 +18,6 @@ returns-in_err-retained-clause-no_memory c =
       value = c.in_ok-taken.taken;
       rest = c.in_ok-taken.rest.now;
       read = c.in_ok-taken.ensures.exact;
-      wants = inr (record { value = c.in_ok-subscriptions.subscriptions; rest = c.in_ok-subscriptions.rest.now; read = c.in_ok-subscriptions.ensures.exact; wants = w });
+      wants = inr (record { value = c.in_ok-subscriptions.subscriptions; rest = c.in_ok-subscriptions.rest.now; read = c.in_ok-subscriptions.ensures.read; wants = w });
     }) in
     search (rules, wants)

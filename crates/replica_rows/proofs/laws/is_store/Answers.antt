@@ -7,7 +7,7 @@ use Rattle.replica_rows.proofs.laws.is_store.Goals as goal
 
 pub returns : goal.returns
 returns c =
-    each_store c.args.store.now
+    each_store c.args.store.now c.has_seen.ensures
     (ranges_spell _ _ c.ranges-taken.result.now c.taken.ensures c.ranges-taken.ensures.ranges c.ranges-taken.ensures.set)
     (ranges_spell _ _ c.ranges-seen.result.now (c.seen.ensures ∙ ap seen_of c.subscriptions.ensures) c.ranges-seen.ensures.ranges c.ranges-seen.ensures.set)
     (subst (λ m. AllCanStand (standing m)) c.subscriptions-2.ensures c.all_can_stand.ensures) (subst (λ r. AllHaveSpellings (map.entries r)) c.retained.ensures c.all_have_spellings.ensures)

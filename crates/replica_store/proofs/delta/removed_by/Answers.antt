@@ -5,5 +5,5 @@ use Rattle.replica_store.proofs.delta.removed_by.Goals as goal
 
 pub returns : goal.returns
 returns c =
-    subst (λ o. IfSome o (λ s. s ≡ statuses c.in_ok-seen.seen c.new.result.items)) c.unwrap.ensures c.in_ok-set.ensures.some
-    ∙ (λ i. statuses (c.in_ok-seen.ensures.same i) (c.new.ensures.items i)) ∙ removed_is c.args.cover.now
+    subst (λ o. IfSome o (λ s. s ≡ statuses c.args.seen c.new.result.items)) c.unwrap.ensures c.in_ok-set.ensures.some
+    ∙ (λ i. statuses c.args.seen (c.new.ensures.items i)) ∙ removed_is c.args.seen

@@ -1,4 +1,5 @@
-use Rattle.node_server.specs.Events.{event_of, peer_event_of}
+use Rattle.node_batches.specs.Views.{node_in}
+use Rattle.node_server.specs.Events.{event_of, peer_event_of, table_event}
 use Rattle.node_server.specs.Serving.{IsAnsweredToAll, IsAnsweredToClients, IsCommitted}
 use Rattle.node_server.specs.Views.{keeper_of}
 use Rattle.served_laws.proofs.Sockets.{socket_turn_is_run, start_is_taken}
@@ -11,7 +12,8 @@ returns-clause-start g c =
     (λ s told handed s'. IsAnsweredToClients (keeper_of s) (event_of told) handed (keeper_of s'))
     (λ s told given s'. IsAnsweredToAll (keeper_of s) (peer_event_of told) given (keeper_of s'))
     (λ s s'. IsCommitted R.is_clean R.is_open R.content R.may_leave (keeper_of s) (keeper_of s'))
-    (λ s e outputs s' is. is) (λ s e given s' is. is) (λ s s' is. is)
+    (λ s. (node_in (keeper_of s)).homes) (λ s at homes handed s'. IsAnsweredToClients (keeper_of s) (table_event at homes) handed (keeper_of s')) g.F.Tables.offers
+    (λ s e outputs s' is. is) (λ s at homes outputs s' is. is) (λ s e given s' is. is) (λ s s' is. is)
 
 pub returns-clause-turns : goal.returns-clause-turns
 returns-clause-turns g c =
@@ -20,5 +22,6 @@ returns-clause-turns g c =
     (λ s told handed s'. IsAnsweredToClients (keeper_of s) (event_of told) handed (keeper_of s'))
     (λ s told given s'. IsAnsweredToAll (keeper_of s) (peer_event_of told) given (keeper_of s'))
     (λ s s'. IsCommitted R.is_clean R.is_open R.content R.may_leave (keeper_of s) (keeper_of s'))
-    (λ s e outputs s' is. is) (λ s e given s' is. is) (λ s s' is. is)
+    (λ s. (node_in (keeper_of s)).homes) (λ s at homes handed s'. IsAnsweredToClients (keeper_of s) (table_event at homes) handed (keeper_of s')) g.F.Tables.offers
+    (λ s e outputs s' is. is) (λ s at homes outputs s' is. is) (λ s e given s' is. is) (λ s s' is. is)
     g.S.Sockets.accepts g.S.Readiness.watches g.S.Sockets.connects g.S.Sockets.reads g.S.Sockets.writes g.S.Readiness.finds g.E.Write.contents

@@ -1,0 +1,38 @@
+//! The options that name addresses.
+
+ghost use Rattle.std.specs.Prelude.{◌≡◌, false, IfOk};
+ghost use Rattle.clap.specs.Words.{app_of, rule_of};
+ghost use Rattle.clap.specs.declared.builder.command.Command.TheViews.{out-Command as fields_of};
+ghost use Rattle.broker_command.specs.Line.{address_rule, with_addresses};
+
+use crate::line::optional;
+use clap::{Arg, Command};
+use std::alloc::{AllocError, Global};
+
+/// An option of this name that may be there, with an address.
+fn address_option<'a>(alloc: Global, name: &'a str, help: &'a str) -> Arg<'a>
+    ensures rule { rule_of result ≡ address_rule name.entry.now }
+    ensures local { result.global ≡ false }
+{
+    optional(alloc, name)
+        .long(name)
+        .value_name("ADDRESS")
+        .help(help)
+}
+
+/// The options that say where the status is told, and where the node waits.
+pub(crate) fn with_addresses<'a>(
+    alloc: Global,
+    command: Command<'a>,
+) -> Result<Command<'a>, AllocError>
+    ensures { IfOk result (λ c. (app_of c ≡ with_addresses (app_of command.entry))
+        × ((fields_of command.entry).has_globals ≡ false → (fields_of c).has_globals ≡ false)) }
+{
+    let status = "Tells over HTTP at an IP address with a port how the node is";
+    let clients = "Waits there for clients, at an IP address with a port";
+    let bridge = "Waits there for other nodes, at an IP address with a port";
+    command
+        .arg(address_option(alloc, "status", status))?
+        .arg(address_option(alloc, "listen", clients))?
+        .arg(address_option(alloc, "bridge-listen", bridge))
+}

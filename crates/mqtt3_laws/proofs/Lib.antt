@@ -1,0 +1,10 @@
+pub mod Growing
+pub mod Cuts
+pub mod Steps
+pub mod Walks
+pub mod Keeping
+pub mod Ordered
+pub mod Versions
+pub mod Pieces
+pub mod Asks
+pub mod Tells

@@ -1,0 +1,5 @@
+pub mod Cut
+pub mod Turns
+pub mod Pieces
+pub mod Asking
+pub mod Telling

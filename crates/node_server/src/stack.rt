@@ -1,0 +1,42 @@
+//! A served node behind its handlers, one type for each. From the inside out: newer tables of homes, limits on what clients send, limits on clients, a log, counts, and
+//! whoever looks at these.
+
+use crate::served::ServedNode;
+use client_bounds::{Bounded, BoundedFault};
+use client_limits::{Limited, LimitedFault};
+use client_log::{Logged, LoggedFault};
+use mqtt3_handler::Mqtt3Fault;
+use node_keeper::KeeperFault;
+use status_door::Told;
+use status_tally::Tallied;
+use table_door::Tabled;
+
+/// Behind a door at which newer tables of homes come, if there may be any.
+pub type TabledNode<R, F> = Tabled<ServedNode<R>, F>;
+
+/// Behind limits on what clients send, of which the one on memory asks a gauge.
+pub type BoundedNode<R, F, G> = Bounded<TabledNode<R, F>, G>;
+
+/// Behind limits on clients.
+pub type LimitedNode<R, F, G> = Limited<BoundedNode<R, F, G>>;
+
+/// Behind a log.
+pub type LoggedNode<R, F, G, E> = Logged<LimitedNode<R, F, G>, E>;
+
+/// Behind counts.
+pub type TalliedNode<R, F, G, E> = Tallied<LoggedNode<R, F, G, E>>;
+
+/// Behind somebody who looks at it.
+pub type ToldNode<R, F, G, E, W> = Told<TalliedNode<R, F, G, E>, W>;
+
+/// Why it stops behind limits on what clients send.
+pub type BoundedNodeFault = BoundedFault<KeeperFault>;
+
+/// Why it stops behind limits on clients.
+pub type LimitedNodeFault = LimitedFault<BoundedNodeFault>;
+
+/// Why it stops behind a log, counts, and whoever looks at them.
+pub type LoggedNodeFault = LoggedFault<LimitedNodeFault>;
+
+/// Why it stops behind all handlers.
+pub type NodeFault = Mqtt3Fault<LoggedNodeFault>;

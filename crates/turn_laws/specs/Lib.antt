@@ -1,0 +1,4 @@
+pub mod Calls
+pub mod Channels
+pub mod Flows
+pub mod Traces
