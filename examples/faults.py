@@ -274,6 +274,8 @@ class Load:
         home, port = self.random.choice(self.homes)
         self.wills += 1
         client = Willing(f"{home}-will-{self.wills}", port, self.wills)
+        node = self.cluster.nodes[port - BASE]
+        starts = node.starts
         try:
             await client.open()
         except (Gone, OSError, asyncio.IncompleteReadError, asyncio.TimeoutError):
@@ -287,9 +289,10 @@ class Load:
             return
         try:
             client.leave()
-            # the node closes the connection once it has taken the DISCONNECT
+            # the node closes the connection once it has taken the DISCONNECT; where it was killed meanwhile, the system closed it
             await asyncio.wait_for(client.reader.read(), 3)
-            self.unsure.append(client.name) if self.cluster.busy else self.left.append(client.name)
+            was_up = node.starts == starts and not self.cluster.busy
+            (self.left if was_up else self.unsure).append(client.name)
         except (Gone, OSError, asyncio.TimeoutError):
             self.unsure.append(client.name)
         finally:
