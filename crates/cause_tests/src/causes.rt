@@ -63,37 +63,73 @@ fn write_foreign(rt: &HostRuntime, path: &str) -> bool {
     }
 }
 
+/// Whether a run ends by this cause whose table of homes has this text.
+fn is_read_as(rt: &HostRuntime, text: &str, node: &str, cause: &str) -> bool {
+    if fs::write(rt, "flawed.toml", text).is_err() {
+        return false;
+    }
+    match format!(in rt.alloc(); "broker: configuration: {cause}") {
+        Ok(told) => is_told(rt, ("flawed.toml", node, "no.db"), told.as_str()),
+        Err(_) => false,
+    }
+}
+
+/// Whether a run of the node ends by this cause over the database.
+fn is_opened_as(rt: &HostRuntime, node: &str, database: &str, cause: &str) -> bool {
+    match format!(in rt.alloc(); "broker: run: Rows\nbroker: {cause}") {
+        Ok(told) => is_told(rt, ("causes.toml", node, database), told.as_str()),
+        Err(_) => false,
+    }
+}
+
+/// Whether a run ends by this cause that waits at these addresses.
+fn is_waited_at(rt: &HostRuntime, address: &str, bridge: &str, place: &str, cause: &str) -> bool {
+    let Some(homes) = homes_at(rt.alloc(), address, bridge) else {
+        return false;
+    };
+    if fs::write(rt, "taken.toml", homes.as_str()).is_err() {
+        return false;
+    }
+    match format!(in rt.alloc(); "broker: run: Socket\nbroker: waiting at {place}: {cause}") {
+        Ok(told) => is_told(rt, ("taken.toml", "n0", "taken.db"), told.as_str()),
+        Err(_) => false,
+    }
+}
+
 #[test]
 fn a_configuration_that_is_none_is_told(rt: HostRuntime) {
-    for (text, node, cause) in [
-        (
+    assert!(rt;
+        is_read_as(
+            &rt,
             "[[node]]\nname = \n",
             "n0",
-            "Syntax\nbroker: reading flawed.toml: line 2 is not TOML",
-        ),
-        (
+            "Syntax\nbroker: reading flawed.toml: line 2 is not TOML"
+        )
+    );
+    assert!(rt;
+        is_read_as(
+            &rt,
             "[[node]]\nname = 1\n",
             "n0",
-            "Syntax\nbroker: reading flawed.toml: it is TOML, but no table of homes",
-        ),
-        (
+            "Syntax\nbroker: reading flawed.toml: it is TOML, but no table of homes"
+        )
+    );
+    assert!(rt;
+        is_read_as(
+            &rt,
             "",
             "n0",
-            "NoNodes\nbroker: reading flawed.toml: it names no node",
-        ),
-        (
+            "NoNodes\nbroker: reading flawed.toml: it names no node"
+        )
+    );
+    assert!(rt;
+        is_read_as(
+            &rt,
             HOMES,
             "n2",
-            "UnknownNode\nbroker: reading flawed.toml: it does not name the node n2",
-        ),
-    ] {
-        fs::write(&rt, "flawed.toml", text).expect(&rt, "a file");
-        let text = format!(in rt.alloc(); "broker: configuration: {cause}").expect(&rt, "memory");
-        assert!(rt;
-            is_told(&rt, ("flawed.toml", node, "no.db"), text.as_str()),
-            "{cause}"
-        );
-    }
+            "UnknownNode\nbroker: reading flawed.toml: it does not name the node n2"
+        )
+    );
     assert!(rt;
         is_told(
             &rt,
@@ -109,50 +145,53 @@ fn a_database_that_is_none_is_told(rt: HostRuntime) {
     fs::write(&rt, "text.db", "no database, but a text of some length").expect(&rt, "a file");
     assert!(rt; write_foreign(&rt, "foreign.db"));
     assert!(rt; is_told(&rt, ("causes.toml", "n0", "own.db"), ""));
-    for (node, database, cause) in [
-        (
+    assert!(rt;
+        is_opened_as(
+            &rt,
             "n0",
             "nowhere/no.db",
-            "opening the database nowhere/no.db: no such file or folder",
-        ),
-        ("n0", ".", "opening the database .: it is a folder"),
-        (
+            "opening the database nowhere/no.db: no such file or folder"
+        )
+    );
+    assert!(rt; is_opened_as(&rt, "n0", ".", "opening the database .: it is a folder"));
+    assert!(rt;
+        is_opened_as(
+            &rt,
             "n0",
             "text.db",
-            "opening the database text.db: it is no database, or damaged",
-        ),
-        (
+            "opening the database text.db: it is no database, or damaged"
+        )
+    );
+    assert!(rt;
+        is_opened_as(
+            &rt,
             "n0",
             "foreign.db",
-            "opening the database foreign.db: it is the database of another program",
-        ),
-        (
+            "opening the database foreign.db: it is the database of another program"
+        )
+    );
+    assert!(rt;
+        is_opened_as(
+            &rt,
             "n1",
             "own.db",
-            "the rows in own.db: they are those of node 0 of the table, counted from 0",
-        ),
-    ] {
-        let text = format!(in rt.alloc(); "broker: run: Rows\nbroker: {cause}").expect(
-            &rt, "memory",
-        );
-        assert!(rt;
-            is_told(&rt, ("causes.toml", node, database), text.as_str()),
-            "{cause}"
-        );
-    }
+            "the rows in own.db: they are those of node 0 of the table, counted from 0"
+        )
+    );
 }
 
 #[test]
 fn a_database_that_is_open_is_told(rt: HostRuntime) {
-    fs::write(&rt, "open.toml", HOMES).expect(&rt, "a file");
+    fs::write(&rt, "causes.toml", HOMES).expect(&rt, "a file");
     let rows = open_rows(&rt, "open.db", Wary)
         .ok()
         .expect(&rt, "a database");
     assert!(rt;
-        is_told(
+        is_opened_as(
             &rt,
-            ("open.toml", "n0", "open.db"),
-            "broker: run: Rows\nbroker: opening the database open.db: a program that runs has it open"
+            "n0",
+            "open.db",
+            "opening the database open.db: a program that runs has it open"
         )
     );
     drop(rows);
@@ -160,39 +199,37 @@ fn a_database_that_is_open_is_told(rt: HostRuntime) {
 
 #[test]
 fn an_address_that_is_none_is_told(rt: HostRuntime) {
-    let listener = TcpListener::bind(&rt, "127.0.0.1:0").expect(&rt, "a listener");
+    let any = "127.0.0.1:0";
+    let listener = TcpListener::bind(&rt, any).expect(&rt, "a listener");
     let taken = listener.local_addr().expect(&rt, "its address");
     let taken = format!(in rt.alloc(); "{taken}").expect(&rt, "memory");
-    for (address, bridge, place, cause) in [
-        (
+    assert!(rt;
+        is_waited_at(
+            &rt,
             taken.as_str(),
-            "127.0.0.1:0",
+            any,
             taken.as_str(),
-            "the address is in use",
-        ),
-        (
+            "the address is in use"
+        )
+    );
+    assert!(rt;
+        is_waited_at(
+            &rt,
             "localhost:1883",
-            "127.0.0.1:0",
+            any,
             "localhost:1883",
-            "it is no IP address with a port",
-        ),
-        (
-            "127.0.0.1:0",
+            "it is no IP address with a port"
+        )
+    );
+    assert!(rt;
+        is_waited_at(
+            &rt,
+            any,
             "192.0.2.1:2883",
             "192.0.2.1:2883",
-            "the address is none of this machine",
-        ),
-    ] {
-        let homes = homes_at(rt.alloc(), address, bridge).expect(&rt, "memory");
-        fs::write(&rt, "taken.toml", homes.as_str()).expect(&rt, "a file");
-        let text = format!(in rt.alloc();
-            "broker: run: Socket\nbroker: waiting at {place}: {cause}"
-        ).expect(&rt, "memory");
-        assert!(rt;
-            is_told(&rt, ("taken.toml", "n0", "taken.db"), text.as_str()),
-            "{cause}"
-        );
-    }
+            "the address is none of this machine"
+        )
+    );
 }
 
 #[test]
@@ -202,43 +239,43 @@ fn an_address_to_wait_at_that_is_none_is_told(rt: HostRuntime) {
     let homes = homes_at(rt.alloc(), named, named).expect(&rt, "memory");
     fs::write(&rt, "listen.toml", homes.as_str()).expect(&rt, "a file");
     let names = ("listen.toml", "n0", "listen.db");
-    for (clients, nodes, text) in [
-        (
-            Some("192.0.2.1:1883"),
-            any,
-            "broker: run: Socket\nbroker: waiting at 192.0.2.1:1883: the address is none of this machine",
-        ),
-        (
-            any,
-            Some("here"),
-            "broker: run: Socket\nbroker: waiting at here: it is no IP address with a port",
-        ),
-    ] {
-        let at = ListenAt { clients, nodes };
-        assert!(rt; told_at(&rt, names, at, None).as_str() == text, "{text}");
+    let far = ListenAt {
+        clients: Some("192.0.2.1:1883"),
+        nodes: any,
+    };
+    assert!(rt;
+        told_at(&rt, names, far, None).as_str()
+            == "broker: run: Socket\nbroker: waiting at 192.0.2.1:1883: the address is none of this machine"
+    );
+    let here = ListenAt {
+        clients: any,
+        nodes: Some("here"),
+    };
+    assert!(rt;
+        told_at(&rt, names, here, None).as_str()
+            == "broker: run: Socket\nbroker: waiting at here: it is no IP address with a port"
+    );
+}
+
+/// Whether a run ends by this cause whose status is to be told at an address.
+fn is_shown_at(rt: &HostRuntime, status: &str, cause: &str) -> bool {
+    let names = ("status.toml", "n0", "status.db");
+    match format!(in rt.alloc(); "broker: run: Socket\nbroker: waiting at {status}: {cause}") {
+        Ok(text) => told_at(rt, names, ListenAt::table(), Some(status)) == text,
+        Err(_) => false,
     }
 }
 
 #[test]
 fn an_address_for_the_status_that_is_none_is_told(rt: HostRuntime) {
-    let listener = TcpListener::bind(&rt, "127.0.0.1:0").expect(&rt, "a listener");
+    let any = "127.0.0.1:0";
+    let listener = TcpListener::bind(&rt, any).expect(&rt, "a listener");
     let taken = listener.local_addr().expect(&rt, "its address");
     let taken = format!(in rt.alloc(); "{taken}").expect(&rt, "memory");
-    let any = "127.0.0.1:0";
     let homes = homes_at(rt.alloc(), any, any).expect(&rt, "memory");
     fs::write(&rt, "status.toml", homes.as_str()).expect(&rt, "a file");
     let names = ("status.toml", "n0", "status.db");
     assert!(rt; told_at(&rt, names, ListenAt::table(), Some(any)).is_empty());
-    for (status, cause) in [
-        (taken.as_str(), "the address is in use"),
-        ("localhost", "it is no IP address with a port"),
-    ] {
-        let text = format!(in rt.alloc();
-            "broker: run: Socket\nbroker: waiting at {status}: {cause}"
-        ).expect(&rt, "memory");
-        assert!(rt;
-            told_at(&rt, names, ListenAt::table(), Some(status)) == text,
-            "{cause}"
-        );
-    }
+    assert!(rt; is_shown_at(&rt, taken.as_str(), "the address is in use"));
+    assert!(rt; is_shown_at(&rt, "localhost", "it is no IP address with a port"));
 }

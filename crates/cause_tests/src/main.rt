@@ -1,10 +1,8 @@
-//! Worked examples of what is told where a node can't be served, and of what rows hold.
+//! Worked examples of what is told where a node can't be served.
 #![tactic(auto)]
 
 #[cfg(test)]
 mod causes;
-#[cfg(test)]
-mod checks;
 
 /// Does nothing: the examples are the tests.
 fn main() {}
