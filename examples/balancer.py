@@ -4,7 +4,7 @@
     balancer.py CONFIG FOLDER [--port PORT] [--tls PORT CERTIFICATE]
 
 reads the table CONFIG, and writes FOLDER/haproxy.cfg and FOLDER/home.lua. HAProxy (2.4 or newer, with Lua, as Debian has it) reads the client identifier of each CONNECT, and passes the connection
-on to the node that is its home: by the same rules as the nodes (docs/homes.md), so that no client is told to use another server. Clients of MQTT 3.1.1 and 5.0 are
+on to the node that is its home: by the same rules as the nodes (docs/cluster.md), so that no client is told to use another server. Clients of MQTT 3.1.1 and 5.0 are
 passed on alike. PORT is 1883 where it isn't given. With --tls clients may also come by TLS; CERTIFICATE is a PEM file of the certificate and its key.
 
     haproxy -W -f FOLDER/haproxy.cfg -p FOLDER/haproxy.pid

@@ -378,7 +378,7 @@ class Peer:
         return data
 
     def look(self):
-        """Hello is answered by Know (docs/bridge.md)."""
+        """Hello is answered by Know (docs/cluster.md)."""
         self.to.sendall(frame(1, 1, 0, b""))
         while self.some(int.from_bytes(self.some(4), "big"))[0] != KNOW:
             pass

@@ -165,7 +165,7 @@ compare 'parted, b-before' '' received b-before
 kill -USR2 "$proxy"
 await_line dropped "$work/proxy" "$proxy"
 echo "healed: the proxy has $(tail -n 1 "$work/proxy") bytes"
-# Of two retained messages the one with the greater count stays, and of the same count the one of the greater node (docs/replication.md).
+# Of two retained messages the one with the greater count stays, and of the same count the one of the greater node (docs/cluster.md).
 for node in 0 1; do
     compare "healed, n$node" 'five n1,four n0,one n1,six n1,three n0,two n1' ask "$node"
 done

@@ -1,5 +1,5 @@
 #!/usr/bin/env python3
-"""Compares the metrics of a node with its figures as a JSON object (docs/status.md).
+"""Compares the metrics of a node with its figures as a JSON object (docs/operate.md).
 
     status_counts.py METRICS JSON     takes what the node answered to both, as two files
 

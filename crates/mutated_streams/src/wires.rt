@@ -8,7 +8,7 @@ const CONNACK: u8 = 2;
 
 const DISCONNECT: u8 = 14;
 
-/// The Reason Codes with which a node ends a connection (docs/node.md, docs/packets.md, docs/sessions.md).
+/// The Reason Codes with which a node ends a connection (docs/architecture.md, docs/mqtt.md).
 const CODES: [u8; 12] = [
     0x81, 0x82, 0x84, 0x85, 0x8c, 0x8d, 0x8e, 0x90, 0x93, 0x94, 0x95, 0x9c,
 ];

@@ -1,4 +1,4 @@
-//! Worked examples of docs/bridge.md.
+//! Worked examples of docs/cluster.md.
 
 ghost use Rattle.std.specs.Prelude.{◌≡◌};
 

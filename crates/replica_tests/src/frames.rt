@@ -1,4 +1,4 @@
-//! Worked examples of docs/bridge.md.
+//! Worked examples of docs/cluster.md.
 
 use bridge_frames::{BridgeFrame, Forward, FrameBody, LinkFault, frame_length};
 use std::alloc::Global;

@@ -1,4 +1,4 @@
-//! Frames between two nodes, field by field as docs/bridge.md and docs/replication.md spell them; whole, cut short, and with one
+//! Frames between two nodes, field by field as docs/cluster.md spells them; whole, cut short, and with one
 //! byte changed.
 
 use bridge_frames::{BridgeFrame, LinkFault, frame_length};

@@ -1,4 +1,4 @@
-//! The worked examples of docs/replication.md: which subscriptions stand, and what is retained.
+//! The worked examples of docs/cluster.md: which subscriptions stand, and what is retained.
 
 use crate::values::{context, filter, text};
 use causal_context::{Context, Lattice};

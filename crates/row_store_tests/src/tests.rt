@@ -1,4 +1,4 @@
-//! The example of docs/rows.md in memory and in a database, the databases that aren't adopted, and changes that are gathered.
+//! The example of docs/storage.md in memory and in a database, the databases that aren't adopted, and changes that are gathered.
 
 use crate::samples::{Sample, apply, are_changes, changes, holds};
 use row_changes::gather;

@@ -1,4 +1,4 @@
-//! The table of answers (docs/packets.md, docs/node.md): what may go out on a connection for what came on it.
+//! The table of answers (docs/mqtt.md, docs/architecture.md): what may go out on a connection for what came on it.
 
 use crate::heard::{Heard, Stream};
 use mqtt_fields::Qos;
