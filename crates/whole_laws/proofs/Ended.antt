@@ -133,7 +133,7 @@ tick_if : (b : Bool) (client : List ℕ) (x : Unit {0}) (p : Place) (h : HeldVie
 tick_if true client x p h acts d = tick_alone client x p h acts d
 tick_if false client x p h acts d = d.1
 
-close_by : (found : Option Seat) (client : List ℕ) (r : Reaction) (p : Place) (h : HeldView) (own : List Act) → CallsAt client closes leaves found (Some r) p h own → cond (is_some found) (IsClosed h client own) (own ≡ [])
+pub close_by : (found : Option Seat) (client : List ℕ) (r : Reaction) (p : Place) (h : HeldView) (own : List Act) → CallsAt client closes leaves found (Some r) p h own → cond (is_some found) (IsClosed h client own) (own ≡ [])
 close_by None client r p h own d = d.1
 close_by (Some seat) client r p h own d = let a = call client closes leaves seat r p h own d in record { call = a.step; is = a.is; of = a.of; off = a.to; event = a.event_is }
 

@@ -115,7 +115,7 @@ due_fixed p h m n last last' xs ys sound r s x y =
     (subst (λ w. InOrder One p (ends_due w.sessions w.at) w x.ends last) kx x.ends_are) (subst (λ w. InOrder One p (ends_due w.sessions w.at) w y.ends last') ky y.ends_are)))))
 
 -- ---- a client that goes away
-closed_fixed : (has : Bool) (p : Place) (h : HeldView) (client : List ℕ) (last last' : HeldView) (xs ys : List Act) → Runs p h xs last → Runs p h ys last' → cond has (IsClosed h client xs) (xs ≡ []) → cond has (IsClosed h client ys) (ys ≡ []) → xs ≡ ys
+pub closed_fixed : (has : Bool) (p : Place) (h : HeldView) (client : List ℕ) (last last' : HeldView) (xs ys : List Act) → Runs p h xs last → Runs p h ys last' → cond has (IsClosed h client xs) (xs ≡ []) → cond has (IsClosed h client ys) (ys ≡ []) → xs ≡ ys
 closed_fixed true p h client last last' xs ys r s x y =
     let a = after_head p h last xs (Session (Called x.call)) [] x.is r in
     let b = after_head p h last' ys (Session (Called y.call)) [] y.is s in

@@ -1,6 +1,7 @@
 -- What keeps the laws of an event is its step.
 use Rattle.std.proofs.Common.{◌≡◌, ◌≢◌, ◌⊎◌, inl, inr, ℕ, Bool, true, false, cond, List, [], ◌∷◌, ◌++◌, Option, Some, None, refl, sym, ap, ◌∙◌, subst}
 use Rattle.std.specs.FinMap as map
+use Rattle.bridge_frames.specs.Frames.{frame_in}
 use Rattle.home_table.specs.Table.{IsTable}
 use Rattle.node_work.specs.Acts.{Act, MomentTaken, Connection, Session, Runs, gather, next, output_in}
 use Rattle.node_work.specs.Held.Connections.{Opened, client_at, is_open}
@@ -12,10 +13,12 @@ use Rattle.broker_node.specs.declared.event.Event.{Event}
 use Rattle.broker_node.specs.declared.event.EventKind.{EventKind}
 use Rattle.broker_node.specs.declared.event.EventKind.TheVariants as kinds
 use Rattle.answer_laws.specs.ConnectionRooms.{CallsWithRoom, IsToldOf}
-use Rattle.whole_laws.specs.Determining.{ComesTo, GoesBy, KeepsLaws, IsFixed, LeavesNoRoom, AreOne, LawsDetermine}
+use Rattle.whole_laws.specs.Determining.{ComesTo, GoesBy, KeepsLaws, AreOne, LawsDetermine}
 use Rattle.whole_laws.specs.Ending.{LeavesFrom}
+use Rattle.whole_laws.proofs.Bridging.{frame_fixed, ships_fixed}
 use Rattle.whole_laws.proofs.Calls.{IsKnown, after_head, same_call, two_heads, two_parts}
 use Rattle.whole_laws.proofs.Ending.{due_fixed, leaves_fixed}
+use Rattle.whole_laws.proofs.Moving.{starts_fixed, table_fixed}
 use Rattle.whole_laws.proofs.Pieces.{bytes_fixed}
 
 -- ---- what an event comes to
@@ -44,22 +47,22 @@ room_fixed : (b : Bool) (c bytes : ℕ) (p : Place) (h last last' : HeldView) (x
 room_fixed true c bytes p h last last' xs ys r s x y = told_fixed (client_at c h) c bytes h.at p h last last' xs ys r s x y
 room_fixed false c bytes p h last last' xs ys r s x y = x ∙ sym y
 
-comes_fixed : (kind : EventKind) (p : Place) (h last last' : HeldView) (xs ys : List Act) → IsFixed kind → IsTable h.homes → Runs p h xs last → Runs p h ys last' → ComesTo kind p h xs → ComesTo kind p h ys → xs ≡ ys
-comes_fixed kinds.Tick p h last last' xs ys fixed sound r s x y = x ∙ sym y
-comes_fixed (kinds.Opened c) p h last last' xs ys fixed sound r s x y = opened_fixed (is_open c h) c xs ys x y
-comes_fixed (kinds.Closed c) p h last last' xs ys fixed sound r s x y = left_fixed (is_open c h) p h c last last' xs ys sound r s x y
-comes_fixed (kinds.Room c bytes) p h last last' xs ys fixed sound r s x y = room_fixed (is_open c h) c bytes p h last last' xs ys r s x y
-comes_fixed (kinds.Piece c bytes) p h last last' xs ys fixed sound r s x y = bytes_fixed (map.get h.connections c) p h c bytes last last' xs ys sound r s x y
-comes_fixed (kinds.Evict client) p h last last' xs ys fixed sound r s x y = x ∙ sym y
-comes_fixed kinds.Started p h last last' xs ys fixed sound r s x y = absurd fixed
-comes_fixed (kinds.Frame bytes) p h last last' xs ys fixed sound r s x y = absurd fixed
-comes_fixed (kinds.Linked peer) p h last last' xs ys fixed sound r s x y = absurd fixed
-comes_fixed (kinds.Ship peer) p h last last' xs ys fixed sound r s x y = absurd fixed
-comes_fixed (kinds.Table homes) p h last last' xs ys fixed sound r s x y = absurd fixed
+comes_fixed : (kind : EventKind) (p : Place) (h last last' : HeldView) (xs ys : List Act) → IsTable h.homes → Runs p h xs last → Runs p h ys last' → ComesTo kind p h xs → ComesTo kind p h ys → xs ≡ ys
+comes_fixed kinds.Tick p h last last' xs ys sound r s x y = x ∙ sym y
+comes_fixed (kinds.Opened c) p h last last' xs ys sound r s x y = opened_fixed (is_open c h) c xs ys x y
+comes_fixed (kinds.Closed c) p h last last' xs ys sound r s x y = left_fixed (is_open c h) p h c last last' xs ys sound r s x y
+comes_fixed (kinds.Room c bytes) p h last last' xs ys sound r s x y = room_fixed (is_open c h) c bytes p h last last' xs ys r s x y
+comes_fixed (kinds.Piece c bytes) p h last last' xs ys sound r s x y = bytes_fixed (map.get h.connections c) p h c bytes last last' xs ys sound r s x y
+comes_fixed (kinds.Evict client) p h last last' xs ys sound r s x y = x ∙ sym y
+comes_fixed kinds.Started p h last last' xs ys sound r s x y = x ∙ sym y
+comes_fixed (kinds.Frame bytes) p h last last' xs ys sound r s x y = frame_fixed (frame_in bytes) p h last last' xs ys sound r s x y
+comes_fixed (kinds.Linked peer) p h last last' xs ys sound r s x y = x ∙ sym y
+comes_fixed (kinds.Ship peer) p h last last' xs ys sound r s x y = ships_fixed p h peer xs ys x y
+comes_fixed (kinds.Table homes) p h last last' xs ys sound r s x y = table_fixed homes p h last last' xs ys r s x y
 
 -- ---- after what is due
-goes_fixed : (e : Event) (p : Place) (h last last' : HeldView) (xs ys : List Act) → IsTable h.homes → Runs p h xs last → Runs p h ys last' → GoesBy e p h xs → GoesBy e p h ys → IsFixed e.kind → xs ≡ ys
-goes_fixed e p h last last' xs ys sound r s x y fixed =
+goes_fixed : (e : Event) (p : Place) (h last last' : HeldView) (xs ys : List Act) → IsTable h.homes → Runs p h xs last → Runs p h ys last' → GoesBy e p h xs → GoesBy e p h ys → xs ≡ ys
+goes_fixed e p h last last' xs ys sound r s x y =
     let a = MomentTaken e.at in
     let now = next h a in
     two_heads p h last last' xs ys a a (x.own ++ x.rest) (y.own ++ y.rest) x.is y.is refl r s (λ r2 s2.
@@ -68,31 +71,36 @@ goes_fixed e p h last last' xs ys sound r s x y fixed =
     (λ mid ra rb rc rd. (
     let hx : x.held ≡ mid = runs_determined p x.own now x.held mid x.runs ra in
     let hy : y.held ≡ mid = runs_determined p y.own now y.held mid y.runs rb in
-    comes_fixed e.kind p mid last last' x.rest y.rest fixed (is_table_on p x.own now mid ra sound) rc rd
+    comes_fixed e.kind p mid last last' x.rest y.rest (is_table_on p x.own now mid ra sound) rc rd
     (subst (λ v. ComesTo e.kind p v x.rest) hx x.answers) (subst (λ v. ComesTo e.kind p v y.rest) hy y.answers))))
 
 module _ (e : Event) (p : Place) (h last last' : HeldView) (acts acts' : List Act) (sound : IsTable h.homes) (r : Runs p h acts last) (s : Runs p h acts' last') (k : KeepsLaws e p h acts) (k' : KeepsLaws e p h acts') where
-  other_than : (kind : EventKind) → IsFixed kind → kind ≢ kinds.Started
-  other_than kinds.Started fixed e = fixed
-  other_than (kinds.Opened c) fixed e = (let z : kinds.Opened c ≡ kinds.Started = e in cc)
-  other_than (kinds.Piece c bytes) fixed e = (let z : kinds.Piece c bytes ≡ kinds.Started = e in cc)
-  other_than (kinds.Room c bytes) fixed e = (let z : kinds.Room c bytes ≡ kinds.Started = e in cc)
-  other_than (kinds.Closed c) fixed e = (let z : kinds.Closed c ≡ kinds.Started = e in cc)
-  other_than (kinds.Frame bytes) fixed e = fixed
-  other_than (kinds.Linked peer) fixed e = fixed
-  other_than (kinds.Ship peer) fixed e = fixed
-  other_than kinds.Tick fixed e = (let z : kinds.Tick ≡ kinds.Started = e in cc)
-  other_than (kinds.Evict client) fixed e = (let z : kinds.Evict client ≡ kinds.Started = e in cc)
-  other_than (kinds.Table homes) fixed e = fixed
+  at_start : (started : Bool) → h.started ≡ started → e.kind ≡ kinds.Started → acts ≡ acts'
+  at_start true so kind = k.once so kind ∙ sym (k'.once so kind)
+  at_start false so kind = starts_fixed p h e.at last last' acts acts' sound r s (k.begins so kind) (k'.begins so kind)
 
-  same_acts : LeavesNoRoom e h → acts ≡ acts'
-  same_acts (inl w) = k.waits w.0 w.1 ∙ sym (k'.waits w.0 w.1)
-  same_acts (inr (started, inl kind)) = k.once started kind ∙ sym (k'.once started kind)
-  same_acts (inr (started, inr fixed)) =
-      let other = other_than e.kind fixed in goes_fixed e p h last last' acts acts' sound r s (k.goes started other) (k'.goes started other) fixed
+  at_another : (started : Bool) → h.started ≡ started → e.kind ≢ kinds.Started → acts ≡ acts'
+  at_another true so other = goes_fixed e p h last last' acts acts' sound r s (k.goes so other) (k'.goes so other)
+  at_another false so other = k.waits so other ∙ sym (k'.waits so other)
+
+  same_by : (kind : EventKind) → e.kind ≡ kind → acts ≡ acts'
+  same_by kinds.Started is = at_start h.started refl is
+  same_by (kinds.Opened c) is = at_another h.started refl (λ q. (let z : kinds.Opened c ≡ kinds.Started = sym is ∙ q in cc))
+  same_by (kinds.Piece c bytes) is = at_another h.started refl (λ q. (let z : kinds.Piece c bytes ≡ kinds.Started = sym is ∙ q in cc))
+  same_by (kinds.Room c bytes) is = at_another h.started refl (λ q. (let z : kinds.Room c bytes ≡ kinds.Started = sym is ∙ q in cc))
+  same_by (kinds.Closed c) is = at_another h.started refl (λ q. (let z : kinds.Closed c ≡ kinds.Started = sym is ∙ q in cc))
+  same_by (kinds.Frame bytes) is = at_another h.started refl (λ q. (let z : kinds.Frame bytes ≡ kinds.Started = sym is ∙ q in cc))
+  same_by (kinds.Linked peer) is = at_another h.started refl (λ q. (let z : kinds.Linked peer ≡ kinds.Started = sym is ∙ q in cc))
+  same_by (kinds.Ship peer) is = at_another h.started refl (λ q. (let z : kinds.Ship peer ≡ kinds.Started = sym is ∙ q in cc))
+  same_by kinds.Tick is = at_another h.started refl (λ q. (let z : kinds.Tick ≡ kinds.Started = sym is ∙ q in cc))
+  same_by (kinds.Evict client) is = at_another h.started refl (λ q. (let z : kinds.Evict client ≡ kinds.Started = sym is ∙ q in cc))
+  same_by (kinds.Table homes) is = at_another h.started refl (λ q. (let z : kinds.Table homes ≡ kinds.Started = sym is ∙ q in cc))
+
+  same_acts : acts ≡ acts'
+  same_acts = same_by e.kind refl
 
   are_one : acts ≡ acts' → AreOne acts acts' last last'
   are_one same = record { same_acts = same; same_outputs = ap (gather output_in) same; same_left = runs_determined p acts h last last' r (subst (λ zs. Runs p h zs last') (sym same) s) }
 
 pub laws_determine : LawsDetermine
-laws_determine = λ e p h last last' acts acts' sound r s k k' fixed. are_one e p h last last' acts acts' sound r s k k' (same_acts e p h last last' acts acts' sound r s k k' fixed)
+laws_determine = λ e p h last last' acts acts' sound r s k k'. are_one e p h last last' acts acts' sound r s k k' (same_acts e p h last last' acts acts' sound r s k k')

@@ -6,6 +6,7 @@ use Rattle.mqtt_sessions.specs.Reaction.{Reaction}
 use Rattle.session_laws.specs.Runs.{rooms}
 use Rattle.session_table.specs.Calls.{stays}
 use Rattle.session_table.specs.Seats.{Seat}
+use Rattle.bridge_frames.specs.Frames.{frame_in}
 use Rattle.subscription_set.specs.Standing.{any_of}
 use Rattle.node_work.specs.Acts.{Act, MomentTaken, Store, Made, Connection, next}
 use Rattle.node_work.specs.Calling.{CallsAt}
@@ -29,7 +30,9 @@ use Rattle.effect_laws.proofs.DueLaws.{all_wait_for_start, starts_come_once}
 use Rattle.effect_laws.proofs.Turning.{after_start, turned}
 use Rattle.whole_laws.specs.Determining.{ComesTo, GoesBy, KeepsLaws, StepsKeepLaws}
 use Rattle.whole_laws.specs.Ending.{LeavesFrom}
+use Rattle.whole_laws.proofs.Bridged.{frame_heard, greeted, shipped}
 use Rattle.whole_laws.proofs.Ended.{all_due, leaves_alone}
+use Rattle.whole_laws.proofs.Moved.{starts_alone, table_taken}
 use Rattle.whole_laws.proofs.Pieced.{bytes_by}
 
 -- ---- what an event comes to
@@ -78,11 +81,11 @@ comes_to (kinds.Closed c) p h acts d = left_if (is_open c h) c tt p h acts d
 comes_to (kinds.Room c bytes) p h acts d = told_if (is_open c h) c bytes tt p h acts d
 comes_to (kinds.Piece c bytes) p h acts d = bytes_by (map.get h.connections c) c bytes tt p h acts d
 comes_to (kinds.Evict client) p h acts d = evicted client tt p h acts d
-comes_to kinds.Started p h acts d = tt
-comes_to (kinds.Frame bytes) p h acts d = tt
-comes_to (kinds.Linked peer) p h acts d = tt
-comes_to (kinds.Ship peer) p h acts d = tt
-comes_to (kinds.Table homes) p h acts d = tt
+comes_to kinds.Started p h acts d = d.1
+comes_to (kinds.Frame bytes) p h acts d = frame_heard (frame_in bytes) tt p h acts d
+comes_to (kinds.Linked peer) p h acts d = greeted peer tt p h acts d
+comes_to (kinds.Ship peer) p h acts d = shipped peer tt p h acts d
+comes_to (kinds.Table homes) p h acts d = table_taken homes tt p h acts d
 
 -- ---- the step
 module _ (e : Event) (p : Place) (h : HeldView) (acts : List Act) (d : turns.Decides e (Some tt) p h acts) where
@@ -100,7 +103,12 @@ module _ (e : Event) (p : Place) (h : HeldView) (acts : List Act) (d : turns.Dec
       }
 
   keeps_laws : KeepsLaws e p h acts
-  keeps_laws = record { waits = λ waits other. all_wait_for_start e p h acts d other waits; once = λ started kind. starts_come_once e p h acts d kind started; goes = goes_by }
+  keeps_laws = record {
+    waits = λ waits other. all_wait_for_start e p h acts d other waits;
+    begins = λ waits kind. starts_alone e p h acts d waits kind;
+    once = λ started kind. starts_come_once e p h acts d kind started;
+    goes = goes_by;
+  }
 
 pub steps_keep_laws : StepsKeepLaws
 steps_keep_laws = λ e p h acts d. keeps_laws e p h acts d

@@ -5,6 +5,8 @@ pub mod Requests
 pub mod Packets
 pub mod Connects
 pub mod Pieces
+pub mod Bridging
+pub mod Moving
 pub mod Fixed
 pub mod Passed
 pub mod Outs
@@ -13,6 +15,8 @@ pub mod Requested
 pub mod Taken
 pub mod Connected
 pub mod Pieced
+pub mod Bridged
+pub mod Moved
 pub mod Keeping
 pub mod Gentle
 pub mod Phases

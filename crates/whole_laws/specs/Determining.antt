@@ -1,6 +1,7 @@
 -- The laws leave no room: what keeps them is the step, whatever made it.
-use Rattle.std.specs.Prelude.{◌≡◌, ◌≢◌, ◌⊎◌, ℕ, cond, true, false, List, [], ◌∷◌, ◌++◌, Some, None}
+use Rattle.std.specs.Prelude.{◌≡◌, ◌≢◌, cond, true, false, List, [], ◌∷◌, ◌++◌, Some, None}
 use Rattle.std.specs.FinMap as map
+use Rattle.bridge_frames.specs.Frames.{frame_in}
 use Rattle.home_table.specs.Table.{IsTable}
 use Rattle.subscription_set.specs.Standing.{any_of}
 use Rattle.node_work.specs.Acts.{Act, MomentTaken, Store, Made, Connection, Runs, gather, next, output_in}
@@ -12,11 +13,12 @@ use Rattle.broker_node.specs.declared.event.EventKind.{EventKind}
 use Rattle.broker_node.specs.declared.event.EventKind.TheVariants as kinds
 use Rattle.broker_node.specs.Turns.{Decides}
 use Rattle.answer_laws.specs.ConnectionRooms.{IsToldOf}
+use Rattle.whole_laws.specs.Bridging.{FrameAlone, GreetsAlone, ShipsAlone}
 use Rattle.whole_laws.specs.Ending.{AllDueIsDone, LeavesFrom}
+use Rattle.whole_laws.specs.Moving.{StartsAlone, TableAlone}
 use Rattle.whole_laws.specs.Pieces.{BytesAlone}
 
 -- ---- what an event comes to, once what is due is done
--- frames, tables and Started are left to their own laws
 abbrev pub ComesTo : EventKind → Place → HeldView → List Act → Type 0
 ComesTo kinds.Tick p h acts = acts ≡ []
 ComesTo (kinds.Opened c) p h acts = cond (is_open c h) (acts ≡ []) (acts ≡ Connection (Opened c) ∷ [])
@@ -24,7 +26,11 @@ ComesTo (kinds.Closed c) p h acts = cond (is_open c h) (LeavesFrom p h c (client
 ComesTo (kinds.Room c bytes) p h acts = cond (is_open c h) (IsToldOf c bytes h.at h (client_at c h) acts) (acts ≡ [])
 ComesTo (kinds.Piece c bytes) p h acts = BytesAlone p h c bytes (map.get h.connections c) acts
 ComesTo (kinds.Evict client) p h acts = acts ≡ cond (any_of client None h.store.subscriptions) (Store (Made (removal p.id client None h.store)) ∷ []) []
-ComesTo kind p h acts = Unit {0}
+ComesTo (kinds.Frame bytes) p h acts = FrameAlone p h (frame_in bytes) acts
+ComesTo (kinds.Linked peer) p h acts = GreetsAlone p peer acts
+ComesTo (kinds.Ship peer) p h acts = ShipsAlone p h peer acts
+ComesTo (kinds.Table homes) p h acts = TableAlone p h homes acts
+ComesTo kinds.Started p h acts = acts ≡ []
 
 -- ---- the laws, of the acts of one step
 -- the moment is taken, what is due is done, and then the event is answered
@@ -40,6 +46,7 @@ pub record GoesBy (e : Event) (p : Place) (h : HeldView) (acts : List Act) : Typ
 -- before Started, and at a second one, the moment alone is taken
 pub record KeepsLaws (e : Event) (p : Place) (h : HeldView) (acts : List Act) : Type 0 where
   pub waits : h.started ≡ false → e.kind ≢ kinds.Started → acts ≡ MomentTaken e.at ∷ []
+  pub begins : h.started ≡ false → e.kind ≡ kinds.Started → StartsAlone p h e.at acts
   pub once : h.started ≡ true → e.kind ≡ kinds.Started → acts ≡ MomentTaken e.at ∷ []
   pub goes : h.started ≡ true → e.kind ≢ kinds.Started → GoesBy e p h acts
 
@@ -47,20 +54,7 @@ pub record KeepsLaws (e : Event) (p : Place) (h : HeldView) (acts : List Act) : 
 abbrev pub StepsKeepLaws : Type 0
 StepsKeepLaws = (e : Event) (p : Place) (h : HeldView) (acts : List Act) → Decides e (Some tt) p h acts → KeepsLaws e p h acts
 
--- ---- where they leave no room
--- all events but frames, links, tables of homes, and the first Started
-abbrev pub IsFixed : EventKind → Type 0
-IsFixed kinds.Tick = Unit {0}
-IsFixed (kinds.Opened c) = Unit {0}
-IsFixed (kinds.Closed c) = Unit {0}
-IsFixed (kinds.Room c bytes) = Unit {0}
-IsFixed (kinds.Piece c bytes) = Unit {0}
-IsFixed (kinds.Evict client) = Unit {0}
-IsFixed kind = ⊥
-
-abbrev pub LeavesNoRoom : Event → HeldView → Type 0
-LeavesNoRoom e h = ((h.started ≡ false) × (e.kind ≢ kinds.Started)) ⊎ ((h.started ≡ true) × ((e.kind ≡ kinds.Started) ⊎ IsFixed e.kind))
-
+-- ---- they leave no room, at any event
 -- the same acts, the same given out to each client, in the same order, and the same left
 pub record AreOne (acts acts' : List Act) (last last' : HeldView) : Type 0 where
   pub same_acts : acts ≡ acts'
@@ -71,4 +65,4 @@ pub record AreOne (acts acts' : List Act) (last last' : HeldView) : Type 0 where
 abbrev pub LawsDetermine : Type 0
 LawsDetermine =
     (e : Event) (p : Place) (h last last' : HeldView) (acts acts' : List Act) → IsTable h.homes → Runs p h acts last → Runs p h acts' last'
-    → KeepsLaws e p h acts → KeepsLaws e p h acts' → LeavesNoRoom e h → AreOne acts acts' last last'
+    → KeepsLaws e p h acts → KeepsLaws e p h acts' → AreOne acts acts' last last'

@@ -5,4 +5,6 @@ pub mod Requests
 pub mod Packets
 pub mod Connects
 pub mod Pieces
+pub mod Bridging
+pub mod Moving
 pub mod Determining
