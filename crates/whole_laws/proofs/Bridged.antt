@@ -6,10 +6,10 @@ use Rattle.bridge_frames.specs.declared.body.FrameBody.TheVariants.{Hello, Delta
 use Rattle.bridge_frames.specs.declared.forward.Forward.{Forward as Message}
 use Rattle.bridge_frames.specs.declared.frame.BridgeFrame.{BridgeFrame}
 use Rattle.message_copies.specs.declared.plain.PlainCopy.{PlainCopy as Copy}
-use Rattle.node_bridge.specs.View.{BridgeView, IsToShip, is_next, lane_to}
+use Rattle.node_bridge.specs.View.{BridgeView, is_next, lane_to}
 use Rattle.replica_store.specs.States.{State}
 use Rattle.node_work.specs.declared.counts.Missed.TheVariants.{BadFrame, FrameTooLarge}
-use Rattle.node_work.specs.Acts.{Act, Store, Merged, Bridge, Runs, next}
+use Rattle.node_work.specs.Acts.{Act, Bridge, Runs, next}
 use Rattle.node_work.specs.Doings.{GivesBody, GivesFrame, Misses, is_small}
 use Rattle.node_work.specs.Frames.{is_for_node, is_other}
 use Rattle.node_work.specs.Handed.{IsHanded, found}
@@ -25,7 +25,7 @@ use Rattle.passing_laws.proofs.Passing.{HaveAll, each_queued, have_both, have_se
 use Rattle.passing_laws.proofs.Splits.{left_by}
 use Rattle.output_laws.specs.Frames.{deltas_to, frame_to}
 use Rattle.output_laws.proofs.Giving.{gives_one}
-use Rattle.whole_laws.specs.Bridging.{FrameAlone, GreetsAlone, HearsAlone, IsBrought, ShipsAlone, TakesOfLane, all_out, gives_out}
+use Rattle.whole_laws.specs.Bridging.{FrameAlone, GreetsAlone, HearsAlone, IsSentTo, ShipsAlone, TakesOfLane, all_out, gives_out}
 
 -- ---- frames that go out
 gave_by : (small : Bool) (f : BridgeFrame) (x : Unit {0}) (p : Place) (h : HeldView) (acts : List Act) → If small (Acting (λ p h. Bridge (Gave f))) (Misses FrameTooLarge) (Some x) p h acts → acts ≡ cond small (Bridge (Gave f)) (Bridge (Left_out FrameTooLarge)) ∷ []
@@ -56,8 +56,7 @@ state_out : (s : Option State) (peer : ℕ) (x : Unit {0}) (p : Place) (h mid : 
 state_out None peer x p h mid acts d runs = (d.1, ap (λ (v : HeldView). v.bridge) (subst (λ zs. Runs p h zs mid) d.1 runs))
 state_out (Some s) peer x p h mid acts d runs = (gave (frame_to p peer (Delta s)) x p h acts d, (gives_one (frame_to p peer (Delta s)) x p h mid acts d runs).bridge)
 
-shipped_if : (other : Bool) (peer : ℕ) (x : Unit {0}) (p : Place) (h : HeldView) (acts : List Act) → If other (bridge.ShipsTo peer) (Returns tt) (Some x) p h acts
-    → cond other ((s : Option State) × IsToShip peer h.bridge h.store s × (acts ≡ all_out (deltas_to p peer s ++ first_frames p.id peer (lane_to h.bridge peer)))) (acts ≡ [])
+shipped_if : (other : Bool) (peer : ℕ) (x : Unit {0}) (p : Place) (h : HeldView) (acts : List Act) → If other (bridge.ShipsTo peer) (Returns tt) (Some x) p h acts → cond other (IsSentTo p h peer acts) (acts ≡ [])
 shipped_if true peer x p h acts (inl d) = none_some (sym d.0)
 shipped_if true peer x p h acts (inr (y, own, mid, rest, (s, to_ship, one), ran, more, is)) =
     let first = state_out s peer y p h mid own one ran in

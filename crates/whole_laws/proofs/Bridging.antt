@@ -1,5 +1,5 @@
 -- What comes of other nodes is determined.
-use Rattle.std.proofs.Common.{◌≡◌, ℕ, Bool, true, false, cond, List, [], ◌∷◌, ◌++◌, Option, Some, None, refl, sym, ap, ◌∙◌, subst}
+use Rattle.std.proofs.Common.{◌≡◌, ℕ, Bool, true, false, cond, List, [], ◌∷◌, ◌++◌, Option, Some, None, sym, ap, ◌∙◌, subst}
 use Rattle.bridge_deltas.specs.Lane.{first_frames}
 use Rattle.bridge_frames.specs.declared.body.FrameBody.{FrameBody}
 use Rattle.bridge_frames.specs.declared.body.FrameBody.TheVariants.{Hello, Delta, Know, Forward, Got}
@@ -7,7 +7,7 @@ use Rattle.bridge_frames.specs.declared.forward.Forward.{Forward as Message}
 use Rattle.bridge_frames.specs.declared.frame.BridgeFrame.{BridgeFrame}
 use Rattle.home_table.specs.Table.{IsTable}
 use Rattle.message_copies.specs.declared.plain.PlainCopy.{PlainCopy as Copy}
-use Rattle.node_bridge.specs.View.{IsToShip, is_next, lane_to}
+use Rattle.node_bridge.specs.View.{is_next, lane_to}
 use Rattle.node_bridge.proofs.Shipping.{to_ship_one}
 use Rattle.replica_store.specs.States.{State}
 use Rattle.node_work.specs.declared.counts.Missed.TheVariants.{BadFrame}
@@ -18,14 +18,12 @@ use Rattle.node_work.specs.View.{Place, HeldView}
 use Rattle.node_clients.proofs.Determined.{handed_alone, runs_determined}
 use Rattle.passing_laws.specs.Publishing.{CopiesAreQueued}
 use Rattle.output_laws.specs.Frames.{deltas_to}
-use Rattle.whole_laws.specs.Bridging.{FrameAlone, HearsAlone, IsBrought, ShipsAlone, TakesOfLane, all_out, answered}
+use Rattle.whole_laws.specs.Bridging.{FrameAlone, HearsAlone, IsBrought, IsSentTo, ShipsAlone, TakesOfLane, all_out, answered}
 use Rattle.whole_laws.proofs.Calls.{after_head, two_heads, two_parts}
 use Rattle.whole_laws.proofs.Passing.{queued_fixed}
 
 -- ---- of its own accord
-shipped_fixed : (other : Bool) (p : Place) (h : HeldView) (peer : ℕ) (xs ys : List Act)
-    → cond other ((s : Option State) × IsToShip peer h.bridge h.store s × (xs ≡ all_out (deltas_to p peer s ++ first_frames p.id peer (lane_to h.bridge peer)))) (xs ≡ [])
-    → cond other ((s : Option State) × IsToShip peer h.bridge h.store s × (ys ≡ all_out (deltas_to p peer s ++ first_frames p.id peer (lane_to h.bridge peer)))) (ys ≡ []) → xs ≡ ys
+shipped_fixed : (other : Bool) (p : Place) (h : HeldView) (peer : ℕ) (xs ys : List Act) → cond other (IsSentTo p h peer xs) (xs ≡ []) → cond other (IsSentTo p h peer ys) (ys ≡ []) → xs ≡ ys
 shipped_fixed true p h peer xs ys x y =
     x.2 ∙ ap (λ (s : Option State). all_out (deltas_to p peer s ++ first_frames p.id peer (lane_to h.bridge peer))) (to_ship_one peer h.bridge h.store x.0 y.0 x.1 y.1) ∙ sym y.2
 shipped_fixed false p h peer xs ys x y = x ∙ sym y

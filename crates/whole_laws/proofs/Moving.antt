@@ -1,5 +1,5 @@
 -- What a table of homes, and the first Started, come to is determined.
-use Rattle.std.proofs.Common.{◌≡◌, ℕ, Bool, true, false, cond, List, [], ◌∷◌, ◌++◌, map as map_list, Option, Some, None, refl, sym, ap, ◌∙◌, subst}
+use Rattle.std.proofs.Common.{◌≡◌, ℕ, Bool, true, false, cond, List, [], ◌∷◌, ◌++◌, map as map_list, Option, Some, None, refl, sym, ◌∙◌, subst}
 use Rattle.std.specs.FinMap as map
 use Rattle.home_table.specs.Table.{Table, IsTable}
 use Rattle.home_table.proofs.HomeLaws.{home_alone}

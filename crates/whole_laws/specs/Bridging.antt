@@ -29,11 +29,13 @@ all_out fs = map_list gives_out fs
 abbrev pub GreetsAlone : Place → ℕ → List Act → Type 0
 GreetsAlone p peer acts = acts ≡ cond (is_other p peer) (all_out (frame_to p peer Hello ∷ [])) []
 
--- another node of the cluster is sent what it may lack of the state, unless it is known to have taken all; and then each of the first 64 messages
--- that wait for it
+-- a node is sent what it may lack of the state, unless it is known to have taken all; and then each of the first 64 messages that wait for it
+abbrev pub IsSentTo : Place → HeldView → ℕ → List Act → Type 0
+IsSentTo p h peer acts = (s : Option State) × IsToShip peer h.bridge h.store s × (acts ≡ all_out (deltas_to p peer s ++ first_frames p.id peer (lane_to h.bridge peer)))
+
+-- another node of the cluster is
 abbrev pub ShipsAlone : Place → HeldView → ℕ → List Act → Type 0
-ShipsAlone p h peer acts =
-    cond (is_other p peer) ((s : Option State) × IsToShip peer h.bridge h.store s × (acts ≡ all_out (deltas_to p peer s ++ first_frames p.id peer (lane_to h.bridge peer)))) (acts ≡ [])
+ShipsAlone p h peer acts = cond (is_other p peer) (IsSentTo p h peer acts) (acts ≡ [])
 
 -- ---- a frame that comes
 -- a message is taken of its sender's lane, and its copies join their sessions
