@@ -85,6 +85,7 @@ fn of_bytes(alloc: Global, subject: &str, word: &str) -> Result<String, NoMemory
         "options" => fields::options(alloc, &bytes),
         "packet" => packets::packet(alloc, &bytes),
         "spelling" => spellings::spelling(alloc, &bytes),
+        "changed" => spellings::changed(alloc, &bytes),
         "fields" => contents::fields(alloc, &bytes),
         "cuts" => cuts::cuts(alloc, &bytes),
         "message" => messages::message(alloc, &bytes),

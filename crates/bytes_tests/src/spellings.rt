@@ -69,9 +69,18 @@ fn other_change(alloc: Global, bytes: &[u8]) -> Result<Option<(usize, u8)>, NoMe
     Ok(None)
 }
 
+/// `answered` where with any one byte changed the bytes wait, have a named fault, or begin with a packet whose shortest spelling is read as
+/// that packet.
+pub fn changed(alloc: Global, bytes: &[u8]) -> Result<String, NoMemory> {
+    match other_change(alloc, bytes)? {
+        Some((place, byte)) => Ok(format!(in alloc; "not answered with {byte:02x} at {place}")?),
+        None => said(alloc, "answered"),
+    }
+}
+
 /// `itself` where the bytes are the shortest spelling of the packet that they are read as, each shorter part
-/// of them waits, a framer hands that packet over wherever they are cut, and with any one byte changed they wait,
-/// have a named fault, or begin with a packet whose shortest spelling is read as that packet.
+/// of them waits, a framer hands that packet over wherever they are cut, and with any one byte changed they are
+/// answered (`changed`).
 pub fn spelling(alloc: Global, bytes: &[u8]) -> Result<String, NoMemory> {
     let told = packet(alloc, bytes)?;
     let word = word_of(alloc, bytes)?;
@@ -82,8 +91,10 @@ pub fn spelling(alloc: Global, bytes: &[u8]) -> Result<String, NoMemory> {
     if cut.as_str() != "whole" {
         return Ok(format!(in alloc; "not whole, cut at {cut}")?);
     }
-    match other_change(alloc, bytes)? {
-        Some((place, byte)) => Ok(format!(in alloc; "not answered with {byte:02x} at {place}")?),
-        None => said(alloc, "itself"),
+    let told = changed(alloc, bytes)?;
+    if told.as_str() == "answered" {
+        said(alloc, "itself")
+    } else {
+        Ok(told)
     }
 }
