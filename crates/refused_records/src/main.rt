@@ -1,23 +1,25 @@
-//! Databases that are opened, and runs of scripts over nodes with rows in a database, of which each allocation is refused in turn.
+//! Databases that are opened, nodes that are opened from rows which no script leaves, and runs of scripts over nodes with rows in a database, of
+//! which each allocation is refused in turn.
 //! `examples/refuse.c` refuses them; where nothing does, each is made once.
 //!
 //!   refused_records SCRIPT..
 #![tactic(auto)]
 
+mod nodes;
 mod openings;
 
-use crate::openings::{DATABASES, Database};
+use crate::nodes::NODES;
+use crate::openings::DATABASES;
 use played_nodes::Nodes;
 use recorded_rows::RecordedRows;
-use refusal_trials::sweep;
+use refusal_trials::{Call, sweep};
 use run_trials::tell;
 use std::io;
 use std::process::ExitCode;
 
-/// Tells of the opening of a database. Whether it is as it should be.
-fn tell_of(rt: &HostRuntime, database: Database) -> io::Result<bool> {
-    let name = database.name();
-    match sweep(rt.alloc(), &database) {
+/// Tells of an opening of this name. Whether it is as it should be.
+fn tell_of<C: Call>(rt: &HostRuntime, name: &str, opening: &C) -> io::Result<bool> {
+    match sweep(rt.alloc(), opening) {
         Ok(refused) => {
             println!(rt; "{name}: {refused} refused")?;
             Ok(true)
@@ -33,7 +35,10 @@ fn tell_of(rt: &HostRuntime, database: Database) -> io::Result<bool> {
 fn tell_openings(rt: &HostRuntime) -> io::Result<bool> {
     let mut are_right = true;
     for database in DATABASES {
-        are_right = tell_of(rt, database)? && are_right;
+        are_right = tell_of(rt, database.name(), &database)? && are_right;
+    }
+    for (name, node) in NODES {
+        are_right = tell_of(rt, name, &node)? && are_right;
     }
     Ok(are_right)
 }
