@@ -1,3 +1,4 @@
+pub mod Attending
 pub mod Balancing
 pub mod Giving
 pub mod Linking

@@ -23,10 +23,11 @@ use Rattle.broker_turns.specs.declared.setting.Setting.{Setting}
 use Rattle.broker_turns.specs.Bridging.{HearsAll, IsAdmitted, IsBegunBy, IsDialledAt, IsDialledIf, IsDialledOnce, IsLinkAccepted, IsLinkReadIn, IsLinkWrittenIn, IsMarked, IsNoLinkAccepted, IsPeerReadIn, IsShipped, IsShippedIf, IsWatchedIf, LineTried, Near, Place, Reach, Relinks, Search, goes_on_by, left_if, peer_event, place}
 use Rattle.broker_turns.specs.Handling.Told.{Of_peer}
 use Rattle.broker_turns.specs.Lines.{is_due, link_of, marked}
-use Rattle.turn_laws.specs.Calls.{Accepts_link, Call, Dials, Finds, Lets_go, News, Rests, Tells, Through, Watches, Writes, beats, brings, framed, news_closed, tells_of, writes_to}
-use Rattle.turn_laws.specs.Channels.{Channel, Holds, channel_at, is_gone, is_same, of_client, of_line}
+use Rattle.turn_laws.specs.Calls.{Accepts_link, Call, Dials, Finds, IsAmong, IsFinding, Lets_go, News, Rests, Tells, Through, Watches, Writes, beats, brings, framed, news_closed, tells_of, writes_to}
+use Rattle.turn_laws.specs.Channels.{Channel, Holds, IsReadOrShut, channel_at, is_gone, is_same, of_client, of_line}
+use Rattle.turn_laws.proofs.Attending.{IsThere}
 use Rattle.turn_laws.proofs.Giving.{found_still, if_map}
-use Rattle.turn_laws.proofs.Tracing.{Traced, Walks, and_both, heard_all, holds_at, none_waits, still, trace_none, trace_over, traced, walks}
+use Rattle.turn_laws.proofs.Tracing.{Asked, Traced, Walks, and_both, heard_all, holds_at, none_waits, same_number, still, trace_none, trace_over, traced, walks}
 use Rattle.turn_laws.proofs.Walking.{Reading, link_lined, peer_lined, spot, walked_accepts_link, walked_dials, walked_finds, walked_hearing, walked_line_last, walked_line_read, walked_line_written, walked_links, walked_reaches, walked_unwatched}
 
 more-not-leb : (n m : ℕ) → leb n m ≡ false → m < n
@@ -128,41 +129,56 @@ module _
   reading_writes self line answer bytes frames true left = refl
   reading_writes self line answer bytes frames false left = refl
 
+  reading_reads : (self : Watched) (line : Line T) (answer : Answer) (bytes : List ℕ) (frames : List (Vec ℕ Global)) (goes_on : Bool) (left : Line T) (more : List (Call T)) → is_same self self ≡ true → IsAmong (IsReadOrShut self) (Reading self line answer bytes frames goes_on left ++ more)
+  reading_reads self line answer bytes frames true left more its = inl its
+  reading_reads self line answer bytes frames false left more its = inl its
+
+  -- its stream is asked for what it has
+  abbrev Asks : Watched → Place S H T → Place S H T → Type 0
+  Asks name p p' = (t : Made false p p') × IsAmong (IsReadOrShut name) t.0
+
   -- it is read, and its frames are handed over
-  read_and_heard : (self : Watched) → news_closed T self false ≡ [] → (p : Place S H T) (s' : S) (n n' : Near H T) (a : Slab (Line T)) (line left : Line T) (answer : Answer) (bytes : List ℕ) (frames : List (Vec ℕ Global)) (goes_on : Bool)
-      → Goes_by (Reading self line answer bytes frames goes_on left) p (place s' n a) → HearsAll hears at frames n n' → Made false p (place s' n' a)
-  read_and_heard self none p s' n n' a line left answer bytes frames goes_on read all =
+  read_and_heard : (self : Watched) → is_same self self ≡ true → news_closed T self false ≡ [] → (p : Place S H T) (s' : S) (n n' : Near H T) (a : Slab (Line T)) (line left : Line T) (answer : Answer) (bytes : List ℕ) (frames : List (Vec ℕ Global)) (goes_on : Bool)
+      → Goes_by (Reading self line answer bytes frames goes_on left) p (place s' n a) → HearsAll hears at frames n n' → Asks self p (place s' n' a)
+  unfolding made
+  read_and_heard self its none p s' n n' a line left answer bytes frames goes_on read all =
       let hs = heard_all accepts watches connects reads writes finds handles hears settles setting at frames s' a n n' all in
       let calls = Reading self line answer bytes frames goes_on left in
-      made (calls ++ hs.calls) p (place s' n' a) (goes calls hs.calls p (place s' n a) (place s' n' a) read hs.walk)
+      let made_here = made (calls ++ hs.calls) p (place s' n' a) (goes calls hs.calls p (place s' n a) (place s' n' a) read hs.walk)
       (flat_map-append tells_of calls hs.calls ∙ ap (λ (ns : List (News T)). ns ++ flat_map tells_of hs.calls) (reading_tells self line answer bytes frames goes_on left) ∙ hs.tells
       ∙ sym (flat_map-append brings calls hs.calls ∙ ap (λ (ns : List (News T)). flat_map brings calls ++ ns) hs.brings ∙ append-nil (flat_map brings calls) ∙ reading_brings self none line answer bytes frames goes_on left))
       (flat_map-append beats calls hs.calls ∙ ap (λ (es : List Event). es ++ flat_map beats hs.calls) (reading_beats self line answer bytes frames goes_on left) ∙ hs.beats)
-      (flat_map-append writes_to calls hs.calls ∙ ap (λ (ns : List Watched). ns ++ flat_map writes_to hs.calls) (reading_writes self line answer bytes frames goes_on left) ∙ hs.unwritten)
+      (flat_map-append writes_to calls hs.calls ∙ ap (λ (ns : List Watched). ns ++ flat_map writes_to hs.calls) (reading_writes self line answer bytes frames goes_on left) ∙ hs.unwritten) in
+      (made_here, reading_reads self line answer bytes frames goes_on left hs.calls its)
 
-  pub link_read_in : (key : ℕ) (o : Option (Line T)) (p : Place S H T) (more : Bool) (p' : Place S H T) → get p.accepted key ≡ o → IsLinkReadIn reads hears at o key p more p' → Made false p p'
-  link_read_in key None p more p' found is = made_none false p p' is.0
+  abbrev Asked_if : Option (Line T) → Watched → Place S H T → Place S H T → Type 0
+  Asked_if o name p p' = Asked accepts watches connects reads writes finds handles hears settles setting at (IsThere o) name p p'
+
+  pub link_read_in : (key : ℕ) (o : Option (Line T)) (p : Place S H T) (more : Bool) (p' : Place S H T) → get p.accepted key ≡ o → IsLinkReadIn reads hears at o key p more p' → Asked_if o (watched.Link key) p p'
+  link_read_in key None p more p' found is = (made_none false p p' is.0, λ never. absurd never)
   link_read_in key (Some line) p more p' found is =
       let r = is.read in
       let n = p.reach.near in
       let s' = p'.reach.sockets in
       let lined = link_lined accepts watches connects reads writes finds handles hears settles setting at p.reach.sockets s' n.handler n.clients n.dialled p.accepted p'.accepted key line (left_if is.goes_on is.left) found is.kept in
       let walk = walked_line_read accepts watches connects reads writes finds handles hears settles setting at (watched.Link key) p (place s' n p'.accepted) line refl is.left r.answer r.bytes is.frames is.goes_on more lined r.asked r.taken r.unsent in
-      read_and_heard (watched.Link key) refl p s' n p'.reach.near p'.accepted line is.left r.answer r.bytes is.frames is.goes_on walk is.heard
+      let one = read_and_heard (watched.Link key) (same_number key) refl p s' n p'.reach.near p'.accepted line is.left r.answer r.bytes is.frames is.goes_on walk is.heard in
+      (one.0, λ _. one.1)
 
   module _ (a : Slab (Line T)) where
     abbrev pub of_reach : Reach S H T → Place S H T
     of_reach r = place r.sockets r.near a
 
-    pub peer_read_in : (peer : ℕ) (o : Option (Line T)) (r : Reach S H T) (more : Bool) (r' : Reach S H T) → link_of r.near.dialled peer ≡ o → IsPeerReadIn reads hears at o peer r more r' → Made false (of_reach r) (of_reach r')
-    peer_read_in peer None r more r' found is = made_none false (of_reach r) (of_reach r') (ap of_reach is.0)
+    pub peer_read_in : (peer : ℕ) (o : Option (Line T)) (r : Reach S H T) (more : Bool) (r' : Reach S H T) → link_of r.near.dialled peer ≡ o → IsPeerReadIn reads hears at o peer r more r' → Asked_if o (watched.Peer peer) (of_reach r) (of_reach r')
+    peer_read_in peer None r more r' found is = (made_none false (of_reach r) (of_reach r') (ap of_reach is.0), λ never. absurd never)
     peer_read_in peer (Some line) r more r' found is =
         let rd = is.read in
         let n = r.near in
         let between = record n { dialled = is.links } in
         let lined = peer_lined accepts watches connects reads writes finds handles hears settles setting at r.sockets r'.sockets n.handler n.clients n.dialled is.links a peer line (left_if is.goes_on is.left) found is.kept in
         let walk = walked_line_read accepts watches connects reads writes finds handles hears settles setting at (watched.Peer peer) (of_reach r) (place r'.sockets between a) line refl is.left rd.answer rd.bytes is.frames is.goes_on more lined rd.asked rd.taken rd.unsent in
-        read_and_heard (watched.Peer peer) refl (of_reach r) r'.sockets between r'.near a line is.left rd.answer rd.bytes is.frames is.goes_on walk is.heard
+        let one = read_and_heard (watched.Peer peer) (same_number peer) refl (of_reach r) r'.sockets between r'.near a line is.left rd.answer rd.bytes is.frames is.goes_on walk is.heard in
+        (one.0, λ _. one.1)
 
     -- ---- peers that are dialled
 
@@ -285,6 +301,9 @@ module _
       link_written_in (Some line) peer w w' found is =
           line_written is.written.answer is.goes_on line is.left peer w.0 w'.0 w.1 w'.1 found is.written.tried is.written.comes_to is.kept
 
-    pub found_ready : (ready : Ready) (s s' : S) (n : Near H T) → finds s ready s' → Made true (place s n a) (place s' n a)
-    found_ready ready s s' n is =
-        made_out (Finds ready ∷ []) (place s n a) (place s' n a) (walked_finds accepts watches connects reads writes finds handles hears settles setting at s s' n.handler n.clients n.dialled a ready is) refl refl (true, refl, refl)
+    pub found_ready : (ready : Ready) (s s' : S) (n : Near H T) → finds s ready s' → (t : Made true (place s n a) (place s' n a)) × IsAmong (IsFinding ready) t.0
+    unfolding made_out
+    found_ready ready s s' n is = (
+      made_out (Finds ready ∷ []) (place s n a) (place s' n a) (walked_finds accepts watches connects reads writes finds handles hears settles setting at s s' n.handler n.clients n.dialled a ready is) refl refl (true, refl, refl),
+      inl refl,
+    )

@@ -1,6 +1,6 @@
 -- The steps of a turn as calls, with what they bring and tell.
 use Rattle.std.proofs.Common.{◌≡◌, ◌≢◌, ◌<◌, ◌⊎◌, ◌&&◌, ℕ, List, [], ◌∷◌, ◌++◌, map, Bool, true, false, not, eqb, ltb, eqb-true, if◌then◌else◌, Option, Some, None, Vec, length, refl, sym, ap, subst, ◌∙◌, inl, inr, arith}
-use Rattle.std.proofs.lemmas.Bool.Decides.{nat_tests}
+use Rattle.std.proofs.lemmas.Bool.Decides.{eqb_tells, nat_tests}
 use Rattle.std.proofs.lemmas.List.{nil_from_length}
 use Rattle.std.proofs.lemmas.List.Concat.{flat_map-append}
 use Rattle.std.specs.Prelude.{option_map, flat_map}
@@ -33,8 +33,9 @@ use Rattle.broker_turns.specs.Lines.{Noted, is_from, link_of, noted}
 use Rattle.broker_turns.specs.Writing.{Tried, fate_by_size, fate_of}
 use Rattle.broker_turns.proofs.Rooming.{takes-low}
 use Rattle.turn_laws.specs.Calls.{Accepts, Accepts_link, Call, Dials, Finds, IsAsked, IsAt, IsDone, Has_come, IsAmong, IsWrittenTo, Is_gone, Lets_go, News, Reads, Reads_link, Rests, Settles, Tells, Through, Watches, Writes, beats, brings, framed, tells_of, writes_to}
-use Rattle.turn_laws.specs.Channels.{Channel, Goes, Holds, IsFor, TakesMore, channel_at, is_gone, is_same, of_client, of_line}
+use Rattle.turn_laws.specs.Channels.{Channel, Goes, Holds, IsFor, IsReadOrShut, TakesMore, channel_at, is_gone, is_same, of_client, of_line}
 use Rattle.turn_laws.specs.Traces.{IsTrace}
+use Rattle.turn_laws.proofs.Attending.{IsOpen}
 use Rattle.turn_laws.proofs.Giving.{found_still, if_map}
 use Rattle.turn_laws.proofs.Walking.{Walked, all_join, spot, through_join, walked_accepts, walked_drops, walked_handled, walked_hearing, walked_opens, walked_over, walked_reads, walked_reads_last, walked_settles, walked_still, walked_unwatched, walked_writes, walked_writes_last}
 
@@ -58,6 +59,12 @@ below-all n m is = grind (arith, is, nat_tests)
 pub among_left : {A : Type 0} (is : A → Type 0) (xs ys : List A) → IsAmong is xs → IsAmong is (xs ++ ys)
 among_left is [] ys none = absurd none
 among_left is (x ∷ xs) ys some = elim some [ inl here ↦ inl here | inr later ↦ inr (among_left is xs ys later) ]
+
+pub same_number : (n : ℕ) → eqb n n ≡ true
+same_number n = elim (eqb_tells n n) [
+  | inl agree ↦ agree.0
+  | inr differ ↦ absurd (differ.1 refl)
+]
 
 append_waits : (xs ys : List ℕ) → xs ≢ [] → (xs ++ ys) ≢ []
 append_waits [] ys some none = some refl
@@ -175,6 +182,10 @@ module _
   abbrev pub trace_none : (out : Bool) (p p' : Place S H T) → p' ≡ p → Traced out [] p p'
   trace_none out p p' same =
       traced out [] [] p p' (still p p' (ap (λ (q : Place S H T). q.reach.sockets) same) (ap (λ (q : Place S H T). q.reach.near.handler) same) (λ name. ap (λ (q : Place S H T). channel_at name q) same)) refl refl (kept_none T out)
+
+  -- where this holds its stream is asked for what it has
+  abbrev pub Asked : Type 0 → Watched → Place S H T → Place S H T → Type 0
+  Asked Due name p p' = (t : Traced false [] p p') × (Due → IsAmong (IsReadOrShut name) t.0)
 
   -- ---- frames
 
@@ -307,37 +318,44 @@ module _
 
     -- a client is read
     heard : (answer : Answer) (bytes : List ℕ) (key : ℕ) (client : Client T) (after : T) (s s' : S) (h h' : H) (c c' : Slab (Client T)) (more : Bool) → get c key ≡ Some client → client.closing ≡ false → reads s client.stream answer bytes s' after
-        → IsHeard handles at key answer bytes (record client { stream = after }) h c more h' c' → Traced false [] (spot s h c d a) (spot s' h' c' d a)
+        → IsHeard handles at key answer bytes (record client { stream = after }) h c more h' c' → Asked (Unit {0}) (watched.Client key) (spot s h c d a) (spot s' h' c' d a)
     heard Later bytes key client after s s' h h' c c' more found unclosed is came =
         let left = record client { stream = after } in
-        let one = walked_reads accepts watches connects reads writes finds handles hears settles setting at s s' h c c' d a key client left Later bytes is unclosed refl refl refl found came.1 in
-        trace_over false [] [] (spot s h c d a) (spot s' h c' d a) (spot s' h' c' d a)
-        (traced false [] (Reads key client.stream Later bytes after ∷ []) (spot s h c d a) (spot s' h c' d a) one refl refl refl)
-        (trace_none false (spot s' h c' d a) (spot s' h' c' d a) (λ j. spot s' (came.0 j) c' d a))
+        let one = walked_reads accepts watches connects reads writes finds handles hears settles setting at s s' h c c' d a key client left Later bytes is unclosed refl refl refl found came.1 in (
+          trace_over false [] [] (spot s h c d a) (spot s' h c' d a) (spot s' h' c' d a)
+              (traced false [] (Reads key client.stream Later bytes after ∷ []) (spot s h c d a) (spot s' h c' d a) one refl refl refl)
+              (trace_none false (spot s' h c' d a) (spot s' h' c' d a) (λ j. spot s' (came.0 j) c' d a)),
+          λ _. inl (same_number key),
+        )
     heard (Bytes n) bytes key client after s s' h h' c c' more found unclosed is came =
         let left = record client { stream = after } in
         let on = came.0 in
         let call = Tells (Of_client (event at (Piece key on.piece)) on.handled.outputs) in
         let one = walked_reads accepts watches connects reads writes finds handles hears settles setting at s s' h c on.kept d a key client left (Bytes n) bytes is unclosed refl refl refl found on.keeps in
         let tells = told_once (Piece key on.piece) s' h h' on.kept c' on.handled (λ name. tt) in
-        traced false [] (Reads key client.stream (Bytes n) bytes after ∷ call ∷ []) (spot s h c d a) (spot s' h' c' d a)
-        (walks (Reads key client.stream (Bytes n) bytes after ∷ []) (call ∷ []) (spot s h c d a) (spot s' h on.kept d a) (spot s' h' c' d a) one tells)
-        (let as_news : List ℕ → List (News T) = λ piece. Has_come key piece ∷ [] in ap as_news on.is) refl refl
+        let as_news : List ℕ → List (News T) = λ piece. Has_come key piece ∷ [] in (
+          traced false [] (Reads key client.stream (Bytes n) bytes after ∷ call ∷ []) (spot s h c d a) (spot s' h' c' d a)
+              (walks (Reads key client.stream (Bytes n) bytes after ∷ []) (call ∷ []) (spot s h c d a) (spot s' h on.kept d a) (spot s' h' c' d a) one tells) (ap as_news on.is) refl refl,
+          λ _. inl (same_number key),
+        )
     heard Gone bytes key client after s s' h h' c c' more found unclosed is came =
         let on = came.0 in
         let call = Tells (Of_client (event at (Closed key)) on.handled.outputs) in
         let one = walked_reads_last accepts watches connects reads writes finds handles hears settles setting at s s' h c on.less d a key client bytes after is unclosed found on.removed in
-        let tells = told_once (Closed key) s' h h' on.less c' on.handled (λ name. tt) in
-        traced false [] (Reads key client.stream Gone bytes after ∷ Lets_go (watched.Client key) false ∷ call ∷ []) (spot s h c d a) (spot s' h' c' d a)
-        (walks (Reads key client.stream Gone bytes after ∷ Lets_go (watched.Client key) false ∷ []) (call ∷ []) (spot s h c d a) (spot s' h on.less d a) (spot s' h' c' d a) one tells) refl refl refl
+        let tells = told_once (Closed key) s' h h' on.less c' on.handled (λ name. tt) in (
+          traced false [] (Reads key client.stream Gone bytes after ∷ Lets_go (watched.Client key) false ∷ call ∷ []) (spot s h c d a) (spot s' h' c' d a)
+              (walks (Reads key client.stream Gone bytes after ∷ Lets_go (watched.Client key) false ∷ []) (call ∷ []) (spot s h c d a) (spot s' h on.less d a) (spot s' h' c' d a) one tells) refl refl refl,
+          λ _. inl (same_number key),
+        )
 
-    read_if : (key : ℕ) (closing : Bool) (client : Client T) (w : World S H T) (more : Bool) (w' : World S H T) → get w.clients key ≡ Some client → client.closing ≡ closing → IsReadIf reads handles at key closing client w more w' → Traced false [] (of_world w) (of_world w')
-    read_if key true client w more w' found unclosed is = trace_none false (of_world w) (of_world w') (ap of_world is.0)
+    read_if : (key : ℕ) (closing : Bool) (client : Client T) (w : World S H T) (more : Bool) (w' : World S H T) → get w.clients key ≡ Some client → client.closing ≡ closing → IsReadIf reads handles at key closing client w more w' → Asked (closing ≡ false) (watched.Client key) (of_world w) (of_world w')
+    read_if key true client w more w' found unclosed is = (trace_none false (of_world w) (of_world w') (ap of_world is.0), λ never. absurd cc)
     read_if key false client w more w' found unclosed is =
-        heard is.answer is.bytes key client is.stream w.sockets w'.sockets w.handler w'.handler w.clients w'.clients more found unclosed is.answered is.heard
+        let r = heard is.answer is.bytes key client is.stream w.sockets w'.sockets w.handler w'.handler w.clients w'.clients more found unclosed is.answered is.heard in
+        (r.0, λ _. r.1 tt)
 
-    pub read_in : (key : ℕ) (o : Option (Client T)) (w : World S H T) (more : Bool) (w' : World S H T) → get w.clients key ≡ o → IsReadIn reads handles at key o w more w' → Traced false [] (of_world w) (of_world w')
-    read_in key None w more w' found is = trace_none false (of_world w) (of_world w') (ap of_world is.0)
+    pub read_in : (key : ℕ) (o : Option (Client T)) (w : World S H T) (more : Bool) (w' : World S H T) → get w.clients key ≡ o → IsReadIn reads handles at key o w more w' → Asked (IsOpen o) (watched.Client key) (of_world w) (of_world w')
+    read_in key None w more w' found is = (trace_none false (of_world w) (of_world w') (ap of_world is.0), λ never. absurd never)
     read_in key (Some client) w more w' found is = read_if key client.closing client w more w' found refl is
 
     -- where this holds the client's stream is asked

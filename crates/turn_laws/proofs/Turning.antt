@@ -27,10 +27,11 @@ use Rattle.broker_turns.specs.Connections.{IsAccepted, IsNobodyAccepted, IsRead,
 use Rattle.broker_turns.specs.Lines.{link_of}
 use Rattle.broker_turns.specs.Serving.{IsTurns}
 use Rattle.broker_turns.specs.Steps.{AreLetInIf, Each, EachBelow, EachTells, IsEnough}
-use Rattle.broker_turns.specs.Turns.{IsDecided, IsGivenOut, IsStart, IsTakenIn, IsTurn, Site, front}
-use Rattle.turn_laws.specs.Calls.{Call, IsAmong, IsAt, IsWrittenTo, Rests, Settles, Through}
-use Rattle.turn_laws.specs.Channels.{Channel, channel_at, of_client}
+use Rattle.broker_turns.specs.Turns.{IsDecided, IsEither, IsGivenOut, IsStart, IsTakenIn, IsTurn, Site, front}
+use Rattle.turn_laws.specs.Calls.{Call, IsAmong, IsAt, IsFinding, IsWrittenTo, Rests, Settles, Through}
+use Rattle.turn_laws.specs.Channels.{Channel, Goes, IsReadOrShut, channel_at, is_ready, of_client, of_line}
 use Rattle.turn_laws.specs.Traces.{IsInTwo, IsOfTurn, IsTrace, Round, ServingIsATrace, TurnIsATrace}
+use Rattle.turn_laws.proofs.Attending.{IsOpen, IsThere, goes_on_or}
 use Rattle.turn_laws.proofs.Linking.{dialled_at, found_ready, link_accepted, link_read_in, link_written_in, no_link_accepted, peer_read_in, shipped_in}
 use Rattle.turn_laws.proofs.Tracing.{IsOwed, Traced, Walks, Wrote, accepted, among_left, nobody_accepted, read_in, rests_by, room_made, started, ticked, trace_join, trace_none, trace_over, wrote_in, wrote_keeps}
 use Rattle.turn_laws.proofs.Walking.{all_join, spot, through_join, walked_settles}
@@ -75,6 +76,25 @@ module _ {W : Type 0} (Q : W → W → Type 0) (stays : (w w' : W) → w' ≡ w 
     let_in true w more w' all =
         over w all.between w' (each_below (λ _. comes) (λ _ v v' is. one v v' is) all.count w all.between all.each) (enough more all.count all.between w' all.enough)
     let_in false w more w' all = stays w w' all.1
+
+-- what the network tells is ready in the next turn
+some_or : (a b : Bool) → a ≡ true → (a || b) ≡ true
+some_or true b is = refl
+some_or false b is = absurd cc
+
+next_ready : (found more all : Ready) → IsEither found more all → (name : Watched) → is_ready found name ≡ true → is_ready all name ≡ true
+next_ready found more all either (watched.Client key) is = either.clients.those key ∙ some_or (is_among found.clients.items key) (is_among more.clients.items key) is
+next_ready found more all either (watched.Link key) is = either.links.those key ∙ some_or (is_among found.links.items key) (is_among more.links.items key) is
+next_ready found more all either (watched.Peer peer) is = either.peers.those peer ∙ some_or (is_among found.peers.items peer) (is_among more.peers.items peer) is
+
+-- a client that is there, or a link
+open_client : {T : Type 0} (o : Option (Client T)) (x : Channel T) → option_map of_client o ≡ Some x → x.closing ≡ false → IsOpen o
+open_client None x is wide = absurd cc
+open_client (Some client) x is wide = let same : x ≡ of_client client = cc in ap (λ (y : Channel _). y.closing) (sym same) ∙ wide
+
+there_line : {T : Type 0} (o : Option (Line T)) (x : Channel T) → option_map of_line o ≡ Some x → IsThere o
+there_line None x is = absurd cc
+there_line (Some line) x is = tt
 
 module _
     {S H L T : Type 0} (accepts : S → L → Option T → S → Type 0) (watches : S → T → Watched → Bool → S → Type 0) (connects : S → SocketAddr → Option T → S → Type 0)
@@ -122,7 +142,75 @@ module _
   abbrev on_dialled : H → Slab (Client T) → Slab (Line T) → S × List (Option (Line T)) → Place S H T
   on_dialled h c a w = spot w.0 h c w.1 a
 
-  taken_in : (ready : Ready) (p : Place S H T) (more : Ready) (p' : Place S H T) → IsTakenIn accepts watches reads handles hears setting at ready p more p' → Made false [] p p'
+  -- ---- what may have something
+
+  -- a stream is read by these calls, or shut, where it doesn't close before them
+  abbrev Attends : Watched → Place S H T → List (Call T) → Type 0
+  Attends name p calls = (x : Channel T) → channel_at name p ≡ Some x → x.closing ≡ false → IsAmong (IsReadOrShut name) calls
+
+  -- calls before them, and calls behind them
+  attends_then : (name : Watched) (p q r : Place S H T) (first : Made false [] p q) (more : Made false [] q r) → Attends name q more.0 → Attends name p (first.0 ++ more.0)
+  attends_then name p q r first more attends x there wide =
+      let From : Option (Channel T) → Type 0 = λ o. Through (Goes name) first.0 o (channel_at name q) in
+      elim (goes_on_or name first.0 x (channel_at name q) wide (subst From there (first.1.flows name))) [
+        | inl read ↦ among_left (IsReadOrShut name) first.0 more.0 read
+        | inr on ↦ among_right (IsReadOrShut name) first.0 more.0 (attends on.0 on.1 on.2)
+      ]
+
+  attends_first : (name : Watched) (p q r : Place S H T) (first : Made false [] p q) (more : Made false [] q r) → Attends name p first.0 → Attends name p (first.0 ++ more.0)
+  attends_first name p q r first more attends x there wide = among_left (IsReadOrShut name) first.0 more.0 (attends x there wide)
+
+  module _ {W : Type 0} (of : W → Place S H T) (name : ℕ → Watched) (step : ℕ → W → Bool → W → Type 0)
+      (one : (key : ℕ) (w : W) (more : Bool) (w' : W) → step key w more w' → (t : Made false [] (of w) (of w')) × Attends (name key) (of w) t.0) where
+    -- of some numbers each
+    abbrev Attends_all : List ℕ → W → List (Call T) → Type 0
+    Attends_all keys w calls = (key : ℕ) → is_among keys key ≡ true → Attends (name key) (of w) calls
+
+    each_attended : (keys : List ℕ) (w : W) (found : List ℕ) (w' : W) → EachTells step keys w found w' → (t : Made false [] (of w) (of w')) × Attends_all keys w t.0
+    each_attended [] w found w' same = (none false (of w) (of w') (ap of same.0), λ key among. absurd cc)
+    each_attended (k ∷ keys) w found w' all =
+        let m = all.0 in
+        let first = one k w all.1 m all.3 in
+        let rest = each_attended keys m all.2 w' all.4 in
+        (over false (of w) (of m) (of w') first.0 rest.0, λ key among. attends_by key first rest (eqb_tells key k) among)
+      where
+        attends_by : (key : ℕ) (first : (t : Made false [] (of w) (of all.0)) × Attends (name k) (of w) t.0) (rest : (t : Made false [] (of all.0) (of w')) × Attends_all keys all.0 t.0)
+            → ((eqb key k ≡ true) × (key ≡ k)) ⊎ ((eqb key k ≡ false) × (key ≢ k)) → (eqb key k || is_among keys key) ≡ true → Attends (name key) (of w) (first.0.0 ++ rest.0.0)
+        attends_by key first rest (inl same) among =
+            let Named : ℕ → Type 0 = λ n. Attends (name n) (of w) (first.0.0 ++ rest.0.0) in
+            subst Named (sym same.1) (attends_first (name k) (of w) (of all.0) (of w') first.0 rest.0 first.1)
+        attends_by key first rest (inr apart) among =
+            let among_rest : is_among keys key ≡ true = sym (ap (λ (b : Bool). b || is_among keys key) apart.0) ∙ among in
+            attends_then (name key) (of w) (of all.0) (of w') first.0 rest.0 (rest.1 key among_rest)
+
+  client_read : (d : List (Option (Line T))) (a : Slab (Line T)) (key : ℕ) (w : World S H T) (more : Bool) (w' : World S H T) → IsRead reads handles at key w more w'
+      → (t : Made false [] (on_front d a w) (on_front d a w')) × Attends (watched.Client key) (on_front d a w) t.0
+  client_read d a key w more w' is =
+      let r = read_in accepts watches connects reads writes finds handles hears settles setting at d a key (get w.clients key) w more w' refl is.by_client in
+      (r.0, λ x there wide. r.1 (open_client (get w.clients key) x there wide))
+
+  link_read : (key : ℕ) (p : Place S H T) (more : Bool) (p' : Place S H T) → IsHeardFrom reads hears at key p more p' → (t : Made false [] p p') × Attends (watched.Link key) p t.0
+  link_read key p more p' is =
+      let r = link_read_in accepts watches connects reads writes finds handles hears settles setting at key (get p.accepted key) p more p' refl is.by_link in
+      (r.0, λ x there wide. r.1 (there_line (get p.accepted key) x there))
+
+  peer_read : (a : Slab (Line T)) (peer : ℕ) (r : Reach S H T) (more : Bool) (r' : Reach S H T) → IsPeerRead reads hears at peer r more r' → (t : Made false [] (on_reach a r) (on_reach a r')) × Attends (watched.Peer peer) (on_reach a r) t.0
+  peer_read a peer r more r' is =
+      let t = peer_read_in accepts watches connects reads writes finds handles hears settles setting at a peer (link_of r.near.dialled peer) r more r' refl is.by_link in
+      (t.0, λ x there wide. t.1 (there_line (link_of r.near.dialled peer) x there))
+
+  by_kind : (ready : Ready) (p : Place S H T) (calls : List (Call T)) (name : Watched) → ((key : ℕ) → is_among ready.clients.items key ≡ true → Attends (watched.Client key) p calls)
+      → ((key : ℕ) → is_among ready.links.items key ≡ true → Attends (watched.Link key) p calls) → ((peer : ℕ) → is_among ready.peers.items peer ≡ true → Attends (watched.Peer peer) p calls)
+      → is_ready ready name ≡ true → Attends name p calls
+  by_kind ready p calls (watched.Client key) clients links peers is = clients key is
+  by_kind ready p calls (watched.Link key) clients links peers is = links key is
+  by_kind ready p calls (watched.Peer peer) clients links peers is = peers peer is
+
+  -- all that are ready
+  abbrev Attends_ready : Ready → Place S H T → List (Call T) → Type 0
+  Attends_ready ready p calls = (name : Watched) → is_ready ready name ≡ true → Attends name p calls
+
+  taken_in : (ready : Ready) (p : Place S H T) (more : Ready) (p' : Place S H T) → IsTakenIn accepts watches reads handles hears setting at ready p more p' → (t : Made false [] p p') × Attends_ready ready p t.0
   taken_in ready p more p' t =
       let d = p.reach.near.dialled in
       let a = p.accepted in
@@ -142,21 +230,31 @@ module _
       (none false (links (t.met.reach.sockets, t.met.accepted)) t.met (λ i. place t.met.reach.sockets (t.links_accepted.near i) t.met.accepted)) in
       let readers = on_front t.met.reach.near.dialled t.met.accepted in
       let m = t.heard.reach.near in
-      let read = each_tells (Made_of false readers) (none_of false readers) (over_of false readers) (λ key w more' w'. IsRead reads handles at key w more' w')
-      (λ key w more' w' is. read_in accepts watches connects reads writes finds handles hears settles setting at t.met.reach.near.dialled t.met.accepted key (get w.clients key) w more' w' refl is.by_client)
+      let read = each_attended readers (λ key. watched.Client key) (λ key w more' w'. IsRead reads handles at key w more' w') (client_read t.met.reach.near.dialled t.met.accepted)
       ready.clients.items (front t.met.reach) more.clients.items (front t.heard.reach) t.read.does.does in
-      let heard = over false t.met (readers (front t.heard.reach)) t.heard read
-      (none false (readers (front t.heard.reach)) t.heard (λ i. spot t.heard.reach.sockets m.handler m.clients (t.read.does.dialled i) (t.read.accepted i))) in
+      let read_on = none false (readers (front t.heard.reach)) t.heard (λ i. spot t.heard.reach.sockets m.handler m.clients (t.read.does.dialled i) (t.read.accepted i)) in
+      let heard = over false t.met (readers (front t.heard.reach)) t.heard read.0 read_on in
       let whole : Place S H T → Place S H T = λ q. q in
-      let listened = each_tells (Made_of false whole) (none_of false whole) (over_of false whole) (λ key q more' q'. IsHeardFrom reads hears at key q more' q')
-      (λ key q more' q' is. link_read_in accepts watches connects reads writes finds handles hears settles setting at key (get q.accepted key) q more' q' refl is.by_link)
+      let listened = each_attended whole (λ key. watched.Link key) (λ key q more' q'. IsHeardFrom reads hears at key q more' q') link_read
       ready.links.items t.heard more.links.items t.listened t.links_read in
       let peers = on_reach t.listened.accepted in
-      let asked = each_tells (Made_of false peers) (none_of false peers) (over_of false peers) (λ peer r more' r'. IsPeerRead reads hears at peer r more' r')
-      (λ peer r more' r' is. peer_read_in accepts watches connects reads writes finds handles hears settles setting at t.listened.accepted peer (link_of r.near.dialled peer) r more' r' refl is.by_link)
+      let asked = each_attended peers (λ peer. watched.Peer peer) (λ peer r more' r'. IsPeerRead reads hears at peer r more' r') (peer_read t.listened.accepted)
       ready.peers.items t.listened.reach more.peers.items p'.reach t.peers_read.does in
-      let last = over false t.listened (peers p'.reach) p' asked (none false (peers p'.reach) p' (λ i. place p'.reach.sockets p'.reach.near (t.peers_read.accepted i))) in
-      over false p j p' joined (over false j t.met p' met (over false t.met t.heard p' heard (over false t.heard t.listened p' listened last)))
+      let asked_on = none false (peers p'.reach) p' (λ i. place p'.reach.sockets p'.reach.near (t.peers_read.accepted i)) in
+      let last = over false t.listened (peers p'.reach) p' asked.0 asked_on in
+      let from_heard = over false t.heard t.listened p' listened.0 last in
+      let from_met = over false t.met t.heard p' heard from_heard in
+      let from_joined = over false j t.met p' met from_met in
+      let back : (name : Watched) → Attends name t.met from_met.0 → Attends name p (joined.0 ++ from_joined.0) =
+      λ name attends. attends_then name p j p' joined from_joined (attends_then name j t.met p' met from_met attends) in (
+        over false p j p' joined from_joined,
+        λ name is.
+            back name (by_kind ready t.met from_met.0 name
+            (λ key among. attends_first (watched.Client key) t.met t.heard p' heard from_heard (attends_first (watched.Client key) t.met (readers (front t.heard.reach)) t.heard read.0 read_on (read.1 key among)))
+            (λ key among. attends_then (watched.Link key) t.met t.heard p' heard from_heard (attends_first (watched.Link key) t.heard t.listened p' listened.0 last (listened.1 key among)))
+            (λ peer among. attends_then (watched.Peer peer) t.met t.heard p' heard from_heard (attends_then (watched.Peer peer) t.heard t.listened p' listened.0 last
+            (attends_first (watched.Peer peer) t.listened (peers p'.reach) p' asked.0 asked_on (asked.1 peer among)))) is),
+      )
 
   decided : (a : Slab (Line T)) (q q' : Search S H T) (d : IsDecided watches connects handles hears settles setting at q q') → Made false (event at Tick ∷ []) (on_search a q) (on_reach a d.roomed)
   decided a q q' d =
@@ -227,19 +325,31 @@ module _
       (over true (on_reach a r) (clients (front g.served)) (on_reach a r') wrote.0 more, λ key client among found waits. among_left (IsWrittenTo (watched.Client key)) wrote.0.0 more.0 (wrote.1 key client among found waits))
 
   -- a turn by its parts: up to when the handler settles, and from then on
-  abbrev Turn : Place S H T → Place S H T → Type 0
-  Turn old new =
-      (two : IsInTwo accepts watches connects reads writes finds handles hears settles setting at old new)
+  abbrev Turn : Place S H T → Ready → Place S H T → Ready → Type 0
+  Turn old ready new next =
+      (two : IsInTwo accepts watches connects reads writes finds handles hears settles setting at old ready new next)
       × IsTrace accepts watches connects reads writes finds handles hears settles setting (event at Tick ∷ []) (two.before ++ two.after) old new × IsOfTurn at (two.before ++ two.after)
 
-  parts : (old new : Place S H T) (before settled : Place S H T) → Made false (event at Tick ∷ []) old before → Walks accepts watches connects reads writes finds handles hears settles setting at (Settles ∷ []) before settled
-      → (last : Made true [] settled new) → ((key : ℕ) (x : Channel T) → channel_at (watched.Client key) settled ≡ Some x → x.waits ≢ [] → IsAmong (IsWrittenTo (watched.Client key)) last.0) → Turn old new
-  parts old new before settled first w last asked =
+  parts : (old : Place S H T) (ready : Ready) (new : Place S H T) (next : Ready) (before settled : Place S H T) → (first : Made false (event at Tick ∷ []) old before) → Attends_ready ready old first.0 → Walks accepts watches connects reads writes finds handles hears settles setting at (Settles ∷ []) before settled
+      → (last : Made true [] settled new) → ((key : ℕ) (x : Channel T) → channel_at (watched.Client key) settled ≡ Some x → x.waits ≢ [] → IsAmong (IsWrittenTo (watched.Client key)) last.0)
+      → (found : Ready) → IsAmong (IsFinding found) last.0 → ((name : Watched) → is_ready found name ≡ true → is_ready next name ≡ true) → Turn old ready new next
+  parts old ready new next before settled first read w last asked found told next_read =
       let one : IsTrace accepts watches connects reads writes finds handles hears settles setting [] (Settles ∷ []) before settled = record { asked = w.asked; done = w.done; news = refl; time = refl; flows = w.flows } in
       let until = trace_join accepts watches connects reads writes finds handles hears settles setting (event at Tick ∷ []) [] first.0 (Settles ∷ []) old before settled first.1 one in
       let calls = first.0 ++ Settles ∷ [] in
       let all = trace_join accepts watches connects reads writes finds handles hears settles setting (event at Tick ∷ []) [] calls last.0 old settled new until last.1 in (
-        record { before = calls; after = last.0; settled = settled; first = until; last = last.1; asked = asked },
+        record {
+          before = calls;
+          after = last.0;
+          settled = settled;
+          first = until;
+          last = last.1;
+          read = λ name x is there wide. among_left (IsReadOrShut name) first.0 (Settles ∷ []) (read name is x there wide);
+          found = found;
+          told = told;
+          next_read = next_read;
+          asked = asked;
+        },
         all,
         record {
           moment = all_join (IsAt at) calls last.0 (all_join (IsAt at) first.0 (Settles ∷ []) first.2 (tt, tt)) last.2;
@@ -257,13 +367,14 @@ module _
   channel_waits None x is waits = absurd cc
   channel_waits (Some client) x is waits = let same : x ≡ of_client client = cc in (client, refl, λ empty. waits (ap (λ (y : Channel T). y.waits) same ∙ empty))
 
-  pub turn_made : (old new : Site S H T) → IsTurn accepts watches connects reads writes finds handles hears settles setting at old new → Turn old.place new.place
+  pub turn_made : (old new : Site S H T) → IsTurn accepts watches connects reads writes finds handles hears settles setting at old new → Turn old.place old.ready new.place new.ready
+  unfolding none
   turn_made old new turn =
       let a = turn.taken.accepted in
       let d = turn.decides in
       let first = taken_in old.ready old.place turn.more turn.taken turn.takes_in in
       let next = decided a (search turn.taken.reach.sockets turn.taken.reach.near old.sought) (search turn.settled.sockets turn.settled.near new.sought) d in
-      let before = trace_over accepts watches connects reads writes finds handles hears settles setting at false [] (event at Tick ∷ []) old.place turn.taken (on_reach a d.roomed) first next in
+      let before = trace_over accepts watches connects reads writes finds handles hears settles setting at false [] (event at Tick ∷ []) old.place turn.taken (on_reach a d.roomed) first.0 next in
       let n = d.roomed.near in
       let h' = turn.settled.near.handler in
       let from = spot d.roomed.sockets h' n.clients n.dialled a in
@@ -276,13 +387,17 @@ module _
       let s' = new.place.reach.sockets in
       let looked = found_ready accepts watches connects reads writes finds handles hears settles setting at a turn.looks.found turn.given.sockets s' turn.given.near turn.looks.told in
       let last = place s' turn.given.near a in
-      let end = over true (on_reach a turn.given) last new.place looked (none true last new.place (λ i. place s' (turn.near i) (turn.accepted i))) in
+      let end = over true (on_reach a turn.given) last new.place looked.0 (none true last new.place (λ i. place s' (turn.near i) (turn.accepted i))) in
       let after = over true settled_at (on_reach a turn.given) new.place out.0 end in
       let c = turn.settled.near.clients in
-      parts old.place new.place (on_reach a d.roomed) settled_at before rested after
+      parts old.place old.ready new.place new.ready (on_reach a d.roomed) settled_at before
+      (λ name is x there wide. among_left (IsReadOrShut name) first.0.0 next.0 (first.1 name is x there wide))
+      rested after
       (λ key x there waits.
       let at_hub = channel_waits (get c key) x there waits in
       among_left (IsWrittenTo (watched.Client key)) out.0.0 end.0 (out.1 key at_hub.0 (due_then c turn.gives_out.due turn.gives_out.all key at_hub.0 at_hub.1 at_hub.2) at_hub.1 at_hub.2))
+      turn.looks.found (among_right (IsFinding turn.looks.found) out.0.0 end.0 (among_left (IsFinding turn.looks.found) looked.0.0 [] looked.1))
+      (next_ready turn.looks.found turn.more new.ready turn.looks.either)
 
   pub start_made : (old new : Site S H T) → IsStart handles at old new → Made false (event at Started ∷ []) old.place new.place
   start_made old new start =

@@ -89,6 +89,11 @@ abbrev pub IsWrittenTo : {T : Type 0} → Watched → Call T → Type 0
 IsWrittenTo name (Writes other stream offered answer after) = other ≡ name
 IsWrittenTo name _ = ⊥
 
+-- the network tells what may have something
+abbrev pub IsFinding : {T : Type 0} → Ready → Call T → Type 0
+IsFinding found (Finds ready) = ready ≡ found
+IsFinding found _ = ⊥
+
 -- one of these
 abbrev pub IsAmong : {A : Type 0} → (A → Type 0) → List A → Type 0
 IsAmong is [] = ⊥

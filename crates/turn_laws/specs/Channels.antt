@@ -1,5 +1,5 @@
 -- What comes of the stream of one name, call by call.
-use Rattle.std.specs.Prelude.{◌≡◌, ◌<◌, ◌-◌, ◌⊎◌, ◌&&◌, ℕ, List, [], ◌∷◌, ◌++◌, map, length, eqb, not, if◌then◌else◌, Bool, true, false, Option, Some, None, option_map, Vec}
+use Rattle.std.specs.Prelude.{◌≡◌, ◌<◌, ◌-◌, ◌⊎◌, ◌&&◌, ◌||◌, is_none, ℕ, List, [], ◌∷◌, ◌++◌, map, length, eqb, not, if◌then◌else◌, Bool, true, false, Option, Some, None, option_map, Vec}
 use Rattle.std.specs.Io.{StartsWith}
 use Rattle.std.specs.declared.alloc.Global.{Global}
 use Rattle.slab.specs.Slab.{get}
@@ -13,6 +13,7 @@ use Rattle.broker_sockets.specs.declared.events.Output.{Output}
 use Rattle.broker_sockets.specs.declared.events.Output.TheVariants.{Send, Close}
 use Rattle.broker_sockets.specs.declared.network.Answer.{Answer}
 use Rattle.broker_sockets.specs.declared.network.Answer.TheVariants.{Later, Bytes, Gone}
+use Rattle.broker_sockets.specs.declared.ready.Ready.{Ready}
 use Rattle.broker_sockets.specs.declared.ready.Watched.{Watched}
 use Rattle.broker_sockets.specs.declared.ready.Watched.TheVariants as watched
 use Rattle.broker_turns.specs.declared.clients.Client.{Client}
@@ -21,6 +22,7 @@ use Rattle.broker_turns.specs.Bridging.{IsTaken, Place}
 use Rattle.broker_turns.specs.Handling.{Told}
 use Rattle.broker_turns.specs.Handling.Told.{Of_client, Of_peer}
 use Rattle.broker_turns.specs.Lines.{link_of}
+use Rattle.broker_turns.specs.Numbers.{is_among}
 use Rattle.turn_laws.specs.Calls.{Call, Lets_go, Reads, Reads_link, Tells, Watches, Writes}
 
 abbrev pub is_same : Watched → Watched → Bool
@@ -167,6 +169,27 @@ module _ {T : Type 0} where
   Goes name (Lets_go other asked) o o' = IsOf (is_same other name) (IsLetGo (most other) asked) o o'
   Goes name (Tells told) o o' = IsFor name told o × (o' ≡ option_map (given name (gifts_in told)) o)
   Goes name _ o o' = o' ≡ o
+
+-- ---- what has something
+
+-- the network told that it may have something
+abbrev pub is_ready : Ready → Watched → Bool
+is_ready ready (watched.Client key) = is_among ready.clients.items key
+is_ready ready (watched.Link key) = is_among ready.links.items key
+is_ready ready (watched.Peer peer) = is_among ready.peers.items peer
+
+-- the handler closes it
+abbrev pub closes : Watched → List Gift → Bool
+closes name [] = false
+closes name (gift ∷ gifts) = (is_same gift.name name && is_none gift.bytes) || closes name gifts
+
+-- its stream is asked for what it has; or the handler closes it, or it is over
+abbrev pub IsReadOrShut : {T : Type 0} → Watched → Call T → Type 0
+IsReadOrShut name (Reads key stream answer bytes after) = is_same (watched.Client key) name ≡ true
+IsReadOrShut name (Reads_link other stream answer bytes frames goes_on after) = is_same other name ≡ true
+IsReadOrShut name (Tells told) = closes name (gifts_in told) ≡ true
+IsReadOrShut name (Lets_go other asked) = is_same other name ≡ true
+IsReadOrShut name _ = ⊥
 
 -- ---- the channels of a hub
 

@@ -1,5 +1,5 @@
 -- That a turn is what passes at its two doors.
-use Rattle.std.specs.Prelude.{◌≡◌, ◌≢◌, ℕ, List, [], ◌∷◌, ◌++◌, map, flat_map, length, Bool, true, Option, Some}
+use Rattle.std.specs.Prelude.{◌≡◌, ◌≢◌, ℕ, List, [], ◌∷◌, ◌++◌, map, flat_map, length, Bool, true, false, Option, Some}
 use Rattle.std.specs.List.{AllByRecursion}
 use Rattle.std.specs.declared.net.socket_addr.SocketAddr.{SocketAddr}
 use Rattle.broker_sockets.specs.declared.bridge.Given.{Given}
@@ -16,8 +16,8 @@ use Rattle.broker_turns.specs.Bridging.{Place}
 use Rattle.broker_turns.specs.Connections.{event}
 use Rattle.broker_turns.specs.Serving.{IsServed}
 use Rattle.broker_turns.specs.Turns.{IsStart, IsTurn, Site}
-use Rattle.turn_laws.specs.Calls.{Call, IsAmong, IsAsked, IsAt, IsDone, IsWrittenTo, Rests, Through, beats, brings, tells_of, writes_to}
-use Rattle.turn_laws.specs.Channels.{Channel, Goes, channel_at}
+use Rattle.turn_laws.specs.Calls.{Call, IsAmong, IsAsked, IsAt, IsDone, IsFinding, IsWrittenTo, Rests, Through, beats, brings, tells_of, writes_to}
+use Rattle.turn_laws.specs.Channels.{Channel, Goes, IsReadOrShut, channel_at, is_ready}
 
 -- All that is told in a turn is of its moment. Nobody is written to unless the handler has settled since it was last told anything, and in the end it
 -- has.
@@ -46,20 +46,25 @@ module _
     pub time : flat_map beats calls ≡ clock
     pub flows : (name : Watched) → Through (Goes name) calls (channel_at name p) (channel_at name p')
 
-  -- up to when the handler settles, and from then on: whoever something waits for then, his stream is asked to take it
-  pub record IsInTwo (setting : Setting L) (at : ℕ) (p p' : Place S H T) : Type 0 where
+  -- Up to when the handler settles, and from then on. Before it each stream that may have something is read, unless it is closed by then. After it whoever
+  -- something waits for, his stream is asked to take it; and in the end the network tells which may have something, which are read in the next turn.
+  pub record IsInTwo (setting : Setting L) (at : ℕ) (p : Place S H T) (ready : Ready) (p' : Place S H T) (next : Ready) : Type 0 where
     pub before : List (Call T)
     pub after : List (Call T)
     pub settled : Place S H T
     pub first : IsTrace setting (event at Tick ∷ []) before p settled
     pub last : IsTrace setting [] after settled p'
+    pub read : (name : Watched) (x : Channel T) → is_ready ready name ≡ true → channel_at name p ≡ Some x → x.closing ≡ false → IsAmong (IsReadOrShut name) before
+    pub found : Ready
+    pub told : IsAmong (IsFinding found) after
+    pub next_read : (name : Watched) → is_ready found name ≡ true → is_ready next name ≡ true
     pub asked : (key : ℕ) (x : Channel T) → channel_at (Client key) settled ≡ Some x → x.waits ≢ [] → IsAmong (IsWrittenTo (Client key)) after
 
   -- each turn is such a list of calls, with one tick
   abbrev pub TurnIsATrace : Type 0
   TurnIsATrace =
       (setting : Setting L) (at : ℕ) (old new : Site S H T) → IsTurn accepts watches connects reads writes finds handles hears settles setting at old new
-      → (two : IsInTwo setting at old.place new.place) × IsTrace setting (event at Tick ∷ []) (two.before ++ two.after) old.place new.place × IsOfTurn at (two.before ++ two.after)
+      → (two : IsInTwo setting at old.place old.ready new.place new.ready) × IsTrace setting (event at Tick ∷ []) (two.before ++ two.after) old.place new.place × IsOfTurn at (two.before ++ two.after)
 
   -- Turns one after another are such a list too, after what comes before the first: the moments are those that the clock tells
   pub record IsServing {C : Type 0} (tells : C → ℕ → C → Type 0) (setting : Setting L) (turns : ℕ) (c : C) (old : Site S H T) (c' : C) (new : Site S H T) : Type 0 where
