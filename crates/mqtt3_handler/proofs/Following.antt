@@ -38,6 +38,34 @@ bytes_both q xs ys = flat_map-append (bytes_at q) xs ys
 given_both : (xs ys : List Call) → given_of (xs ++ ys) ≡ given_of xs ++ given_of ys
 given_both xs ys = flat_map-append given_at xs ys
 
+-- what goes out is put behind what went out before
+moved : (q : ℕ) (s s' : Option Stage) (met : List Happening) (told : List ℕ) (given p front : List Output) → IsPath q s s' met told given [] p → IsPath q s s' met told given front (front ++ p)
+moved q s s' met told given p front a = record {
+  happenings = a.happenings;
+  stage = a.stage;
+  comes = a.comes;
+  tells = a.tells;
+  gives = a.gives;
+  sends = on_then q front p ∙ ap (λ (xs : List Outgoing). on q front ++ xs) a.sends;
+}
+
+-- the paths of one call, and then of others
+pub paths_both : (call : Call) (more xs ys : List Call) (k l k' : Clients) → ArePaths (λ q. met_of q (call ∷ [])) (λ q. bytes_of q xs) (given_of xs) k l [] (given_of (call ∷ []))
+    → ArePaths (λ q. met_of q more) (λ q. bytes_of q ys) (given_of ys) l k' [] (given_of more) → ArePaths (λ q. met_of q (call ∷ more)) (λ q. bytes_of q (xs ++ ys)) (given_of (xs ++ ys)) k k' [] (given_of (call ∷ more))
+paths_both call more xs ys k l k' a b = λ q.
+    let second = moved q (stage_of l q) (stage_of k' q) (met_of q more) (bytes_of q ys) (given_of ys) (given_of more) (given_of (call ∷ [])) (b q) in
+    let joined = path_then q (stage_of k q) (stage_of l q) (stage_of k' q) (met_of q (call ∷ [])) (met_of q more) (bytes_of q xs) (bytes_of q ys) (given_of xs) (given_of ys) [] (given_of (call ∷ [])) (given_of (call ∷ []) ++ given_of more) (a q) second in
+    let met : met_of q (call ∷ []) ++ met_of q more ≡ met_of q (call ∷ more) = ap (λ (xs : List Happening). xs ++ met_of q more) (append-nil (met_at q call)) in
+    let given : given_of (call ∷ []) ++ given_of more ≡ given_of (call ∷ more) = ap (λ (xs : List Output). xs ++ given_of more) (append-nil (given_at call)) in
+    let one = subst (λ (ms : List Happening). IsPath q (stage_of k q) (stage_of k' q) ms (bytes_of q xs ++ bytes_of q ys) (given_of xs ++ given_of ys) [] (given_of (call ∷ []) ++ given_of more)) met joined in
+    let two = subst (λ (bs : List ℕ). IsPath q (stage_of k q) (stage_of k' q) (met_of q (call ∷ more)) bs (given_of xs ++ given_of ys) [] (given_of (call ∷ []) ++ given_of more)) (sym (bytes_both q xs ys)) one in
+    let three = subst (λ (os : List Output). IsPath q (stage_of k q) (stage_of k' q) (met_of q (call ∷ more)) (bytes_of q (xs ++ ys)) os [] (given_of (call ∷ []) ++ given_of more)) (sym (given_both xs ys)) two in
+    subst (λ (os : List Output). IsPath q (stage_of k q) (stage_of k' q) (met_of q (call ∷ more)) (bytes_of q (xs ++ ys)) (given_of (xs ++ ys)) [] os) given three
+
+-- nothing passes
+pub paths_still : (k k' : Clients) → k' ≡ k → ArePaths (λ q. []) (λ q. []) [] k k' [] []
+paths_still k k' kept = λ q. subst (λ (x : Clients). IsPath q (stage_of k q) (stage_of x q) [] [] [] [] []) (sym kept) (path_none q (stage_of k q) [])
+
 module _ {H : Type 0} (handles : H → Event → List Output → H → Type 0) (hears : H → PeerEvent → Given → H → Type 0) (settles : H → H → Type 0) where
   abbrev Inside : List Call → H → H → Type 0
   Inside calls h h' = AreMade handles hears settles calls h h'
@@ -51,21 +79,10 @@ module _ {H : Type 0} (handles : H → Event → List Output → H → Type 0) (
   made_as (t ∷ ts) h h' all = (all.0, all.1, made_as ts all.0 h' all.2)
 
   -- one call of the handler that translates: calls of the one inside, and paths
-  record Followed (calls : List Call) (h h' : H) (k k' : Clients) : Type 0 where
-    inside : List Call
-    made : Inside inside h h'
-    paths : ArePaths (λ q. met_of q calls) (λ q. bytes_of q inside) (given_of inside) k k' [] (given_of calls)
-
-  -- what goes out is put behind what went out before
-  moved : (q : ℕ) (s s' : Option Stage) (met : List Happening) (told : List ℕ) (given p front : List Output) → IsPath q s s' met told given [] p → IsPath q s s' met told given front (front ++ p)
-  moved q s s' met told given p front a = record {
-    happenings = a.happenings;
-    stage = a.stage;
-    comes = a.comes;
-    tells = a.tells;
-    gives = a.gives;
-    sends = on_then q front p ∙ ap (λ (xs : List Outgoing). on q front ++ xs) a.sends;
-  }
+  pub record Followed (calls : List Call) (h h' : H) (k k' : Clients) : Type 0 where
+    pub inside : List Call
+    pub made : Inside inside h h'
+    pub paths : ArePaths (λ q. met_of q calls) (λ q. bytes_of q inside) (given_of inside) k k' [] (given_of calls)
 
   handled : (e : Event) (outputs : List Output) (h h' : H) (k k' : Clients) → IsTranslated handles e h h' k k' outputs → Followed (Handled e outputs ∷ []) h h' k k'
   handled e outputs h h' k k' t = record {
@@ -92,32 +109,24 @@ module _ {H : Type 0} (handles : H → Event → List Output → H → Type 0) (
   both call more h m h' k l k' a b = record {
     inside = a.inside ++ b.inside;
     made = made_then a.inside b.inside h m h' a.made b.made;
-    paths = λ q.
-        let second = moved q (stage_of l q) (stage_of k' q) (met_of q more) (bytes_of q b.inside) (given_of b.inside) (given_of more) (given_of (call ∷ [])) (b.paths q) in
-        let joined = path_then q (stage_of k q) (stage_of l q) (stage_of k' q) (met_of q (call ∷ [])) (met_of q more) (bytes_of q a.inside) (bytes_of q b.inside) (given_of a.inside) (given_of b.inside) [] (given_of (call ∷ [])) (given_of (call ∷ []) ++ given_of more) (a.paths q) second in
-        let met : met_of q (call ∷ []) ++ met_of q more ≡ met_of q (call ∷ more) = ap (λ (xs : List Happening). xs ++ met_of q more) (append-nil (met_at q call)) in
-        let given : given_of (call ∷ []) ++ given_of more ≡ given_of (call ∷ more) = ap (λ (xs : List Output). xs ++ given_of more) (append-nil (given_at call)) in
-        let one = subst (λ (xs : List Happening). IsPath q (stage_of k q) (stage_of k' q) xs (bytes_of q a.inside ++ bytes_of q b.inside) (given_of a.inside ++ given_of b.inside) [] (given_of (call ∷ []) ++ given_of more)) met joined in
-        let two = subst (λ (xs : List ℕ). IsPath q (stage_of k q) (stage_of k' q) (met_of q (call ∷ more)) xs (given_of a.inside ++ given_of b.inside) [] (given_of (call ∷ []) ++ given_of more)) (sym (bytes_both q a.inside b.inside)) one in
-        let three = subst (λ (xs : List Output). IsPath q (stage_of k q) (stage_of k' q) (met_of q (call ∷ more)) (bytes_of q (a.inside ++ b.inside)) xs [] (given_of (call ∷ []) ++ given_of more)) (sym (given_both a.inside b.inside)) two in
-        subst (λ (xs : List Output). IsPath q (stage_of k q) (stage_of k' q) (met_of q (call ∷ more)) (bytes_of q (a.inside ++ b.inside)) (given_of (a.inside ++ b.inside)) [] xs) given three;
+    paths = paths_both call more a.inside b.inside k l k' a.paths b.paths;
   }
 
   none : (h h' : H) (k k' : Clients) → h' ≡ h → k' ≡ k → Followed [] h h' k k'
-  none h h' k k' same kept = record { inside = []; made = same; paths = λ q. subst (λ (x : Clients). IsPath q (stage_of k q) (stage_of x q) [] [] [] [] []) (sym kept) (path_none q (stage_of k q) []) }
+  none h h' k k' same kept = record { inside = []; made = same; paths = paths_still k k' kept }
 
   settled : (h h' : H) (k k' : Clients) → settles h h' → k' ≡ k → Followed (Settled ∷ []) h h' k k'
-  settled h h' k k' s kept = record { inside = Settled ∷ []; made = (h', s, refl); paths = λ q. subst (λ (x : Clients). IsPath q (stage_of k q) (stage_of x q) [] [] [] [] []) (sym kept) (path_none q (stage_of k q) []) }
+  settled h h' k k' s kept = record { inside = Settled ∷ []; made = (h', s, refl); paths = paths_still k k' kept }
 
   -- ---- of the handler that translates
 
-  answered_case : (c c' : Option Clients) (k : Clients) (e : Event) (outputs : List Output) (h h' : H) → c ≡ Some k → IsAnsweredIf handles c c' e h h' outputs → (k' : Clients) × (c' ≡ Some k') × Followed (Handled e outputs ∷ []) h h' k k'
+  pub answered_case : (c c' : Option Clients) (k : Clients) (e : Event) (outputs : List Output) (h h' : H) → c ≡ Some k → IsAnsweredIf handles c c' e h h' outputs → (k' : Clients) × (c' ≡ Some k') × Followed (Handled e outputs ∷ []) h h' k k'
   answered_case None c' k e outputs h h' is t = absurd cc
   answered_case (Some x) None k e outputs h h' is t = absurd t
   answered_case (Some x) (Some k') k e outputs h h' is t =
       (k', refl, handled e outputs h h' k k' (subst (λ (y : Clients). IsTranslated handles e h h' y k' outputs) (same_Some x k is) t))
 
-  heard_case : (c c' : Option Clients) (k : Clients) (e : PeerEvent) (given : Given) (h h' : H) → c ≡ Some k → IsHeardIf handles hears c c' e h h' given → (k' : Clients) × (c' ≡ Some k') × Followed (Heard e given ∷ []) h h' k k'
+  pub heard_case : (c c' : Option Clients) (k : Clients) (e : PeerEvent) (given : Given) (h h' : H) → c ≡ Some k → IsHeardIf handles hears c c' e h h' given → (k' : Clients) × (c' ≡ Some k') × Followed (Heard e given ∷ []) h h' k k'
   heard_case None c' k e given h h' is t = absurd cc
   heard_case (Some x) None k e given h h' is t = absurd t
   heard_case (Some x) (Some k') k e given h h' is t =

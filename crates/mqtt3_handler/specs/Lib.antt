@@ -7,3 +7,4 @@ pub mod Knowing
 pub mod Telling
 pub mod Calls
 pub mod Laws
+pub mod Views

@@ -1,0 +1,6 @@
+pub mod Bounds
+pub mod Calls
+pub mod Following
+pub mod Levels
+pub mod Limits
+pub mod Noting
