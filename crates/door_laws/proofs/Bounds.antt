@@ -1,5 +1,5 @@
 -- What the handler inside is told behind limits on what clients send.
-use Rattle.std.proofs.Common.{◌≡◌, ℕ, List, [], ◌∷◌, ◌++◌, Bool, true, false, Option, Some, None, append_assoc, append-nil, refl, sym, ap, subst, ◌∙◌}
+use Rattle.std.proofs.Common.{◌≡◌, ℕ, List, [], ◌∷◌, Bool, true, false, Option, Some, None, refl, subst}
 use Rattle.broker_sockets.specs.declared.bridge.Given.{Given}
 use Rattle.broker_sockets.specs.declared.bridge.PeerEvent.{PeerEvent}
 use Rattle.broker_sockets.specs.declared.events.Event.{Event}
@@ -21,7 +21,7 @@ use Rattle.client_bounds.specs.declared.door.Door.{Door}
 use Rattle.client_bounds.specs.declared.step.Step.{Step}
 use Rattle.client_bounds.specs.declared.step.Step.TheVariants as steps
 use Rattle.door_laws.specs.Bounds.{Bounds_pass, BoundsOff, BoundsTell}
-use Rattle.door_laws.specs.Calls.{AreCalled, Call, IsCalled, Settles, Tells, notes}
+use Rattle.door_laws.specs.Calls.{Call, IsCalled, Settles, Tells, notes}
 use Rattle.door_laws.proofs.Calls.{Passed, all_passed, all_same}
 use Rattle.door_laws.proofs.Noting.{Noted, noted_as, noted_none, noted_one, noted_then}
 

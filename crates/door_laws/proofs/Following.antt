@@ -1,11 +1,6 @@
 -- Each connection is followed behind a handler that translates.
-use Rattle.std.proofs.Common.{◌≡◌, ℕ, List, [], ◌∷◌, ◌++◌, map, Option, Some, None, append_assoc, append-nil, refl, sym, ap, subst, ◌∙◌}
+use Rattle.std.proofs.Common.{◌≡◌, List, [], ◌∷◌, ◌++◌, map, Option, Some, append_assoc, append-nil, refl, sym, ap, subst, ◌∙◌}
 use Rattle.std.proofs.lemmas.List.{map-append}
-use Rattle.std.proofs.lemmas.Option.{same_Some}
-use Rattle.broker_sockets.specs.declared.bridge.Given.{Given}
-use Rattle.broker_sockets.specs.declared.bridge.PeerEvent.{PeerEvent}
-use Rattle.broker_sockets.specs.declared.events.Event.{Event}
-use Rattle.broker_sockets.specs.declared.events.Output.{Output}
 use Rattle.broker_turns.specs.Handling.Told.{Of_client, Of_peer}
 use Rattle.mqtt3_handler.proofs.Following.{Followed, answered_case, heard_case, paths_both, paths_still}
 use Rattle.mqtt3_handler.specs.Calls as levels

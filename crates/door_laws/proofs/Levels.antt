@@ -1,15 +1,15 @@
 -- What the handler inside is told behind one that translates for clients of versions before 5.
-use Rattle.std.proofs.Common.{◌≡◌, ℕ, List, [], ◌∷◌, ◌++◌, Bool, Option, Some, None, append_assoc, append-nil, refl, sym, ap, subst, ◌∙◌}
+use Rattle.std.proofs.Common.{◌≡◌, List, [], ◌∷◌, ◌++◌, Option, Some, None, refl, subst}
 use Rattle.broker_sockets.specs.declared.bridge.Given.{Given}
 use Rattle.broker_sockets.specs.declared.bridge.PeerEvent.{PeerEvent}
 use Rattle.broker_sockets.specs.declared.events.Event.{Event}
 use Rattle.broker_sockets.specs.declared.events.Output.{Output}
 use Rattle.broker_turns.specs.Handling.Told.{Of_client, Of_peer}
-use Rattle.mqtt3_handler.specs.Telling.{AreTold, IsAnswered, IsAnsweredIf, IsGivenOn, IsHeard, IsHeardIf, IsPassedOn, IsSettled, Told}
+use Rattle.mqtt3_handler.specs.Telling.{AreTold, IsAnswered, IsAnsweredIf, IsHeard, IsHeardIf, IsSettled, Told}
 use Rattle.mqtt3_handler.specs.Views.{clients_of, inside_of}
 use Rattle.mqtt3_handler.specs.declared.clients.Clients.{Clients}
 use Rattle.mqtt3_handler.specs.declared.handler.Mqtt3.{Mqtt3}
-use Rattle.door_laws.specs.Calls.{AreCalled, Call, IsCalled, Settles, Tells, notes, notes_peer}
+use Rattle.door_laws.specs.Calls.{Call, IsCalled, Settles, Tells, notes, notes_peer}
 use Rattle.door_laws.specs.Levels.{Levels_pass, LevelsOff, LevelsTell}
 use Rattle.door_laws.proofs.Calls.{Passed, all_passed, all_same}
 use Rattle.door_laws.proofs.Noting.{Noted, noted_as, noted_none, noted_one, noted_then}

@@ -1,11 +1,11 @@
 -- What the handler inside is told behind limits on clients.
-use Rattle.std.proofs.Common.{◌≡◌, ℕ, List, [], ◌∷◌, ◌++◌, map, Bool, true, false, refl, sym, ap, subst, ◌∙◌}
+use Rattle.std.proofs.Common.{◌≡◌, ℕ, List, [], ◌∷◌, map, Bool, true, false, refl, sym, ap, subst, ◌∙◌}
 use Rattle.broker_sockets.specs.declared.bridge.Given.{Given}
 use Rattle.broker_sockets.specs.declared.bridge.PeerEvent.{PeerEvent}
 use Rattle.broker_sockets.specs.declared.events.Event.{Event}
 use Rattle.broker_sockets.specs.declared.events.Output.{Output}
 use Rattle.broker_turns.specs.Handling.Told.{Of_client, Of_peer}
-use Rattle.client_limits.specs.Answering.{AreCut, AreCutIf, Cut, IsAnswered, IsAnsweredBy, IsAnsweredIf, IsHeard, IsSettled, after_if, gone, is_tick, is_told}
+use Rattle.client_limits.specs.Answering.{AreCut, AreCutIf, Cut, IsAnswered, IsAnsweredBy, IsAnsweredIf, IsHeard, IsSettled, after_if, is_tick, is_told}
 use Rattle.client_limits.specs.Connected.{Connected, IsLate, NoneIsLate}
 use Rattle.client_limits.specs.Limits.{are_none}
 use Rattle.client_limits.specs.Views.{connections_of, inside_of, limits_of}

@@ -1,10 +1,10 @@
 -- What a relation over a handler is over one that notes its calls.
-use Rattle.std.proofs.Common.{◌≡◌, List, [], ◌∷◌, ◌++◌, append_assoc, append-nil, refl, sym, ap, subst, ◌∙◌}
+use Rattle.std.proofs.Common.{◌≡◌, List, [], ◌∷◌, ◌++◌, append_assoc, append-nil, refl, sym, ap, ◌∙◌}
 use Rattle.broker_sockets.specs.declared.bridge.Given.{Given}
 use Rattle.broker_sockets.specs.declared.bridge.PeerEvent.{PeerEvent}
 use Rattle.broker_sockets.specs.declared.events.Event.{Event}
 use Rattle.broker_sockets.specs.declared.events.Output.{Output}
-use Rattle.broker_turns.specs.Handling.Told.{Of_client, Of_peer}
+use Rattle.broker_turns.specs.Handling.Told.{Of_client}
 use Rattle.door_laws.specs.Calls.{AreCalled, Call, Tells}
 use Rattle.door_laws.proofs.Calls.{called_join}
 

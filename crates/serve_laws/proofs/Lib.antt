@@ -1,1 +1,5 @@
+pub mod Opening
+pub mod Passing
+pub mod Reaching
 pub mod Running
+pub mod Serving

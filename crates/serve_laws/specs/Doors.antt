@@ -1,23 +1,61 @@
--- Handlers that hand all on to a served node.
-use Rattle.std.specs.Prelude.{List, true}
-use Rattle.broker_sockets.specs.declared.bridge.Given.{Given}
-use Rattle.broker_sockets.specs.declared.bridge.PeerEvent.{PeerEvent}
-use Rattle.broker_sockets.specs.declared.events.Event.{Event}
-use Rattle.broker_sockets.specs.declared.events.Output.{Output}
-use Rattle.client_log.specs.Views.{inside_of as logs_for}
-use Rattle.client_log.specs.declared.logged.Logged.{Logged}
+-- A served node behind the handlers of the program, and what these make of the calls of the sockets until the node has them.
+use Rattle.std.specs.Prelude.{List, [], ◌∷◌, map}
+use Rattle.client_bounds.specs.Views.{door_of, inside_of as bounded_in}
+use Rattle.client_limits.specs.Views.{connections_of, inside_of as limited_in, limits_of}
+use Rattle.client_log.specs.Views.{inside_of as logged_in}
+use Rattle.mqtt3_handler.specs.Views.{clients_of, inside_of as translated_in}
+use Rattle.mqtt3_handler.specs.declared.handler.Mqtt3.{Mqtt3}
+use Rattle.broker_turns.specs.Handling.Told.{Of_client, Of_peer}
+use Rattle.door_laws.specs.Bounds.{Bounds_pass}
+use Rattle.door_laws.specs.Calls.{ArePassed, Call, Settles, Tells}
+use Rattle.door_laws.specs.Levels.{Levels_pass}
+use Rattle.door_laws.specs.Limits.{Limits_pass}
+use Rattle.node_server.specs.Stack.{BoundedNode, LimitedNode}
 use Rattle.node_server.specs.declared.served.ServedNode.{ServedNode}
-use Rattle.row_store.specs.Rows.{Content}
+use Rattle.served_laws.specs.Sockets.{Door}
 use Rattle.status_door.specs.Views.{inside_of as looked_at}
-use Rattle.status_door.specs.declared.door.Told.{Told}
-use Rattle.status_tally.specs.Views.{inside_of as counted}
-use Rattle.status_tally.specs.declared.tallied.Tallied.{Tallied}
-use Rattle.serve_laws.specs.Serving.{HandsOn}
+use Rattle.status_tally.specs.Views.{inside_of as counted_in}
+use Rattle.table_door.specs.Calls.{AreFor, Made}
+use Rattle.table_door.specs.Calls as tables
+use Rattle.table_door.specs.Views.{inside_of as tabled_in}
+use Rattle.turn_laws.specs.Calls as turns
 
--- a served node behind a log, behind counts, and behind somebody who looks at it
-abbrev pub WatchedNode : Type 0 → Type 0 → Type 0 → Type 0
-WatchedNode R E W = Told (Tallied (Logged (ServedNode R) E)) W
+-- from the outside in: it translates for clients of MQTT 3.1.1 and 3.1, is looked at, counts, has a log, limits on clients, limits on what these send, and
+-- newer tables of homes
+abbrev pub Whole : Type 0 → Type 0 → Type 0 → Type 0 → Type 0 → Type 0
+Whole R F G E W = Mqtt3 (Door R F G E W)
 
-abbrev pub WatchedNodeHandsOn : (R E W : Type 0) → (WatchedNode R E W → Event → List Output → WatchedNode R E W → Type 0) → (WatchedNode R E W → PeerEvent → Given → WatchedNode R E W → Type 0) → (WatchedNode R E W → WatchedNode R E W → Type 0)
-    → (R → Type 0) → (R → Type 0) → (R → Content) → (R → Content → Type 0) → Type 0
-WatchedNodeHandsOn R E W handles hears settles is_clean is_open content may_leave = HandsOn handles hears settles is_clean is_open content may_leave (λ d. true) (λ d. logs_for (counted (looked_at d)))
+module _ {R F G E W : Type 0} where
+  abbrev pub limits_in : Whole R F G E W → LimitedNode R F G
+  limits_in d = logged_in (counted_in (looked_at (translated_in d)))
+
+  abbrev pub bounds_in : Whole R F G E W → BoundedNode R F G
+  bounds_in d = limited_in (limits_in d)
+
+  abbrev pub node_in : Whole R F G E W → ServedNode R
+  node_in d = tabled_in (bounded_in (bounds_in d))
+
+-- ---- the calls of the sockets
+
+-- what the hub tells its handler, and that this settles
+abbrev pub calls_of : {T : Type 0} → turns.Call T → List Call
+calls_of (turns.Tells told) = Tells told ∷ []
+calls_of turns.Settles = Settles ∷ []
+calls_of _ = []
+
+-- as calls of the door for tables
+abbrev pub as_table_call : Call → tables.Call
+as_table_call (Tells (Of_client e outputs)) = tables.Handled e outputs
+as_table_call (Tells (Of_peer e given)) = tables.Heard e given
+as_table_call Settles = tables.Settled
+
+-- From calls of the whole to those of the node, through one handler after another: packets of MQTT 5.0 in place of those of 3.1.1 and 3.1; of clients that
+-- are let in, and the ends of those that were late; bytes that break no limit; tables in place of ticks. A log, counts and whoever looks change none.
+pub record ArePassedDown {R F G E W : Type 0} (d d' : Whole R F G E W) (hub : List Call) (node : List Made) : Type 0 where
+  pub translated : List Call
+  pub levels : ArePassed Levels_pass (clients_of d) hub translated (clients_of d')
+  pub let_in : List Call
+  pub limits : ArePassed (Limits_pass (limits_of (limits_in d))) (connections_of (limits_in d)) translated let_in (connections_of (limits_in d'))
+  pub within : List Call
+  pub bounds : ArePassed Bounds_pass (door_of (bounds_in d)) let_in within (door_of (bounds_in d'))
+  pub tables : AreFor (map as_table_call within) node

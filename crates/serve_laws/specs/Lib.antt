@@ -1,2 +1,4 @@
 pub mod Doors
+pub mod Opening
+pub mod Reaching
 pub mod Serving

@@ -1,27 +1,50 @@
 //! The laws.
-ghost use Rattle.serve_laws.specs.Doors.{WatchedNodeHandsOn};
-ghost use Rattle.serve_laws.specs.Serving.{ServeIsARun};
+ghost use Rattle.serve_laws.specs.Opening.{OpeningIsARestart};
+ghost use Rattle.serve_laws.specs.Reaching.{ServedIsReached};
+ghost use Rattle.broker_turns.specs.Faults.{IsCaused};
+ghost use Rattle.serve_laws.specs.Serving.{ServeIsARun, StoppedServeIsARun};
 
 use broker_sockets::{BridgeHandler, Clock, Handler, Readiness};
-use client_log::Logged;
-use node_server::ServedNode;
+use memory_gauge::Gauge;
+use mqtt3_handler::Mqtt3;
+use node_server::{TalliedNode, ToldNode};
 use row_store::RowStore;
-use status_door::{Told, Watcher};
-use status_tally::Tallied;
+use status_door::Watcher;
 use std::io::Write;
+use table_door::Tables;
 
-/// Whatever turns a hub makes over sockets with a handler that hands all on to a served node: it is a run of that node in the cluster, whose events
-/// are just what the sockets brought and the clock, in order, and of whose outputs the hub is given all, in order. After each turn all of it is committed.
-pub fn serve_is_a_run<S: Readiness, H: BridgeHandler, R: RowStore, C: Clock>()
-    ensures { ServeIsARun S.accepts S.watches S.connects S.reads S.writes S.finds H.handles H.hears H.settles C.tells
-        R.is_clean R.is_open R.content R.may_leave }
+/// Whatever turns the program makes over sockets, they are a run of its node in the cluster. What the sockets bring, and the clock, comes to the node in
+/// order, as the handlers before it say: with their flags off just as it came. The hub is given what the node gives out, the same way. After each turn all
+/// is committed. Where a turn stops with a fault the turns before it are such a run.
+pub fn serve_is_a_run<
+    S: Readiness,
+    R: RowStore,
+    F: Tables,
+    G: Gauge,
+    E: Write,
+    W: Watcher<TalliedNode<R, F, G, E>>,
+    C: Clock,
+>()
+    ensures run { ServeIsARun S.accepts S.watches S.connects S.reads S.writes S.finds
+        ⟦<Mqtt3<ToldNode<R, F, G, E, W>> as Handler>⟧.handles
+        ⟦<Mqtt3<ToldNode<R, F, G, E, W>> as BridgeHandler>⟧.hears
+        ⟦<Mqtt3<ToldNode<R, F, G, E, W>> as Handler>⟧.settles
+        C.tells R.is_clean R.is_open R.content }
+    ensures stopped { StoppedServeIsARun S.accepts S.watches S.connects S.reads S.writes S.finds
+        ⟦<Mqtt3<ToldNode<R, F, G, E, W>> as Handler>⟧.handles
+        ⟦<Mqtt3<ToldNode<R, F, G, E, W>> as BridgeHandler>⟧.hears
+        ⟦<Mqtt3<ToldNode<R, F, G, E, W>> as Handler>⟧.settles
+        C.tells R.is_clean R.is_open R.content
+        (IsCaused ⟦<Mqtt3<ToldNode<R, F, G, E, W>> as Handler>⟧.refuses ⟦<Mqtt3<ToldNode<R, F, G, E, W>> as BridgeHandler>⟧.declines ⟦<Mqtt3<ToldNode<R, F, G, E, W>> as Handler>⟧.stops) }
 {}
 
-/// A log, counts and somebody who looks at them hand all on, whatever they are.
-pub fn doors_hand_on<R: RowStore, E: Write, W: Watcher<Tallied<Logged<ServedNode<R>, E>>>>()
-    ensures { WatchedNodeHandsOn R E W
-        ⟦<Told<Tallied<Logged<ServedNode<R>, E>>, W> as Handler>⟧.handles
-        ⟦<Told<Tallied<Logged<ServedNode<R>, E>>, W> as BridgeHandler>⟧.hears
-        ⟦<Told<Tallied<Logged<ServedNode<R>, E>>, W> as Handler>⟧.settles
-        R.is_clean R.is_open R.content R.may_leave }
+/// A node that is served among others, whose frames are all released before they come, is in a world that a run reaches: every law over runs holds of it.
+pub fn served_is_reached<R: RowStore>()
+    ensures { ServedIsReached R.is_open R.content }
+{}
+
+/// A node that is opened from the rows that a crash, a kill or a fault left, with the table of homes that it took last, is one of a run that is restarted,
+/// and serves from there.
+pub fn opening_is_a_restart<R: RowStore>()
+    ensures { OpeningIsARestart R.is_open R.content }
 {}
