@@ -5,6 +5,7 @@
     .ci-next/layers.py                   does it, in the tree that this file stands in
     .ci-next/layers.py --at FOLDER       in another tree (a copy)
     .ci-next/layers.py --only NEW ..     these crates of the table alone; all other names stay
+    .ci-next/layers.py --table FILE      by another table than .ci-next/layers.txt
     .ci-next/layers.py --no-fmt          doesn't lay the files out afterwards (`rt fmt`), nor write docs/believed.md
 
 The table is .ci-next/layers.txt, which says how it is read. Crates that it doesn't name keep their names. Nothing is changed where a merge would
@@ -154,9 +155,9 @@ class Table:
 class Move:
     """The whole change: where each crate, module and file goes."""
 
-    def __init__(self, top, only):
+    def __init__(self, top, table, only):
         self.top, self.crates = top, read_crates(top)
-        self.table = Table(f"{HERE}/layers.txt", only, self.crates)
+        self.table = Table(table, only, self.crates)
         self.faults, self.notes = [], list(self.table.notes)
         self.new_of = {}
         for new, members in self.table.members.items():
@@ -764,11 +765,13 @@ def fmt(top, names):
 
 
 def main(words):
-    top, only, is_look, is_plain = os.path.dirname(HERE), [], False, False
+    top, table, only, is_look, is_plain = os.path.dirname(HERE), f"{HERE}/layers.txt", [], False, False
     while words:
         word = words.pop(0)
         if word == "--at":
             top = os.path.abspath(words.pop(0))
+        elif word == "--table":
+            table = words.pop(0)
         elif word == "--only":
             only, words = words, []
         elif word == "--look":
@@ -778,7 +781,7 @@ def main(words):
         else:
             print(__doc__)
             return 2
-    move = Move(top, only)
+    move = Move(top, table, only)
     for it in move.notes:
         print(f"note: {it}")
     for it in move.faults:
