@@ -485,7 +485,7 @@ class Words:
             for (of, path), (new, to) in move.files.items():
                 if of == name and rest and path.startswith(rest + "/"):
                     return f"crates/{new}/{to[:len(to) - len(path) + len(rest)]}"
-            return f"crates/{move.new_of[name]}" + (f"/{rest}" if rest else "")
+            return f"crates/{move.new_of[name]}" + (f"/{self.word.sub(lambda it: move.new_of[it[1]], rest)}" if rest else "")
 
         def path(found):
             of, first = found[1], found[2]
@@ -510,7 +510,8 @@ class Words:
         text = self.word.sub(lambda it: move.new_of[it[1]], text)
         while "\0" in text:
             text = re.sub(r"\0(\d+)\0", lambda it: kept[int(it[1])], text)
-        return text
+        # several crates in a row that are one now
+        return re.sub(r"(`\w+`)((?:, | and | or )\1)+(?![\w`])", r"\1", text)
 
 
 def joined_root(move, words, new):
@@ -602,9 +603,8 @@ def joined_lib(move, new, folder):
 
 def page_of_crates(move, text):
     """docs/crates.md with the new crates, in the order of crates.txt and under its headings."""
-    blocks = [it for it in re.split(r"\n\n+", text.strip("\n"))]
+    blocks = re.split(r"\n\n+", text.strip("\n"))
     heads, said, before, now = [], {}, defaultdict(list), ""
-    tail = defaultdict(list)
     for block in blocks:
         if block.startswith("## "):
             now = block[3:]
@@ -614,9 +614,11 @@ def page_of_crates(move, text):
             for it in re.findall(r"\w+", names):
                 said[it] = rest
         else:
-            (tail if now and any(True for it in said) and heads and now not in before and False else before)[now].append(block)
+            before[now].append(block)
     lines = list(before[""])
     for head in heads:
+        if not before[head] and not any(move.headings[it].startswith(head) for it in move.order):
+            continue
         lines.append(f"## {head}")
         lines += before[head]
         for new in move.order:
@@ -715,6 +717,8 @@ def do(move):
             changed.add(new)
     for it, text in texts.items():
         now = words.document(text)
+        if it == "docs/CONTRIBUTING.md":
+            now = join_rows(now, {new for new, is_so in move.is_merged.items() if is_so})
         if now != text_of(f"{top}/{it}"):
             with open(f"{top}/{it}", "w", encoding="utf-8") as file:
                 file.write(now)
@@ -734,6 +738,21 @@ def tell_twice(move, top):
                     for it in merged:
                         if len(re.findall(rf"(?<![\w/:|] )(?<![\w/:])`?\*?\*?{it}`?(?![\w:/])", line)) > 1:
                             print(f"look at {os.path.relpath(at, top)}/{name}:{number}, which names {it} twice")
+
+
+def join_rows(text, merged):
+    """A table of crates with what each has: the rows of crates that are one now are one row."""
+    lines, at = [], {}
+    for line in text.split("\n"):
+        found = re.match(r"\| `(\w+)`([^|]*) \| ([^|]*) \|$", line)
+        if not found or found[1] not in merged:
+            lines.append(line)
+        elif found[1] not in at:
+            at[found[1]] = len(lines)
+            lines.append(line)
+        elif found[3] not in lines[at[found[1]]]:
+            lines[at[found[1]]] = f"{lines[at[found[1]]][:-2]}; {found[3]} |"
+    return "\n".join(lines)
 
 
 def special(top, move):
