@@ -51,7 +51,7 @@ for name in sys.argv[2:] or [it for it, _ in listed]:
         begun = time.time()
         ran = subprocess.run([f"{kit}/bin/rattle", "check", *words, *test, "--only", ""], cwd=here, capture_output=True, text=True, errors="replace")
         said = ran.stdout + ran.stderr
-        errors = re.findall(r"(?m)^.*error[\[:].*$", said)
+        errors = re.findall(r"(?m)^\s*error[\[:].*$", said)
         is_good = re.search(r"(?m)^only=", said) and not errors
         bad += not is_good
         print(f"{name}{' --test' if test else ''}: {'compiles' if is_good else 'DOES NOT COMPILE'} ({time.time() - begun:.0f} s)", flush=True)
