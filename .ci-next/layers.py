@@ -484,7 +484,7 @@ class Words:
                 return f"crates/{new}/{to}"
             for (of, path), (new, to) in move.files.items():
                 if of == name and rest and path.startswith(rest + "/"):
-                    return f"crates/{new}/{to[:len(to) - len(path) + len(rest)]}"
+                    return f"crates/{new}/{'/'.join(to.split('/')[:rest.count('/') + 1])}"
             return f"crates/{move.new_of[name]}" + (f"/{self.word.sub(lambda it: move.new_of[it[1]], rest)}" if rest else "")
 
         def path(found):
