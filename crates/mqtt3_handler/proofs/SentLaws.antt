@@ -1,42 +1,25 @@
 -- Packets that are sent, one after another.
-use Rattle.std.proofs.Common.{◌≡◌, drop, ℕ, zero, suc, ◌+◌, ◌-◌, ◌<◌, Bool, true, false, List, [], ◌∷◌, ◌++◌, Option, Some, None, Result, Ok, Err, refl, sym, ap, subst, ◌∙◌, append_assoc, arith}
+use Rattle.std.proofs.Common.{◌≡◌, drop, length, ℕ, zero, suc, ◌+◌, ◌-◌, ◌<◌, ◌≤◌, Bool, true, false, List, [], ◌∷◌, ◌++◌, Option, Some, None, Result, Ok, Err, refl, sym, ap, subst, ◌∙◌, append_assoc, arith}
 use Rattle.std.proofs.lemmas.List.{append-nil}
 use Rattle.mqtt_packets.specs.declared.fault.PacketFault.{PacketFault}
 use Rattle.mqtt_packets.specs.declared.fault.PacketFault.TheVariants as faults
 use Rattle.mqtt_packets.specs.declared.packet.Packet.{Packet}
+use Rattle.mqtt_packets.specs.declared.packet.Packet.TheVariants as packets
+use Rattle.mqtt_packets.specs.declared.publish.Publish.{Publish}
 use Rattle.mqtt_packets.specs.Reading.{Fails}
 use Rattle.mqtt_packets.specs.Stream.{packet_at, rest_at}
 use Rattle.mqtt3_packets.specs.declared.level.Level.{Level}
+use Rattle.mqtt3_packets.specs.Cut.{IsPassed}
 use Rattle.mqtt3_packets.specs.Written.{ends, written}
-use Rattle.mqtt3_handler.specs.Sending.{Exchanges, Sent, closed_by, none_sent, sent_then, sent_within}
+use Rattle.mqtt3_handler.specs.declared.sending.Next.TheVariants as nexts
+use Rattle.mqtt3_handler.specs.Sending.{Exchanges, IsNext, Sent, closed_by, none_sent, sent_as, sent_for, sent_then, sent_within}
 
 more : (n i : ℕ) → i < n → n - i ≡ suc (n - (i + 1))
 more n i lt = omega arith
 
-step : (k : ℕ) (level : Level) (exchanges : Exchanges) (bs : List ℕ) (p : Packet) (after : List ℕ) → packet_at bs ≡ Ok (Some (p, after)) → ends level p ≡ false
-    → sent_within (suc k) level exchanges bs ≡ sent_then (written level p) (sent_within k level (closed_by p exchanges) after)
-unfolding sent_within
-step k level exchanges bs p after e goes = rw (e, goes) refl
-
-last : (k : ℕ) (level : Level) (exchanges : Exchanges) (bs : List ℕ) (p : Packet) (after : List ℕ) → packet_at bs ≡ Ok (Some (p, after)) → ends level p ≡ true → sent_within (suc k) level exchanges bs ≡ none_sent exchanges true
-unfolding sent_within
-last k level exchanges bs p after e stops = rw (e, stops) refl
-
-short : (k : ℕ) (level : Level) (exchanges : Exchanges) (bs : List ℕ) → packet_at bs ≡ Ok None → sent_within (suc k) level exchanges bs ≡ none_sent exchanges false
-unfolding sent_within
-short k level exchanges bs e = rw e refl
-
-faulty : (k : ℕ) (level : Level) (exchanges : Exchanges) (bs : List ℕ) (f : PacketFault) → packet_at bs ≡ Err f → sent_within (suc k) level exchanges bs ≡ none_sent exchanges false
-unfolding sent_within
-faulty k level exchanges bs f e = rw e refl
-
 over : (level : Level) (exchanges : Exchanges) (bs : List ℕ) → sent_within zero level exchanges bs ≡ none_sent exchanges false
 unfolding sent_within
 over level exchanges bs = refl
-
--- bytes, what is exchanges, and whether it ends
-abbrev pub sent_as : List ℕ → Exchanges → Bool → Sent
-sent_as bytes exchanges ends = record { bytes = bytes; exchanges = exchanges; ends = ends }
 
 nothing : (s : List ℕ) (exchanges : Exchanges) (b : Bool) → sent_then s (none_sent exchanges b) ≡ sent_as s exchanges b
 nothing s exchanges b = ap (λ (xs : List ℕ). sent_as xs exchanges b) (append-nil s)
@@ -58,6 +41,30 @@ found_at bs o p used r is e = e ∙ ap (λ (x : Option (Packet × ℕ)). Ok (res
 pub none_found : (bs : List ℕ) (o : Option (Packet × ℕ)) (r : Result (Option (Packet × List ℕ)) PacketFault) → o ≡ None → r ≡ Ok (rest_at bs o) → r ≡ Ok None
 none_found bs o r is e = e ∙ ap (λ (x : Option (Packet × ℕ)). Ok (rest_at bs x)) is
 
+-- what the packet in front comes to
+pub next_put : (level : Level) (bs : List ℕ) (exchanges : Exchanges) (p : Packet) (used : ℕ) (was now : List ℕ) (new : Exchanges) → used ≤ length bs → packet_at bs ≡ Ok (Some (p, drop used bs)) → ends level p ≡ false
+    → now ≡ was ++ written level p → new ≡ closed_by p exchanges → IsNext level bs exchanges new was now (nexts.Put used)
+next_put level bs exchanges p used was now new fits e goes is closed =
+    (fits, λ next. rw (e, goes) (joined was (written level p) (next (closed_by p exchanges) (drop used bs))
+      ∙ ap (λ (xs : List ℕ). sent_then xs (next (closed_by p exchanges) (drop used bs))) (sym is) ∙ ap (λ (x : Exchanges). sent_then now (next x (drop used bs))) (sym closed)))
+
+pub next_ends : (level : Level) (bs : List ℕ) (exchanges : Exchanges) (p : Packet) (after was : List ℕ) → packet_at bs ≡ Ok (Some (p, after)) → ends level p ≡ true → IsNext level bs exchanges exchanges was was nexts.Ends
+next_ends level bs exchanges p after was e stops = λ next. rw (e, stops) (nothing was exchanges true)
+
+pub next_none : (level : Level) (bs : List ℕ) (exchanges : Exchanges) (was : List ℕ) → packet_at bs ≡ Ok None → IsNext level bs exchanges exchanges was was nexts.Stops
+next_none level bs exchanges was e = λ next. rw e (nothing was exchanges false)
+
+pub next_fault : (level : Level) (bs : List ℕ) (exchanges : Exchanges) (was : List ℕ) (f : PacketFault) → packet_at bs ≡ Err f → IsNext level bs exchanges exchanges was was nexts.Stops
+next_fault level bs exchanges was f e = λ next. rw e (nothing was exchanges false)
+
+goes : (level : Level) (p : Publish) → ends level (packets.Publish p) ≡ false
+unfolding ends
+goes level p = refl
+
+pub next_passed : (level : Level) (bs : List ℕ) (exchanges : Exchanges) (used : ℕ) (was now : List ℕ) → IsPassed bs used was now → IsNext level bs exchanges exchanges was now (nexts.Put used)
+next_passed level bs exchanges used was now h =
+    next_put level bs exchanges (packets.Publish h.publish) used was now exchanges h.fits h.found (goes level h.publish) (h.sent level) refl
+
 -- what is sent so far, and what is to be sent of the rest
 abbrev pub IsSending : Level → Exchanges → List ℕ → List ℕ → ℕ → List ℕ → Exchanges → List ℕ → ℕ → Type 0
 IsSending level begun old bs n now exchanges rest i = sent_then old (sent_within n level begun bs) ≡ sent_then now (sent_within (n - i) level exchanges rest)
@@ -65,26 +72,25 @@ IsSending level begun old bs n now exchanges rest i = sent_then old (sent_within
 pub begins : (level : Level) (exchanges : Exchanges) (old bs : List ℕ) (n : ℕ) → IsSending level exchanges old bs n old exchanges bs 0
 begins level exchanges old bs n = let same : n ≡ n - 0 = omega arith in ap (λ (k : ℕ). sent_then old (sent_within k level exchanges bs)) same
 
+one_more : (level : Level) (exchanges : Exchanges) (now rest : List ℕ) (n i : ℕ) → i < n
+    → sent_then now (sent_within (n - i) level exchanges rest) ≡ sent_then now (sent_for level exchanges (λ left after. sent_within (n - (i + 1)) level left after) (packet_at rest))
+unfolding sent_within
+one_more level exchanges now rest n i lt = ap (λ (k : ℕ). sent_then now (sent_within k level exchanges rest)) (more n i lt)
+
 module _ (level : Level) (begun : Exchanges) (old bs : List ℕ) (n : ℕ) (now : List ℕ) (exchanges : Exchanges) (rest : List ℕ) (i : ℕ) where
-  pub goes_on : (p : Packet) (after now' : List ℕ) (exchanges' : Exchanges) → i < n → packet_at rest ≡ Ok (Some (p, after)) → ends level p ≡ false → now' ≡ now ++ written level p → exchanges' ≡ closed_by p exchanges
+  pub goes_on : (used : ℕ) (after now' : List ℕ) (exchanges' : Exchanges) → i < n → IsNext level rest exchanges exchanges' now now' (nexts.Put used) → after ≡ drop used rest
       → IsSending level begun old bs n now exchanges rest i → IsSending level begun old bs n now' exchanges' after (i + 1)
-  goes_on p after now' exchanges' lt e goes is closed h =
-      h ∙ ap (λ (k : ℕ). sent_then now (sent_within k level exchanges rest)) (more n i lt) ∙ ap (sent_then now) (step (n - (i + 1)) level exchanges rest p after e goes)
-      ∙ joined now (written level p) (sent_within (n - (i + 1)) level (closed_by p exchanges) after)
-      ∙ ap (λ (xs : List ℕ). sent_then xs (sent_within (n - (i + 1)) level (closed_by p exchanges) after)) (sym is)
-      ∙ ap (λ (x : Exchanges). sent_then now' (sent_within (n - (i + 1)) level x after)) (sym closed)
+  goes_on used after now' exchanges' lt next is h =
+      h ∙ one_more level exchanges now rest n i lt ∙ next.1 (λ left xs. sent_within (n - (i + 1)) level left xs)
+      ∙ ap (λ (xs : List ℕ). sent_then now' (sent_within (n - (i + 1)) level exchanges' xs)) (sym is)
 
-  at_end : (b : Bool) → i < n → IsSending level begun old bs n now exchanges rest i → sent_within (suc (n - (i + 1))) level exchanges rest ≡ none_sent exchanges b → sent_as now exchanges b ≡ sent_then old (sent_within n level begun bs)
-  at_end b lt h e = sym (h ∙ ap (λ (k : ℕ). sent_then now (sent_within k level exchanges rest)) (more n i lt) ∙ ap (sent_then now) e ∙ nothing now exchanges b)
+  pub ends_at : (now' : List ℕ) (exchanges' : Exchanges) → i < n → IsNext level rest exchanges exchanges' now now' nexts.Ends → IsSending level begun old bs n now exchanges rest i
+      → sent_as now' exchanges' true ≡ sent_then old (sent_within n level begun bs)
+  ends_at now' exchanges' lt next h = sym (h ∙ one_more level exchanges now rest n i lt ∙ next (λ left xs. sent_within (n - (i + 1)) level left xs))
 
-  pub stops_at : (p : Packet) (after : List ℕ) → i < n → IsSending level begun old bs n now exchanges rest i → packet_at rest ≡ Ok (Some (p, after)) → ends level p ≡ true → sent_as now exchanges true ≡ sent_then old (sent_within n level begun bs)
-  stops_at p after lt h e stops = at_end true lt h (last (n - (i + 1)) level exchanges rest p after e stops)
-
-  pub none_at : i < n → IsSending level begun old bs n now exchanges rest i → packet_at rest ≡ Ok None → sent_as now exchanges false ≡ sent_then old (sent_within n level begun bs)
-  none_at lt h e = at_end false lt h (short (n - (i + 1)) level exchanges rest e)
-
-  pub fault_at : (f : PacketFault) → i < n → IsSending level begun old bs n now exchanges rest i → packet_at rest ≡ Err f → sent_as now exchanges false ≡ sent_then old (sent_within n level begun bs)
-  fault_at f lt h e = at_end false lt h (faulty (n - (i + 1)) level exchanges rest f e)
+  pub stops_at : (now' : List ℕ) (exchanges' : Exchanges) → i < n → IsNext level rest exchanges exchanges' now now' nexts.Stops → IsSending level begun old bs n now exchanges rest i
+      → sent_as now' exchanges' false ≡ sent_then old (sent_within n level begun bs)
+  stops_at now' exchanges' lt next h = sym (h ∙ one_more level exchanges now rest n i lt ∙ next (λ left xs. sent_within (n - (i + 1)) level left xs))
 
   pub all_done : n - i ≡ 0 → IsSending level begun old bs n now exchanges rest i → sent_as now exchanges false ≡ sent_then old (sent_within n level begun bs)
   all_done none h = sym (h ∙ ap (λ (k : ℕ). sent_then now (sent_within k level exchanges rest)) none ∙ ap (sent_then now) (over level exchanges rest) ∙ nothing now exchanges false)

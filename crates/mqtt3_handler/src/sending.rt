@@ -1,14 +1,14 @@
 //! What a client of a version before 5 gets.
 
 ghost use Rattle.std.specs.Prelude.{◌≡◌, [], IfOk, OnOk, true};
-ghost use Rattle.mqtt3_handler.specs.Sending.{closed_by, gotten, sent_of, sent_then};
+ghost use Rattle.mqtt3_handler.specs.Sending.{IsNext, closed_by, gotten, sent_of, sent_then};
 
 use crate::client::{Client, after};
 use crate::exchanges::OpenExchanges;
 use crate::held::HeldBytes;
 use mqtt_fields::NoMemory;
 use mqtt_packets::{Bytes, Packet, PacketFault};
-use mqtt3_packets::{Level, ends, write_packet};
+use mqtt3_packets::{Level, ends, write_packet, write_publish_at};
 use std::alloc::Global;
 
 /// An exchange is over where the packet says so.
@@ -17,6 +17,61 @@ fn finish(exchanges: &mut OpenExchanges, packet: &Packet)
 {
     if let Packet::Pubcomp(ack) = packet {
         exchanges.end(ack.identifier);
+    }
+}
+
+/// What the packet in front of some bytes comes to.
+#[derive(Clone, Copy, Debug, PartialEq, Eq)]
+enum Next {
+    /// It takes so many of the bytes, and what tells of it is put.
+    Put(usize),
+    /// It can't be told, and the connection has to end.
+    Ends,
+    /// No packet stands there.
+    Stops,
+}
+
+/// Appends what tells a client of a level of the packet in front, which is read and written.
+fn put_read(
+    alloc: Global,
+    level: Level,
+    exchanges: &mut OpenExchanges,
+    bytes: &[u8],
+    sent: &mut Vec<u8>,
+) -> Result<Next, NoMemory>
+    ensures { IfOk result (λ next. IsNext level bytes.now exchanges.old exchanges.new sent.old.items sent.new.items next) }
+{
+    match mqtt_packets::read_packet(alloc, bytes) {
+        Ok(Some((packet, used))) => {
+            if ends(level, &packet) {
+                return Ok(Next::Ends);
+            }
+            finish(exchanges, &packet);
+            write_packet(level, &packet, sent)?;
+            Ok(Next::Put(used))
+        }
+        Ok(None) => Ok(Next::Stops),
+        Err(fault) => match fault {
+            PacketFault::NoMemory => Err(NoMemory),
+            _ => Ok(Next::Stops),
+        },
+    }
+}
+
+/// Appends what tells a client of a level of the packet in front.
+#[tactic(auto, using(crate::proofs::SentLaws::next_passed))]
+fn put_next(
+    alloc: Global,
+    level: Level,
+    exchanges: &mut OpenExchanges,
+    bytes: &[u8],
+    sent: &mut Vec<u8>,
+) -> Result<Next, NoMemory>
+    ensures { IfOk result (λ next. IsNext level bytes.now exchanges.old exchanges.new sent.old.items sent.new.items next) }
+{
+    match write_publish_at(alloc, bytes, sent)? {
+        Some(used) => Ok(Next::Put(used)),
+        None => put_read(alloc, level, exchanges, bytes, sent),
     }
 }
 
@@ -32,20 +87,10 @@ fn put_packets(
 {
     let mut rest = bytes;
     for count in 0..bytes.len() {
-        match mqtt_packets::read_packet(alloc, rest) {
-            Ok(Some((packet, used))) => {
-                if ends(level, &packet) {
-                    return Ok(true);
-                }
-                finish(exchanges, &packet);
-                write_packet(level, &packet, sent)?;
-                rest = after(rest, used);
-            }
-            Ok(None) => return Ok(false),
-            Err(fault) => match fault {
-                PacketFault::NoMemory => return Err(NoMemory),
-                _ => return Ok(false),
-            },
+        match put_next(alloc, level, exchanges, rest, sent)? {
+            Next::Put(used) => rest = after(rest, used),
+            Next::Ends => return Ok(true),
+            Next::Stops => return Ok(false),
         }
     }
     Ok(false)

@@ -2,7 +2,9 @@
 
 use mqtt_fields::Properties;
 use mqtt_packets::{Ack, Packet, PacketFault};
-use mqtt3_packets::{Level, Version, ends, read_packet, return_code, version_of, write_packet};
+use mqtt3_packets::{
+    Level, Version, ends, read_packet, return_code, version_of, write_packet, write_publish_at,
+};
 use std::process::Abort;
 
 /// CONNECT of MQTT 3.1.1 with Clean Session, a Keep Alive of 10 seconds and the identifier "a".
@@ -61,4 +63,19 @@ fn a_packet_is_written(rt: HostRuntime) {
     assert!(rt; out.as_slice() == b"\x40\x02\x01\x02".as_slice());
     assert!(rt; !ends(Level::Four, &puback(0x10)) && ends(Level::Four, &puback(0x97)));
     assert!(rt; return_code(0x85) == Some(2) && return_code(0x97) == None);
+}
+
+#[test]
+fn a_publish_is_cut(rt: HostRuntime) {
+    let alloc = rt.alloc();
+    // at QoS 1, with a User Property, and PINGRESP behind it
+    let given: &[u8] = b"\x32\x11\x00\x03a/b\x00\x0a\x07\x26\x00\x01k\x00\x01vhi\xd0\x00";
+    let mut out = Vec::new(alloc);
+    let used = write_publish_at(alloc, given, &mut out).expect(&rt, "memory");
+    assert!(rt; used == Some(19));
+    assert!(rt; out.as_slice() == b"\x32\x09\x00\x03a/b\x00\x0ahi".as_slice());
+    for other in [&given[..18], &given[19..]] {
+        let used = write_publish_at(alloc, other, &mut out).expect(&rt, "memory");
+        assert!(rt; used.is_none() && out.len() == 11);
+    }
 }
