@@ -1,5 +1,0 @@
-pub mod Confirming
-pub mod Framing
-pub mod Mapping
-pub mod Shipping
-pub mod Telling

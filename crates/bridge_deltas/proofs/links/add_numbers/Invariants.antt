@@ -1,7 +1,0 @@
-use Rattle.std.proofs.Common.{◌≡◌, ◌++◌, map, take}
-use Rattle.row_store.specs.Rows.{entry_of}
-use Rattle.lane_rows.specs.Rows.{each, numbers_of}
-use Rattle.bridge_deltas.proofs.links.add_numbers.Given as goal
-
-abbrev pub invariant-loop-peer : goal.invariant-loop-peer
-invariant-loop-peer l = map entry_of l.out.items ≡ map entry_of l.fn.out.items ++ each (λ p k. numbers_of p k.lane) 0 (take l.peer l.lanes.items)

@@ -1,2 +1,0 @@
-pub mod ForwardLaws
-pub mod FrameLaws

@@ -1,8 +1,0 @@
-//! The command line: which task its words ask for, or why they ask for none.
-#![tactic(auto)]
-
-mod line;
-mod task;
-
-pub use line::task_of;
-pub use task::Task;

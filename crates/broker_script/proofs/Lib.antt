@@ -1,4 +1,0 @@
-mod Words
-mod Commands
-mod Scripts
-pub mod Nodes

@@ -1,4 +1,0 @@
-pub mod Line
-pub mod Fault
-pub mod Script
-pub mod Laws

@@ -1,9 +1,0 @@
-//! A node that a configuration names, served over the machine's sockets with its rows in a database.
-#![tactic(auto)]
-
-mod causes;
-mod refusal;
-mod run;
-mod telling;
-
-pub use run::serve;

@@ -1,3 +1,0 @@
-pub mod Buffering
-pub mod Cutting
-pub mod Steadying

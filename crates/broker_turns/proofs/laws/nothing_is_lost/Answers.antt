@@ -1,6 +1,0 @@
-use Rattle.broker_turns.proofs.OrderLaws.{nothing_is_lost}
-use Rattle.broker_turns.proofs.laws.nothing_is_lost.Goals as goal
-
-pub returns : goal.returns
-returns g c =
-    nothing_is_lost g.S.Sockets.accepts g.S.Readiness.watches g.S.Sockets.connects g.S.Sockets.reads g.S.Sockets.writes g.S.Readiness.finds g.H.Handler.handles g.H.BridgeHandler.hears g.H.Handler.settles

@@ -1,9 +1,0 @@
-use Rattle.std.proofs.Common.{◌+◌, ◌-◌, length}
-use Rattle.causal_context.proofs.Merging.{IsMergedUpTo}
-use Rattle.causal_context.proofs.union.merged.Given as goal
-
-abbrev pub invariant-loop-i : goal.invariant-loop-i
-invariant-loop-i l = IsMergedUpTo l.a l.b l.i l.j l.out.items
-
-abbrev pub decreases-loop-i : goal.decreases-loop-i
-decreases-loop-i l = (length l.a - l.i) + (length l.b - l.j)

@@ -1,3 +1,0 @@
-pub mod Document
-pub mod Table
-pub mod Homes

@@ -1,3 +1,0 @@
-pub mod Honesty
-pub mod Joining
-pub mod Turning

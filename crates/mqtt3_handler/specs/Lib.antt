@@ -1,9 +1,0 @@
-pub mod Asked
-pub mod Client
-pub mod Doing
-pub mod Sending
-pub mod Stages
-pub mod Knowing
-pub mod Telling
-pub mod Calls
-pub mod Laws

@@ -1,5 +1,0 @@
-use Rattle.std.proofs.Common.{◌≡◌, take}
-use Rattle.mqtt_packets.proofs.subscribe.SubscribeFilters.copy.Given as goal
-
-abbrev pub invariant-loop-filter : goal.invariant-loop-filter
-invariant-loop-filter l = l.items.items ≡ take l.filter-index l.self

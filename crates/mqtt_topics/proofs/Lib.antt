@@ -1,4 +1,0 @@
-pub mod LevelLaws
-pub mod VerdictLaws
-pub mod Testing
-pub mod ShareLaws

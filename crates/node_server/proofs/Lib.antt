@@ -1,5 +1,0 @@
-pub mod Finding
-pub mod Halting
-pub mod Losing
-pub mod Printed
-pub mod Telling

@@ -1,8 +1,0 @@
-use Rattle.std.proofs.Common.{◌∙◌, sym, ap}
-use Rattle.std.specs.Cmp.{nat_cmp_total}
-use Rattle.std.specs.FinMap as map
-use Rattle.finite_maps.proofs.Tables.{get_table}
-use Rattle.node_work.proofs.held.connections.Connections.find.Goals as goal
-
-pub returns : goal.returns
-returns c = c.get.ensures.value ∙ sym (get_table nat_cmp_total c.self.inside.table.entries c.args.connection) ∙ ap (λ m. map.get m c.args.connection) c.self.view_is

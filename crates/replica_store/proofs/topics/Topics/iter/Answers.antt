@@ -1,6 +1,0 @@
-use Rattle.std.proofs.Common.{◌∙◌}
-use Rattle.replica_store.proofs.Trees.{entries_are}
-use Rattle.replica_store.proofs.topics.Topics.iter.Goals as goal
-
-pub returns : goal.returns
-returns c = c.iter.ensures.rest ∙ entries_are c.self.inside.entries.entries c.args.self.now c.self.invariant.0 c.self.view_is

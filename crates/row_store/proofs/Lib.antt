@@ -1,4 +1,0 @@
-pub mod Keys
-pub mod Neighbours
-pub mod CellLemmas
-pub mod Sorted

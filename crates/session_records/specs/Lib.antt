@@ -1,4 +1,0 @@
-pub mod Apart
-pub mod Connections
-pub mod Stored
-pub mod Table

@@ -1,6 +1,0 @@
-pub mod Changes
-pub mod Durable
-pub mod Fields
-pub mod Reachable
-pub mod Reading
-pub mod Rows

@@ -1,9 +1,0 @@
-//! What a node answers to a request for its status.
-#![tactic(auto)]
-
-mod answer;
-mod pages;
-mod resource;
-
-pub use pages::Pages;
-pub use resource::Resource;
