@@ -8,6 +8,7 @@ use Rattle.std.specs.BTreeMap.{insert_entry, is_at}
 use Rattle.std.specs.FinMap.{nat_cmp-IsAntisymmetric, slice_cmp-IsAntisymmetric}
 use Rattle.std.proofs.lemmas.Bool.Decides.{nat_tests}
 use Rattle.std.proofs.lemmas.Grind.{fold-append}
+use Rattle.mqtt_topics.specs.Topics.{filter_part}
 use Rattle.filter_trie.specs.Search.Counting.{turn, hash_on, hashes, one, times, total, count, Covers}
 use Rattle.filter_trie.specs.Search.Branching.{Holds}
 use Rattle.finite_maps.proofs.Texts.{text_cmp}
@@ -128,44 +129,44 @@ pub alike : (a b : List ℕ) → text_cmp a b ≡ Equal → a ≡ b
 alike = slice_cmp-IsAntisymmetric nat_cmp-IsAntisymmetric
 
 module _ {X : Type 0} where
-  -- a new key counts once
+  -- the part of a new key counts once
   pub total_insert : (es : List (List ℕ × X)) (k : List ℕ) (v : X) (h : ℕ) → lookup (is_at (text_cmp k)) es ≡ None
-      → total (keys_of (insert_entry text_cmp es k v)) h ≡ times h (hashes 0 k) + total (keys_of es) h
+      → total (keys_of (insert_entry text_cmp es k v)) h ≡ times h (hashes 0 (filter_part k)) + total (keys_of es) h
   total_insert [] k v h n = refl
   total_insert (e ∷ es) k v h n = by (text_cmp k e.0) n (total_insert es k v h)
     where
       by : (r : Ordering) → cond (is_eq r) (Some e.1) (lookup (is_at (text_cmp k)) es) ≡ None
-          → (lookup (is_at (text_cmp k)) es ≡ None → total (keys_of (insert_entry text_cmp es k v)) h ≡ times h (hashes 0 k) + total (keys_of es) h)
-          → total (keys_of (match_ordering r ((k, v) ∷ e ∷ es) ((e.0, v) ∷ es) (e ∷ insert_entry text_cmp es k v))) h ≡ times h (hashes 0 k) + total (keys_of (e ∷ es)) h
+          → (lookup (is_at (text_cmp k)) es ≡ None → total (keys_of (insert_entry text_cmp es k v)) h ≡ times h (hashes 0 (filter_part k)) + total (keys_of es) h)
+          → total (keys_of (match_ordering r ((k, v) ∷ e ∷ es) ((e.0, v) ∷ es) (e ∷ insert_entry text_cmp es k v))) h ≡ times h (hashes 0 (filter_part k)) + total (keys_of (e ∷ es)) h
       by Less m r = refl
       by Equal m r = absurd (let f : Some e.1 ≡ None = m in cc)
-      by Greater m r = let f : total (keys_of (insert_entry text_cmp es k v)) h ≡ times h (hashes 0 k) + total (keys_of es) h = r m in omega arith
+      by Greater m r = let f : total (keys_of (insert_entry text_cmp es k v)) h ≡ times h (hashes 0 (filter_part k)) + total (keys_of es) h = r m in omega arith
 
   pub total_remove : (es : List (List ℕ × X)) (k : List ℕ) (v : X) (h : ℕ) → lookup (is_at (text_cmp k)) es ≡ Some v
-      → total (keys_of es) h ≡ times h (hashes 0 k) + total (keys_of (remove_entry (is_at (text_cmp k)) es)) h
+      → total (keys_of es) h ≡ times h (hashes 0 (filter_part k)) + total (keys_of (remove_entry (is_at (text_cmp k)) es)) h
   total_remove [] k v h s = absurd (let f : None ≡ Some v = s in cc)
   total_remove (e ∷ es) k v h s = by (text_cmp k e.0) refl s (total_remove es k v h)
     where
       by : (r : Ordering) → text_cmp k e.0 ≡ r → cond (is_eq r) (Some e.1) (lookup (is_at (text_cmp k)) es) ≡ Some v
-          → (lookup (is_at (text_cmp k)) es ≡ Some v → total (keys_of es) h ≡ times h (hashes 0 k) + total (keys_of (remove_entry (is_at (text_cmp k)) es)) h)
-          → total (keys_of (e ∷ es)) h ≡ times h (hashes 0 k) + total (keys_of (cond (is_eq r) es (e ∷ remove_entry (is_at (text_cmp k)) es))) h
+          → (lookup (is_at (text_cmp k)) es ≡ Some v → total (keys_of es) h ≡ times h (hashes 0 (filter_part k)) + total (keys_of (remove_entry (is_at (text_cmp k)) es)) h)
+          → total (keys_of (e ∷ es)) h ≡ times h (hashes 0 (filter_part k)) + total (keys_of (cond (is_eq r) es (e ∷ remove_entry (is_at (text_cmp k)) es))) h
       by Less p m r = let f = r m in omega arith
-      by Equal p m r = ap (λ t. times h (hashes 0 t) + total (keys_of es) h) (sym (alike k e.0 p))
+      by Equal p m r = ap (λ t. times h (hashes 0 (filter_part t)) + total (keys_of es) h) (sym (alike k e.0 p))
       by Greater p m r = let f = r m in omega arith
 
-  -- a key counts
-  pub total_has : (es : List (List ℕ × X)) (t : List ℕ) (h : ℕ) → Holds es t → times h (hashes 0 t) ≤ total (keys_of es) h
+  -- the part of a key counts
+  pub total_has : (es : List (List ℕ × X)) (t : List ℕ) (h : ℕ) → Holds es t → times h (hashes 0 (filter_part t)) ≤ total (keys_of es) h
   total_has [] t h a = absurd a
-  total_has (e ∷ es) t h (inl a) = let f : times h (hashes 0 e.0) ≡ times h (hashes 0 t) = ap (λ u. times h (hashes 0 u)) a in omega arith
+  total_has (e ∷ es) t h (inl a) = let f : times h (hashes 0 (filter_part e.0)) ≡ times h (hashes 0 (filter_part t)) = ap (λ u. times h (hashes 0 (filter_part u))) a in omega arith
   total_has (e ∷ es) t h (inr a) = let f = total_has es t h a in omega arith
 
   -- and so it is filed
   pub filed : (counted : ℕ → ℕ) (es : List (List ℕ × X)) → ((h : ℕ) → Covers (counted h) (total (keys_of es) h)) → (t : List ℕ) → Holds es t
-      → (h : ℕ) → times h (hashes 0 t) ≢ 0 → counted h ≢ 0
+      → (h : ℕ) → times h (hashes 0 (filter_part t)) ≢ 0 → counted h ≢ 0
   filed counted es c t a h ne z = by (c h)
     where
       by : Covers (counted h) (total (keys_of es) h) → ⊥
-      by (inl l) = let f : times h (hashes 0 t) ≤ total (keys_of es) h = total_has es t h a in ne (omega arith)
+      by (inl l) = let f : times h (hashes 0 (filter_part t)) ≤ total (keys_of es) h = total_has es t h a in ne (omega arith)
       by (inr l) = let f : 4294967295 ≡ 0 = sym l ∙ z in omega arith
 
 -- a turn of the loops over the bytes of a filter
@@ -254,7 +255,7 @@ none_from (Some x) e = absurd (let f : true ≡ false = e in cc)
 -- what stays counted of the keys of a map
 module _ {X : Type 0} (es fs : List (List ℕ × X)) (k : List ℕ) (old : ℕ → ℕ) (inside : (h : ℕ) → Covers (old h) (total (keys_of es) h)) where
   pub still_inserted : (v : X) (new : ℕ → ℕ) (there : Bool) → there ≡ is_some (lookup (is_at (text_cmp k)) es)
-      → ((h n : ℕ) → Covers (old h) n → Covers (new h) ((if there then 0 else times h (hashes 0 k)) + n))
+      → ((h n : ℕ) → Covers (old h) n → Covers (new h) ((if there then 0 else times h (hashes 0 (filter_part k))) + n))
       → fs ≡ insert_entry text_cmp es k v → (is_some (lookup (is_at (text_cmp k)) es) ≡ true → keys_of fs ≡ keys_of es)
       → (h : ℕ) → Covers (new h) (total (keys_of fs) h)
   still_inserted v new true e step is stay h =
@@ -264,22 +265,22 @@ module _ {X : Type 0} (es fs : List (List ℕ × X)) (k : List ℕ) (old : ℕ �
       subst C t (step h (total (keys_of es) h) (inside h))
   still_inserted v new false e step is stay h =
       let C : ℕ → Type 0 = Covers (new h) in
-      let t : total (keys_of fs) h ≡ times h (hashes 0 k) + total (keys_of es) h = ap (λ l. total (keys_of l) h) is ∙ total_insert es k v h (none_from (lookup (is_at (text_cmp k)) es) (sym e)) in
+      let t : total (keys_of fs) h ≡ times h (hashes 0 (filter_part k)) + total (keys_of es) h = ap (λ l. total (keys_of l) h) is ∙ total_insert es k v h (none_from (lookup (is_at (text_cmp k)) es) (sym e)) in
       subst C (sym t) (step h (total (keys_of es) h) (inside h))
 
   pub still_refused : (mid new : ℕ → ℕ) (there : Bool) → there ≡ is_some (lookup (is_at (text_cmp k)) es) → lookup (is_at (text_cmp k)) es ≡ None
-      → ((h n : ℕ) → Covers (old h) n → Covers (mid h) ((if there then 0 else times h (hashes 0 k)) + n))
-      → ((h n : ℕ) → Covers (mid h) (times h (hashes 0 k) + n) → Covers (new h) n) → fs ≡ es
+      → ((h n : ℕ) → Covers (old h) n → Covers (mid h) ((if there then 0 else times h (hashes 0 (filter_part k))) + n))
+      → ((h n : ℕ) → Covers (mid h) (times h (hashes 0 (filter_part k)) + n) → Covers (new h) n) → fs ≡ es
       → (h : ℕ) → Covers (new h) (total (keys_of fs) h)
   still_refused mid new there e none step back is h =
       let C : ℕ → Type 0 = Covers (new h) in
       let no : there ≡ false = e ∙ ap is_some none in
-      let M : Bool → Type 0 = λ b. Covers (mid h) ((if b then 0 else times h (hashes 0 k)) + total (keys_of es) h) in
+      let M : Bool → Type 0 = λ b. Covers (mid h) ((if b then 0 else times h (hashes 0 (filter_part k))) + total (keys_of es) h) in
       let t : total (keys_of es) h ≡ total (keys_of fs) h = ap (λ l. total (keys_of l) h) (sym is) in
       subst C t (back h (total (keys_of es) h) (subst M no (step h (total (keys_of es) h) (inside h))))
 
   pub still_removed : (v : X) (new : ℕ → ℕ) → lookup (is_at (text_cmp k)) es ≡ Some v → fs ≡ remove_entry (is_at (text_cmp k)) es
-      → ((h n : ℕ) → Covers (old h) (times h (hashes 0 k) + n) → Covers (new h) n)
+      → ((h n : ℕ) → Covers (old h) (times h (hashes 0 (filter_part k)) + n) → Covers (new h) n)
       → (h : ℕ) → Covers (new h) (total (keys_of fs) h)
   still_removed v new some is back h =
       let C : ℕ → Type 0 = Covers (new h) in

@@ -9,6 +9,7 @@ pub mod ShareLaws
 pub mod OnwardLaws
 pub mod Jumping
 pub mod CountLaws
+pub mod HoldLaws
+pub mod ListLaws
 pub mod BranchLaws
-pub mod Narrowing
 pub mod LookupLaws

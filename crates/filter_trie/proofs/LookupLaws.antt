@@ -1,25 +1,17 @@
 -- What is found in a map at the keys of another one.
 use Rattle.std.proofs.Common.{◌≡◌, ◌⊎◌, ℕ, cond, List, [], ◌∷◌, Option, Some, None, inl, inr, refl, sym, ap, subst, ◌∙◌, Ordering, Less, Equal, Greater}
-use Rattle.std.specs.Prelude.{codes}
 use Rattle.std.specs.Ordering.{is_eq, ordering_reverse}
-use Rattle.std.specs.Map.{lookup, keys_of}
+use Rattle.std.specs.Map.{lookup}
 use Rattle.std.specs.BTreeMap.{is_at}
 use Rattle.std.specs.Cmp.Lexicographic.{nat_list_cmp_total}
-use Rattle.mqtt_topics.specs.Levels.{levels}
-use Rattle.mqtt_topics.specs.Matching.{LevelsMatch, Matches}
-use Rattle.filter_trie.specs.declared.beginnings.Beginnings.{Beginnings}
 use Rattle.filter_trie.specs.Selected.{IsSelected}
-use Rattle.filter_trie.specs.Search.Counting.{hash_on}
-use Rattle.filter_trie.specs.Search.Filing.{counted, IsFiled, AreFiled}
 use Rattle.filter_trie.specs.Search.Branching.{Holds}
 use Rattle.filter_trie.specs.Search.Seeking.{IsBefore}
 use Rattle.finite_maps.proofs.Texts.{text_cmp}
 use Rattle.filter_trie.proofs.Order.{order_is, asymmetric, transitive}
 use Rattle.filter_trie.proofs.Selecting.{none_here, none_later}
 use Rattle.filter_trie.proofs.Jumping.{After, Rises, At}
-use Rattle.filter_trie.proofs.CountLaws.{alike, filed, not_begun}
-use Rattle.filter_trie.proofs.BranchLaws.{after_holds}
-use Rattle.filter_trie.proofs.ShareLaws.{plain_or_shared}
+use Rattle.filter_trie.proofs.CountLaws.{alike}
 
 abbrev pub value_at : {X : Type 0} → List ℕ → List (List ℕ × X) → Option X
 value_at k es = lookup (is_at (text_cmp k)) es
@@ -37,6 +29,11 @@ same_is_not_before : (a b : List ℕ) → a ≡ b → IsBefore a b → ⊥
 same_is_not_before a b e h = let B : List ℕ → Type 0 = IsBefore a in let s : IsBefore a a = subst B (sym e) h in asymmetric a a s s
 
 module _ {X : Type 0} where
+  after_holds : (k : List ℕ) (es : List (List ℕ × X)) (q : List ℕ) → After k es → Holds es q → IsBefore k q
+  after_holds k [] q a h = absurd h
+  after_holds k (e ∷ es) q a (inl h) = let B : List ℕ → Type 0 = IsBefore k in subst B h a.0
+  after_holds k (e ∷ es) q a (inr h) = after_holds k es q a.1 h
+
   after_later : (j k : List ℕ) (es : List (List ℕ × X)) → IsBefore j k → After k es → After j es
   after_later j k [] b h = tt
   after_later j k (e ∷ es) b h = (transitive j k e.0 b h.0, after_later j k es b h.1)
@@ -122,14 +119,3 @@ module _ {X Y : Type 0} (es : List (List ℕ × X)) (s t : List (List ℕ × Y))
 
   pub missed_here : None ≡ value_at k.0 es → found_at es s ≡ found_at es t
   missed_here is = ap (found_at es) step ∙ ap (λ o. with_value k.0 o (found_at es t)) (sym is)
-
--- where no shared filter is counted, each filter that matches is among the ends
-pub covered : {X Y : Type 0} (b : Beginnings) (es : List (List ℕ × X)) (ks : List (List ℕ × Y)) (name : List ℕ) (c : ℕ) → c ≡ hash_on 0 (codes "$share/") → counted b c ≡ 0
-    → AreFiled b (keys_of es) → ((f : List ℕ) → IsFiled b f → LevelsMatch (levels f) (levels name) → Holds ks f)
-    → (f : List ℕ) → Holds es f → Matches f name → Holds ks f
-covered b es ks name c is zero all held f here m =
-    let there : IsFiled b f = filed (counted b) es all f here in
-    elim (plain_or_shared f name m) [
-      | inl p ↦ held f there p
-      | inr s ↦ absurd (not_begun (counted b) 0 (hash_on 0 (codes "$share")) c [] (codes "$share") f s.0 refl refl is zero there s.1)
-    ]

@@ -1,6 +1,6 @@
 //! How many filters begin in each way.
 
-ghost use Rattle.std.specs.Prelude.{◌≡◌, ◌+◌, ◌≤◌, ◌<◌, ℕ, length, OnOk, OnErr, if◌then◌else◌, true, false};
+ghost use Rattle.std.specs.Prelude.{◌≡◌, ◌+◌, ◌≤◌, ◌<◌, ℕ, length, OnOk, false};
 ghost use Rattle.std.specs.HashMap.{spare};
 ghost use Rattle.filter_trie.specs.Search.Counting.{turn, hash_on, hashes, one, times, Covers};
 ghost use Rattle.filter_trie.specs.Search.Filing.{counted};
@@ -77,7 +77,7 @@ impl Beginnings {
     }
 
     /// Makes room for the beginnings of a filter.
-    fn reserve(&mut self, filter: &str) -> Result<(), NoMemory>
+    pub fn reserve(&mut self, filter: &str) -> Result<(), NoMemory>
         ensures counts { (h : ℕ) → counted self.new h ≡ counted self.old h }
         ensures room { OnOk result (length (hashes 0 filter.now) ≤ spare self.new.counts) }
     {
@@ -85,7 +85,8 @@ impl Beginnings {
         Ok(())
     }
 
-    fn add_all(&mut self, filter: &str)
+    /// Counts the beginnings of a filter, for which there is room.
+    pub fn add_all(&mut self, filter: &str)
         requires { length (hashes 0 filter.now) ≤ spare self.old.counts }
         ensures { (h n : ℕ) → Covers (counted self.old h) n
             → Covers (counted self.new h) (times h (hashes 0 filter.now) + n) }
@@ -101,23 +102,8 @@ impl Beginnings {
         self.add(hash);
     }
 
-    /// Counts the beginnings of a filter, unless they are counted already.
-    pub fn file(&mut self, filter: &str, is_there: bool) -> Result<(), NoMemory>
-        ensures ok { OnOk result ((h n : ℕ) → Covers (counted self.old h) n
-            → Covers (counted self.new h) ((if is_there then 0 else times h (hashes 0 filter.now)) + n)) }
-        ensures err { OnErr result ((h : ℕ) → counted self.new h ≡ counted self.old h) }
-        ensures absent { OnErr result (is_there ≡ false) }
-    {
-        if is_there {
-            return Ok(());
-        }
-        self.reserve(filter)?;
-        self.add_all(filter);
-        Ok(())
-    }
-
     /// Takes back what was counted of a filter.
-    pub fn unfile(&mut self, filter: &str)
+    pub fn take_all(&mut self, filter: &str)
         ensures { (h n : ℕ) → Covers (counted self.old h) (times h (hashes 0 filter.now) + n)
             → Covers (counted self.new h) n }
     {

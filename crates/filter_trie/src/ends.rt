@@ -1,21 +1,22 @@
 //! The filters that may match a name, found level by level.
 
-ghost use Rattle.std.specs.Prelude.{◌≡◌, ◌⊎◌, ◌∷◌, ◌++◌, ℕ, List, OnOk, IfOk, IfSome, None, codes};
+ghost use Rattle.std.specs.Prelude.{◌≡◌, ◌⊎◌, ◌∷◌, ◌++◌, ℕ, List, OnOk, IfOk, None};
 ghost use Rattle.mqtt_topics.specs.Levels.{levels, rest_levels};
-ghost use Rattle.mqtt_topics.specs.Matching.{LevelsMatch, Matches};
+ghost use Rattle.mqtt_topics.specs.Topics.{IsShared, filter_part};
+ghost use Rattle.mqtt_topics.specs.Matching.{LevelsMatch};
 ghost use Rattle.filter_trie.specs.Search.Counting.{hash_on};
-ghost use Rattle.filter_trie.specs.Search.Filing.{IsFiled};
-ghost use Rattle.filter_trie.specs.Search.Branching.{Holds, Awaits, Waits, AfterShare};
-ghost use Rattle.filter_trie.specs.Search.Onward.{Leads};
+ghost use Rattle.filter_trie.specs.Search.Filing.{IsFiled, IsListed, IsKnown};
+ghost use Rattle.filter_trie.specs.Search.Branching.{Holds, Awaits, Waits};
 
 use crate::beginnings::{Beginnings, hashed};
-use crate::seeks::{Onward, filter_at, past_filter};
-use crate::steps::{first_level, is_before};
+use crate::index::Index;
+use crate::seeks::filter_at;
+use crate::shares::{Shares, is_shared};
+use crate::steps::first_level;
 use mqtt_fields::NoMemory;
-use mqtt_topics::{Filter, TopicName};
+use mqtt_topics::Filter;
 use std::alloc::Global;
 use std::collections::BTreeMap;
-use std::ops::Bound;
 
 /// How many branches are looked at for one name.
 const BRANCHES: usize = 1000;
@@ -30,25 +31,17 @@ pub(crate) struct Branch<'a> {
     rest: Option<&'a str>,
 }
 
-/// Puts in the text with a level after it, where it may be a filter.
-fn end(
-    beginnings: &Beginnings,
-    alloc: Global,
-    text: &str,
-    level: &str,
-    hash: u64,
-    ends: &mut Ends,
-) -> Result<(), NoMemory>
-    requires { hash ≡ hash_on 0 text.now }
-    ensures { OnOk result ((f : List ℕ) → Holds ends.old.entries f ⊎ (IsFiled beginnings.now f × (f ≡ text.now ++ level.now))
+/// Puts in the text with a level after it, unless it can't be a plain filter.
+fn plain_end(alloc: Global, text: &str, level: &str, ends: &mut Ends) -> Result<(), NoMemory>
+    ensures { OnOk result ((f : List ℕ) → Holds ends.old.entries f ⊎ ((IsShared f → ⊥) × (f ≡ text.now ++ level.now))
         → Holds ends.new.entries f) }
 {
-    if !beginnings.has(hashed(hash, level)) {
-        return Ok(());
-    }
     let mut whole = String::with_capacity(alloc, text.len() + level.len())?;
     whole.push_str(text)?;
     whole.push_str(level)?;
+    if is_shared(whole.as_str()) {
+        return Ok(());
+    }
     let Some(filter) = filter_at(alloc, whole.as_str()) else {
         return Err(NoMemory);
     };
@@ -56,9 +49,45 @@ fn end(
     Ok(())
 }
 
+/// Puts in the shared filters whose part has the hash.
+fn shared_ends(shares: &Shares, alloc: Global, hash: u64, ends: &mut Ends) -> Result<(), NoMemory>
+    ensures { OnOk result ((f : List ℕ) → Holds ends.old.entries f ⊎ (IsListed shares.now f × (hash ≡ hash_on 0 (filter_part f)))
+        → Holds ends.new.entries f) }
+{
+    for (share, _) in shares.of_hash(hash) {
+        let Some(filter) = &share.1 else {
+            continue;
+        };
+        ends.insert(filter.copy(alloc)?, ())?;
+    }
+    Ok(())
+}
+
+/// Puts in the filters whose part is the text with a level after it, where some may be.
+fn end(
+    index: &Index,
+    alloc: Global,
+    text: &str,
+    level: &str,
+    hash: u64,
+    ends: &mut Ends,
+) -> Result<(), NoMemory>
+    requires { hash ≡ hash_on 0 text.now }
+    ensures { OnOk result ((f : List ℕ) → Holds ends.old.entries f ⊎ (IsKnown index.now f × (filter_part f ≡ text.now ++ level.now))
+        → Holds ends.new.entries f) }
+{
+    let whole = hashed(hash, level);
+    if !index.beginnings.has(whole) {
+        return Ok(());
+    }
+    plain_end(alloc, text, level, ends)?;
+    shared_ends(&index.shares, alloc, whole, ends)?;
+    Ok(())
+}
+
 /// The same where the name has no more levels.
 fn last_end(
-    beginnings: &Beginnings,
+    index: &Index,
     alloc: Global,
     text: &str,
     level: &str,
@@ -67,13 +96,14 @@ fn last_end(
     ends: &mut Ends,
 ) -> Result<(), NoMemory>
     requires { hash ≡ hash_on 0 text.now }
-    ensures { OnOk result ((f : List ℕ) → Holds ends.old.entries f ⊎ (IsFiled beginnings.now f × (f ≡ text.now ++ level.now) × (later.entry ≡ None))
+    ensures { OnOk result ((f : List ℕ) → Holds ends.old.entries f
+        ⊎ (IsKnown index.now f × (filter_part f ≡ text.now ++ level.now) × (later.entry ≡ None))
         → Holds ends.new.entries f) }
 {
     if later.is_some() {
         return Ok(());
     }
-    end(beginnings, alloc, text, level, hash, ends)
+    end(index, alloc, text, level, hash, ends)
 }
 
 /// Puts in the branch with a level after it, where filters may have it.
@@ -105,36 +135,37 @@ fn grow<'a>(
     Ok(())
 }
 
-/// Goes on from a branch: to filters that end after it, and to longer branches.
+/// Goes on from a branch: to filters whose part ends after it, and to longer branches.
 fn visit<'a>(
-    beginnings: &Beginnings,
+    index: &Index,
     alloc: Global,
     branch: &Branch<'a>,
     branches: &mut Vec<Branch<'a>>,
     ends: &mut Ends,
 ) -> Result<(), NoMemory>
-    ensures { OnOk result ((f : List ℕ) → IsFiled beginnings.now f
-        → Holds ends.old.entries f ⊎ Waits branches.old.items f ⊎ Awaits branch.now f
-        → Holds ends.new.entries f ⊎ Waits branches.new.items f) }
+    ensures { OnOk result ((f : List ℕ) → IsKnown index.now f
+        → Holds ends.old.entries f ⊎ Waits branches.old.items (filter_part f) ⊎ Awaits branch.now (filter_part f)
+        → Holds ends.new.entries f ⊎ Waits branches.new.items (filter_part f)) }
 {
     let text = branch.text.as_str();
     let hash = hashed(0, text);
-    end(beginnings, alloc, text, "#", hash, ends)?;
+    end(index, alloc, text, "#", hash, ends)?;
     let Some(rest) = branch.rest else {
         return Ok(());
     };
     let (own, later) = first_level(rest);
-    last_end(beginnings, alloc, text, "+", hash, later, ends)?;
-    last_end(beginnings, alloc, text, own, hash, later, ends)?;
+    last_end(index, alloc, text, "+", hash, later, ends)?;
+    last_end(index, alloc, text, own, hash, later, ends)?;
+    let beginnings = &index.beginnings;
     grow(beginnings, alloc, text, "+", hash, later, branches)?;
     grow(beginnings, alloc, text, own, hash, later, branches)?;
     Ok(())
 }
 
-/// Filters that may match the name by their levels, among them all that do and are counted. There is no answer for want
-/// of memory, or where too many branches may have one.
-fn level_ends(beginnings: &Beginnings, alloc: Global, name: &str) -> Result<Ends, NoMemory>
-    ensures { IfOk result (λ ends. (f : List ℕ) → IsFiled beginnings.now f → LevelsMatch (levels f) (levels name.now)
+/// Filters that may match the name, among them all that do and are known. There is no answer for want of memory, or where too
+/// many branches may have one.
+pub(crate) fn ends_for(index: &Index, alloc: Global, name: &str) -> Result<Ends, NoMemory>
+    ensures { IfOk result (λ ends. (f : List ℕ) → IsKnown index.now f → LevelsMatch (levels (filter_part f)) (levels name.now)
         → Holds ends.entries f) }
 {
     let mut ends = BTreeMap::new(alloc);
@@ -147,65 +178,7 @@ fn level_ends(beginnings: &Beginnings, alloc: Global, name: &str) -> Result<Ends
         let Some(branch) = branches.pop() else {
             return Ok(ends);
         };
-        visit(beginnings, alloc, &branch, &mut branches, &mut ends)?;
+        visit(index, alloc, &branch, &mut branches, &mut ends)?;
     }
     Err(NoMemory)
-}
-
-/// Filters that may match the name, among them all plain ones that do and are counted; and "$share", at which the shared ones
-/// begin, where such are counted.
-pub(crate) fn ends_for(beginnings: &Beginnings, alloc: Global, name: &str) -> Result<Ends, NoMemory>
-    ensures levels { IfOk result (λ ends. (f : List ℕ) → IsFiled beginnings.now f → LevelsMatch (levels f) (levels name.now)
-        → Holds ends.entries f) }
-    ensures share { IfOk result (λ ends. (f : List ℕ) → IsFiled beginnings.now f → AfterShare f
-        → Holds ends.entries (codes "$share")) }
-{
-    let mut ends = level_ends(beginnings, alloc, name)?;
-    if !beginnings.has(hashed(0, "$share/")) {
-        return Ok(ends);
-    }
-    let Some(filter) = filter_at(alloc, "$share") else {
-        return Err(NoMemory);
-    };
-    ends.insert(filter, ())?;
-    Ok(ends)
-}
-
-/// The first of the filters after a key.
-fn next_end(alloc: Global, ends: &Ends, key: &Filter) -> Onward<Filter>
-    ensures { Leads (λ f. f) (λ f. Holds ends.now.entries f) key.now result }
-{
-    let Some((end, _)) = ends.range((Bound::Excluded(key), Bound::Unbounded)).next() else {
-        return Onward::End;
-    };
-    match end.copy(alloc) {
-        Ok(end) => Onward::From(end),
-        Err(_) => Onward::Next,
-    }
-}
-
-/// Where a walk over filters that are counted goes on past one that doesn't match the name.
-pub(crate) fn onward(
-    beginnings: &Beginnings,
-    alloc: Global,
-    ends: &Option<Ends>,
-    key: &Filter,
-    name: &TopicName,
-) -> Onward<Filter>
-    requires levels { IfSome ends.now (λ ends. (f : List ℕ) → IsFiled beginnings.now f → LevelsMatch (levels f) (levels name.now)
-        → Holds ends.entries f) }
-    requires share { IfSome ends.now (λ ends. (f : List ℕ) → IsFiled beginnings.now f → AfterShare f
-        → Holds ends.entries (codes "$share")) }
-    ensures { Leads (λ f. f) (λ f. Matches f name.now × IsFiled beginnings.now f) key.now result }
-{
-    let Some(ends) = ends else {
-        return past_filter(alloc, key, name);
-    };
-    if is_before(key.as_str(), "$share") {
-        return next_end(alloc, ends, key);
-    }
-    if is_before(key.as_str(), "$share0") {
-        return past_filter(alloc, key, name);
-    }
-    next_end(alloc, ends, key)
 }

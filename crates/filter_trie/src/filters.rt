@@ -1,23 +1,19 @@
 //! Maps by topic filter.
 
-ghost use Rattle.std.specs.Prelude.{◌≡◌, ℕ, List, [], map as map_list, codes, Some, None, IfSome, IfOk, OnOk, IfErr, OnErr, IsOk};
+ghost use Rattle.std.specs.Prelude.{◌≡◌, ℕ, List, [], map as map_list, Some, None, IfOk, OnOk, IfErr, OnErr, IsOk};
 ghost use Rattle.std.specs.Option.{option_copied};
 ghost use Rattle.std.specs.FinMap as map;
 ghost use Rattle.std.specs.BTreeMap.{IsOrdered};
 ghost use Rattle.std.specs.Ordering.{nat_cmp};
 ghost use Rattle.std.specs.Cmp.Lexicographic.{slice_cmp};
-ghost use Rattle.std.specs.Map.{keys_of};
-ghost use Rattle.mqtt_topics.specs.Levels.{levels};
-ghost use Rattle.mqtt_topics.specs.Matching.{LevelsMatch, Matches};
+ghost use Rattle.mqtt_topics.specs.Matching.{Matches};
 ghost use Rattle.filter_trie.specs.Selected.{IsSelected};
 ghost use Rattle.filter_trie.specs.Tries.{AreFiltersFor};
-ghost use Rattle.filter_trie.specs.Search.Filing.{IsFiled, AreFiled};
-ghost use Rattle.filter_trie.specs.Search.Branching.{Holds, AfterShare};
 
-use crate::beginnings::{Beginnings, hashed};
-use crate::ends::{Ends, ends_for, onward};
+use crate::ends::ends_for;
+use crate::index::Index;
 use crate::lookups::at_ends;
-use crate::seeks::Onward;
+use crate::seeks::{Onward, past_filter};
 use mqtt_fields::NoMemory;
 use mqtt_topics::{Filter, TopicName};
 use std::alloc::Global;
@@ -30,7 +26,7 @@ use std::mem;
 pub struct FilterTrie<V> {
     alloc: Global,
     pairs: BTreeMap<Filter, V>,
-    beginnings: Beginnings,
+    index: Index,
 }
 
 impl<V> Model for FilterTrie<V> {
@@ -39,7 +35,7 @@ impl<V> Model for FilterTrie<V> {
     ghost use Rattle.std.specs.FinMap as map;
     ghost use Rattle.std.specs.Map.{keys_of};
     ghost use Rattle.filter_trie.specs.Tries.{ByText};
-    ghost use Rattle.filter_trie.specs.Search.Filing.{AreFiled};
+    ghost use Rattle.filter_trie.specs.Search.Filing.{AreKnown};
 
     ghost Value = { ByText V };
 
@@ -47,7 +43,7 @@ impl<V> Model for FilterTrie<V> {
 
     ghost view = { λ t. map.from_entries t.pairs.entries };
 
-    ghost invariant = { λ t. AreFiled t.beginnings (keys_of t.pairs.entries) };
+    ghost invariant = { λ t. AreKnown t.index (keys_of t.pairs.entries) };
 }
 
 impl<V> FilterTrie<V> {
@@ -58,7 +54,7 @@ impl<V> FilterTrie<V> {
         FilterTrie {
             alloc,
             pairs: BTreeMap::new(alloc),
-            beginnings: Beginnings::new(alloc),
+            index: Index::new(alloc),
         }
     }
 
@@ -79,14 +75,14 @@ impl<V> FilterTrie<V> {
         ensures absent { OnErr result (map.get self.old filter ≡ None) }
     {
         let is_there = self.pairs.contains_key(&filter);
-        if let Err(_) = self.beginnings.file(filter.as_str(), is_there) {
+        if let Err(_) = self.index.file(self.alloc, &filter, is_there) {
             return Err(value);
         }
         match self.pairs.insert(filter, value) {
             Ok(before) => return Ok(before),
             Err(refused) => {
                 let (filter, value) = refused.value;
-                self.beginnings.unfile(filter.as_str());
+                self.index.unfile(filter);
                 return Err(value);
             }
         }
@@ -112,9 +108,9 @@ impl<V> FilterTrie<V> {
         ensures before { result ≡ map.get self.old filter.now }
         ensures left { self.new ≡ map.remove self.old filter.now }
     {
-        match self.pairs.remove(filter) {
-            Some(value) => {
-                self.beginnings.unfile(filter.as_str());
+        match self.pairs.remove_entry(filter) {
+            Some((own, value)) => {
+                self.index.unfile(own);
                 Some(value)
             }
             None => None,
@@ -127,30 +123,20 @@ impl<V> FilterTrie<V> {
             AreFiltersFor self.now name.now (map_list (λ r. (r.0.now, r.1.now)) out.items)) }
         ensures none { AreFiltersFor self.now name.now [] → IsOk result }
     {
-        let ends = ends_for(&self.beginnings, self.alloc, name.as_str()).ok();
-        if let Some(ends) = &ends {
-            // Without shared filters each filter that matches is an end.
-            if !self.beginnings.has(hashed(0, "$share/")) {
-                return at_ends(self.alloc, &self.pairs, ends, name);
-            }
+        match ends_for(&self.index, self.alloc, name.as_str()) {
+            Ok(ends) => at_ends(self.alloc, &self.pairs, &ends, name),
+            Err(_) => filters_matching(self.alloc, &self.pairs, name),
         }
-        filters_matching(self.alloc, &self.pairs, &self.beginnings, &ends, name)
     }
 }
 
-/// The pairs whose filter matches the name, in the order of the filters' bytes. It takes memory only where one does.
+/// The pairs whose filter matches the name, in the order of the filters' bytes, by a walk that passes others by. It takes memory
+/// only where one does.
 fn filters_matching<'a, V>(
     alloc: Global,
     pairs: &'a BTreeMap<Filter, V>,
-    beginnings: &Beginnings,
-    ends: &Option<Ends>,
     name: &TopicName,
 ) -> Result<Vec<(&'a Filter, &'a V)>, NoMemory>
-    requires filed { AreFiled beginnings.now (keys_of pairs.now.entries) }
-    requires levels { IfSome ends.now (λ ends. (f : List ℕ) → IsFiled beginnings.now f → LevelsMatch (levels f) (levels name.now)
-        → Holds ends.entries f) }
-    requires share { IfSome ends.now (λ ends. (f : List ℕ) → IsFiled beginnings.now f → AfterShare f
-        → Holds ends.entries (codes "$share")) }
     ensures pairs { IfOk result (λ out. IsSelected (λ e. Matches e.0 name.now) pairs.now.entries
         (map_list (λ r. (r.0.now, r.1.now)) out.items)) }
     ensures none { IsSelected (λ e. Matches e.0 name.now) pairs.now.entries [] → IsOk result }
@@ -163,7 +149,7 @@ fn filters_matching<'a, V>(
             out.push((filter, value))?;
             continue;
         }
-        match onward(beginnings, alloc, ends, filter, name) {
+        match past_filter(alloc, filter, name) {
             Onward::Next => {}
             Onward::From(bound) => left = pairs.range(bound..),
             Onward::End => return Ok(out),

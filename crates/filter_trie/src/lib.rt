@@ -4,8 +4,10 @@
 mod beginnings;
 mod ends;
 mod filters;
+mod index;
 mod lookups;
 mod seeks;
+mod shares;
 mod steps;
 mod topics;
 mod walks;

@@ -70,7 +70,7 @@ fn share_of(text: &str) -> Option<(&str, &str)>
 }
 
 /// The filter of a shared filter, and any other filter itself.
-fn part_of(filter: &str) -> &str
+pub(crate) fn part_of(filter: &str) -> &str
     ensures { result.now ≡ filter_part filter.now }
 {
     match filter.strip_prefix("$share/") {

@@ -2,6 +2,7 @@
 
 use crate::values::{filter_of, name_of, tell};
 use filter_trie::{FilterTrie, TopicTrie};
+use mqtt_topics::Filter;
 use std::alloc::Global;
 use std::process::Abort;
 
@@ -49,6 +50,101 @@ fn filters_that_match_a_name(rt: HostRuntime) {
     }
     let found = put_anew(&rt, rt.alloc(), &mut trie);
     assert_eq!(rt; found, [Some(2), Some(2), Some(9), None]);
+    drop(trie);
+}
+
+// What matches `x` after `$share/a/x` is removed.
+fn without_a_share(rt: &impl Abort, alloc: Global, trie: &mut FilterTrie<usize>) -> String {
+    let removed = trie.remove(&filter_of(rt, alloc, "$share/a/x"));
+    assert_eq!(rt; removed, Some(5));
+    matching(rt, alloc, trie, "x")
+}
+
+/// Shared filters stand between those that come before `$share/` and after it, in the order of bytes.
+#[test]
+fn shared_filters_that_match_a_name(rt: HostRuntime) {
+    let texts = [
+        "x",
+        "+",
+        "#",
+        "$x",
+        "$share/b/x",
+        "$share/a/x",
+        "$share/a/+",
+        "$share/a/$x",
+        "$share/a/x/#",
+        "$share/a/$share//x",
+        "%",
+    ];
+    let mut trie = filters(&rt, rt.alloc(), &texts);
+    for (text, found) in [
+        ("x", "# $share/a/+ $share/a/x $share/a/x/# $share/b/x + x "),
+        ("%", "# $share/a/+ % + "),
+        ("x/y", "# $share/a/x/# "),
+        ("$x", "$share/a/$x $x "),
+        ("$share//x", "$share/a/$share//x "),
+        ("$share/a/x", ""),
+    ] {
+        let told = matching(&rt, rt.alloc(), &trie, text);
+        assert_eq!(rt; told.as_str(), found, "of {text}");
+    }
+    let told = without_a_share(&rt, rt.alloc(), &mut trie);
+    assert_eq!(rt; told.as_str(), "# $share/a/+ $share/a/x/# $share/b/x + x ");
+    drop((trie, told));
+}
+
+// The filter `a` under a share name of its own.
+fn numbered(rt: &impl Abort, alloc: Global, number: u32) -> Filter {
+    let text = format!(in alloc; "$share/g{number}/a").expect(rt, "memory");
+    filter_of(rt, alloc, text.as_str())
+}
+
+// 1,000 share names of the filter `a`, and the filter itself.
+fn thousand(rt: &impl Abort, alloc: Global) -> FilterTrie<u32> {
+    let mut trie = FilterTrie::new(alloc);
+    for number in 0..1000u32 {
+        let put = trie.insert(numbered(rt, alloc, number), number);
+        assert!(rt; put.ok() == Some(None));
+    }
+    let put = trie.insert(filter_of(rt, alloc, "a"), 1000);
+    assert!(rt; put.ok() == Some(None));
+    trie
+}
+
+// How many filters match, if they are in the order of bytes.
+fn count(rt: &impl Abort, alloc: Global, trie: &FilterTrie<u32>, text: &str) -> Option<usize> {
+    let name = name_of(rt, alloc, text);
+    let found = trie.matching(&name).expect(rt, "memory");
+    let mut before = "";
+    for (filter, _) in found.as_slice() {
+        if filter.as_str() <= before {
+            return None;
+        }
+        before = filter.as_str();
+    }
+    Some(found.len())
+}
+
+// Takes out every second share name.
+fn halve(rt: &impl Abort, alloc: Global, trie: &mut FilterTrie<u32>) {
+    for half in 0..500u32 {
+        let number = half * 2;
+        let removed = trie.remove(&numbered(rt, alloc, number));
+        assert_eq!(rt; removed, Some(number));
+    }
+}
+
+/// 1,000 share names of one filter: none matches, all do, and half of them are taken out.
+#[test]
+fn many_share_names(rt: HostRuntime) {
+    let mut trie = thousand(&rt, rt.alloc());
+    for (text, found) in [("b", 0), ("a/b", 0), ("$share/g1/a", 0), ("a", 1001)] {
+        let counted = count(&rt, rt.alloc(), &trie, text);
+        assert_eq!(rt; counted, Some(found), "of {text}");
+    }
+    halve(&rt, rt.alloc(), &mut trie);
+    let counted = count(&rt, rt.alloc(), &trie, "a");
+    assert_eq!(rt; counted, Some(501));
     drop(trie);
 }
 

@@ -39,7 +39,7 @@ fn filter_word(seed: &mut u32) -> &'static str {
 
 fn spelled_filter(alloc: Global, seed: &mut u32) -> Result<String, AllocError> {
     let mut text = String::new(alloc);
-    if draw(seed, 10) == 0 {
+    if draw(seed, 3) == 0 {
         text.push_str("$share/")?;
         text.push_str(word(seed))?;
         text.push_str("/")?;
@@ -185,16 +185,36 @@ fn matching_filters(rt: &impl Abort, by_name: &ByName, filters: &[Filter]) -> us
     some
 }
 
-/// 500 filters and 500 names give what the list of all pairs gives.
+// Takes every second filter out of both.
+fn take_half(rt: &impl Abort, alloc: Global, by_filter: &mut ByFilter) {
+    let mut left = Vec::new(alloc);
+    let mut place = 0usize;
+    while let Some(filter) = by_filter.filters.pop() {
+        place = place.saturating_add(1);
+        if place % 2 == 0 {
+            left.push(filter).expect(rt, "memory");
+            continue;
+        }
+        let removed = by_filter.trie.remove(&filter);
+        assert!(rt; removed.is_some(), "of {}", filter.as_str());
+    }
+    left.sort().expect(rt, "memory");
+    by_filter.filters = left;
+}
+
+/// 500 filters and 500 names give what the list of all pairs gives, and so do the filters that are left when half are taken out.
 #[test]
 fn as_the_list_of_all_pairs(rt: HostRuntime) {
     let by_name = some_names(&rt, rt.alloc());
-    let by_filter = some_filters(&rt, rt.alloc());
+    let mut by_filter = some_filters(&rt, rt.alloc());
     let (names, filters) = (by_name.names.as_slice(), by_filter.filters.as_slice());
     assert_eq!(rt; (names.len(), filters.len()), (COUNT, COUNT));
     let matched = matched_names(&rt, &by_filter, names);
     let matching = matching_filters(&rt, &by_name, filters);
     assert!(rt; matched.saturating_add(matching) > 300);
+    take_half(&rt, rt.alloc(), &mut by_filter);
+    let matched = matched_names(&rt, &by_filter, names);
+    assert!(rt; matched > 100);
     drop(by_name);
     drop(by_filter);
 }

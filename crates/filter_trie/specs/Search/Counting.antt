@@ -4,6 +4,7 @@ use Rattle.std.specs.Option.{unwrap_or}
 use Rattle.std.specs.List.{fold}
 use Rattle.std.specs.Map.{lookup}
 use Rattle.std.specs.Prelude.{nat_eq}
+use Rattle.mqtt_topics.specs.Topics.{filter_part}
 
 -- the hash of a text with one more byte
 unfoldable pub turn : ℕ → ℕ → ℕ
@@ -26,10 +27,10 @@ abbrev pub times : ℕ → List ℕ → ℕ
 times h [] = 0
 times h (x ∷ xs) = one x h + times h xs
 
--- how often it is among the hashes of texts
+-- how often it is among the hashes of the parts of filters
 abbrev pub total : List (List ℕ) → ℕ → ℕ
 total [] h = 0
-total (text ∷ texts) h = times h (hashes 0 text) + total texts h
+total (filter ∷ filters) h = times h (hashes 0 (filter_part filter)) + total filters h
 
 -- the number at a key, or 0
 abbrev pub count : List (ℕ × ℕ) → ℕ → ℕ

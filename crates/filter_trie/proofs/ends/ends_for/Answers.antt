@@ -1,15 +1,11 @@
-use Rattle.std.proofs.Common.{ℕ, List, inl, inr, sym, subst}
-use Rattle.std.specs.Prelude.{codes}
-use Rattle.filter_trie.specs.Search.Branching.{Holds}
-use Rattle.filter_trie.proofs.BranchLaws.{holds_insert}
+use Rattle.std.proofs.Common.{List, inl, inr, subst}
+use Rattle.mqtt_topics.specs.Topics.{filter_part}
+use Rattle.filter_trie.specs.declared.ends.Branch.{Branch}
+use Rattle.filter_trie.specs.Search.Branching.{Waits}
+use Rattle.filter_trie.proofs.BranchLaws.{waits_pop}
 use Rattle.filter_trie.proofs.ends.ends_for.Goals as goal
 
-pub returns-clause-levels : goal.returns-clause-levels
-returns-clause-levels c = λ f filed m.
-    let H : List (List ℕ × Unit {0}) → Type 0 = λ es. Holds es f in
-    subst H (sym c.in_ok-insert.ensures.entries) (holds_insert c.in_ok-ends.ends.entries c.in-Some.filter tt f (inl (c.in_ok-ends.ensures f filed m)))
-
-pub returns-clause-share : goal.returns-clause-share
-returns-clause-share c = λ f filed after.
-    let H : List (List ℕ × Unit {0}) → Type 0 = λ es. Holds es (codes "$share") in
-    subst H (sym c.in_ok-insert.ensures.entries) (holds_insert c.in_ok-ends.ends.entries c.in-Some.filter tt (codes "$share") (inr (sym c.in-Some.ensures)))
+pub loop-preserved : goal.loop-preserved
+loop-preserved c = λ f known m.
+    let W : List Branch → Type 0 = λ bs. Waits bs (filter_part f) in
+    c.in_ok-visit.ensures f known (elim (c.loop.invariant f known m) [ inl a ↦ inl a | inr w ↦ inr (waits_pop c.pop.new.self.items c.in-Some.branch (filter_part f) (subst W c.in-Some.ensures.items w)) ])

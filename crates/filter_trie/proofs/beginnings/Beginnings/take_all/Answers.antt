@@ -3,7 +3,7 @@ use Rattle.std.proofs.lemmas.List.{drop_all}
 use Rattle.filter_trie.specs.Search.Counting.{hashes, times}
 use Rattle.filter_trie.specs.Search.Filing.{counted}
 use Rattle.filter_trie.proofs.CountLaws.{off_separator, off_other, last_taken}
-use Rattle.filter_trie.proofs.beginnings.Beginnings.unfile.Goals as goal
+use Rattle.filter_trie.proofs.beginnings.Beginnings.take_all.Goals as goal
 
 pub loop-byte-preserved-then-byte-ne47 : goal.loop-byte-preserved-then-byte-ne47
 loop-byte-preserved-then-byte-ne47 c =
