@@ -11,5 +11,6 @@ pub mod Jumping
 pub mod CountLaws
 pub mod HoldLaws
 pub mod ListLaws
+pub mod KnownLaws
 pub mod BranchLaws
 pub mod LookupLaws
