@@ -34,6 +34,7 @@ module _ {X : Type 0} where
   after_holds k (e ∷ es) q a (inl h) = let B : List ℕ → Type 0 = IsBefore k in subst B h a.0
   after_holds k (e ∷ es) q a (inr h) = after_holds k es q a.1 h
 
+module _ {X : Type 0} where
   after_later : (j k : List ℕ) (es : List (List ℕ × X)) → IsBefore j k → After k es → After j es
   after_later j k [] b h = tt
   after_later j k (e ∷ es) b h = (transitive j k e.0 b h.0, after_later j k es b h.1)

@@ -7,7 +7,7 @@ use Rattle.filter_trie.proofs.ListLaws.{not_of_none, of_some}
 use Rattle.filter_trie.proofs.ends.shared_ends.Goals as goal
 
 pub loop-share-init : goal.loop-share-init
-loop-share-init c = λ f h. elim h [ inl a ↦ inl a | inr q ↦ inr (c.of_hash.ensures f q.0 q.1) ]
+loop-share-init c = λ f h. elim h [ inl a ↦ inl a | inr q ↦ inr (c.of_hash-share-items.ensures f q.0 q.1) ]
 
 pub returns : goal.returns
 returns c = λ f h. elim (c.loop-share.invariant f h) [

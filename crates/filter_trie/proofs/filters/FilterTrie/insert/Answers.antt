@@ -1,6 +1,6 @@
 use Rattle.std.proofs.Common.{◌≢◌, ◌↔◌, ◌+◌, ℕ, List, sym, ap, subst, ◌∙◌}
 use Rattle.std.specs.Prelude.{is_some}
-use Rattle.std.specs.Map.{lookup}
+use Rattle.std.specs.Map.{lookup, keys_of}
 use Rattle.std.specs.BTreeMap.{is_at}
 use Rattle.std.specs.FinMap as map
 use Rattle.mqtt_topics.specs.Topics.{IsShared, filter_part}
@@ -8,6 +8,7 @@ use Rattle.filter_trie.specs.Search.Counting.{hashes, times, Covers}
 use Rattle.filter_trie.specs.Search.Filing.{counted, IsListed}
 use Rattle.finite_maps.proofs.Texts.{text_cmp, get_table, insert_table}
 use Rattle.filter_trie.proofs.CountLaws.{none_from, still_inserted, still_refused}
+use Rattle.filter_trie.proofs.KnownLaws.{known_stays}
 use Rattle.filter_trie.proofs.ListLaws.{listed_inserted, listed_refused}
 use Rattle.filter_trie.proofs.filters.FilterTrie.insert.Goals as goal
 
@@ -46,3 +47,6 @@ invariant_of-self-in-Err-insert g c =
       listed_refused c.self.inside.pairs.entries c.insert.new.self.entries c.args.filter (IsListed c.self.inside.index.shares) c.self.invariant.1 (IsListed c.file.new.self.shares)
           (IsListed c.unfile.new.self.shares) c.contains_key-is_there.result c.in-Err-insert.ensures.absent c.in_default.ensures.lists (subst L same c.unfile.ensures.lists) c.in-Err-insert.ensures.err,
     )
+
+pub invariant_of-self : goal.invariant_of-self
+invariant_of-self g c = known_stays c.self.inside.index c.file.new.self (keys_of c.self.inside.pairs.entries) c.in-Err.ensures.counts_stay c.in-Err.ensures.lists_stay c.self.invariant
