@@ -1,9 +1,10 @@
 use Rattle.std.proofs.Common.{◌≢◌, ◌↔◌, ◌+◌, ℕ, List, sym, ap, subst, ◌∙◌}
+use Rattle.std.specs.Map.{keys_of}
 use Rattle.std.specs.FinMap as map
 use Rattle.mqtt_topics.specs.Topics.{IsShared, filter_part}
 use Rattle.finite_maps.proofs.Texts.{get_table, remove_table}
 use Rattle.filter_trie.specs.Search.Counting.{hashes, times, Covers}
-use Rattle.filter_trie.specs.Search.Filing.{counted, IsListed}
+use Rattle.filter_trie.specs.Search.Filing.{counted, IsListed, AreKnown}
 use Rattle.filter_trie.proofs.CountLaws.{alike, still_removed}
 use Rattle.filter_trie.proofs.ListLaws.{listed_removed}
 use Rattle.filter_trie.proofs.filters.FilterTrie.remove.Goals as goal
@@ -34,3 +35,8 @@ invariant_of-self g c =
       listed_removed c.self.inside.pairs.entries c.remove_entry.new.self.entries c.args.filter.now (IsListed c.self.inside.index.shares) c.self.invariant.1 (IsListed c.unfile.new.self.shares)
           c.in-Some.ensures.updates.1 c.in-Some.ensures.entries (subst L same c.unfile.ensures.lists),
     )
+
+pub invariant_of-self-in-None : goal.invariant_of-self-in-None
+invariant_of-self-in-None g c =
+    let K : List (List ℕ × g.row.V.Denot) → Type 0 = λ es. AreKnown c.self.inside.index (keys_of es) in
+    subst K (sym c.in-None.ensures.unchanged) c.self.invariant
