@@ -84,8 +84,8 @@ fn ends_so(
 
 #[test]
 fn a_node_tells_how_it_is(rt: HostRuntime) {
-    let all = b"GET /status.json HTTP/1.1\r\nhost: a\r\n\r\n".as_slice();
-    let gate = b"GET /caught-up HTTP/1.1\r\nhost: a\r\n\r\n".as_slice();
+    let all = b"GET /status.json HTTP/1.1\r\nhost: n1\r\n\r\n".as_slice();
+    let gate = b"GET /caught-up HTTP/1.1\r\nhost: n1\r\n\r\n".as_slice();
     // the other node says nothing, so that it isn't known to have any of the two operations
     let peers =
         b"\"peers\":[{\"name\":\"n0\",\"number\":0,\"bridge\":\"127.0.0.1:2883\",\"linked\":true,\"away_milliseconds\":0,\"heard\":false,\"equal\":false,\"lacking\":2,\"missing\":0,\"waiting\":0}]}\n".as_slice();

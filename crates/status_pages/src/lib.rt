@@ -2,6 +2,7 @@
 #![tactic(auto)]
 
 mod answer;
+mod hosts;
 mod pages;
 mod resource;
 

@@ -1,8 +1,13 @@
 //! What answers requests.
 
-ghost use Rattle.std.specs.Prelude.{◌≡◌, ◌⊎◌, ◌↔◌, codes, IsTrue};
+ghost use Rattle.std.specs.Prelude.{◌≡◌, ◌⊎◌, ◌↔◌, codes, IsTrue, OnOk};
+ghost use Rattle.http.specs.Request.{head_of};
+ghost use Rattle.http_server.specs.Response.{IsBlank};
+ghost use Rattle.http_uri.specs.Uri.{uri_path};
+ghost use Rattle.status_pages.specs.Answers.{IsAnswerAt};
 
-use crate::answer::{forbid, miss, show};
+use crate::answer::{forbid, misdirect, miss, show};
+use crate::hosts::fits;
 use crate::resource::Resource;
 use bytes::Bytes;
 use http::Request;
@@ -46,6 +51,25 @@ fn reads(method: &str) -> bool
     method == "GET" || method == "HEAD"
 }
 
+/// Answers a request by a host that fits.
+fn answer(
+    alloc: Global,
+    figures: &Figures,
+    request: &Request<Bytes>,
+    response: &mut Response,
+) -> Result<(), AllocError>
+    requires { IsBlank response.old }
+    ensures { OnOk result (IsAnswerAt (uri_path (head_of request.now).uri) (head_of request.now).method figures.now response.new) }
+{
+    match Resource::at(request.uri().path()) {
+        Some(resource) if reads(request.method().as_str()) => {
+            show(alloc, resource, figures, response)
+        }
+        Some(_) => forbid(response),
+        None => miss(response),
+    }
+}
+
 impl Service for Pages<'_> {
     ghost use Rattle.status_pages.specs.Answers.{IsAnswered};
 
@@ -56,12 +80,10 @@ impl Service for Pages<'_> {
         request: &Request<Bytes>,
         response: &mut Response,
     ) -> Result<(), AllocError> {
-        match Resource::at(request.uri().path()) {
-            Some(resource) if reads(request.method().as_str()) => {
-                show(self.alloc, resource, self.figures, response)?;
-            }
-            Some(_) => forbid(response)?,
-            None => miss(response)?,
+        if fits(request, &self.figures.name) {
+            answer(self.alloc, self.figures, request, response)?;
+        } else {
+            misdirect(response)?;
         }
         self.asked = true;
         Ok(())

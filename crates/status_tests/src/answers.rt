@@ -12,47 +12,47 @@ type Case = (&'static str, &'static str, &'static str);
 
 const CASES: [Case; 12] = [
     (
-        "GET /healthz HTTP/1.1\r\nhost: a\r\n\r\n",
+        "GET /healthz HTTP/1.1\r\nhost: n0\r\n\r\n",
         "HTTP/1.1 200 OK\r\ncontent-type: text/plain; charset=utf-8\r\ncache-control: no-store\r\ncontent-length: 3\r\n\r\n",
         "up\n",
     ),
     (
-        "HEAD /healthz HTTP/1.1\r\nhost: a\r\n\r\n",
+        "HEAD /healthz HTTP/1.1\r\nhost: n0\r\n\r\n",
         "HTTP/1.1 200 OK\r\n",
         "content-length: 3\r\n\r\n",
     ),
     (
-        "GET /caught-up HTTP/1.1\r\nhost: a\r\n\r\n",
+        "GET /caught-up HTTP/1.1\r\nhost: n0\r\n\r\n",
         "HTTP/1.1 503 Service Unavailable\r\n",
         "\r\n\r\nnot caught up\n<b>&\"n2\\: linked, lacking operations: 5, more than here: 0\n",
     ),
     (
-        "GET /metrics?now HTTP/1.1\r\nhost: a\r\n\r\n",
+        "GET /metrics?now HTTP/1.1\r\nhost: n0\r\n\r\n",
         "HTTP/1.1 200 OK\r\ncontent-type: text/plain; version=0.0.4; charset=utf-8\r\n",
         "\nmqtt_cluster_caught_up 0\n",
     ),
     (
-        "GET /status.json HTTP/1.1\r\nhost: a\r\n\r\n",
+        "GET /status.json HTTP/1.1\r\nhost: n0\r\n\r\n",
         "HTTP/1.1 200 OK\r\ncontent-type: application/json\r\n",
         ",\"lacking\":5,\"missing\":0,\"waiting\":7}]}\n",
     ),
     (
-        "GET / HTTP/1.1\r\nhost: a\r\n\r\n",
+        "GET / HTTP/1.1\r\nhost: n0\r\n\r\n",
         "HTTP/1.1 200 OK\r\ncontent-type: text/html; charset=utf-8\r\n",
         "</script>\n</body>\n</html>\n",
     ),
     (
-        "GET /other HTTP/1.1\r\nhost: a\r\n\r\n",
+        "GET /other HTTP/1.1\r\nhost: n0\r\n\r\n",
         "HTTP/1.1 404 Not Found\r\n",
         "\r\n\r\nnot found\n",
     ),
     (
-        "DELETE / HTTP/1.1\r\nhost: a\r\n\r\n",
+        "DELETE / HTTP/1.1\r\nhost: n0\r\n\r\n",
         "HTTP/1.1 405 Method Not Allowed\r\nallow: GET, HEAD\r\n",
         "\r\n\r\nnot allowed\n",
     ),
     (
-        "POST / HTTP/1.1\r\nhost: a\r\ncontent-length: 1\r\n\r\nx",
+        "POST / HTTP/1.1\r\nhost: n0\r\ncontent-length: 1\r\n\r\nx",
         "HTTP/1.1 413 Payload Too Large\r\n",
         "content-length: 0\r\n\r\n",
     ),
@@ -67,7 +67,7 @@ const CASES: [Case; 12] = [
         "content-length: 0\r\n\r\n",
     ),
     (
-        "GET / HTTP/1.1\r\nhost: a\r\nconnection: close\r\n\r\n",
+        "GET / HTTP/1.1\r\nhost: n0\r\nconnection: close\r\n\r\n",
         "HTTP/1.1 200 OK\r\n",
         "</html>\n",
     ),
@@ -99,6 +99,36 @@ fn each_request_has_its_answer(rt: HostRuntime) {
 }
 
 #[test]
+fn another_host_is_misdirected(rt: HostRuntime) {
+    let alloc = rt.alloc();
+    let keys = RandomState::new(&rt).expect(&rt, "keys");
+    for (host, fits) in [
+        ("10.0.0.1", true),
+        ("10.0.0.1:8080", true),
+        ("[::1]:8080", true),
+        ("localhost:8080", true),
+        ("N0:8080", true),
+        ("n1:8080", false),
+        ("n0.example:8080", false),
+        ("10.0.0.1.example", false),
+        ("localhost.example", false),
+    ] {
+        let asks = format!(in alloc; "GET /healthz HTTP/1.1\r\nhost: {host}\r\n\r\n").expect(
+            &rt, "memory",
+        );
+        let came = answer(&rt, alloc, keys, asks.as_bytes());
+        assert_eq!(rt; came.ends_with(b"\r\n\r\nup\n"), fits);
+        assert_eq!(rt;
+            came.starts_with(b"HTTP/1.1 421 Misdirected Request\r\n"),
+            !fits
+        );
+        drop((asks, came));
+    }
+    let came = answer(&rt, alloc, keys, b"GET /healthz HTTP/1.0\r\n\r\n");
+    assert!(rt; came.ends_with(b"\r\n\r\nup\n"));
+}
+
+#[test]
 fn long_heads_are_refused(rt: HostRuntime) {
     let alloc = rt.alloc();
     let keys = RandomState::new(&rt).expect(&rt, "keys");
@@ -110,7 +140,7 @@ fn long_heads_are_refused(rt: HostRuntime) {
     let came = answer(&rt, alloc, keys, &asks);
     assert!(rt; came.starts_with(b"HTTP/1.1 414 URI Too Long\r\n"));
     let mut asks = Vec::new(alloc);
-    asks.extend_from_slice(b"GET / HTTP/1.1\r\nhost: a\r\nb: ")
+    asks.extend_from_slice(b"GET / HTTP/1.1\r\nhost: n0\r\nb: ")
         .expect(&rt, "memory");
     for _ in 0..9000 {
         asks.push(b'a').expect(&rt, "memory");
@@ -128,7 +158,7 @@ fn contains(all: &[u8], part: &[u8]) -> bool {
 fn names_are_escaped(rt: HostRuntime) {
     let alloc = rt.alloc();
     let keys = RandomState::new(&rt).expect(&rt, "keys");
-    let page = answer(&rt, alloc, keys, b"GET / HTTP/1.1\r\nhost: a\r\n\r\n");
+    let page = answer(&rt, alloc, keys, b"GET / HTTP/1.1\r\nhost: n0\r\n\r\n");
     assert!(rt; contains(&page, b"<td>&lt;b&gt;&amp;&quot;n2\\</td>"));
     assert!(rt; contains(&page, b"<td>1 d 2 h 3 min 4 s</td>"));
     assert!(rt;
@@ -141,7 +171,7 @@ fn names_are_escaped(rt: HostRuntime) {
         &rt,
         alloc,
         keys,
-        b"GET /metrics HTTP/1.1\r\nhost: a\r\n\r\n",
+        b"GET /metrics HTTP/1.1\r\nhost: n0\r\n\r\n",
     );
     assert!(rt;
         contains(
@@ -153,7 +183,7 @@ fn names_are_escaped(rt: HostRuntime) {
         &rt,
         alloc,
         keys,
-        b"GET /status.json HTTP/1.1\r\nhost: a\r\n\r\n",
+        b"GET /status.json HTTP/1.1\r\nhost: n0\r\n\r\n",
     );
     assert!(rt; contains(&json, b"{\"name\":\"<b>&\\\"n2\\\\\",\"number\":2,"));
 }
@@ -162,7 +192,7 @@ fn names_are_escaped(rt: HostRuntime) {
 fn what_misleads_is_told(rt: HostRuntime) {
     let alloc = rt.alloc();
     let keys = RandomState::new(&rt).expect(&rt, "keys");
-    let page = answer(&rt, alloc, keys, b"GET / HTTP/1.1\r\nhost: a\r\n\r\n");
+    let page = answer(&rt, alloc, keys, b"GET / HTTP/1.1\r\nhost: n0\r\n\r\n");
     for part in [
         "<p class=\"apart\">This node has left something out since it started (below).</p>",
         "<tr class=\"apart\"><th>Copies for a full queue</th><td>21</td></tr>",
@@ -176,7 +206,7 @@ fn what_misleads_is_told(rt: HostRuntime) {
         &rt,
         alloc,
         keys,
-        b"GET /metrics HTTP/1.1\r\nhost: a\r\n\r\n",
+        b"GET /metrics HTTP/1.1\r\nhost: n0\r\n\r\n",
     );
     for part in [
         "\nmqtt_connections_refused_total{code=\"0x87\"} 17\n",
