@@ -26,6 +26,7 @@ def of_node(figures):
         "mqtt_retained_messages": figures["retained"],
         "mqtt_topics_held": figures["topics"],
         "mqtt_table_version": figures["table"],
+        "mqtt_table_file_refused": int(figures["table_refusal"] is not None),
         "mqtt_longest_turn_seconds": figures["longest_turn_milliseconds"] / 1000,
         "mqtt_connections_opened_total": total["opened"],
         "mqtt_bytes_received_total": total["bytes_received"],
@@ -37,6 +38,12 @@ def of_node(figures):
         "mqtt_cluster_bytes_sent_total": total["frame_bytes_sent"],
         "mqtt_cluster_caught_up": int(figures["caught_up"]),
     }
+
+
+def of_sizes(figures):
+    """What the system tells of the program."""
+    names = {"mqtt_memory_bytes": "memory_bytes", "mqtt_database_bytes": "database_bytes"}
+    return {metric: figures[name] for metric, name in names.items() if figures[name] is not None}
 
 
 def of_what_was_left_out(left_out):
@@ -70,7 +77,7 @@ def of_peer(peer):
 
 
 def wanted(figures):
-    found = {**of_node(figures), **of_what_was_left_out(figures["left_out"])}
+    found = {**of_node(figures), **of_sizes(figures), **of_what_was_left_out(figures["left_out"])}
     found.update(of_codes("mqtt_connections_refused_total", figures["refused"]))
     found.update(of_codes("mqtt_connections_ended_total", figures["ended"]))
     for peer in figures["peers"]:

@@ -14,6 +14,7 @@ use numbered_homes::homes_of;
 use packet_bounds::Bounds;
 use refusing_rows::RefusingRows;
 use row_store::{MemoryRows, RowStore};
+use status_door::NoUsage;
 use std::alloc::Global;
 use std::process::Abort;
 use table_door::NoTables;
@@ -97,7 +98,7 @@ fn served<R: RowStore + Drop>(
 {
     let mut clock = Rising { told: 0 };
     let mut out = Vec::new(alloc);
-    let nowhere: Option<StatusPlace<'_, FakeSockets>> = None;
+    let nowhere: Option<StatusPlace<'_, FakeSockets, NoUsage>> = None;
     let no_tables: Option<NoTables> = None;
     serve(
         alloc,

@@ -9,6 +9,7 @@ use memory_gauge::NoGauge;
 use node_server::{ListenAt, StatusPlace, serve};
 use numbered_homes::homes_of;
 use row_store::MemoryRows;
+use status_door::NoUsage;
 use std::alloc::Global;
 use std::hash::RandomState;
 use std::process::Abort;
@@ -53,6 +54,7 @@ fn ends_so(
         sockets: LentSockets {
             sockets: &mut asked,
         },
+        usage: NoUsage,
         keys,
         name: "n1",
         address: "127.0.0.1:8080",

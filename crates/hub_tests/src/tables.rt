@@ -9,6 +9,7 @@ use memory_gauge::NoGauge;
 use node_server::{ListenAt, StatusPlace, serve};
 use numbered_homes::{homes_of, nodes_text};
 use row_store::MemoryRows;
+use status_door::NoUsage;
 use std::alloc::Global;
 use std::process::Abort;
 use table_door::Tables;
@@ -84,7 +85,7 @@ fn gets(rt: &impl Abort, alloc: Global, version: u32, from: u64, got: &[u8]) -> 
     };
     let mut out = Vec::new(alloc);
     let silent: Option<Vec<u8>> = None;
-    let nowhere: Option<StatusPlace<'_, FakeSockets>> = None;
+    let nowhere: Option<StatusPlace<'_, FakeSockets, NoUsage>> = None;
     let ended = serve(
         alloc,
         &mut network,

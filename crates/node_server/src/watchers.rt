@@ -7,27 +7,28 @@ use broker_sockets::Sockets;
 use broker_stop::RunFault;
 use loss_log::LossLog;
 use row_store::RowStore;
-use status_door::{OpenDesk, Watcher};
+use status_door::{OpenDesk, Usage, Watcher};
 use std::alloc::Global;
 use std::io::Write;
+use table_door::Tables;
 
 /// So many kinds of losses there are.
 const LOSSES: usize = 6;
 
 /// A desk at which the status of a node is told, and a log of what it leaves out, if there are any.
 #[derive(Drop)]
-pub(crate) struct Watchers<S: Sockets, W> {
-    desk: Option<OpenDesk<S, NodeTeller>>,
+pub(crate) struct Watchers<S: Sockets, U, W> {
+    desk: Option<OpenDesk<S, NodeTeller, U>>,
     losses: Option<LossLog<W>>,
 }
 
-impl<S: Sockets + Drop, W: Drop> Watchers<S, W> {
+impl<S: Sockets + Drop, U: Drop, W: Drop> Watchers<S, U, W> {
     /// This desk, and a log that is written here.
     pub(crate) fn new(
         alloc: Global,
-        desk: Option<OpenDesk<S, NodeTeller>>,
+        desk: Option<OpenDesk<S, NodeTeller, U>>,
         error: Option<W>,
-    ) -> Result<Watchers<S, W>, RunFault> {
+    ) -> Result<Watchers<S, U, W>, RunFault> {
         let Some(error) = error else {
             return Ok(Watchers { desk, losses: None });
         };
@@ -41,8 +42,8 @@ impl<S: Sockets + Drop, W: Drop> Watchers<S, W> {
     }
 }
 
-impl<R: RowStore, F, G, E, S: Sockets, W: Write> Watcher<TalliedNode<R, F, G, E>>
-    for Watchers<S, W> {
+impl<R: RowStore, F: Tables, G, E, S: Sockets, U: Usage, W: Write> Watcher<TalliedNode<R, F, G, E>>
+    for Watchers<S, U, W> {
     /// Attends to those who ask for the status, and tells of what is left out.
     fn watch(&mut self, handler: &TalliedNode<R, F, G, E>, at: u64) {
         if let Some(desk) = &mut self.desk {

@@ -15,6 +15,7 @@ use node_keeper::{Keeper, KeeperFault};
 use node_server::{ListenAt, ServedNode, StatusPlace, serve};
 use numbered_homes::homes_of;
 use row_store::MemoryRows;
+use status_door::NoUsage;
 use std::alloc::Global;
 use std::net::SocketAddr;
 use std::process::Abort;
@@ -153,7 +154,7 @@ fn serve_for(
     let mut clock = SteadyClock::new(RealClocks::new(rt));
     let rows = MemoryRows::new(alloc);
     let silent: Option<Vec<u8>> = None;
-    let nowhere: Option<StatusPlace<'_, RealSockets<'_, HostRuntime>>> = None;
+    let nowhere: Option<StatusPlace<'_, RealSockets<'_, HostRuntime>, NoUsage>> = None;
     let no_tables: Option<NoTables> = None;
     serve(
         alloc,

@@ -5,8 +5,10 @@ mod desk;
 mod door;
 mod laws;
 mod teller;
+mod usage;
 
 pub use desk::OpenDesk;
 pub use door::{Told, Watcher};
 pub use laws::told_changes_nothing;
 pub use teller::Teller;
+pub use usage::{NoUsage, Usage};

@@ -48,6 +48,8 @@ pub struct Figures {
     pub number: u16,
     /// The version of the table of homes that it holds.
     pub table: u32,
+    /// Why what is found in the file of the table isn't taken, where it isn't.
+    pub refusal: Option<String>,
     /// For how many milliseconds it has run.
     pub uptime: u64,
     /// How many connections of clients are open.
@@ -62,6 +64,10 @@ pub struct Figures {
     pub topics: u64,
     /// In milliseconds, the longest time between two ticks in the last ten seconds: the longest turn, and what was waited in it.
     pub longest_turn: u64,
+    /// How many bytes of memory the program holds, where the system tells it.
+    pub memory: Option<u64>,
+    /// How many bytes the files of its database have, where the system tells it.
+    pub files: Option<u64>,
     /// How many clients were refused, by the Reason Code of CONNACK, where any were.
     pub refused: Vec<CodeCount>,
     /// How many connections the node ended, by the Reason Code of DISCONNECT, where any were.

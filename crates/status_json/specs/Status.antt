@@ -8,7 +8,7 @@ use Rattle.status_figures.specs.declared.figures.LeftOut.{LeftOut}
 use Rattle.status_figures.specs.declared.traffic.Traffic.{Traffic}
 use Rattle.status_figures.specs.declared.peer.Peer.{Peer}
 use Rattle.status_figures.specs.Figures.{is_caught_up, is_equal}
-use Rattle.status_json.specs.Members.{member, number_member, truth}
+use Rattle.status_json.specs.Members.{known_text, member, number_member, quoted_text, truth}
 
 -- the next of several
 abbrev pub next : List ℕ → List ℕ → List ℕ
@@ -35,6 +35,13 @@ with_counts figures text =
     ++ next_number (codes "retained") figures.retained
     ++ next_number (codes "topics") figures.topics
     ++ next_number (codes "longest_turn_milliseconds") figures.longest_turn
+
+unfoldable pub with_sizes : Figures → List ℕ → List ℕ
+with_sizes figures text =
+    text
+    ++ next (codes "memory_bytes") (known_text figures.memory)
+    ++ next (codes "database_bytes") (known_text figures.files)
+    ++ next (codes "table_refusal") (quoted_text figures.refusal)
 
 unfoldable pub with_left_out : LeftOut → List ℕ → List ℕ
 with_left_out left_out text =
@@ -115,10 +122,10 @@ abbrev pub with_peers : ℕ → List Peer → List ℕ → List ℕ
 with_peers index [] text = text
 with_peers index (peer ∷ peers) text = with_peers (suc index) peers (with_peer index peer text)
 
--- the node, what it holds, what it left out, what went through, who was refused, and its peers
+-- the node, what it holds and takes, what it left out, what went through, who was refused, and its peers
 abbrev pub status_text : Figures → List ℕ
 status_text figures =
     with_peers 0 figures.peers.items
-    (with_refusals figures (with_traffic figures (with_left_out figures.left_out (with_counts figures (with_node (compact_text (string figures.name.bytes.items)) figures []))))
+    (with_refusals figures (with_traffic figures (with_left_out figures.left_out (with_sizes figures (with_counts figures (with_node (compact_text (string figures.name.bytes.items)) figures [])))))
     ++ codes "],\"peers\":[")
     ++ codes "]}\n"

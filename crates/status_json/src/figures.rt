@@ -1,10 +1,10 @@
 //! The figures of a node in JSON.
 
 ghost use Rattle.std.specs.Prelude.{◌≡◌, ◌++◌, codes, string_bytes, IfOk, OnOk};
-ghost use Rattle.status_json.specs.Status.{status_text, with_clients, with_counts, with_left_out, with_links, with_node, with_refusals, with_traffic};
+ghost use Rattle.status_json.specs.Status.{status_text, with_clients, with_counts, with_left_out, with_links, with_node, with_refusals, with_sizes, with_traffic};
 
 use crate::codes::push_codes;
-use crate::members::{push_member, push_number, quoted, truth};
+use crate::members::{known_text, push_member, push_number, quoted, quoted_text, truth};
 use crate::peers::push_peers;
 use status_figures::{Figures, LeftOut, Traffic};
 use std::alloc::{AllocError, Global};
@@ -32,6 +32,19 @@ fn push_counts(text: &mut String, figures: &Figures) -> Result<(), AllocError>
     push_number(text, ",", "retained", figures.retained)?;
     push_number(text, ",", "topics", figures.topics)?;
     push_number(text, ",", "longest_turn_milliseconds", figures.longest_turn)
+}
+
+/// What it takes of its machine, and why the table of homes in its file isn't taken.
+#[tactic(auto, unfolding(crate::specs::Status::with_sizes))]
+fn push_sizes(alloc: Global, text: &mut String, figures: &Figures) -> Result<(), AllocError>
+    ensures { OnOk result (string_bytes text.new ≡ with_sizes figures.now (string_bytes text.old)) }
+{
+    let memory = known_text(alloc, figures.memory)?;
+    let files = known_text(alloc, figures.files)?;
+    let refusal = quoted_text(alloc, &figures.refusal)?;
+    push_member(text, ",", "memory_bytes", &memory)?;
+    push_member(text, ",", "database_bytes", &files)?;
+    push_member(text, ",", "table_refusal", &refusal)
 }
 
 /// What it left out.
@@ -107,6 +120,7 @@ pub fn json_of(alloc: Global, figures: &Figures) -> Result<String, AllocError>
     let mut text = String::new(alloc);
     push_node(&mut text, &name, figures)?;
     push_counts(&mut text, figures)?;
+    push_sizes(alloc, &mut text, figures)?;
     push_left_out(&mut text, &figures.left_out)?;
     push_traffic(&mut text, figures)?;
     push_refusals(&mut text, figures)?;

@@ -195,7 +195,9 @@ fn what_misleads_is_told(rt: HostRuntime) {
     let page = answer(&rt, alloc, keys, b"GET / HTTP/1.1\r\nhost: n0\r\n\r\n");
     for part in [
         "<p class=\"apart\">This node has left something out since it started (below).</p>",
+        "<p class=\"apart\">The table of homes in the file of this node is not taken: line &lt;4&gt;.</p>",
         "<tr class=\"apart\"><th>Copies for a full queue</th><td>21</td></tr>",
+        "<tr><th>Memory of the program</th><td>123.4 MB</td></tr>\n<tr><th>Files of the database</th><td>not known</td></tr>",
         "<tr><th>Refused: Not authorized (0x87)</th><td>17</td></tr>",
         "<tr><th>Ended: Keep Alive timeout (0x8D)</th><td>18</td></tr>",
         "<tr><th>Topics that are held, with those that were cleared</th><td>15</td></tr>",
@@ -213,11 +215,22 @@ fn what_misleads_is_told(rt: HostRuntime) {
         "\nmqtt_connections_ended_total{code=\"0x8D\"} 18\n",
         "\nmqtt_longest_turn_seconds 0.016\n",
         "\nmqtt_table_version 3\n",
+        "\nmqtt_memory_bytes 123456789\n# HELP mqtt_longest_turn_seconds ",
+        "\nmqtt_table_file_refused 1\n",
         "\nmqtt_tables_refused_total 27\n",
         "\nmqtt_cluster_peer_heard{peer=\"n1\"} 1\n",
     ] {
         assert!(rt; contains(&metrics, part.as_bytes()));
     }
+    let json = answer(
+        &rt,
+        alloc,
+        keys,
+        b"GET /status.json HTTP/1.1\r\nhost: n0\r\n\r\n",
+    );
+    let part =
+        ",\"memory_bytes\":123456789,\"database_bytes\":null,\"table_refusal\":\"line <4>\",";
+    assert!(rt; contains(&json, part.as_bytes()));
 }
 
 #[test]

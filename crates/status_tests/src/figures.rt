@@ -70,6 +70,7 @@ pub(crate) fn figures(rt: &impl Abort, alloc: Global, lacking: u64) -> Figures {
         name: text(rt, alloc, "n0"),
         number: 0,
         table: 3,
+        refusal: Some(text(rt, alloc, "line <4>")),
         uptime: 93_784_567,
         clients: 11,
         sessions: 12,
@@ -77,6 +78,8 @@ pub(crate) fn figures(rt: &impl Abort, alloc: Global, lacking: u64) -> Figures {
         retained: 14,
         topics: 15,
         longest_turn: 16,
+        memory: Some(123_456_789),
+        files: None,
         refused: given(rt, alloc, 0x87, 17),
         ended: given(rt, alloc, 0x8D, 18),
         left_out: LeftOut {

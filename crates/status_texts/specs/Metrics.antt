@@ -1,5 +1,5 @@
 -- The metrics of a node. Each definition `with_..` is a text, and then what it is named for.
-use Rattle.std.specs.Prelude.{ℕ, ◌/◌, ◌%◌, Bool, List, [], ◌∷◌, ◌++◌, codes, if◌then◌else◌}
+use Rattle.std.specs.Prelude.{ℕ, ◌/◌, ◌%◌, Bool, List, [], ◌∷◌, ◌++◌, codes, is_some, Option, Some, None, if◌then◌else◌}
 use Rattle.std.specs.Fmt.{decimal}
 use Rattle.status_figures.specs.declared.codes.CodeCount.{CodeCount}
 use Rattle.status_figures.specs.declared.figures.Figures.{Figures}
@@ -40,6 +40,17 @@ unfoldable pub with_held : Figures → List ℕ → List ℕ
 with_held figures text =
     with_gauge (codes "mqtt_table_version") (codes "The version of the table of homes.") figures.table
     (with_gauge (codes "mqtt_topics_held") (codes "Topics that have or had a retained message.") figures.topics
+    text)
+
+-- a metric that has no value where the number isn't known
+abbrev pub with_known : List ℕ → List ℕ → Option ℕ → List ℕ → List ℕ
+with_known name help None text = text
+with_known name help (Some n) text = with_gauge name help n text
+
+unfoldable pub with_sizes : Figures → List ℕ → List ℕ
+with_sizes figures text =
+    with_known (codes "mqtt_database_bytes") (codes "Bytes of the files of the database.") figures.files
+    (with_known (codes "mqtt_memory_bytes") (codes "Bytes of memory that the program holds.") figures.memory
     text)
 
 -- so many milliseconds, in seconds with three digits behind the point
@@ -92,13 +103,18 @@ with_frames_dropped left_out text =
     ++ reason_line (codes "mqtt_cluster_frames_dropped_total") (codes "bad") left_out.bad_frames
     ++ reason_line (codes "mqtt_cluster_frames_dropped_total") (codes "too_large") left_out.frames_too_large
 
+-- 1 where it is so
+abbrev pub as_number : Bool → ℕ
+as_number so = if so then 1 else 0
+
 unfoldable pub with_tables : LeftOut → List ℕ → List ℕ
 with_tables left_out text =
     with_counter (codes "mqtt_tables_refused_total") (codes "Tables of homes that were not taken.") left_out.tables_refused text
 
--- 1 where it is so
-abbrev pub as_number : Bool → ℕ
-as_number so = if so then 1 else 0
+-- whether what is found in the file of the table is refused
+unfoldable pub with_untaken : Figures → List ℕ → List ℕ
+with_untaken figures text =
+    with_gauge (codes "mqtt_table_file_refused") (codes "Whether the table of homes in the file of the node is not taken.") (as_number (is_some figures.refusal)) text
 
 abbrev pub number_of : Counted → Peer → ℕ
 number_of Linked peer = as_number peer.linked
@@ -139,7 +155,7 @@ with_peer_links figures text =
 -- what the node holds, and what went through it
 unfoldable pub with_counts : Figures → List ℕ → List ℕ
 with_counts figures text =
-    with_links figures.total (with_clients figures.total (with_turns figures.longest_turn (with_held figures (with_node figures text))))
+    with_links figures.total (with_clients figures.total (with_turns figures.longest_turn (with_sizes figures (with_held figures (with_node figures text)))))
 
 unfoldable pub with_refused : Figures → List ℕ → List ℕ
 with_refused figures text =
@@ -152,5 +168,5 @@ with_losses left_out text = with_tables left_out (with_frames_dropped left_out (
 -- the node, what it holds, what went through, who was refused, what was left out, and its peers
 abbrev pub metrics_text : Figures → List ℕ
 metrics_text figures =
-    with_cluster figures (with_peer_links figures (with_losses figures.left_out (with_refused figures (with_counts figures
-    (with_info (label figures.name.bytes.items) figures.number [])))))
+    with_cluster figures (with_peer_links figures (with_untaken figures (with_losses figures.left_out (with_refused figures (with_counts figures
+    (with_info (label figures.name.bytes.items) figures.number []))))))

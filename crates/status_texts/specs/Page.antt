@@ -1,5 +1,5 @@
 -- The page of a node. Each definition `with_..` is a text, and then what it is named for.
-use Rattle.std.specs.Prelude.{ℕ, ◌/◌, ◌==◌, Bool, List, [], ◌++◌, length, codes, count_by, not, if◌then◌else◌}
+use Rattle.std.specs.Prelude.{ℕ, ◌/◌, ◌==◌, Bool, List, [], ◌++◌, length, codes, count_by, not, Option, Some, None, String, if◌then◌else◌}
 use Rattle.std.specs.Fmt.{decimal}
 use Rattle.status_figures.specs.declared.figures.Figures.{Figures}
 use Rattle.status_figures.specs.declared.figures.LeftOut.{LeftOut}
@@ -8,7 +8,7 @@ use Rattle.status_figures.specs.Figures.{agrees, is_whole}
 use Rattle.status_texts.specs.Codes.{with_code_rows}
 use Rattle.status_texts.specs.Escapes.{escaped}
 use Rattle.status_texts.specs.Peers.{with_peers}
-use Rattle.status_texts.specs.Rows.{uptime_text, with_loss, with_number, with_row}
+use Rattle.status_texts.specs.Rows.{size_text, uptime_text, with_loss, with_number, with_row}
 use Rattle.status_texts.specs.declared.page.TheConstants.{HEAD, STYLE, SCRIPT}
 
 unfoldable pub with_head : List ℕ → List ℕ → List ℕ
@@ -29,6 +29,14 @@ verdict_text apart peers =
 abbrev pub loss_text : Bool → List ℕ
 loss_text whole = if whole then [] else codes "<p class=\"apart\">This node has left something out since it started (below).</p>\n"
 
+-- why the table of homes in the node's file isn't taken, where it isn't
+unfoldable pub untaken_line : List ℕ → List ℕ
+untaken_line reason = codes "<p class=\"apart\">The table of homes in the file of this node is not taken: " ++ reason ++ codes ".</p>\n"
+
+abbrev pub untaken_text : Option String → List ℕ
+untaken_text None = []
+untaken_text (Some refusal) = untaken_line (escaped refusal.bytes.items)
+
 unfoldable pub with_node : Figures → List ℕ → List ℕ
 with_node figures text =
     with_number (codes "Clients") figures.clients
@@ -44,6 +52,12 @@ with_held figures text =
     (with_number (codes "Subscriptions") figures.subscriptions
     (with_number (codes "Sessions") figures.sessions
     text)))
+
+unfoldable pub with_sizes : Figures → List ℕ → List ℕ
+with_sizes figures text =
+    with_row (codes "Files of the database") (size_text figures.files)
+    (with_row (codes "Memory of the program") (size_text figures.memory)
+    text)
 
 unfoldable pub with_turns : ℕ → List ℕ → List ℕ
 with_turns longest text = with_number (codes "Longest turn of ten seconds, in milliseconds") longest text ++ codes "</table>\n"
@@ -96,14 +110,15 @@ with_tail text = text ++ codes "</main>\n<script>" ++ SCRIPT.now ++ codes "</scr
 unfoldable pub peers_head : List ℕ
 peers_head = codes "<h2>Peers</h2>\n<table>\n<tr><th>Name</th><th>Bridge</th><th>Link</th><th>State</th><th>Messages that wait</th></tr>\n"
 
--- the head, whether the cluster agrees and whether anything was left out, then the node itself, its peers, what went through, who was refused, and what was left out
+-- the head, whether the cluster agrees, whether anything was left out and whether the file's table is taken, then the node itself, its peers, what went through, who was refused, and what was left out
 abbrev pub page_text : Figures → List ℕ
 page_text figures =
     with_tail (with_frames_dropped figures.left_out (with_dropped figures.left_out (with_codes figures (with_links figures.recent (with_clients figures.recent
     (with_peers figures.peers.items
-    (with_turns figures.longest_turn (with_held figures (with_node figures
+    (with_turns figures.longest_turn (with_sizes figures (with_held figures (with_node figures
     (with_head (escaped figures.name.bytes.items) []
     ++ verdict_text (count_by (λ peer. not (agrees peer)) figures.peers.items) (length figures.peers.items)
-    ++ loss_text (is_whole figures.left_out))))
+    ++ loss_text (is_whole figures.left_out)
+    ++ untaken_text figures.refusal))))
     ++ peers_head)
     ++ codes "</table>\n"))))))

@@ -1,5 +1,5 @@
 -- Lines of the tables of the page.
-use Rattle.std.specs.Prelude.{ℕ, ◌/◌, ◌%◌, ◌==◌, List, ◌++◌, codes, if◌then◌else◌}
+use Rattle.std.specs.Prelude.{ℕ, ◌/◌, ◌%◌, ◌==◌, List, ◌++◌, codes, Option, Some, None, if◌then◌else◌}
 use Rattle.std.specs.Fmt.{decimal}
 
 unfoldable pub label_cell : List ℕ → List ℕ
@@ -40,3 +40,12 @@ minutes_text seconds = decimal (seconds / 60 % 60) ++ codes " min " ++ decimal (
 -- so many seconds, in days, hours, minutes and seconds
 abbrev pub uptime_text : ℕ → List ℕ
 uptime_text seconds = days_text seconds ++ minutes_text seconds
+
+-- so many bytes, in megabytes of 1,000,000 with one digit behind the point
+unfoldable pub megabytes_text : ℕ → List ℕ
+megabytes_text bytes = decimal (bytes / 1000000) ++ codes "." ++ decimal (bytes / 100000 % 10) ++ codes " MB"
+
+-- where the system tells how many
+abbrev pub size_text : Option ℕ → List ℕ
+size_text None = codes "not known"
+size_text (Some bytes) = megabytes_text bytes

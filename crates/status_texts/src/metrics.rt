@@ -1,7 +1,7 @@
 //! The metrics of a node, in Prometheus' text format.
 
 ghost use Rattle.std.specs.Prelude.{◌≡◌, ◌++◌, ◌/◌, ◌%◌, string_bytes, IfOk, OnOk};
-ghost use Rattle.status_texts.specs.Metrics.{as_number, info_name, info_number, metrics_text, number_of, sample, thousandths_line, with_clients, with_cluster, with_codes, with_counts, with_dropped, with_frames_dropped, with_held, with_info, with_links, with_losses, with_node, with_peer_links, with_peer_metric, with_refused, with_samples, with_seconds, with_tables, with_turns};
+ghost use Rattle.status_texts.specs.Metrics.{as_number, info_name, info_number, metrics_text, number_of, sample, thousandths_line, with_clients, with_cluster, with_codes, with_counts, with_dropped, with_frames_dropped, with_held, with_info, with_known, with_links, with_losses, with_node, with_peer_links, with_peer_metric, with_refused, with_samples, with_seconds, with_sizes, with_tables, with_turns, with_untaken};
 
 use crate::codes::push_code_lines;
 use crate::escape::label;
@@ -111,6 +111,40 @@ fn push_held(text: &mut String, figures: &Figures) -> Result<(), AllocError>
         "mqtt_table_version",
         "The version of the table of homes.",
         u64::from(figures.table),
+    )
+}
+
+/// A metric that has no value where the number isn't known.
+fn push_known(
+    text: &mut String,
+    name: &str,
+    help: &str,
+    number: Option<u64>,
+) -> Result<(), AllocError>
+    ensures { OnOk result (string_bytes text.new ≡ with_known name.now help.now number (string_bytes text.old)) }
+{
+    match number {
+        Some(number) => push_gauge(text, name, help, number),
+        None => Ok(()),
+    }
+}
+
+/// What it takes of its machine.
+#[tactic(auto, unfolding(crate::specs::Metrics::with_sizes))]
+fn push_sizes(text: &mut String, figures: &Figures) -> Result<(), AllocError>
+    ensures { OnOk result (string_bytes text.new ≡ with_sizes figures.now (string_bytes text.old)) }
+{
+    push_known(
+        text,
+        "mqtt_memory_bytes",
+        "Bytes of memory that the program holds.",
+        figures.memory,
+    )?;
+    push_known(
+        text,
+        "mqtt_database_bytes",
+        "Bytes of the files of the database.",
+        figures.files,
     )
 }
 
@@ -272,6 +306,19 @@ fn as_number(is_so: bool) -> u64
     if is_so { 1 } else { 0 }
 }
 
+/// Whether what is found in the file of its table of homes is refused.
+#[tactic(auto, unfolding(crate::specs::Metrics::with_untaken))]
+fn push_untaken(text: &mut String, figures: &Figures) -> Result<(), AllocError>
+    ensures { OnOk result (string_bytes text.new ≡ with_untaken figures.now (string_bytes text.old)) }
+{
+    push_gauge(
+        text,
+        "mqtt_table_file_refused",
+        "Whether the table of homes in the file of the node is not taken.",
+        as_number(figures.refusal.is_some()),
+    )
+}
+
 fn number_of(peer: &Peer, counted: Counted) -> u64
     ensures { result ≡ number_of counted peer.now }
 {
@@ -380,6 +427,7 @@ fn push_counts(text: &mut String, figures: &Figures) -> Result<(), AllocError>
 {
     push_node(text, figures)?;
     push_held(text, figures)?;
+    push_sizes(text, figures)?;
     push_turns(text, figures.longest_turn)?;
     push_clients(text, &figures.total)?;
     push_links(text, &figures.total)
@@ -418,6 +466,7 @@ pub fn metrics_of(alloc: Global, figures: &Figures) -> Result<String, AllocError
     push_counts(&mut text, figures)?;
     push_refused(alloc, &mut text, figures)?;
     push_losses(&mut text, &figures.left_out)?;
+    push_untaken(&mut text, figures)?;
     push_peer_links(alloc, &mut text, figures)?;
     push_cluster(alloc, &mut text, figures)?;
     Ok(text)

@@ -1,12 +1,12 @@
 //! The page of a node: one document that asks for nothing but itself, and is read without its script.
 
 ghost use Rattle.std.specs.Prelude.{◌≡◌, ◌++◌, string_bytes, IfOk, OnOk};
-ghost use Rattle.status_texts.specs.Page.{loss_text, page_text, peers_head, verdict_text, with_clients, with_codes, with_dropped, with_frames_dropped, with_head, with_held, with_links, with_node, with_tail, with_turns};
+ghost use Rattle.status_texts.specs.Page.{loss_text, page_text, peers_head, untaken_line, untaken_text, verdict_text, with_clients, with_codes, with_dropped, with_frames_dropped, with_head, with_held, with_links, with_node, with_sizes, with_tail, with_turns};
 
 use crate::codes::push_code_rows;
 use crate::escape::escaped;
 use crate::peers::push_peers;
-use crate::rows::{push_loss, push_number, push_row, uptime_text};
+use crate::rows::{push_loss, push_number, push_row, size_text, uptime_text};
 use status_figures::{Figures, LeftOut, Traffic};
 use std::alloc::{AllocError, Global};
 
@@ -71,6 +71,33 @@ fn push_whole(text: &mut String, whole: bool) -> Result<(), AllocError>
     }
 }
 
+#[tactic(auto, unfolding(crate::specs::Page::untaken_line))]
+fn push_untaken_line(text: &mut String, reason: &str) -> Result<(), AllocError>
+    ensures { OnOk result (string_bytes text.new ≡ string_bytes text.old ++ untaken_line reason.now) }
+{
+    write!(
+        text,
+        "<p class=\"apart\">The table of homes in the file of this node is not taken: {reason}.</p>\n"
+    )
+}
+
+/// Why the table of homes in its file isn't taken, where it isn't.
+fn push_untaken(
+    alloc: Global,
+    text: &mut String,
+    refusal: &Option<String>,
+) -> Result<(), AllocError>
+    ensures { OnOk result (string_bytes text.new ≡ string_bytes text.old ++ untaken_text refusal.now) }
+{
+    match refusal {
+        Some(refusal) => {
+            let reason = escaped(alloc, refusal)?;
+            push_untaken_line(text, &reason)
+        }
+        None => Ok(()),
+    }
+}
+
 /// Which node it is, and who is there.
 #[tactic(auto, unfolding(crate::specs::Page::with_node))]
 fn push_node(alloc: Global, text: &mut String, figures: &Figures) -> Result<(), AllocError>
@@ -101,6 +128,17 @@ fn push_held(text: &mut String, figures: &Figures) -> Result<(), AllocError>
         "Topics that are held, with those that were cleared",
         figures.topics,
     )
+}
+
+/// What it takes of its machine.
+#[tactic(auto, unfolding(crate::specs::Page::with_sizes))]
+fn push_sizes(alloc: Global, text: &mut String, figures: &Figures) -> Result<(), AllocError>
+    ensures { OnOk result (string_bytes text.new ≡ with_sizes figures.now (string_bytes text.old)) }
+{
+    let memory = size_text(alloc, figures.memory)?;
+    let files = size_text(alloc, figures.files)?;
+    push_row(text, "Memory of the program", &memory)?;
+    push_row(text, "Files of the database", &files)
 }
 
 /// How long its turns take.
@@ -209,8 +247,10 @@ pub fn page_of(alloc: Global, figures: &Figures) -> Result<String, AllocError>
     push_head(&mut text, &name)?;
     push_verdict(&mut text, figures.apart(), figures.peers.len())?;
     push_whole(&mut text, figures.left_out.is_whole())?;
+    push_untaken(alloc, &mut text, &figures.refusal)?;
     push_node(alloc, &mut text, figures)?;
     push_held(&mut text, figures)?;
+    push_sizes(alloc, &mut text, figures)?;
     push_turns(&mut text, figures.longest_turn)?;
     push_peers_head(&mut text)?;
     push_peers(alloc, &mut text, &figures.peers)?;

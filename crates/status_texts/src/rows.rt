@@ -1,7 +1,7 @@
 //! Lines of the tables of the page.
 
 ghost use Rattle.std.specs.Prelude.{◌≡◌, ◌++◌, ◌/◌, string_bytes, IfOk, OnOk};
-ghost use Rattle.status_texts.specs.Rows.{cell, days_text, head_cell, label_cell, loss_class, minutes_text, number_cell, row_start, uptime_text, with_loss, with_number, with_row};
+ghost use Rattle.status_texts.specs.Rows.{cell, days_text, head_cell, label_cell, loss_class, megabytes_text, minutes_text, number_cell, row_start, size_text, uptime_text, with_loss, with_number, with_row};
 
 use std::alloc::{AllocError, Global};
 
@@ -95,6 +95,26 @@ pub(crate) fn uptime_text(alloc: Global, uptime: u64) -> Result<String, AllocErr
     push_days(&mut text, seconds)?;
     push_minutes(&mut text, seconds)?;
     Ok(text)
+}
+
+/// So many bytes, in megabytes.
+#[tactic(auto, unfolding(crate::specs::Rows::megabytes_text))]
+fn megabytes_text(alloc: Global, bytes: u64) -> Result<String, AllocError>
+    ensures { IfOk result (λ text. string_bytes text ≡ megabytes_text bytes) }
+{
+    let whole = bytes / 1_000_000;
+    let tenths = bytes / 100_000 % 10;
+    format!(in alloc; "{whole}.{tenths} MB")
+}
+
+/// So many bytes, where they are known.
+pub(crate) fn size_text(alloc: Global, bytes: Option<u64>) -> Result<String, AllocError>
+    ensures { IfOk result (λ text. string_bytes text ≡ size_text bytes) }
+{
+    match bytes {
+        Some(bytes) => megabytes_text(alloc, bytes),
+        None => String::from_str(alloc, "not known"),
+    }
 }
 
 /// A text between the others of a line.
