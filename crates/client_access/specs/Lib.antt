@@ -1,0 +1,5 @@
+pub mod Answers
+pub mod Codes
+pub mod Front
+pub mod Rights
+pub mod Sending
