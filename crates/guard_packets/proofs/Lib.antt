@@ -1,0 +1,4 @@
+pub mod Aliasing
+pub mod Fronts
+pub mod Marking
+pub mod Ordering
