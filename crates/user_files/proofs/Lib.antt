@@ -1,0 +1,7 @@
+pub mod AdmitLaws
+pub mod ByteLaws
+pub mod CountLaws
+pub mod FilterLaws
+pub mod LineLaws
+pub mod StepLaws
+pub mod TextLaws
