@@ -1,8 +1,9 @@
 //! What each command runs.
 
 use crate::limits::bounds_of;
+use access_files::{print_line, read_access, read_password};
 use broker_checking::check;
-use broker_command::Task;
+use broker_command::{AskedUsers, Task};
 use broker_serving::serve;
 use broker_sockets::RealSockets;
 use client_limits::Limits;
@@ -11,6 +12,7 @@ use node_server::ListenAt;
 use program_files::read_script;
 use run_causes::Ending;
 use script_runs::run_script;
+use user_access::FileAccess;
 
 /// Runs a task.
 pub fn run_task(rt: &HostRuntime, task: Task) -> Result<(), Ending> {
@@ -25,6 +27,7 @@ pub fn run_task(rt: &HostRuntime, task: Task) -> Result<(), Ending> {
             most_clients,
             connect_within,
             limits,
+            users,
             mqtt3,
             log,
             status,
@@ -39,6 +42,7 @@ pub fn run_task(rt: &HostRuntime, task: Task) -> Result<(), Ending> {
                 clients: listen.as_ref().map(|address| address.as_str()),
                 nodes: bridge_listen.as_ref().map(|address| address.as_str()),
             },
+            access_of(rt, &users)?,
             bounds_of(&limits),
             Limits::new(most_clients, connect_within),
             mqtt3,
@@ -46,6 +50,7 @@ pub fn run_task(rt: &HostRuntime, task: Task) -> Result<(), Ending> {
             status.as_ref().map(|address| address.as_str()),
             turns,
         ),
+        Task::Password { name } => password(rt, name.as_str()),
         Task::Check {
             configuration,
             node,
@@ -58,6 +63,24 @@ pub fn run_task(rt: &HostRuntime, task: Task) -> Result<(), Ending> {
             &mut rt.stdout(),
         ),
     }
+}
+
+/// Who may come, by the files that a command line names.
+fn access_of(rt: &HostRuntime, users: &AskedUsers) -> Result<Option<FileAccess>, Ending> {
+    let access = read_access(
+        rt,
+        users.users.as_ref().map(|path| path.as_str()),
+        users.permissions.as_ref().map(|path| path.as_str()),
+        users.anonymous,
+    )?;
+    Ok(access)
+}
+
+/// Prints the line of a user of this name, for the password on standard input.
+fn password(rt: &HostRuntime, name: &str) -> Result<(), Ending> {
+    let line = read_password(rt)?;
+    print_line(rt, name, line.as_slice(), &mut rt.stdout())?;
+    Ok(())
 }
 
 /// Runs the script in a file, in memory.

@@ -35,6 +35,7 @@ fn told_at(
         node,
         database,
         at,
+        None,
         BoundLimits::none(),
         none,
         false,
