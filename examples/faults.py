@@ -31,7 +31,7 @@ import tempfile
 from faults_clients import HOST, Client, Publisher, Receiver, Gone
 
 BASE, BRIDGE, PROXY = 21000, 21100, 21200
-PATIENCE, STARTS = 120, 60
+PATIENCE, STARTS = 120, 300
 
 
 class Link:
@@ -100,7 +100,10 @@ class Node:
         with open(f"{self.folder}/{self.name}.err", "ab") as err:
             self.process = await asyncio.create_subprocess_exec(*words, stdout=asyncio.subprocess.PIPE, stderr=err, start_new_session=True)
         self.starts += 1
-        line = await asyncio.wait_for(self.process.stdout.readline(), STARTS)
+        try:
+            line = await asyncio.wait_for(self.process.stdout.readline(), STARTS)
+        except asyncio.TimeoutError:
+            line = f"nothing in {STARTS} seconds".encode()
         if not line.startswith(b"ready"):
             self.faults.append(f"{self.name} isn't ready: {line!r}")
 
@@ -352,10 +355,11 @@ async def retained_at(port, name):
     """What a new subscriber is given of `r/#`."""
     receiver = Receiver(name, port, ["r/#"])
     task = asyncio.create_task(receiver.run())
-    before = -1
-    for _ in range(60):
+    before, still = -1, 0
+    for _ in range(120):
         await asyncio.sleep(0.5)
-        if receiver.subscribed and len(receiver.came) == before:
+        still = still + 1 if receiver.subscribed and len(receiver.came) == before else 0
+        if still == 6:
             break
         before = len(receiver.came)
     receiver.stops = True
@@ -450,6 +454,8 @@ def main():
     reads.add_argument("program", nargs="+")
     words = reads.parse_args()
     folder = words.folder
+    if folder:
+        os.makedirs(folder, exist_ok=True)
     words.folder = folder or tempfile.mkdtemp(prefix="faults-")
     status = asyncio.run(run(words))
     if status == 0 and folder is None:

@@ -1,7 +1,7 @@
 // Loads a broker of MQTT 5.0 or 3.1.1 at 127.0.0.1, and tells how many messages a second come and how long they take.
 //
 //   gcc -O2 -pthread -o load examples/load.c
-//   ./load [-p PORT] [-i IDLE] [-f FILTERS] [-n PAIRS] [-a AHEAD] [-q QOS] [-b BYTES] [-s SECONDS] [-t THREADS] [-u USER -w PASSWORD] [-m PID] [-v LEVEL]
+//   ./load [-p PORT] [-i IDLE] [-f FILTERS] [-n PAIRS] [-a AHEAD] [-q QOS] [-b BYTES] [-s SECONDS] [-t THREADS] [-u USER -w PASSWORD] [-m PID] [-v LEVEL] [-P PORT]
 //
 // IDLE clients connect, subscribe to FILTERS filters each, which no message matches, and say nothing more. Then there are PAIRS of
 // a publisher and a subscriber, each pair with a topic of its own. A publisher has AHEAD messages of BYTES bytes on their way at
@@ -9,7 +9,8 @@
 // came is counted to the last message and divided by the time until then. The pairs are shared out to THREADS threads, since one alone takes
 // a processor where each message wants a read and a write of it. With -m the memory that the process PID takes for each idle client and for each of their
 // subscriptions is told, and how many messages came for each second of its processor. LEVEL is 5, or 4 for clients of
-// MQTT 3.1.1. The broker may be any one of that version.
+// MQTT 3.1.1. The broker may be any one of that version. With -P the publishers connect at that port, as where they have their home at another node
+// of a cluster, and nothing is published for a second, in which the nodes tell each other of the subscriptions.
 #include <arpa/inet.h>
 #include <errno.h>
 #include <netinet/tcp.h>
@@ -39,7 +40,7 @@ struct counts {
     double *times;
 };
 
-static int port = 1883, idle, filters, pairs, ahead = 1, qos, length = 64, threads = 1, process, level = 5;
+static int port = 1883, publishers_port, idle, filters, pairs, ahead = 1, qos, length = 64, threads = 1, process, level = 5;
 static double seconds = 2;
 static const char *user, *password;
 static struct client *clients;
@@ -88,7 +89,7 @@ static size_t put_text(uint8_t *at, const char *text) {
     return 2 + count;
 }
 
-static int dial(void) {
+static int dial(int port) {
     struct sockaddr_in to = {.sin_family = AF_INET, .sin_port = htons((uint16_t)port), .sin_addr.s_addr = htonl(INADDR_LOOPBACK)};
     int made = socket(AF_INET, SOCK_STREAM, 0), on = 1;
     if (made < 0 || connect(made, (struct sockaddr *)&to, sizeof to) != 0)
@@ -98,7 +99,7 @@ static int dial(void) {
 }
 
 // Connects with Clean Start and no Keep Alive.
-static int connect_client(const char *identifier) {
+static int connect_client(int port, const char *identifier) {
     uint8_t packet[160] = {0x10, 0, 0, 4, 'M', 'Q', 'T', 'T', (uint8_t)level, 2, 0, 0, 0};
     size_t count = level == 5 ? 13 : 12;
     count += put_text(packet + count, identifier);
@@ -108,7 +109,7 @@ static int connect_client(const char *identifier) {
         count += put_text(packet + count, password);
     }
     packet[1] = (uint8_t)(count - 2);
-    int made = dial();
+    int made = dial(port);
     send_all(made, packet, 2 + packet[1]);
     receive(made, packet);
     if (packet[0] != 0x20 || packet[3] != 0)
@@ -254,7 +255,7 @@ static void connect_idle(void) {
     for (int i = 0; i < idle; i++) {
         char name[32];
         snprintf(name, sizeof name, "idle%d", i);
-        made[i] = connect_client(name);
+        made[i] = connect_client(port, name);
     }
     if (idle > 0)
         printf("%d idle clients connected in %.2f s\n", idle, now() - start);
@@ -276,7 +277,7 @@ static void connect_pairs(void) {
         char name[32];
         snprintf(name, sizeof name, "%s%d", i % 2 ? "publisher" : "subscriber", i / 2);
         clients[i].pair = i / 2;
-        clients[i].socket = connect_client(name);
+        clients[i].socket = connect_client(i % 2 ? publishers_port : port, name);
         snprintf(name, sizeof name, "pair/%d", i / 2);
         if (i % 2 == 0)
             subscribe(clients[i].socket, name, 1);
@@ -358,7 +359,7 @@ static double percentile(const struct counts *all, double share) {
 
 static void read_words(int count, char **words) {
     int letter;
-    while ((letter = getopt(count, words, "p:i:f:n:a:q:b:s:t:u:w:m:v:")) != -1) {
+    while ((letter = getopt(count, words, "p:i:f:n:a:q:b:s:t:u:w:m:v:P:")) != -1) {
         switch (letter) {
         case 'p': port = atoi(optarg); break;
         case 'i': idle = atoi(optarg); break;
@@ -373,9 +374,12 @@ static void read_words(int count, char **words) {
         case 'w': password = optarg; break;
         case 'm': process = atoi(optarg); break;
         case 'v': level = atoi(optarg); break;
+        case 'P': publishers_port = atoi(optarg); break;
         default: end("the words are at the head of its source");
         }
     }
+    if (publishers_port == 0)
+        publishers_port = port;
     if (idle < 0 || filters < 0 || pairs < 0 || ahead < 1 || qos < 0 || qos > 2 || length < (int)sizeof(double) || length > MOST_BYTES
         || level < 4 || level > 5 || threads < 1 || threads > MOST_THREADS || !user != !password || (user && strlen(user) + strlen(password) > 80))
         end("a word is out of its range");
@@ -391,6 +395,8 @@ int main(int count, char **words) {
     if (pairs == 0)
         return 0;
     connect_pairs();
+    if (publishers_port != port)
+        sleep(1);
     double start = now(), before = processor();
     stop = start + seconds;
     all.last = start;

@@ -104,18 +104,19 @@ session() {
     check "$1, a session" "session 1 0 one,session 2 0 two" "$(got session)"
 }
 
-# A client of MQTT 5.0 takes over the session of a client of an earlier version: it gets what was subscribed to before.
+# A client of MQTT 5.0 takes over the session of a client of an earlier version: it gets what was subscribed to before. That one stands still, so that it
+# doesn't connect again.
 takeover() {
+    local before
     listen before -V "$1" -c -i mover -q 1 -t moved
-    local before=$listener
-    timeout 20 mosquitto_sub -V 5 -h "$host" -p "$port" -c -x 100 -i mover -q 1 -t moved/too -F '%t %q %r %p' -C 1 > "$work/after" 2> "$work/kill" &
-    listener=$!
-    sleep 1
-    kill -9 "$(pgrep -P "$before" mosquitto_sub)" "$before" 2> "$work/kill"
+    before=$listener
+    kill -STOP "$(pgrep -P "$before" mosquitto_sub)"
+    listen after -V 5 -c -x 100 -i mover -q 1 -t moved/too -C 1
+    kill -9 "$(pgrep -P "$before" mosquitto_sub)"
+    wait "$before" 2> "$work/kill"
     publish -V "$1" -q 1 -t moved -m one
     wait "$listener"
-    wait "$before" 2> "$work/kill"
-    check "$1, whose session a client of 5 takes over" "moved 1 0 one" "$(cat "$work/after")"
+    check "$1, whose session a client of 5 takes over" "moved 1 0 one" "$(got after)"
 }
 
 # A shared group with a client of each of two versions.

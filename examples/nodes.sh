@@ -41,7 +41,7 @@ need() {
 
 # Waits until a line of the file $2 begins with $1, while the process $3 runs.
 await_line() {
-    until grep -q "^$1" "$2"; do
+    until grep -qs "^$1" "$2"; do
         if ! kill -0 "$3" 2> "$work/kill"; then
             cat "$2" "$2.err" >&2
             exit 1

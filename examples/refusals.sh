@@ -1,14 +1,14 @@
 #!/usr/bin/env bash
 # Refuses each allocation in turn of what some programs do, each time from the start:
 #
-# - refused_calls and refused_states make calls: the answer is NoMemory, unless the call does without, nothing has changed, and the call that
+# - trial_calls makes calls: the answer is NoMemory, unless the call does without, nothing has changed, and the call that
 #   is made again gives what it should.
-# - refused_runs plays the scripts of crates/refused_runs/data over nodes with their rows in memory and over a cluster: the answer is
+# - trial_records plays the scripts of crates/trial_records/data over nodes with their rows in memory and over a cluster: the answer is
 #   NoMemory, of the node or of its rows, the rows are those of before, the next call is answered by Stopped or Spent, and opened again from
 #   its rows the node goes on as after a crash. Rows whose changes are made one by one, and nodes that go on after want of memory, have to
 #   be found there.
-# - refused_records opens databases, as the first two make calls, and plays the scripts of crates/refused_records/data over nodes whose rows
-#   are in a database, as the third does; what such a node goes on from is what the database's files have.
+# - behind the word --records it opens databases, as trial_calls makes calls, and plays the scripts named there over nodes whose rows
+#   are in a database, as it plays the others; what such a node goes on from is what the database's files have.
 #
 # Prints a line for each call and each run with how many allocations were refused; the last line is 'N passed, M failed', and the status is
 # 1 where one failed.
@@ -21,7 +21,7 @@ set -eu
 
 top=$(cd "$(dirname "${BASH_SOURCE[0]}")/.." && pwd)
 compiler=${CC:-cc}
-seconds=600
+seconds=1200
 work=$(mktemp -d)
 trap 'rm -rf "$work"' EXIT
 
@@ -72,7 +72,7 @@ find_out() {
     fi
 }
 
-for crate in refused_calls refused_states refused_runs refused_records; do
+for crate in trial_calls trial_records; do
     if [ ! -x "$top/crates/$crate/out/$crate" ]; then
         echo "refusals: crates/$crate/out has no program: run rt ci first, or rt run in crates/$crate"
         exit 2
@@ -87,7 +87,7 @@ for crate in refused_calls refused_states refused_runs refused_records; do
         fi
     done
 done
-runs=$top/crates/refused_runs/out/refused_runs
+runs=$top/crates/trial_records/out/trial_records
 find_out "$runs" "the rows aren't those of before" --careless-rows stored_run.script
 find_out "$runs" "the next call isn't answered by Stopped or Spent" --careless-nodes stored_run.script
 echo "$passed passed, $failed failed"

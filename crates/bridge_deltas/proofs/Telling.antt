@@ -7,13 +7,13 @@ use Rattle.std.proofs.lemmas.List.{drop-drop, take_all, take_more}
 use Rattle.std.proofs.lemmas.List.Elements.{All-from_recursion}
 use Rattle.bridge_frames.specs.declared.forward.Forward.{Forward}
 use Rattle.row_store.specs.Rows.{Plain}
-use Rattle.lane_rows.specs.Rows.{Messages, each, message_rows, numbers_of, rows_of, waiting_of}
-use Rattle.lane_rows.specs.Reading.{AreLanes, IsLane}
-use Rattle.lane_rows.specs.ChangeSteps.{IsLater, gone_count, message_changes, told_count}
-use Rattle.lane_rows.specs.Changes.{KeptLane, Left, now_of, put, removals, told_of}
-use Rattle.lane_rows.proofs.Cuts.{each_last}
-use Rattle.lane_rows.proofs.Leading.{each_map}
-use Rattle.lane_rows.proofs.Order.{all_both}
+use Rattle.bridge_lanes.specs.Rows.{Messages, each, message_rows, numbers_of, rows_of, waiting_of}
+use Rattle.bridge_lanes.specs.Reading.{AreLanes, IsLane}
+use Rattle.bridge_lanes.specs.ChangeSteps.{IsLater, gone_count, message_changes, told_count}
+use Rattle.bridge_lanes.specs.Changes.{KeptLane, Left, now_of, put, removals, told_of}
+use Rattle.bridge_lanes.proofs.Cuts.{each_last}
+use Rattle.bridge_lanes.proofs.Leading.{each_map}
+use Rattle.bridge_lanes.proofs.Order.{all_both}
 
 none_both : {A : Type 0} (xs ys : List A) → xs ++ ys ≡ [] → (xs ≡ []) × (ys ≡ [])
 none_both [] ys none = (refl, none)

@@ -1,9 +1,9 @@
 -- The lanes to and from one other node.
 use Rattle.std.specs.Prelude.{ℕ, suc, ◌+◌, ◌^◌, nat_lt, List, [], ◌∷◌, length, take, if◌then◌else◌, refl}
 use Rattle.std.specs.Coded.{Coded, code_by, coded×, coded_ℕ, coded_list}
-use Rattle.message_lanes.specs.Lanes.{with_put}
-use Rattle.lane_rows.specs.Rows.{Messages}
-use Rattle.lane_rows.specs.Changes.{KeptLane}
+use Rattle.bridge_lanes.specs.Lanes.{with_put}
+use Rattle.bridge_lanes.specs.Rows.{Messages}
+use Rattle.bridge_lanes.specs.Changes.{KeptLane}
 use Rattle.bridge_frames.specs.declared.body.FrameBody.TheVariants as bodies
 use Rattle.bridge_frames.specs.declared.forward.Forward.{Forward}
 use Rattle.bridge_frames.specs.declared.frame.BridgeFrame.{BridgeFrame}

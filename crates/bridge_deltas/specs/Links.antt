@@ -4,9 +4,9 @@ use Rattle.std.specs.Coded.{Coded, code_by, coded×, coded_ℕ, coded_list}
 use Rattle.std.specs.FinSet as set
 use Rattle.causal_context.specs.Dots.{Dots, coded_dot}
 use Rattle.replica_store.specs.States.{State, coded_state}
-use Rattle.message_lanes.specs.Lanes.{Lanes}
+use Rattle.bridge_lanes.specs.Lanes.{Lanes}
 use Rattle.bridge_frames.specs.declared.forward.Forward.{Forward}
-use Rattle.lane_rows.specs.Changes.{KeptLane, new_kept, told_now}
+use Rattle.bridge_lanes.specs.Changes.{KeptLane, new_kept, told_now}
 use Rattle.bridge_deltas.specs.Lane.{told_lane, coded_kept}
 
 -- the node's number and how many nodes there are; by the numbers of the peers, the dots that each is known to have taken;

@@ -1,16 +1,16 @@
 //! The lanes to and from one other node.
 ghost use Rattle.std.specs.Prelude.{[], ◌≡◌, ◌<◌, ◌≤◌, ◌+◌, ◌++◌, ◌^◌, ◌↔◌, suc, nat_eq, if◌then◌else◌, take, drop, length, map, OnOk, OnErr, IfOk, IsOk, IsTrue};
 ghost use Rattle.row_store.specs.Rows.{entry_of};
-ghost use Rattle.lane_rows.specs.ChangeSteps.{IsSoundLane, message_changes, numbers_changes};
-ghost use Rattle.lane_rows.specs.Changes.{left_of, new_kept, told_now};
-ghost use Rattle.lane_rows.specs.Reading.{IsLane, lane_in};
-ghost use Rattle.lane_rows.specs.Rows.{numbers_of, waiting_of};
-ghost use Rattle.message_lanes.specs.Lanes.{new_lane, with_got, with_took};
+ghost use Rattle.bridge_lanes.specs.ChangeSteps.{IsSoundLane, message_changes, numbers_changes};
+ghost use Rattle.bridge_lanes.specs.Changes.{left_of, new_kept, told_now};
+ghost use Rattle.bridge_lanes.specs.Reading.{IsLane, lane_in};
+ghost use Rattle.bridge_lanes.specs.Rows.{numbers_of, waiting_of};
+ghost use Rattle.bridge_lanes.specs.Lanes.{new_lane, with_got, with_took};
 ghost use Rattle.bridge_deltas.specs.Lane.{after_offer, first_frames, frames_from, next_number, offer_of, told_lane};
 
 use crate::offer::Offer;
 use bridge_frames::{BridgeFrame, Forward, FrameBody, LaneNumber};
-use lane_rows::{
+use bridge_lanes::{
     ReadLane, append_numbers, append_numbers_change, append_puts, append_removals, append_rows,
 };
 use mqtt_fields::{NUMBERS_END, NoMemory};
@@ -45,7 +45,7 @@ impl Model for Lane {
     ghost use Rattle.std.specs.Prelude.{◌<◌, ◌≤◌, ◌+◌, ◌^◌, take, drop, length};
     ghost use Rattle.std.specs.List.{AllByRecursion};
     ghost use Rattle.bridge_frames.specs.Forwards.{forward};
-    ghost use Rattle.lane_rows.specs.Changes.{KeptLane};
+    ghost use Rattle.bridge_lanes.specs.Changes.{KeptLane};
     ghost use Rattle.bridge_deltas.specs.Lane.{coded_kept};
 
     ghost Value = { KeptLane };

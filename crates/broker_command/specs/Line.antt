@@ -8,9 +8,9 @@ use Rattle.clap.specs.declared.builder.action.ArgAction.TheVariants.{Set, SetTru
 use Rattle.clap.specs.declared.builder.value_parser.ValueParser.TheVariants.{Signed}
 use Rattle.clap.specs.declared.error.kind.ErrorKind.{ErrorKind}
 use Rattle.clap.specs.declared.error.kind.ErrorKind.TheVariants.{DisplayHelp, DisplayVersion, OutOfMemory}
-use Rattle.broker_stop.specs.declared.stop.Stop.{Stop}
-use Rattle.broker_stop.specs.declared.stop.Stop.TheVariants.{Help, CommandLine, Run}
-use Rattle.broker_stop.specs.declared.run_fault.RunFault.TheVariants.{NoMemory}
+use Rattle.cli_stops.specs.declared.stop.Stop.{Stop}
+use Rattle.cli_stops.specs.declared.stop.Stop.TheVariants.{Help, CommandLine, Run}
+use Rattle.cli_stops.specs.declared.run_fault.RunFault.TheVariants.{NoMemory}
 use Rattle.broker_command.specs.declared.task.AskedLimits.{AskedLimits}
 use Rattle.broker_command.specs.declared.task.Task.{Task}
 use Rattle.broker_command.specs.declared.task.Task.TheVariants.{Play, Loopback, Serve, Check}

@@ -9,9 +9,9 @@ ghost use Rattle.broker_command.specs.Line.{broker, play, loopback, node_words, 
 use crate::addresses::with_addresses;
 use crate::limits::{limits_of, with_limits};
 use crate::task::Task;
-use broker_stop::{RunFault, Stop};
 use clap::error::ErrorKind;
 use clap::{Arg, ArgAction, ArgMatches, Command, Error, value_parser};
+use cli_stops::{RunFault, Stop};
 use std::alloc::{AllocError, Global};
 
 /// The greatest number that an option may be given.

@@ -5,7 +5,7 @@ use Rattle.std.proofs.lemmas.Bool.{cases_eq}
 use Rattle.node_work.specs.Acts.{Act, Runs, next}
 use Rattle.node_work.specs.Lasting.{Alter, AlterTwice, held_row}
 use Rattle.node_work.specs.View.{Place, HeldView}
-use Rattle.row_changes.specs.Leading.{IsNamed, left_by, left_or}
+use Rattle.row_store.specs.Leading.{IsNamed, left_by, left_or}
 use Rattle.row_store.specs.Rows.{Key}
 use Rattle.session_table.specs.Rows.{own_kind}
 use Rattle.broker_node.specs.Changes.{ChangesDiffer}

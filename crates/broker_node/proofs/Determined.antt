@@ -6,15 +6,15 @@ use Rattle.bridge_frames.specs.declared.body.FrameBody.TheVariants.{Hello, Delta
 use Rattle.bridge_frames.specs.declared.forward.Forward.{Forward as Message}
 use Rattle.bridge_frames.specs.declared.frame.BridgeFrame.{BridgeFrame}
 use Rattle.bridge_frames.specs.Frames.{frame_in}
-use Rattle.due_times.specs.Dues.{Due}
+use Rattle.session_table.specs.Dues.{Due}
 use Rattle.replica_store.specs.States.{State}
-use Rattle.session_laws.specs.Runs.{closes, ticks}
+use Rattle.law_sessions.specs.Runs.{closes, ticks}
 use Rattle.session_table.specs.Calls.{leaves, stays}
 use Rattle.node_bridge.specs.View.{belief_of, lane_to}
 use Rattle.node_work.specs.declared.counts.Missed.{Missed}
 use Rattle.node_work.specs.declared.counts.Missed.TheVariants.{BadFrame, FrameTooLarge, TableRefused}
 use Rattle.home_table.specs.Table.{Table}
-use Rattle.message_copies.proofs.Selecting.{selected_once}
+use Rattle.bridge_routes.proofs.Selecting.{selected_once}
 use Rattle.session_table.specs.Seats.{IsElsewhere}
 use Rattle.std.specs.FinMap as map
 use Rattle.node_clients.specs.Moving.{MovesAway}

@@ -6,8 +6,8 @@ use Rattle.bridge_deltas.specs.declared.offer.Offer.TheVariants as offers
 use Rattle.bridge_frames.specs.declared.body.FrameBody.{FrameBody}
 use Rattle.bridge_frames.specs.declared.forward.Forward.{Forward}
 use Rattle.bridge_frames.specs.declared.frame.BridgeFrame.{BridgeFrame}
-use Rattle.message_routes.specs.declared.destinations.Route.{Route}
-use Rattle.message_routes.specs.declared.destinations.Route.TheVariants as routes
+use Rattle.bridge_routes.specs.declared.destinations.Route.{Route}
+use Rattle.bridge_routes.specs.declared.destinations.Route.TheVariants as routes
 use Rattle.mqtt_fields.specs.declared.value.Property.{Property}
 use Rattle.mqtt_message.specs.Identifiers.{identifiers_of}
 use Rattle.mqtt_message.specs.declared.delivery.Delivery.{Delivery}
@@ -27,7 +27,7 @@ use Rattle.mqtt_sessions.specs.declared.reaction.Ask.{Ask}
 use Rattle.mqtt_sessions.specs.declared.reaction.Ask.TheVariants as asks
 use Rattle.mqtt_topics.specs.Topics.{IsFilter}
 use Rattle.replica_store.specs.Making.{subscribe_of, put_of}
-use Rattle.session_laws.specs.Runs.{Event, answers, closes, connects, finishes, queues, rooms, takes, ticks}
+use Rattle.law_sessions.specs.Runs.{Event, answers, closes, connects, finishes, queues, rooms, takes, ticks}
 use Rattle.session_table.specs.Calls.{leaves, moves, stays}
 use Rattle.session_table.specs.Seats.{Seat, connected, ends_due, run_outs, wills_due}
 use Rattle.subscription_set.specs.Standing.{any_of, any_below}
@@ -48,7 +48,7 @@ use Rattle.node_work.specs.View.{ConnectionView, HeldView, Place}
 use Rattle.node_work.specs.Working.{Acting, Doing, Each, FindsWhere, If, InTurn, Looks, Numbered, Returns, Stops, Then, Where}
 use Rattle.node_work.specs.declared.granted.Granted.{Granted}
 use Rattle.node_work.specs.declared.outcome.Output.TheVariants.{Close, Send}
-use Rattle.message_copies.specs.declared.plain.PlainCopy.{PlainCopy as Copy}
+use Rattle.bridge_routes.specs.declared.plain.PlainCopy.{PlainCopy as Copy}
 use Rattle.node_work.proofs.Working.{gather-append}
 use Rattle.node_clients.specs.Connecting as connecting
 use Rattle.node_clients.specs.Ending as ending

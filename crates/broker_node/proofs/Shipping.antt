@@ -6,7 +6,7 @@ use Rattle.bridge_frames.specs.declared.body.FrameBody.{FrameBody}
 use Rattle.bridge_frames.specs.declared.body.FrameBody.TheVariants as bodies
 use Rattle.bridge_frames.specs.declared.forward.Forward.{Forward}
 use Rattle.bridge_frames.specs.declared.frame.BridgeFrame.{BridgeFrame}
-use Rattle.message_lanes.specs.Lanes.{Waits}
+use Rattle.bridge_lanes.specs.Lanes.{Waits}
 use Rattle.node_bridge.specs.View.{BridgeView, IsToShip, lane_to}
 use Rattle.replica_store.specs.States.{State}
 use Rattle.node_work.specs.declared.counts.Missed.TheVariants.{FrameTooLarge}

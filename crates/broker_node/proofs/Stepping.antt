@@ -11,9 +11,9 @@ use Rattle.node_work.specs.Acts.{Act, MomentTaken, Runs, gather, heard_in, merge
 use Rattle.node_work.specs.View.{Place, HeldView, WorkView, NodeView, nodes_of, place_of, up_of}
 use Rattle.node_work.specs.Lasting.{AreAltered, CanLast, held_row}
 use Rattle.node_work.specs.Working.{Did, ComesTo, Doing}
-use Rattle.row_changes.specs.Gathered.{AreOnce, Settle}
-use Rattle.row_changes.specs.Leading.{Lead, Begin, Differ}
-use Rattle.row_changes.proofs.Leaving.{settled_lead, settled_named}
+use Rattle.row_store.specs.Gathered.{AreOnce, Settle}
+use Rattle.row_store.specs.Leading.{Lead, Begin, Differ}
+use Rattle.row_store.proofs.Leaving.{settled_lead, settled_named}
 use Rattle.row_store.specs.declared.row.Change.{Change}
 use Rattle.session_table.specs.Rows.{own_kind}
 use Rattle.broker_node.specs.declared.event.Event.{Event}

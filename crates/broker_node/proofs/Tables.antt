@@ -5,7 +5,7 @@ use Rattle.std.specs.Prelude.{nat_eq, nat_lt}
 use Rattle.std.proofs.lemmas.Bool.{and_parts}
 use Rattle.std.proofs.lemmas.Bool.Decides.{nat_tests}
 use Rattle.home_table.specs.Table.{Table, IsTable}
-use Rattle.message_copies.proofs.Selecting.{selected_once}
+use Rattle.bridge_routes.proofs.Selecting.{selected_once}
 use Rattle.session_table.specs.Seats.{AreElsewhere, IsElsewhere, Seats}
 use Rattle.node_work.specs.Acts.{Act, Allowed, MayMove, Runs, gather, moved_in, next}
 use Rattle.node_work.specs.View.{HeldView, Place, WorkView, nodes_of}

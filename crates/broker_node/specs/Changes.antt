@@ -3,7 +3,7 @@ use Rattle.std.specs.Prelude.{◌≡◌, ◌≢◌, ◌⊎◌, List, IfSome}
 use Rattle.node_work.specs.declared.outcome.Output.{Output}
 use Rattle.node_work.specs.Lasting.{AlterTwice, held_row}
 use Rattle.node_work.specs.View.{NodeView}
-use Rattle.row_changes.specs.Leading.{left_by}
+use Rattle.row_store.specs.Leading.{left_by}
 use Rattle.row_store.specs.declared.row.Change.{Change}
 use Rattle.row_store.specs.Rows.{Key}
 use Rattle.session_table.specs.Rows.{own_kind}

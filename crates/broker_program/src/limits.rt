@@ -1,8 +1,8 @@
 //! The limits that a command line asks for.
 
 use broker_command::AskedLimits;
-use client_bounds::{BoundLimits, CAREFUL};
-use packet_bounds::Bounds;
+use door_bounds::{BoundLimits, CAREFUL};
+use mqtt_bounds::Bounds;
 
 /// The bytes of a megabyte.
 const MEGABYTE: u64 = 1_000_000;

@@ -6,8 +6,7 @@ mod run;
 
 use crate::run::run_task;
 use broker_command::task_of;
-use broker_stop::{RunFault, Stop};
-use run_causes::Ending;
+use cli_stops::{Ending, RunFault, Stop};
 use std::io::{self, ErrorKind};
 use std::process::ExitCode;
 

@@ -1,16 +1,16 @@
 //! What each command runs.
 
 use crate::limits::bounds_of;
-use broker_checking::check;
 use broker_command::Task;
-use broker_serving::serve;
 use broker_sockets::RealSockets;
-use client_limits::Limits;
-use loopback_runs::loop_script;
+use cli_files::read_script;
+use cli_reports::check;
+use cli_stops::Ending;
+use door_limits::Limits;
 use node_server::ListenAt;
-use program_files::read_script;
-use run_causes::Ending;
+use script_loopback::loop_script;
 use script_runs::run_script;
+use serve_node::serve;
 
 /// Runs a task.
 pub fn run_task(rt: &HostRuntime, task: Task) -> Result<(), Ending> {

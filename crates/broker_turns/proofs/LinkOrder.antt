@@ -1,5 +1,5 @@
 -- What waits on a link stays whole and in order.
-use Rattle.std.proofs.Common.{◌≡◌, ℕ, zero, suc, List, [], ◌∷◌, ◌++◌, Option, Some, None, Bool, true, false, refl, sym, ◌∙◌, ap, subst, append_assoc, inl, inr, eqb, if◌then◌else◌, length, slice_index_or, option_map, Vec}
+use Rattle.std.proofs.Common.{◌≡◌, ◌-◌, ◌&&◌, ℕ, zero, suc, List, [], ◌∷◌, ◌++◌, Option, Some, None, Bool, true, false, refl, sym, ◌∙◌, ap, subst, append_assoc, inl, inr, eqb, if◌then◌else◌, length, slice_index_or, option_map, Vec}
 use Rattle.std.proofs.lemmas.Bool.Decides.{eqb_tells}
 use Rattle.std.specs.declared.alloc.Global.{Global}
 use Rattle.std.specs.declared.net.socket_addr.SocketAddr.{SocketAddr}
@@ -14,7 +14,7 @@ use Rattle.broker_sockets.specs.declared.ready.Watched.{Watched}
 use Rattle.broker_sockets.specs.declared.network.Answer.{Answer}
 use Rattle.broker_sockets.specs.Answers.{Offers, carried}
 use Rattle.broker_turns.specs.Bridging.{HearsAll, IsFrameHeard, IsBegun, IsBegunBy, IsDialledAt, IsDialledIf, IsDialledOnce, IsWatchedIf, IsHeardFrom, IsHearing, IsLineRead, IsLinkReadIn, IsLinkWrittenIn, IsOffered, IsPeerRead, IsPeerReadIn, IsShipped, IsShippedIf, IsSought, IsSupplied, LineTried, Near, Place, Reach, Relinks, Search, left_if, search}
-use Rattle.broker_turns.specs.Lines.{Framed, Noted, framed, framed_all, framed_at, fresh_line, is_due, is_from, is_rested, link_of, marked, noted}
+use Rattle.broker_turns.specs.Lines.{Framed, Noted, awaited_after, framed, framed_all, framed_at, fresh_line, is_answer, is_due, is_from, is_rested, link_of, marked, noted}
 use Rattle.broker_turns.specs.Order.{Extends, IsNew, IsOf, NoFrameIsLost, TakesNothing, TakesWhatItAnswers, link_flow}
 use Rattle.broker_turns.specs.Steps.{Each, EachBelow, EachTells}
 use Rattle.broker_turns.specs.Turns.{IsDecided, IsGivenOut, IsTakenIn}
@@ -40,14 +40,14 @@ module _ {T : Type 0} (taken : T → List ℕ) (New : ℕ → Line T → Type 0)
   Carries-over : (a b c : List (Option (Line T))) → Carries a b → Carries b c → Carries a c
   Carries-over a b c first second peer line' there = of-then peer (link_of a peer) (link_of b peer) line' (first peer) (second peer line' there)
 
-  framed-if : (mine : Bool) (bytes : List ℕ) (line : Line T) → Extends (link_flow taken (if mine then record line { unsent = line.unsent ++ bytes } else line)) (link_flow taken line)
-  framed-if true bytes line = (bytes, sym (append_assoc (taken line.stream) line.unsent bytes))
-  framed-if false bytes line = Extends-same _ _ refl
+  framed-if : (mine : Bool) (bytes : List ℕ) (awaited : ℕ) (line : Line T) → Extends (link_flow taken (if mine then record line { unsent = line.unsent ++ bytes; awaited = awaited } else line)) (link_flow taken line)
+  framed-if true bytes awaited line = (bytes, sym (append_assoc (taken line.stream) line.unsent bytes))
+  framed-if false bytes awaited line = Extends-same _ _ refl
 
   framed_all-extends : (peer : ℕ) (frames : List PeerFrame) (line : Line T) → Extends (link_flow taken (framed_all peer frames line)) (link_flow taken line)
   framed_all-extends peer [] line = Extends-same _ _ refl
   framed_all-extends peer (frame ∷ frames) line =
-      Extends-over _ _ _ (framed_all-extends peer frames (framed peer frame line)) (framed-if (eqb frame.peer peer) frame.bytes.items line)
+      Extends-over _ _ _ (framed_all-extends peer frames (framed peer frame line)) (framed-if (eqb frame.peer peer) frame.bytes.items (awaited_after frame.bytes.items line) line)
 
   framed-from : (peer : ℕ) (frames : List PeerFrame) (before : Option (Line T)) (line' : Line T) → Some line' ≡ framed_at peer frames before → IsOf taken before (New peer line') line'
   framed-from peer frames None line' e = absurd (cc)
@@ -81,7 +81,7 @@ module _ {T : Type 0} (taken : T → List ℕ) (New : ℕ → Line T → Type 0)
       Carries-relinked d d' peer (left_if goes_on left) (subst P (sym found) (λ line' e. left-from peer goes_on line left line' extends e)) is
 
   -- a note on a link changes nothing that waits there
-  marked-if : (empty : Bool) (at : ℕ) (line : Line T) → Extends (link_flow taken (if empty then line else record line { asked = Some at; answered = false })) (link_flow taken line)
+  marked-if : (empty : Bool) (at : ℕ) (line : Line T) → Extends (link_flow taken (if empty then line else record line { asked = Some at })) (link_flow taken line)
   marked-if true at line = Extends-same _ _ refl
   marked-if false at line = Extends-same _ _ refl
 
@@ -94,15 +94,15 @@ module _ {T : Type 0} (taken : T → List ℕ) (New : ℕ → Line T → Type 0)
   Carries-marked : (at : ℕ) (d d' : List (Option (Line T))) (peer : ℕ) → Relinks d d' peer (option_map (marked at) (link_of d peer)) → Carries d d'
   Carries-marked at d d' peer is = Carries-relinked d d' peer _ (λ line' e. marked-from peer at (link_of d peer) line' e) is
 
-  noted-if : (sent : Bool) (line : Line T) → Extends (link_flow taken (if sent then record line { answered = true } else line)) (link_flow taken line)
+  noted-if : (sent : Bool) (line : Line T) → Extends (link_flow taken (if sent then record line { awaited = line.awaited - 1 } else line)) (link_flow taken line)
   noted-if true line = Extends-same _ _ refl
   noted-if false line = Extends-same _ _ refl
 
   noted-from : (peer : ℕ) (frame : List ℕ) (before : Option (Line T)) (line' : Line T) → Some line' ≡ noted peer frame before → IsOf taken before (New peer line') line'
   noted-from peer frame None line' e = absurd (cc)
   noted-from peer frame (Some line) line' e =
-      let is : line' ≡ (if is_from peer frame then record line { answered = true } else line) = cc in
-      inl (line, refl, rw is (noted-if (is_from peer frame) line))
+      let is : line' ≡ (if is_from peer frame && is_answer frame then record line { awaited = line.awaited - 1 } else line) = cc in
+      inl (line, refl, rw is (noted-if (is_from peer frame && is_answer frame) line))
 
   Carries-noted : (frame : List ℕ) (d d' : List (Option (Line T))) → Noted frame d d' → Carries d d'
   Carries-noted frame d d' is peer line' there = noted-from peer frame (link_of d peer) line' (sym there ∙ is peer)

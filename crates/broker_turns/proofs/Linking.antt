@@ -1,5 +1,6 @@
 -- Links to peers, one after another.
-use Rattle.std.proofs.Common.{◌≡◌, ◌<◌, ℕ, zero, suc, List, [], ◌∷◌, ◌++◌, Bool, true, false, subst, Option, Some, None, Vec, length, refl, sym, ◌∙◌, slice_index_or, slice_set, arith}
+use Rattle.std.proofs.Common.{◌≡◌, ◌<◌, ℕ, zero, suc, List, [], ◌∷◌, ◌++◌, Bool, true, false, subst, Option, Some, None, Vec, length, refl, sym, ap, inl, inr, eqb, if◌then◌else◌, ◌∙◌, slice_index_or, slice_set, arith}
+use Rattle.std.proofs.lemmas.Bool.Decides.{eqb_tells}
 use Rattle.std.proofs.lemmas.List.{get_or-set_same, get_or-set_other}
 use Rattle.std.specs.declared.alloc.Global.{Global}
 use Rattle.slab.specs.Slab.{Slab, get, Updates, with_value}
@@ -11,7 +12,7 @@ use Rattle.broker_sockets.specs.declared.bridge.PeerFrame.{PeerFrame}
 use Rattle.broker_turns.specs.declared.lines.Line.{Line}
 use Rattle.broker_turns.specs.Bridging.{HearsAll, IsFrameHeard, IsHearing, IsKept, IsLineWritten, IsLinkRead, IsHeardFrom, IsLinkReadIn, IsLinkWrittenIn, IsMarked, IsOffered, IsPeerKept, IsPeerLinkRead, IsPeerRead, IsPeerReadIn, IsShipped, IsShippedIf, IsSupplied, Near, Place, Reach, Relinks, left_if, peer_event}
 use Rattle.broker_sockets.specs.declared.network.Answer.{Answer}
-use Rattle.broker_turns.specs.Lines.{framed, framed_all, framed_at, is_due, link_of}
+use Rattle.broker_turns.specs.Lines.{Framed, framed, framed_all, framed_at, is_due, link_of, pushed}
 
 module _ {T : Type 0} where
   pub framed_all-more : (peer : ℕ) (frames : List PeerFrame) (frame : PeerFrame) (line : Line T) → framed_all peer (frames ++ frame ∷ []) line ≡ framed peer frame (framed_all peer frames line)
@@ -77,3 +78,23 @@ module _ {H T : Type 0} (hears : H → PeerEvent → Given → H → Type 0) (at
       let P : Option (Line T) → Type 0 = λ o. IsShipped hears at o peer n n' in
       let Q : Bool → Type 0 = λ b. IsShippedIf hears at b peer n n' in
       record { by_link = subst P (sym found) (subst Q (sym due) (m, heard, marks)) }
+
+-- a frame that is given to the link of its peer
+module _ {T : Type 0} where
+  unframed : (peer : ℕ) (frame : PeerFrame) (o : Option (Line T)) → eqb frame.peer peer ≡ false → framed_at peer (frame ∷ []) o ≡ o
+  unframed peer frame None apart = refl
+  unframed peer frame (Some line) apart = ap (λ b. Some (if b then pushed frame.bytes.items line else line)) apart
+
+  pub framed-set : (links : List (Option (Line T))) (p : ℕ) (frame : PeerFrame) (line new : Line T) → p < length links → p ≡ frame.peer → link_of links p ≡ Some line
+      → new ≡ pushed frame.bytes.items line → Framed (frame ∷ []) links (slice_set links p (Some new))
+  framed-set links p frame line new within is found push peer =
+      let set = Relinks-set links p (Some new) within in
+      elim (eqb_tells frame.peer peer) [
+        | inl same ↦
+            let at : p ≡ peer = is ∙ same.1 in
+            let At : ℕ → Type 0 = λ k. link_of (slice_set links p (Some new)) k ≡ framed_at k (frame ∷ []) (link_of links k) in
+            let own : eqb frame.peer p ≡ true = ap (λ k. eqb frame.peer k) at ∙ same.0 in
+            subst At at (set.changed ∙ ap (λ (l : Line T). Some l) push
+            ∙ sym (ap (λ (o : Option (Line T)). framed_at p (frame ∷ []) o) found ∙ ap (λ b. Some (if b then pushed frame.bytes.items line else line)) own))
+        | inr apart ↦ set.others peer (λ e. apart.1 (sym (e ∙ is))) ∙ sym (unframed peer frame (link_of links peer) apart.0)
+      ]

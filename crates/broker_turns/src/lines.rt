@@ -1,30 +1,41 @@
 //! Links between nodes, and what is given out for them.
 ghost use Rattle.std.specs.Prelude.{◌≡◌, ◌∷◌, [], length, OnOk, IfOk};
-ghost use Rattle.broker_turns.specs.Lines.{Framed, Noted, fresh_line, is_due, is_rested, marked, pause};
+ghost use Rattle.broker_turns.specs.Lines.{Framed, Noted, awaited_after, fresh_line, is_answer, is_asking, is_due, is_rested, marked, one_more, pushed};
 ghost use Rattle.broker_turns.specs.Bridging.{IsLineRead, IsLineWritten};
 
 use broker_sockets::{Answer, Held, PeerFrame, Sockets, Unsent};
 use std::alloc::{AllocError, Global};
 
 /// One socket between two nodes: what came of a frame that isn't whole yet, what waits to be written, when more was
-/// asked for last, if frames came of that, and whether the peer has sent anything since.
+/// asked for last, if frames came of that, and how many answers of the peer are awaited.
 #[derive(Drop)]
 pub struct Line<T: Drop> {
     pub stream: T,
     pub held: Held,
     pub unsent: Unsent,
     pub asked: Option<u64>,
-    pub answered: bool,
+    pub awaited: u64,
 }
 
 /// A link with more unsent bytes than this is closed.
 const MOST_UNSENT: usize = 536870912;
 
-/// For so many milliseconds no more is asked for, so that what was given can be answered.
-const PAUSE: u64 = 10;
-
-/// And for so many where the peer has sent nothing since.
+/// For so many milliseconds no more is asked for while answers are awaited.
 const SILENCE: u64 = 1000;
+
+/// So many answers are counted at most.
+const MOST_AWAITED: u64 = 65535;
+
+/// Where a frame has its kind, and the kinds of which each asks for one answer, and of its answer.
+const KIND: usize = 4;
+
+const FORWARD: u8 = 4;
+
+const GOT: u8 = 5;
+
+const DELTA: u8 = 6;
+
+const KNOW: u8 = 3;
 
 /// Where a frame has the number of the node that sends it, in two bytes, the higher one first.
 const SENDER: usize = 5;
@@ -48,6 +59,31 @@ pub fn is_rested(pause: u64, last: Option<u64>, at: u64) -> bool
     }
 }
 
+/// Whether a frame is answered by the peer that it goes to.
+fn is_asking(frame: &[u8]) -> bool
+    ensures { result ≡ is_asking frame.now }
+{
+    frame.len() > KIND && (frame[KIND] == FORWARD || frame[KIND] == DELTA)
+}
+
+/// Whether a frame is such an answer.
+fn is_answer(frame: &[u8]) -> bool
+    ensures { result ≡ is_answer frame.now }
+{
+    frame.len() > KIND && (frame[KIND] == GOT || frame[KIND] == KNOW)
+}
+
+/// One answer more.
+fn one_more(awaited: u64) -> u64
+    ensures { result ≡ one_more awaited }
+{
+    if awaited < MOST_AWAITED {
+        awaited + 1
+    } else {
+        awaited
+    }
+}
+
 impl<T: Drop> Line<T> {
     /// A link on which nothing has come and nothing waits.
     pub fn new(alloc: Global, stream: T) -> Self
@@ -58,22 +94,39 @@ impl<T: Drop> Line<T> {
             held: Held::new(alloc),
             unsent: Unsent::new(alloc),
             asked: None,
-            answered: false,
+            awaited: 0,
         }
-    }
-
-    /// How many milliseconds lie between two times that more is asked for.
-    fn pause(&self) -> u64
-        ensures { result ≡ pause self.now }
-    {
-        if self.answered { PAUSE } else { SILENCE }
     }
 
     /// Whether more is to be asked for at a moment.
     pub fn is_due(&self, at: u64) -> bool
         ensures { result ≡ is_due at self.now }
     {
-        self.unsent.len() == 0 && is_rested(self.pause(), self.asked, at)
+        self.unsent.len() == 0 && (self.awaited == 0 || is_rested(SILENCE, self.asked, at))
+    }
+
+    /// How many answers are awaited once a frame is given for the link. What is given where nothing waits begins anew.
+    fn awaited_after(&self, frame: &[u8]) -> u64
+        ensures { result ≡ awaited_after frame.now self.now }
+    {
+        if !is_asking(frame) {
+            return self.awaited;
+        }
+        if self.unsent.len() == 0 {
+            one_more(0)
+        } else {
+            one_more(self.awaited)
+        }
+    }
+
+    /// Gives a frame to the link.
+    fn push(&mut self, bytes: Vec<u8>) -> Result<(), AllocError>
+        ensures { OnOk result (self.new ≡ pushed bytes.items self.old) }
+    {
+        let awaited = self.awaited_after(&bytes);
+        self.unsent.push(bytes)?;
+        self.awaited = awaited;
+        Ok(())
     }
 
     /// More was asked for at a moment.
@@ -82,7 +135,6 @@ impl<T: Drop> Line<T> {
     {
         if self.unsent.len() > 0 {
             self.asked = Some(at);
-            self.answered = false;
         }
     }
 }
@@ -133,17 +185,17 @@ pub fn write_line<S: Sockets>(line: &mut Line<S::Stream>, sockets: &mut S) -> bo
     }
 }
 
-/// Notes on the link of the node that sends a frame, if there is one, that it has answered.
+/// Notes on the link of the node that sends a frame, if there is one, that it has answered, where the frame is an answer.
 pub fn note_sender<T: Drop>(links: &mut [Option<Line<T>>], frame: &[u8])
     ensures { Noted frame.now links.old links.new }
 {
-    if frame.len() <= SENDER + 1 {
+    if frame.len() <= SENDER + 1 || !is_answer(frame) {
         return;
     }
     let peer = usize::from(frame[SENDER]) * 256 + usize::from(frame[SENDER + 1]);
     if peer < links.len() {
         if let Some(line) = &mut links[peer] {
-            line.answered = true;
+            line.awaited = line.awaited.saturating_sub(1);
         }
     }
 }
@@ -156,7 +208,7 @@ fn give_one<T: Drop>(links: &mut [Option<Line<T>>], frame: PeerFrame) -> Result<
     let peer = usize::from(frame.peer);
     if peer < links.len() {
         if let Some(line) = &mut links[peer] {
-            line.unsent.push(frame.bytes)?;
+            line.push(frame.bytes)?;
         }
     }
     Ok(())

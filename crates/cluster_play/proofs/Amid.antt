@@ -5,8 +5,8 @@ use Rattle.causal_context.specs.Dots.{Dot}
 use Rattle.replica_store.specs.StateOf.{IsStateOf}
 use Rattle.node_work.specs.Acts.{Act, Runs, gather, op_in}
 use Rattle.node_work.specs.View.{Place, HeldView, fresh}
-use Rattle.node_laws.specs.Moves.{Moves, did}
-use Rattle.node_laws.proofs.MoveLaws.{moves_join, acts_are_moves}
+use Rattle.law_nodes.specs.Moves.{Moves, did}
+use Rattle.law_nodes.proofs.MoveLaws.{moves_join, acts_are_moves}
 use Rattle.cluster_play.specs.Worlds.{World}
 use Rattle.cluster_play.specs.Runs.{Played}
 use Rattle.cluster_play.specs.Histories.{Reached, site, acts_of, made, gained, gains, taken, taken_amid, operations_amid, moves_at, moves_amid, moment_amid}

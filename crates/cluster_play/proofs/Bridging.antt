@@ -10,8 +10,8 @@ use Rattle.bridge_deltas.specs.declared.offer.Offer.TheVariants.{Queued, Full, A
 use Rattle.bridge_deltas.specs.Lane.{next_number, offer_of}
 use Rattle.bridge_frames.specs.declared.forward.Forward.{Forward}
 use Rattle.causal_context.specs.Dots.{Dot, Dots, dot_cmp, dot_cmp_total}
-use Rattle.lane_rows.specs.Rows.{Messages, last_put}
-use Rattle.message_lanes.specs.Lanes.{Lanes, Waits, lane_of, new_lane, new_lanes, up_to, with_got, with_put, with_took}
+use Rattle.bridge_lanes.specs.Rows.{Messages, last_put}
+use Rattle.bridge_lanes.specs.Lanes.{Lanes, Waits, lane_of, new_lane, new_lanes, up_to, with_got, with_put, with_took}
 use Rattle.node_bridge.specs.View.{BridgeView, belief_of, believes, has_lanes, keeps, lane_to, offer_to, with_lane, woken_bridge}
 use Rattle.replica_store.specs.States.{State}
 use Rattle.node_work.specs.Acts.{Act, MomentTaken, Began, Moved, Store, Connection, Session, Bridge, Out, Named, Acknowledged, Passed, Dropped, Made, Merged, Does, Runs, gather, heard_in}

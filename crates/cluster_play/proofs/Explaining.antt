@@ -11,7 +11,7 @@ use Rattle.node_rows.specs.Reading.{HasNoLane, IsLasting}
 use Rattle.node_work.specs.declared.frame.Frame.{Frame}
 use Rattle.node_work.specs.Lasting.{CanLast, lasting}
 use Rattle.node_work.specs.View.{Place, HeldView, fresh}
-use Rattle.node_laws.specs.Moves.{Move, Moves}
+use Rattle.law_nodes.specs.Moves.{Move, Moves}
 use Rattle.cluster_play.specs.Worlds.{Site, World, Fate}
 use Rattle.cluster_play.specs.Runs.{Played}
 use Rattle.cluster_play.specs.Histories.{IsFirst, ops_of, made, gains, taken, own_moves, moves_at}

@@ -13,11 +13,11 @@ use Rattle.causal_context.specs.Dots.{Dot, dot_cmp, dot_cmp_total, dot_cmp_antis
 use Rattle.causal_context.specs.Spelling.{HasSpelling}
 use Rattle.causal_context.proofs.RangeSets.{set_of_none}
 use Rattle.home_table.specs.Table.{Table}
-use Rattle.lane_rows.specs.Changes.{is_lane_kind}
-use Rattle.lane_rows.specs.Reading.{IsLane}
-use Rattle.lane_rows.specs.Rows.{Messages, each, numbers_of, waiting_of}
-use Rattle.lane_rows.specs.Rows as lane_rows
-use Rattle.message_lanes.specs.Lanes.{new_lane, new_lanes}
+use Rattle.bridge_lanes.specs.Changes.{is_lane_kind}
+use Rattle.bridge_lanes.specs.Reading.{IsLane}
+use Rattle.bridge_lanes.specs.Rows.{Messages, each, numbers_of, waiting_of}
+use Rattle.bridge_lanes.specs.Rows as lane_rows
+use Rattle.bridge_lanes.specs.Lanes.{new_lane, new_lanes}
 use Rattle.replica_store.specs.declared.kept.Kept.{Kept}
 use Rattle.replica_store.specs.Retained.{topic_cmp}
 use Rattle.replica_store.specs.States.{nothing}
@@ -26,7 +26,7 @@ use Rattle.row_store.specs.Rows.{Content, Key, key_cmp, Plain}
 use Rattle.row_store.proofs.Keys.{keys_total, exact_keys}
 use Rattle.session_table.specs.Rows.{is_session_kind}
 use Rattle.session_table.specs.Seats.{Seat, Seats}
-use Rattle.finite_maps.proofs.Texts.{alike}
+use Rattle.law_maps.proofs.Texts.{alike}
 use Rattle.replica_rows.specs.Reading.{IsStore}
 use Rattle.replica_rows.specs.Rows.{row_at}
 use Rattle.replica_rows.proofs.Empty.{no_rows}

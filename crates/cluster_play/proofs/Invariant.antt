@@ -17,8 +17,8 @@ use Rattle.node_work.specs.Acts.{Act, Bridge, Runs, gather, op_in, merge_in}
 use Rattle.node_work.specs.Held.Bridge.{Gave}
 use Rattle.node_work.specs.Lasting.{lasting}
 use Rattle.node_work.specs.View.{Place, HeldView, fresh}
-use Rattle.node_laws.specs.Moves.{Move, Moves, Reopened, did}
-use Rattle.node_laws.proofs.MoveLaws.{moves_join, acts_are_moves}
+use Rattle.law_nodes.specs.Moves.{Move, Moves, Reopened, did}
+use Rattle.law_nodes.proofs.MoveLaws.{moves_join, acts_are_moves}
 use Rattle.cluster_play.specs.declared.step.Step.{Step}
 use Rattle.cluster_play.specs.Worlds.{Site, World, Fate, Released, Lost, Cut, Faulted, Was_down, Restarted, Happens, frames_in}
 use Rattle.cluster_play.specs.Runs.{IsKnown, IsHonestStep}

@@ -4,7 +4,7 @@ use Rattle.std.proofs.lemmas.List.{length-replicate}
 use Rattle.std.specs.List.{slice_get}
 use Rattle.std.specs.FinSet as set
 use Rattle.causal_context.specs.Dots.{dot_cmp}
-use Rattle.message_lanes.specs.Lanes.{new_lane, new_lanes}
+use Rattle.bridge_lanes.specs.Lanes.{new_lane, new_lanes}
 use Rattle.node_keeper.specs.Keeping.{AreOf}
 use Rattle.node_rows.proofs.OneNode.{rows_tell_all}
 use Rattle.node_work.specs.View.{HeldView, NodeView, Place, fresh, place_of}

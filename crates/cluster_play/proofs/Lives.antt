@@ -3,16 +3,16 @@ use Rattle.std.proofs.Common.{◌≡◌, ℕ, List, [], ◌∷◌, Some, refl, s
 use Rattle.std.specs.List.{slice_get}
 use Rattle.std.specs.FinMap as map
 use Rattle.mqtt_sessions.specs.State.{new_session}
-use Rattle.session_laws.specs.Runs.{Run as SessionRun}
+use Rattle.law_sessions.specs.Runs.{Run as SessionRun}
 use Rattle.session_table.specs.Seats.{Seat}
 use Rattle.home_table.specs.Table.{Table}
 use Rattle.node_work.specs.Acts.{Act, MomentTaken, Began, Moved, Store, Connection, Session, Bridge, Out, Named, Acknowledged, Passed, Dropped, Allowed, moved_in, next}
 use Rattle.node_work.specs.View.{Place, HeldView, fresh}
 use Rattle.node_work.proofs.Homes.{homes_stay}
-use Rattle.node_laws.specs.Lives.{life}
-use Rattle.node_laws.specs.Moves.{Move, Acted, Reopened, Moves, did}
-use Rattle.node_laws.proofs.LifeLaws as lives
-use Rattle.node_laws.proofs.MoveLaws.{moves_join, acts_are_moves}
+use Rattle.law_nodes.specs.Lives.{life}
+use Rattle.law_nodes.specs.Moves.{Move, Acted, Reopened, Moves, did}
+use Rattle.law_nodes.proofs.LifeLaws as lives
+use Rattle.law_nodes.proofs.MoveLaws.{moves_join, acts_are_moves}
 use Rattle.cluster_play.specs.Worlds.{Site, World}
 use Rattle.cluster_play.specs.Runs.{Played}
 use Rattle.cluster_play.specs.Histories.{IsFirst, homes_after, last_table, moves_at, moves_amid, Reached}

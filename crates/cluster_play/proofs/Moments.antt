@@ -5,7 +5,7 @@ use Rattle.node_work.specs.Held.Bridge.{BridgeAct, Put, Took, Got, Believed, Gav
 use Rattle.node_work.specs.Held.Connections.{ConnectionAct, Opened, Fed, Accepted, Roomed, Closed, after_connection_act}
 use Rattle.node_work.specs.Held.Sessions.{SessionAct, Begun, Called, Over, called}
 use Rattle.node_work.specs.View.{Place, HeldView}
-use Rattle.node_laws.specs.Moves.{Move, Acted, Reopened, Moves}
+use Rattle.law_nodes.specs.Moves.{Move, Acted, Reopened, Moves}
 use Rattle.cluster_play.specs.Histories.{moment_in, moment_after}
 
 connection_moment : (h : HeldView) (a : ConnectionAct) → (after_connection_act h a).at ≡ h.at

@@ -16,7 +16,7 @@ use Rattle.node_work.specs.declared.granted.Asked.{Asked}
 use Rattle.node_work.specs.declared.granted.Granted.{Granted}
 use Rattle.node_work.specs.Acts.{Act, Acknowledged}
 use Rattle.node_work.specs.Offers.{IsOffered, AreOffered}
-use Rattle.message_copies.specs.Deliveries.{least_qos, offer_of}
+use Rattle.bridge_routes.specs.Deliveries.{least_qos, offer_of}
 use Rattle.cluster_play.specs.declared.step.Step.{Step}
 use Rattle.cluster_play.specs.Worlds.{World, Fate, Happens}
 use Rattle.cluster_play.specs.Runs.{Played}

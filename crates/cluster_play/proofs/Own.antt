@@ -4,8 +4,8 @@ use Rattle.std.specs.Prelude.{drop}
 use Rattle.std.proofs.lemmas.List.{get_or-set_other}
 use Rattle.bridge_frames.specs.declared.forward.Forward.{Forward}
 use Rattle.home_table.specs.Table.{Table}
-use Rattle.lane_rows.specs.Rows.{Messages}
-use Rattle.message_lanes.specs.Lanes.{new_lane, up_to, with_got, with_put, with_took}
+use Rattle.bridge_lanes.specs.Rows.{Messages}
+use Rattle.bridge_lanes.specs.Lanes.{new_lane, up_to, with_got, with_put, with_took}
 use Rattle.node_bridge.specs.View.{lane_to}
 use Rattle.node_rows.specs.Reading.{HasNoLane}
 use Rattle.node_work.specs.Acts.{Act, MomentTaken, Began, Moved, Store, Connection, Session, Bridge, Out, Named, Acknowledged, Passed, Dropped, Made, Merged, Allowed, next}
@@ -13,7 +13,7 @@ use Rattle.node_work.specs.Held.Bridge.{BridgeAct, Put, Took, Got, Believed, Gav
 use Rattle.node_work.specs.Held.Connections.{Opened, Fed, Accepted, Roomed, Closed}
 use Rattle.node_work.specs.Held.Sessions.{Begun, Called, Over}
 use Rattle.node_work.specs.View.{Place, HeldView, fresh}
-use Rattle.node_laws.specs.Moves.{Move, Acted, Reopened, Moves}
+use Rattle.law_nodes.specs.Moves.{Move, Acted, Reopened, Moves}
 use Rattle.cluster_play.proofs.Bridging.{get_changed, one_of_alike}
 
 -- of a new lane nothing goes

@@ -19,16 +19,16 @@ use Rattle.mqtt_sessions.specs.Answers.{disconnect, fits}
 use Rattle.mqtt_sessions.specs.Reaction.{Reaction, nothing}
 use Rattle.mqtt_sessions.specs.State.{limit_in}
 use Rattle.mqtt_topics.specs.Topics.{IsFilter}
-use Rattle.message_copies.specs.declared.plain.PlainCopy.{PlainCopy as Copy}
-use Rattle.due_times.specs.Dues.{Due}
+use Rattle.bridge_routes.specs.declared.plain.PlainCopy.{PlainCopy as Copy}
+use Rattle.session_table.specs.Dues.{Due}
 use Rattle.replica_store.specs.declared.operation.Operation.{Operation}
 use Rattle.replica_store.specs.Making.{subscribe_of}
 use Rattle.replica_store.specs.States.{State}
-use Rattle.session_laws.specs.Runs.{Event, connects, queues, rooms, takes, answers, closes, ticks, finishes}
+use Rattle.law_sessions.specs.Runs.{Event, connects, queues, rooms, takes, answers, closes, ticks, finishes}
 use Rattle.session_table.specs.Calls.{stays, leaves, moves}
 use Rattle.session_table.specs.Seats.{Seat, run_outs, wills_due, ends_due, connected}
 use Rattle.home_table.specs.Table.{Table}
-use Rattle.finite_maps.proofs.Texts.{get_inserted}
+use Rattle.law_maps.proofs.Texts.{get_inserted}
 use Rattle.node_work.specs.declared.granted.Granted.{Granted}
 use Rattle.bridge_deltas.specs.declared.offer.Offer.{Offer}
 use Rattle.bridge_deltas.specs.declared.offer.Offer.TheVariants as offers
@@ -37,8 +37,8 @@ use Rattle.bridge_frames.specs.declared.body.FrameBody.TheVariants as bodies
 use Rattle.bridge_frames.specs.declared.forward.Forward.{Forward}
 use Rattle.bridge_frames.specs.declared.frame.BridgeFrame.{BridgeFrame}
 use Rattle.bridge_frames.specs.Frames.{frame_in}
-use Rattle.message_routes.specs.declared.destinations.Route.{Route}
-use Rattle.message_routes.specs.declared.destinations.Route.TheVariants.{Nothing, Lane, TooLarge}
+use Rattle.bridge_routes.specs.declared.destinations.Route.{Route}
+use Rattle.bridge_routes.specs.declared.destinations.Route.TheVariants.{Nothing, Lane, TooLarge}
 use Rattle.node_bridge.specs.View.{lane_to, offer_to}
 use Rattle.node_work.specs.declared.counts.Missed.{Missed}
 use Rattle.node_work.specs.declared.counts.Missed.TheVariants.{LaneFull, BadFrame, FrameTooLarge, TableRefused}

@@ -9,8 +9,8 @@ use Rattle.node_work.specs.declared.granted.Asked.{Asked}
 use Rattle.node_work.specs.declared.granted.Granted.{Granted}
 use Rattle.node_work.specs.Acts.{Act, Acknowledged, Session}
 use Rattle.node_work.specs.Held.Sessions.{SessionStep, Called}
-use Rattle.session_laws.specs.Runs.{queues}
-use Rattle.message_copies.specs.Deliveries.{offer_of}
+use Rattle.law_sessions.specs.Runs.{queues}
+use Rattle.bridge_routes.specs.Deliveries.{offer_of}
 use Rattle.cluster_play.specs.Runs.{Played}
 use Rattle.cluster_play.specs.Histories.{acts_of}
 

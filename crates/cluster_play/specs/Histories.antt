@@ -7,7 +7,7 @@ use Rattle.broker_node.specs.declared.event.Event.{Event}
 use Rattle.node_work.specs.declared.outcome.Output.{Output}
 use Rattle.node_work.specs.Acts.{Act, MomentTaken, Store, Made, Merged, gather, moved_in, op_in}
 use Rattle.node_work.specs.View.{fresh_node}
-use Rattle.node_laws.specs.Moves.{Move, Acted, Reopened, did}
+use Rattle.law_nodes.specs.Moves.{Move, Acted, Reopened, did}
 use Rattle.node_rows.specs.Rows.{mark, mark_key}
 use Rattle.replica_store.specs.declared.operation.Operation.{Operation}
 use Rattle.replica_store.specs.Operations.{dot_of}

@@ -10,7 +10,7 @@ use Rattle.node_rows.specs.Reading.{IsLasting}
 use Rattle.node_rows.specs.Rows.{Lasting}
 use Rattle.node_work.specs.Lasting.{lasting, IsWoken}
 use Rattle.node_work.specs.View.{HeldView, fresh}
-use Rattle.node_laws.specs.Moves.{Moves}
+use Rattle.law_nodes.specs.Moves.{Moves}
 use Rattle.cluster_play.specs.Worlds.{Site, World, Faulted, Restarted, Happens, stopped}
 use Rattle.cluster_play.specs.Runs.{Played}
 use Rattle.cluster_play.specs.Histories.{IsFirst, Reached, homes_after, site, taken, operations, moves_at}

@@ -3,12 +3,12 @@ use Rattle.std.specs.Prelude.{◌≡◌, ℕ, List, [], Some}
 use Rattle.std.specs.FinMap as map
 use Rattle.home_table.specs.Table.{Table}
 use Rattle.mqtt_sessions.specs.State.{new_session}
-use Rattle.session_laws.specs.Runs.{Run as SessionRun}
+use Rattle.law_sessions.specs.Runs.{Run as SessionRun}
 use Rattle.session_table.specs.Seats.{Seat}
 use Rattle.node_work.specs.Acts.{Act}
 use Rattle.node_work.specs.View.{HeldView, fresh}
-use Rattle.node_laws.specs.Lives.{life}
-use Rattle.node_laws.specs.Moves.{Moves}
+use Rattle.law_nodes.specs.Lives.{life}
+use Rattle.law_nodes.specs.Moves.{Moves}
 use Rattle.cluster_play.specs.Worlds.{World}
 use Rattle.cluster_play.specs.Runs.{Played}
 use Rattle.cluster_play.specs.Histories.{IsFirst, Reached, site, moves_at, moves_amid}

@@ -13,7 +13,7 @@ use Rattle.filter_trie.specs.declared.seeks.Onward.TheVariants.{Next, From, End}
 use Rattle.filter_trie.specs.Search.Onward.{Leads}
 use Rattle.filter_trie.specs.Search.Branching.{Holds, Awaits, Waits, AfterShare}
 use Rattle.filter_trie.specs.Search.Seeking.{IsBefore, IsCut, IsNext}
-use Rattle.finite_maps.proofs.Texts.{text_cmp}
+use Rattle.law_maps.proofs.Texts.{text_cmp}
 use Rattle.filter_trie.proofs.Order.{order_is, asymmetric, transitive, after_front}
 use Rattle.filter_trie.proofs.LevelLaws.{cut, levels_alone, levels_first, levels_some}
 use Rattle.filter_trie.proofs.FilterWalk.{levels_cut}

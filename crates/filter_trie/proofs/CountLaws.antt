@@ -10,7 +10,7 @@ use Rattle.std.proofs.lemmas.Bool.Decides.{nat_tests}
 use Rattle.std.proofs.lemmas.Grind.{fold-append}
 use Rattle.filter_trie.specs.Search.Counting.{turn, hash_on, hashes, one, times, total, count, Covers}
 use Rattle.filter_trie.specs.Search.Branching.{Holds}
-use Rattle.finite_maps.proofs.Texts.{text_cmp}
+use Rattle.law_maps.proofs.Texts.{text_cmp}
 
 pub hashes_length : (h : ℕ) (t : List ℕ) → length (hashes h t) ≤ length t + 1
 hashes_length h [] = omega arith

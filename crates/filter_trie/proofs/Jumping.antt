@@ -10,7 +10,7 @@ use Rattle.std.specs.BTreeMap.Range.{entries_between, range_contains}
 use Rattle.std.specs.Cmp.Lexicographic.{nat_list_cmp_total}
 use Rattle.filter_trie.specs.Selected.{IsSelected}
 use Rattle.filter_trie.specs.Search.Seeking.{IsBefore, IsNext}
-use Rattle.finite_maps.proofs.Texts.{text_cmp}
+use Rattle.law_maps.proofs.Texts.{text_cmp}
 use Rattle.filter_trie.proofs.Order.{order_is, transitive}
 use Rattle.filter_trie.proofs.Selecting.{Follows, none_here, none_later, begins as begins_list, goes_with, goes_without, silent_here, silent_later, ends}
 

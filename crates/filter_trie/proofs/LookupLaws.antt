@@ -13,7 +13,7 @@ use Rattle.filter_trie.specs.Search.Counting.{hash_on}
 use Rattle.filter_trie.specs.Search.Filing.{counted, IsFiled, AreFiled}
 use Rattle.filter_trie.specs.Search.Branching.{Holds}
 use Rattle.filter_trie.specs.Search.Seeking.{IsBefore}
-use Rattle.finite_maps.proofs.Texts.{text_cmp}
+use Rattle.law_maps.proofs.Texts.{text_cmp}
 use Rattle.filter_trie.proofs.Order.{order_is, asymmetric, transitive}
 use Rattle.filter_trie.proofs.Selecting.{none_here, none_later}
 use Rattle.filter_trie.proofs.Jumping.{After, Rises, At}

@@ -1,6 +1,6 @@
-pub mod RowLaws
-pub mod BlankLaws
-pub mod TwiceLaws
-pub mod PrefixLaws
 pub mod AutomaticLaws
+pub mod BlankLaws
 pub mod HomeLaws
+pub mod PrefixLaws
+pub mod RowLaws
+pub mod TwiceLaws

@@ -1,3 +1,4 @@
+pub mod Configurations
 pub mod Document
-pub mod Table
 pub mod Homes
+pub mod Table

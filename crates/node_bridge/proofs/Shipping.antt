@@ -4,7 +4,7 @@ use Rattle.std.specs.Prelude.{◌↔◌, IfOk, IfSome, IsNone}
 use Rattle.std.proofs.lemmas.Bool.{lt-ltb}
 use Rattle.std.proofs.lemmas.List.{length-map}
 use Rattle.causal_context.specs.SetLattice.{IsSubset}
-use Rattle.lane_rows.specs.Changes.{KeptLane}
+use Rattle.bridge_lanes.specs.Changes.{KeptLane}
 use Rattle.replica_store.specs.States.{State}
 use Rattle.bridge_deltas.specs.Links.{LinksView}
 use Rattle.bridge_deltas.specs.Shipped.{IsShipped}

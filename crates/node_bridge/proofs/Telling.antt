@@ -6,10 +6,10 @@ use Rattle.std.proofs.Math.Seq.{map-set_same}
 use Rattle.std.proofs.lemmas.List.{map-set, set-get_or}
 use Rattle.bridge_frames.specs.declared.forward.Forward.{Forward}
 use Rattle.row_store.specs.declared.row.Change.{Change}
-use Rattle.message_lanes.specs.Lanes.{Lanes, new_lane, with_got, with_took}
-use Rattle.lane_rows.specs.Changes.{AreLaneChanges, KeptLane, new_kept, now_of, told_now, told_of}
-use Rattle.lane_rows.specs.Rows.{Messages}
-use Rattle.lane_rows.proofs.Named.{so_differ, so_lead}
+use Rattle.bridge_lanes.specs.Lanes.{Lanes, new_lane, with_got, with_took}
+use Rattle.bridge_lanes.specs.Changes.{AreLaneChanges, KeptLane, new_kept, now_of, told_now, told_of}
+use Rattle.bridge_lanes.specs.Rows.{Messages}
+use Rattle.bridge_lanes.proofs.Named.{so_differ, so_lead}
 use Rattle.bridge_deltas.specs.declared.offer.Offer.{Offer}
 use Rattle.bridge_deltas.specs.declared.offer.Offer.TheVariants.{Queued, Full, AtEnd}
 use Rattle.bridge_deltas.specs.Lane.{after_offer}

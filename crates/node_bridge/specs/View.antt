@@ -5,12 +5,12 @@ use Rattle.std.specs.FinSet as set
 use Rattle.causal_context.specs.Dots.{Dots, coded_dot}
 use Rattle.causal_context.specs.SetLattice.{IsSubset}
 use Rattle.replica_store.specs.States.{State, coded_state}
-use Rattle.row_changes.specs.Leading.{AllDiffer, LeadWithin}
+use Rattle.row_store.specs.Leading.{AllDiffer, LeadWithin}
 use Rattle.row_store.specs.declared.row.Change.{Change}
-use Rattle.message_lanes.specs.Lanes.{Lanes, lane_of, with_put, with_took, with_got}
+use Rattle.bridge_lanes.specs.Lanes.{Lanes, lane_of, with_put, with_took, with_got}
 use Rattle.bridge_frames.specs.declared.forward.Forward.{Forward}
-use Rattle.lane_rows.specs.Changes.{is_lane_kind}
-use Rattle.lane_rows.specs.Rows.{Messages, row_at}
+use Rattle.bridge_lanes.specs.Changes.{is_lane_kind}
+use Rattle.bridge_lanes.specs.Rows.{Messages, row_at}
 use Rattle.bridge_deltas.specs.declared.offer.Offer.{Offer}
 use Rattle.bridge_deltas.specs.declared.offer.Offer.TheVariants.{Queued, Full, AtEnd}
 use Rattle.bridge_deltas.specs.Buffer.{with_delta}

@@ -4,8 +4,8 @@ ghost use Rattle.std.specs.Option.{option_copied};
 ghost use Rattle.causal_context.specs.SetLattice.{IsSubset};
 ghost use Rattle.bridge_deltas.specs.Lane.{first_frames, next_number};
 ghost use Rattle.bridge_deltas.specs.Links.{all_told};
-ghost use Rattle.lane_rows.specs.Changes.{now_of, told_of};
-ghost use Rattle.lane_rows.specs.Reading.{AreLanes};
+ghost use Rattle.bridge_lanes.specs.Changes.{now_of, told_of};
+ghost use Rattle.bridge_lanes.specs.Reading.{AreLanes};
 ghost use Rattle.node_bridge.specs.View.{IsToShip, LanesTell, belief_of, believes, gets, has_lanes, is_next, keeps, known_of, lane_to, offer_to, offered, takes};
 
 use bridge_deltas::{Links, Offer};
@@ -31,7 +31,7 @@ impl Drop for Bridge {
 
 impl Model for Bridge {
     ghost use Rattle.std.specs.Prelude.{◌≡◌};
-    ghost use Rattle.lane_rows.specs.Changes.{now_of, told_of};
+    ghost use Rattle.bridge_lanes.specs.Changes.{now_of, told_of};
     ghost use Rattle.node_bridge.specs.View.{BridgeView, coded_bridge};
 
     ghost Value = { BridgeView };

@@ -4,8 +4,8 @@ use Rattle.std.specs.Result.{IsErrAnd}
 use Rattle.std.proofs.lemmas.List.{map-append}
 use Rattle.filter_trie.proofs.Selecting.{Follows, begins, follows_with, follows_without, ends}
 use Rattle.home_table.specs.Homes.{IsHome}
-use Rattle.message_copies.specs.declared.groups.GroupPick.{GroupPick}
-use Rattle.message_copies.specs.declared.plain.PlainCopy.{PlainCopy as Copy}
+use Rattle.bridge_routes.specs.declared.groups.GroupPick.{GroupPick}
+use Rattle.bridge_routes.specs.declared.plain.PlainCopy.{PlainCopy as Copy}
 use Rattle.node_work.specs.declared.fault.NodeFault.{NodeFault}
 use Rattle.mqtt_message.specs.declared.message.Message.{Message}
 use Rattle.node_clients.specs.Passing.{Retains}

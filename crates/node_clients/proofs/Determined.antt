@@ -7,24 +7,24 @@ use Rattle.bridge_frames.specs.declared.pick.Pick.{Pick}
 use Rattle.home_table.specs.Homes.{IsHome}
 use Rattle.home_table.specs.Table.{IsTable, Table}
 use Rattle.home_table.proofs.HomeLaws.{home_alone}
-use Rattle.message_copies.specs.declared.plain.PlainCopy.{PlainCopy as Copy}
-use Rattle.message_copies.specs.declared.groups.GroupPick.{GroupPick}
-use Rattle.message_copies.specs.Copies.{AreCopies, Counts, IsPlainFor, plain_copy, entries_in}
-use Rattle.message_copies.specs.Deliveries.{offer_of}
-use Rattle.message_copies.specs.Gathered.{by_client, by_group}
-use Rattle.message_copies.specs.Picks.{ArePicks, IsSharedFor, pick_of, picked}
-use Rattle.message_copies.proofs.Selecting.{selected_once}
-use Rattle.message_routes.specs.declared.destinations.HomedPick.{HomedPick}
-use Rattle.message_routes.specs.declared.destinations.Route.{Route}
-use Rattle.message_routes.specs.Routes.{IsHomeOf, Pairwise, is_at, picks_at, route_of}
-use Rattle.message_routes.specs.Routes as sent
-use Rattle.message_routes.specs.Taken.{IsPicked, IsPickedCopy, copy_by}
+use Rattle.bridge_routes.specs.declared.plain.PlainCopy.{PlainCopy as Copy}
+use Rattle.bridge_routes.specs.declared.groups.GroupPick.{GroupPick}
+use Rattle.bridge_routes.specs.Copies.{AreCopies, Counts, IsPlainFor, plain_copy, entries_in}
+use Rattle.bridge_routes.specs.Deliveries.{offer_of}
+use Rattle.bridge_routes.specs.Gathered.{by_client, by_group}
+use Rattle.bridge_routes.specs.Picks.{ArePicks, IsSharedFor, pick_of, picked}
+use Rattle.bridge_routes.proofs.Selecting.{selected_once}
+use Rattle.bridge_routes.specs.declared.destinations.HomedPick.{HomedPick}
+use Rattle.bridge_routes.specs.declared.destinations.Route.{Route}
+use Rattle.bridge_routes.specs.Routes.{IsHomeOf, Pairwise, is_at, picks_at, route_of}
+use Rattle.bridge_routes.specs.Routes as sent
+use Rattle.bridge_routes.specs.Taken.{IsPicked, IsPickedCopy, copy_by}
 use Rattle.mqtt_message.specs.declared.delivery.Delivery.{Delivery}
 use Rattle.mqtt_message.specs.declared.message.Message.{Message}
 use Rattle.replica_store.specs.declared.kept.Kept.{Kept}
 use Rattle.replica_store.proofs.Answered.{one_answer}
-use Rattle.session_laws.specs.Runs.{Event}
-use Rattle.session_laws.proofs.OutcomeLaws.{one_outcome, ends_or_reacts}
+use Rattle.law_sessions.specs.Runs.{Event}
+use Rattle.law_sessions.proofs.OutcomeLaws.{one_outcome, ends_or_reacts}
 use Rattle.session_table.specs.Seats.{Seat}
 use Rattle.std.specs.List.{flat_map}
 use Rattle.subscription_set.specs.Entries.{Entry}

@@ -20,12 +20,12 @@ use Rattle.mqtt_topics.specs.Topics.{IsFilter}
 use Rattle.bridge_deltas.specs.declared.offer.Offer.{Offer}
 use Rattle.bridge_deltas.specs.declared.offer.Offer.TheVariants as offers
 use Rattle.bridge_frames.specs.declared.forward.Forward.{Forward}
-use Rattle.message_copies.specs.declared.plain.PlainCopy.{PlainCopy as Copy}
-use Rattle.message_routes.specs.declared.destinations.Route.{Route}
-use Rattle.message_routes.specs.declared.destinations.Route.TheVariants as routes
+use Rattle.bridge_routes.specs.declared.plain.PlainCopy.{PlainCopy as Copy}
+use Rattle.bridge_routes.specs.declared.destinations.Route.{Route}
+use Rattle.bridge_routes.specs.declared.destinations.Route.TheVariants as routes
 use Rattle.mqtt_message.specs.Expiry.{IsBefore}
 use Rattle.replica_store.specs.Making.{put_of, subscribe_of}
-use Rattle.session_laws.specs.Runs.{answers, closes, connects, finishes, queues, rooms, takes, ticks}
+use Rattle.law_sessions.specs.Runs.{answers, closes, connects, finishes, queues, rooms, takes, ticks}
 use Rattle.session_table.specs.Calls.{leaves, moves, stays}
 use Rattle.node_work.specs.declared.granted.Granted.{Granted}
 use Rattle.node_work.specs.declared.outcome.Output.TheVariants.{Send, Close}

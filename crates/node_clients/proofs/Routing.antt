@@ -4,12 +4,12 @@ use Rattle.std.specs.Prelude.{nat_eq}
 use Rattle.std.specs.List.{range_with_len}
 use Rattle.std.proofs.lemmas.Bool.Decides.{nat_tests}
 use Rattle.home_table.specs.Table.{Table}
-use Rattle.message_copies.specs.declared.groups.GroupPick.{GroupPick}
-use Rattle.message_copies.specs.Tables.{referents}
-use Rattle.message_routes.specs.declared.destinations.Destinations.{Destinations}
-use Rattle.message_routes.specs.declared.destinations.HomedPick.{HomedPick}
-use Rattle.message_routes.specs.declared.destinations.Route.{Route}
-use Rattle.message_routes.specs.Routes.{AreFor, IsHomeOf, IsHomed, Pairwise, pick_to}
+use Rattle.bridge_routes.specs.declared.groups.GroupPick.{GroupPick}
+use Rattle.bridge_routes.specs.Tables.{referents}
+use Rattle.bridge_routes.specs.declared.destinations.Destinations.{Destinations}
+use Rattle.bridge_routes.specs.declared.destinations.HomedPick.{HomedPick}
+use Rattle.bridge_routes.specs.declared.destinations.Route.{Route}
+use Rattle.bridge_routes.specs.Routes.{AreFor, IsHomeOf, IsHomed, Pairwise, pick_to}
 use Rattle.mqtt_message.specs.declared.message.Message.{Message}
 use Rattle.node_work.specs.Passing.{AreRoutes, others}
 use Rattle.node_work.specs.View.{Place, HeldView, nodes_of}

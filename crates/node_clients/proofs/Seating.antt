@@ -4,10 +4,10 @@ use Rattle.std.specs.Ordering.{eq_by_cmp}
 use Rattle.std.proofs.lemmas.List.{append-nil}
 use Rattle.std.proofs.lemmas.List.Elements.{filter-append}
 use Rattle.std.specs.FinMap as map
-use Rattle.finite_maps.proofs.Texts.{text_cmp, same_text, get_inserted, get_apart}
-use Rattle.message_copies.specs.declared.plain.PlainCopy.{PlainCopy as Copy}
+use Rattle.law_maps.proofs.Texts.{text_cmp, same_text, get_inserted, get_apart}
+use Rattle.bridge_routes.specs.declared.plain.PlainCopy.{PlainCopy as Copy}
 use Rattle.mqtt_sessions.specs.Reaction.{Reaction, nothing}
-use Rattle.session_laws.specs.Runs.{Event, queues}
+use Rattle.law_sessions.specs.Runs.{Event, queues}
 use Rattle.session_table.specs.Calls.{stays}
 use Rattle.session_table.specs.Seats.{Seat, Seats}
 use Rattle.node_work.specs.Acts.{Act, Runs, next}

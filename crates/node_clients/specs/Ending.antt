@@ -4,7 +4,7 @@ use Rattle.home_table.specs.Homes.{IsHome}
 use Rattle.mqtt_sessions.specs.declared.reaction.Ask.{Ask}
 use Rattle.mqtt_sessions.specs.declared.reaction.Ask.TheVariants.{Pass, Subscribe, Unsubscribe}
 use Rattle.mqtt_sessions.specs.Reaction.{Reaction}
-use Rattle.session_laws.specs.Runs.{closes, ticks, finishes}
+use Rattle.law_sessions.specs.Runs.{closes, ticks, finishes}
 use Rattle.session_table.specs.Calls.{stays, leaves}
 use Rattle.node_work.specs.declared.outcome.Output.TheVariants.{Close}
 use Rattle.node_work.specs.Acts.{Connection, Session, Out}

@@ -1,12 +1,12 @@
 -- How a message is passed on (MQTT 5.0, 3.3.1.3, 3.3.2.3.3, 3.3.4 and 4.8.2).
 use Rattle.std.specs.Prelude.{ℕ, Bool, ◌&&◌, not, List, map as map_list, Option}
 use Rattle.bridge_frames.specs.declared.forward.Forward.{Forward}
-use Rattle.message_routes.specs.declared.destinations.Destinations.{Destinations}
-use Rattle.message_routes.specs.declared.destinations.Route.{Route}
-use Rattle.message_routes.specs.Routes.{forward_at, route_of}
+use Rattle.bridge_routes.specs.declared.destinations.Destinations.{Destinations}
+use Rattle.bridge_routes.specs.declared.destinations.Route.{Route}
+use Rattle.bridge_routes.specs.Routes.{forward_at, route_of}
 use Rattle.mqtt_message.specs.declared.message.Message.{Message}
 use Rattle.mqtt_message.specs.Expiry.{IsBefore}
-use Rattle.message_copies.specs.declared.plain.PlainCopy.{PlainCopy as Copy}
+use Rattle.bridge_routes.specs.declared.plain.PlainCopy.{PlainCopy as Copy}
 use Rattle.node_work.specs.Acts.{Bridge, Passed, Dropped}
 use Rattle.node_work.specs.Calling.{Queues}
 use Rattle.node_work.specs.Doings.{MakesPut, Routes}

@@ -1,6 +1,6 @@
 -- How many bytes of PUBLISHes at QoS 1 and 2 a client's connection takes from now on.
 use Rattle.std.specs.Prelude.{ℕ, List, Option, Some, None}
-use Rattle.session_laws.specs.Runs.{rooms}
+use Rattle.law_sessions.specs.Runs.{rooms}
 use Rattle.session_table.specs.Calls.{stays}
 use Rattle.node_work.specs.Acts.{Connection}
 use Rattle.node_work.specs.Calling.{Calls}

@@ -10,7 +10,7 @@ use Rattle.mqtt_sessions.specs.declared.reaction.Ask.TheVariants as asks
 use Rattle.mqtt_sessions.specs.Aliases.{filled}
 use Rattle.mqtt_sessions.specs.Reaction.{Reaction}
 use Rattle.replica_store.specs.States.{State}
-use Rattle.session_laws.specs.Runs.{takes}
+use Rattle.law_sessions.specs.Runs.{takes}
 use Rattle.session_table.specs.Calls.{stays}
 use Rattle.node_work.specs.Calling.{Calls}
 use Rattle.node_work.specs.Held.Sessions.{aliases_at}

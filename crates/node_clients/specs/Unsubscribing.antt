@@ -2,7 +2,7 @@
 use Rattle.std.specs.Prelude.{ℕ, cond, List, [], Option, Some}
 use Rattle.mqtt_packets.specs.declared.unsubscribe.Unsubscribe.{Unsubscribe}
 use Rattle.mqtt_topics.specs.Topics.{IsFilter}
-use Rattle.session_laws.specs.Runs.{answers}
+use Rattle.law_sessions.specs.Runs.{answers}
 use Rattle.session_table.specs.Calls.{stays}
 use Rattle.node_work.specs.Calling.{Calls}
 use Rattle.node_work.specs.Doings.{Removes}

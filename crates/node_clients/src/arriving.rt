@@ -1,7 +1,7 @@
 //! How a message from another node is taken.
 
 ghost use Rattle.std.specs.Prelude.{◌≡◌, ◌≢◌, cond, true, [], IfOk, IfErr};
-ghost use Rattle.message_copies.specs.Copies.{AreCopies};
+ghost use Rattle.bridge_routes.specs.Copies.{AreCopies};
 ghost use Rattle.mqtt_message.specs.Expiry.{IsBefore};
 ghost use Rattle.node_bridge.specs.View.{is_next};
 ghost use Rattle.node_clients.specs.Passing.{TakesForward};
@@ -13,8 +13,7 @@ ghost use Rattle.subscription_set.specs.Standing.{live};
 
 use crate::passing::{joined, queue_seated, seated};
 use bridge_frames::{Forward, LaneNumber};
-use message_copies::{PlainCopy, copies};
-use message_routes::picked_copies;
+use bridge_routes::{PlainCopy, copies, picked_copies};
 use node_work::{NodeFault, Work};
 use std::alloc::Global;
 

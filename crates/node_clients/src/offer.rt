@@ -9,7 +9,7 @@ ghost use Rattle.node_work.specs.Offers.{IsOffered};
 ghost use Rattle.node_work.specs.Working.{ComesTo, Each};
 ghost use Rattle.node_work.specs.declared.fault.NodeFault.TheVariants.{NoMemory};
 
-use message_copies::offer_of;
+use bridge_routes::offer_of;
 use mqtt_fields::Text;
 use mqtt_message::Delivery;
 use node_work::{Asked, Granted, NodeFault, Work};

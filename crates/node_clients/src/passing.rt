@@ -1,9 +1,9 @@
 //! How a message is passed on.
 
 ghost use Rattle.std.specs.Prelude.{◌≡◌, ◌≢◌, ◌⊎◌, ◌+◌, ◌++◌, ◌↔◌, [], length, true, IfOk, IfErr, IsOk, IsTrue};
-ghost use Rattle.message_copies.specs.Picks.{AreShared};
-ghost use Rattle.message_copies.specs.Tables.{referents};
-ghost use Rattle.message_routes.specs.Routes.{AreFor};
+ghost use Rattle.bridge_routes.specs.Picks.{AreShared};
+ghost use Rattle.bridge_routes.specs.Tables.{referents};
+ghost use Rattle.bridge_routes.specs.Routes.{AreFor};
 ghost use Rattle.node_clients.specs.Passing.{Copies, CopiesAt, Passes, PassesWill, Retains, lacks_room, route_to, routes_to};
 ghost use Rattle.node_work.specs.Calling.{Queues, QueuesOne};
 ghost use Rattle.node_work.specs.Doings.{Routes};
@@ -12,8 +12,7 @@ ghost use Rattle.node_work.specs.Working.{ComesTo, Each, Looks};
 ghost use Rattle.node_work.specs.declared.fault.NodeFault.TheVariants.{NoMemory};
 ghost use Rattle.home_table.specs.Homes.{IsHome};
 
-use message_copies::{CopiesAndPicks, GroupPick, PlainCopy, copies_and_picks};
-use message_routes::Destinations;
+use bridge_routes::{CopiesAndPicks, Destinations, GroupPick, PlainCopy, copies_and_picks};
 use mqtt_fields::Text;
 use mqtt_message::{Message, SharedMessage};
 use node_work::{Held, NodeFault, Work};

@@ -2,7 +2,7 @@
 use Rattle.std.specs.Prelude.{ℕ, zero, suc, ◌-◌, ◌==◌, Bool, max, List, [], ◌∷◌, ◌++◌, Option, Some, None, length, option_map, slice_get, string_bytes, unwrap_or, if◌then◌else◌}
 use Rattle.std.specs.FinSet as set
 use Rattle.causal_context.specs.Dots.{Dots}
-use Rattle.dot_counts.specs.Counts.{lacking}
+use Rattle.node_figures.specs.Counts.{lacking}
 use Rattle.home_table.specs.Table.{Table}
 use Rattle.node_bridge.specs.View.{known_of, lane_to}
 use Rattle.node_work.specs.View.{HeldView}

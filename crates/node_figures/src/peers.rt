@@ -5,9 +5,9 @@ ghost use Rattle.std.specs.Option.{option_copied};
 ghost use Rattle.node_figures.specs.Peers.{away_by, lacking_by, lacking_of, missing_by, missing_of, others, peer_at, seen, waiting_of};
 ghost use Rattle.node_work.specs.View.{HeldView};
 
+use crate::count_lacking;
 use broker_node::Node;
 use causal_context::Context;
-use dot_counts::count_lacking;
 use mqtt_fields::NoMemory;
 use status_figures::Peer;
 use status_tally::{Link, Tally};

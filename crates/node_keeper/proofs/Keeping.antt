@@ -13,7 +13,7 @@ use Rattle.node_work.specs.Lasting.{held_row}
 use Rattle.node_work.specs.View.{HeldView, NodeView, Place}
 use Rattle.node_work.specs.declared.outcome.Outcome.{Outcome}
 use Rattle.node_work.specs.declared.outcome.Output.{Output}
-use Rattle.row_changes.proofs.Leaving.{content_follows}
+use Rattle.row_store.proofs.Leaving.{content_follows}
 use Rattle.row_store.specs.declared.row.Change.{Change}
 use Rattle.row_store.specs.declared.store.RowFault.{RowFault}
 use Rattle.row_store.specs.Rows.{Content, after_all}

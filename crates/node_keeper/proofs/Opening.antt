@@ -17,8 +17,8 @@ use Rattle.node_rows.specs.Rows.{Lasting, mark, mark_key, node_row}
 use Rattle.node_work.specs.Lasting.{IsWoken, held_row, lasting}
 use Rattle.node_work.specs.View.{HeldView, NodeView, Place, nodes_of, place_of}
 use Rattle.row_store.specs.declared.row.Row.{Row}
-use Rattle.row_changes.specs.Leading.{left_by, left_or}
-use Rattle.row_changes.proofs.Leaving.{changes_leave}
+use Rattle.row_store.specs.Leading.{left_by, left_or}
+use Rattle.row_store.proofs.Leaving.{changes_leave}
 use Rattle.row_store.specs.declared.row.Change.{Change}
 use Rattle.row_store.specs.Rows.{Content, Key, after_all, content_of, entry_of, key_cmp, Plain}
 use Rattle.row_store.proofs.Keys.{exact_keys, keys_total}

@@ -1,3 +1,5 @@
-pub mod Names
+pub mod BatchViews
+pub mod Batches
 pub mod Keeping
+pub mod Names
 pub mod Views

@@ -18,7 +18,7 @@ use Rattle.session_rows.specs.Rows.{main_key, copy_key, copy_row, copy_rows, row
 use Rattle.node_rows.specs.Rows.{session_row}
 use Rattle.node_rows.specs.Sessions.{AreSessions, own_row, own_rows, all_copies, session_at}
 use Rattle.node_rows.proofs.Lists.{IsAbove, all_both, all_turned, either, find_both, find_none, one_list, other_key, same_key, sorted_both, sorted_head, sorted_more, sorted_tail}
-use Rattle.lane_rows.proofs.Numbers.{bytes_rise}
+use Rattle.bridge_lanes.proofs.Numbers.{bytes_rise}
 
 -- ---- clients
 abbrev pub same_client : List ℕ → List ℕ → Bool

@@ -5,8 +5,8 @@ use Rattle.std.specs.FinMap.{find, is_sorted}
 use Rattle.std.specs.List.{AllByRecursion}
 use Rattle.std.proofs.lemmas.Bool.{cases_eq, ne_eqb}
 use Rattle.row_store.specs.Rows.{Key, key_cmp, Plain}
-use Rattle.lane_rows.specs.Changes.{is_lane_kind}
-use Rattle.lane_rows.specs.Rows as lane_rows
+use Rattle.bridge_lanes.specs.Changes.{is_lane_kind}
+use Rattle.bridge_lanes.specs.Rows as lane_rows
 use Rattle.replica_store.specs.States.{State}
 use Rattle.session_rows.specs.Durable.{Durable}
 use Rattle.replica_rows.specs.Rows.{row_at}

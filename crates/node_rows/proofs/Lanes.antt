@@ -5,19 +5,19 @@ use Rattle.std.specs.FinMap.{find, is_sorted}
 use Rattle.std.specs.List.{AllByRecursion}
 use Rattle.std.proofs.lemmas.Bool.{cases_Bool, cases_lt, ne_eqb}
 use Rattle.std.proofs.lemmas.List.{length-replicate}
-use Rattle.message_lanes.specs.Lanes.{Lanes, lane_of, new_lane, new_lanes}
+use Rattle.bridge_lanes.specs.Lanes.{Lanes, lane_of, new_lane, new_lanes}
 use Rattle.bridge_frames.specs.declared.forward.Forward.{Forward}
 use Rattle.bridge_frames.specs.Forwards.{forward}
 use Rattle.bridge_frames.proofs.ForwardLaws.{forward_is}
 use Rattle.bridge_deltas.specs.Lane.{told_lane}
 use Rattle.bridge_deltas.specs.Links.{LinksView, kept_of, new_links, opened_links}
-use Rattle.lane_rows.specs.Changes.{is_lane_kind, new_kept}
-use Rattle.lane_rows.specs.Reading.{AreLanes, AreLanesOf, AreParts, IsLane, IsMessageRow, IsPeers}
-use Rattle.lane_rows.specs.Rows.{Messages, each, last_put, message_rows, numbers_of, rows_of, waiting_of}
-use Rattle.lane_rows.proofs.Cuts.{one_cut, parts_of, starts}
-use Rattle.lane_rows.proofs.Lanes.{count_rows, one_pair}
-use Rattle.lane_rows.proofs.Leading.{IsOf, each_all, each_apart, kinds, messages_of, numbers_are, owns}
-use Rattle.lane_rows.proofs.Rising.{rows_in_order}
+use Rattle.bridge_lanes.specs.Changes.{is_lane_kind, new_kept}
+use Rattle.bridge_lanes.specs.Reading.{AreLanes, AreLanesOf, AreParts, IsLane, IsMessageRow, IsPeers}
+use Rattle.bridge_lanes.specs.Rows.{Messages, each, last_put, message_rows, numbers_of, rows_of, waiting_of}
+use Rattle.bridge_lanes.proofs.Cuts.{one_cut, parts_of, starts}
+use Rattle.bridge_lanes.proofs.Lanes.{count_rows, one_pair}
+use Rattle.bridge_lanes.proofs.Leading.{IsOf, each_all, each_apart, kinds, messages_of, numbers_are, owns}
+use Rattle.bridge_lanes.proofs.Rising.{rows_in_order}
 use Rattle.mqtt_fields.proofs.Whole.{one_value}
 use Rattle.row_store.specs.Rows.{Key, key_cmp, Plain}
 use Rattle.replica_rows.specs.Rows.{row_at}

@@ -13,8 +13,8 @@ use Rattle.subscription_set.specs.Standing.{seen_of}
 use Rattle.subscription_set.proofs.Seen.{contains-seen_of}
 use Rattle.replica_store.specs.declared.kept.Kept.{Kept}
 use Rattle.replica_store.specs.Retained.{Retained}
-use Rattle.lane_rows.specs.Reading.{AreLanesOf}
-use Rattle.message_lanes.specs.Lanes.{new_lane}
+use Rattle.bridge_lanes.specs.Reading.{AreLanesOf}
+use Rattle.bridge_lanes.specs.Lanes.{new_lane}
 use Rattle.replica_store.specs.States.{State, nothing}
 use Rattle.row_store.specs.declared.row.Row.{Row}
 use Rattle.row_store.specs.declared.store.RowFault.{RowFault}

@@ -11,8 +11,8 @@ use Rattle.mqtt_fields.specs.Field.{after}
 use Rattle.mqtt_fields.specs.Numbers.{number}
 use Rattle.mqtt_fields.specs.Reading.{◌>>=◌}
 use Rattle.mqtt_fields.proofs.NumberLaws.{number_is, wide16}
-use Rattle.row_changes.specs.Leading.{or_else, left_by, left_or}
-use Rattle.row_changes.proofs.Leaving.{or_else_else, or_else_none, second_is_last}
+use Rattle.row_store.specs.Leading.{or_else, left_by, left_or}
+use Rattle.row_store.proofs.Leaving.{or_else_else, or_else_none, second_is_last}
 use Rattle.row_store.specs.declared.row.Change.{Change}
 use Rattle.row_store.specs.declared.row.Change.TheVariants.{Put}
 use Rattle.row_store.specs.declared.row.Row.{Row}

@@ -6,8 +6,8 @@ use Rattle.std.specs.List.{AllByRecursion}
 use Rattle.bridge_deltas.specs.Links.{LinksView, opened_links}
 use Rattle.bridge_frames.specs.declared.forward.Forward.{Forward}
 use Rattle.causal_context.specs.Dots.{Dot, Dots}
-use Rattle.lane_rows.specs.Reading.{AreLanes, AreLanesOf}
-use Rattle.message_lanes.specs.Lanes.{Lanes, lane_of, new_lane}
+use Rattle.bridge_lanes.specs.Reading.{AreLanes, AreLanesOf}
+use Rattle.bridge_lanes.specs.Lanes.{Lanes, lane_of, new_lane}
 use Rattle.replica_store.specs.declared.kept.Kept.{Kept}
 use Rattle.replica_store.specs.States.{State}
 use Rattle.row_store.specs.declared.row.Row.{Row}

@@ -3,13 +3,13 @@ use Rattle.std.specs.Prelude.{◌==◌, ℕ, List, [], ◌∷◌, ◌++◌, Opti
 use Rattle.std.specs.FinMap as map
 use Rattle.std.specs.Int.{w16, w64}
 use Rattle.bridge_frames.specs.declared.forward.Forward.{Forward}
-use Rattle.lane_rows.specs.Changes.{is_lane_kind}
-use Rattle.lane_rows.specs.Rows as lane_rows
-use Rattle.message_lanes.specs.Lanes.{Lanes, new_lanes}
+use Rattle.bridge_lanes.specs.Changes.{is_lane_kind}
+use Rattle.bridge_lanes.specs.Rows as lane_rows
+use Rattle.bridge_lanes.specs.Lanes.{Lanes, new_lanes}
 use Rattle.mqtt_fields.specs.Field.{Field, after}
 use Rattle.mqtt_fields.specs.Numbers.{number}
 use Rattle.replica_store.specs.States.{State, nothing}
-use Rattle.row_changes.specs.Leading.{Rows}
+use Rattle.row_store.specs.Leading.{Rows}
 use Rattle.row_store.specs.Rows.{Key, key_cmp}
 use Rattle.session_rows.specs.Durable.{Durable}
 use Rattle.session_rows.specs.Rows.{rows_of}

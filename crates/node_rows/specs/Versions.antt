@@ -10,7 +10,7 @@ use Rattle.mqtt_fields.specs.Numbers.{number}
 use Rattle.causal_context.specs.Dots.{Dots}
 use Rattle.causal_context.specs.Spelling.{context}
 use Rattle.replica_rows.specs.Rows.{dots_value}
-use Rattle.row_changes.specs.Leading.{Lead, left_by, or_else}
+use Rattle.row_store.specs.Leading.{Lead, left_by, or_else}
 use Rattle.row_store.specs.declared.row.Change.{Change}
 use Rattle.row_store.specs.declared.row.Row.{Row}
 use Rattle.row_store.specs.Rows.{Content, Key, key_cmp, entry_of, Plain}

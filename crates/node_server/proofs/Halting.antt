@@ -3,9 +3,9 @@ use Rattle.std.proofs.Common.{◌≡◌, ◌<◌, ◌^◌, [], List, Option, Som
 use Rattle.std.specs.declared.alloc.Global.{Global}
 use Rattle.broker_node.specs.declared.event.Event.{Event}
 use Rattle.broker_node.specs.Idle.{IsIdle}
-use Rattle.node_batches.specs.declared.batch.BatchKeeper.{BatchKeeper}
-use Rattle.node_batches.specs.Batches.{IsDecided}
-use Rattle.node_batches.specs.Views.{node_in, rows_in}
+use Rattle.node_keeper.specs.declared.batch.BatchKeeper.{BatchKeeper}
+use Rattle.node_keeper.specs.Batches.{IsDecided}
+use Rattle.node_keeper.specs.BatchViews.{node_in, rows_in}
 use Rattle.node_keeper.specs.Keeping.{KeeperHasCauseAt, KeeperRests}
 use Rattle.node_keeper.specs.declared.fault.KeeperFault.TheVariants.{NoMemory}
 use Rattle.node_server.specs.Serving.{IsCrashed, IsHalted}

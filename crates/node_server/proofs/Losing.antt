@@ -1,9 +1,9 @@
 -- What a node has left out, told by its log.
 use Rattle.std.proofs.Common.{◌≡◌, ◌∙◌, ℕ, List, Option, Some, None, MatchOption, ap, subst, sym}
-use Rattle.client_log.specs.Answering.{IsFinished}
-use Rattle.client_log.specs.Views.{inside_of}
-use Rattle.log_lines.specs.declared.line.Loss.{Loss}
-use Rattle.node_batches.specs.Views.{node_in}
+use Rattle.door_log.specs.Answering.{IsFinished}
+use Rattle.door_log.specs.Views.{inside_of}
+use Rattle.door_log.specs.declared.line.Loss.{Loss}
+use Rattle.node_keeper.specs.BatchViews.{node_in}
 use Rattle.node_server.specs.Losses.{losses_of}
 use Rattle.node_server.specs.Stack.{LoggedNode, node_behind}
 use Rattle.node_server.specs.Views.{keeper_of}

@@ -1,10 +1,10 @@
 -- What is told of a node behind its doors is what its figures are.
 use Rattle.std.proofs.Common.{◌≡◌, ◌∙◌, ℕ, List, Some, sym, ap, subst}
 use Rattle.std.specs.Prelude.{string_bytes}
-use Rattle.client_bounds.specs.Views.{inside_of as bounded_in}
-use Rattle.client_limits.specs.Views.{inside_of as limited_in}
-use Rattle.client_log.specs.Views.{inside_of as logged_in}
-use Rattle.node_batches.specs.Views.{node_in}
+use Rattle.door_bounds.specs.Views.{inside_of as bounded_in}
+use Rattle.door_limits.specs.Views.{inside_of as limited_in}
+use Rattle.door_log.specs.Views.{inside_of as logged_in}
+use Rattle.node_keeper.specs.BatchViews.{node_in}
 use Rattle.node_figures.specs.Figures.{AreFigures}
 use Rattle.node_server.specs.Stack.{BoundedNode, LimitedNode, LoggedNode, TabledNode, TalliedNode}
 use Rattle.node_server.specs.Status.{IsTold, served_behind}
@@ -15,7 +15,7 @@ use Rattle.node_work.specs.View.{HeldView, NodeView}
 use Rattle.status_figures.specs.declared.figures.Figures.{Figures}
 use Rattle.status_tally.specs.Views.{inside_of, tally_of}
 use Rattle.status_tally.specs.declared.tally.Tally.{Tally}
-use Rattle.table_door.specs.Views.{inside_of as tabled_in}
+use Rattle.door_tables.specs.Views.{inside_of as tabled_in}
 
 -- the figures of the node that is found behind one door after another
 pub told_of : {R F G E : Type 0} (d : TalliedNode R F G E) (logged : LoggedNode R F G E) (limited : LimitedNode R F G) (bounded : BoundedNode R F G)

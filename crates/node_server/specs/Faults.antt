@@ -1,12 +1,12 @@
 -- Why a run of a node ends before its end.
-use Rattle.broker_stop.specs.declared.run_fault.RunFault.{RunFault}
-use Rattle.broker_stop.specs.declared.run_fault.RunFault.TheVariants as runs
+use Rattle.cli_stops.specs.declared.run_fault.RunFault.{RunFault}
+use Rattle.cli_stops.specs.declared.run_fault.RunFault.TheVariants as runs
 use Rattle.broker_turns.specs.declared.turn.TurnFault.{TurnFault}
 use Rattle.broker_turns.specs.declared.turn.TurnFault.TheVariants as turns
-use Rattle.client_bounds.specs.declared.fault.BoundedFault.TheVariants as bounds
-use Rattle.client_limits.specs.declared.fault.LimitedFault.TheVariants as limits
-use Rattle.client_log.specs.declared.fault.LoggedFault.TheVariants as logs
-use Rattle.mqtt3_handler.specs.declared.fault.Mqtt3Fault.TheVariants as wraps
+use Rattle.door_bounds.specs.declared.fault.BoundedFault.TheVariants as bounds
+use Rattle.door_limits.specs.declared.fault.LimitedFault.TheVariants as limits
+use Rattle.door_log.specs.declared.fault.LoggedFault.TheVariants as logs
+use Rattle.door_mqtt3.specs.declared.fault.Mqtt3Fault.TheVariants as wraps
 use Rattle.node_keeper.specs.declared.fault.KeeperFault.{KeeperFault}
 use Rattle.node_keeper.specs.declared.fault.KeeperFault.TheVariants as keepers
 use Rattle.node_server.specs.Stack.{BoundedNodeFault, LimitedNodeFault, LoggedNodeFault, NodeFault}

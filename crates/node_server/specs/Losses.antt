@@ -1,10 +1,10 @@
 -- What a node has left out, as what a log tells of.
 use Rattle.std.specs.Prelude.{◌≡◌, ℕ, List, [], ◌∷◌, Option, Some}
-use Rattle.client_log.specs.Answering.{IsFinished}
-use Rattle.client_log.specs.Views.{inside_of}
-use Rattle.log_lines.specs.declared.line.Loss.{Loss}
-use Rattle.log_lines.specs.declared.line.Loss.TheVariants.{QueueFull, RetainedFull, PicksLost, LaneFull, BadFrames, FramesTooLarge}
-use Rattle.node_batches.specs.Views.{node_in}
+use Rattle.door_log.specs.Answering.{IsFinished}
+use Rattle.door_log.specs.Views.{inside_of}
+use Rattle.door_log.specs.declared.line.Loss.{Loss}
+use Rattle.door_log.specs.declared.line.Loss.TheVariants.{QueueFull, RetainedFull, PicksLost, LaneFull, BadFrames, FramesTooLarge}
+use Rattle.node_keeper.specs.BatchViews.{node_in}
 use Rattle.node_server.specs.Stack.{LoggedNode, node_behind}
 use Rattle.node_server.specs.Views.{keeper_of}
 use Rattle.node_work.specs.View.{HeldView}

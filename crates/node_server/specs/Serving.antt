@@ -3,9 +3,9 @@ use Rattle.std.specs.Prelude.{◌≡◌, ◌≢◌, ◌⊎◌, List, [], None}
 use Rattle.broker_node.specs.declared.event.Event.{Event}
 use Rattle.broker_sockets.specs.declared.bridge.Given.{Given}
 use Rattle.broker_sockets.specs.declared.events.Output.{Output as Handed}
-use Rattle.node_batches.specs.declared.batch.BatchKeeper.{BatchKeeper}
-use Rattle.node_batches.specs.Batches.{IsDecided, IsOfRows}
-use Rattle.node_batches.specs.Views.{node_in, rows_in, waiting_in}
+use Rattle.node_keeper.specs.declared.batch.BatchKeeper.{BatchKeeper}
+use Rattle.node_keeper.specs.Batches.{IsDecided, IsOfRows}
+use Rattle.node_keeper.specs.BatchViews.{node_in, rows_in, waiting_in}
 use Rattle.node_keeper.specs.declared.fault.KeeperFault.{KeeperFault}
 use Rattle.node_keeper.specs.Keeping.{KeeperHasCauseAt}
 use Rattle.node_server.specs.Outputs.{AreForClients, AreForPeers}

@@ -1,18 +1,18 @@
 -- A served node behind its handlers: newer tables of homes, limits on what clients send, limits on clients, a log, and counts.
-use Rattle.client_bounds.specs.Views.{inside_of as bounded_in}
-use Rattle.client_bounds.specs.declared.bounded.Bounded.{Bounded}
-use Rattle.client_bounds.specs.declared.fault.BoundedFault.{BoundedFault}
-use Rattle.client_limits.specs.Views.{inside_of as limited_in}
-use Rattle.client_limits.specs.declared.fault.LimitedFault.{LimitedFault}
-use Rattle.client_limits.specs.declared.limited.Limited.{Limited}
-use Rattle.client_log.specs.declared.fault.LoggedFault.{LoggedFault}
-use Rattle.client_log.specs.declared.logged.Logged.{Logged}
-use Rattle.mqtt3_handler.specs.declared.fault.Mqtt3Fault.{Mqtt3Fault}
+use Rattle.door_bounds.specs.Views.{inside_of as bounded_in}
+use Rattle.door_bounds.specs.declared.bounded.Bounded.{Bounded}
+use Rattle.door_bounds.specs.declared.fault.BoundedFault.{BoundedFault}
+use Rattle.door_limits.specs.Views.{inside_of as limited_in}
+use Rattle.door_limits.specs.declared.fault.LimitedFault.{LimitedFault}
+use Rattle.door_limits.specs.declared.limited.Limited.{Limited}
+use Rattle.door_log.specs.declared.fault.LoggedFault.{LoggedFault}
+use Rattle.door_log.specs.declared.logged.Logged.{Logged}
+use Rattle.door_mqtt3.specs.declared.fault.Mqtt3Fault.{Mqtt3Fault}
 use Rattle.node_keeper.specs.declared.fault.KeeperFault.{KeeperFault}
 use Rattle.node_server.specs.declared.served.ServedNode.{ServedNode}
 use Rattle.status_tally.specs.declared.tallied.Tallied.{Tallied}
-use Rattle.table_door.specs.Views.{inside_of as tabled_in}
-use Rattle.table_door.specs.declared.door.Tabled.{Tabled}
+use Rattle.door_tables.specs.Views.{inside_of as tabled_in}
+use Rattle.door_tables.specs.declared.door.Tabled.{Tabled}
 
 abbrev pub TabledNode : Type 0 → Type 0 → Type 0
 TabledNode R F = Tabled (ServedNode R) F

@@ -1,7 +1,7 @@
 -- What is told of a node behind its doors.
 use Rattle.std.specs.Prelude.{◌≡◌, ℕ, Some, string_bytes}
-use Rattle.client_log.specs.Views.{inside_of as limited_in}
-use Rattle.node_batches.specs.Views.{node_in}
+use Rattle.door_log.specs.Views.{inside_of as limited_in}
+use Rattle.node_keeper.specs.BatchViews.{node_in}
 use Rattle.node_figures.specs.Figures.{AreFigures}
 use Rattle.node_server.specs.Stack.{TalliedNode, node_behind}
 use Rattle.node_server.specs.Views.{keeper_of}

@@ -4,12 +4,12 @@ ghost use Rattle.std.specs.Prelude.{◌≡◌};
 ghost use Rattle.node_server.specs.Faults.{of_bounded, of_limited, of_logged, of_mqtt3, of_node, of_turn};
 
 use crate::stack::{BoundedNodeFault, LimitedNodeFault, LoggedNodeFault, NodeFault};
-use broker_stop::RunFault;
 use broker_turns::TurnFault;
-use client_bounds::BoundedFault;
-use client_limits::LimitedFault;
-use client_log::LoggedFault;
-use mqtt3_handler::Mqtt3Fault;
+use cli_stops::RunFault;
+use door_bounds::BoundedFault;
+use door_limits::LimitedFault;
+use door_log::LoggedFault;
+use door_mqtt3::Mqtt3Fault;
 use node_keeper::KeeperFault;
 
 /// A fault of the node, as one of the run.

@@ -3,7 +3,7 @@
 ghost use Rattle.std.specs.Prelude.{◌≡◌};
 ghost use Rattle.node_server.specs.Losses.{losses_of};
 
-use log_lines::Loss;
+use door_log::Loss;
 use node_work::Counts;
 
 /// Each count, with what it counts.

@@ -3,7 +3,7 @@
 ghost use Rattle.std.specs.Prelude.{◌≡◌, ◌<◌, ◌≤◌, ◌++◌, [], ◌∷◌, length, IfOk, OnOk};
 ghost use Rattle.node_server.specs.Peers.{ArePeers, IsPeer};
 
-use broker_stop::RunFault;
+use cli_stops::RunFault;
 use home_table::HomeTable;
 use std::alloc::Global;
 use std::net::SocketAddr;

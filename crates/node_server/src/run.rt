@@ -14,22 +14,21 @@ use crate::stack::LoggedNode;
 use crate::status::{NodeTeller, StatusPlace, open_desk};
 use crate::watchers::Watchers;
 use broker_sockets::{Clock, Readiness, Sockets, bind};
-use broker_stop::RunFault;
 use broker_turns::{Hub, Setting};
-use client_bounds::{BoundLimits, Bounded};
-use client_limits::{Limited, Limits};
-use client_log::Logged;
+use cli_stops::RunFault;
+use door_bounds::{BoundLimits, Bounded, Gauge};
+use door_limits::{Limited, Limits};
+use door_log::Logged;
+use door_mqtt3::Mqtt3;
+use door_tables::{Tabled, Tables};
 use home_table::HomeTable;
-use memory_gauge::Gauge;
 use mqtt_fields::NoMemory;
-use mqtt3_handler::Mqtt3;
 use node_keeper::Keeper;
 use row_store::RowStore;
 use status_door::{OpenDesk, Told};
 use status_tally::{Tallied, Tally};
 use std::alloc::Global;
 use std::io::Write;
-use table_door::{Tabled, Tables};
 
 /// Where a node waits, where these aren't the addresses at which clients and other nodes find it.
 #[derive(Clone, Copy, Debug)]

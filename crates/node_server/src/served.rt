@@ -8,8 +8,7 @@ ghost use Rattle.node_server.specs.Serving.{IsCrashed};
 use crate::convert::{event_of, for_all, for_clients, peer_event_of};
 use broker_node::Node;
 use broker_sockets::{BridgeHandler, Event, Given, Handler, Output, PeerEvent};
-use node_batches::BatchKeeper;
-use node_keeper::{Keeper, KeeperFault};
+use node_keeper::{BatchKeeper, Keeper, KeeperFault};
 use node_work::{Counts, Output as Made};
 use row_store::RowStore;
 use std::alloc::Global;
@@ -22,7 +21,7 @@ pub struct ServedNode<R> {
 }
 
 impl<R: RowStore> ServedNode<R> {
-    ghost use Rattle.node_batches.specs.Views.{node_in, rows_in, waiting_in};
+    ghost use Rattle.node_keeper.specs.BatchViews.{node_in, rows_in, waiting_in};
     ghost use Rattle.node_keeper.specs.Views.{node_of, rows_of};
 
     /// A node that is to be served.

@@ -2,14 +2,14 @@
 //! whoever looks at these.
 
 use crate::served::ServedNode;
-use client_bounds::{Bounded, BoundedFault};
-use client_limits::{Limited, LimitedFault};
-use client_log::{Logged, LoggedFault};
-use mqtt3_handler::Mqtt3Fault;
+use door_bounds::{Bounded, BoundedFault};
+use door_limits::{Limited, LimitedFault};
+use door_log::{Logged, LoggedFault};
+use door_mqtt3::Mqtt3Fault;
+use door_tables::Tabled;
 use node_keeper::KeeperFault;
 use status_door::Told;
 use status_tally::Tallied;
-use table_door::Tabled;
 
 /// Behind a door at which newer tables of homes come, if there may be any.
 pub type TabledNode<R, F> = Tabled<ServedNode<R>, F>;

@@ -4,7 +4,7 @@ ghost use Rattle.std.specs.Prelude.{◌≡◌, IfOk, string_bytes};
 
 use crate::stack::TalliedNode;
 use broker_sockets::{Sockets, bind};
-use broker_stop::RunFault;
+use cli_stops::RunFault;
 use node_figures::figures_of;
 use row_store::RowStore;
 use status_door::{OpenDesk, Teller};

@@ -6,10 +6,10 @@ ghost use Rattle.node_server.specs.Events.{table_event};
 use crate::served::{ServedNode, hand_over};
 use broker_node::{Event, EventKind};
 use broker_sockets::Output;
+use door_tables::TakesTables;
 use home_table::HomeTable;
 use node_keeper::KeeperFault;
 use row_store::RowStore;
-use table_door::TakesTables;
 
 /// The event of a table, at a moment in milliseconds.
 fn table_event(at: u64, homes: HomeTable) -> Event
@@ -22,7 +22,7 @@ fn table_event(at: u64, homes: HomeTable) -> Event
 }
 
 impl<R: RowStore> TakesTables for ServedNode<R> {
-    ghost use Rattle.node_batches.specs.Views.{node_in};
+    ghost use Rattle.node_keeper.specs.BatchViews.{node_in};
     ghost use Rattle.node_server.specs.Events.{table_event};
     ghost use Rattle.node_server.specs.Serving.{IsAnsweredToClients, IsHalted};
 

@@ -10,9 +10,9 @@ use Rattle.bridge_deltas.specs.Links.{LinksView}
 use Rattle.bridge_deltas.specs.declared.offer.Offer.{Offer}
 use Rattle.bridge_deltas.specs.declared.offer.Offer.TheVariants.{Queued, Full, AtEnd}
 use Rattle.bridge_frames.specs.declared.forward.Forward.{Forward}
-use Rattle.lane_rows.specs.Changes.{now_of, told_of}
-use Rattle.lane_rows.specs.Reading.{AreLanes}
-use Rattle.message_lanes.specs.Lanes.{Lanes}
+use Rattle.bridge_lanes.specs.Changes.{now_of, told_of}
+use Rattle.bridge_lanes.specs.Reading.{AreLanes}
+use Rattle.bridge_lanes.specs.Lanes.{Lanes}
 use Rattle.node_bridge.specs.View.{BridgeView, LanesTell, offer_to, puts, woken_bridge}
 use Rattle.row_store.specs.declared.row.Change.{Change}
 use Rattle.node_work.specs.declared.counts.Missed.TheVariants.{LaneFull}

@@ -7,12 +7,12 @@ use Rattle.std.proofs.lemmas.List.{append-nil, take_more, map-append}
 use Rattle.mqtt_sessions.specs.declared.fault.SessionFault.{SessionFault}
 use Rattle.mqtt_sessions.specs.declared.fault.SessionFault.TheVariants as faults
 use Rattle.mqtt_sessions.specs.Reaction.{Reaction, nothing}
-use Rattle.session_laws.specs.Runs.{Event}
+use Rattle.law_sessions.specs.Runs.{Event}
 use Rattle.session_table.specs.Calls.{GoesTo, IsSpelledIf, reaction_of}
 use Rattle.session_table.specs.Seats.{Seat, Seats}
 use Rattle.session_table.specs.declared.call.Addressed.{Addressed}
-use Rattle.finite_maps.proofs.Texts.{get_inserted}
-use Rattle.row_changes.specs.Leading.{Rows}
+use Rattle.law_maps.proofs.Texts.{get_inserted}
+use Rattle.row_store.specs.Leading.{Rows}
 use Rattle.node_work.specs.declared.fault.NodeFault.{NodeFault}
 use Rattle.node_work.specs.declared.fault.NodeFault.TheVariants.{NoMemory, NumbersAtEnd, Stopped}
 use Rattle.node_work.specs.declared.outcome.Output.{Output}

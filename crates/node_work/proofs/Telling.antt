@@ -9,8 +9,8 @@ use Rattle.std.specs.List.{AllByRecursion}
 use Rattle.std.specs.Ordering.{eq_by_cmp, is_eq}
 use Rattle.mqtt_sessions.specs.Saved.{durable_of}
 use Rattle.replica_store.specs.States.{State}
-use Rattle.row_changes.specs.Leading.{AllDiffer, IsNamed, Rows, Lead, LeadWithin, Begin, OthersDiffer, first_by, left_by, left_by_one, left_or, or_else, key_in, value_in}
-use Rattle.row_changes.proofs.Leaving.{begin_on, lead_on, named_either}
+use Rattle.row_store.specs.Leading.{AllDiffer, IsNamed, Rows, Lead, LeadWithin, Begin, OthersDiffer, first_by, left_by, left_by_one, left_or, or_else, key_in, value_in}
+use Rattle.row_store.proofs.Leaving.{begin_on, lead_on, named_either}
 use Rattle.row_store.specs.declared.row.Row.{Row}
 use Rattle.row_store.specs.declared.row.Change.{Change}
 use Rattle.row_store.specs.declared.row.Change.TheVariants.{Put, Remove}
@@ -20,8 +20,8 @@ use Rattle.session_table.specs.Rows.{LeadsOn, is_session_kind, own_kind, row_in,
 use Rattle.session_table.specs.Seats.{Seat, Seats}
 use Rattle.replica_rows.specs.Changes.{AreChanges, IsNeeded, IsRight, names}
 use Rattle.replica_rows.specs.Rows.{row_at}
-use Rattle.lane_rows.specs.Changes.{is_lane_kind}
-use Rattle.lane_rows.specs.Rows as lane_rows
+use Rattle.bridge_lanes.specs.Changes.{is_lane_kind}
+use Rattle.bridge_lanes.specs.Rows as lane_rows
 use Rattle.node_bridge.specs.View.{LanesTell}
 use Rattle.node_rows.specs.Rows.{Lasting, mark, mark_at, mark_key, node_row, session_row}
 use Rattle.node_work.specs.Acts.{Act, Runs, next}

@@ -13,13 +13,13 @@ use Rattle.replica_store.specs.StateOf.{delta_of}
 use Rattle.node_work.specs.declared.granted.Granted.{Granted}
 use Rattle.node_work.specs.declared.outcome.Output.{Output}
 use Rattle.node_work.specs.declared.outcome.Output.TheVariants.{Send, Close, Frame as Release}
-use Rattle.message_routes.specs.declared.destinations.Route.{Route}
+use Rattle.bridge_routes.specs.declared.destinations.Route.{Route}
 use Rattle.node_bridge.specs.View.{keeps}
 use Rattle.node_work.specs.Held.Bridge.{BridgeAct, MayBridge, bridged, bridge_outputs, heard_of}
 use Rattle.node_work.specs.Held.Connections.{ConnectionAct, MayActOnConnection, after_connection_act}
 use Rattle.node_work.specs.Held.Sessions.{SessionAct, MayCall, called, session_outputs, more}
 use Rattle.node_work.specs.Offers.{AreOffered}
-use Rattle.message_copies.specs.declared.plain.PlainCopy.{PlainCopy as Copy}
+use Rattle.bridge_routes.specs.declared.plain.PlainCopy.{PlainCopy as Copy}
 use Rattle.node_work.specs.Passing.{IsPassed}
 use Rattle.node_work.specs.View.{Place, HeldView, nodes_of}
 

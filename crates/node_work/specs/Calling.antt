@@ -2,12 +2,12 @@
 use Rattle.std.specs.Prelude.{◌≡◌, ℕ, Bool, List, [], ◌∷◌, Option, Some, None, ◌⊎◌}
 use Rattle.mqtt_sessions.specs.Reaction.{Reaction, nothing}
 use Rattle.mqtt_sessions.specs.State.{State}
-use Rattle.session_laws.specs.Runs.{Event, queues, Reacts, ends_of}
+use Rattle.law_sessions.specs.Runs.{Event, queues, Reacts, ends_of}
 use Rattle.session_table.specs.Calls.{stays}
 use Rattle.session_table.specs.Seats.{Seat}
 use Rattle.node_work.specs.Acts.{Session}
 use Rattle.node_work.specs.Held.Sessions.{Called, seat_at}
-use Rattle.message_copies.specs.declared.plain.PlainCopy.{PlainCopy as Copy}
+use Rattle.bridge_routes.specs.declared.plain.PlainCopy.{PlainCopy as Copy}
 use Rattle.node_work.specs.Working.{Doing, Looks, Returns, Then, Each}
 
 -- one call at the node's moment, with its reaction: a step of the client's session, where it has one; it stops where the

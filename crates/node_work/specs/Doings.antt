@@ -6,8 +6,8 @@ use Rattle.bridge_frames.specs.declared.body.FrameBody.{FrameBody}
 use Rattle.bridge_frames.specs.declared.forward.Forward.{Forward}
 use Rattle.bridge_frames.specs.declared.frame.BridgeFrame.{BridgeFrame}
 use Rattle.bridge_frames.specs.Frames.{content, limit}
-use Rattle.message_routes.specs.declared.destinations.Route.{Route}
-use Rattle.message_routes.specs.declared.destinations.Route.TheVariants.{Nothing, Lane, TooLarge}
+use Rattle.bridge_routes.specs.declared.destinations.Route.{Route}
+use Rattle.bridge_routes.specs.declared.destinations.Route.TheVariants.{Nothing, Lane, TooLarge}
 use Rattle.mqtt_packets.specs.declared.packet.Packet.{Packet}
 use Rattle.node_bridge.specs.View.{offer_to}
 use Rattle.node_work.specs.declared.counts.Missed.{Missed}

@@ -1,10 +1,10 @@
 -- Which copies of a message from another node a node makes (MQTT 5.0, 4.8.2).
 use Rattle.std.specs.Prelude.{◌≡◌, ℕ, suc, ◌+◌, ◌⊎◌, cond, List, [], ◌∷◌, ◌++◌, length, Option, Some, None}
 use Rattle.bridge_frames.specs.declared.forward.Forward.{Forward}
-use Rattle.message_copies.specs.declared.plain.PlainCopy.{PlainCopy as Copy}
-use Rattle.message_copies.specs.Copies.{AreCopies}
-use Rattle.message_routes.specs.Routes.{Pairwise}
-use Rattle.message_routes.specs.Taken.{IsPickedCopy}
+use Rattle.bridge_routes.specs.declared.plain.PlainCopy.{PlainCopy as Copy}
+use Rattle.bridge_routes.specs.Copies.{AreCopies}
+use Rattle.bridge_routes.specs.Routes.{Pairwise}
+use Rattle.bridge_routes.specs.Taken.{IsPickedCopy}
 use Rattle.mqtt_message.specs.Expiry.{IsBefore}
 use Rattle.subscription_set.specs.Standing.{live}
 use Rattle.node_work.specs.Passing.{seated, unseated}

@@ -4,13 +4,13 @@ use Rattle.std.specs.FinMap as map
 use Rattle.bridge_deltas.specs.Links.{LinksView, opened_links}
 use Rattle.bridge_frames.specs.declared.forward.Forward.{Forward}
 use Rattle.home_table.specs.Table.{Table}
-use Rattle.lane_rows.specs.Reading.{AreLanes}
-use Rattle.message_lanes.specs.Lanes.{Lanes}
+use Rattle.bridge_lanes.specs.Reading.{AreLanes}
+use Rattle.bridge_lanes.specs.Lanes.{Lanes}
 use Rattle.mqtt_sessions.specs.Saved.{durable_of}
 use Rattle.node_rows.specs.Reading.{AreOpened}
 use Rattle.node_rows.specs.Rows.{Lasting, node_row}
 use Rattle.replica_store.specs.States.{State}
-use Rattle.row_changes.specs.Leading.{AllDiffer, Rows, IsNamed, Lead, LeadWithin, Begin}
+use Rattle.row_store.specs.Leading.{AllDiffer, Rows, IsNamed, Lead, LeadWithin, Begin}
 use Rattle.row_store.specs.declared.row.Change.{Change}
 use Rattle.row_store.specs.Rows.{Key}
 use Rattle.session_rows.specs.Durable.{IsDurable}

@@ -1,6 +1,6 @@
 -- The retained messages that a SUBSCRIBE asks for, on their way to the client (MQTT 5.0, 3.3.1.3 and 3.8.4).
 use Rattle.std.specs.Prelude.{◌≡◌, ℕ, List, [], ◌∷◌, ◌++◌, map as map_list, Option, Some, None}
-use Rattle.message_copies.specs.Deliveries.{offer_of}
+use Rattle.bridge_routes.specs.Deliveries.{offer_of}
 use Rattle.mqtt_message.specs.declared.delivery.Delivery.{Delivery}
 use Rattle.mqtt_message.specs.declared.message.Message.{Message}
 use Rattle.replica_store.specs.declared.kept.Kept.{Kept}

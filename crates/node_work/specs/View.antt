@@ -7,7 +7,7 @@ use Rattle.std.specs.FinMap as map
 use Rattle.mqtt_packets.specs.Stream.{Held}
 use Rattle.bridge_frames.specs.declared.forward.Forward.{Forward}
 use Rattle.home_table.specs.Table.{Table, coded_table}
-use Rattle.message_lanes.specs.Lanes.{Lanes, new_lanes}
+use Rattle.bridge_lanes.specs.Lanes.{Lanes, new_lanes}
 use Rattle.node_bridge.specs.View.{BridgeView, woken_bridge, coded_bridge}
 use Rattle.replica_store.specs.States.{State, nothing, coded_state}
 use Rattle.session_table.specs.Seats.{Seats, coded_seats}

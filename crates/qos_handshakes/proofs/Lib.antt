@@ -1,10 +1,11 @@
 pub mod Advanced
 pub mod Arrivals
 pub mod Counted
+pub mod EntryLaws
 pub mod First
 pub mod Indexed
 pub mod Marking
-pub mod EntryLaws
+pub mod Notes
 pub mod Ordered
 pub mod Owed
 pub mod RangeLaws

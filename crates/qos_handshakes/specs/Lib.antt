@@ -1,7 +1,8 @@
 pub mod Entries
-pub mod Length
 pub mod Incoming
 pub mod Lending
+pub mod Length
+pub mod Noted
 pub mod Outbox
 pub mod Restored
 pub mod Restoring

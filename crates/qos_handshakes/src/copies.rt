@@ -12,9 +12,9 @@ ghost use Rattle.qos_handshakes.specs.Restoring.{IsPadded};
 ghost use Rattle.qos_handshakes.specs.Touched.{IsPlaceOf};
 ghost use Rattle.qos_handshakes.specs.Outbox.{waits, waiting_entry, away, is_owed, stage_id, stage_order, HaveOrders, order_above, by_release};
 
+use crate::Slots;
 use mqtt_fields::NoMemory;
 use mqtt_message::Delivery;
-use slot_table::Slots;
 use std::alloc::Global;
 use std::collections::BTreeMap;
 use std::marker::Model;

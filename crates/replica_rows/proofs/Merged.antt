@@ -27,7 +27,7 @@ use Rattle.row_store.specs.Rows.{Key, entry_of}
 use Rattle.replica_bytes.specs.Values.{dot, subscription, subscription_in, kept}
 use Rattle.replica_bytes.proofs.Wholes.{kept_is}
 use Rattle.replica_rows.specs.Rows.{row_at}
-use Rattle.row_changes.specs.Leading.{key_in}
+use Rattle.row_store.specs.Leading.{key_in}
 use Rattle.replica_rows.specs.Changes.{names, IsRight, IsNeeded}
 use Rattle.replica_rows.specs.Steps.{AddsDue, AddsLeaving, subscription_key, Leaves}
 use Rattle.replica_rows.proofs.Naming.{adds_none, adds_one, names_last}

@@ -12,7 +12,7 @@ use Rattle.row_store.proofs.CellLemmas.{ties}
 use Rattle.replica_store.specs.States.{State}
 use Rattle.replica_rows.specs.Rows.{row_at}
 use Rattle.replica_rows.specs.Steps.{Adds}
-use Rattle.row_changes.specs.Leading.{key_in}
+use Rattle.row_store.specs.Leading.{key_in}
 use Rattle.replica_rows.specs.Changes.{names, IsRight, IsNeeded, AreChanges, LeadBetween}
 
 by_bool : (b : Bool) {P : Type 0} → (b ≡ true → P) → (b ≡ false → P) → P

@@ -7,7 +7,7 @@ use Rattle.mqtt_fields.specs.declared.fault.FieldFault.{FieldFault}
 use Rattle.mqtt_fields.specs.declared.fault.FieldFault.TheVariants.{Short, Malformed, Repeated, NotHere, NoMemory}
 use Rattle.causal_context.specs.Dots.{Dot, Dots, dot_cmp, dot_cmp_total, dot_cmp_antisym}
 use Rattle.subscription_set.specs.declared.entry.Entry.{Entry}
-use Rattle.finite_maps.proofs.Tables.{get_table, insert_table}
+use Rattle.law_maps.proofs.Tables.{get_table, insert_table}
 use Rattle.replica_bytes.specs.Values.{dot}
 use Rattle.replica_bytes.proofs.Wholes.{dot_is}
 use Rattle.mqtt_fields.specs.Reading.{Finds}

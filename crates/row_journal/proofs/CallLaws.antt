@@ -13,7 +13,7 @@ use Rattle.std.proofs.lemmas.Result.{IfOk-weaker}
 use Rattle.std.proofs.lemmas.List.{take-append-drop}
 use Rattle.row_store.specs.declared.row.Row.{Row}
 use Rattle.row_store.specs.Rows.{Content, after_all, entry_of}
-use Rattle.row_changes.specs.Noted.{Pair, pair_of}
+use Rattle.row_store.specs.Noted.{Pair, pair_of}
 use Rattle.row_journal.specs.Calls.{Loads, Makes}
 use Rattle.row_journal.specs.Spelling.{Tells, turn}
 use Rattle.row_journal.proofs.EndLaws.{items_fit, items_length}

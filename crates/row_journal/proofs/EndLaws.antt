@@ -10,7 +10,7 @@ use Rattle.mqtt_fields.specs.declared.fault.FieldFault.TheVariants.{Short, Malfo
 use Rattle.mqtt_fields.specs.Reading.{Fails}
 use Rattle.row_store.specs.Rows.{Key}
 use Rattle.row_journal.specs.Fields.{or_malformed}
-use Rattle.row_changes.specs.Noted.{Pair}
+use Rattle.row_store.specs.Noted.{Pair}
 use Rattle.row_journal.specs.Spelling.{Item, Tells, Value, ValueFits, common, common_end, ended, is_long, item, items_of, last_put, pair_onto, pairs_in, pairs_onto, put_by, value_in, value_of}
 use Rattle.row_journal.specs.Spelling.Value.{Removed, Whole, Ended}
 

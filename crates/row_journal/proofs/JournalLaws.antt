@@ -17,7 +17,7 @@ use Rattle.row_store.proofs.Keys.{keys_total, exact_keys, equal_is}
 use Rattle.row_store.specs.declared.row.Change.{Change}
 use Rattle.row_store.specs.declared.row.Change.TheVariants.{Put, Remove}
 use Rattle.row_store.specs.Rows.{Key, Content, key_cmp, after, after_all}
-use Rattle.row_changes.specs.Noted.{Pair, pair_of}
+use Rattle.row_store.specs.Noted.{Pair, pair_of}
 use Rattle.row_journal.specs.Journal.{after_pair, after_pairs, is_other, others, entry_key, removals, AreOthers, HasTurns}
 
 -- changes make of a content what their pairs make of it

@@ -5,8 +5,8 @@ use Rattle.std.specs.FinMap.{get, get-insert, get-remove, same_map}
 use Rattle.row_store.proofs.Keys.{keys_total, exact_keys, equal_is}
 use Rattle.row_store.specs.declared.row.Change.{Change}
 use Rattle.row_store.specs.Rows.{Key, Content, key_cmp}
-use Rattle.row_changes.specs.Leading.{key_in, value_in, left_by, or_else}
-use Rattle.row_changes.specs.Noted.{Pair, pair_of}
+use Rattle.row_store.specs.Leading.{key_in, value_in, left_by, or_else}
+use Rattle.row_store.specs.Noted.{Pair, pair_of}
 use Rattle.row_journal.specs.Journal.{AreOthers, NamesWithin, after_pair, after_pairs, is_other, names}
 use Rattle.row_journal.proofs.JournalLaws.{at_itself}
 

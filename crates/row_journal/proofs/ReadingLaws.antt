@@ -11,7 +11,7 @@ use Rattle.row_store.specs.declared.row.Change.{Change}
 use Rattle.row_store.specs.declared.row.Row.{Row}
 use Rattle.row_store.specs.declared.store.RowFault.{RowFault}
 use Rattle.row_store.specs.Rows.{Key, Plain, Content, entry_of, key_cmp}
-use Rattle.row_changes.specs.Noted.{Pair, pair_of}
+use Rattle.row_store.specs.Noted.{Pair, pair_of}
 use Rattle.std.specs.Int.{w64}
 use Rattle.std.specs.Prelude.{IsTrue}
 use Rattle.std.proofs.lemmas.Bool.{eqb-true}

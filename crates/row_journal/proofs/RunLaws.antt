@@ -3,7 +3,7 @@ use Rattle.std.proofs.Common.{◌≡◌, ◌<◌, ◌+◌, ◌^◌, ℕ, suc, le
 use Rattle.std.specs.List.{AllByRecursion}
 use Rattle.std.specs.FinMap.{insert}
 use Rattle.row_store.specs.Rows.{Content}
-use Rattle.row_changes.specs.Noted.{Pair}
+use Rattle.row_store.specs.Noted.{Pair}
 use Rattle.row_journal.specs.Spelling.{turn}
 use Rattle.row_journal.specs.Journal.{HasTurns, after_pairs, entry_key, others, removals}
 use Rattle.row_journal.specs.Laws.{AllIsShown, CanBeWritten, ChangesArePairs, FoldIsTurns, JournalIsOne, NamedAreHidden, TurnsAreShown, all_of, written}

@@ -11,7 +11,7 @@ use Rattle.std.proofs.lemmas.Bool.{cases_Bool}
 use Rattle.row_store.proofs.Keys.{keys_total, exact_keys, equal_is}
 use Rattle.row_store.proofs.Sorted.{entries_are}
 use Rattle.row_store.specs.Rows.{Key, Content, key_cmp}
-use Rattle.row_changes.specs.Noted.{Pair}
+use Rattle.row_store.specs.Noted.{Pair}
 use Rattle.row_journal.specs.Spelling.{turn}
 use Rattle.row_journal.specs.Journal.{after_pairs, is_entry, journal, others, read_whole, turn_in, shown, entry_key, removals, AreOthers, HasTurns, NamesWithin}
 use Rattle.row_journal.specs.Reading.{numbered}

@@ -17,9 +17,9 @@ use Rattle.row_store.specs.Cells.{Cell, cell_at, plain_key}
 use Rattle.row_store.specs.Rows.{Key, Content, entry_of, key_cmp, key_of, after_all}
 use Rattle.row_store.proofs.CellLemmas.{Sets, at_key, same_key, ties}
 use Rattle.row_store.proofs.Keys.{keys_total, exact_keys}
-use Rattle.row_changes.specs.Gathered.{AreOnce}
-use Rattle.row_changes.specs.Leading.{key_in, value_in, left_by, left_by_one, left_or, or_else}
-use Rattle.row_changes.proofs.Leaving.{changes_leave, second_is_last}
+use Rattle.row_store.specs.Gathered.{AreOnce}
+use Rattle.row_store.specs.Leading.{key_in, value_in, left_by, left_by_one, left_or, or_else}
+use Rattle.row_store.proofs.Leaving.{changes_leave, second_is_last}
 use Rattle.row_journal.specs.Journal.{is_other, others}
 use Rattle.row_journal.proofs.JournalLaws.{get_other}
 use Rattle.row_journal.specs.Tops.{Allows, AllowsRow, Covers, Grows, IsIdle, IsNumbered, Leaves, Tops, is_within, may_have, shelf}

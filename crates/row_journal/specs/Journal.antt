@@ -8,7 +8,7 @@ use Rattle.mqtt_fields.specs.declared.fault.FieldFault.{FieldFault}
 use Rattle.mqtt_fields.specs.Numbers.{number}
 use Rattle.row_store.specs.declared.row.Change.{Change}
 use Rattle.row_store.specs.Rows.{Key, Plain, Content, key_cmp}
-use Rattle.row_changes.specs.Noted.{Pair, pair_of}
+use Rattle.row_store.specs.Noted.{Pair, pair_of}
 use Rattle.row_journal.specs.Spelling.{turn}
 
 -- a content after a change, and after several

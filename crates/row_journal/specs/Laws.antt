@@ -4,7 +4,7 @@ use Rattle.std.specs.List.{AllByRecursion}
 use Rattle.std.specs.FinMap.{insert}
 use Rattle.row_store.specs.declared.row.Change.{Change}
 use Rattle.row_store.specs.Rows.{Content, after_all}
-use Rattle.row_changes.specs.Noted.{Pair, pair_of}
+use Rattle.row_store.specs.Noted.{Pair, pair_of}
 use Rattle.row_journal.specs.Spelling.{turn}
 use Rattle.row_journal.specs.Journal.{AreOthers, HasTurns, NamesWithin, after_pairs, entry_key, removals, shown}
 

@@ -3,7 +3,7 @@ use Rattle.std.specs.Prelude.{◌≡◌, ℕ, suc, List, [], ◌∷◌, length, 
 use Rattle.std.specs.List.{AllByRecursion, filter}
 use Rattle.row_store.specs.declared.row.Change.{Change}
 use Rattle.row_store.specs.Rows.{Plain}
-use Rattle.row_changes.specs.Noted.{Pair, pair_of}
+use Rattle.row_store.specs.Noted.{Pair, pair_of}
 use Rattle.row_journal.specs.Spelling.{turn}
 use Rattle.row_journal.specs.Journal.{AreOthers, entry_key, is_entry}
 

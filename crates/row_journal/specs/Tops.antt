@@ -9,8 +9,8 @@ use Rattle.row_store.specs.declared.row.Change.{Change}
 use Rattle.row_store.specs.declared.row.Change.TheVariants.{Put, Remove}
 use Rattle.row_store.specs.Cells.{Cell, cell_at}
 use Rattle.row_store.specs.Rows.{Key, Content, key_of}
-use Rattle.row_changes.specs.Leading.{key_in, left_by, value_in}
-use Rattle.row_changes.specs.Gathered.{AreOnce}
+use Rattle.row_store.specs.Leading.{key_in, left_by, value_in}
+use Rattle.row_store.specs.Gathered.{AreOnce}
 use Rattle.row_journal.specs.Journal.{IsNoted}
 
 -- the greatest places, each under its kind and owner and no place

@@ -2,7 +2,7 @@
 
 ghost use Rattle.std.specs.Prelude.{◌≡◌, ◌<◌, ◌+◌, ◌^◌, length, map, IsTrue, OnOk};
 ghost use Rattle.std.specs.List.{AllByRecursion};
-ghost use Rattle.row_changes.specs.Noted.{pair_of};
+ghost use Rattle.row_store.specs.Noted.{pair_of};
 ghost use Rattle.row_store.specs.Rows.{after_all};
 ghost use Rattle.row_journal.specs.Calls.{Loads, Makes};
 ghost use Rattle.row_journal.specs.Journal.{AreOthers, shown};

@@ -2,7 +2,7 @@
 
 ghost use Rattle.std.specs.Prelude.{◌≡◌, [], length, map, IfOk};
 ghost use Rattle.mqtt_fields.specs.Reading.{Gives};
-ghost use Rattle.row_changes.specs.Noted.{pair_of, plain_value};
+ghost use Rattle.row_store.specs.Noted.{pair_of, plain_value};
 ghost use Rattle.row_journal.specs.Fields.{listed, or_malformed, values_at};
 ghost use Rattle.row_journal.specs.Items.{item_of, plain};
 ghost use Rattle.row_journal.specs.Spelling as spec;

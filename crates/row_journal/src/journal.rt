@@ -2,7 +2,7 @@
 
 ghost use Rattle.std.specs.Prelude.{◌≡◌, ◌<◌, ◌≤◌, ◌↔◌, ◌^◌, ◌+◌, ◌++◌, ◌∷◌, [], drop, length, map, take, vec_len, vec_capacity, IfOk, IsTrue, OnOk, Some, true};
 ghost use Rattle.std.specs.List.{AllByRecursion};
-ghost use Rattle.row_changes.specs.Noted.{pair_of};
+ghost use Rattle.row_store.specs.Noted.{pair_of};
 ghost use Rattle.row_store.specs.Rows.{Content, after_all};
 ghost use Rattle.row_journal.specs.Journal.{AreOthers, NamesWithin, after_pairs, entry_key, is_other, removals};
 ghost use Rattle.row_journal.specs.Spelling as spec;
@@ -10,8 +10,7 @@ ghost use Rattle.row_journal.specs.Tops.{Allows, Covers, Grows, IsKept};
 
 use crate::spelled::{JOURNAL, spell_turn, whole_len};
 use crate::tops::{Tops, needed, take_changes};
-use row_changes::last_of_each;
-use row_store::{Change, Row};
+use row_store::{Change, Row, last_of_each};
 use std::alloc::{AllocError, Global};
 
 /// As many changes as a piece of a fold has, and as many bytes, unless its first change takes more; or twice as many as the turn has that makes it, if

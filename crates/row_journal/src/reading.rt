@@ -5,7 +5,7 @@ ghost use Rattle.std.specs.FinMap.{entries};
 ghost use Rattle.std.specs.Int.{w64};
 ghost use Rattle.mqtt_fields.specs.Numbers.{number};
 ghost use Rattle.mqtt_fields.specs.Reading.{Finds};
-ghost use Rattle.row_changes.specs.Noted.{Pair, pair_of};
+ghost use Rattle.row_store.specs.Noted.{Pair, pair_of};
 ghost use Rattle.row_store.specs.Rows.{Content, Plain, entry_of, key_of};
 ghost use Rattle.row_journal.specs.Journal.{AreOthers, IsJournaled, entry_key};
 ghost use Rattle.row_journal.specs.Tops.{IsKept};

@@ -1,6 +1,6 @@
 -- What ends a run.
-use Rattle.broker_stop.specs.declared.run_fault.RunFault.{RunFault}
-use Rattle.broker_stop.specs.declared.run_fault.RunFault.TheVariants as runs
+use Rattle.cli_stops.specs.declared.run_fault.RunFault.{RunFault}
+use Rattle.cli_stops.specs.declared.run_fault.RunFault.TheVariants as runs
 use Rattle.cluster_play.specs.declared.fault.PlayFault.{PlayFault}
 use Rattle.cluster_play.specs.declared.fault.PlayFault.TheVariants as plays
 

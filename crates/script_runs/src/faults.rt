@@ -3,7 +3,7 @@
 ghost use Rattle.std.specs.Prelude.{◌≡◌};
 ghost use Rattle.script_runs.specs.Faults.{played};
 
-use broker_stop::RunFault;
+use cli_stops::RunFault;
 use cluster_play::PlayFault;
 
 /// A step that is refused.

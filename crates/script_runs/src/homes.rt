@@ -1,9 +1,8 @@
 //! The table of homes that a script stands for.
 
 use broker_script::Command;
-use broker_stop::{RunFault, Stop};
-use home_table::HomeTable;
-use numbered_homes::nodes_text;
+use cli_stops::{RunFault, Stop};
+use home_table::{HomeTable, nodes_text};
 use std::alloc::Global;
 
 /// A table for each of so many nodes, all with the homes of a script.

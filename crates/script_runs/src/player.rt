@@ -1,7 +1,7 @@
 //! What a script is run over.
 
 use crate::faults::of_step;
-use broker_stop::RunFault;
+use cli_stops::RunFault;
 use cluster_play::{Cluster, Step, Trace};
 
 /// A cluster that is played step by step.

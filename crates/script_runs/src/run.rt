@@ -5,7 +5,7 @@ use crate::homes::tables_of;
 use crate::player::{Plain, Player};
 use crate::steps::Scene;
 use broker_script::{Command, parse_script};
-use broker_stop::{RunFault, Stop};
+use cli_stops::{RunFault, Stop};
 use cluster_play::Cluster;
 use home_table::HomeTable;
 use std::alloc::{AllocError, Global};

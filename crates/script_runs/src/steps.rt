@@ -3,7 +3,7 @@
 use crate::homes::{Home, moved_table};
 use broker_node::{Event, EventKind};
 use broker_script::{Command, NodeEvent};
-use broker_stop::{RunFault, Stop};
+use cli_stops::{RunFault, Stop};
 use cluster_play::Step;
 use mqtt_fields::Text;
 use mqtt_packets::Bytes;

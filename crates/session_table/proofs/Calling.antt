@@ -11,7 +11,7 @@ use Rattle.mqtt_sessions.specs.Saved.{Saved, state_of}
 use Rattle.mqtt_sessions.specs.State.{State, aliases_of, limit_of, new_session}
 use Rattle.mqtt_sessions.specs.declared.fault.SessionFault.{SessionFault}
 use Rattle.mqtt_sessions.specs.declared.fault.SessionFault.TheVariants.{NoMemory, NumbersAtEnd, Spent, BadRow}
-use Rattle.session_laws.specs.Runs.{Event, connects, queues, rooms, takes, answers, closes, ticks, finishes, loses, Reacts, step_of, MayCome, wants_of, ends_of}
+use Rattle.law_sessions.specs.Runs.{Event, connects, queues, rooms, takes, answers, closes, ticks, finishes, loses, Reacts, step_of, MayCome, wants_of, ends_of}
 use Rattle.session_table.specs.Seats.{Seat, Seats}
 use Rattle.mqtt_sessions.specs.Connecting.{MayConnectIf}
 use Rattle.mqtt_packets.specs.declared.connect.Connect.{Connect as ConnectPacket}
@@ -24,8 +24,8 @@ use Rattle.session_table.specs.Wants.{WantsAt, WantsToTell, HasNewMoment, keeps_
 use Rattle.session_table.specs.declared.listing.Listing.{Listing}
 use Rattle.session_table.specs.declared.moments.Moments.{Moments}
 use Rattle.session_table.specs.declared.seated.Seated.{Seated}
-use Rattle.due_times.specs.Dues.{Dues, due_cmp}
-use Rattle.finite_maps.proofs.Texts.{remove_absent, get_apart, get_inserted, get_removed, get_left}
+use Rattle.session_table.specs.Dues.{Dues, due_cmp}
+use Rattle.law_maps.proofs.Texts.{remove_absent, get_apart, get_inserted, get_removed, get_left}
 use Rattle.session_table.proofs.SeatMaps.{get_seat, seats_insert}
 use Rattle.session_table.proofs.Lists.{listed_again, relists_then, listed_put, listed_out, each_put, each_out, each_but}
 

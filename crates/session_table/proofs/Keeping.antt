@@ -25,7 +25,7 @@ use Rattle.mqtt_sessions.specs.Reaction.{Reaction, Outcome, answered}
 use Rattle.mqtt_sessions.specs.Saved.{durable_of, is_single, keeps_main}
 use Rattle.mqtt_sessions.specs.Sending.{QueueIf, is_once}
 use Rattle.mqtt_sessions.specs.State.{State, Link, aliases_of, cut, heard, limit_of}
-use Rattle.session_laws.specs.Runs.{Event, connects, queues, rooms, takes, answers, closes, ticks, finishes, loses, Reacts}
+use Rattle.law_sessions.specs.Runs.{Event, connects, queues, rooms, takes, answers, closes, ticks, finishes, loses, Reacts}
 use Rattle.session_table.specs.Wants.{is_unexpected, leaves_rows}
 
 -- an outcome that leaves what outlives connections

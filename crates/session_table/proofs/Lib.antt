@@ -1,7 +1,9 @@
-pub mod SeatMaps
-pub mod Keeping
-pub mod RowLaws
-pub mod Lists
 pub mod Calling
+pub mod Keeping
+pub mod Lists
 pub mod Numbers
+pub mod RowLaws
+pub mod SeatMaps
+pub mod Tables
+pub mod Taking
 pub mod Walking

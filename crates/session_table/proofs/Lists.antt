@@ -2,13 +2,13 @@
 use Rattle.std.proofs.Common.{◌≡◌, ℕ, Bool, true, false, cond, ◌&&◌, List, Option, Some, None, nat_cmp, Ordering, Less, Equal, Greater, refl, sym, ap, subst, ◌∙◌}
 use Rattle.std.specs.Ordering.{is_eq, eq_by_cmp, ordering_then}
 use Rattle.std.specs.FinMap as map
-use Rattle.due_times.specs.Dues.{Due, Dues, due_cmp}
-use Rattle.due_times.proofs.Tables.{has_inserted, has_removed}
+use Rattle.session_table.specs.Dues.{Due, Dues, due_cmp}
+use Rattle.session_table.proofs.Tables.{has_inserted, has_removed}
 use Rattle.session_table.specs.Listing.{Table, text_cmp, IsAt, KeepsOthers, IsListedAt, Relists, IsListed, listed_in, no_moments}
 use Rattle.session_table.specs.declared.listing.Listing.{Listing}
 use Rattle.session_table.specs.declared.moments.Moments.{Moments}
 use Rattle.session_table.specs.declared.seated.Seated.{Seated}
-use Rattle.finite_maps.proofs.Texts.{same_text, itself, get_inserted, get_apart, get_removed, get_left}
+use Rattle.law_maps.proofs.Texts.{same_text, itself, get_inserted, get_apart, get_removed, get_left}
 
 then_eq : (a b : Ordering) → is_eq (ordering_then a b) ≡ (is_eq a && is_eq b)
 then_eq Less b = refl

@@ -8,8 +8,8 @@ use Rattle.std.specs.FinMap as map
 use Rattle.std.specs.List.{filter, flat_map, list_any}
 use Rattle.std.specs.Option.{option_map}
 use Rattle.std.specs.Ordering.{is_eq, is_lt, eq_by_cmp}
-use Rattle.due_times.specs.Dues.{Due, Dues, due_cmp, in_order, set_of}
-use Rattle.due_times.proofs.Tables.{due_exact, has_of, in_order_some, same_dues}
+use Rattle.session_table.specs.Dues.{Due, Dues, due_cmp, in_order, set_of}
+use Rattle.session_table.proofs.Tables.{due_exact, has_of, in_order_some, same_dues}
 use Rattle.mqtt_sessions.specs.Ending.{has_run_out, in_time, runs_out_at}
 use Rattle.mqtt_sessions.specs.State.{Link, State}
 use Rattle.session_table.specs.Seats.{Seat, Seats, at_number, by_number, come, run_outs}
@@ -18,7 +18,7 @@ use Rattle.session_table.specs.declared.moments.Moments.{Moments}
 use Rattle.session_table.specs.declared.seated.Seated.{Seated}
 use Rattle.session_table.proofs.Calling.{same_state}
 use Rattle.session_table.proofs.Lists.{tied, and_false, and_true}
-use Rattle.finite_maps.proofs.Texts.{itself, same_text}
+use Rattle.law_maps.proofs.Texts.{itself, same_text}
 use Rattle.session_table.proofs.SeatMaps.{get_seat}
 
 any_both : {X : Type 0} (t : X → Bool) (xs ys : List X) → list_any t (xs ++ ys) ≡ (list_any t xs || list_any t ys)

@@ -17,28 +17,28 @@ use Rattle.row_store.specs.declared.row.Change.{Change}
 use Rattle.row_store.specs.declared.row.Change.TheVariants.{Put, Remove}
 use Rattle.row_store.specs.Rows.{Key, Content, key_cmp}
 use Rattle.row_store.proofs.Keys.{keys_total, exact_keys, equal_is}
-use Rattle.row_changes.specs.Leading.{Rows, Begin, Lead, LeadWithin, OthersDiffer, first_by, key_in, left_by, left_by_one, left_or, or_else, value_in}
-use Rattle.row_changes.proofs.Leaving.{begin_on, changes_leave, lead_on, lead_on_within, named_either}
+use Rattle.row_store.specs.Leading.{Rows, Begin, Lead, LeadWithin, OthersDiffer, first_by, key_in, left_by, left_by_one, left_or, or_else, value_in}
+use Rattle.row_store.proofs.Leaving.{begin_on, changes_leave, lead_on, lead_on_within, named_either}
 use Rattle.session_rows.specs.Changes.{PlainChange, Told, plain_of, own_change, own_change_by, is_told, copy_change, copy_changes, changes_of}
 use Rattle.session_rows.specs.Durable.{Durable, IsDurable}
 use Rattle.session_rows.specs.Fields.{Main, main, copy, copy_of}
 use Rattle.session_rows.specs.Rows.{main_key, rows_of}
-use Rattle.saved_laws.specs.Leading.{AreDifferent, ChangesAreMade, after_plains, told_rows}
+use Rattle.law_sessions.specs.Leading.{AreDifferent, ChangesAreMade, after_plains, told_rows}
 use Rattle.mqtt_sessions.specs.Reaction.{Reaction}
 use Rattle.mqtt_sessions.specs.Removed.{RemovesIf, gone_of, own_removal, own_told, removals_of, removed_before}
 use Rattle.mqtt_sessions.specs.Saved.{Appends, Saved, Notes, NotesIf, Tells, TellsIf, begun_session, durable_of, main_of, own_before, reopened, state_in, state_of, told_before}
 use Rattle.mqtt_sessions.specs.State.{State, new_session}
 use Rattle.mqtt_sessions.proofs.SavedLaws.{main-back}
-use Rattle.session_laws.specs.Runs.{Event, Reacts}
-use Rattle.saved_laws.specs.Histories.{Point, Move, calls, tells, Moves, TellsAt, History, Begins, begun, opened_point, durable_at}
-use Rattle.saved_laws.specs.Sound.{BeginsSound, IsSoundEvent, IsSoundMove, StaysDurable}
-use Rattle.saved_laws.specs.Told.{StaysSince, ToldChangesLead, RemovalsLeaveNone, Empties}
+use Rattle.law_sessions.specs.Runs.{Event, Reacts}
+use Rattle.law_sessions.specs.Histories.{Point, Move, calls, tells, Moves, TellsAt, History, Begins, begun, opened_point, durable_at}
+use Rattle.law_sessions.specs.Sound.{BeginsSound, IsSoundEvent, IsSoundMove, StaysDurable}
+use Rattle.law_sessions.specs.Told.{StaysSince, ToldChangesLead, RemovalsLeaveNone, Empties}
 use Rattle.session_table.specs.Seats.{Seat, Seats, begun as begun_seat}
 use Rattle.session_table.specs.Calls.{IsTurned}
 use Rattle.session_table.specs.Listing.{AllTold, Table, seat_of, seats_in, session_in, text_cmp}
 use Rattle.session_table.specs.declared.seated.Seated.{Seated}
 use Rattle.session_table.specs.Rows.{AllDurable, IsAllTold, IsOf, IsTold, LeadsOn, OwnLead, OwnLeadsOn, BeginTells, CallTells, RemovalLeaves, TellsAgain, TellsOn, is_session_kind, no_row, own_kind, row_in, rows_for, saved_row, seat_row, told_point}
-use Rattle.finite_maps.proofs.Texts.{get_apart, get_inserted, get_left, get_removed, itself, remove_absent, same_text}
+use Rattle.law_maps.proofs.Texts.{get_apart, get_inserted, get_left, get_removed, itself, remove_absent, same_text}
 use Rattle.session_table.specs.Wants.{leaves_rows}
 use Rattle.session_table.proofs.Keeping.{event_still}
 use Rattle.session_table.proofs.SeatMaps.{get_seat, seats_insert, seats_remove}

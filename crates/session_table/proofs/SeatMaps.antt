@@ -8,7 +8,7 @@ use Rattle.std.specs.Option.{option_map}
 use Rattle.std.specs.FinMap.{find}
 use Rattle.std.specs.FinMap.Entries.{below_all, is_sorted}
 use Rattle.std.specs.FinMap as map
-use Rattle.finite_maps.proofs.Texts.{alike, same_text, get_inserted, get_apart, get_removed, get_left, rising, entries_sorted}
+use Rattle.law_maps.proofs.Texts.{alike, same_text, get_inserted, get_apart, get_removed, get_left, rising, entries_sorted}
 use Rattle.session_table.specs.Seats.{Seat}
 use Rattle.session_table.specs.Listing.{Table, seat_of, seats_in, text_cmp}
 use Rattle.session_table.specs.declared.seated.Seated.{Seated}

@@ -5,8 +5,8 @@ use Rattle.std.specs.List.{filter, flat_map, list_any}
 use Rattle.std.specs.List.Sorted.{IsStrictlySortedBy}
 use Rattle.std.specs.Ordering.{eq_by_cmp}
 use Rattle.std.specs.FinMap as map
-use Rattle.due_times.specs.Dues.{Due, Dues, due_cmp, in_order, set_of}
-use Rattle.due_times.proofs.Tables.{has_inserted, has_of, keys_of_set, same_dues}
+use Rattle.session_table.specs.Dues.{Due, Dues, due_cmp, in_order, set_of}
+use Rattle.session_table.proofs.Tables.{has_inserted, has_of, keys_of_set, same_dues}
 use Rattle.filter_trie.specs.Selected.{IsSelected}
 use Rattle.filter_trie.proofs.Selecting.{Follows, begins, ends, follows_with, goes_without, silent_here, silent_later}
 use Rattle.home_table.specs.Table.{Table as HomeTable}

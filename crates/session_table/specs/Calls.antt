@@ -9,7 +9,7 @@ use Rattle.mqtt_sessions.specs.Saved.{state_of}
 use Rattle.mqtt_sessions.specs.State.{State, IsPublishableIf}
 use Rattle.mqtt_sessions.specs.declared.fault.SessionFault.{SessionFault}
 use Rattle.mqtt_sessions.specs.declared.fault.SessionFault.TheVariants.{NoMemory, NumbersAtEnd, Spent, BadRow}
-use Rattle.session_laws.specs.Runs.{Event, connects, queues, rooms, takes, answers, closes, ticks, finishes, loses, MayCome, Reacts, ends_of}
+use Rattle.law_sessions.specs.Runs.{Event, connects, queues, rooms, takes, answers, closes, ticks, finishes, loses, MayCome, Reacts, ends_of}
 use Rattle.session_table.specs.Listing.{moments_of}
 use Rattle.session_table.specs.Seats.{Seat, Seats}
 use Rattle.session_table.specs.Wants.{WantsAt}

@@ -1,5 +1,6 @@
-pub mod Seats
-pub mod Rows
-pub mod Listing
-pub mod Wants
 pub mod Calls
+pub mod Dues
+pub mod Listing
+pub mod Rows
+pub mod Seats
+pub mod Wants

@@ -6,7 +6,7 @@ use Rattle.std.specs.FinMap as map
 use Rattle.std.specs.List.{filter}
 use Rattle.std.specs.Ordering.{nat_cmp, eq_by_cmp}
 use Rattle.std.specs.declared.cmp.Ordering.{Ordering}
-use Rattle.due_times.specs.Dues.{Due, Dues}
+use Rattle.session_table.specs.Dues.{Due, Dues}
 use Rattle.mqtt_sessions.specs.Ending.{end_due, in_time, is_connected, runs_out_at, will_due}
 use Rattle.mqtt_sessions.specs.Saved.{Saved, state_of}
 use Rattle.mqtt_sessions.specs.State.{State, new_session}

@@ -7,12 +7,12 @@ use Rattle.mqtt_sessions.specs.Reaction.{Reaction}
 use Rattle.mqtt_sessions.specs.Removed.{Removes, removed_before}
 use Rattle.mqtt_sessions.specs.Saved.{Saved, Notes, Tells, begun_session, durable_of, told_before}
 use Rattle.mqtt_sessions.specs.State.{State}
-use Rattle.row_changes.specs.Leading.{Rows, Begin, Lead, LeadWithin, OthersDiffer, key_in}
+use Rattle.row_store.specs.Leading.{Rows, Begin, Lead, LeadWithin, OthersDiffer, key_in}
 use Rattle.row_store.specs.declared.row.Change.{Change}
 use Rattle.row_store.specs.Rows.{key_cmp}
-use Rattle.saved_laws.specs.Histories.{Point, Move, History}
-use Rattle.saved_laws.specs.Sound.{BeginsSound, IsSoundEvent, IsSoundMove}
-use Rattle.session_laws.specs.Runs.{Event, Reacts}
+use Rattle.law_sessions.specs.Histories.{Point, Move, History}
+use Rattle.law_sessions.specs.Sound.{BeginsSound, IsSoundEvent, IsSoundMove}
+use Rattle.law_sessions.specs.Runs.{Event, Reacts}
 use Rattle.session_rows.specs.Changes.{plain_of}
 use Rattle.session_rows.specs.Durable.{IsDurable}
 use Rattle.session_rows.specs.Rows.{rows_of}

@@ -6,7 +6,7 @@ use Rattle.std.specs.Cmp.Lexicographic.{slice_cmp}
 use Rattle.std.specs.FinMap.{FinMap}
 use Rattle.std.specs.FinMap as map
 use Rattle.std.specs.Ordering.{nat_cmp}
-use Rattle.due_times.specs.Dues.{Due, in_order}
+use Rattle.session_table.specs.Dues.{Due, in_order}
 use Rattle.filter_trie.specs.Selected.{IsSelected}
 use Rattle.home_table.specs.Homes.{IsHome}
 use Rattle.home_table.specs.Table.{Table}

@@ -6,7 +6,7 @@ use Rattle.mqtt_sessions.specs.Reaction.{Reaction}
 use Rattle.mqtt_sessions.specs.Saved.{keeps_main}
 use Rattle.mqtt_sessions.specs.Sending.{is_once}
 use Rattle.mqtt_sessions.specs.State.{State, limit_of}
-use Rattle.session_laws.specs.Runs.{Event, connects, queues, rooms, takes, answers, closes, ticks, finishes, loses, Reacts, wants_of}
+use Rattle.law_sessions.specs.Runs.{Event, connects, queues, rooms, takes, answers, closes, ticks, finishes, loses, Reacts, wants_of}
 use Rattle.session_table.specs.Listing.{moments_of}
 use Rattle.session_table.specs.declared.moments.Moments.{Moments}
 

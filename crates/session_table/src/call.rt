@@ -2,16 +2,16 @@
 
 ghost use Rattle.std.specs.Prelude.{◌≡◌, Err, IfOk, IfSome};
 ghost use Rattle.mqtt_sessions.specs.Saved.{NotesIf, keeps_main, state_of};
-ghost use Rattle.saved_laws.specs.Sound.{IsSoundEvent};
-ghost use Rattle.session_laws.specs.Runs.{wants_of};
+ghost use Rattle.law_sessions.specs.Sound.{IsSoundEvent};
+ghost use Rattle.law_sessions.specs.Runs.{wants_of};
 ghost use Rattle.session_table.specs.Calls.{Asks, GivesSpelled, IsTurned, MayTurn, event_of, on_of};
 ghost use Rattle.session_table.specs.Wants as wants;
 
+use law_sessions::connect_is_sound;
 use mqtt_fields::Qos;
 use mqtt_message::Delivery;
 use mqtt_packets::{Connect, Packet};
 use mqtt_sessions::{Reaction, Session, SessionFault, is_once};
-use saved_laws::connect_is_sound;
 
 /// A call of a session.
 #[derive(Drop)]
@@ -70,7 +70,7 @@ pub(crate) fn land(on: On, before: Option<u64>) -> Option<u64>
     }
 }
 
-/// A call comes as the law of rows that open a session again asks for it (`saved_laws::stays_durable`). This does nothing; its
+/// A call comes as the law of rows that open a session again asks for it (`law_sessions::stays_durable`). This does nothing; its
 /// contract is a law.
 pub(crate) fn is_sound(call: &Call<'_>)
     requires { Asks call.now }

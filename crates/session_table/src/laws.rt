@@ -2,7 +2,7 @@
 
 ghost use Rattle.session_table.specs.Rows.{BeginTells, CallTells, RemovalLeaves};
 
-use saved_laws::{removals_leave_none, stays_since, told_changes_lead};
+use law_sessions::{removals_leave_none, stays_since, told_changes_lead};
 
 /// Changes that are told after each call lead from the rows before it to those after it; those told of a new session lead from
 /// no rows; and the removals lead to none. Each is of the session's own rows. Where what was told last of the row of kind 2 goes

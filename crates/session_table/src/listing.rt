@@ -5,8 +5,8 @@ ghost use Rattle.session_table.specs.Listing as spec;
 ghost use Rattle.session_table.specs.Wants.{HasNewMoment, IsNewMoment};
 ghost use Rattle.session_table.specs.Listing.{IsAt, IsListedAt, KeepsOthers, Relists};
 
+use crate::DueTimes;
 use crate::moments::Moments;
-use due_times::DueTimes;
 use mqtt_fields::{NoMemory, Text};
 use std::alloc::Global;
 

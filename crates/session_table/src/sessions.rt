@@ -9,11 +9,12 @@ ghost use Rattle.mqtt_sessions.specs.Aliases.{topic_for};
 ghost use Rattle.mqtt_sessions.specs.Ending as ending;
 ghost use Rattle.mqtt_sessions.specs.Saved.{state_of};
 ghost use Rattle.mqtt_sessions.specs.State.{IsPublishableIf, aliases_of, limit_of};
-ghost use Rattle.session_laws.specs.Runs.{connects, queues, rooms, takes, answers, closes, ticks, finishes};
+ghost use Rattle.law_sessions.specs.Runs.{connects, queues, rooms, takes, answers, closes, ticks, finishes};
 ghost use Rattle.session_table.specs.Calls.{GivesSpelled, GoesTo, IsSpelledIf, Asks, IsCalled, MayConnectAt, MayTurnAt, event_of, leaves, moves, on_of, reaction_of, stays};
 ghost use Rattle.session_table.specs.Rows.{AllDurable, IsAllTold, LeadsOn};
 ghost use Rattle.session_table.specs.Seats.{AreElsewhere, begun, connected, ends_due, run_outs, wills_due};
 
+use crate::DueTimes;
 use crate::call::{Addressed, Call, On};
 use crate::listing::Listing;
 use crate::seated::BoxedSeat;
@@ -21,14 +22,13 @@ use crate::table::{
     by_connection, call_in, connected_in, connection_of, elsewhere_in, put_in, take_out,
 };
 use crate::telling::{begin_told, leave};
-use due_times::DueTimes;
 use home_table::HomeTable;
+use law_sessions::stays_durable;
 use mqtt_fields::{NoMemory, Text};
 use mqtt_message::Delivery;
 use mqtt_packets::{Connect, Packet};
 use mqtt_sessions::{Session, SessionFault};
 use row_store::Change;
-use saved_laws::stays_durable;
 use std::alloc::Global;
 use std::collections::BTreeMap;
 use std::marker::Model;
@@ -147,7 +147,7 @@ impl Sessions {
     }
 
     /// What outlives the connections of each session has rows that `Session::from_rows` opens again (`durable_rows_open` in
-    /// `saved_laws`), under its client. This does nothing; its contract is a law.
+    /// `law_sessions`), under its client. This does nothing; its contract is a law.
     pub fn are_durable(&self)
         ensures { AllDurable self.now }
     {

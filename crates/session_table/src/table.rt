@@ -2,18 +2,18 @@
 
 ghost use Rattle.std.specs.Prelude.{◌≡◌, ◌↔◌, [], IfErr, IfOk, IfSome, IsOk, IsSome, IsTrue, None, OnErr, OnOk, flat_map};
 ghost use Rattle.std.specs.FinMap as map;
-ghost use Rattle.due_times.specs.Dues.{in_order};
+ghost use Rattle.session_table.specs.Dues.{in_order};
 ghost use Rattle.mqtt_sessions.specs.Saved.{state_of};
 ghost use Rattle.session_table.specs.Calls.{Asks, GivesSpelled, GoesTo, IsCalled, MayTurnAt, event_of, on_of, reaction_of};
 ghost use Rattle.session_table.specs.Seats.{AreElsewhere, IsElsewhere, connected};
 ghost use Rattle.session_table.specs.Rows.{IsAllTold, LeadsOn};
 ghost use Rattle.session_table.specs.Listing.{IsBroken, IsKept, IsKeyed, IsListed, connection_in, on_connection, seats_in, session_in, table};
 
+use crate::DueTimes;
 use crate::call::{Addressed, Call, On};
 use crate::listing::{Listing, relist};
 use crate::moments::moments_of;
 use crate::seated::{BoxedSeat, Seated, call_seated, seat, unlist_seated, unseat};
-use due_times::DueTimes;
 use home_table::HomeTable;
 use mqtt_fields::{NoMemory, Text};
 use mqtt_sessions::{Session, SessionFault};

@@ -1,2 +1,4 @@
 pub mod Answers
+pub mod Members
 pub mod Resources
+pub mod Status

@@ -2,7 +2,7 @@
 use Rattle.std.specs.Prelude.{◌≡◌, ◌≢◌, ℕ, List, codes, Option, Some, None, if◌then◌else◌}
 use Rattle.status_figures.specs.declared.figures.Figures.{Figures}
 use Rattle.status_figures.specs.Figures.{is_caught_up}
-use Rattle.status_json.specs.Status.{status_text}
+use Rattle.status_pages.specs.Status.{status_text}
 use Rattle.status_texts.specs.Metrics.{metrics_text}
 use Rattle.status_texts.specs.Page.{page_text}
 use Rattle.status_texts.specs.Peers.{gate_text}

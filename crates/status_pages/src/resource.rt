@@ -4,9 +4,9 @@ ghost use Rattle.std.specs.Prelude.{◌≡◌, ◌↔◌, ◌⊎◌, codes, IsTr
 ghost use Rattle.http_header.specs.FieldValue.{plain_value};
 ghost use Rattle.status_pages.specs.Resources.{IsAt, kind_of, status_of, text_of};
 
+use crate::json_of;
 use http::{HeaderValue, StatusCode};
 use status_figures::Figures;
-use status_json::json_of;
 use status_texts::{gate_of, metrics_of, page_of};
 use std::alloc::{AllocError, Global};
 

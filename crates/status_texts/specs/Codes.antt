@@ -1,8 +1,8 @@
 -- Reason Codes that were given, as the page and the metrics show them.
 use Rattle.std.specs.Prelude.{ℕ, List, [], ◌∷◌, ◌++◌, codes}
 use Rattle.std.specs.Fmt.{decimal}
-use Rattle.log_lines.specs.Escaping.{reason_text}
-use Rattle.log_lines.specs.Reasons.{words_of}
+use Rattle.door_log.specs.Escaping.{reason_text}
+use Rattle.door_log.specs.Reasons.{words_of}
 use Rattle.status_figures.specs.declared.codes.CodeCount.{CodeCount}
 
 -- in the page: what the code stands for, the code, and how often it was given

@@ -1,11 +1,11 @@
 //! Reason Codes that were given, as the page and the metrics show them.
 
 ghost use Rattle.std.specs.Prelude.{◌≡◌, ◌++◌, string_bytes, IfOk, OnOk};
-ghost use Rattle.log_lines.specs.Escaping.{reason_text};
-ghost use Rattle.log_lines.specs.Reasons.{words_of};
+ghost use Rattle.door_log.specs.Escaping.{reason_text};
+ghost use Rattle.door_log.specs.Reasons.{words_of};
 ghost use Rattle.status_texts.specs.Codes.{code_line, code_row, with_code_lines, with_code_rows};
 
-use log_lines::{ReasonText, words_of};
+use door_log::{ReasonText, words_of};
 use status_figures::CodeCount;
 use std::alloc::{AllocError, Global};
 

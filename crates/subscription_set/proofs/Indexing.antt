@@ -16,7 +16,7 @@ use Rattle.std.proofs.lemmas.Cmp.{tied_itself}
 use Rattle.std.proofs.lemmas.List.{length-map}
 use Rattle.std.proofs.lemmas.Map.Made.{length-from_same_keys}
 use Rattle.std.proofs.lemmas.Map.Keys.{IsDistinct-cons}
-use Rattle.finite_maps.proofs.Tables as tables
+use Rattle.law_maps.proofs.Tables as tables
 use Rattle.causal_context.specs.Dots.{Dot, Dots, dot_cmp, dot_cmp_total, dot_cmp_antisym}
 use Rattle.subscription_set.specs.Entries.{Entry, is_of}
 use Rattle.subscription_set.specs.Standing.{Entries, find_entry, is_latest, latest}

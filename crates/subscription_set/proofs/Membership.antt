@@ -8,7 +8,7 @@ use Rattle.std.specs.Ordering.{eq_by_cmp, is_eq}
 use Rattle.std.specs.FinMap as map
 use Rattle.std.specs.FinSet as set
 use Rattle.std.proofs.lemmas.Cmp.{tied_itself}
-use Rattle.finite_maps.proofs.Tables.{get_inserted, remove_absent}
+use Rattle.law_maps.proofs.Tables.{get_inserted, remove_absent}
 use Rattle.causal_context.specs.Dots.{Dot, Dots, dot_cmp, dot_cmp_total, dot_cmp_antisym}
 use Rattle.mqtt_topics.specs.Topics.{IsShared}
 use Rattle.subscription_set.specs.Entries.{Entry, is_of, same_text}

@@ -15,7 +15,7 @@ use Rattle.std.specs.FinSet as set
 use Rattle.std.specs.Prelude.{◌==◌}
 use Rattle.std.proofs.lemmas.Cmp.{tied_itself}
 use Rattle.subscription_set.specs.Filing.{IsEmptiness}
-use Rattle.finite_maps.proofs.Tables as tables
+use Rattle.law_maps.proofs.Tables as tables
 use Rattle.subscription_set.proofs.Places.{first_part, second_part}
 
 both : (a b : Bool) → T a → T b → T (a && b)

@@ -21,7 +21,7 @@ use Rattle.std.proofs.lemmas.Map.Lookups.{exact_pairs}
 use Rattle.std.proofs.lemmas.Map.Made.{length-from_same_keys}
 use Rattle.causal_context.specs.Dots.{dot_cmp, dot_cmp_total, dot_cmp_antisym}
 use Rattle.subscription_set.specs.Filing.{text_cmp, pair_cmp, spread, IsFilled, HasUnder, IsGroup, IsKeyCount, IsEmptiness}
-use Rattle.finite_maps.proofs.Tables.{insert_same}
+use Rattle.law_maps.proofs.Tables.{insert_same}
 use Rattle.subscription_set.proofs.Places.{first_part, second_part, found_none}
 
 pub any_both : {X : Type 0} (t : X → Bool) (xs ys : List X) → list_any t (xs ++ ys) ≡ (list_any t xs || list_any t ys)

@@ -4,7 +4,7 @@ use Rattle.std.specs.FinMap as map
 use Rattle.mqtt_sessions.specs.declared.fault.SessionFault.{SessionFault}
 use Rattle.mqtt_sessions.specs.declared.fault.SessionFault.TheVariants as session_faults
 use Rattle.mqtt_sessions.specs.Reaction.{Reaction, nothing}
-use Rattle.session_laws.specs.Runs.{Event}
+use Rattle.law_sessions.specs.Runs.{Event}
 use Rattle.session_table.specs.Calls.{IsCalled, MayConnectAt}
 use Rattle.session_table.specs.Seats.{Seats}
 use Rattle.session_table.specs.declared.call.Addressed.{Addressed}

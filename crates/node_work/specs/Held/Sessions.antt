@@ -9,7 +9,7 @@ use Rattle.mqtt_sessions.specs.Answers.{disconnect, fits}
 use Rattle.mqtt_sessions.specs.Ending.{will_due, end_due, is_due}
 use Rattle.mqtt_sessions.specs.Reaction.{Reaction, packet_of}
 use Rattle.mqtt_sessions.specs.State.{State, aliases_of, limit_of}
-use Rattle.session_laws.specs.Runs.{Event, connects, queues, rooms, takes, answers, closes, ticks, finishes, loses, Reacts}
+use Rattle.law_sessions.specs.Runs.{Event, connects, queues, rooms, takes, answers, closes, ticks, finishes, loses, Reacts}
 use Rattle.session_table.specs.Seats.{Seat, begun}
 use Rattle.node_work.specs.declared.counts.Counts.{Counts}
 use Rattle.node_work.specs.declared.outcome.Output.{Output}

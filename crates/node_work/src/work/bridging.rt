@@ -2,7 +2,7 @@
 
 ghost use Rattle.std.specs.Prelude.{◌≡◌, ◌≢◌, ℕ, true, List, Ok};
 ghost use Rattle.bridge_frames.specs.declared.forward.Forward.{Forward};
-ghost use Rattle.message_copies.specs.declared.plain.PlainCopy.{PlainCopy as Copy};
+ghost use Rattle.bridge_routes.specs.declared.plain.PlainCopy.{PlainCopy as Copy};
 ghost use Rattle.node_bridge.specs.View.{is_next};
 ghost use Rattle.node_work.specs.Acts.{Bridge};
 ghost use Rattle.node_work.specs.Doings.{GivesFrame, Misses, PutsInLane, RoutesBy};
@@ -17,8 +17,8 @@ use crate::outcome::Output;
 use crate::work::Work;
 use bridge_deltas::Offer;
 use bridge_frames::{BridgeFrame, Forward, LaneNumber, LinkFault};
+use bridge_routes::Route;
 use causal_context::Context;
-use message_routes::Route;
 
 impl Work {
     /// Counts what is left out. It takes no memory.

@@ -1,6 +1,6 @@
 use Rattle.std.proofs.Common.{◌<◌, length, map, arith}
-use Rattle.lane_rows.specs.ChangeSteps.{message_changes}
-use Rattle.lane_rows.specs.Changes.{left_of}
+use Rattle.bridge_lanes.specs.ChangeSteps.{message_changes}
+use Rattle.bridge_lanes.specs.Changes.{left_of}
 use Rattle.bridge_deltas.proofs.Telling.{more_each, told_at}
 use Rattle.bridge_deltas.proofs.links.add_message_changes.Goals as goal
 

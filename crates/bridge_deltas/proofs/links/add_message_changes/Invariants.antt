@@ -1,7 +1,7 @@
 use Rattle.std.proofs.Common.{◌≡◌, ◌++◌, map, take}
-use Rattle.lane_rows.specs.Rows.{each}
-use Rattle.lane_rows.specs.ChangeSteps.{message_changes}
-use Rattle.lane_rows.specs.Changes.{left_of}
+use Rattle.bridge_lanes.specs.Rows.{each}
+use Rattle.bridge_lanes.specs.ChangeSteps.{message_changes}
+use Rattle.bridge_lanes.specs.Changes.{left_of}
 use Rattle.bridge_deltas.proofs.links.add_message_changes.Given as goal
 
 abbrev pub invariant-loop-peer : goal.invariant-loop-peer

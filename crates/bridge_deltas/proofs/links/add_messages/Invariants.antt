@@ -1,6 +1,6 @@
 use Rattle.std.proofs.Common.{◌≡◌, ◌++◌, map, take}
 use Rattle.row_store.specs.Rows.{entry_of}
-use Rattle.lane_rows.specs.Rows.{each, waiting_of}
+use Rattle.bridge_lanes.specs.Rows.{each, waiting_of}
 use Rattle.bridge_deltas.proofs.links.add_messages.Given as goal
 
 abbrev pub invariant-loop-peer : goal.invariant-loop-peer

@@ -1,7 +1,7 @@
 use Rattle.std.proofs.Common.{◌<◌, length, map, arith}
 use Rattle.row_store.specs.Rows.{entry_of}
-use Rattle.lane_rows.specs.Changes.{KeptLane}
-use Rattle.lane_rows.specs.Rows.{numbers_of}
+use Rattle.bridge_lanes.specs.Changes.{KeptLane}
+use Rattle.bridge_lanes.specs.Rows.{numbers_of}
 use Rattle.bridge_deltas.proofs.Telling.{more_each, none_at}
 use Rattle.bridge_deltas.proofs.links.add_numbers.Goals as goal
 

@@ -1,6 +1,6 @@
 use Rattle.std.proofs.Common.{take}
 use Rattle.std.specs.List.{AllByRecursion}
-use Rattle.lane_rows.specs.Reading.{IsLane}
+use Rattle.bridge_lanes.specs.Reading.{IsLane}
 use Rattle.bridge_deltas.proofs.links.are_lanes.Given as goal
 
 abbrev pub invariant-loop-i : goal.invariant-loop-i

@@ -1,6 +1,6 @@
 use Rattle.std.proofs.Common.{take}
 use Rattle.std.specs.List.{AllByRecursion}
-use Rattle.lane_rows.specs.ChangeSteps.{IsSoundLane}
+use Rattle.bridge_lanes.specs.ChangeSteps.{IsSoundLane}
 use Rattle.bridge_deltas.proofs.links.are_sound.Given as goal
 
 abbrev pub invariant-loop-i : goal.invariant-loop-i

@@ -1,7 +1,7 @@
 use Rattle.std.proofs.Common.{◌≡◌, ◌++◌, map}
 use Rattle.std.specs.List.{AllByRecursion}
 use Rattle.std.specs.Vec.Iter.{into_iter_items}
-use Rattle.lane_rows.specs.Reading.{IsLane, lane_in}
+use Rattle.bridge_lanes.specs.Reading.{IsLane, lane_in}
 use Rattle.bridge_deltas.specs.Lane.{told_lane}
 use Rattle.bridge_deltas.proofs.links.lanes_of.Given as goal
 

@@ -1,4 +1,4 @@
-use Rattle.lane_rows.specs.Reading.{IsLane, lane_in}
+use Rattle.bridge_lanes.specs.Reading.{IsLane, lane_in}
 use Rattle.bridge_deltas.proofs.Telling.{all_unmapped}
 use Rattle.bridge_deltas.proofs.links.opened.Goals as goal
 

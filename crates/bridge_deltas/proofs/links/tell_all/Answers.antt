@@ -1,6 +1,6 @@
 use Rattle.std.proofs.Common.{◌<◌, length, arith, rules}
 use Rattle.std.proofs.lemmas.Grind.{common_steps}
-use Rattle.lane_rows.specs.Changes.{told_now}
+use Rattle.bridge_lanes.specs.Changes.{told_now}
 use Rattle.bridge_deltas.proofs.Mapping.{one_changed}
 use Rattle.bridge_deltas.proofs.links.tell_all.Goals as goal
 

@@ -1,6 +1,6 @@
 use Rattle.std.proofs.Common.{◌≡◌, ◌++◌, take, drop}
 use Rattle.std.specs.Prelude.{map}
-use Rattle.lane_rows.specs.Changes.{told_now}
+use Rattle.bridge_lanes.specs.Changes.{told_now}
 use Rattle.bridge_deltas.proofs.links.tell_all.Given as goal
 
 abbrev pub invariant-loop-i : goal.invariant-loop-i

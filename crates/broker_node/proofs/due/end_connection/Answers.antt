@@ -1,4 +1,4 @@
-use Rattle.session_laws.specs.Runs.{ticks}
+use Rattle.law_sessions.specs.Runs.{ticks}
 use Rattle.session_table.specs.Calls.{stays}
 use Rattle.broker_node.specs.Due.{PartsFrom}
 use Rattle.node_clients.specs.Ending.{ClosesConnection}

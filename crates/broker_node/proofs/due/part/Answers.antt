@@ -1,5 +1,5 @@
 use Rattle.std.proofs.Common.{Some}
-use Rattle.session_laws.specs.Runs.{closes}
+use Rattle.law_sessions.specs.Runs.{closes}
 use Rattle.session_table.specs.Calls.{leaves}
 use Rattle.node_work.specs.Calling.{Calls}
 use Rattle.node_work.specs.Working.{Returns}

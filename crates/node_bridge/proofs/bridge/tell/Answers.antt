@@ -1,7 +1,7 @@
 use Rattle.std.proofs.Common.{◌≡◌, ◌+◌, ◌<◌, [], length, ap, subst, arith, rules}
 use Rattle.std.specs.Prelude.{vec_len, vec_capacity}
 use Rattle.std.proofs.lemmas.Grind.{common_steps}
-use Rattle.lane_rows.specs.Changes.{AreLaneChanges, now_of, told_of}
+use Rattle.bridge_lanes.specs.Changes.{AreLaneChanges, now_of, told_of}
 use Rattle.node_bridge.proofs.Telling.{lanes_told, no_changes}
 use Rattle.node_bridge.proofs.bridge.tell.Goals as goal
 

@@ -1,7 +1,7 @@
 use Rattle.std.proofs.Common.{◌≡◌, ℕ, List, Option, Some, false, inr, refl, sym, subst, ap, ◌∙◌, is_some}
 use Rattle.std.specs.FinMap as map
-use Rattle.session_laws.specs.Runs.{connects}
-use Rattle.finite_maps.proofs.Texts.{get_inserted}
+use Rattle.law_sessions.specs.Runs.{connects}
+use Rattle.law_maps.proofs.Texts.{get_inserted}
 use Rattle.session_table.specs.Calls.{MayConnectAt, moves}
 use Rattle.session_table.specs.Seats.{Seat, Seats, begun}
 use Rattle.node_work.specs.Acts.{Runs, Session}

@@ -1,4 +1,4 @@
-use Rattle.session_laws.specs.Runs.{finishes}
+use Rattle.law_sessions.specs.Runs.{finishes}
 use Rattle.session_table.specs.Calls.{stays}
 use Rattle.node_work.specs.Calling.{Calls}
 use Rattle.node_work.proofs.Working.{then_goes}

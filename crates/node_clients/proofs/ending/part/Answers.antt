@@ -1,4 +1,4 @@
-use Rattle.session_laws.specs.Runs.{closes}
+use Rattle.law_sessions.specs.Runs.{closes}
 use Rattle.session_table.specs.Calls.{leaves}
 use Rattle.node_work.specs.Calling.{Calls}
 use Rattle.node_work.proofs.Working.{then_goes}

@@ -2,7 +2,7 @@ use Rattle.std.proofs.Common.{Bor, refl, ◌++◌, ◌∷◌, [], sym, ap, subst
 use Rattle.std.specs.Prelude.{map as map_list}
 use Rattle.std.proofs.lemmas.List.{take_all}
 use Rattle.std.specs.FinMap as map
-use Rattle.message_copies.specs.Deliveries.{offer_of}
+use Rattle.bridge_routes.specs.Deliveries.{offer_of}
 use Rattle.mqtt_message.specs.declared.message.Message.{Message}
 use Rattle.replica_store.specs.Answers.{IsAnswer}
 use Rattle.replica_store.specs.States.{State}

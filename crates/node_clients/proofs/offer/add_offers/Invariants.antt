@@ -1,6 +1,6 @@
 use Rattle.std.proofs.Common.{◌≡◌, ◌++◌, take}
 use Rattle.std.specs.Prelude.{map as map_list}
-use Rattle.message_copies.specs.Deliveries.{offer_of}
+use Rattle.bridge_routes.specs.Deliveries.{offer_of}
 use Rattle.node_clients.proofs.offer.add_offers.Given as goal
 
 abbrev pub invariant-loop-message : goal.invariant-loop-message

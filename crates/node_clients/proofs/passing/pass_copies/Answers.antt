@@ -1,6 +1,6 @@
 use Rattle.std.proofs.Common.{◌≡◌, ℕ, List, Some, Result, Err, ap, subst, ◌∙◌}
-use Rattle.message_copies.specs.declared.plain.PlainCopy.{PlainCopy as Copy}
-use Rattle.message_routes.specs.declared.destinations.Route.{Route}
+use Rattle.bridge_routes.specs.declared.plain.PlainCopy.{PlainCopy as Copy}
+use Rattle.bridge_routes.specs.declared.destinations.Route.{Route}
 use Rattle.mqtt_message.specs.declared.message.Message.{Message}
 use Rattle.node_work.specs.Acts.{Passed}
 use Rattle.node_work.specs.Calling.{Queues}

@@ -1,5 +1,5 @@
 use Rattle.std.proofs.Common.{Some}
-use Rattle.session_laws.specs.Runs.{rooms}
+use Rattle.law_sessions.specs.Runs.{rooms}
 use Rattle.session_table.specs.Calls.{stays}
 use Rattle.node_work.specs.Calling.{Calls}
 use Rattle.node_work.specs.Working.{Returns}

@@ -1,5 +1,5 @@
 use Rattle.std.proofs.Common.{sym, ap, ◌∙◌}
-use Rattle.session_laws.specs.Runs.{takes}
+use Rattle.law_sessions.specs.Runs.{takes}
 use Rattle.session_table.specs.Calls.{stays}
 use Rattle.node_work.specs.Calling.{Calls}
 use Rattle.node_work.proofs.Working.{comes_looks, then_goes, then_stops}

@@ -1,6 +1,6 @@
 use Rattle.std.proofs.Common.{Some, sym, ap, subst, ◌∙◌}
 use Rattle.mqtt_sessions.specs.Reaction.{Reaction}
-use Rattle.session_laws.specs.Runs.{answers}
+use Rattle.law_sessions.specs.Runs.{answers}
 use Rattle.session_table.specs.Calls.{stays}
 use Rattle.node_work.specs.Calling.{Calls}
 use Rattle.node_work.specs.Working.{ComesTo, Did}

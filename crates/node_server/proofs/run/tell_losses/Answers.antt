@@ -1,9 +1,9 @@
 use Rattle.std.proofs.Common.{◌∙◌, ap, subst, sym}
 use Rattle.std.proofs.lemmas.Result.{on_ok_weaker}
-use Rattle.client_bounds.specs.Views.{inside_of as bounded_in}
-use Rattle.client_limits.specs.Views.{inside_of as limited_in}
+use Rattle.door_bounds.specs.Views.{inside_of as bounded_in}
+use Rattle.door_limits.specs.Views.{inside_of as limited_in}
 use Rattle.node_server.proofs.Losing.{counted_in, finished_with}
-use Rattle.table_door.specs.Views.{inside_of as tabled_in}
+use Rattle.door_tables.specs.Views.{inside_of as tabled_in}
 use Rattle.node_server.proofs.run.tell_losses.Goals as goal
 
 pub returns : goal.returns

@@ -1,7 +1,7 @@
 use Rattle.std.proofs.Common.{◌≡◌, ◌+◌, ◌++◌, ◌∷◌, [], List, Some, Ok, drop, map, ap, sym, subst, ◌∙◌, arith, append-nil}
 use Rattle.std.proofs.lemmas.List.{drop_all, drop_more, map-append}
 use Rattle.std.proofs.lemmas.Result.{err_from_is_err_and}
-use Rattle.row_changes.specs.Noted.{pair_of, plain_value}
+use Rattle.row_store.specs.Noted.{pair_of, plain_value}
 use Rattle.row_journal.specs.Fields.{or_malformed}
 use Rattle.row_journal.specs.Items.{item_of}
 use Rattle.row_journal.specs.Spelling.{last_put, pairs_in}

@@ -1,5 +1,5 @@
 use Rattle.std.proofs.Common.{◌≡◌, [], drop, map}
-use Rattle.row_changes.specs.Noted.{pair_of}
+use Rattle.row_store.specs.Noted.{pair_of}
 use Rattle.row_journal.specs.Items.{item_of}
 use Rattle.row_journal.specs.Spelling.{pairs_in}
 use Rattle.row_journal.proofs.EndLaws.{onto_read}

@@ -1,6 +1,6 @@
 use Rattle.std.proofs.Common.{◌++◌, ◌∷◌, [], None, append_assoc, map, ap, sym, ◌∙◌}
 use Rattle.std.proofs.lemmas.List.{map-append}
-use Rattle.row_changes.specs.Noted.{pair_of}
+use Rattle.row_store.specs.Noted.{pair_of}
 use Rattle.row_journal.specs.Journal.{entry_key, removals}
 use Rattle.row_journal.proofs.JournalLaws.{removals_more}
 use Rattle.row_journal.proofs.journal.append_removals.Goals as goal

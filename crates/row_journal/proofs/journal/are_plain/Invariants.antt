@@ -1,5 +1,5 @@
 use Rattle.std.proofs.Common.{map, drop}
-use Rattle.row_changes.specs.Noted.{pair_of}
+use Rattle.row_store.specs.Noted.{pair_of}
 use Rattle.row_journal.specs.Journal.{AreOthers}
 use Rattle.row_journal.proofs.journal.are_plain.Given as goal
 

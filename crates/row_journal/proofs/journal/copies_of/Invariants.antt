@@ -1,5 +1,5 @@
 use Rattle.std.proofs.Common.{◌≡◌, map, take}
-use Rattle.row_changes.specs.Noted.{pair_of}
+use Rattle.row_store.specs.Noted.{pair_of}
 use Rattle.row_journal.proofs.journal.copies_of.Given as goal
 
 abbrev pub invariant-loop-change : goal.invariant-loop-change

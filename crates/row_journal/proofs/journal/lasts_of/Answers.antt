@@ -1,7 +1,7 @@
 use Rattle.std.proofs.Common.{inl, inr, [], append-nil, map, ap, subst, sym, ◌∙◌}
 use Rattle.std.proofs.lemmas.Result.{IfOk-weaker}
-use Rattle.row_changes.specs.Gathered.{AreOnce}
-use Rattle.row_changes.specs.Noted.{pair_of}
+use Rattle.row_store.specs.Gathered.{AreOnce}
+use Rattle.row_store.specs.Noted.{pair_of}
 use Rattle.row_journal.specs.Journal.{NamesWithin, after_pairs}
 use Rattle.row_journal.proofs.JournalLaws.{after_all_is}
 use Rattle.row_journal.proofs.NamedLaws.{left_named}

@@ -1,6 +1,6 @@
 use Rattle.std.proofs.Common.{◌≡◌, ◌∷◌, ◌++◌, [], Some, map, take, ap, ◌∙◌}
 use Rattle.std.proofs.lemmas.List.{map-append}
-use Rattle.row_changes.specs.Noted.{pair_of}
+use Rattle.row_store.specs.Noted.{pair_of}
 use Rattle.row_journal.specs.Journal.{entry_key}
 use Rattle.row_journal.proofs.journal.prepare.Goals as goal
 

@@ -1,6 +1,6 @@
 use Rattle.std.proofs.Common.{◌∙◌, OnErr, map, subst, sym}
 use Rattle.row_store.specs.Rows.{key_of}
-use Rattle.row_changes.specs.Noted.{pair_of}
+use Rattle.row_store.specs.Noted.{pair_of}
 use Rattle.row_journal.specs.Journal.{AreOthers}
 use Rattle.row_journal.proofs.ReadingLaws.{not_plain}
 use Rattle.row_journal.proofs.reading.turn_of.Goals as goal

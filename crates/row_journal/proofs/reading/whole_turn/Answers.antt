@@ -1,7 +1,7 @@
 use Rattle.std.proofs.Common.{Vec, Global, arith, map}
 use Rattle.row_store.specs.declared.row.Change.{Change}
 use Rattle.mqtt_fields.proofs.Whole.{whole_found, whole_more, whole_none}
-use Rattle.row_changes.specs.Noted.{pair_of}
+use Rattle.row_store.specs.Noted.{pair_of}
 use Rattle.row_journal.specs.Spelling.{turn}
 use Rattle.row_journal.proofs.TurnLaws.{turn_is}
 use Rattle.row_journal.proofs.reading.whole_turn.Goals as goal

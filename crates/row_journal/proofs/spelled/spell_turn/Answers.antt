@@ -3,7 +3,7 @@ use Rattle.std.specs.Prelude.{flat_map}
 use Rattle.std.specs.Int.{w16}
 use Rattle.std.proofs.lemmas.List.{length-map}
 use Rattle.mqtt_fields.specs.Numbers.{number}
-use Rattle.row_changes.specs.Noted.{pair_of}
+use Rattle.row_store.specs.Noted.{pair_of}
 use Rattle.row_journal.specs.Spelling.{item, items_of}
 use Rattle.row_journal.proofs.EndLaws.{items_length, turn_spelled}
 use Rattle.row_journal.proofs.spelled.spell_turn.Goals as goal

@@ -1,6 +1,6 @@
 use Rattle.std.proofs.Common.{rules, List, [], ◌∷◌, ◌++◌, append_assoc, subst, sym}
 use Rattle.row_store.specs.declared.row.Change.{Change}
-use Rattle.row_changes.specs.Gathered.{AreOnce}
+use Rattle.row_store.specs.Gathered.{AreOnce}
 use Rattle.row_journal.specs.Tops.{Leaves}
 use Rattle.row_journal.proofs.TopsLaws.{leaves_push, leaves_skip, once_before}
 use Rattle.row_journal.proofs.tops.needed.Goals as goal

@@ -5,7 +5,7 @@ use Rattle.mqtt_sessions.specs.declared.fault.SessionFault.{SessionFault}
 use Rattle.session_table.specs.Calls.{event_of, on_of}
 use Rattle.session_table.specs.Listing.{seats_in, table}
 use Rattle.session_table.specs.declared.seated.Seated.{Seated}
-use Rattle.finite_maps.proofs.Texts.{get_table, insert_table}
+use Rattle.law_maps.proofs.Texts.{get_table, insert_table}
 use Rattle.session_table.proofs.RowLaws.{called-leads, still}
 use Rattle.session_table.proofs.Calling.{told_here, called_none, called_ok, goes_here, called_err, moments_here, kept_ok, broken, listed_here, may_here}
 use Rattle.session_table.proofs.table.call_in.Goals as goal

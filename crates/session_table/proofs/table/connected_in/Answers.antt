@@ -1,5 +1,5 @@
 use Rattle.std.proofs.Common.{◌∙◌}
-use Rattle.finite_maps.proofs.Texts.{entries_sorted, rising}
+use Rattle.law_maps.proofs.Texts.{entries_sorted, rising}
 use Rattle.session_table.proofs.Walking.{connected_are, ends_there, none_here}
 use Rattle.session_table.proofs.table.connected_in.Goals as goal
 

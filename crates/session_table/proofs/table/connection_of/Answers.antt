@@ -2,7 +2,7 @@ use Rattle.std.proofs.Common.{sym, ap, ◌∙◌}
 use Rattle.std.specs.Option.{option_copied}
 use Rattle.session_table.specs.Listing.{connection_in}
 use Rattle.session_table.specs.declared.seated.Seated.{Seated}
-use Rattle.finite_maps.proofs.Texts.{get_table}
+use Rattle.law_maps.proofs.Texts.{get_table}
 use Rattle.session_table.proofs.table.connection_of.Goals as goal
 
 pub returns-in-Some : goal.returns-in-Some

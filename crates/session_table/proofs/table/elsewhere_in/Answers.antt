@@ -1,5 +1,5 @@
 use Rattle.std.proofs.Common.{IsTrue, false, [], ◌∷◌, ◌++◌, refl, ap, ◌∙◌}
-use Rattle.finite_maps.proofs.Texts.{entries_sorted, rising}
+use Rattle.law_maps.proofs.Texts.{entries_sorted, rising}
 use Rattle.session_table.proofs.Walking.{all_found, found, none_found, not_found}
 use Rattle.session_table.proofs.table.elsewhere_in.Goals as goal
 

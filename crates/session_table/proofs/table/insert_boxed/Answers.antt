@@ -2,7 +2,7 @@ use Rattle.std.proofs.Common.{ap, ◌∙◌}
 use Rattle.std.specs.FinMap as map
 use Rattle.session_table.specs.Listing.{table}
 use Rattle.session_table.specs.declared.seated.Seated.{Seated}
-use Rattle.finite_maps.proofs.Texts.{insert_table}
+use Rattle.law_maps.proofs.Texts.{insert_table}
 use Rattle.session_table.proofs.table.insert_boxed.Goals as goal
 
 pub returns-in-Ok-clause-ok : goal.returns-in-Ok-clause-ok

@@ -1,6 +1,6 @@
 use Rattle.std.proofs.Common.{Some, sym, ap, ◌∙◌}
 use Rattle.session_table.specs.Listing.{session_in, table}
-use Rattle.finite_maps.proofs.Texts.{get_table, remove_table}
+use Rattle.law_maps.proofs.Texts.{get_table, remove_table}
 use Rattle.session_table.proofs.Calling.{listed_here, out_listed, still_listed}
 use Rattle.session_table.proofs.table.take_out.Goals as goal
 

@@ -1,7 +1,7 @@
 use Rattle.std.proofs.Common.{◌∙◌, ap}
 use Rattle.std.specs.FinSet as set
 use Rattle.causal_context.specs.Dots.{dot_cmp, dot_cmp_total, dot_cmp_antisym}
-use Rattle.finite_maps.proofs.Tables.{add_table}
+use Rattle.law_maps.proofs.Tables.{add_table}
 use Rattle.subscription_set.proofs.dots.both.Goals as goal
 
 pub returns : goal.returns

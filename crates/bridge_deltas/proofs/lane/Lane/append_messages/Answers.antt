@@ -1,6 +1,6 @@
 use Rattle.std.proofs.Common.{◌≡◌, suc, ◌+◌, [], sym, subst}
-use Rattle.lane_rows.specs.Changes.{KeptLane}
-use Rattle.lane_rows.specs.Rows.{waiting_of}
+use Rattle.bridge_lanes.specs.Changes.{KeptLane}
+use Rattle.bridge_lanes.specs.Rows.{waiting_of}
 use Rattle.bridge_deltas.proofs.Telling.{no_messages, ok_unless}
 use Rattle.bridge_deltas.proofs.lane.Lane.append_messages.Goals as goal
 

@@ -1,6 +1,6 @@
 use Rattle.std.proofs.Common.{subst}
-use Rattle.lane_rows.specs.Changes.{KeptLane}
-use Rattle.lane_rows.specs.ChangeSteps.{IsSoundLane}
+use Rattle.bridge_lanes.specs.Changes.{KeptLane}
+use Rattle.bridge_lanes.specs.ChangeSteps.{IsSoundLane}
 use Rattle.bridge_deltas.proofs.Telling.{below_end, comes_later}
 use Rattle.bridge_deltas.proofs.lane.Lane.is_sound.Goals as goal
 

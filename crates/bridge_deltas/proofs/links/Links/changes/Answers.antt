@@ -1,8 +1,8 @@
 use Rattle.std.proofs.Common.{◌≡◌, ◌≤◌, ◌^◌, ◌++◌, length, map, ap, subst, ◌∙◌, arith}
-use Rattle.lane_rows.specs.Rows.{each}
-use Rattle.lane_rows.specs.ChangeSteps.{changes_of, message_changes, numbers_changes}
-use Rattle.lane_rows.specs.Changes.{AreLaneChanges, left_of, now_of, told_of}
-use Rattle.lane_rows.proofs.Named.{changes_made}
+use Rattle.bridge_lanes.specs.Rows.{each}
+use Rattle.bridge_lanes.specs.ChangeSteps.{changes_of, message_changes, numbers_changes}
+use Rattle.bridge_lanes.specs.Changes.{AreLaneChanges, left_of, now_of, told_of}
+use Rattle.bridge_lanes.proofs.Named.{changes_made}
 use Rattle.bridge_deltas.specs.Links.{LinksView}
 use Rattle.bridge_deltas.proofs.links.Links.changes.Goals as goal
 

@@ -1,6 +1,6 @@
 use Rattle.std.proofs.Common.{subst}
-use Rattle.lane_rows.specs.Changes.{now_of}
-use Rattle.lane_rows.specs.Reading.{AreLanes}
+use Rattle.bridge_lanes.specs.Changes.{now_of}
+use Rattle.bridge_lanes.specs.Reading.{AreLanes}
 use Rattle.bridge_deltas.specs.Links.{LinksView}
 use Rattle.bridge_deltas.proofs.Telling.{lanes_are}
 use Rattle.bridge_deltas.proofs.links.Links.have_rows.Goals as goal

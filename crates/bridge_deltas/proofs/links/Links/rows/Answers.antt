@@ -1,7 +1,7 @@
 use Rattle.std.proofs.Common.{◌≡◌, [], map, subst, sym, ap}
 use Rattle.row_store.specs.Rows.{entry_of}
-use Rattle.lane_rows.specs.Changes.{now_of}
-use Rattle.lane_rows.specs.Rows.{rows_of}
+use Rattle.bridge_lanes.specs.Changes.{now_of}
+use Rattle.bridge_lanes.specs.Rows.{rows_of}
 use Rattle.bridge_deltas.specs.Links.{LinksView}
 use Rattle.bridge_deltas.proofs.Telling.{no_rows, rows_made}
 use Rattle.bridge_deltas.proofs.links.Links.rows.Goals as goal

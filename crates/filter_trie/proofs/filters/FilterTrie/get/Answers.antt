@@ -1,6 +1,6 @@
 use Rattle.std.proofs.Common.{sym, ap, ◌∙◌}
 use Rattle.std.specs.FinMap as map
-use Rattle.finite_maps.proofs.Texts.{get_table}
+use Rattle.law_maps.proofs.Texts.{get_table}
 use Rattle.filter_trie.proofs.filters.FilterTrie.get.Goals as goal
 
 pub returns : goal.returns

@@ -5,7 +5,7 @@ use Rattle.std.specs.BTreeMap.{is_at}
 use Rattle.std.specs.FinMap as map
 use Rattle.filter_trie.specs.Search.Counting.{hashes, times, Covers}
 use Rattle.filter_trie.specs.Search.Filing.{counted}
-use Rattle.finite_maps.proofs.Texts.{text_cmp, get_table, insert_table}
+use Rattle.law_maps.proofs.Texts.{text_cmp, get_table, insert_table}
 use Rattle.filter_trie.proofs.CountLaws.{none_from, still_inserted, still_refused}
 use Rattle.filter_trie.proofs.filters.FilterTrie.insert.Goals as goal
 

@@ -5,7 +5,7 @@ use Rattle.mqtt_topics.specs.Matching.{LevelsMatch, Matches}
 use Rattle.filter_trie.specs.Selected.{IsSelected}
 use Rattle.filter_trie.specs.Search.Filing.{IsFiled}
 use Rattle.filter_trie.specs.Search.Branching.{Holds}
-use Rattle.finite_maps.proofs.Texts.{entries_sorted, rising}
+use Rattle.law_maps.proofs.Texts.{entries_sorted, rising}
 use Rattle.filter_trie.proofs.LookupLaws.{covered}
 use Rattle.filter_trie.proofs.filters.FilterTrie.matching.Goals as goal
 

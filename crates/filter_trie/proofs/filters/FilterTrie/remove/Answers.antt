@@ -1,6 +1,6 @@
 use Rattle.std.proofs.Common.{ℕ, List, ◌+◌, sym, ap, subst, ◌∙◌}
 use Rattle.std.specs.FinMap as map
-use Rattle.finite_maps.proofs.Texts.{get_table, remove_table}
+use Rattle.law_maps.proofs.Texts.{get_table, remove_table}
 use Rattle.filter_trie.specs.Search.Counting.{hashes, times, Covers}
 use Rattle.filter_trie.specs.Search.Filing.{counted}
 use Rattle.filter_trie.proofs.CountLaws.{still_removed}

@@ -1,7 +1,7 @@
 use Rattle.std.proofs.Common.{Some, rules, sym, ap, ◌∙◌}
 use Rattle.std.specs.Option.{option_copied_mut}
 use Rattle.std.specs.FinMap as map
-use Rattle.finite_maps.proofs.Texts.{get_table, insert_table}
+use Rattle.law_maps.proofs.Texts.{get_table, insert_table}
 use Rattle.filter_trie.proofs.filters.FilterTrie.replace.Goals as goal
 
 pub returns-clause-before : goal.returns-clause-before

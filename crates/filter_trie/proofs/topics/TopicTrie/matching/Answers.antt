@@ -2,7 +2,7 @@ use Rattle.std.proofs.Common.{List, ℕ, [], map as map_list, IfOk, sym, ap, sub
 use Rattle.std.specs.FinMap as map
 use Rattle.mqtt_topics.specs.Matching.{Matches}
 use Rattle.filter_trie.specs.Selected.{IsSelected}
-use Rattle.finite_maps.proofs.Texts.{entries_sorted, rising}
+use Rattle.law_maps.proofs.Texts.{entries_sorted, rising}
 use Rattle.filter_trie.proofs.topics.TopicTrie.matching.Goals as goal
 
 pub returns-clause-pairs : goal.returns-clause-pairs

@@ -1,7 +1,7 @@
 use Rattle.std.proofs.Common.{◌≡◌, subst, sym, ap, ◌∙◌}
 use Rattle.std.specs.Prelude.{OnOk}
-use Rattle.lane_rows.specs.Changes.{now_of}
-use Rattle.message_lanes.specs.Lanes.{with_got}
+use Rattle.bridge_lanes.specs.Changes.{now_of}
+use Rattle.bridge_lanes.specs.Lanes.{with_got}
 use Rattle.bridge_deltas.specs.Links.{kept_of}
 use Rattle.node_bridge.specs.View.{BridgeView, LanesTell, gets, with_lane}
 use Rattle.node_bridge.proofs.Telling.{are_told, bridge_of, if_ok, lanes_tell, nothing_told, on_ok, shows_got, shows_lane}

@@ -1,5 +1,5 @@
 use Rattle.std.proofs.Common.{ap, subst, ◌∙◌}
-use Rattle.lane_rows.specs.Changes.{now_of}
+use Rattle.bridge_lanes.specs.Changes.{now_of}
 use Rattle.bridge_deltas.specs.Lane.{after_offer}
 use Rattle.bridge_deltas.specs.Links.{kept_of}
 use Rattle.node_bridge.specs.View.{BridgeView, LanesTell, offered}

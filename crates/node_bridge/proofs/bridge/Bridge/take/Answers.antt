@@ -1,5 +1,5 @@
 use Rattle.std.proofs.Common.{cond, ap, subst, ◌∙◌}
-use Rattle.lane_rows.specs.Changes.{now_of}
+use Rattle.bridge_lanes.specs.Changes.{now_of}
 use Rattle.bridge_deltas.specs.Links.{kept_of}
 use Rattle.node_bridge.specs.View.{BridgeView, LanesTell, takes}
 use Rattle.node_bridge.proofs.Telling.{are_told, lanes_tell, shows_lane, shows_taken, taken_lane, taken_with}

@@ -1,7 +1,7 @@
 use Rattle.std.proofs.Common.{subst, sym}
 use Rattle.causal_context.specs.Spelling.{HasSpelling}
 use Rattle.replica_store.specs.States.{State, state_join}
-use Rattle.row_changes.specs.Leading.{AllDiffer, LeadWithin}
+use Rattle.row_store.specs.Leading.{AllDiffer, LeadWithin}
 use Rattle.replica_rows.specs.Reading.{IsStore}
 use Rattle.replica_rows.specs.Rows.{row_at}
 use Rattle.subscription_set.specs.Standing.{seen_of}

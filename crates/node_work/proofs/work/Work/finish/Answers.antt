@@ -1,6 +1,6 @@
 use Rattle.std.proofs.Common.{List, Vec, Global, ap, refl, subst, ◌∙◌}
-use Rattle.row_changes.proofs.Leaving.{settle_none}
-use Rattle.row_changes.specs.Gathered.{Settle}
+use Rattle.row_store.proofs.Leaving.{settle_none}
+use Rattle.row_store.specs.Gathered.{Settle}
 use Rattle.row_store.specs.declared.row.Change.{Change}
 use Rattle.session_table.specs.Rows.{own_kind}
 use Rattle.node_work.specs.View.{WorkView}

@@ -1,5 +1,5 @@
 use Rattle.std.proofs.Common.{refl, subst}
-use Rattle.session_laws.specs.Runs.{rooms}
+use Rattle.law_sessions.specs.Runs.{rooms}
 use Rattle.session_table.specs.Calls.{stays, reaction_of}
 use Rattle.node_work.specs.Calling.{Calls}
 use Rattle.node_work.specs.View.{WorkView}

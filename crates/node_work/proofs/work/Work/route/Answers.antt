@@ -1,5 +1,5 @@
 use Rattle.std.proofs.Common.{Some, sym, subst}
-use Rattle.message_routes.specs.declared.destinations.Route.{Route}
+use Rattle.bridge_routes.specs.declared.destinations.Route.{Route}
 use Rattle.node_work.specs.Doings.{RoutesBy}
 use Rattle.node_work.specs.Working.{ComesTo, Did}
 use Rattle.node_work.proofs.Working.{did_nothing}

@@ -1,5 +1,5 @@
 use Rattle.std.proofs.Common.{◌∙◌, ap, map, subst}
-use Rattle.row_changes.specs.Noted.{pair_of}
+use Rattle.row_store.specs.Noted.{pair_of}
 use Rattle.row_journal.specs.Journal.{NamesWithin, after_pairs}
 use Rattle.row_journal.proofs.CallLaws.{begun}
 use Rattle.row_journal.proofs.journal.Journal.begin_fold.Goals as goal

@@ -1,5 +1,5 @@
 use Rattle.std.proofs.Common.{map, ap, sym, ◌∙◌}
-use Rattle.row_changes.specs.Noted.{pair_of}
+use Rattle.row_store.specs.Noted.{pair_of}
 use Rattle.row_journal.specs.Journal.{after_pairs, removals}
 use Rattle.row_journal.proofs.JournalLaws.{after_all_is, after_both}
 use Rattle.row_journal.proofs.journal.Journal.fold_changes.Goals as goal

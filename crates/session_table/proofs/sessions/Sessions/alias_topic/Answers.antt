@@ -5,7 +5,7 @@ use Rattle.mqtt_sessions.specs.Aliases.{topic_for}
 use Rattle.mqtt_sessions.specs.State.{aliases_of}
 use Rattle.session_table.specs.Listing.{seat_of, table}
 use Rattle.session_table.specs.Seats.{Seat}
-use Rattle.finite_maps.proofs.Texts.{get_table}
+use Rattle.law_maps.proofs.Texts.{get_table}
 use Rattle.session_table.proofs.SeatMaps.{get_seat}
 use Rattle.session_table.proofs.Calling.{topic_here}
 use Rattle.session_table.proofs.sessions.Sessions.alias_topic.Goals as goal

@@ -4,7 +4,7 @@ use Rattle.std.proofs.lemmas.Result.{on_ok_weaker, on_err_weaker}
 use Rattle.std.specs.FinMap as map
 use Rattle.mqtt_sessions.specs.State.{new_session}
 use Rattle.session_table.specs.Seats.{begun}
-use Rattle.finite_maps.proofs.Texts.{insert_taken, remove_taken}
+use Rattle.law_maps.proofs.Texts.{insert_taken, remove_taken}
 use Rattle.session_table.proofs.RowLaws.{begun-leads}
 use Rattle.session_table.proofs.sessions.Sessions.begin.Goals as goal
 

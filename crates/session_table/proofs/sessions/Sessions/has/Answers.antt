@@ -1,7 +1,7 @@
 use Rattle.std.proofs.Common.{is_some, sym, ap, ◌∙◌}
 use Rattle.std.specs.FinMap as map
 use Rattle.session_table.specs.Listing.{table}
-use Rattle.finite_maps.proofs.Texts.{get_table}
+use Rattle.law_maps.proofs.Texts.{get_table}
 use Rattle.session_table.proofs.SeatMaps.{some_seat}
 use Rattle.session_table.proofs.sessions.Sessions.has.Goals as goal
 

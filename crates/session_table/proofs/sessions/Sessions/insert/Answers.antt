@@ -4,7 +4,7 @@ use Rattle.std.proofs.lemmas.Result.{on_ok_weaker, on_err_weaker}
 use Rattle.std.specs.FinMap as map
 use Rattle.mqtt_sessions.specs.Saved.{state_of}
 use Rattle.session_table.specs.Listing.{seats_in, table}
-use Rattle.finite_maps.proofs.Texts.{get_removed, insert_taken}
+use Rattle.law_maps.proofs.Texts.{get_removed, insert_taken}
 use Rattle.session_table.proofs.SeatMaps.{seats_remove}
 use Rattle.session_table.proofs.Calling.{kept_out}
 use Rattle.session_table.proofs.sessions.Sessions.insert.Goals as goal

@@ -1,7 +1,7 @@
 use Rattle.std.proofs.Common.{◌≡◌, true, false, ap, ◌∙◌}
 use Rattle.std.proofs.lemmas.Result.{IfOk-weaker}
 use Rattle.std.specs.List.{flat_map}
-use Rattle.due_times.specs.Dues.{in_order}
+use Rattle.session_table.specs.Dues.{in_order}
 use Rattle.session_table.specs.Listing.{on_connection, table}
 use Rattle.session_table.specs.Seats.{run_outs}
 use Rattle.session_table.proofs.Numbers.{run_outs_are, none_listed}

@@ -4,7 +4,7 @@ use Rattle.std.specs.Option.{option_and_then, option_copied, option_map}
 use Rattle.mqtt_sessions.specs.Ending.{will_due}
 use Rattle.session_table.specs.Listing.{seat_of, table}
 use Rattle.session_table.specs.Seats.{Seat}
-use Rattle.finite_maps.proofs.Texts.{get_table}
+use Rattle.law_maps.proofs.Texts.{get_table}
 use Rattle.session_table.proofs.SeatMaps.{get_seat}
 use Rattle.session_table.proofs.Calling.{will_here}
 use Rattle.session_table.proofs.sessions.Sessions.will_due.Goals as goal

@@ -4,7 +4,7 @@ use Rattle.std.specs.FinMap as map
 use Rattle.std.specs.FinSet as set
 use Rattle.std.specs.Option.{option_copied_mut}
 use Rattle.subscription_set.specs.Filing.{Filed, IsFilled, spread, text_cmp}
-use Rattle.finite_maps.proofs.Tables.{get_table, insert_table}
+use Rattle.law_maps.proofs.Tables.{get_table, insert_table}
 use Rattle.subscription_set.proofs.Spreading.{text_total, text_anti, filed_total, filed_anti, same_written, put_written, put_new, filled_written, filled_new}
 use Rattle.subscription_set.proofs.by_client.ByClient.add.Goals as goal
 

@@ -3,7 +3,7 @@ use Rattle.std.specs.FinMap as map
 use Rattle.std.specs.FinSet as set
 use Rattle.std.specs.Option.{option_copied_mut}
 use Rattle.subscription_set.specs.Filing.{Filed, IsFilled, spread, text_cmp}
-use Rattle.finite_maps.proofs.Tables.{get_table, insert_table, remove_table}
+use Rattle.law_maps.proofs.Tables.{get_table, insert_table, remove_table}
 use Rattle.subscription_set.proofs.Spreading.{text_total, text_anti, filed_total, filed_anti, take_written, take_last, filled_left, filled_last, spread_absent}
 use Rattle.subscription_set.proofs.by_client.ByClient.remove.Goals as goal
 use Rattle.subscription_set.proofs.by_client.ByClient.remove.Goals.{in-Some-1, in-None-1}

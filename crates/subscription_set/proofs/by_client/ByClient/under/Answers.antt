@@ -3,7 +3,7 @@ use Rattle.std.specs.FinMap as map
 use Rattle.std.specs.FinSet as set
 use Rattle.causal_context.specs.Dots.{Dot, dot_cmp}
 use Rattle.subscription_set.specs.Filing.{Places, IsGroup, pair_cmp, text_cmp}
-use Rattle.finite_maps.proofs.Tables.{get_table}
+use Rattle.law_maps.proofs.Tables.{get_table}
 use Rattle.subscription_set.proofs.Spreading.{text_total, text_anti, filed_total, filed_anti, under_is}
 use Rattle.subscription_set.proofs.by_client.ByClient.under.Goals as goal
 

@@ -1,7 +1,7 @@
 use Rattle.std.proofs.Common.{◌∙◌, [], ap, sym}
 use Rattle.std.specs.FinSet as set
 use Rattle.causal_context.specs.Dots.{dot_cmp, dot_cmp_total, dot_cmp_antisym}
-use Rattle.finite_maps.proofs.Tables.{add_table, contains_table}
+use Rattle.law_maps.proofs.Tables.{add_table, contains_table}
 use Rattle.subscription_set.specs.Placing.{dots_placed}
 use Rattle.subscription_set.proofs.OneDot.{put_again, not_empty, not_other, none_of_keys}
 use Rattle.subscription_set.proofs.dots.DotSet.insert.Goals as goal

@@ -1,7 +1,7 @@
 use Rattle.std.proofs.Common.{◌∙◌, ap, sym}
 use Rattle.std.specs.FinSet as set
 use Rattle.causal_context.specs.Dots.{dot_cmp, dot_cmp_total, dot_cmp_antisym}
-use Rattle.finite_maps.proofs.Tables.{leave_table}
+use Rattle.law_maps.proofs.Tables.{leave_table}
 use Rattle.subscription_set.specs.Placing.{dots_placed}
 use Rattle.subscription_set.proofs.OneDot.{take_last, take_other}
 use Rattle.subscription_set.proofs.dots.DotSet.remove.Goals as goal

@@ -4,7 +4,7 @@ use Rattle.std.specs.FinSet as set
 use Rattle.std.specs.Option.{option_copied_mut}
 use Rattle.causal_context.specs.Dots.{Dots, dot_cmp_total, dot_cmp_antisym}
 use Rattle.subscription_set.specs.Filing.{spread, text_cmp}
-use Rattle.finite_maps.proofs.Tables.{get_table, insert_table, remove_table}
+use Rattle.law_maps.proofs.Tables.{get_table, insert_table, remove_table}
 use Rattle.subscription_set.proofs.Spreading.{text_total, text_anti, take_written, take_last, filled_left, filled_last, spread_absent}
 use Rattle.subscription_set.proofs.groups.Groups.remove.Goals as goal
 use Rattle.subscription_set.proofs.groups.Groups.remove.Goals.{in-Some-1, in-None-1}

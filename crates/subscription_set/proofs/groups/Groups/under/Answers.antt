@@ -3,7 +3,7 @@ use Rattle.std.specs.FinMap as map
 use Rattle.std.specs.FinSet as set
 use Rattle.causal_context.specs.Dots.{Dot, dot_cmp, dot_cmp_total, dot_cmp_antisym}
 use Rattle.subscription_set.specs.Filing.{Filed, IsGroup, text_cmp}
-use Rattle.finite_maps.proofs.Tables.{get_table}
+use Rattle.law_maps.proofs.Tables.{get_table}
 use Rattle.subscription_set.proofs.Spreading.{text_total, text_anti, under_is}
 use Rattle.subscription_set.proofs.groups.Groups.under.Goals as goal
 

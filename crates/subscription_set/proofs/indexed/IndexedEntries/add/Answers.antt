@@ -6,7 +6,7 @@ use Rattle.subscription_set.specs.Standing.{Entries}
 use Rattle.subscription_set.proofs.Spreading.{filed_total, filed_anti, places_total, places_anti}
 use Rattle.subscription_set.specs.Indexing.{ByDot, stands_as, stands_to}
 use Rattle.subscription_set.proofs.Filtered.{matched_added, matched_kept}
-use Rattle.finite_maps.proofs.Tables.{insert_table}
+use Rattle.law_maps.proofs.Tables.{insert_table}
 use Rattle.subscription_set.proofs.Indexing.{live_few, entries_table, live_more, live_same, stands_by, stands_not, added, kept, undone}
 use Rattle.subscription_set.proofs.indexed.IndexedEntries.add.Goals as goal
 

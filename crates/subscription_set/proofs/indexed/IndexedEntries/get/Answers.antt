@@ -1,7 +1,7 @@
 use Rattle.std.proofs.Common.{sym, ap, ◌∙◌}
 use Rattle.std.specs.FinMap as map
 use Rattle.causal_context.specs.Dots.{dot_cmp_total}
-use Rattle.finite_maps.proofs.Tables.{get_table}
+use Rattle.law_maps.proofs.Tables.{get_table}
 use Rattle.subscription_set.proofs.indexed.IndexedEntries.get.Goals as goal
 
 pub returns : goal.returns

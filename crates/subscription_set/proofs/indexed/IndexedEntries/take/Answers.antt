@@ -4,7 +4,7 @@ use Rattle.causal_context.specs.Dots.{dot_cmp, dot_cmp_total, dot_cmp_antisym}
 use Rattle.subscription_set.specs.Standing.{latest}
 use Rattle.subscription_set.specs.Indexing.{ByDot, stands_as}
 use Rattle.subscription_set.proofs.Filtered.{matched_taken}
-use Rattle.finite_maps.proofs.Tables.{get_table, remove_table}
+use Rattle.law_maps.proofs.Tables.{get_table, remove_table}
 use Rattle.subscription_set.proofs.Indexing.{live_less, live_left, stands_by, stands_not, taken}
 use Rattle.subscription_set.proofs.indexed.IndexedEntries.take.Goals as goal
 use Rattle.subscription_set.proofs.indexed.IndexedEntries.take.Goals.{then-is_none, else-is_none}

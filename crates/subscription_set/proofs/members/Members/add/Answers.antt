@@ -5,7 +5,7 @@ use Rattle.std.specs.FinSet as set
 use Rattle.std.specs.Option.{option_copied_mut}
 use Rattle.subscription_set.specs.Members.{Clients}
 use Rattle.subscription_set.specs.Filing.{IsFilled, spread, text_cmp}
-use Rattle.finite_maps.proofs.Tables.{get_table, insert_table}
+use Rattle.law_maps.proofs.Tables.{get_table, insert_table}
 use Rattle.subscription_set.proofs.Spreading.{text_total, text_anti, same_written, put_written, put_new, filled_written, filled_new}
 use Rattle.subscription_set.proofs.members.Members.add.Goals as goal
 

@@ -3,7 +3,7 @@ use Rattle.std.specs.FinMap as map
 use Rattle.std.specs.FinSet as set
 use Rattle.subscription_set.specs.Members.{Seats}
 use Rattle.subscription_set.specs.Filing.{IsGroup, text_cmp}
-use Rattle.finite_maps.proofs.Tables.{get_table}
+use Rattle.law_maps.proofs.Tables.{get_table}
 use Rattle.subscription_set.proofs.Spreading.{text_total, text_anti, under_is}
 use Rattle.subscription_set.proofs.members.Members.under.Goals as goal
 

@@ -4,7 +4,7 @@ use Rattle.std.specs.FinMap.{nat_cmp-IsAntisymmetric}
 use Rattle.std.specs.FinMap as map
 use Rattle.std.proofs.lemmas.Result.{on_ok_weaker}
 use Rattle.node_work.specs.Held.Connections.{changed_at, with_client}
-use Rattle.finite_maps.proofs.Tables.{remove_absent, insert_taken}
+use Rattle.law_maps.proofs.Tables.{remove_absent, insert_taken}
 use Rattle.node_work.proofs.held.connections.Connections.accept.Goals as goal
 
 pub returns-in-Some-clause-ok : goal.returns-in-Some-clause-ok

@@ -1,7 +1,7 @@
 use Rattle.std.proofs.Common.{◌∙◌, sym, ap}
 use Rattle.std.specs.Cmp.{nat_cmp_total}
 use Rattle.std.specs.FinMap as map
-use Rattle.finite_maps.proofs.Tables.{get_table}
+use Rattle.law_maps.proofs.Tables.{get_table}
 use Rattle.node_work.proofs.held.connections.Connections.find.Goals as goal
 
 pub returns : goal.returns

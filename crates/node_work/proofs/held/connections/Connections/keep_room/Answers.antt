@@ -3,7 +3,7 @@ use Rattle.std.specs.Option.{option_copied_mut}
 use Rattle.std.specs.Cmp.{nat_cmp_total}
 use Rattle.std.specs.FinMap.{nat_cmp-IsAntisymmetric}
 use Rattle.std.specs.FinMap as map
-use Rattle.finite_maps.proofs.Tables.{get_table, insert_table}
+use Rattle.law_maps.proofs.Tables.{get_table, insert_table}
 use Rattle.node_work.specs.Held.Connections.{changed_at, with_room}
 use Rattle.node_work.proofs.held.connections.Connections.keep_room.Goals as goal
 

@@ -2,7 +2,7 @@ use Rattle.std.proofs.Common.{◌∙◌, ap}
 use Rattle.std.specs.Cmp.{nat_cmp_total}
 use Rattle.std.specs.FinMap.{nat_cmp-IsAntisymmetric}
 use Rattle.std.specs.FinMap as map
-use Rattle.finite_maps.proofs.Tables.{insert_table}
+use Rattle.law_maps.proofs.Tables.{insert_table}
 use Rattle.node_work.proofs.held.connections.Connections.put.Goals as goal
 
 pub returns-clause-ok : goal.returns-clause-ok

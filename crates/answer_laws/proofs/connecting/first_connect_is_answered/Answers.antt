@@ -1,5 +1,0 @@
-use Rattle.answer_laws.proofs.FirstConnect.{first_connect_is_answered}
-use Rattle.answer_laws.proofs.connecting.first_connect_is_answered.Goals as goal
-
-pub returns : goal.returns
-returns c = first_connect_is_answered

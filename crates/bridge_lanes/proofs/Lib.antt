@@ -1,0 +1,14 @@
+pub mod Cuts
+pub mod Differing
+pub mod Keeping
+pub mod Keys
+pub mod LaneLists
+pub mod Lanes
+pub mod Leading
+pub mod Lists
+pub mod Named
+pub mod Numbers
+pub mod Order
+pub mod Readers
+pub mod Rising
+pub mod Tables

@@ -1,0 +1,6 @@
+pub mod ChangeSteps
+pub mod Changes
+pub mod Lanes
+pub mod Laws
+pub mod Reading
+pub mod Rows

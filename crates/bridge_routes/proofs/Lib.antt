@@ -1,0 +1,10 @@
+pub mod Ascending
+pub mod Gathering
+pub mod InOrder
+pub mod InTurn
+pub mod LatestLive
+pub mod Pairs
+pub mod Putting
+pub mod Routing
+pub mod Selecting
+pub mod Sharing

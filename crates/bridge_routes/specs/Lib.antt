@@ -1,0 +1,10 @@
+pub mod Ascending
+pub mod Copies
+pub mod Deliveries
+pub mod Gathered
+pub mod Latest
+pub mod Laws
+pub mod Picks
+pub mod Routes
+pub mod Tables
+pub mod Taken

@@ -1,9 +1,0 @@
-use Rattle.cause_laws.proofs.EndLaws.{ends_have_removes}
-use Rattle.cause_laws.proofs.Evicting.{evictions_have_removes}
-use Rattle.cause_laws.proofs.causes.ends_have_removes.Goals as goal
-
-pub returns-clause-over : goal.returns-clause-over
-returns-clause-over c = ends_have_removes
-
-pub returns-clause-eviction : goal.returns-clause-eviction
-returns-clause-eviction c = evictions_have_removes

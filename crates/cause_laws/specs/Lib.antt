@@ -1,4 +1,0 @@
-pub mod Causes
-pub mod Ends
-pub mod Stops
-pub mod Expiring

@@ -1,0 +1,5 @@
+pub mod Flaws
+pub mod Judging
+pub mod Laws
+pub mod Looking
+pub mod Watching

@@ -1,0 +1,24 @@
+//! The files that the program is started with, a script and a configuration, and where one can't be read, what is wrong with it.
+//! The table of homes in a file, which is looked at while a node runs.
+#![tactic(auto)]
+
+mod configuration;
+mod content;
+mod file;
+mod flaw;
+mod judging;
+mod laws;
+mod looks;
+mod refusal;
+mod watch;
+
+pub use configuration::{
+    configuration_bytes, configuration_in, configuration_of, read_configuration, unread,
+};
+pub use content::Content;
+pub use file::{read_file, read_script};
+pub use judging::judge;
+pub use laws::{same_content_is_judged_once, settled_content_is_judged, unchanged_file_is_quiet};
+pub use looks::{Looks, Outcome};
+pub use refusal::Refusal;
+pub use watch::{TableFile, TableSource};

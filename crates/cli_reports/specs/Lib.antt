@@ -1,0 +1,4 @@
+pub mod Figures
+pub mod Finding
+pub mod Flaws
+pub mod Report

@@ -1,0 +1,4 @@
+pub mod Answers
+pub mod Causes
+pub mod Faults
+pub mod Stops

@@ -1,5 +1,0 @@
-pub mod Answers
-pub mod Codes
-pub mod Front
-pub mod Rights
-pub mod Sending

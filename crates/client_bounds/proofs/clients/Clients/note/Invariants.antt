@@ -1,6 +1,0 @@
-use Rattle.std.proofs.Common.{◌≡◌, drop, ℕ}
-use Rattle.client_bounds.specs.Clients.{client_of, noted}
-use Rattle.client_bounds.proofs.clients.Clients.note.Given as goal
-
-abbrev pub invariant-loop-output : goal.invariant-loop-output
-invariant-loop-output l = (q : ℕ) → noted q (drop l.output-index l.outputs) (client_of l.self q) ≡ noted q l.outputs (client_of l.fn.self q)

@@ -1,5 +1,0 @@
-use Rattle.client_bounds.proofs.Ordering.{all_go_on}
-use Rattle.client_bounds.proofs.laws.all_go_on.Goals as goal
-
-pub returns : goal.returns
-returns c = all_go_on

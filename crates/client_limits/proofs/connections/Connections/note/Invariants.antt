@@ -1,6 +1,0 @@
-use Rattle.std.proofs.Common.{◌≡◌, drop}
-use Rattle.client_limits.specs.Connected.{after}
-use Rattle.client_limits.proofs.connections.Connections.note.Given as goal
-
-abbrev pub invariant-loop-output : goal.invariant-loop-output
-invariant-loop-output l = after (drop l.output-index l.outputs) l.self ≡ after l.outputs l.initial.self

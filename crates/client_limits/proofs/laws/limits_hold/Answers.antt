@@ -1,5 +1,0 @@
-use Rattle.client_limits.proofs.Bounding.{limits_hold}
-use Rattle.client_limits.proofs.laws.limits_hold.Goals as goal
-
-pub returns : goal.returns
-returns g c = limits_hold g.H.Handler.handles g.H.BridgeHandler.hears g.H.Handler.settles

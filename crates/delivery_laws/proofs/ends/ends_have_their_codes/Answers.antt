@@ -1,5 +1,0 @@
-use Rattle.delivery_laws.proofs.EndLaws.{keeps_end_codes}
-use Rattle.delivery_laws.proofs.ends.ends_have_their_codes.Goals as goal
-
-pub returns : goal.returns
-returns c = keeps_end_codes

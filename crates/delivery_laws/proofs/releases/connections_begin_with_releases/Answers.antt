@@ -1,5 +1,0 @@
-use Rattle.delivery_laws.proofs.BeginningLaws.{keeps_releases_told}
-use Rattle.delivery_laws.proofs.releases.connections_begin_with_releases.Goals as goal
-
-pub returns : goal.returns
-returns c = keeps_releases_told

@@ -1,7 +1,0 @@
-//! Each event comes to something.
-ghost use Rattle.delivery_laws.specs.Outcomes.{KeepsOutcome};
-
-/// An event that may come has an outcome, or it needs a number that is at its end.
-pub fn each_event_has_an_outcome()
-    ensures { KeepsOutcome }
-{}

@@ -1,0 +1,13 @@
+pub mod Answering
+pub mod Answers
+pub mod Calls
+pub mod Clients
+pub mod Faults
+pub mod Front
+pub mod Laws
+pub mod Limits
+pub mod Mending
+pub mod Resident
+pub mod Telling
+pub mod Views
+pub mod Walk

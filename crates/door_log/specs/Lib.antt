@@ -1,0 +1,13 @@
+pub mod Answering
+pub mod Escaping
+pub mod Faults
+pub mod Laws
+pub mod LineLaws
+pub mod Lines
+pub mod Noting
+pub mod Reasons
+pub mod Stages
+pub mod Telling
+pub mod Upshots
+pub mod Views
+pub mod Writing

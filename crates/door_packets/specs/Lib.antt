@@ -1,0 +1,9 @@
+pub mod Answers
+pub mod Codes
+pub mod Front
+pub mod Laws
+pub mod Marks
+pub mod Packets
+pub mod Rights
+pub mod Sending
+pub mod Walk

@@ -1,0 +1,110 @@
+//! What goes out of that which the handler inside gives.
+
+ghost use Rattle.std.specs.Prelude.{◌≡◌, ◌≤◌, IfOk, drop, length, map};
+ghost use Rattle.std.specs.List.{list_all};
+ghost use Rattle.door_packets.specs.Sending.{IsSpelled, is_readable, mended, mended_by, readable_by};
+
+use crate::access::{Access, Login};
+use crate::bytes::suback;
+use crate::codes::Awaited;
+use crate::front::front_packet;
+use mqtt_fields::NoMemory;
+use mqtt_packets::{Packet, write_packet};
+use std::alloc::Global;
+
+/// The bytes of a packet; none of one that has no spelling.
+#[tactic(auto, using(crate::proofs::Sent::is_spelled, crate::proofs::Sent::not_spelled))]
+pub fn spelled(alloc: Global, packet: &Packet) -> Result<Vec<u8>, NoMemory>
+    ensures { IfOk result (λ bytes. IsSpelled packet.now bytes.items) }
+{
+    let mut bytes = Vec::new(alloc);
+    if packet.is_sound() {
+        write_packet(alloc, packet, &mut bytes)?;
+    }
+    Ok(bytes)
+}
+
+/// The same where this packet stands in front, and what follows it.
+fn mended_by(
+    alloc: Global,
+    awaited: &Awaited,
+    bytes: Vec<u8>,
+    packet: Packet,
+    used: usize,
+) -> Result<Vec<u8>, NoMemory>
+    requires { used ≤ length bytes.items }
+    ensures { IfOk result (λ x. x.items ≡ mended_by awaited.now bytes.items packet (drop used bytes.items)) }
+{
+    match packet {
+        Packet::Suback(given) => {
+            if given.identifier != awaited.identifier {
+                return Ok(bytes);
+            }
+            let codes = awaited.codes.merged(alloc, given.reasons.as_slice())?;
+            let mut put = suback(alloc, given.identifier, &codes)?;
+            put.extend_from_slice(&bytes[used..])?;
+            Ok(put)
+        }
+        _ => Ok(bytes),
+    }
+}
+
+/// Bytes that answer a client. The SUBACK in front of them has all codes, where it is the one that is to come.
+#[tactic(auto, using(crate::proofs::Sent::mended_none, crate::proofs::Sent::mended_front))]
+pub fn mended(alloc: Global, awaited: &Option<Awaited>, bytes: Vec<u8>) -> Result<Vec<u8>, NoMemory>
+    ensures { IfOk result (λ x. x.items ≡ mended awaited.now bytes.items) }
+{
+    match awaited {
+        None => Ok(bytes),
+        Some(awaited) => match front_packet(alloc, &bytes)? {
+            Some((packet, used)) => mended_by(alloc, awaited, bytes, packet, used),
+            None => Ok(bytes),
+        },
+    }
+}
+
+/// Whether a packet is no PUBLISH, or one that this client may receive.
+fn is_for<A: Access>(access: &A, login: &Option<Login>, packet: &Packet) -> bool
+    ensures { result ≡ readable_by (A.rights access.now) login.now packet.now }
+{
+    match packet {
+        Packet::Publish(publish) => match login {
+            None => false,
+            Some(login) => access.may_read(login, publish.topic.as_str()),
+        },
+        _ => true,
+    }
+}
+
+/// Whether a packet, whose bytes these are, is so.
+#[tactic(auto, using(crate::proofs::Sent::readable_some, crate::proofs::Sent::readable_none))]
+fn is_readable<A: Access>(
+    alloc: Global,
+    access: &A,
+    login: &Option<Login>,
+    bytes: &[u8],
+) -> Result<bool, NoMemory>
+    ensures { IfOk result (λ b. b ≡ is_readable (A.rights access.now) login.now bytes.now) }
+{
+    match front_packet(alloc, bytes)? {
+        None => Ok(false),
+        Some((packet, _)) => Ok(is_for(access, login, &packet)),
+    }
+}
+
+/// Whether all of these packets are so.
+pub fn are_readable<A: Access>(
+    alloc: Global,
+    access: &A,
+    login: &Option<Login>,
+    packets: &[&[u8]],
+) -> Result<bool, NoMemory>
+    ensures { IfOk result (λ b. b ≡ list_all (is_readable (A.rights access.now) login.now) (map (λ p. p.now) packets.now)) }
+{
+    for packet in packets {
+        if !is_readable(alloc, access, login, packet)? {
+            return Ok(false);
+        }
+    }
+    Ok(true)
+}

@@ -1,7 +1,0 @@
-//! Laws of the count.
-ghost use Rattle.dot_counts.specs.Counts.{NoneLacksWhereAllAreKnown};
-
-/// No dot is counted exactly where each of the first is one of the second.
-pub fn none_lacks_where_all_are_known()
-    ensures { NoneLacksWhereAllAreKnown }
-{}

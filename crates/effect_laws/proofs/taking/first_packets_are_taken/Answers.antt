@@ -1,5 +1,0 @@
-use Rattle.effect_laws.proofs.BareLaws.{first_packets_are_taken}
-use Rattle.effect_laws.proofs.taking.first_packets_are_taken.Goals as goal
-
-pub returns : goal.returns
-returns c = first_packets_are_taken

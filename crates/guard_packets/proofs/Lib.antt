@@ -1,4 +1,0 @@
-pub mod Aliasing
-pub mod Fronts
-pub mod Marking
-pub mod Ordering

@@ -1,4 +1,0 @@
-pub mod Laws
-pub mod Marks
-pub mod Packets
-pub mod Walk

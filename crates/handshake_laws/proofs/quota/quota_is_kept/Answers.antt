@@ -1,9 +1,0 @@
-use Rattle.handshake_laws.proofs.OrderLaws.{keeps_quota}
-use Rattle.handshake_laws.proofs.QuotaLaws.{keeps_within}
-use Rattle.handshake_laws.proofs.quota.quota_is_kept.Goals as goal
-
-pub returns-clause-held : goal.returns-clause-held
-returns-clause-held c = keeps_quota
-
-pub returns-clause-told : goal.returns-clause-told
-returns-clause-told c = keeps_within

@@ -1,5 +1,0 @@
-use Rattle.handshake_laws.proofs.ResendLaws.{keeps_resends_in_order}
-use Rattle.handshake_laws.proofs.resends.resends_are_in_order.Goals as goal
-
-pub returns : goal.returns
-returns c = keeps_resends_in_order

@@ -1,9 +1,0 @@
-pub mod Incoming
-pub mod Kept
-pub mod Lists
-pub mod Numbers
-pub mod Order
-pub mod Quota
-pub mod Releases
-pub mod Resends
-pub mod Runs

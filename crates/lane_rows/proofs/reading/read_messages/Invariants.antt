@@ -1,7 +1,0 @@
-use Rattle.std.proofs.Common.{◌+◌, suc, map, take}
-use Rattle.row_store.specs.Rows.{entry_of}
-use Rattle.lane_rows.specs.Reading.{AreMessages}
-use Rattle.lane_rows.proofs.reading.read_messages.Given as goal
-
-abbrev pub invariant-loop-i : goal.invariant-loop-i
-invariant-loop-i l = AreMessages l.peer (suc l.base) (map entry_of (take l.i l.rows)) l.messages.items

@@ -1,8 +1,0 @@
-use Rattle.std.proofs.Common.{ap}
-use Rattle.row_store.specs.declared.row.Change.TheVariants.{Put}
-use Rattle.lane_rows.specs.Changes.{left_of, put}
-use Rattle.lane_rows.proofs.Lists.{one_if}
-use Rattle.lane_rows.proofs.row.append_numbers_change.Goals as goal
-
-pub returns-clause-ok : goal.returns-clause-ok
-returns-clause-ok c = one_if left_of c.args.out.now.items c.push.new.self.items (Put c.in_ok-row.row) _ _ c.are_equal.result c.are_equal.ensures c.if-are_equal.false c.in_ok-push.ensures.items (ap put c.in_ok-row.ensures)

@@ -1,0 +1,22 @@
+pub mod CauseLaws
+pub mod Causing
+pub mod ClearedLaws
+pub mod CopyLaws
+mod Covered
+pub mod EndLaws
+pub mod Ending
+mod Equals
+pub mod Evicting
+pub mod Expiring
+pub mod GotLaws
+pub mod Having
+mod InUseLaws
+mod LastLaws
+pub mod Lower
+mod Opened
+pub mod Overs
+mod RequestLaws
+mod Requesting
+pub mod Stores
+mod UsedCodes
+pub mod Walk

@@ -1,0 +1,10 @@
+pub mod Causes
+pub mod Cleared
+pub mod Copies
+pub mod Ends
+pub mod Equals
+pub mod Expiring
+pub mod Gots
+pub mod InUse
+pub mod Requests
+pub mod Stops

@@ -1,0 +1,15 @@
+pub mod Again
+pub mod Busy
+pub mod Codes
+pub mod Copies
+pub mod Ends
+pub mod Identifiers
+pub mod Open
+pub mod Outcomes
+pub mod Overs
+pub mod Publishes
+pub mod Queue
+pub mod Released
+pub mod Requests
+pub mod Unanswered
+pub mod Wills

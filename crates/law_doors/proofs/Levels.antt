@@ -1,0 +1,95 @@
+-- What the handler inside is told behind one that translates for clients of versions before 5.
+use Rattle.std.proofs.Common.{◌≡◌, List, [], ◌∷◌, ◌++◌, Option, Some, None, refl, subst}
+use Rattle.broker_sockets.specs.declared.bridge.Given.{Given}
+use Rattle.broker_sockets.specs.declared.bridge.PeerEvent.{PeerEvent}
+use Rattle.broker_sockets.specs.declared.events.Event.{Event}
+use Rattle.broker_sockets.specs.declared.events.Output.{Output}
+use Rattle.broker_turns.specs.Handling.Told.{Of_client, Of_peer}
+use Rattle.door_mqtt3.specs.Telling.{AreTold, IsAnswered, IsAnsweredIf, IsHeard, IsHeardIf, IsSettled, Told}
+use Rattle.door_mqtt3.specs.Views.{clients_of, inside_of}
+use Rattle.door_mqtt3.specs.declared.clients.Clients.{Clients}
+use Rattle.door_mqtt3.specs.declared.handler.Mqtt3.{Mqtt3}
+use Rattle.law_doors.specs.Calls.{Call, IsCalled, Settles, Tells, notes, notes_peer}
+use Rattle.law_doors.specs.Levels.{Levels_pass, LevelsOff, LevelsTell}
+use Rattle.law_doors.proofs.Calls.{Passed, all_passed, all_same}
+use Rattle.law_doors.proofs.Noting.{Noted, noted_as, noted_none, noted_one, noted_then}
+
+module _ {H : Type 0} (handles : H → Event → List Output → H → Type 0) (hears : H → PeerEvent → Given → H → Type 0) (settles : H → H → Type 0) where
+  abbrev Notes : H → H → List Call → (List Call → Type 0) → Type 0
+  Notes h h' xs Is = Noted handles hears settles h h' xs Is
+
+  told_noted : (told : List Told) (h h' : H) (xs : List Call) → AreTold handles told h h' → Notes h h' xs (λ ys. AreTold notes told xs ys)
+  told_noted [] h h' xs same = noted_none handles hears settles h h' xs (λ ys. ys ≡ xs) same refl
+  told_noted (t ∷ more) h h' xs all =
+      let first = noted_one handles hears settles t.0 t.1 h all.0 xs (λ ys. notes xs t.0 t.1 ys) all.1 refl in
+      let rest = told_noted more all.0 h' first.end all.2 in
+      noted_then handles hears settles h all.0 h' xs (λ ys. notes xs t.0 t.1 ys) (λ zs. AreTold notes more first.end zs) (λ ys. AreTold notes (t ∷ more) xs ys)
+      first (λ zs is. (first.end, first.is, is)) rest
+
+  answered_if : (k k' : Option Clients) (e : Event) (h h' : H) (outputs : List Output) (xs : List Call)
+      → IsAnsweredIf handles k k' e h h' outputs → Notes h h' xs (λ ys. IsAnsweredIf notes k k' e xs ys outputs)
+  answered_if None k' e h h' outputs xs a = noted_one handles hears settles e outputs h h' xs (λ ys. IsAnsweredIf notes None k' e xs ys outputs) a.0 (refl, a.1)
+  answered_if (Some k) None e h h' outputs xs a = absurd a
+  answered_if (Some k) (Some k') e h h' outputs xs a =
+      noted_as handles hears settles h h' xs (λ ys. AreTold notes a.calls xs ys) (λ ys. IsAnsweredIf notes (Some k) (Some k') e xs ys outputs)
+      (λ ys is. record { calls = a.calls; told = is; events = a.events; paths = a.paths }) (told_noted a.calls h h' xs a.told)
+
+  -- what another node brings about is told first
+  heard_one : (e : PeerEvent) (given : Given) (h h' : H) (xs : List Call) → hears h e given h' → Notes h h' xs (λ ys. notes_peer xs e given ys)
+  heard_one e given h h' xs is = record { calls = Tells (Of_peer e given) ∷ []; called = (h', is, refl); end = xs ++ Tells (Of_peer e given) ∷ []; ends = refl; is = refl }
+
+  heard_if : (k k' : Option Clients) (e : PeerEvent) (h h' : H) (given : Given) (xs : List Call)
+      → IsHeardIf handles hears k k' e h h' given → Notes h h' xs (λ ys. IsHeardIf notes notes_peer k k' e xs ys given)
+  heard_if None k' e h h' given xs a =
+      noted_as handles hears settles h h' xs (λ ys. notes_peer xs e given ys) (λ ys. IsHeardIf notes notes_peer None k' e xs ys given) (λ ys is. (is, a.1)) (heard_one e given h h' xs a.0)
+  heard_if (Some k) None e h h' given xs a = absurd a
+  heard_if (Some k) (Some k') e h h' given xs a =
+      let first = heard_one e a.first h a.reached xs a.heard in
+      let more = a.outputs.more in
+      let rest = told_noted more.calls a.reached h' first.end more.told in
+      noted_then handles hears settles h a.reached h' xs (λ ys. notes_peer xs e a.first ys) (λ zs. AreTold notes more.calls first.end zs) (λ ys. IsHeardIf notes notes_peer (Some k) (Some k') e xs ys given)
+      first
+      (λ zs is. record {
+        first = a.first;
+        reached = first.end;
+        heard = first.is;
+        frames = a.frames;
+        outputs = record {
+          between = a.outputs.between;
+          sent = a.outputs.sent;
+          first = a.outputs.first;
+          more = record { calls = more.calls; told = is; pieces = more.pieces; paths = more.paths };
+        };
+      })
+      rest
+
+  -- ---- one call
+
+  abbrev One : Call → Mqtt3 H → Mqtt3 H → Type 0
+  One call d d' = Passed handles hears settles (IsAnswered handles) (IsHeard handles hears) (IsSettled settles) (λ (x : Mqtt3 H). inside_of x) (λ (x : Mqtt3 H). clients_of x) Levels_pass (λ x. Unit {0}) call d d'
+
+  one : (call : Call) (d d' : Mqtt3 H) → Unit {0} → IsCalled (IsAnswered handles) (IsHeard handles hears) (IsSettled settles) call d d' → One call d d'
+  one (Tells (Of_client e outputs)) d d' free a =
+      let n = answered_if (clients_of d) (clients_of d') e (inside_of d) (inside_of d') outputs [] a in
+      let Is : List Call → Type 0 = λ ys. IsAnsweredIf notes (clients_of d) (clients_of d') e [] ys outputs in
+      record { inside = n.calls; called = n.called; passed = subst Is n.ends n.is; keeps = tt }
+  one (Tells (Of_peer e given)) d d' free a =
+      let n = heard_if (clients_of d) (clients_of d') e (inside_of d) (inside_of d') given [] a in
+      let Is : List Call → Type 0 = λ ys. IsHeardIf notes notes_peer (clients_of d) (clients_of d') e [] ys given in
+      record { inside = n.calls; called = n.called; passed = subst Is n.ends n.is; keeps = tt }
+  one Settles d d' free a = record { inside = Settles ∷ []; called = (inside_of d', a.0, refl); passed = (refl, a.1); keeps = tt }
+
+  pub levels_tell : LevelsTell handles hears settles (IsAnswered handles) (IsHeard handles hears) (IsSettled settles)
+  levels_tell calls d d' all =
+      all_passed handles hears settles (IsAnswered handles) (IsHeard handles hears) (IsSettled settles) (λ (x : Mqtt3 H). inside_of x) (λ (x : Mqtt3 H). clients_of x)
+      Levels_pass (λ x. Unit {0}) one calls d d' tt all
+
+-- ---- where it is off
+
+free_one : (call : Call) (first : List Call) (k : Option Clients) → Levels_pass None call first k → (first ≡ call ∷ []) × (k ≡ None)
+free_one (Tells (Of_client e outputs)) first k is = is
+free_one (Tells (Of_peer e given)) first k is = is
+free_one Settles first k is = is
+
+pub levels_off : LevelsOff
+levels_off k calls inside all = all_same Levels_pass None free_one calls inside k all

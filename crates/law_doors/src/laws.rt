@@ -1,0 +1,34 @@
+//! The laws.
+ghost use Rattle.law_doors.specs.Bounds.{BoundsOff, BoundsTell};
+ghost use Rattle.law_doors.specs.Levels.{LevelsFollow, LevelsOff, LevelsTell};
+ghost use Rattle.law_doors.specs.Limits.{LimitsOff, LimitsTell};
+
+use broker_sockets::{BridgeHandler, Handler};
+use door_bounds::{Bounded, Gauge};
+use door_limits::Limited;
+use door_mqtt3::Mqtt3;
+
+/// Whatever calls are made of a handler with limits on clients, they are these calls of the handler inside: each event, but those of a client that found no
+/// room, and that a client is gone that waited too long. What goes out is what the handler inside gave out, and the closes of these two.
+pub fn limits_tell<H: BridgeHandler>()
+    ensures tells { LimitsTell H.handles H.hears H.settles
+        ⟦<Limited<H> as Handler>⟧.handles ⟦<Limited<H> as BridgeHandler>⟧.hears ⟦<Limited<H> as Handler>⟧.settles }
+    ensures off { LimitsOff }
+{}
+
+/// Whatever calls are made of a handler with limits on what clients send, they are these calls of the handler inside: each event, where bytes that come are
+/// those of packets that break no limit, and packets that break one are answered in its place.
+pub fn bounds_tell<H: BridgeHandler, G: Gauge>()
+    ensures tells { BoundsTell H.handles H.hears H.settles
+        ⟦<Bounded<H, G> as Handler>⟧.handles ⟦<Bounded<H, G> as BridgeHandler>⟧.hears ⟦<Bounded<H, G> as Handler>⟧.settles }
+    ensures off { BoundsOff }
+{}
+
+/// Whatever calls are made of a handler that translates, or doesn't, they are these calls of the handler inside: each event, where bytes of a client of a
+/// version before 5 are its packets in MQTT 5.0. Of each connection it is told what came on it, translated, and what goes out is what it gave, translated.
+pub fn levels_tell<H: BridgeHandler>()
+    ensures tells { LevelsTell H.handles H.hears H.settles
+        ⟦<Mqtt3<H> as Handler>⟧.handles ⟦<Mqtt3<H> as BridgeHandler>⟧.hears ⟦<Mqtt3<H> as Handler>⟧.settles }
+    ensures follow { LevelsFollow }
+    ensures off { LevelsOff }
+{}

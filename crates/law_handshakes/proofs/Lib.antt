@@ -1,0 +1,13 @@
+pub mod AgreeLaws
+pub mod ArrivalLaws
+pub mod ChosenLaws
+pub mod KeptLaws
+pub mod LaidLaws
+pub mod NumberLaws
+pub mod OpenLaws
+pub mod OrderLaws
+pub mod OutboxLaws
+pub mod QuotaLaws
+pub mod ReleaseLaws
+pub mod ResendLaws
+pub mod TurnLaws

@@ -1,0 +1,11 @@
+pub mod Incoming
+pub mod Kept
+pub mod Lists
+pub mod Numbers
+pub mod Order
+pub mod Outbox
+pub mod Quota
+pub mod Releases
+pub mod Resends
+pub mod Runs
+pub mod Turns

@@ -1,0 +1,5 @@
+pub mod Amid
+pub mod Lanes
+pub mod Lives
+pub mod Moves
+pub mod States

@@ -1,0 +1,17 @@
+pub mod Asking
+pub mod Calling
+pub mod ConnectionRooms
+pub mod Connects
+pub mod Filters
+pub mod Handing
+pub mod Holdings
+pub mod LaneHistories
+pub mod Lanes
+pub mod Publishing
+pub mod Rooms
+pub mod Sending
+pub mod Staying
+pub mod StepAsking
+pub mod StepPublishing
+pub mod StepSending
+pub mod Subacks

@@ -1,0 +1,17 @@
+pub mod Attending
+pub mod Balancing
+pub mod Giving
+pub mod Joining
+pub mod Linking
+pub mod Opening
+pub mod Passing
+pub mod Reaching
+pub mod Running
+pub mod ServedRunning
+pub mod Serving
+pub mod Settling
+pub mod Sockets
+pub mod TableServing
+pub mod Tracing
+pub mod Turning
+pub mod Walking

@@ -1,0 +1,12 @@
+pub mod Calls
+pub mod Channels
+pub mod Doors
+pub mod Flows
+pub mod Opening
+pub mod Reaching
+pub mod Serving
+pub mod Settling
+pub mod Sockets
+pub mod Tabled
+pub mod Traces
+pub mod Turns

@@ -1,0 +1,5 @@
+use Rattle.law_sessions.proofs.LiftLaws.{keeps_order}
+use Rattle.law_sessions.proofs.order.first_sends_are_in_order.Goals as goal
+
+pub returns : goal.returns
+returns c = keeps_order

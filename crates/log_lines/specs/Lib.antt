@@ -1,4 +1,0 @@
-pub mod Escaping
-pub mod Laws
-pub mod Lines
-pub mod Reasons

@@ -1,5 +1,0 @@
-use Rattle.loopback_wires.specs.Hosts.{Waits}
-use Rattle.loopback_wires.proofs.host.join.Given as goal
-
-abbrev pub invariant-loop : goal.invariant-loop
-invariant-loop g l = Waits g.S.Sockets.connects g.S.Sockets.accepts l.host.listener l.counter l.initial.sockets l.sockets

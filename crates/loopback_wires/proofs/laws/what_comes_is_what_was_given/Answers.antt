@@ -1,5 +1,0 @@
-use Rattle.loopback_wires.proofs.Honesty.{carries_what_is_given}
-use Rattle.loopback_wires.proofs.laws.what_comes_is_what_was_given.Goals as goal
-
-pub returns : goal.returns
-returns g c = carries_what_is_given g.S.Sockets.reads g.S.Sockets.writes

@@ -1,4 +1,0 @@
-pub mod Carrying
-pub mod Honest
-pub mod Hosts
-pub mod Network

@@ -1,8 +1,0 @@
-use Rattle.std.proofs.Common.{◌≡◌, ◌++◌, flat_map}
-use Rattle.message_copies.specs.Gathered.{by_group}
-use Rattle.message_copies.specs.Picks.{pick_of, picked}
-use Rattle.message_copies.specs.Tables.{referents, shown}
-use Rattle.message_copies.proofs.groups.picks_of.Given as goal
-
-abbrev pub invariant-loop-group : goal.invariant-loop-group
-invariant-loop-group l = l.out.items ++ flat_map (λ g. pick_of l.message (picked l.turn g.1)) (shown l.group-iterator) ≡ flat_map (λ g. pick_of l.message (picked l.turn g.1)) (by_group (referents l.shared))

@@ -1,8 +1,0 @@
-use Rattle.std.proofs.Common.{map, sym, ap, ◌∙◌}
-use Rattle.message_copies.specs.Copies.{Counts, plain_copy, entries_in}
-use Rattle.message_copies.specs.Gathered.{by_client}
-use Rattle.message_copies.proofs.Selecting.{selected_once}
-use Rattle.message_copies.proofs.laws.copies_are_determined.Goals as goal
-
-pub returns : goal.returns
-returns c = λ live m out other a b. a.2 ∙ ap (λ es. map (plain_copy m) (by_client es)) (selected_once (Counts m) (entries_in live) a.0 b.0 a.1 b.1) ∙ sym b.2

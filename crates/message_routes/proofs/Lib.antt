@@ -1,3 +1,0 @@
-pub mod LatestLive
-pub mod Pairs
-pub mod Routing

@@ -1,3 +1,0 @@
-pub mod Latest
-pub mod Routes
-pub mod Taken

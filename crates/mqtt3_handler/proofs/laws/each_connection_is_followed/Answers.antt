@@ -1,5 +1,0 @@
-use Rattle.mqtt3_handler.proofs.Following.{followed}
-use Rattle.mqtt3_handler.proofs.laws.each_connection_is_followed.Goals as goal
-
-pub returns : goal.returns
-returns g c = followed g.H.Handler.handles g.H.BridgeHandler.hears g.H.Handler.settles

@@ -1,5 +1,0 @@
-use Rattle.mqtt3_handler.specs.Telling.{ArePaths, none_met, none_told}
-use Rattle.mqtt3_handler.proofs.telling.give.Given as goal
-
-abbrev pub invariant-loop-output : goal.invariant-loop-output
-invariant-loop-output l = ArePaths none_met none_told l.yielded l.fn.clients l.clients l.fn.outputs.items l.outputs.items

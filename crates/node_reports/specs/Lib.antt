@@ -1,3 +1,0 @@
-pub mod Figures
-pub mod Flaws
-pub mod Report

@@ -1,5 +1,0 @@
-use Rattle.outbox_laws.proofs.TurnLaws.{next-is-a-turn}
-use Rattle.outbox_laws.proofs.turns.next_is_a_turn.Goals as goal
-
-pub returns : goal.returns
-returns c = next-is-a-turn

@@ -1,6 +1,0 @@
-//! What the definitions of `qos_handshakes` say in MQTT's terms: which entries may be those of a session, and which copies go
-//! when the next PUBLISH is asked for (MQTT 5.0, 4.3, 4.4, 4.6 and 4.9). Each function does nothing: its contract is the law.
-#![tactic(auto)]
-
-pub mod kept;
-pub mod turns;

@@ -1,9 +1,0 @@
-use Rattle.output_laws.proofs.Arriving.{forwards_are_answered}
-use Rattle.output_laws.proofs.ForwardRuns.{forwards_are_taken}
-use Rattle.output_laws.proofs.forwarding.forwards_are_taken.Goals as goal
-
-pub returns-clause-answered : goal.returns-clause-answered
-returns-clause-answered c = forwards_are_answered
-
-pub returns-clause-taken : goal.returns-clause-taken
-returns-clause-taken c = forwards_are_taken

@@ -1,5 +1,0 @@
-use Rattle.output_laws.proofs.Frames.{frames_are_of_events}
-use Rattle.output_laws.proofs.framing.frames_are_of_events.Goals as goal
-
-pub returns : goal.returns
-returns c = frames_are_of_events

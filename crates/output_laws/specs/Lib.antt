@@ -1,7 +1,0 @@
-pub mod Determined
-pub mod Frames
-pub mod Forwards
-pub mod Knows
-pub mod Outputs
-pub mod Released
-pub mod Wills

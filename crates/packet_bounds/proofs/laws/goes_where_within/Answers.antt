@@ -1,5 +1,0 @@
-use Rattle.packet_bounds.proofs.Within.{goes_within}
-use Rattle.packet_bounds.proofs.laws.goes_where_within.Goals as goal
-
-pub returns : goal.returns
-returns c = goes_within

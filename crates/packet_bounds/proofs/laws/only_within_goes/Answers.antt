@@ -1,5 +1,0 @@
-use Rattle.packet_bounds.proofs.Within.{only_within}
-use Rattle.packet_bounds.proofs.laws.only_within_goes.Goals as goal
-
-pub returns : goal.returns
-returns c = only_within

@@ -1,4 +1,0 @@
-pub mod Bounded
-pub mod Bounds
-pub mod Laws
-pub mod Refusing

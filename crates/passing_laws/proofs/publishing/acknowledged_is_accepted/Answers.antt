@@ -1,8 +1,0 @@
-use Rattle.passing_laws.proofs.Acks.{puback_tells, pubrec_tells}
-use Rattle.passing_laws.proofs.publishing.acknowledged_is_accepted.Goals as goal
-
-pub returns-clause-once : goal.returns-clause-once
-returns-clause-once c = puback_tells
-
-pub returns-clause-twice : goal.returns-clause-twice
-returns-clause-twice c = pubrec_tells

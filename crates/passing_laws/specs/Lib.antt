@@ -1,4 +1,0 @@
-pub mod Sending
-pub mod Publishing
-pub mod Handing
-pub mod Asking

@@ -1,3 +1,0 @@
-pub mod Hmac
-pub mod Keyed
-pub mod Pbkdf2

@@ -1,4 +1,0 @@
-pub mod OpenLaws
-pub mod ClientLaws
-pub mod WalkLaws
-pub mod AnswerLaws

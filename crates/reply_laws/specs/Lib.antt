@@ -1,3 +1,0 @@
-pub mod Open
-pub mod Publishes
-pub mod Requests

@@ -1,8 +1,0 @@
-mod Opened
-mod UsedCodes
-mod Requesting
-mod InUseLaws
-mod Equals
-mod RequestLaws
-mod Covered
-mod LastLaws

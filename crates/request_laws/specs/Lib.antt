@@ -1,3 +1,0 @@
-pub mod Equals
-pub mod InUse
-pub mod Requests

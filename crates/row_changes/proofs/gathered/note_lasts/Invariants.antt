@@ -1,5 +1,0 @@
-use Rattle.row_changes.specs.Noted.{AreLast}
-use Rattle.row_changes.proofs.gathered.note_lasts.Given as goal
-
-abbrev pub invariant-loop-change : goal.invariant-loop-change
-invariant-loop-change l = AreLast l.lasts.entries l.yielded

@@ -1,4 +1,0 @@
-pub mod Leading
-pub mod Gathered
-pub mod Laws
-pub mod Noted

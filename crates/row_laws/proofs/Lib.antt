@@ -1,3 +1,0 @@
-pub mod LaneRows
-pub mod LaneChanges
-pub mod StateRows

@@ -1,8 +1,0 @@
-use Rattle.run_laws.proofs.PublishingLaws.{puback_stays_true, pubrec_stays_true}
-use Rattle.run_laws.proofs.publishing.acknowledged_stays_true.Goals as goal
-
-pub returns-clause-once : goal.returns-clause-once
-returns-clause-once c = puback_stays_true
-
-pub returns-clause-twice : goal.returns-clause-twice
-returns-clause-twice c = pubrec_stays_true

@@ -1,5 +1,0 @@
-use Rattle.saved_laws.proofs.ToldLaws.{stores}
-use Rattle.saved_laws.proofs.told_rows_are_stored.Goals as goal
-
-pub returns : goal.returns
-returns c = stores c.told_changes_lead.ensures c.changes_are_made.ensures

@@ -1,4 +1,0 @@
-pub mod Leading
-pub mod Histories
-pub mod Told
-pub mod Sound

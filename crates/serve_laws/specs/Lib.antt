@@ -1,4 +1,0 @@
-pub mod Doors
-pub mod Opening
-pub mod Reaching
-pub mod Serving

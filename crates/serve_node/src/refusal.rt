@@ -1,0 +1,22 @@
+//! What is told where nobody can be accepted.
+
+ghost use Rattle.std.specs.Prelude.{OnOk};
+ghost use Rattle.std.specs.Io.KnownBytes.{Appends};
+ghost use Rattle.std.specs.IoError.{error_kind, raw_os_error};
+ghost use Rattle.cli_stops.specs.Answers.{answer_in};
+ghost use Rattle.serve_node.specs.Refusals.{refusal_line};
+
+use cli_stops::{Answer, answer_of};
+use std::io::{self, Write};
+
+/// Writes why nobody can be accepted, as a line.
+pub(crate) fn tell_refusal<E: Write>(error: &mut E, failure: &io::Error) -> io::Result<()>
+    ensures { OnOk result (Appends (E.contents error.old) (E.contents error.new) (refusal_line (answer_in (error_kind failure.now) (raw_os_error failure.now)))) }
+{
+    match answer_of(failure) {
+        Answer::Number(23 | 24) => {
+            writeln!(error, "broker: accepting clients: too many open files")
+        }
+        answer => writeln!(error, "broker: accepting clients: {answer}"),
+    }
+}

@@ -1,0 +1,206 @@
+//! A node of a configuration that is run over sockets.
+
+ghost use Rattle.std.specs.Prelude.{◌<◌, length};
+
+use crate::causes::{cause_of, unopened};
+use crate::gauge::TellingGauge;
+use crate::source::ConfigurationFile;
+use crate::telling::TellingSockets;
+use broker_sockets::{PolledSockets, RealClocks, RealSockets, SteadyClock};
+use cli_files::{TableFile, configuration_bytes, configuration_of, unread};
+use cli_stops::{Ending, RunFault, Stop};
+use door_bounds::{BoundLimits, PLACE, ProcessMemory};
+use door_limits::Limits;
+use door_tables::Tables;
+use home_table::HomeTable;
+use node_server::{ListenAt, StatusPlace};
+use row_database::{Wary, open_rows};
+use row_store::RowStore;
+use std::fs::{self, File};
+use std::hash::RandomState;
+use std::io::Stderr;
+
+/// As many turns as no node makes: at a million a second they take 146,000 years.
+const ENDLESS: u64 = (1 << 62) - 1;
+
+/// Runs the named node of a configuration, with its rows in the database at a path, waiting at its addresses or at those that are given, within limits on what clients
+/// send and on these, with a log on standard error or without, with its status told at an address or nowhere, for so many turns. Where no number is given it runs until
+/// the program is stopped, and takes newer tables of homes from the configuration's file.
+pub fn serve(
+    rt: &HostRuntime,
+    configuration: &str,
+    node: &str,
+    database: &str,
+    at: ListenAt<'_>,
+    bounds: BoundLimits,
+    limits: Limits,
+    mqtt3: bool,
+    log: bool,
+    status: Option<&str>,
+    turns: Option<u32>,
+) -> Result<(), Ending> {
+    let bytes = match configuration_bytes(rt, configuration) {
+        Ok(bytes) => bytes,
+        Err(answer) => return Err(unread(rt.alloc(), configuration, answer)),
+    };
+    let place = configuration_of(rt.alloc(), configuration, &bytes, node)?;
+    let tables = tables_of(rt, configuration, (node, place.1), bytes, turns.is_none());
+    let turns = match turns {
+        Some(turns) => u64::from(turns),
+        None => ENDLESS,
+    };
+    match open_rows(rt, database, Wary) {
+        Ok(rows) => serve_place(
+            rt,
+            rows,
+            place,
+            tables,
+            (node, database),
+            at,
+            bounds,
+            limits,
+            mqtt3,
+            log,
+            status,
+            turns,
+        ),
+        Err(fault) => Err(unopened(rt, database, fault)),
+    }
+}
+
+/// The tables of homes that may come in a file, which was read with these bytes, for the node of this name and number; none where nobody looks.
+fn tables_of<'a>(
+    rt: &'a HostRuntime,
+    path: &'a str,
+    node: (&'a str, u16),
+    bytes: Vec<u8>,
+    looks: bool,
+) -> Option<TableFile<'a, ConfigurationFile<'a>, Stderr>> {
+    if !looks {
+        return None;
+    }
+    let source = ConfigurationFile::new(rt, path);
+    let file = TableFile::new(rt.alloc(), source, path, node, bytes, rt.stderr());
+    Some(file)
+}
+
+/// Runs a node of this name with these rows, which are in the database at a path.
+fn serve_place<R: RowStore + Drop, F: Tables + Drop>(
+    rt: &HostRuntime,
+    rows: R,
+    place: (HomeTable, u16),
+    tables: Option<F>,
+    names: (&str, &str),
+    at: ListenAt<'_>,
+    bounds: BoundLimits,
+    limits: Limits,
+    mqtt3: bool,
+    log: bool,
+    status: Option<&str>,
+    turns: u64,
+) -> Result<(), Ending>
+    requires { place.1 < length place.0.nodes }
+{
+    let (homes, id) = place;
+    let (name, database) = names;
+    let Ok(told) = homes.copy() else {
+        return Err(Ending::from(Stop::Run(RunFault::NoMemory)));
+    };
+    let status = status.map(|address| (name, address));
+    match serve_rows(
+        rt,
+        rows,
+        (told, id),
+        at,
+        tables,
+        bounds,
+        limits,
+        mqtt3,
+        log,
+        status,
+        turns,
+    ) {
+        Ok(()) => Ok(()),
+        Err(stop) => {
+            let address = status.map(|(_, address)| address);
+            let cause = cause_of(rt, &stop, &homes, id, &at, database, address);
+            Err(Ending { stop, cause })
+        }
+    }
+}
+
+/// The place of a node's status, by the node's name and the address.
+fn place_of<'a>(
+    rt: &'a HostRuntime,
+    status: Option<(&'a str, &'a str)>,
+) -> Result<Option<StatusPlace<'a, RealSockets<'a, HostRuntime>>>, Stop> {
+    let Some((name, address)) = status else {
+        return Ok(None);
+    };
+    let Ok(keys) = RandomState::new(rt) else {
+        return Err(Stop::Run(RunFault::Socket));
+    };
+    Ok(Some(StatusPlace {
+        sockets: RealSockets::new(rt),
+        keys,
+        name,
+        address,
+    }))
+}
+
+/// What tells how much memory the program holds, where that is limited and the system tells it.
+fn gauge_of(rt: &HostRuntime, bounds: &BoundLimits) -> Option<ProcessMemory<File>> {
+    if bounds.most_memory.is_none() {
+        return None;
+    }
+    match fs::open(rt, PLACE) {
+        Ok(file) => Some(ProcessMemory::new(file)),
+        Err(_) => None,
+    }
+}
+
+/// Runs a node with these rows, and with its status under its name at an address, if at any.
+fn serve_rows<R: RowStore + Drop, F: Tables + Drop>(
+    rt: &HostRuntime,
+    rows: R,
+    place: (HomeTable, u16),
+    at: ListenAt<'_>,
+    tables: Option<F>,
+    bounds: BoundLimits,
+    limits: Limits,
+    mqtt3: bool,
+    log: bool,
+    status: Option<(&str, &str)>,
+    turns: u64,
+) -> Result<(), Stop>
+    requires { place.1 < length place.0.nodes }
+{
+    let Ok(polled) = PolledSockets::new(rt.alloc(), rt) else {
+        return Err(Stop::Run(RunFault::Socket));
+    };
+    let mut sockets = TellingSockets::new(polled, rt.stderr());
+    let mut clock = SteadyClock::new(RealClocks::new(rt));
+    let status = place_of(rt, status)?;
+    let error = if log { Some(rt.stderr()) } else { None };
+    let gauge = TellingGauge::new(gauge_of(rt, &bounds), rt.stderr());
+    let losses = if log { Some(rt.stderr()) } else { None };
+    let mut out = rt.stdout();
+    node_server::serve(
+        rt.alloc(),
+        &mut sockets,
+        &mut clock,
+        rows,
+        place,
+        at,
+        tables,
+        (bounds, gauge),
+        limits,
+        mqtt3,
+        error,
+        losses,
+        status,
+        turns,
+        &mut out,
+    )?;
+    Ok(())
+}

@@ -1,4 +1,0 @@
-pub mod Joining
-pub mod Running
-pub mod Settling
-pub mod Sockets

@@ -1,5 +1,0 @@
-use Rattle.session_laws.proofs.ReplyLaws.{keeps_topics}
-use Rattle.session_laws.proofs.aliases.aliases_stand_for_the_last_topic.Goals as goal
-
-pub returns : goal.returns
-returns c = keeps_topics

@@ -1,9 +1,0 @@
-use Rattle.session_laws.proofs.FlyingLaws.{keeps_within}
-use Rattle.session_laws.proofs.LiftLaws.{keeps_quota}
-use Rattle.session_laws.proofs.quota.quota_is_kept.Goals as goal
-
-pub returns-clause-held : goal.returns-clause-held
-returns-clause-held c = keeps_quota
-
-pub returns-clause-told : goal.returns-clause-told
-returns-clause-told c = keeps_within

@@ -1,8 +1,0 @@
-use Rattle.session_laws.proofs.ReplyLaws.{keeps_replies, keeps_unheard}
-use Rattle.session_laws.proofs.replies.packets_are_answered.Goals as goal
-
-pub returns-clause-connected : goal.returns-clause-connected
-returns-clause-connected c = keeps_replies
-
-pub returns-clause-unheard : goal.returns-clause-unheard
-returns-clause-unheard c = keeps_unheard

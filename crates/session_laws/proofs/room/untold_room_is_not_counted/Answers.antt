@@ -1,5 +1,0 @@
-use Rattle.session_laws.proofs.RoomLaws.{keeps_untold}
-use Rattle.session_laws.proofs.room.untold_room_is_not_counted.Goals as goal
-
-pub returns : goal.returns
-returns c = keeps_untold

@@ -1,4 +1,0 @@
-//! What the status of a node says of its cluster, in every run. Each function does nothing: its contract is the law.
-#![tactic(auto)]
-
-pub mod laws;

@@ -1,0 +1,124 @@
+-- The figures of a node as a JSON object. Each definition `with_..` is a text, and then what it is named for.
+use Rattle.std.specs.Prelude.{ℕ, suc, ◌==◌, List, [], ◌∷◌, ◌++◌, codes, if◌then◌else◌}
+use Rattle.serde_json.specs.Data.{string}
+use Rattle.serde_json.specs.Written.{compact_text}
+use Rattle.status_figures.specs.declared.codes.CodeCount.{CodeCount}
+use Rattle.status_figures.specs.declared.figures.Figures.{Figures}
+use Rattle.status_figures.specs.declared.figures.LeftOut.{LeftOut}
+use Rattle.status_figures.specs.declared.traffic.Traffic.{Traffic}
+use Rattle.status_figures.specs.declared.peer.Peer.{Peer}
+use Rattle.status_figures.specs.Figures.{is_caught_up, is_equal}
+use Rattle.status_pages.specs.Members.{member, number_member, truth}
+
+-- the next of several
+abbrev pub next : List ℕ → List ℕ → List ℕ
+next key value = member (codes ",") key value
+
+abbrev pub next_number : List ℕ → ℕ → List ℕ
+next_number key n = number_member (codes ",") key n
+
+unfoldable pub with_node : List ℕ → Figures → List ℕ → List ℕ
+with_node name figures text =
+    text
+    ++ member (codes "{") (codes "name") name
+    ++ next_number (codes "number") figures.number
+    ++ next_number (codes "table") figures.table
+    ++ next_number (codes "uptime_milliseconds") figures.uptime
+    ++ next (codes "caught_up") (truth (is_caught_up figures))
+
+unfoldable pub with_counts : Figures → List ℕ → List ℕ
+with_counts figures text =
+    text
+    ++ next_number (codes "clients") figures.clients
+    ++ next_number (codes "sessions") figures.sessions
+    ++ next_number (codes "subscriptions") figures.subscriptions
+    ++ next_number (codes "retained") figures.retained
+    ++ next_number (codes "topics") figures.topics
+    ++ next_number (codes "longest_turn_milliseconds") figures.longest_turn
+
+unfoldable pub with_left_out : LeftOut → List ℕ → List ℕ
+with_left_out left_out text =
+    text
+    ++ number_member (codes ",\"left_out\":{") (codes "queue_full") left_out.queue_full
+    ++ next_number (codes "retained_full") left_out.retained_full
+    ++ next_number (codes "picks_lost") left_out.picks_lost
+    ++ next_number (codes "lane_full") left_out.lane_full
+    ++ next_number (codes "bad_frames") left_out.bad_frames
+    ++ next_number (codes "frames_too_large") left_out.frames_too_large
+    ++ next_number (codes "tables_refused") left_out.tables_refused
+    ++ codes "}"
+
+unfoldable pub with_clients : List ℕ → Traffic → List ℕ → List ℕ
+with_clients before traffic text =
+    text
+    ++ number_member before (codes "opened") traffic.opened
+    ++ next_number (codes "bytes_received") traffic.bytes_received
+    ++ next_number (codes "packets_sent") traffic.packets_sent
+    ++ next_number (codes "bytes_sent") traffic.bytes_sent
+
+unfoldable pub with_links : Traffic → List ℕ → List ℕ
+with_links traffic text =
+    text
+    ++ next_number (codes "frames_received") traffic.frames_received
+    ++ next_number (codes "frame_bytes_received") traffic.frame_bytes_received
+    ++ next_number (codes "frames_sent") traffic.frames_sent
+    ++ next_number (codes "frame_bytes_sent") traffic.frame_bytes_sent
+    ++ codes "}"
+
+-- before the first peer, and before each other
+abbrev pub before_of : ℕ → List ℕ
+before_of index = if index == 0 then codes "{" else codes ",{"
+
+-- a code with its count, and all of them with commas between them
+unfoldable pub code_member : List ℕ → ℕ → ℕ → List ℕ
+code_member before code count = number_member before (codes "code") code ++ next_number (codes "count") count ++ codes "}"
+
+abbrev pub with_codes : ℕ → List CodeCount → List ℕ → List ℕ
+with_codes index [] text = text
+with_codes index (one ∷ more) text = with_codes (suc index) more (text ++ code_member (before_of index) one.code one.count)
+
+-- what went through since the start, and in the last ten seconds
+unfoldable pub with_traffic : Figures → List ℕ → List ℕ
+with_traffic figures text =
+    with_links figures.recent (with_clients (codes ",\"last_ten_seconds\":{") figures.recent (with_links figures.total (with_clients (codes ",\"since_start\":{") figures.total text)))
+
+-- who was refused, and whose connection was ended, by code
+unfoldable pub with_refusals : Figures → List ℕ → List ℕ
+with_refusals figures text = with_codes 0 figures.ended.items (with_codes 0 figures.refused.items (text ++ codes ",\"refused\":[") ++ codes "],\"ended\":[")
+
+unfoldable pub with_place : List ℕ → List ℕ → ℕ → List ℕ → List ℕ → List ℕ
+with_place before name number bridge text =
+    text ++ member before (codes "name") name ++ next_number (codes "number") number ++ next (codes "bridge") bridge
+
+unfoldable pub counts_of : Peer → List ℕ
+counts_of peer =
+    next_number (codes "lacking") peer.lacking
+    ++ next_number (codes "missing") peer.missing
+    ++ next_number (codes "waiting") peer.waiting
+    ++ codes "}"
+
+unfoldable pub with_state : Peer → List ℕ → List ℕ
+with_state peer text =
+    text
+    ++ next (codes "linked") (truth peer.linked)
+    ++ next_number (codes "away_milliseconds") peer.away
+    ++ next (codes "heard") (truth peer.heard)
+    ++ next (codes "equal") (truth (is_equal peer))
+    ++ counts_of peer
+
+abbrev pub with_peer : ℕ → Peer → List ℕ → List ℕ
+with_peer index peer text =
+    with_state peer (with_place (before_of index) (compact_text (string peer.name.bytes.items)) peer.number (compact_text (string peer.bridge.bytes.items)) text)
+
+-- the peers, from the one with this index on
+abbrev pub with_peers : ℕ → List Peer → List ℕ → List ℕ
+with_peers index [] text = text
+with_peers index (peer ∷ peers) text = with_peers (suc index) peers (with_peer index peer text)
+
+-- the node, what it holds, what it left out, what went through, who was refused, and its peers
+abbrev pub status_text : Figures → List ℕ
+status_text figures =
+    with_peers 0 figures.peers.items
+    (with_refusals figures (with_traffic figures (with_left_out figures.left_out (with_counts figures (with_node (compact_text (string figures.name.bytes.items)) figures []))))
+    ++ codes "],\"peers\":[")
+    ++ codes "]}\n"

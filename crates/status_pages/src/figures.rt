@@ -1,0 +1,117 @@
+//! The figures of a node in JSON.
+
+ghost use Rattle.std.specs.Prelude.{◌≡◌, ◌++◌, codes, string_bytes, IfOk, OnOk};
+ghost use Rattle.status_pages.specs.Status.{status_text, with_clients, with_counts, with_left_out, with_links, with_node, with_refusals, with_traffic};
+
+use crate::codes::push_codes;
+use crate::members::{push_member, push_number, quoted, truth};
+use crate::peers::push_peers;
+use status_figures::{Figures, LeftOut, Traffic};
+use std::alloc::{AllocError, Global};
+
+/// The name of the node in its quotes, its number, the version of its table of homes, its uptime, and whether all have caught up.
+#[tactic(auto, unfolding(crate::specs::Status::with_node))]
+fn push_node(text: &mut String, name: &str, figures: &Figures) -> Result<(), AllocError>
+    ensures { OnOk result (string_bytes text.new ≡ with_node name.now figures.now (string_bytes text.old)) }
+{
+    push_member(text, "{", "name", name)?;
+    push_number(text, ",", "number", u64::from(figures.number))?;
+    push_number(text, ",", "table", u64::from(figures.table))?;
+    push_number(text, ",", "uptime_milliseconds", figures.uptime)?;
+    push_member(text, ",", "caught_up", truth(figures.is_caught_up()))
+}
+
+/// What it holds.
+#[tactic(auto, unfolding(crate::specs::Status::with_counts))]
+fn push_counts(text: &mut String, figures: &Figures) -> Result<(), AllocError>
+    ensures { OnOk result (string_bytes text.new ≡ with_counts figures.now (string_bytes text.old)) }
+{
+    push_number(text, ",", "clients", figures.clients)?;
+    push_number(text, ",", "sessions", figures.sessions)?;
+    push_number(text, ",", "subscriptions", figures.subscriptions)?;
+    push_number(text, ",", "retained", figures.retained)?;
+    push_number(text, ",", "topics", figures.topics)?;
+    push_number(text, ",", "longest_turn_milliseconds", figures.longest_turn)
+}
+
+/// What it left out.
+#[tactic(auto, unfolding(crate::specs::Status::with_left_out))]
+fn push_left_out(text: &mut String, left_out: &LeftOut) -> Result<(), AllocError>
+    ensures { OnOk result (string_bytes text.new ≡ with_left_out left_out.now (string_bytes text.old)) }
+{
+    push_number(text, ",\"left_out\":{", "queue_full", left_out.queue_full)?;
+    push_number(text, ",", "retained_full", left_out.retained_full)?;
+    push_number(text, ",", "picks_lost", left_out.picks_lost)?;
+    push_number(text, ",", "lane_full", left_out.lane_full)?;
+    push_number(text, ",", "bad_frames", left_out.bad_frames)?;
+    push_number(text, ",", "frames_too_large", left_out.frames_too_large)?;
+    push_number(text, ",", "tables_refused", left_out.tables_refused)?;
+    text.push_str("}")
+}
+
+/// What went through for clients, behind what stands before.
+#[tactic(auto, unfolding(crate::specs::Status::with_clients))]
+fn push_clients(text: &mut String, before: &str, traffic: &Traffic) -> Result<(), AllocError>
+    ensures { OnOk result (string_bytes text.new ≡ with_clients before.now traffic.now (string_bytes text.old)) }
+{
+    push_number(text, before, "opened", traffic.opened)?;
+    push_number(text, ",", "bytes_received", traffic.bytes_received)?;
+    push_number(text, ",", "packets_sent", traffic.packets_sent)?;
+    push_number(text, ",", "bytes_sent", traffic.bytes_sent)
+}
+
+/// The same for its links.
+#[tactic(auto, unfolding(crate::specs::Status::with_links))]
+fn push_links(text: &mut String, traffic: &Traffic) -> Result<(), AllocError>
+    ensures { OnOk result (string_bytes text.new ≡ with_links traffic.now (string_bytes text.old)) }
+{
+    push_number(text, ",", "frames_received", traffic.frames_received)?;
+    push_number(
+        text,
+        ",",
+        "frame_bytes_received",
+        traffic.frame_bytes_received,
+    )?;
+    push_number(text, ",", "frames_sent", traffic.frames_sent)?;
+    push_number(text, ",", "frame_bytes_sent", traffic.frame_bytes_sent)?;
+    text.push_str("}")
+}
+
+/// What went through since the start, and in the last ten seconds.
+#[tactic(auto, unfolding(crate::specs::Status::with_traffic))]
+fn push_traffic(text: &mut String, figures: &Figures) -> Result<(), AllocError>
+    ensures { OnOk result (string_bytes text.new ≡ with_traffic figures.now (string_bytes text.old)) }
+{
+    push_clients(text, ",\"since_start\":{", &figures.total)?;
+    push_links(text, &figures.total)?;
+    push_clients(text, ",\"last_ten_seconds\":{", &figures.recent)?;
+    push_links(text, &figures.recent)
+}
+
+/// Who was refused, and whose connection was ended.
+#[tactic(auto, unfolding(crate::specs::Status::with_refusals))]
+fn push_refusals(text: &mut String, figures: &Figures) -> Result<(), AllocError>
+    ensures { OnOk result (string_bytes text.new ≡ with_refusals figures.now (string_bytes text.old)) }
+{
+    text.push_str(",\"refused\":[")?;
+    push_codes(text, &figures.refused)?;
+    text.push_str("],\"ended\":[")?;
+    push_codes(text, &figures.ended)
+}
+
+/// The figures of a node as a JSON object.
+pub fn json_of(alloc: Global, figures: &Figures) -> Result<String, AllocError>
+    ensures { IfOk result (λ text. string_bytes text ≡ status_text figures.now) }
+{
+    let name = quoted(alloc, &figures.name)?;
+    let mut text = String::new(alloc);
+    push_node(&mut text, &name, figures)?;
+    push_counts(&mut text, figures)?;
+    push_left_out(&mut text, &figures.left_out)?;
+    push_traffic(&mut text, figures)?;
+    push_refusals(&mut text, figures)?;
+    text.push_str("],\"peers\":[")?;
+    push_peers(alloc, &mut text, &figures.peers)?;
+    text.push_str("]}\n")?;
+    Ok(text)
+}

@@ -1,3 +1,0 @@
-pub mod GotLaws
-pub mod CopyLaws
-pub mod ClearedLaws

@@ -1,3 +1,0 @@
-pub mod Gots
-pub mod Copies
-pub mod Cleared

@@ -1,5 +1,0 @@
--- What is seen of a door: the handler inside.
-use Rattle.table_door.specs.declared.door.Tabled.{Tabled}
-
-abbrev pub inside_of : {H F : Type 0} → Tabled H F → H
-inside_of d = d.inside

@@ -1,5 +1,0 @@
-use Rattle.table_file.proofs.Looking.{same_is_judged_once}
-use Rattle.table_file.proofs.laws.same_content_is_judged_once.Goals as goal
-
-pub returns : goal.returns
-returns c = same_is_judged_once

@@ -1,5 +1,0 @@
-use Rattle.table_file.proofs.Looking.{unchanged_is_quiet}
-use Rattle.table_file.proofs.laws.unchanged_file_is_quiet.Goals as goal
-
-pub returns : goal.returns
-returns c = unchanged_is_quiet

@@ -1,4 +1,0 @@
-pub mod Judging
-pub mod Laws
-pub mod Looking
-pub mod Watching

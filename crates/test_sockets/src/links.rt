@@ -1,0 +1,278 @@
+//! Links between nodes, over sockets in memory.
+
+use crate::echo::{hub_of, make};
+use crate::talker::Talker;
+use broker_sockets::Watched;
+use std::alloc::Global;
+use std::mem;
+use std::net::SocketAddr;
+use std::process::Abort;
+use std::test::Fail;
+use trial_fakes::{FakeSockets, Manner};
+
+/// Another node begins a link and sends bytes, so many at a time, and ends it or not: whether the link is there after 26 turns, and
+/// what was heard.
+fn hear(rt: &impl Abort, alloc: Global, bytes: &[u8], piece: usize, ends: bool) -> (bool, Vec<u8>) {
+    let mut network = FakeSockets::new(alloc);
+    let mut hub = hub_of(rt, alloc, &mut network, Vec::new(alloc));
+    let mut talker = Talker::new(alloc, b"hi", b"more", 0);
+    let end = network.client(2, bytes, piece, 0).expect(rt, "memory");
+    if ends {
+        network.close(end);
+    }
+    assert!(rt; make(rt, &mut hub, &mut network, &mut talker, 26) == 0);
+    let reads = network.reads;
+    network.tell(Watched::Link(0)).expect(rt, "memory");
+    assert!(rt; make(rt, &mut hub, &mut network, &mut talker, 2) == 0);
+    let heard = mem::replace(&mut talker.heard, Vec::new(alloc));
+    (network.reads > reads, heard)
+}
+
+#[test]
+fn frames_come_in_any_pieces(rt: HostRuntime) -> Result<(), Fail> {
+    let alloc = rt.alloc();
+    // three frames, of which one is empty, and the beginning of a fourth
+    let bytes = b"\0\0\0\x02ab\0\0\0\0\0\0\0\x01c\0\0\0\x05de";
+    let whole = b"\0\0\0\x02ab/\0\0\0\0/\0\0\0\x01c/";
+    for size in 1..24 {
+        let (stays, heard) = hear(&rt, alloc, bytes, size, false);
+        assert!(rt; stays && heard.as_slice() == whole.as_slice());
+    }
+    Ok(())
+}
+
+#[test]
+fn links_that_end_or_lie_are_let_go(rt: HostRuntime) -> Result<(), Fail> {
+    let alloc = rt.alloc();
+    // what came before the end, or before a length that is too long, is heard
+    for (bytes, ends, stays) in [
+        (b"\0\0\0\x01a\x10\0\0\x01", false, false),
+        (b"\0\0\0\x01a\x10\0\0\0", false, true),
+        (b"\0\0\0\x01a\0\0\0\x02", true, false),
+    ] {
+        let (stayed, heard) = hear(&rt, alloc, bytes, 4, ends);
+        assert!(rt; stayed == stays && heard.as_slice() == b"\0\0\0\x01a/".as_slice());
+    }
+    Ok(())
+}
+
+/// How often a link, on which two bytes come, one at a time, was asked in so many turns where these names are told.
+fn asked_by(rt: &impl Abort, alloc: Global, names: &[Watched], manner: Manner, turns: u64) -> u32 {
+    let mut network = FakeSockets::new(alloc);
+    let mut hub = hub_of(rt, alloc, &mut network, Vec::new(alloc));
+    let mut talker = Talker::new(alloc, b"hi", b"more", 0);
+    let end = network.client(2, b"", 1, 1).expect(rt, "memory");
+    assert!(rt; make(rt, &mut hub, &mut network, &mut talker, 2) == 0);
+    network.send(end, b"\0\0").expect(rt, "memory");
+    network.manner = manner;
+    for name in names {
+        network.tell(*name).expect(rt, "memory");
+    }
+    assert!(rt; make(rt, &mut hub, &mut network, &mut talker, turns) == 0);
+    // the hub's end
+    network.asked(end.saturating_add(1))
+}
+
+#[test]
+fn only_links_that_are_told_are_read(rt: HostRuntime) -> Result<(), Fail> {
+    let alloc = rt.alloc();
+    // in the turn after the one that is told, and again while there is more
+    for (turns, asked) in [(1, 0), (2, 1), (3, 2), (4, 3), (9, 3)] {
+        assert!(rt; asked_by(&rt, alloc, &[], Manner::Sound, turns) == asked);
+    }
+    // never told, told twice, and told of what isn't there
+    assert!(rt; asked_by(&rt, alloc, &[], Manner::Untold, 9) == 0);
+    let told = [Watched::Link(0), Watched::Link(0)];
+    assert!(rt; asked_by(&rt, alloc, &told, Manner::Untold, 2) == 1);
+    assert!(rt; asked_by(&rt, alloc, &told, Manner::Untold, 9) == 3);
+    let gone = [Watched::Client(0), Watched::Link(7), Watched::Peer(0)];
+    assert!(rt; asked_by(&rt, alloc, &gone, Manner::Untold, 9) == 0);
+    Ok(())
+}
+
+/// So many turns of a node with one peer, each so many milliseconds after the one before.
+fn link(
+    rt: &impl Abort,
+    alloc: Global,
+    network: &mut FakeSockets,
+    turns: u64,
+    each: u64,
+    fails_at: u64,
+) -> Talker {
+    let peer: SocketAddr = "127.0.0.1:9".parse().expect(rt, "an address");
+    let peers = Vec::from_array(alloc, [Some(peer)]).expect(rt, "memory");
+    let mut hub = hub_of(rt, alloc, network, peers);
+    let mut talker = Talker::new(alloc, b"hi", b"more", u32::MAX);
+    for turn in 0..turns {
+        if turn == fails_at {
+            network.fail(1);
+        }
+        let at = turn.saturating_mul(each);
+        assert!(rt; hub.turn(network, &mut talker, at).is_ok());
+    }
+    talker
+}
+
+/// What comes of so many turns of a node and a peer that refuses so often and then takes a byte at a time: how often it was
+/// dialled, how often a link was begun, how often more was given, and what has come.
+fn is_dialled(
+    rt: &impl Abort,
+    alloc: Global,
+    refused: u32,
+    (turns, each): (u64, u64),
+    wanted: (u32, u32, u32),
+    came: &[u8],
+) {
+    let mut network = FakeSockets::new(alloc);
+    network.refused = refused;
+    network.piece = 1;
+    let talker = link(rt, alloc, &mut network, turns, each, u64::MAX);
+    assert!(rt; (network.connects, talker.linked, talker.shipped) == wanted);
+    assert!(rt; network.came(1) == came);
+    drop(talker);
+    drop(network);
+}
+
+#[test]
+fn peers_are_dialled_until_they_answer(rt: HostRuntime) -> Result<(), Fail> {
+    let alloc = rt.alloc();
+    // a thousand milliseconds lie between two calls
+    is_dialled(&rt, alloc, 2, (1, 500), (1, 0, 0), b"");
+    is_dialled(&rt, alloc, 2, (2, 500), (1, 0, 0), b"");
+    is_dialled(&rt, alloc, 2, (3, 500), (2, 0, 0), b"");
+    is_dialled(&rt, alloc, 2, (4, 500), (2, 0, 0), b"");
+    is_dialled(&rt, alloc, 2, (5, 500), (3, 1, 0), b"h");
+    // more isn't asked for where something waits
+    is_dialled(&rt, alloc, 2, (6, 500), (3, 1, 0), b"hi");
+    is_dialled(&rt, alloc, 2, (7, 500), (3, 1, 1), b"him");
+    is_dialled(&rt, alloc, 2, (10, 500), (3, 1, 1), b"himore");
+    is_dialled(&rt, alloc, 2, (11, 500), (3, 1, 2), b"himorem");
+    is_dialled(&rt, alloc, 0, (6, 1), (1, 1, 1), b"himore");
+    is_dialled(&rt, alloc, 0, (7, 1), (1, 1, 2), b"himorem");
+    Ok(())
+}
+
+/// A Forward, a Delta and a Hello of node 1 for node 0, as far as a hub looks at them.
+const FORWARD: &[u8] = b"\0\0\0\x05\x04\0\x01\0\0";
+
+const DELTA: &[u8] = b"\0\0\0\x05\x06\0\x01\0\0";
+
+const HELLO: &[u8] = b"\0\0\0\x05\x01\0\x01\0\0";
+
+/// How often a peer was given this frame in so many turns, a millisecond after each other, where a link brings these bytes after five.
+fn supplied(rt: &impl Abort, alloc: Global, frame: &'static [u8], bytes: &[u8], turns: u64) -> u32 {
+    let mut network = FakeSockets::new(alloc);
+    let peer: SocketAddr = "127.0.0.1:9".parse().expect(rt, "an address");
+    let peers = Vec::from_array(alloc, [Some(peer)]).expect(rt, "memory");
+    let mut hub = hub_of(rt, alloc, &mut network, peers);
+    let mut talker = Talker::new(alloc, b"hi", frame, u32::MAX);
+    let other = network.client(2, b"", 9, 9).expect(rt, "memory");
+    for at in 0..turns {
+        if at == 5 {
+            network.send(other, bytes).expect(rt, "memory");
+        }
+        assert!(rt; hub.turn(&mut network, &mut talker, at).is_ok());
+    }
+    drop(network);
+    talker.shipped
+}
+
+#[test]
+fn a_peer_is_given_more_once_it_has_answered(rt: HostRuntime) -> Result<(), Fail> {
+    let alloc = rt.alloc();
+    // a Got and a Know of node 0, which is the peer, as far as a hub looks at them; the third is the shortest that says so
+    let answers = [
+        b"\0\0\0\x05\x05\0\0\0\x01".as_slice(),
+        b"\0\0\0\x05\x03\0\0\0\x01",
+        b"\0\0\0\x03\x05\0\0",
+    ];
+    for (turns, times) in [(2, 1), (6, 1), (7, 2), (1006, 2), (1007, 3)] {
+        for bytes in answers {
+            for frame in [FORWARD, DELTA] {
+                assert_eq!(rt;
+                    supplied(&rt, alloc, frame, bytes, turns),
+                    times,
+                    "{turns} turns"
+                );
+            }
+        }
+    }
+    // what nobody answers isn't waited for
+    assert_eq!(rt; supplied(&rt, alloc, HELLO, b"", 2), 1);
+    assert_eq!(rt; supplied(&rt, alloc, HELLO, b"", 9), 8);
+    Ok(())
+}
+
+#[test]
+fn a_silent_peer_is_given_more_after_a_second(rt: HostRuntime) -> Result<(), Fail> {
+    let alloc = rt.alloc();
+    // no answer: one of node 1, one of node 256, one that says of no node that it is the sender, one that isn't whole, and a Hello, a Forward and a Delta of
+    // node 0
+    let others = [
+        b"".as_slice(),
+        b"\0\0\0\x05\x05\0\x01\0\0",
+        b"\0\0\0\x05\x05\x01\0\0\0",
+        b"\0\0\0\x02\x05\0",
+        b"\0\0\0\x05\x05\0\0\0",
+        b"\0\0\0\x05\x01\0\0\0\x01",
+        b"\0\0\0\x05\x04\0\0\0\x01",
+        b"\0\0\0\x05\x06\0\0\0\x01",
+    ];
+    for (turns, times) in [(1001, 1), (1002, 2)] {
+        for bytes in others {
+            assert_eq!(rt;
+                supplied(&rt, alloc, FORWARD, bytes, turns),
+                times,
+                "{turns} turns"
+            );
+        }
+    }
+    Ok(())
+}
+
+#[test]
+fn failed_links_are_dialled_again(rt: HostRuntime) -> Result<(), Fail> {
+    let alloc = rt.alloc();
+    // one that never takes a byte keeps what waits
+    let mut network = FakeSockets::new(alloc);
+    network.piece = 0;
+    let talker = link(&rt, alloc, &mut network, 9, 500, u64::MAX);
+    assert!(rt; talker.linked == 1 && talker.shipped == 0 && network.came(1).is_empty());
+    // one whose write fails is let go, and dialled again after the pause
+    for (turns, linked) in [(3, 1), (4, 2)] {
+        let mut network = FakeSockets::new(alloc);
+        let talker = link(&rt, alloc, &mut network, turns, 400, 1);
+        assert!(rt; talker.linked == linked && talker.shipped == 1);
+        assert!(rt; network.came(1) == b"hi".as_slice());
+        assert!(rt; network.came(3) == (if linked == 2 { b"hi".as_slice() } else { &[] }));
+    }
+    // one that can't be watched is none
+    let mut network = FakeSockets::new(alloc);
+    network.manner = Manner::Unwatched;
+    let talker = link(&rt, alloc, &mut network, 3, 500, u64::MAX);
+    assert!(rt; talker.linked == 0 && network.connects == 2);
+    Ok(())
+}
+
+/// How often a peer that takes nothing is dialled in two turns, a second after each other, where so many bytes wait for it each time.
+fn dialled_with(rt: &impl Abort, alloc: Global, waiting: usize) -> u32 {
+    let mut network = FakeSockets::new(alloc);
+    network.piece = 0;
+    let peer: SocketAddr = "127.0.0.1:9".parse().expect(rt, "an address");
+    let peers = Vec::from_array(alloc, [Some(peer)]).expect(rt, "memory");
+    let mut hub = hub_of(rt, alloc, &mut network, peers);
+    let mut talker = Talker::new(alloc, b"", b"", 0);
+    talker.long = waiting;
+    for at in [0, 1000] {
+        assert!(rt; hub.turn(&mut network, &mut talker, at).is_ok());
+    }
+    network.connects
+}
+
+#[test]
+fn a_link_that_is_not_read_has_an_end(rt: HostRuntime) -> Result<(), Fail> {
+    let alloc = rt.alloc();
+    assert!(rt; dialled_with(&rt, alloc, 536_870_912) == 1);
+    assert!(rt; dialled_with(&rt, alloc, 536_870_913) == 2);
+    Ok(())
+}

@@ -1,0 +1,214 @@
+//! What is answered to each request.
+
+use crate::figures::{equal_peer, figures};
+use crate::turns::{desk, make};
+use std::alloc::Global;
+use std::hash::RandomState;
+use std::process::Abort;
+use trial_fakes::FakeSockets;
+
+/// A request, how its answer begins, and how it ends.
+type Case = (&'static str, &'static str, &'static str);
+
+const CASES: [Case; 12] = [
+    (
+        "GET /healthz HTTP/1.1\r\nhost: a\r\n\r\n",
+        "HTTP/1.1 200 OK\r\ncontent-type: text/plain; charset=utf-8\r\ncache-control: no-store\r\ncontent-length: 3\r\n\r\n",
+        "up\n",
+    ),
+    (
+        "HEAD /healthz HTTP/1.1\r\nhost: a\r\n\r\n",
+        "HTTP/1.1 200 OK\r\n",
+        "content-length: 3\r\n\r\n",
+    ),
+    (
+        "GET /caught-up HTTP/1.1\r\nhost: a\r\n\r\n",
+        "HTTP/1.1 503 Service Unavailable\r\n",
+        "\r\n\r\nnot caught up\n<b>&\"n2\\: linked, lacking operations: 5, more than here: 0\n",
+    ),
+    (
+        "GET /metrics?now HTTP/1.1\r\nhost: a\r\n\r\n",
+        "HTTP/1.1 200 OK\r\ncontent-type: text/plain; version=0.0.4; charset=utf-8\r\n",
+        "\nmqtt_cluster_caught_up 0\n",
+    ),
+    (
+        "GET /status.json HTTP/1.1\r\nhost: a\r\n\r\n",
+        "HTTP/1.1 200 OK\r\ncontent-type: application/json\r\n",
+        ",\"lacking\":5,\"missing\":0,\"waiting\":7}]}\n",
+    ),
+    (
+        "GET / HTTP/1.1\r\nhost: a\r\n\r\n",
+        "HTTP/1.1 200 OK\r\ncontent-type: text/html; charset=utf-8\r\n",
+        "</script>\n</body>\n</html>\n",
+    ),
+    (
+        "GET /other HTTP/1.1\r\nhost: a\r\n\r\n",
+        "HTTP/1.1 404 Not Found\r\n",
+        "\r\n\r\nnot found\n",
+    ),
+    (
+        "DELETE / HTTP/1.1\r\nhost: a\r\n\r\n",
+        "HTTP/1.1 405 Method Not Allowed\r\nallow: GET, HEAD\r\n",
+        "\r\n\r\nnot allowed\n",
+    ),
+    (
+        "POST / HTTP/1.1\r\nhost: a\r\ncontent-length: 1\r\n\r\nx",
+        "HTTP/1.1 413 Payload Too Large\r\n",
+        "content-length: 0\r\n\r\n",
+    ),
+    (
+        "GET / HTTP/1.1\r\n\r\n",
+        "HTTP/1.1 400 Bad Request\r\n",
+        "content-length: 0\r\n\r\n",
+    ),
+    (
+        "\u{0}\u{1}\r\n\r\n",
+        "HTTP/1.1 400 Bad Request\r\n",
+        "content-length: 0\r\n\r\n",
+    ),
+    (
+        "GET / HTTP/1.1\r\nhost: a\r\nconnection: close\r\n\r\n",
+        "HTTP/1.1 200 OK\r\n",
+        "</html>\n",
+    ),
+];
+
+/// What comes to a client that sends these bytes.
+fn answer(rt: &impl Abort, alloc: Global, keys: RandomState, asks: &[u8]) -> Vec<u8> {
+    let mut network = FakeSockets::new(alloc);
+    let mut desk = desk(rt, alloc, keys, &mut network);
+    let told = figures(rt, alloc, 5);
+    let end = network.client(1, asks, 4096, 65536).expect(rt, "memory");
+    make(&mut desk, &mut network, &told, (0, 10));
+    let mut came = Vec::new(alloc);
+    came.extend_from_slice(network.came(end))
+        .expect(rt, "memory");
+    drop((desk, network, told));
+    came
+}
+
+#[test]
+fn each_request_has_its_answer(rt: HostRuntime) {
+    let alloc = rt.alloc();
+    let keys = RandomState::new(&rt).expect(&rt, "keys");
+    for (asks, begins, ends) in CASES {
+        let came = answer(&rt, alloc, keys, asks.as_bytes());
+        assert!(rt; came.starts_with(begins.as_bytes()));
+        assert!(rt; came.ends_with(ends.as_bytes()));
+    }
+}
+
+#[test]
+fn long_heads_are_refused(rt: HostRuntime) {
+    let alloc = rt.alloc();
+    let keys = RandomState::new(&rt).expect(&rt, "keys");
+    let mut asks = Vec::new(alloc);
+    asks.extend_from_slice(b"GET /").expect(&rt, "memory");
+    for _ in 0..9000 {
+        asks.push(b'a').expect(&rt, "memory");
+    }
+    let came = answer(&rt, alloc, keys, &asks);
+    assert!(rt; came.starts_with(b"HTTP/1.1 414 URI Too Long\r\n"));
+    let mut asks = Vec::new(alloc);
+    asks.extend_from_slice(b"GET / HTTP/1.1\r\nhost: a\r\nb: ")
+        .expect(&rt, "memory");
+    for _ in 0..9000 {
+        asks.push(b'a').expect(&rt, "memory");
+    }
+    let came = answer(&rt, alloc, keys, &asks);
+    assert!(rt; came.starts_with(b"HTTP/1.1 431 Request Header Fields Too Large\r\n"));
+}
+
+/// Whether some bytes stand in others.
+fn contains(all: &[u8], part: &[u8]) -> bool {
+    all.windows(part.len().max(1)).any(|piece| piece == part)
+}
+
+#[test]
+fn names_are_escaped(rt: HostRuntime) {
+    let alloc = rt.alloc();
+    let keys = RandomState::new(&rt).expect(&rt, "keys");
+    let page = answer(&rt, alloc, keys, b"GET / HTTP/1.1\r\nhost: a\r\n\r\n");
+    assert!(rt; contains(&page, b"<td>&lt;b&gt;&amp;&quot;n2\\</td>"));
+    assert!(rt; contains(&page, b"<td>1 d 2 h 3 min 4 s</td>"));
+    assert!(rt;
+        contains(
+            &page,
+            b"<p class=\"apart\">Apart: 1 of 2 peers (not linked, not heard, or with other operations).</p>"
+        )
+    );
+    let metrics = answer(
+        &rt,
+        alloc,
+        keys,
+        b"GET /metrics HTTP/1.1\r\nhost: a\r\n\r\n",
+    );
+    assert!(rt;
+        contains(
+            &metrics,
+            b"\nmqtt_cluster_peer_lacking_operations{peer=\"<b>&\\\"n2\\\\\"} 5\n"
+        )
+    );
+    let json = answer(
+        &rt,
+        alloc,
+        keys,
+        b"GET /status.json HTTP/1.1\r\nhost: a\r\n\r\n",
+    );
+    assert!(rt; contains(&json, b"{\"name\":\"<b>&\\\"n2\\\\\",\"number\":2,"));
+}
+
+#[test]
+fn what_misleads_is_told(rt: HostRuntime) {
+    let alloc = rt.alloc();
+    let keys = RandomState::new(&rt).expect(&rt, "keys");
+    let page = answer(&rt, alloc, keys, b"GET / HTTP/1.1\r\nhost: a\r\n\r\n");
+    for part in [
+        "<p class=\"apart\">This node has left something out since it started (below).</p>",
+        "<tr class=\"apart\"><th>Copies for a full queue</th><td>21</td></tr>",
+        "<tr><th>Refused: Not authorized (0x87)</th><td>17</td></tr>",
+        "<tr><th>Ended: Keep Alive timeout (0x8D)</th><td>18</td></tr>",
+        "<tr><th>Topics that are held, with those that were cleared</th><td>15</td></tr>",
+    ] {
+        assert!(rt; contains(&page, part.as_bytes()));
+    }
+    let metrics = answer(
+        &rt,
+        alloc,
+        keys,
+        b"GET /metrics HTTP/1.1\r\nhost: a\r\n\r\n",
+    );
+    for part in [
+        "\nmqtt_connections_refused_total{code=\"0x87\"} 17\n",
+        "\nmqtt_connections_ended_total{code=\"0x8D\"} 18\n",
+        "\nmqtt_longest_turn_seconds 0.016\n",
+        "\nmqtt_table_version 3\n",
+        "\nmqtt_tables_refused_total 27\n",
+        "\nmqtt_cluster_peer_heard{peer=\"n1\"} 1\n",
+    ] {
+        assert!(rt; contains(&metrics, part.as_bytes()));
+    }
+}
+
+#[test]
+fn peers_hold_the_gate(rt: HostRuntime) {
+    let alloc = rt.alloc();
+    for (linked, heard, lacking, missing, is_open) in [
+        (true, true, 0, 0, true),
+        (false, true, 0, 0, false),
+        (true, false, 0, 0, false),
+        (true, true, 1, 0, false),
+        (true, true, 0, 1, false),
+    ] {
+        let mut told = figures(&rt, alloc, 0);
+        let mut peer = equal_peer(&rt, alloc);
+        peer.linked = linked;
+        peer.heard = heard;
+        peer.lacking = lacking;
+        peer.missing = missing;
+        told.peers.push(peer).expect(&rt, "memory");
+        assert_eq!(rt; told.is_caught_up(), is_open);
+        assert_eq!(rt; told.apart() == 0, is_open);
+        drop(told);
+    }
+}

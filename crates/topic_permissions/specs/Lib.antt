@@ -1,4 +1,0 @@
-pub mod Comparing
-pub mod Filled
-pub mod Laws
-pub mod Rules

@@ -1,6 +1,0 @@
-use Rattle.turn_laws.proofs.Turning.{turn_is_a_trace}
-use Rattle.turn_laws.proofs.laws.turn_is_a_trace.Goals as goal
-
-pub returns : goal.returns
-returns g c =
-    turn_is_a_trace g.S.Sockets.accepts g.S.Readiness.watches g.S.Sockets.connects g.S.Sockets.reads g.S.Sockets.writes g.S.Readiness.finds g.H.Handler.handles g.H.BridgeHandler.hears g.H.Handler.settles

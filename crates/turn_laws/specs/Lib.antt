@@ -1,4 +1,0 @@
-pub mod Calls
-pub mod Channels
-pub mod Flows
-pub mod Traces

@@ -1,8 +1,0 @@
-use Rattle.whole_laws.proofs.ServedRuns.{connections_stay_served, packets_of_runs_are_taken}
-use Rattle.whole_laws.proofs.serving.clients_are_served.Goals as goal
-
-pub returns-clause-sessions : goal.returns-clause-sessions
-returns-clause-sessions c = connections_stay_served
-
-pub returns-clause-packets : goal.returns-clause-packets
-returns-clause-packets c = packets_of_runs_are_taken
