@@ -114,13 +114,10 @@ fn told(rt: &HostRuntime, words: &[String]) -> io::Result<bool> {
             tell_all(rt, &[Player::CarelessNodes], paths)
         }
         _ => {
-            let mut count = 0;
-            for word in words {
-                if word.as_str() == "--records" {
-                    break;
-                }
-                count += 1;
-            }
+            let count = words
+                .iter()
+                .position(|word| word.as_str() == "--records")
+                .unwrap_or(words.len());
             let (paths, records) = words.split_at(count);
             let are_right = tell_all(rt, &[Player::Nodes, Player::Cluster], paths)?;
             Ok(tell_records(rt, records)? && are_right)
