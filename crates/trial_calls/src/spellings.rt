@@ -1,6 +1,6 @@
 //! What is read and written.
 
-use crate::spelled::{try_read, try_write};
+use crate::spelled::{Number, try_read, try_write};
 use bridge_frames::BridgeFrame;
 use causal_context::Context;
 use mqtt_fields::Properties;
@@ -9,12 +9,13 @@ use mqtt_packets::Packet;
 use replica_store::ReplicaStore;
 use std::alloc::Global;
 use trial_refusals::{
-    CONNECT, CONTEXT, DELTA, FORWARD, MESSAGE, PROPERTIES, PUBLISH, STORE, Trial, bytes_of,
+    CONNECT, CONTEXT, DELTA, FORWARD, MESSAGE, NUMBER, PROPERTIES, PUBLISH, STORE, Trial, bytes_of,
 };
 
 /// What is read and written.
 #[derive(Clone, Copy)]
 pub enum Kind {
+    Number,
     Properties,
     Connect,
     Publish,
@@ -28,6 +29,7 @@ pub enum Kind {
 impl Kind {
     fn spelling(self) -> &'static str {
         match self {
+            Kind::Number => NUMBER,
             Kind::Properties => PROPERTIES,
             Kind::Connect => CONNECT,
             Kind::Publish => PUBLISH,
@@ -44,6 +46,7 @@ impl Kind {
 pub fn try_reading(alloc: Global, number: usize, kind: Kind) -> Trial {
     let bytes = bytes_of(alloc, kind.spelling())?;
     match kind {
+        Kind::Number => try_read::<Number>(alloc, number, &bytes),
         Kind::Properties => try_read::<Properties>(alloc, number, &bytes),
         Kind::Connect | Kind::Publish => try_read::<Packet>(alloc, number, &bytes),
         Kind::Message => try_read::<Message>(alloc, number, &bytes),
@@ -57,6 +60,7 @@ pub fn try_reading(alloc: Global, number: usize, kind: Kind) -> Trial {
 pub fn try_writing(alloc: Global, number: usize, kind: Kind) -> Trial {
     let bytes = bytes_of(alloc, kind.spelling())?;
     match kind {
+        Kind::Number => try_write::<Number>(alloc, number, &bytes),
         Kind::Properties => try_write::<Properties>(alloc, number, &bytes),
         Kind::Connect | Kind::Publish => try_write::<Packet>(alloc, number, &bytes),
         Kind::Message => try_write::<Message>(alloc, number, &bytes),
