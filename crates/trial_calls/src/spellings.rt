@@ -9,8 +9,11 @@ use mqtt_packets::Packet;
 use replica_store::ReplicaStore;
 use std::alloc::Global;
 use trial_refusals::{
-    CONNECT, CONTEXT, DELTA, FORWARD, MESSAGE, NUMBER, PROPERTIES, PUBLISH, STORE, Trial, bytes_of,
+    CONNECT, CONTEXT, DELTA, FORWARD, MESSAGE, PROPERTIES, PUBLISH, STORE, Trial, bytes_of,
 };
+
+/// The greatest Variable Byte Integer (MQTT 5.0, 1.5.5).
+const NUMBER: &str = "ffffff7f";
 
 /// What is read and written.
 #[derive(Clone, Copy)]

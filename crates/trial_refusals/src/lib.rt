@@ -9,6 +9,6 @@ mod trial;
 pub use fault::{Fault, ensure};
 pub use requests::{can_refuse, has_ended, refuse};
 pub use spellings::{
-    CONNECT, CONTEXT, DELTA, FORWARD, MESSAGE, NUMBER, PROPERTIES, PUBLISH, STORE, bytes_of,
+    CONNECT, CONTEXT, DELTA, FORWARD, MESSAGE, PROPERTIES, PUBLISH, STORE, bytes_of,
 };
 pub use trial::{Asking, Call, Changing, Failure, Trial, judge, sweep, try_asking, try_changing};

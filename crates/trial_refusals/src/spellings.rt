@@ -3,9 +3,6 @@
 use crate::fault::Fault;
 use std::alloc::Global;
 
-/// The greatest Variable Byte Integer (MQTT 5.0, 1.5.5).
-pub const NUMBER: &str = "ffffff7f";
-
 /// Message Expiry Interval 5 and User Property `n`, `v` (MQTT 5.0, 2.2.2.2).
 pub const PROPERTIES: &str = "0c 02 00000005 26 0001 6e 0001 76";
 
