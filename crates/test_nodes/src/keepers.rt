@@ -26,18 +26,19 @@ pub fn outputs(rt: &impl Abort, keeper: &mut Keeper<MemoryRows>, kind: EventKind
     outputs.len()
 }
 
-/// The bytes of the packets that go out.
-fn add_packets(rt: &impl Abort, outputs: &[Output], bytes: &mut Vec<u8>) {
+/// The bytes of the packets and frames that go out.
+fn add_bytes(rt: &impl Abort, outputs: &[Output], bytes: &mut Vec<u8>) {
     for output in outputs {
-        if let Output::Send { bytes: packet, .. } = output {
-            bytes
-                .extend_from_slice(packet.as_slice())
-                .expect(rt, "memory");
-        }
+        let given = match output {
+            Output::Send { bytes: packet, .. } => packet.as_slice(),
+            Output::Frame { frame } => frame.bytes.as_slice(),
+            Output::Close { .. } => &[],
+        };
+        bytes.extend_from_slice(given).expect(rt, "memory");
     }
 }
 
-/// The bytes of the packets that an event comes to, one after the other.
+/// The bytes of the packets and frames that an event comes to, one after the other.
 pub fn sent(
     rt: &impl Abort,
     alloc: Global,
@@ -48,7 +49,7 @@ pub fn sent(
     let outputs = keeper.handle(&event).expect(rt, "no fault");
     drop(event);
     let mut bytes = Vec::new(alloc);
-    add_packets(rt, &outputs, &mut bytes);
+    add_bytes(rt, &outputs, &mut bytes);
     drop(outputs);
     bytes
 }

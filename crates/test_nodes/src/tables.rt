@@ -1,9 +1,10 @@
 //! Subscriptions of `a` at node 1, and what ends of them, under versions of the table of homes.
 ghost use Rattle.std.specs.Prelude.{◌≡◌, length, IfSome};
 
-use crate::keepers::{connect, outputs, piece};
+use crate::keepers::{connect, frame, outputs, piece, sent};
 use crate::packets::{CONNECT, SUBSCRIBE};
 use broker_node::EventKind;
+use causal_context::Dot;
 use home_table::{HomeTable, nodes_text};
 use node_keeper::Keeper;
 use row_store::{MemoryRows, Row, RowStore};
@@ -16,17 +17,17 @@ const SUBSCRIPTION: u8 = 4;
 /// A subscription to `t` with options 0 and no identifier, without its version.
 const TO_T: &[u8] = b"\0\x01t\0\0\0\0\0";
 
-/// The table of two nodes of this version, with the home of `a` at one of them.
-fn homes_of(alloc: Global, version: u32, home: u16) -> Option<HomeTable>
-    ensures { IfSome result (λ homes. length homes.nodes ≡ 2) }
+/// The table of so many nodes of this version, with the home of `a` at one of them.
+fn homes_of(alloc: Global, nodes: u16, version: u32, home: u16) -> Option<HomeTable>
+    ensures { IfSome result (λ homes. length homes.nodes ≡ nodes) }
 {
     let mut text = String::new(alloc);
     writeln!(text, "version = {version}").ok()?;
-    let nodes = nodes_text(alloc, 2).ok()?;
-    writeln!(text, "{nodes}").ok()?;
+    let rows = nodes_text(alloc, nodes).ok()?;
+    writeln!(text, "{rows}").ok()?;
     writeln!(text, "[[home]]\nprefix = \"a\"\nnode = \"n{home}\"").ok()?;
     let homes = HomeTable::parse(alloc, text.as_str()).ok()?;
-    if homes.nodes() == 2 {
+    if homes.nodes() == nodes {
         Some(homes)
     } else {
         None
@@ -41,7 +42,7 @@ fn opened(
     version: u32,
     home: u16,
 ) -> Keeper<MemoryRows> {
-    let homes = homes_of(alloc, version, home).expect(rt, "a table");
+    let homes = homes_of(alloc, 2, version, home).expect(rt, "a table");
     let opened = Keeper::open(alloc, rows, homes, 1);
     opened.ok().expect(rt, "a node")
 }
@@ -129,22 +130,99 @@ fn an_end_leaves_what_a_newer_table_made(rt: HostRuntime) {
     }
 }
 
-/// How many tables were refused once this one has come.
-fn refused(rt: &impl Abort, alloc: Global, keeper: &mut Keeper<MemoryRows>, version: u32) -> u64 {
-    let homes = homes_of(alloc, version, 1).expect(rt, "a table");
+/// How many tables were refused once this one has come, of so many nodes; the home of `a` is the last of them.
+fn refused(
+    rt: &impl Abort,
+    alloc: Global,
+    keeper: &mut Keeper<MemoryRows>,
+    (nodes, version): (u16, u32),
+) -> u64 {
+    let homes = homes_of(alloc, nodes, version, nodes.saturating_sub(1)).expect(rt, "a table");
     let table = EventKind::Table { homes };
     assert_eq!(rt; outputs(rt, keeper, table), 0);
     keeper.node().counts().tables_refused
 }
 
 #[test]
-fn a_table_that_is_not_newer_is_refused_and_counted(rt: HostRuntime) {
+fn a_table_that_is_not_newer_or_not_for_as_many_nodes_is_refused_and_counted(rt: HostRuntime) {
     let alloc = rt.alloc();
     let mut keeper = opened(&rt, alloc, MemoryRows::new(alloc), 1, 1);
     connect(&rt, alloc, &mut keeper, CONNECT);
-    for (version, count) in [(0, 1), (1, 2), (2, 2), (2, 3)] {
-        let found = refused(&rt, alloc, &mut keeper, version);
-        assert_eq!(rt; found, count, "at {version}");
+    for (nodes, version, count) in [
+        (2, 0, 1),
+        (2, 1, 2),
+        (3, 2, 3),
+        (1, 2, 4),
+        (2, 2, 4),
+        (2, 2, 5),
+        (3, 3, 6),
+    ] {
+        let found = refused(&rt, alloc, &mut keeper, (nodes, version));
+        assert_eq!(rt; found, count, "at {version} for {nodes} nodes");
     }
     drop(keeper);
+}
+
+/// From node 0 to node 1: `a` subscribed there to `t` under version 1, as (0, 1); and node 0 has taken (0, 1) and (1, 1).
+const MADE: &[u8] = b"\0\0\0\x52\x06\0\0\0\x01\
+    \0\0\0\x01\0\0\0\0\0\0\0\0\0\x01\0\0\0\0\0\0\0\x01\
+    \0\0\0\x01\0\0\0\0\0\0\0\0\0\x01\0\0\0\0\0\0\0\x01\
+    \0\0\0\x01\0\0\0\0\0\0\0\0\0\x01\0\x01a\0\x01t\0\0\0\0\0\0\0\0\x01\0\0\0\0";
+
+const KNOWN: &[u8] = b"\0\0\0\x2d\x03\0\0\0\x01\
+    \0\0\0\x02\0\0\0\0\0\0\0\0\0\x01\0\0\0\0\0\0\0\x01\
+    \0\x01\0\0\0\0\0\0\0\x01\0\0\0\0\0\0\0\x01";
+
+/// From node 1 to node 0: a Remove as (1, 2), which covers (1, 1) and nothing else.
+const REMOVED: &[u8] = b"\0\0\0\x39\x06\0\x01\0\0\
+    \0\0\0\x01\0\x01\0\0\0\0\0\0\0\x02\0\0\0\0\0\0\0\x02\
+    \0\0\0\x01\0\x01\0\0\0\0\0\0\0\x01\0\0\0\0\0\0\0\x02\
+    \0\0\0\0\0\0\0\0";
+
+/// Whether the subscriptions (0, 1) and (1, 1) stand, of which one is live.
+fn standing(rt: &impl Abort, keeper: &Keeper<MemoryRows>) -> (bool, bool) {
+    let subscriptions = keeper.node().store().subscriptions();
+    assert_eq!(rt; subscriptions.live_count(), 1);
+    let there = Dot::new(0, 1).expect(rt, "a dot");
+    let here = Dot::new(1, 1).expect(rt, "a dot");
+    (
+        subscriptions.entry(there).is_some(),
+        subscriptions.entry(here).is_some(),
+    )
+}
+
+/// Node 1, at which `a` has subscribed, as it has at node 0 since, its new home.
+fn subscribed_twice(rt: &impl Abort, alloc: Global) -> Keeper<MemoryRows> {
+    let mut keeper = opened(rt, alloc, MemoryRows::new(alloc), 0, 1);
+    connect(rt, alloc, &mut keeper, CONNECT);
+    let subscribe = piece(rt, alloc, 1, SUBSCRIBE);
+    assert_eq!(rt; outputs(rt, &mut keeper, subscribe), 1);
+    assert_eq!(rt; outputs(rt, &mut keeper, frame(rt, alloc, MADE)), 1);
+    assert_eq!(rt; outputs(rt, &mut keeper, frame(rt, alloc, KNOWN)), 0);
+    keeper
+}
+
+/// What ends the session of `a`: its home moves, or its connection is closed.
+fn ending(rt: &impl Abort, alloc: Global, moves: bool) -> EventKind {
+    if moves {
+        let homes = homes_of(alloc, 2, 1, 0).expect(rt, "a table");
+        EventKind::Table { homes }
+    } else {
+        EventKind::Closed { connection: 1 }
+    }
+}
+
+#[test]
+fn an_end_removes_what_was_subscribed_here_and_nothing_else(rt: HostRuntime) {
+    let alloc = rt.alloc();
+    for (moves, given) in [(true, 2), (false, 0)] {
+        let mut keeper = subscribed_twice(&rt, alloc);
+        assert!(rt; standing(&rt, &keeper) == (true, true));
+        let ends = ending(&rt, alloc, moves);
+        assert_eq!(rt; outputs(&rt, &mut keeper, ends), given);
+        assert!(rt; standing(&rt, &keeper) == (true, false));
+        let shipped = sent(&rt, alloc, &mut keeper, EventKind::Ship { peer: 0 });
+        assert!(rt; shipped.as_slice() == REMOVED);
+        drop(keeper);
+    }
 }

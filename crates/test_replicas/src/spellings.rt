@@ -202,13 +202,20 @@ fn is_told(rt: &impl Abort, alloc: Global, bytes: &[u8], place: usize, byte: u8)
     }
 }
 
-// The same at each place, for the next byte and for one with another highest bit.
+// The same for each byte at the place.
+fn are_told_at(rt: &impl Abort, alloc: Global, bytes: &[u8], place: usize) -> bool {
+    for byte in 0..=255 {
+        if !is_told(rt, alloc, bytes, place, byte) {
+            return false;
+        }
+    }
+    true
+}
+
+// The same at each place.
 fn are_told(rt: &impl Abort, alloc: Global, bytes: &[u8]) -> bool {
     for place in 0..bytes.len() {
-        let byte = bytes[place];
-        if !is_told(rt, alloc, bytes, place, byte.wrapping_add(1))
-            || !is_told(rt, alloc, bytes, place, byte ^ 0x80)
-        {
+        if !are_told_at(rt, alloc, bytes, place) {
             return false;
         }
     }

@@ -1,5 +1,6 @@
 //! Tests of the stores of rows, in a crate of their own so that those are proved once.
-//! Rows of versions 1 and 2 that are written as rows of version 3, over a database whose files stop at each call of them in turn.
+//! Rows of versions 1 and 2 that are written as rows of version 3, and a step of a node, over a database whose files stop at each call of
+//! them in turn.
 #![tactic(auto)]
 
 #[cfg(test)]

@@ -1,8 +1,11 @@
-//! Rows of version 1 or 2 in a database file and its log, either of which stops, or refuses a call, while a node is opened from them:
-//! opened again, the database has those rows, or all of version 3, and a node is opened from it.
+//! Rows of version 1 or 2 in a database file and its log, either of which stops, or refuses a call, while a node is opened from them and
+//! evicts a client: opened again, the database has those rows, or all of version 3, or all that the eviction leaves, and a node is opened from
+//! it.
 
 use crate::versions::{Version, put_older, version_in};
+use broker_node::{Event, EventKind};
 use home_table::homes_of;
+use mqtt_fields::Text;
 use node_keeper::{Keeper, KeeperFault};
 use row_store::{RowFault, RowStore};
 use sqlite::{Alter, Connection, Files};
@@ -22,11 +25,20 @@ const MOST_CALLS: u64 = 1000;
 enum Task {
     /// Puts rows of an older version, and closes it.
     Put(Version),
-    /// Opens a node from rows of an older version, and closes it where the node is opened.
-    Raise,
-    /// Finds rows of this version or of version 3, or those of version 3 alone where a node was opened from them, and opens a node from
-    /// them.
-    Look(Version, bool),
+    /// Opens a node from rows of an older version, which evicts a client, and closes it where that is done.
+    Evict,
+    /// Finds rows that a run leaves which came so far, of this version at first, and opens a node from them.
+    Look(Version, Reached),
+}
+
+/// How far a run came.
+#[derive(Clone, Copy, PartialEq, Eq)]
+enum Reached {
+    Nothing,
+    /// The node was opened, and has stopped at its event.
+    Opened,
+    /// All is done.
+    Done,
 }
 
 /// Opens node 1 from the rows: how many subscriptions stand, or the fault; and the rows.
@@ -45,63 +57,101 @@ fn node_of<R: RowStore + Drop>(
     }
 }
 
-// Whether the node of these rows is opened; none where it has anything but the one subscription, or another fault than that of the disk.
-fn raised<R: RowStore + Drop>(rt: &impl Abort, alloc: Global, rows: R) -> (R, Option<bool>) {
-    let (stand, rows) = node_of(rt, alloc, rows);
-    let is_raised = match stand {
-        Ok(1) => Some(true),
-        Err(KeeperFault::Rows(RowFault::Device)) => Some(false),
-        _ => None,
-    };
-    (rows, is_raised)
+/// The fault of an event, if it has one.
+fn fault_at<R: RowStore>(keeper: &mut Keeper<R>, kind: EventKind) -> Option<KeeperFault> {
+    let event = Event { at: 0, kind };
+    let fault = keeper.handle(&event).err();
+    drop(event);
+    fault
 }
 
-// Whether these are the rows of a run.
-fn are_left<R: RowStore>(rt: &impl Abort, rows: &mut R, from: Version, is_raised: bool) -> bool {
-    let found = version_in(rows).expect(rt, "rows");
-    found == Version::Third || (found == from && !is_raised)
+// How far a node comes that evicts its client; none where it doesn't stop at a fault of the disk, or has another one.
+fn evicted<R: RowStore>(rt: &impl Abort, alloc: Global, keeper: &mut Keeper<R>) -> Option<Reached> {
+    let client = Text::new(alloc, "a").ok().expect(rt, "memory");
+    let started = fault_at(keeper, EventKind::Started);
+    match fault_at(keeper, EventKind::Evict { client }) {
+        None => started.is_none().then_some(Reached::Done),
+        Some(KeeperFault::Rows(RowFault::Device)) => {
+            let answer = fault_at(keeper, EventKind::Tick);
+            (started.is_none() && answer == Some(KeeperFault::Stopped)).then_some(Reached::Opened)
+        }
+        Some(_) => None,
+    }
 }
 
-// Whether a node is opened from the rows, which are of version 3 then.
-fn goes_on<R: RowStore + Drop>(rt: &impl Abort, alloc: Global, rows: R) -> (R, bool) {
-    let (mut rows, is_raised) = raised(rt, alloc, rows);
+// How far the node of these rows comes; none where it has another fault than that of the disk.
+fn served<R: RowStore + Drop>(rt: &impl Abort, alloc: Global, rows: R) -> (R, Option<Reached>) {
+    let homes = homes_of(alloc, 2).expect(rt, "a table");
+    match Keeper::open(alloc, rows, homes, 1) {
+        Ok(mut keeper) => {
+            let reached = evicted(rt, alloc, &mut keeper);
+            (keeper.into_rows(), reached)
+        }
+        Err((KeeperFault::Rows(RowFault::Device), rows)) => (rows, Some(Reached::Nothing)),
+        Err((_, rows)) => (rows, None),
+    }
+}
+
+// Whether these are the rows of a run that came so far.
+fn are_left(found: Version, from: Version, reached: Reached) -> bool {
+    match reached {
+        Reached::Nothing => found == from || found == Version::Third,
+        Reached::Opened => found == Version::Third || found == Version::Evicted,
+        Reached::Done => found == Version::Evicted,
+    }
+}
+
+// Whether a node is opened from the rows, which are of version 3 then: with the one subscription, or evicted with none.
+fn goes_on<R: RowStore + Drop>(
+    rt: &impl Abort,
+    alloc: Global,
+    rows: R,
+    found: Version,
+) -> (R, bool) {
+    let (stand, mut rows) = node_of(rt, alloc, rows);
     let version = version_in(&mut rows).expect(rt, "rows");
-    (rows, is_raised == Some(true) && version == Version::Third)
+    let goes_on = if found == Version::Evicted {
+        stand == Ok(0) && version == Version::Evicted
+    } else {
+        stand == Ok(1) && version == Version::Third
+    };
+    (rows, goes_on)
 }
 
-// Whether a node was opened by the task, or none where it doesn't come to what it must.
+// How far a task comes, or none where it doesn't come to what it must.
 fn done<R: RowStore + Drop>(
     rt: &impl Abort,
     alloc: Global,
     mut rows: R,
     task: Task,
-) -> (R, Option<bool>) {
+) -> (R, Option<Reached>) {
     match task {
         Task::Put(version) => {
             put_older(rt, alloc, &mut rows, version);
-            (rows, Some(false))
+            (rows, Some(Reached::Done))
         }
-        Task::Raise => raised(rt, alloc, rows),
-        Task::Look(from, is_raised) => {
-            let are_left = are_left(rt, &mut rows, from, is_raised);
-            let (rows, goes_on) = goes_on(rt, alloc, rows);
-            (rows, (are_left && goes_on).then_some(true))
+        Task::Evict => served(rt, alloc, rows),
+        Task::Look(from, reached) => {
+            let found = version_in(&mut rows).expect(rt, "rows");
+            let (rows, goes_on) = goes_on(rt, alloc, rows, found);
+            let is_right = goes_on && are_left(found, from, reached);
+            (rows, is_right.then_some(Reached::Done))
         }
     }
 }
 
 // The same where a database can't be opened, or isn't adopted.
-fn undone(task: Task, fault: RowFault) -> Option<bool> {
+fn undone(task: Task, fault: RowFault) -> Option<Reached> {
     match task {
-        Task::Raise if fault == RowFault::Device => Some(false),
+        Task::Evict if fault == RowFault::Device => Some(Reached::Nothing),
         _ => None,
     }
 }
 
-fn closes(task: Task, is_raised: Option<bool>) -> bool {
+fn closes(task: Task, reached: Option<Reached>) -> bool {
     match task {
         Task::Put(_) => true,
-        Task::Raise => is_raised == Some(true),
+        Task::Evict => reached == Some(Reached::Done),
         Task::Look(_, _) => false,
     }
 }
@@ -111,12 +161,12 @@ fn done_in<S: Alter + Drop>(
     alloc: Global,
     conn: Connection<S>,
     task: Task,
-) -> (Left<S>, Option<bool>) {
+) -> (Left<S>, Option<Reached>) {
     match adopted(conn) {
         Ok(rows) => {
-            let (rows, is_raised) = done(rt, alloc, rows, task);
-            let left = left(rows.into_connection(), closes(task, is_raised));
-            (left, is_raised)
+            let (rows, reached) = done(rt, alloc, rows, task);
+            let left = left(rows.into_connection(), closes(task, reached));
+            (left, reached)
         }
         Err((fault, conn)) => (left(conn, false), undone(task, fault)),
     }
@@ -128,11 +178,11 @@ fn done_with<D: Disk + Drop>(
     files: Files<D>,
     seed: u64,
     task: Task,
-) -> (Files<D>, Option<bool>) {
+) -> (Files<D>, Option<Reached>) {
     match opened(alloc, files, seed) {
         Ok(conn) => {
-            let (left, is_raised) = done_in(rt, alloc, conn, task);
-            (files_of(left), is_raised)
+            let (left, reached) = done_in(rt, alloc, conn, task);
+            (files_of(left), reached)
         }
         Err((fault, files)) => (files, undone(task, fault)),
     }
@@ -145,7 +195,7 @@ fn run(
     files: Files<StoppingFile>,
     seed: u64,
     task: Task,
-) -> (Files<StoppingFile>, Option<bool>) {
+) -> (Files<StoppingFile>, Option<Reached>) {
     done_with(rt, alloc, files, seed, task)
 }
 
@@ -221,15 +271,15 @@ fn meets(
 ) -> bool {
     let bytes = (older.log.as_slice(), older.db.as_slice());
     let files = stopping_files(alloc, bytes, Some(trouble)).expect(rt, "memory");
-    let (mut files, is_raised) = run(rt, alloc, files, 2, Task::Raise);
-    let is_raised = is_raised.expect(rt, "another answer than the disk's fault");
+    let (mut files, reached) = run(rt, alloc, files, 2, Task::Evict);
+    let reached = reached.expect(rt, "another answer than the disk's fault");
     let (log, db) = calls_of(&files);
-    let is_left = is_left(rt, alloc, &mut files, Task::Look(version, is_raised));
+    let is_left = is_left(rt, alloc, &mut files, Task::Look(version, reached));
     let_go(files);
     assert!(rt; is_left, "after {} calls", trouble.calls);
     let calls = if trouble.is_of_log { log } else { db };
     assert!(rt;
-        calls > trouble.calls || is_raised,
+        calls > trouble.calls || reached == Reached::Done,
         "a fault without trouble"
     );
     calls > trouble.calls
@@ -257,7 +307,7 @@ fn troubled_runs(
     MOST_CALLS
 }
 
-// Each stop and refusal leaves the rows of this version, or those of version 3.
+// Each stop and refusal leaves the rows of this version, or those of version 3, with the client or without it.
 fn leaves_either(rt: &impl Abort, alloc: Global, version: Version) {
     let older = older_image(rt, alloc, version);
     for (is_of_log, is_stop) in [(true, true), (true, false), (false, true), (false, false)] {

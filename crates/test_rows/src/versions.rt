@@ -45,12 +45,25 @@ const THIRD: [Plain; 5] = [
     (6, b"", b"\x02", BOTH),
 ];
 
+/// The set of these dots and (1, 3), under which the client was evicted.
+const THREE: &[u8] = b"\0\0\0\x01\0\x01\0\0\0\0\0\0\0\x01\0\0\0\0\0\0\0\x03";
+
+/// What is left of them once the client was evicted.
+const EVICTED: [Plain; 4] = [
+    (1, b"", b"", b"\0\x03\0\x01\0\0\0\0\0\0\0\0"),
+    (5, b"u", b"", CLEARED),
+    (6, b"", b"\x01", THREE),
+    (6, b"", b"\x02", THREE),
+];
+
 /// Which rows a store has.
 #[derive(Clone, Copy, PartialEq, Eq)]
 pub enum Version {
     First,
     Second,
     Third,
+    /// Those of version 3, once the client was evicted.
+    Evicted,
     /// Anything else.
     Other,
 }
@@ -107,6 +120,8 @@ fn version_of(rows: &[Row]) -> Version {
         Version::Second
     } else if are_rows(rows, &THIRD) {
         Version::Third
+    } else if are_rows(rows, &EVICTED) {
+        Version::Evicted
     } else {
         Version::Other
     }

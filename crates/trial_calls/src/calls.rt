@@ -26,7 +26,8 @@ pub enum Called {
 }
 
 /// The calls and their names.
-pub const CALLS: [(&str, Called); 25] = [
+pub const CALLS: [(&str, Called); 26] = [
+    ("Vbi::write", Called::Write(Kind::Number)),
     ("read_properties", Called::Read(Kind::Properties)),
     ("write_properties", Called::Write(Kind::Properties)),
     ("TopicName::parse", Called::TopicName),

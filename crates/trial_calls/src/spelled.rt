@@ -2,7 +2,7 @@
 
 use bridge_frames::BridgeFrame;
 use causal_context::Context;
-use mqtt_fields::{Place, Properties, properties_len, read_properties, write_properties};
+use mqtt_fields::{Place, Properties, Vbi, properties_len, read_properties, write_properties};
 use mqtt_message::Message;
 use mqtt_packets::{Packet, read_packet, write_packet};
 use replica_bytes::{read_store, write_store};
@@ -17,6 +17,27 @@ pub trait Spelled: Drop {
 
     /// Appends its spelling.
     fn write(&self, alloc: Global, out: &mut Vec<u8>) -> Result<(), Fault>;
+}
+
+/// A Variable Byte Integer.
+#[derive(Drop)]
+pub struct Number {
+    value: u32,
+}
+
+impl Spelled for Number {
+    fn read(_alloc: Global, bytes: &[u8]) -> Result<Number, Fault> {
+        let (value, _) = Vbi::read(bytes)?;
+        Ok(Number { value })
+    }
+
+    fn write(&self, _alloc: Global, out: &mut Vec<u8>) -> Result<(), Fault> {
+        if self.value > Vbi::MAX {
+            return Err(Fault::Other);
+        }
+        Vbi::write(self.value, out)?;
+        Ok(())
+    }
 }
 
 impl Spelled for Properties {

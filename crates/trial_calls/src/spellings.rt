@@ -1,6 +1,6 @@
 //! What is read and written.
 
-use crate::spelled::{try_read, try_write};
+use crate::spelled::{Number, try_read, try_write};
 use bridge_frames::BridgeFrame;
 use causal_context::Context;
 use mqtt_fields::Properties;
@@ -12,9 +12,13 @@ use trial_refusals::{
     CONNECT, CONTEXT, DELTA, FORWARD, MESSAGE, PROPERTIES, PUBLISH, STORE, Trial, bytes_of,
 };
 
+/// The greatest Variable Byte Integer (MQTT 5.0, 1.5.5).
+const NUMBER: &str = "ffffff7f";
+
 /// What is read and written.
 #[derive(Clone, Copy)]
 pub enum Kind {
+    Number,
     Properties,
     Connect,
     Publish,
@@ -28,6 +32,7 @@ pub enum Kind {
 impl Kind {
     fn spelling(self) -> &'static str {
         match self {
+            Kind::Number => NUMBER,
             Kind::Properties => PROPERTIES,
             Kind::Connect => CONNECT,
             Kind::Publish => PUBLISH,
@@ -44,6 +49,7 @@ impl Kind {
 pub fn try_reading(alloc: Global, number: usize, kind: Kind) -> Trial {
     let bytes = bytes_of(alloc, kind.spelling())?;
     match kind {
+        Kind::Number => try_read::<Number>(alloc, number, &bytes),
         Kind::Properties => try_read::<Properties>(alloc, number, &bytes),
         Kind::Connect | Kind::Publish => try_read::<Packet>(alloc, number, &bytes),
         Kind::Message => try_read::<Message>(alloc, number, &bytes),
@@ -57,6 +63,7 @@ pub fn try_reading(alloc: Global, number: usize, kind: Kind) -> Trial {
 pub fn try_writing(alloc: Global, number: usize, kind: Kind) -> Trial {
     let bytes = bytes_of(alloc, kind.spelling())?;
     match kind {
+        Kind::Number => try_write::<Number>(alloc, number, &bytes),
         Kind::Properties => try_write::<Properties>(alloc, number, &bytes),
         Kind::Connect | Kind::Publish => try_write::<Packet>(alloc, number, &bytes),
         Kind::Message => try_write::<Message>(alloc, number, &bytes),

@@ -1,11 +1,12 @@
-//! Runs of scripts, and databases that are opened, of which each allocation is refused in turn: over nodes with their rows in memory, over a
-//! cluster, and over nodes with their rows in a database. `examples/refuse.c` refuses them; where nothing does, each is made once.
+//! Runs of scripts, and databases and nodes that are opened, of which each allocation is refused in turn: over nodes with their rows in memory,
+//! over a cluster, and over nodes with their rows in a database. `examples/refuse.c` refuses them; where nothing does, each is made once.
 //!
 //!   trial_records [--careless-rows | --careless-nodes] SCRIPT..
 //!   trial_records SCRIPT.. --records SCRIPT..
 //!
-//! plays each of these scripts: those behind `--records` over nodes with a database, once databases were opened. With `--careless-rows` the
-//! changes of a step are made one by one, and with `--careless-nodes` a node goes on after want of memory: both have to be found.
+//! plays each of these scripts: those behind `--records` over nodes with a database, once databases were opened, and nodes from rows that no
+//! script leaves. With `--careless-rows` the changes of a step are made one by one, and with `--careless-nodes` a node goes on after want of
+//! memory: both have to be found.
 #![tactic(auto)]
 
 mod careless;
@@ -13,15 +14,17 @@ mod clusters;
 mod database;
 mod openings;
 mod recorded;
+mod waking;
 
 use crate::careless::CarelessRows;
 use crate::clusters::Together;
-use crate::openings::{DATABASES, Database};
+use crate::openings::DATABASES;
 use crate::recorded::RecordedRows;
+use crate::waking::NODES_LEFT;
 use row_store::MemoryRows;
 use std::io;
 use std::process::ExitCode;
-use trial_refusals::sweep;
+use trial_refusals::{Call, sweep};
 use trial_runs::{Nodes, tell};
 
 /// What plays the runs.
@@ -69,10 +72,9 @@ fn tell_all(rt: &HostRuntime, players: &[Player], paths: &[String]) -> io::Resul
     Ok(are_right)
 }
 
-/// Tells of the opening of a database. Whether it is as it should be.
-fn tell_opening(rt: &HostRuntime, database: Database) -> io::Result<bool> {
-    let name = database.name();
-    match sweep(rt.alloc(), &database) {
+/// Tells of an opening of this name. Whether it is as it should be.
+fn tell_opening<C: Call>(rt: &HostRuntime, name: &str, opening: &C) -> io::Result<bool> {
+    match sweep(rt.alloc(), opening) {
         Ok(refused) => {
             println!(rt; "{name}: {refused} refused")?;
             Ok(true)
@@ -88,12 +90,15 @@ fn tell_opening(rt: &HostRuntime, database: Database) -> io::Result<bool> {
 fn tell_openings(rt: &HostRuntime) -> io::Result<bool> {
     let mut are_right = true;
     for database in DATABASES {
-        are_right = tell_opening(rt, database)? && are_right;
+        are_right = tell_opening(rt, database.name(), &database)? && are_right;
+    }
+    for (name, node) in NODES_LEFT {
+        are_right = tell_opening(rt, name, &node)? && are_right;
     }
     Ok(are_right)
 }
 
-/// Tells of databases that are opened, and of the run of each of the scripts that stand behind the first word.
+/// Tells of databases and nodes that are opened, and of the run of each of the scripts that stand behind the first word.
 fn tell_records(rt: &HostRuntime, words: &[String]) -> io::Result<bool> {
     match words {
         [_records, paths @ ..] => {
@@ -114,13 +119,10 @@ fn told(rt: &HostRuntime, words: &[String]) -> io::Result<bool> {
             tell_all(rt, &[Player::CarelessNodes], paths)
         }
         _ => {
-            let mut count = 0;
-            for word in words {
-                if word.as_str() == "--records" {
-                    break;
-                }
-                count += 1;
-            }
+            let count = words
+                .iter()
+                .position(|word| word.as_str() == "--records")
+                .unwrap_or(words.len());
             let (paths, records) = words.split_at(count);
             let are_right = tell_all(rt, &[Player::Nodes, Player::Cluster], paths)?;
             Ok(tell_records(rt, records)? && are_right)
