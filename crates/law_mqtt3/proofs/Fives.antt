@@ -1,11 +1,9 @@
 -- A client of MQTT 5.0 goes through byte for byte.
 use Rattle.std.proofs.Common.{◌≡◌, ℕ, Bool, true, false, cond, List, [], ◌∷◌, ◌++◌, Option, Some, None, refl, sym, ap, subst, ◌∙◌, append_assoc}
-use Rattle.std.specs.Prelude.{◌==◌, ◌&&◌, flat_map, is_some}
+use Rattle.std.specs.Prelude.{◌==◌, ◌&&◌}
 use Rattle.std.specs.List.{list_all}
 use Rattle.std.proofs.lemmas.List.{append-nil}
-use Rattle.std.proofs.lemmas.List.Folds.{list_all-append}
 use Rattle.std.proofs.lemmas.Grind.{flat_map-append}
-use Rattle.std.proofs.lemmas.Option.{same_Some}
 use Rattle.broker_sockets.specs.declared.events.EventKind.{EventKind}
 use Rattle.broker_sockets.specs.declared.events.EventKind.TheVariants.{Started, Opened, Piece, Room, Closed, Tick}
 use Rattle.mqtt_fields.proofs.Laws.{IsBytes}
@@ -16,14 +14,12 @@ use Rattle.mqtt3_packets.specs.declared.version.Version.TheVariants.{Five}
 use Rattle.door_mqtt3.specs.Calls as levels
 use Rattle.door_mqtt3.specs.Calls.{Call, bytes_of, given_of, met_of}
 use Rattle.door_mqtt3.specs.Calls.Call.{Handled, Heard, Settled}
-use Rattle.door_mqtt3.specs.Client.{AreSpelled, Notice, limit}
-use Rattle.door_mqtt3.specs.Client.Notice.{Same}
-use Rattle.door_mqtt3.specs.Laws.{IsFollowed}
-use Rattle.door_mqtt3.specs.Stages.{Come, Happening, Outgoing, begun, effect, given_in, given_one, met_by, met_in, met_one, on, out_in, piece_of, stage_after, told_in}
+use Rattle.door_mqtt3.specs.Client.{AreSpelled, limit}
+use Rattle.door_mqtt3.specs.Stages.{Happening, Outgoing, effect, given_in, given_one, met_by, met_in, met_one, on, out_in, piece_of, told_in}
 use Rattle.door_mqtt3.specs.Stages.Happening.{Opens, Goes, Comes, GoesOn, Gets, Closes, Ends}
 use Rattle.door_mqtt3.specs.declared.clients.Stage.{Stage}
 use Rattle.door_mqtt3.specs.declared.clients.Stage.TheVariants as stages
-use Rattle.law_mqtt3.specs.Fives.{FivesGoThrough, GoesThrough, is_open_and_plain, is_plain, until_version}
+use Rattle.law_mqtt3.specs.Fives.{FivesGoThrough, is_open_and_plain, is_plain, until_version}
 use Rattle.law_mqtt3.specs.Turns.{bytes_at, bytes_in}
 use Rattle.law_mqtt3.proofs.Ordered.{and_both}
 use Rattle.law_mqtt3.proofs.Versions.{version_steady}
