@@ -1,7 +1,7 @@
 // Loads a broker of MQTT 5.0 or 3.1.1 at 127.0.0.1, and tells how many messages a second come and how long they take.
 //
 //   gcc -O2 -pthread -o load examples/load.c
-//   ./load [-p PORT] [-i IDLE] [-f FILTERS] [-n PAIRS] [-a AHEAD] [-q QOS] [-b BYTES] [-s SECONDS] [-t THREADS] [-u USER -w PASSWORD] [-m PID] [-v LEVEL] [-P PORT]
+//   ./load [-p PORT] [-i IDLE] [-f FILTERS] [-n PAIRS] [-a AHEAD] [-q QOS] [-b BYTES] [-s SECONDS] [-t THREADS] [-u USER -w PASSWORD] [-m PID] [-v LEVEL] [-r READERS] [-P PORT]
 //
 // IDLE clients connect, subscribe to FILTERS filters each, which no message matches, and say nothing more. Then there are PAIRS of
 // a publisher and a subscriber, each pair with a topic of its own. A publisher has AHEAD messages of BYTES bytes on their way at
@@ -9,7 +9,8 @@
 // came is counted to the last message and divided by the time until then. The pairs are shared out to THREADS threads, since one alone takes
 // a processor where each message wants a read and a write of it. With -m the memory that the process PID takes for each idle client and for each of their
 // subscriptions is told, and how many messages came for each second of its processor. LEVEL is 5, or 4 for clients of
-// MQTT 3.1.1. The broker may be any one of that version. With -P the publishers connect at that port, as where they have their home at another node
+// MQTT 3.1.1. The broker may be any one of that version. With -r each publisher has READERS subscribers in place of one, and a message at QoS 0 has come once
+// it has come to all of them. With -P the publishers connect at that port, as where they have their home at another node
 // of a cluster, and nothing is published for a second, in which the nodes tell each other of the subscriptions.
 #include <arpa/inet.h>
 #include <errno.h>
@@ -28,6 +29,7 @@ enum { ROOM = 65536, MOST_BYTES = 16000, MOST_TIMES = 1 << 22, EVENTS = 256, MOS
 struct client {
     int socket;
     int pair;
+    size_t come; // of a publisher, how often a message of it has come to one of its subscribers
     uint16_t identifier;
     size_t held;
     uint8_t bytes[ROOM];
@@ -40,10 +42,10 @@ struct counts {
     double *times;
 };
 
-static int port = 1883, publishers_port, idle, filters, pairs, ahead = 1, qos, length = 64, threads = 1, process, level = 5;
+static int port = 1883, publishers_port, idle, filters, pairs, ahead = 1, qos, length = 64, threads = 1, process, level = 5, readers = 1;
 static double seconds = 2;
 static const char *user, *password;
-static struct client *clients;
+static struct client *clients; // of each pair its subscribers, and then its publisher
 static double stop;
 static _Thread_local struct counts counts;
 
@@ -166,6 +168,10 @@ static void answer(struct client *client, uint8_t first, const uint8_t *identifi
     send_all(client->socket, packet, sizeof packet);
 }
 
+static struct client *publisher_of(int pair) {
+    return &clients[pair * (readers + 1) + readers];
+}
+
 static void take_message(struct client *subscriber, const uint8_t *packet, const uint8_t *body) {
     size_t at = 2 + ((size_t)body[0] << 8 | body[1]);
     if (packet[0] & 6) {
@@ -180,8 +186,9 @@ static void take_message(struct client *subscriber, const uint8_t *packet, const
     if (counts.taken_times < MOST_TIMES)
         counts.times[counts.taken_times++] = counts.last - published;
     counts.come++;
-    if (qos == 0)
-        publish_again(&clients[2 * subscriber->pair + 1]);
+    struct client *publisher = publisher_of(subscriber->pair);
+    if (qos == 0 && ++publisher->come % (size_t)readers == 0)
+        publish_again(publisher);
 }
 
 static void take_packet(struct client *client, const uint8_t *packet, const uint8_t *body) {
@@ -273,13 +280,14 @@ static void connect_idle(void) {
 }
 
 static void connect_pairs(void) {
-    for (int i = 0; i < 2 * pairs; i++) {
+    for (int i = 0; i < pairs * (readers + 1); i++) {
         char name[32];
-        snprintf(name, sizeof name, "%s%d", i % 2 ? "publisher" : "subscriber", i / 2);
-        clients[i].pair = i / 2;
-        clients[i].socket = connect_client(i % 2 ? publishers_port : port, name);
-        snprintf(name, sizeof name, "pair/%d", i / 2);
-        if (i % 2 == 0)
+        int pair = i / (readers + 1), reader = i % (readers + 1), publishes = reader == readers;
+        snprintf(name, sizeof name, "%s%d", publishes ? "publisher" : "subscriber", publishes ? pair : pair * readers + reader);
+        clients[i].pair = pair;
+        clients[i].socket = connect_client(publishes ? publishers_port : port, name);
+        snprintf(name, sizeof name, "pair/%d", pair);
+        if (!publishes)
             subscribe(clients[i].socket, name, 1);
     }
 }
@@ -293,13 +301,13 @@ static void *run(void *number) {
     if (!counts.times)
         end("no memory");
     for (int i = first; i < pairs; i += threads)
-        for (int k = 2 * i; k < 2 * i + 2; k++) {
+        for (int k = i * (readers + 1); k < (i + 1) * (readers + 1); k++) {
             struct epoll_event asked = {.events = EPOLLIN, .data.ptr = &clients[k]};
             epoll_ctl(poll, EPOLL_CTL_ADD, clients[k].socket, &asked);
         }
     for (int a = 0; a < ahead; a++)
         for (int i = first; i < pairs; i += threads)
-            publish(&clients[2 * i + 1]);
+            publish(publisher_of(i));
     while (1) {
         int count = epoll_wait(poll, ready, EVENTS, 1000);
         if (count <= 0 && now() > stop)
@@ -359,7 +367,7 @@ static double percentile(const struct counts *all, double share) {
 
 static void read_words(int count, char **words) {
     int letter;
-    while ((letter = getopt(count, words, "p:i:f:n:a:q:b:s:t:u:w:m:v:P:")) != -1) {
+    while ((letter = getopt(count, words, "p:i:f:n:a:q:b:s:t:u:w:m:v:r:P:")) != -1) {
         switch (letter) {
         case 'p': port = atoi(optarg); break;
         case 'i': idle = atoi(optarg); break;
@@ -374,6 +382,7 @@ static void read_words(int count, char **words) {
         case 'w': password = optarg; break;
         case 'm': process = atoi(optarg); break;
         case 'v': level = atoi(optarg); break;
+        case 'r': readers = atoi(optarg); break;
         case 'P': publishers_port = atoi(optarg); break;
         default: end("the words are at the head of its source");
         }
@@ -381,14 +390,14 @@ static void read_words(int count, char **words) {
     if (publishers_port == 0)
         publishers_port = port;
     if (idle < 0 || filters < 0 || pairs < 0 || ahead < 1 || qos < 0 || qos > 2 || length < (int)sizeof(double) || length > MOST_BYTES
-        || level < 4 || level > 5 || threads < 1 || threads > MOST_THREADS || !user != !password || (user && strlen(user) + strlen(password) > 80))
+        || level < 4 || level > 5 || readers < 1 || readers > 100000 || threads < 1 || threads > MOST_THREADS || !user != !password || (user && strlen(user) + strlen(password) > 80))
         end("a word is out of its range");
 }
 
 int main(int count, char **words) {
     read_words(count, words);
     struct counts all = {.times = calloc(MOST_TIMES, sizeof *all.times)};
-    clients = calloc(2 * (size_t)pairs + 1, sizeof *clients);
+    clients = calloc((size_t)pairs * ((size_t)readers + 1) + 1, sizeof *clients);
     if (!clients || !all.times)
         end("no memory");
     connect_idle();

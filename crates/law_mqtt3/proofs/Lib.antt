@@ -8,3 +8,4 @@ pub mod Versions
 pub mod Pieces
 pub mod Asks
 pub mod Tells
+pub mod Fives

@@ -48,7 +48,7 @@ any_first ps qs e = or_first (list_any is_disconnect ps) (list_any is_disconnect
 any_second : (ps qs : List Packet) → list_any is_disconnect (ps ++ qs) ≡ false → list_any is_disconnect qs ≡ false
 any_second ps qs e = or_second (list_any is_disconnect ps) (list_any is_disconnect qs) (sym (list_any-append is_disconnect ps qs) ∙ e)
 
-and_both : (a b : Bool) → (a && b) ≡ true → (a ≡ true) × (b ≡ true)
+pub and_both : (a b : Bool) → (a && b) ≡ true → (a ≡ true) × (b ≡ true)
 and_both true b e = (refl, e)
 and_both false b e = absurd cc
 

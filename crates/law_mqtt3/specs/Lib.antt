@@ -3,3 +3,4 @@ pub mod Turns
 pub mod Pieces
 pub mod Asking
 pub mod Telling
+pub mod Fives

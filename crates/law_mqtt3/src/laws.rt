@@ -1,5 +1,6 @@
 //! The laws.
 ghost use Rattle.law_mqtt3.specs.Asking.{OthersAskForThemselves, SessionsAreAskedFor, SessionsAreBounded};
+ghost use Rattle.law_mqtt3.specs.Fives.{FivesGoThrough};
 ghost use Rattle.law_mqtt3.specs.Pieces.{AnyPieces};
 ghost use Rattle.law_mqtt3.specs.Telling.{ConnacksAreTrue, GrantsAreTrue, PubacksAreTrue, PubcompsAreTrue, PubrecsAreTrue, SentIsWritten};
 ghost use Rattle.law_mqtt3.specs.Turns.{HeldBackInOrder, RoomIsUsed};
@@ -37,4 +38,10 @@ pub fn acknowledgements_are_true()
     ensures pubrec { PubrecsAreTrue }
     ensures pubcomp { PubcompsAreTrue }
     ensures suback { GrantsAreTrue }
+{}
+
+/// Behind a handler that translates, a client of MQTT 5.0 goes through byte for byte: whatever calls are made, the handler inside is told each byte that came
+/// of it, in order, and no other, and what goes out is just what was given for it.
+pub fn fives_go_through()
+    ensures { FivesGoThrough }
 {}

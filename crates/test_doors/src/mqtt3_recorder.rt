@@ -5,11 +5,12 @@ ghost use Rattle.std.specs.Prelude.{◌≤◌, length};
 use broker_sockets::{BridgeHandler, Event, EventKind, Given, Handler, Output, PeerEvent};
 use std::alloc::Global;
 
-/// Keeps what it is told. It answers each packet as a node would that takes everything, and closes a connection on which DISCONNECT or 0 comes. A topic has
+/// Keeps what it is told, and what it gives. It answers each packet as a node would that takes everything, and closes a connection on which DISCONNECT or 0 comes. A topic has
 /// one byte there, a SUBSCRIBE one filter, and a packet less than 128 bytes. PUBLISH with identifier 255 is refused with reason code 0x97.
 pub struct Recorder {
     alloc: Global,
     pub told: Vec<u8>,
+    pub given: Vec<u8>,
     pub pieces: usize,
 }
 
@@ -18,6 +19,7 @@ impl Drop for Recorder {
         let Recorder {
             alloc: _,
             told: _told,
+            given: _given,
             pieces: _,
         } = self;
     }
@@ -44,6 +46,7 @@ impl Recorder {
         Recorder {
             alloc,
             told: Vec::new(alloc),
+            given: Vec::new(alloc),
             pieces: 0,
         }
     }
@@ -57,11 +60,24 @@ impl Recorder {
         for _ in 0..bytes.len() {
             let (packet, more) = rest.split_at(size_of(rest));
             if let Some(output) = self.answer_to(connection, packet)? {
+                self.keep(&output)?;
                 outputs.push(output).map_err(|_| Refused)?;
             }
             rest = more;
         }
         Ok(outputs)
+    }
+
+    /// Keeps the bytes that it gives.
+    fn keep(&mut self, output: &Output) -> Result<(), Refused> {
+        if let Output::Send {
+            connection: _,
+            bytes,
+        } = output
+        {
+            self.given.extend_from_slice(bytes).map_err(|_| Refused)?;
+        }
+        Ok(())
     }
 
     /// What answers one packet.

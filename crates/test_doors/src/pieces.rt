@@ -53,6 +53,35 @@ fn it_does_not_matter_in_what_pieces_a_client_sends(rt: HostRuntime) {
     always(&rt, alloc, &stream, TOLD, SENT);
 }
 
+/// What a client of MQTT 5.0 sends: CONNECT with a Session Expiry Interval, SUBSCRIBE to "a" with a subscription identifier, PUBLISH at QoS 1 with a content
+/// type, PUBLISH at QoS 2, PUBREL with a reason, PINGREQ, a byte that begins no packet, and DISCONNECT with a reason.
+const OF_FIVE: &[u8] =
+    b"\x10\x16\x00\x04MQTT\x05\x02\x00\x0a\x05\x11\x00\x00\x00\x3c\x00\x04five\x82\x09\x00\x01\x02\x0b\x07\x00\x01a\x2d\
+    \x32\x0b\x00\x01a\x00\x02\x04\x03\x00\x01tx\x34\x07\x00\x01a\x00\x03\x00y\x62\x03\x00\x03\x92\xc0\x00\x00\xe0\x01\x04";
+
+/// The bytes of a client of MQTT 5.0 come in pieces of this size: just these are told inside, and just what is given there is sent.
+fn goes_through(rt: &impl Abort, alloc: Global, stream: &[u8], size: usize)
+    requires { 0 < size }
+{
+    let mut node = opened(rt, alloc, true);
+    let mut sent = Vec::new(alloc);
+    for piece in stream.chunks(size) {
+        let answer = come(rt, alloc, &mut node, piece);
+        sent.extend_from_slice(&answer).expect(rt, "memory");
+    }
+    assert!(rt; node.inside().told.as_slice() == stream);
+    assert!(rt; !sent.is_empty() && node.inside().given.as_slice() == sent.as_slice());
+    drop(node);
+}
+
+#[test]
+fn a_client_of_5_0_goes_through_byte_for_byte(rt: HostRuntime) {
+    let alloc = rt.alloc();
+    for size in 0..OF_FIVE.len() {
+        goes_through(&rt, alloc, OF_FIVE, size + 1);
+    }
+}
+
 /// PUBLISH at QoS 2 on "a" with this identifier.
 fn put_publish(rt: &impl Abort, number: u8, stream: &mut Vec<u8>) {
     let publish = [0x34, 5, 0, 1, b'a', 0, number];
