@@ -6,8 +6,9 @@ use crate::status::NodeTeller;
 use broker_sockets::Sockets;
 use cli_stops::RunFault;
 use door_log::LossLog;
+use door_tables::Tables;
 use row_store::RowStore;
-use status_door::{OpenDesk, Watcher};
+use status_door::{Machine, OpenDesk, Watcher};
 use std::alloc::Global;
 use std::io::Write;
 
@@ -16,18 +17,18 @@ const LOSSES: usize = 6;
 
 /// A desk at which the status of a node is told, and a log of what it leaves out, if there are any.
 #[derive(Drop)]
-pub(crate) struct Watchers<S: Sockets, W> {
-    desk: Option<OpenDesk<S, NodeTeller>>,
+pub(crate) struct Watchers<S: Sockets, U, W> {
+    desk: Option<OpenDesk<S, NodeTeller, U>>,
     losses: Option<LossLog<W>>,
 }
 
-impl<S: Sockets + Drop, W: Drop> Watchers<S, W> {
+impl<S: Sockets + Drop, U: Drop, W: Drop> Watchers<S, U, W> {
     /// This desk, and a log that is written here.
     pub(crate) fn new(
         alloc: Global,
-        desk: Option<OpenDesk<S, NodeTeller>>,
+        desk: Option<OpenDesk<S, NodeTeller, U>>,
         error: Option<W>,
-    ) -> Result<Watchers<S, W>, RunFault> {
+    ) -> Result<Watchers<S, U, W>, RunFault> {
         let Some(error) = error else {
             return Ok(Watchers { desk, losses: None });
         };
@@ -41,8 +42,9 @@ impl<S: Sockets + Drop, W: Drop> Watchers<S, W> {
     }
 }
 
-impl<R: RowStore, F, G, E, S: Sockets, W: Write> Watcher<TalliedNode<R, F, G, E>>
-    for Watchers<S, W> {
+impl<R: RowStore, F: Tables, G, E, S: Sockets, U: Machine, W: Write> Watcher<
+    TalliedNode<R, F, G, E>,
+> for Watchers<S, U, W> {
     /// Attends to those who ask for the status, and tells of what is left out.
     fn watch(&mut self, handler: &TalliedNode<R, F, G, E>, at: u64) {
         if let Some(desk) = &mut self.desk {
