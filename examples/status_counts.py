@@ -26,6 +26,7 @@ def of_node(figures):
         "mqtt_retained_messages": figures["retained"],
         "mqtt_topics_held": figures["topics"],
         "mqtt_table_version": figures["table"],
+        "mqtt_table_file_refused": int(figures["table_refusal"] is not None),
         "mqtt_longest_turn_seconds": figures["longest_turn_milliseconds"] / 1000,
         "mqtt_connections_opened_total": total["opened"],
         "mqtt_bytes_received_total": total["bytes_received"],
@@ -37,6 +38,12 @@ def of_node(figures):
         "mqtt_cluster_bytes_sent_total": total["frame_bytes_sent"],
         "mqtt_cluster_caught_up": int(figures["caught_up"]),
     }
+
+
+def of_machine(figures):
+    """What the program takes of its machine, where the system tells it."""
+    names = ("memory_bytes", "most_memory_bytes", "database_bytes", "database_log_bytes")
+    return {f"mqtt_{name}": figures[name] for name in names if figures[name] is not None}
 
 
 def of_what_was_left_out(left_out):
@@ -66,11 +73,12 @@ def of_peer(peer):
         f"mqtt_cluster_peer_lacking_operations{label}": peer["lacking"],
         f"mqtt_cluster_peer_missing_operations{label}": peer["missing"],
         f"mqtt_cluster_peer_waiting_messages{label}": peer["waiting"],
+        f"mqtt_cluster_peer_lane_full{label}": int(peer["lane_full"]),
     }
 
 
 def wanted(figures):
-    found = {**of_node(figures), **of_what_was_left_out(figures["left_out"])}
+    found = {**of_node(figures), **of_machine(figures), **of_what_was_left_out(figures["left_out"])}
     found.update(of_codes("mqtt_connections_refused_total", figures["refused"]))
     found.update(of_codes("mqtt_connections_ended_total", figures["ended"]))
     for peer in figures["peers"]:

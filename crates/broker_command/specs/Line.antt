@@ -103,9 +103,11 @@ with_limits app =
 abbrev pub node_words : Text → App
 node_words name = with_rule (with_rule (with_rule (new_app name) (word_rule (codes "CONFIG"))) (word_rule (codes "NODE"))) (word_rule (codes "DATABASE"))
 
--- where a node tells its status, and where it waits for clients and for other nodes: `[--status ADDRESS] [--listen ADDRESS] [--bridge-listen ADDRESS]`
+-- where a node tells its status, by which hosts it may be asked, and where it waits for clients and for other nodes: `[--status ADDRESS] [--status-host NAMES]
+-- [--listen ADDRESS] [--bridge-listen ADDRESS]`
 abbrev pub with_addresses : App → App
-with_addresses app = with_rule (with_rule (with_rule app (address_rule (codes "status"))) (address_rule (codes "listen"))) (address_rule (codes "bridge-listen"))
+with_addresses app =
+    with_rule (with_rule (with_rule (with_rule app (address_rule (codes "status"))) (address_rule (codes "status-host"))) (address_rule (codes "listen"))) (address_rule (codes "bridge-listen"))
 
 -- the options of a node: `[--most-clients N] [--connect-within SECONDS] [--mqtt3] [--log]`, the addresses and the limits
 abbrev pub with_options : App → App
@@ -137,14 +139,14 @@ IsScript rows script = first_of (codes "SCRIPT") rows ≡ Some script.bytes.item
 abbrev pub IsPlay : List Row → Task → Type 0
 IsPlay rows (Play script) = IsScript rows script
 IsPlay rows (Loopback script) = ⊥
-IsPlay rows (Serve configuration node database turns most_clients connect_within limits mqtt3 log status listen bridge_listen) = ⊥
+IsPlay rows (Serve configuration node database turns most_clients connect_within limits mqtt3 log status status_hosts listen bridge_listen) = ⊥
 IsPlay rows (Check configuration node database) = ⊥
 
 -- a script to play over sockets
 abbrev pub IsLoopback : List Row → Task → Type 0
 IsLoopback rows (Play script) = ⊥
 IsLoopback rows (Loopback script) = IsScript rows script
-IsLoopback rows (Serve configuration node database turns most_clients connect_within limits mqtt3 log status listen bridge_listen) = ⊥
+IsLoopback rows (Serve configuration node database turns most_clients connect_within limits mqtt3 log status status_hosts listen bridge_listen) = ⊥
 IsLoopback rows (Check configuration node database) = ⊥
 
 -- the number that an option is given, in range, as its text spells it
@@ -186,11 +188,11 @@ pub record AreLimits (rows : List Row) (limits : AskedLimits) : Type 0 where
 abbrev pub IsNode : List Row → Option ℕ → Task → Type 0
 IsNode rows made (Play script) = ⊥
 IsNode rows made (Loopback script) = ⊥
-IsNode rows made (Serve configuration node database turns most_clients connect_within limits mqtt3 log status listen bridge_listen) =
+IsNode rows made (Serve configuration node database turns most_clients connect_within limits mqtt3 log status status_hosts listen bridge_listen) =
     (first_of (codes "CONFIG") rows ≡ Some configuration.bytes.items)
     × (first_of (codes "NODE") rows ≡ Some node.bytes.items)
     × (first_of (codes "DATABASE") rows ≡ Some database.bytes.items) × (turns ≡ made)
-    × IsNumberIf rows (codes "most-clients") most_clients × IsNumberIf rows (codes "connect-within") connect_within × IsFlag rows (codes "mqtt3") mqtt3 × IsFlag rows (codes "log") log × IsTextIf rows (codes "status") status
+    × IsNumberIf rows (codes "most-clients") most_clients × IsNumberIf rows (codes "connect-within") connect_within × IsFlag rows (codes "mqtt3") mqtt3 × IsFlag rows (codes "log") log × IsTextIf rows (codes "status") status × IsTextIf rows (codes "status-host") status_hosts
     × IsTextIf rows (codes "listen") listen × IsTextIf rows (codes "bridge-listen") bridge_listen
     × AreLimits rows limits
 IsNode rows made (Check configuration node database) = ⊥
@@ -207,7 +209,7 @@ IsRun rows task = IsNode rows None task
 abbrev pub IsCheck : List Row → Task → Type 0
 IsCheck rows (Play script) = ⊥
 IsCheck rows (Loopback script) = ⊥
-IsCheck rows (Serve configuration node database turns most_clients connect_within limits mqtt3 log status listen bridge_listen) = ⊥
+IsCheck rows (Serve configuration node database turns most_clients connect_within limits mqtt3 log status status_hosts listen bridge_listen) = ⊥
 IsCheck rows (Check configuration node database) =
     (first_of (codes "CONFIG") rows ≡ Some configuration.bytes.items)
     × (first_of (codes "NODE") rows ≡ Some node.bytes.items)
@@ -218,9 +220,9 @@ abbrev pub IsOf : Option (Text × List Row) → Task → Type 0
 IsOf None task = ⊥
 IsOf (Some (name, rows)) (Play script) = (name ≡ codes "play") × IsPlay rows (Play script)
 IsOf (Some (name, rows)) (Loopback script) = (name ≡ codes "loopback") × IsLoopback rows (Loopback script)
-IsOf (Some (name, rows)) (Serve configuration node database turns most_clients connect_within limits mqtt3 log status listen bridge_listen) =
-    ((name ≡ codes "serve") × IsServe rows (Serve configuration node database turns most_clients connect_within limits mqtt3 log status listen bridge_listen))
-    ⊎ ((name ≡ codes "run") × IsRun rows (Serve configuration node database turns most_clients connect_within limits mqtt3 log status listen bridge_listen))
+IsOf (Some (name, rows)) (Serve configuration node database turns most_clients connect_within limits mqtt3 log status status_hosts listen bridge_listen) =
+    ((name ≡ codes "serve") × IsServe rows (Serve configuration node database turns most_clients connect_within limits mqtt3 log status status_hosts listen bridge_listen))
+    ⊎ ((name ≡ codes "run") × IsRun rows (Serve configuration node database turns most_clients connect_within limits mqtt3 log status status_hosts listen bridge_listen))
 IsOf (Some (name, rows)) (Check configuration node database) =
     (name ≡ codes "check") × IsCheck rows (Check configuration node database)
 

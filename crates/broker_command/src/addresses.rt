@@ -9,14 +9,14 @@ use crate::line::optional;
 use clap::{Arg, Command};
 use std::alloc::{AllocError, Global};
 
-/// An option of this name that may be there, with an address.
-fn address_option<'a>(alloc: Global, name: &'a str, help: &'a str) -> Arg<'a>
+/// An option of this name that may be there, with a text of this kind.
+fn address_option<'a>(alloc: Global, name: &'a str, value: &'a str, help: &'a str) -> Arg<'a>
     ensures rule { rule_of result ≡ address_rule name.entry.now }
     ensures local { result.global ≡ false }
 {
     optional(alloc, name)
         .long(name)
-        .value_name("ADDRESS")
+        .value_name(value)
         .help(help)
 }
 
@@ -29,10 +29,12 @@ pub(crate) fn with_addresses<'a>(
         × ((fields_of command.entry).has_globals ≡ false → (fields_of c).has_globals ≡ false)) }
 {
     let status = "Tells over HTTP at an IP address with a port how the node is";
+    let hosts = "Tells it by these names of hosts too, with commas between them";
     let clients = "Waits there for clients, at an IP address with a port";
     let bridge = "Waits there for other nodes, at an IP address with a port";
     command
-        .arg(address_option(alloc, "status", status))?
-        .arg(address_option(alloc, "listen", clients))?
-        .arg(address_option(alloc, "bridge-listen", bridge))
+        .arg(address_option(alloc, "status", "ADDRESS", status))?
+        .arg(address_option(alloc, "status-host", "NAMES", hosts))?
+        .arg(address_option(alloc, "listen", "ADDRESS", clients))?
+        .arg(address_option(alloc, "bridge-listen", "ADDRESS", bridge))
 }

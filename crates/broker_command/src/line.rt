@@ -318,6 +318,7 @@ fn node_task(
         mqtt3: found.get_flag("mqtt3"),
         log: found.get_flag("log"),
         status: text_of(alloc, found, "status")?,
+        status_hosts: text_of(alloc, found, "status-host")?,
         listen: text_of(alloc, found, "listen")?,
         bridge_listen: text_of(alloc, found, "bridge-listen")?,
     }))

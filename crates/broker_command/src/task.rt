@@ -54,6 +54,8 @@ pub enum Task {
         log: bool,
         /// Where its status is told, if anywhere.
         status: Option<String>,
+        /// By which hosts its status may be asked for beside an IP address, `localhost` and its name, with commas between them, if by any.
+        status_hosts: Option<String>,
         /// Where it waits for clients, if not at the address that the configuration tells.
         listen: Option<String>,
         /// Where it waits for other nodes, if not at the address of its bridge.

@@ -10,7 +10,7 @@ use door_limits::Limits;
 use node_server::ListenAt;
 use script_loopback::loop_script;
 use script_runs::run_script;
-use serve_node::serve;
+use serve_node::{StatusAt, serve};
 
 /// Runs a task.
 pub fn run_task(rt: &HostRuntime, task: Task) -> Result<(), Ending> {
@@ -28,6 +28,7 @@ pub fn run_task(rt: &HostRuntime, task: Task) -> Result<(), Ending> {
             mqtt3,
             log,
             status,
+            status_hosts,
             listen,
             bridge_listen,
         } => serve(
@@ -43,7 +44,7 @@ pub fn run_task(rt: &HostRuntime, task: Task) -> Result<(), Ending> {
             Limits::new(most_clients, connect_within),
             mqtt3,
             log,
-            status.as_ref().map(|address| address.as_str()),
+            status_at(&status, &status_hosts),
             turns,
         ),
         Task::Check {
@@ -58,6 +59,16 @@ pub fn run_task(rt: &HostRuntime, task: Task) -> Result<(), Ending> {
             &mut rt.stdout(),
         ),
     }
+}
+
+/// Where the status is told, and by which hosts beside the usual ones, if it is told.
+fn status_at<'a>(address: &'a Option<String>, hosts: &'a Option<String>) -> Option<StatusAt<'a>> {
+    let address = address.as_ref()?.as_str();
+    let hosts = match hosts {
+        Some(hosts) => hosts.as_str(),
+        None => "",
+    };
+    Some(StatusAt { address, hosts })
 }
 
 /// Runs the script in a file, in memory.

@@ -1,10 +1,11 @@
 -- What the figures of a node say of its cluster is so.
 use Rattle.std.proofs.Common.{◌≡◌, ◌∙◌, ℕ, ◌<◌, ◌==◌, ◌&&◌, Bool, true, false, cond, List, length, map, Option, Some, None, get_or, eqb, refl, sym, ap, subst, arith}
-use Rattle.std.specs.Prelude.{Contains}
+use Rattle.std.specs.Prelude.{Contains, is_none, not}
 use Rattle.std.specs.List.{list_all}
 use Rattle.std.specs.Cmp.{both_ways}
 use Rattle.std.specs.FinSet as set
 use Rattle.std.proofs.lemmas.Bool.{eqb-true}
+use Rattle.std.proofs.lemmas.Bool.Decides.{nat_tests}
 use Rattle.std.proofs.lemmas.List.{get_or-map, length-map}
 use Rattle.std.proofs.lemmas.List.Folds.{list_all_at}
 use Rattle.causal_context.specs.Dots.{Dot, Dots, dot_cmp}
@@ -17,10 +18,10 @@ use Rattle.cluster_play.proofs.Agreeing.{nodes_alike}
 use Rattle.cluster_play.proofs.Believing.{lacks_nothing_there}
 use Rattle.node_figures.specs.Counts.{lacking}
 use Rattle.node_figures.proofs.Counting.{none_lacks}
-use Rattle.node_bridge.specs.View.{BridgeView, belief_of, has_lanes, known_of}
-use Rattle.node_figures.specs.Peers.{Seen, lacking_by, missing_by, others, peer_at, seen}
+use Rattle.node_bridge.specs.View.{BridgeView, belief_of, has_lanes, known_of, lane_to}
+use Rattle.node_figures.specs.Peers.{Seen, lacking_by, missing_by, others, peer_at, seen, waiting_of}
 use Rattle.node_work.specs.View.{HeldView}
-use Rattle.status_figures.specs.Figures.{agrees, is_caught_up, is_equal}
+use Rattle.status_figures.specs.Figures.{agrees, all_agree, has_room, is_caught_up, is_equal, is_short}
 use Rattle.status_figures.specs.declared.figures.Figures.{Figures}
 use Rattle.status_figures.specs.declared.peer.Peer.{Peer}
 use Rattle.law_status.specs.Agreeing.{BothEqualAgree, CaughtUpIsSo, EqualHasNoMore, EqualIsSo, HasAllOf, HasWhatItKnows, Shows}
@@ -68,6 +69,7 @@ misses_none peer e =
 pub record IsShown (w : World) (i : ℕ) (figures : Figures) (shows : Shows w i figures) (peer : Peer) : Type 0 where
   pub lacks : peer.lacking ≡ lacking_by shows.held.store.taken (known_of shows.held.bridge peer.number)
   pub misses : peer.missing ≡ missing_by shows.held.store.taken (known_of shows.held.bridge peer.number)
+  pub waits : peer.waiting ≡ waiting_of shows.held peer.number
 
 shown : (w : World) (i : ℕ) (figures : Figures) (shows : Shows w i figures) (peer : Peer) → Contains figures.peers.items peer → IsShown w i figures shows peer
 shown w i figures shows peer among =
@@ -85,6 +87,7 @@ shown w i figures shows peer among =
     record {
       lacks = ap (λ (s : Seen). s.lacking) is ∙ ap (λ n. lacking_by shows.held.store.taken (known_of shows.held.bridge n)) number;
       misses = ap (λ (s : Seen). s.missing) is ∙ ap (λ n. missing_by shows.held.store.taken (known_of shows.held.bridge n)) number;
+      waits = ap (λ (s : Seen). s.waiting) is ∙ ap (λ n. waiting_of shows.held n) number;
     }
 
 pub equal_has_all : EqualIsSo
@@ -107,15 +110,26 @@ all_pass false peers peer is all among =
     let not_all = list_all_at agrees peers among.0 peer among.1 (ap agrees among.2 ∙ is) in
     cc
 
+peers_agree : (figures : Figures) → is_caught_up figures ≡ true → list_all agrees figures.peers.items ≡ true
+peers_agree figures all =
+    let rest = both_right (is_none figures.refusal) (not (is_short figures.usage) && all_agree figures) all in
+    both_right (not (is_short figures.usage)) (all_agree figures) rest
+
+-- a peer that has room is shown with fewer messages than may wait
+room_left : (peer : Peer) (n : ℕ) → peer.waiting ≡ n → has_room peer ≡ true → n < 65536
+room_left peer n is room = subst (λ k. k < 65536) is (grind (arith, nat_tests))
+
 pub caught_up_has_all : CaughtUpIsSo
 caught_up_has_all run w r i figures shows all peer among =
-    let agrees_so = all_pass (agrees peer) figures.peers.items peer refl all among in
-    let equal = both_right peer.linked (is_equal peer) agrees_so in
+    let agrees_so = all_pass (agrees peer) figures.peers.items peer refl (peers_agree figures all) among in
+    let well = both_right peer.linked (is_equal peer && has_room peer) agrees_so in
+    let equal = both_left (is_equal peer) (has_room peer) well in
     record {
-      linked = both_left peer.linked (is_equal peer) agrees_so;
+      linked = both_left peer.linked (is_equal peer && has_room peer) agrees_so;
       heard = both_left peer.heard (peer.lacking == 0 && peer.missing == 0) equal;
       all = equal_has_all run w r i figures shows peer among equal;
       no_more = equal_has_no_more w i figures shows peer among equal;
+      room = room_left peer (length (lane_to shows.held.bridge peer.number).waiting) (shown w i figures shows peer among).waits (both_right (is_equal peer) (has_room peer) well);
     }
 
 pub both_agree : BothEqualAgree

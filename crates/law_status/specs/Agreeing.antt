@@ -1,12 +1,12 @@
 -- What the figures of a node say of its cluster, in every run.
-use Rattle.std.specs.Prelude.{◌≡◌, ℕ, List, Contains, Some, true}
+use Rattle.std.specs.Prelude.{◌≡◌, ◌<◌, ℕ, List, length, Contains, Some, true}
 use Rattle.causal_context.specs.Dots.{Dot, Dots}
 use Rattle.causal_context.specs.SetLattice.{IsSubset}
 use Rattle.cluster_play.specs.Agreement.{AreAlike, Holds}
 use Rattle.cluster_play.specs.Histories.{Reached, taken}
 use Rattle.cluster_play.specs.Runs.{Played}
 use Rattle.cluster_play.specs.Worlds.{World}
-use Rattle.node_bridge.specs.View.{known_of}
+use Rattle.node_bridge.specs.View.{known_of, lane_to}
 use Rattle.node_figures.specs.Figures.{AreFigures}
 use Rattle.node_work.specs.View.{HeldView}
 use Rattle.status_figures.specs.Figures.{is_caught_up, is_equal}
@@ -44,12 +44,18 @@ EqualHasNoMore =
     (w : World) (i : ℕ) (figures : Figures) (shows : Shows w i figures) (peer : Peer) → Contains figures.peers.items peer → is_equal peer ≡ true
     → HasWhatItKnows shows.held peer.number
 
--- where the node is shown as caught up each peer is linked, has told what it has, and has all that the node has taken, and the node all that it knows of it
+-- one more message for a peer can wait in its lane
+abbrev pub HasRoom : HeldView → ℕ → Type 0
+HasRoom held peer = length (lane_to held.bridge peer).waiting < 65536
+
+-- where the node is shown as caught up each peer is linked, has told what it has, has all that the node has taken, and the node all that it knows of it, and
+-- has room
 pub record IsCaughtUp (run : List Played) (w : World) (i : ℕ) (figures : Figures) (shows : Shows w i figures) (peer : Peer) : Type 0 where
   pub linked : peer.linked ≡ true
   pub heard : peer.heard ≡ true
   pub all : HasAllOf run peer.number i
   pub no_more : HasWhatItKnows shows.held peer.number
+  pub room : HasRoom shows.held peer.number
 
 abbrev pub CaughtUpIsSo : Type 0
 CaughtUpIsSo =

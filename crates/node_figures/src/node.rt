@@ -1,6 +1,6 @@
 //! What is told of a node.
 
-ghost use Rattle.std.specs.Prelude.{◌≡◌, Some, IfOk};
+ghost use Rattle.std.specs.Prelude.{◌≡◌, Some, IfOk, option_map, string_bytes};
 ghost use Rattle.node_figures.specs.Figures.{AreFigures, left_out};
 ghost use Rattle.node_work.specs.View.{HeldView};
 
@@ -8,7 +8,7 @@ use crate::peers::peers_of;
 use broker_node::Node;
 use mqtt_fields::NoMemory;
 use node_work::Counts;
-use status_figures::{Figures, LeftOut};
+use status_figures::{Figures, LeftOut, Usage};
 use status_tally::Tally;
 use std::alloc::Global;
 
@@ -26,19 +26,33 @@ fn left_out(counts: &Counts) -> LeftOut
     }
 }
 
+/// A copy of a text, if there is one.
+fn copy_of(alloc: Global, text: Option<&str>) -> Result<Option<String>, NoMemory>
+    ensures { IfOk result (λ copy. option_map string_bytes copy ≡ option_map (λ t. t.now) text) }
+{
+    match text {
+        Some(text) => Ok(Some(String::from_str(alloc, text)?)),
+        None => Ok(None),
+    }
+}
+
 /// The figures of a node of this name that runs since a moment, at another moment, both in milliseconds, with what a door before it has
-/// counted. Nothing is said of them once the node has stopped.
+/// counted, and why what is found in the file of its table of homes isn't taken, where it isn't. Nothing else is said of them once the node has
+/// stopped. They don't tell what the program takes of its machine.
 pub fn figures_of(
     alloc: Global,
     name: &str,
     since: u64,
     node: &Node,
     tally: &Tally,
+    refusal: Option<&str>,
     at: u64,
 ) -> Result<Figures, NoMemory>
-    ensures { IfOk result (λ figures. (h : HeldView) → node.now.up ≡ Some h → AreFigures name.now since at node.now h tally.now figures) }
+    ensures refusal { IfOk result (λ figures. option_map string_bytes figures.refusal ≡ option_map (λ r. r.now) refusal) }
+    ensures figures { IfOk result (λ figures. (h : HeldView) → node.now.up ≡ Some h → AreFigures name.now since at node.now h tally.now figures) }
 {
     let name = String::from_str(alloc, name)?;
+    let refusal = copy_of(alloc, refusal)?;
     let peers = peers_of(alloc, node, tally, since, at)?;
     let refused = tally.refused(alloc)?;
     let ended = tally.ended(alloc)?;
@@ -47,6 +61,7 @@ pub fn figures_of(
         name,
         number: node.id(),
         table: node.homes().version(),
+        refusal,
         uptime: at.saturating_sub(since),
         clients: tally.clients(),
         sessions: node.sessions() as u64,
@@ -54,6 +69,7 @@ pub fn figures_of(
         retained: store.retained().messages() as u64,
         topics: store.retained().len() as u64,
         longest_turn: tally.longest_turn(at),
+        usage: Usage::unknown(),
         refused,
         ended,
         left_out: left_out(&node.counts()),

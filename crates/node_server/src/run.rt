@@ -26,7 +26,7 @@ use home_table::HomeTable;
 use mqtt_fields::NoMemory;
 use node_keeper::Keeper;
 use row_store::RowStore;
-use status_door::OpenDesk;
+use status_door::{Machine, OpenDesk};
 use status_tally::{Tallied, Tally};
 use std::alloc::Global;
 use std::io::Write;
@@ -117,11 +117,11 @@ fn tell_losses<R: RowStore, F, G, C: Clock, E: Write>(
 }
 
 /// A desk at which the status is told, where there is a place for it.
-fn desk_at<C: Clock, Z: Sockets + Drop>(
+fn desk_at<C: Clock, Z: Sockets + Drop, U: Drop>(
     alloc: Global,
-    status: Option<StatusPlace<'_, Z>>,
+    status: Option<StatusPlace<'_, Z, U>>,
     clock: &mut C,
-) -> Result<Option<OpenDesk<Z, NodeTeller>>, RunFault> {
+) -> Result<Option<OpenDesk<Z, NodeTeller, U>>, RunFault> {
     match status {
         Some(status) => {
             let since = clock.now();
@@ -155,6 +155,7 @@ fn run_node<
     G: Gauge + Drop,
     E: Write + Drop,
     Z: Sockets + Drop,
+    U: Machine + Drop,
 >(
     alloc: Global,
     sockets: &mut S,
@@ -167,7 +168,7 @@ fn run_node<
     mqtt3: bool,
     error: Option<E>,
     losses: Option<E>,
-    desk: Option<OpenDesk<Z, NodeTeller>>,
+    desk: Option<OpenDesk<Z, NodeTeller, U>>,
     turns: u64,
 ) -> Result<(), RunFault>
     requires { length setting.peers.items ≤ 64 }
@@ -210,6 +211,7 @@ pub fn serve<
     G: Gauge + Drop,
     E: Write + Drop,
     Z: Sockets + Drop,
+    U: Machine + Drop,
     W: Write,
 >(
     alloc: Global,
@@ -224,7 +226,7 @@ pub fn serve<
     mqtt3: bool,
     error: Option<E>,
     losses: Option<E>,
-    status: Option<StatusPlace<'_, Z>>,
+    status: Option<StatusPlace<'_, Z, U>>,
     turns: u64,
     out: &mut W,
 ) -> Result<(), RunFault>

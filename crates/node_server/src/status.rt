@@ -5,23 +5,27 @@ ghost use Rattle.std.specs.Prelude.{◌≡◌, IfOk, string_bytes};
 use crate::stack::TalliedNode;
 use broker_sockets::{Sockets, bind};
 use cli_stops::RunFault;
+use door_tables::Tables;
 use node_figures::figures_of;
 use row_store::RowStore;
-use status_door::{OpenDesk, Teller};
+use status_door::{Machine, OpenDesk, Teller};
 use status_figures::Figures;
 use status_sockets::Desk;
 use std::alloc::{AllocError, Global};
 use std::hash::RandomState;
 
-/// Where the status of a node is told: at an address, over sockets of its own. The keys are secret, since those who ask choose the names of
-/// headers.
+/// Where the status of a node is told: at an address, over sockets of its own, with what the program takes of its machine. The keys are secret, since those
+/// who ask choose the names of headers.
 #[derive(Drop)]
-pub struct StatusPlace<'a, Z> {
+pub struct StatusPlace<'a, Z, U> {
     pub sockets: Z,
+    pub machine: U,
     pub keys: RandomState,
     /// The node's name, as it is told.
     pub name: &'a str,
     pub address: &'a str,
+    /// Hosts that it may be asked by, beside an IP address, `localhost` and its name, with commas between them.
+    pub hosts: &'a str,
 }
 
 /// Tells the figures of a node of this name, which runs since a moment in milliseconds, behind its doors.
@@ -42,7 +46,15 @@ impl NodeTeller {
     }
 }
 
-impl<R: RowStore, F, G, E> Teller<TalliedNode<R, F, G, E>> for NodeTeller {
+/// Why what is found where tables of homes come from isn't taken, where it isn't.
+fn refusal_of<F: Tables>(tables: Option<&F>) -> Option<&str> {
+    match tables {
+        Some(tables) => tables.refusal(),
+        None => None,
+    }
+}
+
+impl<R: RowStore, F: Tables, G, E> Teller<TalliedNode<R, F, G, E>> for NodeTeller {
     ghost use Rattle.node_server.specs.Status.{IsTold};
 
     ghost tells = { IsTold };
@@ -57,8 +69,18 @@ impl<R: RowStore, F, G, E> Teller<TalliedNode<R, F, G, E>> for NodeTeller {
         let Some(tally) = handler.tally() else {
             return Ok(None);
         };
-        let node = handler.inside().inside().inside().inside().inside().node();
-        match figures_of(alloc, self.name.as_str(), self.since, node, tally, at) {
+        let tabled = handler.inside().inside().inside().inside();
+        let refusal = refusal_of(tabled.tables());
+        let node = tabled.inside().node();
+        match figures_of(
+            alloc,
+            self.name.as_str(),
+            self.since,
+            node,
+            tally,
+            refusal,
+            at,
+        ) {
             Ok(figures) => Ok(Some(figures)),
             Err(_) => Err(AllocError),
         }
@@ -67,28 +89,27 @@ impl<R: RowStore, F, G, E> Teller<TalliedNode<R, F, G, E>> for NodeTeller {
 
 /// Waits at an address for those who ask, and opens a desk for them that tells of a node since this moment. `Socket`: it isn't an IP address with
 /// a port, or can't be waited at.
-pub(crate) fn open_desk<Z: Sockets>(
+pub(crate) fn open_desk<Z: Sockets + Drop, U: Drop>(
     alloc: Global,
-    status: StatusPlace<'_, Z>,
+    status: StatusPlace<'_, Z, U>,
     since: u64,
-) -> Result<OpenDesk<Z, NodeTeller>, RunFault>
-where
-    Z: Drop,
-{
+) -> Result<OpenDesk<Z, NodeTeller, U>, RunFault> {
     let StatusPlace {
         mut sockets,
+        machine,
         keys,
         name,
         address,
+        hosts,
     } = status;
     let Some(listener) = bind(&mut sockets, address) else {
         return Err(RunFault::Socket);
     };
-    let Ok(desk) = Desk::new(alloc, keys, listener) else {
+    let Ok(desk) = Desk::new(alloc, keys, listener, hosts) else {
         return Err(RunFault::NoMemory);
     };
     match NodeTeller::new(alloc, name, since) {
-        Ok(teller) => Ok(OpenDesk::new(alloc, sockets, desk, teller)),
+        Ok(teller) => Ok(OpenDesk::new(alloc, sockets, desk, teller, machine)),
         Err(_) => Err(RunFault::NoMemory),
     }
 }

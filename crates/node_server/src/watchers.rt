@@ -10,7 +10,7 @@ use door_bounds::Gauge;
 use door_log::LossLog;
 use door_tables::Tables;
 use row_store::RowStore;
-use status_door::{OpenDesk, Watcher};
+use status_door::{Machine, OpenDesk, Watcher};
 use std::alloc::Global;
 use std::io::Write;
 
@@ -19,18 +19,18 @@ const LOSSES: usize = 6;
 
 /// A desk at which the status of a node is told, and a log of what it leaves out, if there are any.
 #[derive(Drop)]
-pub(crate) struct Watchers<S: Sockets, W> {
-    desk: Option<OpenDesk<S, NodeTeller>>,
+pub(crate) struct Watchers<S: Sockets, U, W> {
+    desk: Option<OpenDesk<S, NodeTeller, U>>,
     losses: Option<LossLog<W>>,
 }
 
-impl<S: Sockets + Drop, W: Drop> Watchers<S, W> {
+impl<S: Sockets + Drop, U: Drop, W: Drop> Watchers<S, U, W> {
     /// This desk, and a log that is written here.
     pub(crate) fn new(
         alloc: Global,
-        desk: Option<OpenDesk<S, NodeTeller>>,
+        desk: Option<OpenDesk<S, NodeTeller, U>>,
         error: Option<W>,
-    ) -> Result<Watchers<S, W>, RunFault> {
+    ) -> Result<Watchers<S, U, W>, RunFault> {
         let Some(error) = error else {
             return Ok(Watchers { desk, losses: None });
         };
@@ -44,9 +44,15 @@ impl<S: Sockets + Drop, W: Drop> Watchers<S, W> {
     }
 }
 
-impl<R: RowStore, F: Tables, G: Gauge, E: Write, S: Sockets, W: Write> Viewer<
-    TalliedNode<R, F, G, E>,
-> for Watchers<S, W> {
+impl<
+    R: RowStore,
+    F: Tables,
+    G: Gauge,
+    E: Write,
+    S: Sockets,
+    U: Machine,
+    W: Write,
+> Viewer<TalliedNode<R, F, G, E>> for Watchers<S, U, W> {
     ghost use Rattle.node_server.specs.Status.{HasWritten};
 
     ghost may_see = { HasWritten };

@@ -3,9 +3,10 @@
 
 mod causes;
 mod gauge;
+mod machine;
 mod refusal;
 mod run;
 mod source;
 mod telling;
 
-pub use run::serve;
+pub use run::{StatusAt, serve};

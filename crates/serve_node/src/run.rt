@@ -4,24 +4,32 @@ ghost use Rattle.std.specs.Prelude.{◌<◌, length};
 
 use crate::causes::{cause_of, unopened};
 use crate::gauge::TellingGauge;
+use crate::machine::{RealMachine, memory_of};
 use crate::source::ConfigurationFile;
 use crate::telling::TellingSockets;
 use broker_sockets::{PolledSockets, RealClocks, RealSockets, SteadyClock};
 use cli_files::{TableFile, configuration_bytes, configuration_of, unread};
 use cli_stops::{Ending, RunFault, Stop};
-use door_bounds::{BoundLimits, PLACE, ProcessMemory};
+use door_bounds::{BoundLimits, ProcessMemory};
 use door_limits::Limits;
 use door_tables::Tables;
 use home_table::HomeTable;
 use node_server::{ListenAt, StatusPlace};
 use row_database::{Wary, open_rows};
 use row_store::RowStore;
-use std::fs::{self, File};
+use std::fs::File;
 use std::hash::RandomState;
 use std::io::Stderr;
 
 /// As many turns as no node makes: at a million a second they take 146,000 years.
 const ENDLESS: u64 = (1 << 62) - 1;
+
+/// Where a node's status is told, and by which hosts it may be asked beside an IP address, `localhost` and its name, with commas between them.
+#[derive(Clone, Copy, Debug)]
+pub struct StatusAt<'a> {
+    pub address: &'a str,
+    pub hosts: &'a str,
+}
 
 /// Runs the named node of a configuration, with its rows in the database at a path, waiting at its addresses or at those that are given, within limits on what clients
 /// send and on these, with a log on standard error or without, with its status told at an address or nowhere, for so many turns. Where no number is given it runs until
@@ -36,7 +44,7 @@ pub fn serve(
     limits: Limits,
     mqtt3: bool,
     log: bool,
-    status: Option<&str>,
+    status: Option<StatusAt<'_>>,
     turns: Option<u32>,
 ) -> Result<(), Ending> {
     let bytes = match configuration_bytes(rt, configuration) {
@@ -96,21 +104,21 @@ fn serve_place<R: RowStore + Drop, F: Tables + Drop>(
     limits: Limits,
     mqtt3: bool,
     log: bool,
-    status: Option<&str>,
+    status: Option<StatusAt<'_>>,
     turns: u64,
 ) -> Result<(), Ending>
     requires { place.1 < length place.0.nodes }
 {
     let (homes, id) = place;
-    let (name, database) = names;
+    let (_, database) = names;
     let Ok(told) = homes.copy() else {
         return Err(Ending::from(Stop::Run(RunFault::NoMemory)));
     };
-    let status = status.map(|address| (name, address));
     match serve_rows(
         rt,
         rows,
         (told, id),
+        names,
         at,
         tables,
         bounds,
@@ -122,29 +130,40 @@ fn serve_place<R: RowStore + Drop, F: Tables + Drop>(
     ) {
         Ok(()) => Ok(()),
         Err(stop) => {
-            let address = status.map(|(_, address)| address);
+            let address = status.map(|status| status.address);
             let cause = cause_of(rt, &stop, &homes, id, &at, database, address);
             Err(Ending { stop, cause })
         }
     }
 }
 
-/// The place of a node's status, by the node's name and the address.
+/// The place of a node's status, over sockets of the system.
+type RealPlace<'a> = StatusPlace<'a, RealSockets<'a, HostRuntime>, RealMachine<'a>>;
+
+/// The place of the status of a node by its name, which has a database at a path and may hold so much memory, if it is told anywhere.
 fn place_of<'a>(
     rt: &'a HostRuntime,
-    status: Option<(&'a str, &'a str)>,
-) -> Result<Option<StatusPlace<'a, RealSockets<'a, HostRuntime>>>, Stop> {
-    let Some((name, address)) = status else {
+    names: (&'a str, &'a str),
+    most_memory: Option<u64>,
+    status: Option<StatusAt<'a>>,
+) -> Result<Option<RealPlace<'a>>, Stop> {
+    let Some(StatusAt { address, hosts }) = status else {
         return Ok(None);
     };
+    let (name, database) = names;
     let Ok(keys) = RandomState::new(rt) else {
         return Err(Stop::Run(RunFault::Socket));
     };
+    let Ok(machine) = RealMachine::new(rt, database, most_memory) else {
+        return Err(Stop::Run(RunFault::NoMemory));
+    };
     Ok(Some(StatusPlace {
         sockets: RealSockets::new(rt),
+        machine,
         keys,
         name,
         address,
+        hosts,
     }))
 }
 
@@ -153,24 +172,22 @@ fn gauge_of(rt: &HostRuntime, bounds: &BoundLimits) -> Option<ProcessMemory<File
     if bounds.most_memory.is_none() {
         return None;
     }
-    match fs::open(rt, PLACE) {
-        Ok(file) => Some(ProcessMemory::new(file)),
-        Err(_) => None,
-    }
+    memory_of(rt)
 }
 
-/// Runs a node with these rows, and with its status under its name at an address, if at any.
+/// Runs a node of this name with these rows, which are in the database at a path, and with its status at an address, if at any.
 fn serve_rows<R: RowStore + Drop, F: Tables + Drop>(
     rt: &HostRuntime,
     rows: R,
     place: (HomeTable, u16),
+    names: (&str, &str),
     at: ListenAt<'_>,
     tables: Option<F>,
     bounds: BoundLimits,
     limits: Limits,
     mqtt3: bool,
     log: bool,
-    status: Option<(&str, &str)>,
+    status: Option<StatusAt<'_>>,
     turns: u64,
 ) -> Result<(), Stop>
     requires { place.1 < length place.0.nodes }
@@ -180,7 +197,7 @@ fn serve_rows<R: RowStore + Drop, F: Tables + Drop>(
     };
     let mut sockets = TellingSockets::new(polled, rt.stderr());
     let mut clock = SteadyClock::new(RealClocks::new(rt));
-    let status = place_of(rt, status)?;
+    let status = place_of(rt, names, bounds.most_memory, status)?;
     let error = if log { Some(rt.stderr()) } else { None };
     let gauge = TellingGauge::new(gauge_of(rt, &bounds), rt.stderr());
     let losses = if log { Some(rt.stderr()) } else { None };

@@ -1,8 +1,10 @@
 //! A desk at which a handler's figures are told.
 
 ghost use Rattle.std.specs.Prelude.{◌≡◌, ◌<◌, IfSome};
+ghost use Rattle.status_door.specs.Shown.{IsShown};
 
 use crate::door::Watcher;
+use crate::machine::Machine;
 use crate::teller::Teller;
 use broker_sockets::Sockets;
 use status_figures::Figures;
@@ -12,24 +14,26 @@ use std::alloc::Global;
 /// In milliseconds, how long nobody looks to the desk again.
 const PAUSE: u64 = 20;
 
-/// A desk, over sockets of its own, and who knows the figures that are told there.
+/// A desk, over sockets of its own, who knows the figures that are told there, and what tells what the program takes of its machine.
 #[derive(Drop)]
-pub struct OpenDesk<S: Sockets, T> {
+pub struct OpenDesk<S: Sockets, T, U> {
     alloc: Global,
     sockets: S,
     desk: Desk<S::Listener, S::Stream>,
     teller: T,
+    machine: U,
     looked: u64,
 }
 
-impl<S: Sockets, T> OpenDesk<S, T> {
+impl<S: Sockets, T, U> OpenDesk<S, T, U> {
     /// A desk to which nobody has looked yet.
     pub fn new(
         alloc: Global,
         sockets: S,
         desk: Desk<S::Listener, S::Stream>,
         teller: T,
-    ) -> OpenDesk<S, T>
+        machine: U,
+    ) -> OpenDesk<S, T, U>
         ensures { result.teller ≡ teller }
     {
         OpenDesk {
@@ -37,6 +41,7 @@ impl<S: Sockets, T> OpenDesk<S, T> {
             sockets,
             desk,
             teller,
+            machine,
             looked: 0,
         }
     }
@@ -57,7 +62,22 @@ fn figures_of<H, T: Teller<H>>(alloc: Global, teller: &T, handler: &H, at: u64) 
     }
 }
 
-impl<H, S: Sockets, T: Teller<H>> Watcher<H> for OpenDesk<S, T> {
+/// These figures, with what the program takes of its machine now.
+fn shown<H, T: Teller<H>, U: Machine>(
+    alloc: Global,
+    teller: &T,
+    machine: &mut U,
+    handler: &H,
+    at: u64,
+) -> Option<Figures>
+    ensures { IfSome result (IsShown (T.tells teller.now handler.now at)) }
+{
+    let mut figures = figures_of(alloc, teller, handler, at)?;
+    figures.usage = machine.usage();
+    Some(figures)
+}
+
+impl<H, S: Sockets, T: Teller<H>, U: Machine> Watcher<H> for OpenDesk<S, T, U> {
     /// Attends to those who ask, with the handler's figures; not again within twenty milliseconds. No figures are made while nobody is there.
     fn watch(&mut self, handler: &H, at: u64) {
         if !self.is_due(at) {
@@ -68,7 +88,7 @@ impl<H, S: Sockets, T: Teller<H>> Watcher<H> for OpenDesk<S, T> {
         if self.desk.visitors() == 0 {
             return;
         }
-        if let Some(figures) = figures_of(self.alloc, &self.teller, handler, at) {
+        if let Some(figures) = shown(self.alloc, &self.teller, &mut self.machine, handler, at) {
             self.desk.attend(&mut self.sockets, &figures, at);
         }
     }

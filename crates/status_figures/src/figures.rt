@@ -1,11 +1,12 @@
 //! What is told of a node.
 
 ghost use Rattle.std.specs.Prelude.{◌≡◌, count_by, not};
-ghost use Rattle.status_figures.specs.Figures.{agrees, is_caught_up, is_whole};
+ghost use Rattle.status_figures.specs.Figures.{agrees, all_agree, is_caught_up, is_well, is_whole};
 
 use crate::codes::CodeCount;
 use crate::peer::Peer;
 use crate::traffic::Traffic;
+use crate::usage::Usage;
 
 /// What a node left out since it started.
 #[derive(Clone, Copy, Debug, PartialEq, Eq)]
@@ -48,6 +49,8 @@ pub struct Figures {
     pub number: u16,
     /// The version of the table of homes that it holds.
     pub table: u32,
+    /// Why what is found in the file of the table isn't taken, where it isn't.
+    pub refusal: Option<String>,
     /// For how many milliseconds it has run.
     pub uptime: u64,
     /// How many connections of clients are open.
@@ -62,6 +65,7 @@ pub struct Figures {
     pub topics: u64,
     /// In milliseconds, the longest time between two ticks in the last ten seconds: the longest turn, and what was waited in it.
     pub longest_turn: u64,
+    pub usage: Usage,
     /// How many clients were refused, by the Reason Code of CONNACK, where any were.
     pub refused: Vec<CodeCount>,
     /// How many connections the node ended, by the Reason Code of DISCONNECT, where any were.
@@ -76,14 +80,28 @@ pub struct Figures {
 }
 
 impl Figures {
-    /// Whether each peer is linked and was heard, and it and the node are known to have taken the same operations.
-    pub fn is_caught_up(&self) -> bool
-        ensures { result ≡ is_caught_up self.now }
+    /// Whether each peer is linked, was heard, has room, and is known to have taken the same operations.
+    fn all_agree(&self) -> bool
+        ensures { result ≡ all_agree self.now }
     {
         self.peers.iter().all(|peer| peer.agrees())
     }
 
-    /// How many peers aren't linked, weren't heard, lack operations or have more of them.
+    /// Whether all peers agree, the table in the node's file isn't refused, and the program isn't short of memory.
+    pub fn is_caught_up(&self) -> bool
+        ensures { result ≡ is_caught_up self.now }
+    {
+        self.refusal.is_none() && !self.usage.is_short() && self.all_agree()
+    }
+
+    /// Whether the node is caught up, and has left out nothing since it started.
+    pub fn is_well(&self) -> bool
+        ensures { result ≡ is_well self.now }
+    {
+        self.is_caught_up() && self.left_out.is_whole()
+    }
+
+    /// How many peers aren't linked, weren't heard, lack operations, have more of them, or have a full lane.
     pub fn apart(&self) -> usize
         ensures { result ≡ count_by (λ peer. not (agrees peer)) self.now.peers.items }
     {

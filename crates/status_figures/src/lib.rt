@@ -5,8 +5,10 @@ mod codes;
 mod figures;
 mod peer;
 mod traffic;
+mod usage;
 
 pub use codes::CodeCount;
 pub use figures::{Figures, LeftOut};
 pub use peer::Peer;
 pub use traffic::Traffic;
+pub use usage::Usage;

@@ -1,7 +1,10 @@
 //! Another node, as a node knows it.
 
 ghost use Rattle.std.specs.Prelude.{◌≡◌, ◌==◌, ◌&&◌};
-ghost use Rattle.status_figures.specs.Figures.{agrees, is_equal};
+ghost use Rattle.status_figures.specs.Figures.{agrees, has_room, is_equal};
+
+/// As many messages as may wait for a peer.
+const ROOM: u64 = 65_536;
 
 /// Another node of the cluster.
 #[derive(Drop)]
@@ -33,10 +36,17 @@ impl Peer {
         self.heard && self.lacking == 0 && self.missing == 0
     }
 
-    /// Whether it is linked too.
+    /// Whether one more message for it can wait; else it is left out.
+    pub fn has_room(&self) -> bool
+        ensures { result ≡ has_room self.now }
+    {
+        self.waiting < ROOM
+    }
+
+    /// Whether it is linked too, and has room.
     pub fn agrees(&self) -> bool
         ensures { result ≡ agrees self.now }
     {
-        self.linked && self.is_equal()
+        self.linked && self.is_equal() && self.has_room()
     }
 }

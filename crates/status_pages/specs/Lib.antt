@@ -1,4 +1,5 @@
 pub mod Answers
+pub mod Hosts
 pub mod Members
 pub mod Resources
 pub mod Status

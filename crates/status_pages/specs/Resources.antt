@@ -28,7 +28,7 @@ kind_of Json = codes "application/json"
 kind_of Health = codes "text/plain; charset=utf-8"
 kind_of CaughtUp = codes "text/plain; charset=utf-8"
 
--- 200, and 503 for `/caught-up` where a peer isn't linked, wasn't heard, or hasn't what the node has
+-- 200, and 503 for `/caught-up` where the node isn't caught up
 abbrev pub status_of : Resource → Figures → ℕ
 status_of CaughtUp figures = if is_caught_up figures then 200 else 503
 status_of _ figures = 200
@@ -38,4 +38,4 @@ text_of Page figures = page_text figures
 text_of Metrics figures = metrics_text figures
 text_of Json figures = status_text figures
 text_of Health figures = codes "up\n"
-text_of CaughtUp figures = if is_caught_up figures then codes "caught up\n" else gate_text figures.peers.items
+text_of CaughtUp figures = if is_caught_up figures then codes "caught up\n" else gate_text figures

@@ -1,5 +1,5 @@
 -- The figures of a node as a JSON object. Each definition `with_..` is a text, and then what it is named for.
-use Rattle.std.specs.Prelude.{ℕ, suc, ◌==◌, List, [], ◌∷◌, ◌++◌, codes, if◌then◌else◌}
+use Rattle.std.specs.Prelude.{ℕ, suc, ◌==◌, not, List, [], ◌∷◌, ◌++◌, codes, if◌then◌else◌}
 use Rattle.serde_json.specs.Data.{string}
 use Rattle.serde_json.specs.Written.{compact_text}
 use Rattle.status_figures.specs.declared.codes.CodeCount.{CodeCount}
@@ -7,8 +7,9 @@ use Rattle.status_figures.specs.declared.figures.Figures.{Figures}
 use Rattle.status_figures.specs.declared.figures.LeftOut.{LeftOut}
 use Rattle.status_figures.specs.declared.traffic.Traffic.{Traffic}
 use Rattle.status_figures.specs.declared.peer.Peer.{Peer}
-use Rattle.status_figures.specs.Figures.{is_caught_up, is_equal}
-use Rattle.status_pages.specs.Members.{member, number_member, truth}
+use Rattle.status_figures.specs.declared.usage.Usage.{Usage}
+use Rattle.status_figures.specs.Figures.{has_room, is_caught_up, is_equal}
+use Rattle.status_pages.specs.Members.{known_text, member, number_member, quoted_text, truth}
 
 -- the next of several
 abbrev pub next : List ℕ → List ℕ → List ℕ
@@ -35,6 +36,18 @@ with_counts figures text =
     ++ next_number (codes "retained") figures.retained
     ++ next_number (codes "topics") figures.topics
     ++ next_number (codes "longest_turn_milliseconds") figures.longest_turn
+
+-- what the program takes of its machine, and why the table of homes in the node's file isn't taken
+unfoldable pub with_usage : Usage → List ℕ → List ℕ
+with_usage usage text =
+    text
+    ++ next (codes "memory_bytes") (known_text usage.memory)
+    ++ next (codes "most_memory_bytes") (known_text usage.most_memory)
+    ++ next (codes "database_bytes") (known_text usage.database)
+    ++ next (codes "database_log_bytes") (known_text usage.log)
+
+unfoldable pub with_refusal : Figures → List ℕ → List ℕ
+with_refusal figures text = text ++ next (codes "table_refusal") (quoted_text figures.refusal)
 
 unfoldable pub with_left_out : LeftOut → List ℕ → List ℕ
 with_left_out left_out text =
@@ -95,6 +108,7 @@ counts_of peer =
     next_number (codes "lacking") peer.lacking
     ++ next_number (codes "missing") peer.missing
     ++ next_number (codes "waiting") peer.waiting
+    ++ next (codes "lane_full") (truth (not (has_room peer)))
     ++ codes "}"
 
 unfoldable pub with_state : Peer → List ℕ → List ℕ
@@ -115,10 +129,11 @@ abbrev pub with_peers : ℕ → List Peer → List ℕ → List ℕ
 with_peers index [] text = text
 with_peers index (peer ∷ peers) text = with_peers (suc index) peers (with_peer index peer text)
 
--- the node, what it holds, what it left out, what went through, who was refused, and its peers
+-- the node, what it holds and takes, what it left out, what went through, who was refused, and its peers
 abbrev pub status_text : Figures → List ℕ
 status_text figures =
     with_peers 0 figures.peers.items
-    (with_refusals figures (with_traffic figures (with_left_out figures.left_out (with_counts figures (with_node (compact_text (string figures.name.bytes.items)) figures []))))
+    (with_refusals figures (with_traffic figures (with_left_out figures.left_out (with_refusal figures (with_usage figures.usage (with_counts figures
+    (with_node (compact_text (string figures.name.bytes.items)) figures []))))))
     ++ codes "],\"peers\":[")
     ++ codes "]}\n"

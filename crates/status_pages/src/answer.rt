@@ -2,7 +2,7 @@
 
 ghost use Rattle.std.specs.Prelude.{◌≡◌, ◌⊎◌, ◌↔◌, [], ◌∷◌, codes, IsTrue, OnOk};
 ghost use Rattle.http_server.specs.Response.{IsBlank, IsResponse};
-ghost use Rattle.status_pages.specs.Answers.{fields, not_allowed_fields, not_found_text, not_allowed_text};
+ghost use Rattle.status_pages.specs.Answers.{fields, misdirected_text, not_allowed_fields, not_found_text, not_allowed_text};
 ghost use Rattle.status_pages.specs.Resources.{kind_of, status_of, text_of};
 
 use crate::resource::Resource;
@@ -50,5 +50,17 @@ pub(crate) fn forbid(response: &mut Response) -> Result<(), AllocError>
     let allowed = HeaderValue::from_static("GET, HEAD");
     response.add_header(HeaderName::from_static("allow"), allowed)?;
     response.body.put_slice(b"not allowed\n")?;
+    Ok(())
+}
+
+/// Says that another host is asked.
+pub(crate) fn misdirect(response: &mut Response) -> Result<(), AllocError>
+    requires { IsBlank response.old }
+    ensures { OnOk result (IsResponse 421 [] misdirected_text response.new) }
+{
+    response.status = StatusCode::MISDIRECTED_REQUEST;
+    response.body.put_slice(
+        b"misdirected: ask by an IP address, as localhost, by the name of the node, or by one of --status-host\n",
+    )?;
     Ok(())
 }

@@ -1,12 +1,12 @@
 //! The figures of a node in JSON.
 
 ghost use Rattle.std.specs.Prelude.{◌≡◌, ◌++◌, codes, string_bytes, IfOk, OnOk};
-ghost use Rattle.status_pages.specs.Status.{status_text, with_clients, with_counts, with_left_out, with_links, with_node, with_refusals, with_traffic};
+ghost use Rattle.status_pages.specs.Status.{status_text, with_clients, with_counts, with_left_out, with_links, with_node, with_refusal, with_refusals, with_traffic, with_usage};
 
 use crate::codes::push_codes;
-use crate::members::{push_member, push_number, quoted, truth};
+use crate::members::{known_text, push_member, push_number, quoted, quoted_text, truth};
 use crate::peers::push_peers;
-use status_figures::{Figures, LeftOut, Traffic};
+use status_figures::{Figures, LeftOut, Traffic, Usage};
 use std::alloc::{AllocError, Global};
 
 /// The name of the node in its quotes, its number, the version of its table of homes, its uptime, and whether all have caught up.
@@ -32,6 +32,30 @@ fn push_counts(text: &mut String, figures: &Figures) -> Result<(), AllocError>
     push_number(text, ",", "retained", figures.retained)?;
     push_number(text, ",", "topics", figures.topics)?;
     push_number(text, ",", "longest_turn_milliseconds", figures.longest_turn)
+}
+
+/// What the program takes of its machine.
+#[tactic(auto, unfolding(crate::specs::Status::with_usage))]
+fn push_usage(alloc: Global, text: &mut String, usage: &Usage) -> Result<(), AllocError>
+    ensures { OnOk result (string_bytes text.new ≡ with_usage usage.now (string_bytes text.old)) }
+{
+    let memory = known_text(alloc, usage.memory)?;
+    let most = known_text(alloc, usage.most_memory)?;
+    let database = known_text(alloc, usage.database)?;
+    let log = known_text(alloc, usage.log)?;
+    push_member(text, ",", "memory_bytes", &memory)?;
+    push_member(text, ",", "most_memory_bytes", &most)?;
+    push_member(text, ",", "database_bytes", &database)?;
+    push_member(text, ",", "database_log_bytes", &log)
+}
+
+/// Why the table of homes in its file isn't taken.
+#[tactic(auto, unfolding(crate::specs::Status::with_refusal))]
+fn push_refusal(alloc: Global, text: &mut String, figures: &Figures) -> Result<(), AllocError>
+    ensures { OnOk result (string_bytes text.new ≡ with_refusal figures.now (string_bytes text.old)) }
+{
+    let refusal = quoted_text(alloc, &figures.refusal)?;
+    push_member(text, ",", "table_refusal", &refusal)
 }
 
 /// What it left out.
@@ -107,6 +131,8 @@ pub fn json_of(alloc: Global, figures: &Figures) -> Result<String, AllocError>
     let mut text = String::new(alloc);
     push_node(&mut text, &name, figures)?;
     push_counts(&mut text, figures)?;
+    push_usage(alloc, &mut text, &figures.usage)?;
+    push_refusal(alloc, &mut text, figures)?;
     push_left_out(&mut text, &figures.left_out)?;
     push_traffic(&mut text, figures)?;
     push_refusals(&mut text, figures)?;

@@ -5,6 +5,7 @@
 mod answer;
 mod codes;
 mod figures;
+mod hosts;
 mod members;
 mod pages;
 mod peers;

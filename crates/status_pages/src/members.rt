@@ -3,7 +3,8 @@
 ghost use Rattle.std.specs.Prelude.{◌≡◌, ◌++◌, string_bytes, IfOk, OnOk};
 ghost use Rattle.serde_json.specs.Data.{string};
 ghost use Rattle.serde_json.specs.Written.{compact_text};
-ghost use Rattle.status_pages.specs.Members.{member, number_member, truth};
+ghost use Rattle.std.specs.Fmt.{decimal};
+ghost use Rattle.status_pages.specs.Members.{known_text, member, number_member, quoted_text, truth};
 ghost use Rattle.status_pages.specs.Status.{before_of};
 
 use serde_json::Value;
@@ -15,6 +16,32 @@ pub(crate) fn quoted(alloc: Global, name: &str) -> Result<String, AllocError>
 {
     let name = String::from_str(alloc, name)?;
     Value::String(name).to_string(alloc)
+}
+
+/// A text in its quotes, or `null`.
+pub(crate) fn quoted_text(alloc: Global, text: &Option<String>) -> Result<String, AllocError>
+    ensures { IfOk result (λ written. string_bytes written ≡ quoted_text text.now) }
+{
+    match text {
+        Some(text) => quoted(alloc, text),
+        None => String::from_str(alloc, "null"),
+    }
+}
+
+fn decimal_text(alloc: Global, number: u64) -> Result<String, AllocError>
+    ensures { IfOk result (λ text. string_bytes text ≡ decimal number) }
+{
+    format!(in alloc; "{number}")
+}
+
+/// A number, or `null`.
+pub(crate) fn known_text(alloc: Global, number: Option<u64>) -> Result<String, AllocError>
+    ensures { IfOk result (λ text. string_bytes text ≡ known_text number) }
+{
+    match number {
+        Some(number) => decimal_text(alloc, number),
+        None => String::from_str(alloc, "null"),
+    }
 }
 
 pub(crate) fn truth(is_so: bool) -> &'static str

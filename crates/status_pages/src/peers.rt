@@ -31,6 +31,7 @@ fn push_counts_of(text: &mut String, peer: &Peer) -> Result<(), AllocError>
     push_number(text, ",", "lacking", peer.lacking)?;
     push_number(text, ",", "missing", peer.missing)?;
     push_number(text, ",", "waiting", peer.waiting)?;
+    push_member(text, ",", "lane_full", truth(!peer.has_room()))?;
     text.push_str("}")
 }
 

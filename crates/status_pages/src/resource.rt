@@ -21,7 +21,7 @@ pub enum Resource {
     Json,
     /// Whether the node runs, at `/healthz`.
     Health,
-    /// Whether each peer is linked, was heard and has what the node has, at `/caught-up`.
+    /// Whether the node is caught up, and else what holds it up, at `/caught-up`.
     CaughtUp,
 }
 
@@ -61,7 +61,7 @@ impl Resource {
         }
     }
 
-    /// 503 for `/caught-up` where a peer isn't linked, wasn't heard, or hasn't what the node has, and else 200.
+    /// 503 for `/caught-up` where the node isn't caught up, and else 200.
     pub(crate) fn status(self, figures: &Figures) -> StatusCode
         ensures { result ≡ status_of self figures.now }
     {
@@ -84,7 +84,7 @@ impl Resource {
                 if figures.is_caught_up() {
                     String::from_str(alloc, "caught up\n")
                 } else {
-                    gate_of(alloc, &figures.peers)
+                    gate_of(alloc, figures)
                 }
             }
         }

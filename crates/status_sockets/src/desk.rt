@@ -1,6 +1,6 @@
 //! All connections.
 
-ghost use Rattle.std.specs.Prelude.{◌≡◌, ◌-◌, ◌<◌, ◌≤◌, ◌↔◌, length, replicate, None, IfOk, IfSome, IsTrue};
+ghost use Rattle.std.specs.Prelude.{◌≡◌, ◌-◌, ◌<◌, ◌≤◌, ◌↔◌, length, replicate, string_bytes, None, IfOk, IfSome, IsTrue};
 ghost use Rattle.std.specs.List.{All};
 ghost use Rattle.status_sockets.specs.Waiting.{IsInTime};
 ghost use Rattle.status_sockets.specs.Desks.{AreInTime, IsFirst, IsSeat, rank_of};
@@ -14,12 +14,13 @@ use std::hash::RandomState;
 /// At most so many connections are open.
 const MOST: usize = 16;
 
-/// Where a node's status is asked for: a listener, and at most sixteen connections. No call waits, and none fails.
+/// Where a node's status is asked for, by these names too: a listener, and at most sixteen connections. No call waits, and none fails.
 #[derive(Drop)]
 pub struct Desk<L: Drop, T: Drop> {
     alloc: Global,
     keys: RandomState,
     listener: L,
+    names: String,
     places: Vec<Option<Visitor<T>>>,
     ghost sixteen: { length places.items ≡ 16 },
 }
@@ -79,12 +80,13 @@ fn attend<S: Sockets>(
     sockets: &mut S,
     buffer: &mut [u8],
     figures: &Figures,
+    names: &str,
     at: u64,
 )
     ensures { IfSome place.new (λ visitor. IsInTime at visitor.since visitor.begun) }
 {
     let stays = match place {
-        Some(visitor) => visitor.visit(alloc, sockets, buffer, figures, at),
+        Some(visitor) => visitor.visit(alloc, sockets, buffer, figures, names, at),
         None => true,
     };
     if !stays {
@@ -122,27 +124,37 @@ fn attend_all<S: Sockets>(
     places: &mut [Option<Visitor<S::Stream>>],
     sockets: &mut S,
     figures: &Figures,
+    names: &str,
     at: u64,
 )
     ensures { AreInTime at places.new }
 {
     let mut buffer = [0; PIECE];
     for place in places.iter_mut() {
-        attend(alloc, place, sockets, &mut buffer, figures, at);
+        attend(alloc, place, sockets, &mut buffer, figures, names, at);
     }
 }
 
 impl<L: Drop, T: Drop> Desk<L, T> {
-    /// A desk at a listener, where nobody is. The keys are secret, since those who ask choose the names of headers.
-    pub fn new(alloc: Global, keys: RandomState, listener: L) -> Result<Desk<L, T>, AllocError>
+    /// A desk at a listener, where nobody is. The names, with commas between them, are hosts that the node may be asked by, beside an IP address,
+    /// `localhost` and its own name. The keys are secret, since those who ask choose the names of headers.
+    pub fn new(
+        alloc: Global,
+        keys: RandomState,
+        listener: L,
+        names: &str,
+    ) -> Result<Desk<L, T>, AllocError>
         ensures nobody { IfOk result (λ desk. desk.places.items ≡ replicate 16 None) }
+        ensures names { IfOk result (λ desk. string_bytes desk.names ≡ names.now) }
         ensures listener { IfOk result (λ desk. desk.listener ≡ listener) }
     {
+        let names = String::from_str(alloc, names)?;
         let places = free_places(alloc)?;
         Ok(Desk {
             alloc,
             keys,
             listener,
+            names,
             places,
         })
     }
@@ -181,6 +193,13 @@ impl<L: Drop, T: Drop> Desk<L, T> {
         ensures in_time { AreInTime at self.new.places.items }
         ensures listener { self.new.listener ≡ self.old.listener }
     {
-        attend_all(self.alloc, &mut self.places, sockets, figures, at);
+        attend_all(
+            self.alloc,
+            &mut self.places,
+            sockets,
+            figures,
+            self.names.as_str(),
+            at,
+        );
     }
 }

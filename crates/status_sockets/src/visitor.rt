@@ -99,9 +99,9 @@ impl<T: Drop> Visitor<T> {
         }
     }
 
-    /// Answers what was asked, by these figures.
-    fn answer(&mut self, alloc: Global, figures: &Figures, at: u64) {
-        let mut pages = Pages::new(alloc, figures);
+    /// Answers what was asked, by these figures, of a node that may be asked by these names.
+    fn answer(&mut self, alloc: Global, figures: &Figures, names: &str, at: u64) {
+        let mut pages = Pages::new(alloc, figures, names);
         self.connection.advance(&mut pages);
         if pages.asked() {
             self.since = at;
@@ -133,6 +133,7 @@ impl<T: Drop> Visitor<T> {
         sockets: &mut S,
         buffer: &mut [u8],
         figures: &Figures,
+        names: &str,
         at: u64,
     ) -> bool
         ensures { IsTrue result → IsInTime at self.new.since self.new.begun }
@@ -140,7 +141,7 @@ impl<T: Drop> Visitor<T> {
         if !self.read(sockets, buffer, at) {
             return false;
         }
-        self.answer(alloc, figures, at);
+        self.answer(alloc, figures, names, at);
         self.write(sockets) && !self.connection.is_done() && self.is_in_time(at)
     }
 }

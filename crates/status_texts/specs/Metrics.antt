@@ -1,17 +1,18 @@
 -- The metrics of a node. Each definition `with_..` is a text, and then what it is named for.
-use Rattle.std.specs.Prelude.{ℕ, ◌/◌, ◌%◌, Bool, List, [], ◌∷◌, ◌++◌, codes, if◌then◌else◌}
+use Rattle.std.specs.Prelude.{ℕ, ◌/◌, ◌%◌, Bool, List, [], ◌∷◌, ◌++◌, codes, is_some, not, Option, Some, None, if◌then◌else◌}
 use Rattle.std.specs.Fmt.{decimal}
 use Rattle.status_figures.specs.declared.codes.CodeCount.{CodeCount}
 use Rattle.status_figures.specs.declared.figures.Figures.{Figures}
 use Rattle.status_figures.specs.declared.figures.LeftOut.{LeftOut}
 use Rattle.status_figures.specs.declared.traffic.Traffic.{Traffic}
 use Rattle.status_figures.specs.declared.peer.Peer.{Peer}
-use Rattle.status_figures.specs.Figures.{is_caught_up}
+use Rattle.status_figures.specs.declared.usage.Usage.{Usage}
+use Rattle.status_figures.specs.Figures.{has_room, is_caught_up}
 use Rattle.status_texts.specs.Codes.{with_code_lines}
 use Rattle.status_texts.specs.Escapes.{label}
 use Rattle.status_texts.specs.Lines.{help_line, kind_line, peer_line, reason_line, with_counter, with_gauge}
 use Rattle.status_texts.specs.declared.metrics.Counted.{Counted}
-use Rattle.status_texts.specs.declared.metrics.Counted.TheVariants.{Linked, Away, Heard, Lacking, Missing, Waiting}
+use Rattle.status_texts.specs.declared.metrics.Counted.TheVariants.{Linked, Away, Heard, Lacking, Missing, Waiting, LaneFull}
 
 unfoldable pub info_name : List ℕ → List ℕ
 info_name name = codes "mqtt_node_info{node=\"" ++ name ++ codes "\","
@@ -41,6 +42,20 @@ with_held figures text =
     with_gauge (codes "mqtt_table_version") (codes "The version of the table of homes.") figures.table
     (with_gauge (codes "mqtt_topics_held") (codes "Topics that have or had a retained message.") figures.topics
     text)
+
+-- a metric that has no value where the number isn't known
+abbrev pub with_known : List ℕ → List ℕ → Option ℕ → List ℕ → List ℕ
+with_known name help None text = text
+with_known name help (Some n) text = with_gauge name help n text
+
+-- what the program takes of its machine
+unfoldable pub with_usage : Usage → List ℕ → List ℕ
+with_usage usage text =
+    with_known (codes "mqtt_database_log_bytes") (codes "Bytes of the log of the database.") usage.log
+    (with_known (codes "mqtt_database_bytes") (codes "Bytes of the file of the database.") usage.database
+    (with_known (codes "mqtt_most_memory_bytes") (codes "Bytes of memory that the program may hold.") usage.most_memory
+    (with_known (codes "mqtt_memory_bytes") (codes "Bytes of memory that the program holds.") usage.memory
+    text)))
 
 -- so many milliseconds, in seconds with three digits behind the point
 unfoldable pub thousandths_line : List ℕ → ℕ → List ℕ
@@ -92,13 +107,18 @@ with_frames_dropped left_out text =
     ++ reason_line (codes "mqtt_cluster_frames_dropped_total") (codes "bad") left_out.bad_frames
     ++ reason_line (codes "mqtt_cluster_frames_dropped_total") (codes "too_large") left_out.frames_too_large
 
+-- 1 where it is so
+abbrev pub as_number : Bool → ℕ
+as_number so = if so then 1 else 0
+
 unfoldable pub with_tables : LeftOut → List ℕ → List ℕ
 with_tables left_out text =
     with_counter (codes "mqtt_tables_refused_total") (codes "Tables of homes that were not taken.") left_out.tables_refused text
 
--- 1 where it is so
-abbrev pub as_number : Bool → ℕ
-as_number so = if so then 1 else 0
+-- whether what is found in the file of the table of homes is refused
+unfoldable pub with_untaken : Figures → List ℕ → List ℕ
+with_untaken figures text =
+    with_gauge (codes "mqtt_table_file_refused") (codes "Whether the table of homes in the file of the node is not taken.") (as_number (is_some figures.refusal)) text
 
 abbrev pub number_of : Counted → Peer → ℕ
 number_of Linked peer = as_number peer.linked
@@ -107,6 +127,7 @@ number_of Heard peer = as_number peer.heard
 number_of Lacking peer = peer.lacking
 number_of Missing peer = peer.missing
 number_of Waiting peer = peer.waiting
+number_of LaneFull peer = as_number (not (has_room peer))
 
 -- the line of a peer
 abbrev pub sample : List ℕ → Counted → Peer → List ℕ
@@ -123,11 +144,12 @@ with_peer_metric name help counted peers text =
 
 unfoldable pub with_cluster : Figures → List ℕ → List ℕ
 with_cluster figures text =
-    with_gauge (codes "mqtt_cluster_caught_up") (codes "Whether each peer is linked, was heard, and has what the node has.") (as_number (is_caught_up figures))
+    with_gauge (codes "mqtt_cluster_caught_up") (codes "Whether /caught-up is open: each peer is linked, was heard, has what the node has, and has room.") (as_number (is_caught_up figures))
+    (with_peer_metric (codes "mqtt_cluster_peer_lane_full") (codes "Whether no more messages can wait for the peer.") LaneFull figures.peers.items
     (with_peer_metric (codes "mqtt_cluster_peer_waiting_messages") (codes "Messages that wait for the peer.") Waiting figures.peers.items
     (with_peer_metric (codes "mqtt_cluster_peer_missing_operations") (codes "Operations that the peer has and the node lacks.") Missing figures.peers.items
     (with_peer_metric (codes "mqtt_cluster_peer_lacking_operations") (codes "Operations that the peer is not known to have.") Lacking figures.peers.items
-    text)))
+    text))))
 
 unfoldable pub with_peer_links : Figures → List ℕ → List ℕ
 with_peer_links figures text =
@@ -139,7 +161,7 @@ with_peer_links figures text =
 -- what the node holds, and what went through it
 unfoldable pub with_counts : Figures → List ℕ → List ℕ
 with_counts figures text =
-    with_links figures.total (with_clients figures.total (with_turns figures.longest_turn (with_held figures (with_node figures text))))
+    with_links figures.total (with_clients figures.total (with_turns figures.longest_turn (with_usage figures.usage (with_held figures (with_node figures text)))))
 
 unfoldable pub with_refused : Figures → List ℕ → List ℕ
 with_refused figures text =
@@ -152,5 +174,5 @@ with_losses left_out text = with_tables left_out (with_frames_dropped left_out (
 -- the node, what it holds, what went through, who was refused, what was left out, and its peers
 abbrev pub metrics_text : Figures → List ℕ
 metrics_text figures =
-    with_cluster figures (with_peer_links figures (with_losses figures.left_out (with_refused figures (with_counts figures
-    (with_info (label figures.name.bytes.items) figures.number [])))))
+    with_cluster figures (with_peer_links figures (with_untaken figures (with_losses figures.left_out (with_refused figures (with_counts figures
+    (with_info (label figures.name.bytes.items) figures.number []))))))

@@ -1,14 +1,16 @@
 -- The page of a node. Each definition `with_..` is a text, and then what it is named for.
-use Rattle.std.specs.Prelude.{ℕ, ◌/◌, ◌==◌, Bool, List, [], ◌++◌, length, codes, count_by, not, if◌then◌else◌}
+use Rattle.std.specs.Prelude.{ℕ, ◌/◌, ◌==◌, Bool, List, [], ◌++◌, length, codes, count_by, not, Option, Some, None, String, if◌then◌else◌}
+use Rattle.std.specs.declared.alloc.Global.{Global}
 use Rattle.std.specs.Fmt.{decimal}
 use Rattle.status_figures.specs.declared.figures.Figures.{Figures}
 use Rattle.status_figures.specs.declared.figures.LeftOut.{LeftOut}
 use Rattle.status_figures.specs.declared.traffic.Traffic.{Traffic}
-use Rattle.status_figures.specs.Figures.{agrees, is_whole}
+use Rattle.status_figures.specs.declared.usage.Usage.{Usage}
+use Rattle.status_figures.specs.Figures.{agrees, is_short, is_well, is_whole}
 use Rattle.status_texts.specs.Codes.{with_code_rows}
 use Rattle.status_texts.specs.Escapes.{escaped}
 use Rattle.status_texts.specs.Peers.{with_peers}
-use Rattle.status_texts.specs.Rows.{uptime_text, with_loss, with_number, with_row}
+use Rattle.status_texts.specs.Rows.{size_text, uptime_text, with_loss, with_number, with_row, with_state}
 use Rattle.status_texts.specs.declared.page.TheConstants.{HEAD, STYLE, SCRIPT}
 
 unfoldable pub with_head : List ℕ → List ℕ → List ℕ
@@ -18,16 +20,40 @@ with_head name text =
     ++ codes "</title>\n<style>" ++ STYLE.now
     ++ codes "</style>\n</head>\n<body>\n<main>\n<h1>Node " ++ name ++ codes "</h1>\n"
 
--- how many of so many peers aren't linked, weren't heard, or haven't what the node has
-unfoldable pub verdict_text : ℕ → ℕ → List ℕ
-verdict_text apart peers =
-    if peers == 0 then codes "<p class=\"agrees\">This node has no peers.</p>\n"
-    else if apart == 0 then codes "<p class=\"agrees\">Each peer is linked, and has what this node has.</p>\n"
-    else codes "<p class=\"apart\">Apart: " ++ decimal apart ++ codes " of " ++ decimal peers ++ codes " peers (not linked, not heard, or with other operations).</p>\n"
+-- a sentence, green, red or in no colour by its class
+unfoldable pub sentence : List ℕ → List ℕ → List ℕ
+sentence class words = codes "<p class=\"" ++ class ++ codes "\">" ++ words ++ codes "</p>\n"
+
+-- green only where all is well
+abbrev pub verdict_class : Bool → List ℕ
+verdict_class well = if well then codes "agrees" else codes "none"
+
+unfoldable pub apart_words : ℕ → ℕ → List ℕ
+apart_words apart peers =
+    codes "Apart: " ++ decimal apart ++ codes " of " ++ decimal peers ++ codes " peers (not linked, not heard, with other operations, or with a full lane)."
+
+-- how many of so many peers aren't linked, weren't heard, haven't what the node has, or have a full lane
+unfoldable pub verdict_text : Bool → ℕ → ℕ → List ℕ
+verdict_text well apart peers =
+    if peers == 0 then sentence (verdict_class well) (codes "This node has no peers.")
+    else if apart == 0 then sentence (verdict_class well) (codes "Each peer is linked, and has what this node has.")
+    else sentence (codes "apart") (apart_words apart peers)
 
 -- whether anything was left out
-abbrev pub loss_text : Bool → List ℕ
-loss_text whole = if whole then [] else codes "<p class=\"apart\">This node has left something out since it started (below).</p>\n"
+unfoldable pub loss_text : Bool → List ℕ
+loss_text whole = if whole then [] else sentence (codes "apart") (codes "This node has left something out since it started (below).")
+
+-- why the table of homes in the node's file isn't taken, where it isn't
+unfoldable pub untaken_words : List ℕ → List ℕ
+untaken_words reason = codes "The table of homes in the file of this node is not taken: " ++ reason ++ codes "."
+
+abbrev pub untaken_text : Option (String Global) → List ℕ
+untaken_text None = []
+untaken_text (Some refusal) = sentence (codes "apart") (untaken_words (escaped refusal.bytes.items))
+
+-- whether the program is short of memory
+unfoldable pub short_text : Bool → List ℕ
+short_text short = if short then sentence (codes "apart") (codes "The program holds nearly all the memory that it may (below): it may take nothing new.") else []
 
 unfoldable pub with_node : Figures → List ℕ → List ℕ
 with_node figures text =
@@ -43,6 +69,15 @@ with_held figures text =
     (with_number (codes "Retained messages") figures.retained
     (with_number (codes "Subscriptions") figures.subscriptions
     (with_number (codes "Sessions") figures.sessions
+    text)))
+
+-- what the program takes of its machine
+unfoldable pub with_usage : Usage → List ℕ → List ℕ
+with_usage usage text =
+    with_row (codes "Log of the database") (size_text (codes "not known") usage.log)
+    (with_row (codes "Database") (size_text (codes "not known") usage.database)
+    (with_row (codes "Memory that it may hold") (size_text (codes "not limited") usage.most_memory)
+    (with_state (is_short usage) (codes "Memory of the program") (size_text (codes "not known") usage.memory)
     text)))
 
 unfoldable pub with_turns : ℕ → List ℕ → List ℕ
@@ -96,14 +131,17 @@ with_tail text = text ++ codes "</main>\n<script>" ++ SCRIPT.now ++ codes "</scr
 unfoldable pub peers_head : List ℕ
 peers_head = codes "<h2>Peers</h2>\n<table>\n<tr><th>Name</th><th>Bridge</th><th>Link</th><th>State</th><th>Messages that wait</th></tr>\n"
 
--- the head, whether the cluster agrees and whether anything was left out, then the node itself, its peers, what went through, who was refused, and what was left out
+-- the head, whether the cluster agrees, whether anything was left out, whether the file's table is taken and whether memory is short, then the node itself, its
+-- peers, what went through, who was refused, and what was left out
 abbrev pub page_text : Figures → List ℕ
 page_text figures =
     with_tail (with_frames_dropped figures.left_out (with_dropped figures.left_out (with_codes figures (with_links figures.recent (with_clients figures.recent
     (with_peers figures.peers.items
-    (with_turns figures.longest_turn (with_held figures (with_node figures
+    (with_turns figures.longest_turn (with_usage figures.usage (with_held figures (with_node figures
     (with_head (escaped figures.name.bytes.items) []
-    ++ verdict_text (count_by (λ peer. not (agrees peer)) figures.peers.items) (length figures.peers.items)
-    ++ loss_text (is_whole figures.left_out))))
+    ++ verdict_text (is_well figures) (count_by (λ peer. not (agrees peer)) figures.peers.items) (length figures.peers.items)
+    ++ loss_text (is_whole figures.left_out)
+    ++ untaken_text figures.refusal
+    ++ short_text (is_short figures.usage)))))
     ++ peers_head)
     ++ codes "</table>\n"))))))

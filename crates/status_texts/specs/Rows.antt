@@ -1,5 +1,5 @@
 -- Lines of the tables of the page.
-use Rattle.std.specs.Prelude.{ℕ, ◌/◌, ◌%◌, ◌==◌, List, ◌++◌, codes, if◌then◌else◌}
+use Rattle.std.specs.Prelude.{ℕ, ◌/◌, ◌%◌, ◌==◌, Bool, List, ◌++◌, codes, Option, Some, None, if◌then◌else◌}
 use Rattle.std.specs.Fmt.{decimal}
 
 unfoldable pub label_cell : List ℕ → List ℕ
@@ -40,3 +40,19 @@ minutes_text seconds = decimal (seconds / 60 % 60) ++ codes " min " ++ decimal (
 -- so many seconds, in days, hours, minutes and seconds
 abbrev pub uptime_text : ℕ → List ℕ
 uptime_text seconds = days_text seconds ++ minutes_text seconds
+
+-- of a text, which is red where something lacks
+abbrev pub lack_class : Bool → List ℕ
+lack_class lacks = if lacks then codes "apart" else codes "none"
+
+unfoldable pub with_state : Bool → List ℕ → List ℕ → List ℕ → List ℕ
+with_state lacks label value text = text ++ row_start (lack_class lacks) ++ head_cell label ++ cell value ++ codes "</tr>\n"
+
+-- so many bytes, in megabytes of 1,000,000 with one digit behind the point
+unfoldable pub megabytes_text : ℕ → List ℕ
+megabytes_text bytes = decimal (bytes / 1000000) ++ codes "." ++ decimal (bytes / 100000 % 10) ++ codes " MB"
+
+-- these words where there are none
+abbrev pub size_text : List ℕ → Option ℕ → List ℕ
+size_text none None = none
+size_text none (Some bytes) = megabytes_text bytes

@@ -1,12 +1,12 @@
 //! The metrics of a node, in Prometheus' text format.
 
 ghost use Rattle.std.specs.Prelude.{◌≡◌, ◌++◌, ◌/◌, ◌%◌, string_bytes, IfOk, OnOk};
-ghost use Rattle.status_texts.specs.Metrics.{as_number, info_name, info_number, metrics_text, number_of, sample, thousandths_line, with_clients, with_cluster, with_codes, with_counts, with_dropped, with_frames_dropped, with_held, with_info, with_links, with_losses, with_node, with_peer_links, with_peer_metric, with_refused, with_samples, with_seconds, with_tables, with_turns};
+ghost use Rattle.status_texts.specs.Metrics.{as_number, info_name, info_number, metrics_text, number_of, sample, thousandths_line, with_clients, with_cluster, with_codes, with_counts, with_dropped, with_frames_dropped, with_held, with_info, with_known, with_links, with_losses, with_node, with_peer_links, with_peer_metric, with_refused, with_samples, with_seconds, with_tables, with_turns, with_untaken, with_usage};
 
 use crate::codes::push_code_lines;
 use crate::escape::label;
 use crate::lines::{push_counter, push_family, push_gauge, push_peer, push_reason};
-use status_figures::{CodeCount, Figures, LeftOut, Peer, Traffic};
+use status_figures::{CodeCount, Figures, LeftOut, Peer, Traffic, Usage};
 use std::alloc::{AllocError, Global};
 
 /// The name of the metric of the node itself.
@@ -30,6 +30,8 @@ pub(crate) enum Counted {
     Lacking,
     Missing,
     Waiting,
+    /// 1 where no more can wait.
+    LaneFull,
 }
 
 /// The name of the node, as it stands in a label.
@@ -112,6 +114,36 @@ fn push_held(text: &mut String, figures: &Figures) -> Result<(), AllocError>
         "The version of the table of homes.",
         u64::from(figures.table),
     )
+}
+
+/// A metric that has no value where the number isn't known.
+fn push_known(
+    text: &mut String,
+    name: &str,
+    help: &str,
+    number: Option<u64>,
+) -> Result<(), AllocError>
+    ensures { OnOk result (string_bytes text.new ≡ with_known name.now help.now number (string_bytes text.old)) }
+{
+    match number {
+        Some(number) => push_gauge(text, name, help, number),
+        None => Ok(()),
+    }
+}
+
+/// What the program takes of its machine.
+#[tactic(auto, unfolding(crate::specs::Metrics::with_usage))]
+fn push_usage(text: &mut String, usage: &Usage) -> Result<(), AllocError>
+    ensures { OnOk result (string_bytes text.new ≡ with_usage usage.now (string_bytes text.old)) }
+{
+    let help = "Bytes of memory that the program holds.";
+    push_known(text, "mqtt_memory_bytes", help, usage.memory)?;
+    let help = "Bytes of memory that the program may hold.";
+    push_known(text, "mqtt_most_memory_bytes", help, usage.most_memory)?;
+    let help = "Bytes of the file of the database.";
+    push_known(text, "mqtt_database_bytes", help, usage.database)?;
+    let help = "Bytes of the log of the database.";
+    push_known(text, "mqtt_database_log_bytes", help, usage.log)
 }
 
 /// So many milliseconds, in seconds with three digits behind the point.
@@ -272,6 +304,19 @@ fn as_number(is_so: bool) -> u64
     if is_so { 1 } else { 0 }
 }
 
+/// Whether what is found in the file of its table of homes is refused.
+#[tactic(auto, unfolding(crate::specs::Metrics::with_untaken))]
+fn push_untaken(text: &mut String, figures: &Figures) -> Result<(), AllocError>
+    ensures { OnOk result (string_bytes text.new ≡ with_untaken figures.now (string_bytes text.old)) }
+{
+    push_gauge(
+        text,
+        "mqtt_table_file_refused",
+        "Whether the table of homes in the file of the node is not taken.",
+        as_number(figures.refusal.is_some()),
+    )
+}
+
 fn number_of(peer: &Peer, counted: Counted) -> u64
     ensures { result ≡ number_of counted peer.now }
 {
@@ -282,6 +327,7 @@ fn number_of(peer: &Peer, counted: Counted) -> u64
         Counted::Lacking => peer.lacking,
         Counted::Missing => peer.missing,
         Counted::Waiting => peer.waiting,
+        Counted::LaneFull => as_number(!peer.has_room()),
     }
 }
 
@@ -365,10 +411,13 @@ fn push_cluster(alloc: Global, text: &mut String, figures: &Figures) -> Result<(
     let name = "mqtt_cluster_peer_waiting_messages";
     let help = "Messages that wait for the peer.";
     push_peer_metric(alloc, text, name, help, Counted::Waiting, peers)?;
+    let name = "mqtt_cluster_peer_lane_full";
+    let help = "Whether no more messages can wait for the peer.";
+    push_peer_metric(alloc, text, name, help, Counted::LaneFull, peers)?;
     push_gauge(
         text,
         "mqtt_cluster_caught_up",
-        "Whether each peer is linked, was heard, and has what the node has.",
+        "Whether /caught-up is open: each peer is linked, was heard, has what the node has, and has room.",
         caught_up,
     )
 }
@@ -380,6 +429,7 @@ fn push_counts(text: &mut String, figures: &Figures) -> Result<(), AllocError>
 {
     push_node(text, figures)?;
     push_held(text, figures)?;
+    push_usage(text, &figures.usage)?;
     push_turns(text, figures.longest_turn)?;
     push_clients(text, &figures.total)?;
     push_links(text, &figures.total)
@@ -418,6 +468,7 @@ pub fn metrics_of(alloc: Global, figures: &Figures) -> Result<String, AllocError
     push_counts(&mut text, figures)?;
     push_refused(alloc, &mut text, figures)?;
     push_losses(&mut text, &figures.left_out)?;
+    push_untaken(&mut text, figures)?;
     push_peer_links(alloc, &mut text, figures)?;
     push_cluster(alloc, &mut text, figures)?;
     Ok(text)

@@ -1,13 +1,13 @@
 //! The page of a node: one document that asks for nothing but itself, and is read without its script.
 
 ghost use Rattle.std.specs.Prelude.{◌≡◌, ◌++◌, string_bytes, IfOk, OnOk};
-ghost use Rattle.status_texts.specs.Page.{loss_text, page_text, peers_head, verdict_text, with_clients, with_codes, with_dropped, with_frames_dropped, with_head, with_held, with_links, with_node, with_tail, with_turns};
+ghost use Rattle.status_texts.specs.Page.{apart_words, loss_text, page_text, peers_head, sentence, short_text, untaken_text, untaken_words, verdict_class, verdict_text, with_clients, with_codes, with_dropped, with_frames_dropped, with_head, with_held, with_links, with_node, with_tail, with_turns, with_usage};
 
 use crate::codes::push_code_rows;
 use crate::escape::escaped;
 use crate::peers::push_peers;
-use crate::rows::{push_loss, push_number, push_row, uptime_text};
-use status_figures::{Figures, LeftOut, Traffic};
+use crate::rows::{push_loss, push_number, push_row, push_state, size_text, uptime_text};
+use status_figures::{Figures, LeftOut, Traffic, Usage};
 use std::alloc::{AllocError, Global};
 
 /// What stands before the title.
@@ -40,35 +40,100 @@ fn push_head(text: &mut String, name: &str) -> Result<(), AllocError>
     text.push_str("</h1>\n")
 }
 
-/// Whether the cluster agrees, as far as the node knows: how many of so many peers aren't linked, weren't heard, or haven't what
-/// the node has.
-#[tactic(auto, unfolding(crate::specs::Page::verdict_text))]
-fn push_verdict(text: &mut String, apart: usize, peers: usize) -> Result<(), AllocError>
-    ensures { OnOk result (string_bytes text.new ≡ string_bytes text.old ++ verdict_text apart peers) }
+/// A sentence, green, red or in no colour by its class.
+#[tactic(auto, unfolding(crate::specs::Page::sentence))]
+fn push_sentence(text: &mut String, class: &str, words: &str) -> Result<(), AllocError>
+    ensures { OnOk result (string_bytes text.new ≡ string_bytes text.old ++ sentence class.now words.now) }
 {
+    write!(text, "<p class=\"{class}\">{words}</p>\n")
+}
+
+/// Green only where all is well.
+fn verdict_class(well: bool) -> &'static str
+    ensures { result.now ≡ verdict_class well }
+{
+    if well { "agrees" } else { "none" }
+}
+
+#[tactic(auto, unfolding(crate::specs::Page::apart_words))]
+fn apart_words(alloc: Global, apart: usize, peers: usize) -> Result<String, AllocError>
+    ensures { IfOk result (λ text. string_bytes text ≡ apart_words apart peers) }
+{
+    format!(in alloc;
+        "Apart: {apart} of {peers} peers (not linked, not heard, with other operations, or with a full lane)."
+    )
+}
+
+/// Whether the cluster agrees, as far as the node knows: how many of so many peers aren't linked, weren't heard, haven't what
+/// the node has, or have a full lane.
+#[tactic(auto, unfolding(crate::specs::Page::verdict_text))]
+fn push_verdict(
+    alloc: Global,
+    text: &mut String,
+    well: bool,
+    apart: usize,
+    peers: usize,
+) -> Result<(), AllocError>
+    ensures { OnOk result (string_bytes text.new ≡ string_bytes text.old ++ verdict_text well apart peers) }
+{
+    let class = verdict_class(well);
     if peers == 0 {
-        text.push_str("<p class=\"agrees\">This node has no peers.</p>\n")
-    } else if apart == 0 {
-        text.push_str("<p class=\"agrees\">Each peer is linked, and has what this node has.</p>\n")
-    } else {
-        write!(
-            text,
-            "<p class=\"apart\">Apart: {apart} of {peers} peers (not linked, not heard, or with other operations).</p>\n"
-        )
+        return push_sentence(text, class, "This node has no peers.");
     }
+    if apart == 0 {
+        let agrees = "Each peer is linked, and has what this node has.";
+        return push_sentence(text, class, agrees);
+    }
+    let words = apart_words(alloc, apart, peers)?;
+    push_sentence(text, "apart", &words)
 }
 
 /// Whether anything was left out.
+#[tactic(auto, unfolding(crate::specs::Page::loss_text))]
 fn push_whole(text: &mut String, whole: bool) -> Result<(), AllocError>
     ensures { OnOk result (string_bytes text.new ≡ string_bytes text.old ++ loss_text whole) }
 {
     if whole {
-        Ok(())
-    } else {
-        text.push_str(
-            "<p class=\"apart\">This node has left something out since it started (below).</p>\n",
-        )
+        return Ok(());
     }
+    let words = "This node has left something out since it started (below).";
+    push_sentence(text, "apart", words)
+}
+
+#[tactic(auto, unfolding(crate::specs::Page::untaken_words))]
+fn untaken_words(alloc: Global, reason: &str) -> Result<String, AllocError>
+    ensures { IfOk result (λ text. string_bytes text ≡ untaken_words reason.now) }
+{
+    format!(in alloc; "The table of homes in the file of this node is not taken: {reason}.")
+}
+
+/// Why the table of homes in the node's file isn't taken, where it isn't.
+fn push_untaken(
+    alloc: Global,
+    text: &mut String,
+    refusal: &Option<String>,
+) -> Result<(), AllocError>
+    ensures { OnOk result (string_bytes text.new ≡ string_bytes text.old ++ untaken_text refusal.now) }
+{
+    let Some(refusal) = refusal else {
+        return Ok(());
+    };
+    let reason = escaped(alloc, refusal)?;
+    let words = untaken_words(alloc, &reason)?;
+    push_sentence(text, "apart", &words)
+}
+
+/// Whether the program is short of memory.
+#[tactic(auto, unfolding(crate::specs::Page::short_text))]
+fn push_short(text: &mut String, short: bool) -> Result<(), AllocError>
+    ensures { OnOk result (string_bytes text.new ≡ string_bytes text.old ++ short_text short) }
+{
+    if !short {
+        return Ok(());
+    }
+    let words =
+        "The program holds nearly all the memory that it may (below): it may take nothing new.";
+    push_sentence(text, "apart", words)
 }
 
 /// Which node it is, and who is there.
@@ -101,6 +166,21 @@ fn push_held(text: &mut String, figures: &Figures) -> Result<(), AllocError>
         "Topics that are held, with those that were cleared",
         figures.topics,
     )
+}
+
+/// What the program takes of its machine.
+#[tactic(auto, unfolding(crate::specs::Page::with_usage))]
+fn push_usage(alloc: Global, text: &mut String, usage: &Usage) -> Result<(), AllocError>
+    ensures { OnOk result (string_bytes text.new ≡ with_usage usage.now (string_bytes text.old)) }
+{
+    let memory = size_text(alloc, "not known", usage.memory)?;
+    let most = size_text(alloc, "not limited", usage.most_memory)?;
+    let database = size_text(alloc, "not known", usage.database)?;
+    let log = size_text(alloc, "not known", usage.log)?;
+    push_state(text, usage.is_short(), "Memory of the program", &memory)?;
+    push_row(text, "Memory that it may hold", &most)?;
+    push_row(text, "Database", &database)?;
+    push_row(text, "Log of the database", &log)
 }
 
 /// How long its turns take.
@@ -207,10 +287,19 @@ pub fn page_of(alloc: Global, figures: &Figures) -> Result<String, AllocError>
     let name = escaped(alloc, &figures.name)?;
     let mut text = String::new(alloc);
     push_head(&mut text, &name)?;
-    push_verdict(&mut text, figures.apart(), figures.peers.len())?;
+    push_verdict(
+        alloc,
+        &mut text,
+        figures.is_well(),
+        figures.apart(),
+        figures.peers.len(),
+    )?;
     push_whole(&mut text, figures.left_out.is_whole())?;
+    push_untaken(alloc, &mut text, &figures.refusal)?;
+    push_short(&mut text, figures.usage.is_short())?;
     push_node(alloc, &mut text, figures)?;
     push_held(&mut text, figures)?;
+    push_usage(alloc, &mut text, &figures.usage)?;
     push_turns(&mut text, figures.longest_turn)?;
     push_peers_head(&mut text)?;
     push_peers(alloc, &mut text, &figures.peers)?;

@@ -2,11 +2,11 @@
 
 ghost use Rattle.std.specs.Prelude.{◌≡◌, ◌++◌, string_bytes, IfOk, OnOk};
 ghost use Rattle.std.specs.Fmt.{decimal};
-ghost use Rattle.status_texts.specs.Peers.{apart_line, apart_text, class_of, counts_text, differing_text, gate_text, link_text, state_text, with_apart, with_peer, with_peers};
+ghost use Rattle.status_texts.specs.Peers.{apart_line, apart_text, class_of, counts_text, differing_text, equal_text, gate_text, link_text, room_text, short_line, state_text, untaken_line, with_apart, with_peer, with_peers, with_untaken};
 
 use crate::escape::escaped;
 use crate::rows::{push_cell, push_number_cell, push_start, uptime_text};
-use status_figures::Peer;
+use status_figures::{Figures, Peer, Usage};
 use std::alloc::{AllocError, Global};
 
 fn class_of(peer: &Peer) -> &'static str
@@ -67,14 +67,30 @@ fn differing_of(alloc: Global, peer: &Peer) -> Result<String, AllocError>
 }
 
 /// Whether a peer is equal, or how it differs.
-fn state_of(alloc: Global, peer: &Peer) -> Result<String, AllocError>
-    ensures { IfOk result (λ text. string_bytes text ≡ state_text peer.now) }
+fn equal_of(alloc: Global, peer: &Peer) -> Result<String, AllocError>
+    ensures { IfOk result (λ text. string_bytes text ≡ equal_text peer.now) }
 {
     if peer.is_equal() {
         String::from_str(alloc, "equal")
     } else {
         differing_of(alloc, peer)
     }
+}
+
+/// Where no more messages can wait for it.
+fn room_of(peer: &Peer) -> &'static str
+    ensures { result.now ≡ room_text peer.now }
+{
+    if peer.has_room() { "" } else { ", lane full" }
+}
+
+/// How it stands with a peer.
+fn state_of(alloc: Global, peer: &Peer) -> Result<String, AllocError>
+    ensures { IfOk result (λ text. string_bytes text ≡ state_text peer.now) }
+{
+    let mut text = equal_of(alloc, peer)?;
+    text.push_str(room_of(peer))?;
+    Ok(text)
 }
 
 /// The line of a peer: its name, its bridge, the link, the state, and how many messages wait.
@@ -112,7 +128,7 @@ fn push_apart_line(text: &mut String, name: &str, link: &str, state: &str) -> Re
     write!(text, "{name}: {link}, {state}\n")
 }
 
-/// A line for a peer that isn't linked or isn't equal.
+/// A line for a peer that isn't linked, isn't equal, or has a full lane.
 #[tactic(auto, unfolding(crate::specs::Peers::apart_text))]
 fn push_apart(alloc: Global, text: &mut String, peer: &Peer) -> Result<(), AllocError>
     ensures { OnOk result (string_bytes text.new ≡ string_bytes text.old ++ apart_text peer.now) }
@@ -134,11 +150,44 @@ fn push_all_apart(alloc: Global, text: &mut String, peers: &[Peer]) -> Result<()
     Ok(())
 }
 
-/// Which peers keep a node from being caught up, and why, each in a line.
-pub fn gate_of(alloc: Global, peers: &[Peer]) -> Result<String, AllocError>
-    ensures { IfOk result (λ text. string_bytes text ≡ gate_text peers.now) }
+#[tactic(auto, unfolding(crate::specs::Peers::untaken_line))]
+fn push_untaken_line(text: &mut String, reason: &str) -> Result<(), AllocError>
+    ensures { OnOk result (string_bytes text.new ≡ string_bytes text.old ++ untaken_line reason.now) }
+{
+    write!(
+        text,
+        "the table of homes in the file is not taken: {reason}\n"
+    )
+}
+
+/// A line where the table of homes in the node's file isn't taken, with the reason.
+fn push_untaken(text: &mut String, refusal: &Option<String>) -> Result<(), AllocError>
+    ensures { OnOk result (string_bytes text.new ≡ with_untaken refusal.now (string_bytes text.old)) }
+{
+    match refusal {
+        Some(refusal) => push_untaken_line(text, refusal),
+        None => Ok(()),
+    }
+}
+
+/// A line where the program is short of memory.
+fn short_line(usage: &Usage) -> &'static str
+    ensures { result.now ≡ short_line usage.now }
+{
+    if usage.is_short() {
+        "the program holds nearly all the memory that it may\n"
+    } else {
+        ""
+    }
+}
+
+/// What keeps a node from being caught up, each in a line: its table, its memory, and peers.
+pub fn gate_of(alloc: Global, figures: &Figures) -> Result<String, AllocError>
+    ensures { IfOk result (λ text. string_bytes text ≡ gate_text figures.now) }
 {
     let mut text = String::from_str(alloc, "not caught up\n")?;
-    push_all_apart(alloc, &mut text, peers)?;
+    push_untaken(&mut text, &figures.refusal)?;
+    text.push_str(short_line(&figures.usage))?;
+    push_all_apart(alloc, &mut text, &figures.peers)?;
     Ok(text)
 }

@@ -1,7 +1,7 @@
 //! Lines of the tables of the page.
 
-ghost use Rattle.std.specs.Prelude.{◌≡◌, ◌++◌, ◌/◌, string_bytes, IfOk, OnOk};
-ghost use Rattle.status_texts.specs.Rows.{cell, days_text, head_cell, label_cell, loss_class, minutes_text, number_cell, row_start, uptime_text, with_loss, with_number, with_row};
+ghost use Rattle.std.specs.Prelude.{◌≡◌, ◌++◌, ◌/◌, ◌%◌, string_bytes, IfOk, OnOk};
+ghost use Rattle.status_texts.specs.Rows.{cell, days_text, head_cell, label_cell, lack_class, loss_class, megabytes_text, minutes_text, number_cell, row_start, size_text, uptime_text, with_loss, with_number, with_row, with_state};
 
 use std::alloc::{AllocError, Global};
 
@@ -66,6 +66,28 @@ pub(crate) fn push_loss(text: &mut String, label: &str, number: u64) -> Result<(
     text.push_str("</tr>\n")
 }
 
+fn lack_class(lacks: bool) -> &'static str
+    ensures { result.now ≡ lack_class lacks }
+{
+    if lacks { "apart" } else { "none" }
+}
+
+/// A label and what it is of, which is red where something lacks.
+#[tactic(auto, unfolding(crate::specs::Rows::with_state))]
+pub(crate) fn push_state(
+    text: &mut String,
+    lacks: bool,
+    label: &str,
+    value: &str,
+) -> Result<(), AllocError>
+    ensures { OnOk result (string_bytes text.new ≡ with_state lacks label.now value.now (string_bytes text.old)) }
+{
+    push_start(text, lack_class(lacks))?;
+    push_head_cell(text, label)?;
+    push_cell(text, value)?;
+    text.push_str("</tr>\n")
+}
+
 /// The days and hours in so many seconds.
 #[tactic(auto, unfolding(crate::specs::Rows::days_text))]
 fn push_days(text: &mut String, seconds: u64) -> Result<(), AllocError>
@@ -95,6 +117,26 @@ pub(crate) fn uptime_text(alloc: Global, uptime: u64) -> Result<String, AllocErr
     push_days(&mut text, seconds)?;
     push_minutes(&mut text, seconds)?;
     Ok(text)
+}
+
+/// So many bytes, in megabytes.
+#[tactic(auto, unfolding(crate::specs::Rows::megabytes_text))]
+fn megabytes_text(alloc: Global, bytes: u64) -> Result<String, AllocError>
+    ensures { IfOk result (λ text. string_bytes text ≡ megabytes_text bytes) }
+{
+    let whole = bytes / 1_000_000;
+    let tenths = bytes / 100_000 % 10;
+    format!(in alloc; "{whole}.{tenths} MB")
+}
+
+/// So many bytes, or these words where there are none.
+pub(crate) fn size_text(alloc: Global, none: &str, bytes: Option<u64>) -> Result<String, AllocError>
+    ensures { IfOk result (λ text. string_bytes text ≡ size_text none.now bytes) }
+{
+    match bytes {
+        Some(bytes) => megabytes_text(alloc, bytes),
+        None => String::from_str(alloc, none),
+    }
 }
 
 /// A text between the others of a line.

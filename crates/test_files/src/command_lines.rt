@@ -32,11 +32,12 @@ fn told(rt: &impl Abort, alloc: Global, line: &str) -> String {
                 mqtt3,
                 log,
                 status,
+                status_hosts,
                 listen,
                 bridge_listen,
             },
         ) => {
-            let waits = (listen, bridge_listen);
+            let waits = (status_hosts, listen, bridge_listen);
             let options = (turns, most_clients, connect_within, mqtt3, log, status);
             let AskedLimits {
                 most_memory,
@@ -49,7 +50,7 @@ fn told(rt: &impl Abort, alloc: Global, line: &str) -> String {
             } = limits;
             let packets = (longest_packet, most_filters, most_levels, most_properties);
             let limits = (most_memory, packets, longest_expiry, careful);
-            if waits != (None, None) {
+            if waits != (None, None, None) {
                 format!(in alloc; "node {configuration} {node} {database} {options:?} {waits:?}")
             } else if limits == (None, (None, None, None, None), None, false) {
                 format!(in alloc; "node {configuration} {node} {database} {options:?}")
@@ -131,11 +132,15 @@ fn reads_command_lines(rt: HostRuntime) {
         ),
         (
             "run c.toml n0 d.db --listen 0.0.0.0:1883 --bridge-listen=[::]:2883",
-            "node c.toml n0 d.db (None, None, None, false, false, None) (Some(\"0.0.0.0:1883\"), Some(\"[::]:2883\"))",
+            "node c.toml n0 d.db (None, None, None, false, false, None) (None, Some(\"0.0.0.0:1883\"), Some(\"[::]:2883\"))",
         ),
         (
             "serve c.toml n0 d.db --turns 1 --bridge-listen here",
-            "node c.toml n0 d.db (Some(1), None, None, false, false, None) (None, Some(\"here\"))",
+            "node c.toml n0 d.db (Some(1), None, None, false, false, None) (None, None, Some(\"here\"))",
+        ),
+        (
+            "run c.toml n0 d.db --status here --status-host=n0.example,status.example",
+            "node c.toml n0 d.db (None, None, None, false, false, Some(\"here\")) (Some(\"n0.example,status.example\"), None, None)",
         ),
         ("check c.toml n0 d.db", "check c.toml n0 d.db"),
         ("check --help", "0 (true, false)"),

@@ -11,6 +11,7 @@ use mqtt_bounds::Bounds;
 use node_server::{ListenAt, StatusPlace, serve};
 use row_database::{Wary, open_rows};
 use row_store::{MemoryRows, RowStore};
+use status_door::NoMachine;
 use std::alloc::Global;
 use std::process::Abort;
 use trial_fakes::{FakeSockets, RefusingRows};
@@ -94,7 +95,7 @@ fn served<R: RowStore + Drop>(
 {
     let mut clock = Rising { told: 0 };
     let mut out = Vec::new(alloc);
-    let nowhere: Option<StatusPlace<'_, FakeSockets>> = None;
+    let nowhere: Option<StatusPlace<'_, FakeSockets, NoMachine>> = None;
     let no_tables: Option<NoTables> = None;
     serve(
         alloc,

@@ -8,6 +8,7 @@ use door_tables::NoTables;
 use home_table::homes_of;
 use node_server::{ListenAt, StatusPlace, serve};
 use row_store::MemoryRows;
+use status_door::NoMachine;
 use std::alloc::Global;
 use std::hash::RandomState;
 use std::process::Abort;
@@ -52,9 +53,11 @@ fn ends_so(
         sockets: LentSockets {
             sockets: &mut asked,
         },
+        machine: NoMachine,
         keys,
         name: "n1",
         address: "127.0.0.1:8080",
+        hosts: "",
     };
     let mut out = Vec::new(alloc);
     let silent: Option<Vec<u8>> = None;
@@ -83,11 +86,11 @@ fn ends_so(
 
 #[test]
 fn a_node_tells_how_it_is(rt: HostRuntime) {
-    let all = b"GET /status.json HTTP/1.1\r\nhost: a\r\n\r\n".as_slice();
-    let gate = b"GET /caught-up HTTP/1.1\r\nhost: a\r\n\r\n".as_slice();
+    let all = b"GET /status.json HTTP/1.1\r\nhost: n1\r\n\r\n".as_slice();
+    let gate = b"GET /caught-up HTTP/1.1\r\nhost: n1\r\n\r\n".as_slice();
     // the other node says nothing, so that it isn't known to have any of the two operations
     let peers =
-        b"\"peers\":[{\"name\":\"n0\",\"number\":0,\"bridge\":\"127.0.0.1:2883\",\"linked\":true,\"away_milliseconds\":0,\"heard\":false,\"equal\":false,\"lacking\":2,\"missing\":0,\"waiting\":0}]}\n".as_slice();
+        b"\"peers\":[{\"name\":\"n0\",\"number\":0,\"bridge\":\"127.0.0.1:2883\",\"linked\":true,\"away_milliseconds\":0,\"heard\":false,\"equal\":false,\"lacking\":2,\"missing\":0,\"waiting\":0,\"lane_full\":false}]}\n".as_slice();
     for (nodes, request, end) in [
         (2, all, peers),
         (

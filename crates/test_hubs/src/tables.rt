@@ -7,6 +7,7 @@ use door_tables::Tables;
 use home_table::{HomeTable, homes_of, nodes_text};
 use node_server::{ListenAt, StatusPlace, serve};
 use row_store::MemoryRows;
+use status_door::NoMachine;
 use std::alloc::Global;
 use std::process::Abort;
 use trial_fakes::FakeSockets;
@@ -82,7 +83,7 @@ fn gets(rt: &impl Abort, alloc: Global, version: u32, from: u64, got: &[u8]) -> 
     };
     let mut out = Vec::new(alloc);
     let silent: Option<Vec<u8>> = None;
-    let nowhere: Option<StatusPlace<'_, FakeSockets>> = None;
+    let nowhere: Option<StatusPlace<'_, FakeSockets, NoMachine>> = None;
     let ended = serve(
         alloc,
         &mut network,

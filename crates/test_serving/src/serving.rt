@@ -14,6 +14,7 @@ use mio::net::{TcpListener, TcpStream};
 use node_keeper::{Keeper, KeeperFault};
 use node_server::{ListenAt, ServedNode, StatusPlace, serve};
 use row_store::MemoryRows;
+use status_door::NoMachine;
 use std::alloc::Global;
 use std::net::SocketAddr;
 use std::process::Abort;
@@ -151,7 +152,7 @@ fn serve_for(
     let mut clock = SteadyClock::new(RealClocks::new(rt));
     let rows = MemoryRows::new(alloc);
     let silent: Option<Vec<u8>> = None;
-    let nowhere: Option<StatusPlace<'_, RealSockets<'_, HostRuntime>>> = None;
+    let nowhere: Option<StatusPlace<'_, RealSockets<'_, HostRuntime>, NoMachine>> = None;
     let no_tables: Option<NoTables> = None;
     serve(
         alloc,

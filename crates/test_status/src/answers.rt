@@ -1,6 +1,6 @@
 //! What is answered to each request.
 
-use crate::figures::{equal_peer, figures};
+use crate::figures::{equal_peer, figures, well};
 use crate::turns::{desk, make};
 use std::alloc::Global;
 use std::hash::RandomState;
@@ -12,47 +12,47 @@ type Case = (&'static str, &'static str, &'static str);
 
 const CASES: [Case; 12] = [
     (
-        "GET /healthz HTTP/1.1\r\nhost: a\r\n\r\n",
+        "GET /healthz HTTP/1.1\r\nhost: n0\r\n\r\n",
         "HTTP/1.1 200 OK\r\ncontent-type: text/plain; charset=utf-8\r\ncache-control: no-store\r\ncontent-length: 3\r\n\r\n",
         "up\n",
     ),
     (
-        "HEAD /healthz HTTP/1.1\r\nhost: a\r\n\r\n",
+        "HEAD /healthz HTTP/1.1\r\nhost: n0\r\n\r\n",
         "HTTP/1.1 200 OK\r\n",
         "content-length: 3\r\n\r\n",
     ),
     (
-        "GET /caught-up HTTP/1.1\r\nhost: a\r\n\r\n",
+        "GET /caught-up HTTP/1.1\r\nhost: n0\r\n\r\n",
         "HTTP/1.1 503 Service Unavailable\r\n",
-        "\r\n\r\nnot caught up\n<b>&\"n2\\: linked, lacking operations: 5, more than here: 0\n",
+        "\r\n\r\nnot caught up\nthe table of homes in the file is not taken: line <4>\nthe program holds nearly all the memory that it may\n<b>&\"n2\\: linked, lacking operations: 5, more than here: 0\n",
     ),
     (
-        "GET /metrics?now HTTP/1.1\r\nhost: a\r\n\r\n",
+        "GET /metrics?now HTTP/1.1\r\nhost: n0\r\n\r\n",
         "HTTP/1.1 200 OK\r\ncontent-type: text/plain; version=0.0.4; charset=utf-8\r\n",
         "\nmqtt_cluster_caught_up 0\n",
     ),
     (
-        "GET /status.json HTTP/1.1\r\nhost: a\r\n\r\n",
+        "GET /status.json HTTP/1.1\r\nhost: n0\r\n\r\n",
         "HTTP/1.1 200 OK\r\ncontent-type: application/json\r\n",
-        ",\"lacking\":5,\"missing\":0,\"waiting\":7}]}\n",
+        ",\"lacking\":5,\"missing\":0,\"waiting\":7,\"lane_full\":false}]}\n",
     ),
     (
-        "GET / HTTP/1.1\r\nhost: a\r\n\r\n",
+        "GET / HTTP/1.1\r\nhost: n0\r\n\r\n",
         "HTTP/1.1 200 OK\r\ncontent-type: text/html; charset=utf-8\r\n",
         "</script>\n</body>\n</html>\n",
     ),
     (
-        "GET /other HTTP/1.1\r\nhost: a\r\n\r\n",
+        "GET /other HTTP/1.1\r\nhost: n0\r\n\r\n",
         "HTTP/1.1 404 Not Found\r\n",
         "\r\n\r\nnot found\n",
     ),
     (
-        "DELETE / HTTP/1.1\r\nhost: a\r\n\r\n",
+        "DELETE / HTTP/1.1\r\nhost: n0\r\n\r\n",
         "HTTP/1.1 405 Method Not Allowed\r\nallow: GET, HEAD\r\n",
         "\r\n\r\nnot allowed\n",
     ),
     (
-        "POST / HTTP/1.1\r\nhost: a\r\ncontent-length: 1\r\n\r\nx",
+        "POST / HTTP/1.1\r\nhost: n0\r\ncontent-length: 1\r\n\r\nx",
         "HTTP/1.1 413 Payload Too Large\r\n",
         "content-length: 0\r\n\r\n",
     ),
@@ -67,7 +67,7 @@ const CASES: [Case; 12] = [
         "content-length: 0\r\n\r\n",
     ),
     (
-        "GET / HTTP/1.1\r\nhost: a\r\nconnection: close\r\n\r\n",
+        "GET / HTTP/1.1\r\nhost: n0\r\nconnection: close\r\n\r\n",
         "HTTP/1.1 200 OK\r\n",
         "</html>\n",
     ),
@@ -99,6 +99,40 @@ fn each_request_has_its_answer(rt: HostRuntime) {
 }
 
 #[test]
+fn another_host_is_misdirected(rt: HostRuntime) {
+    let alloc = rt.alloc();
+    let keys = RandomState::new(&rt).expect(&rt, "keys");
+    for (host, fits) in [
+        ("10.0.0.1", true),
+        ("10.0.0.1:8080", true),
+        ("[::1]:8080", true),
+        ("localhost:8080", true),
+        ("N0:8080", true),
+        ("status.example", true),
+        ("N0.example:8080", true),
+        ("n1:8080", false),
+        ("n0.example.org:8080", false),
+        ("example:8080", false),
+        ("status.example,n0.example", false),
+        ("10.0.0.1.example", false),
+        ("localhost.example", false),
+    ] {
+        let asks = format!(in alloc; "GET /healthz HTTP/1.1\r\nhost: {host}\r\n\r\n").expect(
+            &rt, "memory",
+        );
+        let came = answer(&rt, alloc, keys, asks.as_bytes());
+        assert_eq!(rt; came.ends_with(b"\r\n\r\nup\n"), fits);
+        assert_eq!(rt;
+            came.starts_with(b"HTTP/1.1 421 Misdirected Request\r\n"),
+            !fits
+        );
+        drop((asks, came));
+    }
+    let came = answer(&rt, alloc, keys, b"GET /healthz HTTP/1.0\r\n\r\n");
+    assert!(rt; came.ends_with(b"\r\n\r\nup\n"));
+}
+
+#[test]
 fn long_heads_are_refused(rt: HostRuntime) {
     let alloc = rt.alloc();
     let keys = RandomState::new(&rt).expect(&rt, "keys");
@@ -110,7 +144,7 @@ fn long_heads_are_refused(rt: HostRuntime) {
     let came = answer(&rt, alloc, keys, &asks);
     assert!(rt; came.starts_with(b"HTTP/1.1 414 URI Too Long\r\n"));
     let mut asks = Vec::new(alloc);
-    asks.extend_from_slice(b"GET / HTTP/1.1\r\nhost: a\r\nb: ")
+    asks.extend_from_slice(b"GET / HTTP/1.1\r\nhost: n0\r\nb: ")
         .expect(&rt, "memory");
     for _ in 0..9000 {
         asks.push(b'a').expect(&rt, "memory");
@@ -128,20 +162,20 @@ fn contains(all: &[u8], part: &[u8]) -> bool {
 fn names_are_escaped(rt: HostRuntime) {
     let alloc = rt.alloc();
     let keys = RandomState::new(&rt).expect(&rt, "keys");
-    let page = answer(&rt, alloc, keys, b"GET / HTTP/1.1\r\nhost: a\r\n\r\n");
+    let page = answer(&rt, alloc, keys, b"GET / HTTP/1.1\r\nhost: n0\r\n\r\n");
     assert!(rt; contains(&page, b"<td>&lt;b&gt;&amp;&quot;n2\\</td>"));
     assert!(rt; contains(&page, b"<td>1 d 2 h 3 min 4 s</td>"));
     assert!(rt;
         contains(
             &page,
-            b"<p class=\"apart\">Apart: 1 of 2 peers (not linked, not heard, or with other operations).</p>"
+            b"<p class=\"apart\">Apart: 1 of 2 peers (not linked, not heard, with other operations, or with a full lane).</p>"
         )
     );
     let metrics = answer(
         &rt,
         alloc,
         keys,
-        b"GET /metrics HTTP/1.1\r\nhost: a\r\n\r\n",
+        b"GET /metrics HTTP/1.1\r\nhost: n0\r\n\r\n",
     );
     assert!(rt;
         contains(
@@ -153,7 +187,7 @@ fn names_are_escaped(rt: HostRuntime) {
         &rt,
         alloc,
         keys,
-        b"GET /status.json HTTP/1.1\r\nhost: a\r\n\r\n",
+        b"GET /status.json HTTP/1.1\r\nhost: n0\r\n\r\n",
     );
     assert!(rt; contains(&json, b"{\"name\":\"<b>&\\\"n2\\\\\",\"number\":2,"));
 }
@@ -162,9 +196,13 @@ fn names_are_escaped(rt: HostRuntime) {
 fn what_misleads_is_told(rt: HostRuntime) {
     let alloc = rt.alloc();
     let keys = RandomState::new(&rt).expect(&rt, "keys");
-    let page = answer(&rt, alloc, keys, b"GET / HTTP/1.1\r\nhost: a\r\n\r\n");
+    let page = answer(&rt, alloc, keys, b"GET / HTTP/1.1\r\nhost: n0\r\n\r\n");
     for part in [
         "<p class=\"apart\">This node has left something out since it started (below).</p>",
+        "<p class=\"apart\">The table of homes in the file of this node is not taken: line &lt;4&gt;.</p>",
+        "<p class=\"apart\">The program holds nearly all the memory that it may (below): it may take nothing new.</p>",
+        "<tr class=\"apart\"><th>Memory of the program</th><td>123.4 MB</td></tr>\n<tr><th>Memory that it may hold</th><td>125.0 MB</td></tr>\n",
+        "<tr><th>Database</th><td>not known</td></tr>\n<tr><th>Log of the database</th><td>0.0 MB</td></tr>\n",
         "<tr class=\"apart\"><th>Copies for a full queue</th><td>21</td></tr>",
         "<tr><th>Refused: Not authorized (0x87)</th><td>17</td></tr>",
         "<tr><th>Ended: Keep Alive timeout (0x8D)</th><td>18</td></tr>",
@@ -176,39 +214,80 @@ fn what_misleads_is_told(rt: HostRuntime) {
         &rt,
         alloc,
         keys,
-        b"GET /metrics HTTP/1.1\r\nhost: a\r\n\r\n",
+        b"GET /metrics HTTP/1.1\r\nhost: n0\r\n\r\n",
     );
     for part in [
         "\nmqtt_connections_refused_total{code=\"0x87\"} 17\n",
         "\nmqtt_connections_ended_total{code=\"0x8D\"} 18\n",
         "\nmqtt_longest_turn_seconds 0.016\n",
         "\nmqtt_table_version 3\n",
+        "\nmqtt_memory_bytes 123456789\n# HELP mqtt_most_memory_bytes ",
+        "\nmqtt_most_memory_bytes 125000000\n# HELP mqtt_database_log_bytes ",
+        "\nmqtt_table_file_refused 1\n",
+        "\nmqtt_cluster_peer_lane_full{peer=\"n1\"} 0\n",
         "\nmqtt_tables_refused_total 27\n",
         "\nmqtt_cluster_peer_heard{peer=\"n1\"} 1\n",
     ] {
         assert!(rt; contains(&metrics, part.as_bytes()));
     }
+    let json = answer(
+        &rt,
+        alloc,
+        keys,
+        b"GET /status.json HTTP/1.1\r\nhost: n0\r\n\r\n",
+    );
+    let part =
+        ",\"memory_bytes\":123456789,\"most_memory_bytes\":125000000,\"database_bytes\":null,\"database_log_bytes\":0,\"table_refusal\":\"line <4>\",";
+    assert!(rt; contains(&json, part.as_bytes()));
 }
 
 #[test]
 fn peers_hold_the_gate(rt: HostRuntime) {
     let alloc = rt.alloc();
-    for (linked, heard, lacking, missing, is_open) in [
-        (true, true, 0, 0, true),
-        (false, true, 0, 0, false),
-        (true, false, 0, 0, false),
-        (true, true, 1, 0, false),
-        (true, true, 0, 1, false),
+    for (linked, heard, lacking, missing, waiting, is_open) in [
+        (true, true, 0, 0, 65_535, true),
+        (false, true, 0, 0, 0, false),
+        (true, false, 0, 0, 0, false),
+        (true, true, 1, 0, 0, false),
+        (true, true, 0, 1, 0, false),
+        (true, true, 0, 0, 65_536, false),
     ] {
-        let mut told = figures(&rt, alloc, 0);
+        let mut told = well(&rt, alloc);
         let mut peer = equal_peer(&rt, alloc);
         peer.linked = linked;
         peer.heard = heard;
         peer.lacking = lacking;
         peer.missing = missing;
+        peer.waiting = waiting;
         told.peers.push(peer).expect(&rt, "memory");
         assert_eq!(rt; told.is_caught_up(), is_open);
+        assert_eq!(rt; told.is_well(), is_open);
         assert_eq!(rt; told.apart() == 0, is_open);
         drop(told);
     }
+}
+
+#[test]
+fn what_lacks_holds_the_gate(rt: HostRuntime) {
+    let alloc = rt.alloc();
+    for (memory, most_memory, is_open) in [
+        (None, None, true),
+        (Some(90), None, true),
+        (None, Some(100), true),
+        (Some(90), Some(100), true),
+        (Some(91), Some(100), false),
+    ] {
+        let mut told = well(&rt, alloc);
+        told.usage.memory = memory;
+        told.usage.most_memory = most_memory;
+        assert_eq!(rt; told.is_caught_up(), is_open);
+        drop(told);
+    }
+    let mut told = well(&rt, alloc);
+    told.left_out.queue_full = 1;
+    assert!(rt; told.is_caught_up());
+    assert!(rt; !told.is_well());
+    told.refusal = Some(String::new(alloc));
+    assert!(rt; !told.is_caught_up());
+    drop(told);
 }

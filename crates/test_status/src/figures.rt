@@ -1,6 +1,6 @@
 //! The figures that are told.
 
-use status_figures::{CodeCount, Figures, LeftOut, Peer, Traffic};
+use status_figures::{CodeCount, Figures, LeftOut, Peer, Traffic, Usage};
 use std::alloc::Global;
 use std::process::Abort;
 
@@ -70,6 +70,7 @@ pub(crate) fn figures(rt: &impl Abort, alloc: Global, lacking: u64) -> Figures {
         name: text(rt, alloc, "n0"),
         number: 0,
         table: 3,
+        refusal: Some(text(rt, alloc, "line <4>")),
         uptime: 93_784_567,
         clients: 11,
         sessions: 12,
@@ -77,6 +78,12 @@ pub(crate) fn figures(rt: &impl Abort, alloc: Global, lacking: u64) -> Figures {
         retained: 14,
         topics: 15,
         longest_turn: 16,
+        usage: Usage {
+            memory: Some(123_456_789),
+            most_memory: Some(125_000_000),
+            database: None,
+            log: Some(0),
+        },
         refused: given(rt, alloc, 0x87, 17),
         ended: given(rt, alloc, 0x8D, 18),
         left_out: LeftOut {
@@ -92,4 +99,21 @@ pub(crate) fn figures(rt: &impl Abort, alloc: Global, lacking: u64) -> Figures {
         recent: traffic(30),
         peers,
     }
+}
+
+/// A node with two equal peers, at which nothing lacks and nothing was left out.
+pub(crate) fn well(rt: &impl Abort, alloc: Global) -> Figures {
+    let mut told = figures(rt, alloc, 0);
+    told.refusal = None;
+    told.usage = Usage::unknown();
+    told.left_out = LeftOut {
+        queue_full: 0,
+        retained_full: 0,
+        picks_lost: 0,
+        lane_full: 0,
+        bad_frames: 0,
+        frames_too_large: 0,
+        tables_refused: 0,
+    };
+    told
 }

@@ -18,7 +18,7 @@ pub(crate) fn desk(
 ) -> Desk<u16, usize> {
     let free = "127.0.0.1:0".parse().expect(rt, "an address");
     let port = network.listen(free).expect(rt, "a port is free");
-    Desk::new(alloc, keys, port).expect(rt, "memory")
+    Desk::new(alloc, keys, port, "status.example,n0.example").expect(rt, "memory")
 }
 
 /// Makes turns at these moments.
@@ -44,7 +44,7 @@ fn sixteen_are_let_in_and_the_oldest_goes(rt: HostRuntime) {
     for _ in 0..16 {
         network.client(1, b"", 100, 100).expect(&rt, "memory");
     }
-    let asks = b"GET /healthz HTTP/1.1\r\nhost: a\r\n\r\n";
+    let asks = b"GET /healthz HTTP/1.1\r\nhost: n0\r\n\r\n";
     make(&mut desk, &mut network, &told, (1, 5));
     assert_eq!(rt; desk.visitors(), 16);
     let last = network.client(1, asks, 100, 1000).expect(&rt, "memory");
@@ -66,7 +66,7 @@ fn slow_readers_are_let_go(rt: HostRuntime) {
     let mut network = FakeSockets::new(alloc);
     let mut desk = desk(&rt, alloc, keys, &mut network);
     let told = figures(&rt, alloc, 0);
-    let asks = b"GET / HTTP/1.1\r\nhost: a\r\n\r\n";
+    let asks = b"GET / HTTP/1.1\r\nhost: n0\r\n\r\n";
     let slow = network.client(1, asks, 100, 1).expect(&rt, "memory");
     make(&mut desk, &mut network, &told, (0, 10));
     assert_eq!(rt; network.came(slow).len(), 10);
@@ -83,7 +83,7 @@ fn requests_come_in_any_pieces(rt: HostRuntime) {
     let mut desk = desk(&rt, alloc, keys, &mut network);
     let told = figures(&rt, alloc, 0);
     let asks =
-        b"GET /caught-up HTTP/1.1\r\nhost: a\r\n\r\nGET /caught-up HTTP/1.1\r\nhost: a\r\n\r\n";
+        b"GET /caught-up HTTP/1.1\r\nhost: n0\r\n\r\nGET /caught-up HTTP/1.1\r\nhost: n0\r\n\r\n";
     let whole = network.client(1, asks, 1000, 1000).expect(&rt, "memory");
     let piecewise = network.client(1, asks, 1, 1).expect(&rt, "memory");
     make(&mut desk, &mut network, &told, (0, 1000));

@@ -16,5 +16,6 @@ returns c = (
   c.in_ok-text_of.ensures,
   c.in_ok-text_of-2.ensures,
   c.in_ok-text_of-3.ensures,
+  c.in_ok-text_of-4.ensures,
   c.in-Some-limits_of.ensures,
 )

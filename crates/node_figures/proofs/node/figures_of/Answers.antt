@@ -14,8 +14,8 @@ use Rattle.subscription_set.specs.Statuses.{Statuses}
 held_by : (up : Option HeldView) (P : HeldView → Type 0) (h : HeldView) → up ≡ Some h → MatchOption up (Unit {0}) P → P h
 held_by up P h is holds = subst (λ (o : Option HeldView). MatchOption o (Unit {0}) P) is holds
 
-pub returns : goal.returns
-returns c =
+pub returns-clause-figures : goal.returns-clause-figures
+returns-clause-figures c =
     λ h up.
     let store : c.store-store.result.now ≡ h.store = held_by c.args.node.now.up (λ (k : HeldView). c.store-store.result.now ≡ k.store) h up c.store-store.ensures in
     let counts : c.counts.result ≡ h.counts = held_by c.args.node.now.up (λ (k : HeldView). c.counts.result ≡ k.counts) h up c.counts.ensures in
