@@ -94,15 +94,19 @@ module _ {S H L T F : Type 0}
       IsBrokenOff (IsAskedOnce accepts watches connects reads) handles hears refuses declines at q.reach.sockets q.reach.near.handler q'.reach.sockets q'.reach.near.handler fault
       ⊎ IsDecidedInVain watches connects handles hears stops setting at q q' fault
 
+-- a client is offered what waits for it, and is lost
+abbrev pub IsWrittenLast : {S T : Type 0} → (S → T → List ℕ → Answer → S → T → Type 0) → S → Client T → S → Client T → Type 0
+IsWrittenLast writes s client s' left = IsWritten writes s client Lost s' left
+
 module _ {S H T F : Type 0} (writes : S → T → List ℕ → Answer → S → T → Type 0)
     (handles : H → Event → List Output → H → Type 0) (hears : H → PeerEvent → Given → H → Type 0)
     (refuses : H → Event → F → H → Type 0) (declines : H → PeerEvent → F → H → Type 0) (stops : H → F → H → Type 0) (at : ℕ) where
-  -- a client was offered what waits for it and is lost. The handler can't be told, or it was told, and can't settle.
+  -- a client is lost so. The handler can't be told, or it was told, and can't settle.
   pub record IsUnwrote (key : ℕ) (w w' : World S H T) (fault : TurnFault F) : Type 0 where
     pub client : Client T
     pub found : get w.clients key ≡ Some client
     pub left : Client T
-    pub written : IsWritten writes w.sockets client Lost w'.sockets left
+    pub written : IsWrittenLast writes w.sockets client w'.sockets left
     pub unasked : left.closing ≡ false
     pub breaks :
         IsBroken handles hears refuses declines at w.handler w'.handler fault

@@ -255,7 +255,7 @@ module _ {R : Type 0} (is_clean is_open : R → Type 0) (content : R → Content
               λ clean.
                   let Done : List (turns.Call T) → Whole R F G E W → Whole R F G E W → Type 0 = λ calls a b. Through (IsDone T Whole_handles Whole_hears Whole_settles) calls a b in
                   let m = old.place.reach.near.handler in
-                  let told = told_done Whole_handles Whole_hears Whole_settles cut.told cut.reached.reach.near.handler cut.last cut.more in
+                  let told = told_done T Whole_handles Whole_hears Whole_settles cut.told cut.reached.reach.near.handler cut.last cut.more in
                   let rest = through_join (IsDone T Whole_handles Whole_hears Whole_settles) cut.calls (map turns.Tells cut.told) m cut.reached.reach.near.handler cut.last cut.trace.done told in
                   let calls = before ++ (cut.calls ++ map turns.Tells cut.told) in
                   let all = through_join (IsDone T Whole_handles Whole_hears Whole_settles) before (cut.calls ++ map turns.Tells cut.told) d m cut.last done rest in

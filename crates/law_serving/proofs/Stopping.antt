@@ -1,6 +1,7 @@
 -- Serving that stops is a run that a crash ends.
-use Rattle.std.proofs.Common.{◌≡◌, ℕ, zero, List, [], ◌∷◌, ◌++◌, map, Bool, true, false, Option, refl, sym, subst, ap, ◌∙◌, inl, inr}
+use Rattle.std.proofs.Common.{◌≡◌, ◌⊎◌, ℕ, zero, List, [], ◌∷◌, ◌++◌, map, Bool, true, false, Option, Some, refl, sym, subst, ap, ◌∙◌, inl, inr}
 use Rattle.std.specs.declared.net.socket_addr.SocketAddr.{SocketAddr}
+use Rattle.slab.specs.Slab.{get}
 use Rattle.broker_sockets.specs.declared.bridge.Given.{Given}
 use Rattle.broker_sockets.specs.declared.bridge.PeerEvent.{PeerEvent}
 use Rattle.broker_sockets.specs.declared.events.Event.{Event}
@@ -9,16 +10,15 @@ use Rattle.broker_sockets.specs.declared.events.Output.{Output}
 use Rattle.broker_sockets.specs.declared.network.Answer.{Answer}
 use Rattle.broker_sockets.specs.declared.ready.Ready.{Ready}
 use Rattle.broker_sockets.specs.declared.ready.Watched.{Watched}
+use Rattle.broker_turns.specs.declared.clients.Client.{Client}
 use Rattle.broker_turns.specs.declared.setting.Setting.{Setting}
-use Rattle.broker_turns.specs.declared.turn.Fate.TheVariants.{Lost}
 use Rattle.broker_turns.specs.declared.turn.TurnFault.{TurnFault}
 use Rattle.broker_turns.specs.Bridging.{Place, Reach, Search, place, search}
-use Rattle.broker_turns.specs.Broken.{IsAskedOnce, IsBroken, IsBrokenOff, IsBrokenTurn, IsEnd, IsGivenInVain, IsUndecidedTurn, IsUngivenTurn, IsUnlooked, IsUnsettled, IsUnwrote}
+use Rattle.broker_turns.specs.Broken.{IsAskedOnce, IsBroken, IsBrokenOff, IsBrokenTurn, IsEnd, IsGivenInVain, IsUndecidedTurn, IsUngivenTurn, IsUnlooked, IsUnsettled, IsUnwrote, IsWrittenLast}
 use Rattle.broker_turns.specs.Connections.{World, event}
 use Rattle.broker_turns.specs.Handling.{AreTold, Told}
 use Rattle.broker_turns.specs.Handling.Told.{Of_client}
 use Rattle.broker_turns.specs.Turns.{IsDecided, IsTakenIn, Site, front}
-use Rattle.broker_turns.specs.Writing.{IsWritten}
 use Rattle.law_serving.specs.Calls.{Call, IsAt, IsDone, Rests, Settles, Tells, Through}
 use Rattle.law_serving.specs.Stopping.{IsCutTurn, IsSince}
 use Rattle.law_serving.specs.Traces.{IsTrace}
@@ -27,10 +27,10 @@ use Rattle.law_serving.proofs.Turning.{Made, decided, each_wrote, given_out, non
 use Rattle.law_serving.proofs.Walking.{all_join, spot, through_join, walked_settles}
 
 -- what the handler is told, as calls
-pub told_done : {H T : Type 0} (handles : H → Event → List Output → H → Type 0) (hears : H → PeerEvent → Given → H → Type 0) (settles : H → H → Type 0) (told : List Told) (h h' : H)
+pub told_done : {H : Type 0} (T : Type 0) (handles : H → Event → List Output → H → Type 0) (hears : H → PeerEvent → Given → H → Type 0) (settles : H → H → Type 0) (told : List Told) (h h' : H)
     → AreTold handles hears told h h' → Through (IsDone T handles hears settles) (map Tells told) h h'
-told_done handles hears settles [] h h' same = same
-told_done handles hears settles (t ∷ told) h h' all = (all.0, all.1, told_done handles hears settles told all.0 h' all.2)
+told_done T handles hears settles [] h h' same = same
+told_done T handles hears settles (t ∷ told) h h' all = (all.0, all.1, told_done T handles hears settles told all.0 h' all.2)
 
 module _
     {S H L T Fault : Type 0} (accepts : S → L → Option T → S → Type 0) (watches : S → T → Watched → Bool → S → Type 0) (connects : S → SocketAddr → Option T → S → Type 0)
@@ -126,10 +126,10 @@ module _
     ]
 
     module _ (gives : Reach S H T → Type 0) (u : IsUngivenTurn accepts watches connects reads writes handles hears settles refuses declines stops setting at old s' h' fault gives) where
-      roomed_at : Place S H T
+      abbrev roomed_at : Place S H T
       roomed_at = place u.decides.roomed.sockets u.decides.roomed.near u.taken.accepted
 
-      settled_at : Place S H T
+      abbrev settled_at : Place S H T
       settled_at = place u.settled.sockets u.settled.near u.taken.accepted
 
       settles_there : Walks accepts watches connects reads writes finds handles hears settles setting at (Settles ∷ []) roomed_at settled_at
@@ -158,8 +158,9 @@ module _
     unwrote u between out key is =
         let gives = IsGivenInVain accepts watches connects reads writes handles hears settles refuses declines stops setting at old s' h' fault in
         let s = spot between.sockets between.handler between.clients u.settled.near.dialled u.taken.accepted in
-        let Written : S → Type 0 = λ x. IsWritten writes between.sockets is.client Lost x is.left in
-        let offered = (key, is.client, is.found, is.left, subst Written u.gives_out.sockets is.written) in
+        let Written : S → Type 0 = λ x. IsWrittenLast writes between.sockets is.client x is.left in
+        let offered : (k : ℕ) × (client : Client T) × (get between.clients k ≡ Some client) × (left : Client T) × IsWrittenLast writes between.sockets client s' left =
+        (key, is.client, is.found, is.left, subst Written u.gives_out.sockets is.written) in
         elim is.breaks [
           | inl broken ↦
               let Ended : H → Type 0 = λ x. IsBroken handles hears refuses declines at between.handler x fault in

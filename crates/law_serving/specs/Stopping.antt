@@ -12,15 +12,13 @@ use Rattle.broker_sockets.specs.declared.ready.Ready.{Ready}
 use Rattle.broker_sockets.specs.declared.ready.Watched.{Watched}
 use Rattle.broker_turns.specs.declared.clients.Client.{Client}
 use Rattle.broker_turns.specs.declared.setting.Setting.{Setting}
-use Rattle.broker_turns.specs.declared.turn.Fate.TheVariants.{Lost}
 use Rattle.broker_turns.specs.declared.turn.TurnFault.{TurnFault}
 use Rattle.broker_turns.specs.declared.turn.TurnFault.TheVariants.{NoMemory}
 use Rattle.broker_turns.specs.Bridging.{Place}
-use Rattle.broker_turns.specs.Broken.{Again, IsAskedOnce, IsBrokenOff, IsBrokenTurn, IsEnd, IsUnsettled}
+use Rattle.broker_turns.specs.Broken.{Again, IsAskedOnce, IsBrokenOff, IsBrokenTurn, IsEnd, IsUnsettled, IsWrittenLast}
 use Rattle.broker_turns.specs.Handling.{AreTold, Told}
 use Rattle.broker_turns.specs.Serving.{IsCut, IsUnserved}
 use Rattle.broker_turns.specs.Turns.{IsStart, IsTurn, Site as Seat}
-use Rattle.broker_turns.specs.Writing.{IsWritten}
 use Rattle.cluster_play.specs.Worlds.{World}
 use Rattle.door_tables.specs.Calls.{Made}
 use Rattle.node_keeper.specs.Batches.{Answered}
@@ -44,7 +42,7 @@ module _
   abbrev pub IsSince : Place S H T → List Told → Type 0
   IsSince reached told =
       Again (IsAskedOnce accepts watches connects reads) reached.reach.sockets s'
-      ⊎ ((key : ℕ) × (client : Client T) × (get reached.reach.near.clients key ≡ Some client) × (left : Client T) × IsWritten writes reached.reach.sockets client Lost s' left)
+      ⊎ ((key : ℕ) × (client : Client T) × (get reached.reach.near.clients key ≡ Some client) × (left : Client T) × IsWrittenLast writes reached.reach.sockets client s' left)
       ⊎ ((told ≡ []) × (fault ≡ NoMemory))
 
   -- What passes at the two doors of a hub in a turn that stops. First, as in any turn, the handler is told just what the sockets bring, and each stream takes just
