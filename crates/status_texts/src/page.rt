@@ -16,7 +16,7 @@ pub(crate) const HEAD: &str =
 
 /// How the page looks.
 pub(crate) const STYLE: &str =
-    "body{font:16px/1.5 system-ui,sans-serif;max-width:46rem;margin:2rem auto;padding:0 1rem;color-scheme:light dark}table{border-collapse:collapse;width:100%;margin:0 0 1.5rem}th,td{text-align:left;padding:.25rem .75rem;border-bottom:1px solid #8884}th{font-weight:normal}td{font-variant-numeric:tabular-nums}p{padding:.75rem;border-radius:.4rem}.agrees{background:#2a82}.apart{background:#d322}.old{opacity:.4}@media(max-width:40rem){th,td{padding:.25rem;font-size:.85rem}td:first-child{overflow-wrap:anywhere}th:nth-child(2):nth-last-child(4),td:nth-child(2):nth-last-child(4){display:none}}";
+    "body{font:16px/1.5 system-ui,sans-serif;max-width:46rem;margin:2rem auto;padding:0 1rem;color-scheme:light dark}table{border-collapse:collapse;width:100%;margin:0 0 1.5rem}th,td{text-align:left;padding:.25rem .75rem;border-bottom:1px solid #8884}th{font-weight:normal}th:first-child:nth-last-child(2){width:60%}td{font-variant-numeric:tabular-nums}td:nth-child(2):nth-last-child(4){overflow-wrap:anywhere}h2:not(:has(+table td)),table:not(:has(td)){display:none}p{padding:.75rem;border-radius:.4rem}p.none{background:#8882}.agrees{background:#2a82}.apart{background:#d322}.old{opacity:.4}@media(max-width:40rem){th,td{padding:.25rem;font-size:.85rem}td:first-child{overflow-wrap:anywhere}th:nth-child(2):nth-last-child(4),td:nth-child(2):nth-last-child(4){display:none}}";
 
 /// Asks every two seconds for the page again, and shows it; it is pale where no answer comes.
 pub(crate) const SCRIPT: &str =
