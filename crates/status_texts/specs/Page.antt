@@ -71,14 +71,19 @@ with_held figures text =
     (with_number (codes "Sessions") figures.sessions
     text)))
 
--- what the program takes of its machine
-unfoldable pub with_usage : Usage → List ℕ → List ℕ
-with_usage usage text =
+-- how much memory the program holds, and may hold
+unfoldable pub with_memory : Usage → List ℕ → List ℕ
+with_memory usage text =
+    with_row (codes "Memory that it may hold") (size_text (codes "not limited") usage.most_memory)
+    (with_state (is_short usage) (codes "Memory of the program") (size_text (codes "not known") usage.memory)
+    text)
+
+-- how long the files of its database are
+unfoldable pub with_files : Usage → List ℕ → List ℕ
+with_files usage text =
     with_row (codes "Log of the database") (size_text (codes "not known") usage.log)
     (with_row (codes "Database") (size_text (codes "not known") usage.database)
-    (with_row (codes "Memory that it may hold") (size_text (codes "not limited") usage.most_memory)
-    (with_state (is_short usage) (codes "Memory of the program") (size_text (codes "not known") usage.memory)
-    text)))
+    text)
 
 unfoldable pub with_turns : ℕ → List ℕ → List ℕ
 with_turns longest text = with_number (codes "Longest turn of ten seconds, in milliseconds") longest text ++ codes "</table>\n"
@@ -137,11 +142,11 @@ abbrev pub page_text : Figures → List ℕ
 page_text figures =
     with_tail (with_frames_dropped figures.left_out (with_dropped figures.left_out (with_codes figures (with_links figures.recent (with_clients figures.recent
     (with_peers figures.peers.items
-    (with_turns figures.longest_turn (with_usage figures.usage (with_held figures (with_node figures
+    (with_turns figures.longest_turn (with_files figures.usage (with_memory figures.usage (with_held figures (with_node figures
     (with_head (escaped figures.name.bytes.items) []
     ++ verdict_text (is_well figures) (count_by (λ peer. not (agrees peer)) figures.peers.items) (length figures.peers.items)
     ++ loss_text (is_whole figures.left_out)
     ++ untaken_text figures.refusal
-    ++ short_text (is_short figures.usage)))))
+    ++ short_text (is_short figures.usage))))))
     ++ peers_head)
     ++ codes "</table>\n"))))))

@@ -1,7 +1,7 @@
 //! The page of a node: one document that asks for nothing but itself, and is read without its script.
 
 ghost use Rattle.std.specs.Prelude.{◌≡◌, ◌++◌, string_bytes, IfOk, OnOk};
-ghost use Rattle.status_texts.specs.Page.{apart_words, loss_text, page_text, peers_head, sentence, short_text, untaken_text, untaken_words, verdict_class, verdict_text, with_clients, with_codes, with_dropped, with_frames_dropped, with_head, with_held, with_links, with_node, with_tail, with_turns, with_usage};
+ghost use Rattle.status_texts.specs.Page.{apart_words, loss_text, page_text, peers_head, sentence, short_text, untaken_text, untaken_words, verdict_class, verdict_text, with_clients, with_codes, with_dropped, with_files, with_frames_dropped, with_head, with_held, with_links, with_memory, with_node, with_tail, with_turns};
 
 use crate::codes::push_code_rows;
 use crate::escape::escaped;
@@ -16,7 +16,7 @@ pub(crate) const HEAD: &str =
 
 /// How the page looks.
 pub(crate) const STYLE: &str =
-    "body{font:16px/1.5 system-ui,sans-serif;max-width:46rem;margin:2rem auto;padding:0 1rem;color-scheme:light dark}table{border-collapse:collapse;width:100%;margin:0 0 1.5rem}th,td{text-align:left;padding:.25rem .75rem;border-bottom:1px solid #8884}th{font-weight:normal}td{font-variant-numeric:tabular-nums}p{padding:.75rem;border-radius:.4rem}.agrees{background:#2a82}.apart{background:#d322}.old{opacity:.4}@media(max-width:40rem){th,td{padding:.25rem;font-size:.85rem}td:first-child{overflow-wrap:anywhere}th:nth-child(2):nth-last-child(4),td:nth-child(2):nth-last-child(4){display:none}}";
+    "body{font:16px/1.5 system-ui,sans-serif;max-width:46rem;margin:2rem auto;padding:0 1rem;color-scheme:light dark}table{border-collapse:collapse;width:100%;margin:0 0 1.5rem}th,td{text-align:left;padding:.25rem .75rem;border-bottom:1px solid #8884}th{font-weight:normal}th:first-child:nth-last-child(2){width:60%}td{font-variant-numeric:tabular-nums}td:nth-child(2):nth-last-child(4){overflow-wrap:anywhere}h2:not(:has(+table td)),table:not(:has(td)){display:none}p{padding:.75rem;border-radius:.4rem}p.none{background:#8882}.agrees{background:#2a82}.apart{background:#d322}.old{opacity:.4}@media(max-width:40rem){th,td{padding:.25rem;font-size:.85rem}td:first-child{overflow-wrap:anywhere}th:nth-child(2):nth-last-child(4),td:nth-child(2):nth-last-child(4){display:none}}";
 
 /// Asks every two seconds for the page again, and shows it; it is pale where no answer comes.
 pub(crate) const SCRIPT: &str =
@@ -56,10 +56,11 @@ fn verdict_class(well: bool) -> &'static str
 }
 
 #[tactic(auto, unfolding(crate::specs::Page::apart_words))]
-fn apart_words(alloc: Global, apart: usize, peers: usize) -> Result<String, AllocError>
-    ensures { IfOk result (λ text. string_bytes text ≡ apart_words apart peers) }
+fn push_apart_words(text: &mut String, apart: usize, peers: usize) -> Result<(), AllocError>
+    ensures { OnOk result (string_bytes text.new ≡ string_bytes text.old ++ apart_words apart peers) }
 {
-    format!(in alloc;
+    write!(
+        text,
         "Apart: {apart} of {peers} peers (not linked, not heard, with other operations, or with a full lane)."
     )
 }
@@ -84,7 +85,8 @@ fn push_verdict(
         let agrees = "Each peer is linked, and has what this node has.";
         return push_sentence(text, class, agrees);
     }
-    let words = apart_words(alloc, apart, peers)?;
+    let mut words = String::new(alloc);
+    push_apart_words(&mut words, apart, peers)?;
     push_sentence(text, "apart", &words)
 }
 
@@ -168,17 +170,24 @@ fn push_held(text: &mut String, figures: &Figures) -> Result<(), AllocError>
     )
 }
 
-/// What the program takes of its machine.
-#[tactic(auto, unfolding(crate::specs::Page::with_usage))]
-fn push_usage(alloc: Global, text: &mut String, usage: &Usage) -> Result<(), AllocError>
-    ensures { OnOk result (string_bytes text.new ≡ with_usage usage.now (string_bytes text.old)) }
+/// How much memory the program holds, and may hold.
+#[tactic(auto, unfolding(crate::specs::Page::with_memory))]
+fn push_memory(alloc: Global, text: &mut String, usage: &Usage) -> Result<(), AllocError>
+    ensures { OnOk result (string_bytes text.new ≡ with_memory usage.now (string_bytes text.old)) }
 {
     let memory = size_text(alloc, "not known", usage.memory)?;
     let most = size_text(alloc, "not limited", usage.most_memory)?;
+    push_state(text, usage.is_short(), "Memory of the program", &memory)?;
+    push_row(text, "Memory that it may hold", &most)
+}
+
+/// How long the files of its database are.
+#[tactic(auto, unfolding(crate::specs::Page::with_files))]
+fn push_files(alloc: Global, text: &mut String, usage: &Usage) -> Result<(), AllocError>
+    ensures { OnOk result (string_bytes text.new ≡ with_files usage.now (string_bytes text.old)) }
+{
     let database = size_text(alloc, "not known", usage.database)?;
     let log = size_text(alloc, "not known", usage.log)?;
-    push_state(text, usage.is_short(), "Memory of the program", &memory)?;
-    push_row(text, "Memory that it may hold", &most)?;
     push_row(text, "Database", &database)?;
     push_row(text, "Log of the database", &log)
 }
@@ -299,7 +308,8 @@ pub fn page_of(alloc: Global, figures: &Figures) -> Result<String, AllocError>
     push_short(&mut text, figures.usage.is_short())?;
     push_node(alloc, &mut text, figures)?;
     push_held(&mut text, figures)?;
-    push_usage(alloc, &mut text, &figures.usage)?;
+    push_memory(alloc, &mut text, &figures.usage)?;
+    push_files(alloc, &mut text, &figures.usage)?;
     push_turns(&mut text, figures.longest_turn)?;
     push_peers_head(&mut text)?;
     push_peers(alloc, &mut text, &figures.peers)?;

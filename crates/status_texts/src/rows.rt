@@ -121,22 +121,24 @@ pub(crate) fn uptime_text(alloc: Global, uptime: u64) -> Result<String, AllocErr
 
 /// So many bytes, in megabytes.
 #[tactic(auto, unfolding(crate::specs::Rows::megabytes_text))]
-fn megabytes_text(alloc: Global, bytes: u64) -> Result<String, AllocError>
-    ensures { IfOk result (λ text. string_bytes text ≡ megabytes_text bytes) }
+fn push_megabytes(text: &mut String, bytes: u64) -> Result<(), AllocError>
+    ensures { OnOk result (string_bytes text.new ≡ string_bytes text.old ++ megabytes_text bytes) }
 {
     let whole = bytes / 1_000_000;
     let tenths = bytes / 100_000 % 10;
-    format!(in alloc; "{whole}.{tenths} MB")
+    write!(text, "{whole}.{tenths} MB")
 }
 
 /// So many bytes, or these words where there are none.
 pub(crate) fn size_text(alloc: Global, none: &str, bytes: Option<u64>) -> Result<String, AllocError>
     ensures { IfOk result (λ text. string_bytes text ≡ size_text none.now bytes) }
 {
-    match bytes {
-        Some(bytes) => megabytes_text(alloc, bytes),
-        None => String::from_str(alloc, none),
-    }
+    let Some(bytes) = bytes else {
+        return String::from_str(alloc, none);
+    };
+    let mut text = String::new(alloc);
+    push_megabytes(&mut text, bytes)?;
+    Ok(text)
 }
 
 /// A text between the others of a line.

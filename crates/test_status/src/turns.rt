@@ -1,6 +1,6 @@
 //! Turns over the connections of those who ask.
 
-use crate::figures::figures;
+use crate::figures::{figures, well};
 use broker_sockets::Sockets;
 use status_figures::Figures;
 use status_sockets::Desk;
@@ -81,7 +81,7 @@ fn requests_come_in_any_pieces(rt: HostRuntime) {
     let keys = RandomState::new(&rt).expect(&rt, "keys");
     let mut network = FakeSockets::new(alloc);
     let mut desk = desk(&rt, alloc, keys, &mut network);
-    let told = figures(&rt, alloc, 0);
+    let told = well(&rt, alloc);
     let asks =
         b"GET /caught-up HTTP/1.1\r\nhost: n0\r\n\r\nGET /caught-up HTTP/1.1\r\nhost: n0\r\n\r\n";
     let whole = network.client(1, asks, 1000, 1000).expect(&rt, "memory");
