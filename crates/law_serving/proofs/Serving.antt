@@ -17,14 +17,14 @@ use Rattle.broker_turns.specs.Broken.{IsUnsettled}
 use Rattle.broker_turns.specs.Turns.{Site as Seat}
 use Rattle.door_bounds.specs.Faults.{IsCutOff as IsCutOffWithin}
 use Rattle.door_bounds.specs.Views.{inside_of as bounded_in}
-use Rattle.door_bounds.specs.declared.fault.BoundedFault.TheVariants as bounds
+use Rattle.door_bounds.specs.declared.fault.BoundedFault.TheVariants as of_bounds
 use Rattle.door_limits.specs.Faults.{IsCutOff as IsCutOffLimited}
 use Rattle.door_limits.specs.Views.{inside_of as limited_in}
-use Rattle.door_limits.specs.declared.fault.LimitedFault.TheVariants as limits
+use Rattle.door_limits.specs.declared.fault.LimitedFault.TheVariants as of_limits
 use Rattle.door_log.specs.Faults.{IsCutOff as IsCutOffBefore}
-use Rattle.door_log.specs.declared.fault.LoggedFault.TheVariants as logs
+use Rattle.door_log.specs.declared.fault.LoggedFault.TheVariants as of_log
 use Rattle.door_mqtt3.specs.Telling.{IsCutOff as IsCutOffTranslated}
-use Rattle.door_mqtt3.specs.declared.fault.Mqtt3Fault.TheVariants as levels
+use Rattle.door_mqtt3.specs.declared.fault.Mqtt3Fault.TheVariants as of_levels
 use Rattle.door_tables.specs.Views.{inside_of as tabled_in}
 use Rattle.node_keeper.specs.declared.fault.KeeperFault.{KeeperFault}
 use Rattle.law_serving.proofs.Settling.{crash_amid_commit, crash_before_commit}
@@ -219,21 +219,21 @@ module _ {R : Type 0} (is_clean is_open : R → Type 0) (content : R → Content
           NodeStops s s' = (fault : KeeperFault) × stops s fault s'
 
           within_bounds : (d d' : BoundedNode R F G) (fault : BoundedNodeFault) → IsCutOffWithin Tables_stop d fault d' → NodeStops (tabled_in (bounded_in d)) (tabled_in (bounded_in d'))
-          within_bounds d d' bounds.NoMemory is = absurd is
-          within_bounds d d' (bounds.Inside fault) is = (fault, is)
+          within_bounds d d' of_bounds.NoMemory is = absurd is
+          within_bounds d d' (of_bounds.Inside fault) is = (fault, is)
 
           within_limits : (d d' : LimitedNode R F G) (fault : LimitedNodeFault) → IsCutOffLimited (IsCutOffWithin Tables_stop) d fault d' → NodeStops (tabled_in (bounded_in (limited_in d))) (tabled_in (bounded_in (limited_in d')))
-          within_limits d d' limits.NoMemory is = absurd is
-          within_limits d d' (limits.Inside fault) is = within_bounds (limited_in d) (limited_in d') fault is
+          within_limits d d' of_limits.NoMemory is = absurd is
+          within_limits d d' (of_limits.Inside fault) is = within_bounds (limited_in d) (limited_in d') fault is
 
           behind_log : (d d' : LoggedNode R F G E) (fault : LoggedNodeFault) → IsCutOffBefore (IsCutOffLimited (IsCutOffWithin Tables_stop)) d fault d'
               → NodeStops (tabled_in (bounded_in (limited_in (logged_in d)))) (tabled_in (bounded_in (limited_in (logged_in d'))))
-          behind_log d d' logs.NoMemory is = absurd is
-          behind_log d d' (logs.Inside fault) is = within_limits (logged_in d) (logged_in d') fault is
+          behind_log d d' of_log.NoMemory is = absurd is
+          behind_log d d' (of_log.Inside fault) is = within_limits (logged_in d) (logged_in d') fault is
 
           node_stops : (d d' : Whole R F G E W) (fault : NodeFault) → Whole_stops d fault d' → NodeStops (node_in d) (node_in d')
-          node_stops d d' levels.NoMemory is = absurd is
-          node_stops d d' (levels.Inside fault) is = behind_log (counted_in (looked_at (translated_in d))) (counted_in (looked_at (translated_in d'))) fault is.stopped
+          node_stops d d' of_levels.NoMemory is = absurd is
+          node_stops d d' (of_levels.Inside fault) is = behind_log (counted_in (looked_at (translated_in d))) (counted_in (looked_at (translated_in d'))) fault is.stopped
 
           turn_stops : (d d' : Whole R F G E W) (fault : TurnFault NodeFault) → IsUnsettled Whole_stops d d' fault → NodeStops (node_in d) (node_in d')
           turn_stops d d' NoMemory is = absurd is
@@ -253,7 +253,6 @@ module _ {R : Type 0} (is_clean is_open : R → Type 0) (content : R → Content
             goes_on setting d before at old s' h' fault done cut = (
               cut,
               λ clean.
-                  let Done : List (turns.Call T) → Whole R F G E W → Whole R F G E W → Type 0 = λ calls a b. Through (IsDone T Whole_handles Whole_hears Whole_settles) calls a b in
                   let m = old.place.reach.near.handler in
                   let told = told_done T Whole_handles Whole_hears Whole_settles cut.told cut.reached.reach.near.handler cut.last cut.more in
                   let rest = through_join (IsDone T Whole_handles Whole_hears Whole_settles) cut.calls (map turns.Tells cut.told) m cut.reached.reach.near.handler cut.last cut.trace.done told in
