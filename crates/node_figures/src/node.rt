@@ -28,7 +28,7 @@ fn left_out(counts: &Counts) -> LeftOut
 
 /// A copy of a text, if there is one.
 fn copy_of(alloc: Global, text: Option<&str>) -> Result<Option<String>, NoMemory>
-    ensures { IfOk result (λ copy. option_map string_bytes copy ≡ option_map (λ t. t.now) text) }
+    ensures { IfOk result (λ copy. option_map string_bytes copy ≡ option_map (λ t. t.now) text.entry) }
 {
     match text {
         Some(text) => Ok(Some(String::from_str(alloc, text)?)),
@@ -48,7 +48,7 @@ pub fn figures_of(
     refusal: Option<&str>,
     at: u64,
 ) -> Result<Figures, NoMemory>
-    ensures refusal { IfOk result (λ figures. option_map string_bytes figures.refusal ≡ option_map (λ r. r.now) refusal) }
+    ensures refusal { IfOk result (λ figures. option_map string_bytes figures.refusal ≡ option_map (λ r. r.now) refusal.entry) }
     ensures figures { IfOk result (λ figures. (h : HeldView) → node.now.up ≡ Some h → AreFigures name.now since at node.now h tally.now figures) }
 {
     let name = String::from_str(alloc, name)?;

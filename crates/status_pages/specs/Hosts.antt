@@ -1,5 +1,5 @@
 -- By which hosts a node is asked. A `Host` (RFC 9110, 7.2) is a name or an IP address, and a port. One in brackets has an address of IPv6 in them, or the request can't be read.
-use Rattle.std.specs.Prelude.{◌⊎◌, ℕ, ◌==◌, ◌&&◌, Bool, false, not, List, [], ◌∷◌, is_empty, Option, Some, None, codes, take, IsTrue}
+use Rattle.std.specs.Prelude.{◌⊎◌, ℕ, ◌==◌, ◌&&◌, Bool, false, not, List, [], ◌∷◌, length, Option, Some, None, codes, take, IsTrue}
 use Rattle.std.specs.Borrow.{Bor}
 use Rattle.std.specs.List.{list_any, prefix_len, slice_split}
 use Rattle.std.specs.Net.Grammar.{IsIpv4Text}
@@ -22,7 +22,7 @@ IsAddress host = IsTrue (is_bracketed host) ⊎ ((address : Ipv4Addr) × IsIpv4T
 
 -- it has this name, in letters of either case; no host has an empty one
 abbrev pub is_named : List ℕ → List ℕ → Bool
-is_named host name = not (is_empty name) && eq_ignore_case (take (name_len host) host) name
+is_named host name = not (length name == 0) && eq_ignore_case (take (name_len host) host) name
 
 -- the names between the commas of a text
 abbrev pub names_in : List ℕ → List (List ℕ)
