@@ -16,11 +16,6 @@ client_of Five = None
 client_of (Before level bridge) = Some (fresh level bridge true)
 client_of Unserved = Some (fresh Four false false)
 
--- its packets aren't looked at any more
-abbrev pub has_ended : Option Stage → Bool
-has_ended (Some (stages.Known client)) = client.ended
-has_ended _ = false
-
 pub record IsCome (come : Come) (taken : Taken) (reached : Option Stage) : Type 0 where
   pub stage : reached ≡ come.stage
   pub told : AreSpelled come.told taken.told.items

@@ -4,7 +4,7 @@ ghost use Rattle.std.specs.Prelude.{◌≡◌, ◌∷◌, [], ℕ, false, true, 
 ghost use Rattle.broker_sockets.specs.declared.events.EventKind.TheVariants.{Piece};
 ghost use Rattle.broker_sockets.specs.declared.events.Output.TheVariants.{Send};
 ghost use Rattle.door_mqtt3.specs.Stages.{met_by, piece_of, stage_of};
-ghost use Rattle.door_mqtt3.specs.Telling.{ArePaths, IsDeclinedOn, IsGivenOn, IsMet, IsOwed, IsPart, IsPassedOn, IsPut, IsStopped, IsTelling, IsTold, IsToldOne, IsTranslated, is_held, none_met, none_told};
+ghost use Rattle.door_mqtt3.specs.Telling.{ArePaths, IsDeclinedOn, IsGivenOn, IsMet, IsOwed, IsPart, IsPassedOn, IsPut, IsStopped, IsTelling, IsTold, IsToldOne, IsTranslated, giving, is_held, none_met};
 
 use crate::clients::Clients;
 use crate::fault::Mqtt3Fault;
@@ -35,7 +35,7 @@ fn send(
     endings: &mut Vec<u64>,
 ) -> Result<(), NoMemory>
     requires { is_some (stage_of clients.old connection) ≡ true }
-    ensures { OnOk result (ArePaths none_met none_told (Send connection bytes ∷ []) clients.old clients.new outputs.old.items outputs.new.items) }
+    ensures { OnOk result (ArePaths none_met (giving (Send connection bytes ∷ [])) clients.old clients.new outputs.old.items outputs.new.items) }
 {
     let (sent, ends) = clients.get(alloc, connection, &bytes)?;
     if ends {
@@ -53,7 +53,7 @@ fn give_one(
     outputs: &mut Vec<Output>,
     endings: &mut Vec<u64>,
 ) -> Result<(), NoMemory>
-    ensures { OnOk result (ArePaths none_met none_told (output ∷ []) clients.old clients.new outputs.old.items outputs.new.items) }
+    ensures { OnOk result (ArePaths none_met (giving (output ∷ [])) clients.old clients.new outputs.old.items outputs.new.items) }
 {
     match output {
         Output::Send { connection, bytes } => {
@@ -80,7 +80,7 @@ fn give(
     outputs: &mut Vec<Output>,
     endings: &mut Vec<u64>,
 ) -> Result<(), NoMemory>
-    ensures { OnOk result (ArePaths none_met none_told given.items clients.old clients.new outputs.old.items outputs.new.items) }
+    ensures { OnOk result (ArePaths none_met (giving given.items) clients.old clients.new outputs.old.items outputs.new.items) }
 {
     for output in given {
         give_one(alloc, clients, output, outputs, endings)?;
