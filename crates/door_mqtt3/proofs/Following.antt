@@ -1,16 +1,15 @@
 -- Calls, one after another, and what happens on each connection.
-use Rattle.std.proofs.Common.{◌≡◌, ℕ, List, [], ◌∷◌, ◌++◌, Option, Some, None, refl, sym, ap, subst, ◌∙◌, append_assoc}
+use Rattle.std.proofs.Common.{◌≡◌, ℕ, List, [], ◌∷◌, ◌++◌, Option, Some, None, refl, sym, ap, subst, ◌∙◌}
 use Rattle.std.proofs.lemmas.List.{append-nil}
 use Rattle.std.proofs.lemmas.Grind.{flat_map-append}
 use Rattle.std.proofs.lemmas.Option.{same_Some}
 use Rattle.broker_sockets.specs.declared.bridge.Given.{Given}
 use Rattle.broker_sockets.specs.declared.bridge.PeerEvent.{PeerEvent}
 use Rattle.broker_sockets.specs.declared.events.Event.{Event}
-use Rattle.broker_sockets.specs.declared.events.EventKind.{EventKind}
 use Rattle.broker_sockets.specs.declared.events.Output.{Output}
 use Rattle.door_mqtt3.specs.Calls.{AreMade, Call, IsMade, dealt_by, dealt_of, given_at, given_of, met_at, met_of}
 use Rattle.door_mqtt3.specs.Calls.Call.{Handled, Heard, Settled}
-use Rattle.door_mqtt3.specs.Laws.{EachIsFollowed, IsFollowed}
+use Rattle.door_mqtt3.specs.Laws.{EachIsFollowed}
 use Rattle.door_mqtt3.specs.Stages.{Dealing, Happening, IsPath, Outgoing, met_by, on, stage_of}
 use Rattle.door_mqtt3.specs.Telling.{ArePaths, AreTold, IsAnswered, IsAnsweredIf, IsHeard, IsHeardIf, IsPassedOn, IsSettled, IsTranslated, Told, dealt_at, dealt_in, giving, none_met}
 use Rattle.door_mqtt3.specs.declared.clients.Clients.{Clients}

@@ -1,6 +1,6 @@
 -- What happens on a connection, one thing after another.
 use Rattle.std.proofs.Common.{◌≡◌, Vec, Global, arith, ℕ, Bool, true, false, List, [], ◌∷◌, ◌++◌, Option, Some, None, refl, sym, ap, subst, ◌∙◌, append_assoc}
-use Rattle.std.specs.Prelude.{◌==◌, ◌↔◌, IsTrue, flat_map, is_some, length}
+use Rattle.std.specs.Prelude.{◌==◌, ◌↔◌, IsTrue, is_some, length}
 use Rattle.std.proofs.lemmas.Bool.{eqb-true, eq-eqb}
 use Rattle.std.proofs.lemmas.List.{append-nil, map-append}
 use Rattle.std.proofs.lemmas.Grind.{flat_map-append}
@@ -15,7 +15,7 @@ use Rattle.mqtt_packets.specs.Written.{HasSpelling, written}
 use Rattle.door_mqtt3.specs.Client.Notice.{Asks, Faults, Same}
 use Rattle.door_mqtt3.specs.Doing.{Appends}
 use Rattle.door_mqtt3.specs.Knowing.{IsComing, IsGot}
-use Rattle.door_mqtt3.specs.Stages.{AreDealt, Dealing, Effect, Happening, IsBut, IsDealt, IsPath, Outgoing, comes, effect, gave, given_one, goes_on, got, has_ended, met_by, met_in, met_one, of_output, on, out_in, piece_of, sent_if, stage_after, stage_of, told_if}
+use Rattle.door_mqtt3.specs.Stages.{AreDealt, Dealing, Effect, Happening, IsBut, IsDealt, IsPath, Outgoing, effect, gave, given_one, goes_on, has_ended, met_by, met_in, met_one, of_output, on, out_in, piece_of, sent_if, stage_after, stage_of, told_if}
 use Rattle.door_mqtt3.specs.Stages.Happening.{Opens, Goes, Comes, GoesOn, Gets, Closes, Ends}
 use Rattle.door_mqtt3.specs.Stages.Dealing.{Gives}
 use Rattle.door_mqtt3.specs.Stages.Outgoing.{Bytes, End}

@@ -1,25 +1,25 @@
 -- What the handler inside is told, one event after another.
-use Rattle.std.proofs.Common.{◌≡◌, arith, inr, ℕ, Bool, cond, true, false, List, [], ◌∷◌, ◌++◌, Option, Some, None, refl, sym, ap, subst, ◌∙◌, append_assoc}
-use Rattle.std.specs.Prelude.{◌==◌, flat_map, is_some, length}
+use Rattle.std.proofs.Common.{◌≡◌, arith, inr, ℕ, Bool, cond, true, false, List, [], ◌∷◌, ◌++◌, refl, sym, ap, subst, ◌∙◌, append_assoc}
+use Rattle.std.specs.Prelude.{◌==◌, length}
 use Rattle.std.specs.List.{AllByRecursion}
-use Rattle.std.proofs.lemmas.Bool.{eq-eqb, eqb-true}
+use Rattle.std.proofs.lemmas.Bool.{eqb-true}
 use Rattle.std.proofs.lemmas.List.{append-nil}
 use Rattle.std.proofs.lemmas.Grind.{flat_map-append}
 use Rattle.broker_sockets.specs.declared.bridge.Given.{Given}
 use Rattle.broker_sockets.specs.declared.bridge.PeerEvent.{PeerEvent}
 use Rattle.broker_sockets.specs.declared.events.Event.{Event}
 use Rattle.broker_sockets.specs.declared.events.EventKind.{EventKind}
-use Rattle.broker_sockets.specs.declared.events.EventKind.TheVariants.{Started, Opened, Piece, Closed, Tick}
+use Rattle.broker_sockets.specs.declared.events.EventKind.TheVariants.{Piece}
 use Rattle.broker_sockets.specs.declared.events.Output.{Output}
 use Rattle.door_mqtt3.specs.Client.{AreSpelled}
 use Rattle.door_mqtt3.specs.Knowing.{IsComing}
 use Rattle.door_mqtt3.specs.Stages.{Dealing, Happening, IsBut, gave, goes_on, has_ended, met_by, on, piece_of, stage_of, told_if}
-use Rattle.door_mqtt3.specs.Telling.{AreCalls, ArePaths, AreTold, IsGivenOn, IsDeclinedOn, IsMet, IsOwed, IsPart, IsPassedOn, IsPieceAt, IsPut, IsRefusing, IsStopped, IsTelling, IsTold, IsToldOne, IsTranslated, Told, dealt_at, dealt_in, giving, is_held, is_piece, none_dealt, none_met, telling}
+use Rattle.door_mqtt3.specs.Telling.{ArePaths, AreTold, IsGivenOn, IsDeclinedOn, IsMet, IsOwed, IsPart, IsPassedOn, IsPieceAt, IsPut, IsRefusing, IsStopped, IsTelling, IsTold, IsToldOne, IsTranslated, Told, dealt_at, dealt_in, giving, is_held, is_piece, none_dealt, none_met, telling}
 use Rattle.door_mqtt3.specs.declared.clients.Clients.{Clients}
 use Rattle.door_mqtt3.specs.declared.fault.Mqtt3Fault.{Mqtt3Fault}
 use Rattle.door_mqtt3.specs.declared.fault.Mqtt3Fault.TheVariants.{NoMemory, Inside}
 use Rattle.door_mqtt3.specs.declared.taken.Taken.{Taken}
-use Rattle.door_mqtt3.proofs.Paths.{Buffer, comes_path, ends_path, goes_on_path, paths_as, paths_none, paths_then, piece_there}
+use Rattle.door_mqtt3.proofs.Paths.{Buffer, comes_path, ends_path, goes_on_path, paths_as, paths_none, paths_then}
 
 abbrev all_at : ℕ → List Told → Type 0
 all_at at calls = AllByRecursion (IsPieceAt at) calls

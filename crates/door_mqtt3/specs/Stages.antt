@@ -14,7 +14,6 @@ use Rattle.mqtt3_packets.specs.declared.version.Version.TheVariants.{Five, Befor
 use Rattle.door_mqtt3.specs.Client.{AreSpelled, Notice, Outcome, come, fresh, limit, went_on}
 use Rattle.door_mqtt3.specs.Client.Notice.{Faults, Same}
 use Rattle.door_mqtt3.specs.Sending.{gotten}
-use Rattle.door_mqtt3.specs.declared.client.Client.{Client}
 use Rattle.door_mqtt3.specs.declared.clients.Clients.{Clients}
 use Rattle.door_mqtt3.specs.declared.clients.Stage.{Stage}
 use Rattle.door_mqtt3.specs.declared.clients.Stage.TheVariants as stages

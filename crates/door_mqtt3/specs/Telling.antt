@@ -5,11 +5,10 @@ use Rattle.broker_sockets.specs.declared.bridge.Given.{Given}
 use Rattle.broker_sockets.specs.declared.bridge.PeerEvent.{PeerEvent}
 use Rattle.broker_sockets.specs.declared.events.Event.{Event}
 use Rattle.broker_sockets.specs.declared.events.EventKind.{EventKind}
-use Rattle.broker_sockets.specs.declared.events.EventKind.TheVariants.{Started, Opened, Piece, Closed, Tick}
+use Rattle.broker_sockets.specs.declared.events.EventKind.TheVariants.{Piece}
 use Rattle.broker_sockets.specs.declared.events.Output.{Output}
 use Rattle.door_mqtt3.specs.Stages.{Dealing, Happening, IsPath, gave, met_by, on, piece_of, sent_if, stage_of, told_if}
 use Rattle.door_mqtt3.specs.declared.clients.Clients.{Clients}
-use Rattle.door_mqtt3.specs.declared.clients.Stage.{Stage}
 use Rattle.door_mqtt3.specs.declared.fault.Mqtt3Fault.{Mqtt3Fault}
 use Rattle.door_mqtt3.specs.declared.fault.Mqtt3Fault.TheVariants.{NoMemory, Inside}
 use Rattle.door_mqtt3.specs.declared.handler.Mqtt3.{Mqtt3}
