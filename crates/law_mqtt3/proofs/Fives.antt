@@ -1,6 +1,6 @@
 -- A client of MQTT 5.0 goes through byte for byte.
 use Rattle.std.proofs.Common.{◌≡◌, ℕ, Bool, true, false, cond, List, [], ◌∷◌, ◌++◌, length, map, Option, Some, None, refl, sym, ap, subst, ◌∙◌, append_assoc, arith}
-use Rattle.std.specs.Prelude.{◌==◌, ◌&&◌, flat_map}
+use Rattle.std.specs.Prelude.{◌==◌, flat_map}
 use Rattle.std.specs.List.{concat, list_all}
 use Rattle.std.proofs.lemmas.Bool.{eqb-true}
 use Rattle.std.proofs.lemmas.List.{append-nil}
@@ -38,14 +38,14 @@ use Rattle.law_mqtt3.proofs.Versions.{version_steady}
 
 -- ---- what is told and given
 
-told_by : Dealing → List ℕ
+abbrev told_by : Dealing → List ℕ
 told_by (Tells bytes) = bytes
 told_by (Gives out) = []
 
 abbrev told_in_all : List Dealing → List ℕ
 told_in_all dealt = flat_map told_by dealt
 
-given_by : Dealing → List Outgoing
+abbrev given_by : Dealing → List Outgoing
 given_by (Tells bytes) = []
 given_by (Gives out) = out ∷ []
 
@@ -171,11 +171,11 @@ comes_later [] later once = once
 comes_later (bytes ∷ pieces) later once = comes_later pieces later once
 
 -- the first thing, and the others
-head_of : List Happening → Happening
+abbrev head_of : List Happening → Happening
 head_of [] = Ends
 head_of (h ∷ hs) = h
 
-tail_of : List Happening → List Happening
+abbrev tail_of : List Happening → List Happening
 tail_of [] = []
 tail_of (h ∷ hs) = hs
 
