@@ -8,7 +8,7 @@
 #   examples/earlier.sh PROGRAM..    runs these words in its place
 #
 # ROUNDS (3) says how many rounds there are, SECONDS_EACH (3) how long a load lasts. It needs a C compiler (CC names another one than cc). The status is 1 where
-# a load came to nothing. The ports 1883 and 2883 must be free.
+# a load came to nothing. The ports 18831 and 18832 must be free.
 set -eu
 
 source "$(dirname "${BASH_SOURCE[0]}")/nodes.sh"
@@ -18,7 +18,7 @@ rounds=${ROUNDS:-3}
 seconds=${SECONDS_EACH:-3}
 "${CC:-cc}" -O2 -pthread -o "$work/load" "$top/examples/load.c"
 ulimit -n 4096
-printf '[[node]]\nname = "n0"\naddress = "%s:1883"\nbridge = "%s:2883"\n' "$host" "$host" > "$work/homes.toml"
+printf '[[node]]\nname = "n0"\naddress = "%s:18831"\nbridge = "%s:18832"\n' "$host" "$host" > "$work/homes.toml"
 options=(--mqtt3)
 loads=('10 pairs, 16 ahead' '1 to 1,000, 2 ahead')
 words=('-n 10 -a 16' '-n 1 -r 1000 -a 2')
@@ -29,7 +29,7 @@ load() {
     rm -f "$work"/n0.db*
     start_node n0 "$work/homes.toml" "$work/n0.db"
     # shellcheck disable=SC2086
-    said=$("$work/load" -p 1883 -m "${nodes[n0]}" -q 0 -s "$seconds" -v "$2" ${words[$1]})
+    said=$("$work/load" -p 18831 -m "${nodes[n0]}" -q 0 -s "$seconds" -v "$2" ${words[$1]})
     kill_node n0
     echo "${loads[$1]}, $3: $said"
     # messages a second, and for each second of the processor
@@ -42,7 +42,7 @@ middle() {
 }
 
 share() {
-    awk -v earlier="$(middle "$work/$1-4" "$2")" -v five="$(middle "$work/$1-5" "$2")" 'BEGIN { printf "%.2f", five > 0 ? earlier / five : 0 }'
+    awk -v earlier="$(middle "$work/$1-4" "$2")" -v five="$(middle "$work/$1-5" "$2")" 'BEGIN { printf "%.2f", (five > 0 ? earlier / five : 0) }'
 }
 
 for round in $(seq "$rounds"); do

@@ -31,12 +31,14 @@ publish() {
 }
 
 # Subscribes in the background, and waits until the subscription stands. Each message is a line of the file $1: topic, QoS, RETAIN and payload.
+declare -A listeners=()
 listen() {
-    local file="$work/$1"
+    local name=$1 file="$work/$1"
     shift
     : > "$file"
-    stdbuf -oL timeout 30 mosquitto_sub -h "$host" -p "$port" -d -F 'MESSAGE %t %q %r %p' "$@" > "$file" 2>&1 &
+    stdbuf -oL timeout 60 mosquitto_sub -h "$host" -p "$port" -d -F 'MESSAGE %t %q %r %p' "$@" > "$file" 2>&1 &
     listener=$!
+    listeners[$name]=$listener
     until grep -q 'Subscribed' "$file" || ! kill -0 "$listener" 2> "$work/kill"; do
         sleep 0.05
     done
@@ -45,6 +47,21 @@ listen() {
 # What came to a listener, in one line.
 got() {
     sed -n 's/^MESSAGE //p' "$work/$1" | paste -sd, -
+}
+
+# Waits until so many messages have come to these listeners, all in all, or 30 seconds have passed, and then one second for more; and ends them.
+hear() {
+    local count=$1 name
+    shift
+    for _ in $(seq 300); do
+        [ "$(cat "${@/#/$work/}" | grep -c '^MESSAGE')" -lt "$count" ] || break
+        sleep 0.1
+    done
+    sleep 1
+    for name in "$@"; do
+        kill "${listeners[$name]}" 2> "$work/kill"
+        wait "${listeners[$name]}" 2> "$work/kill"
+    done
 }
 
 each_qos() {
@@ -64,8 +81,12 @@ large() {
     head -c 500000 /dev/urandom > "$work/large"
     timeout 20 mosquitto_sub -V "$1" -h "$host" -p "$port" -q 1 -N -C 1 -t large > "$work/large.got" &
     listener=$!
-    sleep 1
-    publish -V "$1" -q 1 -t large -f "$work/large"
+    # what is published before the subscription stands isn't its
+    for _ in $(seq 20); do
+        publish -V "$1" -q 1 -t large -f "$work/large"
+        sleep 0.5
+        kill -0 "$listener" 2> "$work/kill" || break
+    done
     wait "$listener"
     check "$1, 500,000 bytes" same "$(cmp -s "$work/large" "$work/large.got" && echo same)"
 }
@@ -76,8 +97,8 @@ retained() {
     wait "$listener"
     check "$1, a retained message" "retained/x 1 1 kept" "$(got retained)"
     publish -V "$1" -r -n -q 1 -t retained/x
-    listen retained -V "$1" -q 1 -t 'retained/#' -W 1
-    wait "$listener"
+    listen retained -V "$1" -q 1 -t 'retained/#'
+    hear 0 retained
     check "$1, a retained message that is cleared" "" "$(got retained)"
 }
 
@@ -99,8 +120,8 @@ session() {
     wait "$listener"
     publish -V 5 -q 1 -t session -m one
     publish -V 5 -q 2 -t session -m two
-    listen session -V "$1" -c -i keeper -q 2 -t session -W 2
-    wait "$listener"
+    listen session -V "$1" -c -i keeper -q 2 -t session
+    hear 2 session
     check "$1, a session" "session 1 0 one,session 2 0 two" "$(got session)"
 }
 
@@ -121,25 +142,24 @@ takeover() {
 
 # A shared group with a client of each of two versions.
 shared() {
-    local first
-    listen first -V "$1" -q 1 -t '$share/group/shared' -W 3
-    first=$listener
-    listen second -V 5 -q 1 -t '$share/group/shared' -W 3
+    listen first -V "$1" -q 1 -t '$share/group/shared'
+    listen second -V 5 -q 1 -t '$share/group/shared'
     for text in 0 1 2 3 4 5 6 7 8 9; do
         publish -V "$1" -q 1 -t shared -m "$text"
     done
-    wait "$first" "$listener"
+    hear 10 first second
     check "$1, shared with 5" 0123456789 "$(sed -n 's/^MESSAGE .* //p' "$work/first" "$work/second" | sort | tr -d '\n')"
 }
 
 # Mosquitto as a bridge of this version, which says that it is one or doesn't: messages go over once, both ways.
 bridge() {
-    local far near=$port version=$1 says=$2 out in both
+    local far near=$port version=$1 says=$2 process come=2
     far=$(free_port)
     cat > "$work/bridge.conf" <<EOF
 listener $far $host
 allow_anonymous true
 user root
+log_type all
 connection bridge-$version-$says
 address $host:$near
 bridge_protocol_version $version
@@ -150,20 +170,23 @@ topic both/# both 1
 restart_timeout 1
 EOF
     mosquitto -c "$work/bridge.conf" > "$work/bridge.log" 2>&1 &
-    local process=$!
-    sleep 2
-    listen out -V 5 -q 2 -t 'out/#' -W 4
-    out=$listener
-    listen both -V 5 -q 2 -t 'both/#' -W 4
-    both=$listener
+    process=$!
+    until [ "$(grep -c 'Received SUBACK' "$work/bridge.log")" -ge 2 ] || ! kill -0 "$process" 2> "$work/kill"; do
+        sleep 0.1
+    done
+    listen out -V 5 -q 2 -t 'out/#'
+    listen both -V 5 -q 2 -t 'both/#'
     port=$far
-    listen in -V 5 -q 2 -t 'in/#' -W 4
-    in=$listener
+    listen in -V 5 -q 2 -t 'in/#'
     publish -V 5 -q 2 -t out/x -m over
-    publish -V mqttv311 -q 1 -t both/x -m far
+    # one that doesn't say that it is a bridge gets its own messages back
+    if [ "$says" = true ]; then
+        publish -V mqttv311 -q 1 -t both/x -m far
+        come=3
+    fi
     port=$near
     publish -V 5 -q 2 -t in/x -m back
-    wait "$out" "$both" "$in"
+    hear "$come" out both in
     check "a bridge of $version (try_private $says), to the node" "out/x 2 0 over" "$(got out)"
     check "a bridge of $version (try_private $says), from the node" "in/x 2 0 back" "$(got in)"
     if [ "$says" = true ]; then
@@ -173,15 +196,15 @@ EOF
     wait "$process" 2> "$work/kill"
 }
 
-# A session of Clean Session 0 that nobody is connected to lasts as long as --longest-expiry says.
+# A session of Clean Session 0 that nobody is connected to lasts as long as --longest-expiry says: after $2 seconds so many messages ($3) wait, these.
 bounded_session() {
     listen bounded -V "$1" -c -i "bounded-$1" -q 1 -t bounded -E
     wait "$listener"
     sleep "$2"
     publish -V 5 -q 1 -t bounded -m waiting
-    listen bounded -V "$1" -c -i "bounded-$1" -q 1 -t other -W 1
-    wait "$listener"
-    check "$1, a session after $2 seconds where --longest-expiry is 4" "$3" "$(got bounded)"
+    listen bounded -V "$1" -c -i "bounded-$1" -q 1 -t other
+    hear "$3" bounded
+    check "$1, a session after $2 seconds where --longest-expiry is 8" "$4" "$(got bounded)"
 }
 
 start_at_free_port --log
@@ -193,10 +216,10 @@ check "a log names its version" "refused 0x84 (MQTT 3.1.1; --mqtt3 serves it),re
     "$(sed -n 's/^[0-9]* client \(refused 0x84 .*\)/\1/p' "$work/n0.err" | LC_ALL=C sort -u | paste -sd, -)"
 kill_node n0
 
-start_at_free_port --mqtt3 --longest-expiry 4
+start_at_free_port --mqtt3 --longest-expiry 8
 for version in mqttv311 mqttv31; do
-    bounded_session "$version" 1 "bounded 1 0 waiting"
-    bounded_session "$version" 7 ""
+    bounded_session "$version" 1 1 "bounded 1 0 waiting"
+    bounded_session "$version" 12 0 ""
 done
 kill_node n0
 
@@ -217,14 +240,14 @@ for version in mqttv311 mqttv31; do
     done
 done
 if /usr/bin/python3 -c 'import paho.mqtt.client' 2> "$work/kill"; then
-    timeout 300 /usr/bin/python3 "$top/examples/mqtt3_paho.py" "$port" || failed=1
+    timeout 900 /usr/bin/python3 "$top/examples/mqtt3_paho.py" "$port" || failed=1
 fi
 if [ -f /usr/include/MQTTClient.h ] && command -v cc > "$work/found"; then
     cc -o "$work/mqtt3_paho" "$top/examples/mqtt3_paho.c" -lpaho-mqtt3c || failed=1
-    timeout 300 "$work/mqtt3_paho" "$host" "$port" || failed=1
+    timeout 900 "$work/mqtt3_paho" "$host" "$port" || failed=1
 fi
 if [ -d /usr/share/nodejs/mqtt ] && command -v node > "$work/found"; then
-    NODE_PATH=/usr/share/nodejs timeout 300 node "$top/examples/mqtt3_node.js" "$port" || failed=1
+    NODE_PATH=/usr/share/nodejs timeout 900 node "$top/examples/mqtt3_node.js" "$port" || failed=1
 fi
 kill -0 "${nodes[n0]}" 2> "$work/kill"
 check "the node still runs" 0 "$?"

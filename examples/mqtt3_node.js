@@ -9,13 +9,13 @@ const connect = (clientId, version, more = {}) => new Promise((done, fail) => {
   client.on('connect', connack => { client.connack = connack; done(client) }).on('error', fail)
 })
 const subscribe = (client, filter, qos) => new Promise((done, fail) => client.subscribe(filter, { qos }, (e, granted) => e ? fail(e) : done(granted)))
-const within = (promise, what) => Promise.race([promise, new Promise((_, fail) => setTimeout(() => fail(new Error(`${what}: nothing came`)), 20000).unref())])
+const within = (promise, what) => Promise.race([promise, new Promise((_, fail) => setTimeout(() => fail(new Error(`${what}: nothing came`)), 60000).unref())])
 async function main () {
   for (const here of [4, 3]) {
     for (const there of [4, 3, 5]) {
       const reader = await within(connect(`nr${here}${there}`, here), 'reader'); const writer = await within(connect(`nw${here}${there}`, there), 'writer')
       for (const qos of [0, 1, 2]) {
-        const topic = `node/${here}${there}/${qos}`; const got = []; const n = there === 5 && qos === 2 ? 50 : 1500
+        const topic = `node/${here}${there}/${qos}`; const got = []; const n = there === 5 && qos === 2 ? 50 : 300
         const granted = await within(subscribe(reader, topic, qos), 'SUBACK')
         const all = new Promise(done => reader.on('message', (t, payload, packet) => { if (t === topic && got.push([payload.toString(), packet.qos]) === n) done() }))
         for (let i = 0; i < n; i++) writer.publish(topic, String(i), { qos })

@@ -21,7 +21,7 @@ static int comes(MQTTClient client, const char *payload, int retained) {
     char *topic = NULL;
     int length = 0;
     MQTTClient_message *message = NULL;
-    int holds = MQTTClient_receive(client, &topic, &length, &message, 5000) == MQTTCLIENT_SUCCESS && message != NULL &&
+    int holds = MQTTClient_receive(client, &topic, &length, &message, 30000) == MQTTCLIENT_SUCCESS && message != NULL &&
                 message->payloadlen == (int)strlen(payload) && memcmp(message->payload, payload, strlen(payload)) == 0 &&
                 message->retained == retained;
     if (message != NULL) {
@@ -35,7 +35,7 @@ static int comes(MQTTClient client, const char *payload, int retained) {
 static int publish(MQTTClient client, const char *topic, const char *payload, int qos, int retained) {
     MQTTClient_deliveryToken token;
     return MQTTClient_publish(client, topic, (int)strlen(payload), payload, qos, retained, &token) == MQTTCLIENT_SUCCESS &&
-           MQTTClient_waitForCompletion(client, token, 5000) == MQTTCLIENT_SUCCESS;
+           MQTTClient_waitForCompletion(client, token, 30000) == MQTTCLIENT_SUCCESS;
 }
 
 static void at(const char *address, int version, const char *name) {
