@@ -1,5 +1,5 @@
 -- What happens on a connection, one thing after another.
-use Rattle.std.proofs.Common.{◌≡◌, Vec, Global, arith, ℕ, Bool, true, false, List, [], ◌∷◌, ◌++◌, Option, Some, None, refl, sym, ap, subst, ◌∙◌, append_assoc}
+use Rattle.std.proofs.Common.{◌≡◌, Vec, Global, arith, ℕ, Bool, cond, true, false, List, [], ◌∷◌, ◌++◌, Option, Some, None, refl, sym, ap, subst, ◌∙◌, append_assoc}
 use Rattle.std.specs.Prelude.{◌==◌, ◌↔◌, IsTrue, is_some, length}
 use Rattle.std.proofs.lemmas.Bool.{eqb-true, eq-eqb}
 use Rattle.std.proofs.lemmas.List.{append-nil, map-append}
@@ -19,7 +19,7 @@ use Rattle.door_mqtt3.specs.Stages.{AreDealt, Dealing, Effect, Happening, IsBut,
 use Rattle.door_mqtt3.specs.Stages.Happening.{Opens, Goes, Comes, GoesOn, Gets, Closes, Ends}
 use Rattle.door_mqtt3.specs.Stages.Dealing.{Gives}
 use Rattle.door_mqtt3.specs.Stages.Outgoing.{Bytes, End}
-use Rattle.door_mqtt3.specs.Telling.{ArePaths, IsMet, IsPut, giving, is_held, none_dealt, none_met, telling}
+use Rattle.door_mqtt3.specs.Telling.{ArePaths, IsMet, IsPut, at_one, giving, is_held, none_dealt, none_met, telling}
 use Rattle.door_mqtt3.specs.declared.clients.Clients.{Clients}
 use Rattle.door_mqtt3.specs.declared.clients.Stage.{Stage}
 use Rattle.door_mqtt3.specs.declared.clients.Stage.TheVariants as stages
@@ -236,28 +236,36 @@ piece_here c bytes = rw (itself c) refl
 pub piece_there : (c q : ℕ) (bytes : Buffer) → (c == q) ≡ false → piece_of q (Piece c bytes) ≡ []
 piece_there c q bytes e = rw e refl
 
-comes_here : (c : ℕ) (bytes : Buffer) → met_by c (Piece c bytes) ≡ Comes bytes.items ∷ []
-comes_here c bytes = rw (itself c) refl
+one_here : (c : ℕ) (h : Happening) → at_one c h c ≡ h ∷ []
+one_here c h = rw (itself c) refl
 
-comes_there : (c q : ℕ) (bytes : Buffer) → (c == q) ≡ false → met_by q (Piece c bytes) ≡ []
-comes_there c q bytes e = rw e refl
+one_there : (c q : ℕ) (h : Happening) → (c == q) ≡ false → at_one c h q ≡ []
+one_there c q h e = rw e refl
 
 -- bytes come
 pub comes_path : (c : ℕ) (bytes : Buffer) (k k' : Clients) (o p : List Output) (taken : Taken) → IsComing c bytes.items taken k k' → IsPut c taken.first.items o p
-    → ArePaths (λ q. met_by q (Piece c bytes)) (telling (Piece c taken.told)) k k' o p
+    → ArePaths (at_one c (Comes bytes.items)) (telling (Piece c taken.told)) k k' o p
 comes_path c bytes k k' o p taken come put =
-    but c (Comes bytes.items) k k' (λ q. met_by q (Piece c bytes)) (telling (Piece c taken.told)) o p come.stage (sym (comes_here c bytes))
+    but c (Comes bytes.items) k k' (at_one c (Comes bytes.items)) (telling (Piece c taken.told)) o p come.stage (sym (one_here c (Comes bytes.items)))
     (none_given (stage_of k c) (Comes bytes.items) taken.told.items (telling (Piece c taken.told) c) come.told refl (ap told_if (piece_here c taken.told)))
     (put.here ∙ ap (λ (xs : List ℕ). on c o ++ sent_if xs) come.first)
-    (λ q e. record { meets = comes_there c q bytes e; deals = ap told_if (piece_there c q taken.told e); sends = put.there q e })
+    (λ q e. record { meets = one_there c q (Comes bytes.items) e; deals = ap told_if (piece_there c q taken.told e); sends = put.there q e })
 
 -- what was held back is handed on
 pub goes_on_path : (c : ℕ) (told : Buffer) (k k' : Clients) (o : List Output) → AreSpelled (goes_on (stage_of k c)).told told.items → IsBut c (goes_on (stage_of k c)).stage k k'
-    → ArePaths none_met (telling (Piece c told)) k k' o o
+    → ArePaths (at_one c GoesOn) (telling (Piece c told)) k k' o o
 goes_on_path c told k k' o tells is =
-    but c GoesOn k k' none_met (telling (Piece c told)) o o is refl
+    but c GoesOn k k' (at_one c GoesOn) (telling (Piece c told)) o o is (sym (one_here c GoesOn))
     (none_given (stage_of k c) GoesOn told.items (telling (Piece c told) c) tells refl (ap told_if (piece_here c told))) (sym (append-nil (on c o)))
-    (λ q e. record { meets = refl; deals = ap told_if (piece_there c q told e); sends = refl })
+    (λ q e. record { meets = one_there c q GoesOn e; deals = ap told_if (piece_there c q told e); sends = refl })
+
+-- bytes come, and then what was held back is handed on
+both_case : (b : Bool) (bytes : List ℕ) → cond b (Comes bytes ∷ []) [] ++ cond b (GoesOn ∷ []) [] ≡ cond b (Comes bytes ∷ GoesOn ∷ []) []
+both_case true bytes = refl
+both_case false bytes = refl
+
+pub both_met : (c q : ℕ) (bytes : Buffer) → at_one c (Comes bytes.items) q ++ at_one c GoesOn q ≡ met_by q (Piece c bytes)
+both_met c q bytes = both_case (c == q) bytes.items
 
 -- it has to end
 ends_told : (s : Option Stage) → has_ended s ≡ true → AreSpelled (effect s Ends).told (0 ∷ [])
@@ -304,23 +312,39 @@ started_path kind k same = subst (λ (x : EventKind). IsMet x k k) (sym same) (�
 pub tick_path : (kind : EventKind) (k : Clients) → kind ≡ Tick → IsMet kind k k
 tick_path kind k same = subst (λ (x : EventKind). IsMet x k k) (sym same) (λ o. paths_none k o)
 
--- bytes of a client of MQTT 5.0
-plain_case : (c : ℕ) (bytes : Buffer) (k : Clients) (s : Option Stage) → stage_of k c ≡ s → is_some s ≡ false → IsMet (Piece c bytes) k k
-plain_case c bytes k (Some s) at none = absurd cc
-plain_case c bytes k None at none =
+-- bytes of a client of MQTT 5.0: nothing of it was held back
+plain_comes : (c : ℕ) (bytes : Buffer) (k : Clients) (s : Option Stage) → stage_of k c ≡ s → is_some s ≡ false → (o : List Output) → ArePaths (at_one c (Comes bytes.items)) (telling (Piece c bytes)) k k o o
+plain_comes c bytes k (Some s) at none o = absurd cc
+plain_comes c bytes k None at none o =
     let same : effect (stage_of k c) (Comes bytes.items) ≡ effect None (Comes bytes.items) = ap (λ (x : Option Stage). effect x (Comes bytes.items)) at in
     let tells : AreSpelled (effect (stage_of k c) (Comes bytes.items)).told bytes.items =
     subst (λ (e : Effect). AreSpelled e.told bytes.items) (sym same) (spelled_one (Same bytes.items) bytes.items refl) in
-    λ o. but c (Comes bytes.items) k k (λ q. met_by q (Piece c bytes)) (telling (Piece c bytes)) o o
-    (record { at = at ∙ ap (λ (e : Effect). e.stage) (sym same); others = λ q e. refl }) (sym (comes_here c bytes))
+    but c (Comes bytes.items) k k (at_one c (Comes bytes.items)) (telling (Piece c bytes)) o o
+    (record { at = at ∙ ap (λ (e : Effect). e.stage) (sym same); others = λ q e. refl }) (sym (one_here c (Comes bytes.items)))
     (none_given (stage_of k c) (Comes bytes.items) bytes.items (telling (Piece c bytes) c) tells refl (ap told_if (piece_here c bytes)))
     (sym (append-nil (on c o)) ∙ ap (λ (e : Effect). on c o ++ e.out) (sym same))
-    (λ q e. record { meets = comes_there c q bytes e; deals = ap told_if (piece_there c q bytes e); sends = refl })
+    (λ q e. record { meets = one_there c q (Comes bytes.items) e; deals = ap told_if (piece_there c q bytes e); sends = refl })
+
+plain_goes : (c : ℕ) (k : Clients) (s : Option Stage) → stage_of k c ≡ s → is_some s ≡ false → (o : List Output) → ArePaths (at_one c GoesOn) none_dealt k k o o
+plain_goes c k (Some s) at none o = absurd cc
+plain_goes c k None at none o =
+    let same : effect (stage_of k c) GoesOn ≡ effect None GoesOn = ap (λ (x : Option Stage). effect x GoesOn) at in
+    but c GoesOn k k (at_one c GoesOn) none_dealt o o
+    (record { at = at ∙ ap (λ (e : Effect). e.stage) (sym same); others = λ q e. refl }) (sym (one_here c GoesOn))
+    (none_told (stage_of k c) GoesOn [] (subst (λ (e : Effect). AreSpelled e.told []) (sym same) refl) refl)
+    (sym (append-nil (on c o)) ∙ ap (λ (e : Effect). on c o ++ e.out) (sym same))
+    (λ q e. record { meets = one_there c q GoesOn e; deals = refl; sends = refl })
+
+plain_case : (c : ℕ) (bytes : Buffer) (k : Clients) → is_some (stage_of k c) ≡ false → IsMet (Piece c bytes) k k
+plain_case c bytes k none o =
+    paths_as k k (λ q. at_one c (Comes bytes.items) q ++ at_one c GoesOn q) (λ q. met_by q (Piece c bytes)) (λ q. telling (Piece c bytes) q ++ []) (telling (Piece c bytes)) o o
+    (λ q. both_met c q bytes) (λ q. append-nil (telling (Piece c bytes) q))
+    (paths_then k k k (at_one c (Comes bytes.items)) (at_one c GoesOn) (telling (Piece c bytes)) none_dealt o o o (plain_comes c bytes k (stage_of k c) refl none o) (plain_goes c k (stage_of k c) refl none o))
 
 pub plain_path : (c : ℕ) (bytes : Buffer) (kind : EventKind) (k : Clients) → kind ≡ Piece c bytes → is_held k kind ≡ false → IsMet kind k k
 plain_path c bytes kind k same free =
     let none : is_some (stage_of k c) ≡ false = ap (is_held k) (sym same) ∙ free in
-    subst (λ (x : EventKind). IsMet x k k) (sym same) (plain_case c bytes k (stage_of k c) refl none)
+    subst (λ (x : EventKind). IsMet x k k) (sym same) (plain_case c bytes k none)
 
 -- a packet is told
 pub asks_spelled : (p : Packet) (b : Bool) (old new : List ℕ) → b ≡ true → IsTrue b ↔ HasSpelling p → new ≡ old ++ written p → Appends (Asks p ∷ []) old new

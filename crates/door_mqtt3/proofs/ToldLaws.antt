@@ -14,12 +14,13 @@ use Rattle.broker_sockets.specs.declared.events.Output.{Output}
 use Rattle.door_mqtt3.specs.Client.{AreSpelled}
 use Rattle.door_mqtt3.specs.Knowing.{IsComing}
 use Rattle.door_mqtt3.specs.Stages.{Dealing, Happening, IsBut, gave, goes_on, has_ended, met_by, on, piece_of, stage_of, told_if}
-use Rattle.door_mqtt3.specs.Telling.{ArePaths, AreTold, IsGivenOn, IsDeclinedOn, IsMet, IsOwed, IsPart, IsPassedOn, IsPieceAt, IsPut, IsRefusing, IsStopped, IsTelling, IsTold, IsToldOne, IsTranslated, Told, dealt_at, dealt_in, giving, is_held, is_piece, none_dealt, none_met, telling}
+use Rattle.door_mqtt3.specs.Telling.{ArePaths, AreTold, IsGivenOn, IsDeclinedOn, IsMet, IsOwed, IsPart, IsPassedOn, IsPieceAt, IsPut, IsRefusing, IsStopped, IsTelling, IsTold, IsToldOne, IsTranslated, Told, at_one, dealt_at, dealt_in, giving, is_held, is_piece, none_dealt, none_met, telling}
+use Rattle.door_mqtt3.specs.Stages.Happening.{Comes, GoesOn}
 use Rattle.door_mqtt3.specs.declared.clients.Clients.{Clients}
 use Rattle.door_mqtt3.specs.declared.fault.Mqtt3Fault.{Mqtt3Fault}
 use Rattle.door_mqtt3.specs.declared.fault.Mqtt3Fault.TheVariants.{NoMemory, Inside}
 use Rattle.door_mqtt3.specs.declared.taken.Taken.{Taken}
-use Rattle.door_mqtt3.proofs.Paths.{Buffer, comes_path, ends_path, goes_on_path, paths_as, paths_none, paths_then}
+use Rattle.door_mqtt3.proofs.Paths.{Buffer, both_met, comes_path, ends_path, goes_on_path, paths_as, paths_none, paths_then}
 
 abbrev all_at : ℕ → List Told → Type 0
 all_at at calls = AllByRecursion (IsPieceAt at) calls
@@ -51,14 +52,15 @@ module _ {H : Type 0} (handles : H → Event → List Output → H → Type 0) w
   pub telling_none : (at : ℕ) (h : H) (k : Clients) (o : List Output) → IsTelling handles at h h k k o o
   telling_none at h k o = record { calls = []; told = refl; pieces = tt; paths = paths_none k o }
 
-  pub part_then : (at : ℕ) (met : ℕ → List Happening) (h m h' : H) (k l k' : Clients) (o p r : List Output) → IsPart handles at met h m k l o p → IsTelling handles at m h' l k' p r → IsPart handles at met h h' k k' o r
-  part_then at met h m h' k l k' o p r a b = record {
+  pub parts_then : (at : ℕ) (met met' : ℕ → List Happening) (h m h' : H) (k l k' : Clients) (o p r : List Output) → IsPart handles at met h m k l o p → IsPart handles at met' m h' l k' p r
+      → IsPart handles at (λ q. met q ++ met' q) h h' k k' o r
+  parts_then at met met' h m h' k l k' o p r a b = record {
     calls = a.calls ++ b.calls;
     told = told_then a.calls b.calls h m h' a.told b.told;
     pieces = pieces_then at a.calls b.calls a.pieces b.pieces;
-    paths = paths_as k k' (λ q. met q ++ none_met q) met (λ q. dealt_in q a.calls ++ dealt_in q b.calls) (λ q. dealt_in q (a.calls ++ b.calls)) o r
-        (λ q. append-nil (met q)) (λ q. sym (dealt_then q a.calls b.calls))
-        (paths_then k l k' met none_met (λ q. dealt_in q a.calls) (λ q. dealt_in q b.calls) o p r a.paths b.paths);
+    paths = paths_as k k' (λ q. met q ++ met' q) (λ q. met q ++ met' q) (λ q. dealt_in q a.calls ++ dealt_in q b.calls) (λ q. dealt_in q (a.calls ++ b.calls)) o r
+        (λ q. refl) (λ q. sym (dealt_then q a.calls b.calls))
+        (paths_then k l k' met met' (λ q. dealt_in q a.calls) (λ q. dealt_in q b.calls) o p r a.paths b.paths);
   }
 
   -- what it is told in one call, and what it gives then
@@ -79,7 +81,7 @@ module _ {H : Type 0} (handles : H → Event → List Output → H → Type 0) w
       }
 
   pub telling_then : (at : ℕ) (h m h' : H) (k l k' : Clients) (o p r : List Output) → IsTelling handles at h m k l o p → IsTelling handles at m h' l k' p r → IsTelling handles at h h' k k' o r
-  telling_then at h m h' k l k' o p r a b = part_then at none_met h m h' k l k' o p r a b
+  telling_then at h m h' k l k' o p r a b = parts_then at none_met none_met h m h' k l k' o p r a b
 
   -- bytes that are owed
   pub owed_none : (at c : ℕ) (bytes : Buffer) (h : H) (k : Clients) (o : List Output) → (length bytes.items == 0) ≡ true → IsOwed handles at (λ q. piece_of q (Piece c bytes)) h h k k o o
@@ -112,25 +114,26 @@ module _ {H : Type 0} (handles : H → Event → List Output → H → Type 0) w
   }
 
   pub piece_taken : (at c : ℕ) (bytes : Buffer) (taken : Taken) (h h' : H) (k l k' : Clients) (o p r : List Output) → IsComing c bytes.items taken k l → IsPut c taken.first.items o p
-      → IsOwed handles at (λ q. piece_of q (Piece c taken.told)) h h' l k' p r → IsPart handles at (λ q. met_by q (Piece c bytes)) h h' k k' o r
+      → IsOwed handles at (λ q. piece_of q (Piece c taken.told)) h h' l k' p r → IsPart handles at (at_one c (Comes bytes.items)) h h' k k' o r
   piece_taken at c bytes taken h h' k l k' o p r come put w =
-      owed_part at (λ q. met_by q (Piece c bytes)) (λ q. piece_of q (Piece c taken.told)) h h' k l k' o p r (comes_path c bytes k l o p taken come put) w
+      owed_part at (at_one c (Comes bytes.items)) (λ q. piece_of q (Piece c taken.told)) h h' k l k' o p r (comes_path c bytes k l o p taken come put) w
 
   pub went_on : (at c : ℕ) (told : Buffer) (h h' : H) (k l k' : Clients) (o r : List Output) → AreSpelled (goes_on (stage_of k c)).told told.items → IsBut c (goes_on (stage_of k c)).stage k l
-      → IsOwed handles at (λ q. piece_of q (Piece c told)) h h' l k' o r → IsTelling handles at h h' k k' o r
-  went_on at c told h h' k l k' o r tells is w = owed_part at none_met (λ q. piece_of q (Piece c told)) h h' k l k' o o r (goes_on_path c told k l o tells is) w
+      → IsOwed handles at (λ q. piece_of q (Piece c told)) h h' l k' o r → IsPart handles at (at_one c GoesOn) h h' k k' o r
+  went_on at c told h h' k l k' o r tells is w = owed_part at (at_one c GoesOn) (λ q. piece_of q (Piece c told)) h h' k l k' o o r (goes_on_path c told k l o tells is) w
 
   -- bytes of a client that isn't known to be of MQTT 5.0
   pub translated_held : (e : Event) (at c : ℕ) (bytes : Buffer) (h m h' : H) (k l k' : Clients) (o p outputs : List Output) → is_held k e.kind ≡ true → at ≡ e.at → e.kind ≡ Piece c bytes → o ≡ []
-      → IsPart handles at (λ q. met_by q (Piece c bytes)) h m k l o p → IsTelling handles at m h' l k' p outputs → IsTranslated handles e h h' k k' outputs
+      → IsPart handles at (at_one c (Comes bytes.items)) h m k l o p → IsPart handles at (at_one c GoesOn) m h' l k' p outputs → IsTranslated handles e h h' k k' outputs
   translated_held e at c bytes h m h' k l k' o p outputs held moment kind none a b =
-      let t = part_then at (λ q. met_by q (Piece c bytes)) h m h' k l k' o p outputs a b in
+      let t = parts_then at (at_one c (Comes bytes.items)) (at_one c GoesOn) h m h' k l k' o p outputs a b in
+      let met : ℕ → List Happening = λ q. at_one c (Comes bytes.items) q ++ at_one c GoesOn q in
       record {
         calls = t.calls;
         told = t.told;
         events = rw held (subst (λ (n : ℕ). all_at n t.calls) moment t.pieces);
-        paths = paths_as k k' (λ q. met_by q (Piece c bytes)) (λ q. met_by q e.kind) (λ q. dealt_in q t.calls) (λ q. dealt_in q t.calls) [] outputs (λ q. ap (met_by q) (sym kind)) (λ q. refl)
-            (subst (λ (xs : List Output). ArePaths (λ q. met_by q (Piece c bytes)) (λ q. dealt_in q t.calls) k k' xs outputs) none t.paths);
+        paths = paths_as k k' met (λ q. met_by q e.kind) (λ q. dealt_in q t.calls) (λ q. dealt_in q t.calls) [] outputs (λ q. both_met c q bytes ∙ ap (met_by q) (sym kind)) (λ q. refl)
+            (subst (λ (xs : List Output). ArePaths met (λ q. dealt_in q t.calls) k k' xs outputs) none t.paths);
       }
 
   -- any other event

@@ -130,11 +130,12 @@ abbrev pub out_in : Option Stage → List Happening → List Outgoing
 out_in s [] = []
 out_in s (h ∷ hs) = (effect s h).out ++ out_in (effect s h).stage hs
 
--- what comes from outside
+-- what an event brings: what comes from outside, and that what was held back goes on
 abbrev pub met_one : Happening → List Happening
 met_one Opens = Opens ∷ []
 met_one Goes = Goes ∷ []
 met_one (Comes bytes) = Comes bytes ∷ []
+met_one GoesOn = GoesOn ∷ []
 met_one _ = []
 
 abbrev pub met_in : List Happening → List Happening
@@ -161,7 +162,7 @@ on q outputs = flat_map (of_output q) outputs
 abbrev pub met_by : ℕ → EventKind → List Happening
 met_by q Started = []
 met_by q (Opened connection) = if connection == q then Opens ∷ [] else []
-met_by q (Piece connection bytes) = if connection == q then Comes bytes.items ∷ [] else []
+met_by q (Piece connection bytes) = if connection == q then Comes bytes.items ∷ GoesOn ∷ [] else []
 met_by q (Room connection bytes) = []
 met_by q (Closed connection) = if connection == q then Goes ∷ [] else []
 met_by q Tick = []

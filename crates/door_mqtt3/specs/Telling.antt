@@ -1,5 +1,5 @@
 -- What the handler inside is told, and what goes out.
-use Rattle.std.specs.Prelude.{◌≡◌, ◌==◌, ◌++◌, ◌⊎◌, is_some, ℕ, List, [], ◌∷◌, Bool, true, false, Option, Some, None, flat_map}
+use Rattle.std.specs.Prelude.{◌≡◌, ◌==◌, ◌++◌, ◌⊎◌, is_some, ℕ, List, [], ◌∷◌, Bool, true, false, Option, Some, None, flat_map, if◌then◌else◌}
 use Rattle.std.specs.List.{AllByRecursion}
 use Rattle.broker_sockets.specs.declared.bridge.Given.{Given}
 use Rattle.broker_sockets.specs.declared.bridge.PeerEvent.{PeerEvent}
@@ -42,6 +42,10 @@ pub record IsPut (c : ℕ) (bytes : List ℕ) (outputs outputs' : List Output) :
 
 abbrev pub none_met : ℕ → List Happening
 none_met q = []
+
+-- this happens on one connection
+abbrev pub at_one : ℕ → Happening → ℕ → List Happening
+at_one c h = λ q. if c == q then h ∷ [] else []
 
 abbrev pub none_dealt : ℕ → List Dealing
 none_dealt q = []

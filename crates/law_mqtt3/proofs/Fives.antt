@@ -31,7 +31,7 @@ use Rattle.door_mqtt3.specs.declared.clients.Stage.{Stage}
 use Rattle.door_mqtt3.specs.declared.clients.Stage.TheVariants as stages
 use Rattle.door_mqtt3.proofs.Following.{followed}
 use Rattle.door_mqtt3.proofs.Paths.{on_then}
-use Rattle.law_mqtt3.specs.Fives.{FivesGoThrough, GoesThrough, IsOfFive, given_untold, is_later}
+use Rattle.law_mqtt3.specs.Fives.{FivesGoThrough, GoesThrough, IsOfFive, from_outside, given_untold, is_later}
 use Rattle.law_mqtt3.specs.Turns.{bytes_at, bytes_in}
 use Rattle.law_mqtt3.proofs.Ordered.{and_both}
 use Rattle.law_mqtt3.proofs.Versions.{version_steady}
@@ -156,7 +156,7 @@ free (h ∷ hs) dealt later (front, back, is, (bytes, tells, first), all) =
 
 -- ---- what comes from outside
 
-met_later : (hs : List Happening) → list_all is_later (met_in hs) ≡ true → list_all is_later hs ≡ true
+met_later : (hs : List Happening) → list_all is_later (from_outside (met_in hs)) ≡ true → list_all is_later hs ≡ true
 met_later [] later = refl
 met_later (Opens ∷ hs) later = later
 met_later (Goes ∷ hs) later = met_later hs later
@@ -202,7 +202,7 @@ untold_given dealt back out is silent = let bad : out ∷ given_untold back ≡ 
 -- all that is known of such a connection: what is met, and what is dealt
 record Knows (held : List ℕ) (pieces : List (List ℕ)) (later hs : List Happening) (dealt : List Dealing) : Type 0 where
   none : version_of limit held ≡ None
-  met : met_in hs ≡ map Comes pieces ++ later
+  met : from_outside (met_in hs) ≡ map Comes pieces ++ later
   once : list_all is_later later ≡ true
   fits : IsBytes (held ++ concat pieces)
   five : version_of limit (held ++ concat pieces) ≡ Some Five
@@ -255,7 +255,7 @@ still h hs held dealt back none_met none_out stays same more = record {
 }
 
 comes_case : (hs : List Happening) → Untils hs → (held bytes : List ℕ) (pieces : List (List ℕ)) (later : List Happening) (dealt front back : List Dealing) (told : List ℕ) → Knows held (bytes ∷ pieces) later (Comes bytes ∷ hs) dealt
-    → met_in hs ≡ map Comes pieces ++ later → dealt ≡ front ++ back → front ≡ told_if told ++ gave [] → AreSpelled (told_of (held ++ bytes) (version_of limit (held ++ bytes))) told
+    → from_outside (met_in hs) ≡ map Comes pieces ++ later → dealt ≡ front ++ back → front ≡ told_if told ++ gave [] → AreSpelled (told_of (held ++ bytes) (version_of limit (held ++ bytes))) told
     → AreDealt (effect (coming held) (Comes bytes)).stage hs back → (v : Option Version) → version_of limit (held ++ bytes) ≡ v → IsThrough (coming held) held (Comes bytes ∷ hs) dealt
 comes_case hs next held bytes pieces later dealt front back told k met is first tells all None e =
     let regrouped : held ++ (bytes ++ concat pieces) ≡ (held ++ bytes) ++ concat pieces = sym (append_assoc held bytes (concat pieces)) in
@@ -286,13 +286,13 @@ comes_by : (hs : List Happening) → Untils hs → (held bytes : List ℕ) (piec
 comes_by hs next held bytes [] later dealt front back told k is first tells all = absurd (no_more held k.none k.five)
 comes_by hs next held bytes (piece ∷ pieces) later dealt front back told k is first tells all =
     let same : piece ≡ bytes = sym (bytes_of_first bytes piece (ap head_of k.met)) in
-    let met : met_in hs ≡ map Comes pieces ++ later = ap tail_of k.met in
+    let met : from_outside (met_in hs) ≡ map Comes pieces ++ later = ap tail_of k.met in
     let known : Knows held (bytes ∷ pieces) later (Comes bytes ∷ hs) dealt = subst (λ (xs : List ℕ). Knows held (xs ∷ pieces) later (Comes bytes ∷ hs) dealt) same k in
     comes_case hs next held bytes pieces later dealt front back told known met is first tells all (version_of limit (held ++ bytes)) refl
 
 -- it is opened, or gone: not before its version is told
 not_met : (h : Happening) (hs : List Happening) (held : List ℕ) (pieces : List (List ℕ)) (later : List Happening) (dealt : List Dealing) → Knows held pieces later (h ∷ hs) dealt → ((bytes : List ℕ) → h ≡ Comes bytes → ⊥)
-    → met_in (h ∷ hs) ≡ h ∷ met_in hs → ⊥
+    → from_outside (met_in (h ∷ hs)) ≡ h ∷ from_outside (met_in hs) → ⊥
 not_met h hs held [] later dealt k other one = no_more held k.none k.five
 not_met h hs held (piece ∷ pieces) later dealt k other one = other piece (ap head_of (sym one ∙ k.met))
 
@@ -318,7 +318,7 @@ until (Closes ∷ hs) held pieces later dealt k (front, back, is, (told, tells, 
 
 -- what is known before it is opened
 record Begins (pieces : List (List ℕ)) (later hs : List Happening) (dealt : List Dealing) : Type 0 where
-  met : met_in hs ≡ Opens ∷ (map Comes pieces ++ later)
+  met : from_outside (met_in hs) ≡ Opens ∷ (map Comes pieces ++ later)
   once : list_all is_later later ≡ true
   fits : IsBytes (concat pieces)
   five : version_of limit (concat pieces) ≡ Some Five
@@ -369,7 +369,7 @@ no_bytes : (h : Happening) (b : Bool) → bytes_at h ≡ [] → ◌≡◌ {A = L
 no_bytes h true e = sym (append-nil (bytes_at h) ∙ e)
 no_bytes h false e = refl
 
-some_bytes : (bytes : List ℕ) (b : Bool) → cond b bytes [] ≡ bytes_in (cond b (Comes bytes ∷ []) [])
+some_bytes : (bytes : List ℕ) (b : Bool) → cond b bytes [] ≡ bytes_in (cond b (Comes bytes ∷ GoesOn ∷ []) [])
 some_bytes bytes true = sym (append-nil bytes)
 some_bytes bytes false = refl
 
@@ -435,7 +435,7 @@ all_given q (call ∷ calls) =
 goes_so : (q : ℕ) (calls inside : List Call) → IsFollowed q calls inside → IsOfFive q calls inside → GoesThrough q calls inside
 goes_so q calls inside f five =
     let b : Begins five.pieces five.later f.happenings (dealt_of q inside) =
-    record { met = f.met ∙ five.met; once = five.once; fits = five.bytes; five = five.version; silent = five.silent } in
+    record { met = ap from_outside f.met ∙ five.met; once = five.once; fits = five.bytes; five = five.version; silent = five.silent } in
     let t = begins f.happenings five.pieces five.later (dealt_of q inside) b f.dealt in
     record {
       told = sym (all_told q inside) ∙ t.told ∙ sym (calls_bytes q calls ∙ ap bytes_in (sym f.met) ∙ met_bytes f.happenings);

@@ -12,7 +12,7 @@ use Rattle.door_mqtt3.specs.Calls.{AreMade, Call, bytes_of, dealt_of, given_of, 
 use Rattle.door_mqtt3.specs.Client.{limit}
 use Rattle.door_mqtt3.specs.Stages.{Dealing, Happening, Outgoing, on, stage_of}
 use Rattle.door_mqtt3.specs.Stages.Dealing.{Tells, Gives}
-use Rattle.door_mqtt3.specs.Stages.Happening.{Opens, Comes}
+use Rattle.door_mqtt3.specs.Stages.Happening.{Opens, Comes, GoesOn}
 use Rattle.door_mqtt3.specs.Views.{clients_of, inside_of}
 use Rattle.door_mqtt3.specs.declared.clients.Clients.{Clients}
 use Rattle.door_mqtt3.specs.declared.handler.Mqtt3.{Mqtt3}
@@ -21,6 +21,12 @@ use Rattle.door_mqtt3.specs.declared.handler.Mqtt3.{Mqtt3}
 abbrev pub is_later : Happening → Bool
 is_later Opens = false
 is_later _ = true
+
+-- what comes from outside: beside it what was held back goes on
+abbrev pub from_outside : List Happening → List Happening
+from_outside [] = []
+from_outside (GoesOn ∷ hs) = from_outside hs
+from_outside (h ∷ hs) = h ∷ from_outside hs
 
 -- what is given for a connection before anything is told of it
 abbrev pub given_untold : List Dealing → List Outgoing
@@ -33,7 +39,7 @@ given_untold (Gives out ∷ more) = out ∷ given_untold more
 pub record IsOfFive (q : ℕ) (calls inside : List Call) : Type 0 where
   pub pieces : List (List ℕ)
   pub later : List Happening
-  pub met : met_of q calls ≡ Opens ∷ (map Comes pieces ++ later)
+  pub met : from_outside (met_of q calls) ≡ Opens ∷ (map Comes pieces ++ later)
   pub once : list_all is_later later ≡ true
   pub bytes : IsBytes (concat pieces)
   pub version : version_of limit (concat pieces) ≡ Some Five
