@@ -1,19 +1,17 @@
 -- Calls, one after another, and what happens on each connection.
-use Rattle.std.proofs.Common.{◌≡◌, ℕ, List, [], ◌∷◌, ◌++◌, Option, Some, None, refl, sym, ap, subst, ◌∙◌, append_assoc}
+use Rattle.std.proofs.Common.{◌≡◌, ℕ, List, [], ◌∷◌, ◌++◌, Option, Some, None, refl, sym, ap, subst, ◌∙◌}
 use Rattle.std.proofs.lemmas.List.{append-nil}
 use Rattle.std.proofs.lemmas.Grind.{flat_map-append}
 use Rattle.std.proofs.lemmas.Option.{same_Some}
 use Rattle.broker_sockets.specs.declared.bridge.Given.{Given}
 use Rattle.broker_sockets.specs.declared.bridge.PeerEvent.{PeerEvent}
 use Rattle.broker_sockets.specs.declared.events.Event.{Event}
-use Rattle.broker_sockets.specs.declared.events.EventKind.{EventKind}
 use Rattle.broker_sockets.specs.declared.events.Output.{Output}
-use Rattle.door_mqtt3.specs.Calls.{AreMade, Call, IsMade, bytes_at, bytes_of, given_at, given_of, met_at, met_of}
+use Rattle.door_mqtt3.specs.Calls.{AreMade, Call, IsMade, dealt_by, dealt_of, given_at, given_of, met_at, met_of}
 use Rattle.door_mqtt3.specs.Calls.Call.{Handled, Heard, Settled}
-use Rattle.door_mqtt3.specs.Client.{AreSpelled}
-use Rattle.door_mqtt3.specs.Laws.{EachIsFollowed, IsFollowed}
-use Rattle.door_mqtt3.specs.Stages.{Happening, IsPath, Outgoing, met_by, on, piece_of, stage_of}
-use Rattle.door_mqtt3.specs.Telling.{ArePaths, AreTold, IsAnswered, IsAnsweredIf, IsHeard, IsHeardIf, IsPassedOn, IsSettled, IsTranslated, Told, bytes_told, given_by, none_met}
+use Rattle.door_mqtt3.specs.Laws.{EachIsFollowed}
+use Rattle.door_mqtt3.specs.Stages.{Dealing, Happening, IsPath, Outgoing, met_by, on, stage_of}
+use Rattle.door_mqtt3.specs.Telling.{ArePaths, AreTold, IsAnswered, IsAnsweredIf, IsHeard, IsHeardIf, IsPassedOn, IsSettled, IsTranslated, Told, dealt_at, dealt_in, giving, none_met}
 use Rattle.door_mqtt3.specs.declared.clients.Clients.{Clients}
 use Rattle.door_mqtt3.specs.declared.clients.Stage.{Stage}
 use Rattle.door_mqtt3.specs.declared.handler.Mqtt3.{Mqtt3}
@@ -24,47 +22,38 @@ abbrev as_calls : List Told → List Call
 as_calls [] = []
 as_calls (t ∷ ts) = Handled t.0 t.1 ∷ as_calls ts
 
-given_as : (ts : List Told) → given_of (as_calls ts) ≡ given_by ts
-given_as [] = refl
-given_as (t ∷ ts) = ap (λ (xs : List Output). t.1 ++ xs) (given_as ts)
+dealt_as : (q : ℕ) (ts : List Told) → dealt_in q ts ≡ dealt_of q (as_calls ts)
+dealt_as q [] = refl
+dealt_as q (t ∷ ts) = ap (λ (xs : List Dealing). dealt_at q t ++ xs) (dealt_as q ts)
 
-bytes_as : (q : ℕ) (ts : List Told) → bytes_of q (as_calls ts) ≡ bytes_told q ts
-bytes_as q [] = refl
-bytes_as q (t ∷ ts) = ap (λ (xs : List ℕ). piece_of q t.0.kind ++ xs) (bytes_as q ts)
-
-bytes_both : (q : ℕ) (xs ys : List Call) → bytes_of q (xs ++ ys) ≡ bytes_of q xs ++ bytes_of q ys
-bytes_both q xs ys = flat_map-append (bytes_at q) xs ys
-
-given_both : (xs ys : List Call) → given_of (xs ++ ys) ≡ given_of xs ++ given_of ys
-given_both xs ys = flat_map-append given_at xs ys
+dealt_both : (q : ℕ) (xs ys : List Call) → dealt_of q xs ++ dealt_of q ys ≡ dealt_of q (xs ++ ys)
+dealt_both q xs ys = sym (flat_map-append (dealt_by q) xs ys)
 
 -- what goes out is put behind what went out before
-moved : (q : ℕ) (s s' : Option Stage) (met : List Happening) (told : List ℕ) (given p front : List Output) → IsPath q s s' met told given [] p → IsPath q s s' met told given front (front ++ p)
-moved q s s' met told given p front a = record {
+moved : (q : ℕ) (s s' : Option Stage) (met : List Happening) (dealt : List Dealing) (p front : List Output) → IsPath q s s' met dealt [] p → IsPath q s s' met dealt front (front ++ p)
+moved q s s' met dealt p front a = record {
   happenings = a.happenings;
   stage = a.stage;
   comes = a.comes;
-  tells = a.tells;
-  gives = a.gives;
+  deals = a.deals;
   sends = on_then q front p ∙ ap (λ (xs : List Outgoing). on q front ++ xs) a.sends;
 }
 
 -- the paths of one call, and then of others
-pub paths_both : (call : Call) (more xs ys : List Call) (k l k' : Clients) → ArePaths (λ q. met_of q (call ∷ [])) (λ q. bytes_of q xs) (given_of xs) k l [] (given_of (call ∷ []))
-    → ArePaths (λ q. met_of q more) (λ q. bytes_of q ys) (given_of ys) l k' [] (given_of more) → ArePaths (λ q. met_of q (call ∷ more)) (λ q. bytes_of q (xs ++ ys)) (given_of (xs ++ ys)) k k' [] (given_of (call ∷ more))
+pub paths_both : (call : Call) (more xs ys : List Call) (k l k' : Clients) → ArePaths (λ q. met_of q (call ∷ [])) (λ q. dealt_of q xs) k l [] (given_of (call ∷ []))
+    → ArePaths (λ q. met_of q more) (λ q. dealt_of q ys) l k' [] (given_of more) → ArePaths (λ q. met_of q (call ∷ more)) (λ q. dealt_of q (xs ++ ys)) k k' [] (given_of (call ∷ more))
 paths_both call more xs ys k l k' a b = λ q.
-    let second = moved q (stage_of l q) (stage_of k' q) (met_of q more) (bytes_of q ys) (given_of ys) (given_of more) (given_of (call ∷ [])) (b q) in
-    let joined = path_then q (stage_of k q) (stage_of l q) (stage_of k' q) (met_of q (call ∷ [])) (met_of q more) (bytes_of q xs) (bytes_of q ys) (given_of xs) (given_of ys) [] (given_of (call ∷ [])) (given_of (call ∷ []) ++ given_of more) (a q) second in
+    let second = moved q (stage_of l q) (stage_of k' q) (met_of q more) (dealt_of q ys) (given_of more) (given_of (call ∷ [])) (b q) in
+    let joined = path_then q (stage_of k q) (stage_of l q) (stage_of k' q) (met_of q (call ∷ [])) (met_of q more) (dealt_of q xs) (dealt_of q ys) [] (given_of (call ∷ [])) (given_of (call ∷ []) ++ given_of more) (a q) second in
     let met : met_of q (call ∷ []) ++ met_of q more ≡ met_of q (call ∷ more) = ap (λ (xs : List Happening). xs ++ met_of q more) (append-nil (met_at q call)) in
     let given : given_of (call ∷ []) ++ given_of more ≡ given_of (call ∷ more) = ap (λ (xs : List Output). xs ++ given_of more) (append-nil (given_at call)) in
-    let one = subst (λ (ms : List Happening). IsPath q (stage_of k q) (stage_of k' q) ms (bytes_of q xs ++ bytes_of q ys) (given_of xs ++ given_of ys) [] (given_of (call ∷ []) ++ given_of more)) met joined in
-    let two = subst (λ (bs : List ℕ). IsPath q (stage_of k q) (stage_of k' q) (met_of q (call ∷ more)) bs (given_of xs ++ given_of ys) [] (given_of (call ∷ []) ++ given_of more)) (sym (bytes_both q xs ys)) one in
-    let three = subst (λ (os : List Output). IsPath q (stage_of k q) (stage_of k' q) (met_of q (call ∷ more)) (bytes_of q (xs ++ ys)) os [] (given_of (call ∷ []) ++ given_of more)) (sym (given_both xs ys)) two in
-    subst (λ (os : List Output). IsPath q (stage_of k q) (stage_of k' q) (met_of q (call ∷ more)) (bytes_of q (xs ++ ys)) (given_of (xs ++ ys)) [] os) given three
+    let one = subst (λ (ms : List Happening). IsPath q (stage_of k q) (stage_of k' q) ms (dealt_of q xs ++ dealt_of q ys) [] (given_of (call ∷ []) ++ given_of more)) met joined in
+    let two = subst (λ (ds : List Dealing). IsPath q (stage_of k q) (stage_of k' q) (met_of q (call ∷ more)) ds [] (given_of (call ∷ []) ++ given_of more)) (dealt_both q xs ys) one in
+    subst (λ (os : List Output). IsPath q (stage_of k q) (stage_of k' q) (met_of q (call ∷ more)) (dealt_of q (xs ++ ys)) [] os) given two
 
 -- nothing passes
-pub paths_still : (k k' : Clients) → k' ≡ k → ArePaths (λ q. []) (λ q. []) [] k k' [] []
-paths_still k k' kept = λ q. subst (λ (x : Clients). IsPath q (stage_of k q) (stage_of x q) [] [] [] [] []) (sym kept) (path_none q (stage_of k q) [])
+pub paths_still : (k k' : Clients) → k' ≡ k → ArePaths (λ q. []) (λ q. []) k k' [] []
+paths_still k k' kept = λ q. subst (λ (x : Clients). IsPath q (stage_of k q) (stage_of x q) [] [] [] []) (sym kept) (path_none q (stage_of k q) [])
 
 module _ {H : Type 0} (handles : H → Event → List Output → H → Type 0) (hears : H → PeerEvent → Given → H → Type 0) (settles : H → H → Type 0) where
   abbrev Inside : List Call → H → H → Type 0
@@ -82,27 +71,28 @@ module _ {H : Type 0} (handles : H → Event → List Output → H → Type 0) (
   pub record Followed (calls : List Call) (h h' : H) (k k' : Clients) : Type 0 where
     pub inside : List Call
     pub made : Inside inside h h'
-    pub paths : ArePaths (λ q. met_of q calls) (λ q. bytes_of q inside) (given_of inside) k k' [] (given_of calls)
+    pub paths : ArePaths (λ q. met_of q calls) (λ q. dealt_of q inside) k k' [] (given_of calls)
 
   handled : (e : Event) (outputs : List Output) (h h' : H) (k k' : Clients) → IsTranslated handles e h h' k k' outputs → Followed (Handled e outputs ∷ []) h h' k k'
   handled e outputs h h' k k' t = record {
     inside = as_calls t.calls;
     made = made_as t.calls h h' t.told;
-    paths = paths_as k k' (λ q. met_by q e.kind) (λ q. met_of q (Handled e outputs ∷ [])) (λ q. bytes_told q t.calls) (λ q. bytes_of q (as_calls t.calls)) (given_by t.calls) (given_of (as_calls t.calls)) [] (given_of (Handled e outputs ∷ []))
-        (λ q. sym (append-nil (met_by q e.kind))) (λ q. sym (bytes_as q t.calls)) (sym (given_as t.calls))
-        (subst (λ (xs : List Output). ArePaths (λ q. met_by q e.kind) (λ q. bytes_told q t.calls) (given_by t.calls) k k' [] xs) (sym (append-nil outputs)) t.paths);
+    paths = paths_as k k' (λ q. met_by q e.kind) (λ q. met_of q (Handled e outputs ∷ [])) (λ q. dealt_in q t.calls) (λ q. dealt_of q (as_calls t.calls)) [] (given_of (Handled e outputs ∷ []))
+        (λ q. sym (append-nil (met_by q e.kind))) (λ q. dealt_as q t.calls)
+        (subst (λ (xs : List Output). ArePaths (λ q. met_by q e.kind) (λ q. dealt_in q t.calls) k k' [] xs) (sym (append-nil outputs)) t.paths);
   }
 
   heard : (e : PeerEvent) (given : Given) (h h' : H) (k k' : Clients) → IsPassedOn handles hears e h h' k k' given → Followed (Heard e given ∷ []) h h' k k'
   heard e given h h' k k' t =
       let more = t.outputs.more in
-      let all = paths_then k t.outputs.between k' none_met none_met (λ q. []) (λ q. bytes_told q more.calls) t.first.outputs.items (given_by more.calls) [] t.outputs.sent given.outputs.items t.outputs.first more.paths in
+      let first = t.first.outputs.items in
+      let all = paths_then k t.outputs.between k' none_met none_met (giving first) (λ q. dealt_in q more.calls) [] t.outputs.sent given.outputs.items t.outputs.first more.paths in
       record {
         inside = Heard e t.first ∷ as_calls more.calls;
         made = (t.reached, t.heard, made_as more.calls t.reached h' more.told);
-        paths = paths_as k k' none_met (λ q. met_of q (Heard e given ∷ [])) (λ q. bytes_told q more.calls) (λ q. bytes_of q (Heard e t.first ∷ as_calls more.calls)) (t.first.outputs.items ++ given_by more.calls) (given_of (Heard e t.first ∷ as_calls more.calls)) [] (given_of (Heard e given ∷ []))
-            (λ q. refl) (λ q. sym (bytes_as q more.calls)) (ap (λ (xs : List Output). t.first.outputs.items ++ xs) (sym (given_as more.calls)))
-            (subst (λ (xs : List Output). ArePaths none_met (λ q. bytes_told q more.calls) (t.first.outputs.items ++ given_by more.calls) k k' [] xs) (sym (append-nil given.outputs.items)) all);
+        paths = paths_as k k' none_met (λ q. met_of q (Heard e given ∷ [])) (λ q. giving first q ++ dealt_in q more.calls) (λ q. dealt_of q (Heard e t.first ∷ as_calls more.calls)) [] (given_of (Heard e given ∷ []))
+            (λ q. refl) (λ q. ap (λ (xs : List Dealing). giving first q ++ xs) (dealt_as q more.calls))
+            (subst (λ (xs : List Output). ArePaths none_met (λ q. giving first q ++ dealt_in q more.calls) k k' [] xs) (sym (append-nil given.outputs.items)) all);
       }
 
   both : (call : Call) (more : List Call) (h m h' : H) (k l k' : Clients) → Followed (call ∷ []) h m k l → Followed more m h' l k' → Followed (call ∷ more) h h' k k'
@@ -154,7 +144,7 @@ module _ {H : Type 0} (handles : H → Event → List Output → H → Type 0) (
         f.1.made,
         λ q.
             let path = f.1.paths q in
-            let from : IsPath q None (stage_of f.0 q) (met_of q calls) (bytes_of q f.1.inside) (given_of f.1.inside) [] (given_of calls) =
-            subst (λ (s : Option Stage). IsPath q s (stage_of f.0 q) (met_of q calls) (bytes_of q f.1.inside) (given_of f.1.inside) [] (given_of calls)) (none_open q) path in
-            record { happenings = from.happenings; met = from.comes; given = from.gives; told = from.tells; out = from.sends },
+            let from : IsPath q None (stage_of f.0 q) (met_of q calls) (dealt_of q f.1.inside) [] (given_of calls) =
+            subst (λ (s : Option Stage). IsPath q s (stage_of f.0 q) (met_of q calls) (dealt_of q f.1.inside) [] (given_of calls)) (none_open q) path in
+            record { happenings = from.happenings; met = from.comes; dealt = from.deals; out = from.sends },
       )

@@ -1,48 +1,44 @@
 -- What the handler inside is told, one event after another.
-use Rattle.std.proofs.Common.{◌≡◌, arith, inr, ℕ, Bool, cond, true, false, List, [], ◌∷◌, ◌++◌, Option, Some, None, refl, sym, ap, subst, ◌∙◌, append_assoc}
-use Rattle.std.specs.Prelude.{◌==◌, flat_map, is_some, length}
+use Rattle.std.proofs.Common.{◌≡◌, arith, inr, ℕ, Bool, cond, true, false, List, [], ◌∷◌, ◌++◌, refl, sym, ap, subst, ◌∙◌, append_assoc}
+use Rattle.std.specs.Prelude.{◌==◌, length}
 use Rattle.std.specs.List.{AllByRecursion}
-use Rattle.std.proofs.lemmas.Bool.{eq-eqb, eqb-true}
+use Rattle.std.proofs.lemmas.Bool.{eqb-true}
 use Rattle.std.proofs.lemmas.List.{append-nil}
 use Rattle.std.proofs.lemmas.Grind.{flat_map-append}
 use Rattle.broker_sockets.specs.declared.bridge.Given.{Given}
 use Rattle.broker_sockets.specs.declared.bridge.PeerEvent.{PeerEvent}
 use Rattle.broker_sockets.specs.declared.events.Event.{Event}
 use Rattle.broker_sockets.specs.declared.events.EventKind.{EventKind}
-use Rattle.broker_sockets.specs.declared.events.EventKind.TheVariants.{Started, Opened, Piece, Closed, Tick}
+use Rattle.broker_sockets.specs.declared.events.EventKind.TheVariants.{Piece}
 use Rattle.broker_sockets.specs.declared.events.Output.{Output}
 use Rattle.door_mqtt3.specs.Client.{AreSpelled}
 use Rattle.door_mqtt3.specs.Knowing.{IsComing}
-use Rattle.door_mqtt3.specs.Stages.{Happening, IsBut, goes_on, met_by, piece_of, stage_of}
-use Rattle.door_mqtt3.specs.Telling.{AreCalls, ArePaths, AreTold, IsGivenOn, IsDeclinedOn, IsMet, IsOwed, IsPart, IsPassedOn, IsPieceAt, IsPut, IsRefusing, IsStopped, IsTelling, IsTold, IsToldOne, IsTranslated, Told, bytes_told, given_by, is_held, is_piece, none_met, none_told}
+use Rattle.door_mqtt3.specs.Stages.{Dealing, Happening, IsBut, gave, goes_on, has_ended, met_by, on, piece_of, stage_of, told_if}
+use Rattle.door_mqtt3.specs.Telling.{ArePaths, AreTold, IsGivenOn, IsDeclinedOn, IsMet, IsOwed, IsPart, IsPassedOn, IsPieceAt, IsPut, IsRefusing, IsStopped, IsTelling, IsTold, IsToldOne, IsTranslated, Told, at_one, dealt_at, dealt_in, giving, is_held, is_piece, none_dealt, none_met, telling}
+use Rattle.door_mqtt3.specs.Stages.Happening.{Comes, GoesOn}
 use Rattle.door_mqtt3.specs.declared.clients.Clients.{Clients}
 use Rattle.door_mqtt3.specs.declared.fault.Mqtt3Fault.{Mqtt3Fault}
 use Rattle.door_mqtt3.specs.declared.fault.Mqtt3Fault.TheVariants.{NoMemory, Inside}
 use Rattle.door_mqtt3.specs.declared.taken.Taken.{Taken}
-use Rattle.door_mqtt3.proofs.Paths.{Buffer, comes_path, ends_path, goes_on_path, paths_as, paths_none, paths_then, piece_there}
+use Rattle.door_mqtt3.proofs.Paths.{Buffer, both_met, comes_path, ends_path, goes_on_path, paths_as, paths_none, paths_then}
 
 abbrev all_at : ℕ → List Told → Type 0
 all_at at calls = AllByRecursion (IsPieceAt at) calls
-
-zero_here : (c : ℕ) (bytes : Buffer) → bytes.items ≡ 0 ∷ [] → piece_of c (Piece c bytes) ≡ 0 ∷ []
-zero_here c bytes is = rw (eq-eqb c c refl) is
 
 empty_is : (xs : List ℕ) → (length xs == 0) ≡ true → xs ≡ []
 empty_is [] e = refl
 empty_is (x ∷ xs) e = let zero : length (x ∷ xs) ≡ 0 = eqb-true (length (x ∷ xs)) 0 e in absurd (omega arith)
 
-empty_case : (xs : List ℕ) (b : Bool) → xs ≡ [] → ◌≡◌ {A = List ℕ} [] (cond b xs [] ++ [])
-empty_case xs true e = sym (append-nil xs ∙ e)
+empty_case : (xs : List ℕ) (b : Bool) → xs ≡ [] → cond b xs [] ≡ []
+empty_case xs true e = e
 empty_case xs false e = refl
 
-empty_piece : (c q : ℕ) (bytes : Buffer) → bytes.items ≡ [] → ◌≡◌ {A = List ℕ} [] (piece_of q (Piece c bytes) ++ none_told q)
-empty_piece c q bytes none = empty_case bytes.items (c == q) none
+-- no bytes are owed
+empty_piece : (c q : ℕ) (bytes : Buffer) → bytes.items ≡ [] → ◌≡◌ {A = List Dealing} [] (told_if (piece_of q (Piece c bytes)) ++ [])
+empty_piece c q bytes none = sym (append-nil (told_if (piece_of q (Piece c bytes))) ∙ ap told_if (empty_case bytes.items (c == q) none))
 
-pub given_then : (xs ys : List Told) → given_by (xs ++ ys) ≡ given_by xs ++ given_by ys
-given_then xs ys = flat_map-append (λ (t : Told). t.1) xs ys
-
-pub bytes_then : (q : ℕ) (xs ys : List Told) → bytes_told q (xs ++ ys) ≡ bytes_told q xs ++ bytes_told q ys
-bytes_then q xs ys = flat_map-append (λ (t : Told). piece_of q t.0.kind) xs ys
+pub dealt_then : (q : ℕ) (xs ys : List Told) → dealt_in q (xs ++ ys) ≡ dealt_in q xs ++ dealt_in q ys
+dealt_then q xs ys = flat_map-append (dealt_at q) xs ys
 
 pub pieces_then : (at : ℕ) (xs ys : List Told) → all_at at xs → all_at at ys → all_at at (xs ++ ys)
 pieces_then at [] ys a b = b
@@ -56,41 +52,40 @@ module _ {H : Type 0} (handles : H → Event → List Output → H → Type 0) w
   pub telling_none : (at : ℕ) (h : H) (k : Clients) (o : List Output) → IsTelling handles at h h k k o o
   telling_none at h k o = record { calls = []; told = refl; pieces = tt; paths = paths_none k o }
 
-  pub part_then : (at : ℕ) (met : ℕ → List Happening) (h m h' : H) (k l k' : Clients) (o p r : List Output) → IsPart handles at met h m k l o p → IsTelling handles at m h' l k' p r → IsPart handles at met h h' k k' o r
-  part_then at met h m h' k l k' o p r a b = record {
+  pub parts_then : (at : ℕ) (met met' : ℕ → List Happening) (h m h' : H) (k l k' : Clients) (o p r : List Output) → IsPart handles at met h m k l o p → IsPart handles at met' m h' l k' p r
+      → IsPart handles at (λ q. met q ++ met' q) h h' k k' o r
+  parts_then at met met' h m h' k l k' o p r a b = record {
     calls = a.calls ++ b.calls;
     told = told_then a.calls b.calls h m h' a.told b.told;
     pieces = pieces_then at a.calls b.calls a.pieces b.pieces;
-    paths = paths_as k k' (λ q. met q ++ none_met q) met (λ q. bytes_told q a.calls ++ bytes_told q b.calls) (λ q. bytes_told q (a.calls ++ b.calls)) (given_by a.calls ++ given_by b.calls) (given_by (a.calls ++ b.calls)) o r
-        (λ q. append-nil (met q)) (λ q. sym (bytes_then q a.calls b.calls)) (sym (given_then a.calls b.calls))
-        (paths_then k l k' met none_met (λ q. bytes_told q a.calls) (λ q. bytes_told q b.calls) (given_by a.calls) (given_by b.calls) o p r a.paths b.paths);
+    paths = paths_as k k' (λ q. met q ++ met' q) (λ q. met q ++ met' q) (λ q. dealt_in q a.calls ++ dealt_in q b.calls) (λ q. dealt_in q (a.calls ++ b.calls)) o r
+        (λ q. refl) (λ q. sym (dealt_then q a.calls b.calls))
+        (paths_then k l k' met met' (λ q. dealt_in q a.calls) (λ q. dealt_in q b.calls) o p r a.paths b.paths);
   }
 
+  -- what it is told in one call, and what it gives then
+  one_call : (c : ℕ) (bytes : Buffer) (e : Event) (given : List Output) (q : ℕ) → e.kind ≡ Piece c bytes → telling (Piece c bytes) q ++ giving given q ≡ dealt_in q ((e, given) ∷ [])
+  one_call c bytes e given q kind = ap (λ (x : EventKind). told_if (piece_of q x) ++ gave (on q given)) (sym kind) ∙ sym (append-nil (dealt_at q (e, given)))
+
   -- a connection that has to end
-  pub telling_last : (at c : ℕ) (bytes : Buffer) (e : Event) (h h' : H) (k k' : Clients) (o p : List Output) → bytes.items ≡ 0 ∷ [] → e ≡ record { at = at; kind = Piece c bytes } → IsToldOne handles e h h' k k' o p → IsTelling handles at h h' k k' o p
-  telling_last at c bytes e h h' k k' o p is same t =
+  pub telling_last : (at c : ℕ) (bytes : Buffer) (e : Event) (h h' : H) (k k' : Clients) (o p : List Output) → has_ended (stage_of k c) ≡ true → bytes.items ≡ 0 ∷ [] → e ≡ record { at = at; kind = Piece c bytes }
+      → IsToldOne handles e h h' k k' o p → IsTelling handles at h h' k k' o p
+  telling_last at c bytes e h h' k k' o p over is same t =
       let kind : e.kind ≡ Piece c bytes = ap (λ (x : Event). x.kind) same in
-      let one : (q : ℕ) → bytes_told q ((e, t.given) ∷ []) ≡ piece_of q (Piece c bytes) = λ q. append-nil (piece_of q e.kind) ∙ ap (piece_of q) kind in
       record {
         calls = (e, t.given) ∷ [];
         told = (h', t.handled, refl);
         pieces = ((ap (λ (x : Event). x.at) same, ap is_piece kind), tt);
-        paths = paths_as k k' none_met none_met (λ q. piece_of q (Piece c bytes) ++ none_told q) (λ q. bytes_told q ((e, t.given) ∷ [])) ([] ++ t.given) (given_by ((e, t.given) ∷ [])) o p
-            (λ q. refl) (λ q. append-nil (piece_of q (Piece c bytes)) ∙ sym (one q)) (sym (append-nil t.given))
-            (paths_then k k k' none_met none_met (λ q. piece_of q (Piece c bytes)) none_told [] t.given o o p
-            (ends_path c k o (λ q. piece_of q (Piece c bytes)) (zero_here c bytes is) (λ q apart. piece_there c q bytes apart)) t.paths);
+        paths = paths_as k k' none_met none_met (λ q. telling (Piece c bytes) q ++ giving t.given q) (λ q. dealt_in q ((e, t.given) ∷ [])) o p (λ q. refl) (λ q. one_call c bytes e t.given q kind)
+            (paths_then k k k' none_met none_met (telling (Piece c bytes)) (giving t.given) o o p (ends_path c bytes k o over is) t.paths);
       }
 
-  pub telling_end : (at c : ℕ) (bytes : Buffer) (e : Event) (h m h' : H) (k l k' : Clients) (o p r : List Output) → bytes.items ≡ 0 ∷ [] → e ≡ record { at = at; kind = Piece c bytes } → IsTelling handles at h m k l o p → IsToldOne handles e m h' l k' p r
-      → IsTelling handles at h h' k k' o r
-  telling_end at c bytes e h m h' k l k' o p r is same a t = part_then at none_met h m h' k l k' o p r a (telling_last at c bytes e m h' l k' p r is same t)
-
   pub telling_then : (at : ℕ) (h m h' : H) (k l k' : Clients) (o p r : List Output) → IsTelling handles at h m k l o p → IsTelling handles at m h' l k' p r → IsTelling handles at h h' k k' o r
-  telling_then at h m h' k l k' o p r a b = part_then at none_met h m h' k l k' o p r a b
+  telling_then at h m h' k l k' o p r a b = parts_then at none_met none_met h m h' k l k' o p r a b
 
   -- bytes that are owed
   pub owed_none : (at c : ℕ) (bytes : Buffer) (h : H) (k : Clients) (o : List Output) → (length bytes.items == 0) ≡ true → IsOwed handles at (λ q. piece_of q (Piece c bytes)) h h k k o o
-  owed_none at c bytes h k o none = record { calls = []; told = refl; pieces = tt; more = none_told; bytes = λ q. empty_piece c q bytes (empty_is bytes.items none); paths = paths_none k o }
+  owed_none at c bytes h k o none = record { calls = []; told = refl; pieces = tt; more = none_dealt; deals = λ q. empty_piece c q bytes (empty_is bytes.items none); paths = paths_none k o }
 
   pub owed_told : (at c : ℕ) (bytes : Buffer) (e : Event) (h h' : H) (k k' : Clients) (o p : List Output) → e ≡ record { at = at; kind = Piece c bytes } → IsTold handles e h h' k k' o p → IsOwed handles at (λ q. piece_of q (Piece c bytes)) h h' k k' o p
   owed_told at c bytes e h h' k k' o p same t =
@@ -100,43 +95,45 @@ module _ {H : Type 0} (handles : H → Event → List Output → H → Type 0) w
         calls = (e, t.first.given) ∷ t.more.calls;
         told = (t.reached, t.first.handled, t.more.told);
         pieces = ((moment, ap is_piece kind), subst (λ (n : ℕ). all_at n t.more.calls) moment t.more.pieces);
-        more = λ q. bytes_told q t.more.calls;
-        bytes = λ q. ap (λ (x : EventKind). piece_of q x ++ bytes_told q t.more.calls) kind;
-        paths = paths_then k t.between k' none_met none_met none_told (λ q. bytes_told q t.more.calls) t.first.given (given_by t.more.calls) o t.sent p t.first.paths t.more.paths;
+        more = λ q. giving t.first.given q ++ dealt_in q t.more.calls;
+        deals = λ q.
+            append_assoc (told_if (piece_of q e.kind)) (giving t.first.given q) (dealt_in q t.more.calls)
+            ∙ ap (λ (x : EventKind). told_if (piece_of q x) ++ (giving t.first.given q ++ dealt_in q t.more.calls)) kind;
+        paths = paths_then k t.between k' none_met none_met (giving t.first.given) (λ q. dealt_in q t.more.calls) o t.sent p t.first.paths t.more.paths;
       }
 
   -- what is owed is told
-  owed_part : (at : ℕ) (met : ℕ → List Happening) (owed : ℕ → List ℕ) (h h' : H) (k l k' : Clients) (o p r : List Output) → ArePaths met owed [] k l o p → IsOwed handles at owed h h' l k' p r → IsPart handles at met h h' k k' o r
+  owed_part : (at : ℕ) (met : ℕ → List Happening) (owed : ℕ → List ℕ) (h h' : H) (k l k' : Clients) (o p r : List Output) → ArePaths met (λ q. told_if (owed q)) k l o p → IsOwed handles at owed h h' l k' p r
+      → IsPart handles at met h h' k k' o r
   owed_part at met owed h h' k l k' o p r first w = record {
     calls = w.calls;
     told = w.told;
     pieces = w.pieces;
-    paths = paths_as k k' (λ q. met q ++ none_met q) met (λ q. owed q ++ w.more q) (λ q. bytes_told q w.calls) (given_by w.calls) (given_by w.calls) o r
-        (λ q. append-nil (met q)) (λ q. sym (w.bytes q)) refl
-        (paths_then k l k' met none_met owed w.more [] (given_by w.calls) o p r first w.paths);
+    paths = paths_as k k' (λ q. met q ++ none_met q) met (λ q. told_if (owed q) ++ w.more q) (λ q. dealt_in q w.calls) o r (λ q. append-nil (met q)) (λ q. sym (w.deals q))
+        (paths_then k l k' met none_met (λ q. told_if (owed q)) w.more o p r first w.paths);
   }
 
   pub piece_taken : (at c : ℕ) (bytes : Buffer) (taken : Taken) (h h' : H) (k l k' : Clients) (o p r : List Output) → IsComing c bytes.items taken k l → IsPut c taken.first.items o p
-      → IsOwed handles at (λ q. piece_of q (Piece c taken.told)) h h' l k' p r → IsPart handles at (λ q. met_by q (Piece c bytes)) h h' k k' o r
+      → IsOwed handles at (λ q. piece_of q (Piece c taken.told)) h h' l k' p r → IsPart handles at (at_one c (Comes bytes.items)) h h' k k' o r
   piece_taken at c bytes taken h h' k l k' o p r come put w =
-      owed_part at (λ q. met_by q (Piece c bytes)) (λ q. piece_of q (Piece c taken.told)) h h' k l k' o p r (comes_path c bytes k l o p taken come put) w
+      owed_part at (at_one c (Comes bytes.items)) (λ q. piece_of q (Piece c taken.told)) h h' k l k' o p r (comes_path c bytes k l o p taken come put) w
 
   pub went_on : (at c : ℕ) (told : Buffer) (h h' : H) (k l k' : Clients) (o r : List Output) → AreSpelled (goes_on (stage_of k c)).told told.items → IsBut c (goes_on (stage_of k c)).stage k l
-      → IsOwed handles at (λ q. piece_of q (Piece c told)) h h' l k' o r → IsTelling handles at h h' k k' o r
-  went_on at c told h h' k l k' o r tells is w = owed_part at none_met (λ q. piece_of q (Piece c told)) h h' k l k' o o r (goes_on_path c told k l o tells is) w
+      → IsOwed handles at (λ q. piece_of q (Piece c told)) h h' l k' o r → IsPart handles at (at_one c GoesOn) h h' k k' o r
+  went_on at c told h h' k l k' o r tells is w = owed_part at (at_one c GoesOn) (λ q. piece_of q (Piece c told)) h h' k l k' o o r (goes_on_path c told k l o tells is) w
 
   -- bytes of a client that isn't known to be of MQTT 5.0
   pub translated_held : (e : Event) (at c : ℕ) (bytes : Buffer) (h m h' : H) (k l k' : Clients) (o p outputs : List Output) → is_held k e.kind ≡ true → at ≡ e.at → e.kind ≡ Piece c bytes → o ≡ []
-      → IsPart handles at (λ q. met_by q (Piece c bytes)) h m k l o p → IsTelling handles at m h' l k' p outputs → IsTranslated handles e h h' k k' outputs
+      → IsPart handles at (at_one c (Comes bytes.items)) h m k l o p → IsPart handles at (at_one c GoesOn) m h' l k' p outputs → IsTranslated handles e h h' k k' outputs
   translated_held e at c bytes h m h' k l k' o p outputs held moment kind none a b =
-      let t = part_then at (λ q. met_by q (Piece c bytes)) h m h' k l k' o p outputs a b in
+      let t = parts_then at (at_one c (Comes bytes.items)) (at_one c GoesOn) h m h' k l k' o p outputs a b in
+      let met : ℕ → List Happening = λ q. at_one c (Comes bytes.items) q ++ at_one c GoesOn q in
       record {
         calls = t.calls;
         told = t.told;
         events = rw held (subst (λ (n : ℕ). all_at n t.calls) moment t.pieces);
-        paths = paths_as k k' (λ q. met_by q (Piece c bytes)) (λ q. met_by q e.kind) (λ q. bytes_told q t.calls) (λ q. bytes_told q t.calls) (given_by t.calls) (given_by t.calls) [] outputs
-            (λ q. ap (met_by q) (sym kind)) (λ q. refl) refl
-            (subst (λ (xs : List Output). ArePaths (λ q. met_by q (Piece c bytes)) (λ q. bytes_told q t.calls) (given_by t.calls) k k' xs outputs) none t.paths);
+        paths = paths_as k k' met (λ q. met_by q e.kind) (λ q. dealt_in q t.calls) (λ q. dealt_in q t.calls) [] outputs (λ q. both_met c q bytes ∙ ap (met_by q) (sym kind)) (λ q. refl)
+            (subst (λ (xs : List Output). ArePaths met (λ q. dealt_in q t.calls) k k' xs outputs) none t.paths);
       }
 
   -- any other event
@@ -144,24 +141,24 @@ module _ {H : Type 0} (handles : H → Event → List Output → H → Type 0) w
       → IsMet e.kind k l → IsTold handles e h h' l k' o outputs → IsTranslated handles e h h' k k' outputs
   translated_told e h h' k l k' o outputs free none met t =
       let calls : List Told = (e, t.first.given) ∷ t.more.calls in
-      let after : ArePaths none_met (λ q. bytes_told q t.more.calls) (given_by calls) l k' o outputs =
-      paths_then l t.between k' none_met none_met none_told (λ q. bytes_told q t.more.calls) t.first.given (given_by t.more.calls) o t.sent outputs t.first.paths t.more.paths in
-      let all : ArePaths (λ q. met_by q e.kind ++ none_met q) (λ q. bytes_told q calls) (given_by calls) k k' o outputs =
-      paths_then k l k' (λ q. met_by q e.kind) none_met (λ q. piece_of q e.kind) (λ q. bytes_told q t.more.calls) [] (given_by calls) o o outputs (met o) after in
+      let after : ArePaths none_met (λ q. giving t.first.given q ++ dealt_in q t.more.calls) l k' o outputs =
+      paths_then l t.between k' none_met none_met (giving t.first.given) (λ q. dealt_in q t.more.calls) o t.sent outputs t.first.paths t.more.paths in
+      let all : ArePaths (λ q. met_by q e.kind ++ none_met q) (λ q. telling e.kind q ++ (giving t.first.given q ++ dealt_in q t.more.calls)) k k' o outputs =
+      paths_then k l k' (λ q. met_by q e.kind) none_met (telling e.kind) (λ q. giving t.first.given q ++ dealt_in q t.more.calls) o o outputs (met o) after in
       record {
         calls = calls;
         told = (t.reached, t.first.handled, t.more.told);
         events = rw free (refl, t.more.pieces);
-        paths = paths_as k k' (λ q. met_by q e.kind ++ none_met q) (λ q. met_by q e.kind) (λ q. bytes_told q calls) (λ q. bytes_told q calls) (given_by calls) (given_by calls) [] outputs
-            (λ q. append-nil (met_by q e.kind)) (λ q. refl) refl
-            (subst (λ (xs : List Output). ArePaths (λ q. met_by q e.kind ++ none_met q) (λ q. bytes_told q calls) (given_by calls) k k' xs outputs) none all);
+        paths = paths_as k k' (λ q. met_by q e.kind ++ none_met q) (λ q. met_by q e.kind) (λ q. telling e.kind q ++ (giving t.first.given q ++ dealt_in q t.more.calls)) (λ q. dealt_in q calls) [] outputs
+            (λ q. append-nil (met_by q e.kind)) (λ q. sym (append_assoc (telling e.kind q) (giving t.first.given q) (dealt_in q t.more.calls)))
+            (subst (λ (xs : List Output). ArePaths (λ q. met_by q e.kind ++ none_met q) (λ q. telling e.kind q ++ (giving t.first.given q ++ dealt_in q t.more.calls)) k k' xs outputs) none all);
       }
 
-  pub given_on : (at : ℕ) (given : List Output) (h h' : H) (k l k' : Clients) (o p outputs : List Output) → o ≡ [] → ArePaths none_met none_told given k l o p → IsTelling handles at h h' l k' p outputs → IsGivenOn handles at given h h' k k' outputs
+  pub given_on : (at : ℕ) (given : List Output) (h h' : H) (k l k' : Clients) (o p outputs : List Output) → o ≡ [] → ArePaths none_met (giving given) k l o p → IsTelling handles at h h' l k' p outputs → IsGivenOn handles at given h h' k k' outputs
   given_on at given h h' k l k' o p outputs none first more = record {
     between = l;
     sent = p;
-    first = subst (λ (xs : List Output). ArePaths none_met none_told given k l xs p) none first;
+    first = subst (λ (xs : List Output). ArePaths none_met (giving given) k l xs p) none first;
     more = more;
   }
 

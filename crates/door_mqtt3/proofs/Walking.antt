@@ -1,12 +1,11 @@
 -- A client's packets, one after another.
-use Rattle.std.proofs.Common.{◌≡◌, ◌≤◌, ℕ, zero, suc, ◌+◌, ◌-◌, ◌<◌, Bool, true, false, List, [], ◌∷◌, ◌++◌, length, take, drop, Option, Some, None, Result, Ok, Err, refl, sym, ap, subst, ◌∙◌, append_assoc, arith}
+use Rattle.std.proofs.Common.{◌≡◌, ◌≤◌, ℕ, zero, suc, ◌+◌, ◌-◌, ◌<◌, true, false, List, [], ◌∷◌, ◌++◌, length, take, drop, Some, None, Ok, Err, refl, sym, ap, subst, ◌∙◌, append_assoc, arith}
 use Rattle.std.proofs.lemmas.List.{append-nil, drop-drop, length-drop}
 use Rattle.mqtt_packets.specs.declared.fault.PacketFault.{PacketFault}
 use Rattle.mqtt_packets.specs.declared.packet.Packet.{Packet}
-use Rattle.mqtt_packets.specs.Stream.{rest_at}
 use Rattle.mqtt3_packets.specs.Stream.{IsRest, packet_at}
 use Rattle.door_mqtt3.specs.Asked.{asked, is_refused}
-use Rattle.door_mqtt3.specs.Client.{AreSpelled, Notice, Outcome, Walk, done_with, fault_bytes, halt, halts, handed, limit, opened_by, opened_with, over, walk_on, walk_within}
+use Rattle.door_mqtt3.specs.Client.{Notice, Walk, done_with, fault_bytes, halt, halts, handed, limit, opened_by, opened_with, over, walk_on, walk_within}
 use Rattle.door_mqtt3.specs.Client.Notice.{Asks, Faults}
 use Rattle.door_mqtt3.specs.Doing.{Appends, IsOutcome, IsWalk}
 use Rattle.door_mqtt3.specs.declared.client.Client.{Client}

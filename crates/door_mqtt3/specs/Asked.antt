@@ -1,5 +1,5 @@
 -- What a client's packet asks for, in MQTT 5.0.
-use Rattle.std.specs.Prelude.{ℕ, nat_lt, ◌+◌, ◌%◌, ◌==◌, ◌&&◌, ◌||◌, not, Bool, true, false, List, [], ◌∷◌, length, map, take, codes, if◌then◌else◌}
+use Rattle.std.specs.Prelude.{ℕ, nat_lt, ◌+◌, ◌%◌, ◌==◌, ◌&&◌, ◌||◌, not, Bool, false, List, [], ◌∷◌, length, map, take, codes, if◌then◌else◌}
 use Rattle.std.specs.Str.{bytes_eq}
 use Rattle.mqtt_fields.specs.declared.value.Property.{Property}
 use Rattle.mqtt_fields.specs.declared.value.Value.TheVariants.{Two, Four}

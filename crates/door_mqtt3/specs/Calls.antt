@@ -4,7 +4,7 @@ use Rattle.broker_sockets.specs.declared.bridge.Given.{Given}
 use Rattle.broker_sockets.specs.declared.bridge.PeerEvent.{PeerEvent}
 use Rattle.broker_sockets.specs.declared.events.Event.{Event}
 use Rattle.broker_sockets.specs.declared.events.Output.{Output}
-use Rattle.door_mqtt3.specs.Stages.{Happening, met_by, piece_of}
+use Rattle.door_mqtt3.specs.Stages.{Dealing, Happening, gave, met_by, on, piece_of, told_if}
 
 -- an event of clients and what was given at it, one of other nodes, or that it settled
 pub data Call : Type 0 where
@@ -50,3 +50,12 @@ given_at Settled = []
 
 abbrev pub given_of : List Call → List Output
 given_of calls = flat_map given_at calls
+
+-- what was told of it and given for it, in order
+abbrev pub dealt_by : ℕ → Call → List Dealing
+dealt_by q (Handled e outputs) = told_if (piece_of q e.kind) ++ gave (on q outputs)
+dealt_by q (Heard e given) = gave (on q given.outputs.items)
+dealt_by q Settled = []
+
+abbrev pub dealt_of : ℕ → List Call → List Dealing
+dealt_of q calls = flat_map (dealt_by q) calls

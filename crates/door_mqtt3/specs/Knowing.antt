@@ -1,5 +1,5 @@
 -- What is known of connections, and what calls make of it.
-use Rattle.std.specs.Prelude.{◌≡◌, ℕ, List, Bool, true, false, Option, Some, None}
+use Rattle.std.specs.Prelude.{◌≡◌, ℕ, List, true, false, Option, Some, None}
 use Rattle.mqtt3_packets.specs.declared.level.Level.TheVariants.{Four}
 use Rattle.mqtt3_packets.specs.declared.version.Version.{Version}
 use Rattle.mqtt3_packets.specs.declared.version.Version.TheVariants.{Five, Before, Unserved}
@@ -8,18 +8,12 @@ use Rattle.door_mqtt3.specs.Stages.{Come, IsBut, comes, got, stage_of}
 use Rattle.door_mqtt3.specs.declared.client.Client.{Client}
 use Rattle.door_mqtt3.specs.declared.clients.Clients.{Clients}
 use Rattle.door_mqtt3.specs.declared.clients.Stage.{Stage}
-use Rattle.door_mqtt3.specs.declared.clients.Stage.TheVariants as stages
 use Rattle.door_mqtt3.specs.declared.taken.Taken.{Taken}
 
 abbrev pub client_of : Version → Option Client
 client_of Five = None
 client_of (Before level bridge) = Some (fresh level bridge true)
 client_of Unserved = Some (fresh Four false false)
-
--- its packets aren't looked at any more
-abbrev pub has_ended : Option Stage → Bool
-has_ended (Some (stages.Known client)) = client.ended
-has_ended _ = false
 
 pub record IsCome (come : Come) (taken : Taken) (reached : Option Stage) : Type 0 where
   pub stage : reached ≡ come.stage

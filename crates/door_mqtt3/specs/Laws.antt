@@ -4,9 +4,8 @@ use Rattle.broker_sockets.specs.declared.bridge.Given.{Given}
 use Rattle.broker_sockets.specs.declared.bridge.PeerEvent.{PeerEvent}
 use Rattle.broker_sockets.specs.declared.events.Event.{Event}
 use Rattle.broker_sockets.specs.declared.events.Output.{Output}
-use Rattle.door_mqtt3.specs.Calls.{AreMade, Call, bytes_of, given_of, met_of}
-use Rattle.door_mqtt3.specs.Client.{AreSpelled}
-use Rattle.door_mqtt3.specs.Stages.{Happening, given_in, met_in, on, out_in, stage_of, told_in}
+use Rattle.door_mqtt3.specs.Calls.{AreMade, Call, dealt_of, given_of, met_of}
+use Rattle.door_mqtt3.specs.Stages.{AreDealt, Happening, met_in, on, out_in, stage_of}
 use Rattle.door_mqtt3.specs.declared.clients.Clients.{Clients}
 use Rattle.door_mqtt3.specs.declared.handler.Mqtt3.{Mqtt3}
 use Rattle.door_mqtt3.specs.declared.fault.Mqtt3Fault.{Mqtt3Fault}
@@ -34,13 +33,12 @@ module _ {H F : Type 0} (refuses : H → Event → F → H → Type 0) (declines
 
 -- ---- with translation
 
--- Of one connection, from before its first event: what happened on it. The events that came are those of these calls, and what was given is what the handler
--- inside gave in its own. Then this is what the handler inside was told, and what went out.
+-- Of one connection, from before its first event: what happened on it. The events that came are those of these calls. What the handler inside was told of it and
+-- gave for it in its own calls is what comes of them, in order, and this is what went out.
 pub record IsFollowed (q : ℕ) (calls inside : List Call) : Type 0 where
   pub happenings : List Happening
   pub met : met_in happenings ≡ met_of q calls
-  pub given : given_in happenings ≡ on q (given_of inside)
-  pub told : AreSpelled (told_in None happenings) (bytes_of q inside)
+  pub dealt : AreDealt None happenings (dealt_of q inside)
   pub out : on q (given_of calls) ≡ out_in None happenings
 
 module _ {H : Type 0} (handles : H → Event → List Output → H → Type 0) (hears : H → PeerEvent → Given → H → Type 0) (settles : H → H → Type 0)

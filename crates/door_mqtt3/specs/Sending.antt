@@ -1,5 +1,5 @@
 -- What is sent to a client of a version before 5 where the handler inside gives packets of MQTT 5.0 for it.
-use Rattle.std.specs.Prelude.{◌≡◌, ◌≤◌, ℕ, zero, suc, List, [], ◌∷◌, ◌++◌, Bool, true, false, length, drop, Option, Some, None, Result, Ok, Err, if◌then◌else◌}
+use Rattle.std.specs.Prelude.{◌≡◌, ◌≤◌, ℕ, zero, suc, List, [], ◌++◌, Bool, true, false, length, drop, Option, Some, Result, Ok, if◌then◌else◌}
 use Rattle.std.specs.FinSet as set
 use Rattle.std.specs.Ordering.{nat_cmp}
 use Rattle.mqtt_packets.specs.declared.fault.PacketFault.{PacketFault}

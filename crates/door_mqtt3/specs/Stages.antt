@@ -1,5 +1,5 @@
 -- What is known of a connection of a client, and what comes of that which happens on it.
-use Rattle.std.specs.Prelude.{◌≡◌, ◌==◌, ℕ, List, [], ◌∷◌, ◌++◌, Bool, true, false, Option, Some, None, flat_map, length, if◌then◌else◌}
+use Rattle.std.specs.Prelude.{◌≡◌, ◌==◌, ℕ, List, [], ◌∷◌, ◌++◌, Bool, true, false, Option, Some, None, flat_map, length, map, if◌then◌else◌}
 use Rattle.std.specs.BTreeMap.{get}
 use Rattle.std.specs.Ordering.{nat_cmp}
 use Rattle.broker_sockets.specs.declared.events.EventKind.{EventKind}
@@ -14,7 +14,6 @@ use Rattle.mqtt3_packets.specs.declared.version.Version.TheVariants.{Five, Befor
 use Rattle.door_mqtt3.specs.Client.{AreSpelled, Notice, Outcome, come, fresh, limit, went_on}
 use Rattle.door_mqtt3.specs.Client.Notice.{Faults, Same}
 use Rattle.door_mqtt3.specs.Sending.{gotten}
-use Rattle.door_mqtt3.specs.declared.client.Client.{Client}
 use Rattle.door_mqtt3.specs.declared.clients.Clients.{Clients}
 use Rattle.door_mqtt3.specs.declared.clients.Stage.{Stage}
 use Rattle.door_mqtt3.specs.declared.clients.Stage.TheVariants as stages
@@ -22,6 +21,11 @@ use Rattle.door_mqtt3.specs.declared.clients.Stage.TheVariants as stages
 -- none: its client is of MQTT 5.0
 abbrev pub stage_of : Clients → ℕ → Option Stage
 stage_of k q = get nat_cmp k.stages q
+
+-- its client's packets aren't looked at any more
+abbrev pub has_ended : Option Stage → Bool
+has_ended (Some (stages.Known client)) = client.ended
+has_ended _ = false
 
 -- this one is so, and all others are as they were
 pub record IsBut (c : ℕ) (stage : Option Stage) (k k' : Clients) : Type 0 where
@@ -43,7 +47,7 @@ pub data Happening : Type 0 where
   Gets : (bytes : List ℕ) → Happening
   -- the handler inside closes it
   Closes : Happening
-  -- the handler inside is told that it has to end
+  -- the handler inside is told that it has to end, where its client's packets aren't looked at any more
   Ends : Happening
 
 -- what goes out on a connection: bytes, or its end
@@ -110,7 +114,7 @@ effect s (Comes bytes) = record { stage = (comes s bytes).stage; told = (comes s
 effect s GoesOn = record { stage = (goes_on s).stage; told = (goes_on s).told; out = [] }
 effect s (Gets bytes) = gets s bytes
 effect s Closes = record { stage = None; told = []; out = End ∷ [] }
-effect s Ends = record { stage = s; told = Faults Malformed ∷ []; out = [] }
+effect s Ends = record { stage = s; told = if has_ended s then Faults Malformed ∷ [] else []; out = [] }
 
 -- ---- one after another
 
@@ -126,11 +130,12 @@ abbrev pub out_in : Option Stage → List Happening → List Outgoing
 out_in s [] = []
 out_in s (h ∷ hs) = (effect s h).out ++ out_in (effect s h).stage hs
 
--- what comes from outside
+-- what an event brings: what comes from outside, and that what was held back goes on
 abbrev pub met_one : Happening → List Happening
 met_one Opens = Opens ∷ []
 met_one Goes = Goes ∷ []
 met_one (Comes bytes) = Comes bytes ∷ []
+met_one GoesOn = GoesOn ∷ []
 met_one _ = []
 
 abbrev pub met_in : List Happening → List Happening
@@ -157,7 +162,7 @@ on q outputs = flat_map (of_output q) outputs
 abbrev pub met_by : ℕ → EventKind → List Happening
 met_by q Started = []
 met_by q (Opened connection) = if connection == q then Opens ∷ [] else []
-met_by q (Piece connection bytes) = if connection == q then Comes bytes.items ∷ [] else []
+met_by q (Piece connection bytes) = if connection == q then Comes bytes.items ∷ GoesOn ∷ [] else []
 met_by q (Room connection bytes) = []
 met_by q (Closed connection) = if connection == q then Goes ∷ [] else []
 met_by q Tick = []
@@ -167,13 +172,32 @@ abbrev pub piece_of : ℕ → EventKind → List ℕ
 piece_of q (Piece connection bytes) = if connection == q then bytes.items else []
 piece_of q _ = []
 
+-- ---- what the handler inside is told of a connection and gives for it, in order
+
+pub data Dealing : Type 0 where
+  Tells : (bytes : List ℕ) → Dealing
+  Gives : (out : Outgoing) → Dealing
+
+abbrev pub told_if : List ℕ → List Dealing
+told_if bytes = if length bytes == 0 then [] else Tells bytes ∷ []
+
+abbrev pub gave : List Outgoing → List Dealing
+gave out = map Gives out
+
+-- what is told where this happens is told in one piece, if there is any
+abbrev pub IsDealt : Option Stage → Happening → List Dealing → Type 0
+IsDealt s h dealt = (bytes : List ℕ) × AreSpelled (effect s h).told bytes × (dealt ≡ told_if bytes ++ gave (given_one h))
+
+abbrev pub AreDealt : Option Stage → List Happening → List Dealing → Type 0
+AreDealt s [] dealt = dealt ≡ []
+AreDealt s (h ∷ hs) dealt = (front : List Dealing) × (back : List Dealing) × (dealt ≡ front ++ back) × IsDealt s h front × AreDealt (effect s h).stage hs back
+
 -- ---- what happens on a connection while the handler inside is called
 
--- from one stage to another: what came from outside, what the handler inside was told and what it gave, and what goes out beyond this
-pub record IsPath (q : ℕ) (s s' : Option Stage) (met : List Happening) (told : List ℕ) (given outputs outputs' : List Output) : Type 0 where
+-- from one stage to another: what came from outside, what the handler inside was told and gave, and what goes out beyond this
+pub record IsPath (q : ℕ) (s s' : Option Stage) (met : List Happening) (dealt : List Dealing) (outputs outputs' : List Output) : Type 0 where
   pub happenings : List Happening
   pub stage : s' ≡ stage_after s happenings
   pub comes : met_in happenings ≡ met
-  pub tells : AreSpelled (told_in s happenings) told
-  pub gives : given_in happenings ≡ on q given
+  pub deals : AreDealt s happenings dealt
   pub sends : on q outputs' ≡ on q outputs ++ out_in s happenings

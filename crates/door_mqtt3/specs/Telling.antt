@@ -1,15 +1,14 @@
 -- What the handler inside is told, and what goes out.
-use Rattle.std.specs.Prelude.{◌≡◌, ◌==◌, ◌++◌, ◌⊎◌, is_some, ℕ, List, [], ◌∷◌, Bool, true, false, Option, Some, None, flat_map}
+use Rattle.std.specs.Prelude.{◌≡◌, ◌==◌, ◌++◌, ◌⊎◌, is_some, ℕ, List, [], ◌∷◌, Bool, true, false, Option, Some, None, flat_map, if◌then◌else◌}
 use Rattle.std.specs.List.{AllByRecursion}
 use Rattle.broker_sockets.specs.declared.bridge.Given.{Given}
 use Rattle.broker_sockets.specs.declared.bridge.PeerEvent.{PeerEvent}
 use Rattle.broker_sockets.specs.declared.events.Event.{Event}
 use Rattle.broker_sockets.specs.declared.events.EventKind.{EventKind}
-use Rattle.broker_sockets.specs.declared.events.EventKind.TheVariants.{Started, Opened, Piece, Closed, Tick}
+use Rattle.broker_sockets.specs.declared.events.EventKind.TheVariants.{Piece}
 use Rattle.broker_sockets.specs.declared.events.Output.{Output}
-use Rattle.door_mqtt3.specs.Stages.{Happening, IsPath, met_by, on, piece_of, sent_if, stage_of}
+use Rattle.door_mqtt3.specs.Stages.{Dealing, Happening, IsPath, gave, met_by, on, piece_of, sent_if, stage_of, told_if}
 use Rattle.door_mqtt3.specs.declared.clients.Clients.{Clients}
-use Rattle.door_mqtt3.specs.declared.clients.Stage.{Stage}
 use Rattle.door_mqtt3.specs.declared.fault.Mqtt3Fault.{Mqtt3Fault}
 use Rattle.door_mqtt3.specs.declared.fault.Mqtt3Fault.TheVariants.{NoMemory, Inside}
 use Rattle.door_mqtt3.specs.declared.handler.Mqtt3.{Mqtt3}
@@ -18,16 +17,23 @@ use Rattle.door_mqtt3.specs.declared.handler.Mqtt3.{Mqtt3}
 abbrev pub Told : Type 0
 Told = Event × List Output
 
-abbrev pub given_by : List Told → List Output
-given_by calls = flat_map (λ t. t.1) calls
+-- what it was told of a connection in it, and gave for it then
+abbrev pub dealt_at : ℕ → Told → List Dealing
+dealt_at q t = told_if (piece_of q t.0.kind) ++ gave (on q t.1)
 
--- the bytes of a connection that it was told
-abbrev pub bytes_told : ℕ → List Told → List ℕ
-bytes_told q calls = flat_map (λ t. piece_of q t.0.kind) calls
+abbrev pub dealt_in : ℕ → List Told → List Dealing
+dealt_in q calls = flat_map (dealt_at q) calls
+
+-- it is told what there is of each connection in an event; it gives this
+abbrev pub telling : EventKind → ℕ → List Dealing
+telling kind = λ q. told_if (piece_of q kind)
+
+abbrev pub giving : List Output → ℕ → List Dealing
+giving given = λ q. gave (on q given)
 
 -- a path of each connection
-abbrev pub ArePaths : (ℕ → List Happening) → (ℕ → List ℕ) → List Output → Clients → Clients → List Output → List Output → Type 0
-ArePaths met told given k k' outputs outputs' = (q : ℕ) → IsPath q (stage_of k q) (stage_of k' q) (met q) (told q) given outputs outputs'
+abbrev pub ArePaths : (ℕ → List Happening) → (ℕ → List Dealing) → Clients → Clients → List Output → List Output → Type 0
+ArePaths met dealt k k' outputs outputs' = (q : ℕ) → IsPath q (stage_of k q) (stage_of k' q) (met q) (dealt q) outputs outputs'
 
 -- these bytes go out beyond this on a connection, if there are any, and nothing on others
 pub record IsPut (c : ℕ) (bytes : List ℕ) (outputs outputs' : List Output) : Type 0 where
@@ -37,12 +43,16 @@ pub record IsPut (c : ℕ) (bytes : List ℕ) (outputs outputs' : List Output) :
 abbrev pub none_met : ℕ → List Happening
 none_met q = []
 
-abbrev pub none_told : ℕ → List ℕ
-none_told q = []
+-- this happens on one connection
+abbrev pub at_one : ℕ → Happening → ℕ → List Happening
+at_one c h = λ q. if c == q then h ∷ [] else []
+
+abbrev pub none_dealt : ℕ → List Dealing
+none_dealt q = []
 
 -- this event came, and nothing is given or goes out
 abbrev pub IsMet : EventKind → Clients → Clients → Type 0
-IsMet kind k k' = (outputs : List Output) → ArePaths (λ q. met_by q kind) (λ q. piece_of q kind) [] k k' outputs outputs
+IsMet kind k k' = (outputs : List Output) → ArePaths (λ q. met_by q kind) (telling kind) k k' outputs outputs
 
 abbrev pub is_piece : EventKind → Bool
 is_piece (Piece connection bytes) = true
@@ -62,7 +72,7 @@ module _ {H : Type 0} (handles : H → Event → List Output → H → Type 0) w
     pub calls : List Told
     pub told : AreTold calls h h'
     pub pieces : AllByRecursion (IsPieceAt at) calls
-    pub paths : ArePaths met (λ q. bytes_told q calls) (given_by calls) k k' outputs outputs'
+    pub paths : ArePaths met (λ q. dealt_in q calls) k k' outputs outputs'
 
   -- nothing came
   abbrev pub IsTelling : ℕ → H → H → Clients → Clients → List Output → List Output → Type 0
@@ -73,15 +83,15 @@ module _ {H : Type 0} (handles : H → Event → List Output → H → Type 0) w
     pub calls : List Told
     pub told : AreTold calls h h'
     pub pieces : AllByRecursion (IsPieceAt at) calls
-    pub more : ℕ → List ℕ
-    pub bytes : (q : ℕ) → bytes_told q calls ≡ owed q ++ more q
-    pub paths : ArePaths none_met more (given_by calls) k k' outputs outputs'
+    pub more : ℕ → List Dealing
+    pub deals : (q : ℕ) → dealt_in q calls ≡ told_if (owed q) ++ more q
+    pub paths : ArePaths none_met more k k' outputs outputs'
 
   -- it is told this event
   pub record IsToldOne (e : Event) (h h' : H) (k k' : Clients) (outputs outputs' : List Output) : Type 0 where
     pub given : List Output
     pub handled : handles h e given h'
-    pub paths : ArePaths none_met none_told given k k' outputs outputs'
+    pub paths : ArePaths none_met (giving given) k k' outputs outputs'
 
   -- this one first
   pub record IsTold (e : Event) (h h' : H) (k k' : Clients) (outputs outputs' : List Output) : Type 0 where
@@ -95,7 +105,7 @@ module _ {H : Type 0} (handles : H → Event → List Output → H → Type 0) w
   pub record IsGivenOn (at : ℕ) (given : List Output) (h h' : H) (k k' : Clients) (outputs : List Output) : Type 0 where
     pub between : Clients
     pub sent : List Output
-    pub first : ArePaths none_met none_told given k between [] sent
+    pub first : ArePaths none_met (giving given) k between [] sent
     pub more : IsTelling at h h' between k' sent outputs
 
 -- ---- the handler that wraps it
@@ -125,7 +135,7 @@ module _ {H : Type 0} (handles : H → Event → List Output → H → Type 0) w
     pub calls : List Told
     pub told : AreTold handles calls h h'
     pub events : AreCalls (is_held k e.kind) e calls
-    pub paths : ArePaths (λ q. met_by q e.kind) (λ q. bytes_told q calls) (given_by calls) k k' [] outputs
+    pub paths : ArePaths (λ q. met_by q e.kind) (λ q. dealt_in q calls) k k' [] outputs
 
   abbrev pub IsAnsweredIf : Option Clients → Option Clients → Event → H → H → List Output → Type 0
   IsAnsweredIf None k' e h h' outputs = handles h e outputs h' × (k' ≡ None)

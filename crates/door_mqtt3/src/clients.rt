@@ -3,8 +3,8 @@
 ghost use Rattle.std.specs.Prelude.{◌≡◌, ℕ, None, Some, [], is_some, IfOk, OnOk};
 ghost use Rattle.mqtt3_packets.specs.Version.{version_of};
 ghost use Rattle.door_mqtt3.specs.Client.{AreSpelled, limit};
-ghost use Rattle.door_mqtt3.specs.Knowing.{IsCome, IsComing, IsGot, client_of, has_ended};
-ghost use Rattle.door_mqtt3.specs.Stages.{IsBut, begun, comes, goes_on, got, stage_of};
+ghost use Rattle.door_mqtt3.specs.Knowing.{IsCome, IsComing, IsGot, client_of};
+ghost use Rattle.door_mqtt3.specs.Stages.{IsBut, begun, comes, goes_on, got, has_ended, stage_of};
 ghost use Rattle.door_mqtt3.specs.declared.clients.Stage.TheVariants as stages;
 
 use crate::client::{Client, LIMIT};

@@ -3,8 +3,9 @@
 ghost use Rattle.std.specs.Prelude.{◌≡◌, ◌∷◌, [], ℕ, false, true, IfErr, IfOk, OnOk, is_some};
 ghost use Rattle.broker_sockets.specs.declared.events.EventKind.TheVariants.{Piece};
 ghost use Rattle.broker_sockets.specs.declared.events.Output.TheVariants.{Send};
-ghost use Rattle.door_mqtt3.specs.Stages.{met_by, piece_of, stage_of};
-ghost use Rattle.door_mqtt3.specs.Telling.{ArePaths, IsDeclinedOn, IsGivenOn, IsMet, IsOwed, IsPart, IsPassedOn, IsPut, IsStopped, IsTelling, IsTold, IsToldOne, IsTranslated, is_held, none_met, none_told};
+ghost use Rattle.door_mqtt3.specs.Stages.{piece_of, stage_of};
+ghost use Rattle.door_mqtt3.specs.Stages.Happening.{Comes, GoesOn};
+ghost use Rattle.door_mqtt3.specs.Telling.{ArePaths, IsDeclinedOn, IsGivenOn, IsMet, IsOwed, IsPart, IsPassedOn, IsPut, IsStopped, IsTelling, IsTold, IsToldOne, IsTranslated, at_one, giving, is_held, none_met};
 
 use crate::clients::Clients;
 use crate::fault::Mqtt3Fault;
@@ -35,7 +36,7 @@ fn send(
     endings: &mut Vec<u64>,
 ) -> Result<(), NoMemory>
     requires { is_some (stage_of clients.old connection) ≡ true }
-    ensures { OnOk result (ArePaths none_met none_told (Send connection bytes ∷ []) clients.old clients.new outputs.old.items outputs.new.items) }
+    ensures { OnOk result (ArePaths none_met (giving (Send connection bytes ∷ [])) clients.old clients.new outputs.old.items outputs.new.items) }
 {
     let (sent, ends) = clients.get(alloc, connection, &bytes)?;
     if ends {
@@ -53,7 +54,7 @@ fn give_one(
     outputs: &mut Vec<Output>,
     endings: &mut Vec<u64>,
 ) -> Result<(), NoMemory>
-    ensures { OnOk result (ArePaths none_met none_told (output ∷ []) clients.old clients.new outputs.old.items outputs.new.items) }
+    ensures { OnOk result (ArePaths none_met (giving (output ∷ [])) clients.old clients.new outputs.old.items outputs.new.items) }
 {
     match output {
         Output::Send { connection, bytes } => {
@@ -80,7 +81,7 @@ fn give(
     outputs: &mut Vec<Output>,
     endings: &mut Vec<u64>,
 ) -> Result<(), NoMemory>
-    ensures { OnOk result (ArePaths none_met none_told given.items clients.old clients.new outputs.old.items outputs.new.items) }
+    ensures { OnOk result (ArePaths none_met (giving given.items) clients.old clients.new outputs.old.items outputs.new.items) }
 {
     for output in given {
         give_one(alloc, clients, output, outputs, endings)?;
@@ -226,7 +227,7 @@ fn take_piece<H: Handler>(
     piece: Vec<u8>,
     outputs: &mut Vec<Output>,
 ) -> Result<(), Mqtt3Fault<H::Fault>>
-    ensures ok { OnOk result (IsPart H.handles at (λ q. met_by q (Piece connection piece)) inside.old inside.new clients.old clients.new outputs.old.items outputs.new.items) }
+    ensures ok { OnOk result (IsPart H.handles at (at_one connection (Comes piece.items)) inside.old inside.new clients.old clients.new outputs.old.items outputs.new.items) }
     ensures fault { IfErr result (λ fault. IsStopped H.handles H.refuses at fault inside.old inside.new) }
 {
     let taken = clients.come(alloc, connection, piece)?;
@@ -246,7 +247,7 @@ fn go_on<H: Handler>(
     connection: u64,
     outputs: &mut Vec<Output>,
 ) -> Result<(), Mqtt3Fault<H::Fault>>
-    ensures ok { OnOk result (IsTelling H.handles at inside.old inside.new clients.old clients.new outputs.old.items outputs.new.items) }
+    ensures ok { OnOk result (IsPart H.handles at (at_one connection GoesOn) inside.old inside.new clients.old clients.new outputs.old.items outputs.new.items) }
     ensures fault { IfErr result (λ fault. IsStopped H.handles H.refuses at fault inside.old inside.new) }
 {
     let told = clients.go_on(alloc, connection)?;

@@ -4,7 +4,7 @@ use Rattle.std.proofs.lemmas.List.{map-append}
 use Rattle.broker_turns.specs.Handling.Told.{Of_client, Of_peer}
 use Rattle.door_mqtt3.proofs.Following.{Followed, answered_case, heard_case, paths_both, paths_still}
 use Rattle.door_mqtt3.specs.Calls as levels
-use Rattle.door_mqtt3.specs.Calls.{bytes_of, given_of, met_of}
+use Rattle.door_mqtt3.specs.Calls.{dealt_of, given_of, met_of}
 use Rattle.door_mqtt3.specs.Stages.{IsPath, stage_of}
 use Rattle.door_mqtt3.specs.Telling.{ArePaths}
 use Rattle.door_mqtt3.specs.declared.clients.Clients.{Clients}
@@ -30,7 +30,7 @@ noted_calls (levels.Settled ∷ cs) xs ys all =
 
 -- paths of these calls
 abbrev Paths : List levels.Call → List levels.Call → Clients → Clients → Type 0
-Paths calls inside k k' = ArePaths (λ q. met_of q calls) (λ q. bytes_of q inside) (given_of inside) k k' [] (given_of calls)
+Paths calls inside k k' = ArePaths (λ q. met_of q calls) (λ q. dealt_of q inside) k k' [] (given_of calls)
 
 abbrev Ends : List levels.Call → List levels.Call → Clients → Option Clients → Type 0
 Ends calls inside k o = (k' : Clients) × (o ≡ Some k') × Paths calls inside k k'
@@ -74,6 +74,6 @@ levels_follow k o calls inside none_open passed =
     let path = f.2 q in
     let came = map as_level_call calls in
     let told = map as_level_call inside in
-    let From : Option Stage → Type 0 = λ s. IsPath q s (stage_of f.0 q) (met_of q came) (bytes_of q told) (given_of told) [] (given_of came) in
+    let From : Option Stage → Type 0 = λ s. IsPath q s (stage_of f.0 q) (met_of q came) (dealt_of q told) [] (given_of came) in
     let from = subst From (none_open q) path in
-    record { happenings = from.happenings; met = from.comes; given = from.gives; told = from.tells; out = from.sends }
+    record { happenings = from.happenings; met = from.comes; dealt = from.deals; out = from.sends }

@@ -20,7 +20,7 @@ use Rattle.door_mqtt3.specs.Asked.{asked}
 use Rattle.door_mqtt3.specs.Client.{Notice, Outcome, Walk, come, come_on, fresh, has_room, is_disconnect, kept, let_through, limit, overtakes, went_on}
 use Rattle.door_mqtt3.specs.Client.Notice.{Faults, Same}
 use Rattle.door_mqtt3.specs.Sending.{Sent, after_sent, gotten, sent_of}
-use Rattle.door_mqtt3.specs.Stages.{Come, Happening, begun, comes, effect, stage_after, told_in}
+use Rattle.door_mqtt3.specs.Stages.{Come, Happening, begun, comes, effect, has_ended, stage_after, told_in}
 use Rattle.door_mqtt3.specs.Stages.Happening.{Opens, Goes, Comes, GoesOn, Gets, Closes, Ends}
 use Rattle.door_mqtt3.specs.declared.client.Client.{Client}
 use Rattle.door_mqtt3.specs.declared.clients.Stage.{Stage}
@@ -326,6 +326,10 @@ gets_told : (s : Option Stage) (came bytes : List ℕ) (asks : List Packet) → 
 gets_told None came bytes asks h = tt
 gets_told (Some s) came bytes asks h = rw (append-nil came, append-nil asks) h
 
+ends_ask : (b : Bool) → ◌≡◌ {A = List Packet} (asked_in (cond b (Faults Malformed ∷ []) [])) []
+ends_ask true = refl
+ends_ask false = refl
+
 step_holds : (s : Option Stage) (h : Happening) (came : List ℕ) (asks : List Packet) → is_within h ≡ true → IsBytes (came ++ bytes_at h) → Holds s came asks
     → Holds (effect s h).stage (came ++ bytes_at h) (asks ++ asked_in (effect s h).told)
 step_holds s Opens came asks within fits holds = absurd cc
@@ -334,7 +338,7 @@ step_holds s Closes came asks within fits holds = absurd cc
 step_holds s (Comes bytes) came asks within fits holds = comes_hold s came bytes asks fits holds
 step_holds s GoesOn came asks within fits holds = rw (append-nil came) (goes_hold s came asks holds)
 step_holds s (Gets bytes) came asks within fits holds = gets_told s came bytes asks (gets_hold s came bytes asks holds)
-step_holds s Ends came asks within fits holds = rw (append-nil came, append-nil asks) holds
+step_holds s Ends came asks within fits holds = rw (append-nil came, ends_ask (has_ended s), append-nil asks) holds
 
 all_hold : (hs : List Happening) (s : Option Stage) (came : List ℕ) (asks : List Packet) → list_all is_within hs ≡ true → IsBytes (came ++ bytes_in hs) → Holds s came asks
     → Holds (stage_after s hs) (came ++ bytes_in hs) (asks ++ asked_in (told_in s hs))

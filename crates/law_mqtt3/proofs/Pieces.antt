@@ -14,8 +14,7 @@ use Rattle.mqtt3_packets.specs.declared.version.Version.{Version}
 use Rattle.mqtt3_packets.specs.declared.version.Version.TheVariants.{Five, Before, Unserved}
 use Rattle.door_mqtt3.specs.Client.{AreSpelled, Notice, Outcome, Walk, come, come_on, fresh, halt, kept, limit, received}
 use Rattle.door_mqtt3.specs.Client.Notice.{Faults, Same}
-use Rattle.door_mqtt3.specs.Knowing.{has_ended}
-use Rattle.door_mqtt3.specs.Stages.{Come, begun, comes, of_outcome}
+use Rattle.door_mqtt3.specs.Stages.{Come, begun, comes, has_ended, of_outcome}
 use Rattle.door_mqtt3.specs.declared.client.Client.{Client}
 use Rattle.door_mqtt3.specs.declared.clients.Stage.{Stage}
 use Rattle.door_mqtt3.proofs.Paths.{spelled_then}

@@ -3,8 +3,7 @@ use Rattle.std.specs.Prelude.{◌≡◌, ◌↔◌, ℕ, List, [], ◌∷◌, �
 use Rattle.std.specs.List.{concat}
 use Rattle.mqtt_fields.specs.Field.{IsBytes}
 use Rattle.door_mqtt3.specs.Client.{AreSpelled}
-use Rattle.door_mqtt3.specs.Knowing.{has_ended}
-use Rattle.door_mqtt3.specs.Stages.{Come, comes}
+use Rattle.door_mqtt3.specs.Stages.{Come, comes, has_ended}
 use Rattle.law_mqtt3.specs.Turns.{opened}
 
 -- more bytes come; nothing counts behind what has ended a connection

@@ -5,6 +5,9 @@ ghost use Rattle.law_mqtt3.specs.Pieces.{AnyPieces};
 ghost use Rattle.law_mqtt3.specs.Telling.{ConnacksAreTrue, GrantsAreTrue, PubacksAreTrue, PubcompsAreTrue, PubrecsAreTrue, SentIsWritten};
 ghost use Rattle.law_mqtt3.specs.Turns.{HeldBackInOrder, RoomIsUsed};
 
+use broker_sockets::{BridgeHandler, Handler};
+use door_mqtt3::Mqtt3;
+
 /// In whatever pieces the bytes of a client come, up to what ends its connection, the handler inside is told the same, and the same is known of the client.
 pub fn any_pieces()
     ensures { AnyPieces }
@@ -40,8 +43,9 @@ pub fn acknowledgements_are_true()
     ensures suback { GrantsAreTrue }
 {}
 
-/// Behind a handler that translates, a client of MQTT 5.0 goes through byte for byte: whatever calls are made, the handler inside is told each byte that came
-/// of it, in order, and no other, and what goes out is just what was given for it.
-pub fn fives_go_through()
-    ensures { FivesGoThrough }
+/// Behind a handler that translates, a client of MQTT 5.0 goes through byte for byte: whatever calls are made, the handler inside is told each byte that came of
+/// it, in order, and no other, and what goes out is what the handler inside gave for it.
+pub fn fives_go_through<H: BridgeHandler>()
+    ensures { FivesGoThrough H.handles H.hears H.settles
+        ⟦<Mqtt3<H> as Handler>⟧.handles ⟦<Mqtt3<H> as BridgeHandler>⟧.hears ⟦<Mqtt3<H> as Handler>⟧.settles }
 {}

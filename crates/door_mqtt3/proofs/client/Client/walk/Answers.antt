@@ -1,8 +1,8 @@
-use Rattle.std.proofs.Common.{◌≡◌, ◌≤◌, ◌-◌, ◌+◌, ℕ, List, Option, Some, None, Ok, length, drop, take, true, false, refl, sym, ap, subst, ◌∙◌, arith}
+use Rattle.std.proofs.Common.{◌≡◌, ◌≤◌, ◌-◌, ◌+◌, ℕ, List, Option, Some, None, length, drop, true, false, refl, sym, subst, arith}
 use Rattle.std.specs.Prelude.{IfSome}
 use Rattle.mqtt_packets.specs.declared.packet.Packet.{Packet}
 use Rattle.mqtt3_packets.specs.Stream.{packet_at}
-use Rattle.door_mqtt3.specs.Client.{done_with, fault_bytes, halts, limit, walk}
+use Rattle.door_mqtt3.specs.Client.{done_with, halts, limit, walk}
 use Rattle.door_mqtt3.specs.Doing.{IsOutcome}
 use Rattle.door_mqtt3.proofs.SentLaws.{fails_is, found_at, none_found}
 use Rattle.door_mqtt3.proofs.Walking.{IsWalking, all_done, begins, bytes_of, fault_at, fault_told, goes_on, halts_at, none_at, rest_same, rest_then}
