@@ -44,15 +44,9 @@ impl<S: Sockets + Drop, U: Drop, W: Drop> Watchers<S, U, W> {
     }
 }
 
-impl<
-    R: RowStore,
-    F: Tables,
-    G: Gauge,
-    E: Write,
-    S: Sockets,
-    U: Machine,
-    W: Write,
-> Viewer<TalliedNode<R, F, G, E>> for Watchers<S, U, W> {
+impl<R: RowStore, F: Tables, G: Gauge, E: Write, S: Sockets, U: Machine, W: Write> Viewer<
+    TalliedNode<R, F, G, E>,
+> for Watchers<S, U, W> {
     ghost use Rattle.node_server.specs.Status.{HasWritten};
 
     ghost may_see = { HasWritten };
