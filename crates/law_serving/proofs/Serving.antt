@@ -31,7 +31,7 @@ use Rattle.node_server.specs.Stack.{BoundedNode, LimitedNode, TabledNode}
 use Rattle.node_server.specs.Views.{keeper_of}
 use Rattle.row_store.specs.Rows.{Content}
 use Rattle.law_serving.specs.Sockets.{Door}
-use Rattle.status_door.specs.Views.{inside_of as looked_at}
+use Rattle.node_server.specs.Viewing.{inside_of as looked_at}
 use Rattle.status_tally.specs.Doors.{IsAnswered as IsCounted, IsHeard as IsCountedOfPeers, IsSettled as IsSettledBehind}
 use Rattle.status_tally.specs.Views.{inside_of as counted_in}
 use Rattle.door_tables.proofs.Taking.{tables_are_newer}

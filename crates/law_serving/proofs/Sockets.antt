@@ -24,7 +24,7 @@ use Rattle.door_log.specs.Views.{inside_of as limited_in}
 use Rattle.home_table.specs.Table.{Table}
 use Rattle.door_tables.specs.Answering.{IsAnswered as IsTabled, IsAnsweredIf as IsTabledIf, IsGiven, IsHeard as IsTabledOfPeers, IsSettled as IsSettledWithTables, is_tick as may_bring}
 use Rattle.door_tables.specs.Views.{inside_of as tabled_in}
-use Rattle.status_door.specs.Views.{inside_of as looked_at}
+use Rattle.node_server.specs.Viewing.{inside_of as looked_at}
 use Rattle.status_tally.specs.Doors.{IsAnswered as IsCounted, IsHeard as IsCountedOfPeers, IsSettled as IsSettledBehind}
 use Rattle.status_tally.specs.Views.{inside_of as logged_in}
 use Rattle.cluster_play.proofs.Sites.{get-set_same}

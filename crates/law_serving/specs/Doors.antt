@@ -13,7 +13,7 @@ use Rattle.law_doors.specs.Limits.{Limits_pass}
 use Rattle.node_server.specs.Stack.{BoundedNode, LimitedNode}
 use Rattle.node_server.specs.declared.served.ServedNode.{ServedNode}
 use Rattle.law_serving.specs.Sockets.{Door}
-use Rattle.status_door.specs.Views.{inside_of as looked_at}
+use Rattle.node_server.specs.Viewing.{inside_of as looked_at}
 use Rattle.status_tally.specs.Views.{inside_of as counted_in}
 use Rattle.door_tables.specs.Calls.{AreFor, Made}
 use Rattle.door_tables.specs.Calls as tables

@@ -19,15 +19,15 @@ use Rattle.node_server.specs.declared.served.ServedNode.{ServedNode}
 use Rattle.node_server.specs.Stack.{TalliedNode, node_behind}
 use Rattle.node_server.specs.Views.{keeper_of}
 use Rattle.row_store.specs.Rows.{Content}
-use Rattle.status_door.specs.Views.{inside_of as looked_at}
-use Rattle.status_door.specs.declared.door.Told.{Told}
+use Rattle.node_server.specs.Viewing.{inside_of as looked_at}
+use Rattle.node_server.specs.declared.viewed.Viewed.{Viewed}
 use Rattle.status_tally.specs.Views.{inside_of as logged_in}
 use Rattle.law_serving.specs.Settling.{EventsAreTaken, TurnBegins, served_site}
 use Rattle.law_serving.specs.Turns.{IsRunOf, frames_of}
 
 -- a served node behind newer tables of homes, limits, a log and counts, and behind somebody who looks at it
 abbrev pub Door : Type 0 → Type 0 → Type 0 → Type 0 → Type 0 → Type 0
-Door R F G E W = Told (TalliedNode R F G E) W
+Door R F G E W = Viewed (TalliedNode R F G E) W
 
 -- the served node behind its doors
 abbrev pub behind_doors : {R F G E W : Type 0} → Door R F G E W → ServedNode R

@@ -8,9 +8,8 @@ use broker_sockets::{BridgeHandler, Clock, Handler, Readiness};
 use door_bounds::Gauge;
 use door_mqtt3::Mqtt3;
 use door_tables::Tables;
-use node_server::{TalliedNode, ToldNode};
+use node_server::{TalliedNode, ViewedNode, Viewer};
 use row_store::RowStore;
-use status_door::Watcher;
 use std::io::Write;
 
 /// Whatever turns the program makes over sockets, they are a run of its node in the cluster. What the sockets bring, and the clock, comes to the node in
@@ -22,20 +21,20 @@ pub fn serve_is_a_run<
     F: Tables,
     G: Gauge,
     E: Write,
-    W: Watcher<TalliedNode<R, F, G, E>>,
+    W: Viewer<TalliedNode<R, F, G, E>>,
     C: Clock,
 >()
     ensures run { ServeIsARun S.accepts S.watches S.connects S.reads S.writes S.finds
-        ⟦<Mqtt3<ToldNode<R, F, G, E, W>> as Handler>⟧.handles
-        ⟦<Mqtt3<ToldNode<R, F, G, E, W>> as BridgeHandler>⟧.hears
-        ⟦<Mqtt3<ToldNode<R, F, G, E, W>> as Handler>⟧.settles
+        ⟦<Mqtt3<ViewedNode<R, F, G, E, W>> as Handler>⟧.handles
+        ⟦<Mqtt3<ViewedNode<R, F, G, E, W>> as BridgeHandler>⟧.hears
+        ⟦<Mqtt3<ViewedNode<R, F, G, E, W>> as Handler>⟧.settles
         C.tells R.is_clean R.is_open R.content }
     ensures stopped { StoppedServeIsARun S.accepts S.watches S.connects S.reads S.writes S.finds
-        ⟦<Mqtt3<ToldNode<R, F, G, E, W>> as Handler>⟧.handles
-        ⟦<Mqtt3<ToldNode<R, F, G, E, W>> as BridgeHandler>⟧.hears
-        ⟦<Mqtt3<ToldNode<R, F, G, E, W>> as Handler>⟧.settles
+        ⟦<Mqtt3<ViewedNode<R, F, G, E, W>> as Handler>⟧.handles
+        ⟦<Mqtt3<ViewedNode<R, F, G, E, W>> as BridgeHandler>⟧.hears
+        ⟦<Mqtt3<ViewedNode<R, F, G, E, W>> as Handler>⟧.settles
         C.tells R.is_clean R.is_open R.content
-        (IsCaused ⟦<Mqtt3<ToldNode<R, F, G, E, W>> as Handler>⟧.refuses ⟦<Mqtt3<ToldNode<R, F, G, E, W>> as BridgeHandler>⟧.declines ⟦<Mqtt3<ToldNode<R, F, G, E, W>> as Handler>⟧.stops) }
+        (IsCaused ⟦<Mqtt3<ViewedNode<R, F, G, E, W>> as Handler>⟧.refuses ⟦<Mqtt3<ViewedNode<R, F, G, E, W>> as BridgeHandler>⟧.declines ⟦<Mqtt3<ViewedNode<R, F, G, E, W>> as Handler>⟧.stops) }
 {}
 
 /// A node that is served among others, whose frames are all released before they come, is in a world that a run reaches: every law over runs holds of it.

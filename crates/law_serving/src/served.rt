@@ -7,9 +7,8 @@ ghost use Rattle.law_serving.specs.Turns.{CrashIsRun, TurnIsRun};
 use broker_sockets::{BridgeHandler, Handler, Readiness};
 use door_bounds::Gauge;
 use door_tables::Tables;
-use node_server::{TalliedNode, ToldNode};
+use node_server::{TalliedNode, ViewedNode, Viewer};
 use row_store::RowStore;
-use status_door::Watcher;
 use std::io::Write;
 
 /// Events that are handled one after another are a run, and so is a crash with the rows of before them or of after them.
@@ -38,11 +37,11 @@ pub fn socket_turns_are_runs<
     F: Tables,
     G: Gauge,
     E: Write,
-    W: Watcher<TalliedNode<R, F, G, E>>,
+    W: Viewer<TalliedNode<R, F, G, E>>,
 >()
-    ensures start { StartIsTaken R.is_open R.content S S.Stream F G E W ⟦<ToldNode<R, F, G, E, W> as Handler>⟧.handles }
+    ensures start { StartIsTaken R.is_open R.content S S.Stream F G E W ⟦<ViewedNode<R, F, G, E, W> as Handler>⟧.handles }
     ensures turns { SocketTurnIsRun R.is_clean R.is_open R.content S.accepts S.watches S.connects S.reads S.writes S.finds
-        ⟦<ToldNode<R, F, G, E, W> as Handler>⟧.handles
-        ⟦<ToldNode<R, F, G, E, W> as BridgeHandler>⟧.hears
-        ⟦<ToldNode<R, F, G, E, W> as Handler>⟧.settles }
+        ⟦<ViewedNode<R, F, G, E, W> as Handler>⟧.handles
+        ⟦<ViewedNode<R, F, G, E, W> as BridgeHandler>⟧.hears
+        ⟦<ViewedNode<R, F, G, E, W> as Handler>⟧.settles }
 {}

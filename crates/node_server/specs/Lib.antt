@@ -7,4 +7,5 @@ pub mod Printing
 pub mod Serving
 pub mod Stack
 pub mod Status
+pub mod Viewing
 pub mod Views

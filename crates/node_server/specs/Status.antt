@@ -1,7 +1,7 @@
 -- What is told of a node behind its doors.
-use Rattle.std.specs.Prelude.{◌≡◌, ℕ, Some, string_bytes}
+use Rattle.std.specs.Prelude.{◌≡◌, ℕ, [], Some, string_bytes}
 use Rattle.door_log.specs.Views.{inside_of as limited_in}
-use Rattle.node_keeper.specs.BatchViews.{node_in}
+use Rattle.node_keeper.specs.BatchViews.{node_in, waiting_in}
 use Rattle.node_figures.specs.Figures.{AreFigures}
 use Rattle.node_server.specs.Stack.{TalliedNode, node_behind}
 use Rattle.node_server.specs.Views.{keeper_of}
@@ -15,6 +15,10 @@ use Rattle.status_tally.specs.declared.tally.Tally.{Tally}
 -- the node behind its doors
 abbrev pub served_behind : {R F G E : Type 0} → TalliedNode R F G E → ServedNode R
 served_behind d = node_behind (limited_in (inside_of d))
+
+-- all that it has decided is in its rows
+abbrev pub HasWritten : {R F G E : Type 0} → TalliedNode R F G E → Type 0
+HasWritten d = waiting_in (keeper_of (served_behind d)) ≡ []
 
 -- the door counts, and the figures are those of the node, if it runs, and of what was counted
 pub record IsTold {R F G E : Type 0} (teller : NodeTeller) (d : TalliedNode R F G E) (at : ℕ) (figures : Figures) : Type 0 where

@@ -10,9 +10,11 @@ mod served;
 mod stack;
 mod status;
 mod tables;
+mod viewed;
 mod watchers;
 
 pub use run::{ListenAt, serve};
 pub use served::ServedNode;
-pub use stack::{BoundedNode, LimitedNode, LoggedNode, TabledNode, TalliedNode, ToldNode};
+pub use stack::{BoundedNode, LimitedNode, LoggedNode, TabledNode, TalliedNode, ViewedNode};
 pub use status::{NodeTeller, StatusPlace};
+pub use viewed::{Viewed, Viewer, viewing_changes_nothing};

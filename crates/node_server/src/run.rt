@@ -12,6 +12,7 @@ use crate::peers::peers_of;
 use crate::served::ServedNode;
 use crate::stack::LoggedNode;
 use crate::status::{NodeTeller, StatusPlace, open_desk};
+use crate::viewed::Viewed;
 use crate::watchers::Watchers;
 use broker_sockets::{Clock, Readiness, Sockets, bind};
 use broker_turns::{Hub, Setting};
@@ -25,7 +26,7 @@ use home_table::HomeTable;
 use mqtt_fields::NoMemory;
 use node_keeper::Keeper;
 use row_store::RowStore;
-use status_door::{OpenDesk, Told};
+use status_door::OpenDesk;
 use status_tally::{Tallied, Tally};
 use std::alloc::Global;
 use std::io::Write;
@@ -181,8 +182,8 @@ fn run_node<
     let limited = Limited::new(alloc, limits, bounded);
     let logged = Logged::new(alloc, error, limited);
     let watchers = Watchers::new(alloc, desk, losses)?;
-    let told = Told::new(Tallied::new(logged, tally), Some(watchers));
-    let mut node = Mqtt3::new(alloc, mqtt3, told);
+    let viewed = Viewed::new(Tallied::new(logged, tally), Some(watchers));
+    let mut node = Mqtt3::new(alloc, mqtt3, viewed);
     match hub.serve(sockets, &mut node, clock, turns) {
         Ok(()) => {
             let mut logged = node.into_inside().into_inside().into_inside();

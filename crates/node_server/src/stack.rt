@@ -2,13 +2,13 @@
 //! whoever looks at these.
 
 use crate::served::ServedNode;
+use crate::viewed::Viewed;
 use door_bounds::{Bounded, BoundedFault};
 use door_limits::{Limited, LimitedFault};
 use door_log::{Logged, LoggedFault};
 use door_mqtt3::Mqtt3Fault;
 use door_tables::Tabled;
 use node_keeper::KeeperFault;
-use status_door::Told;
 use status_tally::Tallied;
 
 /// Behind a door at which newer tables of homes come, if there may be any.
@@ -26,8 +26,8 @@ pub type LoggedNode<R, F, G, E> = Logged<LimitedNode<R, F, G>, E>;
 /// Behind counts.
 pub type TalliedNode<R, F, G, E> = Tallied<LoggedNode<R, F, G, E>>;
 
-/// Behind somebody who looks at it.
-pub type ToldNode<R, F, G, E, W> = Told<TalliedNode<R, F, G, E>, W>;
+/// Behind somebody who looks at it once its rows are written.
+pub type ViewedNode<R, F, G, E, W> = Viewed<TalliedNode<R, F, G, E>, W>;
 
 /// Why it stops behind limits on what clients send.
 pub type BoundedNodeFault = BoundedFault<KeeperFault>;

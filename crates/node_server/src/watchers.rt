@@ -1,11 +1,14 @@
-//! Who looks at a node after each tick.
+//! Who looks at a node once the rows of a turn are written.
 
 use crate::losses::losses_of;
 use crate::stack::TalliedNode;
 use crate::status::NodeTeller;
+use crate::viewed::Viewer;
 use broker_sockets::Sockets;
 use cli_stops::RunFault;
+use door_bounds::Gauge;
 use door_log::LossLog;
+use door_tables::Tables;
 use row_store::RowStore;
 use status_door::{OpenDesk, Watcher};
 use std::alloc::Global;
@@ -41,10 +44,17 @@ impl<S: Sockets + Drop, W: Drop> Watchers<S, W> {
     }
 }
 
-impl<R: RowStore, F, G, E, S: Sockets, W: Write> Watcher<TalliedNode<R, F, G, E>>
-    for Watchers<S, W> {
+impl<R: RowStore, F: Tables, G: Gauge, E: Write, S: Sockets, W: Write> Viewer<
+    TalliedNode<R, F, G, E>,
+> for Watchers<S, W> {
+    ghost use Rattle.node_server.specs.Status.{HasWritten};
+
+    ghost may_see = { HasWritten };
+
+    ghost settled = { λ d d' settles. settles.settled.settled.settled.0.0.nothing };
+
     /// Attends to those who ask for the status, and tells of what is left out.
-    fn watch(&mut self, handler: &TalliedNode<R, F, G, E>, at: u64) {
+    fn view(&mut self, handler: &TalliedNode<R, F, G, E>, at: u64) {
         if let Some(desk) = &mut self.desk {
             desk.watch(handler, at);
         }
