@@ -32,15 +32,15 @@ use Rattle.broker_turns.proofs.Rooming.{fresh-room, fresh-takes, takes-low}
 -- ---- one step after another
 
 module _ {H : Type 0} (Q : H → H → Type 0) (stays : (h h' : H) → h' ≡ h → Q h h') (over : (a b c : H) → Q a b → Q b c → Q a c) {W : Type 0} (of : W → H) where
-  each : (step : ℕ → W → W → Type 0) → ((key : ℕ) (w w' : W) → step key w w' → Q (of w) (of w')) → (keys : List ℕ) (w w' : W) → Each step keys w w' → Q (of w) (of w')
+  pub each : (step : ℕ → W → W → Type 0) → ((key : ℕ) (w w' : W) → step key w w' → Q (of w) (of w')) → (keys : List ℕ) (w w' : W) → Each step keys w w' → Q (of w) (of w')
   each step one [] w w' same = stays (of w) (of w') (ap of same)
   each step one (key ∷ keys) w w' all = over (of w) (of all.0) (of w') (one key w all.0 all.1) (each step one keys all.0 w' all.2)
 
-  each_below : (step : ℕ → W → W → Type 0) → ((key : ℕ) (w w' : W) → step key w w' → Q (of w) (of w')) → (n : ℕ) (w w' : W) → EachBelow step n w w' → Q (of w) (of w')
+  pub each_below : (step : ℕ → W → W → Type 0) → ((key : ℕ) (w w' : W) → step key w w' → Q (of w) (of w')) → (n : ℕ) (w w' : W) → EachBelow step n w w' → Q (of w) (of w')
   each_below step one zero w w' same = stays (of w) (of w') (ap of same)
   each_below step one (suc n) w w' all = over (of w) (of all.0) (of w') (each_below step one n w all.0 all.1) (one n all.0 w' all.2)
 
-  each_tells : (step : ℕ → W → Bool → W → Type 0) → ((key : ℕ) (w : W) (more : Bool) (w' : W) → step key w more w' → Q (of w) (of w'))
+  pub each_tells : (step : ℕ → W → Bool → W → Type 0) → ((key : ℕ) (w : W) (more : Bool) (w' : W) → step key w more w' → Q (of w) (of w'))
       → (keys : List ℕ) (w : W) (found : List ℕ) (w' : W) → EachTells step keys w found w' → Q (of w) (of w')
   each_tells step one [] w found w' same = stays (of w) (of w') (ap of same.0)
   each_tells step one (key ∷ keys) w found w' all =
@@ -51,7 +51,7 @@ module _ {H : Type 0} (Q : H → H → Type 0) (stays : (h h' : H) → h' ≡ h 
     enough true count w w' is = stays (of w) (of w') (ap of is.1)
     enough false count w w' is = none w w' is.1
 
-    let_in : (may : Bool) (w : W) (more : Bool) (w' : W) → AreLetInIf comes nobody most may w more w' → Q (of w) (of w')
+    pub let_in : (may : Bool) (w : W) (more : Bool) (w' : W) → AreLetInIf comes nobody most may w more w' → Q (of w) (of w')
     let_in true w more w' all =
         over (of w) (of all.between) (of w') (each_below (λ _. comes) (λ _ v v' is. one v v' is) all.count w all.between all.each)
         (enough more all.count all.between w' all.enough)
@@ -75,7 +75,7 @@ module _ {H : Type 0} (handles : H → Event → List Output → H → Type 0) (
   module _ {T : Type 0} (at : ℕ)
       (joined : (stream : T) (key : ℕ) (h : H) (c : Slab (Client T)) (h' : H) (c' : Slab (Client T)) → IsJoined handles at stream key h c h' c' → Q h h')
       (made : (key : ℕ) (h : H) (c : Slab (Client T)) (h' : H) (c' : Slab (Client T)) → IsRoomMade handles at key h c h' c' → Q h h') where
-    welcomed : (watchable : Bool) (stream : T) (key : ℕ) (h : H) (c : Slab (Client T)) (h' : H) (c' : Slab (Client T)) → IsWelcomed handles at watchable stream key h c h' c' → Q h h'
+    pub welcomed : (watchable : Bool) (stream : T) (key : ℕ) (h : H) (c : Slab (Client T)) (h' : H) (c' : Slab (Client T)) → IsWelcomed handles at watchable stream key h c h' c' → Q h h'
     welcomed true stream key h c h' c' is = joined stream key h c h' c' is
     welcomed false stream key h c h' c' is = stays h h' is.0
 
@@ -90,7 +90,7 @@ module _ {H : Type 0} (handles : H → Event → List Output → H → Type 0) (
       read_if key true client w more w' is = stays w.handler w'.handler (ap (λ (v : World S H T). v.handler) is.0)
       read_if key false client w more w' is = passed key is.answer is.bytes (record client { stream = is.stream }) w.handler w.clients more w'.handler w'.clients is.heard
 
-      read_in : (key : ℕ) (client : Option (Client T)) (w : World S H T) (more : Bool) (w' : World S H T) → IsReadIn reads handles at key client w more w' → Q w.handler w'.handler
+      pub read_in : (key : ℕ) (client : Option (Client T)) (w : World S H T) (more : Bool) (w' : World S H T) → IsReadIn reads handles at key client w more w' → Q w.handler w'.handler
       read_in key None w more w' is = stays w.handler w'.handler (ap (λ (v : World S H T). v.handler) is.0)
       read_in key (Some client) w more w' is = read_if key client.closing client w more w' is
 
@@ -99,15 +99,15 @@ module _ {H : Type 0} (handles : H → Event → List Output → H → Type 0) (
       hearing : (it : PeerEvent) (n n' : Near H T) → IsHearing hears it n n' → Q n.handler n'.handler
       hearing it n n' is = heard n.handler it is.given n'.handler is.answered
 
-      hears_all : (frames : List (Vec ℕ Global)) (n n' : Near H T) → HearsAll hears at frames n n' → Q n.handler n'.handler
+      pub hears_all : (frames : List (Vec ℕ Global)) (n n' : Near H T) → HearsAll hears at frames n n' → Q n.handler n'.handler
       hears_all [] n n' same = stays n.handler n'.handler (ap (λ (m : Near H T). m.handler) same)
       hears_all (frame ∷ frames) n n' all = over n.handler all.0.handler n'.handler (hearing _ (record n { dialled = all.1.links }) all.0 all.1.heard) (hears_all frames all.0 n' all.2)
 
-      link_read : (link : Option (Line T)) (key : ℕ) (p : Place S H T) (more : Bool) (p' : Place S H T) → IsLinkReadIn reads hears at link key p more p' → Q p.reach.near.handler p'.reach.near.handler
+      pub link_read : (link : Option (Line T)) (key : ℕ) (p : Place S H T) (more : Bool) (p' : Place S H T) → IsLinkReadIn reads hears at link key p more p' → Q p.reach.near.handler p'.reach.near.handler
       link_read None key p more p' is = stays p.reach.near.handler p'.reach.near.handler (ap (λ (v : Place S H T). v.reach.near.handler) is.0)
       link_read (Some line) key p more p' is = hears_all is.frames p.reach.near p'.reach.near is.heard
 
-      peer_read : (link : Option (Line T)) (peer : ℕ) (r : Reach S H T) (more : Bool) (r' : Reach S H T) → IsPeerReadIn reads hears at link peer r more r' → Q r.near.handler r'.near.handler
+      pub peer_read : (link : Option (Line T)) (peer : ℕ) (r : Reach S H T) (more : Bool) (r' : Reach S H T) → IsPeerReadIn reads hears at link peer r more r' → Q r.near.handler r'.near.handler
       peer_read None peer r more r' is = stays r.near.handler r'.near.handler (ap (λ (v : Reach S H T). v.near.handler) is.0)
       peer_read (Some line) peer r more r' is = hears_all is.frames (record r.near { dialled = is.links }) r'.near is.heard
 
@@ -151,7 +151,7 @@ module _ {H : Type 0} (handles : H → Event → List Output → H → Type 0) (
       dialled_if None address peer q q' is = dialled_once _ address peer q q' is
       dialled_if (Some line) address peer q q' same = sought_same q q' same
 
-      dialled_at : (address : Option SocketAddr) (peer : ℕ) (q q' : Search S H T) → IsDialledAt connects watches hears at address peer q q'
+      pub dialled_at : (address : Option SocketAddr) (peer : ℕ) (q q' : Search S H T) → IsDialledAt connects watches hears at address peer q q'
           → Q q.reach.near.handler q'.reach.near.handler
       dialled_at None peer q q' same = sought_same q q' same
       dialled_at (Some address) peer q q' is = dialled_if _ address peer q q' is
@@ -160,7 +160,7 @@ module _ {H : Type 0} (handles : H → Event → List Output → H → Type 0) (
       shipped_if true peer n n' is = over n.handler is.0.handler n'.handler (heard n.handler _ is.1.given is.0.handler is.1.answered) (stays is.0.handler n'.handler is.2.handler)
       shipped_if false peer n n' same = stays n.handler n'.handler (ap (λ (m : Near H T). m.handler) same)
 
-      shipped : (link : Option (Line T)) (peer : ℕ) (n n' : Near H T) → IsShipped hears at link peer n n' → Q n.handler n'.handler
+      pub shipped : (link : Option (Line T)) (peer : ℕ) (n n' : Near H T) → IsShipped hears at link peer n n' → Q n.handler n'.handler
       shipped None peer n n' same = stays n.handler n'.handler (ap (λ (m : Near H T). m.handler) same)
       shipped (Some line) peer n n' is = shipped_if _ peer n n' is
 

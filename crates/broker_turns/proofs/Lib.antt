@@ -1,3 +1,4 @@
+pub mod Breaking
 pub mod Handling
 pub mod LinkOrder
 pub mod Linking

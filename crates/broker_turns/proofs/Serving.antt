@@ -25,6 +25,7 @@ module _ {C W : Type 0} (tells : C → ℕ → C → Type 0) (start turn : ℕ �
   served (Err e) turns c d c' w m w' started made = tt
 
   -- a stop after the start
-  pub unserved : {U F : Type 0} (caused : ℕ → F → Type 0) (r : Result U F) (turns : ℕ) (c d c' : C) (w m : W) → IsNext tells start c w d m → IfErr r (λ fault. IsStopped tells turn caused turns d m c' fault) → IfErr r (λ fault. IsUnserved tells start turn caused turns c w c' fault)
-  unserved caused (Ok x) turns c d c' w m started stopped = tt
-  unserved caused (Err e) turns c d c' w m started stopped = inr (d, m, started, stopped)
+  pub unserved : {U F : Type 0} (unstarted broken : ℕ → W → F → Type 0) (r : Result U F) (turns : ℕ) (c d c' : C) (w m : W) → IsNext tells start c w d m
+      → IfErr r (λ fault. IsStopped tells turn broken turns d m c' fault) → IfErr r (λ fault. IsUnserved tells start turn unstarted broken turns c w c' fault)
+  unserved unstarted broken (Ok x) turns c d c' w m started stopped = tt
+  unserved unstarted broken (Err e) turns c d c' w m started stopped = inr (d, m, started, stopped)

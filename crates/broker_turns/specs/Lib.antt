@@ -1,7 +1,7 @@
 pub mod Bridging
+pub mod Broken
 pub mod Clients
 pub mod Connections
-pub mod Faults
 pub mod Handling
 pub mod Lines
 pub mod Numbers

@@ -19,15 +19,15 @@ pub record IsCut {C F : Type 0} (tells : C → ℕ → C → Type 0) (caused : �
   pub told : tells c at c'
   pub is : caused at fault
 
-module _ {C W F : Type 0} (tells : C → ℕ → C → Type 0) (turn : ℕ → W → W → Type 0) (caused : ℕ → F → Type 0) where
-  -- fewer turns were made than were asked for, and the next one stopped
+module _ {C W F : Type 0} (tells : C → ℕ → C → Type 0) (turn : ℕ → W → W → Type 0) (broken : ℕ → W → F → Type 0) where
+  -- fewer turns were made than were asked for, and the next one stopped so
   pub record IsStopped (turns : ℕ) (c : C) (w : W) (c' : C) (fault : F) : Type 0 where
     pub made : ℕ
     pub fewer : made < turns
     pub before : C
     pub reached : W
     pub whole : IsTurns tells turn made c w before reached
-    pub cut : IsCut tells caused before c' fault
+    pub cut : IsCut tells (λ at f. broken at reached f) before c' fault
 
 -- the start is made at a moment that the clock tells, and then so many turns
 module _ {C W : Type 0} (tells : C → ℕ → C → Type 0) (start turn : ℕ → W → W → Type 0) where
@@ -35,7 +35,7 @@ module _ {C W : Type 0} (tells : C → ℕ → C → Type 0) (start turn : ℕ �
   IsServed turns c w c' w' = (d : C) × (m : W) × IsNext tells start c w d m × IsTurns tells turn turns d m c' w'
 
   -- it stopped before the first turn, or in one of them
-  abbrev pub IsUnserved : {F : Type 0} → (ℕ → F → Type 0) → ℕ → C → W → C → F → Type 0
-  IsUnserved caused turns c w c' fault =
-      IsCut tells caused c c' fault
-      ⊎ ((d : C) × (m : W) × IsNext tells start c w d m × IsStopped tells turn caused turns d m c' fault)
+  abbrev pub IsUnserved : {F : Type 0} → (ℕ → W → F → Type 0) → (ℕ → W → F → Type 0) → ℕ → C → W → C → F → Type 0
+  IsUnserved unstarted broken turns c w c' fault =
+      IsCut tells (λ at f. unstarted at w f) c c' fault
+      ⊎ ((d : C) × (m : W) × IsNext tells start c w d m × IsStopped tells turn broken turns d m c' fault)

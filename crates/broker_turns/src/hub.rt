@@ -2,7 +2,8 @@
 ghost use Rattle.std.specs.Prelude.{◌≡◌, ◌<◌, ◌≤◌, ℕ, length, replicate, true, OnOk, IfOk, IfErr, None};
 ghost use Rattle.slab.specs.Slab.{get, slab_len};
 ghost use Rattle.broker_turns.specs.Bridging.{near, place, reach, search};
-ghost use Rattle.broker_turns.specs.Faults.{IsCaused};
+ghost use Rattle.broker_turns.specs.Broken.{IsAskedOnce, IsBrokenOff, IsBrokenTurn, IsUndecided, IsUngiven};
+ghost use Rattle.broker_turns.specs.Connections.{world};
 ghost use Rattle.broker_turns.specs.Pacing.{IsBegun};
 ghost use Rattle.broker_turns.specs.Serving.{IsServed, IsStopped, IsTurns, IsUnserved};
 ghost use Rattle.broker_turns.specs.Turns.{IsDecided, IsEither, IsFound, IsGivenOut, IsStart, IsTakenIn, IsTurn, site};
@@ -77,7 +78,7 @@ fn take_in<S: Readiness, H: BridgeHandler>(
     ensures ok { IfOk result (λ more. IsTakenIn S.accepts S.watches S.reads H.handles H.hears setting.now at ready.now
         (place sockets.old (near handler.old clients.old.slab dialled.old) accepted.old) more
         (place sockets.new (near handler.new clients.new.slab dialled.new) accepted.new)) }
-    ensures fault { IfErr result (IsCaused H.refuses H.declines H.stops at) }
+    ensures fault { IfErr result (IsBrokenOff (IsAskedOnce S.accepts S.watches S.connects S.reads) H.handles H.hears H.refuses H.declines at sockets.old handler.old sockets.new handler.new) }
 {
     let asked = ready.listeners;
     let listener = &setting.listener;
@@ -118,7 +119,9 @@ fn decide<S: Readiness, H: BridgeHandler>(
     ensures ok { OnOk result (IsDecided S.watches S.connects H.handles H.hears H.settles setting.now at
         (search sockets.old (near handler.old clients.old.slab dialled.old) sought.old)
         (search sockets.new (near handler.new clients.new.slab dialled.new) sought.new)) }
-    ensures fault { IfErr result (IsCaused H.refuses H.declines H.stops at) }
+    ensures fault { IfErr result (IsUndecided S.accepts S.watches S.connects S.reads H.handles H.hears H.refuses H.declines H.stops setting.now at
+        (search sockets.old (near handler.old clients.old.slab dialled.old) sought.old)
+        (search sockets.new (near handler.new clients.new.slab dialled.new) sought.new)) }
 {
     let peers = &setting.peers;
     dial_peers(alloc, clients, dialled, sought, peers, sockets, handler, at)?;
@@ -143,7 +146,9 @@ fn give_out<S: Sockets, H: BridgeHandler>(
     ensures ok { OnOk result (IsGivenOut S.writes H.handles H.settles setting.now at
         (reach sockets.old (near handler.old clients.old.slab dialled.old))
         (reach sockets.new (near handler.new clients.new.slab dialled.new))) }
-    ensures fault { IfErr result (IsCaused H.refuses H.declines H.stops at) }
+    ensures fault { IfErr result (IsUngiven S.writes H.handles H.hears H.settles H.refuses H.declines H.stops at
+        (world sockets.old handler.old clients.old.slab)
+        (world sockets.new handler.new clients.new.slab)) }
 {
     let due = clients.due(alloc)?;
     write_all(clients, sockets, handler, at, &due)?;
@@ -200,7 +205,8 @@ fn make_turn<S: Readiness, H: BridgeHandler>(
     ensures ok { OnOk result (IsTurn S.accepts S.watches S.connects S.reads S.writes S.finds H.handles H.hears H.settles setting.now at
         (site (place sockets.old (near handler.old clients.old.slab dialled.old) accepted.old) ready.old sought.old)
         (site (place sockets.new (near handler.new clients.new.slab dialled.new) accepted.new) ready.new sought.new)) }
-    ensures fault { IfErr result (IsCaused H.refuses H.declines H.stops at) }
+    ensures fault { IfErr result (IsBrokenTurn S.accepts S.watches S.connects S.reads S.writes H.handles H.hears H.settles H.refuses H.declines H.stops setting.now at
+        (site (place sockets.old (near handler.old clients.old.slab dialled.old) accepted.old) ready.old sought.old) sockets.new handler.new) }
 {
     let more = take_in(
         alloc, setting, ready, clients, dialled, accepted, buffer, most, sockets, handler, at,
@@ -263,7 +269,8 @@ impl<L: Drop, T: Drop> Hub<L, T> {
     /// client for which something is due is written to, and each link that was dialled on which something waits. Then the network tells
     /// what may have something, which the next turn asks, for which it may wait a little.
     ///
-    /// After a fault, the handler's or `NoMemory`, nothing is said of the hub.
+    /// After a fault, the handler's or `NoMemory`, nothing is said of the hub. What the handler was told until then, and that nobody was sent what it gave out since
+    /// it settled last, is said (`IsBrokenTurn`).
     pub fn turn<S: Readiness<Listener = L, Stream = T>, H: BridgeHandler>(
         &mut self,
         sockets: &mut S,
@@ -275,7 +282,8 @@ impl<L: Drop, T: Drop> Hub<L, T> {
             (site (place sockets.new (near handler.new self.new.clients.slab self.new.dialled.items) self.new.accepted) self.new.ready self.new.sought.items)) }
         ensures setting { OnOk result (self.new.setting ≡ self.old.setting) }
         ensures pace { IsBegun at self.old.pace self.new.pace }
-        ensures fault { IfErr result (IsCaused H.refuses H.declines H.stops at) }
+        ensures fault { IfErr result (IsBrokenTurn S.accepts S.watches S.connects S.reads S.writes H.handles H.hears H.settles H.refuses H.declines H.stops self.old.setting at
+            (site (place sockets.old (near handler.old self.old.clients.slab self.old.dialled.items) self.old.accepted) self.old.ready self.old.sought.items) sockets.new handler.new) }
     {
         let most = self.pace.begin(at);
         make_turn(
@@ -296,7 +304,8 @@ impl<L: Drop, T: Drop> Hub<L, T> {
 
     /// So many turns, one after another, each at the moment that the clock tells just before it.
     ///
-    /// After a fault, the handler's or `NoMemory`, nothing is said of the hub.
+    /// After a fault, the handler's or `NoMemory`, nothing is said of the hub. What the handler was told until then, and that nobody was sent what it gave out since
+    /// it settled last, is said (`IsBrokenTurn`).
     pub fn make_turns<S: Readiness<Listener = L, Stream = T>, H: BridgeHandler, C: Clock>(
         &mut self,
         sockets: &mut S,
@@ -309,7 +318,7 @@ impl<L: Drop, T: Drop> Hub<L, T> {
             clock.new (site (place sockets.new (near handler.new self.new.clients.slab self.new.dialled.items) self.new.accepted) self.new.ready self.new.sought.items)) }
         ensures setting { OnOk result (self.new.setting ≡ self.old.setting) }
         ensures fault { IfErr result (λ fault. IsStopped C.tells (IsTurn S.accepts S.watches S.connects S.reads S.writes S.finds H.handles H.hears H.settles self.old.setting)
-            (IsCaused H.refuses H.declines H.stops) turns
+            (λ at old. IsBrokenTurn S.accepts S.watches S.connects S.reads S.writes H.handles H.hears H.settles H.refuses H.declines H.stops self.old.setting at old sockets.new handler.new) turns
             clock.old (site (place sockets.old (near handler.old self.old.clients.slab self.old.dialled.items) self.old.accepted) self.old.ready self.old.sought.items) clock.new fault) }
     {
         for _ in 0..turns {
@@ -321,7 +330,8 @@ impl<L: Drop, T: Drop> Hub<L, T> {
 
     /// Tells the handler that it has started, at the moment that the clock tells, and then makes so many turns.
     ///
-    /// After a fault, the handler's or `NoMemory`, nothing is said of the hub.
+    /// After a fault, the handler's or `NoMemory`, nothing is said of the hub. What the handler was told until then, and that nobody was sent what it gave out since
+    /// it settled last, is said (`IsBrokenTurn`).
     pub fn serve<S: Readiness<Listener = L, Stream = T>, H: BridgeHandler, C: Clock>(
         &mut self,
         sockets: &mut S,
@@ -334,7 +344,8 @@ impl<L: Drop, T: Drop> Hub<L, T> {
             clock.new (site (place sockets.new (near handler.new self.new.clients.slab self.new.dialled.items) self.new.accepted) self.new.ready self.new.sought.items)) }
         ensures setting { OnOk result (self.new.setting ≡ self.old.setting) }
         ensures fault { IfErr result (λ fault. IsUnserved C.tells (IsStart H.handles) (IsTurn S.accepts S.watches S.connects S.reads S.writes S.finds H.handles H.hears H.settles self.old.setting)
-            (IsCaused H.refuses H.declines H.stops) turns
+            (λ at old. IsBrokenOff (IsAskedOnce S.accepts S.watches S.connects S.reads) H.handles H.hears H.refuses H.declines at old.place.reach.sockets old.place.reach.near.handler sockets.new handler.new)
+            (λ at old. IsBrokenTurn S.accepts S.watches S.connects S.reads S.writes H.handles H.hears H.settles H.refuses H.declines H.stops self.old.setting at old sockets.new handler.new) turns
             clock.old (site (place sockets.old (near handler.old self.old.clients.slab self.old.dialled.items) self.old.accepted) self.old.ready self.old.sought.items) clock.new fault) }
     {
         let at = clock.now();

@@ -1,7 +1,8 @@
 //! Links between nodes, and what is given out for them.
-ghost use Rattle.std.specs.Prelude.{◌≡◌, ◌∷◌, [], length, OnOk, IfOk};
+ghost use Rattle.std.specs.Prelude.{◌≡◌, ◌∷◌, [], length, OnOk, OnErr, IfOk};
 ghost use Rattle.broker_turns.specs.Lines.{Framed, Noted, awaited_after, fresh_line, is_answer, is_asking, is_due, is_rested, marked, one_more, pushed};
 ghost use Rattle.broker_turns.specs.Bridging.{IsLineRead, IsLineWritten};
+ghost use Rattle.broker_turns.specs.Broken.{IsReadOnce};
 
 use broker_sockets::{Answer, Held, PeerFrame, Sockets, Unsent};
 use std::alloc::{AllocError, Global};
@@ -147,7 +148,8 @@ pub fn read_line<S: Sockets>(
     sockets: &mut S,
 ) -> Result<Heard, AllocError>
     requires { length buffer.old ≡ 65536 }
-    ensures { IfOk result (λ heard. IsLineRead S.reads sockets.old line.old heard.frames.items heard.goes_on heard.more sockets.new line.new) }
+    ensures ok { IfOk result (λ heard. IsLineRead S.reads sockets.old line.old heard.frames.items heard.goes_on heard.more sockets.new line.new) }
+    ensures fault { OnErr result (IsReadOnce S.reads sockets.old sockets.new) }
 {
     match sockets.read(&mut line.stream, buffer) {
         Answer::Later => Ok(Heard {

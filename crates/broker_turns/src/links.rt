@@ -1,7 +1,7 @@
 //! What a turn does with each link to another node.
-ghost use Rattle.std.specs.Prelude.{◌≡◌, ◌<◌, length, option_map, slice_index_or, None, OnOk, IfOk, IfErr};
+ghost use Rattle.std.specs.Prelude.{◌≡◌, ◌<◌, length, option_map, slice_index_or, None, OnOk, OnErr, IfOk, IfErr};
 ghost use Rattle.broker_turns.specs.Bridging.{HearsAll, IsBegun, IsDialledIf, IsFrameHeard, IsHeardFrom, IsHearing, IsKept, IsLinkAccepted, IsLinkAwaited, IsNoLinkAccepted, IsOffered, IsPeerKept, IsPeerRead, IsSought, IsSupplied, Relinks, near, place, reach, search};
-ghost use Rattle.broker_turns.specs.Faults.{IsCaused};
+ghost use Rattle.broker_turns.specs.Broken.{Again, IsAskedOnce, IsBroken, IsBrokenOff, IsReadOnce};
 ghost use Rattle.broker_turns.specs.Lines.{link_of, marked};
 ghost use Rattle.broker_turns.specs.Steps.{AreLetInIf, EachBelow, EachTells};
 
@@ -25,7 +25,7 @@ fn hear_one<H: BridgeHandler, T: Drop>(
     event: PeerEvent,
 ) -> Result<(), TurnFault<H::Fault>>
     ensures ok { OnOk result (IsHearing H.hears event (near handler.old clients.old.slab links.old) (near handler.new clients.new.slab links.new)) }
-    ensures fault { IfErr result (IsCaused H.refuses H.declines H.stops event.at) }
+    ensures fault { IfErr result (IsBroken H.handles H.hears H.refuses H.declines event.at handler.old handler.new) }
 {
     match handler.hear(event) {
         Ok(given) => {
@@ -46,7 +46,7 @@ fn hear_frame<H: BridgeHandler, T: Drop>(
     bytes: Vec<u8>,
 ) -> Result<(), TurnFault<H::Fault>>
     ensures ok { OnOk result (IsFrameHeard H.hears at bytes (near handler.old clients.old.slab links.old) (near handler.new clients.new.slab links.new)) }
-    ensures fault { IfErr result (IsCaused H.refuses H.declines H.stops at) }
+    ensures fault { IfErr result (IsBroken H.handles H.hears H.refuses H.declines at handler.old handler.new) }
 {
     note_sender(links, &bytes);
     let kind = PeerEventKind::Frame { bytes };
@@ -62,7 +62,7 @@ fn hear_all<H: BridgeHandler, T: Drop>(
     frames: Vec<Vec<u8>>,
 ) -> Result<(), TurnFault<H::Fault>>
     ensures ok { OnOk result (HearsAll H.hears at frames.items (near handler.old clients.old.slab links.old) (near handler.new clients.new.slab links.new)) }
-    ensures fault { IfErr result (IsCaused H.refuses H.declines H.stops at) }
+    ensures fault { IfErr result (IsBroken H.handles H.hears H.refuses H.declines at handler.old handler.new) }
 {
     for bytes in frames {
         hear_frame(clients, links, handler, at, bytes)?;
@@ -78,7 +78,8 @@ fn accept_link<S: Readiness>(
     listener: &S::Listener,
     sockets: &mut S,
 ) -> Result<bool, AllocError>
-    ensures { IfOk result (λ came. IsLinkAwaited S.accepts S.watches listener.now came (sockets.old, accepted.old) (sockets.new, accepted.new)) }
+    ensures ok { IfOk result (λ came. IsLinkAwaited S.accepts S.watches listener.now came (sockets.old, accepted.old) (sockets.new, accepted.new)) }
+    ensures fault { OnErr result (Again (IsAskedOnce S.accepts S.watches S.connects S.reads) sockets.old sockets.new) }
 {
     let Some(mut stream) = sockets.accept(listener) else {
         return Ok(false);
@@ -101,8 +102,9 @@ pub fn accept_links<S: Readiness>(
     sockets: &mut S,
     asked: bool,
 ) -> Result<bool, AllocError>
-    ensures { IfOk result (λ more. AreLetInIf (IsLinkAccepted S.accepts S.watches listener.now) (IsNoLinkAccepted S.accepts S.watches listener.now)
+    ensures ok { IfOk result (λ more. AreLetInIf (IsLinkAccepted S.accepts S.watches listener.now) (IsNoLinkAccepted S.accepts S.watches listener.now)
         64 asked (sockets.old, accepted.old) more (sockets.new, accepted.new)) }
+    ensures fault { OnErr result (Again (IsAskedOnce S.accepts S.watches S.connects S.reads) sockets.old sockets.new) }
 {
     if !asked {
         return Ok(false);
@@ -141,7 +143,7 @@ fn read_link<S: Sockets, H: BridgeHandler>(
     ensures ok { IfOk result (λ more. IsHeardFrom S.reads H.hears at key
         (place sockets.old (near handler.old clients.old.slab links.old) accepted.old) more
         (place sockets.new (near handler.new clients.new.slab links.new) accepted.new)) }
-    ensures fault { IfErr result (IsCaused H.refuses H.declines H.stops at) }
+    ensures fault { IfErr result (IsBrokenOff (IsReadOnce S.reads) H.handles H.hears H.refuses H.declines at sockets.old handler.old sockets.new handler.new) }
 {
     let Some(line) = accepted.get_mut(key) else {
         return Ok(false);
@@ -168,7 +170,7 @@ pub fn read_links<S: Sockets, H: BridgeHandler>(
     ensures ok { IfOk result (λ found. EachTells (IsHeardFrom S.reads H.hears at) keys.now
         (place sockets.old (near handler.old clients.old.slab links.old) accepted.old) found.items
         (place sockets.new (near handler.new clients.new.slab links.new) accepted.new)) }
-    ensures fault { IfErr result (IsCaused H.refuses H.declines H.stops at) }
+    ensures fault { IfErr result (IsBrokenOff (IsReadOnce S.reads) H.handles H.hears H.refuses H.declines at sockets.old handler.old sockets.new handler.new) }
 {
     let mut found = Vec::new(alloc);
     for key in keys {
@@ -206,7 +208,7 @@ fn read_peer<S: Sockets, H: BridgeHandler>(
     ensures ok { IfOk result (λ more. IsPeerRead S.reads H.hears at peer
         (reach sockets.old (near handler.old clients.old.slab links.old)) more
         (reach sockets.new (near handler.new clients.new.slab links.new))) }
-    ensures fault { IfErr result (IsCaused H.refuses H.declines H.stops at) }
+    ensures fault { IfErr result (IsBrokenOff (IsReadOnce S.reads) H.handles H.hears H.refuses H.declines at sockets.old handler.old sockets.new handler.new) }
 {
     if peer >= links.len() {
         return Ok(false);
@@ -235,7 +237,7 @@ pub fn read_peers<S: Sockets, H: BridgeHandler>(
     ensures ok { IfOk result (λ found. EachTells (IsPeerRead S.reads H.hears at) peers.now
         (reach sockets.old (near handler.old clients.old.slab links.old)) found.items
         (reach sockets.new (near handler.new clients.new.slab links.new))) }
-    ensures fault { IfErr result (IsCaused H.refuses H.declines H.stops at) }
+    ensures fault { IfErr result (IsBrokenOff (IsReadOnce S.reads) H.handles H.hears H.refuses H.declines at sockets.old handler.old sockets.new handler.new) }
 {
     let mut found = Vec::new(alloc);
     for peer in peers {
@@ -276,7 +278,7 @@ fn dial_peer<S: Readiness, H: BridgeHandler>(
     ensures ok { OnOk result (IsDialledIf S.connects S.watches H.hears at (link_of links.old peer) address peer
         (search sockets.old (near handler.old clients.old.slab links.old) sought.old)
         (search sockets.new (near handler.new clients.new.slab links.new) sought.new)) }
-    ensures fault { IfErr result (IsCaused H.refuses H.declines H.stops at) }
+    ensures fault { IfErr result (IsBrokenOff (IsAskedOnce S.accepts S.watches S.connects S.reads) H.handles H.hears H.refuses H.declines at sockets.old handler.old sockets.new handler.new) }
 {
     let place = usize::from(peer);
     if links[place].is_some() || !is_rested(REDIAL, sought[place], at) {
@@ -309,7 +311,7 @@ fn seek_peer<S: Readiness, H: BridgeHandler>(
     ensures ok { OnOk result (IsSought S.connects S.watches H.hears at peers.now peer
         (search sockets.old (near handler.old clients.old.slab links.old) sought.old)
         (search sockets.new (near handler.new clients.new.slab links.new) sought.new)) }
-    ensures fault { IfErr result (IsCaused H.refuses H.declines H.stops at) }
+    ensures fault { IfErr result (IsBrokenOff (IsAskedOnce S.accepts S.watches S.connects S.reads) H.handles H.hears H.refuses H.declines at sockets.old handler.old sockets.new handler.new) }
 {
     let Some(address) = peers[usize::from(peer)] else {
         return Ok(());
@@ -336,7 +338,7 @@ pub fn dial_peers<S: Readiness, H: BridgeHandler>(
     ensures ok { OnOk result (EachBelow (IsSought S.connects S.watches H.hears at peers.now) (length peers.now)
         (search sockets.old (near handler.old clients.old.slab links.old) sought.old)
         (search sockets.new (near handler.new clients.new.slab links.new) sought.new)) }
-    ensures fault { IfErr result (IsCaused H.refuses H.declines H.stops at) }
+    ensures fault { IfErr result (IsBrokenOff (IsAskedOnce S.accepts S.watches S.connects S.reads) H.handles H.hears H.refuses H.declines at sockets.old handler.old sockets.new handler.new) }
 {
     for peer in 0..peers.len() as u16 {
         seek_peer(
@@ -366,7 +368,7 @@ fn ship_to<H: BridgeHandler, T: Drop>(
 ) -> Result<(), TurnFault<H::Fault>>
     requires { peer < length links.old }
     ensures ok { OnOk result (IsSupplied H.hears at peer (near handler.old clients.old.slab links.old) (near handler.new clients.new.slab links.new)) }
-    ensures fault { IfErr result (IsCaused H.refuses H.declines H.stops at) }
+    ensures fault { IfErr result (IsBroken H.handles H.hears H.refuses H.declines at handler.old handler.new) }
 {
     let Some(line) = &links[usize::from(peer)] else {
         return Ok(());
@@ -389,7 +391,7 @@ pub fn ship_all<H: BridgeHandler, T: Drop>(
 ) -> Result<(), TurnFault<H::Fault>>
     requires { length links.old < 65536 }
     ensures ok { OnOk result (EachBelow (IsSupplied H.hears at) (length links.old) (near handler.old clients.old.slab links.old) (near handler.new clients.new.slab links.new)) }
-    ensures fault { IfErr result (IsCaused H.refuses H.declines H.stops at) }
+    ensures fault { IfErr result (IsBroken H.handles H.hears H.refuses H.declines at handler.old handler.new) }
 {
     for peer in 0..links.len() as u16 {
         ship_to(clients, links, handler, at, peer)?;

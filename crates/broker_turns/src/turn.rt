@@ -1,7 +1,7 @@
 //! What a turn does with clients' network connections (MQTT 5.0, 4.2).
 ghost use Rattle.std.specs.Prelude.{◌≡◌, ◌≤◌, length, OnOk, IfOk, IfErr};
 ghost use Rattle.broker_turns.specs.Connections.{AreRoomsMade, IsAccepted, IsAwaited, IsHandled, IsLetGo, IsNobodyAccepted, IsRead, IsRoomMade, IsRoomStep, IsWrote, event, world};
-ghost use Rattle.broker_turns.specs.Faults.{IsCaused};
+ghost use Rattle.broker_turns.specs.Broken.{AreUnwrote, IsAskedOnce, IsBroken, IsBrokenOff, IsReadOnce, IsUnsettled, IsUnwrote};
 ghost use Rattle.broker_turns.specs.Steps.{AreLetInIf, Each, EachTells};
 ghost use Rattle.broker_turns.specs.Writing.{IsWritten, fate_by_size};
 
@@ -53,7 +53,7 @@ pub fn handle_event<H: BridgeHandler, T: Drop>(
     event: Event,
 ) -> Result<(), TurnFault<H::Fault>>
     ensures ok { OnOk result (IsHandled H.handles event handler.old clients.old.slab handler.new clients.new.slab) }
-    ensures fault { IfErr result (IsCaused H.refuses H.declines H.stops event.at) }
+    ensures fault { IfErr result (IsBroken H.handles H.hears H.refuses H.declines event.at handler.old handler.new) }
 {
     match handler.handle(event) {
         Ok(outputs) => {
@@ -72,7 +72,7 @@ fn let_go<H: BridgeHandler, T: Drop>(
     key: usize,
 ) -> Result<(), TurnFault<H::Fault>>
     ensures ok { OnOk result (IsLetGo H.handles at key handler.old clients.old.slab handler.new clients.new.slab) }
-    ensures fault { IfErr result (IsCaused H.refuses H.declines H.stops at) }
+    ensures fault { IfErr result (IsBroken H.handles H.hears H.refuses H.declines at handler.old handler.new) }
 {
     clients.remove(key);
     let kind = EventKind::Closed {
@@ -89,7 +89,7 @@ fn make_room<H: BridgeHandler, T: Drop>(
     key: usize,
 ) -> Result<(), TurnFault<H::Fault>>
     ensures ok { OnOk result (IsRoomMade H.handles at key handler.old clients.old.slab handler.new clients.new.slab) }
-    ensures fault { IfErr result (IsCaused H.refuses H.declines H.stops at) }
+    ensures fault { IfErr result (IsBroken H.handles H.hears H.refuses H.declines at handler.old handler.new) }
 {
     let Some(bytes) = clients.take_room(key) else {
         return Ok(());
@@ -107,7 +107,7 @@ fn tell_rooms<H: BridgeHandler, T: Drop>(
     keys: &[usize],
 ) -> Result<(), TurnFault<H::Fault>>
     ensures ok { OnOk result (Each (IsRoomStep H.handles at) keys.now (handler.old, clients.old.slab) (handler.new, clients.new.slab)) }
-    ensures fault { IfErr result (IsCaused H.refuses H.declines H.stops at) }
+    ensures fault { IfErr result (IsBroken H.handles H.hears H.refuses H.declines at handler.old handler.new) }
 {
     for key in keys {
         make_room(clients, handler, at, *key)?;
@@ -123,7 +123,7 @@ pub fn make_rooms<H: BridgeHandler, T: Drop>(
     at: u64,
 ) -> Result<(), TurnFault<H::Fault>>
     ensures ok { OnOk result (AreRoomsMade H.handles at (handler.old, clients.old.slab) (handler.new, clients.new.slab)) }
-    ensures fault { IfErr result (IsCaused H.refuses H.declines H.stops at) }
+    ensures fault { IfErr result (IsBroken H.handles H.hears H.refuses H.declines at handler.old handler.new) }
 {
     let takers = clients.takers(alloc)?;
     tell_rooms(clients, handler, at, &takers)
@@ -140,7 +140,7 @@ fn accept_one<S: Readiness, H: BridgeHandler>(
 ) -> Result<bool, TurnFault<H::Fault>>
     ensures ok { IfOk result (λ came. IsAwaited S.accepts S.watches H.handles at listener.now came
         (world sockets.old handler.old clients.old.slab) (world sockets.new handler.new clients.new.slab)) }
-    ensures fault { IfErr result (IsCaused H.refuses H.declines H.stops at) }
+    ensures fault { IfErr result (IsBrokenOff (IsAskedOnce S.accepts S.watches S.connects S.reads) H.handles H.hears H.refuses H.declines at sockets.old handler.old sockets.new handler.new) }
 {
     let Some(mut stream) = sockets.accept(listener) else {
         return Ok(false);
@@ -171,7 +171,7 @@ pub fn accept_some<S: Readiness, H: BridgeHandler>(
     ensures ok { IfOk result (λ more. AreLetInIf (IsAccepted S.accepts S.watches H.handles at listener.now)
         (IsNobodyAccepted S.accepts S.watches H.handles at listener.now) 64 asked
         (world sockets.old handler.old clients.old.slab) more (world sockets.new handler.new clients.new.slab)) }
-    ensures fault { IfErr result (IsCaused H.refuses H.declines H.stops at) }
+    ensures fault { IfErr result (IsBrokenOff (IsAskedOnce S.accepts S.watches S.connects S.reads) H.handles H.hears H.refuses H.declines at sockets.old handler.old sockets.new handler.new) }
 {
     if !asked {
         return Ok(false);
@@ -197,7 +197,7 @@ fn read_one<S: Sockets, H: BridgeHandler>(
     requires { length buffer.old ≤ 65536 }
     ensures ok { IfOk result (λ more. IsRead S.reads H.handles at key
         (world sockets.old handler.old clients.old.slab) more (world sockets.new handler.new clients.new.slab)) }
-    ensures fault { IfErr result (IsCaused H.refuses H.declines H.stops at) }
+    ensures fault { IfErr result (IsBrokenOff (IsReadOnce S.reads) H.handles H.hears H.refuses H.declines at sockets.old handler.old sockets.new handler.new) }
 {
     let Some(client) = clients.slab.get_mut(key) else {
         return Ok(false);
@@ -252,7 +252,7 @@ fn write_client<S: Sockets>(client: &mut Client<S::Stream>, sockets: &mut S) -> 
 /// The handler makes what it has decided last, in a turn at this moment.
 pub fn settle<H: BridgeHandler>(handler: &mut H, _at: u64) -> Result<(), TurnFault<H::Fault>>
     ensures ok { OnOk result (H.settles handler.old handler.new) }
-    ensures fault { IfErr result (IsCaused H.refuses H.declines H.stops _at) }
+    ensures fault { IfErr result (IsUnsettled H.stops handler.old handler.new) }
 {
     match handler.settle() {
         Ok(()) => Ok(()),
@@ -270,7 +270,7 @@ fn write_one<S: Sockets, H: BridgeHandler>(
 ) -> Result<(), TurnFault<H::Fault>>
     ensures ok { OnOk result (IsWrote S.writes H.handles H.settles at key
         (world sockets.old handler.old clients.old.slab) (world sockets.new handler.new clients.new.slab)) }
-    ensures fault { IfErr result (IsCaused H.refuses H.declines H.stops at) }
+    ensures fault { IfErr result (IsUnwrote S.writes H.handles H.hears H.refuses H.declines H.stops at key (world sockets.old handler.old clients.old.slab) (world sockets.new handler.new clients.new.slab)) }
 {
     let Some(client) = clients.slab.get_mut(key) else {
         return Ok(());
@@ -306,7 +306,7 @@ pub fn read_all<S: Sockets, H: BridgeHandler>(
     requires { length buffer.old ≤ 65536 }
     ensures ok { IfOk result (λ found. EachTells (IsRead S.reads H.handles at) keys.now
         (world sockets.old handler.old clients.old.slab) found.items (world sockets.new handler.new clients.new.slab)) }
-    ensures fault { IfErr result (IsCaused H.refuses H.declines H.stops at) }
+    ensures fault { IfErr result (IsBrokenOff (IsReadOnce S.reads) H.handles H.hears H.refuses H.declines at sockets.old handler.old sockets.new handler.new) }
 {
     let mut found = Vec::new(alloc);
     for key in keys {
@@ -326,7 +326,7 @@ pub fn write_all<S: Sockets, H: BridgeHandler>(
 ) -> Result<(), TurnFault<H::Fault>>
     ensures ok { OnOk result (Each (IsWrote S.writes H.handles H.settles at) keys.now
         (world sockets.old handler.old clients.old.slab) (world sockets.new handler.new clients.new.slab)) }
-    ensures fault { IfErr result (IsCaused H.refuses H.declines H.stops at) }
+    ensures fault { IfErr result (AreUnwrote S.writes H.handles H.hears H.settles H.refuses H.declines H.stops at keys.now (world sockets.old handler.old clients.old.slab) (world sockets.new handler.new clients.new.slab)) }
 {
     for key in keys {
         write_one(clients, sockets, handler, at, *key)?;

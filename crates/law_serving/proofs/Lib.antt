@@ -11,6 +11,7 @@ pub mod ServedRunning
 pub mod Serving
 pub mod Settling
 pub mod Sockets
+pub mod Stopping
 pub mod TableServing
 pub mod Tracing
 pub mod Turning

@@ -10,6 +10,26 @@ use Rattle.broker_sockets.specs.declared.events.Output.{Output}
 use Rattle.broker_sockets.specs.declared.network.Answer.{Answer}
 use Rattle.broker_sockets.specs.declared.ready.Ready.{Ready}
 use Rattle.broker_sockets.specs.declared.ready.Watched.{Watched}
+use Rattle.broker_turns.specs.declared.setting.Setting.{Setting}
+use Rattle.broker_turns.specs.declared.turn.TurnFault.{TurnFault}
+use Rattle.broker_turns.specs.declared.turn.TurnFault.TheVariants.{NoMemory, Handler}
+use Rattle.broker_turns.specs.Broken.{IsUnsettled}
+use Rattle.broker_turns.specs.Turns.{Site as Seat}
+use Rattle.door_bounds.specs.Faults.{IsCutOff as IsCutOffWithin}
+use Rattle.door_bounds.specs.Views.{inside_of as bounded_in}
+use Rattle.door_bounds.specs.declared.fault.BoundedFault.TheVariants as of_bounds
+use Rattle.door_limits.specs.Faults.{IsCutOff as IsCutOffLimited}
+use Rattle.door_limits.specs.Views.{inside_of as limited_in}
+use Rattle.door_limits.specs.declared.fault.LimitedFault.TheVariants as of_limits
+use Rattle.door_log.specs.Faults.{IsCutOff as IsCutOffBefore}
+use Rattle.door_log.specs.declared.fault.LoggedFault.TheVariants as of_log
+use Rattle.door_mqtt3.specs.Telling.{IsCutOff as IsCutOffTranslated}
+use Rattle.door_mqtt3.specs.declared.fault.Mqtt3Fault.TheVariants as of_levels
+use Rattle.door_tables.specs.Views.{inside_of as tabled_in}
+use Rattle.node_keeper.specs.declared.fault.KeeperFault.{KeeperFault}
+use Rattle.law_serving.proofs.Settling.{crash_amid_commit, crash_before_commit}
+use Rattle.law_serving.proofs.Stopping.{cut_first, cut_turn, told_done}
+use Rattle.law_serving.specs.Stopping.{IsCutTurn, StoppedServeIsARun, Stops}
 use Rattle.door_bounds.specs.Answering.{IsAnswered as IsBounded, IsHeard as IsBoundedOfPeers, IsSettled as IsSettledWithin}
 use Rattle.door_limits.specs.Answering.{IsAnswered as IsLimited, IsHeard as IsLimitedOfPeers, IsSettled as IsSettledLimited}
 use Rattle.door_log.specs.Answering.{IsAnswered as IsNoted, IsHeard as IsNotedOfPeers, IsSettled as IsSettledBefore}
@@ -26,28 +46,28 @@ use Rattle.door_mqtt3.specs.Telling.{IsAnswered as IsTranslated, IsHeard as IsTr
 use Rattle.door_mqtt3.specs.Views.{clients_of, inside_of as translated_in}
 use Rattle.node_server.specs.declared.served.ServedNode.{ServedNode}
 use Rattle.node_server.specs.Events.{event_of, peer_event_of, table_event}
-use Rattle.node_server.specs.Serving.{IsAnsweredToAll, IsAnsweredToClients, IsCommitted}
-use Rattle.node_server.specs.Stack.{BoundedNode, LimitedNode, TabledNode}
+use Rattle.node_server.specs.Serving.{IsAnsweredToAll, IsAnsweredToClients, IsCommitted, IsCutOff}
+use Rattle.node_server.specs.Stack.{BoundedNode, BoundedNodeFault, LimitedNode, LimitedNodeFault, LoggedNode, LoggedNodeFault, NodeFault, TabledNode}
 use Rattle.node_server.specs.Views.{keeper_of}
 use Rattle.row_store.specs.Rows.{Content}
 use Rattle.law_serving.specs.Sockets.{Door}
 use Rattle.node_server.specs.Viewing.{inside_of as looked_at}
-use Rattle.status_tally.specs.Doors.{IsAnswered as IsCounted, IsHeard as IsCountedOfPeers, IsSettled as IsSettledBehind}
+use Rattle.status_tally.specs.Doors.{IsAnswered as IsCounted, IsHeard as IsCountedOfPeers, IsSettled as IsSettledBehind, IsStopped as IsStoppedBehind}
 use Rattle.status_tally.specs.Views.{inside_of as counted_in}
 use Rattle.door_tables.proofs.Taking.{tables_are_newer}
 use Rattle.door_tables.specs.Answering.{IsAnswered as IsTabled, IsHeard as IsTabledOfPeers, IsSettled as IsSettledWithTables}
 use Rattle.door_tables.specs.Calls.{Made}
 use Rattle.door_tables.specs.Laws.{AreMade}
 use Rattle.law_serving.specs.Calls as turns
-use Rattle.law_serving.specs.Calls.{Rests, Through}
+use Rattle.law_serving.specs.Calls.{IsDone, Rests, Through}
 use Rattle.law_serving.specs.Traces.{IsOfTurn, Round}
 use Rattle.law_serving.proofs.Tracing.{rests_by}
 use Rattle.law_serving.proofs.Turning.{serving_is_a_trace}
 use Rattle.law_serving.proofs.Walking.{through_join}
 use Rattle.law_serving.proofs.Passing.{as_table_calls, called_within, hub_called, hub_rests, passed_rests, rests_in, tables_rest}
 use Rattle.law_serving.proofs.Running.{made_is_run, rests_after}
-use Rattle.law_serving.specs.Doors.{ArePassedDown, Whole, as_table_call, bounds_in, limits_in, node_in}
-use Rattle.law_serving.specs.Serving.{ServeIsARun, StoppedServeIsARun, hub_calls}
+use Rattle.law_serving.specs.Doors.{ArePassedDown, Whole, as_table_call, bounds_in, calls_of, limits_in, node_in}
+use Rattle.law_serving.specs.Serving.{ServeIsARun, hub_calls}
 
 -- ---- when the handler rests
 
@@ -181,7 +201,101 @@ module _ {R : Type 0} (is_clean is_open : R → Type 0) (content : R → Content
                     run.2.1 (down.rests (sym (hub_rests all true rest.0 through) ∙ rested));
               }
 
-          pub stopped_serve_is_a_run : {Fault : Type 0} (caused : ℕ → Fault → Type 0) → StoppedServeIsARun accepts watches connects reads writes finds Whole_handles Whole_hears Whole_settles tells is_clean is_open content caused
-          stopped_serve_is_a_run caused setting turns c c' old fault (inl cut) = inl cut
-          stopped_serve_is_a_run caused setting turns c c' old fault (inr (d, m, next, stopped)) =
-              inr (stopped.made, stopped.before, stopped.reached, stopped.fewer, stopped.cut, λ clean. serve_is_a_run setting stopped.made c stopped.before old stopped.reached (d, m, next, stopped.whole) clean)
+        -- ---- where it stops
+
+        module _ (settled : (rows : R) (c : Content) → is_open rows → may_leave rows c → c ≡ content rows) (stops : ServedNode R → KeeperFault → ServedNode R → Type 0)
+            (by_stop : (s : ServedNode R) (fault : KeeperFault) (s' : ServedNode R) → stops s fault s' → IsCutOff is_clean is_open content may_leave (keeper_of s) fault (keeper_of s')) where
+          abbrev Tables_stop : TabledNode R F → KeeperFault → TabledNode R F → Type 0
+          Tables_stop d fault d' = stops (tabled_in d) fault (tabled_in d')
+
+          abbrev Door_stops : Door R F G E W → LoggedNodeFault → Door R F G E W → Type 0
+          Door_stops d fault d' = IsStoppedBehind (IsCutOffBefore (IsCutOffLimited (IsCutOffWithin Tables_stop))) (looked_at d) fault (looked_at d')
+
+          abbrev Whole_stops : Whole R F G E W → NodeFault → Whole R F G E W → Type 0
+          Whole_stops = IsCutOffTranslated Door_stops
+
+          -- each handler hands on what the node gives where it can't settle
+          abbrev NodeStops : ServedNode R → ServedNode R → Type 0
+          NodeStops s s' = (fault : KeeperFault) × stops s fault s'
+
+          within_bounds : (d d' : BoundedNode R F G) (fault : BoundedNodeFault) → IsCutOffWithin Tables_stop d fault d' → NodeStops (tabled_in (bounded_in d)) (tabled_in (bounded_in d'))
+          within_bounds d d' of_bounds.NoMemory is = absurd is
+          within_bounds d d' (of_bounds.Inside fault) is = (fault, is)
+
+          within_limits : (d d' : LimitedNode R F G) (fault : LimitedNodeFault) → IsCutOffLimited (IsCutOffWithin Tables_stop) d fault d' → NodeStops (tabled_in (bounded_in (limited_in d))) (tabled_in (bounded_in (limited_in d')))
+          within_limits d d' of_limits.NoMemory is = absurd is
+          within_limits d d' (of_limits.Inside fault) is = within_bounds (limited_in d) (limited_in d') fault is
+
+          behind_log : (d d' : LoggedNode R F G E) (fault : LoggedNodeFault) → IsCutOffBefore (IsCutOffLimited (IsCutOffWithin Tables_stop)) d fault d'
+              → NodeStops (tabled_in (bounded_in (limited_in (logged_in d)))) (tabled_in (bounded_in (limited_in (logged_in d'))))
+          behind_log d d' of_log.NoMemory is = absurd is
+          behind_log d d' (of_log.Inside fault) is = within_limits (logged_in d) (logged_in d') fault is
+
+          node_stops : (d d' : Whole R F G E W) (fault : NodeFault) → Whole_stops d fault d' → NodeStops (node_in d) (node_in d')
+          node_stops d d' of_levels.NoMemory is = absurd is
+          node_stops d d' (of_levels.Inside fault) is = behind_log (counted_in (looked_at (translated_in d))) (counted_in (looked_at (translated_in d'))) fault is.stopped
+
+          turn_stops : (d d' : Whole R F G E W) (fault : TurnFault NodeFault) → IsUnsettled Whole_stops d d' fault → NodeStops (node_in d) (node_in d')
+          turn_stops d d' NoMemory is = absurd is
+          turn_stops d d' (Handler fault) is = node_stops d d' fault is
+
+          module _ {S L T C : Type 0}
+              (accepts : S → L → Option T → S → Type 0) (watches : S → T → Watched → Bool → S → Type 0) (connects : S → SocketAddr → Option T → S → Type 0)
+              (reads : S → T → Answer → List ℕ → S → T → Type 0) (writes : S → T → List ℕ → Answer → S → T → Type 0) (finds : S → Ready → S → Type 0) (tells : C → ℕ → C → Type 0)
+              (refuses : Whole R F G E W → Event → NodeFault → Whole R F G E W → Type 0) (declines : Whole R F G E W → PeerEvent → NodeFault → Whole R F G E W → Type 0) where
+            abbrev Goes_on : Setting L → Whole R F G E W → List (turns.Call T) → ℕ → Seat S (Whole R F G E W) T → S → Whole R F G E W → TurnFault NodeFault → Type 0
+            Goes_on setting d before at old s' h' fault =
+                Stops accepts watches connects reads writes finds Whole_handles Whole_hears Whole_settles refuses declines Whole_stops tells is_clean is_open content may_leave setting d before at old s' h' fault
+
+            goes_on : (setting : Setting L) (d : Whole R F G E W) (before : List (turns.Call T)) (at : ℕ) (old : Seat S (Whole R F G E W) T) (s' : S) (h' : Whole R F G E W) (fault : TurnFault NodeFault)
+                → Through (IsDone T Whole_handles Whole_hears Whole_settles) before d old.place.reach.near.handler
+                → IsCutTurn accepts watches connects reads writes finds Whole_handles Whole_hears Whole_settles refuses declines Whole_stops setting at old.place s' h' fault → Goes_on setting d before at old s' h' fault
+            goes_on setting d before at old s' h' fault done cut = (
+              cut,
+              λ clean.
+                  let m = old.place.reach.near.handler in
+                  let told = told_done T Whole_handles Whole_hears Whole_settles cut.told cut.reached.reach.near.handler cut.last cut.more in
+                  let rest = through_join (IsDone T Whole_handles Whole_hears Whole_settles) cut.calls (map turns.Tells cut.told) m cut.reached.reach.near.handler cut.last cut.trace.done told in
+                  let calls = before ++ (cut.calls ++ map turns.Tells cut.told) in
+                  let all = through_join (IsDone T Whole_handles Whole_hears Whole_settles) before (cut.calls ++ map turns.Tells cut.told) d m cut.last done rest in
+                  let down = passes_down (flat_map calls_of calls) d cut.last (hub_called Whole_handles Whole_hears Whole_settles calls d cut.last all) in
+                  let run = made_is_run is_clean is_open content may_leave handles hears settles goes_by takes by_clients by_tables by_peers by_commit down.made (node_in d) (node_in cut.last) down.are clean in
+                  let far = run.2.0 in
+                  record {
+                    made = down.made;
+                    passed = down.passed;
+                    answered = run.0;
+                    just = run.1;
+                    run = far;
+                    crash = λ w i begins c left. crash_before_commit is_clean is_open content may_leave settled w i far.last (keeper_of (node_in cut.last)) far.waits begins far.taken c left;
+                    amid = λ unsettled clean_then w i begins c left.
+                        let off = turn_stops cut.last h' fault unsettled in
+                        crash_amid_commit is_clean is_open content may_leave w i far.last (keeper_of (node_in cut.last)) (keeper_of (node_in h')) far.waits off.0 begins far.taken (by_stop (node_in cut.last) off.0 (node_in h') off.1) clean_then c left;
+                  },
+            )
+
+            pub stopped_serve_is_a_run : StoppedServeIsARun accepts watches connects reads writes finds Whole_handles Whole_hears Whole_settles refuses declines Whole_stops tells is_clean is_open content may_leave
+            stopped_serve_is_a_run setting turns c c' old s' h' fault (inl cut) =
+                inl (record {
+                  at = cut.at;
+                  told = cut.told;
+                  is = goes_on setting old.place.reach.near.handler [] cut.at old s' h' fault refl
+                      (cut_first accepts watches connects reads writes finds Whole_handles Whole_hears Whole_settles refuses declines Whole_stops setting cut.at s' h' fault old.place cut.is);
+                })
+            stopped_serve_is_a_run setting turns c c' old s' h' fault (inr (d, m, next, stopped)) =
+                let s = serving_is_a_trace accepts watches connects reads writes finds Whole_handles Whole_hears Whole_settles C tells setting stopped.made c stopped.before old stopped.reached (d, m, next, stopped.whole) in
+                let cut = stopped.cut in
+                inr (
+                  stopped.made,
+                  stopped.before,
+                  stopped.reached,
+                  stopped.fewer,
+                  λ clean. serve_is_a_run accepts watches connects reads writes finds tells setting stopped.made c stopped.before old stopped.reached (d, m, next, stopped.whole) clean,
+                  s,
+                  record {
+                    at = cut.at;
+                    told = cut.told;
+                    is = goes_on setting old.place.reach.near.handler (flat_map calls_in (s.first ∷ s.rounds)) cut.at stopped.reached s' h' fault s.trace.done
+                        (cut_turn accepts watches connects reads writes finds Whole_handles Whole_hears Whole_settles refuses declines Whole_stops setting cut.at s' h' fault stopped.reached cut.is);
+                  },
+                )

@@ -101,13 +101,13 @@ module _
     (reads : S → T → Answer → List ℕ → S → T → Type 0) (writes : S → T → List ℕ → Answer → S → T → Type 0) (finds : S → Ready → S → Type 0)
     (handles : H → Event → List Output → H → Type 0) (hears : H → PeerEvent → Given → H → Type 0) (settles : H → H → Type 0)
     (setting : Setting L) (at : ℕ) where
-  abbrev Made : Bool → List Event → Place S H T → Place S H T → Type 0
+  abbrev pub Made : Bool → List Event → Place S H T → Place S H T → Type 0
   Made out clock p p' = Traced accepts watches connects reads writes finds handles hears settles setting at out clock p p'
 
-  abbrev over : (out : Bool) (a b c : Place S H T) → Made out [] a b → Made out [] b c → Made out [] a c
+  abbrev pub over : (out : Bool) (a b c : Place S H T) → Made out [] a b → Made out [] b c → Made out [] a c
   over out a b c p q = trace_over accepts watches connects reads writes finds handles hears settles setting at out [] [] a b c p q
 
-  none : (out : Bool) (p p' : Place S H T) → p' ≡ p → Made out [] p p'
+  pub none : (out : Bool) (p p' : Place S H T) → p' ≡ p → Made out [] p p'
   none out p p' same = trace_none accepts watches connects reads writes finds handles hears settles setting at out p p' same
 
   module _ (out : Bool) {W : Type 0} (of : W → Place S H T) where
@@ -121,16 +121,16 @@ module _
     over_of : (a b c : W) → Made_of a b → Made_of b c → Made_of a c
     over_of a b c p q = over out (of a) (of b) (of c) p q
 
-  abbrev on_front : List (Option (Line T)) → Slab (Line T) → World S H T → Place S H T
+  abbrev pub on_front : List (Option (Line T)) → Slab (Line T) → World S H T → Place S H T
   on_front d a w = spot w.sockets w.handler w.clients d a
 
   abbrev on_links : Near H T → S × Slab (Line T) → Place S H T
   on_links n w = place w.0 n w.1
 
-  abbrev on_reach : Slab (Line T) → Reach S H T → Place S H T
+  abbrev pub on_reach : Slab (Line T) → Reach S H T → Place S H T
   on_reach a r = place r.sockets r.near a
 
-  abbrev on_search : Slab (Line T) → Search S H T → Place S H T
+  abbrev pub on_search : Slab (Line T) → Search S H T → Place S H T
   on_search a q = place q.reach.sockets q.reach.near a
 
   abbrev on_near : Slab (Line T) → S → Near H T → Place S H T
@@ -210,7 +210,7 @@ module _
   abbrev Attends_ready : Ready → Place S H T → List (Call T) → Type 0
   Attends_ready ready p calls = (name : Watched) → is_ready ready name ≡ true → Attends name p calls
 
-  taken_in : (ready : Ready) (p : Place S H T) (more : Ready) (p' : Place S H T) → IsTakenIn accepts watches reads handles hears setting at ready p more p' → (t : Made false [] p p') × Attends_ready ready p t.0
+  pub taken_in : (ready : Ready) (p : Place S H T) (more : Ready) (p' : Place S H T) → IsTakenIn accepts watches reads handles hears setting at ready p more p' → (t : Made false [] p p') × Attends_ready ready p t.0
   taken_in ready p more p' t =
       let d = p.reach.near.dialled in
       let a = p.accepted in
@@ -256,8 +256,9 @@ module _
             (attends_first (watched.Peer peer) t.listened (peers p'.reach) p' asked.0 asked_on (asked.1 peer among)))) is),
       )
 
-  decided : (a : Slab (Line T)) (q q' : Search S H T) (d : IsDecided watches connects handles hears settles setting at q q') → Made false (event at Tick ∷ []) (on_search a q) (on_reach a d.roomed)
-  decided a q q' d =
+  -- up to when the handler settles, whatever comes of that
+  pub decided : (ends : H → H → Type 0) (a : Slab (Line T)) (q q' : Search S H T) (d : IsDecided watches connects handles hears ends setting at q q') → Made false (event at Tick ∷ []) (on_search a q) (on_reach a d.roomed)
+  decided ends a q q' d =
       let searches = on_search a in
       let r = d.reached.reach in
       let dials = each_below (Made_of false searches) (none_of false searches) (over_of false searches) (IsSought connects watches hears at setting.peers.items)
@@ -287,7 +288,7 @@ module _
   abbrev Asks : List ℕ → Slab (Client T) → List (Call T) → Type 0
   Asks keys c calls = (key : ℕ) (client : Client T) → is_among keys key ≡ true → get c key ≡ Some client → client.unsent ≢ [] → IsAmong (IsWrittenTo (watched.Client key)) calls
 
-  each_wrote : (d : List (Option (Line T))) (a : Slab (Line T)) (keys : List ℕ) (w w' : World S H T) → Each (λ key v v'. IsWrote writes handles settles at key v v') keys w w'
+  pub each_wrote : (d : List (Option (Line T))) (a : Slab (Line T)) (keys : List ℕ) (w w' : World S H T) → Each (λ key v v'. IsWrote writes handles settles at key v v') keys w w'
       → (t : Made true [] (on_front d a w) (on_front d a w')) × Asks keys w.clients t.0
   each_wrote d a [] w w' same = (none true (on_front d a w) (on_front d a w') (ap (on_front d a) same), λ key client among found waits. absurd cc)
   each_wrote d a (k ∷ keys) w w' all =
@@ -309,7 +310,7 @@ module _
           let among_rest : is_among keys key ≡ true = sym (ap (λ (b : Bool). b || is_among keys key) apart.0) ∙ among in
           among_right (IsWrittenTo (watched.Client key)) one.0.0 rest.0.0 (rest.1 key still.0 among_rest still.1 still.2)
 
-  given_out : (a : Slab (Line T)) (r r' : Reach S H T) (g : IsGivenOut writes handles settles setting at r r') → (t : Made true [] (on_reach a r) (on_reach a r')) × Asks g.due r.near.clients t.0
+  pub given_out : (a : Slab (Line T)) (r r' : Reach S H T) (g : IsGivenOut writes handles settles setting at r r') → (t : Made true [] (on_reach a r) (on_reach a r')) × Asks g.due r.near.clients t.0
   given_out a r r' g =
       let n = g.served.near in
       let clients = on_front r.near.dialled a in
@@ -373,7 +374,7 @@ module _
       let a = turn.taken.accepted in
       let d = turn.decides in
       let first = taken_in old.ready old.place turn.more turn.taken turn.takes_in in
-      let next = decided a (search turn.taken.reach.sockets turn.taken.reach.near old.sought) (search turn.settled.sockets turn.settled.near new.sought) d in
+      let next = decided settles a (search turn.taken.reach.sockets turn.taken.reach.near old.sought) (search turn.settled.sockets turn.settled.near new.sought) d in
       let before = trace_over accepts watches connects reads writes finds handles hears settles setting at false [] (event at Tick ∷ []) old.place turn.taken (on_reach a d.roomed) first.0 next in
       let n = d.roomed.near in
       let h' = turn.settled.near.handler in

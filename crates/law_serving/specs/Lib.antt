@@ -7,6 +7,7 @@ pub mod Reaching
 pub mod Serving
 pub mod Settling
 pub mod Sockets
+pub mod Stopping
 pub mod Tabled
 pub mod Traces
 pub mod Turns

@@ -1,5 +1,5 @@
 -- Serving over sockets as a run of the node among the others.
-use Rattle.std.specs.Prelude.{◌≡◌, ◌<◌, ◌⊎◌, ℕ, List, [], ◌∷◌, ◌++◌, flat_map, Bool, Option}
+use Rattle.std.specs.Prelude.{◌≡◌, ◌<◌, ℕ, List, [], ◌∷◌, ◌++◌, flat_map, Bool, Option}
 use Rattle.std.specs.declared.net.socket_addr.SocketAddr.{SocketAddr}
 use Rattle.broker_sockets.specs.declared.bridge.Given.{Given}
 use Rattle.broker_sockets.specs.declared.bridge.PeerEvent.{PeerEvent}
@@ -9,7 +9,7 @@ use Rattle.broker_sockets.specs.declared.network.Answer.{Answer}
 use Rattle.broker_sockets.specs.declared.ready.Ready.{Ready}
 use Rattle.broker_sockets.specs.declared.ready.Watched.{Watched}
 use Rattle.broker_turns.specs.declared.setting.Setting.{Setting}
-use Rattle.broker_turns.specs.Serving.{IsCut, IsServed, IsUnserved}
+use Rattle.broker_turns.specs.Serving.{IsServed}
 use Rattle.broker_turns.specs.Turns.{IsStart, IsTurn, Site as Seat}
 use Rattle.cluster_play.specs.Worlds.{World, world_with}
 use Rattle.law_doors.specs.Calls.{Call}
@@ -91,12 +91,3 @@ module _
       → IsServed tells (IsStart handles) (IsTurn accepts watches connects reads writes finds handles hears settles setting) turns c old c' new
       → is_clean (rows_in (keeper_of (node_in new.place.reach.near.handler)))
       → IsServedRun setting turns c old c' new
-
-  -- where one of them stops, at the start or in a turn, those before it are so
-  abbrev pub StoppedServeIsARun : {Fault : Type 0} → (ℕ → Fault → Type 0) → Type 0
-  StoppedServeIsARun {Fault = Fault} caused =
-      (setting : Setting L) (turns : ℕ) (c c' : C) (old : Seat S (Whole R F G E W) T) (fault : Fault)
-      → IsUnserved tells (IsStart handles) (IsTurn accepts watches connects reads writes finds handles hears settles setting) caused turns c old c' fault
-      → IsCut tells caused c c' fault
-      ⊎ ((made : ℕ) × (d : C) × (last : Seat S (Whole R F G E W) T) × (made < turns) × IsCut tells caused d c' fault
-      × (is_clean (rows_in (keeper_of (node_in last.place.reach.near.handler))) → IsServedRun setting made c old d last))

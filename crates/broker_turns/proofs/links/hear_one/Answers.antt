@@ -1,0 +1,12 @@
+use Rattle.broker_turns.proofs.Breaking.{broken_memory_err, tells_peer}
+use Rattle.broker_turns.proofs.links.hear_one.Goals as goal
+
+pub returns-in_err-release-in-Ok-clause-fault : goal.returns-in_err-release-in-Ok-clause-fault
+returns-in_err-release-in-Ok-clause-fault g c =
+    broken_memory_err g.H.Handler.handles g.H.BridgeHandler.hears g.H.Handler.refuses g.H.BridgeHandler.declines c.args.event.at c.from_residual.result c.args.handler.now c.hear.new.self c.from_residual.ensures.1
+    (tells_peer g.H.Handler.handles g.H.BridgeHandler.hears c.args.handler.now c.args.event c.in-Ok.given c.hear.new.self c.in-Ok.ensures.ok)
+
+pub returns-in_err-give-in-Ok-clause-fault : goal.returns-in_err-give-in-Ok-clause-fault
+returns-in_err-give-in-Ok-clause-fault g c =
+    broken_memory_err g.H.Handler.handles g.H.BridgeHandler.hears g.H.Handler.refuses g.H.BridgeHandler.declines c.args.event.at c.from_residual-in_err-give-in-Ok.result c.args.handler.now c.hear.new.self c.from_residual-in_err-give-in-Ok.ensures.1
+    (tells_peer g.H.Handler.handles g.H.BridgeHandler.hears c.args.handler.now c.args.event c.in-Ok.given c.hear.new.self c.in-Ok.ensures.ok)
