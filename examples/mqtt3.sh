@@ -125,19 +125,30 @@ session() {
     check "$1, a session" "session 1 0 one,session 2 0 two" "$(got session)"
 }
 
-# A client of MQTT 5.0 takes over the session of a client of an earlier version: it gets what was subscribed to before. That one stands still, so that it
+# What asks for a session that lasts, in a version.
+lasting() {
+    if [ "$1" = 5 ]; then
+        echo -c -x 100
+    else
+        echo -c
+    fi
+}
+
+# A client of the version $2 takes over the session of a client of the version $1: it gets what was subscribed to before. That one stands still, so that it
 # doesn't connect again.
 takeover() {
     local before
-    listen before -V "$1" -c -i mover -q 1 -t moved
+    # shellcheck disable=SC2046
+    listen before -V "$1" $(lasting "$1") -i mover -q 1 -t moved
     before=$listener
     kill -STOP "$(pgrep -P "$before" mosquitto_sub)"
-    listen after -V 5 -c -x 100 -i mover -q 1 -t moved/too -C 1
+    # shellcheck disable=SC2046
+    listen after -V "$2" $(lasting "$2") -i mover -q 1 -t moved/too -C 1
     kill -9 "$(pgrep -P "$before" mosquitto_sub)"
     wait "$before" 2> "$work/kill"
     publish -V "$1" -q 1 -t moved -m one
     wait "$listener"
-    check "$1, whose session a client of 5 takes over" "moved 1 0 one" "$(got after)"
+    check "$1, whose session a client of $2 takes over" "moved 1 0 one" "$(got after)"
 }
 
 # A shared group with a client of each of two versions.
@@ -233,7 +244,8 @@ for version in mqttv311 mqttv31; do
     retained "$version"
     will "$version"
     session "$version"
-    takeover "$version"
+    takeover "$version" 5
+    takeover 5 "$version"
     shared "$version"
     for says in true false; do
         bridge "$version" "$says"
