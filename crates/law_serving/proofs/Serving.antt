@@ -1,5 +1,5 @@
 -- Turns of the program are a run of the served node behind its handlers.
-use Rattle.std.proofs.Common.{◌≡◌, ◌<◌, ℕ, List, [], ◌∷◌, map, Bool, true, Option, length, refl, sym, subst, ◌∙◌, inl, inr, arith}
+use Rattle.std.proofs.Common.{◌≡◌, ◌<◌, ℕ, List, [], ◌∷◌, ◌++◌, map, Bool, true, Option, length, refl, sym, subst, ◌∙◌, inl, inr, arith}
 use Rattle.std.specs.Prelude.{flat_map}
 use Rattle.std.specs.List.{AllByRecursion}
 use Rattle.std.specs.declared.net.socket_addr.SocketAddr.{SocketAddr}
@@ -85,6 +85,43 @@ module _ {T : Type 0} where
       last : (more : List (Round T)) (after : Bool) → Through Rests (flat_map calls_in more) true after → (0 < length more → after ≡ true) → after ≡ true
       last [] after same some = same
       last (r ∷ more) after through some = some (omega arith)
+
+-- ---- each handler hands on what the node gives where it can't settle
+
+module _ {R F : Type 0} (stops : ServedNode R → KeeperFault → ServedNode R → Type 0) where
+  abbrev Tables_stop : TabledNode R F → KeeperFault → TabledNode R F → Type 0
+  Tables_stop d fault d' = stops (tabled_in d) fault (tabled_in d')
+
+  abbrev NodeStops : TabledNode R F → TabledNode R F → Type 0
+  NodeStops d d' = (fault : KeeperFault) × stops (tabled_in d) fault (tabled_in d')
+
+  module _ {G : Type 0} where
+    within_bounds : (d d' : BoundedNode R F G) (fault : BoundedNodeFault) → IsCutOffWithin Tables_stop d fault d' → NodeStops (bounded_in d) (bounded_in d')
+    within_bounds d d' of_bounds.NoMemory is = absurd is
+    within_bounds d d' (of_bounds.Inside fault) is = (fault, is)
+
+    within_limits : (d d' : LimitedNode R F G) (fault : LimitedNodeFault) → IsCutOffLimited (IsCutOffWithin Tables_stop) d fault d' → NodeStops (bounded_in (limited_in d)) (bounded_in (limited_in d'))
+    within_limits d d' of_limits.NoMemory is = absurd is
+    within_limits d d' (of_limits.Inside fault) is = within_bounds (limited_in d) (limited_in d') fault is
+
+    behind_log : {E : Type 0} (d d' : LoggedNode R F G E) (fault : LoggedNodeFault) → IsCutOffBefore (IsCutOffLimited (IsCutOffWithin Tables_stop)) d fault d' → NodeStops (bounded_in (limited_in (logged_in d))) (bounded_in (limited_in (logged_in d')))
+    behind_log d d' of_log.NoMemory is = absurd is
+    behind_log d d' (of_log.Inside fault) is = within_limits (logged_in d) (logged_in d') fault is
+
+    module _ {E W : Type 0} where
+      abbrev Door_stops : Door R F G E W → LoggedNodeFault → Door R F G E W → Type 0
+      Door_stops d fault d' = IsStoppedBehind (IsCutOffBefore (IsCutOffLimited (IsCutOffWithin Tables_stop))) (looked_at d) fault (looked_at d')
+
+      abbrev Whole_stops : Whole R F G E W → NodeFault → Whole R F G E W → Type 0
+      Whole_stops d fault d' = IsCutOffTranslated Door_stops d fault d'
+
+      node_stops : (d d' : Whole R F G E W) (fault : NodeFault) → Whole_stops d fault d' → NodeStops (bounded_in (bounds_in d)) (bounded_in (bounds_in d'))
+      node_stops d d' of_levels.NoMemory is = absurd is
+      node_stops d d' (of_levels.Inside fault) is = behind_log (counted_in (looked_at (translated_in d))) (counted_in (looked_at (translated_in d'))) fault is.stopped
+
+      turn_stops : (d d' : Whole R F G E W) (fault : TurnFault NodeFault) → IsUnsettled Whole_stops d d' fault → NodeStops (bounded_in (bounds_in d)) (bounded_in (bounds_in d'))
+      turn_stops d d' NoMemory is = absurd is
+      turn_stops d d' (Handler fault) is = node_stops d d' fault is
 
 -- ---- each handler settles where it is asked to
 
@@ -205,51 +242,17 @@ module _ {R : Type 0} (is_clean is_open : R → Type 0) (content : R → Content
 
         module _ (settled : (rows : R) (c : Content) → is_open rows → may_leave rows c → c ≡ content rows) (stops : ServedNode R → KeeperFault → ServedNode R → Type 0)
             (by_stop : (s : ServedNode R) (fault : KeeperFault) (s' : ServedNode R) → stops s fault s' → IsCutOff is_clean is_open content may_leave (keeper_of s) fault (keeper_of s')) where
-          abbrev Tables_stop : TabledNode R F → KeeperFault → TabledNode R F → Type 0
-          Tables_stop d fault d' = stops (tabled_in d) fault (tabled_in d')
-
-          abbrev Door_stops : Door R F G E W → LoggedNodeFault → Door R F G E W → Type 0
-          Door_stops d fault d' = IsStoppedBehind (IsCutOffBefore (IsCutOffLimited (IsCutOffWithin Tables_stop))) (looked_at d) fault (looked_at d')
-
-          abbrev Whole_stops : Whole R F G E W → NodeFault → Whole R F G E W → Type 0
-          Whole_stops = IsCutOffTranslated Door_stops
-
-          -- each handler hands on what the node gives where it can't settle
-          abbrev NodeStops : ServedNode R → ServedNode R → Type 0
-          NodeStops s s' = (fault : KeeperFault) × stops s fault s'
-
-          within_bounds : (d d' : BoundedNode R F G) (fault : BoundedNodeFault) → IsCutOffWithin Tables_stop d fault d' → NodeStops (tabled_in (bounded_in d)) (tabled_in (bounded_in d'))
-          within_bounds d d' of_bounds.NoMemory is = absurd is
-          within_bounds d d' (of_bounds.Inside fault) is = (fault, is)
-
-          within_limits : (d d' : LimitedNode R F G) (fault : LimitedNodeFault) → IsCutOffLimited (IsCutOffWithin Tables_stop) d fault d' → NodeStops (tabled_in (bounded_in (limited_in d))) (tabled_in (bounded_in (limited_in d')))
-          within_limits d d' of_limits.NoMemory is = absurd is
-          within_limits d d' (of_limits.Inside fault) is = within_bounds (limited_in d) (limited_in d') fault is
-
-          behind_log : (d d' : LoggedNode R F G E) (fault : LoggedNodeFault) → IsCutOffBefore (IsCutOffLimited (IsCutOffWithin Tables_stop)) d fault d'
-              → NodeStops (tabled_in (bounded_in (limited_in (logged_in d)))) (tabled_in (bounded_in (limited_in (logged_in d'))))
-          behind_log d d' of_log.NoMemory is = absurd is
-          behind_log d d' (of_log.Inside fault) is = within_limits (logged_in d) (logged_in d') fault is
-
-          node_stops : (d d' : Whole R F G E W) (fault : NodeFault) → Whole_stops d fault d' → NodeStops (node_in d) (node_in d')
-          node_stops d d' of_levels.NoMemory is = absurd is
-          node_stops d d' (of_levels.Inside fault) is = behind_log (counted_in (looked_at (translated_in d))) (counted_in (looked_at (translated_in d'))) fault is.stopped
-
-          turn_stops : (d d' : Whole R F G E W) (fault : TurnFault NodeFault) → IsUnsettled Whole_stops d d' fault → NodeStops (node_in d) (node_in d')
-          turn_stops d d' NoMemory is = absurd is
-          turn_stops d d' (Handler fault) is = node_stops d d' fault is
-
           module _ {S L T C : Type 0}
               (accepts : S → L → Option T → S → Type 0) (watches : S → T → Watched → Bool → S → Type 0) (connects : S → SocketAddr → Option T → S → Type 0)
               (reads : S → T → Answer → List ℕ → S → T → Type 0) (writes : S → T → List ℕ → Answer → S → T → Type 0) (finds : S → Ready → S → Type 0) (tells : C → ℕ → C → Type 0)
               (refuses : Whole R F G E W → Event → NodeFault → Whole R F G E W → Type 0) (declines : Whole R F G E W → PeerEvent → NodeFault → Whole R F G E W → Type 0) where
             abbrev Goes_on : Setting L → Whole R F G E W → List (turns.Call T) → ℕ → Seat S (Whole R F G E W) T → S → Whole R F G E W → TurnFault NodeFault → Type 0
             Goes_on setting d before at old s' h' fault =
-                Stops accepts watches connects reads writes finds Whole_handles Whole_hears Whole_settles refuses declines Whole_stops tells is_clean is_open content may_leave setting d before at old s' h' fault
+                Stops accepts watches connects reads writes finds Whole_handles Whole_hears Whole_settles refuses declines (Whole_stops stops) tells is_clean is_open content may_leave setting d before at old s' h' fault
 
             goes_on : (setting : Setting L) (d : Whole R F G E W) (before : List (turns.Call T)) (at : ℕ) (old : Seat S (Whole R F G E W) T) (s' : S) (h' : Whole R F G E W) (fault : TurnFault NodeFault)
                 → Through (IsDone T Whole_handles Whole_hears Whole_settles) before d old.place.reach.near.handler
-                → IsCutTurn accepts watches connects reads writes finds Whole_handles Whole_hears Whole_settles refuses declines Whole_stops setting at old.place s' h' fault → Goes_on setting d before at old s' h' fault
+                → IsCutTurn accepts watches connects reads writes finds Whole_handles Whole_hears Whole_settles refuses declines (Whole_stops stops) setting at old.place s' h' fault → Goes_on setting d before at old s' h' fault
             goes_on setting d before at old s' h' fault done cut = (
               cut,
               λ clean.
@@ -269,18 +272,18 @@ module _ {R : Type 0} (is_clean is_open : R → Type 0) (content : R → Content
                     run = far;
                     crash = λ w i begins c left. crash_before_commit is_clean is_open content may_leave settled w i far.last (keeper_of (node_in cut.last)) far.waits begins far.taken c left;
                     amid = λ unsettled clean_then w i begins c left.
-                        let off = turn_stops cut.last h' fault unsettled in
+                        let off = turn_stops stops cut.last h' fault unsettled in
                         crash_amid_commit is_clean is_open content may_leave w i far.last (keeper_of (node_in cut.last)) (keeper_of (node_in h')) far.waits off.0 begins far.taken (by_stop (node_in cut.last) off.0 (node_in h') off.1) clean_then c left;
                   },
             )
 
-            pub stopped_serve_is_a_run : StoppedServeIsARun accepts watches connects reads writes finds Whole_handles Whole_hears Whole_settles refuses declines Whole_stops tells is_clean is_open content may_leave
+            pub stopped_serve_is_a_run : StoppedServeIsARun accepts watches connects reads writes finds Whole_handles Whole_hears Whole_settles refuses declines (Whole_stops stops) tells is_clean is_open content may_leave
             stopped_serve_is_a_run setting turns c c' old s' h' fault (inl cut) =
                 inl (record {
                   at = cut.at;
                   told = cut.told;
                   is = goes_on setting old.place.reach.near.handler [] cut.at old s' h' fault refl
-                      (cut_first accepts watches connects reads writes finds Whole_handles Whole_hears Whole_settles refuses declines Whole_stops setting cut.at s' h' fault old.place cut.is);
+                      (cut_first accepts watches connects reads writes finds Whole_handles Whole_hears Whole_settles refuses declines (Whole_stops stops) setting cut.at s' h' fault old.place cut.is);
                 })
             stopped_serve_is_a_run setting turns c c' old s' h' fault (inr (d, m, next, stopped)) =
                 let s = serving_is_a_trace accepts watches connects reads writes finds Whole_handles Whole_hears Whole_settles C tells setting stopped.made c stopped.before old stopped.reached (d, m, next, stopped.whole) in
@@ -296,6 +299,6 @@ module _ {R : Type 0} (is_clean is_open : R → Type 0) (content : R → Content
                     at = cut.at;
                     told = cut.told;
                     is = goes_on setting old.place.reach.near.handler (flat_map calls_in (s.first ∷ s.rounds)) cut.at stopped.reached s' h' fault s.trace.done
-                        (cut_turn accepts watches connects reads writes finds Whole_handles Whole_hears Whole_settles refuses declines Whole_stops setting cut.at s' h' fault stopped.reached cut.is);
+                        (cut_turn accepts watches connects reads writes finds Whole_handles Whole_hears Whole_settles refuses declines (Whole_stops stops) setting cut.at s' h' fault stopped.reached cut.is);
                   },
                 )

@@ -1,5 +1,5 @@
 -- Serving that stops is a run that a crash ends.
-use Rattle.std.proofs.Common.{◌≡◌, ◌⊎◌, ℕ, zero, List, [], ◌∷◌, ◌++◌, map, Bool, true, false, Option, Some, refl, sym, subst, ap, ◌∙◌, inl, inr}
+use Rattle.std.proofs.Common.{◌≡◌, ◌⊎◌, ℕ, zero, List, [], ◌∷◌, ◌++◌, map, Bool, true, false, Option, Some, refl, sym, subst, ◌∙◌, inl, inr}
 use Rattle.std.specs.declared.net.socket_addr.SocketAddr.{SocketAddr}
 use Rattle.slab.specs.Slab.{get}
 use Rattle.broker_sockets.specs.declared.bridge.Given.{Given}
@@ -19,7 +19,7 @@ use Rattle.broker_turns.specs.Connections.{World, event}
 use Rattle.broker_turns.specs.Handling.{AreTold, Told}
 use Rattle.broker_turns.specs.Handling.Told.{Of_client}
 use Rattle.broker_turns.specs.Turns.{IsDecided, IsTakenIn, Site, front}
-use Rattle.law_serving.specs.Calls.{Call, IsAt, IsDone, Rests, Settles, Tells, Through}
+use Rattle.law_serving.specs.Calls.{IsAt, IsDone, Rests, Settles, Tells, Through}
 use Rattle.law_serving.specs.Stopping.{IsCutTurn, IsSince}
 use Rattle.law_serving.specs.Traces.{IsTrace}
 use Rattle.law_serving.proofs.Tracing.{Walks, rests_by, trace_join, trace_over}
