@@ -57,6 +57,16 @@ examine() {
     fi
 }
 
+# Whether node $1 answers a request whose Host is $2 by the code $3.
+answers() {
+    local code
+    code=$(curl -s -o "$work/answer" -m 10 -w '%{http_code}' -H "Host: $2" "http://$(place "$1")/healthz")
+    if [ "$code" != "$3" ]; then
+        echo "n$1: a request by the host $2 has the answer $code, and not $3"
+        failed=1
+    fi
+}
+
 # What a node tells of itself and its peers, of its metrics.
 show() {
     local node
@@ -76,6 +86,9 @@ listen 1
 await_gates 200 0 1 2
 echo '--- all run'
 show 0 1 2
+answers 0 n0:8083 200
+answers 0 localhost 200
+answers 0 other.example 421
 
 kill_node n2
 echo '--- n2 is killed, and two messages are retained'

@@ -1,5 +1,5 @@
 -- What is read in the head of a frame's bytes.
-use Rattle.std.proofs.Common.{◌≡◌, ◌∙◌, ℕ, ◌<◌, ◌^◌, Bool, Some, true, false, ap}
+use Rattle.std.proofs.Common.{◌≡◌, ◌∙◌, ℕ, ◌<◌, ◌^◌, Some, true, false, ap}
 use Rattle.std.proofs.lemmas.Nat.{from_be_bytes-to_be_bytes_2}
 use Rattle.bridge_frames.specs.Frames.{Frame, content, spelling}
 use Rattle.bridge_frames.specs.declared.body.FrameBody.{FrameBody}

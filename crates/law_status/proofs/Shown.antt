@@ -1,5 +1,5 @@
 -- What the figures of a node say of its cluster is so.
-use Rattle.std.proofs.Common.{◌≡◌, ◌∙◌, ℕ, ◌<◌, ◌==◌, ◌&&◌, Bool, true, false, cond, List, length, map, Option, Some, None, get_or, eqb, refl, sym, ap, subst, arith}
+use Rattle.std.proofs.Common.{◌≡◌, ◌∙◌, ℕ, ◌<◌, ◌==◌, ◌&&◌, Bool, true, false, cond, List, length, map, Option, Some, None, get_or, refl, sym, ap, subst, arith}
 use Rattle.std.specs.Prelude.{Contains, is_none, not}
 use Rattle.std.specs.List.{list_all}
 use Rattle.std.specs.Cmp.{both_ways}
@@ -8,23 +8,19 @@ use Rattle.std.proofs.lemmas.Bool.{eqb-true}
 use Rattle.std.proofs.lemmas.Bool.Decides.{nat_tests}
 use Rattle.std.proofs.lemmas.List.{get_or-map, length-map}
 use Rattle.std.proofs.lemmas.List.Folds.{list_all_at}
-use Rattle.causal_context.specs.Dots.{Dot, Dots, dot_cmp}
+use Rattle.causal_context.specs.Dots.{Dots, dot_cmp}
 use Rattle.causal_context.specs.SetLattice.{IsSubset}
-use Rattle.cluster_play.specs.Agreement.{AreAlike, Holds}
-use Rattle.cluster_play.specs.Histories.{Reached, taken}
-use Rattle.cluster_play.specs.Runs.{Played}
+use Rattle.cluster_play.specs.Histories.{taken}
 use Rattle.cluster_play.specs.Worlds.{World}
 use Rattle.cluster_play.proofs.Agreeing.{nodes_alike}
 use Rattle.cluster_play.proofs.Believing.{lacks_nothing_there}
-use Rattle.node_figures.specs.Counts.{lacking}
 use Rattle.node_figures.proofs.Counting.{none_lacks}
 use Rattle.node_bridge.specs.View.{BridgeView, belief_of, has_lanes, known_of, lane_to}
 use Rattle.node_figures.specs.Peers.{Seen, lacking_by, missing_by, others, peer_at, seen, waiting_of}
-use Rattle.node_work.specs.View.{HeldView}
 use Rattle.status_figures.specs.Figures.{agrees, all_agree, has_room, is_caught_up, is_equal, is_short}
 use Rattle.status_figures.specs.declared.figures.Figures.{Figures}
 use Rattle.status_figures.specs.declared.peer.Peer.{Peer}
-use Rattle.law_status.specs.Agreeing.{BothEqualAgree, CaughtUpIsSo, EqualHasNoMore, EqualIsSo, HasAllOf, HasWhatItKnows, Shows}
+use Rattle.law_status.specs.Agreeing.{BothEqualAgree, CaughtUpIsSo, EqualHasNoMore, EqualIsSo, HasAllOf, Shows}
 
 -- ---- what isn't lacking is known
 

@@ -47,8 +47,8 @@ impl NodeTeller {
 }
 
 /// Why what is found where tables of homes come from isn't taken, where it isn't.
-fn refusal_of<R: RowStore, F: Tables, G, E>(handler: &TalliedNode<R, F, G, E>) -> Option<&str> {
-    match handler.inside().inside().inside().inside().tables() {
+fn refusal_of<F: Tables>(tables: Option<&F>) -> Option<&str> {
+    match tables {
         Some(tables) => tables.refusal(),
         None => None,
     }
@@ -69,10 +69,18 @@ impl<R: RowStore, F: Tables, G, E> Teller<TalliedNode<R, F, G, E>> for NodeTelle
         let Some(tally) = handler.tally() else {
             return Ok(None);
         };
-        let node = handler.inside().inside().inside().inside().inside().node();
-        let name = self.name.as_str();
-        let refusal = refusal_of(handler);
-        match figures_of(alloc, name, self.since, node, tally, refusal, at) {
+        let tabled = handler.inside().inside().inside().inside();
+        let refusal = refusal_of(tabled.tables());
+        let node = tabled.inside().node();
+        match figures_of(
+            alloc,
+            self.name.as_str(),
+            self.since,
+            node,
+            tally,
+            refusal,
+            at,
+        ) {
             Ok(figures) => Ok(Some(figures)),
             Err(_) => Err(AllocError),
         }
