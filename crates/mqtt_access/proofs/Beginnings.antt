@@ -1,14 +1,14 @@
 -- A filter that matches a topic begins as it does.
-use Rattle.std.proofs.Common.{◌≡◌, ◌≢◌, ◌⊎◌, inl, inr, ℕ, Bool, true, false, not, ◌&&◌, ◌||◌, List, [], ◌∷◌, refl, sym, ◌∙◌, ap, subst, Option, None, eq-eqb}
+use Rattle.std.proofs.Common.{◌≡◌, inl, inr, ℕ, true, false, ◌||◌, List, [], ◌∷◌, refl, sym, ◌∙◌, ap, None, eq-eqb}
 use Rattle.std.specs.Prelude.{◌==◌}
 use Rattle.std.specs.Str.{bytes_eq}
 use Rattle.std.proofs.lemmas.Bool.{eqb-true}
 use Rattle.std.proofs.lemmas.List.Splits.{slice_split-cons_yes}
 use Rattle.mqtt_topics.specs.Levels.{is_separator, is_wildcard, levels, multi_level, single_level}
-use Rattle.mqtt_access.specs.Comparing.{begins_alike, is_multi, is_single, is_wild, matches_topic, name_matches}
+use Rattle.mqtt_access.specs.Comparing.{begins_alike, is_multi, is_single, matches_topic, name_matches}
 use Rattle.mqtt_access.specs.Filled.{filled_places, filter_levels}
 use Rattle.mqtt_access.specs.declared.filled.RuleFilter.{RuleFilter}
-use Rattle.mqtt_access.proofs.FirstLevels.{IsAfter, after, has_first}
+use Rattle.mqtt_access.proofs.FirstLevels.{after, has_first}
 use Rattle.mqtt_access.proofs.Tests.{and_both, and_first, and_second, by_test, false_of, never, or_either, or_left, or_right, same, tests_same, false_or_true}
 
 -- a level that begins with no wildcard is none

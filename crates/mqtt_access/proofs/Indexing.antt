@@ -13,7 +13,7 @@ use Rattle.mqtt_access.specs.declared.index.RuleIndex.{RuleIndex}
 use Rattle.mqtt_access.specs.declared.rule.Access.{Access}
 use Rattle.mqtt_access.specs.declared.rule.Access.TheVariants.{Read, Write, ReadWrite, Deny}
 use Rattle.mqtt_access.specs.declared.rule.Scope.{Scope}
-use Rattle.mqtt_access.specs.declared.rule.Scope.TheVariants.{Nameless, User, Pattern}
+use Rattle.mqtt_access.specs.declared.rule.Scope.TheVariants.{Nameless, User}
 use Rattle.mqtt_access.specs.declared.rule.TopicRule.{TopicRule}
 use Rattle.mqtt_access.proofs.Tests.{by_test, false_of, false_or_true, same, tests_same}
 
