@@ -1,5 +1,5 @@
 -- What the files of users and of permissions give a client.
-use Rattle.std.specs.Prelude.{◌≡◌, ℕ, List, Bool, true, false, Option, Some, None, if◌then◌else◌}
+use Rattle.std.specs.Prelude.{◌≡◌, ℕ, List, Bool, true, false, Option, Some, None, Ok, Err, if◌then◌else◌}
 use Rattle.door_packets.specs.Rights.{Rights}
 use Rattle.door_packets.specs.declared.access.Admission.{Admission}
 use Rattle.door_packets.specs.declared.access.Admission.TheVariants as admissions
@@ -9,8 +9,11 @@ use Rattle.mqtt_access.specs.Rules.{Asked, may, may_connect}
 use Rattle.mqtt_access.specs.Rules.Asked.{ToRead, ToSubscribe, ToWrite}
 use Rattle.mqtt_access.specs.declared.index.RuleIndex.{RuleIndex}
 use Rattle.mqtt_access.specs.declared.permissions.Permissions.{Permissions}
-use Rattle.door_users.specs.Accounts.{Account}
+use Rattle.door_users.specs.Accounts.{Account, accounts_of}
 use Rattle.door_users.specs.Admitting.{entry_of}
+use Rattle.door_users.specs.Rules.{rules_of}
+use Rattle.door_users.specs.declared.fault.AccessFault.{AccessFault}
+use Rattle.door_users.specs.declared.fault.AccessFault.TheVariants as faults
 use Rattle.door_users.specs.declared.file_access.FileAccess.{FileAccess}
 use Rattle.door_users.specs.declared.users.Entry.{Entry}
 use Rattle.door_users.specs.declared.users.Entry.TheVariants.{Admitted, WrongPassword}
@@ -44,6 +47,39 @@ pub record AreRights (users : List Account) (rules : Option Permissions) (anonym
   pub writes : (l : Login) (topic : List ℕ) → r.may_write l topic ≡ may_at rules l (ToWrite topic)
   pub reads : (l : Login) (topic : List ℕ) → r.may_read l topic ≡ may_at rules l (ToRead topic)
   pub subscribes : (l : Login) (filter : List ℕ) → r.may_subscribe l filter ≡ may_at rules l (ToSubscribe filter)
+
+-- ---- by the texts of the files
+
+abbrev pub AreRulesIf : Option (List ℕ) → Option Permissions → Type 0
+AreRulesIf None None = Unit {0}
+AreRulesIf None (Some rules) = ⊥
+AreRulesIf (Some text) None = ⊥
+AreRulesIf (Some text) (Some rules) = rules_of text ≡ Ok (rules.topics.items, rules.clients.items)
+
+-- who may come and do what is what the texts of the files say
+pub record AreOfFiles (users : List ℕ) (permissions : Option (List ℕ)) (anonymous : Bool) (r : Rights) : Type 0 where
+  pub accounts : List Account
+  pub rules : Option Permissions
+  pub users_are : accounts_of users ≡ Ok accounts
+  pub rules_are : AreRulesIf permissions rules
+  pub rights : AreRights accounts rules anonymous r
+
+-- the line that is told has that flaw, and no earlier one has any
+abbrev pub IsOfUsers : List ℕ → AccessFault → Type 0
+IsOfUsers text faults.NoMemory = Unit {0}
+IsOfUsers text (faults.Users number flaw) = accounts_of text ≡ Err (number, flaw)
+IsOfUsers text (faults.Permissions number flaw) = ⊥
+
+abbrev pub IsOfPermissions : Option (List ℕ) → AccessFault → Type 0
+IsOfPermissions text faults.NoMemory = Unit {0}
+IsOfPermissions text (faults.Users number flaw) = ⊥
+IsOfPermissions None (faults.Permissions number flaw) = ⊥
+IsOfPermissions (Some text) (faults.Permissions number flaw) = rules_of text ≡ Err (number, flaw)
+
+abbrev pub IsFault : List ℕ → Option (List ℕ) → AccessFault → Type 0
+IsFault users permissions faults.NoMemory = Unit {0}
+IsFault users permissions (faults.Users number flaw) = IsOfUsers users (faults.Users number flaw)
+IsFault users permissions (faults.Permissions number flaw) = IsOfPermissions permissions (faults.Permissions number flaw)
 
 -- ---- by the users that they are for
 

@@ -2,6 +2,7 @@
 
 ghost use Rattle.std.specs.Prelude.{◌≡◌, Some};
 ghost use Rattle.door_users.specs.Flaws.{fault_text, flaw_text};
+ghost use Rattle.door_users.specs.declared.fault.AccessFault.TheVariants as access;
 ghost use Rattle.door_users.specs.declared.fault.Unread.TheVariants as unread;
 
 use mqtt_fields::NoMemory;
@@ -55,6 +56,14 @@ pub enum Unread {
 pub enum FileFault {
     NoMemory,
     Line(u64, LineFlaw),
+}
+
+/// Why the two files can't be taken: want of memory, or the first line with a flaw of one of them, by its number from 1.
+#[derive(Clone, Copy, Debug, PartialEq, Eq)]
+pub enum AccessFault {
+    NoMemory,
+    Users(u64, LineFlaw),
+    Permissions(u64, LineFlaw),
 }
 
 /// What is wrong, in words.
@@ -124,5 +133,13 @@ impl<T: Drop> From<AllocFailed<T>> for Unread {
 
     fn from(_e: AllocFailed<T>) -> Unread {
         Unread::NoMemory
+    }
+}
+
+impl From<NoMemory> for AccessFault {
+    ghost from_gives = { λ _ e. e ≡ access.NoMemory };
+
+    fn from(_e: NoMemory) -> AccessFault {
+        AccessFault::NoMemory
     }
 }

@@ -1,9 +1,13 @@
 //! What the files say of clients.
 
-ghost use Rattle.std.specs.Prelude.{◌≡◌, IfOk};
+ghost use Rattle.std.specs.Prelude.{◌≡◌, IfErr, IfOk, Ok};
+ghost use Rattle.std.specs.Option.{option_copied};
 ghost use Rattle.mqtt_access.specs.Rules.{asked_of};
-ghost use Rattle.door_users.specs.Files.{AreRights, IsIndexIf, entry_as, may_by, password_at, rights_of};
+ghost use Rattle.door_users.specs.Accounts.{accounts_of};
+ghost use Rattle.door_users.specs.Files.{AreOfFiles, AreRights, AreRulesIf, IsFault, IsIndexIf, IsOfPermissions, IsOfUsers, entry_as, may_by, password_at, rights_of};
 
+use crate::fault::{AccessFault, FileFault};
+use crate::rules::read_permissions;
 use crate::users::{Entry, Users};
 use door_packets::{Access, Admission, Login};
 use mqtt_access::{Permissions, Request, RuleIndex};
@@ -47,6 +51,22 @@ impl FileAccess {
         })
     }
 
+    /// Who may come and what each may do by the texts of a file of users and of a file of permissions; without the second all. With `anonymous` a client
+    /// without a user name is let in too. A fault names the first line with a flaw, in the file of users before the other one.
+    pub fn read(
+        alloc: Global,
+        users: &str,
+        permissions: Option<&str>,
+        anonymous: bool,
+    ) -> Result<FileAccess, AccessFault>
+        ensures exact { IfOk result (λ f. AreOfFiles users.now (option_copied permissions.entry) anonymous (rights_of f)) }
+        ensures fault { IfErr result (λ fault. IsFault users.now (option_copied permissions.entry) fault) }
+    {
+        let users = users_in(alloc, users)?;
+        let rules = rules_in(alloc, permissions)?;
+        Ok(FileAccess::new(alloc, users, rules, anonymous)?)
+    }
+
     /// Whether a client may do what it asks for.
     fn may(&self, login: &Login, request: Request) -> bool
         ensures { result ≡ may_by self.now.rules login.now (asked_of request.entry) }
@@ -55,6 +75,33 @@ impl FileAccess {
             None => true,
             Some(rules) => rules.may(&login.user, login.client.as_str(), request),
         }
+    }
+}
+
+/// The users of a file's text.
+fn users_in(alloc: Global, text: &str) -> Result<Users, AccessFault>
+    ensures users { IfOk result (λ users. accounts_of text.now ≡ Ok users) }
+    ensures fault { IfErr result (λ fault. IsOfUsers text.now fault) }
+{
+    match Users::parse(alloc, text) {
+        Ok(users) => Ok(users),
+        Err(FileFault::NoMemory) => Err(AccessFault::NoMemory),
+        Err(FileFault::Line(number, flaw)) => Err(AccessFault::Users(number, flaw)),
+    }
+}
+
+/// The rules of a file's text, if there is one.
+fn rules_in(alloc: Global, text: Option<&str>) -> Result<Option<Permissions>, AccessFault>
+    ensures rules { IfOk result (λ rules. AreRulesIf (option_copied text.entry) rules) }
+    ensures fault { IfErr result (λ fault. IsOfPermissions (option_copied text.entry) fault) }
+{
+    let Some(text) = text else {
+        return Ok(None);
+    };
+    match read_permissions(alloc, text) {
+        Ok(rules) => Ok(Some(rules)),
+        Err(FileFault::NoMemory) => Err(AccessFault::NoMemory),
+        Err(FileFault::Line(number, flaw)) => Err(AccessFault::Permissions(number, flaw)),
     }
 }
 

@@ -13,8 +13,8 @@ mod rules;
 mod users;
 
 pub use account::Account;
-pub use fault::{FileFault, LineFlaw, Unread};
+pub use fault::{AccessFault, FileFault, LineFlaw, Unread};
 pub use file_access::FileAccess;
-pub use password::{DEFAULT_ITERATIONS, MOST_ITERATIONS, user_line};
+pub use password::{DEFAULT_ITERATIONS, MOST_ITERATIONS, is_user_name, user_line};
 pub use rules::read_permissions;
 pub use users::{Entry, Users};

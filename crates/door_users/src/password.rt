@@ -2,7 +2,8 @@
 
 ghost use Rattle.std.specs.Prelude.{◌≡◌, ◌<◌, ◌≤◌, IfOk};
 ghost use Rattle.std.specs.String.{string_bytes};
-ghost use Rattle.door_users.specs.Writing.{line_for};
+ghost use Rattle.std.specs.List.{list_any};
+ghost use Rattle.door_users.specs.Writing.{is_mark, is_user_name, line_for};
 
 use base64::engine::general_purpose::STANDARD;
 use mqtt_access::pbkdf2_hmac_sha512;
@@ -13,6 +14,25 @@ pub const MOST_ITERATIONS: u32 = 100000;
 
 /// The iterations of a line that is made here, and those that an unknown user name takes.
 pub const DEFAULT_ITERATIONS: u32 = 101;
+
+/// Whether a line of a file of users may have this name: it isn't empty, has at most 65,535 bytes and no colon, line feed or U+0000, doesn't begin with `#`,
+/// and no white space stands at its ends.
+pub fn is_user_name(name: &str) -> bool
+    ensures { result ≡ is_user_name name.now }
+{
+    !name.is_empty()
+        && name.len() < 65_536
+        && !name.starts_with("#")
+        && name.trim() == name
+        && !has_mark(name.as_bytes())
+}
+
+/// Whether there is a colon, a line feed or U+0000.
+fn has_mark(name: &[u8]) -> bool
+    ensures { result ≡ list_any is_mark name.now }
+{
+    name.iter().any(|b| *b == b':' || *b == b'\n' || *b == 0)
+}
 
 /// The line of a user: its name, and the hash of its password with this salt.
 pub fn user_line(
