@@ -9,7 +9,7 @@ use Rattle.mqtt_packets.specs.declared.packet.Packet.{Packet}
 use Rattle.mqtt_packets.specs.declared.packet.Packet.TheVariants as packets
 use Rattle.mqtt_packets.specs.declared.publish.Publish.{Publish}
 use Rattle.mqtt_packets.specs.declared.subscribe.Subscribe.{Subscribe}
-use Rattle.mqtt_bounds.specs.Laws.{more, more_at}
+use Rattle.mqtt_bounds.specs.PieceLaws.{more, more_at}
 use Rattle.mqtt_bounds.specs.Pieces.{Cut, before, cut, cut_within, ends_at, front_at}
 use Rattle.mqtt_bounds.specs.declared.cut.End.{End}
 use Rattle.mqtt_bounds.specs.declared.cut.End.TheVariants as ends

@@ -9,3 +9,4 @@ pub mod Paths
 pub mod Restaging
 pub mod Steps
 pub mod Theirs
+pub mod Told

@@ -37,7 +37,7 @@ of_it : (c : ℕ) (n : Notice) → cond (c == c) (n ∷ []) [] ≡ n ∷ []
 of_it c n = ap (λ (b : Bool). cond b (n ∷ []) []) (itself c)
 
 some_stage : (x stage : Stage) → Some x ≡ Some stage → x ≡ stage
-some_stage x stage e = same_Some x stage
+some_stage x stage e = same_Some x stage e
 
 none_of : (y : Option Client) → option_map (λ (x : Client). x.stage) y ≡ None → y ≡ None
 none_of None e = refl

@@ -15,14 +15,15 @@ use Rattle.mqtt_packets.specs.declared.packet.Packet.TheVariants as packets
 use Rattle.mqtt_packets.specs.declared.publish.Publish.{Publish}
 use Rattle.mqtt_packets.specs.declared.subscribe.Subscribe.{Subscribe}
 use Rattle.mqtt_packets.specs.declared.subscribe.SubscribeFilter.{SubscribeFilter}
-use Rattle.mqtt_bounds.specs.Laws.{Ends}
+use Rattle.mqtt_bounds.specs.PieceLaws.{Ends}
 use Rattle.mqtt_bounds.specs.Pieces.{Cut, cut}
 use Rattle.mqtt_bounds.specs.declared.cut.End.{End}
 use Rattle.mqtt_bounds.specs.declared.cut.End.TheVariants as ends
 use Rattle.mqtt_bounds.proofs.Ends.{cut_ends}
 use Rattle.door_packets.specs.Answers.{connack, disconnect, pubrec}
-use Rattle.door_guard.specs.Laws.{AreReadable, IsAnswer, IsFreed, IsLet, IsNoConnect, IsReadLet, IsUnread, MayGoOut, MayReceive, MaySay, MaySend, MayTell, OnlyTheirs, login_of}
-use Rattle.door_guard.specs.Laws.IsAnswer as answers
+use Rattle.door_guard.specs.Laws.{AreReadable, IsFreed, IsLet, IsNoConnect, IsReadLet, IsUnread, MayGoOut, MayReceive, MaySay, MaySend, MayTell, OnlyTheirs, login_of}
+use Rattle.door_guard.specs.Replies.{IsAnswer}
+use Rattle.door_guard.specs.Replies.Answer as answers
 use Rattle.door_packets.specs.Packets.{Aliases, aliases_after, cleaned, code_by, codes_of, connect_code, filter_code, has_topic, is_alias_allowed, alias_of, is_allowed, is_asked, is_will_allowed, publish_step, refusal, refusal_at, smaller, subscribe_step, suback_step}
 use Rattle.door_packets.specs.Codes.{merged}
 use Rattle.door_packets.specs.Packets.{login_of as names_of}
@@ -199,11 +200,11 @@ topic_case false may other e is = absurd cc
 
 again_step : (r : Rights) (l : Option Login) (p : Publish) (dup : Bool) → StepLet r l (cond dup steps.Ends (steps.Acks (pubrec p.identifier)))
 again_step r l p true = tt
-again_step r l p false = answers.Receives p.identifier
+again_step r l p false = (answers.Receives p.identifier, refl)
 
 refused_step : (r : Rights) (l : Option Login) (p : Publish) (qos : Qos) → StepLet r l (refusal_at qos p)
 refused_step r l p AtMostOnce = tt
-refused_step r l p AtLeastOnce = answers.Acknowledges p.identifier
+refused_step r l p AtLeastOnce = (answers.Acknowledges p.identifier, refl)
 refused_step r l p ExactlyOnce = again_step r l p p.dup
 
 publish_let : (r : Rights) (w : Walked) (bs rest : List ℕ) (p : Publish) (l : Login) (allowed : Bool) → packet_at bs ≡ Ok (Some (packets.Publish p, rest)) → is_allowed r l w.client.aliases p ≡ allowed
@@ -262,7 +263,7 @@ subscribe_case : (r : Rights) (l : Login) (bs rest : List ℕ) (s : Subscribe) (
     → StepLet r (Some l) (cond none (steps.Tells bs) (cond some (suback_step s.identifier (codes_of r l s.filters))
     (steps.Asks (packets.Subscribe (smaller r l s)) (Some (record { identifier = s.identifier; codes = codes_of r l s.filters })))))
 subscribe_case r l bs rest s true some e is = read_let r (Some l) bs (subst (ReadOf r (Some l)) (sym e) (all_asked r l s.filters is))
-subscribe_case r l bs rest s false true e is = answers.Subscribes s.identifier (merged (codes_of r l s.filters) [])
+subscribe_case r l bs rest s false true e is = (answers.Subscribes s.identifier (merged (codes_of r l s.filters) []), refl)
 subscribe_case r l bs rest s false false e is = some_asked r l s.filters
 
 with_good_step : (r : Rights) (w : Walked) (step : Step) → w.client.stage ≡ stages.Open → IsWalkGood r w → StepLet r w.client.login step → IsWalkGood r (with_step w step)
@@ -387,7 +388,7 @@ left_good : (r : Rights) (x : Held) → IsHeldGood r x → EffectGood r x.client
 left_good r x good = record {
   held = record { client = record { staged = tt }; todo = good.todo };
   told = tt;
-  out = (inr answers.Ends, (tt, tt));
+  out = (inr (answers.Ends, refl), (tt, tt));
 }
 
 spaced_good : (r : Rights) (n : ℕ) (x : Held) (stage : Stage) → x.client.stage ≡ stage → IsHeldGood r x → EffectGood r x.client.login (spaced_by n x stage)
@@ -410,7 +411,7 @@ done_good r x more (steps.Asks p a) good one all = record { held = record { clie
 done_good r x more (steps.Acks bs) good one all = record { held = record { client = good; todo = all }; told = tt; out = (inr one, tt) }
 done_good r x more (steps.Subacks bs n) good one all = record { held = record { client = good; todo = all }; told = tt; out = (inr one, tt) }
 done_good r x more steps.Drops good one all = record { held = record { client = good; todo = all }; told = tt; out = tt }
-done_good r x more (steps.TurnsAway code) good one all = record { held = tt; told = tt; out = (inr (answers.TurnsAway code), (tt, tt)) }
+done_good r x more (steps.TurnsAway code) good one all = record { held = tt; told = tt; out = (inr (answers.TurnsAway code, refl), (tt, tt)) }
 done_good r x more steps.Ends good one all = left_good r (record { client = x.client; doing = record { todo = more; awaited = None } }) (record { client = good; todo = all })
 
 does_good : (r : Rights) (x : Held) (todo : List Step) → IsGood r x.client.stage x.client.login → AllByRecursion (StepLet r x.client.login) todo → IsHeldGood r x → EffectGood r x.client.login (does_next x todo)

@@ -12,9 +12,9 @@ use Rattle.mqtt_packets.specs.declared.packet.Packet.TheVariants as packets
 use Rattle.mqtt_packets.specs.declared.publish.Publish.{Publish}
 use Rattle.mqtt_bounds.specs.Pieces.{cut, front_at}
 use Rattle.mqtt_bounds.specs.declared.front.Front.TheVariants as fronts
-use Rattle.door_packets.specs.Answers.{connack, disconnect, puback, pubrec, suback}
 use Rattle.door_guard.specs.Calls.{AreMade, Call, given_of, noted_of}
 use Rattle.door_guard.specs.Clients.{client_of, login_at}
+use Rattle.door_guard.specs.Replies.{IsAnswer}
 use Rattle.door_packets.specs.Packets.{has_topic, is_will_allowed}
 use Rattle.door_packets.specs.Packets.{login_of as names_of}
 use Rattle.door_packets.specs.Rights.{Rights}
@@ -149,14 +149,6 @@ MayReceive r l p = (x : Login) × (l ≡ Some x) × (r.may_read x p.topic ≡ tr
 pub record AreReadable (r : Rights) (l : Option Login) (bs : List ℕ) : Type 0 where
   pub whole : (cut 268435460 bs).rest ≡ []
   pub each : AllByRecursion (λ x. (p : Publish) (rest : List ℕ) → packet_at x ≡ Ok (Some (packets.Publish p, rest)) → MayReceive r l p) (cut 268435460 bs).packets
-
--- what is sent in place of the handler inside
-pub data IsAnswer : List ℕ → Type 0 where
-  TurnsAway : (code : ℕ) → IsAnswer (connack code)
-  Ends : IsAnswer disconnect
-  Acknowledges : (identifier : ℕ) → IsAnswer (puback identifier)
-  Receives : (identifier : ℕ) → IsAnswer (pubrec identifier)
-  Subscribes : (identifier : ℕ) (codes : List ℕ) → IsAnswer (suback identifier codes)
 
 abbrev pub MayGoOut : Rights → Option Login → Outgoing → Type 0
 MayGoOut r l (Bytes bs) = AreReadable r l bs ⊎ IsAnswer bs

@@ -6,6 +6,7 @@ pub mod Doing
 pub mod Faults
 pub mod Giving
 pub mod Laws
+pub mod Replies
 pub mod Stages
 pub mod Telling
 pub mod Views

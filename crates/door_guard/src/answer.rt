@@ -104,14 +104,16 @@ fn take_bytes<H: Handler, A: Access>(
     ensures ok { OnOk result (IsMet H.handles (A.rights access.now) place.0 (λ q. noted q (Piece place.1 bytes)) inside.old inside.new known.old.clients known.new.clients outputs.old.items outputs.new.items) }
     ensures fault { IfErr result (IsStopped H.handles H.refuses inside.old inside.new) }
 {
-    let Some(client) = known.clients.take(place.1) else {
-        return Ok(());
-    };
-    let walk = come(alloc, access, &known.marks, client, &bytes)?;
-    let Walk { client, steps } = walk;
-    forget(&mut known.marks, &client);
-    known.clients.put(place.1, client)?;
-    do_steps(alloc, access, inside, known, place, steps, outputs)
+    match known.clients.take(place.1) {
+        None => Ok(()),
+        Some(client) => {
+            let walk = come(alloc, access, &known.marks, client, &bytes)?;
+            let Walk { client, steps } = walk;
+            forget(&mut known.marks, &client);
+            known.clients.put(place.1, client)?;
+            do_steps(alloc, access, inside, known, place, steps, outputs)
+        }
+    }
 }
 
 /// Takes an event.
