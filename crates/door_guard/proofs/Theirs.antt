@@ -23,7 +23,7 @@ use Rattle.mqtt_bounds.proofs.Ends.{cut_ends}
 use Rattle.door_packets.specs.Answers.{connack, disconnect, pubrec}
 use Rattle.door_guard.specs.Laws.{AreReadable, IsFreed, IsLet, IsNoConnect, IsReadLet, IsUnread, MayGoOut, MayReceive, MaySay, MaySend, MayTell, OnlyTheirs, login_of}
 use Rattle.door_guard.specs.Replies.{IsAnswer}
-use Rattle.door_guard.specs.Replies.Answer as answers
+use Rattle.door_guard.specs.Replies.Answer.{Acknowledges, Ends as EndsIt, Receives, Subscribes, TurnsAway}
 use Rattle.door_packets.specs.Packets.{Aliases, aliases_after, cleaned, code_by, codes_of, connect_code, filter_code, has_topic, is_alias_allowed, alias_of, is_allowed, is_asked, is_will_allowed, publish_step, refusal, refusal_at, smaller, subscribe_step, suback_step}
 use Rattle.door_packets.specs.Codes.{merged}
 use Rattle.door_packets.specs.Packets.{login_of as names_of}
@@ -32,8 +32,8 @@ use Rattle.door_packets.specs.Sending.{is_readable, may_receive, mended, readabl
 use Rattle.door_streams.specs.Going.{is_nothing, may_go, may_go_cut}
 use Rattle.door_guard.specs.Stages.{Doing, Effect, Happening, Held, Outgoing, Said, after, closed, done, does, does_next, effect, ends, gets, gone_at, gone_by, got, held_after, idle, leaves, quiet, rests, says, sends, spaced, spaced_by, working}
 use Rattle.door_guard.specs.Stages.Happening.{Opens, Goes, Spaces, Comes, Does, Rests, Gets, Closes, Leaves}
-use Rattle.door_guard.specs.Stages.Notice as notices
-use Rattle.door_guard.specs.Stages.Outgoing as outs
+use Rattle.door_guard.specs.Stages.Notice.{Gone}
+use Rattle.door_guard.specs.Stages.Outgoing.{Bytes, End as EndOf}
 use Rattle.door_guard.specs.Stages.Said.{Same, Made}
 use Rattle.door_packets.specs.Walk.{Walked, at_stage, begun, connect_step, entered, entered_by, entered_with, fresh, is_leaving, let_in, next, next_by, publish_noted, published_by, stage_by, started, subscribed_by, told_first, took, took_at, walked, with_login, with_step}
 use Rattle.door_streams.specs.Coming.{come, come_at, come_on, ended, finished, is_open, kept, limit, unread, unread_at}
@@ -181,8 +181,8 @@ entered_case r marked w room bs rest (packets.Unsubscribe u) e good none = first
 entered_case r marked w room bs rest (packets.Unsuback s) e good none = first_good r w room bs good none (read_let r None bs (subst (ReadOf r None) (sym e) tt))
 entered_case r marked w room bs rest packets.Pingreq e good none = first_good r w room bs good none (read_let r None bs (subst (ReadOf r None) (sym e) tt))
 entered_case r marked w room bs rest packets.Pingresp e good none = first_good r w room bs good none (read_let r None bs (subst (ReadOf r None) (sym e) tt))
-entered_case r marked w room bs rest (packets.Disconnect e) e good none = first_good r w room bs good none (read_let r None bs (subst (ReadOf r None) (sym e) tt))
-entered_case r marked w room bs rest (packets.Auth e) e good none = first_good r w room bs good none (read_let r None bs (subst (ReadOf r None) (sym e) tt))
+entered_case r marked w room bs rest (packets.Disconnect p) e good none = first_good r w room bs good none (read_let r None bs (subst (ReadOf r None) (sym e) tt))
+entered_case r marked w room bs rest (packets.Auth p) e good none = first_good r w room bs good none (read_let r None bs (subst (ReadOf r None) (sym e) tt))
 entered_case r marked w room bs rest (packets.Publish p) e good none = first_good r w room bs good none (read_let r None bs (subst (ReadOf r None) (sym e) tt))
 entered_case r marked w room bs rest (packets.Subscribe s) e good none = first_good r w room bs good none (read_let r None bs (subst (ReadOf r None) (sym e) tt))
 
@@ -200,11 +200,11 @@ topic_case false may other e is = absurd cc
 
 again_step : (r : Rights) (l : Option Login) (p : Publish) (dup : Bool) → StepLet r l (cond dup steps.Ends (steps.Acks (pubrec p.identifier)))
 again_step r l p true = tt
-again_step r l p false = (answers.Receives p.identifier, refl)
+again_step r l p false = (Receives p.identifier, refl)
 
 refused_step : (r : Rights) (l : Option Login) (p : Publish) (qos : Qos) → StepLet r l (refusal_at qos p)
 refused_step r l p AtMostOnce = tt
-refused_step r l p AtLeastOnce = (answers.Acknowledges p.identifier, refl)
+refused_step r l p AtLeastOnce = (Acknowledges p.identifier, refl)
 refused_step r l p ExactlyOnce = again_step r l p p.dup
 
 publish_let : (r : Rights) (w : Walked) (bs rest : List ℕ) (p : Publish) (l : Login) (allowed : Bool) → packet_at bs ≡ Ok (Some (packets.Publish p, rest)) → is_allowed r l w.client.aliases p ≡ allowed
@@ -263,7 +263,7 @@ subscribe_case : (r : Rights) (l : Login) (bs rest : List ℕ) (s : Subscribe) (
     → StepLet r (Some l) (cond none (steps.Tells bs) (cond some (suback_step s.identifier (codes_of r l s.filters))
     (steps.Asks (packets.Subscribe (smaller r l s)) (Some (record { identifier = s.identifier; codes = codes_of r l s.filters })))))
 subscribe_case r l bs rest s true some e is = read_let r (Some l) bs (subst (ReadOf r (Some l)) (sym e) (all_asked r l s.filters is))
-subscribe_case r l bs rest s false true e is = (answers.Subscribes s.identifier (merged (codes_of r l s.filters) []), refl)
+subscribe_case r l bs rest s false true e is = (Subscribes s.identifier (merged (codes_of r l s.filters) []), refl)
 subscribe_case r l bs rest s false false e is = some_asked r l s.filters
 
 with_good_step : (r : Rights) (w : Walked) (step : Step) → w.client.stage ≡ stages.Open → IsWalkGood r w → StepLet r w.client.login step → IsWalkGood r (with_step w step)
@@ -303,8 +303,8 @@ next_case r w bs rest (packets.Unsubscribe u) e opened good = tells_good r w bs 
 next_case r w bs rest (packets.Unsuback s) e opened good = tells_good r w bs (Ok (Some (packets.Unsuback s, rest))) e opened good (λ l. tt)
 next_case r w bs rest packets.Pingreq e opened good = tells_good r w bs (Ok (Some (packets.Pingreq, rest))) e opened good (λ l. tt)
 next_case r w bs rest packets.Pingresp e opened good = tells_good r w bs (Ok (Some (packets.Pingresp, rest))) e opened good (λ l. tt)
-next_case r w bs rest (packets.Disconnect e) e opened good = tells_good r w bs (Ok (Some (packets.Disconnect e, rest))) e opened good (λ l. tt)
-next_case r w bs rest (packets.Auth e) e opened good = tells_good r w bs (Ok (Some (packets.Auth e, rest))) e opened good (λ l. tt)
+next_case r w bs rest (packets.Disconnect p) e opened good = tells_good r w bs (Ok (Some (packets.Disconnect p, rest))) e opened good (λ l. tt)
+next_case r w bs rest (packets.Auth p) e opened good = tells_good r w bs (Ok (Some (packets.Auth p, rest))) e opened good (λ l. tt)
 
 next_good : (r : Rights) (w : Walked) (bs : List ℕ) (x : Result (Option (Packet × List ℕ)) PacketFault) → packet_at bs ≡ x → w.client.stage ≡ stages.Open → IsWalkGood r w → IsWalkGood r (next r w bs x)
 next_good r w bs (Ok (Some (p, rest))) e opened good = next_case r w bs rest p e opened good
@@ -388,7 +388,7 @@ left_good : (r : Rights) (x : Held) → IsHeldGood r x → EffectGood r x.client
 left_good r x good = record {
   held = record { client = record { staged = tt }; todo = good.todo };
   told = tt;
-  out = (inr (answers.Ends, refl), (tt, tt));
+  out = (inr (EndsIt, refl), (tt, tt));
 }
 
 spaced_good : (r : Rights) (n : ℕ) (x : Held) (stage : Stage) → x.client.stage ≡ stage → IsHeldGood r x → EffectGood r x.client.login (spaced_by n x stage)
@@ -411,7 +411,7 @@ done_good r x more (steps.Asks p a) good one all = record { held = record { clie
 done_good r x more (steps.Acks bs) good one all = record { held = record { client = good; todo = all }; told = tt; out = (inr one, tt) }
 done_good r x more (steps.Subacks bs n) good one all = record { held = record { client = good; todo = all }; told = tt; out = (inr one, tt) }
 done_good r x more steps.Drops good one all = record { held = record { client = good; todo = all }; told = tt; out = tt }
-done_good r x more (steps.TurnsAway code) good one all = record { held = tt; told = tt; out = (inr (answers.TurnsAway code, refl), (tt, tt)) }
+done_good r x more (steps.TurnsAway code) good one all = record { held = tt; told = tt; out = (inr (TurnsAway code, refl), (tt, tt)) }
 done_good r x more steps.Ends good one all = left_good r (record { client = x.client; doing = record { todo = more; awaited = None } }) (record { client = good; todo = all })
 
 does_good : (r : Rights) (x : Held) (todo : List Step) → IsGood r x.client.stage x.client.login → AllByRecursion (StepLet r x.client.login) todo → IsHeldGood r x → EffectGood r x.client.login (does_next x todo)
@@ -454,7 +454,7 @@ gone_good r l stages.Open = (tt, tt)
 gone_good r l stages.Over = (tt, tt)
 gone_good r l stages.Leaving = (tt, tt)
 
-closed_good : (r : Rights) (l : Option Login) (b : Bool) → AllByRecursion (MayGoOut r l) (cond b [] (outs.End ∷ []))
+closed_good : (r : Rights) (l : Option Login) (b : Bool) → AllByRecursion (MayGoOut r l) (cond b [] (EndOf ∷ []))
 closed_good r l true = tt
 closed_good r l false = (tt, tt)
 
@@ -483,7 +483,7 @@ effect_good r None Closes good = record { held = tt; told = tt; out = tt }
 effect_good r (Some x) Closes good = record { held = tt; told = tt; out = closed_good r x.client.login (is_leaving x.client) }
 effect_good r None Leaves good = quiet_good r None None tt
 effect_good r (Some x) Leaves good =
-    if_good r x.client.login (is_leaving x.client) (says None (Same notices.Gone)) (quiet (Some x)) (record { held = tt; told = (tt, tt); out = tt }) (quiet_good r x.client.login (Some x) good)
+    if_good r x.client.login (is_leaving x.client) (says None (Same Gone)) (quiet (Some x)) (record { held = tt; told = (tt, tt); out = tt }) (quiet_good r x.client.login (Some x) good)
 
 all_good : (r : Rights) (s : Option Held) (hs : List Happening) → Good r s → Good r (held_after r s hs)
 all_good r s [] good = good
@@ -599,7 +599,7 @@ some_stays r x (Gets bytes) l good e =
     let put : List ℕ = mended x.doing.awaited bytes in
     stays_if x.client.login (is_leaving x.client) (quiet (Some x)) (got r x put) (inl refl) (stays_if x.client.login (may_go r x.client.login put) (sends (Some x) put) (ends x) (inl refl) (inl refl))
 some_stays r x Closes l good e = inr (refl, tt)
-some_stays r x Leaves l good e = stays_if x.client.login (is_leaving x.client) (says None (Same notices.Gone)) (quiet (Some x)) (inr (refl, tt)) (inl refl)
+some_stays r x Leaves l good e = stays_if x.client.login (is_leaving x.client) (says None (Same Gone)) (quiet (Some x)) (inr (refl, tt)) (inl refl)
 
 held_stays : (r : Rights) (s : Option Held) (h : Happening) (l : Login) → Good r s → login_of s ≡ Some l → Stays (Some l) (effect r s h).held
 held_stays r None h l good e = absurd (none_some l e)

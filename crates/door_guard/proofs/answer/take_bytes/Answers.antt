@@ -9,8 +9,8 @@ pub returns-in-None-clause-ok : goal.returns-in-None-clause-ok
 returns-in-None-clause-ok g c =
     came_none g.H.Handler.handles (g.A.Access.rights c.args.access.now) c.args.place.0 c.args.place.1 c.args.bytes c.args.inside.now c.args.known.now.clients c.take.new.self c.args.outputs.now.items c.in-None.ensures.found c.take.ensures.left
 
-pub returns-in-Some-clause-ok : goal.returns-in-Some-clause-ok
-returns-in-Some-clause-ok g c =
+pub returns-clause-ok : goal.returns-clause-ok
+returns-clause-ok g c =
     let rights = g.A.Access.rights c.args.access.now in
     let marked = is_marked c.args.known.now.marks in
     if_ok c.do_steps.result
