@@ -10,7 +10,7 @@ use Rattle.mqtt_packets.specs.declared.packet.Packet.TheVariants as packets
 use Rattle.mqtt_packets.specs.declared.publish.Publish.{Publish}
 use Rattle.mqtt_packets.specs.declared.subscribe.Subscribe.{Subscribe}
 use Rattle.mqtt_bounds.specs.PieceLaws.{more, more_at}
-use Rattle.mqtt_bounds.specs.Pieces.{Cut, before, cut, cut_within, ends_at, front_at}
+use Rattle.mqtt_bounds.specs.Pieces.{Cut, cut, ends_at, front_at}
 use Rattle.mqtt_bounds.specs.declared.cut.End.{End}
 use Rattle.mqtt_bounds.specs.declared.cut.End.TheVariants as ends
 use Rattle.mqtt_bounds.proofs.Growing.{cut_waits, cuts_alike}
@@ -20,8 +20,8 @@ use Rattle.door_packets.specs.declared.access.Admission.TheVariants.{Admitted, W
 use Rattle.door_packets.specs.declared.access.Login.{Login}
 use Rattle.door_packets.specs.Packets.{code_by, connect_code, is_allowed, is_will_allowed, publish_step}
 use Rattle.door_packets.specs.Packets.{login_of as names_of}
-use Rattle.door_packets.specs.Walk.{Walked, at_stage, begun, connect_step, entered, entered_by, entered_with, fresh, is_leaving, left, let_in, next, next_by, published_by, stage_by, started, subscribed_by, told_first, took, took_at, walked, with_step}
-use Rattle.door_streams.specs.Coming.{come_at, come_on, ended, finished, kept, limit, unread, unread_at}
+use Rattle.door_packets.specs.Walk.{Walked, begun, entered, entered_by, entered_with, fresh, is_leaving, left, next, next_by, published_by, stage_by, started, subscribed_by, told_first, took, took_at, walked, with_step}
+use Rattle.door_streams.specs.Coming.{come_at, come_on, ended, kept, limit, unread_at}
 use Rattle.door_packets.specs.declared.client.Client.{Client}
 use Rattle.door_packets.specs.declared.client.Stage.{Stage}
 use Rattle.door_packets.specs.declared.client.Stage.TheVariants as stages

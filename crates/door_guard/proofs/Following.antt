@@ -1,22 +1,20 @@
 -- Calls, one after another, and what happens on each connection.
-use Rattle.std.proofs.Common.{◌≡◌, ℕ, List, [], ◌∷◌, ◌++◌, Option, Some, None, refl, sym, ap, subst, ◌∙◌, append_assoc}
+use Rattle.std.proofs.Common.{◌≡◌, ℕ, List, [], ◌∷◌, ◌++◌, Option, Some, None, refl, sym, ap, subst, ◌∙◌}
 use Rattle.std.proofs.lemmas.List.{append-nil}
 use Rattle.std.proofs.lemmas.Grind.{flat_map-append}
 use Rattle.std.proofs.lemmas.Option.{same_Some}
 use Rattle.broker_sockets.specs.declared.bridge.Given.{Given}
 use Rattle.broker_sockets.specs.declared.bridge.PeerEvent.{PeerEvent}
 use Rattle.broker_sockets.specs.declared.events.Event.{Event}
-use Rattle.broker_sockets.specs.declared.events.EventKind.{EventKind}
 use Rattle.broker_sockets.specs.declared.events.Output.{Output}
 use Rattle.door_guard.specs.Answering.{IsAnswered, IsAnsweredIf, IsGuarded, IsHeard, IsHeardIf, IsPassedOn, IsSettled}
 use Rattle.door_guard.specs.Calls.{AreMade, Call, IsMade, given_at, given_of, noted_at, noted_of}
 use Rattle.door_guard.specs.Calls.Call.{Handled, Heard, Settled}
 use Rattle.door_guard.specs.Clients.{client_of}
-use Rattle.door_guard.specs.Laws.{EachIsFollowed, IsFollowed}
+use Rattle.door_guard.specs.Laws.{EachIsFollowed}
 use Rattle.door_packets.specs.Rights.{Rights}
 use Rattle.door_guard.specs.Stages.{Held, IsPath, Notice, Outgoing, at, held_after, held_by, idle, none_busy, noted, on, staged, todo_of}
-use Rattle.door_guard.specs.Telling.{AreGiven, ArePaths, AreTold, IsMet, Stages, Told, given_by, none, noted_in}
-use Rattle.door_packets.specs.declared.client.Client.{Client}
+use Rattle.door_guard.specs.Telling.{ArePaths, AreTold, IsMet, Stages, Told, given_by, none, noted_in}
 use Rattle.door_guard.specs.declared.clients.Clients.{Clients}
 use Rattle.door_guard.specs.declared.door.Door.{Door}
 use Rattle.door_guard.specs.declared.guarded.Guarded.{Guarded}

@@ -17,17 +17,16 @@ use Rattle.door_guard.specs.Stages.{AreSaid, Doing, Effect, Happening, Held, Not
 use Rattle.door_guard.specs.Stages.Happening.{Opens, Goes, Spaces, Comes, Leaves}
 use Rattle.door_guard.specs.Stages.Notice.{Open, Gone, Space, Piece}
 use Rattle.door_guard.specs.Stages.Said.{Same}
-use Rattle.door_guard.specs.Telling.{AreDone, AreGiven, ArePaths, IsMet, IsPart, IsTold, Stages, given_by, none, noted_in}
-use Rattle.door_packets.specs.Walk.{Walked, fresh, is_leaving}
+use Rattle.door_guard.specs.Telling.{AreDone, AreGiven, ArePaths, IsMet, IsPart, IsTold, Stages, none}
+use Rattle.door_packets.specs.Walk.{Walked, fresh}
 use Rattle.door_streams.specs.Coming.{come}
 use Rattle.door_packets.specs.declared.client.Client.{Client}
 use Rattle.door_packets.specs.declared.client.Stage.{Stage}
 use Rattle.door_packets.specs.declared.client.Stage.TheVariants as stages
 use Rattle.door_guard.specs.declared.clients.Clients.{Clients}
-use Rattle.door_packets.specs.declared.codes.Awaited.{Awaited}
 use Rattle.door_guard.specs.declared.door.Door.{Door}
 use Rattle.door_packets.specs.declared.step.Step.{Step}
-use Rattle.door_guard.proofs.Paths.{IsApart, at_idle, but_then, idle_todo, itself, one, part_as, part_quiet, part_then, paths_as, paths_at, paths_none, paths_then, staged_but, staged_here, staged_there}
+use Rattle.door_guard.proofs.Paths.{at_idle, but_then, idle_todo, itself, one, part_as, part_quiet, part_then, paths_as, paths_at, paths_none, paths_then, staged_but, staged_here, staged_there}
 
 -- an event of one connection alone
 of_one : (c q : ℕ) (n : Notice) → (c == q) ≡ false → cond (c == q) (n ∷ []) [] ≡ []

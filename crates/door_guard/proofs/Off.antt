@@ -1,6 +1,5 @@
 -- Without users.
-use Rattle.std.proofs.Common.{◌≡◌, List, Option, Some, None, refl, sym, subst, ◌∙◌}
-use Rattle.std.specs.Prelude.{◌↔◌}
+use Rattle.std.proofs.Common.{List, Option, sym, subst, ◌∙◌}
 use Rattle.broker_sockets.specs.declared.bridge.Given.{Given}
 use Rattle.broker_sockets.specs.declared.bridge.PeerEvent.{PeerEvent}
 use Rattle.broker_sockets.specs.declared.events.Event.{Event}
@@ -9,9 +8,7 @@ use Rattle.door_guard.specs.Answering.{IsAnswered, IsAnsweredIf, IsHeard, IsHear
 use Rattle.door_guard.specs.Faults.{IsCutOff, IsDeclined, IsDeclinedIf, IsRefused, IsRefusedIf}
 use Rattle.door_guard.specs.Laws.{NoUsersChangeNothing, NoUsersNoFaults}
 use Rattle.door_packets.specs.Rights.{Rights}
-use Rattle.door_guard.specs.declared.guarded.Guarded.{Guarded}
 use Rattle.door_guard.specs.declared.door.Door.{Door}
-use Rattle.door_guard.specs.declared.fault.GuardFault.{GuardFault}
 use Rattle.door_guard.specs.declared.fault.GuardFault.TheVariants.{NoMemory, Inside}
 
 module _ {H A : Type 0} (handles : H → Event → List Output → H → Type 0) (hears : H → PeerEvent → Given → H → Type 0) (settles : H → H → Type 0) (rights : A → Rights) where

@@ -11,17 +11,17 @@ use Rattle.door_guard.specs.Giving.{IsEnded, awaited_for}
 use Rattle.door_packets.specs.Rights.{Rights}
 use Rattle.door_packets.specs.Sending.{Buffer, mended}
 use Rattle.door_streams.specs.Going.{may_go}
-use Rattle.door_guard.specs.Stages.{AreSaid, Doing, Effect, Happening, Held, Notice, Outgoing, Said, at, closed, effect, ends, gets, got, held_by, idle, on, quiet, sends, staged}
+use Rattle.door_guard.specs.Stages.{AreSaid, Doing, Effect, Held, Outgoing, Said, at, closed, effect, ends, gets, got, held_by, idle, on, quiet, sends, staged}
 use Rattle.door_guard.specs.Stages.Happening.{Gets, Closes}
 use Rattle.door_guard.specs.Stages.Outgoing.{Bytes, End}
-use Rattle.door_guard.specs.Telling.{AreGiven, ArePaths, IsSent, Stages, none}
-use Rattle.door_packets.specs.Walk.{is_leaving, left}
+use Rattle.door_guard.specs.Telling.{AreGiven, ArePaths, IsSent, none}
+use Rattle.door_packets.specs.Walk.{is_leaving}
 use Rattle.door_packets.specs.declared.client.Client.{Client}
 use Rattle.door_packets.specs.declared.client.Stage.TheVariants.{Leaving}
 use Rattle.door_guard.specs.declared.clients.Clients.{Clients}
 use Rattle.door_packets.specs.declared.codes.Awaited.{Awaited}
 use Rattle.door_packets.specs.declared.step.Step.{Step}
-use Rattle.door_guard.proofs.Paths.{IsApart, close_here, close_there, on_then, one, paths_none, paths_then, send_here, send_there, staged_but}
+use Rattle.door_guard.proofs.Paths.{close_here, close_there, on_then, one, paths_none, paths_then, send_here, send_there, staged_but}
 
 -- ---- outputs
 

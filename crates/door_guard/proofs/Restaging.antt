@@ -1,5 +1,5 @@
 -- A client that has come so far.
-use Rattle.std.proofs.Common.{◌≡◌, ℕ, Option, Some, None, ap, subst, ◌∙◌}
+use Rattle.std.proofs.Common.{◌≡◌, ℕ, Option, Some, None, subst, ◌∙◌}
 use Rattle.door_guard.specs.Clients.{IsBut, client_of, restaged}
 use Rattle.door_packets.specs.declared.client.Client.{Client}
 use Rattle.door_packets.specs.declared.client.Stage.{Stage}

@@ -12,12 +12,12 @@ use Rattle.door_guard.specs.Doing.{IsTurned}
 use Rattle.door_guard.specs.Giving.{IsEnded}
 use Rattle.door_packets.specs.Rights.{Rights}
 use Rattle.door_packets.specs.Sending.{Buffer, IsSpelled}
-use Rattle.door_guard.specs.Stages.{AreSaid, Doing, Effect, Held, IsSaid, Notice, Outgoing, Said, after, at, done, effect, held_by, noted, on, quiet, says, staged}
+use Rattle.door_guard.specs.Stages.{AreSaid, Doing, Effect, Held, IsSaid, Notice, Said, after, at, done, effect, held_by, noted, on, quiet, says, staged}
 use Rattle.door_guard.specs.Stages.Happening.{Does, Rests}
 use Rattle.door_guard.specs.Stages.Notice.{Open, Space, Piece}
 use Rattle.door_guard.specs.Stages.Outgoing.{Bytes}
 use Rattle.door_guard.specs.Stages.Said.{Same, Made}
-use Rattle.door_guard.specs.Telling.{AreDone, AreGiven, ArePaths, IsPart, IsSent, IsTold, Stages, given_by, none, noted_in}
+use Rattle.door_guard.specs.Telling.{AreDone, AreGiven, ArePaths, IsPart, IsSent, IsTold, Stages, none}
 use Rattle.door_packets.specs.Walk.{is_leaving}
 use Rattle.door_packets.specs.declared.client.Client.{Client}
 use Rattle.door_packets.specs.declared.client.Stage.TheVariants.{Leaving}
@@ -26,7 +26,7 @@ use Rattle.door_packets.specs.declared.codes.Awaited.{Awaited}
 use Rattle.door_packets.specs.declared.step.Step.{Step}
 use Rattle.door_packets.specs.declared.step.Step.TheVariants as steps
 use Rattle.door_guard.proofs.Outs.{sent_none}
-use Rattle.door_guard.proofs.Paths.{IsApart, itself, one, part_quiet, part_then, paths_as, paths_none, paths_then, staged_here, staged_there}
+use Rattle.door_guard.proofs.Paths.{itself, one, part_quiet, part_then, paths_as, paths_none, paths_then, staged_here, staged_there}
 
 abbrev pub working_on : List Step → Option Awaited → Doing
 working_on todo awaited = record { todo = todo; awaited = awaited }

@@ -1,14 +1,12 @@
 -- Whatever happens on a connection, only what its user may do.
 use Rattle.std.proofs.Common.{◌≡◌, ℕ, Bool, true, false, arith, cond, List, [], ◌∷◌, ◌++◌, Option, Some, None, Result, Ok, Err, inl, inr, refl, sym, ap, subst, ◌∙◌}
-use Rattle.std.specs.Prelude.{◌==◌, ◌&&◌, ◌⊎◌, not, filter, is_none, is_some, length, map}
+use Rattle.std.specs.Prelude.{◌&&◌, ◌⊎◌, filter, is_none, is_some, length}
 use Rattle.std.specs.List.{AllByRecursion, list_all}
 use Rattle.std.proofs.lemmas.Bool.{eqb-true}
-use Rattle.std.proofs.lemmas.Option.{same_Some}
 use Rattle.mqtt_fields.specs.declared.options.Qos.{Qos}
 use Rattle.mqtt_fields.specs.declared.options.Qos.TheVariants.{AtMostOnce, AtLeastOnce, ExactlyOnce}
 use Rattle.mqtt_packets.specs.Stream.{packet_at}
 use Rattle.mqtt_packets.specs.declared.connect.Connect.{Connect}
-use Rattle.mqtt_packets.specs.declared.connect.Will.{Will}
 use Rattle.mqtt_packets.specs.declared.fault.PacketFault.{PacketFault}
 use Rattle.mqtt_packets.specs.declared.packet.Packet.{Packet}
 use Rattle.mqtt_packets.specs.declared.packet.Packet.TheVariants as packets
@@ -20,30 +18,27 @@ use Rattle.mqtt_bounds.specs.Pieces.{Cut, cut}
 use Rattle.mqtt_bounds.specs.declared.cut.End.{End}
 use Rattle.mqtt_bounds.specs.declared.cut.End.TheVariants as ends
 use Rattle.mqtt_bounds.proofs.Ends.{cut_ends}
-use Rattle.door_packets.specs.Answers.{connack, disconnect, pubrec}
-use Rattle.door_guard.specs.Laws.{AreReadable, IsFreed, IsLet, IsNoConnect, IsReadLet, IsUnread, MayGoOut, MayReceive, MaySay, MaySend, MayTell, OnlyTheirs, login_of}
+use Rattle.door_packets.specs.Answers.{pubrec}
+use Rattle.door_guard.specs.Laws.{AreReadable, IsFreed, IsLet, IsUnread, MayGoOut, MayReceive, MaySay, MayTell, OnlyTheirs, login_of}
 use Rattle.door_guard.specs.Replies.{IsAnswer}
 use Rattle.door_guard.specs.Replies.Answer.{Acknowledges, Ends as EndsIt, Receives, Subscribes, TurnsAway}
-use Rattle.door_packets.specs.Packets.{Aliases, aliases_after, cleaned, code_by, codes_of, connect_code, filter_code, has_topic, is_alias_allowed, alias_of, is_allowed, is_asked, is_will_allowed, publish_step, refusal, refusal_at, smaller, subscribe_step, suback_step}
+use Rattle.door_packets.specs.Packets.{Aliases, aliases_after, cleaned, codes_of, connect_code, filter_code, has_topic, is_alias_allowed, alias_of, is_allowed, is_asked, publish_step, refusal_at, smaller, subscribe_step, suback_step}
 use Rattle.door_packets.specs.Codes.{merged}
 use Rattle.door_packets.specs.Packets.{login_of as names_of}
 use Rattle.door_packets.specs.Rights.{Rights}
-use Rattle.door_packets.specs.Sending.{is_readable, may_receive, mended, readable_at, readable_by}
-use Rattle.door_streams.specs.Going.{is_nothing, may_go, may_go_cut}
-use Rattle.door_guard.specs.Stages.{Doing, Effect, Happening, Held, Outgoing, Said, after, closed, done, does, does_next, effect, ends, gets, gone_at, gone_by, got, held_after, idle, leaves, quiet, rests, says, sends, spaced, spaced_by, working}
+use Rattle.door_packets.specs.Sending.{is_readable, may_receive, mended, readable_at}
+use Rattle.door_streams.specs.Going.{is_nothing, may_go}
+use Rattle.door_guard.specs.Stages.{Effect, Happening, Held, after, done, does_next, effect, ends, gone_by, got, held_after, quiet, says, sends, spaced_by}
 use Rattle.door_guard.specs.Stages.Happening.{Opens, Goes, Spaces, Comes, Does, Rests, Gets, Closes, Leaves}
 use Rattle.door_guard.specs.Stages.Notice.{Gone}
-use Rattle.door_guard.specs.Stages.Outgoing.{Bytes, End as EndOf}
-use Rattle.door_guard.specs.Stages.Said.{Same, Made}
-use Rattle.door_packets.specs.Walk.{Walked, at_stage, begun, connect_step, entered, entered_by, entered_with, fresh, is_leaving, let_in, next, next_by, publish_noted, published_by, stage_by, started, subscribed_by, told_first, took, took_at, walked, with_login, with_step}
-use Rattle.door_streams.specs.Coming.{come, come_at, come_on, ended, finished, is_open, kept, limit, unread, unread_at}
-use Rattle.door_packets.specs.declared.access.Admission.{Admission}
-use Rattle.door_packets.specs.declared.access.Admission.TheVariants.{Admitted, WrongPassword, NoName}
+use Rattle.door_guard.specs.Stages.Outgoing.{End as EndOf}
+use Rattle.door_guard.specs.Stages.Said.{Same}
+use Rattle.door_packets.specs.Walk.{Walked, begun, connect_step, entered, entered_by, entered_with, fresh, is_leaving, let_in, next, next_by, published_by, stage_by, started, subscribed_by, told_first, took, took_at, walked, with_step}
+use Rattle.door_streams.specs.Coming.{come_at, come_on, ended, kept, limit, unread_at}
 use Rattle.door_packets.specs.declared.access.Login.{Login}
 use Rattle.door_packets.specs.declared.client.Client.{Client}
 use Rattle.door_packets.specs.declared.client.Stage.{Stage}
 use Rattle.door_packets.specs.declared.client.Stage.TheVariants as stages
-use Rattle.door_packets.specs.declared.codes.Awaited.{Awaited}
 use Rattle.door_packets.specs.declared.step.Step.{Step}
 use Rattle.door_packets.specs.declared.step.Step.TheVariants as steps
 use Rattle.door_guard.proofs.Entering.{each_entered}

@@ -1,5 +1,5 @@
 -- How many were refused.
-use Rattle.std.specs.Prelude.{ℕ, ◌+◌, ◌-◌, ◌^◌, min, Option, Some, None}
+use Rattle.std.specs.Prelude.{ℕ, ◌+◌, ◌-◌, ◌^◌, min, Some, None}
 use Rattle.door_packets.specs.Codes.{refused_in}
 use Rattle.door_guard.specs.declared.counts.Refusals.{Refusals}
 use Rattle.door_packets.specs.declared.step.Step.{Step}

@@ -1,5 +1,5 @@
 -- What goes out where the handler inside gives something.
-use Rattle.std.specs.Prelude.{◌==◌, ℕ, List, [], ◌∷◌, Bool, Option, None, if◌then◌else◌}
+use Rattle.std.specs.Prelude.{◌==◌, ℕ, List, [], ◌∷◌, Option, None, if◌then◌else◌}
 use Rattle.broker_sockets.specs.declared.events.Output.{Output}
 use Rattle.door_packets.specs.Answers.{disconnect}
 use Rattle.door_guard.specs.Clients.{IsBut, client_of, restaged}

@@ -1,5 +1,5 @@
 -- Laws of a handler that guards.
-use Rattle.std.specs.Prelude.{◌≡◌, ◌↔◌, ◌⊎◌, ℕ, List, [], ◌∷◌, ◌++◌, length, map, filter, zip, Bool, true, false, None, Some, Option, Result, Ok}
+use Rattle.std.specs.Prelude.{◌≡◌, ◌↔◌, ◌⊎◌, ℕ, List, [], ◌∷◌, ◌++◌, true, None, Some, Option, Ok}
 use Rattle.std.specs.List.{AllByRecursion}
 use Rattle.broker_sockets.specs.declared.bridge.Given.{Given}
 use Rattle.broker_sockets.specs.declared.bridge.PeerEvent.{PeerEvent}
@@ -13,14 +13,14 @@ use Rattle.mqtt_packets.specs.declared.publish.Publish.{Publish}
 use Rattle.mqtt_bounds.specs.Pieces.{cut, front_at}
 use Rattle.mqtt_bounds.specs.declared.front.Front.TheVariants as fronts
 use Rattle.door_guard.specs.Calls.{AreMade, Call, given_of, noted_of}
-use Rattle.door_guard.specs.Clients.{client_of, login_at}
+use Rattle.door_guard.specs.Clients.{client_of}
 use Rattle.door_guard.specs.Replies.{IsAnswer}
 use Rattle.door_packets.specs.Packets.{has_topic, is_will_allowed}
 use Rattle.door_packets.specs.Packets.{login_of as names_of}
 use Rattle.door_packets.specs.Rights.{Rights}
-use Rattle.door_guard.specs.Stages.{AreSaid, Effect, Happening, Held, IsOrderly, Notice, Outgoing, Said, effect, given_in, held_after, met_in, on, out_in, todo_of, told_in}
+use Rattle.door_guard.specs.Stages.{AreSaid, Happening, Held, IsOrderly, Outgoing, Said, effect, given_in, held_after, met_in, on, out_in, todo_of, told_in}
 use Rattle.door_guard.specs.Stages.Happening.{Opens, Comes}
-use Rattle.door_guard.specs.Stages.Notice.{Open, Gone, Space, Piece}
+use Rattle.door_guard.specs.Stages.Notice.{Piece}
 use Rattle.door_guard.specs.Stages.Outgoing.{Bytes, End}
 use Rattle.door_guard.specs.Stages.Said.{Same, Made}
 use Rattle.door_packets.specs.Walk.{fresh}

@@ -1,5 +1,5 @@
 -- What is known of a connection of a client, and what comes of that which happens on it.
-use Rattle.std.specs.Prelude.{◌≡◌, ◌==◌, not, ℕ, List, [], ◌∷◌, ◌++◌, Bool, true, false, Option, Some, None, flat_map, if◌then◌else◌}
+use Rattle.std.specs.Prelude.{◌≡◌, ◌==◌, ℕ, List, [], ◌∷◌, ◌++◌, Bool, Option, Some, None, flat_map, if◌then◌else◌}
 use Rattle.broker_sockets.specs.declared.events.EventKind.{EventKind}
 use Rattle.broker_sockets.specs.declared.events.EventKind.TheVariants as kinds
 use Rattle.broker_sockets.specs.declared.events.Output.{Output}

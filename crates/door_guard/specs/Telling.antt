@@ -1,11 +1,11 @@
 -- What the handler inside is told, and what goes out.
-use Rattle.std.specs.Prelude.{◌≡◌, ◌==◌, ℕ, List, [], ◌∷◌, ◌++◌, Bool, false, Option, Some, None, flat_map}
+use Rattle.std.specs.Prelude.{◌≡◌, ◌==◌, ℕ, List, [], ◌∷◌, ◌++◌, false, Option, None, flat_map}
 use Rattle.std.specs.List.{AllByRecursion}
 use Rattle.broker_sockets.specs.declared.events.Event.{Event}
 use Rattle.broker_sockets.specs.declared.events.EventKind.{EventKind}
 use Rattle.broker_sockets.specs.declared.events.Output.{Output}
 use Rattle.door_packets.specs.Rights.{Rights}
-use Rattle.door_guard.specs.Stages.{Doing, Held, IsPath, Notice, Outgoing, at, idle, none_busy, noted, on, staged}
+use Rattle.door_guard.specs.Stages.{Held, IsPath, Notice, Outgoing, at, none_busy, noted, on, staged}
 use Rattle.door_guard.specs.declared.clients.Clients.{Clients}
 use Rattle.door_packets.specs.declared.codes.Awaited.{Awaited}
 use Rattle.door_packets.specs.declared.step.Step.{Step}
