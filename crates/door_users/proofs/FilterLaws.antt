@@ -20,10 +20,10 @@ drops : (a b : Bool) (text : List ℕ) → (a && not b) ≡ false → (if a && n
 drops a b text e = rw e refl
 
 plain : (text : List ℕ) → IsFilter text → (IsShared text → ⊥) → plain_in text ≡ Ok text
-plain text f plain = picks (is_filter text) (is_shared text) text (passes text f) (false_of (is_shared text) plain)
+plain text f apart = picks (is_filter text) (is_shared text) text (passes text f) (false_of (is_shared text) apart)
 
 shared : (text : List ℕ) → IsShared text → plain_in text ≡ Err BadFilter
-shared text shared = drops (is_filter text) (is_shared text) text (none (is_filter text) (is_shared text) shared)
+shared text is = drops (is_filter text) (is_shared text) text (none (is_filter text) (is_shared text) is)
   where
     none : (a b : Bool) → b ≡ true → (a && not b) ≡ false
     none true true e = refl
