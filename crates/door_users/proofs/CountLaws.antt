@@ -1,14 +1,12 @@
 -- Numbers of iterations.
-use Rattle.std.proofs.Common.{◌≡◌, ◌≢◌, ◌⊎◌, inl, inr, ℕ, ◌<◌, ◌≤◌, ◌^◌, Bool, true, false, not, ◌&&◌, List, [], ◌∷◌, length, get_or, refl, sym, ◌∙◌, arith}
-use Rattle.std.specs.Prelude.{nat_eq, nat_le, nat_lt, Result, Ok, Err, ◌==◌, if◌then◌else◌}
+use Rattle.std.proofs.Common.{◌≡◌, ◌≢◌, ℕ, ◌<◌, ◌≤◌, ◌^◌, Bool, true, false, not, ◌&&◌, List, [], ◌∷◌, length, get_or, refl, sym, ◌∙◌, arith}
+use Rattle.std.specs.Prelude.{nat_eq, nat_le, nat_lt, Result, Ok, Err}
 use Rattle.std.specs.List.{starts_with}
-use Rattle.std.specs.Result.{OkIff}
 use Rattle.std.specs.Str.{all_ascii_digits}
 use Rattle.std.specs.Str.Parse.{ParsesUnsigned, digits_value}
 use Rattle.std.proofs.lemmas.Bool.Decides.{nat_tests}
 use Rattle.std.proofs.lemmas.Str.Parse.{IsNumeralModel, numerals_by_value, parse_plain, tells_all_ascii_digits}
-use Rattle.mqtt_access.proofs.Tests.{and_both, and_first, and_second, by_test, false_of, never}
-use Rattle.door_users.specs.declared.fault.LineFlaw.{LineFlaw}
+use Rattle.mqtt_access.proofs.Tests.{and_first, and_second, false_of, never}
 use Rattle.door_users.specs.declared.fault.LineFlaw.TheVariants.{BadIterations}
 use Rattle.door_users.specs.Accounts.{has_none, is_count, iterations_in}
 use Rattle.door_users.specs.Counts.{IsRead}

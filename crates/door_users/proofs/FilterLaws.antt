@@ -1,6 +1,6 @@
 -- Filters of rules.
-use Rattle.std.proofs.Common.{◌≡◌, ◌⊎◌, inl, inr, ℕ, Bool, true, false, not, ◌&&◌, List, refl, sym, ◌∙◌}
-use Rattle.std.specs.Prelude.{Result, Ok, Err, if◌then◌else◌}
+use Rattle.std.proofs.Common.{◌≡◌, ◌⊎◌, inl, inr, ℕ, Bool, true, false, not, ◌&&◌, List, refl, sym}
+use Rattle.std.specs.Prelude.{Ok, Err, if◌then◌else◌}
 use Rattle.mqtt_fields.specs.Numbers.{IsText}
 use Rattle.mqtt_topics.proofs.Testing.{decides_filter, passes}
 use Rattle.mqtt_topics.proofs.VerdictLaws.{filters_or_faults}
@@ -9,7 +9,6 @@ use Rattle.mqtt_topics.specs.declared.fault.TopicFault.TheVariants.{NoMemory}
 use Rattle.mqtt_topics.specs.Testing.{is_filter, is_shared}
 use Rattle.mqtt_topics.specs.Topics.{IsFilter, IsFilterFault, IsShared}
 use Rattle.mqtt_access.proofs.Tests.{false_of, never}
-use Rattle.door_users.specs.declared.fault.LineFlaw.{LineFlaw}
 use Rattle.door_users.specs.declared.fault.LineFlaw.TheVariants.{BadFilter}
 use Rattle.door_users.specs.RuleLines.{plain_in}
 

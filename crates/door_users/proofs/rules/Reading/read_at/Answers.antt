@@ -1,4 +1,4 @@
-use Rattle.std.proofs.Common.{List, ℕ, ap, sym, ◌∙◌}
+use Rattle.std.proofs.Common.{ap, sym, ◌∙◌}
 use Rattle.door_users.specs.Outcomes.{at_line}
 use Rattle.door_users.specs.Rules.{after_text, state_of}
 use Rattle.door_users.proofs.rules.Reading.read_at.Goals as goal
