@@ -1,5 +1,5 @@
 -- A rule that covers a filter matches what the filter matches; a rule that matches some of it meets it.
-use Rattle.std.proofs.Common.{◌≡◌, ◌⊎◌, inl, inr, ℕ, Bool, true, false, not, ◌&&◌, ◌||◌, List, [], ◌∷◌, refl, sym, ◌∙◌, ap}
+use Rattle.std.proofs.Common.{◌≡◌, inl, inr, ℕ, Bool, true, false, not, ◌||◌, List, [], ◌∷◌, refl, sym, ◌∙◌, ap}
 use Rattle.std.specs.Str.{bytes_eq}
 use Rattle.mqtt_topics.specs.Levels.{multi_level, single_level}
 use Rattle.mqtt_topics.specs.Matching.{LevelsMatch}

@@ -1,22 +1,22 @@
 -- What covers and meets say, over all topics.
-use Rattle.std.proofs.Common.{◌≡◌, ◌≢◌, ◌⊎◌, ◌↔◌, inl, inr, ℕ, Bool, true, false, not, ◌&&◌, ◌||◌, List, [], ◌∷◌, ◌++◌, refl, sym, ◌∙◌, ap, subst, IsTrue, arith}
+use Rattle.std.proofs.Common.{◌≡◌, ◌≢◌, ◌⊎◌, inl, inr, ℕ, Bool, true, false, not, ◌&&◌, ◌||◌, List, [], ◌∷◌, ◌++◌, refl, sym, ◌∙◌, ap, subst, IsTrue, arith}
 use Rattle.std.specs.Prelude.{nat_eq, codes, if◌then◌else◌}
 use Rattle.std.specs.Str.{bytes_eq}
-use Rattle.std.specs.List.{All, AllByRecursion, join_with_byte, list_any, slice_split, starts_with}
+use Rattle.std.specs.List.{All, join_with_byte, list_any, starts_with}
 use Rattle.std.proofs.lemmas.Bool.{false_from_ne_true}
 use Rattle.std.proofs.lemmas.Bool.Decides.{nat_tests}
 use Rattle.std.proofs.lemmas.List.Elements.{All-cons, All-nil}
-use Rattle.std.proofs.lemmas.List.Splits.{slice_split-cons_no, slice_split-cons_yes, slice_split_at, slice_split_none}
+use Rattle.std.proofs.lemmas.List.Splits.{slice_split-cons_yes, slice_split_at, slice_split_none}
 use Rattle.mqtt_topics.specs.Levels.{ArePlaced, HasWildcard, is_separator, is_wildcard, levels, multi_level, single_level}
 use Rattle.mqtt_topics.specs.Matching.{BeginsWithDollar, BeginsWithWildcard, LevelsMatch, Matches, PlainMatches}
-use Rattle.mqtt_topics.specs.Topics.{IsFilter, IsShared, filter_part}
-use Rattle.mqtt_access.specs.Comparing.{begins_with_dollar, cover, covers, is_multi, is_single, is_wild, matches_topic, meet, meets, name_matches, opened}
+use Rattle.mqtt_topics.specs.Topics.{filter_part}
+use Rattle.mqtt_access.specs.Comparing.{begins_with_dollar, cover, covers, is_multi, is_single, is_wild, meet, meets, name_matches, opened}
 use Rattle.mqtt_access.specs.Filled.{first_level}
-use Rattle.mqtt_access.specs.Laws.{AreLevels, CoversAllMatched, FiltersMatchAlike, MeetsSomeMatched, RuleMatches, TopicsAreMatched}
+use Rattle.mqtt_access.specs.Laws.{CoversAllMatched, FiltersMatchAlike, MeetsSomeMatched, RuleMatches, TopicsAreMatched}
 use Rattle.mqtt_access.proofs.Covering.{matched}
-use Rattle.mqtt_access.proofs.FirstLevels.{IsAfter, after, dollar_alike, has_first, wild_text}
+use Rattle.mqtt_access.proofs.FirstLevels.{after, dollar_alike, has_first, wild_text}
 use Rattle.mqtt_access.proofs.Reading.{covers_matched, matched_meets, not_wild}
-use Rattle.mqtt_access.proofs.Samples.{AreApart, ArePlain, Both, Heads, Sampled, Shown, TwoHeads, common, has_some, last_level, missing, sample}
+use Rattle.mqtt_access.proofs.Samples.{AreApart, ArePlain, Heads, TwoHeads, common, has_some, last_level, missing, sample}
 use Rattle.mqtt_access.proofs.Tests.{and_both, and_first, and_second, by_test, false_or_true, first_false, neither, never, not_false, not_true, or_either, or_left, or_right, same, second_false, tests_same, true_not}
 
 -- the relation has what the test passes

@@ -1,6 +1,8 @@
+pub mod Beginnings
 pub mod Covering
 pub mod Exact
 pub mod FirstLevels
+pub mod Indexing
 pub mod Reading
 pub mod Samples
 pub mod Tests

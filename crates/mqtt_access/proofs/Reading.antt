@@ -1,9 +1,9 @@
 -- Who may subscribe to a filter may read what it matches.
-use Rattle.std.proofs.Common.{◌≡◌, ◌⊎◌, inl, inr, ℕ, Bool, true, false, not, ◌&&◌, ◌||◌, List, [], ◌∷◌, Option, Some, None, refl, sym, ◌∙◌, ap}
+use Rattle.std.proofs.Common.{◌≡◌, ◌⊎◌, inl, inr, ℕ, Bool, true, false, ◌&&◌, List, [], ◌∷◌, Option, Some, None, refl, sym, ◌∙◌, ap}
 use Rattle.std.specs.List.{list_any}
 use Rattle.std.specs.Option.{option_map_or}
 use Rattle.mqtt_topics.specs.Levels.{levels}
-use Rattle.mqtt_topics.specs.Matching.{BeginsWithWildcard, LevelsMatch, Matches, PlainMatches}
+use Rattle.mqtt_topics.specs.Matching.{Matches, PlainMatches}
 use Rattle.mqtt_topics.specs.Topics.{filter_part}
 use Rattle.mqtt_access.specs.declared.rule.Access.{Access}
 use Rattle.mqtt_access.specs.declared.rule.Access.TheVariants.{Read, Write, ReadWrite, Deny}
@@ -11,11 +11,11 @@ use Rattle.mqtt_access.specs.declared.rule.TopicRule.{TopicRule}
 use Rattle.mqtt_access.specs.Comparing.{begins_with_dollar, cover, covers, is_multi, is_single, is_wild, matches_topic, meet, meets, name_matches, opened}
 use Rattle.mqtt_access.specs.Filled.{first_level}
 use Rattle.mqtt_access.specs.Laws.{SubscribersMayRead}
-use Rattle.mqtt_access.specs.Rules.{Asked, allows, denies, is_deny, is_unfit, may, meets_asked, passes, rule_levels, suits}
+use Rattle.mqtt_access.specs.Rules.{allows, denies, is_deny, is_unfit, meets_asked, passes, rule_levels, suits}
 use Rattle.mqtt_access.specs.Rules.Asked.{ToRead, ToSubscribe}
 use Rattle.mqtt_access.proofs.Covering.{both_meet, covered, matched, opened_matches}
-use Rattle.mqtt_access.proofs.FirstLevels.{HasFirst, dollar_alike, has_first, wild_text}
-use Rattle.mqtt_access.proofs.Tests.{and_both, and_first, and_second, by_test, false_or_true, never, not_true, or_either, or_left, or_right, same, true_not}
+use Rattle.mqtt_access.proofs.FirstLevels.{dollar_alike, has_first, wild_text}
+use Rattle.mqtt_access.proofs.Tests.{and_both, and_first, and_second, false_or_true, never, not_true, or_either, or_left, or_right, same, true_not}
 
 -- where a filter matches a topic that begins with `$`, its first level does too, or is a wildcard
 firsts : (asked ns : List (List ℕ)) → name_matches asked ns ≡ true → begins_with_dollar (first_level ns) ≡ true → (is_wild (first_level asked) ≡ true) ⊎ (begins_with_dollar (first_level asked) ≡ true)

@@ -1,8 +1,8 @@
 -- Levels of a rule's filter against those of a topic and of another filter, as tests (MQTT 5.0, 4.7).
-use Rattle.std.specs.Prelude.{ℕ, List, [], ◌∷◌, Bool, true, false, not, ◌&&◌, ◌||◌, nat_eq, if◌then◌else◌}
+use Rattle.std.specs.Prelude.{ℕ, List, [], ◌∷◌, Bool, true, false, not, ◌&&◌, ◌||◌, ◌==◌, nat_eq, if◌then◌else◌}
 use Rattle.std.specs.List.{starts_with}
 use Rattle.std.specs.Str.{bytes_eq}
-use Rattle.mqtt_topics.specs.Levels.{levels, multi_level, single_level}
+use Rattle.mqtt_topics.specs.Levels.{is_separator, is_wildcard, levels, multi_level, single_level}
 use Rattle.mqtt_access.specs.Filled.{first_level}
 
 abbrev pub is_multi : List ℕ → Bool
@@ -16,6 +16,13 @@ is_wild level = is_multi level || is_single level
 
 abbrev pub begins_with_dollar : List ℕ → Bool
 begins_with_dollar text = starts_with nat_eq text (36 ∷ [])
+
+-- the bytes of a topic are those of a filter up to its first wildcard; of a separator there only the wildcard behind it may be left
+abbrev pub begins_alike : List ℕ → List ℕ → Bool
+begins_alike [] [] = true
+begins_alike [] (t ∷ ts) = false
+begins_alike (f ∷ fs) [] = is_wildcard f || is_separator f
+begins_alike (f ∷ fs) (t ∷ ts) = is_wildcard f || ((f == t) && begins_alike fs ts)
 
 -- `#`, which is the last level, matches any levels, none included; `+` any one; another level only itself
 abbrev pub name_matches : List (List ℕ) → List (List ℕ) → Bool

@@ -1,5 +1,5 @@
 -- What holds of all rules, filters and topics. A topic is here a text without wildcards: a topic name, or the empty text, which is none.
-use Rattle.std.specs.Prelude.{◌≡◌, ◌≢◌, ◌↔◌, ℕ, List, [], true, false, Option, IsTrue}
+use Rattle.std.specs.Prelude.{◌≡◌, ◌≢◌, ◌↔◌, ℕ, List, [], true, false, Option}
 use Rattle.std.specs.List.{AllByRecursion, list_any}
 use Rattle.mqtt_topics.specs.Levels.{ArePlaced, HasWildcard, is_separator, levels}
 use Rattle.mqtt_topics.specs.Matching.{BeginsWithDollar, LevelsMatch, Matches}
@@ -7,7 +7,7 @@ use Rattle.mqtt_topics.specs.Topics.{IsFilter, IsShared, filter_part}
 use Rattle.mqtt_access.specs.declared.rule.TopicRule.{TopicRule}
 use Rattle.mqtt_access.specs.Comparing.{covers, is_wild, matches_topic, meets}
 use Rattle.mqtt_access.specs.Filled.{first_level}
-use Rattle.mqtt_access.specs.Rules.{Asked, may}
+use Rattle.mqtt_access.specs.Rules.{may}
 use Rattle.mqtt_access.specs.Rules.Asked.{ToRead, ToSubscribe}
 
 -- the topics that the levels of a rule match (MQTT 5.0, 4.7)

@@ -1,5 +1,5 @@
 -- Password-based key derivation with HMAC-SHA-512: RFC 8018, 5.2.
-use Rattle.std.specs.Prelude.{◌≡◌, ℕ, zero, suc, List, [], ◌∷◌, ◌++◌}
+use Rattle.std.specs.Prelude.{ℕ, zero, suc, List, [], ◌∷◌, ◌++◌}
 use Rattle.mqtt_access.specs.Hmac.{xor, hmac}
 
 -- INT(1), the number of the first block in four bytes, the highest one first

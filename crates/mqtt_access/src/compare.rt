@@ -4,7 +4,7 @@ ghost use Rattle.std.specs.Prelude.{◌≡◌, MatchOption};
 ghost use Rattle.mqtt_topics.specs.Levels.{levels};
 ghost use Rattle.mqtt_topics.specs.Topics.{IsShared, filter_part, share_filter};
 ghost use Rattle.mqtt_access.specs.Filled.{filled_left, filter_levels};
-ghost use Rattle.mqtt_access.specs.Comparing.{cover, covers, is_wild, matches_topic, meet, meets, name_matches, opened};
+ghost use Rattle.mqtt_access.specs.Comparing.{begins_alike, cover, covers, is_wild, matches_topic, meet, meets, name_matches, opened};
 
 use crate::filled::{FilledLevels, RuleFilter, first_of};
 use mqtt_topics::Levels;
@@ -37,6 +37,26 @@ fn is_wild(level: &str) -> bool
     ensures { result ≡ is_wild level.now }
 {
     level == "#" || level == "+"
+}
+
+/// Whether a topic begins as a filter does up to its first wildcard, which it does where the filter matches it.
+fn begins_alike(filter: &str, topic: &str) -> bool
+    ensures { result ≡ begins_alike filter.now topic.now }
+{
+    let mut rest = topic.as_bytes();
+    for byte in filter.as_bytes() {
+        if *byte == b'#' || *byte == b'+' {
+            return true;
+        }
+        let [first, later @ ..] = rest else {
+            return *byte == b'/';
+        };
+        if byte != first {
+            return false;
+        }
+        rest = later;
+    }
+    rest.is_empty()
 }
 
 /// Whether levels of a filter match those of a topic.
@@ -110,11 +130,22 @@ fn opened(filter: &str) -> &str
 }
 
 impl<'a> RuleFilter<'a> {
-    /// Whether it matches a topic.
-    pub(crate) fn matches(self, topic: &str) -> bool
+    /// Whether it matches a topic, by its levels.
+    fn matches_levels(self, topic: &str) -> bool
         ensures { result ≡ matches_topic (filter_levels self.entry) topic.now }
     {
         name_matches(self.levels(), topic) && !(is_wild(self.first()) && topic.starts_with("$"))
+    }
+
+    /// Whether it matches a topic. Most filters that don't are known by their first bytes.
+    #[tactic(auto, using(crate::proofs::Beginnings::unlike))]
+    pub(crate) fn matches(self, topic: &str) -> bool
+        ensures { result ≡ matches_topic (filter_levels self.entry) topic.now }
+    {
+        if self.names.is_none() && !begins_alike(self.filter, topic) {
+            return false;
+        }
+        self.matches_levels(topic)
     }
 
     /// Whether it matches each topic that a filter matches, which isn't shared.

@@ -6,6 +6,7 @@ mod compare;
 mod comparing;
 mod filled;
 mod hmac;
+mod index;
 mod laws;
 mod pbkdf2;
 mod permissions;
@@ -13,6 +14,7 @@ mod rule;
 
 pub use comparing::same_bytes;
 pub use hmac::{HmacKey, hmac_sha512};
+pub use index::RuleIndex;
 pub use laws::{
     covers_all_matched, filters_match_alike, meets_some_matched, subscribers_may_read,
     topics_are_matched,

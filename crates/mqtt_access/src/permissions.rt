@@ -36,6 +36,13 @@ fn some_admits(rules: &[ClientRule], user: Option<&str>, client: &str) -> bool
     rules.iter().any(|rule| rule.admits(user, client))
 }
 
+/// Whether a user may connect under an identifier by these rules.
+pub(crate) fn may_connect(rules: &[ClientRule], user: Option<&str>, client: &str) -> bool
+    ensures { result ≡ may_connect rules.now (option_copied user.entry) client.now }
+{
+    !some_rule(rules, user) || some_admits(rules, user, client)
+}
+
 /// The rules of a file of permissions, in their order.
 #[derive(Debug, Drop)]
 pub struct Permissions {
@@ -77,6 +84,6 @@ impl Permissions {
     pub fn may_connect(&self, user: Option<&str>, client: &str) -> bool
         ensures { result ≡ may_connect self.now.clients.items (option_copied user.entry) client.now }
     {
-        !some_rule(&self.clients, user) || some_admits(&self.clients, user, client)
+        may_connect(&self.clients, user, client)
     }
 }

@@ -1,6 +1,7 @@
 //! Tests of limits on clients, over sockets in memory, in a crate of their own so that the door is proved once.
 //! Examples of limits on what clients send, by their bytes.
 //! Examples of clients of MQTT 3.1.1 and 3.1, by their bytes.
+//! Examples of users and of what they may do, by their files and by their clients' bytes.
 #![tactic(auto)]
 
 #[cfg(test)]
@@ -12,6 +13,14 @@ mod doors;
 #[cfg(test)]
 mod greeter;
 #[cfg(test)]
+mod guard_files;
+#[cfg(test)]
+mod guard_recorder;
+#[cfg(test)]
+mod guard_rules;
+#[cfg(test)]
+mod guards;
+#[cfg(test)]
 mod mqtt3_recorder;
 #[cfg(test)]
 mod packets;
@@ -19,3 +28,5 @@ mod packets;
 mod pieces;
 #[cfg(test)]
 mod recorder;
+#[cfg(test)]
+mod user_files;

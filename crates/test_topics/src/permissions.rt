@@ -1,6 +1,6 @@
 //! What rules come to.
 
-use mqtt_access::{Access, ClientRule, Permissions, Scope, TopicRule};
+use mqtt_access::{Access, ClientRule, Permissions, Request, RuleIndex, Scope, TopicRule};
 use mqtt_fields::Text;
 use mqtt_topics::Filter;
 use std::alloc::Global;
@@ -176,4 +176,28 @@ fn users_connect_under_their_identifiers(rt: HostRuntime) {
     assert!(&rt; !p.may_connect(Some("bob"), "bob2"));
     assert!(&rt; p.may_connect(Some("carl"), "anything"));
     assert!(&rt; p.may_connect(None, "anything"));
+}
+
+#[test]
+fn rules_are_found_by_their_users(rt: HostRuntime) {
+    let alloc = rt.alloc();
+    let index = RuleIndex::of(alloc, rules(&rt, alloc)).expect(&rt, "memory");
+    let ann = Some(text(&rt, alloc, "ann"));
+    let bob = Some(text(&rt, alloc, "bob"));
+    let carl = Some(text(&rt, alloc, "carl"));
+    assert!(&rt; index.may(&ann, "ann-1", Request::Write("sensors/roof/temperature")));
+    assert!(&rt; !index.may(&ann, "ann-1", Request::Write("sensors/roof/humidity")));
+    assert!(&rt; index.may(&ann, "ann-1", Request::Read("sensors")));
+    assert!(&rt; !index.may(&ann, "ann-1", Request::Read("sensors/secret/a")));
+    assert!(&rt; index.may(&ann, "ann-1", Request::Write("users/ann/a")));
+    assert!(&rt; !index.may(&ann, "ann-1", Request::Write("users/ann/locked")));
+    assert!(&rt; index.may(&ann, "ann-1", Request::Subscribe("sensors/roof/#")));
+    assert!(&rt; !index.may(&ann, "ann-1", Request::Subscribe("sensors/#")));
+    assert!(&rt; index.may(&None, "c", Request::Read("$SYS/broker")));
+    assert!(&rt; !index.may(&carl, "c", Request::Read("$SYS/broker")));
+    assert!(&rt; index.may(&carl, "c", Request::Write("clients/c/state")));
+    assert!(&rt; index.may(&bob, "bob", Request::Read("sensors/secret/a")));
+    assert!(&rt; index.may_connect(&ann, "ann-1"));
+    assert!(&rt; !index.may_connect(&ann, "bob"));
+    assert!(&rt; index.may_connect(&carl, "bob"));
 }

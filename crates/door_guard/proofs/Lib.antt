@@ -1,0 +1,12 @@
+pub mod Calling
+pub mod Entering
+pub mod Faults
+pub mod Following
+pub mod Meets
+pub mod Off
+pub mod Outs
+pub mod Paths
+pub mod Restaging
+pub mod Steps
+pub mod Theirs
+pub mod Told

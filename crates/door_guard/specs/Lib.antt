@@ -1,0 +1,12 @@
+pub mod Answering
+pub mod Calls
+pub mod Clients
+pub mod Counts
+pub mod Doing
+pub mod Faults
+pub mod Giving
+pub mod Laws
+pub mod Replies
+pub mod Stages
+pub mod Telling
+pub mod Views

@@ -1,0 +1,11 @@
+pub mod Accounts
+pub mod Admitting
+pub mod Counts
+pub mod Files
+pub mod Flaws
+pub mod Laws
+pub mod Lines
+pub mod Outcomes
+pub mod RuleLines
+pub mod Rules
+pub mod Writing
