@@ -13,8 +13,6 @@ mod doors;
 #[cfg(test)]
 mod greeter;
 #[cfg(test)]
-mod guard_files;
-#[cfg(test)]
 mod guard_recorder;
 #[cfg(test)]
 mod guard_rules;
