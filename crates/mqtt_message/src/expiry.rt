@@ -3,11 +3,9 @@
 ghost use Rattle.std.specs.Prelude.{◌≡◌, ◌<◌, ◌^◌};
 ghost use Rattle.mqtt_message.specs.Expiry.{due_of, deadline_after, interval_left};
 
+use mqtt_fields::NEVER;
 use mqtt_fields::identifier::WILL_DELAY_INTERVAL;
 use mqtt_packets::Will;
-
-/// A Session Expiry Interval at which a session never ends (MQTT 5.0, 3.1.2.11.2).
-const NEVER: u32 = 0xffff_ffff;
 
 /// The moment of expiry, for an interval in seconds that begins now.
 pub(crate) fn deadline_after(now: u64, interval: Option<u32>) -> Option<u64>
