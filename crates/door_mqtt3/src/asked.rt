@@ -4,7 +4,7 @@ ghost use Rattle.std.specs.Prelude.{◌≡◌, map, IfOk};
 ghost use Rattle.door_mqtt3.specs.Asked.{asked, bridged, connect_asked, is_nameless, is_refused, is_shared, properties_of, subscribe_asked};
 
 use mqtt_fields::identifier::{RECEIVE_MAXIMUM, SESSION_EXPIRY_INTERVAL};
-use mqtt_fields::{NEVER, NoMemory, Properties, Property, SubscriptionOptions, Value};
+use mqtt_fields::{NEVER_ENDS, NoMemory, Properties, Property, SubscriptionOptions, Value};
 use mqtt_packets::{Connect, Packet, Subscribe, SubscribeFilter, SubscribeFilters};
 use mqtt3_packets::Level;
 use std::alloc::Global;
@@ -43,7 +43,7 @@ fn properties_of(alloc: Global, clean: bool) -> Result<Properties, NoMemory>
     if !clean {
         properties.push(Property {
             id: SESSION_EXPIRY_INTERVAL,
-            value: Value::Four(NEVER),
+            value: Value::Four(NEVER_ENDS),
         })?;
     }
     properties.push(Property {

@@ -32,7 +32,7 @@ pub use field_laws::{
 pub use length::properties_len;
 pub use limits::{
     LONGEST_CLIENT, LONGEST_FRAME, LONGEST_PACKET, LONGEST_STRING, LONGEST_VALUE, MOST_EXCHANGES,
-    NEVER, NUMBERS_END,
+    NEVER_ENDS, NUMBERS_END,
 };
 pub use number::{long_at, run_at, u8_at, u16_at, u32_at, u64_at};
 pub use options::{Qos, SubscriptionOptions};

@@ -22,4 +22,4 @@ pub const LONGEST_FRAME: usize = 268_435_456;
 pub const MOST_EXCHANGES: usize = 100;
 
 /// A Session Expiry Interval at which a session never ends (MQTT 5.0, 3.1.2.11.2).
-pub const NEVER: u32 = 4_294_967_295;
+pub const NEVER_ENDS: u32 = 4_294_967_295;

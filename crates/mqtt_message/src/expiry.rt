@@ -3,7 +3,7 @@
 ghost use Rattle.std.specs.Prelude.{◌≡◌, ◌<◌, ◌^◌};
 ghost use Rattle.mqtt_message.specs.Expiry.{due_of, deadline_after, interval_left};
 
-use mqtt_fields::NEVER;
+use mqtt_fields::NEVER_ENDS;
 use mqtt_fields::identifier::WILL_DELAY_INTERVAL;
 use mqtt_packets::Will;
 
@@ -31,7 +31,7 @@ pub fn due(will: &Will, closed_at: u64, expiry: u32) -> u64
 {
     let delay = will.properties.four(WILL_DELAY_INTERVAL).unwrap_or(0);
     let moment = closed_at + 1000 * u64::from(delay);
-    if expiry == NEVER {
+    if expiry == NEVER_ENDS {
         return moment;
     }
     moment.min(closed_at + 1000 * u64::from(expiry))

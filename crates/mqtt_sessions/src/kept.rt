@@ -11,7 +11,7 @@ ghost use Rattle.mqtt_sessions.specs.declared.kept.Phase.TheVariants.{Closed};
 
 use crate::will::{BoxedWill, boxed};
 use mqtt_fields::identifier::SESSION_EXPIRY_INTERVAL;
-use mqtt_fields::{NEVER, NoMemory, Text};
+use mqtt_fields::{NEVER_ENDS, NoMemory, Text};
 use mqtt_message::{Message, Will, due};
 use mqtt_packets::Connect;
 use std::alloc::Global;
@@ -173,7 +173,7 @@ impl Kept {
         match self.phase {
             Phase::Connected => None,
             Phase::Closed(at) => {
-                if self.expiry == NEVER {
+                if self.expiry == NEVER_ENDS {
                     None
                 } else {
                     Some(at + 1000 * u64::from(self.expiry))
