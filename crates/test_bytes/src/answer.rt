@@ -9,24 +9,24 @@ use std::alloc::{AllocError, Global};
 
 /// A question and its answer.
 #[derive(Drop)]
-pub struct Example<'a> {
+pub struct AnsweredQuestion<'a> {
     question: &'a str,
     answer: &'a str,
 }
 
-impl<'a> Example<'a> {
+impl<'a> AnsweredQuestion<'a> {
     /// The example of a line, if it isn't to be skipped.
-    pub fn of(line: &'a str) -> Option<Example<'a>> {
+    pub fn of(line: &'a str) -> Option<AnsweredQuestion<'a>> {
         if line.is_empty() || line.starts_with("//") {
             return None;
         }
         let (question, answer) = line.split_once(" = ").unwrap_or((line, ""));
-        Some(Example { question, answer })
+        Some(AnsweredQuestion { question, answer })
     }
 }
 
 /// Tells of another answer than the example's, if there is one.
-pub fn differs(alloc: Global, example: &Example) -> Result<Option<String>, AllocError> {
+pub fn differs(alloc: Global, example: &AnsweredQuestion) -> Result<Option<String>, AllocError> {
     let Ok(text) = answered(alloc, example.question) else {
         return Err(AllocError);
     };

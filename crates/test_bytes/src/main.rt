@@ -16,7 +16,7 @@ mod spellings;
 mod topics;
 mod words;
 
-use crate::answer::{Example, differs};
+use crate::answer::{AnsweredQuestion, differs};
 use std::io;
 
 fn main(rt: HostRuntime) -> io::Result<()> {
@@ -24,7 +24,7 @@ fn main(rt: HostRuntime) -> io::Result<()> {
     let mut examples: u64 = 0;
     for line in rt.lines(alloc) {
         let line = line?;
-        let Some(example) = Example::of(line.as_str()) else {
+        let Some(example) = AnsweredQuestion::of(line.as_str()) else {
             continue;
         };
         examples = examples.saturating_add(1);

@@ -1,7 +1,7 @@
 //! Rows of version 1 or 2 in a database file and its log, either of which stops, or refuses a call, while a node is opened from them:
 //! opened again, the database has those rows, or all of version 3, and a node is opened from it.
 
-use crate::versions::{Version, put_older, version_in};
+use crate::versions::{RowsVersion, put_older, version_in};
 use home_table::homes_of;
 use node_keeper::{Keeper, KeeperFault};
 use row_store::{RowFault, RowStore};
@@ -21,12 +21,12 @@ const MOST_CALLS: u64 = 1000;
 #[derive(Clone, Copy)]
 enum Task {
     /// Puts rows of an older version, and closes it.
-    Put(Version),
+    Put(RowsVersion),
     /// Opens a node from rows of an older version, and closes it where the node is opened.
     Raise,
     /// Finds rows of this version or of version 3, or those of version 3 alone where a node was opened from them, and opens a node from
     /// them.
-    Look(Version, bool),
+    Look(RowsVersion, bool),
 }
 
 /// Opens node 1 from the rows: how many subscriptions stand, or the fault; and the rows.
@@ -57,16 +57,24 @@ fn raised<R: RowStore + Drop>(rt: &impl Abort, alloc: Global, rows: R) -> (R, Op
 }
 
 // Whether these are the rows of a run.
-fn are_left<R: RowStore>(rt: &impl Abort, rows: &mut R, from: Version, is_raised: bool) -> bool {
+fn are_left<R: RowStore>(
+    rt: &impl Abort,
+    rows: &mut R,
+    from: RowsVersion,
+    is_raised: bool,
+) -> bool {
     let found = version_in(rows).expect(rt, "rows");
-    found == Version::Third || (found == from && !is_raised)
+    found == RowsVersion::Third || (found == from && !is_raised)
 }
 
 // Whether a node is opened from the rows, which are of version 3 then.
 fn goes_on<R: RowStore + Drop>(rt: &impl Abort, alloc: Global, rows: R) -> (R, bool) {
     let (mut rows, is_raised) = raised(rt, alloc, rows);
     let version = version_in(&mut rows).expect(rt, "rows");
-    (rows, is_raised == Some(true) && version == Version::Third)
+    (
+        rows,
+        is_raised == Some(true) && version == RowsVersion::Third,
+    )
 }
 
 // Whether a node was opened by the task, or none where it doesn't come to what it must.
@@ -168,7 +176,7 @@ fn image_of(rt: &impl Abort, alloc: Global, files: &Files<StoppingFile>) -> Imag
 }
 
 // A database that was closed with rows of an older version.
-fn older_image(rt: &impl Abort, alloc: Global, version: Version) -> Image {
+fn older_image(rt: &impl Abort, alloc: Global, version: RowsVersion) -> Image {
     let files = stopping_files(alloc, (&[], &[]), None).expect(rt, "memory");
     let (files, is_put) = run(rt, alloc, files, 1, Task::Put(version));
     assert!(rt; is_put.is_some(), "the rows can't be put");
@@ -216,7 +224,7 @@ fn meets(
     rt: &impl Abort,
     alloc: Global,
     older: &Image,
-    version: Version,
+    version: RowsVersion,
     trouble: Trouble,
 ) -> bool {
     let bytes = (older.log.as_slice(), older.db.as_slice());
@@ -240,7 +248,7 @@ fn troubled_runs(
     rt: &impl Abort,
     alloc: Global,
     older: &Image,
-    version: Version,
+    version: RowsVersion,
     is_of_log: bool,
     is_stop: bool,
 ) -> u64 {
@@ -258,7 +266,7 @@ fn troubled_runs(
 }
 
 // Each stop and refusal leaves the rows of this version, or those of version 3.
-fn leaves_either(rt: &impl Abort, alloc: Global, version: Version) {
+fn leaves_either(rt: &impl Abort, alloc: Global, version: RowsVersion) {
     let older = older_image(rt, alloc, version);
     for (is_of_log, is_stop) in [(true, true), (true, false), (false, true), (false, false)] {
         let runs = troubled_runs(rt, alloc, &older, version, is_of_log, is_stop);
@@ -272,10 +280,10 @@ fn leaves_either(rt: &impl Abort, alloc: Global, version: Version) {
 
 #[test]
 fn each_stop_and_refusal_leaves_version_1_or_version_3(rt: HostRuntime) {
-    leaves_either(&rt, rt.alloc(), Version::First);
+    leaves_either(&rt, rt.alloc(), RowsVersion::First);
 }
 
 #[test]
 fn each_stop_and_refusal_leaves_version_2_or_version_3(rt: HostRuntime) {
-    leaves_either(&rt, rt.alloc(), Version::Second);
+    leaves_either(&rt, rt.alloc(), RowsVersion::Second);
 }

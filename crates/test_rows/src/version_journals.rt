@@ -1,6 +1,6 @@
 //! Rows with a journal among them, at a node that is opened without reading it, as a program from before the journal does.
 
-use crate::versions::{Version, put_older};
+use crate::versions::{RowsVersion, put_older};
 use home_table::homes_of;
 use node_keeper::{Keeper, KeeperFault};
 use row_store::{Change, MemoryRows, Row, RowFault, RowStore};
@@ -44,7 +44,7 @@ fn is_refused<R: RowStore + Drop>(rt: &impl Abort, alloc: Global, rows: R) -> bo
 #[test]
 fn a_journal_that_is_not_read_is_refused(rt: HostRuntime) {
     let mut rows = MemoryRows::new(rt.alloc());
-    put_older(&rt, rt.alloc(), &mut rows, Version::First);
+    put_older(&rt, rt.alloc(), &mut rows, RowsVersion::First);
     rows.apply(&[entry(&rt, rt.alloc())])
         .ok()
         .expect(&rt, "a row");

@@ -47,7 +47,7 @@ const THIRD: [Plain; 5] = [
 
 /// Which rows a store has.
 #[derive(Clone, Copy, PartialEq, Eq)]
-pub enum Version {
+pub enum RowsVersion {
     First,
     Second,
     Third,
@@ -66,15 +66,15 @@ fn row(rt: &impl Abort, alloc: Global, plain: &Plain) -> Row {
 }
 
 /// The rows of an older version.
-fn rows_of(version: Version) -> [Plain; 5] {
+fn rows_of(version: RowsVersion) -> [Plain; 5] {
     match version {
-        Version::First => FIRST,
+        RowsVersion::First => FIRST,
         _ => SECOND,
     }
 }
 
 /// Puts the rows of an older version.
-pub fn put_older<R: RowStore>(rt: &impl Abort, alloc: Global, rows: &mut R, version: Version) {
+pub fn put_older<R: RowStore>(rt: &impl Abort, alloc: Global, rows: &mut R, version: RowsVersion) {
     let mut changes = Vec::new(alloc);
     for plain in rows_of(version) {
         let put = Change::Put(row(rt, alloc, &plain));
@@ -100,20 +100,20 @@ fn are_rows(rows: &[Row], plain: &[Plain]) -> bool {
     rows.len() == plain.len()
 }
 
-fn version_of(rows: &[Row]) -> Version {
+fn version_of(rows: &[Row]) -> RowsVersion {
     if are_rows(rows, &FIRST) {
-        Version::First
+        RowsVersion::First
     } else if are_rows(rows, &SECOND) {
-        Version::Second
+        RowsVersion::Second
     } else if are_rows(rows, &THIRD) {
-        Version::Third
+        RowsVersion::Third
     } else {
-        Version::Other
+        RowsVersion::Other
     }
 }
 
 /// Which rows a store has, all of them.
-pub fn version_in<R: RowStore>(rows: &mut R) -> Result<Version, RowFault> {
+pub fn version_in<R: RowStore>(rows: &mut R) -> Result<RowsVersion, RowFault> {
     match rows.load() {
         Ok(found) => {
             let version = version_of(&found);

@@ -31,30 +31,30 @@ pub struct Example {
 
 /// What running a script ends with: the status, and what was written where.
 #[derive(Drop)]
-pub struct Ended {
+pub struct ScriptEnd {
     status: u8,
     out: Vec<u8>,
     err: Vec<u8>,
 }
 
 /// Runs a script in memory.
-fn play(alloc: Global, script: &str) -> Ended {
+fn play(alloc: Global, script: &str) -> ScriptEnd {
     let mut out: Vec<u8> = Vec::new(alloc);
     let mut err: Vec<u8> = Vec::new(alloc);
     let status = run_text(alloc, script.as_bytes(), &mut out, &mut err);
-    Ended { status, out, err }
+    ScriptEnd { status, out, err }
 }
 
 /// Runs a script over sockets.
-fn play_over<S: Sockets>(alloc: Global, sockets: &mut S, script: &str) -> Ended {
+fn play_over<S: Sockets>(alloc: Global, sockets: &mut S, script: &str) -> ScriptEnd {
     let mut out: Vec<u8> = Vec::new(alloc);
     let mut err: Vec<u8> = Vec::new(alloc);
     let status = loop_text(alloc, sockets, script.as_bytes(), &mut out, &mut err);
-    Ended { status, out, err }
+    ScriptEnd { status, out, err }
 }
 
 /// Compares what a run ended with.
-fn compare(rt: &impl Abort, name: &str, ended: Ended, expected: (u8, &str, &str)) {
+fn compare(rt: &impl Abort, name: &str, ended: ScriptEnd, expected: (u8, &str, &str)) {
     let (status, out, err) = expected;
     let lines = str::from_utf8(&ended.out).ok().expect(rt, "a text");
     let fault = str::from_utf8(&ended.err).ok().expect(rt, "a text");

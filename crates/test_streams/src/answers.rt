@@ -1,6 +1,6 @@
 //! The table of answers (docs/mqtt.md, docs/architecture.md): what may go out on a connection for what came on it.
 
-use crate::heard::{Heard, Stream};
+use crate::heard::{HeardPacket, Stream};
 use mqtt_fields::Qos;
 use mqtt_packets::{PacketFault, reason};
 use trial_streams::Said;
@@ -53,33 +53,34 @@ enum Answer {
     End,
 }
 
-fn wanted(heard: Heard) -> Answer {
+fn wanted(heard: HeardPacket) -> Answer {
     match heard {
-        Heard::Publish(Qos::AtMostOnce) | Heard::Done => Answer::Nothing,
-        Heard::Publish(Qos::AtLeastOnce) => Answer::Packet(PUBACK),
-        Heard::Publish(Qos::ExactlyOnce) => Answer::Packet(PUBREC),
-        Heard::Pubrec => Answer::Maybe(PUBREL),
-        Heard::Pubrel => Answer::Packet(PUBCOMP),
-        Heard::Subscribe => Answer::Packet(SUBACK),
-        Heard::Unsubscribe => Answer::Packet(UNSUBACK),
-        Heard::Pingreq => Answer::Packet(PINGRESP),
-        Heard::Connect | Heard::Disconnect | Heard::Other => Answer::End,
+        HeardPacket::Publish(Qos::AtMostOnce) | HeardPacket::Done => Answer::Nothing,
+        HeardPacket::Publish(Qos::AtLeastOnce) => Answer::Packet(PUBACK),
+        HeardPacket::Publish(Qos::ExactlyOnce) => Answer::Packet(PUBREC),
+        HeardPacket::Pubrec => Answer::Maybe(PUBREL),
+        HeardPacket::Pubrel => Answer::Packet(PUBCOMP),
+        HeardPacket::Subscribe => Answer::Packet(SUBACK),
+        HeardPacket::Unsubscribe => Answer::Packet(UNSUBACK),
+        HeardPacket::Pingreq => Answer::Packet(PINGRESP),
+        HeardPacket::Connect | HeardPacket::Disconnect | HeardPacket::Other => Answer::End,
     }
 }
 
 /// Whether a packet of an accepted client may end its connection with this code.
-fn may_end(heard: Heard, code: u8) -> bool {
+fn may_end(heard: HeardPacket, code: u8) -> bool {
     match heard {
-        Heard::Publish(_) => PUBLISH_ENDS.contains(&code),
-        Heard::Connect | Heard::Other | Heard::Subscribe | Heard::Disconnect => {
-            code == reason::PROTOCOL_ERROR
-        }
+        HeardPacket::Publish(_) => PUBLISH_ENDS.contains(&code),
+        HeardPacket::Connect
+        | HeardPacket::Other
+        | HeardPacket::Subscribe
+        | HeardPacket::Disconnect => { code == reason::PROTOCOL_ERROR }
         _ => false,
     }
 }
 
 /// Whether a packet ends its connection so: a DISCONNECT and a close, or a close alone after a DISCONNECT of the client.
-fn is_end(heard: Heard, said: &[Said]) -> bool {
+fn is_end(heard: HeardPacket, said: &[Said]) -> bool {
     match said {
         [
             Said::Packet {
@@ -88,7 +89,7 @@ fn is_end(heard: Heard, said: &[Said]) -> bool {
             },
             Said::Close,
         ] => may_end(heard, *code),
-        [Said::Close] => heard == Heard::Disconnect,
+        [Said::Close] => heard == HeardPacket::Disconnect,
         _ => false,
     }
 }
@@ -122,7 +123,7 @@ enum Next<'a> {
 }
 
 /// What a first packet comes to.
-fn after_first(heard: Heard, said: &[Said]) -> Next {
+fn after_first(heard: HeardPacket, said: &[Said]) -> Next {
     match said {
         [
             Said::Packet {
@@ -130,15 +131,15 @@ fn after_first(heard: Heard, said: &[Said]) -> Next {
                 code: 0,
             },
             rest @ ..,
-        ] if heard == Heard::Connect => Next::Open(behind_copies(rest)),
+        ] if heard == HeardPacket::Connect => Next::Open(behind_copies(rest)),
         [
             Said::Packet {
                 kind: CONNACK,
                 code,
             },
             Said::Close,
-        ] if heard == Heard::Connect && REFUSALS.contains(code) => Next::Closed,
-        [Said::Close] if heard != Heard::Connect => Next::Closed,
+        ] if heard == HeardPacket::Connect && REFUSALS.contains(code) => Next::Closed,
+        [Said::Close] if heard != HeardPacket::Connect => Next::Closed,
         _ => Next::Wrong,
     }
 }
@@ -157,7 +158,7 @@ fn behind(kind: u8, said: &[Said]) -> Option<&[Said]> {
 }
 
 /// What a later packet comes to.
-fn after_later(heard: Heard, said: &[Said]) -> Next {
+fn after_later(heard: HeardPacket, said: &[Said]) -> Next {
     if is_end(heard, said) {
         return Next::Closed;
     }

@@ -5,7 +5,7 @@ use bridge_frames::{BridgeFrame, FrameBody};
 use node_rows::{are_dots_among, is_state_among};
 use std::alloc::Global;
 use std::process::Abort;
-use trial_streams::{Said, Stage, Told};
+use trial_streams::{Said, ToldPacket, WitnessStage};
 
 /// What frames say, and their bytes in hexadecimal: those of the examples of `test_replicas`.
 const FRAMES: [(&str, &str); 13] = [
@@ -125,7 +125,7 @@ fn sent_of(alloc: Global, bytes: &[u8]) -> Option<Sent> {
 
 /// Whether the bytes are a frame that says that operations of this node were seen that it hasn't made yet. No node of the cluster sends one, and what this node makes
 /// under such a number later doesn't stand.
-fn foresees(alloc: Global, stage: &Stage, node: u16, bytes: &[u8]) -> bool {
+fn foresees(alloc: Global, stage: &WitnessStage, node: u16, bytes: &[u8]) -> bool {
     let Ok(frame) = BridgeFrame::read(alloc, bytes) else {
         return false;
     };
@@ -146,13 +146,19 @@ fn is_for(node: u16, sent: Sent) -> bool {
 }
 
 /// Whether so many frames go out, and nothing else.
-fn are_frames(told: &[Told], count: usize) -> bool {
+fn are_frames(told: &[ToldPacket], count: usize) -> bool {
     told.len() == count && told.iter().all(|each| each.said == Said::Frame)
 }
 
 /// A frame comes to this node of two. It is taken where it is one for this node from the other one, and may then remove what the
 /// witness subscribed to; else it is counted, and changes nothing else. The witness is served after it. A frame that foresees operations of the node isn't sent.
-fn is_borne(rt: &impl Abort, alloc: Global, stage: &mut Stage, node: u16, bytes: &[u8]) -> bool {
+fn is_borne(
+    rt: &impl Abort,
+    alloc: Global,
+    stage: &mut WitnessStage,
+    node: u16,
+    bytes: &[u8],
+) -> bool {
     if foresees(alloc, stage, node, bytes) {
         return true;
     }
@@ -170,7 +176,7 @@ fn is_borne(rt: &impl Abort, alloc: Global, stage: &mut Stage, node: u16, bytes:
     is_right && stage.look().is_ok()
 }
 
-fn parts(rt: &impl Abort, alloc: Global, stage: &mut Stage, node: u16, bytes: &[u8]) {
+fn parts(rt: &impl Abort, alloc: Global, stage: &mut WitnessStage, node: u16, bytes: &[u8]) {
     for end in 0..=bytes.len() {
         let part = &bytes[..end];
         assert!(rt; is_borne(rt, alloc, stage, node, part), "{part:?}");
@@ -181,7 +187,7 @@ fn parts(rt: &impl Abort, alloc: Global, stage: &mut Stage, node: u16, bytes: &[
 fn changes_at(
     rt: &impl Abort,
     alloc: Global,
-    stage: &mut Stage,
+    stage: &mut WitnessStage,
     node: u16,
     (bytes, place): (&[u8], usize),
 ) {
@@ -191,7 +197,7 @@ fn changes_at(
     }
 }
 
-fn changes(rt: &impl Abort, alloc: Global, stage: &mut Stage, node: u16, bytes: &[u8]) {
+fn changes(rt: &impl Abort, alloc: Global, stage: &mut WitnessStage, node: u16, bytes: &[u8]) {
     for place in 0..bytes.len() {
         changes_at(rt, alloc, stage, node, (bytes, place));
     }
@@ -204,7 +210,7 @@ fn sent_by(rt: &impl Abort, alloc: Global, bytes: &[u8], from: u8, to: u8) -> Ve
 }
 
 /// The whole frame from each of three nodes to each of them, of which two are there.
-fn ends(rt: &impl Abort, alloc: Global, stage: &mut Stage, node: u16, bytes: &[u8]) {
+fn ends(rt: &impl Abort, alloc: Global, stage: &mut WitnessStage, node: u16, bytes: &[u8]) {
     for (from, to) in [
         (0, 0),
         (0, 1),
@@ -227,7 +233,7 @@ fn a_frame_is_taken_or_is_counted_and_changes_nothing(rt: HostRuntime) {
     for (what, spelled) in FRAMES {
         let bytes = bytes_of(&rt, alloc, spelled);
         let node = sent_of(alloc, &bytes).expect(&rt, what).to;
-        let mut stage = Stage::open(alloc, node).expect(&rt, "a node");
+        let mut stage = WitnessStage::open(alloc, node).expect(&rt, "a node");
         ends(&rt, alloc, &mut stage, node, &bytes);
         parts(&rt, alloc, &mut stage, node, &bytes);
         changes(&rt, alloc, &mut stage, node, &bytes);

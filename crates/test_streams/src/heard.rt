@@ -9,7 +9,7 @@ const LIMIT: usize = 1_048_576;
 
 /// A packet of a client, as far as its answers go.
 #[derive(Clone, Copy, PartialEq, Eq)]
-pub enum Heard {
+pub enum HeardPacket {
     Connect,
     Publish(Qos),
     /// PUBACK or PUBCOMP.
@@ -27,31 +27,31 @@ pub enum Heard {
 /// What a stream says: its whole packets, the fault behind them, and the first byte of what isn't whole or is at fault.
 #[derive(Drop)]
 pub struct Stream {
-    pub packets: Vec<Heard>,
+    pub packets: Vec<HeardPacket>,
     pub fault: Option<PacketFault>,
     pub first: Option<u8>,
 }
 
-fn heard_of(packet: &Packet) -> Heard {
+fn heard_of(packet: &Packet) -> HeardPacket {
     match packet {
-        Packet::Connect(_) => Heard::Connect,
-        Packet::Publish(publish) => Heard::Publish(publish.qos),
-        Packet::Puback(_) | Packet::Pubcomp(_) => Heard::Done,
-        Packet::Pubrec(_) => Heard::Pubrec,
-        Packet::Pubrel(_) => Heard::Pubrel,
-        Packet::Subscribe(_) => Heard::Subscribe,
-        Packet::Unsubscribe(_) => Heard::Unsubscribe,
-        Packet::Pingreq => Heard::Pingreq,
-        Packet::Disconnect(_) => Heard::Disconnect,
+        Packet::Connect(_) => HeardPacket::Connect,
+        Packet::Publish(publish) => HeardPacket::Publish(publish.qos),
+        Packet::Puback(_) | Packet::Pubcomp(_) => HeardPacket::Done,
+        Packet::Pubrec(_) => HeardPacket::Pubrec,
+        Packet::Pubrel(_) => HeardPacket::Pubrel,
+        Packet::Subscribe(_) => HeardPacket::Subscribe,
+        Packet::Unsubscribe(_) => HeardPacket::Unsubscribe,
+        Packet::Pingreq => HeardPacket::Pingreq,
+        Packet::Disconnect(_) => HeardPacket::Disconnect,
         Packet::Connack(_)
         | Packet::Suback(_)
         | Packet::Unsuback(_)
         | Packet::Pingresp
-        | Packet::Auth(_) => Heard::Other,
+        | Packet::Auth(_) => HeardPacket::Other,
     }
 }
 
-fn each_of(alloc: Global, packets: &[Packet]) -> Option<Vec<Heard>> {
+fn each_of(alloc: Global, packets: &[Packet]) -> Option<Vec<HeardPacket>> {
     let mut heard = Vec::new(alloc);
     for packet in packets {
         heard.push(heard_of(packet)).ok()?;

@@ -5,7 +5,7 @@ use crate::changes::changed;
 use crate::heard::read_stream;
 use std::alloc::Global;
 use std::process::Abort;
-use trial_streams::{PACKETS, Said, Stage, Told};
+use trial_streams::{PACKETS, Said, ToldPacket, WitnessStage};
 
 /// The connection on which the streams come, one after another.
 const CLIENT: u64 = 2;
@@ -19,7 +19,7 @@ const ACCEPTED: [Said; 1] = [Said::Packet { kind: 2, code: 0 }];
 const PINGREQ: &[u8] = b"\xc0\x00";
 
 /// What goes out on the connection of the client, which is all that goes out.
-fn said_of(rt: &impl Abort, alloc: Global, told: &[Told]) -> Vec<Said> {
+fn said_of(rt: &impl Abort, alloc: Global, told: &[ToldPacket]) -> Vec<Said> {
     let mut said = Vec::new(alloc);
     for each in told {
         assert!(rt; each.connection == CLIENT);
@@ -28,13 +28,13 @@ fn said_of(rt: &impl Abort, alloc: Global, told: &[Told]) -> Vec<Said> {
     said
 }
 
-fn taken(rt: &impl Abort, alloc: Global, stage: &mut Stage, bytes: &[u8]) -> Vec<Said> {
+fn taken(rt: &impl Abort, alloc: Global, stage: &mut WitnessStage, bytes: &[u8]) -> Vec<Said> {
     let told = stage.take(CLIENT, bytes).expect(rt, "a node that goes on");
     said_of(rt, alloc, &told)
 }
 
 /// A connection is opened, and its client accepted if it is to be.
-fn connect(rt: &impl Abort, alloc: Global, stage: &mut Stage, accepted: bool) {
+fn connect(rt: &impl Abort, alloc: Global, stage: &mut WitnessStage, accepted: bool) {
     stage.open_connection(CLIENT).expect(rt, "nothing goes out");
     if accepted {
         let said = taken(rt, alloc, stage, CONNECT);
@@ -43,7 +43,7 @@ fn connect(rt: &impl Abort, alloc: Global, stage: &mut Stage, accepted: bool) {
 }
 
 /// Nothing goes out after a close; a client that wasn't closed goes, and nothing goes out either.
-fn leave(rt: &impl Abort, alloc: Global, stage: &mut Stage, is_closed: bool) {
+fn leave(rt: &impl Abort, alloc: Global, stage: &mut WitnessStage, is_closed: bool) {
     if is_closed {
         assert!(rt; taken(rt, alloc, stage, PINGREQ).is_empty());
     } else {
@@ -58,7 +58,7 @@ fn leave(rt: &impl Abort, alloc: Global, stage: &mut Stage, is_closed: bool) {
 fn is_borne(
     rt: &impl Abort,
     alloc: Global,
-    stage: &mut Stage,
+    stage: &mut WitnessStage,
     accepted: bool,
     bytes: &[u8],
 ) -> bool {
@@ -69,11 +69,11 @@ fn is_borne(
     stage.look().is_ok() && are_answers(&stream, accepted, &said)
 }
 
-fn is_borne_twice(rt: &impl Abort, alloc: Global, stage: &mut Stage, bytes: &[u8]) -> bool {
+fn is_borne_twice(rt: &impl Abort, alloc: Global, stage: &mut WitnessStage, bytes: &[u8]) -> bool {
     is_borne(rt, alloc, stage, false, bytes) && is_borne(rt, alloc, stage, true, bytes)
 }
 
-fn parts(rt: &impl Abort, alloc: Global, stage: &mut Stage, bytes: &[u8]) {
+fn parts(rt: &impl Abort, alloc: Global, stage: &mut WitnessStage, bytes: &[u8]) {
     for end in 0..=bytes.len() {
         let part = &bytes[..end];
         assert!(rt; is_borne_twice(rt, alloc, stage, part), "{part:?}");
@@ -81,14 +81,20 @@ fn parts(rt: &impl Abort, alloc: Global, stage: &mut Stage, bytes: &[u8]) {
 }
 
 /// The stream with each byte at a place of it.
-fn changes_at(rt: &impl Abort, alloc: Global, stage: &mut Stage, bytes: &[u8], place: usize) {
+fn changes_at(
+    rt: &impl Abort,
+    alloc: Global,
+    stage: &mut WitnessStage,
+    bytes: &[u8],
+    place: usize,
+) {
     for byte in 0..=255 {
         let stream = changed(rt, alloc, bytes, place, byte);
         assert!(rt; is_borne_twice(rt, alloc, stage, &stream), "{stream:?}");
     }
 }
 
-fn changes(rt: &impl Abort, alloc: Global, stage: &mut Stage, bytes: &[u8]) {
+fn changes(rt: &impl Abort, alloc: Global, stage: &mut WitnessStage, bytes: &[u8]) {
     for place in 0..bytes.len() {
         changes_at(rt, alloc, stage, bytes, place);
     }
@@ -99,7 +105,7 @@ fn a_stream_is_answered_by_the_table_and_others_are_served(rt: HostRuntime) {
     let alloc = rt.alloc();
     for packet in PACKETS {
         let bytes = hex::decode(alloc, packet).expect(&rt, "hexadecimal");
-        let mut stage = Stage::open(alloc, 1).expect(&rt, "a node");
+        let mut stage = WitnessStage::open(alloc, 1).expect(&rt, "a node");
         parts(&rt, alloc, &mut stage, &bytes);
         changes(&rt, alloc, &mut stage, &bytes);
         drop(stage);

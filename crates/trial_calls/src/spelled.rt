@@ -8,7 +8,7 @@ use mqtt_packets::{Packet, read_packet, write_packet};
 use replica_bytes::{read_store, write_store};
 use replica_store::ReplicaStore;
 use std::alloc::Global;
-use trial_refusals::{Failure, Fault, Trial, ensure, has_ended, judge, refuse};
+use trial_refusals::{CallFailure, Fault, Trial, ensure, has_ended, judge, refuse};
 
 /// A value that bytes spell.
 pub trait Spelled: Drop {
@@ -138,7 +138,7 @@ fn is_appended(out: &[u8], bytes: &[u8]) -> bool {
 fn try_append<S: Spelled>(alloc: Global, number: usize, value: &S, bytes: &[u8]) -> Trial {
     let mut out = Vec::new(alloc);
     if out.extend_from_slice(FRONT).is_err() {
-        return Err(Failure::Unready);
+        return Err(CallFailure::Unready);
     }
     refuse(alloc, number);
     let first = value.write(alloc, &mut out);

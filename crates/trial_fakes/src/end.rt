@@ -5,7 +5,7 @@ use broker_sockets::Watched;
 use std::alloc::{AllocError, Global};
 
 /// What has come to it and what it does itself.
-pub struct End {
+pub struct FakeEnd {
     came: Vec<u8>,
     given: usize,
     /// So many bytes of what it sends are given at a time.
@@ -24,9 +24,9 @@ pub struct End {
     pub untold: bool,
 }
 
-impl Drop for End {
+impl Drop for FakeEnd {
     fn drop(self) {
-        let End {
+        let FakeEnd {
             came: _came,
             given: _,
             piece: _,
@@ -40,9 +40,9 @@ impl Drop for End {
     }
 }
 
-impl End {
-    pub fn new(alloc: Global) -> End {
-        End {
+impl FakeEnd {
+    pub fn new(alloc: Global) -> FakeEnd {
+        FakeEnd {
             came: Vec::new(alloc),
             given: 0,
             piece: usize::MAX,

@@ -1,6 +1,6 @@
 //! Streams in pairs, and which of them may have something.
 
-use crate::end::End;
+use crate::end::FakeEnd;
 use broker_sockets::{Answer, Readiness, Ready, Sockets, Watched};
 use std::alloc::{AllocError, Global};
 use std::io::{self, ErrorKind};
@@ -50,7 +50,7 @@ pub struct FakeSockets {
     /// Which of several hubs asks now; each is told of its own sockets.
     pub hub: u8,
     ports: Vec<u8>,
-    ends: Vec<End>,
+    ends: Vec<FakeEnd>,
     waiting: Vec<(u16, usize)>,
     arrived: Vec<u16>,
     told: Vec<Watched>,
@@ -130,8 +130,8 @@ impl FakeSockets {
     /// A new pair of ends, of which the first has connected to a port.
     fn pair(&mut self, port: u16) -> Result<usize, AllocError> {
         let first = self.ends.len();
-        self.ends.push(End::new(self.alloc))?;
-        self.ends.push(End::new(self.alloc))?;
+        self.ends.push(FakeEnd::new(self.alloc))?;
+        self.ends.push(FakeEnd::new(self.alloc))?;
         self.waiting.push((port, across(first)))?;
         self.arrived.push(port)?;
         Ok(first)

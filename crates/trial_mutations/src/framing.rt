@@ -2,7 +2,7 @@
 
 use mqtt_packets::{Framer, PacketFault};
 use std::alloc::Global;
-use trial_streams::Failure;
+use trial_streams::StreamFailure;
 
 /// The longest packet that a node takes.
 const LIMIT: usize = 1_048_576;
@@ -16,7 +16,7 @@ struct Cut {
 }
 
 /// What comes of one more piece, where no fault came before.
-fn fed(framer: &mut Framer, before: Cut, piece: &[u8]) -> Result<Cut, Failure> {
+fn fed(framer: &mut Framer, before: Cut, piece: &[u8]) -> Result<Cut, StreamFailure> {
     if before.fault.is_some() {
         return Ok(before);
     }
@@ -32,11 +32,11 @@ fn fed(framer: &mut Framer, before: Cut, piece: &[u8]) -> Result<Cut, Failure> {
                 held,
             })
         }
-        Err(_) => Err(Failure::Unready),
+        Err(_) => Err(StreamFailure::Unready),
     }
 }
 
-fn cut_of(alloc: Global, pieces: [&[u8]; 2]) -> Result<Cut, Failure> {
+fn cut_of(alloc: Global, pieces: [&[u8]; 2]) -> Result<Cut, StreamFailure> {
     let mut framer = Framer::new(alloc, LIMIT);
     let mut cut = Cut {
         packets: 0,
@@ -50,11 +50,16 @@ fn cut_of(alloc: Global, pieces: [&[u8]; 2]) -> Result<Cut, Failure> {
 }
 
 /// How many packets a framer gives of a stream, which are as many where it comes in these two pieces.
-pub fn framed(alloc: Global, stream: &[u8], front: &[u8], back: &[u8]) -> Result<usize, Failure> {
+pub fn framed(
+    alloc: Global,
+    stream: &[u8],
+    front: &[u8],
+    back: &[u8],
+) -> Result<usize, StreamFailure> {
     let whole = cut_of(alloc, [stream, b""])?;
     if whole == cut_of(alloc, [front, back])? {
         Ok(whole.packets)
     } else {
-        Err(Failure::Uneven)
+        Err(StreamFailure::Uneven)
     }
 }

@@ -13,11 +13,11 @@ mod play;
 mod wires;
 
 use crate::play::Play;
-use crate::wires::Wires;
+use crate::wires::ClientWires;
 use std::alloc::Global;
 use std::io;
 use std::process::ExitCode;
-use trial_streams::Failure;
+use trial_streams::StreamFailure;
 
 /// What is played: how many streams, and their seed.
 #[derive(Clone, Copy)]
@@ -36,7 +36,7 @@ fn task_of(words: &[String]) -> Option<Task> {
     })
 }
 
-fn played(alloc: Global, task: Task) -> Result<Play, Failure> {
+fn played(alloc: Global, task: Task) -> Result<Play, StreamFailure> {
     let mut play = Play::new(alloc, task.seed)?;
     match play.run(task.streams) {
         Ok(()) => Ok(play),
@@ -47,7 +47,7 @@ fn played(alloc: Global, task: Task) -> Result<Play, Failure> {
     }
 }
 
-fn print_closes(rt: &HostRuntime, wires: &Wires) -> io::Result<()> {
+fn print_closes(rt: &HostRuntime, wires: &ClientWires) -> io::Result<()> {
     println!(rt; "closed without a code: {}", wires.unsaid)?;
     for (code, count) in wires.said.iter().enumerate() {
         if *count > 0 {

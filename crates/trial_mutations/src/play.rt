@@ -5,9 +5,9 @@ ghost use Rattle.std.specs.Prelude.{◌<◌, ◌≡◌, ◌≤◌, length, false
 use crate::chance::Chance;
 use crate::framing::framed;
 use crate::mutations::stream;
-use crate::wires::{CLIENTS, Wire, Wires, connection};
+use crate::wires::{CLIENTS, ClientWire, ClientWires, connection};
 use std::alloc::Global;
-use trial_streams::{Failure, PACKETS, Stage};
+use trial_streams::{PACKETS, StreamFailure, WitnessStage};
 
 /// After how many streams the witness is looked after, and after how many of these another node takes the place of the node.
 const STREAMS: u64 = 1_000;
@@ -25,29 +25,29 @@ const NODE: u16 = 1;
 pub struct Play {
     alloc: Global,
     chance: Chance,
-    stage: Stage,
-    pub wires: Wires,
+    stage: WitnessStage,
+    pub wires: ClientWires,
     /// How many streams have come.
     pub streams: u64,
     /// How many packets a framer has given of them.
     pub framed: u64,
 }
 
-fn packets(alloc: Global) -> Result<Vec<Vec<u8>>, Failure> {
+fn packets(alloc: Global) -> Result<Vec<Vec<u8>>, StreamFailure> {
     let mut packets = Vec::new(alloc);
     for packet in PACKETS {
         match hex::decode(alloc, packet) {
             Ok(bytes) => packets.push(bytes)?,
-            Err(_) => return Err(Failure::Unready),
+            Err(_) => return Err(StreamFailure::Unready),
         }
     }
     Ok(packets)
 }
 
 impl Play {
-    pub fn new(alloc: Global, seed: u64) -> Result<Play, Failure> {
-        let wires = Wires::new(alloc)?;
-        let stage = Stage::open(alloc, NODE)?;
+    pub fn new(alloc: Global, seed: u64) -> Result<Play, StreamFailure> {
+        let wires = ClientWires::new(alloc)?;
+        let stage = WitnessStage::open(alloc, NODE)?;
         Ok(Play {
             alloc,
             chance: Chance::new(seed),
@@ -58,28 +58,28 @@ impl Play {
         })
     }
 
-    fn open(&mut self, client: usize) -> Result<(), Failure> {
+    fn open(&mut self, client: usize) -> Result<(), StreamFailure> {
         if self.wires.is_open(client) {
             return Ok(());
         }
-        self.wires.set(client, Wire::Open);
+        self.wires.set(client, ClientWire::Open);
         self.stage.open_connection(connection(client))
     }
 
     /// A client goes.
-    fn close(&mut self, client: usize) -> Result<(), Failure> {
-        self.wires.set(client, Wire::Shut);
+    fn close(&mut self, client: usize) -> Result<(), StreamFailure> {
+        self.wires.set(client, ClientWire::Shut);
         let told = self.stage.close_connection(connection(client))?;
         self.wires.note_all(&told)
     }
 
     /// Bytes of a client come, also where the node has closed its connection.
-    fn take(&mut self, client: usize, bytes: &[u8]) -> Result<(), Failure> {
+    fn take(&mut self, client: usize, bytes: &[u8]) -> Result<(), StreamFailure> {
         let told = self.stage.take(connection(client), bytes)?;
         self.wires.note_all(&told)
     }
 
-    fn pass_time(&mut self) -> Result<(), Failure> {
+    fn pass_time(&mut self) -> Result<(), StreamFailure> {
         let pause = self.chance.below(PAUSE) as u64;
         self.stage.wait(pause);
         let told = self.stage.tick()?;
@@ -87,7 +87,7 @@ impl Play {
     }
 
     /// A stream comes in two pieces, and sometimes its client goes then.
-    fn send(&mut self, client: usize, stream: &[u8]) -> Result<(), Failure> {
+    fn send(&mut self, client: usize, stream: &[u8]) -> Result<(), StreamFailure> {
         let (front, back) = stream.split_at(self.chance.below(stream.len() + 1));
         let packets = framed(self.alloc, stream, front, back)?;
         self.framed = self.framed.saturating_add(packets as u64);
@@ -101,7 +101,7 @@ impl Play {
         Ok(())
     }
 
-    fn step(&mut self, packets: &[Vec<u8>]) -> Result<(), Failure>
+    fn step(&mut self, packets: &[Vec<u8>]) -> Result<(), StreamFailure>
         requires { 0 < length packets.now }
     {
         let stream = stream(self.alloc, &mut self.chance, packets)?;
@@ -111,7 +111,7 @@ impl Play {
     }
 
     /// All clients go, and the witness is served.
-    fn look(&mut self) -> Result<(), Failure> {
+    fn look(&mut self) -> Result<(), StreamFailure> {
         for client in 0..CLIENTS {
             self.close(client)?;
         }
@@ -119,7 +119,7 @@ impl Play {
     }
 
     /// So many streams come, and then the witness is looked after.
-    fn round(&mut self, packets: &[Vec<u8>], streams: u64) -> Result<(), Failure>
+    fn round(&mut self, packets: &[Vec<u8>], streams: u64) -> Result<(), StreamFailure>
         requires { 0 < length packets.now }
     {
         for _ in 0..streams {
@@ -129,18 +129,18 @@ impl Play {
     }
 
     /// Another node takes the place of the node after some rounds.
-    fn change_node(&mut self, round: u64) -> Result<(), Failure> {
+    fn change_node(&mut self, round: u64) -> Result<(), StreamFailure> {
         if round % ROUNDS == ROUNDS - 1 {
-            self.stage = Stage::open(self.alloc, NODE)?;
+            self.stage = WitnessStage::open(self.alloc, NODE)?;
         }
         Ok(())
     }
 
     /// So many streams come.
-    pub fn run(&mut self, streams: u64) -> Result<(), Failure> {
+    pub fn run(&mut self, streams: u64) -> Result<(), StreamFailure> {
         let packets = packets(self.alloc)?;
         if packets.is_empty() {
-            return Err(Failure::Unready);
+            return Err(StreamFailure::Unready);
         }
         for round in 0..streams / STREAMS {
             self.round(&packets, STREAMS)?;

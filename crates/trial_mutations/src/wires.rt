@@ -1,7 +1,7 @@
 //! Which connections are open, and what goes out on them.
 
 use std::alloc::{AllocError, Global};
-use trial_streams::{Failure, Said, Told};
+use trial_streams::{Said, StreamFailure, ToldPacket};
 
 /// The type of a CONNACK, and that of a DISCONNECT.
 const CONNACK: u8 = 2;
@@ -24,7 +24,7 @@ const FIRST: u64 = 2;
 
 /// A connection.
 #[derive(Clone, Copy, PartialEq, Eq)]
-pub enum Wire {
+pub enum ClientWire {
     Shut,
     Open,
     /// Its client has been told of its end.
@@ -33,8 +33,8 @@ pub enum Wire {
 
 /// The connections of the clients, and what went out on them.
 #[derive(Drop)]
-pub struct Wires {
-    wires: [Wire; CLIENTS],
+pub struct ClientWires {
+    wires: [ClientWire; CLIENTS],
     /// How many packets went out.
     pub packets: u64,
     /// How many connections were closed without a code.
@@ -57,18 +57,18 @@ fn none(alloc: Global) -> Result<Vec<u64>, AllocError> {
 }
 
 /// What a packet makes of a connection that is open.
-fn after_packet(kind: u8, code: u8) -> Wire {
+fn after_packet(kind: u8, code: u8) -> ClientWire {
     if kind == DISCONNECT || (kind == CONNACK && code >= FAILURE) {
-        Wire::Ending { code }
+        ClientWire::Ending { code }
     } else {
-        Wire::Open
+        ClientWire::Open
     }
 }
 
-impl Wires {
-    pub fn new(alloc: Global) -> Result<Wires, AllocError> {
-        Ok(Wires {
-            wires: [Wire::Shut; CLIENTS],
+impl ClientWires {
+    pub fn new(alloc: Global) -> Result<ClientWires, AllocError> {
+        Ok(ClientWires {
+            wires: [ClientWire::Shut; CLIENTS],
             packets: 0,
             unsaid: 0,
             said: none(alloc)?,
@@ -76,11 +76,11 @@ impl Wires {
     }
 
     pub fn is_open(&self, client: usize) -> bool {
-        self.wires.get(client).copied() == Some(Wire::Open)
+        self.wires.get(client).copied() == Some(ClientWire::Open)
     }
 
     /// A client's connection is opened, or its client goes.
-    pub fn set(&mut self, client: usize, wire: Wire) {
+    pub fn set(&mut self, client: usize, wire: ClientWire) {
         if let Some(old) = self.wires.get_mut(client) {
             *old = wire;
         }
@@ -93,42 +93,42 @@ impl Wires {
     }
 
     /// A connection is closed.
-    fn close(&mut self, wire: Wire) -> Result<(), Failure> {
+    fn close(&mut self, wire: ClientWire) -> Result<(), StreamFailure> {
         match wire {
-            Wire::Ending { code } if CODES.contains(&code) => self.count(code),
-            Wire::Ending { .. } => return Err(Failure::Uncoded),
+            ClientWire::Ending { code } if CODES.contains(&code) => self.count(code),
+            ClientWire::Ending { .. } => return Err(StreamFailure::Uncoded),
             _ => self.unsaid = self.unsaid.saturating_add(1),
         }
         Ok(())
     }
 
     /// One thing goes out: a packet on a connection that is open and whose client hasn't been told of its end, or a close.
-    fn note(&mut self, told: Told) -> Result<(), Failure> {
+    fn note(&mut self, told: ToldPacket) -> Result<(), StreamFailure> {
         let client = told.connection.wrapping_sub(FIRST) as usize;
-        let old = self.wires.get(client).copied().unwrap_or(Wire::Shut);
+        let old = self.wires.get(client).copied().unwrap_or(ClientWire::Shut);
         let new = match (old, told.said) {
-            (Wire::Open, Said::Packet { kind, code }) => {
+            (ClientWire::Open, Said::Packet { kind, code }) => {
                 self.packets = self.packets.saturating_add(1);
                 after_packet(kind, code)
             }
-            (Wire::Open | Wire::Ending { .. }, Said::Close) => {
+            (ClientWire::Open | ClientWire::Ending { .. }, Said::Close) => {
                 self.close(old)?;
-                Wire::Shut
+                ClientWire::Shut
             }
-            _ => return Err(Failure::Unasked),
+            _ => return Err(StreamFailure::Unasked),
         };
         self.set(client, new);
         Ok(())
     }
 
     /// This goes out by one event, and who is told of an end is closed.
-    pub fn note_all(&mut self, told: &[Told]) -> Result<(), Failure> {
+    pub fn note_all(&mut self, told: &[ToldPacket]) -> Result<(), StreamFailure> {
         for each in told {
             self.note(*each)?;
         }
         for wire in self.wires {
-            if matches!(wire, Wire::Ending { .. }) {
-                return Err(Failure::Unclosed);
+            if matches!(wire, ClientWire::Ending { .. }) {
+                return Err(StreamFailure::Unclosed);
             }
         }
         Ok(())

@@ -5,7 +5,7 @@ use cluster_play::{Cluster, Line, PlayFault, Step, Trace};
 use home_table::HomeTable;
 use std::alloc::Global;
 use std::{mem, slice};
-use trial_runs::{Came, Failure, Notes, Played, Run, came_of};
+use trial_runs::{Notes, Played, Run, RunFailure, StepOutcome, came_of};
 
 /// A cluster, or the tables of the one that isn't there yet.
 #[derive(Drop)]
@@ -33,7 +33,7 @@ fn play(cluster: &mut Option<Cluster>, step: &Step) -> Result<Trace, PlayFault> 
 }
 
 /// Notes what a line tells, and what comes of it.
-fn note_line(line: &Line, told: &mut Notes) -> Came {
+fn note_line(line: &Line, told: &mut Notes) -> StepOutcome {
     match line {
         Line::Sent {
             node,
@@ -51,26 +51,26 @@ fn note_line(line: &Line, told: &mut Notes) -> Came {
         Line::Crash { .. } => {}
         Line::Down { node } => told.add(b'd', *node, 0, &[]),
     }
-    Came::Done
+    StepOutcome::Done
 }
 
-fn note_lines(trace: &Trace, told: &mut Notes) -> Came {
+fn note_lines(trace: &Trace, told: &mut Notes) -> StepOutcome {
     for line in trace.lines.iter() {
         let came = note_line(line, told);
-        if came != Came::Done {
+        if came != StepOutcome::Done {
             return came;
         }
     }
-    Came::Done
+    StepOutcome::Done
 }
 
 /// What comes of a step that was played; a frame that isn't there reaches nobody.
-fn outcome(trace: Result<Trace, PlayFault>, told: &mut Notes) -> Came {
+fn outcome(trace: Result<Trace, PlayFault>, told: &mut Notes) -> StepOutcome {
     match trace {
         Ok(trace) => note_lines(&trace, told),
-        Err(PlayFault::NoMemory) => Came::Spends,
-        Err(PlayFault::Spent) => Came::Spent,
-        Err(_) => Came::Done,
+        Err(PlayFault::NoMemory) => StepOutcome::Spends,
+        Err(PlayFault::Spent) => StepOutcome::Spent,
+        Err(_) => StepOutcome::Done,
     }
 }
 
@@ -88,30 +88,30 @@ fn is_down(trace: &Trace, node: u16) -> bool {
 }
 
 impl Played for Together {
-    fn new(alloc: Global, run: &Run) -> Result<Together, Failure> {
+    fn new(alloc: Global, run: &Run) -> Result<Together, RunFailure> {
         match tables(alloc, &run.homes) {
             Some(tables) => Ok(Together {
                 alloc,
                 tables,
                 cluster: None,
             }),
-            None => Err(Failure::Unready),
+            None => Err(RunFailure::Unready),
         }
     }
 
-    fn open(&mut self) -> Came {
+    fn open(&mut self) -> StepOutcome {
         let tables = mem::replace(&mut self.tables, Vec::new(self.alloc));
         match Cluster::new(self.alloc, tables) {
             Ok(cluster) => {
                 self.cluster = Some(cluster);
-                Came::Done
+                StepOutcome::Done
             }
-            Err(PlayFault::NoMemory) => Came::Spends,
-            Err(_) => Came::Spent,
+            Err(PlayFault::NoMemory) => StepOutcome::Spends,
+            Err(_) => StepOutcome::Spent,
         }
     }
 
-    fn take(&mut self, step: &Step, told: &mut Notes) -> Came {
+    fn take(&mut self, step: &Step, told: &mut Notes) -> StepOutcome {
         let trace = play(&mut self.cluster, step);
         outcome(trace, told)
     }

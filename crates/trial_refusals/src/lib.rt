@@ -11,4 +11,6 @@ pub use requests::{can_refuse, has_ended, refuse};
 pub use spellings::{
     CONNECT, CONTEXT, DELTA, FORWARD, MESSAGE, PROPERTIES, PUBLISH, STORE, bytes_of,
 };
-pub use trial::{Asking, Call, Changing, Failure, Trial, judge, sweep, try_asking, try_changing};
+pub use trial::{
+    Asking, Call, CallFailure, Changing, Trial, judge, sweep, try_asking, try_changing,
+};

@@ -8,7 +8,7 @@ use std::alloc::Global;
 
 /// What is wrong with a call.
 #[derive(Clone, Copy)]
-pub enum Failure {
+pub enum CallFailure {
     /// What it is to be made of can't be made.
     Unready,
     /// It gives something else, or another fault than want of memory.
@@ -21,26 +21,26 @@ pub enum Failure {
     Again,
 }
 
-impl Failure {
+impl CallFailure {
     pub fn text(self) -> &'static str {
         match self {
-            Failure::Unready => "it can't be made",
-            Failure::Other => "another answer than NoMemory",
-            Failure::Unrefused => "NoMemory, and none was refused",
-            Failure::Changed => "something has changed",
-            Failure::Again => "another answer when it is made again",
+            CallFailure::Unready => "it can't be made",
+            CallFailure::Other => "another answer than NoMemory",
+            CallFailure::Unrefused => "NoMemory, and none was refused",
+            CallFailure::Changed => "something has changed",
+            CallFailure::Again => "another answer when it is made again",
         }
     }
 }
 
-impl From<Fault> for Failure {
-    fn from(_fault: Fault) -> Failure {
-        Failure::Unready
+impl From<Fault> for CallFailure {
+    fn from(_fault: Fault) -> CallFailure {
+        CallFailure::Unready
     }
 }
 
 /// Whether a call made fewer allocations than the one that was to be refused; so far it is as it should be.
-pub type Trial = Result<bool, Failure>;
+pub type Trial = Result<bool, CallFailure>;
 
 /// What a call comes to that gave this first, and this when it was made again.
 pub fn judge(
@@ -56,14 +56,14 @@ pub fn judge(
         (first ≡ Err Fault.NoMemory → (has_ended ≡ false) × (is_as_before ≡ true)) }
 {
     match first {
-        Err(Fault::Other) => return Err(Failure::Other),
-        Err(Fault::NoMemory) if has_ended => return Err(Failure::Unrefused),
-        Err(Fault::NoMemory) if !is_as_before => return Err(Failure::Changed),
+        Err(Fault::Other) => return Err(CallFailure::Other),
+        Err(Fault::NoMemory) if has_ended => return Err(CallFailure::Unrefused),
+        Err(Fault::NoMemory) if !is_as_before => return Err(CallFailure::Changed),
         _ => {}
     }
     match again {
         Ok(()) => Ok(has_ended),
-        Err(_) => Err(Failure::Again),
+        Err(_) => Err(CallFailure::Again),
     }
 }
 
@@ -118,7 +118,7 @@ pub trait Call {
 const MOST: usize = 100_000;
 
 /// How many allocations of a call were refused; where that can't be asked for, the call is made once.
-pub fn sweep<C: Call>(alloc: Global, call: &C) -> Result<usize, Failure> {
+pub fn sweep<C: Call>(alloc: Global, call: &C) -> Result<usize, CallFailure> {
     let most: usize = if can_refuse(alloc) { MOST } else { 2 };
     for number in 1..most {
         if call.attempt(alloc, number)? {

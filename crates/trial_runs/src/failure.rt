@@ -4,7 +4,7 @@ ghost use Rattle.std.specs.Prelude.{◌≡◌, true, OnOk};
 
 /// What is wrong with a run of which an allocation is refused.
 #[derive(Clone, Copy, PartialEq, Eq)]
-pub enum Failure {
+pub enum RunFailure {
     /// It can't be played.
     Unready,
     /// It gives something else, though no node has stopped.
@@ -19,21 +19,21 @@ pub enum Failure {
     Onward,
 }
 
-impl Failure {
+impl RunFailure {
     pub fn text(self) -> &'static str {
         match self {
-            Failure::Unready => "it can't be played",
-            Failure::Other => "something else is given out",
-            Failure::Unrefused => "NoMemory, and none was refused",
-            Failure::Unstopped => "the next call isn't answered by Stopped or Spent",
-            Failure::Changed => "the rows aren't those of before",
-            Failure::Onward => "opened again, it doesn't go on as after a crash",
+            RunFailure::Unready => "it can't be played",
+            RunFailure::Other => "something else is given out",
+            RunFailure::Unrefused => "NoMemory, and none was refused",
+            RunFailure::Unstopped => "the next call isn't answered by Stopped or Spent",
+            RunFailure::Changed => "the rows aren't those of before",
+            RunFailure::Onward => "opened again, it doesn't go on as after a crash",
         }
     }
 }
 
 /// This is what is wrong, unless it holds.
-pub fn ensure(holds: bool, failure: Failure) -> Result<(), Failure>
+pub fn ensure(holds: bool, failure: RunFailure) -> Result<(), RunFailure>
     ensures { OnOk result (holds ≡ true) }
 {
     if holds { Ok(()) } else { Err(failure) }

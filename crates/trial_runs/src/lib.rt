@@ -10,9 +10,9 @@ mod run;
 mod telling;
 mod trial;
 
-pub use failure::Failure;
+pub use failure::RunFailure;
 pub use nodes::{Nodes, Rows};
 pub use notes::Notes;
 pub use run::Run;
 pub use telling::tell;
-pub use trial::{Came, Played, came_of, wants_memory};
+pub use trial::{Played, StepOutcome, came_of, wants_memory};

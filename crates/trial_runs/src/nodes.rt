@@ -1,6 +1,6 @@
 //! Nodes with their rows, and the frames that they have given out.
 
-use crate::{Came, Failure, Notes, Played, Run, came_of, wants_memory};
+use crate::{Notes, Played, Run, RunFailure, StepOutcome, came_of, wants_memory};
 use broker_node::{Event, EventKind, Frame, Output};
 use cluster_play::Step;
 use home_table::HomeTable;
@@ -187,23 +187,28 @@ fn answered(
     node: u16,
     answer: Result<Vec<Output>, KeeperFault>,
     told: &mut Notes,
-) -> Came {
+) -> StepOutcome {
     match answer {
         Ok(outputs) => {
             for output in outputs {
                 give_out(frames, node, output, told);
             }
-            Came::Done
+            StepOutcome::Done
         }
         Err(fault) => came_of(node, fault, told),
     }
 }
 
 /// A frame of this number comes; one that isn't there, since a node that was opened again gives out others, reaches nobody.
-fn deliver<R: RowStore>(nodes: &mut Nodes<R>, number: u64, at: u64, told: &mut Notes) -> Came {
+fn deliver<R: RowStore>(
+    nodes: &mut Nodes<R>,
+    number: u64,
+    at: u64,
+    told: &mut Notes,
+) -> StepOutcome {
     let place = number.wrapping_sub(1) as usize;
     let Some(sent) = nodes.frames.get_mut(place) else {
-        return Came::Done;
+        return StepOutcome::Done;
     };
     sent.event.at = at;
     let node = sent.to;
@@ -212,7 +217,12 @@ fn deliver<R: RowStore>(nodes: &mut Nodes<R>, number: u64, at: u64, told: &mut N
 }
 
 /// An event comes.
-fn happen<R: RowStore>(nodes: &mut Nodes<R>, node: u16, event: &Event, told: &mut Notes) -> Came {
+fn happen<R: RowStore>(
+    nodes: &mut Nodes<R>,
+    node: u16,
+    event: &Event,
+    told: &mut Notes,
+) -> StepOutcome {
     let answer = handled(&mut nodes.places, node, event, nodes.goes_on);
     answered(&mut nodes.frames, node, answer, told)
 }
@@ -229,22 +239,22 @@ fn crash_after<R: RowStore>(
     node: u16,
     event: &Event,
     told: &mut Notes,
-) -> Came {
+) -> StepOutcome {
     match handled(&mut nodes.places, node, event, nodes.goes_on) {
         Ok(_lost) => {
             crash(nodes, node);
-            Came::Done
+            StepOutcome::Done
         }
         Err(fault) => came_of(node, fault, told),
     }
 }
 
-fn restart<R: RowStore>(nodes: &mut Nodes<R>, node: u16, told: &mut Notes) -> Came {
+fn restart<R: RowStore>(nodes: &mut Nodes<R>, node: u16, told: &mut Notes) -> StepOutcome {
     let Some(Place::Node(keeper)) = nodes.places.get_mut(node as usize) else {
-        return Came::Done;
+        return StepOutcome::Done;
     };
     match keeper.reopen() {
-        Ok(()) => Came::Done,
+        Ok(()) => StepOutcome::Done,
         Err(fault) => came_of(node, fault, told),
     }
 }
@@ -286,28 +296,28 @@ impl<R: Rows + Drop> Nodes<R> {
 }
 
 impl<R: Rows + Drop> Played for Nodes<R> {
-    fn new(alloc: Global, run: &Run) -> Result<Nodes<R>, Failure> {
+    fn new(alloc: Global, run: &Run) -> Result<Nodes<R>, RunFailure> {
         match Nodes::make(alloc, run) {
             Some(nodes) => Ok(nodes),
-            None => Err(Failure::Unready),
+            None => Err(RunFailure::Unready),
         }
     }
 
-    fn open(&mut self) -> Came {
+    fn open(&mut self) -> StepOutcome {
         match self.open_all() {
-            None => Came::Done,
-            Some((node, fault)) if wants_memory(fault) => Came::Refused { node },
-            Some(_) => Came::Spent,
+            None => StepOutcome::Done,
+            Some((node, fault)) if wants_memory(fault) => StepOutcome::Refused { node },
+            Some(_) => StepOutcome::Spent,
         }
     }
 
-    fn take(&mut self, step: &Step, told: &mut Notes) -> Came {
+    fn take(&mut self, step: &Step, told: &mut Notes) -> StepOutcome {
         match step {
             Step::Event { node, event } => happen(self, *node, event, told),
             Step::Deliver { frame, at } => deliver(self, *frame, *at, told),
             Step::CrashBefore { node, event: _ } => {
                 crash(self, *node);
-                Came::Done
+                StepOutcome::Done
             }
             Step::CrashAfter { node, event } => crash_after(self, *node, event, told),
             Step::Restart { node } => restart(self, *node, told),

@@ -1,6 +1,6 @@
 //! What nodes give out and hold, noted as bytes.
 
-use crate::failure::Failure;
+use crate::failure::RunFailure;
 use std::alloc::Global;
 
 /// Notes, with room from the start: no more memory is asked for while they fit.
@@ -15,13 +15,13 @@ pub struct Notes {
 const ROOM: usize = 65_536;
 
 impl Notes {
-    pub fn new(alloc: Global) -> Result<Notes, Failure> {
+    pub fn new(alloc: Global) -> Result<Notes, RunFailure> {
         match Vec::with_capacity(alloc, ROOM) {
             Ok(bytes) => Ok(Notes {
                 bytes,
                 is_whole: true,
             }),
-            Err(_) => Err(Failure::Unready),
+            Err(_) => Err(RunFailure::Unready),
         }
     }
 

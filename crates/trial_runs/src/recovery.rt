@@ -1,9 +1,9 @@
 //! What comes again at a node that was opened again: it starts where it had, and its clients connect.
 
-use crate::failure::{Failure, ensure};
+use crate::failure::{RunFailure, ensure};
 use crate::notes::Notes;
 use crate::run::Run;
-use crate::trial::{Came, Played};
+use crate::trial::{Played, StepOutcome};
 use broker_node::{Event, EventKind};
 use cluster_play::Step;
 use mqtt_packets::Bytes;
@@ -88,14 +88,14 @@ fn first_packet(
     steps: &[Step],
     node: u16,
     connection: u64,
-) -> Result<Vec<u8>, Failure> {
+) -> Result<Vec<u8>, RunFailure> {
     let mut bytes = Vec::new(alloc);
     for step in steps {
         if bytes
             .extend_from_slice(piece_of(step, node, connection))
             .is_err()
         {
-            return Err(Failure::Unready);
+            return Err(RunFailure::Unready);
         }
     }
     let length = bytes.get(1).copied().unwrap_or(0);
@@ -103,9 +103,9 @@ fn first_packet(
     Ok(bytes)
 }
 
-fn take<P: Played>(played: &mut P, step: &Step, told: &mut Notes) -> Result<(), Failure> {
+fn take<P: Played>(played: &mut P, step: &Step, told: &mut Notes) -> Result<(), RunFailure> {
     let came = played.take(step, told);
-    ensure(came == Came::Done, Failure::Onward)
+    ensure(came == StepOutcome::Done, RunFailure::Onward)
 }
 
 /// These bytes come on a connection.
@@ -114,7 +114,7 @@ fn send<P: Played>(
     (node, connection, at): (u16, u64, u64),
     bytes: Vec<u8>,
     told: &mut Notes,
-) -> Result<(), Failure> {
+) -> Result<(), RunFailure> {
     if bytes.is_empty() {
         return Ok(());
     }
@@ -134,7 +134,7 @@ fn repeat<P: Played>(
     (step, later): (&Step, &[Step]),
     node: u16,
     told: &mut Notes,
-) -> Result<(), Failure> {
+) -> Result<(), RunFailure> {
     match part_of(step, node) {
         Part::Start => take(played, step, told),
         Part::Open { connection, at } if !is_closed(later, node, connection) => {
@@ -154,7 +154,7 @@ pub fn recover<P: Played>(
     run: &Run,
     (at, node): (usize, u16),
     told: &mut Notes,
-) -> Result<(), Failure> {
+) -> Result<(), RunFailure> {
     let steps = &run.steps[..at.min(run.steps.len())];
     for place in since(steps, node)..steps.len() {
         repeat(

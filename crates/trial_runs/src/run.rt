@@ -1,6 +1,6 @@
 //! Scripts as runs.
 
-use crate::failure::Failure;
+use crate::failure::RunFailure;
 use broker_script::Command;
 use cli_stops::RunFault;
 use cluster_play::{Cluster, Step, Trace};
@@ -80,9 +80,9 @@ fn steps(alloc: Global, start: Start) -> Option<Vec<Step>> {
 }
 
 /// The run of a script.
-pub fn read_run(alloc: Global, script: &[u8], goes_on: bool) -> Result<Run, Failure> {
+pub fn read_run(alloc: Global, script: &[u8], goes_on: bool) -> Result<Run, RunFailure> {
     let Ok(start) = begin(alloc, script) else {
-        return Err(Failure::Unready);
+        return Err(RunFailure::Unready);
     };
     let table = table(alloc, &start);
     let steps = steps(alloc, start);
@@ -92,6 +92,6 @@ pub fn read_run(alloc: Global, script: &[u8], goes_on: bool) -> Result<Run, Fail
             steps,
             goes_on,
         }),
-        _ => Err(Failure::Unready),
+        _ => Err(RunFailure::Unready),
     }
 }

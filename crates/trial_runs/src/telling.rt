@@ -1,6 +1,6 @@
 //! What is told of the runs of a script of which allocations are refused.
 
-use crate::failure::Failure;
+use crate::failure::RunFailure;
 use crate::run::read_run;
 use crate::trial::{Played, sweep};
 use std::alloc::Global;
@@ -19,7 +19,7 @@ fn refused<P: Played + Drop>(
     alloc: Global,
     script: &[u8],
     goes_on: bool,
-) -> Result<usize, Failure> {
+) -> Result<usize, RunFailure> {
     let run = read_run(alloc, script, goes_on)?;
     let refused = sweep::<P>(alloc, &run);
     drop(run);

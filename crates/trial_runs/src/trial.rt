@@ -3,7 +3,7 @@
 ghost use Rattle.std.specs.Prelude.{◌≡◌, ◌⊎◌, ◌↔◌, IsTrue};
 ghost use Rattle.node_keeper.specs.declared.fault.KeeperFault.TheVariants as faults;
 
-use crate::failure::{Failure, ensure};
+use crate::failure::{RunFailure, ensure};
 use crate::notes::Notes;
 use crate::recovery::recover;
 use crate::run::Run;
@@ -15,7 +15,7 @@ use trial_refusals::{can_refuse, has_ended, refuse};
 
 /// What comes of a step.
 #[derive(Clone, Copy, PartialEq, Eq)]
-pub enum Came {
+pub enum StepOutcome {
     /// It is taken.
     Done,
     /// This node, or its rows, wanted memory.
@@ -37,9 +37,9 @@ pub fn wants_memory(fault: KeeperFault) -> bool
 }
 
 /// What the fault of a node comes to; any other one than want of memory is noted.
-pub fn came_of(node: u16, fault: KeeperFault, told: &mut Notes) -> Came {
+pub fn came_of(node: u16, fault: KeeperFault, told: &mut Notes) -> StepOutcome {
     if wants_memory(fault) {
-        return Came::Refused { node };
+        return StepOutcome::Refused { node };
     }
     let kind = match fault {
         KeeperFault::NumbersAtEnd => b'n',
@@ -47,19 +47,19 @@ pub fn came_of(node: u16, fault: KeeperFault, told: &mut Notes) -> Came {
         _ => b'r',
     };
     told.add(kind, node, 0, &[]);
-    Came::Done
+    StepOutcome::Done
 }
 
 /// Nodes that are played step by step.
 pub trait Played {
     /// The nodes of a run, which aren't opened yet.
-    fn new(alloc: Global, run: &Run) -> Result<Self, Failure>;
+    fn new(alloc: Global, run: &Run) -> Result<Self, RunFailure>;
 
     /// Opens those that aren't.
-    fn open(&mut self) -> Came;
+    fn open(&mut self) -> StepOutcome;
 
     /// Takes a step, and notes what is given out. Nothing else takes memory here.
-    fn take(&mut self, step: &Step, told: &mut Notes) -> Came;
+    fn take(&mut self, step: &Step, told: &mut Notes) -> StepOutcome;
 
     /// Whether a node that has stopped answers so.
     fn has_stopped(&mut self, node: u16) -> bool;
@@ -83,7 +83,7 @@ struct Tale {
 }
 
 impl Tale {
-    fn new(alloc: Global) -> Result<Tale, Failure> {
+    fn new(alloc: Global) -> Result<Tale, RunFailure> {
         let told = Notes::new(alloc)?;
         let left = Notes::new(alloc)?;
         let ends = Notes::new(alloc)?;
@@ -100,7 +100,7 @@ impl Tale {
 struct Stop {
     /// The step; none while the nodes are opened.
     at: Option<usize>,
-    came: Came,
+    came: StepOutcome,
 }
 
 /// Takes the steps from one to another, up to the first that isn't taken.
@@ -110,20 +110,20 @@ fn play<P: Played>(played: &mut P, run: &Run, from: usize, to: usize, told: &mut
             break;
         };
         let came = played.take(step, told);
-        if came != Came::Done {
+        if came != StepOutcome::Done {
             return Stop { at: Some(at), came };
         }
     }
     Stop {
         at: Some(to),
-        came: Came::Done,
+        came: StepOutcome::Done,
     }
 }
 
 /// Opens the nodes, and takes the steps up to one.
 fn begin<P: Played>(played: &mut P, run: &Run, to: usize, told: &mut Notes) -> Stop {
     let came = played.open();
-    if came != Came::Done {
+    if came != StepOutcome::Done {
         return Stop { at: None, came };
     }
     play(played, run, 0, to, told)
@@ -135,12 +135,12 @@ fn finish<P: Played>(
     run: &Run,
     from: usize,
     tale: &mut Tale,
-) -> Result<(), Failure> {
+) -> Result<(), RunFailure> {
     let stop = play(played, run, from, run.steps.len(), &mut tale.told);
-    ensure(stop.came == Came::Done, Failure::Onward)?;
+    ensure(stop.came == StepOutcome::Done, RunFailure::Onward)?;
     for node in 0..run.homes.nodes() {
         let count = played.reopen(node, &mut tale.ends);
-        ensure(count.is_some(), Failure::Onward)?;
+        ensure(count.is_some(), RunFailure::Onward)?;
     }
     Ok(())
 }
@@ -152,9 +152,9 @@ fn go_on<P: Played>(
     run: &Run,
     (at, node): (usize, u16),
     tale: &mut Tale,
-) -> Result<(), Failure> {
+) -> Result<(), RunFailure> {
     let count = played.reopen(node, &mut tale.left);
-    ensure(count.is_some(), Failure::Changed)?;
+    ensure(count.is_some(), RunFailure::Changed)?;
     recover(alloc, played, run, (at, node), &mut tale.told)?;
     finish(played, run, at, tale)
 }
@@ -166,13 +166,13 @@ fn run_whole<P: Played>(
     run: &Run,
     crash: Option<(usize, u16)>,
     tale: &mut Tale,
-) -> Result<(), Failure> {
+) -> Result<(), RunFailure> {
     let at = match crash {
         Some((at, _)) => at,
         None => run.steps.len(),
     };
     let stop = begin(played, run, at, &mut tale.told);
-    ensure(stop.came == Came::Done, Failure::Unready)?;
+    ensure(stop.came == StepOutcome::Done, RunFailure::Unready)?;
     match crash {
         Some((at, node)) => {
             played.crash(node);
@@ -187,7 +187,7 @@ fn right<P: Played + Drop>(
     alloc: Global,
     run: &Run,
     crash: Option<(usize, u16)>,
-) -> Result<Tale, Failure> {
+) -> Result<Tale, RunFailure> {
     let mut tale = Tale::new(alloc)?;
     let mut played = P::new(alloc, run)?;
     let ran = run_whole(alloc, &mut played, run, crash, &mut tale);
@@ -212,7 +212,7 @@ fn provide<P: Played + Drop>(
     run: &Run,
     crash: (usize, u16),
     rights: &mut Rights,
-) -> Result<(), Failure> {
+) -> Result<(), RunFailure> {
     if rights.crash != Some(crash) {
         let tale = right::<P>(alloc, run, Some(crash))?;
         rights.crashed = tale;
@@ -224,7 +224,7 @@ fn provide<P: Played + Drop>(
 /// Whether every step is answered by Spent.
 fn is_spent<P: Played>(played: &mut P, run: &Run, told: &mut Notes) -> bool {
     for step in run.steps.iter() {
-        if played.take(step, told) != Came::Spent {
+        if played.take(step, told) != StepOutcome::Spent {
             return false;
         }
     }
@@ -237,9 +237,9 @@ fn after_all<P: Played>(
     run: &Run,
     tale: &mut Tale,
     rights: &Rights,
-) -> Result<(), Failure> {
+) -> Result<(), RunFailure> {
     finish(played, run, run.steps.len(), tale)?;
-    ensure(tale.goes_as(&rights.plain), Failure::Other)
+    ensure(tale.goes_as(&rights.plain), RunFailure::Other)
 }
 
 /// A node wasn't opened: its rows are none, or the mark alone, and it is opened from them.
@@ -249,13 +249,13 @@ fn after_opening<P: Played>(
     node: u16,
     tale: &mut Tale,
     rights: &Rights,
-) -> Result<(), Failure> {
+) -> Result<(), RunFailure> {
     let count = played.reopen(node, &mut tale.left);
-    ensure(count.is_some_and(|rows| rows <= 1), Failure::Changed)?;
+    ensure(count.is_some_and(|rows| rows <= 1), RunFailure::Changed)?;
     let stop = begin(played, run, 0, &mut tale.told);
-    ensure(stop.came == Came::Done, Failure::Onward)?;
+    ensure(stop.came == StepOutcome::Done, RunFailure::Onward)?;
     finish(played, run, 0, tale)?;
-    ensure(tale.goes_as(&rights.plain), Failure::Onward)
+    ensure(tale.goes_as(&rights.plain), RunFailure::Onward)
 }
 
 /// A node has stopped at a step.
@@ -266,12 +266,15 @@ fn after_step<P: Played + Drop>(
     crash: (usize, u16),
     tale: &mut Tale,
     rights: &mut Rights,
-) -> Result<(), Failure> {
-    ensure(played.has_stopped(crash.1), Failure::Unstopped)?;
+) -> Result<(), RunFailure> {
+    ensure(played.has_stopped(crash.1), RunFailure::Unstopped)?;
     go_on(alloc, played, run, crash, tale)?;
     provide::<P>(alloc, run, crash, rights)?;
-    ensure(tale.left.are_same(&rights.crashed.left), Failure::Changed)?;
-    ensure(tale.goes_as(&rights.crashed), Failure::Onward)
+    ensure(
+        tale.left.are_same(&rights.crashed.left),
+        RunFailure::Changed,
+    )?;
+    ensure(tale.goes_as(&rights.crashed), RunFailure::Onward)
 }
 
 /// What has to hold after a run that stopped so.
@@ -282,18 +285,18 @@ fn settle<P: Played + Drop>(
     stop: Stop,
     tale: &mut Tale,
     rights: &mut Rights,
-) -> Result<(), Failure> {
+) -> Result<(), RunFailure> {
     match (stop.came, stop.at) {
-        (Came::Done, _) => after_all(played, run, tale, rights),
-        (Came::Refused { node }, Some(at)) => {
+        (StepOutcome::Done, _) => after_all(played, run, tale, rights),
+        (StepOutcome::Refused { node }, Some(at)) => {
             after_step(alloc, played, run, (at, node), tale, rights)
         }
-        (Came::Refused { node }, None) => after_opening(played, run, node, tale, rights),
-        (Came::Spends, _) => {
+        (StepOutcome::Refused { node }, None) => after_opening(played, run, node, tale, rights),
+        (StepOutcome::Spends, _) => {
             let is_spent = is_spent(played, run, &mut tale.told);
-            ensure(is_spent, Failure::Unstopped)
+            ensure(is_spent, RunFailure::Unstopped)
         }
-        (Came::Spent, _) => Err(Failure::Other),
+        (StepOutcome::Spent, _) => Err(RunFailure::Other),
     }
 }
 
@@ -305,11 +308,14 @@ fn try_run<P: Played + Drop>(
     number: usize,
     tale: &mut Tale,
     rights: &mut Rights,
-) -> Result<bool, Failure> {
+) -> Result<bool, RunFailure> {
     refuse(alloc, number);
     let stop = begin(played, run, run.steps.len(), &mut tale.told);
     let ended = has_ended(alloc);
-    ensure(!ended || stop.came == Came::Done, Failure::Unrefused)?;
+    ensure(
+        !ended || stop.came == StepOutcome::Done,
+        RunFailure::Unrefused,
+    )?;
     settle(alloc, played, run, stop, tale, rights)?;
     Ok(ended)
 }
@@ -319,7 +325,7 @@ fn attempt<P: Played + Drop>(
     run: &Run,
     number: usize,
     rights: &mut Rights,
-) -> Result<bool, Failure> {
+) -> Result<bool, RunFailure> {
     let mut tale = Tale::new(alloc)?;
     let mut played = P::new(alloc, run)?;
     let tried = try_run(alloc, &mut played, run, number, &mut tale, rights);
@@ -331,7 +337,7 @@ fn attempt<P: Played + Drop>(
 const MOST: usize = 1_000_000;
 
 /// How many allocations of a run were refused; where that can't be asked for, it is played once.
-pub fn sweep<P: Played + Drop>(alloc: Global, run: &Run) -> Result<usize, Failure> {
+pub fn sweep<P: Played + Drop>(alloc: Global, run: &Run) -> Result<usize, RunFailure> {
     let mut rights = Rights {
         plain: right::<P>(alloc, run, None)?,
         crash: None,

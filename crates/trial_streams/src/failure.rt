@@ -5,7 +5,7 @@ use std::alloc::{AllocError, AllocFailed};
 
 /// What is wrong with what comes of bytes.
 #[derive(Clone, Copy, Debug, PartialEq, Eq)]
-pub enum Failure {
+pub enum StreamFailure {
     /// There is no such node, or no memory.
     Unready,
     /// The node has stopped.
@@ -26,37 +26,37 @@ pub enum Failure {
     Uneven,
 }
 
-impl Failure {
+impl StreamFailure {
     /// What is wrong, in words.
     pub fn text(self) -> &'static str {
         match self {
-            Failure::Unready => "there is no node, or no memory",
-            Failure::Stopped => "the node has stopped",
-            Failure::NoPacket => "a client is sent what isn't a packet",
-            Failure::Unasked => "something goes out where nothing should",
-            Failure::Refused => "a client isn't accepted",
-            Failure::Unserved => "the witness isn't served",
-            Failure::Unclosed => "a connection isn't closed that was told so",
-            Failure::Uncoded => "a connection ends with a Reason Code that no node has",
-            Failure::Uneven => "a stream that is cut gives other packets",
+            StreamFailure::Unready => "there is no node, or no memory",
+            StreamFailure::Stopped => "the node has stopped",
+            StreamFailure::NoPacket => "a client is sent what isn't a packet",
+            StreamFailure::Unasked => "something goes out where nothing should",
+            StreamFailure::Refused => "a client isn't accepted",
+            StreamFailure::Unserved => "the witness isn't served",
+            StreamFailure::Unclosed => "a connection isn't closed that was told so",
+            StreamFailure::Uncoded => "a connection ends with a Reason Code that no node has",
+            StreamFailure::Uneven => "a stream that is cut gives other packets",
         }
     }
 }
 
-impl From<AllocError> for Failure {
-    fn from(_error: AllocError) -> Failure {
-        Failure::Unready
+impl From<AllocError> for StreamFailure {
+    fn from(_error: AllocError) -> StreamFailure {
+        StreamFailure::Unready
     }
 }
 
-impl<T: Drop> From<AllocFailed<T>> for Failure {
-    fn from(_error: AllocFailed<T>) -> Failure {
-        Failure::Unready
+impl<T: Drop> From<AllocFailed<T>> for StreamFailure {
+    fn from(_error: AllocFailed<T>) -> StreamFailure {
+        StreamFailure::Unready
     }
 }
 
-impl From<NoMemory> for Failure {
-    fn from(_error: NoMemory) -> Failure {
-        Failure::Unready
+impl From<NoMemory> for StreamFailure {
+    fn from(_error: NoMemory) -> StreamFailure {
+        StreamFailure::Unready
     }
 }

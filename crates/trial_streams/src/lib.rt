@@ -6,7 +6,7 @@ mod packets;
 mod stage;
 mod told;
 
-pub use failure::Failure;
+pub use failure::StreamFailure;
 pub use packets::PACKETS;
-pub use stage::{Holdings, Stage, WITNESS};
-pub use told::{Said, Told};
+pub use stage::{Holdings, WITNESS, WitnessStage};
+pub use told::{Said, ToldPacket};

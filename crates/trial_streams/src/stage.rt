@@ -2,8 +2,8 @@
 
 ghost use Rattle.std.specs.Prelude.{◌<◌, length, IfOk};
 
-use crate::failure::Failure;
-use crate::told::{Told, is_only, told_by};
+use crate::failure::StreamFailure;
+use crate::told::{ToldPacket, is_only, told_by};
 use broker_node::{Counts, Event, EventKind, Output};
 use home_table::HomeTable;
 use mqtt_packets::Bytes;
@@ -62,15 +62,15 @@ impl Holdings {
 }
 
 /// A node of two with its rows in memory, whose witness is connected and subscribes to a topic of its own.
-pub struct Stage {
+pub struct WitnessStage {
     alloc: Global,
     keeper: Box<Keeper<RefusingRows>>,
     at: u64,
 }
 
-impl Drop for Stage {
+impl Drop for WitnessStage {
     fn drop(self) {
-        let Stage {
+        let WitnessStage {
             alloc: _alloc,
             keeper: _keeper,
             at: _at,
@@ -79,29 +79,29 @@ impl Drop for Stage {
 }
 
 /// The table, if it has a node of this number.
-fn homes(alloc: Global, id: u16) -> Result<HomeTable, Failure>
+fn homes(alloc: Global, id: u16) -> Result<HomeTable, StreamFailure>
     ensures { IfOk result (λ homes. id < length homes.nodes) }
 {
     match HomeTable::parse(alloc, HOMES) {
         Ok(homes) if id < homes.nodes() => Ok(homes),
-        _ => Err(Failure::Unready),
+        _ => Err(StreamFailure::Unready),
     }
 }
 
-fn opened(alloc: Global, id: u16) -> Result<Keeper<RefusingRows>, Failure> {
+fn opened(alloc: Global, id: u16) -> Result<Keeper<RefusingRows>, StreamFailure> {
     let homes = homes(alloc, id)?;
     let rows = RefusingRows::new(MemoryRows::new(alloc), 0);
     match Keeper::open(alloc, rows, homes, id) {
         Ok(keeper) => Ok(keeper),
-        Err(_) => Err(Failure::Unready),
+        Err(_) => Err(StreamFailure::Unready),
     }
 }
 
-impl Stage {
+impl WitnessStage {
     /// The node of this number, 0 or 1, which has started.
-    pub fn open(alloc: Global, id: u16) -> Result<Stage, Failure> {
+    pub fn open(alloc: Global, id: u16) -> Result<WitnessStage, StreamFailure> {
         let keeper = Box::new(alloc, opened(alloc, id)?)?;
-        let mut stage = Stage {
+        let mut stage = WitnessStage {
             alloc,
             keeper,
             at: 0,
@@ -111,7 +111,7 @@ impl Stage {
     }
 
     /// The node starts, and its witness connects.
-    fn begin(&mut self, id: u16) -> Result<(), Failure> {
+    fn begin(&mut self, id: u16) -> Result<(), StreamFailure> {
         let connect = CONNECTS.get(id as usize).copied().unwrap_or(b"");
         self.quiet(EventKind::Started)?;
         self.open_connection(WITNESS)?;
@@ -119,34 +119,34 @@ impl Stage {
         self.subscribe()
     }
 
-    fn happen(&mut self, kind: EventKind) -> Result<Vec<Output>, Failure> {
+    fn happen(&mut self, kind: EventKind) -> Result<Vec<Output>, StreamFailure> {
         let event = Event { at: self.at, kind };
         let answer = self.keeper.handle(&event);
         drop(event);
         match answer {
             Ok(outputs) => Ok(outputs),
-            Err(_) => Err(Failure::Stopped),
+            Err(_) => Err(StreamFailure::Stopped),
         }
     }
 
-    fn piece_of(&self, connection: u64, bytes: &[u8]) -> Result<EventKind, Failure> {
+    fn piece_of(&self, connection: u64, bytes: &[u8]) -> Result<EventKind, StreamFailure> {
         let bytes = Bytes::from_slice(self.alloc, bytes)?;
         Ok(EventKind::Piece { connection, bytes })
     }
 
     /// An event of which nothing comes.
-    fn quiet(&mut self, kind: EventKind) -> Result<(), Failure> {
+    fn quiet(&mut self, kind: EventKind) -> Result<(), StreamFailure> {
         let outputs = self.happen(kind)?;
         let is_quiet = outputs.is_empty();
         drop(outputs);
         if is_quiet {
             Ok(())
         } else {
-            Err(Failure::Unasked)
+            Err(StreamFailure::Unasked)
         }
     }
 
-    fn told(&mut self, kind: EventKind) -> Result<Vec<Told>, Failure> {
+    fn told(&mut self, kind: EventKind) -> Result<Vec<ToldPacket>, StreamFailure> {
         let outputs = self.happen(kind)?;
         let told = told_by(self.alloc, &outputs);
         drop(outputs);
@@ -154,7 +154,7 @@ impl Stage {
     }
 
     /// The witness sends a packet, and is answered by this one, and nothing else goes out.
-    fn answers(&mut self, packet: &[u8], answer: &[u8]) -> Result<(), Failure> {
+    fn answers(&mut self, packet: &[u8], answer: &[u8]) -> Result<(), StreamFailure> {
         let piece = self.piece_of(WITNESS, packet)?;
         let outputs = self.happen(piece)?;
         let is_served = is_only(&outputs, WITNESS, answer);
@@ -162,17 +162,17 @@ impl Stage {
         if is_served {
             Ok(())
         } else {
-            Err(Failure::Unserved)
+            Err(StreamFailure::Unserved)
         }
     }
 
     /// The witness subscribes, as after a frame that may have taken its subscription away.
-    pub fn subscribe(&mut self) -> Result<(), Failure> {
+    pub fn subscribe(&mut self) -> Result<(), StreamFailure> {
         self.answers(SUBSCRIBE, SUBACK)
     }
 
     /// The witness is served: its PINGREQ is answered at once, and its own message comes back to it.
-    pub fn look(&mut self) -> Result<(), Failure> {
+    pub fn look(&mut self) -> Result<(), StreamFailure> {
         self.answers(PINGREQ, PINGRESP)?;
         self.answers(HERE, HERE)
     }
@@ -183,28 +183,32 @@ impl Stage {
     }
 
     /// A connection is opened. Nothing comes of it.
-    pub fn open_connection(&mut self, connection: u64) -> Result<(), Failure> {
+    pub fn open_connection(&mut self, connection: u64) -> Result<(), StreamFailure> {
         self.quiet(EventKind::Opened { connection })
     }
 
     /// The client of a connection is gone. What comes of it.
-    pub fn close_connection(&mut self, connection: u64) -> Result<Vec<Told>, Failure> {
+    pub fn close_connection(&mut self, connection: u64) -> Result<Vec<ToldPacket>, StreamFailure> {
         self.told(EventKind::Closed { connection })
     }
 
     /// Time has passed. What comes of it.
-    pub fn tick(&mut self) -> Result<Vec<Told>, Failure> {
+    pub fn tick(&mut self) -> Result<Vec<ToldPacket>, StreamFailure> {
         self.told(EventKind::Tick)
     }
 
     /// Bytes come on a connection. What comes of them.
-    pub fn take(&mut self, connection: u64, bytes: &[u8]) -> Result<Vec<Told>, Failure> {
+    pub fn take(
+        &mut self,
+        connection: u64,
+        bytes: &[u8],
+    ) -> Result<Vec<ToldPacket>, StreamFailure> {
         let piece = self.piece_of(connection, bytes)?;
         self.told(piece)
     }
 
     /// The bytes of a frame come from another node. What comes of them.
-    pub fn hear(&mut self, bytes: &[u8]) -> Result<Vec<Told>, Failure> {
+    pub fn hear(&mut self, bytes: &[u8]) -> Result<Vec<ToldPacket>, StreamFailure> {
         let bytes = Bytes::from_slice(self.alloc, bytes)?;
         self.told(EventKind::Frame { bytes })
     }

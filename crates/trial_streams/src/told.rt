@@ -1,6 +1,6 @@
 //! What a node gives out, in short.
 
-use crate::failure::Failure;
+use crate::failure::StreamFailure;
 use broker_node::Output;
 use mqtt_packets::{Packet, read_packet};
 use std::alloc::Global;
@@ -18,7 +18,7 @@ pub enum Said {
 
 /// What goes out on a connection. A frame goes out on none, and has 0.
 #[derive(Clone, Copy, Debug, PartialEq, Eq)]
-pub struct Told {
+pub struct ToldPacket {
     pub connection: u64,
     pub said: Said,
 }
@@ -32,7 +32,7 @@ fn code_of(packet: &Packet) -> u8 {
 }
 
 /// What bytes to a client say, which are one packet.
-fn packet_said(alloc: Global, bytes: &[u8]) -> Result<Said, Failure> {
+fn packet_said(alloc: Global, bytes: &[u8]) -> Result<Said, StreamFailure> {
     let kind = bytes.first().copied().unwrap_or(0) / 16;
     match read_packet(alloc, bytes) {
         Ok(Some((packet, used))) => {
@@ -41,25 +41,25 @@ fn packet_said(alloc: Global, bytes: &[u8]) -> Result<Said, Failure> {
             if used == bytes.len() {
                 Ok(Said::Packet { kind, code })
             } else {
-                Err(Failure::NoPacket)
+                Err(StreamFailure::NoPacket)
             }
         }
-        Ok(None) => Err(Failure::NoPacket),
-        Err(_) => Err(Failure::NoPacket),
+        Ok(None) => Err(StreamFailure::NoPacket),
+        Err(_) => Err(StreamFailure::NoPacket),
     }
 }
 
-fn told_of(alloc: Global, output: &Output) -> Result<Told, Failure> {
+fn told_of(alloc: Global, output: &Output) -> Result<ToldPacket, StreamFailure> {
     match output {
-        Output::Send { connection, bytes } => Ok(Told {
+        Output::Send { connection, bytes } => Ok(ToldPacket {
             connection: *connection,
             said: packet_said(alloc, bytes.as_slice())?,
         }),
-        Output::Close { connection } => Ok(Told {
+        Output::Close { connection } => Ok(ToldPacket {
             connection: *connection,
             said: Said::Close,
         }),
-        Output::Frame { frame: _ } => Ok(Told {
+        Output::Frame { frame: _ } => Ok(ToldPacket {
             connection: 0,
             said: Said::Frame,
         }),
@@ -67,7 +67,7 @@ fn told_of(alloc: Global, output: &Output) -> Result<Told, Failure> {
 }
 
 /// What these outputs say, in order.
-pub fn told_by(alloc: Global, outputs: &[Output]) -> Result<Vec<Told>, Failure> {
+pub fn told_by(alloc: Global, outputs: &[Output]) -> Result<Vec<ToldPacket>, StreamFailure> {
     let mut told = Vec::new(alloc);
     for output in outputs {
         told.push(told_of(alloc, output)?)?;
