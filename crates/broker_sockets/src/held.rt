@@ -8,17 +8,17 @@ use std::marker::Model;
 use std::mem;
 
 /// The bytes of a frame that isn't whole yet.
-pub struct Held {
+pub struct HeldFrame {
     bytes: Vec<u8>,
 }
 
-impl Drop for Held {
+impl Drop for HeldFrame {
     fn drop(self) {
-        let Held { bytes: _bytes } = self;
+        let HeldFrame { bytes: _bytes } = self;
     }
 }
 
-impl Model for Held {
+impl Model for HeldFrame {
     ghost use Rattle.std.specs.Prelude.{List, ℕ};
     ghost use Rattle.std.specs.Coded.{coded_ℕ, coded_list};
     ghost use Rattle.broker_sockets.specs.Frames.{IsBegun};
@@ -34,22 +34,22 @@ impl Model for Held {
 
 /// The frames that a read made whole, in order, and whether the link goes on.
 #[derive(Drop)]
-pub struct Came {
+pub struct WholeFrames {
     pub frames: Vec<Vec<u8>>,
     pub goes_on: bool,
 }
 
-impl Held {
+impl HeldFrame {
     pub fn new(alloc: Global) -> Self
         ensures { result ≡ [] }
     {
-        Held {
+        HeldFrame {
             bytes: Vec::new(alloc),
         }
     }
 
     /// Takes bytes that have come. A link goes on unless a frame is longer than a frame may be.
-    pub fn take(&mut self, alloc: Global, piece: &[u8]) -> Result<Came, AllocError>
+    pub fn take(&mut self, alloc: Global, piece: &[u8]) -> Result<WholeFrames, AllocError>
         ensures { IfOk result (λ came. IsCut (self.old ++ piece.now) came.frames.items self.new came.goes_on) }
     {
         let held = mem::replace(&mut self.bytes, Vec::new(alloc));
@@ -61,7 +61,7 @@ impl Held {
         if sound {
             self.bytes = rest;
         }
-        Ok(Came {
+        Ok(WholeFrames {
             frames,
             goes_on: sound,
         })

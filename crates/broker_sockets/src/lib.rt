@@ -18,7 +18,7 @@ mod unsent;
 pub use bridge::{BridgeHandler, Given, PeerEvent, PeerEventKind, PeerFrame};
 pub use clock::Clock;
 pub use events::{Event, EventKind, Handler, Output};
-pub use held::{Came, Held};
+pub use held::{HeldFrame, WholeFrames};
 pub use network::{Answer, Sockets, bind};
 pub use polled::PolledSockets;
 pub use ready::{Readiness, Ready, Watched};

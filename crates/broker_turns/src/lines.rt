@@ -3,7 +3,7 @@ ghost use Rattle.std.specs.Prelude.{◌≡◌, ◌∷◌, [], length, OnOk, IfOk
 ghost use Rattle.broker_turns.specs.Lines.{Framed, Noted, awaited_after, fresh_line, is_answer, is_asking, is_due, is_rested, marked, one_more, pushed};
 ghost use Rattle.broker_turns.specs.Bridging.{IsLineRead, IsLineWritten};
 
-use broker_sockets::{Answer, Held, PeerFrame, Sockets, Unsent};
+use broker_sockets::{Answer, HeldFrame, PeerFrame, Sockets, Unsent};
 use std::alloc::{AllocError, Global};
 
 /// One socket between two nodes: what came of a frame that isn't whole yet, what waits to be written, when more was
@@ -11,7 +11,7 @@ use std::alloc::{AllocError, Global};
 #[derive(Drop)]
 pub struct Line<T: Drop> {
     pub stream: T,
-    pub held: Held,
+    pub held: HeldFrame,
     pub unsent: Unsent,
     pub asked: Option<u64>,
     pub awaited: u64,
@@ -43,7 +43,7 @@ const SENDER: usize = 5;
 /// What a read of a link brought: the frames that it made whole, in order, whether the link goes on, and whether it may have
 /// more.
 #[derive(Drop)]
-pub struct Heard {
+pub struct LinkRead {
     pub frames: Vec<Vec<u8>>,
     pub goes_on: bool,
     pub more: bool,
@@ -91,7 +91,7 @@ impl<T: Drop> Line<T> {
     {
         Line {
             stream,
-            held: Held::new(alloc),
+            held: HeldFrame::new(alloc),
             unsent: Unsent::new(alloc),
             asked: None,
             awaited: 0,
@@ -145,25 +145,25 @@ pub fn read_line<S: Sockets>(
     line: &mut Line<S::Stream>,
     buffer: &mut [u8],
     sockets: &mut S,
-) -> Result<Heard, AllocError>
+) -> Result<LinkRead, AllocError>
     requires { length buffer.old ≡ 65536 }
     ensures { IfOk result (λ heard. IsLineRead S.reads sockets.old line.old heard.frames.items heard.goes_on heard.more sockets.new line.new) }
 {
     match sockets.read(&mut line.stream, buffer) {
-        Answer::Later => Ok(Heard {
+        Answer::Later => Ok(LinkRead {
             frames: Vec::new(alloc),
             goes_on: true,
             more: false,
         }),
         Answer::Bytes(count) => {
             let came = line.held.take(alloc, &buffer[..count])?;
-            Ok(Heard {
+            Ok(LinkRead {
                 frames: came.frames,
                 goes_on: came.goes_on,
                 more: came.goes_on,
             })
         }
-        Answer::Gone => Ok(Heard {
+        Answer::Gone => Ok(LinkRead {
             frames: Vec::new(alloc),
             goes_on: false,
             more: false,

@@ -4,8 +4,8 @@ use Rattle.std.proofs.lemmas.Slice.Eq.{bytes_eq-Decides}
 use Rattle.cli_files.specs.Laws.{SameIsJudgedOnce, SettledIsJudged, UnchangedIsQuiet, after_as, judged, judged_by, with_if}
 use Rattle.cli_files.specs.Looking.{Found, is_same, looked, outcome, outcome_by, same}
 use Rattle.cli_files.specs.declared.looks.Looks.{Looks}
-use Rattle.cli_files.specs.declared.looks.Outcome.{Outcome}
-use Rattle.cli_files.specs.declared.looks.Outcome.TheVariants.{InForce, Waits, Judge}
+use Rattle.cli_files.specs.declared.looks.LookOutcome.{LookOutcome}
+use Rattle.cli_files.specs.declared.looks.LookOutcome.TheVariants.{InForce, Waits, Judge}
 
 pub same_self : (c : Found) → same c c ≡ true
 same_self None = refl
@@ -26,7 +26,7 @@ new_is c l other fresh is =
     ap (λ b. outcome_by b (is_same c l.refused) (is_same c l.seen)) other ∙ ap (λ b. outcome_by false b (is_same c l.seen)) fresh ∙ ap (λ b. outcome_by false false b) is
 
 -- one look, by what it comes to
-one : (takes : Found → Bool) (c : Found) (cs : List Found) (l : Looks) (o : Outcome) → outcome c l ≡ o → judged takes (c ∷ cs) l ≡ with_if o c (judged takes cs (after_as o takes c l))
+one : (takes : Found → Bool) (c : Found) (cs : List Found) (l : Looks) (o : LookOutcome) → outcome c l ≡ o → judged takes (c ∷ cs) l ≡ with_if o c (judged takes cs (after_as o takes c l))
 one takes c cs l o is = ap (λ x. with_if x c (judged takes cs (after_as x takes c l))) is
 
 -- what is in force stays quiet

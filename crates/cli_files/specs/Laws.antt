@@ -2,8 +2,8 @@
 use Rattle.std.specs.Prelude.{◌≡◌, ◌≤◌, ℕ, List, [], ◌∷◌, Bool, true, false, length, replicate}
 use Rattle.cli_files.specs.Looking.{Found, is_same, looked, outcome, refused, same, taken}
 use Rattle.cli_files.specs.declared.looks.Looks.{Looks}
-use Rattle.cli_files.specs.declared.looks.Outcome.{Outcome}
-use Rattle.cli_files.specs.declared.looks.Outcome.TheVariants.{InForce, Waits, Judge}
+use Rattle.cli_files.specs.declared.looks.LookOutcome.{LookOutcome}
+use Rattle.cli_files.specs.declared.looks.LookOutcome.TheVariants.{InForce, Waits, Judge}
 
 -- what is judged is taken, or refused
 abbrev pub judged_by : Bool → Looks → Looks
@@ -11,7 +11,7 @@ judged_by true l = taken l
 judged_by false l = refused l
 
 -- after a look, where what is judged is taken or refused by a test
-abbrev pub after_as : Outcome → (Found → Bool) → Found → Looks → Looks
+abbrev pub after_as : LookOutcome → (Found → Bool) → Found → Looks → Looks
 after_as InForce takes c l = looked InForce c l
 after_as Waits takes c l = looked Waits c l
 after_as Judge takes c l = judged_by (takes c) (looked Judge c l)
@@ -19,7 +19,7 @@ after_as Judge takes c l = judged_by (takes c) (looked Judge c l)
 abbrev pub after : (Found → Bool) → Found → Looks → Looks
 after takes c l = after_as (outcome c l) takes c l
 
-abbrev pub with_if : Outcome → Found → List Found → List Found
+abbrev pub with_if : LookOutcome → Found → List Found → List Found
 with_if InForce c cs = cs
 with_if Waits c cs = cs
 with_if Judge c cs = c ∷ cs

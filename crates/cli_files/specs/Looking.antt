@@ -2,8 +2,8 @@
 use Rattle.std.specs.Prelude.{ℕ, List, Bool, true, false, Option, Some, None}
 use Rattle.std.specs.Str.{bytes_eq}
 use Rattle.cli_files.specs.declared.looks.Looks.{Looks}
-use Rattle.cli_files.specs.declared.looks.Outcome.{Outcome}
-use Rattle.cli_files.specs.declared.looks.Outcome.TheVariants.{InForce, Waits, Judge}
+use Rattle.cli_files.specs.declared.looks.LookOutcome.{LookOutcome}
+use Rattle.cli_files.specs.declared.looks.LookOutcome.TheVariants.{InForce, Waits, Judge}
 
 -- what is found at a path: the bytes of a file, or none that can be read
 abbrev pub Found : Type 0
@@ -20,16 +20,16 @@ is_same c None = false
 is_same c (Some other) = same c other
 
 -- what is in force says nothing, nor does what was refused last; another content is judged once it was found twice in a row
-abbrev pub outcome_by : (in_force refused seen : Bool) → Outcome
+abbrev pub outcome_by : (in_force refused seen : Bool) → LookOutcome
 outcome_by true refused seen = InForce
 outcome_by false true seen = Waits
 outcome_by false false true = Judge
 outcome_by false false false = Waits
 
-abbrev pub outcome : Found → Looks → Outcome
+abbrev pub outcome : Found → Looks → LookOutcome
 outcome c l = outcome_by (same c l.in_force) (is_same c l.refused) (is_same c l.seen)
 
-abbrev pub looked : Outcome → Found → Looks → Looks
+abbrev pub looked : LookOutcome → Found → Looks → Looks
 looked InForce c l = record l { refused = None; seen = None }
 looked Waits c l = record l { seen = Some c }
 looked Judge c l = record l { seen = Some c }

@@ -4,7 +4,7 @@ use Rattle.home_table.specs.Table.{Table}
 use Rattle.cli_files.specs.Judging.{IsTaken}
 use Rattle.cli_files.specs.Looking.{Found, outcome}
 use Rattle.cli_files.specs.declared.looks.Looks.{Looks}
-use Rattle.cli_files.specs.declared.looks.Outcome.TheVariants.{Judge}
+use Rattle.cli_files.specs.declared.looks.LookOutcome.TheVariants.{Judge}
 use Rattle.cli_files.specs.declared.watch.TableFile.{TableFile}
 
 -- the table is that of what was found and may be taken

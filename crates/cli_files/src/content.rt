@@ -7,11 +7,11 @@ use std::marker::Model;
 
 /// What is found at a path: the bytes of a file, or none that can be read.
 #[derive(Drop)]
-pub struct Content {
+pub struct FileContent {
     bytes: Option<Vec<u8>>,
 }
 
-impl Model for Content {
+impl Model for FileContent {
     ghost use Rattle.std.specs.Prelude.{ℕ, List, Option, option_map};
 
     ghost Value = { Option (List ℕ) };
@@ -19,19 +19,19 @@ impl Model for Content {
     ghost view = { λ c. option_map (λ b. b.items) c.bytes };
 }
 
-impl Content {
+impl FileContent {
     /// The bytes of a file.
-    pub fn new(bytes: Vec<u8>) -> Content
+    pub fn new(bytes: Vec<u8>) -> FileContent
         ensures { result ≡ Some bytes.items }
     {
-        Content { bytes: Some(bytes) }
+        FileContent { bytes: Some(bytes) }
     }
 
     /// No file, or one that can't be read.
-    pub fn unread() -> Content
+    pub fn unread() -> FileContent
         ensures { result ≡ None }
     {
-        Content { bytes: None }
+        FileContent { bytes: None }
     }
 
     /// The bytes, if there are any.
@@ -45,7 +45,7 @@ impl Content {
     }
 
     /// Whether it is the same.
-    pub fn is(&self, other: &Content) -> bool
+    pub fn is(&self, other: &FileContent) -> bool
         ensures { result ≡ same self.now other.now }
     {
         match (self.bytes(), other.bytes()) {

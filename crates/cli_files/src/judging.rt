@@ -5,7 +5,7 @@ ghost use Rattle.std.specs.Bool.{Decides};
 ghost use Rattle.cli_files.specs.Judging.{HasBridges, IsReason, IsRefused, IsTakeable, IsTaken, address_at, bridge_at};
 
 use crate::configuration_in;
-use crate::content::Content;
+use crate::content::FileContent;
 use crate::refusal::Refusal;
 use cli_stops::{Answer, Found};
 use home_table::HomeTable;
@@ -72,7 +72,7 @@ fn is_takeable(homes: &HomeTable, id: u16, other: &HomeTable, number: u16) -> Re
 #[tactic(auto, using(crate::proofs::Takeable::taken_of, crate::proofs::Takeable::refused_of))]
 pub fn judge(
     alloc: Global,
-    content: &Content,
+    content: &FileContent,
     answer: Answer,
     node: &str,
     id: u16,

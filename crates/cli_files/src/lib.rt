@@ -15,10 +15,10 @@ mod watch;
 pub use configuration::{
     configuration_bytes, configuration_in, configuration_of, read_configuration, unread,
 };
-pub use content::Content;
+pub use content::FileContent;
 pub use file::{read_file, read_script};
 pub use judging::judge;
 pub use laws::{same_content_is_judged_once, settled_content_is_judged, unchanged_file_is_quiet};
-pub use looks::{Looks, Outcome};
+pub use looks::{LookOutcome, Looks};
 pub use refusal::Refusal;
 pub use watch::{TableFile, TableSource};

@@ -3,11 +3,11 @@
 ghost use Rattle.std.specs.Prelude.{◌≡◌, Some, None};
 ghost use Rattle.cli_files.specs.Looking.{is_same, looked, outcome, refused, taken};
 
-use crate::content::Content;
+use crate::content::FileContent;
 
 /// What a look comes to.
 #[derive(Clone, Copy, Debug, PartialEq, Eq)]
-pub enum Outcome {
+pub enum LookOutcome {
     /// The content is the one in force: nothing is refused.
     InForce,
     /// Nothing is to be done.
@@ -19,13 +19,13 @@ pub enum Outcome {
 /// What is in force, what was refused last, and what was found at the look before, where that is neither.
 #[derive(Drop)]
 pub struct Looks {
-    pub in_force: Content,
-    pub refused: Option<Content>,
-    pub seen: Option<Content>,
+    pub in_force: FileContent,
+    pub refused: Option<FileContent>,
+    pub seen: Option<FileContent>,
 }
 
 /// Whether there is a content, which is the same.
-fn is_same(content: &Content, other: &Option<Content>) -> bool
+fn is_same(content: &FileContent, other: &Option<FileContent>) -> bool
     ensures { result ≡ is_same content.now other.now }
 {
     match other {
@@ -36,7 +36,7 @@ fn is_same(content: &Content, other: &Option<Content>) -> bool
 
 impl Looks {
     /// Before the first look: this is in force, and nothing was refused.
-    pub fn new(in_force: Content) -> Looks
+    pub fn new(in_force: FileContent) -> Looks
         ensures { result ≡ record { in_force = in_force; refused = None; seen = None } }
     {
         Looks {
@@ -47,26 +47,26 @@ impl Looks {
     }
 
     /// What a look comes to.
-    fn outcome(&self, content: &Content) -> Outcome
+    fn outcome(&self, content: &FileContent) -> LookOutcome
         ensures { result ≡ outcome content.now self.now }
     {
         if content.is(&self.in_force) {
-            Outcome::InForce
+            LookOutcome::InForce
         } else if is_same(content, &self.refused) {
-            Outcome::Waits
+            LookOutcome::Waits
         } else if is_same(content, &self.seen) {
-            Outcome::Judge
+            LookOutcome::Judge
         } else {
-            Outcome::Waits
+            LookOutcome::Waits
         }
     }
 
     /// What is kept after a look.
-    fn keep(&mut self, outcome: Outcome, content: Content)
+    fn keep(&mut self, outcome: LookOutcome, content: FileContent)
         ensures { self.new ≡ looked outcome content self.old }
     {
         match outcome {
-            Outcome::InForce => {
+            LookOutcome::InForce => {
                 self.refused = None;
                 self.seen = None;
             }
@@ -75,7 +75,7 @@ impl Looks {
     }
 
     /// A look at which this was found. What is to be judged is `seen` then.
-    pub fn look(&mut self, content: Content) -> Outcome
+    pub fn look(&mut self, content: FileContent) -> LookOutcome
         ensures outcome { result ≡ outcome content self.old }
         ensures looked { self.new ≡ looked (outcome content self.old) content self.old }
     {

@@ -3,9 +3,9 @@
 ghost use Rattle.std.specs.Prelude.{◌≡◌, ◌<◌, length, IfSome};
 ghost use Rattle.cli_files.specs.Watching.{IsJudged, IsLookedAt};
 
-use crate::content::Content;
+use crate::content::FileContent;
 use crate::judging::judge;
-use crate::looks::{Looks, Outcome};
+use crate::looks::{LookOutcome, Looks};
 use crate::refusal::Refusal;
 use cli_stops::{Answer, Found};
 use door_tables::Tables;
@@ -58,7 +58,7 @@ impl<'a, S, W> TableFile<'a, S, W> {
             path,
             node,
             id,
-            looks: Looks::new(Content::new(in_force)),
+            looks: Looks::new(FileContent::new(in_force)),
             looked: 0,
             answer: Answer::Unnumbered,
             error,
@@ -82,15 +82,15 @@ fn text_of(alloc: Global, refusal: &Refusal) -> Option<String> {
 
 impl<'a, S: TableSource, W: Write> TableFile<'a, S, W> {
     /// What is in the file. Nothing where memory runs out: then it is looked at again a second later.
-    fn read(&mut self) -> Option<Content>
+    fn read(&mut self) -> Option<FileContent>
         ensures { self.new ≡ record self.old { source = self.new.source; answer = self.new.answer } }
     {
         match self.source.read() {
-            Ok(bytes) => Some(Content::new(bytes)),
+            Ok(bytes) => Some(FileContent::new(bytes)),
             Err(Answer::NoMemory) => None,
             Err(answer) => {
                 self.answer = answer;
-                Some(Content::unread())
+                Some(FileContent::unread())
             }
         }
     }
@@ -141,12 +141,12 @@ impl<'a, S: TableSource, W: Write> TableFile<'a, S, W> {
     {
         let content = self.read()?;
         match self.looks.look(content) {
-            Outcome::InForce => {
+            LookOutcome::InForce => {
                 self.refusal = None;
                 None
             }
-            Outcome::Waits => None,
-            Outcome::Judge => self.judge(homes),
+            LookOutcome::Waits => None,
+            LookOutcome::Judge => self.judge(homes),
         }
     }
 }

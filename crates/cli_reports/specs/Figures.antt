@@ -9,7 +9,7 @@ use Rattle.subscription_set.specs.Standing.{live}
 use Rattle.node_rows.specs.declared.reading.Opened.{Opened}
 use Rattle.node_rows.specs.Reading.{IsLasting, IsOpened, Say}
 use Rattle.node_rows.specs.Rows.{Lasting}
-use Rattle.cli_reports.specs.declared.figures.Figures.{Figures}
+use Rattle.cli_reports.specs.declared.figures.RowFigures.{RowFigures}
 
 -- two bytes that are the number of a node, the highest first
 abbrev pub is_for : ℕ → List ℕ → Bool
@@ -32,7 +32,7 @@ pub record AreGreatest (dots : Dots) (nodes : ℕ) (numbers : List ℕ) : Type 0
 
 -- the figures of what was opened from the rows: sessions, subscriptions that are live, topics that have a message, messages that wait
 -- for each node, and the last operation of each node that was taken
-pub record AreFigures (rows : List Row) (nodes : ℕ) (opened : Opened) (figures : Figures) : Type 0 where
+pub record AreFigures (rows : List Row) (nodes : ℕ) (opened : Opened) (figures : RowFigures) : Type 0 where
   pub sessions : figures.sessions ≡ map.len opened.sessions
   pub subscriptions : figures.subscriptions ≡ length (live opened.store.subscriptions)
   pub retained : figures.retained ≡ length (with_message (map.entries opened.store.retained))
@@ -40,7 +40,7 @@ pub record AreFigures (rows : List Row) (nodes : ℕ) (opened : Opened) (figures
   pub taken : AreGreatest opened.store.taken nodes figures.taken.items
 
 -- the rows say what lasts of node `id` of so many, and these are the figures of what is opened from it
-pub record IsReported (rows : List Row) (id nodes : ℕ) (figures : Figures) : Type 0 where
+pub record IsReported (rows : List Row) (id nodes : ℕ) (figures : RowFigures) : Type 0 where
   pub lasting : Lasting
   pub opened : Opened
   pub lasts : IsLasting id nodes lasting

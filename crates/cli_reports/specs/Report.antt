@@ -1,7 +1,7 @@
 -- The text of what a node's rows hold.
 use Rattle.std.specs.Prelude.{ℕ, suc, ◌==◌, List, [], ◌∷◌, ◌++◌, codes, if◌then◌else◌}
 use Rattle.std.specs.Fmt.{decimal}
-use Rattle.cli_reports.specs.declared.figures.Figures.{Figures}
+use Rattle.cli_reports.specs.declared.figures.RowFigures.{RowFigures}
 
 -- a word and a number, as a line
 abbrev pub line : List ℕ → ℕ → List ℕ
@@ -20,7 +20,7 @@ lane_line id node waiting = if node == id then [] else codes "lane " ++ decimal 
 abbrev pub taken_line : ℕ → ℕ → List ℕ
 taken_line node number = codes "taken " ++ decimal node ++ line (codes " ") number
 
-abbrev pub report_text : List ℕ → ℕ → Figures → List ℕ
+abbrev pub report_text : List ℕ → ℕ → RowFigures → List ℕ
 report_text name id figures =
     codes "node " ++ name ++ line (codes " number ") id
     ++ line (codes "sessions ") figures.sessions

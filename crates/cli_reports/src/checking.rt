@@ -2,7 +2,7 @@
 
 ghost use Rattle.std.specs.Prelude.{◌<◌, length};
 
-use crate::{Figures, held, report};
+use crate::{RowFigures, held, report};
 use cli_files::read_configuration;
 use cli_stops::{Cause, Ending, Found, RunFault, Stop, Tried, answer_of, rows_fault};
 use home_table::HomeTable;
@@ -14,7 +14,7 @@ fn print<W: Write>(
     out: &mut W,
     node: &str,
     id: u16,
-    figures: &Figures,
+    figures: &RowFigures,
 ) -> Result<(), Ending> {
     let Ok(text) = report(rt.alloc(), node, id, figures) else {
         return Err(Ending::from(Stop::Run(RunFault::NoMemory)));

@@ -20,7 +20,7 @@ const WAITING: u8 = 7;
 
 /// What a node's rows hold.
 #[derive(Debug, PartialEq, Eq, Drop)]
-pub struct Figures {
+pub struct RowFigures {
     /// How many clients have a session.
     pub sessions: u64,
     /// How many subscriptions stand.
@@ -80,11 +80,16 @@ fn greatest_in(alloc: Global, taken: &Context, nodes: u16) -> Result<Vec<u64>, N
 }
 
 /// The figures of what was opened from rows.
-fn figures_in(alloc: Global, opened: &Opened, rows: &[Row], nodes: u16) -> Result<Figures, NoMemory>
+fn figures_in(
+    alloc: Global,
+    opened: &Opened,
+    rows: &[Row],
+    nodes: u16,
+) -> Result<RowFigures, NoMemory>
     ensures { IfOk result (AreFigures rows.now nodes opened.now) }
 {
     let store = &opened.store;
-    Ok(Figures {
+    Ok(RowFigures {
         sessions: opened.sessions.count() as u64,
         subscriptions: store.subscriptions().live_count() as u64,
         retained: store.retained().messages() as u64,
@@ -96,7 +101,7 @@ fn figures_in(alloc: Global, opened: &Opened, rows: &[Row], nodes: u16) -> Resul
 /// What the rows of node `id` of a cluster of `nodes` nodes hold, in the order of their keys. A flaw other than want of memory
 /// exactly where no such node has just these rows, and it tells what is wrong with the mark that they begin with, or else that what
 /// follows is.
-pub fn figures_of(alloc: Global, rows: &[Row], id: u16, nodes: u16) -> Result<Figures, Flaw>
+pub fn figures_of(alloc: Global, rows: &[Row], id: u16, nodes: u16) -> Result<RowFigures, Flaw>
     ensures figures { IfOk result (IsReported rows.now id nodes) }
     ensures bad { IfErr result (λ flaw. flaw ≢ no_memory → SayNothing rows.now id nodes) }
     ensures flaw { IfErr result (λ flaw. flaw ≢ no_memory → flaw ≡ flaw_of id (map_list entry_of rows.now)) }

@@ -15,7 +15,7 @@ mod text;
 
 pub use checking::check;
 pub use disk::unwritten;
-pub use figures::{Figures, figures_of};
+pub use figures::{RowFigures, figures_of};
 pub use flaw::Flaw;
 pub use found::{found_of_flaw, found_of_open};
 pub use rows::{held, refused};

@@ -2,7 +2,7 @@
 
 use crate::files::read_files;
 use crate::found::{found_of_flaw, found_of_open};
-use crate::{Figures, figures_of};
+use crate::{RowFigures, figures_of};
 use cli_stops::{Cause, Found, answer_of};
 use row_database::copied_rows;
 use row_store::Row;
@@ -22,7 +22,12 @@ fn rows_at(rt: &HostRuntime, path: &str) -> Result<Vec<Row>, Found> {
 /// What the rows of node `id` of a cluster of `nodes` nodes hold, which are in the database at a path. The database's files are only read.
 /// A cause tells why they are none; it is lacking where there is no memory for it. A database without rows is no node's: one that was
 /// opened for a node has its mark.
-pub fn held(rt: &HostRuntime, path: &str, id: u16, nodes: u16) -> Result<Figures, Option<Cause>> {
+pub fn held(
+    rt: &HostRuntime,
+    path: &str,
+    id: u16,
+    nodes: u16,
+) -> Result<RowFigures, Option<Cause>> {
     let alloc = rt.alloc();
     let rows = match rows_at(rt, path) {
         Ok(rows) => rows,

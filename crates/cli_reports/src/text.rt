@@ -3,7 +3,7 @@
 ghost use Rattle.std.specs.Prelude.{◌≡◌, ◌++◌, string_bytes, IfOk, OnOk};
 ghost use Rattle.cli_reports.specs.Report.{lane_line, lines_from, report_text, taken_line};
 
-use crate::figures::Figures;
+use crate::figures::RowFigures;
 use mqtt_fields::NoMemory;
 use std::alloc::Global;
 
@@ -47,7 +47,7 @@ fn push_taken(text: &mut String, taken: &[u64]) -> Result<(), NoMemory>
 
 /// What the rows of a node hold, line by line: its name and number, its figures, its lanes to the other nodes, and what it has taken of each
 /// node.
-pub fn report(alloc: Global, name: &str, id: u16, figures: &Figures) -> Result<String, NoMemory>
+pub fn report(alloc: Global, name: &str, id: u16, figures: &RowFigures) -> Result<String, NoMemory>
     ensures { IfOk result (λ text. string_bytes text ≡ report_text name.now id figures.now) }
 {
     let mut text = String::new(alloc);

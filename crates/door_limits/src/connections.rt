@@ -13,13 +13,13 @@ use std::marker::Model;
 
 /// The connections that are open. Of one on which nothing was sent yet it knows the moment of its opening, in milliseconds.
 #[derive(Drop)]
-pub struct Connections {
+pub struct OpenConnections {
     states: BTreeMap<u64, Option<u64>>,
     /// Those on which nothing was sent yet, each behind its moment.
     waiting: BTreeSet<(u64, u64)>,
 }
 
-impl Model for Connections {
+impl Model for OpenConnections {
     ghost use Rattle.door_limits.specs.Connected.{AreWaiting, Connected, coded_connected};
     ghost use Rattle.std.specs.FinMap as map;
 
@@ -52,12 +52,12 @@ fn mark_waiting(states: &mut BTreeMap<u64, Option<u64>>, connection: u64, at: u6
     }
 }
 
-impl Connections {
+impl OpenConnections {
     /// None is open.
-    pub fn new(alloc: Global) -> Connections
+    pub fn new(alloc: Global) -> OpenConnections
         ensures { result ≡ map.empty }
     {
-        Connections {
+        OpenConnections {
             states: BTreeMap::new(alloc),
             waiting: BTreeSet::new(alloc),
         }

@@ -6,7 +6,7 @@ ghost use Rattle.broker_sockets.specs.declared.events.Output.TheVariants.{Close}
 ghost use Rattle.door_limits.specs.Answering.{IsAnsweredBy, IsLetGo, IsLetIn, IsPassed, IsSwept, gone, instead, is_tick, is_told, met};
 ghost use Rattle.door_limits.specs.Faults.{IsRefusedBy, IsStopped, IsStoppedBy, IsStoppedLate, IsUnanswered};
 
-use crate::connections::Connections;
+use crate::connections::OpenConnections;
 use crate::fault::LimitedFault;
 use crate::limits::Limits;
 use broker_sockets::{BridgeHandler, Event, EventKind, Given, Handler, Output, PeerEvent};
@@ -19,7 +19,7 @@ pub struct Limited<H> {
     alloc: Global,
     inside: H,
     limits: Limits,
-    connections: Connections,
+    connections: OpenConnections,
 }
 
 impl<H> Limited<H> {
@@ -33,7 +33,7 @@ impl<H> Limited<H> {
             alloc,
             inside,
             limits,
-            connections: Connections::new(alloc),
+            connections: OpenConnections::new(alloc),
         }
     }
 
@@ -46,7 +46,7 @@ impl<H> Limited<H> {
 }
 
 /// Whether the handler inside is told.
-fn is_told(limits: &Limits, connections: &Connections, kind: &EventKind) -> bool
+fn is_told(limits: &Limits, connections: &OpenConnections, kind: &EventKind) -> bool
     ensures { result ≡ is_told limits.now connections.now kind.now }
 {
     match kind {
@@ -81,7 +81,7 @@ fn instead(alloc: Global, kind: &EventKind) -> Result<Vec<Output>, AllocError>
 }
 
 /// A connection is open from now on, or not any more.
-fn meet(connections: &mut Connections, event: &Event) -> Result<(), AllocError>
+fn meet(connections: &mut OpenConnections, event: &Event) -> Result<(), AllocError>
     ensures { OnOk result (connections.new ≡ met event.now connections.old) }
 {
     match &event.kind {

@@ -21,7 +21,7 @@ use crate::begun::begin;
 use crate::fault::{fault_of_error, fault_of_rows};
 pub use copied::copied_rows;
 pub use fault::OpenFault;
-use row_journal::{Bounds, JournaledRows};
+use row_journal::{JournalBounds, JournaledRows};
 use row_store::{Change, Row, RowFault, RowStore};
 use session_records::SqlRows;
 pub use sqlite::Wary;
@@ -29,7 +29,7 @@ use sqlite::{Alter, Connection, FileFrom, FileStore, Start};
 use sqlite_disk::Disk;
 
 /// How many rows the journal has, how many bytes are in them, and how many their changes take in memory before it is folded.
-pub(crate) const BOUNDS: Bounds = Bounds {
+pub(crate) const BOUNDS: JournalBounds = JournalBounds {
     rows: 256,
     bytes: 1_048_576,
     held: 16_777_216,

@@ -18,16 +18,16 @@ use std::alloc::Global;
 /// How many rows the journal has, how many bytes are in their values, and how many bytes their changes take in memory before a fold of it begins. While
 /// one is under way there are twice as many at most.
 #[derive(Clone, Copy, Debug)]
-pub struct Bounds {
+pub struct JournalBounds {
     pub rows: u64,
     pub bytes: usize,
     pub held: usize,
 }
 
-impl Bounds {
+impl JournalBounds {
     /// Twice as many of each.
-    fn twice(self) -> Bounds {
-        Bounds {
+    fn twice(self) -> JournalBounds {
+        JournalBounds {
             rows: self.rows.saturating_mul(2),
             bytes: self.bytes.saturating_mul(2),
             held: self.held.saturating_mul(2),
@@ -109,7 +109,7 @@ fn write<R: RowStore>(
 }
 
 /// Whether the journal has room for a turn more within these bounds.
-fn has_room(journal: &Journal, bounds: Bounds, turn: Size) -> bool
+fn has_room(journal: &Journal, bounds: JournalBounds, turn: Size) -> bool
     ensures { IsTrue result → journal.now.count + 1 < 2 ^ 64 }
 {
     journal.count < bounds.rows
@@ -121,7 +121,7 @@ fn has_room(journal: &Journal, bounds: Bounds, turn: Size) -> bool
 /// exceed twice a bound. Where many have come since, it goes on with these.
 fn make_room<R: RowStore>(
     alloc: Global,
-    bounds: Bounds,
+    bounds: JournalBounds,
     rows: &mut R,
     journal: &mut Journal,
     turn: Size,
@@ -145,7 +145,7 @@ fn make_room<R: RowStore>(
 /// one of them names a row of the journal's kind.
 pub(crate) fn make<R: RowStore>(
     alloc: Global,
-    bounds: Bounds,
+    bounds: JournalBounds,
     rows: &mut R,
     journal: &mut Journal,
     changes: &[Change],

@@ -11,5 +11,5 @@ mod spelled;
 mod store;
 mod tops;
 
-pub use calls::Bounds;
+pub use calls::JournalBounds;
 pub use store::JournaledRows;

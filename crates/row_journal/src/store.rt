@@ -5,7 +5,7 @@ ghost use Rattle.std.specs.Prelude.{◌≡◌, ◌≢◌, ◌⊎◌, ◌<◌, �
 ghost use Rattle.row_store.specs.Rows.{Content};
 ghost use Rattle.row_journal.specs.Journal.{IsJournaled, shown};
 
-use crate::calls::{Bounds, load_rows, make};
+use crate::calls::{JournalBounds, load_rows, make};
 use crate::journal::Journal;
 use crate::reading::journal_in;
 use row_store::{Change, Row, RowFault, RowStore};
@@ -18,7 +18,7 @@ use std::marker::Model;
 pub struct JournaledRows<R: RowStore> {
     alloc: Global,
     rows: R,
-    bounds: Bounds,
+    bounds: JournalBounds,
     journal: Journal,
     failures: u64,
 }
@@ -52,7 +52,7 @@ impl<R: RowStore> JournaledRows<R> {
     pub fn open(
         alloc: Global,
         mut rows: R,
-        bounds: Bounds,
+        bounds: JournalBounds,
     ) -> Result<JournaledRows<R>, (RowFault, R)>
         ensures open { IfOk result (λ s. R.is_clean s.0 → R.is_open rows → R.is_open s.0) }
         ensures content { IfOk result (λ s. R.is_clean s.0 → R.is_open rows → R.content s.0 ≡ R.content rows) }

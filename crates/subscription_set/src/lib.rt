@@ -24,5 +24,5 @@ mod set;
 pub use entry::Entry;
 pub use entry_iter::EntryIter;
 pub use live::MatchingApart;
-pub use ready::Ready;
+pub use ready::PreparedSet;
 pub use set::SubscriptionSet;

@@ -10,7 +10,7 @@ use std::marker::Model;
 
 /// A set and what it is to be: what comes is brought already.
 #[derive(Drop)]
-pub struct Ready {
+pub struct PreparedSet {
     pub(crate) alloc: Global,
     pub(crate) seen: Joining,
     pub(crate) entries: EntryMap,
@@ -18,7 +18,7 @@ pub struct Ready {
     pub(crate) gone: Vec<Dot>,
 }
 
-impl Model for Ready {
+impl Model for PreparedSet {
     ghost use Rattle.std.specs.Coded.{coded×};
     ghost use Rattle.std.specs.FinMap as map;
     ghost use Rattle.causal_context.specs.Dots.{dot_cmp};
@@ -39,12 +39,12 @@ impl Model for Ready {
         × AreSeen r.seen.1 (without_keys dot_cmp r.gone.items (map.entries r.entries)) };
 }
 
-impl Ready {
+impl PreparedSet {
     /// The set as it is to be.
     pub fn commit(self) -> SubscriptionSet
         ensures { result ≡ self.1 }
     {
-        let Ready {
+        let PreparedSet {
             alloc,
             seen,
             mut entries,
@@ -63,7 +63,7 @@ impl Ready {
     pub fn abandon(self) -> SubscriptionSet
         ensures { result ≡ self.0 }
     {
-        let Ready {
+        let PreparedSet {
             alloc,
             seen,
             mut entries,

@@ -25,7 +25,7 @@ use crate::live::{
     latest_apart, latest_matching, latest_of,
 };
 use crate::plan::{any_leaving, leaving, make_plan};
-use crate::ready::Ready;
+use crate::ready::PreparedSet;
 use causal_context::{Context, Dot, Lattice};
 use mqtt_fields::{NoMemory, Text};
 use mqtt_topics::{Filter, TopicName};
@@ -304,7 +304,7 @@ impl SubscriptionSet {
 
     /// The join with the other, with memory for it; or the value as it was, where there is none. With
     /// one that is below it takes none.
-    pub fn prepare(self, other: &SubscriptionSet) -> Result<Ready, SubscriptionSet>
+    pub fn prepare(self, other: &SubscriptionSet) -> Result<PreparedSet, SubscriptionSet>
         ensures ok { IfOk result (λ ready.
             (ready.0 ≡ self) × (ready.1 ≡ statuses_join self other.now)) }
         ensures err { IfErr result (λ back. back ≡ self) }
@@ -322,7 +322,7 @@ impl SubscriptionSet {
                 entries,
             }),
             Ok(seen) => match make_plan(alloc, &seen, &mut entries, &other.seen, &other.entries) {
-                Ok(plan) => Ok(Ready {
+                Ok(plan) => Ok(PreparedSet {
                     alloc,
                     seen,
                     entries,

@@ -1,11 +1,11 @@
 //! Values of one call that end alike: the journal's row has their end once.
 
-use row_journal::{Bounds, JournaledRows};
+use row_journal::{JournalBounds, JournaledRows};
 use row_store::{Change, MemoryRows, Row, RowStore};
 use std::alloc::Global;
 use std::process::Abort;
 
-const BOUNDS: Bounds = Bounds {
+const BOUNDS: JournalBounds = JournalBounds {
     rows: 100,
     bytes: 1_000_000,
     held: 1_000_000,

@@ -2,29 +2,29 @@
 
 use crate::samples::{Sample, apply, holds};
 use crate::tests::is_worked;
-use row_journal::{Bounds, JournaledRows};
+use row_journal::{JournalBounds, JournaledRows};
 use row_store::{Change, MemoryRows, Row, RowFault, RowStore};
 use std::alloc::Global;
 use std::process::Abort;
 
 // Bounds under which each call is folded before the next, some are, and none is; and one byte of changes, so that no call has a row.
-const BOUNDS: [Bounds; 4] = [
-    Bounds {
+const BOUNDS: [JournalBounds; 4] = [
+    JournalBounds {
         rows: 1,
         bytes: 1_000_000,
         held: 1_000_000,
     },
-    Bounds {
+    JournalBounds {
         rows: 3,
         bytes: 1_000_000,
         held: 1_000_000,
     },
-    Bounds {
+    JournalBounds {
         rows: 1000,
         bytes: 60,
         held: 1_000_000,
     },
-    Bounds {
+    JournalBounds {
         rows: 1000,
         bytes: 1,
         held: 1_000_000,
@@ -35,7 +35,7 @@ fn journaled_within<R: RowStore + Drop>(
     rt: &impl Abort,
     alloc: Global,
     rows: R,
-    bounds: Bounds,
+    bounds: JournalBounds,
 ) -> JournaledRows<R> {
     let opened = JournaledRows::open(alloc, rows, bounds);
     opened.ok().expect(rt, "a journal")
@@ -97,7 +97,7 @@ fn a_call_is_one_row(rt: HostRuntime) {
 }
 
 // Bounds under which a fold begins with the fifth call.
-const FOUR: Bounds = Bounds {
+const FOUR: JournalBounds = JournalBounds {
     rows: 4,
     bytes: 1_000_000,
     held: 1_000_000,

@@ -2,7 +2,7 @@
 //! and has the rows of before the change that failed, or those of after it. So it is with a journal before the database, and without.
 
 use crate::samples::{Sample, apply, holds};
-use row_journal::{Bounds, JournaledRows};
+use row_journal::{JournalBounds, JournaledRows};
 use row_store::{RowFault, RowStore};
 use sqlite::{Alter, Connection, Files};
 use sqlite_disk::Disk;
@@ -160,7 +160,7 @@ fn done_over<R: RowStore + Drop>(
         let outcome = done(rt, alloc, &mut rows, task);
         return (rows, outcome);
     };
-    let bounds = Bounds {
+    let bounds = JournalBounds {
         rows: most,
         bytes: 1_000_000,
         held: 1_000_000,

@@ -3,7 +3,7 @@ use Rattle.std.specs.Cmp.{nat_cmp_total}
 use Rattle.std.specs.FinMap.{nat_cmp-IsAntisymmetric}
 use Rattle.std.specs.FinMap as map
 use Rattle.law_maps.proofs.Tables.{entries_sorted, rising}
-use Rattle.door_limits.proofs.connections.Connections.len.Goals as goal
+use Rattle.door_limits.proofs.connections.OpenConnections.len.Goals as goal
 
 pub returns : goal.returns
 returns c =

@@ -5,7 +5,7 @@ use Rattle.std.specs.FinMap as map
 use Rattle.law_maps.proofs.Tables.{remove_table}
 use Rattle.door_limits.specs.Connected.{Connected, waits_since}
 use Rattle.door_limits.proofs.Waiting.{state, waits_less, waits_same}
-use Rattle.door_limits.proofs.connections.Connections.close.Goals as goal
+use Rattle.door_limits.proofs.connections.OpenConnections.close.Goals as goal
 
 pub invariant_of-self : goal.invariant_of-self
 invariant_of-self c =

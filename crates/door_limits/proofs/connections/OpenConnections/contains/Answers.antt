@@ -3,7 +3,7 @@ use Rattle.std.specs.Cmp.{nat_cmp_total}
 use Rattle.std.specs.FinMap as map
 use Rattle.law_maps.proofs.Tables.{get_table}
 use Rattle.door_limits.specs.Connected.{Connected}
-use Rattle.door_limits.proofs.connections.Connections.contains.Goals as goal
+use Rattle.door_limits.proofs.connections.OpenConnections.contains.Goals as goal
 
 pub returns : goal.returns
 returns c =

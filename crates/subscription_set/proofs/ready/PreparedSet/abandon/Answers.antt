@@ -2,7 +2,7 @@ use Rattle.std.proofs.Common.{ap, ◌∙◌}
 use Rattle.std.specs.FinMap as map
 use Rattle.subscription_set.proofs.Plans.{same_statuses, seen_as}
 use Rattle.subscription_set.proofs.Merges.{cleared_as}
-use Rattle.subscription_set.proofs.ready.Ready.abandon.Goals as goal
+use Rattle.subscription_set.proofs.ready.PreparedSet.abandon.Goals as goal
 
 pub invariant_of-result : goal.invariant_of-result
 invariant_of-result c = record {

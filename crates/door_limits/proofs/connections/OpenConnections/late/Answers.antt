@@ -2,8 +2,8 @@ use Rattle.std.proofs.Common.{◌≡◌, ◌<◌, ◌≤◌, ◌+◌, ℕ, List,
 use Rattle.std.specs.Prelude.{IfNone}
 use Rattle.door_limits.specs.Connected.{Connected, IsLate, NoneIsLate}
 use Rattle.door_limits.proofs.Waiting.{first_early, first_late, none_waits}
-use Rattle.door_limits.proofs.connections.Connections.late.Goals.{else-since-at-via-then-since-at+else-within-at, else-since-at-via-else-since-at}
-use Rattle.door_limits.proofs.connections.Connections.late.Goals as goal
+use Rattle.door_limits.proofs.connections.OpenConnections.late.Goals.{else-since-at-via-then-since-at+else-within-at, else-since-at-via-else-since-at}
+use Rattle.door_limits.proofs.connections.OpenConnections.late.Goals as goal
 
 if_none : (r : Option ℕ) (P : Type 0) → P → IfNone r P
 if_none None P p = p

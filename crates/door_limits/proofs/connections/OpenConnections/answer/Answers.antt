@@ -5,7 +5,7 @@ use Rattle.std.specs.FinMap as map
 use Rattle.law_maps.proofs.Tables.{get_table, insert_table}
 use Rattle.door_limits.specs.Connected.{Connected, answered_if}
 use Rattle.door_limits.proofs.Waiting.{state, waits_less}
-use Rattle.door_limits.proofs.connections.Connections.answer.Goals as goal
+use Rattle.door_limits.proofs.connections.OpenConnections.answer.Goals as goal
 
 -- what is known of one, seen
 seen : (m : Connected) (known : List (ℕ × Option ℕ)) (c : ℕ) (x : Option (Option ℕ)) → map.from_entries known ≡ m → state known c ≡ x → map.get m c ≡ x

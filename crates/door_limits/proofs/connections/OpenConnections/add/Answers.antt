@@ -6,7 +6,7 @@ use Rattle.std.specs.Ordering.{is_eq, nat_cmp}
 use Rattle.law_maps.proofs.Tables.{get_removed, get_table, insert_table, insert_taken}
 use Rattle.door_limits.specs.Connected.{AreWaiting, Connected, waits_since}
 use Rattle.door_limits.proofs.Waiting.{state, waits_more, waits_same}
-use Rattle.door_limits.proofs.connections.Connections.add.Goals as goal
+use Rattle.door_limits.proofs.connections.OpenConnections.add.Goals as goal
 
 -- it was closed before
 closed : (m : Connected) (known : List (ℕ × Option ℕ)) (c : ℕ) → map.from_entries known ≡ map.remove m c → state known c ≡ None
