@@ -4,7 +4,7 @@ use crate::limits::bounds_of;
 use broker_command::Task;
 use broker_sockets::RealSockets;
 use cli_files::read_script;
-use cli_reports::check;
+use cli_reports::{balance, check};
 use cli_stops::Ending;
 use door_limits::Limits;
 use node_server::ListenAt;
@@ -57,6 +57,9 @@ pub fn run_task(rt: &HostRuntime, task: Task) -> Result<(), Ending> {
             database.as_str(),
             &mut rt.stdout(),
         ),
+        Task::Balancer { configuration } => {
+            balance(rt, configuration.as_str(), &mut rt.stdout())
+        }
     }
 }
 
