@@ -10,7 +10,7 @@ use door_limits::Limits;
 use node_server::ListenAt;
 use script_loopback::loop_script;
 use script_runs::run_script;
-use serve_node::serve;
+use serve_node::{Named, Service, serve};
 
 /// Runs a task.
 pub fn run_task(rt: &HostRuntime, task: Task) -> Result<(), Ending> {
@@ -32,19 +32,23 @@ pub fn run_task(rt: &HostRuntime, task: Task) -> Result<(), Ending> {
             bridge_listen,
         } => serve(
             rt,
-            configuration.as_str(),
-            node.as_str(),
-            database.as_str(),
-            ListenAt {
-                clients: listen.as_ref().map(|address| address.as_str()),
-                nodes: bridge_listen.as_ref().map(|address| address.as_str()),
+            Named {
+                configuration: configuration.as_str(),
+                node: node.as_str(),
+                database: database.as_str(),
             },
-            bounds_of(&limits),
-            Limits::new(most_clients, connect_within),
-            mqtt3,
-            log,
-            status.as_ref().map(|address| address.as_str()),
-            turns,
+            Service {
+                at: ListenAt {
+                    clients: listen.as_ref().map(|address| address.as_str()),
+                    nodes: bridge_listen.as_ref().map(|address| address.as_str()),
+                },
+                bounds: bounds_of(&limits),
+                limits: Limits::new(most_clients, connect_within),
+                mqtt3,
+                log,
+                status: status.as_ref().map(|address| address.as_str()),
+                turns,
+            },
         ),
         Task::Check {
             configuration,

@@ -5,7 +5,10 @@ mod causes;
 mod gauge;
 mod refusal;
 mod run;
+mod service;
 mod source;
+mod status;
 mod telling;
 
 pub use run::serve;
+pub use service::{Named, Service};
