@@ -74,15 +74,7 @@ fn serve_place<R: RowStore + Drop, F: Tables + Drop>(
         return Err(Ending::from(Stop::Run(RunFault::NoMemory)));
     };
     let mut refused = None;
-    match serve_rows(
-        rt,
-        rows,
-        (told, id),
-        tables,
-        names,
-        service,
-        &mut refused,
-    ) {
+    match serve_rows(rt, rows, (told, id), tables, names, service, &mut refused) {
         Ok(()) => Ok(()),
         Err(stop) => {
             let asked = Asked {
@@ -111,7 +103,11 @@ fn place_of<'a>(
     let Some(StatusAt { address, hosts }) = status else {
         return Ok(None);
     };
-    let Named { node: name, database, .. } = names;
+    let Named {
+        node: name,
+        database,
+        ..
+    } = names;
     let Ok(keys) = RandomState::new(rt) else {
         return Err(Stop::Run(RunFault::Socket));
     };
