@@ -5,7 +5,7 @@ use door_bounds::BoundLimits;
 use door_limits::Limits;
 use home_table::TableFault;
 use node_server::ListenAt;
-use serve_node::{Named, Service, serve};
+use serve_node::{Named, Service, StatusAt, serve};
 use std::fs;
 use std::net::{SocketAddr, TcpListener};
 use trial_databases::HOMES;
@@ -21,7 +21,7 @@ fn for_one_turn(status: Option<&str>) -> Service<'_> {
         limits: Limits::none(),
         mqtt3: false,
         log: false,
-        status,
+        status: status.map(|address| StatusAt { address, hosts: "" }),
         turns: Some(1),
     }
 }
