@@ -9,7 +9,7 @@ use crate::service::{Named, Service, StatusAt};
 use crate::source::ConfigurationFile;
 use crate::status::StatusSockets;
 use crate::telling::{Refused, TellingSockets};
-use broker_sockets::{PolledSockets, RealClocks, RealSockets, SteadyClock};
+use broker_sockets::{PolledSockets, RealClocks, SteadyClock};
 use cli_files::{TableFile, configuration_bytes, configuration_of, unread};
 use cli_stops::{Ending, RunFault, Stop};
 use door_bounds::{BoundLimits, ProcessMemory};
