@@ -53,8 +53,11 @@ sum_line place =
 unfoldable pub byte_lines : List ℕ
 byte_lines = lines_below sum_line 256
 
-unfoldable pub sum_lines : List ℕ
-sum_lines = codes "    tcp-request content set-var(txn.sum) int(0)\n" ++ byte_lines
+unfoldable pub zero_line : List ℕ
+zero_line = codes "    tcp-request content set-var(txn.sum) int(0)\n"
+
+abbrev pub sum_lines : List ℕ
+sum_lines = zero_line ++ byte_lines
 
 -- identifiers that a node gives by itself, by its number, go to the node of that name
 unfoldable pub given : List ℕ → ℕ → List ℕ

@@ -4,7 +4,7 @@ ghost use Rattle.std.specs.Prelude.{◌≡◌, ◌==◌, ◌++◌, length, map, 
 ghost use Rattle.std.specs.List.{list_all, list_any, filter};
 ghost use Rattle.hex.specs.Hex.{encode_lower};
 ghost use Rattle.cli_files.specs.Listed.{placed};
-ghost use Rattle.cli_reports.specs.Balancer.{address_at, as_word, balancer_text, begins, begins_by, begins_plainly, byte_lines, escapes, given, given_line, has_length, heading, home_line, is_plain, is_rest, lines_below, lines_of, name_at, opening, ordered, rest, rest_line, rest_lines_if, server_line, sum_line, sum_lines, sum_lines_if, use_line};
+ghost use Rattle.cli_reports.specs.Balancer.{address_at, as_word, balancer_text, begins, begins_by, begins_plainly, byte_lines, escapes, given, given_line, has_length, heading, home_line, is_plain, is_rest, lines_below, lines_of, name_at, opening, ordered, rest, rest_line, rest_lines_if, server_line, sum_line, sum_lines, sum_lines_if, use_line, zero_line};
 
 use cli_files::Home;
 use home_table::HomeTable;
@@ -221,12 +221,19 @@ fn push_bytes(text: &mut String) -> Result<(), NoMemory>
     Ok(())
 }
 
+/// The line that begins a sum with zero.
+#[tactic(auto, unfolding(crate::specs::Balancer::zero_line))]
+fn push_zero(text: &mut String) -> Result<(), AllocError>
+    ensures { OnOk result (string_bytes text.new ≡ string_bytes text.old ++ zero_line) }
+{
+    text.push_str("    tcp-request content set-var(txn.sum) int(0)\n")
+}
+
 /// The lines that sum up the bytes of an identifier.
-#[tactic(auto, unfolding(crate::specs::Balancer::sum_lines))]
 fn push_sums(text: &mut String) -> Result<(), NoMemory>
     ensures { OnOk result (string_bytes text.new ≡ string_bytes text.old ++ sum_lines) }
 {
-    text.push_str("    tcp-request content set-var(txn.sum) int(0)\n")?;
+    push_zero(text)?;
     push_bytes(text)?;
     Ok(())
 }
