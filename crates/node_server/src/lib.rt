@@ -14,5 +14,7 @@ mod watchers;
 
 pub use run::{ListenAt, serve};
 pub use served::ServedNode;
-pub use stack::{BoundedNode, LimitedNode, LoggedNode, TabledNode, TalliedNode, ToldNode};
+pub use stack::{
+    BoundedNode, GuardedNode, LimitedNode, LoggedNode, TabledNode, TalliedNode, ToldNode,
+};
 pub use status::{NodeTeller, StatusPlace};

@@ -57,7 +57,14 @@ impl<R: RowStore, F, G, E> Teller<TalliedNode<R, F, G, E>> for NodeTeller {
         let Some(tally) = handler.tally() else {
             return Ok(None);
         };
-        let node = handler.inside().inside().inside().inside().inside().node();
+        let node = handler
+            .inside()
+            .inside()
+            .inside()
+            .inside()
+            .inside()
+            .inside()
+            .node();
         match figures_of(alloc, self.name.as_str(), self.since, node, tally, at) {
             Ok(figures) => Ok(Some(figures)),
             Err(_) => Err(AllocError),

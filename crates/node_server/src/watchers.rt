@@ -56,6 +56,7 @@ impl<R: RowStore, F, G, E, S: Sockets, W: Write> Watcher<TalliedNode<R, F, G, E>
                     .inside()
                     .inside()
                     .inside()
+                    .inside()
                     .counts(),
             );
             let _ = log.tell(at, &losses);

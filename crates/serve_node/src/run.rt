@@ -12,6 +12,7 @@ use cli_stops::{Ending, RunFault, Stop};
 use door_bounds::{BoundLimits, PLACE, ProcessMemory};
 use door_limits::Limits;
 use door_tables::Tables;
+use door_users::FileAccess;
 use home_table::HomeTable;
 use node_server::{ListenAt, StatusPlace};
 use row_database::{Wary, open_rows};
@@ -23,8 +24,8 @@ use std::io::Stderr;
 /// As many turns as no node makes: at a million a second they take 146,000 years.
 const ENDLESS: u64 = (1 << 62) - 1;
 
-/// Runs the named node of a configuration, with its rows in the database at a path, waiting at its addresses or at those that are given, within limits on what clients
-/// send and on these, with a log on standard error or without, with its status told at an address or nowhere, for so many turns. Where no number is given it runs until
+/// Runs the named node of a configuration, with its rows in the database at a path, waiting at its addresses or at those that are given, for these users or
+/// for anyone, within limits on what clients send and on these, with a log on standard error or without, with its status told at an address or nowhere, for so many turns. Where no number is given it runs until
 /// the program is stopped, and takes newer tables of homes from the configuration's file.
 pub fn serve(
     rt: &HostRuntime,
@@ -32,6 +33,7 @@ pub fn serve(
     node: &str,
     database: &str,
     at: ListenAt<'_>,
+    access: Option<FileAccess>,
     bounds: BoundLimits,
     limits: Limits,
     mqtt3: bool,
@@ -57,6 +59,7 @@ pub fn serve(
             tables,
             (node, database),
             at,
+            access,
             bounds,
             limits,
             mqtt3,
@@ -92,6 +95,7 @@ fn serve_place<R: RowStore + Drop, F: Tables + Drop>(
     tables: Option<F>,
     names: (&str, &str),
     at: ListenAt<'_>,
+    access: Option<FileAccess>,
     bounds: BoundLimits,
     limits: Limits,
     mqtt3: bool,
@@ -113,6 +117,7 @@ fn serve_place<R: RowStore + Drop, F: Tables + Drop>(
         (told, id),
         at,
         tables,
+        access,
         bounds,
         limits,
         mqtt3,
@@ -166,6 +171,7 @@ fn serve_rows<R: RowStore + Drop, F: Tables + Drop>(
     place: (HomeTable, u16),
     at: ListenAt<'_>,
     tables: Option<F>,
+    access: Option<FileAccess>,
     bounds: BoundLimits,
     limits: Limits,
     mqtt3: bool,
@@ -193,6 +199,7 @@ fn serve_rows<R: RowStore + Drop, F: Tables + Drop>(
         place,
         at,
         tables,
+        access,
         (bounds, gauge),
         limits,
         mqtt3,

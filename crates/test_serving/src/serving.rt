@@ -161,6 +161,7 @@ fn serve_for(
         (homes, 0),
         at,
         no_tables,
+        None,
         (BoundLimits::none(), NoGauge),
         Limits::none(),
         false,

@@ -17,4 +17,5 @@ returns c = (
   c.in_ok-text_of-2.ensures,
   c.in_ok-text_of-3.ensures,
   c.in-Some-limits_of.ensures,
+  c.in_ok-users_of.ensures,
 )
