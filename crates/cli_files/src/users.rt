@@ -25,7 +25,7 @@ fn refused<D: Display>(alloc: Global, path: &str, why: &D) -> Stop {
 
 /// The words for a line with a flaw of the file at a path.
 fn line_text(alloc: Global, path: &str, number: u64, flaw: LineFlaw) -> Result<String, AllocError>
-    ensures { IfOk result (λ text. string_bytes text ≡ codes "broker: " ++ path.now ++ codes ": " ++ fault_text (Line number flaw)) }
+    ensures { IfOk result (λ text. string_bytes text ≡ codes "broker: " ++ (path.now ++ (codes ": " ++ fault_text (Line number flaw)))) }
 {
     let fault = FileFault::Line(number, flaw);
     format!(in alloc; "broker: {path}: {fault}")

@@ -4,7 +4,6 @@ use Rattle.std.specs.Prelude.{◌↔◌, IsTrue, find}
 use Rattle.std.specs.Str.{bytes_eq}
 use Rattle.mqtt_access.specs.Pbkdf2.{derived_key}
 use Rattle.mqtt_access.proofs.Tests.{and_first, and_second, by_test, never, same, tests_same}
-use Rattle.door_users.specs.declared.users.Entry.{Entry}
 use Rattle.door_users.specs.declared.users.Entry.TheVariants.{Admitted, WrongPassword}
 use Rattle.door_users.specs.Accounts.{Account}
 use Rattle.door_users.specs.Admitting.{entry_by, entry_of}

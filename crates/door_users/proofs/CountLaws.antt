@@ -1,14 +1,12 @@
 -- Numbers of iterations.
-use Rattle.std.proofs.Common.{◌≡◌, ◌≢◌, ◌⊎◌, inl, inr, ℕ, ◌<◌, ◌≤◌, ◌^◌, Bool, true, false, not, ◌&&◌, List, [], ◌∷◌, length, get_or, refl, sym, ◌∙◌, arith}
-use Rattle.std.specs.Prelude.{nat_eq, nat_le, nat_lt, Result, Ok, Err, ◌==◌, if◌then◌else◌}
+use Rattle.std.proofs.Common.{◌≡◌, ◌≢◌, ℕ, ◌<◌, ◌≤◌, ◌^◌, Bool, true, false, not, ◌&&◌, List, [], ◌∷◌, length, get_or, refl, sym, ◌∙◌, arith}
+use Rattle.std.specs.Prelude.{nat_eq, nat_le, nat_lt, Result, Ok, Err}
 use Rattle.std.specs.List.{starts_with}
-use Rattle.std.specs.Result.{OkIff}
 use Rattle.std.specs.Str.{all_ascii_digits}
 use Rattle.std.specs.Str.Parse.{ParsesUnsigned, digits_value}
 use Rattle.std.proofs.lemmas.Bool.Decides.{nat_tests}
 use Rattle.std.proofs.lemmas.Str.Parse.{IsNumeralModel, numerals_by_value, parse_plain, tells_all_ascii_digits}
-use Rattle.mqtt_access.proofs.Tests.{and_both, and_first, and_second, by_test, false_of, never}
-use Rattle.door_users.specs.declared.fault.LineFlaw.{LineFlaw}
+use Rattle.mqtt_access.proofs.Tests.{and_first, and_second, false_of, never}
 use Rattle.door_users.specs.declared.fault.LineFlaw.TheVariants.{BadIterations}
 use Rattle.door_users.specs.Accounts.{has_none, is_count, iterations_in}
 use Rattle.door_users.specs.Counts.{IsRead}
@@ -26,7 +24,7 @@ zero_first text e = rw (no (has_none text) (starts_with nat_eq text (48 ∷ []))
     no a false z e = never e
 
 not_count : (text : List ℕ) → (is_count text ≡ true → ⊥) → iterations_in text ≡ Err BadIterations
-not_count text no = rw (false_of (is_count text) no) refl
+not_count text fails = rw (false_of (is_count text) fails) refl
 
 digits_of_count : (text : List ℕ) → is_count text ≡ true → all_ascii_digits text ≡ true
 digits_of_count text e = and_first (all_ascii_digits text) _ (and_second (not (has_none text) && not (starts_with nat_eq text (48 ∷ []))) _ e)
@@ -45,15 +43,12 @@ not_plus : (text : List ℕ) → starts_with nat_eq text (43 ∷ []) ≡ false �
 not_plus [] e h = grind arith
 not_plus (x ∷ xs) e h = grind (arith, nat_tests)
 
-read_by : {E : Type 0} (text : List ℕ) (r : Result ℕ E) (n : ℕ) → starts_with nat_eq text (43 ∷ []) ≡ false → ParsesUnsigned 32 10 text r → r ≡ Ok n → IsRead text n
-read_by text r n no_plus parsed is = given (rw is at parse_plain own 32 text r parsed (not_plus text no_plus))
+-- what `parse` reads
+pub read_by : {E : Type 0} (text : List ℕ) (r : Result ℕ E) (n : ℕ) → starts_with nat_eq text (43 ∷ []) ≡ false → ParsesUnsigned 32 10 text r → r ≡ Ok n → IsRead text n
+read_by text r n no_plus parsed is = given (rw is at (parse_plain {P = λ ds. all_ascii_digits ds ≡ true} {v = digits_value 10} own 32 text r parsed (not_plus text no_plus)))
   where
     given : ((all_ascii_digits text ≡ true) × (0 < length text) × (digits_value 10 text < 2 ^ 32)) × (n ≡ digits_value 10 text) → IsRead text n
     given h = record { digits = h.0.0; some = h.0.1; fits = h.0.2; value = h.1 }
-
--- what `parse` reads
-pub is_read : {E : Type 0} (text : List ℕ) (n : ℕ) → starts_with nat_eq text (43 ∷ []) ≡ false → ParsesUnsigned {E = E} 32 10 text (Ok n) → IsRead text n
-is_read text n no_plus parsed = read_by text (Ok n) n no_plus parsed refl
 
 -- is the count, where it is in its bounds
 pub count_read : (text : List ℕ) (n : ℕ) → starts_with nat_eq text (48 ∷ []) ≡ false → IsRead text n → 1 ≤ n → n ≤ 100000 → iterations_in text ≡ Ok n
@@ -69,11 +64,11 @@ count_read text n no_zero read some most =
 
 -- and none past them
 count_out : (text : List ℕ) (n : ℕ) → IsRead text n → (0 < n → n ≤ 100000 → ⊥) → iterations_in text ≡ Err BadIterations
-count_out text n read no = not_count text (λ c.
+count_out text n read fails = not_count text (λ c.
     let v = digits_value 10 text in
     let low : 0 < v = let e = and_first (nat_lt 0 v) (nat_le v 100000) (bounds_of_count text c) in grind (arith, nat_tests) in
     let high : v ≤ 100000 = let e = and_second (nat_lt 0 v) (nat_le v 100000) (bounds_of_count text c) in grind (arith, nat_tests) in
-    let is = read.value in no (omega (arith, low)) (omega (arith, high)))
+    let is = read.value in fails (omega (arith, low)) (omega (arith, high)))
 
 pub count_few : (text : List ℕ) (n : ℕ) → IsRead text n → n < 1 → iterations_in text ≡ Err BadIterations
 count_few text n read few = count_out text n read (λ some most. omega (arith, few))
@@ -87,4 +82,4 @@ count_unread text error no_plus parsed = not_count text (λ c.
     let v = digits_value 10 text in
     let high : v ≤ 100000 = let e = and_second (nat_lt 0 v) (nat_le v 100000) (bounds_of_count text c) in grind (arith, nat_tests) in
     let some : 0 < length text = let e = and_first (not (has_none text)) _ (and_first (not (has_none text) && not (starts_with nat_eq text (48 ∷ []))) _ c) in grind (arith, nat_tests) in
-    parse_plain own 32 text (Err error) parsed (not_plus text no_plus) (digits_of_count text c, (some, omega (arith, high))))
+    parse_plain {P = λ ds. all_ascii_digits ds ≡ true} {v = digits_value 10} own 32 text (Err error) parsed (not_plus text no_plus) (digits_of_count text c, some, omega (arith, high)))

@@ -1,9 +1,7 @@
 -- Who is admitted stands in the file.
-use Rattle.std.proofs.Common.{◌≡◌, ℕ, Bool, true, false, cond, List, [], ◌∷◌, ◌++◌, Option, Some, None, refl, sym, ap, subst, ◌∙◌}
+use Rattle.std.proofs.Common.{◌≡◌, ℕ, Bool, true, false, cond, List, [], ◌∷◌, Option, Some, None, refl, sym, ap, ◌∙◌}
 use Rattle.std.specs.Prelude.{find}
 use Rattle.std.specs.Str.{bytes_eq}
-use Rattle.std.proofs.lemmas.Option.{same_Some}
-use Rattle.door_packets.specs.declared.access.Admission.{Admission}
 use Rattle.door_packets.specs.declared.access.Admission.TheVariants as admissions
 use Rattle.mqtt_access.specs.Pbkdf2.{derived_key}
 use Rattle.mqtt_access.proofs.Tests.{same}
@@ -14,7 +12,6 @@ use Rattle.mqtt_access.specs.declared.index.RuleIndex.{RuleIndex}
 use Rattle.door_packets.specs.declared.access.Login.{Login}
 use Rattle.door_users.specs.Files.{AreRights, IsIndexIf, entry_as, may_at, may_by, may_connect_at, may_connect_by, password_at, rights_of}
 use Rattle.door_users.specs.Laws.{FilesDecide, IsUser}
-use Rattle.door_users.specs.declared.file_access.FileAccess.{FileAccess}
 use Rattle.door_users.specs.Accounts.{Account}
 use Rattle.door_users.specs.Admitting.{entry_by, entry_of}
 use Rattle.door_users.specs.declared.users.Entry.{Entry}

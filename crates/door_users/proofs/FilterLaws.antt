@@ -1,6 +1,6 @@
 -- Filters of rules.
-use Rattle.std.proofs.Common.{◌≡◌, ◌⊎◌, inl, inr, ℕ, Bool, true, false, not, ◌&&◌, List, refl, sym, ◌∙◌}
-use Rattle.std.specs.Prelude.{Result, Ok, Err, if◌then◌else◌}
+use Rattle.std.proofs.Common.{◌≡◌, ◌⊎◌, inl, inr, ℕ, Bool, true, false, not, ◌&&◌, List, refl, sym}
+use Rattle.std.specs.Prelude.{Ok, Err, if◌then◌else◌}
 use Rattle.mqtt_fields.specs.Numbers.{IsText}
 use Rattle.mqtt_topics.proofs.Testing.{decides_filter, passes}
 use Rattle.mqtt_topics.proofs.VerdictLaws.{filters_or_faults}
@@ -9,7 +9,6 @@ use Rattle.mqtt_topics.specs.declared.fault.TopicFault.TheVariants.{NoMemory}
 use Rattle.mqtt_topics.specs.Testing.{is_filter, is_shared}
 use Rattle.mqtt_topics.specs.Topics.{IsFilter, IsFilterFault, IsShared}
 use Rattle.mqtt_access.proofs.Tests.{false_of, never}
-use Rattle.door_users.specs.declared.fault.LineFlaw.{LineFlaw}
 use Rattle.door_users.specs.declared.fault.LineFlaw.TheVariants.{BadFilter}
 use Rattle.door_users.specs.RuleLines.{plain_in}
 
@@ -20,10 +19,10 @@ drops : (a b : Bool) (text : List ℕ) → (a && not b) ≡ false → (if a && n
 drops a b text e = rw e refl
 
 plain : (text : List ℕ) → IsFilter text → (IsShared text → ⊥) → plain_in text ≡ Ok text
-plain text f plain = picks (is_filter text) (is_shared text) text (passes text f) (false_of (is_shared text) plain)
+plain text f apart = picks (is_filter text) (is_shared text) text (passes text f) (false_of (is_shared text) apart)
 
 shared : (text : List ℕ) → IsShared text → plain_in text ≡ Err BadFilter
-shared text shared = drops (is_filter text) (is_shared text) text (none (is_filter text) (is_shared text) shared)
+shared text is = drops (is_filter text) (is_shared text) text (none (is_filter text) (is_shared text) is)
   where
     none : (a b : Bool) → b ≡ true → (a && not b) ≡ false
     none true true e = refl

@@ -4,9 +4,11 @@ use Rattle.std.specs.Prelude.{Result, Ok, Err}
 use Rattle.std.specs.Str.{trim}
 use Rattle.mqtt_access.specs.declared.rule.ClientRule.{ClientRule}
 use Rattle.mqtt_access.specs.declared.rule.TopicRule.{TopicRule}
+use Rattle.door_users.specs.declared.fault.FileFault.{FileFault}
+use Rattle.door_users.specs.declared.fault.FileFault.TheVariants.{NoMemory, Line}
 use Rattle.door_users.specs.declared.fault.LineFlaw.{LineFlaw}
 use Rattle.door_users.specs.Accounts.{Account, with_line, with_lines}
-use Rattle.door_users.specs.Outcomes.{◌>>=◌, at_line}
+use Rattle.door_users.specs.Outcomes.{◌>>=◌, FileFails, at_line}
 use Rattle.door_users.specs.Rules.{State, after_lines, after_text, rules_in}
 
 -- ---- users
@@ -39,8 +41,10 @@ module _ (n : ℕ) (s : State) (lines : List (List ℕ)) (read : Result (List To
   pub rules_go : (t : State) (line : List ℕ) (more : List (List ℕ)) → after_text s (trim line) ≡ Ok t → lines ≡ line ∷ more → rules_in (after_lines n s lines) ≡ read → rules_in (after_lines (n + 1) t more) ≡ read
   rules_go t line more is at so = sym (rules_by line more (Ok t) is at) ∙ so
 
-  pub rules_fail : (line : List ℕ) (more : List (List ℕ)) (flaw : LineFlaw) → after_text s (trim line) ≡ Err flaw → lines ≡ line ∷ more → rules_in (after_lines n s lines) ≡ read → read ≡ Err (n, flaw)
-  rules_fail line more flaw is at so = sym so ∙ rules_by line more (Err flaw) is at
+  pub rules_fail : (line : List ℕ) (more : List (List ℕ)) (e : FileFault) → FileFails e (at_line n (after_text s (trim line))) → lines ≡ line ∷ more → rules_in (after_lines n s lines) ≡ read → FileFails e read
+  rules_fail line more NoMemory is at so = tt
+  rules_fail line more (Line number flaw) is at so =
+      sym so ∙ ap (λ (ls : List (List ℕ)). rules_in (after_lines n s ls)) at ∙ ap (λ (first : Result State (ℕ × LineFlaw)). rules_in (first >>= λ t. after_lines (n + 1) t more)) is
 
   pub rules_end : lines ≡ [] → rules_in (after_lines n s lines) ≡ read → read ≡ Ok (s.topics, s.clients)
   rules_end at so = sym so ∙ ap (λ (ls : List (List ℕ)). rules_in (after_lines n s ls)) at

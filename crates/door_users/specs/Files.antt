@@ -1,5 +1,5 @@
 -- What the files of users and of permissions give a client.
-use Rattle.std.specs.Prelude.{◌≡◌, ℕ, List, Bool, true, false, Option, Some, None, Ok, Err, if◌then◌else◌}
+use Rattle.std.specs.Prelude.{◌≡◌, ℕ, List, Bool, true, Option, Some, None, Ok, Err, if◌then◌else◌}
 use Rattle.door_packets.specs.Rights.{Rights}
 use Rattle.door_packets.specs.declared.access.Admission.{Admission}
 use Rattle.door_packets.specs.declared.access.Admission.TheVariants as admissions

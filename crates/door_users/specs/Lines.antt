@@ -1,5 +1,5 @@
 -- The lines of a file.
-use Rattle.std.specs.Prelude.{ℕ, List, [], ◌∷◌, Bool, ◌==◌, Option, Some, None}
+use Rattle.std.specs.Prelude.{ℕ, List, [], Bool, ◌==◌, Option, Some, None}
 use Rattle.std.specs.List.{slice_split}
 use Rattle.door_users.specs.declared.lines.FileLines.{FileLines}
 use denote.Ref.{Bor}

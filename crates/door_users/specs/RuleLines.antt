@@ -1,7 +1,7 @@
 -- A line of the file of rules: Mosquitto's `acl_file`, and lines that begin with `client`.
 use Rattle.std.specs.Prelude.{ℕ, List, [], ◌∷◌, drop, Bool, true, not, ◌&&◌, ◌||◌, ◌==◌, nat_eq, Result, Ok, Err, codes, if◌then◌else◌}
 use Rattle.std.specs.List.{after_first, before_first, list_any, starts_with}
-use Rattle.std.specs.Str.{bytes_eq, trim, trim_start}
+use Rattle.std.specs.Str.{bytes_eq, trim_start}
 use Rattle.mqtt_topics.specs.Levels.{levels}
 use Rattle.mqtt_topics.specs.Testing.{is_filter, is_shared}
 use Rattle.mqtt_access.specs.declared.rule.Access.{Access}

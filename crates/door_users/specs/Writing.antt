@@ -7,9 +7,14 @@ use Rattle.base64.specs.Engines.{standard}
 use Rattle.base64.specs.GeneralPurpose.{encode_of}
 use Rattle.mqtt_access.specs.Pbkdf2.{derived_key}
 
+abbrev pub head_of : List ℕ → ℕ → List ℕ
+head_of name iterations = name ++ (codes ":$7$" ++ decimal iterations)
+
+abbrev pub line_of : List ℕ → List ℕ → List ℕ → List ℕ
+line_of head salt hash = head ++ (codes "$" ++ (salt ++ (codes "$" ++ hash)))
+
 abbrev pub line_for : List ℕ → List ℕ → List ℕ → ℕ → List ℕ
-line_for name password salt iterations =
-    name ++ codes ":$7$" ++ decimal iterations ++ codes "$" ++ encode_of standard salt ++ codes "$" ++ encode_of standard (derived_key password salt iterations)
+line_for name password salt iterations = line_of (head_of name iterations) (encode_of standard salt) (encode_of standard (derived_key password salt iterations))
 
 -- a colon, a line feed or U+0000
 abbrev pub is_mark : ℕ → Bool

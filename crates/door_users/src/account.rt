@@ -106,7 +106,7 @@ fn bounded(text: &str, number: u32) -> Result<u32, Unread>
 }
 
 /// A number of iterations.
-#[tactic(auto, using(crate::proofs::CountLaws::zero_first, crate::proofs::CountLaws::plus_first, crate::proofs::CountLaws::is_read, crate::proofs::CountLaws::count_unread))]
+#[tactic(auto, using(crate::proofs::CountLaws::zero_first, crate::proofs::CountLaws::plus_first))]
 fn iterations_of(text: &str) -> Result<u32, Unread>
     ensures exact { Gives (λ n. n) result (iterations_in text.now) }
     ensures some { IfOk result (λ n. 0 < n) }

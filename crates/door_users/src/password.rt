@@ -3,7 +3,7 @@
 ghost use Rattle.std.specs.Prelude.{◌≡◌, ◌<◌, ◌≤◌, IfOk};
 ghost use Rattle.std.specs.String.{string_bytes};
 ghost use Rattle.std.specs.List.{list_any};
-ghost use Rattle.door_users.specs.Writing.{is_mark, is_user_name, line_for};
+ghost use Rattle.door_users.specs.Writing.{head_of, is_mark, is_user_name, line_for, line_of};
 
 use base64::engine::general_purpose::STANDARD;
 use mqtt_access::pbkdf2_hmac_sha512;
@@ -34,6 +34,20 @@ fn has_mark(name: &[u8]) -> bool
     name.iter().any(|b| *b == b':' || *b == b'\n' || *b == 0)
 }
 
+/// The name and the iterations, with the sign of PBKDF2 between them.
+fn head_of(alloc: Global, name: &str, iterations: u32) -> Result<String, AllocError>
+    ensures { IfOk result (λ head. string_bytes head ≡ head_of name.now iterations) }
+{
+    format!(in alloc; "{name}:$7${iterations}")
+}
+
+/// The line with this salt and this hash behind its head.
+fn line_of(alloc: Global, head: &str, salt: &str, hash: &str) -> Result<String, AllocError>
+    ensures { IfOk result (λ line. string_bytes line ≡ line_of head.now salt.now hash.now) }
+{
+    format!(in alloc; "{head}${salt}${hash}")
+}
+
 /// The line of a user: its name, and the hash of its password with this salt.
 pub fn user_line(
     alloc: Global,
@@ -48,5 +62,6 @@ pub fn user_line(
     let key = pbkdf2_hmac_sha512(password, salt, iterations);
     let salt = STANDARD.encode(alloc, salt)?;
     let hash = STANDARD.encode(alloc, &key)?;
-    format!(in alloc; "{name}:$7${iterations}${salt}${hash}")
+    let head = head_of(alloc, name, iterations)?;
+    line_of(alloc, head.as_str(), salt.as_str(), hash.as_str())
 }

@@ -1,8 +1,9 @@
 //! The file of rules.
 
 ghost use Rattle.std.specs.Prelude.{◌≡◌, ◌∷◌, ◌++◌, [], Ok, IfErr, IfOk, OnOk};
+ghost use Rattle.std.specs.Str.{trim};
 ghost use Rattle.door_users.specs.declared.fault.Unread.TheVariants as unread;
-ghost use Rattle.door_users.specs.Outcomes.{Fails, FileGives, Gives};
+ghost use Rattle.door_users.specs.Outcomes.{Fails, FileFails, FileGives, Gives, at_line};
 ghost use Rattle.door_users.specs.Rules.{after_line, after_text, identifier_for, rules_of, scope_of, state_of};
 
 use crate::account::text_of;
@@ -138,6 +139,18 @@ impl Reading {
         let line = read_line(alloc, line)?;
         self.take(alloc, line)
     }
+
+    /// Reads the line of this number.
+    fn read_at(&mut self, alloc: Global, number: u64, line: &str) -> Result<(), FileFault>
+        ensures ok { OnOk result (after_text (state_of self.old) (trim line.now) ≡ Ok (state_of self.new)) }
+        ensures err { IfErr result (λ e. FileFails e (at_line number (after_text (state_of self.old) (trim line.now)))) }
+    {
+        match self.read(alloc, line.trim()) {
+            Ok(()) => Ok(()),
+            Err(Unread::NoMemory) => Err(FileFault::NoMemory),
+            Err(Unread::Flaw(flaw)) => Err(FileFault::Line(number, flaw)),
+        }
+    }
 }
 
 /// The rules of a file, or its first line with a flaw.
@@ -152,11 +165,7 @@ pub fn read_permissions(alloc: Global, text: &str) -> Result<Permissions, FileFa
     };
     let mut number: u64 = 1;
     for line in FileLines::of(text) {
-        match reading.read(alloc, line.trim()) {
-            Ok(()) => {}
-            Err(Unread::NoMemory) => return Err(FileFault::NoMemory),
-            Err(Unread::Flaw(flaw)) => return Err(FileFault::Line(number, flaw)),
-        }
+        reading.read_at(alloc, number, line)?;
         number += 1;
     }
     Ok(Permissions {

@@ -4,9 +4,9 @@ use crate::guard_recorder::Recorder;
 use crate::guards::{come, sent_at};
 use broker_sockets::EventKind;
 use door_guard::Guarded;
+use door_users::{FileAccess, Users, read_permissions};
 use std::alloc::Global;
 use std::process::Abort;
-use door_users::{FileAccess, Users, read_permissions};
 
 /// Made by `mosquitto_passwd` for `alice` with `pass word`.
 const USERS: &str =

@@ -3,8 +3,8 @@
 use crate::guard_recorder::Recorder;
 use crate::guard_rules::Rules;
 use broker_sockets::{Event, EventKind, Handler, Output};
-use door_packets::Access;
 use door_guard::{Guarded, Refusals};
+use door_packets::Access;
 use std::alloc::Global;
 use std::process::Abort;
 

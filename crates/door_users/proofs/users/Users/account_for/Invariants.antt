@@ -5,4 +5,4 @@ use Rattle.door_users.specs.Accounts.{Account}
 use Rattle.door_users.proofs.users.Users.account_for.Given as goal
 
 abbrev pub invariant-loop-account : goal.invariant-loop-account
-invariant-loop-account l = find (λ (a : Account). bytes_eq a.name l.name) (drop l.account-index l.self.accounts.items) ≡ find (λ (a : Account). bytes_eq a.name l.name) l.self.accounts.items
+invariant-loop-account l = find (λ (a : Account). bytes_eq a.name l.name) (drop l.account-index l.self-inside.accounts.items) ≡ find (λ (a : Account). bytes_eq a.name l.name) l.self-inside.accounts.items
