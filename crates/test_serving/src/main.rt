@@ -3,6 +3,10 @@
 #![tactic(auto)]
 
 #[cfg(test)]
+mod causes;
+#[cfg(test)]
+mod checks;
+#[cfg(test)]
 mod databases;
 #[cfg(test)]
 mod served;
