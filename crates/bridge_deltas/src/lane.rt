@@ -11,16 +11,14 @@ ghost use Rattle.bridge_deltas.specs.Lane.{after_offer, first_frames, frames_fro
 use crate::offer::Offer;
 use bridge_frames::{BridgeFrame, Forward, FrameBody, LaneNumber};
 use bridge_lanes::{
-    ReadLane, append_numbers, append_numbers_change, append_puts, append_removals, append_rows,
+    LANE_ROOM, ReadLane, append_numbers, append_numbers_change, append_puts, append_removals,
+    append_rows,
 };
 use mqtt_fields::{NUMBERS_END, NoMemory};
 use row_store::{Change, Row};
 use std::alloc::Global;
 use std::collections::VecDeque;
 use std::marker::Model;
-
-/// As many messages as may wait.
-const ROOM: usize = 65_536;
 
 /// As many messages as are sent at once.
 const FIRST: usize = 64;
@@ -131,7 +129,7 @@ impl Lane {
         ensures err { OnErr result (self.new ≡ self.old) }
         ensures memory { OnErr result (offer_of self.old.lane ≡ Offer.Queued (next_number self.old.lane)) }
     {
-        if self.messages.len() - self.gone >= ROOM {
+        if self.messages.len() - self.gone >= LANE_ROOM {
             return Ok(Offer::Full);
         }
         let number = self.base + self.messages.len() as u64 + 1;

@@ -3,10 +3,7 @@ ghost use Rattle.std.specs.Prelude.{◌≡◌};
 ghost use Rattle.bridge_frames.specs.Frames.{length_in};
 
 use crate::fault::LinkFault;
-use mqtt_fields::u32_at;
-
-/// What follows the length of a frame is no longer than so many bytes.
-pub(crate) const LIMIT: usize = 268_435_456;
+use mqtt_fields::{LONGEST_FRAME, u32_at};
 
 /// How many bytes the frame at the front is, its length included: none where the length isn't there
 /// yet. TooLarge where more would follow the length than a frame may have. This takes no memory.
@@ -17,7 +14,7 @@ pub fn frame_length(bytes: &[u8]) -> Result<Option<usize>, LinkFault>
         return Ok(None);
     };
     let length = length as usize;
-    if length > LIMIT {
+    if length > LONGEST_FRAME {
         return Err(LinkFault::TooLarge);
     }
     Ok(Some(4 + length))

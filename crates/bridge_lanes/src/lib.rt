@@ -6,5 +6,5 @@ pub mod laws;
 pub mod reading;
 pub mod row;
 
-pub use reading::{ReadLane, read_lanes};
+pub use reading::{LANE_ROOM, ReadLane, read_lanes};
 pub use row::{append_numbers, append_numbers_change, append_puts, append_removals, append_rows};

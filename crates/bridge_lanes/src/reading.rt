@@ -17,8 +17,8 @@ use row_store::Row;
 use std::alloc::Global;
 use std::collections::VecDeque;
 
-/// As many messages as may wait.
-const ROOM: usize = 65_536;
+/// As many messages as may wait in a lane.
+pub const LANE_ROOM: usize = 65_536;
 
 /// The lanes to and from one other node as their rows say: how many messages that were put in are gone, those that wait, and
 /// the number of the last one that was taken.
@@ -141,7 +141,7 @@ fn read_numbers(peer: u16, rows: &[Row]) -> Option<(u64, u64)>
 fn can_be(count: usize, last_put: u64, took: u64) -> bool
     ensures { IsTrue result ↔ (count ≤ 65536) × (last_put < 2 ^ 62) × (count ≤ last_put) × (took < 2 ^ 62) }
 {
-    let may_wait = count <= ROOM && last_put < NUMBERS_END && count as u64 <= last_put;
+    let may_wait = count <= LANE_ROOM && last_put < NUMBERS_END && count as u64 <= last_put;
     may_wait && took < NUMBERS_END
 }
 

@@ -176,7 +176,7 @@ pub(crate) fn numbered<'a>(option: Arg<'a>) -> Arg<'a>
     ensures rule { rule_of result ≡ record (rule_of option.entry) { parser = Some (Signed (pos 1) (pos 1000000000)) } }
     ensures local { result.global ≡ option.entry.global }
 {
-    option.value_parser(value_parser!(u32).range(1..=1_000_000_000))
+    option.value_parser(value_parser!(u32).range(1..=MOST as i64))
 }
 
 /// An argument that may be there, with one value.

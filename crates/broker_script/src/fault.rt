@@ -11,7 +11,7 @@ use std::fmt;
 /// Why a script isn't read.
 #[derive(Clone, Copy, Debug, PartialEq, Eq)]
 pub enum ScriptFault {
-    /// It is longer than `MOST_BYTES`, or has a byte above 127.
+    /// It is longer than `LONGEST_FILE`, or has a byte above 127.
     NotText,
     /// The line of this number, from 1, can't go on from the lines before it.
     Line(usize),

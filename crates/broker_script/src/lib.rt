@@ -30,4 +30,4 @@ pub use command::Command;
 pub use event::NodeEvent;
 pub use fault::ScriptFault;
 pub use laws::{fault_excludes_script, first_fault_is_unique, script_is_read_once};
-pub use script::{MOST_BYTES, parse_script};
+pub use script::{LONGEST_FILE, parse_script};

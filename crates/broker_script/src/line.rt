@@ -6,9 +6,9 @@ ghost use Rattle.broker_script.specs.Line.{words, spelling, IsInRange, event_spe
 use crate::command::Command;
 use crate::event::NodeEvent;
 use crate::word::{
-    MOST_CLIENT_BYTES, MOST_PREFIX_BYTES, parse_fields, parse_hex, parse_name, parse_node,
-    parse_number, parse_version, words_of,
+    parse_fields, parse_hex, parse_name, parse_node, parse_number, parse_version, words_of,
 };
+use mqtt_fields::{LONGEST_CLIENT, LONGEST_VALUE};
 use std::alloc::{AllocError, Global};
 
 /// The event that a keyword and the words after it spell, but for `bytes`, `evict` and `move`.
@@ -99,7 +99,7 @@ fn parse_evict(alloc: Global, rest: &[&str]) -> Result<Option<NodeEvent>, AllocE
     let Some(moment) = parse_number(moment) else {
         return Ok(None);
     };
-    match parse_name(alloc, MOST_CLIENT_BYTES, client)? {
+    match parse_name(alloc, LONGEST_CLIENT, client)? {
         Some(client) => Ok(Some(NodeEvent::Evict {
             node,
             client,
@@ -131,7 +131,7 @@ fn parse_move(alloc: Global, rest: &[&str]) -> Result<Option<NodeEvent>, AllocEr
     let Some(moment) = parse_number(moment) else {
         return Ok(None);
     };
-    match parse_name(alloc, MOST_PREFIX_BYTES, prefix)? {
+    match parse_name(alloc, LONGEST_VALUE, prefix)? {
         Some(prefix) => Ok(Some(NodeEvent::Move {
             node,
             version,
@@ -182,7 +182,7 @@ fn parse_home(alloc: Global, rest: &[&str]) -> Result<Option<Command>, AllocErro
     let Some(node) = parse_node(node) else {
         return Ok(None);
     };
-    match parse_name(alloc, MOST_PREFIX_BYTES, prefix)? {
+    match parse_name(alloc, LONGEST_VALUE, prefix)? {
         Some(prefix) => Ok(Some(Command::Home { prefix, node })),
         None => Ok(None),
     }

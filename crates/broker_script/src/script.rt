@@ -11,8 +11,8 @@ use crate::line::parse_line;
 use crate::word::lines_of;
 use std::alloc::{AllocError, Global};
 
-/// The length in bytes that a script may have at most.
-pub const MOST_BYTES: usize = 16_777_216;
+/// The most bytes of a file that is read whole: of a script, and of a configuration.
+pub const LONGEST_FILE: usize = 16_777_216;
 
 /// Whether a line isn't skipped: it isn't empty and isn't a comment.
 fn is_kept(line: &str) -> bool
@@ -78,7 +78,7 @@ fn parse_text(alloc: Global, text: &str) -> Result<Vec<Command>, ScriptFault>
 /// The commands of a script.
 ///
 /// # Errors
-/// `NotText` exactly where the script is longer than `MOST_BYTES` or has a byte above 127; else
+/// `NotText` exactly where the script is longer than `LONGEST_FILE` or has a byte above 127; else
 /// `Line` with the number, from 1, of the first line that can't go on from the lines before it, and
 /// with 1 where each line is skipped; `NoMemory` where memory runs out.
 pub fn parse_script(alloc: Global, script: &[u8]) -> Result<Vec<Command>, ScriptFault>
@@ -90,7 +90,7 @@ pub fn parse_script(alloc: Global, script: &[u8]) -> Result<Vec<Command>, Script
     ensures fault { (k : ℕ) → FaultsAt script.now k →
         (result ≡ Err (Line k)) ⊎ (result ≡ Err NoMemory) }
 {
-    if script.len() > MOST_BYTES || !script.is_ascii() {
+    if script.len() > LONGEST_FILE || !script.is_ascii() {
         return Err(ScriptFault::NotText);
     }
     match str::from_utf8(script) {

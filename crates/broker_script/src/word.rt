@@ -15,12 +15,6 @@ const PLUS: u8 = b'+';
 /// The digit that no number of two or more digits begins with.
 const ZERO: u8 = b'0';
 
-/// The length in bytes that a client identifier may have at most.
-pub(crate) const MOST_CLIENT_BYTES: usize = 256;
-
-/// The length in bytes that the prefix of a home may have at most.
-pub(crate) const MOST_PREFIX_BYTES: usize = 255;
-
 /// The parts of a text between line feeds.
 pub(crate) fn lines_of<'a>(alloc: Global, text: &'a str) -> Result<Vec<&'a str>, AllocError>
     ensures { IfOk result (λ v. map (λ line. line.now) v.items ≡ lines text.now) }

@@ -3,11 +3,9 @@ ghost use Rattle.std.specs.Prelude.{◌≡◌, ◌≤◌, ◌<◌, ◌^◌, ◌+
 ghost use Rattle.broker_sockets.specs.Frames.{IsBegun, IsCut, IsFrame, IsHeld, IsTooLong, announced};
 ghost use Rattle.broker_sockets.specs.declared.frames.Stage.TheVariants as stages;
 
+use mqtt_fields::LONGEST_FRAME;
 use std::alloc::{AllocError, Global};
 use std::mem;
-
-/// The most bytes that follow the length of a frame.
-const MOST_FRAME: usize = 268435456;
 
 /// How far the bytes of a frame have come.
 #[derive(Clone, Copy)]
@@ -61,7 +59,7 @@ fn stage_of(held: &[u8]) -> Stage
     match announced(held) {
         None => Stage::Begun,
         Some(length) => {
-            if length > MOST_FRAME {
+            if length > LONGEST_FRAME {
                 Stage::TooLong
             } else if held.len() == 4 + length {
                 Stage::Whole

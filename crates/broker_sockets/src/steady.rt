@@ -4,6 +4,7 @@ ghost use Rattle.std.specs.Duration.{as_nanos};
 ghost use Rattle.broker_sockets.specs.Steady.{bounded, counted, quarters_after};
 
 use crate::clock::Clock;
+use mqtt_fields::NUMBERS_END;
 use std::time::{self, Duration};
 
 /// What the two clocks of the system tell, in milliseconds.
@@ -69,7 +70,7 @@ impl<'a, C: time::Clock> Clocks for RealClocks<'a, C> {
 }
 
 /// The last moment that is told, in milliseconds since the beginning of 1970.
-const LATEST: u64 = (1 << 62) - 1;
+const LATEST: u64 = NUMBERS_END - 1;
 
 /// The most milliseconds that count between two calls.
 const MOST_COUNTED: u64 = 1000;

@@ -12,15 +12,12 @@ use crate::clients::Clients;
 use crate::lines::Line;
 use crate::links::{accept_links, dial_peers, read_links, read_peers, ship_all, write_links};
 use crate::numbers::united;
-use crate::pace::Pace;
+use crate::pace::{MOST_READ, Pace};
 use crate::setting::Setting;
 use crate::turn::{TurnFault, accept_some, handle_event, make_rooms, read_all, settle, write_all};
 use broker_sockets::{BridgeHandler, Clock, Event, EventKind, Readiness, Ready, Sockets};
 use slab::Slab;
 use std::alloc::{AllocError, Global};
-
-/// The most bytes that one read takes.
-const PIECE: usize = 65536;
 
 /// The clients of a listener, and the links to and from other nodes.
 pub struct Hub<L: Drop, T: Drop> {
@@ -251,7 +248,7 @@ impl<L: Drop, T: Drop> Hub<L, T> {
             accepted: Slab::new(alloc),
             ready: Ready::of_listeners(alloc, true),
             sought,
-            buffer: vec![in alloc; 0; PIECE]?,
+            buffer: vec![in alloc; 0; MOST_READ]?,
             pace: Pace::new(),
         })
     }

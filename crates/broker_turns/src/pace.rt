@@ -3,7 +3,7 @@ ghost use Rattle.std.specs.Prelude.{◌≡◌, ◌≤◌, None, Some};
 ghost use Rattle.broker_turns.specs.Pace.{is_long, paced};
 
 /// The most bytes that a turn reads from a socket.
-const MOST: usize = 65536;
+pub(crate) const MOST_READ: usize = 65536;
 
 /// It never reads fewer, and grows by so many.
 const LEAST: usize = 512;
@@ -29,7 +29,7 @@ impl Pace {
         ensures last { result.last ≡ None }
     {
         Pace {
-            most: MOST,
+            most: MOST_READ,
             last: None,
         }
     }
@@ -55,7 +55,7 @@ impl Pace {
         let most = if self.is_long(at) {
             (self.most / 2).max(LEAST)
         } else {
-            (self.most + LEAST).min(MOST)
+            (self.most + LEAST).min(MOST_READ)
         };
         *self = Pace {
             most,

@@ -8,13 +8,11 @@ ghost use Rattle.cli_stops.specs.Faults.{table_fault};
 
 use crate::file::read_file;
 use crate::flaw::flaw_of;
+use broker_script::LONGEST_FILE;
 use cli_stops::{Answer, Cause, Ending, Found, Stop, answer_of, table_fault};
 use home_table::{HomeTable, TableFault, configure};
 use std::alloc::Global;
 use std::str;
-
-/// The most bytes of a configuration.
-const MOST_BYTES: usize = 16777216;
 
 /// The end of a program whose configuration can't be had.
 fn refused(alloc: Global, path: &str, fault: TableFault, found: Found) -> Ending
@@ -48,7 +46,7 @@ fn configured(
 
 /// The bytes of the file of a configuration; of one that is too long only the first ones, and one too many.
 pub fn configuration_bytes(rt: &HostRuntime, path: &str) -> Result<Vec<u8>, Answer> {
-    match read_file(rt, path, MOST_BYTES) {
+    match read_file(rt, path, LONGEST_FILE) {
         Ok(bytes) => Ok(bytes),
         Err(error) => Err(answer_of(&error)),
     }
@@ -63,8 +61,8 @@ pub fn configuration_in(
     ensures configured { IfOk result (λ place. configuration bytes.now node.now ≡ Ok place) }
     ensures below { IfOk result (λ place. place.1 < length place.0.nodes) }
 {
-    if bytes.len() > MOST_BYTES {
-        return Err((TableFault::Syntax, Found::TooLong(MOST_BYTES as u64)));
+    if bytes.len() > LONGEST_FILE {
+        return Err((TableFault::Syntax, Found::TooLong(LONGEST_FILE as u64)));
     }
     match str::from_utf8(bytes) {
         Ok(text) => configured(alloc, text, node),

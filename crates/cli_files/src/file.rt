@@ -1,6 +1,6 @@
 //! Files that are read whole.
 
-use broker_script::MOST_BYTES;
+use broker_script::LONGEST_FILE;
 use cli_stops::{Cause, Ending, Found, Stop, answer_of, script_fault};
 use std::fs;
 use std::io::{self, Read};
@@ -15,7 +15,7 @@ pub fn read_file(rt: &HostRuntime, path: &str, most: usize) -> io::Result<Vec<u8
 
 /// The script in a file. One that is too long comes with one byte too many.
 pub fn read_script(rt: &HostRuntime, path: &str) -> Result<Vec<u8>, Ending> {
-    match read_file(rt, path, MOST_BYTES) {
+    match read_file(rt, path, LONGEST_FILE) {
         Ok(script) => Ok(script),
         Err(error) => {
             let answer = answer_of(&error);

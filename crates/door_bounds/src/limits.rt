@@ -4,9 +4,7 @@ ghost use Rattle.std.specs.Prelude.{◌≡◌, true};
 ghost use Rattle.door_bounds.specs.Limits.{are_none, full_after, limit_of, limits_or, number_or};
 
 use mqtt_bounds::Bounds;
-
-/// The most bytes that a packet may have: a node takes no longer one.
-const LONGEST: usize = 1_048_576;
+use mqtt_fields::LONGEST_PACKET;
 
 /// Limits on packets and on memory. Where there is none, nothing is asked.
 #[derive(Clone, Copy, Debug, PartialEq, Eq)]
@@ -50,8 +48,8 @@ pub(crate) fn limit_of(longest: Option<u32>) -> usize
     ensures { result ≡ limit_of longest }
 {
     match longest {
-        None => LONGEST,
-        Some(longest) => LONGEST.min(longest as usize),
+        None => LONGEST_PACKET,
+        Some(longest) => LONGEST_PACKET.min(longest as usize),
     }
 }
 

@@ -7,13 +7,10 @@ ghost use Rattle.door_log.specs.Upshots.{answered, asked_by, by_connack, closing
 
 use crate::clients::Stage;
 use crate::{Departure, Earlier, LogLine};
-use mqtt_fields::{NoMemory, Text, identifier};
+use mqtt_fields::{LONGEST_PACKET, NoMemory, Text, identifier};
 use mqtt_packets::{Bytes, Connack, Packet, PacketFault, read_packet};
 use mqtt3_packets::{Level, Version, version_of};
 use std::alloc::Global;
-
-/// The most bytes that a packet has.
-const MOST: usize = 1_048_576;
 
 /// The first byte of a DISCONNECT (MQTT 5.0, 3.14.1).
 const DISCONNECT: u8 = 0xE0;
@@ -66,7 +63,7 @@ fn name_with(alloc: Global, connack: &Connack, asked: Option<Text>) -> Result<Te
 fn earlier_of(held: &[u8]) -> Option<Earlier>
     ensures { result ≡ earlier_at (version_of 1048576 held.now) }
 {
-    match version_of(MOST, held) {
+    match version_of(LONGEST_PACKET, held) {
         Some(Version::Before(Level::Four, _)) => Some(Earlier::Mqtt311),
         Some(Version::Before(Level::Three, _)) => Some(Earlier::Mqtt31),
         _ => None,

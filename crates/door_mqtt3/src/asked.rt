@@ -4,16 +4,13 @@ ghost use Rattle.std.specs.Prelude.{◌≡◌, map, IfOk};
 ghost use Rattle.door_mqtt3.specs.Asked.{asked, bridged, connect_asked, is_nameless, is_refused, is_shared, properties_of, subscribe_asked};
 
 use mqtt_fields::identifier::{RECEIVE_MAXIMUM, SESSION_EXPIRY_INTERVAL};
-use mqtt_fields::{NoMemory, Properties, Property, SubscriptionOptions, Value};
+use mqtt_fields::{NEVER_ENDS, NoMemory, Properties, Property, SubscriptionOptions, Value};
 use mqtt_packets::{Connect, Packet, Subscribe, SubscribeFilter, SubscribeFilters};
 use mqtt3_packets::Level;
 use std::alloc::Global;
 
 /// How many messages at QoS 1 and 2 are sent at a time to a client that can't say how many it takes.
 const AT_A_TIME: u16 = 20;
-
-/// A session that never ends (MQTT 5.0, 3.1.2.11.2).
-const NEVER: u32 = 4_294_967_295;
 
 /// What a subscription of a bridge has beside its QoS: No Local and Retain As Published (MQTT 5.0, 3.8.3.1).
 const BRIDGED: u8 = 12;
@@ -46,7 +43,7 @@ fn properties_of(alloc: Global, clean: bool) -> Result<Properties, NoMemory>
     if !clean {
         properties.push(Property {
             id: SESSION_EXPIRY_INTERVAL,
-            value: Value::Four(NEVER),
+            value: Value::Four(NEVER_ENDS),
         })?;
     }
     properties.push(Property {

@@ -9,17 +9,11 @@ use crate::asked::{asked, is_refused};
 use crate::exchanges::OpenExchanges;
 use crate::held::HeldBytes;
 use crate::taken::Taken;
-use mqtt_fields::{NoMemory, Qos};
+use mqtt_fields::{LONGEST_PACKET, MOST_EXCHANGES, NoMemory, Qos};
 use mqtt_packets::{Bytes, Packet, PacketFault};
 use mqtt3_packets::{Level, read_packet};
 use std::alloc::Global;
 use std::mem;
-
-/// How many bytes a packet may have, and how many may be held back.
-pub(crate) const LIMIT: usize = 1_048_576;
-
-/// How many exchanges at QoS 2 a client may have begun that aren't over: the node's Receive Maximum.
-const MOST_OPEN: usize = 100;
 
 /// Bytes that begin no packet of MQTT 5.0.
 const MALFORMED: [u8; 1] = [0];
@@ -157,7 +151,7 @@ impl Client {
     fn has_room(&self) -> bool
         ensures { result ≡ has_room self.now }
     {
-        self.exchanges.len() < MOST_OPEN
+        self.exchanges.len() < MOST_EXCHANGES
     }
 
     /// Whether a packet has to wait.
@@ -213,7 +207,7 @@ impl Client {
     fn overrun(&mut self, alloc: Global, taken: &mut Taken) -> Result<(), NoMemory>
         ensures { OnOk result (IsOutcome (overrun self.old) self.new taken.old taken.new) }
     {
-        match read_packet(alloc, self.level, LIMIT, self.held.as_slice()) {
+        match read_packet(alloc, self.level, LONGEST_PACKET, self.held.as_slice()) {
             Ok(Some((packet, _))) => self.hand(alloc, packet, taken)?,
             Ok(None) => {}
             Err(fault) => {
@@ -230,7 +224,7 @@ impl Client {
     fn hold(&mut self, alloc: Global, bytes: &[u8], taken: &mut Taken) -> Result<(), NoMemory>
         ensures { OnOk result (IsOutcome (withheld self.old bytes.now) self.new taken.old taken.new) }
     {
-        if bytes.len() > LIMIT.saturating_sub(self.held.len()) {
+        if bytes.len() > LONGEST_PACKET.saturating_sub(self.held.len()) {
             return self.overrun(alloc, taken);
         }
         self.held.push(bytes)
@@ -297,7 +291,7 @@ impl Client {
             if self.halts(order) {
                 return Ok(bytes.len() - rest.len());
             }
-            match read_packet(alloc, self.level, LIMIT, rest) {
+            match read_packet(alloc, self.level, LONGEST_PACKET, rest) {
                 Ok(Some((packet, used))) => {
                     self.pass(alloc, order, packet, &rest[..used], taken)?;
                     rest = after(rest, used);

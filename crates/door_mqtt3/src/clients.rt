@@ -7,9 +7,9 @@ ghost use Rattle.door_mqtt3.specs.Knowing.{IsCome, IsComing, IsGot, client_of};
 ghost use Rattle.door_mqtt3.specs.Stages.{IsBut, begun, comes, goes_on, got, has_ended, stage_of};
 ghost use Rattle.door_mqtt3.specs.declared.clients.Stage.TheVariants as stages;
 
-use crate::client::{Client, LIMIT};
+use crate::client::Client;
 use crate::taken::Taken;
-use mqtt_fields::NoMemory;
+use mqtt_fields::{LONGEST_PACKET, NoMemory};
 use mqtt_packets::Bytes;
 use mqtt3_packets::{Level, Version, version_of};
 use std::alloc::Global;
@@ -45,7 +45,7 @@ fn client_of(alloc: Global, version: Version) -> Option<Client>
 fn begin(alloc: Global, bytes: Vec<u8>) -> Result<(Taken, Option<Stage>), NoMemory>
     ensures { IfOk result (λ x. IsCome (begun bytes.items (version_of limit bytes.items)) x.0 x.1) }
 {
-    match version_of(LIMIT, &bytes) {
+    match version_of(LONGEST_PACKET, &bytes) {
         None => Ok((Taken::none(alloc), Some(Stage::Coming(Bytes::new(bytes))))),
         Some(version) => match client_of(alloc, version) {
             None => Ok((Taken::of(alloc, bytes), None)),

@@ -7,12 +7,9 @@ ghost use Rattle.door_streams.specs.Coming.{come, come_on, ended, finished, is_o
 
 use door_packets::{Access, Client, Marks, Stage, Step, Walk};
 use mqtt_bounds::{Cut, End, packets_of};
-use mqtt_fields::NoMemory;
+use mqtt_fields::{LONGEST_PACKET, NoMemory};
 use mqtt_packets::Bytes;
 use std::alloc::Global;
-
-/// The most bytes that a packet may have: a node takes no longer one.
-const LONGEST: usize = 1_048_576;
 
 /// Takes these packets.
 fn take_all<A: Access>(
@@ -118,7 +115,7 @@ fn come_on<A: Access>(
     } = client;
     let mut stream = partial.into_vec();
     stream.extend_from_slice(bytes)?;
-    let cut = packets_of(alloc, LONGEST, &stream)?;
+    let cut = packets_of(alloc, LONGEST_PACKET, &stream)?;
     let client = Client {
         partial: Bytes::new(Vec::new(alloc)),
         stage,

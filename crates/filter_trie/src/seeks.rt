@@ -12,6 +12,7 @@ ghost use Rattle.filter_trie.specs.Search.Onward.{Leads, from_text};
 
 use crate::steps::{Bound, Seek, Step, first_level, is_before, is_before_step};
 use crate::walks::{filter_bound, topic_bound};
+use mqtt_fields::LONGEST_STRING;
 use mqtt_topics::{Filter, TopicName};
 use std::alloc::Global;
 
@@ -217,7 +218,7 @@ fn has_no_zero(text: &str) -> bool
 fn is_text(text: &str) -> bool
     ensures { IsTrue result → IsText text.now }
 {
-    text.len() <= 65535 && has_no_zero(text)
+    text.len() <= LONGEST_STRING && has_no_zero(text)
 }
 
 /// The text as a filter, if it is one and memory isn't refused.

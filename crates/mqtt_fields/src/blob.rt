@@ -11,6 +11,7 @@ ghost use Rattle.mqtt_fields.specs.Reading.{Gives};
 ghost use Rattle.mqtt_fields.specs.Numbers.{blob, IsBlob};
 
 use crate::fault::{FieldFault, NoMemory};
+use crate::limits::LONGEST_STRING;
 use crate::number::{run_at, u16_at};
 use std::alloc::Global;
 use std::cmp::Ordering;
@@ -48,7 +49,7 @@ impl Blob {
         ensures malformed { IsErrOf result FieldFault.Malformed ↔ (2 ^ 16 ≤ length bytes.now) }
         ensures others { IfErr result (λ e. (e ≡ faults.Malformed) ⊎ (e ≡ faults.NoMemory)) }
     {
-        if bytes.len() > 65535 {
+        if bytes.len() > LONGEST_STRING {
             return Err(FieldFault::Malformed);
         }
         let bytes = Vec::from_slice(alloc, bytes)?;

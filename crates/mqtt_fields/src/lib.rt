@@ -30,7 +30,10 @@ pub use field_laws::{
     are_bytes, one_spelling, read_as_spelled, read_from_the_left, table_is_standard,
 };
 pub use length::properties_len;
-pub use limits::NUMBERS_END;
+pub use limits::{
+    LONGEST_CLIENT, LONGEST_FRAME, LONGEST_PACKET, LONGEST_STRING, LONGEST_VALUE, MOST_EXCHANGES,
+    NEVER_ENDS, NUMBERS_END,
+};
 pub use number::{long_at, run_at, u8_at, u16_at, u32_at, u64_at};
 pub use options::{Qos, SubscriptionOptions};
 pub use properties::Properties;

@@ -14,6 +14,7 @@ ghost use Rattle.mqtt_fields.specs.Numbers.{text, is_text, IsText};
 
 use crate::blob::blob_at;
 use crate::fault::{FieldFault, NoMemory};
+use crate::limits::LONGEST_STRING;
 use std::alloc::Global;
 use std::cmp::Ordering;
 use std::marker::Model;
@@ -74,7 +75,7 @@ impl Text {
             ↔ ((2 ^ 16 ≤ length s.now) ⊎ Contains s.now 0) }
         ensures others { IfErr result (λ e. (e ≡ faults.Malformed) ⊎ (e ≡ faults.NoMemory)) }
     {
-        if s.len() > 65535 {
+        if s.len() > LONGEST_STRING {
             return Err(FieldFault::Malformed);
         }
         if !has_no_zero(s.as_bytes()) {

@@ -3,11 +3,9 @@
 ghost use Rattle.std.specs.Prelude.{◌≡◌, ◌<◌, ◌^◌};
 ghost use Rattle.mqtt_message.specs.Expiry.{due_of, deadline_after, interval_left};
 
+use mqtt_fields::NEVER_ENDS;
 use mqtt_fields::identifier::WILL_DELAY_INTERVAL;
 use mqtt_packets::Will;
-
-/// A Session Expiry Interval at which a session never ends (MQTT 5.0, 3.1.2.11.2).
-const NEVER: u32 = 0xffff_ffff;
 
 /// The moment of expiry, for an interval in seconds that begins now.
 pub(crate) fn deadline_after(now: u64, interval: Option<u32>) -> Option<u64>
@@ -33,7 +31,7 @@ pub fn due(will: &Will, closed_at: u64, expiry: u32) -> u64
 {
     let delay = will.properties.four(WILL_DELAY_INTERVAL).unwrap_or(0);
     let moment = closed_at + 1000 * u64::from(delay);
-    if expiry == NEVER {
+    if expiry == NEVER_ENDS {
         return moment;
     }
     moment.min(closed_at + 1000 * u64::from(expiry))

@@ -7,15 +7,18 @@ ghost use Rattle.mqtt_sessions.specs.Answers as specs;
 ghost use Rattle.mqtt_sessions.specs.Lengths.{IsMeasured, ack_length, assigned_length, list_length};
 
 use crate::aliases::TOPIC_ALIAS_MAXIMUM;
-use mqtt_fields::{NoMemory, Properties, Property, Text, Value, identifier, vbi_len};
+use mqtt_fields::{
+    LONGEST_PACKET, MOST_EXCHANGES, NoMemory, Properties, Property, Text, Value, identifier,
+    vbi_len,
+};
 use mqtt_packets::{Ack, Bytes, Connack, Ended, Packet, Reasons, reason};
 use std::alloc::Global;
 
-/// How many QoS 2 exchanges a client may have open on a connection (MQTT 5.0, 3.2.2.3.3).
-const RECEIVE_MAXIMUM: u16 = 100;
+/// How many exchanges a client may have open, as CONNACK tells it (MQTT 5.0, 3.2.2.3.3).
+const RECEIVE_MAXIMUM: u16 = MOST_EXCHANGES as u16;
 
-/// The longest packet that a client may send, in bytes (MQTT 5.0, 3.2.2.3.6).
-const MAXIMUM_PACKET_SIZE: u32 = 1_048_576;
+/// The longest packet that a client may send, as CONNACK tells it (MQTT 5.0, 3.2.2.3.6).
+const MAXIMUM_PACKET_SIZE: u32 = LONGEST_PACKET as u32;
 
 /// A packet and its length in bytes.
 #[derive(Drop)]

@@ -11,14 +11,11 @@ ghost use Rattle.mqtt_sessions.specs.declared.kept.Phase.TheVariants.{Closed};
 
 use crate::will::{BoxedWill, boxed};
 use mqtt_fields::identifier::SESSION_EXPIRY_INTERVAL;
-use mqtt_fields::{NoMemory, Text};
+use mqtt_fields::{NEVER_ENDS, NoMemory, Text};
 use mqtt_message::{Message, Will, due};
 use mqtt_packets::Connect;
 use std::alloc::Global;
 use std::marker::Model;
-
-/// A Session Expiry Interval at which a session never ends (MQTT 5.0, 3.1.2.11.2).
-const NEVER: u32 = 0xffff_ffff;
 
 /// Whether a client is connected; else since when it isn't.
 #[derive(Clone, Copy)]
@@ -176,7 +173,7 @@ impl Kept {
         match self.phase {
             Phase::Connected => None,
             Phase::Closed(at) => {
-                if self.expiry == NEVER {
+                if self.expiry == NEVER_ENDS {
                     None
                 } else {
                     Some(at + 1000 * u64::from(self.expiry))

@@ -20,8 +20,8 @@ use replica_store::Content;
 use std::alloc::Global;
 use subscription_set::Entry;
 
-/// At most as many topics are held.
-const TOPICS_HELD: usize = 100_000;
+/// How many topics have a retained message, or had one, at most.
+pub(crate) const MOST_TOPICS: usize = 100_000;
 
 /// What is made of a message: the copies, of which those for clients that have no session here go nowhere, how many picks have
 /// none, and where it goes to other nodes.
@@ -253,7 +253,7 @@ fn lacks_room(work: &Work, message: &Message) -> bool
         return false;
     }
     let retained = work.held().store().retained();
-    !retained.holds(&message.topic) && retained.len() >= TOPICS_HELD
+    !retained.holds(&message.topic) && retained.len() >= MOST_TOPICS
 }
 
 /// Passes a will on, unless it is retained and there is no room for its topic: then it takes no memory.

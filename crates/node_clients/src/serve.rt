@@ -12,7 +12,7 @@ ghost use Rattle.node_work.specs.Working.{ComesTo, If, Returns};
 ghost use Rattle.node_work.specs.declared.fault.NodeFault.TheVariants.{NoMemory};
 
 use crate::ending::close_after;
-use crate::passing::pass;
+use crate::passing::{MOST_TOPICS, pass};
 use crate::subscribe::subscribe;
 use crate::unsubscribe::unsubscribe;
 use mqtt_fields::identifier::TOPIC_ALIAS;
@@ -23,9 +23,6 @@ use mqtt_topics::{TopicFault, TopicName};
 use node_work::{Held, NodeFault, Work};
 use replica_store::ReplicaStore;
 use std::alloc::Global;
-
-/// How many topics have a retained message, or had one, at most.
-const MOST_TOPICS: usize = 100_000;
 
 /// Hands a packet to its client's session, and does what that asks for.
 pub fn serve(

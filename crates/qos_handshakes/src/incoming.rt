@@ -3,13 +3,10 @@ ghost use Rattle.std.specs.Prelude.{◌≡◌, ◌≢◌, ◌<◌, [], true, fal
 ghost use Rattle.qos_handshakes.specs.Incoming.{Publish1Answer, Publish2Step, ReleaseStep, identifier_from, identifiers_of, of_before, of_identifiers, opened, opened_here, rise};
 
 use crate::answers::{Ack, In};
-use mqtt_fields::NoMemory;
+use mqtt_fields::{MOST_EXCHANGES, NoMemory};
 use std::alloc::Global;
 use std::collections::BTreeMap;
 use std::marker::Model;
-
-/// How many QoS 2 exchanges a client may have open on a connection (MQTT 5.0, 3.2.2.3.3).
-const MAXIMUM: usize = 100;
 
 /// The QoS 2 exchanges that a client has opened.
 pub struct Incoming {
@@ -137,7 +134,7 @@ impl Incoming {
         if known == Some(true) {
             return Ok(In::Repeat);
         }
-        if self.here >= MAXIMUM {
+        if self.here >= MOST_EXCHANGES {
             return Ok(In::OverMaximum);
         }
         if known.is_some() {
@@ -152,7 +149,7 @@ impl Incoming {
     pub fn publish1(&self, id: u16) -> In
         ensures { Publish1Answer self.now id result }
     {
-        if self.here >= MAXIMUM {
+        if self.here >= MOST_EXCHANGES {
             return In::OverMaximum;
         }
         if self.in_use(id) {

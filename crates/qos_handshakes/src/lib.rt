@@ -15,5 +15,5 @@ mod slots;
 pub use answers::{Ack, In, Offer, Rec};
 pub use copies::{Entry, Stage};
 pub use incoming::Incoming;
-pub use outgoing::{Outgoing, Sending};
+pub use outgoing::{Outgoing, QUEUE_ROOM, Sending};
 pub use slots::Slots;

@@ -25,7 +25,7 @@ use std::alloc::Global;
 use std::marker::Model;
 
 /// How many copies may wait.
-const QUEUE: u64 = 65_536;
+pub const QUEUE_ROOM: u64 = 65_536;
 
 /// The first reason code of a PUBREC by which the client refuses the message (MQTT 5.0, 3.5.2.1).
 const FIRST_ERROR: u8 = 0x80;
@@ -399,7 +399,7 @@ impl Outgoing {
         ensures err { OnErr result (self.new ≡ self.old) }
         ensures need { OnErr result ((length (waiting self.old.box.copies) < 65536) × (self.old.box.next_place < 2 ^ 62)) }
     {
-        if self.next_place - self.first_waiting >= QUEUE {
+        if self.next_place - self.first_waiting >= QUEUE_ROOM {
             return Ok(Offer::Full);
         }
         if self.next_place >= NUMBERS_END {

@@ -11,8 +11,8 @@ ghost use Rattle.session_rows.specs.Fields as fields;
 ghost use Rattle.session_rows.specs.Reading.{CountsSome};
 
 use mqtt_fields::{
-    Blob, FieldFault, NoMemory, Qos, long_at, put_u16, put_u32, put_u64, u8_at, u16_at, u32_at,
-    u64_at,
+    Blob, FieldFault, LONGEST_STRING, NoMemory, Qos, long_at, put_u16, put_u32, put_u64, u8_at,
+    u16_at, u32_at, u64_at,
 };
 use mqtt_message::{flag_at, put_flag};
 use std::alloc::Global;
@@ -34,7 +34,7 @@ pub(crate) fn payload_at(alloc: Global, bytes: &[u8]) -> Result<(Blob, &[u8]), F
     ensures no_memory { IsErrOf result FieldFault.NoMemory → IsOk (fields.payload.at bytes.now) }
 {
     let (run, rest) = long_at(bytes)?;
-    if run.len() > 65_535 {
+    if run.len() > LONGEST_STRING {
         return Err(FieldFault::Malformed);
     }
     let blob = Blob::new(alloc, run)?;

@@ -5,10 +5,7 @@ ghost use Rattle.qos_handshakes.specs.Outbox.{waiting, waits};
 ghost use Rattle.session_rows.specs.Reachable.{IsReachable, IsReleasedAtTwo};
 
 use mqtt_fields::Qos;
-use qos_handshakes::{Entry, Stage};
-
-/// How many copies may wait.
-const QUEUE: usize = 65_536;
+use qos_handshakes::{Entry, QUEUE_ROOM, Stage};
 
 fn are_identifiers(identifiers: &[u16]) -> bool
     ensures { IsTrue result ↔ All (λ id. 1 ≤ id) identifiers.now }
@@ -41,7 +38,7 @@ fn waits(entry: &Entry) -> bool
 fn may_wait(copies: &[(u64, Entry)]) -> bool
     ensures { IsTrue result ↔ (length (waiting copies.now) ≤ 65536) }
 {
-    let mut left = QUEUE;
+    let mut left = QUEUE_ROOM;
     for copy in copies {
         if waits(&copy.1) {
             if left == 0 {

@@ -1,6 +1,6 @@
 //! Scripts that are read, and the faults of those that aren't.
 
-use broker_script::{Command, MOST_BYTES, NodeEvent, ScriptFault, parse_script};
+use broker_script::{Command, LONGEST_FILE, NodeEvent, ScriptFault, parse_script};
 use std::alloc::Global;
 use std::process::Abort;
 
@@ -198,7 +198,7 @@ fn refuses_what_is_no_text(rt: HostRuntime) {
     for script in [b"nodes 2\n# \xc8\n", b"nodes 0\n# \x80\n"] {
         assert!(rt; fault_of(rt.alloc(), script) == Some(ScriptFault::NotText));
     }
-    let mut long = vec![in rt.alloc(); b'#'; MOST_BYTES + 1].expect(&rt, "memory");
+    let mut long = vec![in rt.alloc(); b'#'; LONGEST_FILE + 1].expect(&rt, "memory");
     assert!(rt; fault_of(rt.alloc(), long.as_slice()) == Some(ScriptFault::NotText));
     long.pop();
     assert!(rt; fault_of(rt.alloc(), long.as_slice()) == Some(ScriptFault::Line(1)));

@@ -6,13 +6,10 @@ ghost use Rattle.mqtt_packets.specs.Stream.{cut};
 ghost use Rattle.node_work.specs.Held.Connections.{new_connection, fed};
 ghost use Rattle.node_work.specs.Packets.{HaveSpellings};
 
-use mqtt_fields::Text;
+use mqtt_fields::{LONGEST_PACKET, Text};
 use mqtt_packets::{Fed, FeedFault, Framer};
 use std::alloc::Global;
 use std::marker::Model;
-
-/// The longest packet that a client may send, in bytes.
-pub const LONGEST_PACKET: usize = 1048576;
 
 /// A connection: the bytes that wait for the rest of their packet, the client, once it is accepted, and how many bytes of PUBLISHes
 /// it takes, where it was told before that.

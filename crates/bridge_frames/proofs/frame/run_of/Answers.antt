@@ -10,4 +10,4 @@ pub returns-clause-some : goal.returns-clause-some
 returns-clause-some c =
     let bytes : IsBytes c.args.bytes.now = λ i. omega (arith, c.type_inv.bytes i) in
     let none : length c.in-Ok.rest.now ≡ 0 = grind (arith, common_steps, c.is_empty.ensures, c.if-not-is_empty.false) in
-    ((none_after long long_is c.args.bytes.now c.in-Ok.rest.now c.in-Ok.run'.now bytes c.in-Ok.ensures.exact none).0, grind (arith, common_steps, c.if-run-gt-LIMIT.false))
+    ((none_after long long_is c.args.bytes.now c.in-Ok.rest.now c.in-Ok.run'.now bytes c.in-Ok.ensures.exact none).0, grind (arith, common_steps, c.if-run-gt-LONGEST_FRAME.false))

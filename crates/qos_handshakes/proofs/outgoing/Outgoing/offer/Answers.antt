@@ -21,8 +21,8 @@ pub returns-clause-touched : goal.returns-clause-touched
 returns-clause-touched c =
     rw (← c.self.view_is) (watched-pushed c.self.inside.next_place c.args.delivery _ _ c.self.inside.log c.mark.new.self c.self.invariant.counted.below (ap (λ (h : Held). h.entries) c.in_ok-push.ensures.ok) (c.mark.ensures.places ∙ ap (λ (ts : List ℕ). ts ++ c.self.inside.next_place ∷ []) c.reserve.ensures.same))
 
-pub returns-then-self-ge-QUEUE-clause-offered : goal.returns-then-self-ge-QUEUE-clause-offered
-returns-then-self-ge-QUEUE-clause-offered c = (rw (← c.self.view_is) (omega (arith, queue-length _ _ _ c.self.invariant.counted.queued)), refl)
+pub returns-then-self-ge-QUEUE_ROOM-clause-offered : goal.returns-then-self-ge-QUEUE_ROOM-clause-offered
+returns-then-self-ge-QUEUE_ROOM-clause-offered c = (rw (← c.self.view_is) (omega (arith, queue-length _ _ _ c.self.invariant.counted.queued)), refl)
 
 pub returns-then-self-ge-NUMBERS_END-clause-offered : goal.returns-then-self-ge-NUMBERS_END-clause-offered
 returns-then-self-ge-NUMBERS_END-clause-offered c = rw (← c.self.view_is) (omega (arith, queue-length _ _ _ c.self.invariant.counted.queued), c.if-self-ge-NUMBERS_END.true, refl)
