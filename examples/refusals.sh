@@ -10,7 +10,7 @@
 # - behind the word --records it opens databases, as trial_calls makes calls, and plays the scripts named there over nodes whose rows
 #   are in a database, as it plays the others; what such a node goes on from is what the database's files have.
 #
-# Prints a line for each call and each run with how many allocations were refused; the last line is 'N passed, M failed', and the status is
+# The programs run side by side, and are told of in turn. Prints a line for each call and each run with how many allocations were refused; the last line is 'N passed, M failed', and the status is
 # 1 where one failed.
 #
 #   examples/refusals.sh
@@ -33,45 +33,51 @@ fi
 
 passed=0
 failed=0
+runs=0
 
-# Runs a build of a program with these words, in the folder of the crate's data where it has one, and prints what it says.
-run() {
+# Begins a run of a program with these words, in the folder of the crate's data where it has one. It goes on beside the others: its number is in `runs`, and what it
+# prints and how it ends lie under that number.
+begin() {
     local program=$1 folder
     shift
+    runs=$((runs + 1))
     folder=$(dirname "$program")/../data
     [ -d "$folder" ] || folder=$(dirname "$program")
-    status=0
-    (cd "$folder" && LD_PRELOAD="$work/refuse.so" exec timeout "$seconds" "$program" "$@") > "$work/said" 2> "$work/errors" || status=$?
-    cat "$work/said" "$work/errors"
+    (
+        ended=0
+        (cd "$folder" && LD_PRELOAD="$work/refuse.so" exec timeout "$seconds" "$program" "$@") > "$work/$runs.said" 2> "$work/$runs.errors" || ended=$?
+        echo "$ended" > "$work/$runs.status"
+    ) &
 }
 
-# Sweeps a build of a program.
-sweep() {
-    local wrong
-    run "$@"
-    passed=$((passed + $(grep -c ': [1-9][0-9]* refused$' "$work/said" || true)))
-    wrong=$(grep -vc ': [1-9][0-9]* refused$' "$work/said" || true)
+# Says what the sweep of this number found.
+end_sweep() {
+    local number=$1 program=$2 status wrong
+    status=$(cat "$work/$number.status")
+    cat "$work/$number.said" "$work/$number.errors"
+    passed=$((passed + $(grep -c ': [1-9][0-9]* refused$' "$work/$number.said" || true)))
+    wrong=$(grep -vc ': [1-9][0-9]* refused$' "$work/$number.said" || true)
     if [ "$status" -ne 0 ] && [ "$wrong" -eq 0 ]; then
-        echo "refusals: $1 ended with status $status"
+        echo "refusals: $program ended with status $status"
         wrong=1
     fi
     failed=$((failed + wrong))
 }
 
-# Sweeps a run that isn't as it should be: the text says what has to be found, and the words come after it.
-find_out() {
-    local program=$1 text=$2
-    shift 2
-    run "$program" "$@"
-    if grep -q ": FAILED: $text\$" "$work/said"; then
+# Says whether the run of this number, which isn't as it should be, found this text.
+end_finding() {
+    local number=$1 text=$2
+    cat "$work/$number.said" "$work/$number.errors"
+    if grep -q ": FAILED: $text\$" "$work/$number.said"; then
         echo "refusals: found, as it should be"
         passed=$((passed + 1))
     else
-        echo "refusals: NOT FOUND: $program $*"
+        echo "refusals: NOT FOUND: $text"
         failed=$((failed + 1))
     fi
 }
 
+swept=()
 for crate in trial_calls trial_records; do
     if [ ! -x "$top/crates/$crate/out/$crate" ]; then
         echo "refusals: crates/$crate/out has no program: run rt ci first, or rt run in crates/$crate"
@@ -83,12 +89,19 @@ for crate in trial_calls trial_records; do
     fi
     for program in "$top/crates/$crate/out/$crate" "$top/crates/$crate/out/$crate.by-rattle"; do
         if [ -x "$program" ]; then
-            sweep "$program" ${words[@]+"${words[@]}"}
+            begin "$program" ${words[@]+"${words[@]}"}
+            swept+=("$program")
         fi
     done
 done
-runs=$top/crates/trial_records/out/trial_records
-find_out "$runs" "the rows aren't those of before" --careless-rows stored_run.script
-find_out "$runs" "the next call isn't answered by Stopped or Spent" --careless-nodes stored_run.script
+records=$top/crates/trial_records/out/trial_records
+begin "$records" --careless-rows stored_run.script
+begin "$records" --careless-nodes stored_run.script
+wait
+for number in "${!swept[@]}"; do
+    end_sweep $((number + 1)) "${swept[$number]}"
+done
+end_finding $((runs - 1)) "the rows aren't those of before"
+end_finding "$runs" "the next call isn't answered by Stopped or Spent"
 echo "$passed passed, $failed failed"
 [ "$failed" -eq 0 ] && [ "$passed" -gt 0 ]
