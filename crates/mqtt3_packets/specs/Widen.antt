@@ -1,6 +1,5 @@
 -- A PUBLISH of a client in front of some bytes, and the PUBLISH of MQTT 5.0 that tells the same: it has an empty property block behind its topic and identifier.
 use Rattle.std.specs.Prelude.{◌≡◌, ◌<◌, ◌≤◌, ◌^◌, ℕ, ◌-◌, ◌==◌, not, ◌&&◌, ◌||◌, Bool, List, ◌∷◌, ◌++◌, length, take, drop, Some, Result, Ok, Err, if◌then◌else◌, IsTrue}
-use Rattle.mqtt_fields.specs.declared.options.Qos.{Qos}
 use Rattle.mqtt_fields.specs.Reading.{◌>>=◌}
 use Rattle.mqtt_fields.specs.Numbers.{text, vbi}
 use Rattle.mqtt_packets.specs.declared.fault.PacketFault.{PacketFault}

@@ -19,7 +19,7 @@ fn is_told(rt: &impl Abort, alloc: Global, sent: &[u8], told: &[u8]) {
     come(rt, alloc, &mut node, CONNECT);
     let before = node.inside().told.len();
     come(rt, alloc, &mut node, sent);
-    assert!(rt; node.inside().told.len() == before + told.len());
+    assert!(rt; node.inside().told.len() == before.saturating_add(told.len()));
     assert!(rt; node.inside().told.ends_with(told));
     come(rt, alloc, &mut node, b"\xc0\x00");
     assert!(rt; node.inside().told.ends_with(b"\xc0\x00"));
