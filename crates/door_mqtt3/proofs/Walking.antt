@@ -1,7 +1,7 @@
 -- A client's packets, one after another.
-use Rattle.std.proofs.Common.{◌≡◌, ◌≤◌, ℕ, zero, suc, ◌+◌, ◌-◌, ◌<◌, Bool, true, false, Option, List, [], ◌∷◌, ◌++◌, length, take, drop, Some, None, Ok, Err, refl, sym, ap, subst, ◌∙◌, append_assoc, arith}
+use Rattle.std.proofs.Common.{◌≡◌, ◌≤◌, ℕ, zero, suc, ◌+◌, ◌-◌, ◌<◌, Bool, true, false, Option, List, [], ◌∷◌, ◌++◌, length, take, drop, Some, None, Result, Ok, Err, refl, sym, ap, subst, ◌∙◌, append_assoc, arith}
 use Rattle.std.proofs.lemmas.List.{append-nil, drop-drop, length-drop}
-use Rattle.std.specs.Prelude.{◌&&◌, is_some}
+use Rattle.std.specs.Prelude.{◌&&◌, IfOk, is_some}
 use Rattle.mqtt_fields.specs.declared.options.Qos.{Qos}
 use Rattle.mqtt_packets.specs.declared.fault.PacketFault.{PacketFault}
 use Rattle.mqtt_packets.specs.declared.packet.Packet.{Packet}
@@ -155,9 +155,13 @@ pub read_done : (order : Order) (c d : Client) (p : Packet) (bs : List ℕ) (use
     → IsOutcome (done_with order c p (take used bs)) d old new → IsDone order bs used c d old new
 read_done order c d p bs used old new le e o = record { packet = p; fits = le; found = e; outcome = o }
 
-pub passing_then : (order : Order) (bs : List ℕ) (c m d : Client) (old between new : Taken) (o : Option ℕ) → IsUntouched c m old between → IsPassing order bs m d between new o → IsPassing order bs c d old new o
+passing_then : (order : Order) (bs : List ℕ) (c m d : Client) (old between new : Taken) (o : Option ℕ) → IsUntouched c m old between → IsPassing order bs m d between new o → IsPassing order bs c d old new o
 passing_then order bs c m d old between new o u h =
     subst (λ (x : Client). IsPassing order bs x d old new o) u.client (subst (λ (t : Taken). IsPassing order bs m d t new o) u.taken h)
+
+pub passed_then : {E : Type 0} (order : Order) (bs : List ℕ) (c m d : Client) (old between new : Taken) (r : Result (Option ℕ) E) → IsUntouched c m old between → IfOk r (λ o. IsPassing order bs m d between new o) → IfOk r (λ o. IsPassing order bs c d old new o)
+passed_then order bs c m d old between new (Ok o) u h = passing_then order bs c m d old between new o u h
+passed_then order bs c m d old between new (Err e) u h = h
 
 never : (b : Bool) → (b && false) ≡ false
 never true = refl

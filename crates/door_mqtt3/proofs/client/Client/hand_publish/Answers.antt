@@ -10,5 +10,7 @@ pub returns-in_ok-note-in-Some : goal.returns-in_ok-note-in-Some
 returns-in_ok-note-in-Some c =
     let is : ◌≡◌ {A = Option FrontPublish} c.in_ok-publish.field-0 (Some c.in-Some.publish) = cc c.in-Some.is in
     let wide = subst (λ (o : Option FrontPublish). MatchOption o (c.widen_publish_at.new.out ≡ c.args.taken.now.told) (λ x. IsWidened limit c.args.bytes.now x c.args.taken.now.told.items c.widen_publish_at.new.out.items)) is c.in_ok-publish.ensures in
-    publish_done c.args.self.now c.note.new.self c.args.bytes.now c.in-Some.publish c.args.taken.now (record c.args.taken.now { told = c.widen_publish_at.new.out }) ? ? wide
+    let none : length c.args.self.now.held ≡ 0 = omega arith in
+    let room : has_room c.args.self.now ≡ true = cc in
+    publish_done c.args.self.now c.note.new.self c.args.bytes.now c.in-Some.publish c.args.taken.now (record c.args.taken.now { told = c.widen_publish_at.new.out }) none room wide
     (c.in_ok-note-in-Some.ensures ∙ ap (λ (o : Option ℕ). opened_with o c.args.self.now) c.opened_at.ensures) refl
