@@ -4,12 +4,11 @@ use crate::clients::{CONNECT, come, opened};
 use std::alloc::Global;
 use std::process::Abort;
 
-/// What stands before the payload of a PUBLISH at QoS 0 on "a", and a payload of so many bytes.
+/// What stands before the payload of a PUBLISH, and a payload of so many bytes.
 fn with_payload(rt: &impl Abort, alloc: Global, front: &[u8], payload: usize) -> Vec<u8> {
     let mut bytes = Vec::from_slice(alloc, front).expect(rt, "memory");
-    for _ in 0..payload {
-        bytes.push(b'x').expect(rt, "memory");
-    }
+    let size = front.len().saturating_add(payload);
+    bytes.resize(size, b'x').expect(rt, "memory");
     bytes
 }
 
