@@ -168,6 +168,7 @@ fn serve_for(
         silent,
         None,
         nowhere,
+        None,
         turns,
         out,
     )

@@ -1,0 +1,51 @@
+-- How a client is held back, and told as ready later.
+use Rattle.std.specs.Prelude.{◌≡◌, ◌+◌, ◌^◌, ◌-◌, ◌&&◌, ◌⊎◌, ◌++◌, ℕ, List, Bool, true, false, leb, ltb, min, Option, Some, None, if◌then◌else◌}
+use Rattle.std.specs.BTreeMap.{IsUnchanged, get}
+use Rattle.std.specs.Ordering.{nat_cmp}
+use Rattle.broker_sockets.specs.declared.network.Answer.{Answer}
+use Rattle.broker_sockets.specs.declared.network.Answer.TheVariants.{Later}
+use Rattle.broker_sockets.specs.declared.ready.Ready.{Ready}
+use Rattle.broker_holds.specs.Numbers.{is_among}
+use Rattle.broker_holds.specs.declared.sockets.HoldingSockets.{HoldingSockets}
+use Rattle.broker_holds.specs.declared.strain.Strained.{Strained}
+use Rattle.broker_holds.specs.declared.stream.HeldStream.{HeldStream}
+
+module _ {T : Type 0} where
+  -- the moment up to which a client is held back at most
+  abbrev pub latest : HeldStream T → ℕ
+  latest t = min (t.published + t.patience) (2 ^ 64 - 1)
+
+  -- up to then he is, where he has published since too much waits, and it isn't past yet
+  abbrev pub held_until : HeldStream T → Strained → Option ℕ
+  held_until t strained = if leb strained.since t.published && ltb strained.at (latest t) then Some (latest t) else None
+
+module _ {S T : Type 0} where
+  -- the network isn't asked; and it is noted who was held back, and until when
+  pub record IsHeldBack (n : HoldingSockets S) (t : HeldStream T) (n' : HoldingSockets S) (t' : HeldStream T) : Type 0 where
+    pub stream : t' ≡ t
+    pub sockets : n'.sockets ≡ n.sockets
+    pub client : ℕ
+    pub noted : get nat_cmp n'.held client ≡ Some (latest t)
+    pub strained : Strained
+    pub is_held : held_until t strained ≡ Some (latest t)
+
+  -- the network is asked
+  pub record IsPassedOn (reads : S → T → Answer → List ℕ → S → T → Type 0) (n : HoldingSockets S) (t : HeldStream T) (answer : Answer) (bytes : List ℕ) (n' : HoldingSockets S) (t' : HeldStream T) : Type 0 where
+    pub read : reads n.sockets t.stream answer bytes n'.sockets t'.stream
+    pub held : IsUnchanged n.held n'.held
+
+  -- a stream is read, or answers that it would have to wait since its client is held back
+  abbrev pub IsReadOrHeld : (S → T → Answer → List ℕ → S → T → Type 0) → HoldingSockets S → HeldStream T → Answer → List ℕ → HoldingSockets S → HeldStream T → Type 0
+  IsReadOrHeld reads n t answer bytes n' t' = ((answer ≡ Later) × IsHeldBack n t n' t') ⊎ IsPassedOn reads n t answer bytes n' t'
+
+-- all that the network inside tells is told, and clients who were held back; and nobody is forgotten who isn't told
+module _ {S : Type 0} (finds : S → Ready → S → Type 0) where
+  pub record AreFound (n : HoldingSockets S) (found : Ready) (n' : HoldingSockets S) : Type 0 where
+    pub inside : Ready
+    pub told : finds n.sockets inside n'.sockets
+    pub due : List ℕ
+    pub clients : found.clients.items ≡ inside.clients.items ++ due
+    pub listeners : found.listeners ≡ inside.listeners
+    pub links : found.links ≡ inside.links
+    pub peers : found.peers ≡ inside.peers
+    pub kept : (client : ℕ) → is_among due client ≡ false → get nat_cmp n'.held client ≡ get nat_cmp n.held client

@@ -1,0 +1,4 @@
+pub mod Holding
+pub mod Lanes
+pub mod Numbers
+pub mod Patience

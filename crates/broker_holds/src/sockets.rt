@@ -1,0 +1,190 @@
+//! Sockets on which clients are held back.
+
+ghost use Rattle.std.specs.Prelude.{◌≡◌, ◌⊎◌, ℕ, length, true, false, Some};
+ghost use Rattle.std.specs.BTreeMap.{IsUnchanged, get};
+ghost use Rattle.std.specs.Ordering.{nat_cmp};
+ghost use Rattle.broker_holds.specs.Holding.{held_until, latest};
+ghost use Rattle.broker_holds.specs.Numbers.{is_among};
+ghost use Rattle.broker_sockets.specs.Answers.{CarriesSome, IsWithin, carried};
+
+use crate::strain::{Strain, Strained};
+use crate::stream::HeldStream;
+use broker_sockets::{Answer, Readiness, Ready, Sockets, Watched};
+use std::alloc::{AllocError, Global};
+use std::collections::BTreeMap;
+use std::io;
+use std::net::SocketAddr;
+use std::rc::Rc;
+
+/// Sockets over others, on which a client that publishes is held back while too much waits for another node. What it sends waits at the network, as if
+/// that were slow: its stream answers `Later`, and is told as ready once less waits, or the client was held back as long as it may be.
+///
+/// A client is held back only from where a PUBLISH of it came while too much waited, and for half its Keep Alive at most: so its packets come in time.
+/// Meanwhile little is read at once of each other client.
+#[derive(Drop)]
+pub struct HoldingSockets<S> {
+    sockets: S,
+    strain: Rc<Strain>,
+    /// Who was held back since he was told as ready last, and until when.
+    held: BTreeMap<usize, u64>,
+}
+
+impl<S> HoldingSockets<S> {
+    /// Over these sockets, by what is told here.
+    pub fn new(alloc: Global, sockets: S, strain: Rc<Strain>) -> HoldingSockets<S> {
+        HoldingSockets {
+            sockets,
+            strain,
+            held: BTreeMap::new(alloc),
+        }
+    }
+
+    /// Hands out the sockets inside.
+    pub fn into_inside(self) -> S
+        ensures { result ≡ self.sockets }
+    {
+        let HoldingSockets {
+            sockets,
+            strain: _strain,
+            held: _held,
+        } = self;
+        sockets
+    }
+
+    /// Holds a client back, where he is to be held back and that can be noted.
+    fn holds<T>(&mut self, client: usize, stream: &HeldStream<T>, strained: &Strained) -> bool
+        ensures sockets { self.new.sockets ≡ self.old.sockets }
+        ensures held { result ≡ true → (held_until stream.now strained.now ≡ Some (latest stream.now)) × (get nat_cmp self.new.held client ≡ Some (latest stream.now)) }
+        ensures free { result ≡ false → IsUnchanged self.old.held self.new.held }
+    {
+        let Some(until) = stream.held_until(strained) else {
+            return false;
+        };
+        match self.held.insert(client, until) {
+            Ok(_) => true,
+            Err(_) => false,
+        }
+    }
+
+    /// Who is told as ready now: all who were held back where no more than may waits, and else those who were long enough.
+    fn due(&self, alloc: Global) -> Result<Vec<usize>, AllocError> {
+        let strained = self.strain.get();
+        let mut due = Vec::new(alloc);
+        for (client, until) in self.held.iter() {
+            let over = match &strained {
+                Some(strained) => *until <= strained.at,
+                None => true,
+            };
+            if over {
+                due.push(*client)?;
+            }
+        }
+        Ok(due)
+    }
+}
+
+impl<S: Sockets> HoldingSockets<S> {
+    /// These aren't noted any more.
+    fn forget(&mut self, due: &[usize])
+        ensures sockets { self.new.sockets ≡ self.old.sockets }
+        ensures others { (client : ℕ) → is_among due.now client ≡ false → get nat_cmp self.new.held client ≡ get nat_cmp self.old.held client }
+    {
+        for client in due {
+            self.held.remove(client);
+        }
+    }
+
+    /// Reads a client's stream that isn't held back, so many bytes at most.
+    fn read_client(
+        &mut self,
+        stream: &mut HeldStream<S::Stream>,
+        buffer: &mut [u8],
+        strained: Option<Strained>,
+    ) -> Answer
+        ensures some { CarriesSome result }
+        ensures within { IsWithin result (length buffer.new) }
+        ensures carried { S.reads self.old.sockets stream.old.stream result (carried result buffer.new) self.new.sockets stream.new.stream }
+        ensures held { self.new.held ≡ self.old.held }
+    {
+        let answer = self.sockets.read(&mut stream.stream, buffer);
+        if let Answer::Bytes(count) = answer {
+            stream.take(&buffer[..count], strained);
+        }
+        answer
+    }
+}
+
+impl<S: Sockets> Sockets for HoldingSockets<S> {
+    type Listener = S::Listener;
+
+    type Stream = HeldStream<S::Stream>;
+
+    ghost listens = { λ _ _ _ _. Unit {0} };
+
+    ghost accepts = { λ _ _ _ _. Unit {0} };
+
+    ghost connects = { λ _ _ _ _. Unit {0} };
+
+    ghost use Rattle.broker_holds.specs.Holding.{IsReadOrHeld};
+
+    ghost reads = { IsReadOrHeld S.reads };
+
+    ghost writes = { λ n t offered answer n' t'. S.writes n.sockets t.stream offered answer n'.sockets t'.stream };
+
+    fn listen(&mut self, address: SocketAddr) -> io::Result<S::Listener> {
+        self.sockets.listen(address)
+    }
+
+    fn address(&self, listener: &S::Listener) -> Option<SocketAddr> {
+        self.sockets.address(listener)
+    }
+
+    fn accept(&mut self, listener: &S::Listener) -> Option<HeldStream<S::Stream>> {
+        Some(HeldStream::new(self.sockets.accept(listener)?))
+    }
+
+    fn connect(&mut self, address: SocketAddr) -> io::Result<HeldStream<S::Stream>> {
+        Ok(HeldStream::new(self.sockets.connect(address)?))
+    }
+
+    fn read(&mut self, stream: &mut HeldStream<S::Stream>, buffer: &mut [u8]) -> Answer {
+        let Some(client) = stream.client() else {
+            return self.sockets.read(&mut stream.stream, buffer);
+        };
+        let Some(strained) = self.strain.get() else {
+            return self.read_client(stream, buffer, None);
+        };
+        if self.holds(client, stream, &strained) {
+            return Answer::Later;
+        }
+        let most = stream.most().min(buffer.len());
+        self.read_client(stream, &mut buffer[..most], Some(strained))
+    }
+
+    fn write(&mut self, stream: &mut HeldStream<S::Stream>, bytes: &[u8]) -> Answer {
+        self.sockets.write(&mut stream.stream, bytes)
+    }
+}
+
+impl<S: Readiness> Readiness for HoldingSockets<S> {
+    ghost watches = { λ _ _ _ _ _. Unit {0} };
+
+    ghost use Rattle.broker_holds.specs.Holding.{AreFound};
+
+    ghost finds = { AreFound S.finds };
+
+    fn watch(&mut self, stream: &mut HeldStream<S::Stream>, name: Watched) -> bool {
+        if let Watched::Client(client) = name {
+            stream.name(client);
+        }
+        self.sockets.watch(&mut stream.stream, name)
+    }
+
+    fn ready(&mut self, alloc: Global) -> Result<Ready, AllocError> {
+        let mut found = self.sockets.ready(alloc)?;
+        let due = self.due(alloc)?;
+        found.clients.extend_from_slice(&due)?;
+        self.forget(&due);
+        Ok(found)
+    }
+}
