@@ -1,11 +1,10 @@
 -- How a client is held back, and told as ready later.
-use Rattle.std.specs.Prelude.{◌≡◌, ◌+◌, ◌^◌, ◌-◌, ◌&&◌, ◌⊎◌, ◌++◌, ℕ, List, Bool, true, false, leb, ltb, min, Option, Some, None, if◌then◌else◌}
+use Rattle.std.specs.Prelude.{◌≡◌, ◌+◌, ◌^◌, ◌-◌, ◌&&◌, ◌⊎◌, ◌++◌, ◌==◌, ◌∷◌, [], ℕ, List, leb, ltb, min, Option, Some, None, if◌then◌else◌}
 use Rattle.std.specs.BTreeMap.{IsUnchanged, get}
 use Rattle.std.specs.Ordering.{nat_cmp}
 use Rattle.broker_sockets.specs.declared.network.Answer.{Answer}
 use Rattle.broker_sockets.specs.declared.network.Answer.TheVariants.{Later}
 use Rattle.broker_sockets.specs.declared.ready.Ready.{Ready}
-use Rattle.broker_holds.specs.Numbers.{is_among}
 use Rattle.broker_holds.specs.declared.sockets.HoldingSockets.{HoldingSockets}
 use Rattle.broker_holds.specs.declared.strain.Strained.{Strained}
 use Rattle.broker_holds.specs.declared.stream.HeldStream.{HeldStream}
@@ -38,7 +37,16 @@ module _ {S T : Type 0} where
   abbrev pub IsReadOrHeld : (S → T → Answer → List ℕ → S → T → Type 0) → HoldingSockets S → HeldStream T → Answer → List ℕ → HoldingSockets S → HeldStream T → Type 0
   IsReadOrHeld reads n t answer bytes n' t' = ((answer ≡ Later) × IsHeldBack n t n' t') ⊎ IsPassedOn reads n t answer bytes n' t'
 
--- all that the network inside tells is told, and clients who were held back; and nobody is forgotten who isn't told
+-- until when another client is held back, once a client isn't noted any more
+abbrev pub forgotten_one : ℕ → ℕ → Option ℕ → Option ℕ
+forgotten_one other client until = if client == other then None else until
+
+-- and once these aren't
+abbrev pub forgotten : ℕ → List ℕ → Option ℕ → Option ℕ
+forgotten other [] until = until
+forgotten other (client ∷ clients) until = forgotten other clients (forgotten_one other client until)
+
+-- all that the network inside tells is told, and clients who were held back; and just these aren't noted any more
 module _ {S : Type 0} (finds : S → Ready → S → Type 0) where
   pub record AreFound (n : HoldingSockets S) (found : Ready) (n' : HoldingSockets S) : Type 0 where
     pub inside : Ready
@@ -48,4 +56,4 @@ module _ {S : Type 0} (finds : S → Ready → S → Type 0) where
     pub listeners : found.listeners ≡ inside.listeners
     pub links : found.links ≡ inside.links
     pub peers : found.peers ≡ inside.peers
-    pub kept : (client : ℕ) → is_among due client ≡ false → get nat_cmp n'.held client ≡ get nat_cmp n.held client
+    pub kept : (client : ℕ) → get nat_cmp n'.held client ≡ forgotten client due (get nat_cmp n.held client)

@@ -1,4 +1,3 @@
 pub mod Holding
 pub mod Lanes
-pub mod Numbers
 pub mod Patience

@@ -1,10 +1,9 @@
 //! Sockets on which clients are held back.
 
-ghost use Rattle.std.specs.Prelude.{◌≡◌, ◌⊎◌, ℕ, length, true, false, Some};
+ghost use Rattle.std.specs.Prelude.{◌≡◌, ◌==◌, ℕ, length, true, false};
 ghost use Rattle.std.specs.BTreeMap.{IsUnchanged, get};
 ghost use Rattle.std.specs.Ordering.{nat_cmp};
-ghost use Rattle.broker_holds.specs.Holding.{held_until, latest};
-ghost use Rattle.broker_holds.specs.Numbers.{is_among};
+ghost use Rattle.broker_holds.specs.Holding.{forgotten, forgotten_one, held_until, latest};
 ghost use Rattle.broker_sockets.specs.Answers.{CarriesSome, IsWithin, carried};
 
 use crate::strain::{Strain, Strained};
@@ -84,13 +83,30 @@ impl<S> HoldingSockets<S> {
 }
 
 impl<S: Sockets> HoldingSockets<S> {
+    /// This client isn't noted any more.
+    fn remove(&mut self, client: usize)
+        ensures sockets { self.new.sockets ≡ self.old.sockets }
+        ensures at { get nat_cmp self.new.held client ≡ None }
+        ensures others { (other : ℕ) → (client == other) ≡ false → get nat_cmp self.new.held other ≡ get nat_cmp self.old.held other }
+    {
+        self.held.remove(&client);
+    }
+
+    /// So it is with him, and with nobody else.
+    fn forget_one(&mut self, client: usize)
+        ensures sockets { self.new.sockets ≡ self.old.sockets }
+        ensures held { (other : ℕ) → get nat_cmp self.new.held other ≡ forgotten_one other client (get nat_cmp self.old.held other) }
+    {
+        self.remove(client);
+    }
+
     /// These aren't noted any more.
     fn forget(&mut self, due: &[usize])
         ensures sockets { self.new.sockets ≡ self.old.sockets }
-        ensures others { (client : ℕ) → is_among due.now client ≡ false → get nat_cmp self.new.held client ≡ get nat_cmp self.old.held client }
+        ensures held { (other : ℕ) → get nat_cmp self.new.held other ≡ forgotten other due.now (get nat_cmp self.old.held other) }
     {
         for client in due {
-            self.held.remove(client);
+            self.forget_one(*client);
         }
     }
 
