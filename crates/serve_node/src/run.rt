@@ -177,13 +177,10 @@ fn gauge_of(rt: &HostRuntime, bounds: &BoundLimits) -> Option<ProcessMemory<File
     memory_of(rt)
 }
 
-/// Where the node tells its sockets whether too much waits for other nodes, once for each.
-fn strains(rt: &HostRuntime) -> Result<(Rc<Strain>, Rc<Strain>), Stop> {
-    let Ok(strain) = Rc::new(rt.alloc(), Strain::new()) else {
-        return Err(Stop::Run(RunFault::NoMemory));
-    };
+/// Another hold on what the node tells its sockets of what waits for other nodes.
+fn shared(strain: &Rc<Strain>) -> Result<Rc<Strain>, Stop> {
     match strain.clone() {
-        Ok(told) => Ok((strain, told)),
+        Ok(strain) => Ok(strain),
         Err(_) => Err(Stop::Run(RunFault::NoMemory)),
     }
 }
@@ -208,9 +205,11 @@ fn serve_rows<R: RowStore + Drop, F: Tables + Drop>(
     let Ok(polled) = PolledSockets::new(rt.alloc(), rt) else {
         return Err(Stop::Run(RunFault::Socket));
     };
-    let (strain, told) = strains(rt)?;
-    let telling = TellingSockets::new(polled, rt.stderr());
-    let mut sockets = HoldingSockets::new(rt.alloc(), telling, strain);
+    let Ok(strain) = Rc::new(rt.alloc(), Strain::new()) else {
+        return Err(Stop::Run(RunFault::NoMemory));
+    };
+    let telling = TellingSockets::new(polled, rt.stderr(), shared(&strain)?);
+    let mut sockets = HoldingSockets::new(rt.alloc(), telling, shared(&strain)?);
     let mut clock = SteadyClock::new(RealClocks::new(rt));
     let status = place_of(rt, names, bounds.most_memory, status)?;
     let error = if log { Some(rt.stderr()) } else { None };
@@ -231,7 +230,7 @@ fn serve_rows<R: RowStore + Drop, F: Tables + Drop>(
         error,
         losses,
         status,
-        Some(told),
+        Some(strain),
         turns,
         &mut out,
     )?;
