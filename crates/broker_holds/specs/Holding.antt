@@ -1,5 +1,5 @@
 -- How a client is held back, and told as ready later.
-use Rattle.std.specs.Prelude.{◌≡◌, ◌+◌, ◌^◌, ◌-◌, ◌&&◌, ◌⊎◌, ◌++◌, ◌==◌, ◌∷◌, [], ℕ, List, leb, ltb, min, Option, Some, None, if◌then◌else◌}
+use Rattle.std.specs.Prelude.{◌≡◌, ◌+◌, ◌^◌, ◌-◌, ◌&&◌, ◌⊎◌, ◌++◌, ◌==◌, ◌∷◌, [], ℕ, Bool, true, List, leb, ltb, min, Option, Some, None, if◌then◌else◌}
 use Rattle.std.specs.BTreeMap.{IsUnchanged, get}
 use Rattle.std.specs.Ordering.{nat_cmp}
 use Rattle.broker_sockets.specs.declared.network.Answer.{Answer}
@@ -18,6 +18,11 @@ module _ {T : Type 0} where
   abbrev pub held_until : HeldStream T → Strained → Option ℕ
   held_until t strained = if leb strained.since t.published && ltb strained.at (latest t) then Some (latest t) else None
 
+  -- he isn't, where nothing too much waits
+  abbrev pub held_by : HeldStream T → Option Strained → Option ℕ
+  held_by t None = None
+  held_by t (Some strained) = held_until t strained
+
 module _ {S T : Type 0} where
   -- the network isn't asked; and it is noted who was held back, and until when
   pub record IsHeldBack (n : HoldingSockets S) (t : HeldStream T) (n' : HoldingSockets S) (t' : HeldStream T) : Type 0 where
@@ -25,8 +30,8 @@ module _ {S T : Type 0} where
     pub sockets : n'.sockets ≡ n.sockets
     pub client : ℕ
     pub noted : get nat_cmp n'.held client ≡ Some (latest t)
-    pub strained : Strained
-    pub is_held : held_until t strained ≡ Some (latest t)
+    pub strained : Option Strained
+    pub is_held : held_by t strained ≡ Some (latest t)
 
   -- the network is asked
   pub record IsPassedOn (reads : S → T → Answer → List ℕ → S → T → Type 0) (n : HoldingSockets S) (t : HeldStream T) (answer : Answer) (bytes : List ℕ) (n' : HoldingSockets S) (t' : HeldStream T) : Type 0 where
@@ -36,6 +41,16 @@ module _ {S T : Type 0} where
   -- a stream is read, or answers that it would have to wait since its client is held back
   abbrev pub IsReadOrHeld : (S → T → Answer → List ℕ → S → T → Type 0) → HoldingSockets S → HeldStream T → Answer → List ℕ → HoldingSockets S → HeldStream T → Type 0
   IsReadOrHeld reads n t answer bytes n' t' = ((answer ≡ Later) × IsHeldBack n t n' t') ⊎ IsPassedOn reads n t answer bytes n' t'
+
+-- whether who was held back until a moment is told as ready: where nothing too much waits any more, and else once the moment has come
+abbrev pub is_over : Option Strained → ℕ → Bool
+is_over None until = true
+is_over (Some strained) until = leb until strained.at
+
+-- of those who were held back, who is
+abbrev pub due_of : Option Strained → List (ℕ × ℕ) → List ℕ
+due_of strained [] = []
+due_of strained (e ∷ es) = if is_over strained e.1 then e.0 ∷ due_of strained es else due_of strained es
 
 -- until when another client is held back, once a client isn't noted any more
 abbrev pub forgotten_one : ℕ → ℕ → Option ℕ → Option ℕ
@@ -51,7 +66,9 @@ module _ {S : Type 0} (finds : S → Ready → S → Type 0) where
   pub record AreFound (n : HoldingSockets S) (found : Ready) (n' : HoldingSockets S) : Type 0 where
     pub inside : Ready
     pub told : finds n.sockets inside n'.sockets
+    pub strained : Option Strained
     pub due : List ℕ
+    pub all : due ≡ due_of strained n.held.entries
     pub clients : found.clients.items ≡ inside.clients.items ++ due
     pub listeners : found.listeners ≡ inside.listeners
     pub links : found.links ≡ inside.links

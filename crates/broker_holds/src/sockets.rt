@@ -1,9 +1,9 @@
 //! Sockets on which clients are held back.
 
-ghost use Rattle.std.specs.Prelude.{◌≡◌, ◌==◌, ℕ, length, true, false};
+ghost use Rattle.std.specs.Prelude.{◌≡◌, ◌==◌, ℕ, length, true, false, IfOk};
 ghost use Rattle.std.specs.BTreeMap.{IsUnchanged, get};
 ghost use Rattle.std.specs.Ordering.{nat_cmp};
-ghost use Rattle.broker_holds.specs.Holding.{forgotten, forgotten_one, held_until, latest};
+ghost use Rattle.broker_holds.specs.Holding.{due_of, forgotten, forgotten_one, held_by, is_over, latest};
 ghost use Rattle.broker_sockets.specs.Answers.{CarriesSome, IsWithin, carried};
 
 use crate::strain::{Strain, Strained};
@@ -19,13 +19,23 @@ use std::rc::Rc;
 /// that were slow: its stream answers `Later`, and is told as ready once less waits, or the client was held back as long as it may be.
 ///
 /// A client is held back only from where a PUBLISH of it came while too much waited, and for half its Keep Alive at most: so its packets come in time.
-/// Meanwhile little is read at once of each other client.
+/// Meanwhile, and for a second after that, little is read at once of each client.
 #[derive(Drop)]
 pub struct HoldingSockets<S> {
     sockets: S,
     strain: Rc<Strain>,
     /// Who was held back since he was told as ready last, and until when.
     held: BTreeMap<usize, u64>,
+}
+
+/// Whether who was held back until a moment is told as ready.
+fn is_over(strained: &Option<Strained>, until: u64) -> bool
+    ensures { result ≡ is_over strained.now until }
+{
+    match strained {
+        Some(strained) => until <= strained.at,
+        None => true,
+    }
 }
 
 impl<S> HoldingSockets<S> {
@@ -51,12 +61,17 @@ impl<S> HoldingSockets<S> {
     }
 
     /// Holds a client back, where he is to be held back and that can be noted.
-    fn holds<T>(&mut self, client: usize, stream: &HeldStream<T>, strained: &Strained) -> bool
+    fn holds<T>(
+        &mut self,
+        client: usize,
+        stream: &HeldStream<T>,
+        strained: &Option<Strained>,
+    ) -> bool
         ensures sockets { self.new.sockets ≡ self.old.sockets }
-        ensures held { result ≡ true → (held_until stream.now strained.now ≡ Some (latest stream.now)) × (get nat_cmp self.new.held client ≡ Some (latest stream.now)) }
+        ensures held { result ≡ true → (held_by stream.now strained.now ≡ Some (latest stream.now)) × (get nat_cmp self.new.held client ≡ Some (latest stream.now)) }
         ensures free { result ≡ false → IsUnchanged self.old.held self.new.held }
     {
-        let Some(until) = stream.held_until(strained) else {
+        let Some(until) = stream.held_by(strained) else {
             return false;
         };
         match self.held.insert(client, until) {
@@ -65,16 +80,22 @@ impl<S> HoldingSockets<S> {
         }
     }
 
-    /// Who is told as ready now: all who were held back where no more than may waits, and else those who were long enough.
-    fn due(&self, alloc: Global) -> Result<Vec<usize>, AllocError> {
-        let strained = self.strain.get();
+    /// How many bytes are read at once.
+    fn most<T>(&self, stream: &HeldStream<T>) -> usize {
+        if self.strain.is_calm() {
+            usize::MAX
+        } else {
+            stream.most()
+        }
+    }
+
+    /// Who is told as ready now: of those who were held back all, where no more than may waits, and else those who were long enough.
+    fn due(&self, alloc: Global, strained: &Option<Strained>) -> Result<Vec<usize>, AllocError>
+        ensures { IfOk result (λ due. due.items ≡ due_of strained.now self.now.held.entries) }
+    {
         let mut due = Vec::new(alloc);
         for (client, until) in self.held.iter() {
-            let over = match &strained {
-                Some(strained) => *until <= strained.at,
-                None => true,
-            };
-            if over {
+            if is_over(strained, *until) {
                 due.push(*client)?;
             }
         }
@@ -167,14 +188,12 @@ impl<S: Sockets> Sockets for HoldingSockets<S> {
         let Some(client) = stream.client() else {
             return self.sockets.read(&mut stream.stream, buffer);
         };
-        let Some(strained) = self.strain.get() else {
-            return self.read_client(stream, buffer, None);
-        };
+        let strained = self.strain.get();
         if self.holds(client, stream, &strained) {
             return Answer::Later;
         }
-        let most = stream.most().min(buffer.len());
-        self.read_client(stream, &mut buffer[..most], Some(strained))
+        let most = self.most(stream).min(buffer.len());
+        self.read_client(stream, &mut buffer[..most], strained)
     }
 
     fn write(&mut self, stream: &mut HeldStream<S::Stream>, bytes: &[u8]) -> Answer {
@@ -198,7 +217,8 @@ impl<S: Readiness> Readiness for HoldingSockets<S> {
 
     fn ready(&mut self, alloc: Global) -> Result<Ready, AllocError> {
         let mut found = self.sockets.ready(alloc)?;
-        let due = self.due(alloc)?;
+        let strained = self.strain.get();
+        let due = self.due(alloc, &strained)?;
         found.clients.extend_from_slice(&due)?;
         self.forget(&due);
         Ok(found)

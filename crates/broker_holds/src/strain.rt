@@ -2,6 +2,9 @@
 
 use std::cell::Cell;
 
+/// For so many milliseconds after too much has waited, little is read at once.
+const CALM: u64 = 1000;
+
 /// Too much waits for another node.
 #[derive(Clone, Copy, Debug)]
 pub struct Strained {
@@ -15,6 +18,10 @@ pub struct Strained {
 #[derive(Drop)]
 pub struct Strain {
     told: Cell<Option<Strained>>,
+    /// The moment at which it was told last.
+    now: Cell<u64>,
+    /// When it is calm, if nothing too much waits till then.
+    calm: Cell<u64>,
 }
 
 impl Strain {
@@ -22,6 +29,8 @@ impl Strain {
     pub fn new() -> Strain {
         Strain {
             told: Cell::new(None),
+            now: Cell::new(0),
+            calm: Cell::new(0),
         }
     }
 
@@ -30,8 +39,14 @@ impl Strain {
         self.told.get()
     }
 
+    /// Whether nothing too much has waited for a second.
+    pub fn is_calm(&self) -> bool {
+        self.calm.get() <= self.now.get()
+    }
+
     /// Tells whether too much waits at a moment.
     pub fn tell(&self, strained: bool, at: u64) {
+        self.now.set(at);
         if !strained {
             self.told.set(None);
             return;
@@ -41,5 +56,6 @@ impl Strain {
             None => at,
         };
         self.told.set(Some(Strained { since, at }));
+        self.calm.set(at.saturating_add(CALM));
     }
 }

@@ -1,6 +1,6 @@
 //! A stream on which somebody may be held back.
 ghost use Rattle.std.specs.Prelude.{◌≡◌};
-ghost use Rattle.broker_holds.specs.Holding.{held_until};
+ghost use Rattle.broker_holds.specs.Holding.{held_by, held_until};
 
 use crate::packets::Packets;
 use crate::patience::{SHORTEST, patience_in};
@@ -51,7 +51,7 @@ impl<T> HeldStream<T> {
     }
 
     /// Until when the client is held back, while too much waits: where it has published since that is so, for as long as it is held back at most.
-    pub(crate) fn held_until(&self, strained: &Strained) -> Option<u64>
+    fn held_until(&self, strained: &Strained) -> Option<u64>
         ensures { result ≡ held_until self.now strained.now }
     {
         let until = self.published.saturating_add(u64::from(self.patience));
@@ -62,7 +62,17 @@ impl<T> HeldStream<T> {
         }
     }
 
-    /// How many bytes are read at once while too much waits: the packet that has begun to its end, and 512 bytes at least.
+    /// Until when the client is held back, where too much waits.
+    pub(crate) fn held_by(&self, strained: &Option<Strained>) -> Option<u64>
+        ensures { result ≡ held_by self.now strained.now }
+    {
+        match strained {
+            Some(strained) => self.held_until(strained),
+            None => None,
+        }
+    }
+
+    /// How many bytes are read at once while too much waits, and soon after: the packet that has begun to its end, and 512 bytes at least.
     pub(crate) fn most(&self) -> usize {
         LEAST.max(self.packets.left() as usize)
     }
