@@ -13,9 +13,9 @@ returns g c =
       strained = c.get-strained.result;
       due = c.in_ok-due.due.items;
       all = c.in_ok-due.ensures;
-      clients = c.in_ok-extend_from_slice.ensures.items ∙ ap (λ due. inside.clients.items ++ due) c.deref.ensures.value;
+      clients = c.in_ok-extend_from_slice.ensures.items ∙ ap (λ due. inside.clients.items ++ due) c.deref-2.ensures.value;
       listeners = refl;
       links = refl;
       peers = refl;
-      kept = λ client. c.forget.ensures.held client ∙ ap (λ due. forgotten client due (get nat_cmp c.args.self.now.held client)) c.deref-2.ensures.value;
+      kept = λ client. c.forget.ensures.held client ∙ ap (λ due. forgotten client due (get nat_cmp c.args.self.now.held client)) c.deref-3.ensures.value;
     }
