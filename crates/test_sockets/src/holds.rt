@@ -13,6 +13,7 @@ const CONNECT: &[u8] = b"\x10\x0d\x00\x04MQTT\x05\x02\x00\x02\x00\x00\x00";
 
 /// A PUBLISH and a PUBACK of as many bytes.
 const PUBLISH: &[u8] = b"\x30\x0d\x00\x01a\x00payload..";
+
 const PUBACK: &[u8] = b"\x40\x0d\x00\x01\x00\x09.........";
 
 /// Turns, each with whether too much waits, and its moment.
