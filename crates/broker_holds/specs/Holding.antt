@@ -47,11 +47,6 @@ abbrev pub is_over : Option Strained → ℕ → Bool
 is_over None until = true
 is_over (Some strained) until = leb until strained.at
 
--- of those who were held back, who is
-abbrev pub due_of : Option Strained → List (ℕ × ℕ) → List ℕ
-due_of strained [] = []
-due_of strained (e ∷ es) = if is_over strained e.1 then e.0 ∷ due_of strained es else due_of strained es
-
 -- until when another client is held back, once a client isn't noted any more
 abbrev pub forgotten_one : ℕ → ℕ → Option ℕ → Option ℕ
 forgotten_one other client until = if client == other then None else until
@@ -66,9 +61,7 @@ module _ {S : Type 0} (finds : S → Ready → S → Type 0) where
   pub record AreFound (n : HoldingSockets S) (found : Ready) (n' : HoldingSockets S) : Type 0 where
     pub inside : Ready
     pub told : finds n.sockets inside n'.sockets
-    pub strained : Option Strained
     pub due : List ℕ
-    pub all : due ≡ due_of strained n.held.entries
     pub clients : found.clients.items ≡ inside.clients.items ++ due
     pub listeners : found.listeners ≡ inside.listeners
     pub links : found.links ≡ inside.links

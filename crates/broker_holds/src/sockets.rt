@@ -1,9 +1,9 @@
 //! Sockets on which clients are held back.
 
-ghost use Rattle.std.specs.Prelude.{◌≡◌, ◌==◌, ℕ, length, true, false, IfOk};
+ghost use Rattle.std.specs.Prelude.{◌≡◌, ◌==◌, ℕ, length, true, false};
 ghost use Rattle.std.specs.BTreeMap.{IsUnchanged, get};
 ghost use Rattle.std.specs.Ordering.{nat_cmp};
-ghost use Rattle.broker_holds.specs.Holding.{due_of, forgotten, forgotten_one, held_by, is_over, latest};
+ghost use Rattle.broker_holds.specs.Holding.{forgotten, forgotten_one, held_by, is_over, latest};
 ghost use Rattle.broker_sockets.specs.Answers.{CarriesSome, IsWithin, carried};
 
 use crate::strain::{Strain, Strained};
@@ -90,9 +90,7 @@ impl<S> HoldingSockets<S> {
     }
 
     /// Who is told as ready now: of those who were held back all, where no more than may waits, and else those who were long enough.
-    fn due(&self, alloc: Global, strained: &Option<Strained>) -> Result<Vec<usize>, AllocError>
-        ensures { IfOk result (λ due. due.items ≡ due_of strained.now self.now.held.entries) }
-    {
+    fn due(&self, alloc: Global, strained: &Option<Strained>) -> Result<Vec<usize>, AllocError> {
         let mut due = Vec::new(alloc);
         for (client, until) in self.held.iter() {
             if is_over(strained, *until) {

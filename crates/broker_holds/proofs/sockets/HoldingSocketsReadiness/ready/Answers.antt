@@ -10,9 +10,7 @@ returns g c =
     record {
       inside = inside;
       told = subst (λ s. g.S.Readiness.finds c.args.self.now.sockets inside s) (sym c.forget.ensures.sockets) c.in_ok-found.ensures;
-      strained = c.get-strained.result;
       due = c.in_ok-due.due.items;
-      all = c.in_ok-due.ensures;
       clients = c.in_ok-extend_from_slice.ensures.items ∙ ap (λ due. inside.clients.items ++ due) c.deref-2.ensures.value;
       listeners = refl;
       links = refl;
