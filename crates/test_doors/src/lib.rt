@@ -28,3 +28,5 @@ mod pieces;
 mod recorder;
 #[cfg(test)]
 mod user_files;
+#[cfg(test)]
+mod widths;

@@ -1,0 +1,1 @@
+use Rattle.door_mqtt3.proofs.client.Client.pass_next.Goals as goal
