@@ -2,4 +2,5 @@ pub mod Flaws
 pub mod Judging
 pub mod Laws
 pub mod Looking
+pub mod Passwords
 pub mod Watching

@@ -1,21 +1,23 @@
 //! The files of users and of permissions that a node is started with.
 
 ghost use Rattle.std.specs.Prelude.{◌≡◌, ◌++◌, codes, IfOk};
+ghost use Rattle.std.specs.Option.{option_copied};
 ghost use Rattle.std.specs.String.{string_bytes};
+ghost use Rattle.door_users.specs.Files.{AreOfFiles, rights_of};
 ghost use Rattle.door_users.specs.Flaws.{fault_text};
 ghost use Rattle.door_users.specs.declared.fault.FileFault.TheVariants.{Line};
 
 use crate::file::read_file;
 use broker_script::LONGEST_FILE;
-use cli_stops::{Stop, answer_of};
+use cli_stops::{Found, Stop, answer_of};
 use door_users::{AccessFault, FileAccess, FileFault, LineFlaw};
 use std::alloc::{AllocError, Global};
 use std::fmt::Display;
 use std::str;
 
-/// The end of a program that can't take a file, for this reason.
-fn refused<D: Display>(alloc: Global, path: &str, why: &D) -> Stop {
-    match format!(in alloc; "broker: {path}: {why}") {
+/// The end of a program that can't take what it was given under a name, for this reason.
+pub(crate) fn refused<D: Display>(alloc: Global, name: &str, why: &D) -> Stop {
+    match format!(in alloc; "broker: {name}: {why}") {
         Ok(text) => Stop::CommandLine(text),
         Err(error) => Stop::from(error),
     }
@@ -42,7 +44,7 @@ fn bytes_of(rt: &HostRuntime, path: &str) -> Result<Vec<u8>, Stop> {
     match read_file(rt, path, LONGEST_FILE) {
         Ok(bytes) => {
             if bytes.len() > LONGEST_FILE {
-                return Err(refused(rt.alloc(), path, &"it has more than 16777216 bytes"));
+                return Err(refused(rt.alloc(), path, &Found::TooLong(LONGEST_FILE as u64)));
             }
             Ok(bytes)
         }
@@ -54,39 +56,58 @@ fn bytes_of(rt: &HostRuntime, path: &str) -> Result<Vec<u8>, Stop> {
 fn text_of<'a>(alloc: Global, path: &str, bytes: &'a [u8]) -> Result<&'a str, Stop> {
     match str::from_utf8(bytes) {
         Ok(text) => Ok(text),
-        Err(_) => Err(refused(alloc, path, &"it is not UTF-8")),
+        Err(_) => Err(refused(alloc, path, &Found::NotText)),
     }
+}
+
+/// The paths of a file of users and of a file of permissions, or of nothing where there is none.
+#[derive(Clone, Copy, Debug)]
+struct Paths<'a> {
+    users: &'a str,
+    permissions: &'a str,
 }
 
 /// Who may come and what each may do, by the text of a file of users and, if there is one, of a file of permissions. `Stop::CommandLine` names the file and
 /// its first line with a flaw, and what is wrong with it.
 fn access_in(
     alloc: Global,
-    users: (&str, &str),
-    permissions: Option<(&str, &str)>,
+    paths: Paths<'_>,
+    users: &str,
+    permissions: Option<&str>,
     anonymous: bool,
-) -> Result<FileAccess, Stop> {
-    let (path, text) = users;
-    let (rules_path, rules) = match permissions {
-        Some((path, text)) => (path, Some(text)),
-        None => ("", None),
-    };
-    match FileAccess::read(alloc, text, rules, anonymous) {
+) -> Result<FileAccess, Stop>
+    ensures { IfOk result (λ access. AreOfFiles users.now (option_copied permissions.entry) anonymous (rights_of access)) }
+{
+    match FileAccess::read(alloc, users, permissions, anonymous) {
         Ok(access) => Ok(access),
         Err(AccessFault::NoMemory) => Err(Stop::from(AllocError)),
-        Err(AccessFault::Users(number, flaw)) => Err(flawed(alloc, path, number, flaw)),
+        Err(AccessFault::Users(number, flaw)) => Err(flawed(alloc, paths.users, number, flaw)),
         Err(AccessFault::Permissions(number, flaw)) => {
-            Err(flawed(alloc, rules_path, number, flaw))
+            Err(flawed(alloc, paths.permissions, number, flaw))
         }
     }
 }
 
-/// Says that an option wants `--users`.
-fn without_users(alloc: Global, option: &str) -> Stop {
-    match format!(in alloc; "broker: {option} is for users: give --users too") {
-        Ok(text) => Stop::CommandLine(text),
-        Err(error) => Stop::from(error),
-    }
+/// Who may come, by the file of users at a path, and what each may do, by the file of permissions at another one; without that all.
+fn access_at(
+    rt: &HostRuntime,
+    users: &str,
+    permissions: Option<&str>,
+    anonymous: bool,
+) -> Result<FileAccess, Stop> {
+    let alloc = rt.alloc();
+    let paths = Paths {
+        users,
+        permissions: permissions.unwrap_or(""),
+    };
+    let bytes = bytes_of(rt, users)?;
+    let text = text_of(alloc, users, &bytes)?;
+    let Some(path) = permissions else {
+        return access_in(alloc, paths, text, None, anonymous);
+    };
+    let rules = bytes_of(rt, path)?;
+    let rules = text_of(alloc, path, &rules)?;
+    access_in(alloc, paths, text, Some(rules), anonymous)
 }
 
 /// Who may come and what each may do, by the files at these paths; nothing where there is no file of users. `Stop::CommandLine` names a file that can't be
@@ -97,25 +118,11 @@ pub fn read_access(
     permissions: Option<&str>,
     anonymous: bool,
 ) -> Result<Option<FileAccess>, Stop> {
-    let alloc = rt.alloc();
-    let Some(path) = users else {
-        if permissions.is_some() {
-            return Err(without_users(alloc, "--permissions"));
-        }
-        if anonymous {
-            return Err(without_users(alloc, "--anonymous"));
-        }
-        return Ok(None);
-    };
-    let bytes = bytes_of(rt, path)?;
-    let text = text_of(alloc, path, &bytes)?;
-    let access = match permissions {
-        None => access_in(alloc, (path, text), None, anonymous)?,
-        Some(rules_path) => {
-            let rules = bytes_of(rt, rules_path)?;
-            let rules = text_of(alloc, rules_path, &rules)?;
-            access_in(alloc, (path, text), Some((rules_path, rules)), anonymous)?
-        }
-    };
-    Ok(Some(access))
+    let why = "it is for users: give --users too";
+    match users {
+        Some(path) => Ok(Some(access_at(rt, path, permissions, anonymous)?)),
+        None if permissions.is_some() => Err(refused(rt.alloc(), "--permissions", &why)),
+        None if anonymous => Err(refused(rt.alloc(), "--anonymous", &why)),
+        None => Ok(None),
+    }
 }
