@@ -1,43 +1,47 @@
 //! Files of users and of permissions with which a node can start, and those with which it can't; lines of users that the program prints.
 
 use cli_files::{print_user_line, read_access};
-use cli_stops::Stop;
 use door_users::{Entry, Users};
 use std::fs;
-use std::process::Abort;
+use std::str;
 
 /// Made by `mosquitto_passwd -b` of Mosquitto 2.0.11 for `bob` with `x`.
 const BOB: &str =
     "bob:$7$101$gywCRAZx7PEURrDH$xgUk25cPdfSDmwgjuqurs4T3oDcxxk1Xpj+kVcGLnb+He4K8qdT0/wsxa+/VghUt/HwCMUzhv/xupcOe8Ja9yA==\n";
 
-/// A node starts with these files.
-fn starts(rt: &HostRuntime, users: Option<&str>, permissions: Option<&str>, anonymous: bool) {
-    let access = read_access(rt, users, permissions, anonymous);
-    let access = access.ok().expect(rt, "files");
-    assert!(rt; access.is_some() == users.is_some());
-    drop(access);
+/// Whether a node starts with these files.
+fn starts(rt: &HostRuntime, users: Option<&str>, permissions: Option<&str>, anonymous: bool) -> bool {
+    match read_access(rt, users, permissions, anonymous) {
+        Ok(access) => access.is_some() == users.is_some(),
+        Err(_) => false,
+    }
 }
 
-/// A node doesn't start, and this is told.
-fn tells(rt: &HostRuntime, users: Option<&str>, permissions: Option<&str>, anonymous: bool, text: &str) {
-    let access = read_access(rt, users, permissions, anonymous);
-    let stop = access.err().expect(rt, "a flaw");
+/// Whether a node doesn't start, and this is told.
+fn tells(
+    rt: &HostRuntime,
+    users: Option<&str>,
+    permissions: Option<&str>,
+    anonymous: bool,
+    text: &str,
+) -> bool {
+    let Err(stop) = read_access(rt, users, permissions, anonymous) else {
+        return false;
+    };
     let mut out: Vec<u8> = Vec::new(rt.alloc());
     let mut err: Vec<u8> = Vec::new(rt.alloc());
     let status = stop.tell(&mut out, &mut err);
-    assert_eq!(rt; status, 2, "{text}");
-    assert!(rt; out.is_empty() && err.as_slice() == text.as_bytes(), "{text}");
-    drop((stop, out, err));
+    status == 2 && out.is_empty() && err.as_slice() == text.as_bytes()
 }
 
 #[test]
 fn files_of_users_are_read(rt: HostRuntime) {
     fs::write(&rt, "users", BOB).expect(&rt, "a file");
     fs::write(&rt, "rules", "user bob\ntopic read a\n").expect(&rt, "a file");
-    starts(&rt, None, None, false);
-    starts(&rt, Some("users"), None, false);
-    starts(&rt, Some("users"), None, true);
-    starts(&rt, Some("users"), Some("rules"), false);
+    assert!(rt; starts(&rt, None, None, false));
+    assert!(rt; starts(&rt, Some("users"), None, false));
+    assert!(rt; starts(&rt, Some("users"), None, true));
+    assert!(rt; starts(&rt, Some("users"), Some("rules"), false));
 }
 
 #[test]
@@ -47,29 +51,29 @@ fn a_flaw_of_these_files_is_told_by_its_line(rt: HostRuntime) {
     fs::write(&rt, "bytes", b"\xff").expect(&rt, "a file");
     fs::write(&rt, "rules", "user bob\ntopic reads a\n").expect(&rt, "a file");
     let right = Some("right");
-    tells(
+    assert!(rt; tells(
         &rt,
         Some("wrong"),
         None,
         false,
         "broker: wrong: line 2: after the user name and a colon does not stand $7$\n",
-    );
-    tells(
+    ));
+    assert!(rt; tells(
         &rt,
         right,
         Some("rules"),
         false,
         "broker: rules: line 2: before the filter stands none of read, write, readwrite and deny\n",
-    );
-    tells(&rt, right, Some("bytes"), true, "broker: bytes: it is not UTF-8\n");
-    tells(&rt, right, Some("nowhere"), true, "broker: nowhere: no such file or folder\n");
-    tells(&rt, Some("."), None, true, "broker: .: it is a folder\n");
+    ));
+    assert!(rt; tells(&rt, right, Some("bytes"), true, "broker: bytes: it is not UTF-8\n"));
+    assert!(rt; tells(&rt, right, Some("nowhere"), true, "broker: nowhere: no such file or folder\n"));
+    assert!(rt; tells(&rt, Some("."), None, true, "broker: .: it is a folder\n"));
 }
 
 #[test]
 fn rules_are_for_users(rt: HostRuntime) {
-    tells(&rt, None, Some("rules"), false, "broker: --permissions: it is for users: give --users too\n");
-    tells(&rt, None, None, true, "broker: --anonymous: it is for users: give --users too\n");
+    assert!(rt; tells(&rt, None, Some("rules"), false, "broker: --permissions: it is for users: give --users too\n"));
+    assert!(rt; tells(&rt, None, None, true, "broker: --anonymous: it is for users: give --users too\n"));
 }
 
 #[test]
@@ -78,7 +82,7 @@ fn prints_lines_that_let_in(rt: HostRuntime) {
     let mut text: Vec<u8> = Vec::new(alloc);
     print_user_line(&rt, "dora", b"secret", &mut text).ok().expect(&rt, "a line");
     print_user_line(&rt, "emil", b"secret", &mut text).ok().expect(&rt, "a line");
-    let lines = std::str::from_utf8(&text).expect(&rt, "text");
+    let lines = str::from_utf8(&text).expect(&rt, "text");
     let users = Users::parse(alloc, lines).expect(&rt, "users");
     assert_eq!(&rt; users.admits("dora", b"secret"), Entry::Admitted);
     assert_eq!(&rt; users.admits("emil", b"secret"), Entry::Admitted);
