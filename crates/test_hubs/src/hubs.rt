@@ -105,6 +105,7 @@ fn served<R: RowStore + Drop>(
         place,
         ListenAt::table(),
         no_tables,
+        None,
         bounds,
         limits,
         false,
