@@ -3,4 +3,5 @@ pub mod Judging
 pub mod Laws
 pub mod Looking
 pub mod Passwords
+pub mod Users
 pub mod Watching

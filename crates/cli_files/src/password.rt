@@ -1,6 +1,6 @@
 //! The line of a user that the program prints.
 
-ghost use Rattle.std.specs.Prelude.{◌≡◌, ◌++◌, ◌∷◌, [], OnOk};
+ghost use Rattle.std.specs.Prelude.{◌≡◌, ◌++◌, ◌∷◌, [], ℕ, List, OnOk};
 ghost use Rattle.std.specs.Io.KnownBytes.{Appends};
 ghost use Rattle.door_users.specs.Writing.{line_for};
 ghost use Rattle.cli_files.specs.Passwords.{is_password, password_in};
@@ -77,7 +77,9 @@ pub fn print_user_line<W: Write>(
     name: &str,
     password: &[u8],
     out: &mut W,
-) -> Result<(), Stop> {
+) -> Result<(), Stop>
+    ensures { OnOk result ((salt : List ℕ) × Appends (W.contents out.old) (W.contents out.new) (line_for name.now password.now salt 101 ++ 10 ∷ [])) }
+{
     let alloc = rt.alloc();
     if !is_user_name(name) {
         let why = "no line of a file of users can have this name";

@@ -1,8 +1,9 @@
 //! The files of users and of permissions that a node is started with.
 
-ghost use Rattle.std.specs.Prelude.{◌≡◌, ◌++◌, codes, IfOk};
+ghost use Rattle.std.specs.Prelude.{◌≡◌, ◌++◌, codes, is_some, IfOk};
 ghost use Rattle.std.specs.Option.{option_copied};
 ghost use Rattle.std.specs.String.{string_bytes};
+ghost use Rattle.cli_files.specs.Users.{AreAsked};
 ghost use Rattle.door_users.specs.Files.{AreOfFiles, rights_of};
 ghost use Rattle.door_users.specs.Flaws.{fault_text};
 ghost use Rattle.door_users.specs.declared.fault.FileFault.TheVariants.{Line};
@@ -117,7 +118,9 @@ pub fn read_access(
     users: Option<&str>,
     permissions: Option<&str>,
     anonymous: bool,
-) -> Result<Option<FileAccess>, Stop> {
+) -> Result<Option<FileAccess>, Stop>
+    ensures { IfOk result (λ access. AreAsked (option_copied users.entry) (option_copied permissions.entry) anonymous (is_some access)) }
+{
     let why = "it is for users: give --users too";
     match users {
         Some(path) => Ok(Some(access_at(rt, path, permissions, anonymous)?)),
