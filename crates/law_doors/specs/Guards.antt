@@ -1,5 +1,5 @@
 -- What the handler inside is told behind one that lets in users alone.
-use Rattle.std.specs.Prelude.{◌≡◌, ◌∷◌, [], ℕ, List, map, Option, Some, None}
+use Rattle.std.specs.Prelude.{◌≡◌, ◌⊎◌, ◌∷◌, [], ℕ, List, map, Option, Some, None}
 use Rattle.broker_sockets.specs.declared.bridge.Given.{Given}
 use Rattle.broker_sockets.specs.declared.bridge.PeerEvent.{PeerEvent}
 use Rattle.broker_sockets.specs.declared.events.Event.{Event}
@@ -10,6 +10,8 @@ use Rattle.door_guard.specs.Calls as guards
 use Rattle.door_guard.specs.Laws.{IsFollowed}
 use Rattle.door_guard.specs.Views.{NoneOpen, access_of, door_of, inside_of}
 use Rattle.door_guard.specs.declared.door.Door.{Door}
+use Rattle.door_guard.specs.declared.fault.GuardFault.{GuardFault}
+use Rattle.door_guard.specs.declared.fault.GuardFault.TheVariants.{Inside}
 use Rattle.door_guard.specs.declared.guarded.Guarded.{Guarded}
 use Rattle.door_packets.specs.Rights.{Rights}
 use Rattle.law_doors.specs.Calls.{AreCalled, ArePassed, Call, Settles, Tells, notes, notes_peer}
@@ -46,3 +48,18 @@ module _ {A : Type 0} (rights : A → Rights) where
     GuardsTell =
         (calls : List Call) (d d' : Guarded H A) → AreCalled handles' hears' settles' calls d d'
         → (inside : List Call) × AreCalled handles hears settles inside (inside_of d) (inside_of d') × ArePassed Guards_pass (door_of d) calls inside (door_of d')
+
+-- it stops with this fault: at an event of clients, at one of other nodes, or where it is to settle
+abbrev pub IsStopping : {H F : Type 0} → (H → Event → F → H → Type 0) → (H → PeerEvent → F → H → Type 0) → (H → F → H → Type 0) → H → F → H → Type 0
+IsStopping refuses declines stops h fault h' = ((e : Event) × refuses h e fault h') ⊎ ((e : PeerEvent) × declines h e fault h') ⊎ stops h fault h'
+
+module _ {H A F : Type 0} (handles : H → Event → List Output → H → Type 0) (hears : H → PeerEvent → Given → H → Type 0) (settles : H → H → Type 0)
+    (refuses : H → Event → F → H → Type 0) (declines : H → PeerEvent → F → H → Type 0) (stops : H → F → H → Type 0)
+    (handles' : Guarded H A → Event → List Output → Guarded H A → Type 0) (hears' : Guarded H A → PeerEvent → Given → Guarded H A → Type 0) (settles' : Guarded H A → Guarded H A → Type 0)
+    (refuses' : Guarded H A → Event → GuardFault F → Guarded H A → Type 0) (declines' : Guarded H A → PeerEvent → GuardFault F → Guarded H A → Type 0)
+    (stops' : Guarded H A → GuardFault F → Guarded H A → Type 0) where
+  -- where after any calls it stops with a fault of the handler inside, that was called some more, and stopped with just this fault
+  abbrev pub GuardsStop : Type 0
+  GuardsStop =
+      (calls : List Call) (d m d' : Guarded H A) (fault : F) → AreCalled handles' hears' settles' calls d m → IsStopping refuses' declines' stops' m (Inside fault) d'
+      → (inside : List Call) × (h : H) × AreCalled handles hears settles inside (inside_of d) h × IsStopping refuses declines stops h fault (inside_of d')
