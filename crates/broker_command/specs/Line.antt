@@ -12,8 +12,9 @@ use Rattle.cli_stops.specs.declared.stop.Stop.{Stop}
 use Rattle.cli_stops.specs.declared.stop.Stop.TheVariants.{Help, CommandLine, Run}
 use Rattle.cli_stops.specs.declared.run_fault.RunFault.TheVariants.{NoMemory}
 use Rattle.broker_command.specs.declared.task.AskedLimits.{AskedLimits}
+use Rattle.broker_command.specs.declared.task.AskedUsers.{AskedUsers}
 use Rattle.broker_command.specs.declared.task.Task.{Task}
-use Rattle.broker_command.specs.declared.task.Task.TheVariants.{Play, Loopback, Serve, Check}
+use Rattle.broker_command.specs.declared.task.Task.TheVariants.{Play, Loopback, Serve, Password, Check}
 
 -- an argument that has to be there, with one value
 abbrev pub word_rule : Text → Rule
@@ -99,6 +100,24 @@ with_limits app =
     (number_rule (codes "most-memory"))) (number_rule (codes "longest-packet"))) (number_rule (codes "most-filters"))) (number_rule (codes "most-levels")))
     (number_rule (codes "most-properties"))) (number_rule (codes "longest-expiry"))) careful_rule
 
+-- `--ID FILE`
+abbrev pub file_rule : Text → Rule
+file_rule id = record (option_rule id) {
+  long = Some id;
+  value_names = 1;
+}
+
+-- `--anonymous`
+abbrev pub anonymous_rule : Rule
+anonymous_rule = record (new_rule (codes "anonymous")) {
+  long = Some (codes "anonymous");
+  action = Some SetTrue;
+}
+
+-- who may come: `[--users FILE] [--permissions FILE] [--anonymous]`
+abbrev pub with_users : App → App
+with_users app = with_rule (with_rule (with_rule app (file_rule (codes "users"))) (file_rule (codes "permissions"))) anonymous_rule
+
 -- `CONFIG NODE DATABASE` behind the name of a command
 abbrev pub node_words : Text → App
 node_words name = with_rule (with_rule (with_rule (new_app name) (word_rule (codes "CONFIG"))) (word_rule (codes "NODE"))) (word_rule (codes "DATABASE"))
@@ -109,9 +128,9 @@ abbrev pub with_addresses : App → App
 with_addresses app =
     with_rule (with_rule (with_rule (with_rule app (address_rule (codes "status"))) (address_rule (codes "status-host"))) (address_rule (codes "listen"))) (address_rule (codes "bridge-listen"))
 
--- the options of a node: `[--most-clients N] [--connect-within SECONDS] [--mqtt3] [--log]`, the addresses and the limits
+-- the options of a node: `[--most-clients N] [--connect-within SECONDS] [--mqtt3] [--log]`, the addresses, the limits and who may come
 abbrev pub with_options : App → App
-with_options app = with_limits (with_addresses (with_rule (with_rule (with_rule (with_rule app most_clients_rule) connect_within_rule) mqtt3_rule) log_rule))
+with_options app = with_users (with_limits (with_addresses (with_rule (with_rule (with_rule (with_rule app most_clients_rule) connect_within_rule) mqtt3_rule) log_rule)))
 
 -- `serve CONFIG NODE DATABASE --turns N`, and the options
 abbrev pub serve : App
@@ -125,11 +144,15 @@ run = with_options (node_words (codes "run"))
 abbrev pub check : App
 check = node_words (codes "check")
 
--- the program's words: one of the five commands, without the program's name
+-- `password NAME`
+abbrev pub password : App
+password = with_rule (new_app (codes "password")) (word_rule (codes "NAME"))
+
+-- the program's words: one of the six commands, without the program's name
 unfoldable pub broker : App
-broker = with_subcommand (with_subcommand (with_subcommand (with_subcommand (with_subcommand
+broker = with_subcommand (with_subcommand (with_subcommand (with_subcommand (with_subcommand (with_subcommand
     (on_top (λ s. record s { has_version = true; no_binary_name = true; subcommand_required = true }) (new_app (codes "broker")))
-    play.top) loopback.top) serve.top) run.top) check.top
+    play.top) loopback.top) serve.top) run.top) check.top) password.top
 
 -- the path of a script
 abbrev pub IsScript : List Row → String Global → Type 0
@@ -139,15 +162,17 @@ IsScript rows script = first_of (codes "SCRIPT") rows ≡ Some script.bytes.item
 abbrev pub IsPlay : List Row → Task → Type 0
 IsPlay rows (Play script) = IsScript rows script
 IsPlay rows (Loopback script) = ⊥
-IsPlay rows (Serve configuration node database turns most_clients connect_within limits mqtt3 log status status_hosts listen bridge_listen) = ⊥
+IsPlay rows (Serve configuration node database turns most_clients connect_within limits users mqtt3 log status status_hosts listen bridge_listen) = ⊥
 IsPlay rows (Check configuration node database) = ⊥
+IsPlay rows (Password name) = ⊥
 
 -- a script to play over sockets
 abbrev pub IsLoopback : List Row → Task → Type 0
 IsLoopback rows (Play script) = ⊥
 IsLoopback rows (Loopback script) = IsScript rows script
-IsLoopback rows (Serve configuration node database turns most_clients connect_within limits mqtt3 log status status_hosts listen bridge_listen) = ⊥
+IsLoopback rows (Serve configuration node database turns most_clients connect_within limits users mqtt3 log status status_hosts listen bridge_listen) = ⊥
 IsLoopback rows (Check configuration node database) = ⊥
+IsLoopback rows (Password name) = ⊥
 
 -- the number that an option is given, in range, as its text spells it
 pub record IsNumber (rows : List Row) (id : Text) (number : ℕ) : Type 0 where
@@ -184,18 +209,25 @@ pub record AreLimits (rows : List Row) (limits : AskedLimits) : Type 0 where
   pub expiry : IsNumberIf rows (codes "longest-expiry") limits.longest_expiry
   pub careful : IsFlag rows (codes "careful") limits.careful
 
+-- who may come, as the options say
+pub record AreUsers (rows : List Row) (users : AskedUsers) : Type 0 where
+  pub users_file : IsTextIf rows (codes "users") users.users
+  pub permissions_file : IsTextIf rows (codes "permissions") users.permissions
+  pub nameless : IsFlag rows (codes "anonymous") users.anonymous
+
 -- a node to be, for so many turns or until it is stopped
 abbrev pub IsNode : List Row → Option ℕ → Task → Type 0
 IsNode rows made (Play script) = ⊥
 IsNode rows made (Loopback script) = ⊥
-IsNode rows made (Serve configuration node database turns most_clients connect_within limits mqtt3 log status status_hosts listen bridge_listen) =
+IsNode rows made (Serve configuration node database turns most_clients connect_within limits users mqtt3 log status status_hosts listen bridge_listen) =
     (first_of (codes "CONFIG") rows ≡ Some configuration.bytes.items)
     × (first_of (codes "NODE") rows ≡ Some node.bytes.items)
     × (first_of (codes "DATABASE") rows ≡ Some database.bytes.items) × (turns ≡ made)
     × IsNumberIf rows (codes "most-clients") most_clients × IsNumberIf rows (codes "connect-within") connect_within × IsFlag rows (codes "mqtt3") mqtt3 × IsFlag rows (codes "log") log × IsTextIf rows (codes "status") status × IsTextIf rows (codes "status-host") status_hosts
     × IsTextIf rows (codes "listen") listen × IsTextIf rows (codes "bridge-listen") bridge_listen
-    × AreLimits rows limits
+    × AreLimits rows limits × AreUsers rows users
 IsNode rows made (Check configuration node database) = ⊥
+IsNode rows made (Password name) = ⊥
 
 -- one for as many turns as are asked for
 abbrev pub IsServe : List Row → Task → Type 0
@@ -209,22 +241,32 @@ IsRun rows task = IsNode rows None task
 abbrev pub IsCheck : List Row → Task → Type 0
 IsCheck rows (Play script) = ⊥
 IsCheck rows (Loopback script) = ⊥
-IsCheck rows (Serve configuration node database turns most_clients connect_within limits mqtt3 log status status_hosts listen bridge_listen) = ⊥
+IsCheck rows (Serve configuration node database turns most_clients connect_within limits users mqtt3 log status status_hosts listen bridge_listen) = ⊥
+IsCheck rows (Password name) = ⊥
 IsCheck rows (Check configuration node database) =
     (first_of (codes "CONFIG") rows ≡ Some configuration.bytes.items)
     × (first_of (codes "NODE") rows ≡ Some node.bytes.items)
     × (first_of (codes "DATABASE") rows ≡ Some database.bytes.items)
+
+-- a user whose line is wanted
+abbrev pub IsPassword : List Row → Task → Type 0
+IsPassword rows (Play script) = ⊥
+IsPassword rows (Loopback script) = ⊥
+IsPassword rows (Serve configuration node database turns most_clients connect_within limits users mqtt3 log status status_hosts listen bridge_listen) = ⊥
+IsPassword rows (Check configuration node database) = ⊥
+IsPassword rows (Password name) = first_of (codes "NAME") rows ≡ Some name.bytes.items
 
 -- the task of a command with what follows it
 abbrev pub IsOf : Option (Text × List Row) → Task → Type 0
 IsOf None task = ⊥
 IsOf (Some (name, rows)) (Play script) = (name ≡ codes "play") × IsPlay rows (Play script)
 IsOf (Some (name, rows)) (Loopback script) = (name ≡ codes "loopback") × IsLoopback rows (Loopback script)
-IsOf (Some (name, rows)) (Serve configuration node database turns most_clients connect_within limits mqtt3 log status status_hosts listen bridge_listen) =
-    ((name ≡ codes "serve") × IsServe rows (Serve configuration node database turns most_clients connect_within limits mqtt3 log status status_hosts listen bridge_listen))
-    ⊎ ((name ≡ codes "run") × IsRun rows (Serve configuration node database turns most_clients connect_within limits mqtt3 log status status_hosts listen bridge_listen))
+IsOf (Some (name, rows)) (Serve configuration node database turns most_clients connect_within limits users mqtt3 log status status_hosts listen bridge_listen) =
+    ((name ≡ codes "serve") × IsServe rows (Serve configuration node database turns most_clients connect_within limits users mqtt3 log status status_hosts listen bridge_listen))
+    ⊎ ((name ≡ codes "run") × IsRun rows (Serve configuration node database turns most_clients connect_within limits users mqtt3 log status status_hosts listen bridge_listen))
 IsOf (Some (name, rows)) (Check configuration node database) =
     (name ≡ codes "check") × IsCheck rows (Check configuration node database)
+IsOf (Some (name, rows)) (Password user) = (name ≡ codes "password") × IsPassword rows (Password user)
 
 -- the words are a command line without a fault, and ask for the task
 pub record IsTask (words : List Text) (task : Task) : Type 0 where

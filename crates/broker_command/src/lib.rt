@@ -5,6 +5,7 @@ mod addresses;
 mod limits;
 mod line;
 mod task;
+mod users;
 
 pub use line::task_of;
-pub use task::{AskedLimits, Task};
+pub use task::{AskedLimits, AskedUsers, Task};

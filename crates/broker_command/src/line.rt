@@ -4,11 +4,12 @@ ghost use Rattle.std.specs.Prelude.{◌≡◌, map, false, pos, Some, IfOk, IfSo
 ghost use Rattle.clap.specs.declared.builder.value_parser.ValueParser.TheVariants.{Signed};
 ghost use Rattle.clap.specs.Words.{HasKind, app_of, fault_of, found_of, kind_of, rows_of, rule_of, subcommand_rows_of};
 ghost use Rattle.clap.specs.declared.builder.command.Command.TheViews.{out-Command as fields_of};
-ghost use Rattle.broker_command.specs.Line.{broker, play, loopback, node_words, with_options, serve, run, check, word_rule, option_rule, turns_rule, most_clients_rule, connect_within_rule, mqtt3_rule, log_rule, IsFlag, IsNumberIf, IsTextIf, IsTask, IsOf, IsPlay, IsLoopback, IsNode, IsServe, IsRun, IsCheck, IsScript, IsRefusal, IsStopOf};
+ghost use Rattle.broker_command.specs.Line.{broker, play, loopback, node_words, with_options, serve, run, check, password, word_rule, option_rule, turns_rule, most_clients_rule, connect_within_rule, mqtt3_rule, log_rule, IsFlag, IsNumberIf, IsTextIf, IsTask, IsOf, IsPlay, IsLoopback, IsNode, IsServe, IsRun, IsCheck, IsPassword, IsScript, IsRefusal, IsStopOf};
 
 use crate::addresses::with_addresses;
 use crate::limits::{limits_of, with_limits};
 use crate::task::Task;
+use crate::users::{users_of, with_users};
 use clap::error::ErrorKind;
 use clap::{Arg, ArgAction, ArgMatches, Command, Error, value_parser};
 use cli_stops::{RunFault, Stop};
@@ -42,6 +43,7 @@ fn commands<'a>(alloc: Global) -> Result<Command<'a>, AllocError>
     let serve = serve_command(alloc)?;
     let run = run_command(alloc)?;
     let check = check_command(alloc)?;
+    let password = password_command(alloc)?;
     Command::new(alloc, "broker")
         .about("A node of a cluster of MQTT 5.0 brokers")
         .version(VERSION)
@@ -51,7 +53,8 @@ fn commands<'a>(alloc: Global) -> Result<Command<'a>, AllocError>
         .subcommand(loopback)?
         .subcommand(serve)?
         .subcommand(run)?
-        .subcommand(check)
+        .subcommand(check)?
+        .subcommand(password)
 }
 
 fn play_command<'a>(alloc: Global) -> Result<Command<'a>, AllocError>
@@ -93,7 +96,8 @@ fn with_options<'a>(alloc: Global, command: Command<'a>) -> Result<Command<'a>, 
         .arg(connect_within_option(alloc))?
         .arg(mqtt3_option(alloc))?
         .arg(log_option(alloc))?;
-    with_limits(alloc, with_addresses(alloc, command)?)
+    let command = with_limits(alloc, with_addresses(alloc, command)?)?;
+    with_users(alloc, command)
 }
 
 fn serve_command<'a>(alloc: Global) -> Result<Command<'a>, AllocError>
@@ -116,6 +120,14 @@ fn check_command<'a>(alloc: Global) -> Result<Command<'a>, AllocError>
 {
     let about = "Tells what the rows of a node that is down hold, and changes no file";
     node_words(alloc, "check", about)
+}
+
+fn password_command<'a>(alloc: Global) -> Result<Command<'a>, AllocError>
+    ensures { IfOk result (λ c. (app_of c ≡ password) × ((fields_of c).has_globals ≡ false)) }
+{
+    Command::new(alloc, "password")
+        .about("Prints the line of a user in a file of users, for the password on standard input")
+        .arg(required(alloc, "NAME").help("The user name"))
 }
 
 fn turns_option<'a>(alloc: Global) -> Arg<'a>
@@ -220,6 +232,8 @@ fn named_task(alloc: Global, matches: &ArgMatches<'_>) -> Result<Option<Task>, A
         run_task(alloc, found)
     } else if name == "check" {
         check_task(alloc, found)
+    } else if name == "password" {
+        password_task(alloc, found)
     } else {
         Ok(None)
     }
@@ -274,7 +288,11 @@ pub(crate) fn number_of(found: &ArgMatches<'_>, name: &str) -> Option<Option<u32
 }
 
 /// The text that an option is given, or none where it isn't given.
-fn text_of(alloc: Global, found: &ArgMatches<'_>, name: &str) -> Result<Option<String>, AllocError>
+pub(crate) fn text_of(
+    alloc: Global,
+    found: &ArgMatches<'_>,
+    name: &str,
+) -> Result<Option<String>, AllocError>
     ensures { IfOk result (IsTextIf (rows_of (found_of found.now)) name.now) }
 {
     match found.get_str(name) {
@@ -315,6 +333,7 @@ fn node_task(
         most_clients,
         connect_within,
         limits,
+        users: users_of(alloc, found)?,
         mqtt3: found.get_flag("mqtt3"),
         log: found.get_flag("log"),
         status: text_of(alloc, found, "status")?,
@@ -360,6 +379,16 @@ fn check_task(alloc: Global, found: &ArgMatches<'_>) -> Result<Option<Task>, All
         node,
         database,
     }))
+}
+
+fn password_task(alloc: Global, found: &ArgMatches<'_>) -> Result<Option<Task>, AllocError>
+    ensures { IfOk result (λ task. IfSome task (IsPassword (rows_of (found_of found.now)))) }
+{
+    let Some(name) = found.get_str("NAME") else {
+        return Ok(None);
+    };
+    let name = String::from_str(alloc, name)?;
+    Ok(Some(Task::Password { name }))
 }
 
 /// What the program says where a parse gives no task.

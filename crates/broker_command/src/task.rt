@@ -19,6 +19,17 @@ pub struct AskedLimits {
     pub careful: bool,
 }
 
+/// Who may come, as a command line says.
+#[derive(Debug, PartialEq, Eq, Drop)]
+pub struct AskedUsers {
+    /// The path of the file of users. None: anyone may come.
+    pub users: Option<String>,
+    /// The path of the file of permissions. None: who may come may do all.
+    pub permissions: Option<String>,
+    /// Whether clients without a user name are let in where there are users.
+    pub anonymous: bool,
+}
+
 /// What a command line asks for.
 #[derive(Debug, PartialEq, Eq, Drop)]
 pub enum Task {
@@ -48,6 +59,8 @@ pub enum Task {
         connect_within: Option<u32>,
         /// Limits on what clients send.
         limits: AskedLimits,
+        /// Who may come.
+        users: AskedUsers,
         /// Whether clients of MQTT 3.1.1 and 3.1 are served too.
         mqtt3: bool,
         /// Whether a log is written to standard error.
@@ -60,6 +73,11 @@ pub enum Task {
         listen: Option<String>,
         /// Where it waits for other nodes, if not at the address of its bridge.
         bridge_listen: Option<String>,
+    },
+    /// Print the line of a user in a file of users, for the password on standard input.
+    Password {
+        /// The user name.
+        name: String,
     },
     /// Tell what the rows of a node that is down hold.
     Check {

@@ -1,12 +1,13 @@
 //! What each command runs.
 
 use crate::limits::bounds_of;
-use broker_command::Task;
+use broker_command::{AskedUsers, Task};
 use broker_sockets::RealSockets;
-use cli_files::read_script;
+use cli_files::{print_user_line, read_access, read_password, read_script};
 use cli_reports::check;
 use cli_stops::Ending;
 use door_limits::Limits;
+use door_users::FileAccess;
 use node_server::ListenAt;
 use script_loopback::loop_script;
 use script_runs::run_script;
@@ -25,6 +26,7 @@ pub fn run_task(rt: &HostRuntime, task: Task) -> Result<(), Ending> {
             most_clients,
             connect_within,
             limits,
+            users,
             mqtt3,
             log,
             status,
@@ -40,6 +42,7 @@ pub fn run_task(rt: &HostRuntime, task: Task) -> Result<(), Ending> {
                 clients: listen.as_ref().map(|address| address.as_str()),
                 nodes: bridge_listen.as_ref().map(|address| address.as_str()),
             },
+            access_of(rt, &users)?,
             bounds_of(&limits),
             Limits::new(most_clients, connect_within),
             mqtt3,
@@ -47,6 +50,7 @@ pub fn run_task(rt: &HostRuntime, task: Task) -> Result<(), Ending> {
             status_at(&status, &status_hosts),
             turns,
         ),
+        Task::Password { name } => password(rt, name.as_str()),
         Task::Check {
             configuration,
             node,
@@ -69,6 +73,24 @@ fn status_at<'a>(address: &'a Option<String>, hosts: &'a Option<String>) -> Opti
         None => "",
     };
     Some(StatusAt { address, hosts })
+}
+
+/// Who may come, by the files that a command line names.
+fn access_of(rt: &HostRuntime, users: &AskedUsers) -> Result<Option<FileAccess>, Ending> {
+    let access = read_access(
+        rt,
+        users.users.as_ref().map(|path| path.as_str()),
+        users.permissions.as_ref().map(|path| path.as_str()),
+        users.anonymous,
+    )?;
+    Ok(access)
+}
+
+/// Prints the line of a user of this name, for the password on standard input.
+fn password(rt: &HostRuntime, name: &str) -> Result<(), Ending> {
+    let line = read_password(rt)?;
+    print_user_line(rt, name, line.as_slice(), &mut rt.stdout())?;
+    Ok(())
 }
 
 /// Runs the script in a file, in memory.

@@ -2,4 +2,6 @@ pub mod Flaws
 pub mod Judging
 pub mod Laws
 pub mod Looking
+pub mod Passwords
+pub mod Users
 pub mod Watching

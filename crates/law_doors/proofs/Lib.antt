@@ -1,6 +1,9 @@
 pub mod Bounds
 pub mod Calls
 pub mod Following
+pub mod GuardFollowing
+pub mod GuardStopping
+pub mod Guards
 pub mod Levels
 pub mod Limits
 pub mod Noting

@@ -1,4 +1,5 @@
 pub mod Bounds
 pub mod Calls
+pub mod Guards
 pub mod Levels
 pub mod Limits

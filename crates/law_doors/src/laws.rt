@@ -1,12 +1,15 @@
 //! The laws.
 ghost use Rattle.law_doors.specs.Bounds.{BoundsOff, BoundsTell};
+ghost use Rattle.law_doors.specs.Guards.{GuardsFollow, GuardsOff, GuardsStop, GuardsTell};
 ghost use Rattle.law_doors.specs.Levels.{LevelsFollow, LevelsOff, LevelsTell};
 ghost use Rattle.law_doors.specs.Limits.{LimitsOff, LimitsTell};
 
 use broker_sockets::{BridgeHandler, Handler};
 use door_bounds::{Bounded, Gauge};
+use door_guard::Guarded;
 use door_limits::Limited;
 use door_mqtt3::Mqtt3;
+use door_packets::Access;
 
 /// Whatever calls are made of a handler with limits on clients, they are these calls of the handler inside: each event, but those of a client that found no
 /// room, and that a client is gone that waited too long. What goes out is what the handler inside gave out, and the closes of these two.
@@ -22,6 +25,19 @@ pub fn bounds_tell<H: BridgeHandler, G: Gauge>()
     ensures tells { BoundsTell H.handles H.hears H.settles
         ⟦<Bounded<H, G> as Handler>⟧.handles ⟦<Bounded<H, G> as BridgeHandler>⟧.hears ⟦<Bounded<H, G> as Handler>⟧.settles }
     ensures off { BoundsOff }
+{}
+
+/// Whatever calls are made of a handler with users, or without, they are these calls of the handler inside: each event, where of a client nothing comes before it
+/// is let in, and then those packets alone that its user may send. Of each connection it is told that, in order, and what goes out is what it gave, as far as
+/// the user may read that, and what answers the rest. Where it stops with a fault of the handler inside, that stopped so.
+pub fn guards_tell<H: BridgeHandler, A: Access>()
+    ensures tells { GuardsTell A.rights H.handles H.hears H.settles
+        ⟦<Guarded<H, A> as Handler>⟧.handles ⟦<Guarded<H, A> as BridgeHandler>⟧.hears ⟦<Guarded<H, A> as Handler>⟧.settles }
+    ensures follow { GuardsFollow A.rights }
+    ensures off { GuardsOff A.rights }
+    ensures stop { GuardsStop H.handles H.hears H.settles H.refuses H.declines H.stops
+        ⟦<Guarded<H, A> as Handler>⟧.handles ⟦<Guarded<H, A> as BridgeHandler>⟧.hears ⟦<Guarded<H, A> as Handler>⟧.settles
+        ⟦<Guarded<H, A> as Handler>⟧.refuses ⟦<Guarded<H, A> as BridgeHandler>⟧.declines ⟦<Guarded<H, A> as Handler>⟧.stops }
 {}
 
 /// Whatever calls are made of a handler that translates, or doesn't, they are these calls of the handler inside: each event, where bytes of a client of a

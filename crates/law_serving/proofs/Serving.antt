@@ -18,6 +18,11 @@ use Rattle.broker_turns.specs.Turns.{Site as Seat}
 use Rattle.door_bounds.specs.Faults.{IsCutOff as IsCutOffWithin}
 use Rattle.door_bounds.specs.Views.{inside_of as bounded_in}
 use Rattle.door_bounds.specs.declared.fault.BoundedFault.TheVariants as of_bounds
+use Rattle.door_guard.specs.Answering.{IsAnswered as IsGuarded, IsHeard as IsGuardedOfPeers, IsSettled as IsSettledWithUsers}
+use Rattle.door_guard.specs.Faults.{IsCutOff as IsCutOffGuarded}
+use Rattle.door_guard.specs.Views.{inside_of as guarded_in}
+use Rattle.door_guard.specs.declared.fault.GuardFault.TheVariants as of_guards
+use Rattle.door_users.specs.Files.{rights_of}
 use Rattle.door_limits.specs.Faults.{IsCutOff as IsCutOffLimited}
 use Rattle.door_limits.specs.Views.{inside_of as limited_in}
 use Rattle.door_limits.specs.declared.fault.LimitedFault.TheVariants as of_limits
@@ -35,10 +40,12 @@ use Rattle.door_limits.specs.Answering.{IsAnswered as IsLimited, IsHeard as IsLi
 use Rattle.door_log.specs.Answering.{IsAnswered as IsNoted, IsHeard as IsNotedOfPeers, IsSettled as IsSettledBefore}
 use Rattle.door_log.specs.Views.{inside_of as logged_in}
 use Rattle.law_doors.proofs.Bounds.{bounds_tell}
+use Rattle.law_doors.proofs.Guards.{guards_tell}
 use Rattle.law_doors.proofs.Levels.{levels_tell}
 use Rattle.law_doors.proofs.Limits.{limits_tell}
 use Rattle.law_doors.specs.Bounds.{Bounds_pass}
 use Rattle.law_doors.specs.Calls.{AreCalled, Call}
+use Rattle.law_doors.specs.Guards.{Guards_pass}
 use Rattle.law_doors.specs.Levels.{Levels_pass}
 use Rattle.law_doors.specs.Limits.{Limits_pass}
 use Rattle.home_table.specs.Table.{Table}
@@ -47,7 +54,7 @@ use Rattle.door_mqtt3.specs.Views.{clients_of, inside_of as translated_in}
 use Rattle.node_server.specs.declared.served.ServedNode.{ServedNode}
 use Rattle.node_server.specs.Events.{event_of, peer_event_of, table_event}
 use Rattle.node_server.specs.Serving.{IsAnsweredToAll, IsAnsweredToClients, IsCommitted, IsCutOff}
-use Rattle.node_server.specs.Stack.{BoundedNode, BoundedNodeFault, LimitedNode, LimitedNodeFault, LoggedNode, LoggedNodeFault, NodeFault, TabledNode}
+use Rattle.node_server.specs.Stack.{BoundedNode, BoundedNodeFault, GuardedNode, GuardedNodeFault, LimitedNode, LimitedNodeFault, LoggedNode, LoggedNodeFault, NodeFault, TabledNode}
 use Rattle.node_server.specs.Views.{keeper_of}
 use Rattle.row_store.specs.Rows.{Content}
 use Rattle.law_serving.specs.Sockets.{Door}
@@ -66,7 +73,7 @@ use Rattle.law_serving.proofs.Turning.{serving_is_a_trace}
 use Rattle.law_serving.proofs.Walking.{through_join}
 use Rattle.law_serving.proofs.Passing.{as_table_calls, called_within, hub_called, hub_rests, passed_rests, rests_in, tables_rest}
 use Rattle.law_serving.proofs.Running.{made_is_run, rests_after}
-use Rattle.law_serving.specs.Doors.{ArePassedDown, Whole, as_table_call, bounds_in, calls_of, limits_in, node_in}
+use Rattle.law_serving.specs.Doors.{ArePassedDown, Whole, as_table_call, bounds_in, calls_of, guards_in, limits_in, node_in}
 use Rattle.law_serving.specs.Serving.{ServeIsARun, hub_calls}
 
 -- ---- when the handler rests
@@ -95,31 +102,38 @@ module _ {R F : Type 0} (stops : ServedNode R → KeeperFault → ServedNode R �
   abbrev NodeStops : TabledNode R F → TabledNode R F → Type 0
   NodeStops d d' = (fault : KeeperFault) × stops (tabled_in d) fault (tabled_in d')
 
-  module _ {G : Type 0} where
-    within_bounds : (d d' : BoundedNode R F G) (fault : BoundedNodeFault) → IsCutOffWithin Tables_stop d fault d' → NodeStops (bounded_in d) (bounded_in d')
-    within_bounds d d' of_bounds.NoMemory is = absurd is
-    within_bounds d d' (of_bounds.Inside fault) is = (fault, is)
+  abbrev Guards_stop : GuardedNode R F → GuardedNodeFault → GuardedNode R F → Type 0
+  Guards_stop = IsCutOffGuarded Tables_stop
 
-    within_limits : (d d' : LimitedNode R F G) (fault : LimitedNodeFault) → IsCutOffLimited (IsCutOffWithin Tables_stop) d fault d' → NodeStops (bounded_in (limited_in d)) (bounded_in (limited_in d'))
+  within_guards : (d d' : GuardedNode R F) (fault : GuardedNodeFault) → Guards_stop d fault d' → NodeStops (guarded_in d) (guarded_in d')
+  within_guards d d' of_guards.NoMemory is = absurd is
+  within_guards d d' (of_guards.Inside fault) is = (fault, is)
+
+  module _ {G : Type 0} where
+    within_bounds : (d d' : BoundedNode R F G) (fault : BoundedNodeFault) → IsCutOffWithin Guards_stop d fault d' → NodeStops (guarded_in (bounded_in d)) (guarded_in (bounded_in d'))
+    within_bounds d d' of_bounds.NoMemory is = absurd is
+    within_bounds d d' (of_bounds.Inside fault) is = within_guards (bounded_in d) (bounded_in d') fault is
+
+    within_limits : (d d' : LimitedNode R F G) (fault : LimitedNodeFault) → IsCutOffLimited (IsCutOffWithin Guards_stop) d fault d' → NodeStops (guarded_in (bounded_in (limited_in d))) (guarded_in (bounded_in (limited_in d')))
     within_limits d d' of_limits.NoMemory is = absurd is
     within_limits d d' (of_limits.Inside fault) is = within_bounds (limited_in d) (limited_in d') fault is
 
-    behind_log : {E : Type 0} (d d' : LoggedNode R F G E) (fault : LoggedNodeFault) → IsCutOffBefore (IsCutOffLimited (IsCutOffWithin Tables_stop)) d fault d' → NodeStops (bounded_in (limited_in (logged_in d))) (bounded_in (limited_in (logged_in d')))
+    behind_log : {E : Type 0} (d d' : LoggedNode R F G E) (fault : LoggedNodeFault) → IsCutOffBefore (IsCutOffLimited (IsCutOffWithin Guards_stop)) d fault d' → NodeStops (guarded_in (bounded_in (limited_in (logged_in d)))) (guarded_in (bounded_in (limited_in (logged_in d'))))
     behind_log d d' of_log.NoMemory is = absurd is
     behind_log d d' (of_log.Inside fault) is = within_limits (logged_in d) (logged_in d') fault is
 
     module _ {E W : Type 0} where
       abbrev Door_stops : Door R F G E W → LoggedNodeFault → Door R F G E W → Type 0
-      Door_stops d fault d' = IsStoppedBehind (IsCutOffBefore (IsCutOffLimited (IsCutOffWithin Tables_stop))) (looked_at d) fault (looked_at d')
+      Door_stops d fault d' = IsStoppedBehind (IsCutOffBefore (IsCutOffLimited (IsCutOffWithin Guards_stop))) (looked_at d) fault (looked_at d')
 
       abbrev Whole_stops : Whole R F G E W → NodeFault → Whole R F G E W → Type 0
       Whole_stops d fault d' = IsCutOffTranslated Door_stops d fault d'
 
-      node_stops : (d d' : Whole R F G E W) (fault : NodeFault) → Whole_stops d fault d' → NodeStops (bounded_in (bounds_in d)) (bounded_in (bounds_in d'))
+      node_stops : (d d' : Whole R F G E W) (fault : NodeFault) → Whole_stops d fault d' → NodeStops (guarded_in (guards_in d)) (guarded_in (guards_in d'))
       node_stops d d' of_levels.NoMemory is = absurd is
       node_stops d d' (of_levels.Inside fault) is = behind_log (counted_in (looked_at (translated_in d))) (counted_in (looked_at (translated_in d'))) fault is.stopped
 
-      turn_stops : (d d' : Whole R F G E W) (fault : TurnFault NodeFault) → IsUnsettled Whole_stops d d' fault → NodeStops (bounded_in (bounds_in d)) (bounded_in (bounds_in d'))
+      turn_stops : (d d' : Whole R F G E W) (fault : TurnFault NodeFault) → IsUnsettled Whole_stops d d' fault → NodeStops (guarded_in (guards_in d)) (guarded_in (guards_in d'))
       turn_stops d d' NoMemory is = absurd is
       turn_stops d d' (Handler fault) is = node_stops d d' fault is
 
@@ -144,15 +158,24 @@ module _ {R : Type 0} (is_clean is_open : R → Type 0) (content : R → Content
     abbrev Tables_settle : TabledNode R F → TabledNode R F → Type 0
     Tables_settle = IsSettledWithTables settles
 
+    abbrev Guards_handle : GuardedNode R F → Event → List Output → GuardedNode R F → Type 0
+    Guards_handle = IsGuarded Tables_handle rights_of
+
+    abbrev Guards_hear : GuardedNode R F → PeerEvent → Given → GuardedNode R F → Type 0
+    Guards_hear = IsGuardedOfPeers Tables_hear rights_of
+
+    abbrev Guards_settle : GuardedNode R F → GuardedNode R F → Type 0
+    Guards_settle = IsSettledWithUsers Tables_settle
+
     module _ {G : Type 0} where
       abbrev Bounds_handle : BoundedNode R F G → Event → List Output → BoundedNode R F G → Type 0
-      Bounds_handle = IsBounded Tables_handle
+      Bounds_handle = IsBounded Guards_handle
 
       abbrev Bounds_hear : BoundedNode R F G → PeerEvent → Given → BoundedNode R F G → Type 0
-      Bounds_hear = IsBoundedOfPeers Tables_hear
+      Bounds_hear = IsBoundedOfPeers Guards_hear
 
       abbrev Bounds_settle : BoundedNode R F G → BoundedNode R F G → Type 0
-      Bounds_settle = IsSettledWithin Tables_settle
+      Bounds_settle = IsSettledWithin Guards_settle
 
       abbrev Limits_handle : LimitedNode R F G → Event → List Output → LimitedNode R F G → Type 0
       Limits_handle = IsLimited Bounds_handle
@@ -197,18 +220,20 @@ module _ {R : Type 0} (is_clean is_open : R → Type 0) (content : R → Content
             let at_limits = called_within open_in Limits_handle Limits_hear Limits_settle Door_handles Door_hears Door_settles
             (λ a e outputs b is. is.answered.answered) (λ a e given b is. is.heard.heard) (λ a b is. is.settled.settled) levels.0 (translated_in d) (translated_in d') levels.1 in
             let limits = limits_tell Bounds_handle Bounds_hear Bounds_settle levels.0 (limits_in d) (limits_in d') at_limits in
-            let bounds = bounds_tell Tables_handle Tables_hear Tables_settle limits.0 (bounds_in d) (bounds_in d') limits.1 in
-            let at_tables = as_table_calls Tables_handle Tables_hear Tables_settle bounds.0 _ _ bounds.1 in
-            let tables = tables_are_newer handles hears settles goes_by takes offers Tables_hear Tables_settle (λ a e given b is. is.0) (λ a b is. is.0) (map as_table_call bounds.0) _ _ at_tables in
+            let bounds = bounds_tell Guards_handle Guards_hear Guards_settle limits.0 (bounds_in d) (bounds_in d') limits.1 in
+            let guards = guards_tell rights_of Tables_handle Tables_hear Tables_settle bounds.0 (guards_in d) (guards_in d') bounds.1 in
+            let at_tables = as_table_calls Tables_handle Tables_hear Tables_settle guards.0 _ _ guards.1 in
+            let tables = tables_are_newer handles hears settles goes_by takes offers Tables_hear Tables_settle (λ a e given b is. is.0) (λ a b is. is.0) (map as_table_call guards.0) _ _ at_tables in
             record {
               made = tables.0;
               are = tables.2;
-              passed = record { translated = levels.0; levels = levels.2; let_in = limits.0; limits = limits.2; within = bounds.0; bounds = bounds.2; tables = tables.1 };
+              passed = record { translated = levels.0; levels = levels.2; let_in = limits.0; limits = limits.2; within = bounds.0; bounds = bounds.2; of_users = guards.0; guards = guards.2; tables = tables.1 };
               rests = λ is.
                   let one = passed_rests Levels_pass (λ k k' first p. p.0) hub (clients_of d) (clients_of d') levels.0 true true levels.2 (λ x. x) is in
                   let two = passed_rests (Limits_pass _) (λ k k' first p. p.0) levels.0 _ _ limits.0 true true limits.2 (λ x. x) one in
                   let three = passed_rests Bounds_pass (λ k k' first p. p.0) limits.0 _ _ bounds.0 true true bounds.2 (λ x. x) two in
-                  tables_rest bounds.0 tables.0 tables.1 three;
+                  let four = passed_rests (Guards_pass rights_of) (λ k k' first p. p.0) bounds.0 _ _ guards.0 true true guards.2 (λ x. x) three in
+                  tables_rest guards.0 tables.0 tables.1 four;
             }
 
         module _ {S L T C : Type 0}

@@ -19,6 +19,10 @@ use Rattle.door_bounds.specs.Answering.{IsAnswered as IsBounded, IsHeard as IsBo
 use Rattle.door_bounds.specs.Telling.{AreTold as AreTalkedOf, Told as Talked}
 use Rattle.door_bounds.specs.Views.{inside_of as bounded_in}
 use Rattle.door_bounds.proofs.Following.{some_told}
+use Rattle.door_guard.specs.Answering.{IsAnswered as IsGuarded, IsHeard as IsGuardedOfPeers, IsSettled as IsSettledWithUsers}
+use Rattle.door_guard.specs.Telling.{AreTold as AreGuardedOf, Told as Passed}
+use Rattle.door_guard.specs.Views.{inside_of as guarded_in}
+use Rattle.door_guard.proofs.Calling.{some_heard, some_told as some_passed}
 use Rattle.door_log.specs.Answering.{IsAnswered as IsNoted, IsHeard as IsNotedOfPeers, IsSettled as IsSettledBefore}
 use Rattle.door_log.specs.Views.{inside_of as limited_in}
 use Rattle.home_table.specs.Table.{Table}
@@ -35,7 +39,7 @@ use Rattle.node_keeper.specs.BatchViews.{node_in, rows_in}
 use Rattle.node_server.specs.declared.served.ServedNode.{ServedNode}
 use Rattle.node_server.specs.Events.{event_of, peer_event_of, table_event}
 use Rattle.node_server.specs.Serving.{IsAnsweredToAll, IsAnsweredToClients, IsCommitted}
-use Rattle.node_server.specs.Stack.{BoundedNode, LimitedNode, TabledNode, node_behind}
+use Rattle.node_server.specs.Stack.{BoundedNode, GuardedNode, LimitedNode, TabledNode, node_behind}
 use Rattle.node_server.specs.Views.{keeper_of}
 use Rattle.row_store.specs.Rows.{Content}
 use Rattle.law_serving.proofs.Joining.{changed_over, run_over, taken_join}
@@ -44,6 +48,7 @@ use Rattle.law_serving.proofs.Settling.{settled_is_run, taken_rows}
 use Rattle.law_serving.specs.Settling.{EventsAreTaken, TurnBegins, served_site}
 use Rattle.law_serving.specs.Sockets.{Door, HasCommitted, SocketTurnIsRun, HasTakenSince, StartIsTaken, served_in}
 use Rattle.law_serving.specs.Turns.{IsRunOf, frames_of}
+use Rattle.door_users.specs.Files.{rights_of}
 
 -- ---- what is taken
 
@@ -159,25 +164,41 @@ module _ {R : Type 0} (is_clean is_open : R → Type 0) (content : R → Content
     taken_tabled : (t : TabledNode R F) (e : Told) (outputs : List Handed) (t' : TabledNode R F) → Tables t e outputs t' → Taken (tabled_in t) (tabled_in t')
     taken_tabled t e outputs t' is = taken_ticked (may_bring e.kind) t e outputs t' is
 
+    -- ---- behind users
+
+    taken_passed : (told : List Passed) (t t' : TabledNode R F) → AreGuardedOf Tables told t t' → Taken (tabled_in t) (tabled_in t')
+    taken_passed [] t t' same = taken_none (tabled_in t) (tabled_in t') (ap (λ (x : TabledNode R F). tabled_in x) same)
+    taken_passed (e ∷ more) t t' all =
+        taken_over (tabled_in t) (tabled_in all.0) (tabled_in t') (taken_tabled t e.0 e.1 all.0 all.1) (taken_passed more all.0 t' all.2)
+
+    abbrev Guards : GuardedNode R F → Told → List Handed → GuardedNode R F → Type 0
+    Guards g e outputs g' = IsGuarded Tables rights_of g e outputs g'
+
+    abbrev in_guard : GuardedNode R F → ServedNode R
+    in_guard g = tabled_in (guarded_in g)
+
+    taken_guarded : (g : GuardedNode R F) (e : Told) (outputs : List Handed) (g' : GuardedNode R F) → Guards g e outputs g' → Taken (in_guard g) (in_guard g')
+    taken_guarded g e outputs g' is = let told = some_passed Tables rights_of g e outputs g' is in taken_passed told.0 (guarded_in g) (guarded_in g') told.1
+
     -- ---- behind limits on what clients send
 
-    taken_talked : (told : List Talked) (t t' : TabledNode R F) → AreTalkedOf Tables told t t' → Taken (tabled_in t) (tabled_in t')
-    taken_talked [] t t' same = taken_none (tabled_in t) (tabled_in t') (ap (λ (x : TabledNode R F). tabled_in x) same)
-    taken_talked (e ∷ more) t t' all =
-        taken_over (tabled_in t) (tabled_in all.0) (tabled_in t') (taken_tabled t e.0 e.1 all.0 all.1) (taken_talked more all.0 t' all.2)
+    taken_talked : (told : List Talked) (g g' : GuardedNode R F) → AreTalkedOf Guards told g g' → Taken (in_guard g) (in_guard g')
+    taken_talked [] g g' same = taken_none (in_guard g) (in_guard g') (ap (λ (x : GuardedNode R F). in_guard x) same)
+    taken_talked (e ∷ more) g g' all =
+        taken_over (in_guard g) (in_guard all.0) (in_guard g') (taken_guarded g e.0 e.1 all.0 all.1) (taken_talked more all.0 g' all.2)
 
     abbrev Answers : (G : Type 0) → BoundedNode R F G → Told → List Handed → BoundedNode R F G → Type 0
-    Answers G b e outputs b' = IsBounded Tables b e outputs b'
+    Answers G b e outputs b' = IsBounded Guards b e outputs b'
 
     abbrev Hears : (G : Type 0) → BoundedNode R F G → PeerEvent → Given → BoundedNode R F G → Type 0
-    Hears G b e given b' = IsBoundedOfPeers (IsTabledOfPeers hears) b e given b'
+    Hears G b e given b' = IsBoundedOfPeers (IsGuardedOfPeers (IsTabledOfPeers hears) rights_of) b e given b'
 
     abbrev Settles : (G : Type 0) → BoundedNode R F G → BoundedNode R F G → Type 0
-    Settles G b b' = IsSettledWithin (IsSettledWithTables settles) b b'
+    Settles G b b' = IsSettledWithin (IsSettledWithUsers (IsSettledWithTables settles)) b b'
 
     taken_bounded : {G : Type 0} (b : BoundedNode R F G) (e : Told) (outputs : List Handed) (b' : BoundedNode R F G) → Answers G b e outputs b'
-        → Taken (tabled_in (bounded_in b)) (tabled_in (bounded_in b'))
-    taken_bounded b e outputs b' is = let told = some_told Tables b e outputs b' is in taken_talked told.0 (bounded_in b) (bounded_in b') told.1
+        → Taken (in_guard (bounded_in b)) (in_guard (bounded_in b'))
+    taken_bounded b e outputs b' is = let told = some_told Guards b e outputs b' is in taken_talked told.0 (bounded_in b) (bounded_in b') told.1
 
     -- ---- and behind limits on clients
 
@@ -208,13 +229,14 @@ module _ {R : Type 0} (is_clean is_open : R → Type 0) (content : R → Content
     taken_all {G = G} (Of_client e outputs ∷ more) d d' all =
         taken_over (node_behind d) (node_behind all.0) (node_behind d') (taken_answered d e outputs all.0 all.1) (taken_all more all.0 d' all.2)
     taken_all {G = G} (Of_peer e given ∷ more) d d' all =
-        taken_over (node_behind d) (node_behind all.0) (node_behind d') (taken_heard (node_behind d) e given (node_behind all.0) all.1.heard.0.0) (taken_all more all.0 d' all.2)
+        let heard = some_heard (IsTabledOfPeers hears) rights_of (bounded_in (inside_of d)) e given (bounded_in (inside_of all.0)) all.1.heard.0 in
+        taken_over (node_behind d) (node_behind all.0) (node_behind d') (taken_heard (node_behind d) e heard.0 (node_behind all.0) heard.1.0) (taken_all more all.0 d' all.2)
 
     runs_all : {G : Type 0} (lost : List (Told × List Handed)) (d d' : LimitedNode R F G) → AreSettled (IsAnswered (Answers G)) (IsSettled (Settles G)) lost d d' → Runs (node_behind d) (node_behind d')
     runs_all {G = G} [] d d' same = runs_none (node_behind d) (node_behind d') (ap (λ (x : LimitedNode R F G). node_behind x) same)
     runs_all {G = G} (t ∷ more) d d' all =
         runs_over (node_behind d) (node_behind all.1) (node_behind d')
-        (runs_once (node_behind d) (node_behind all.0) (node_behind all.1) (taken_answered d t.0 t.1 all.0 all.2) (by_commit (node_behind all.0) (node_behind all.1) all.3.settled.0.0)) (runs_all more all.1 d' all.4)
+        (runs_once (node_behind d) (node_behind all.0) (node_behind all.1) (taken_answered d t.0 t.1 all.0 all.2) (by_commit (node_behind all.0) (node_behind all.1) all.3.settled.0.0.0)) (runs_all more all.1 d' all.4)
 
     -- ---- and behind the others: the log, the tally, and whoever looks
 
@@ -267,7 +289,7 @@ module _ {R : Type 0} (is_clean is_open : R → Type 0) (content : R → Content
           let all = taken_all t.told was_bounded last_bounded (told_within t.told before_all t.last t.all) in
           let last = node_behind last_bounded in
           let settled = node_behind settled_bounded in
-          let commit = by_commit last settled t.first.settled.settled.settled.0.0 in
+          let commit = by_commit last settled t.first.settled.settled.settled.0.0.0 in
           let on = runs_all t.lost settled_bounded is_bounded (settled_within contents t.lost t.settled after_all t.then) in
           let was = on.0 clean in
           let answered = pending ++ all.0 in

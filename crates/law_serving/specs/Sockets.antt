@@ -25,7 +25,7 @@ use Rattle.status_tally.specs.Views.{inside_of as logged_in}
 use Rattle.law_serving.specs.Settling.{EventsAreTaken, TurnBegins, served_site}
 use Rattle.law_serving.specs.Turns.{IsRunOf, frames_of}
 
--- a served node behind newer tables of homes, limits, a log and counts, and behind somebody who looks at it
+-- a served node behind newer tables of homes, users, limits, a log and counts, and behind somebody who looks at it
 abbrev pub Door : Type 0 → Type 0 → Type 0 → Type 0 → Type 0 → Type 0
 Door R F G E W = Viewed (TalliedNode R F G E) W
 

@@ -4,12 +4,13 @@ use Rattle.cli_stops.specs.declared.run_fault.RunFault.TheVariants as runs
 use Rattle.broker_turns.specs.declared.turn.TurnFault.{TurnFault}
 use Rattle.broker_turns.specs.declared.turn.TurnFault.TheVariants as turns
 use Rattle.door_bounds.specs.declared.fault.BoundedFault.TheVariants as bounds
+use Rattle.door_guard.specs.declared.fault.GuardFault.TheVariants as guards
 use Rattle.door_limits.specs.declared.fault.LimitedFault.TheVariants as limits
 use Rattle.door_log.specs.declared.fault.LoggedFault.TheVariants as logs
 use Rattle.door_mqtt3.specs.declared.fault.Mqtt3Fault.TheVariants as wraps
 use Rattle.node_keeper.specs.declared.fault.KeeperFault.{KeeperFault}
 use Rattle.node_keeper.specs.declared.fault.KeeperFault.TheVariants as keepers
-use Rattle.node_server.specs.Stack.{BoundedNodeFault, LimitedNodeFault, LoggedNodeFault, NodeFault}
+use Rattle.node_server.specs.Stack.{BoundedNodeFault, GuardedNodeFault, LimitedNodeFault, LoggedNodeFault, NodeFault}
 
 -- a fault of the node
 abbrev pub of_node : KeeperFault → RunFault
@@ -18,10 +19,15 @@ of_node (keepers.Rows fault) = runs.Rows
 of_node keepers.NumbersAtEnd = runs.NumbersAtEnd
 of_node keepers.Stopped = runs.Stopped
 
+-- a fault of the node behind users
+abbrev pub of_guarded : GuardedNodeFault → RunFault
+of_guarded guards.NoMemory = runs.NoMemory
+of_guarded (guards.Inside fault) = of_node fault
+
 -- a fault of the node behind limits on what clients send
 abbrev pub of_bounded : BoundedNodeFault → RunFault
 of_bounded bounds.NoMemory = runs.NoMemory
-of_bounded (bounds.Inside fault) = of_node fault
+of_bounded (bounds.Inside fault) = of_guarded fault
 
 -- a fault of the node behind limits on clients
 abbrev pub of_limited : LimitedNodeFault → RunFault

@@ -1,7 +1,10 @@
--- A served node behind its handlers: newer tables of homes, limits on what clients send, limits on clients, a log, and counts.
+-- A served node behind its handlers: newer tables of homes, users, limits on what clients send, limits on clients, a log, and counts.
 use Rattle.door_bounds.specs.Views.{inside_of as bounded_in}
 use Rattle.door_bounds.specs.declared.bounded.Bounded.{Bounded}
 use Rattle.door_bounds.specs.declared.fault.BoundedFault.{BoundedFault}
+use Rattle.door_guard.specs.Views.{inside_of as guarded_in}
+use Rattle.door_guard.specs.declared.fault.GuardFault.{GuardFault}
+use Rattle.door_guard.specs.declared.guarded.Guarded.{Guarded}
 use Rattle.door_limits.specs.Views.{inside_of as limited_in}
 use Rattle.door_limits.specs.declared.fault.LimitedFault.{LimitedFault}
 use Rattle.door_limits.specs.declared.limited.Limited.{Limited}
@@ -13,12 +16,16 @@ use Rattle.node_server.specs.declared.served.ServedNode.{ServedNode}
 use Rattle.status_tally.specs.declared.tallied.Tallied.{Tallied}
 use Rattle.door_tables.specs.Views.{inside_of as tabled_in}
 use Rattle.door_tables.specs.declared.door.Tabled.{Tabled}
+use Rattle.door_users.specs.declared.file_access.FileAccess.{FileAccess}
 
 abbrev pub TabledNode : Type 0 → Type 0 → Type 0
 TabledNode R F = Tabled (ServedNode R) F
 
+abbrev pub GuardedNode : Type 0 → Type 0 → Type 0
+GuardedNode R F = Guarded (TabledNode R F) FileAccess
+
 abbrev pub BoundedNode : Type 0 → Type 0 → Type 0 → Type 0
-BoundedNode R F G = Bounded (TabledNode R F) G
+BoundedNode R F G = Bounded (GuardedNode R F) G
 
 abbrev pub LimitedNode : Type 0 → Type 0 → Type 0 → Type 0
 LimitedNode R F G = Limited (BoundedNode R F G)
@@ -29,14 +36,17 @@ LoggedNode R F G E = Logged (LimitedNode R F G) E
 abbrev pub TalliedNode : Type 0 → Type 0 → Type 0 → Type 0 → Type 0
 TalliedNode R F G E = Tallied (LoggedNode R F G E)
 
--- the served node behind limits, and behind a door for tables
+-- the served node behind limits, behind users, and behind a door for tables
 abbrev pub node_behind : {R F G : Type 0} → LimitedNode R F G → ServedNode R
-node_behind d = tabled_in (bounded_in (limited_in d))
+node_behind d = tabled_in (guarded_in (bounded_in (limited_in d)))
 
 -- ---- why it stops
 
+abbrev pub GuardedNodeFault : Type 0
+GuardedNodeFault = GuardFault KeeperFault
+
 abbrev pub BoundedNodeFault : Type 0
-BoundedNodeFault = BoundedFault KeeperFault
+BoundedNodeFault = BoundedFault GuardedNodeFault
 
 abbrev pub LimitedNodeFault : Type 0
 LimitedNodeFault = LimitedFault BoundedNodeFault

@@ -1,12 +1,15 @@
 //! Why a run of a node ends before its end.
 
 ghost use Rattle.std.specs.Prelude.{◌≡◌};
-ghost use Rattle.node_server.specs.Faults.{of_bounded, of_limited, of_logged, of_mqtt3, of_node, of_turn};
+ghost use Rattle.node_server.specs.Faults.{of_bounded, of_guarded, of_limited, of_logged, of_mqtt3, of_node, of_turn};
 
-use crate::stack::{BoundedNodeFault, LimitedNodeFault, LoggedNodeFault, NodeFault};
+use crate::stack::{
+    BoundedNodeFault, GuardedNodeFault, LimitedNodeFault, LoggedNodeFault, NodeFault,
+};
 use broker_turns::TurnFault;
 use cli_stops::RunFault;
 use door_bounds::BoundedFault;
+use door_guard::GuardFault;
 use door_limits::LimitedFault;
 use door_log::LoggedFault;
 use door_mqtt3::Mqtt3Fault;
@@ -24,13 +27,23 @@ pub(crate) fn of_node(fault: KeeperFault) -> RunFault
     }
 }
 
+/// A fault of the node behind users, as one of the run.
+pub(crate) fn of_guarded(fault: GuardedNodeFault) -> RunFault
+    ensures { result ≡ of_guarded fault }
+{
+    match fault {
+        GuardFault::NoMemory => RunFault::NoMemory,
+        GuardFault::Inside(fault) => of_node(fault),
+    }
+}
+
 /// A fault of the node behind limits on what clients send, as one of the run.
 pub(crate) fn of_bounded(fault: BoundedNodeFault) -> RunFault
     ensures { result ≡ of_bounded fault }
 {
     match fault {
         BoundedFault::NoMemory => RunFault::NoMemory,
-        BoundedFault::Inside(fault) => of_node(fault),
+        BoundedFault::Inside(fault) => of_guarded(fault),
     }
 }
 

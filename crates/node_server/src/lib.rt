@@ -15,6 +15,8 @@ mod watchers;
 
 pub use run::{ListenAt, serve};
 pub use served::ServedNode;
-pub use stack::{BoundedNode, LimitedNode, LoggedNode, TabledNode, TalliedNode, ViewedNode};
+pub use stack::{
+    BoundedNode, GuardedNode, LimitedNode, LoggedNode, TabledNode, TalliedNode, ViewedNode,
+};
 pub use status::{NodeTeller, StatusPlace};
 pub use viewed::{Viewed, Viewer, viewing_changes_nothing};

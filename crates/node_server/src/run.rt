@@ -18,10 +18,12 @@ use broker_sockets::{Clock, Readiness, Sockets, bind};
 use broker_turns::{Hub, Setting};
 use cli_stops::RunFault;
 use door_bounds::{BoundLimits, Bounded, Gauge};
+use door_guard::Guarded;
 use door_limits::{Limited, Limits};
 use door_log::Logged;
 use door_mqtt3::Mqtt3;
 use door_tables::{Tabled, Tables};
+use door_users::FileAccess;
 use home_table::HomeTable;
 use mqtt_fields::NoMemory;
 use node_keeper::Keeper;
@@ -112,7 +114,7 @@ fn tell_losses<R: RowStore, F, G, C: Clock, E: Write>(
     ensures { OnOk result (ToldLosses C.tells E.contents node.old clock.old node.new clock.new) }
 {
     let at = clock.now();
-    let losses = losses_of(&node.inside().inside().inside().inside().counts());
+    let losses = losses_of(&node.inside().inside().inside().inside().inside().counts());
     node.finish(at, &losses)
 }
 
@@ -144,7 +146,7 @@ fn tally_if(alloc: Global, wanted: bool, nodes: u16) -> Result<Option<Tally>, Ru
     }
 }
 
-/// Starts a node, to which newer tables of homes come from here, if there may be any, behind these limits on what clients send, with a gauge of memory, and
+/// Starts a node, to which newer tables of homes come from here, if there may be any, behind these users, if there are any, these limits on what clients send, with a gauge of memory, and
 /// these on clients, behind a log, if there is a writer for that, and behind a status, if there is a desk for it, and makes so many turns over the clients that
 /// come and the other nodes. What the node leaves out is told while it runs, if there is a writer for that, and the log tells it where all turns were made.
 fn run_node<
@@ -163,6 +165,7 @@ fn run_node<
     setting: Setting<S::Listener>,
     keeper: Keeper<R>,
     tables: Option<F>,
+    access: Option<FileAccess>,
     bounds: (BoundLimits, G),
     limits: Limits,
     mqtt3: bool,
@@ -179,7 +182,8 @@ fn run_node<
     };
     let (asked, gauge) = bounds;
     let tabled = Tabled::new(ServedNode::new(alloc, keeper), tables);
-    let bounded = Bounded::new(alloc, asked, gauge, tabled);
+    let guarded = Guarded::new(alloc, access, tabled);
+    let bounded = Bounded::new(alloc, asked, gauge, guarded);
     let limited = Limited::new(alloc, limits, bounded);
     let logged = Logged::new(alloc, error, limited);
     let watchers = Watchers::new(alloc, desk, losses)?;
@@ -196,7 +200,7 @@ fn run_node<
 }
 
 /// Opens a node from its rows, waits at its addresses or at those that are given for clients and for other nodes, prints that it is ready, starts it behind
-/// these limits on what clients send, with a gauge of memory, and these on clients, makes so many turns, and prints that they were made. Where a writer
+/// these users, if there are any, these limits on what clients send, with a gauge of memory, and these on clients, makes so many turns, and prints that they were made. Where a writer
 /// is given for it a log is written there, and what is left out while it runs to another one; where a place is given its status is told there. Where newer
 /// tables of homes may come the node takes them.
 ///
@@ -221,6 +225,7 @@ pub fn serve<
     place: (HomeTable, u16),
     at: ListenAt<'_>,
     tables: Option<F>,
+    access: Option<FileAccess>,
     bounds: (BoundLimits, G),
     limits: Limits,
     mqtt3: bool,
@@ -243,8 +248,8 @@ pub fn serve<
     let desk = desk_at(alloc, status, clock)?;
     tell_ready(out, homes, id)?;
     run_node(
-        alloc, sockets, clock, setting, keeper, tables, bounds, limits, mqtt3, error, losses, desk,
-        turns,
+        alloc, sockets, clock, setting, keeper, tables, access, bounds, limits, mqtt3, error,
+        losses, desk, turns,
     )?;
     tell_turns(out, turns)
 }

@@ -69,7 +69,7 @@ impl<R: RowStore, F: Tables, G, E> Teller<TalliedNode<R, F, G, E>> for NodeTelle
         let Some(tally) = handler.tally() else {
             return Ok(None);
         };
-        let tabled = handler.inside().inside().inside().inside();
+        let tabled = handler.inside().inside().inside().inside().inside();
         let refusal = refusal_of(tabled.tables());
         let node = tabled.inside().node();
         match figures_of(

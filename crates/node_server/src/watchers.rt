@@ -51,7 +51,7 @@ impl<R: RowStore, F: Tables, G: Gauge, E: Write, S: Sockets, U: Machine, W: Writ
 
     ghost may_see = { HasWritten };
 
-    ghost settled = { λ d d' settles. settles.settled.settled.settled.0.0.nothing };
+    ghost settled = { λ d d' settles. settles.settled.settled.settled.0.0.0.nothing };
 
     /// Attends to those who ask for the status, and tells of what is left out.
     fn view(&mut self, handler: &TalliedNode<R, F, G, E>, at: u64) {
@@ -61,6 +61,7 @@ impl<R: RowStore, F: Tables, G: Gauge, E: Write, S: Sockets, U: Machine, W: Writ
         if let Some(log) = &mut self.losses {
             let losses = losses_of(
                 &handler
+                    .inside()
                     .inside()
                     .inside()
                     .inside()

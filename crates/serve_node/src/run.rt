@@ -13,6 +13,7 @@ use cli_stops::{Ending, RunFault, Stop};
 use door_bounds::{BoundLimits, ProcessMemory};
 use door_limits::Limits;
 use door_tables::Tables;
+use door_users::FileAccess;
 use home_table::HomeTable;
 use node_server::{ListenAt, StatusPlace};
 use row_database::{Wary, open_rows};
@@ -31,8 +32,8 @@ pub struct StatusAt<'a> {
     pub hosts: &'a str,
 }
 
-/// Runs the named node of a configuration, with its rows in the database at a path, waiting at its addresses or at those that are given, within limits on what clients
-/// send and on these, with a log on standard error or without, with its status told at an address or nowhere, for so many turns. Where no number is given it runs until
+/// Runs the named node of a configuration, with its rows in the database at a path, waiting at its addresses or at those that are given, for these users or
+/// for anyone, within limits on what clients send and on these, with a log on standard error or without, with its status told at an address or nowhere, for so many turns. Where no number is given it runs until
 /// the program is stopped, and takes newer tables of homes from the configuration's file.
 pub fn serve(
     rt: &HostRuntime,
@@ -40,6 +41,7 @@ pub fn serve(
     node: &str,
     database: &str,
     at: ListenAt<'_>,
+    access: Option<FileAccess>,
     bounds: BoundLimits,
     limits: Limits,
     mqtt3: bool,
@@ -65,6 +67,7 @@ pub fn serve(
             tables,
             (node, database),
             at,
+            access,
             bounds,
             limits,
             mqtt3,
@@ -100,6 +103,7 @@ fn serve_place<R: RowStore + Drop, F: Tables + Drop>(
     tables: Option<F>,
     names: (&str, &str),
     at: ListenAt<'_>,
+    access: Option<FileAccess>,
     bounds: BoundLimits,
     limits: Limits,
     mqtt3: bool,
@@ -121,6 +125,7 @@ fn serve_place<R: RowStore + Drop, F: Tables + Drop>(
         names,
         at,
         tables,
+        access,
         bounds,
         limits,
         mqtt3,
@@ -183,6 +188,7 @@ fn serve_rows<R: RowStore + Drop, F: Tables + Drop>(
     names: (&str, &str),
     at: ListenAt<'_>,
     tables: Option<F>,
+    access: Option<FileAccess>,
     bounds: BoundLimits,
     limits: Limits,
     mqtt3: bool,
@@ -210,6 +216,7 @@ fn serve_rows<R: RowStore + Drop, F: Tables + Drop>(
         place,
         at,
         tables,
+        access,
         (bounds, gauge),
         limits,
         mqtt3,

@@ -13,6 +13,8 @@ mod doors;
 #[cfg(test)]
 mod greeter;
 #[cfg(test)]
+mod guard_files;
+#[cfg(test)]
 mod guard_recorder;
 #[cfg(test)]
 mod guard_rules;

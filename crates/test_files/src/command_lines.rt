@@ -1,6 +1,6 @@
 //! Worked examples: command lines, and the tasks that they ask for or the statuses that they end with.
 
-use broker_command::{AskedLimits, Task, task_of};
+use broker_command::{AskedLimits, AskedUsers, Task, task_of};
 use std::alloc::Global;
 use std::process::Abort;
 
@@ -29,6 +29,7 @@ fn told(rt: &impl Abort, alloc: Global, line: &str) -> String {
                 most_clients,
                 connect_within,
                 limits,
+                users,
                 mqtt3,
                 log,
                 status,
@@ -48,9 +49,17 @@ fn told(rt: &impl Abort, alloc: Global, line: &str) -> String {
                 longest_expiry,
                 careful,
             } = limits;
+            let AskedUsers {
+                users,
+                permissions,
+                anonymous,
+            } = users;
+            let users = (users, permissions, anonymous);
             let packets = (longest_packet, most_filters, most_levels, most_properties);
             let limits = (most_memory, packets, longest_expiry, careful);
-            if waits != (None, None, None) {
+            if users != (None, None, false) {
+                format!(in alloc; "node {configuration} {node} {database} {options:?} {users:?}")
+            } else if waits != (None, None, None) {
                 format!(in alloc; "node {configuration} {node} {database} {options:?} {waits:?}")
             } else if limits == (None, (None, None, None, None), None, false) {
                 format!(in alloc; "node {configuration} {node} {database} {options:?}")
@@ -58,6 +67,7 @@ fn told(rt: &impl Abort, alloc: Global, line: &str) -> String {
                 format!(in alloc; "node {configuration} {node} {database} {options:?} {limits:?}")
             }
         }
+        Ok(Task::Password { name }) => format!(in alloc; "password {name}"),
         Ok(
             Task::Check {
                 configuration,
@@ -142,6 +152,15 @@ fn reads_command_lines(rt: HostRuntime) {
             "run c.toml n0 d.db --status here --status-host=n0.example,status.example",
             "node c.toml n0 d.db (None, None, None, false, false, Some(\"here\")) (Some(\"n0.example,status.example\"), None, None)",
         ),
+        (
+            "run c.toml n0 d.db --users u --permissions=p",
+            "node c.toml n0 d.db (None, None, None, false, false, None) (Some(\"u\"), Some(\"p\"), false)",
+        ),
+        (
+            "serve c.toml n0 d.db --turns 1 --users u --anonymous",
+            "node c.toml n0 d.db (Some(1), None, None, false, false, None) (Some(\"u\"), None, true)",
+        ),
+        ("password alice", "password alice"),
         ("check c.toml n0 d.db", "check c.toml n0 d.db"),
         ("check --help", "0 (true, false)"),
         ("--help", "0 (true, false)"),

@@ -6,6 +6,7 @@ use cli_stops::RunFault;
 use door_bounds::{BoundLimits, Gauge};
 use door_limits::Limits;
 use door_tables::NoTables;
+use door_users::FileAccess;
 use home_table::{HomeTable, homes_of};
 use mqtt_bounds::Bounds;
 use node_server::{ListenAt, StatusPlace, serve};
@@ -81,12 +82,14 @@ fn unbounded() -> (BoundLimits, Holding) {
     (BoundLimits::none(), Holding { held: 0 })
 }
 
-/// Serves a node for ten turns within limits and with a log, if there is one, and answers what ends the run early, if anything does.
+/// Serves a node for ten turns with users, if there are any, within limits and with a log, if there is one, and answers what ends the run early, if
+/// anything does.
 fn served<R: RowStore + Drop>(
     alloc: Global,
     network: &mut FakeSockets,
     rows: R,
     place: (HomeTable, u16),
+    access: Option<FileAccess>,
     bounds: (BoundLimits, Holding),
     limits: Limits,
     log: Option<&mut Vec<u8>>,
@@ -105,6 +108,7 @@ fn served<R: RowStore + Drop>(
         place,
         ListenAt::table(),
         no_tables,
+        access,
         bounds,
         limits,
         false,
@@ -132,6 +136,7 @@ fn refused(rt: &impl Abort, alloc: Global, call: u64, got: &[u8]) -> (Option<Run
         &mut network,
         rows,
         (homes, 0),
+        None,
         unbounded(),
         Limits::none(),
         None,
@@ -170,6 +175,7 @@ fn bounded(rt: &impl Abort, alloc: Global, limits: Limits, got: [&[u8]; 3], line
         &mut network,
         MemoryRows::new(alloc),
         (homes, 0),
+        None,
         unbounded(),
         limits,
         Some(&mut log),
@@ -211,11 +217,12 @@ fn a_node_serves_as_many_clients_as_it_may(rt: HostRuntime) {
     }
 }
 
-/// A client sends packets to a node of two with these rows and limits: what ends the run, and whether the client has got just these bytes.
+/// A client sends packets to a node of two with these rows, users and limits: what ends the run, and whether the client has got just these bytes.
 fn answered<R: RowStore + Drop>(
     rt: &impl Abort,
     alloc: Global,
     rows: R,
+    access: Option<FileAccess>,
     bounds: (BoundLimits, Holding),
     id: u16,
     packets: &[&[u8]],
@@ -233,6 +240,7 @@ fn answered<R: RowStore + Drop>(
         &mut network,
         rows,
         (homes, id),
+        access,
         bounds,
         Limits::none(),
         None,
@@ -254,7 +262,7 @@ fn what_a_run_wrote_is_in_the_database_of_the_next(rt: HostRuntime) {
         let rows = open_rows(&rt, "hub.db", Wary)
             .ok()
             .expect(&rt, "a database");
-        let end = answered(&rt, rt.alloc(), rows, unbounded(), id, packets, got);
+        let end = answered(&rt, rt.alloc(), rows, None, unbounded(), id, packets, got);
         assert!(rt; end == (fault, true));
     }
 }
@@ -291,7 +299,61 @@ fn a_node_refuses_what_breaks_a_limit(rt: HostRuntime) {
         let packets = [PACKETS[0], PUBLISH];
         let bounds = (limits, Holding { held });
         let rows = MemoryRows::new(alloc);
-        let end = answered(&rt, alloc, rows, bounds, 1, packets.as_slice(), &got);
+        let end = answered(&rt, alloc, rows, None, bounds, 1, packets.as_slice(), &got);
+        assert!(rt; end == (None, true));
+    }
+}
+
+/// The user `dora` with the password `secret`, whose hash has one iteration.
+const USERS: &str =
+    "dora:$7$1$dHdlbHZlIGJ5dGVz$MfsYXivneU8zaI/dN/IW867WH9yS8XFYYD4EWl+pf0AIdIwD0ejoOETLqO6VfliD4i41bBeGEhsoeSy/G83kgQ==\n";
+
+/// CONNECT of client `a` as `dora` with her password, and with another one.
+const NAMED: &[u8] = b"\x10\x1c\x00\x04MQTT\x05\xc2\x00\x3c\x00\x00\x01a\x00\x04dora\x00\x06secret";
+
+const GUESSED: &[u8] =
+    b"\x10\x1c\x00\x04MQTT\x05\xc2\x00\x3c\x00\x00\x01a\x00\x04dora\x00\x06Secret";
+
+/// CONNACK, and PUBACK with 0x00, and with 0x87.
+const TAKEN: &[u8] =
+    b"\x20\x0e\x00\x00\x0b\x21\x00\x64\x22\x00\x10\x27\x00\x10\x00\x00\x40\x02\x00\x09";
+
+const REFUSED: &[u8] =
+    b"\x20\x0e\x00\x00\x0b\x21\x00\x64\x22\x00\x10\x27\x00\x10\x00\x00\x40\x03\x00\x09\x87";
+
+/// The user, with what she may do by these rules.
+fn access(rt: &impl Abort, alloc: Global, rules: &str) -> FileAccess {
+    FileAccess::read(alloc, USERS, Some(rules), false)
+        .ok()
+        .expect(rt, "two files")
+}
+
+#[test]
+fn a_node_serves_users_alone(rt: HostRuntime) {
+    let alloc = rt.alloc();
+    for (connect, rules, got) in [
+        (NAMED, "user dora\ntopic write a/+\n", TAKEN),
+        (NAMED, "user dora\ntopic read a/+\n", REFUSED),
+        (GUESSED, "topic a/+\n", b"\x20\x03\x00\x86\x00".as_slice()),
+        (
+            PACKETS[0],
+            "topic a/+\n",
+            b"\x20\x03\x00\x87\x00".as_slice(),
+        ),
+    ] {
+        let packets = [connect, PUBLISH];
+        let users = Some(access(&rt, alloc, rules));
+        let rows = MemoryRows::new(alloc);
+        let end = answered(
+            &rt,
+            alloc,
+            rows,
+            users,
+            unbounded(),
+            1,
+            packets.as_slice(),
+            got,
+        );
         assert!(rt; end == (None, true));
     }
 }

@@ -70,6 +70,7 @@ fn ends_so(
         (homes, id),
         ListenAt::table(),
         no_tables,
+        None,
         (BoundLimits::none(), NoGauge),
         Limits::none(),
         false,

@@ -92,6 +92,7 @@ fn gets(rt: &impl Abort, alloc: Global, version: u32, from: u64, got: &[u8]) -> 
         (homes, 1),
         ListenAt::table(),
         Some(tables),
+        None,
         (BoundLimits::none(), NoGauge),
         Limits::none(),
         false,

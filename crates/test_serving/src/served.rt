@@ -21,6 +21,7 @@ pub fn ends_by(rt: &HostRuntime, names: (&str, &str, &str), end: Result<(), Stop
         node,
         database,
         ListenAt::table(),
+        None,
         BoundLimits::none(),
         Limits::none(),
         false,

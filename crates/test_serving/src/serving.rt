@@ -162,6 +162,7 @@ fn serve_for(
         (homes, 0),
         at,
         no_tables,
+        None,
         (BoundLimits::none(), NoGauge),
         Limits::none(),
         false,

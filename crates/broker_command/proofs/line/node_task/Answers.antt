@@ -18,4 +18,5 @@ returns c = (
   c.in_ok-text_of-3.ensures,
   c.in_ok-text_of-4.ensures,
   c.in-Some-limits_of.ensures,
+  c.in_ok-users_of.ensures,
 )

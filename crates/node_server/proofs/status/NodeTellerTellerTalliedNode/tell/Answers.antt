@@ -3,6 +3,6 @@ use Rattle.node_server.proofs.status.NodeTellerTellerTalliedNode.tell.Goals as g
 
 pub returns-in-Ok : goal.returns-in-Ok
 returns-in-Ok g c =
-    told_of c.args.handler.now c.inside.result.now c.inside-2.result.now c.inside-3.result.now c.inside-tabled.result.now c.inside-4.result.now c.node-node.result.now c.inside.ensures c.inside-2.ensures
-    c.inside-3.ensures c.inside-tabled.ensures c.inside-4.ensures c.node-node.ensures c.args.self.now c.as_str.result.now c.args.at c.in-Some.tally.now c.in-Ok.figures c.in-Some.ensures
+    told_of c.args.handler.now c.inside.result.now c.inside-2.result.now c.inside-3.result.now c.inside-4.result.now c.inside-tabled.result.now c.inside-5.result.now c.node-node.result.now c.inside.ensures c.inside-2.ensures
+    c.inside-3.ensures c.inside-4.ensures c.inside-tabled.ensures c.inside-5.ensures c.node-node.ensures c.args.self.now c.as_str.result.now c.args.at c.in-Some.tally.now c.in-Ok.figures c.in-Some.ensures
     c.as_str.ensures.value c.in-Ok.ensures.figures
