@@ -11,7 +11,7 @@ use Rattle.door_guard.specs.Answering.{IsAnswered, IsAnsweredIf, IsGuarded, IsHe
 use Rattle.door_guard.specs.Calls.{AreMade, Call, IsMade, given_at, given_of, noted_at, noted_of}
 use Rattle.door_guard.specs.Calls.Call.{Handled, Heard, Settled}
 use Rattle.door_guard.specs.Clients.{client_of}
-use Rattle.door_guard.specs.Laws.{EachIsFollowed, IsFollowed}
+use Rattle.door_guard.specs.Laws.{EachIsFollowed}
 use Rattle.door_packets.specs.Rights.{Rights}
 use Rattle.door_guard.specs.Stages.{Held, IsPath, Notice, Outgoing, at, held_after, held_by, idle, none_busy, noted, on, staged, todo_of}
 use Rattle.door_guard.specs.Telling.{ArePaths, AreTold, IsMet, Stages, Told, given_by, none, noted_in}
@@ -39,51 +39,11 @@ noted_both q xs ys = flat_map-append (noted_at q) xs ys
 given_both : (xs ys : List Call) → given_of (xs ++ ys) ≡ given_of xs ++ given_of ys
 given_both xs ys = flat_map-append given_at xs ys
 
-abbrev pub idly : Clients → Stages
+abbrev idly : Clients → Stages
 idly k = staged none_busy k
 
--- ---- paths of calls, and of those of the handler inside
-
-abbrev pub Paths : Rights → List Call → List Call → Clients → Clients → Type 0
-Paths r calls inside k k' = ArePaths r (λ q. noted_of q calls) (λ q. noted_of q inside) (given_of inside) (idly k) (idly k') [] (given_of calls)
-
-pub paths_still : (r : Rights) (k : Clients) → Paths r [] [] k k
-paths_still r k q = path_none r q (idly k q) []
-
--- what goes out is put behind what went out before
-moved : (r : Rights) (q : ℕ) (s s' : Option Held) (met told : List Notice) (given p front : List Output) → IsPath r q s s' met told given [] p → IsPath r q s s' met told given front (front ++ p)
-moved r q s s' met told given p front a = record {
-  happenings = a.happenings;
-  held = a.held;
-  orderly = a.orderly;
-  comes = a.comes;
-  tells = a.tells;
-  gives = a.gives;
-  goes = on_then q front p ∙ ap (λ (xs : List Outgoing). on q front ++ xs) a.goes;
-}
-
-pub paths_both : (r : Rights) (call : Call) (more first rest : List Call) (k l k' : Clients) → Paths r (call ∷ []) first k l → Paths r more rest l k' → Paths r (call ∷ more) (first ++ rest) k k'
-paths_both r call more first rest k l k' a b q =
-    let second = moved r q (idly l q) (idly k' q) (noted_of q more) (noted_of q rest) (given_of rest) (given_of more) (given_of (call ∷ [])) (b q) in
-    let joined = path_then r q (idly k q) (idly l q) (idly k' q) (noted_of q (call ∷ [])) (noted_of q more) (noted_of q first) (noted_of q rest) (given_of first) (given_of rest) [] (given_of (call ∷ [])) (given_of (call ∷ []) ++ given_of more) (a q) second in
-    let met : noted_of q (call ∷ []) ++ noted_of q more ≡ noted_of q (call ∷ more) = ap (λ (xs : List Notice). xs ++ noted_of q more) (append-nil (noted_at q call)) in
-    let given : given_of (call ∷ []) ++ given_of more ≡ given_of (call ∷ more) = ap (λ (xs : List Output). xs ++ given_of more) (append-nil (given_at call)) in
-    let one = subst (λ (xs : List Notice). IsPath r q (idly k q) (idly k' q) xs (noted_of q first ++ noted_of q rest) (given_of first ++ given_of rest) [] (given_of (call ∷ []) ++ given_of more)) met joined in
-    let two = subst (λ (xs : List Notice). IsPath r q (idly k q) (idly k' q) (noted_of q (call ∷ more)) xs (given_of first ++ given_of rest) [] (given_of (call ∷ []) ++ given_of more)) (sym (noted_both q first rest)) one in
-    let three = subst (λ (xs : List Output). IsPath r q (idly k q) (idly k' q) (noted_of q (call ∷ more)) (noted_of q (first ++ rest)) xs [] (given_of (call ∷ []) ++ given_of more)) (sym (given_both first rest)) two in
-    subst (λ (xs : List Output). IsPath r q (idly k q) (idly k' q) (noted_of q (call ∷ more)) (noted_of q (first ++ rest)) (given_of (first ++ rest)) [] xs) given three
-
--- from where no connection is open each one is followed
-pub followed_from : (r : Rights) (calls inside : List Call) (k k' : Clients) → ((q : ℕ) → client_of k q ≡ None) → Paths r calls inside k k' → (q : ℕ) → IsFollowed r q calls inside
-followed_from r calls inside k k' none_open paths q =
-    let start : idly k q ≡ None = ap (held_by idle) (none_open q) in
-    let from : IsPath r q None (idly k' q) (noted_of q calls) (noted_of q inside) (given_of inside) [] (given_of calls) =
-    subst (λ (s : Option Held). IsPath r q s (idly k' q) (noted_of q calls) (noted_of q inside) (given_of inside) [] (given_of calls)) start (paths q) in
-    let rest : todo_of (held_after r None from.happenings) ≡ [] = ap todo_of (sym from.held) ∙ idle_todo (client_of k' q) in
-    record { happenings = from.happenings; met = from.comes; given = from.gives; orderly = from.orderly; done = rest; told = from.tells; out = from.goes }
-
 module _ {H : Type 0} (handles : H → Event → List Output → H → Type 0) (hears : H → PeerEvent → Given → H → Type 0) (settles : H → H → Type 0) where
-  abbrev pub Inside : List Call → H → H → Type 0
+  abbrev Inside : List Call → H → H → Type 0
   Inside calls h h' = AreMade handles hears settles calls h h'
 
   made_then : (xs ys : List Call) (h m h' : H) → Inside xs h m → Inside ys m h' → Inside (xs ++ ys) h h'
@@ -95,10 +55,22 @@ module _ {H : Type 0} (handles : H → Event → List Output → H → Type 0) (
   made_as (t ∷ ts) h h' all = (all.0, all.1, made_as ts all.0 h' all.2)
 
   -- calls of the handler that guards: calls of the one inside, and paths
-  pub record Followed (r : Rights) (calls : List Call) (h h' : H) (k k' : Clients) : Type 0 where
-    pub inside : List Call
-    pub made : Inside inside h h'
-    pub paths : Paths r calls inside k k'
+  record Followed (r : Rights) (calls : List Call) (h h' : H) (k k' : Clients) : Type 0 where
+    inside : List Call
+    made : Inside inside h h'
+    paths : ArePaths r (λ q. noted_of q calls) (λ q. noted_of q inside) (given_of inside) (idly k) (idly k') [] (given_of calls)
+
+  -- what goes out is put behind what went out before
+  moved : (r : Rights) (q : ℕ) (s s' : Option Held) (met told : List Notice) (given p front : List Output) → IsPath r q s s' met told given [] p → IsPath r q s s' met told given front (front ++ p)
+  moved r q s s' met told given p front a = record {
+    happenings = a.happenings;
+    held = a.held;
+    orderly = a.orderly;
+    comes = a.comes;
+    tells = a.tells;
+    gives = a.gives;
+    goes = on_then q front p ∙ ap (λ (xs : List Outgoing). on q front ++ xs) a.goes;
+  }
 
   handled : (r : Rights) (e : Event) (outputs : List Output) (h h' : H) (k k' : Clients) → IsMet handles r e.at (λ q. noted q e.kind) h h' k k' [] outputs → Followed r (Handled e outputs ∷ []) h h' k k'
   handled r e outputs h h' k k' t = record {
@@ -125,11 +97,19 @@ module _ {H : Type 0} (handles : H → Event → List Output → H → Type 0) (
   both r call more h m h' k l k' a b = record {
     inside = a.inside ++ b.inside;
     made = made_then a.inside b.inside h m h' a.made b.made;
-    paths = paths_both r call more a.inside b.inside k l k' a.paths b.paths;
+    paths = λ q.
+        let second = moved r q (idly l q) (idly k' q) (noted_of q more) (noted_of q b.inside) (given_of b.inside) (given_of more) (given_of (call ∷ [])) (b.paths q) in
+        let joined = path_then r q (idly k q) (idly l q) (idly k' q) (noted_of q (call ∷ [])) (noted_of q more) (noted_of q a.inside) (noted_of q b.inside) (given_of a.inside) (given_of b.inside) [] (given_of (call ∷ [])) (given_of (call ∷ []) ++ given_of more) (a.paths q) second in
+        let met : noted_of q (call ∷ []) ++ noted_of q more ≡ noted_of q (call ∷ more) = ap (λ (xs : List Notice). xs ++ noted_of q more) (append-nil (noted_at q call)) in
+        let given : given_of (call ∷ []) ++ given_of more ≡ given_of (call ∷ more) = ap (λ (xs : List Output). xs ++ given_of more) (append-nil (given_at call)) in
+        let one = subst (λ (xs : List Notice). IsPath r q (idly k q) (idly k' q) xs (noted_of q a.inside ++ noted_of q b.inside) (given_of a.inside ++ given_of b.inside) [] (given_of (call ∷ []) ++ given_of more)) met joined in
+        let two = subst (λ (xs : List Notice). IsPath r q (idly k q) (idly k' q) (noted_of q (call ∷ more)) xs (given_of a.inside ++ given_of b.inside) [] (given_of (call ∷ []) ++ given_of more)) (sym (noted_both q a.inside b.inside)) one in
+        let three = subst (λ (xs : List Output). IsPath r q (idly k q) (idly k' q) (noted_of q (call ∷ more)) (noted_of q (a.inside ++ b.inside)) xs [] (given_of (call ∷ []) ++ given_of more)) (sym (given_both a.inside b.inside)) two in
+        subst (λ (xs : List Output). IsPath r q (idly k q) (idly k' q) (noted_of q (call ∷ more)) (noted_of q (a.inside ++ b.inside)) (given_of (a.inside ++ b.inside)) [] xs) given three;
   }
 
   nothing : (r : Rights) (h h' : H) (k : Clients) → h' ≡ h → Followed r [] h h' k k
-  nothing r h h' k same = record { inside = []; made = same; paths = paths_still r k }
+  nothing r h h' k same = record { inside = []; made = same; paths = λ q. path_none r q (idly k q) [] }
 
   settled : (r : Rights) (h h' : H) (k : Clients) → settles h h' → Followed r (Settled ∷ []) h h' k k
   settled r h h' k s = record { inside = Settled ∷ []; made = (h', s, refl); paths = λ q. path_none r q (idly k q) [] }
@@ -138,20 +118,20 @@ module _ {H A : Type 0} (handles : H → Event → List Output → H → Type 0)
   -- ---- of the handler that guards
 
   -- one call: who may do what stays
-  pub record Kept (access : A) (calls : List Call) (o : Option (Door A)) (h h' : H) (k : Clients) : Type 0 where
-    pub door : Door A
-    pub is : o ≡ Some door
-    pub kept : door.access ≡ access
-    pub followed : Followed handles hears settles (rights access) calls h h' k door.known.clients
+  record Kept (access : A) (calls : List Call) (o : Option (Door A)) (h h' : H) (k : Clients) : Type 0 where
+    door : Door A
+    is : o ≡ Some door
+    kept : door.access ≡ access
+    followed : Followed handles hears settles (rights access) calls h h' k door.known.clients
 
-  pub answered_case : (c c' : Option (Door A)) (k : Door A) (e : Event) (outputs : List Output) (h h' : H) → c ≡ Some k → IsAnsweredIf handles rights c c' e h h' outputs → Kept k.access (Handled e outputs ∷ []) c' h h' k.known.clients
+  answered_case : (c c' : Option (Door A)) (k : Door A) (e : Event) (outputs : List Output) (h h' : H) → c ≡ Some k → IsAnsweredIf handles rights c c' e h h' outputs → Kept k.access (Handled e outputs ∷ []) c' h h' k.known.clients
   answered_case None c' k e outputs h h' is t = absurd cc
   answered_case (Some x) None k e outputs h h' is t = absurd t
   answered_case (Some x) (Some k') k e outputs h h' is t =
       let t' : IsGuarded handles rights e h h' k k' outputs = subst (λ (y : Door A). IsGuarded handles rights e h h' y k' outputs) (same_Some x k is) t in
       record { door = k'; is = refl; kept = t'.1; followed = handled handles hears settles (rights k.access) e outputs h h' k.known.clients k'.known.clients t'.0 }
 
-  pub heard_case : (c c' : Option (Door A)) (k : Door A) (e : PeerEvent) (given : Given) (h h' : H) → c ≡ Some k → IsHeardIf hears rights c c' e h h' given → Kept k.access (Heard e given ∷ []) c' h h' k.known.clients
+  heard_case : (c c' : Option (Door A)) (k : Door A) (e : PeerEvent) (given : Given) (h h' : H) → c ≡ Some k → IsHeardIf hears rights c c' e h h' given → Kept k.access (Heard e given ∷ []) c' h h' k.known.clients
   heard_case None c' k e given h h' is t = absurd cc
   heard_case (Some x) None k e given h h' is t = absurd t
   heard_case (Some x) (Some k') k e given h h' is t =
@@ -190,5 +170,12 @@ module _ {H A : Type 0} (handles : H → Event → List Output → H → Type 0)
       let f = all calls d d' k.access k is refl made in (
         f.followed.inside,
         f.followed.made,
-        followed_from (rights k.access) calls f.followed.inside k.known.clients f.door.known.clients none_open f.followed.paths,
+        λ q.
+            let path = f.followed.paths q in
+            let r = rights k.access in
+            let start : idly k.known.clients q ≡ None = ap (held_by idle) (none_open q) in
+            let from : IsPath r q None (idly f.door.known.clients q) (noted_of q calls) (noted_of q f.followed.inside) (given_of f.followed.inside) [] (given_of calls) =
+            subst (λ (s : Option Held). IsPath r q s (idly f.door.known.clients q) (noted_of q calls) (noted_of q f.followed.inside) (given_of f.followed.inside) [] (given_of calls)) start path in
+            let rest : todo_of (held_after r None from.happenings) ≡ [] = ap todo_of (sym from.held) ∙ idle_todo (client_of f.door.known.clients q) in
+            record { happenings = from.happenings; met = from.comes; given = from.gives; orderly = from.orderly; done = rest; told = from.tells; out = from.goes },
       )

@@ -7,12 +7,12 @@ use Rattle.broker_sockets.specs.declared.events.Output.{Output}
 use Rattle.broker_turns.specs.Handling.Told.{Of_client, Of_peer}
 use Rattle.door_guard.specs.Answering.{IsAnswered, IsAnsweredIf, IsHeard, IsHeardIf, IsSettled}
 use Rattle.door_guard.specs.Telling.{AreTold, Told}
-use Rattle.door_guard.specs.Views.{door_of, inside_of}
+use Rattle.door_guard.specs.Views.{inside_of}
 use Rattle.door_guard.specs.declared.door.Door.{Door}
 use Rattle.door_guard.specs.declared.guarded.Guarded.{Guarded}
 use Rattle.door_packets.specs.Rights.{Rights}
 use Rattle.law_doors.specs.Calls.{Call, IsCalled, Settles, Tells, notes, notes_peer}
-use Rattle.law_doors.specs.Guards.{Guards_pass, GuardsOff, GuardsTell}
+use Rattle.law_doors.specs.Guards.{Guards_pass, GuardsOff, GuardsTell, door_of}
 use Rattle.law_doors.proofs.Calls.{Passed, all_passed, all_same}
 use Rattle.law_doors.proofs.Noting.{Noted, noted_as, noted_none, noted_one, noted_then}
 

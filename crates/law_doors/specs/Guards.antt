@@ -8,13 +8,30 @@ use Rattle.broker_turns.specs.Handling.Told.{Of_client, Of_peer}
 use Rattle.door_guard.specs.Answering.{IsAnsweredIf, IsHeardIf}
 use Rattle.door_guard.specs.Calls as guards
 use Rattle.door_guard.specs.Laws.{IsFollowed}
-use Rattle.door_guard.specs.Views.{NoneOpen, access_of, door_of, inside_of}
+use Rattle.door_guard.specs.Clients.{client_of}
+use Rattle.door_guard.specs.Views.{inside_of}
+use Rattle.door_guard.specs.declared.clients.Clients.{Clients}
 use Rattle.door_guard.specs.declared.door.Door.{Door}
 use Rattle.door_guard.specs.declared.fault.GuardFault.{GuardFault}
 use Rattle.door_guard.specs.declared.fault.GuardFault.TheVariants.{Inside}
 use Rattle.door_guard.specs.declared.guarded.Guarded.{Guarded}
 use Rattle.door_packets.specs.Rights.{Rights}
 use Rattle.law_doors.specs.Calls.{AreCalled, ArePassed, Call, Settles, Tells, notes, notes_peer}
+
+-- what it keeps; none: there are no users
+abbrev pub door_of : {H A : Type 0} → Guarded H A → Option (Door A)
+door_of d = d.door
+
+-- who may do what
+abbrev pub access_of : {A : Type 0} → Door A → A
+access_of k = k.access
+
+-- what is known of connections
+abbrev pub clients_in : {A : Type 0} → Door A → Clients
+clients_in k = k.known.clients
+
+abbrev pub NoneOpen : {A : Type 0} → Door A → Type 0
+NoneOpen k = (q : ℕ) → client_of (clients_in k) q ≡ None
 
 -- in the words of the handler that guards
 abbrev pub as_guard_call : Call → guards.Call

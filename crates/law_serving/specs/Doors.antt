@@ -1,7 +1,7 @@
 -- A served node behind the handlers of the program, and what these make of the calls of the sockets until the node has them.
 use Rattle.std.specs.Prelude.{List, [], ◌∷◌, map}
 use Rattle.door_bounds.specs.Views.{door_of, inside_of as bounded_in}
-use Rattle.door_guard.specs.Views.{door_of as users_of, inside_of as guarded_in}
+use Rattle.door_guard.specs.Views.{inside_of as guarded_in}
 use Rattle.door_limits.specs.Views.{connections_of, inside_of as limited_in, limits_of}
 use Rattle.door_log.specs.Views.{inside_of as logged_in}
 use Rattle.door_mqtt3.specs.Views.{clients_of, inside_of as translated_in}
@@ -9,7 +9,7 @@ use Rattle.door_mqtt3.specs.declared.handler.Mqtt3.{Mqtt3}
 use Rattle.broker_turns.specs.Handling.Told.{Of_client, Of_peer}
 use Rattle.law_doors.specs.Bounds.{Bounds_pass}
 use Rattle.law_doors.specs.Calls.{ArePassed, Call, Settles, Tells}
-use Rattle.law_doors.specs.Guards.{Guards_pass}
+use Rattle.law_doors.specs.Guards.{Guards_pass, door_of as users_of}
 use Rattle.law_doors.specs.Levels.{Levels_pass}
 use Rattle.law_doors.specs.Limits.{Limits_pass}
 use Rattle.node_server.specs.Stack.{BoundedNode, GuardedNode, LimitedNode}
