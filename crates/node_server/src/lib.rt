@@ -9,6 +9,7 @@ mod run;
 mod served;
 mod stack;
 mod status;
+mod straining;
 mod tables;
 mod viewed;
 mod watchers;

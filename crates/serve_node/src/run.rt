@@ -7,6 +7,7 @@ use crate::gauge::TellingGauge;
 use crate::machine::{RealMachine, memory_of};
 use crate::source::ConfigurationFile;
 use crate::telling::TellingSockets;
+use broker_holds::{HoldingSockets, Strain};
 use broker_sockets::{PolledSockets, RealClocks, RealSockets, SteadyClock};
 use cli_files::{TableFile, configuration_bytes, configuration_of, unread};
 use cli_stops::{Ending, RunFault, Stop};
@@ -21,6 +22,7 @@ use row_store::RowStore;
 use std::fs::File;
 use std::hash::RandomState;
 use std::io::Stderr;
+use std::rc::Rc;
 
 /// As many turns as no node makes: at a million a second they take 146,000 years.
 const ENDLESS: u64 = (1 << 62) - 1;
@@ -180,6 +182,14 @@ fn gauge_of(rt: &HostRuntime, bounds: &BoundLimits) -> Option<ProcessMemory<File
     memory_of(rt)
 }
 
+/// Another hold on what the node tells its sockets of what waits for other nodes.
+fn shared(strain: &Rc<Strain>) -> Result<Rc<Strain>, Stop> {
+    match strain.clone() {
+        Ok(strain) => Ok(strain),
+        Err(_) => Err(Stop::Run(RunFault::NoMemory)),
+    }
+}
+
 /// Runs a node of this name with these rows, which are in the database at a path, and with its status at an address, if at any.
 fn serve_rows<R: RowStore + Drop, F: Tables + Drop>(
     rt: &HostRuntime,
@@ -201,7 +211,11 @@ fn serve_rows<R: RowStore + Drop, F: Tables + Drop>(
     let Ok(polled) = PolledSockets::new(rt.alloc(), rt) else {
         return Err(Stop::Run(RunFault::Socket));
     };
-    let mut sockets = TellingSockets::new(polled, rt.stderr());
+    let Ok(strain) = Rc::new(rt.alloc(), Strain::new()) else {
+        return Err(Stop::Run(RunFault::NoMemory));
+    };
+    let telling = TellingSockets::new(polled, rt.stderr(), shared(&strain)?);
+    let mut sockets = HoldingSockets::new(rt.alloc(), telling, shared(&strain)?);
     let mut clock = SteadyClock::new(RealClocks::new(rt));
     let status = place_of(rt, names, bounds.most_memory, status)?;
     let error = if log { Some(rt.stderr()) } else { None };
@@ -223,6 +237,7 @@ fn serve_rows<R: RowStore + Drop, F: Tables + Drop>(
         error,
         losses,
         status,
+        Some(strain),
         turns,
         &mut out,
     )?;

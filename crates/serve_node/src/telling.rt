@@ -1,30 +1,46 @@
-//! The sockets of the system, which tell why nobody can be accepted.
+//! The sockets of the system, which tell why nobody can be accepted, and that clients are held back.
 
 ghost use Rattle.std.specs.Prelude.{ℕ};
 
-use crate::refusal::tell_refusal;
+use crate::refusal::{tell_held, tell_refusal};
+use broker_holds::Strain;
 use broker_sockets::{Answer, PolledSockets, Readiness, Ready, Sockets, Watched};
 use mio::net::{TcpListener, TcpStream};
 use std::alloc::{AllocError, Global};
 use std::io::{self, Write};
 use std::net::SocketAddr;
+use std::rc::Rc;
 
-/// The sockets of the system, which write why nobody can be accepted: once, and again only after somebody was.
+/// For so many milliseconds after it was told that clients are held back it isn't told again.
+const MINUTE: u64 = 60_000;
+
+/// The sockets of the system, which write why nobody can be accepted: once, and again only after somebody was. And they write that clients are held back,
+/// once a minute at most.
 #[derive(Drop)]
 pub(crate) struct TellingSockets<'a, E> {
     sockets: PolledSockets<'a, HostRuntime>,
     error: E,
     /// Whether it was told since somebody was accepted last.
     told: bool,
+    /// Where it is told whether clients are held back.
+    strain: Rc<Strain>,
+    /// From when on it is told again.
+    held_again: u64,
 }
 
 impl<'a, E> TellingSockets<'a, E> {
     /// These sockets, with a writer for what they tell.
-    pub(crate) fn new(sockets: PolledSockets<'a, HostRuntime>, error: E) -> Self {
+    pub(crate) fn new(
+        sockets: PolledSockets<'a, HostRuntime>,
+        error: E,
+        strain: Rc<Strain>,
+    ) -> Self {
         TellingSockets {
             sockets,
             error,
             told: false,
+            strain,
+            held_again: 0,
         }
     }
 }
@@ -38,6 +54,17 @@ impl<'a, E: Write> TellingSockets<'a, E> {
         if !self.told {
             self.told = true;
             let _ = tell_refusal(&mut self.error, &failure);
+        }
+    }
+
+    /// Tells that clients are held back, where they are and it wasn't told within a minute.
+    fn tell_strain(&mut self) {
+        let Some(strained) = self.strain.get() else {
+            return;
+        };
+        if strained.at >= self.held_again {
+            self.held_again = strained.at.saturating_add(MINUTE);
+            let _ = tell_held(&mut self.error);
         }
     }
 }
@@ -98,6 +125,7 @@ impl<'a, E: Write> Readiness for TellingSockets<'a, E> {
     }
 
     fn ready(&mut self, alloc: Global) -> Result<Ready, AllocError> {
+        self.tell_strain();
         self.sockets.ready(alloc)
     }
 }
