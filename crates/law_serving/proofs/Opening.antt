@@ -1,5 +1,5 @@
 -- A node that is opened from its rows is one of a run that is restarted.
-use Rattle.std.proofs.Common.{◌≡◌, ◌≤◌, ℕ, [], length, inr, refl, sym, subst, ap, ◌∙◌}
+use Rattle.std.proofs.Common.{◌≡◌, ◌≤◌, ℕ, [], inr, refl, sym, subst, ap}
 use Rattle.cluster_play.proofs.Sites.{get-set_same}
 use Rattle.cluster_play.specs.Worlds.{IsTableAfter, Reopens, Site, world_with}
 use Rattle.home_table.specs.Table.{Table}

@@ -1,6 +1,5 @@
 -- With which table of homes a node is opened.
 use Rattle.std.proofs.Common.{◌≡◌, ◌<◌, ◌≤◌, ℕ, MatchOption, Some, sym, ap, ◌∙◌, subst}
-use Rattle.cli_stops.specs.declared.run_fault.RunFault.{RunFault}
 use Rattle.cli_stops.specs.declared.run_fault.RunFault.TheVariants as runs
 use Rattle.home_table.specs.Table.{Table}
 use Rattle.node_keeper.specs.declared.fault.KeeperFault.{KeeperFault}
