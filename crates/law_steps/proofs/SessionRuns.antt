@@ -7,9 +7,7 @@ use Rattle.std.proofs.lemmas.List.{append-nil}
 use Rattle.std.proofs.Math.ListN.{set}
 use Rattle.home_table.specs.Homes.{IsHome}
 use Rattle.home_table.specs.Table.{Table}
-use Rattle.mqtt_sessions.specs.Saved.{durable_of}
-use Rattle.node_rows.specs.Sessions.{opened_seat}
-use Rattle.session_table.specs.Seats.{Seat, IsElsewhere}
+use Rattle.node_rows.specs.Rows.{Lasting}
 use Rattle.node_work.specs.Acts.{Act, Session, Runs}
 use Rattle.node_work.specs.Held.Sessions.{Begun}
 use Rattle.node_work.specs.Lasting.{lasting, IsWoken}
@@ -19,7 +17,7 @@ use Rattle.law_nodes.proofs.MoveLaws.{acts_are_moves, moves_join, moves_lead_to_
 use Rattle.broker_node.specs.declared.event.Event.{Event}
 use Rattle.broker_node.proofs.Tables.{nodes_stay}
 use Rattle.law_runs.proofs.Passing.{has_of}
-use Rattle.cluster_play.specs.Worlds.{Site, World, Fate, Released, Lost, Cut, Faulted, Was_down, Restarted}
+use Rattle.cluster_play.specs.Worlds.{Site, World, Fate, Released, Lost, Cut, Faulted, Was_down, Restarted, MayReopen}
 use Rattle.cluster_play.specs.Runs.{Played}
 use Rattle.cluster_play.specs.Histories.{IsFirst, IsStart, Reached, site, acts_of, moves_at, moves_of, own_moves}
 use Rattle.cluster_play.proofs.Bools.{nat_cases, nat_other, some_is}
@@ -30,9 +28,8 @@ use Rattle.cluster_play.proofs.Paths.{along, along_from, commits_acts, midway, m
 use Rattle.cluster_play.proofs.Rows.{Came, Committed, Rests, Woke, came, committed}
 use Rattle.cluster_play.proofs.Sites.{get_within, get-set_same, get-set_other}
 use Rattle.cluster_play.proofs.Splits.{runs_split}
-use Rattle.law_steps.specs.Sessions.{IsInItsTable, NoneElsewhere, SessionsStayAtHome, SessionsLastAtHome, BeginsAtHome, SessionsBeginAtHome}
-use Rattle.law_steps.proofs.Calm.{Has}
-use Rattle.law_steps.proofs.Having.{has_is, sessions_are_at_home}
+use Rattle.law_steps.specs.Sessions.{IsInItsTable, HasItsOwn, SessionsStayAtHome, SessionsLastAtHome, BeginsAtHome, SessionsBeginAtHome}
+use Rattle.law_steps.proofs.Having.{sessions_are_at_home}
 
 -- ---- what is so of each node
 pub record Sits (i : ℕ) (s : Site) : Type 0 where
@@ -86,27 +83,32 @@ rests_sits w w' r all j s at =
       placed = λ h up. was.placed h (k.2.up h up) ∙ ap nodes_of (sym k.2.place);
     }
 
--- a node that was opened again hasn't started
-woken_sits : (w w' : World) (i : ℕ) (c : Woke w i w') → Sits i c.was → Sits i c.later
-woken_sits w w' i c was =
+-- a table with which a node is opened again is for as many nodes
+fits : (s : Site) (homes : Table) (x : Lasting) (i : ℕ) → Sits i s → MayReopen s x homes → length homes.nodes ≡ nodes_of s.node.place
+fits s homes x i was (inl same) = ap (λ (t : Table). length t.nodes) same ∙ was.nodes
+fits s homes x i was (inr after) = after.nodes
+
+woken_sits : (w w' : World) (i : ℕ) (homes : Table) (c : Woke w i homes w') → Sits i c.was → Sits i c.later
+woken_sits w w' i homes c was =
     let n = c.reopens.node in
     let place : c.later.node.place ≡ c.was.node.place = ap (λ (v : NodeView). v.place) n.is in
-    let homes : c.later.node.homes ≡ c.was.node.homes = ap (λ (v : NodeView). v.homes) n.is in
+    let now : c.later.node.homes ≡ homes = ap (λ (v : NodeView). v.homes) n.is in
+    let many : length homes.nodes ≡ nodes_of c.was.node.place = fits c.was homes n.lasting i was c.reopens.table in
     let held : (h : HeldView) → c.later.node.up ≡ Some h → h ≡ n.held = λ h up. some_is (sym up ∙ ap (λ (v : NodeView). v.up) n.is) in
-    let table : n.held.homes ≡ c.was.node.homes = ap (λ (v : HeldView). v.homes) n.woken.2 in
+    let table : n.held.homes ≡ homes = ap (λ (v : HeldView). v.homes) n.woken.2 in
     record {
       id = ap (λ (q : Place). q.id) place ∙ was.id;
       number = subst (λ (q : Place). q.id < nodes_of q) (sym place) was.number;
-      nodes = ap (λ (t : Table). length t.nodes) homes ∙ was.nodes ∙ ap nodes_of (sym place);
-      placed = λ h up. ap (λ (v : HeldView). length v.homes.nodes) (held h up) ∙ ap (λ (t : Table). length t.nodes) table ∙ was.nodes ∙ ap nodes_of (sym place);
+      nodes = ap (λ (t : Table). length t.nodes) now ∙ many ∙ ap nodes_of (sym place);
+      placed = λ h up. ap (λ (v : HeldView). length v.homes.nodes) (held h up) ∙ ap (λ (t : Table). length t.nodes) table ∙ many ∙ ap nodes_of (sym place);
     }
 
-woke_sits : (w w' : World) (i : ℕ) → Woke w i w' → AllSit w → AllSit w'
-woke_sits w w' i c all j s at = elim (nat_cases i j) [
+woke_sits : (w w' : World) (i : ℕ) (homes : Table) → Woke w i homes w' → AllSit w → AllSit w'
+woke_sits w w' i homes c all j s at = elim (nat_cases i j) [
   | inl q ↦ (
       let here : slice_get w'.sites i ≡ Some s = subst (λ n. slice_get w'.sites n ≡ Some s) (sym q) at in
       let there : c.later ≡ s = some_is (sym (get-set_same w.sites i c.later c.was c.at) ∙ sym (ap (λ ss. slice_get ss i) c.sites) ∙ here) in
-      subst (λ n. Sits n s) q (subst (Sits i) there (woken_sits w w' i c (all i c.was c.at))))
+      subst (λ n. Sits n s) q (subst (Sits i) there (woken_sits w w' i homes c (all i c.was c.at))))
   | inr ne ↦ all j s (sym (get-set_other w.sites i j c.later ne) ∙ sym (ap (λ ss. slice_get ss j) c.sites) ∙ at)
 ]
 
@@ -116,7 +118,7 @@ came_sits w w' (Lost i e acts) c all = committed_sits w w' i e acts c all
 came_sits w w' (Cut i) c all = rests_sits w w' c all
 came_sits w w' (Faulted i fault) c all = rests_sits w w' c all
 came_sits w w' (Was_down i) c all = rests_sits w w' c all
-came_sits w w' (Restarted i) c all = woke_sits w w' i c all
+came_sits w w' (Restarted i homes) c all = woke_sits w w' i homes c all
 
 start_sits : (w : World) → IsStart w → AllSit w
 start_sits w s i x at =
@@ -139,23 +141,14 @@ moves_parts : (p : Place) (xs ys : List Move) (a b : HeldView) → Moves p a (xs
 moves_parts p [] ys a b r = (a, refl, r)
 moves_parts p (x ∷ xs) ys a b r = let s = moves_parts p xs ys r.0 b r.2 in (s.0, (r.0, r.1, s.1), s.2)
 
--- a session of a node that was opened again was there
-woken_has : (homes : Table) (h h' : HeldView) → IsWoken homes (lasting h) h' → (q : List ℕ) → Has q h' → Has q h
-woken_has homes h h' w q has = by (map.get h.sessions q) refl (sym (w.1 q) ∙ ap (λ (v : HeldView). map.get v.sessions q) (sym w.2) ∙ has.1)
-  where
-    by : (o : Option Seat) → map.get h.sessions q ≡ o → option_map opened_seat (option_map (λ (s : Seat). durable_of s.session) o) ≡ Some has.0 → Has q h
-    by None at e = absurd (let z : None ≡ Some has.0 = e in cc)
-    by (Some seat) at e = (seat, at)
+-- a node that was opened again hasn't started
+woken_own : (p : Place) (homes : Table) (x : Lasting) (h : HeldView) → IsWoken homes x h → HasItsOwn p.id h
+woken_own p homes x h w started = absurd (let no : false ≡ true = sym (ap (λ (v : HeldView). v.started) w.2) ∙ started in cc)
 
-woken_none : (p : Place) (h h' : HeldView) → IsWoken h.homes (lasting h) h' → NoneElsewhere p.id h → NoneElsewhere p.id h'
-woken_none p h h' w none q has elsewhere =
-    let was = woken_has h.homes h h' w q (has_of q h' has) in
-    none q (has_is q h was) (subst (λ (t : Table). IsElsewhere t p.id q) (ap (λ (v : HeldView). v.homes) w.2) elsewhere)
-
--- what a run's acts and losses lead to has no session of a client whose home is elsewhere
+-- what a run's acts and losses lead to has, once it has started, no session of a client whose home is elsewhere
 abbrev IsOwn : World → List Played → World → Type 0
 IsOwn start run w =
-    (i : ℕ) (s : Site) (first : Table) (h : HeldView) → slice_get w.sites i ≡ Some s → first_in start i ≡ Some first → Moves s.node.place (fresh first) (moves_at i run) h → NoneElsewhere s.node.place.id h
+    (i : ℕ) (s : Site) (first : Table) (h : HeldView) → slice_get w.sites i ≡ Some s → first_in start i ≡ Some first → Moves s.node.place (fresh first) (moves_at i run) h → HasItsOwn s.node.place.id h
 
 -- ---- of the node of a step
 module _ (start : World) (run : List Played) (m : Played) (w w' : World) (r : Reached run w) (from : r.start ≡ start) (own : IsOwn start run w) where
@@ -164,7 +157,7 @@ module _ (start : World) (run : List Played) (m : Played) (w w' : World) (r : Re
     held : HeldView
     moves : Moves s.node.place (fresh first) (moves_at i run) held
     up : (h : HeldView) → s.node.up ≡ Some h → h ≡ held
-    none : NoneElsewhere s.node.place.id held
+    none : HasItsOwn s.node.place.id held
 
   was : (i : ℕ) (s : Site) (first : Table) → slice_get w.sites i ≡ Some s → first_in start i ≡ Some first → Was i s first
   was i s first at is =
@@ -173,7 +166,7 @@ module _ (start : World) (run : List Played) (m : Played) (w w' : World) (r : Re
       let moves : Moves s.node.place (fresh first) (moves_at i run) x.held = subst (λ t. Moves s.node.place (fresh t) (moves_at i run) x.held) same x.moves in
       record { held = x.held; moves = moves; up = x.up; none = own i s first x.held at is moves }
 
-  committed_own : (i : ℕ) (e : Event) (acts : List Act) (c : Committed w i e acts w') (first : Table) (h : HeldView) → first_in start i ≡ Some first → Moves c.was.node.place (fresh first) (moves_at i run ++ did acts) h → NoneElsewhere c.was.node.place.id h
+  committed_own : (i : ℕ) (e : Event) (acts : List Act) (c : Committed w i e acts w') (first : Table) (h : HeldView) → first_in start i ≡ Some first → Moves c.was.node.place (fresh first) (moves_at i run ++ did acts) h → HasItsOwn c.was.node.place.id h
   committed_own i e acts c first h is moves =
       let p = c.was.node.place in
       let x = was i c.was first c.at is in
@@ -182,23 +175,19 @@ module _ (start : World) (run : List Played) (m : Played) (w w' : World) (r : Re
       moves_join p (moves_at i run) (did acts) (fresh first) x.held c.after x.moves (acts_are_moves p x.held c.after acts (subst (λ v. Runs p v acts c.after) same c.steps.runs)) in
       let one : h ≡ c.after = moves_lead_to_one p (fresh first) h c.after (moves_at i run ++ did acts) moves there in
       let law = sessions_are_at_home e p c.before c.after acts (placed_in c.was i c.before (all_sit run w r i c.was c.at) c.up) c.steps.does c.steps.runs in
-      subst (NoneElsewhere p.id) (sym one) (law.0 (subst (NoneElsewhere p.id) (sym same) x.none))
+      subst (HasItsOwn p.id) (sym one) (law.1 (subst (HasItsOwn p.id) (sym same) x.none))
 
-  woke_own : (i : ℕ) (s : Site) (first : Table) (h : HeldView) → slice_get w.sites i ≡ Some s → first_in start i ≡ Some first → Moves s.node.place (fresh first) (moves_at i run ++ Reopened ∷ []) h → NoneElsewhere s.node.place.id h
-  woke_own i s first h at is moves =
-      let p = s.node.place in
-      let x = was i s first at is in
-      let parts = moves_parts p (moves_at i run) (Reopened ∷ []) (fresh first) h moves in
-      let same : parts.0 ≡ x.held = moves_lead_to_one p (fresh first) parts.0 x.held (moves_at i run) parts.1 x.moves in
-      let woken : IsWoken x.held.homes (lasting x.held) parts.2.0 = subst (λ (v : HeldView). IsWoken v.homes (lasting v) parts.2.0) same parts.2.1 in
-      subst (NoneElsewhere p.id) (sym parts.2.2) (woken_none p x.held parts.2.0 woken x.none)
+  woke_own : (p : Place) (i : ℕ) (homes first : Table) (h : HeldView) → Moves p (fresh first) (moves_at i run ++ Reopened homes ∷ []) h → HasItsOwn p.id h
+  woke_own p i homes first h moves =
+      let parts = moves_parts p (moves_at i run) (Reopened homes ∷ []) (fresh first) h moves in
+      subst (HasItsOwn p.id) (sym parts.2.2) (woken_own p homes (lasting parts.0) parts.2.0 parts.2.1)
 
   -- moves that a step adds to those of a node
   added : (i : ℕ) (p : Place) (first : Table) (h : HeldView) (xs : List Move) → own_moves i m.fate ≡ xs → Moves p (fresh first) (moves_at i (run ++ m ∷ [])) h → Moves p (fresh first) (moves_at i run ++ xs) h
   added i p first h xs is moves = subst (λ ms. Moves p (fresh first) ms h) (sym (moves_more i run m) ∙ ap (λ ys. moves_at i run ++ ys) is) moves
 
   -- the node of another seat
-  rest_own : (i : ℕ) (s : Site) (first : Table) (h : HeldView) → own_moves i m.fate ≡ [] → slice_get w.sites i ≡ Some s → first_in start i ≡ Some first → Moves s.node.place (fresh first) (moves_at i (run ++ m ∷ [])) h → NoneElsewhere s.node.place.id h
+  rest_own : (i : ℕ) (s : Site) (first : Table) (h : HeldView) → own_moves i m.fate ≡ [] → slice_get w.sites i ≡ Some s → first_in start i ≡ Some first → Moves s.node.place (fresh first) (moves_at i (run ++ m ∷ [])) h → HasItsOwn s.node.place.id h
   rest_own i s first h none at is moves = own i s first h at is (subst (λ ms. Moves s.node.place (fresh first) ms h) (append-nil (moves_at i run)) (added i s.node.place first h [] none moves))
 
   -- ---- by what the step comes to
@@ -209,20 +198,20 @@ module _ (start : World) (run : List Played) (m : Played) (w w' : World) (r : Re
   other_moves i j xs ne = ap (λ b. cond b xs []) (nat_other i j ne)
 
   changed_own : (i : ℕ) (xs : List Move) (old later : Site) → slice_get w.sites i ≡ Some old → w'.sites ≡ set w.sites i later → later.node.place ≡ old.node.place → site m.fate ≡ i → moves_of m.fate ≡ xs
-      → ((first : Table) (h : HeldView) → first_in start i ≡ Some first → Moves old.node.place (fresh first) (moves_at i run ++ xs) h → NoneElsewhere old.node.place.id h) → IsOwn start (run ++ m ∷ []) w'
+      → ((first : Table) (h : HeldView) → first_in start i ≡ Some first → Moves old.node.place (fresh first) (moves_at i run ++ xs) h → HasItsOwn old.node.place.id h) → IsOwn start (run ++ m ∷ []) w'
   changed_own i xs old later at_old sites place site_is moves_is step j s first h at is moves = elim (nat_cases i j) [
-    | inl q ↦ subst (λ n. slice_get w'.sites n ≡ Some s → first_in start n ≡ Some first → Moves s.node.place (fresh first) (moves_at n (run ++ m ∷ [])) h → NoneElsewhere s.node.place.id h) q here at is moves
+    | inl q ↦ subst (λ n. slice_get w'.sites n ≡ Some s → first_in start n ≡ Some first → Moves s.node.place (fresh first) (moves_at n (run ++ m ∷ [])) h → HasItsOwn s.node.place.id h) q here at is moves
     | inr ne ↦ (
         let none : own_moves j m.fate ≡ [] = ap (λ n. cond (nat_eq n j) (moves_of m.fate) []) site_is ∙ other_moves i j (moves_of m.fate) ne in
         rest_own j s first h none (sym (get-set_other w.sites i j later ne) ∙ sym (ap (λ ss. slice_get ss j) sites) ∙ at) is moves)
   ]
     where
-      here : slice_get w'.sites i ≡ Some s → first_in start i ≡ Some first → Moves s.node.place (fresh first) (moves_at i (run ++ m ∷ [])) h → NoneElsewhere s.node.place.id h
+      here : slice_get w'.sites i ≡ Some s → first_in start i ≡ Some first → Moves s.node.place (fresh first) (moves_at i (run ++ m ∷ [])) h → HasItsOwn s.node.place.id h
       here at_i is_i moves_i =
           let there : later ≡ s = some_is (sym (get-set_same w.sites i later old at_old) ∙ sym (ap (λ ss. slice_get ss i) sites) ∙ at_i) in
           let same : s.node.place ≡ old.node.place = ap (λ (v : Site). v.node.place) (sym there) ∙ place in
           let all : own_moves i m.fate ≡ xs = ap (λ n. cond (nat_eq n i) (moves_of m.fate) []) site_is ∙ mine i (moves_of m.fate) ∙ moves_is in
-          subst (λ (q : Place). NoneElsewhere q.id h) (sym same) (step first h is_i (subst (λ (q : Place). Moves q (fresh first) (moves_at i run ++ xs) h) same (added i s.node.place first h xs all moves_i)))
+          subst (λ (q : Place). HasItsOwn q.id h) (sym same) (step first h is_i (subst (λ (q : Place). Moves q (fresh first) (moves_at i run ++ xs) h) same (added i s.node.place first h xs all moves_i)))
 
   resting : (b : Bool) (xs : List Move) → xs ≡ [] → cond b xs [] ≡ []
   resting true xs is = is
@@ -232,7 +221,7 @@ module _ (start : World) (run : List Played) (m : Played) (w w' : World) (r : Re
   rests_own none rests j s first h at is moves =
       let k = rests.sites j s at in
       let same : s.node.place ≡ k.0.node.place = k.2.place in
-      subst (λ (q : Place). NoneElsewhere q.id h) (sym same) (rest_own j k.0 first h (resting (nat_eq (site m.fate) j) (moves_of m.fate) none) k.1 is (subst (λ (q : Place). Moves q (fresh first) (moves_at j (run ++ m ∷ [])) h) same moves))
+      subst (λ (q : Place). HasItsOwn q.id h) (sym same) (rest_own j k.0 first h (resting (nat_eq (site m.fate) j) (moves_of m.fate) none) k.1 is (subst (λ (q : Place). Moves q (fresh first) (moves_at j (run ++ m ∷ [])) h) same moves))
 
   came_own : (fate : Fate) → m.fate ≡ fate → Came w fate w' → IsOwn start (run ++ m ∷ []) w'
   came_own (Released i e acts outputs) is c = changed_own i (did acts) c.was c.later c.at c.sites c.place (ap site is) (ap moves_of is) (λ first h first_is moves. committed_own i e acts c first h first_is moves)
@@ -240,11 +229,11 @@ module _ (start : World) (run : List Played) (m : Played) (w w' : World) (r : Re
   came_own (Cut i) is c = rests_own (ap moves_of is) c
   came_own (Faulted i fault) is c = rests_own (ap moves_of is) c
   came_own (Was_down i) is c = rests_own (ap moves_of is) c
-  came_own (Restarted i) is c =
-      changed_own i (Reopened ∷ []) c.was c.later c.at c.sites (ap (λ (v : NodeView). v.place) c.reopens.node.is) (ap site is) (ap moves_of is) (λ first h first_is moves. woke_own i c.was first h c.at first_is moves)
+  came_own (Restarted i homes) is c =
+      changed_own i (Reopened homes ∷ []) c.was c.later c.at c.sites (ap (λ (v : NodeView). v.place) c.reopens.node.is) (ap site is) (ap moves_of is) (λ first h first_is moves. woke_own c.was.node.place i homes first h moves)
 
 start_own : (w : World) → IsStart w → IsOwn w [] w
-start_own w s i x first h at is moves q has elsewhere =
+start_own w s i x first h at is moves started q has elsewhere =
     let there = has_of q h has in
     absurd (let z : None ≡ Some there.0 = sym (map.get-empty _ q) ∙ ap (λ (v : HeldView). map.get v.sessions q) (sym moves) ∙ there.1 in cc)
 
@@ -254,13 +243,13 @@ all_own = along_from IsOwn (λ run m w w' r own honest happens. came_own r.start
 pub sessions_stay_at_home : SessionsStayAtHome
 sessions_stay_at_home = λ run w r i h holds. (
     let l = led run w r i h holds in
-    subst (λ n. NoneElsewhere n h) (all_sit run w r i holds.site holds.at).id (all_own run w r i holds.site l.first h holds.at l.was l.moves))
+    subst (λ n. HasItsOwn n h) (all_sit run w r i holds.site holds.at).id (all_own run w r i holds.site l.first h holds.at l.was l.moves))
 
 first_there : (start : World) (i : ℕ) (homes : Table) → IsFirst start i homes → first_in start i ≡ Some homes
 first_there start i homes f = ap (option_map (λ (s : Site). s.node.homes)) f.1 ∙ ap Some (sym f.2)
 
 pub sessions_last_at_home : SessionsLastAtHome
-sessions_last_at_home = λ run w r i s h at last. subst (λ n. NoneElsewhere n h) (all_sit run w r i s at).id (all_own run w r i s last.first h at (first_there r.start i last.first last.is_first) last.moves)
+sessions_last_at_home = λ run w r i s h at last. subst (λ n. HasItsOwn n h) (all_sit run w r i s at).id (all_own run w r i s last.first h at (first_there r.start i last.first last.is_first) last.moves)
 
 -- ---- the acts of a step
 begins_at_home : (run later : List Played) (m : Played) (w : World) → Reached (run ++ m ∷ later) w → (before after : List Act) (client : List ℕ) → acts_of m.fate ≡ before ++ Session (Begun client) ∷ after → BeginsAtHome run m before client

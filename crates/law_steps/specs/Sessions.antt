@@ -35,12 +35,12 @@ SessionsAreAtHome =
     × (HasItsOwn p.id h → HasItsOwn p.id last)
     × ((before after : List Act) (client : List ℕ) (mid : HeldView) → acts ≡ before ++ Session (Begun client) ∷ after → Runs p h before mid → IsHome mid.homes client p.id)
 
--- ---- in a run, of every node that runs, and of what a node that is down held last
+-- ---- in a run, of every node that runs, and of what a node that is down held last: a node that hasn't started yet may have been opened with another table than before
 abbrev pub SessionsStayAtHome : Type 0
-SessionsStayAtHome = (run : List Played) (w : World) → Reached run w → (i : ℕ) (h : HeldView) → Holds w i h → NoneElsewhere i h
+SessionsStayAtHome = (run : List Played) (w : World) → Reached run w → (i : ℕ) (h : HeldView) → Holds w i h → HasItsOwn i h
 
 abbrev pub SessionsLastAtHome : Type 0
-SessionsLastAtHome = (run : List Played) (w : World) (r : Reached run w) (i : ℕ) (s : Site) (h : HeldView) → slice_get w.sites i ≡ Some s → HeldLast run r.start i s h → NoneElsewhere i h
+SessionsLastAtHome = (run : List Played) (w : World) (r : Reached run w) (i : ℕ) (s : Site) (h : HeldView) → slice_get w.sites i ≡ Some s → HeldLast run r.start i s h → HasItsOwn i h
 
 pub record BeginsAtHome (run : List Played) (m : Played) (before : List Act) (client : List ℕ) : Type 0 where
   pub world : World

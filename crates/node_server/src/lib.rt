@@ -4,6 +4,7 @@
 mod convert;
 mod fault;
 mod losses;
+mod opening;
 mod peers;
 mod run;
 mod served;
@@ -14,6 +15,7 @@ mod tables;
 mod viewed;
 mod watchers;
 
+pub use opening::open_after;
 pub use run::{ListenAt, serve};
 pub use served::ServedNode;
 pub use stack::{

@@ -6,8 +6,9 @@ ghost use Rattle.node_server.specs.Losses.{ToldLosses};
 ghost use Rattle.node_server.specs.Peers.{ArePeers};
 ghost use Rattle.node_server.specs.Printing.{ready_line, turns_line};
 
-use crate::fault::{of_node, of_turn};
+use crate::fault::of_turn;
 use crate::losses::losses_of;
+use crate::opening::open_after;
 use crate::peers::peers_of;
 use crate::served::ServedNode;
 use crate::stack::LoggedNode;
@@ -214,7 +215,7 @@ fn run_node<
 /// is given for it a log is written there, and what is left out while it runs to another one; where a place is given its status is told there. Where newer
 /// tables of homes may come the node takes them. Whether too much waits for other nodes is told where somebody is to be told.
 ///
-/// The faults in their order: the node's where it can't be opened, `Socket` where one of its addresses, another node's
+/// The faults in their order: the node's where it can't be opened, also with an older table of homes than its rows tell (`OlderTable`), `Socket` where one of its addresses, another node's
 /// bridge or the status's address isn't an IP address with a port, or can't be waited at, `Output` where a line can't be printed, and the
 /// node's where a turn stops.
 pub fn serve<
@@ -250,9 +251,9 @@ pub fn serve<
     ensures { OnOk result (Appends (W.contents out.old) (W.contents out.new) (ready_line place.0 place.1 ++ turns_line turns)) }
 {
     let (homes, id) = place;
-    let keeper = match Keeper::open(alloc, rows, homes, id) {
+    let keeper = match open_after(alloc, rows, homes, id) {
         Ok(keeper) => keeper,
-        Err((fault, _)) => return Err(of_node(fault)),
+        Err((fault, _)) => return Err(fault),
     };
     let homes = keeper.node().homes();
     let setting = listen(alloc, sockets, homes, id, &at)?;

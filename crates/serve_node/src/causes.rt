@@ -101,6 +101,10 @@ pub fn cause_of(
 {
     match stop {
         Stop::Run(RunFault::Rows) => cause_of_rows(rt, path, id, homes.nodes()),
+        Stop::Run(RunFault::OlderTable(newest)) => {
+            let found = Found::OlderTable(*newest, homes.version());
+            Cause::keeping(rt.alloc(), path, found)
+        }
         Stop::Run(RunFault::Socket) => cause_of_sockets(rt, homes, id, at, status),
         Stop::Run(RunFault::Output) => Some(Cause {
             tried: Tried::Printing,

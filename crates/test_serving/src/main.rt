@@ -5,6 +5,8 @@
 #[cfg(test)]
 mod databases;
 #[cfg(test)]
+mod openings;
+#[cfg(test)]
 mod served;
 #[cfg(test)]
 mod serving;
