@@ -13,7 +13,7 @@ use Rattle.cli_stops.specs.declared.stop.Stop.TheVariants.{Help, CommandLine, Ru
 use Rattle.cli_stops.specs.declared.run_fault.RunFault.TheVariants.{NoMemory}
 use Rattle.broker_command.specs.declared.task.AskedLimits.{AskedLimits}
 use Rattle.broker_command.specs.declared.task.Task.{Task}
-use Rattle.broker_command.specs.declared.task.Task.TheVariants.{Play, Loopback, Serve, Check}
+use Rattle.broker_command.specs.declared.task.Task.TheVariants.{Play, Loopback, Serve, Check, Balancer}
 
 -- an argument that has to be there, with one value
 abbrev pub word_rule : Text → Rule
@@ -125,11 +125,15 @@ run = with_options (node_words (codes "run"))
 abbrev pub check : App
 check = node_words (codes "check")
 
--- the program's words: one of the five commands, without the program's name
+-- `balancer CONFIG`
+abbrev pub balancer : App
+balancer = with_rule (new_app (codes "balancer")) (word_rule (codes "CONFIG"))
+
+-- the program's words: one of the six commands, without the program's name
 unfoldable pub broker : App
-broker = with_subcommand (with_subcommand (with_subcommand (with_subcommand (with_subcommand
+broker = with_subcommand (with_subcommand (with_subcommand (with_subcommand (with_subcommand (with_subcommand
     (on_top (λ s. record s { has_version = true; no_binary_name = true; subcommand_required = true }) (new_app (codes "broker")))
-    play.top) loopback.top) serve.top) run.top) check.top
+    play.top) loopback.top) serve.top) run.top) check.top) balancer.top
 
 -- the path of a script
 abbrev pub IsScript : List Row → String Global → Type 0
@@ -141,6 +145,7 @@ IsPlay rows (Play script) = IsScript rows script
 IsPlay rows (Loopback script) = ⊥
 IsPlay rows (Serve configuration node database turns most_clients connect_within limits mqtt3 log status status_hosts listen bridge_listen) = ⊥
 IsPlay rows (Check configuration node database) = ⊥
+IsPlay rows (Balancer configuration) = ⊥
 
 -- a script to play over sockets
 abbrev pub IsLoopback : List Row → Task → Type 0
@@ -148,6 +153,7 @@ IsLoopback rows (Play script) = ⊥
 IsLoopback rows (Loopback script) = IsScript rows script
 IsLoopback rows (Serve configuration node database turns most_clients connect_within limits mqtt3 log status status_hosts listen bridge_listen) = ⊥
 IsLoopback rows (Check configuration node database) = ⊥
+IsLoopback rows (Balancer configuration) = ⊥
 
 -- the number that an option is given, in range, as its text spells it
 pub record IsNumber (rows : List Row) (id : Text) (number : ℕ) : Type 0 where
@@ -196,6 +202,7 @@ IsNode rows made (Serve configuration node database turns most_clients connect_w
     × IsTextIf rows (codes "listen") listen × IsTextIf rows (codes "bridge-listen") bridge_listen
     × AreLimits rows limits
 IsNode rows made (Check configuration node database) = ⊥
+IsNode rows made (Balancer configuration) = ⊥
 
 -- one for as many turns as are asked for
 abbrev pub IsServe : List Row → Task → Type 0
@@ -214,6 +221,15 @@ IsCheck rows (Check configuration node database) =
     (first_of (codes "CONFIG") rows ≡ Some configuration.bytes.items)
     × (first_of (codes "NODE") rows ≡ Some node.bytes.items)
     × (first_of (codes "DATABASE") rows ≡ Some database.bytes.items)
+IsCheck rows (Balancer configuration) = ⊥
+
+-- a table of homes for which HAProxy is to send each client to its home
+abbrev pub IsBalancer : List Row → Task → Type 0
+IsBalancer rows (Play script) = ⊥
+IsBalancer rows (Loopback script) = ⊥
+IsBalancer rows (Serve configuration node database turns most_clients connect_within limits mqtt3 log status status_hosts listen bridge_listen) = ⊥
+IsBalancer rows (Check configuration node database) = ⊥
+IsBalancer rows (Balancer configuration) = first_of (codes "CONFIG") rows ≡ Some configuration.bytes.items
 
 -- the task of a command with what follows it
 abbrev pub IsOf : Option (Text × List Row) → Task → Type 0
@@ -225,6 +241,7 @@ IsOf (Some (name, rows)) (Serve configuration node database turns most_clients c
     ⊎ ((name ≡ codes "run") × IsRun rows (Serve configuration node database turns most_clients connect_within limits mqtt3 log status status_hosts listen bridge_listen))
 IsOf (Some (name, rows)) (Check configuration node database) =
     (name ≡ codes "check") × IsCheck rows (Check configuration node database)
+IsOf (Some (name, rows)) (Balancer configuration) = (name ≡ codes "balancer") × IsBalancer rows (Balancer configuration)
 
 -- the words are a command line without a fault, and ask for the task
 pub record IsTask (words : List Text) (task : Task) : Type 0 where

@@ -4,7 +4,7 @@ ghost use Rattle.std.specs.Prelude.{◌≡◌, map, false, pos, Some, IfOk, IfSo
 ghost use Rattle.clap.specs.declared.builder.value_parser.ValueParser.TheVariants.{Signed};
 ghost use Rattle.clap.specs.Words.{HasKind, app_of, fault_of, found_of, kind_of, rows_of, rule_of, subcommand_rows_of};
 ghost use Rattle.clap.specs.declared.builder.command.Command.TheViews.{out-Command as fields_of};
-ghost use Rattle.broker_command.specs.Line.{broker, play, loopback, node_words, with_options, serve, run, check, word_rule, option_rule, turns_rule, most_clients_rule, connect_within_rule, mqtt3_rule, log_rule, IsFlag, IsNumberIf, IsTextIf, IsTask, IsOf, IsPlay, IsLoopback, IsNode, IsServe, IsRun, IsCheck, IsScript, IsRefusal, IsStopOf};
+ghost use Rattle.broker_command.specs.Line.{broker, play, loopback, node_words, with_options, serve, run, check, balancer, word_rule, option_rule, turns_rule, most_clients_rule, connect_within_rule, mqtt3_rule, log_rule, IsFlag, IsNumberIf, IsTextIf, IsTask, IsOf, IsPlay, IsLoopback, IsNode, IsServe, IsRun, IsCheck, IsBalancer, IsScript, IsRefusal, IsStopOf};
 
 use crate::addresses::with_addresses;
 use crate::limits::{limits_of, with_limits};
@@ -42,6 +42,7 @@ fn commands<'a>(alloc: Global) -> Result<Command<'a>, AllocError>
     let serve = serve_command(alloc)?;
     let run = run_command(alloc)?;
     let check = check_command(alloc)?;
+    let balancer = balancer_command(alloc)?;
     Command::new(alloc, "broker")
         .about("A node of a cluster of MQTT 5.0 brokers")
         .version(VERSION)
@@ -51,7 +52,8 @@ fn commands<'a>(alloc: Global) -> Result<Command<'a>, AllocError>
         .subcommand(loopback)?
         .subcommand(serve)?
         .subcommand(run)?
-        .subcommand(check)
+        .subcommand(check)?
+        .subcommand(balancer)
 }
 
 fn play_command<'a>(alloc: Global) -> Result<Command<'a>, AllocError>
@@ -116,6 +118,16 @@ fn check_command<'a>(alloc: Global) -> Result<Command<'a>, AllocError>
 {
     let about = "Tells what the rows of a node that is down hold, and changes no file";
     node_words(alloc, "check", about)
+}
+
+fn balancer_command<'a>(alloc: Global) -> Result<Command<'a>, AllocError>
+    ensures { IfOk result (λ c. (app_of c ≡ balancer) × ((fields_of c).has_globals ≡ false)) }
+{
+    Command::new(alloc, "balancer")
+        .about("Prints a backend of HAProxy that sends each client to its home")
+        .arg(required(alloc, "CONFIG").help(
+            "The file that names the nodes and their homes, in TOML",
+        ))
 }
 
 fn turns_option<'a>(alloc: Global) -> Arg<'a>
@@ -220,6 +232,8 @@ fn named_task(alloc: Global, matches: &ArgMatches<'_>) -> Result<Option<Task>, A
         run_task(alloc, found)
     } else if name == "check" {
         check_task(alloc, found)
+    } else if name == "balancer" {
+        balancer_task(alloc, found)
     } else {
         Ok(None)
     }
@@ -360,6 +374,16 @@ fn check_task(alloc: Global, found: &ArgMatches<'_>) -> Result<Option<Task>, All
         node,
         database,
     }))
+}
+
+fn balancer_task(alloc: Global, found: &ArgMatches<'_>) -> Result<Option<Task>, AllocError>
+    ensures { IfOk result (λ task. IfSome task (IsBalancer (rows_of (found_of found.now)))) }
+{
+    let Some(configuration) = found.get_str("CONFIG") else {
+        return Ok(None);
+    };
+    let configuration = String::from_str(alloc, configuration)?;
+    Ok(Some(Task::Balancer { configuration }))
 }
 
 /// What the program says where a parse gives no task.

@@ -1,5 +1,6 @@
 pub mod Flaws
 pub mod Judging
 pub mod Laws
+pub mod Listed
 pub mod Looking
 pub mod Watching

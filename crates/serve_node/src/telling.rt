@@ -1,21 +1,30 @@
 //! The sockets of the system, which tell why nobody can be accepted.
 
-ghost use Rattle.std.specs.Prelude.{ℕ};
+ghost use Rattle.std.specs.Prelude.{◌≡◌, ℕ};
 
 use crate::refusal::tell_refusal;
 use broker_sockets::{Answer, PolledSockets, Readiness, Ready, Sockets, Watched};
+use cli_stops::answer_of;
 use mio::net::{TcpListener, TcpStream};
 use std::alloc::{AllocError, Global};
 use std::io::{self, Write};
 use std::net::SocketAddr;
 
-/// The sockets of the system, which write why nobody can be accepted: once, and again only after somebody was.
+/// An address at which the program was to wait, and what the system answered.
+#[derive(Clone, Copy, Debug, PartialEq, Eq)]
+pub(crate) struct Refused {
+    pub address: SocketAddr,
+    pub answer: cli_stops::Answer,
+}
+
+/// The sockets of the system, which keep an address that it refuses with its answer, and write why nobody can be accepted: once, and again only after somebody was.
 #[derive(Drop)]
 pub(crate) struct TellingSockets<'a, E> {
     sockets: PolledSockets<'a, HostRuntime>,
     error: E,
     /// Whether it was told since somebody was accepted last.
     told: bool,
+    refused: Option<Refused>,
 }
 
 impl<'a, E> TellingSockets<'a, E> {
@@ -25,7 +34,15 @@ impl<'a, E> TellingSockets<'a, E> {
             sockets,
             error,
             told: false,
+            refused: None,
         }
+    }
+
+    /// The last address that was refused.
+    pub(crate) fn refused(&self) -> Option<Refused>
+        ensures { result ≡ self.now.refused }
+    {
+        self.refused
     }
 }
 
@@ -58,7 +75,12 @@ impl<'a, E: Write> Sockets for TellingSockets<'a, E> {
     ghost writes = { λ _ _ _ _ _ _. Unit {0} };
 
     fn listen(&mut self, address: SocketAddr) -> io::Result<TcpListener> {
-        self.sockets.listen(address)
+        let listener = self.sockets.listen(address);
+        if let Err(error) = &listener {
+            let answer = answer_of(error);
+            self.refused = Some(Refused { address, answer });
+        }
+        listener
     }
 
     fn address(&self, listener: &TcpListener) -> Option<SocketAddr> {
