@@ -88,4 +88,9 @@ pub enum Task {
         /// The path of the node's database.
         database: String,
     },
+    /// Print what HAProxy needs to send each client to its home.
+    Balancer {
+        /// The path of the configuration.
+        configuration: String,
+    },
 }

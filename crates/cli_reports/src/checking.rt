@@ -8,6 +8,20 @@ use cli_stops::{Cause, Ending, Found, RunFault, Stop, Tried, answer_of, rows_fau
 use home_table::HomeTable;
 use std::io::Write;
 
+/// Prints a text.
+pub(crate) fn print_text<W: Write>(text: &String, out: &mut W) -> Result<(), Ending> {
+    match out.write_all(text.as_bytes()) {
+        Ok(()) => Ok(()),
+        Err(error) => Err(Ending {
+            stop: Stop::Run(RunFault::Output),
+            cause: Some(Cause {
+                tried: Tried::Printing,
+                found: Found::Answered(answer_of(&error)),
+            }),
+        }),
+    }
+}
+
 /// Prints the text of the figures.
 fn print<W: Write>(
     rt: &HostRuntime,
@@ -19,16 +33,7 @@ fn print<W: Write>(
     let Ok(text) = report(rt.alloc(), node, id, figures) else {
         return Err(Ending::from(Stop::Run(RunFault::NoMemory)));
     };
-    match out.write_all(text.as_bytes()) {
-        Ok(()) => Ok(()),
-        Err(error) => Err(Ending {
-            stop: Stop::Run(RunFault::Output),
-            cause: Some(Cause {
-                tried: Tried::Printing,
-                found: Found::Answered(answer_of(&error)),
-            }),
-        }),
-    }
+    print_text(&text, out)
 }
 
 /// What ends a check of the rows in the database at a path, where the node has made a subscription under a later version than the table's.

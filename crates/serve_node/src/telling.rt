@@ -5,6 +5,7 @@ ghost use Rattle.std.specs.Prelude.{ℕ};
 use crate::refusal::{tell_held, tell_refusal};
 use broker_holds::Strain;
 use broker_sockets::{Answer, PolledSockets, Readiness, Ready, Sockets, Watched};
+use cli_stops::answer_of;
 use mio::net::{TcpListener, TcpStream};
 use std::alloc::{AllocError, Global};
 use std::io::{self, Write};
@@ -14,8 +15,15 @@ use std::rc::Rc;
 /// For so many milliseconds after it was told that clients are held back it isn't told again.
 const MINUTE: u64 = 60_000;
 
-/// The sockets of the system, which write why nobody can be accepted: once, and again only after somebody was. And they write that clients are held back,
-/// once a minute at most.
+/// An address at which the program was to wait, and what the system answered.
+#[derive(Clone, Copy, Debug, PartialEq, Eq)]
+pub(crate) struct Refused {
+    pub address: SocketAddr,
+    pub answer: cli_stops::Answer,
+}
+
+/// The sockets of the system, which keep an address that it refuses with its answer, and write why nobody can be accepted: once, and again only after somebody was.
+/// And they write that clients are held back, once a minute at most.
 #[derive(Drop)]
 pub(crate) struct TellingSockets<'a, E> {
     sockets: PolledSockets<'a, HostRuntime>,
@@ -26,14 +34,17 @@ pub(crate) struct TellingSockets<'a, E> {
     strain: Rc<Strain>,
     /// From when on it is told again.
     held_again: u64,
+    /// The last address that was refused.
+    refused: &'a mut Option<Refused>,
 }
 
 impl<'a, E> TellingSockets<'a, E> {
-    /// These sockets, with a writer for what they tell.
+    /// These sockets, with a writer for what they tell; an address that is refused is kept in `refused`.
     pub(crate) fn new(
         sockets: PolledSockets<'a, HostRuntime>,
         error: E,
         strain: Rc<Strain>,
+        refused: &'a mut Option<Refused>,
     ) -> Self {
         TellingSockets {
             sockets,
@@ -41,6 +52,7 @@ impl<'a, E> TellingSockets<'a, E> {
             told: false,
             strain,
             held_again: 0,
+            refused,
         }
     }
 }
@@ -85,7 +97,12 @@ impl<'a, E: Write> Sockets for TellingSockets<'a, E> {
     ghost writes = { λ _ _ _ _ _ _. Unit {0} };
 
     fn listen(&mut self, address: SocketAddr) -> io::Result<TcpListener> {
-        self.sockets.listen(address)
+        let listener = self.sockets.listen(address);
+        if let Err(error) = &listener {
+            let answer = answer_of(error);
+            *self.refused = Some(Refused { address, answer });
+        }
+        listener
     }
 
     fn address(&self, listener: &TcpListener) -> Option<SocketAddr> {

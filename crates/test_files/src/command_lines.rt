@@ -75,6 +75,7 @@ fn told(rt: &impl Abort, alloc: Global, line: &str) -> String {
                 database,
             },
         ) => { format!(in alloc; "check {configuration} {node} {database}") }
+        Ok(Task::Balancer { configuration }) => format!(in alloc; "balancer {configuration}"),
         Err(stop) => {
             let mut out: Vec<u8> = Vec::new(alloc);
             let mut err: Vec<u8> = Vec::new(alloc);
@@ -162,6 +163,8 @@ fn reads_command_lines(rt: HostRuntime) {
         ),
         ("password alice", "password alice"),
         ("check c.toml n0 d.db", "check c.toml n0 d.db"),
+        ("balancer c.toml", "balancer c.toml"),
+        ("balancer --help", "0 (true, false)"),
         ("check --help", "0 (true, false)"),
         ("--help", "0 (true, false)"),
         ("--version", "0 (true, false)"),
@@ -238,6 +241,9 @@ fn refuses_command_lines(rt: HostRuntime) {
         ("check c.toml n0 d.db --log", "2 (false, true)"),
         ("check c.toml n0", "2 (false, true)"),
         ("check c.toml n0 d.db --turns 1", "2 (false, true)"),
+        ("balancer", "2 (false, true)"),
+        ("balancer c.toml n0", "2 (false, true)"),
+        ("balancer c.toml --listen here", "2 (false, true)"),
     ];
     for (line, expected) in lines {
         let found = told(&rt, alloc, line);

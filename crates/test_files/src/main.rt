@@ -6,6 +6,8 @@
 #![tactic(auto)]
 
 #[cfg(test)]
+mod balancers;
+#[cfg(test)]
 mod command_lines;
 #[cfg(test)]
 mod configurations;
