@@ -7,6 +7,7 @@ ghost use Rattle.clap.specs.declared.builder.command.Command.TheViews.{out-Comma
 ghost use Rattle.broker_command.specs.Line.{broker, play, loopback, node_words, with_options, serve, run, check, password, balancer, word_rule, option_rule, turns_rule, most_clients_rule, connect_within_rule, mqtt3_rule, log_rule, IsFlag, IsNumberIf, IsTextIf, IsTask, IsOf, IsPlay, IsLoopback, IsNode, IsServe, IsRun, IsCheck, IsPassword, IsBalancer, IsScript, IsRefusal, IsStopOf};
 
 use crate::addresses::with_addresses;
+use crate::dropping::{drop_command, drop_task};
 use crate::limits::{limits_of, with_limits};
 use crate::task::Task;
 use crate::users::{users_of, with_users};
@@ -45,6 +46,7 @@ fn commands<'a>(alloc: Global) -> Result<Command<'a>, AllocError>
     let check = check_command(alloc)?;
     let password = password_command(alloc)?;
     let balancer = balancer_command(alloc)?;
+    let drop = drop_command(alloc)?;
     Command::new(alloc, "broker")
         .about("A node of a cluster of MQTT 5.0 brokers")
         .version(VERSION)
@@ -56,7 +58,8 @@ fn commands<'a>(alloc: Global) -> Result<Command<'a>, AllocError>
         .subcommand(run)?
         .subcommand(check)?
         .subcommand(password)?
-        .subcommand(balancer)
+        .subcommand(balancer)?
+        .subcommand(drop)
 }
 
 fn play_command<'a>(alloc: Global) -> Result<Command<'a>, AllocError>
@@ -76,7 +79,11 @@ fn loopback_command<'a>(alloc: Global) -> Result<Command<'a>, AllocError>
 }
 
 /// A command of this name about one node of a cluster, before its options.
-fn node_words<'a>(alloc: Global, name: &'a str, about: &'a str) -> Result<Command<'a>, AllocError>
+pub(crate) fn node_words<'a>(
+    alloc: Global,
+    name: &'a str,
+    about: &'a str,
+) -> Result<Command<'a>, AllocError>
     ensures { IfOk result (λ c. (app_of c ≡ node_words name.entry.now) × ((fields_of c).has_globals ≡ false)) }
 {
     Command::new(alloc, name)
@@ -248,6 +255,8 @@ fn named_task(alloc: Global, matches: &ArgMatches<'_>) -> Result<Option<Task>, A
         password_task(alloc, found)
     } else if name == "balancer" {
         balancer_task(alloc, found)
+    } else if name == "drop" {
+        drop_task(alloc, found)
     } else {
         Ok(None)
     }

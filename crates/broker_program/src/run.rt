@@ -3,6 +3,7 @@
 use crate::limits::bounds_of;
 use broker_command::{AskedUsers, Task};
 use broker_sockets::RealSockets;
+use cli_drops::{Asked, drop_rows};
 use cli_files::{print_user_line, read_access, read_password, read_script};
 use cli_reports::{balance, check};
 use cli_stops::Ending;
@@ -66,6 +67,24 @@ pub fn run_task(rt: &HostRuntime, task: Task) -> Result<(), Ending> {
             database.as_str(),
             &mut rt.stdout(),
         ),
+        Task::DropRows {
+            configuration,
+            node,
+            database,
+            session,
+            queue,
+            lane,
+        } => {
+            let asked = Asked {
+                configuration: configuration.as_str(),
+                node: node.as_str(),
+                database: database.as_str(),
+                session: session.as_ref().map(|client| client.as_str()),
+                queue: queue.as_ref().map(|client| client.as_str()),
+                lane: lane.as_ref().map(|name| name.as_str()),
+            };
+            drop_rows(rt, asked, &mut rt.stdout())
+        }
         Task::Balancer { configuration } => {
             balance(rt, configuration.as_str(), &mut rt.stdout())
         }

@@ -12,6 +12,8 @@ mod command_lines;
 #[cfg(test)]
 mod configurations;
 #[cfg(test)]
+mod drops;
+#[cfg(test)]
 mod files;
 #[cfg(test)]
 mod homes;
