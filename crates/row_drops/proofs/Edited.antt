@@ -1,13 +1,15 @@
 -- What edits of rows in the order of their keys leave.
-use Rattle.std.proofs.Common.{◌≡◌, inl, inr, ℕ, Bool, true, false, cond, List, [], ◌∷◌, ◌++◌, Option, Some, None, Less, refl, sym, ap, subst, ◌∙◌}
+use Rattle.std.proofs.Common.{◌≡◌, inl, inr, ℕ, suc, ◌+◌, ◌<◌, Bool, true, false, cond, List, [], ◌∷◌, ◌++◌, append_assoc, arith, drop, get_or, length, map, Option, Some, None, Less, refl, sym, ap, subst, ◌∙◌}
 use Rattle.std.specs.FinMap.{find}
 use Rattle.std.specs.List.{AllByRecursion}
 use Rattle.std.specs.Option.{option_and_then}
+use Rattle.std.proofs.Math.Seq.{drop-cons}
 use Rattle.std.proofs.lemmas.Bool.{cases_Bool}
 use Rattle.bridge_lanes.specs.Changes.{Left}
 use Rattle.bridge_lanes.proofs.Order.{Rises, find_none, left_in, less_apart, or_else_none, same_is, same_key}
 use Rattle.row_store.specs.Leading.{left_or, or_else}
-use Rattle.row_store.specs.Rows.{Key, key_cmp, Plain}
+use Rattle.row_store.specs.declared.row.Row.{Row}
+use Rattle.row_store.specs.Rows.{Key, entry_of, key_cmp, Plain}
 use Rattle.row_drops.specs.Editing.{Edit, edited, edited_rows, edits, with_left, with_row}
 
 cond_none : {A : Type 0} (b : Bool) → ◌≡◌ {A = Option A} (cond b None None) None
@@ -98,3 +100,22 @@ edited_both f (e ∷ xs) ys = ap (with_row e.0 e.1 (f e.0 e.1)) (edited_both f x
 pub all_stay : (f : Edit) (es : List Plain) → AllByRecursion (λ e. f e.0 e.1 ≡ None) es → edited_rows f es ≡ es
 all_stay f [] all = refl
 all_stay f (e ∷ es) all = ap (λ o. with_row e.0 e.1 o (edited_rows f es)) all.0 ∙ ap (λ rows. e ∷ rows) (all_stay f es all.1)
+
+-- ---- one row after another
+left_first : (key : Key) (o : Option (Option (List ℕ))) (more : List Left) → with_left key o more ≡ with_left key o [] ++ more
+left_first key None more = refl
+left_first key (Some left) more = refl
+
+left_at : (rs : List Row) (i : ℕ) (r : Row) → i < length rs → r ≡ get_or rs i r → map entry_of (drop i rs) ≡ entry_of r ∷ map entry_of (drop (i + 1) rs)
+left_at rs i r lt at =
+    let later : suc i ≡ i + 1 = omega arith in
+    ap (map entry_of) (drop-cons rs i r lt ∙ ap (λ (y : Row). y ∷ drop (suc i) rs) (sym at)) ∙ ap (λ n. entry_of r ∷ map entry_of (drop n rs)) later
+
+-- what is left of one more row stands behind what was left of those before it
+pub one_more : (f : Edit) (rows : List Row) (i : ℕ) (r : Row) (lefts : List Left) → i < length rows → r ≡ get_or rows i r → lefts ++ edits f (map entry_of (drop i rows)) ≡ edits f (map entry_of rows)
+    → (lefts ++ with_left (entry_of r).0 (f (entry_of r).0 (entry_of r).1) []) ++ edits f (map entry_of (drop (i + 1) rows)) ≡ edits f (map entry_of rows)
+one_more f rows i r lefts lt at before =
+    let rest = edits f (map entry_of (drop (i + 1) rows)) in
+    append_assoc lefts (with_left (entry_of r).0 (f (entry_of r).0 (entry_of r).1) []) rest
+    ∙ ap (λ cs. lefts ++ cs) (sym (ap (edits f) (left_at rows i r lt at) ∙ left_first (entry_of r).0 (f (entry_of r).0 (entry_of r).1) rest))
+    ∙ before
