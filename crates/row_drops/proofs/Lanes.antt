@@ -14,6 +14,7 @@ use Rattle.bridge_lanes.specs.Rows.{Messages, each, last_put, message_key, messa
 use Rattle.bridge_lanes.proofs.Keys.{one_owner}
 use Rattle.bridge_lanes.proofs.Leading.{IsOf, each_all, numbers_are}
 use Rattle.bridge_lanes.proofs.Order.{all_turned}
+use Rattle.mqtt_fields.specs.Block.{properties}
 use Rattle.mqtt_message.specs.Parts.{own_properties, tail}
 use Rattle.mqtt_message.specs.Spellings.{message}
 use Rattle.row_store.specs.Rows.{Key, Plain}
@@ -23,12 +24,12 @@ use Rattle.row_drops.proofs.Edited.{all_stay, edited_both}
 
 -- ---- a message for nobody
 nobody_bytes : forward.bytes for_nobody ≡ nobody_value
-unfolding forward message own_properties tail
+unfolding forward message own_properties properties tail
 nobody_bytes = refl
 
 nobody_fits : forward.Fits for_nobody
-unfolding forward message own_properties tail
-nobody_fits = (omega arith, ((omega arith, tt), (((omega arith, tt), tt), ((omega arith, tt), (((omega arith, tt), tt), (omega arith, (omega arith, ((omega arith, tt), tt))))))))
+unfolding forward message own_properties properties tail
+nobody_fits = (omega arith, ((omega arith, tt), (((omega arith, refl), refl), ((omega arith, refl), (((omega arith, tt), refl), (omega arith, (omega arith, ((omega arith, refl), tt))))))))
 
 all_fit : (ms : List Forward) → AllByRecursion forward.Fits (map (λ _. for_nobody) ms)
 all_fit [] = tt

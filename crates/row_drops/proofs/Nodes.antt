@@ -26,9 +26,33 @@ use Rattle.row_drops.proofs.Sessions.{ended_rows, queue_others, queue_rows, sess
 
 -- ---- it can last
 pub still_lasts : (id nodes : ℕ) (target : Target) (x : Lasting) → IsLasting id nodes x → IsLasting id nodes (dropped target x)
-still_lasts id nodes (Session client) x is = record is { sessions = sessions_last session_edit ended ended_rows session_others x.sessions is.sessions end_lasts (λ d. refl) client.bytes.items }
-still_lasts id nodes (Queue client) x is = record is { sessions = sessions_last queue_edit without_queue queue_rows queue_others x.sessions is.sessions queue_lasts (λ d. refl) client.bytes.items }
-still_lasts id nodes (Lane node) x is = record is { lanes = lanes_last node nodes x.lanes is.lanes; others = no_lane node id x.lanes is.others }
+still_lasts id nodes (Session client) x is = record {
+  few = is.few;
+  named = is.named;
+  sessions = sessions_last session_edit ended ended_rows session_others x.sessions is.sessions end_lasts (λ d. refl) client.bytes.items;
+  store = is.store;
+  among = is.among;
+  lanes = is.lanes;
+  others = is.others;
+}
+still_lasts id nodes (Queue client) x is = record {
+  few = is.few;
+  named = is.named;
+  sessions = sessions_last queue_edit without_queue queue_rows queue_others x.sessions is.sessions queue_lasts (λ d. refl) client.bytes.items;
+  store = is.store;
+  among = is.among;
+  lanes = is.lanes;
+  others = is.others;
+}
+still_lasts id nodes (Lane node) x is = record {
+  few = is.few;
+  named = is.named;
+  sessions = is.sessions;
+  store = is.store;
+  among = is.among;
+  lanes = lanes_last node nodes x.lanes is.lanes;
+  others = no_lane node id x.lanes is.others;
+}
 
 -- ---- key by key
 lane_leads : (nodes node : ℕ) (x : Lasting) (id : ℕ) → IsLasting id nodes x → node < nodes → (q : Key)
