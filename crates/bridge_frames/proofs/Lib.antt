@@ -1,2 +1,3 @@
 pub mod ForwardLaws
+pub mod GreetingLaws
 pub mod FrameLaws

@@ -1,6 +1,9 @@
 //! The numbers of messages in a lane.
-ghost use Rattle.std.specs.Prelude.{◌≡◌, ◌<◌, ◌^◌};
+ghost use Rattle.std.specs.Prelude.{◌≡◌, ◌<◌, ◌^◌, IsErrOf};
+ghost use Rattle.mqtt_fields.specs.Reading.{Gives};
+ghost use Rattle.bridge_frames.specs.Forwards.{got_number};
 
+use mqtt_fields::{FieldFault, NUMBERS_END, u64_at};
 use std::marker::Model;
 
 /// The number of a message in the lane from one node to another, or 0 for none: below 2^62. Contracts see the number.
@@ -37,4 +40,18 @@ impl LaneNumber {
     {
         self.number
     }
+}
+
+/// The number at the front, and the bytes after it.
+///
+/// Short where the bytes end inside it, Malformed from 2^62 on.
+pub(crate) fn number_at(bytes: &[u8]) -> Result<(LaneNumber, &[u8]), FieldFault>
+    ensures exact { Gives (λ x. (x.0, x.1.now)) result (got_number.at bytes.now) }
+    ensures no_memory { IsErrOf result FieldFault.NoMemory → ⊥ }
+{
+    let (number, rest) = u64_at(bytes)?;
+    if number >= NUMBERS_END {
+        return Err(FieldFault::Malformed);
+    }
+    Ok((LaneNumber::of(number), rest))
 }
