@@ -1,5 +1,5 @@
 -- Rows and changes of lanes, one lane after the other.
-use Rattle.std.proofs.Common.{◌≡◌, inl, inr, Result, Ok, Err, ℕ, zero, suc, ◌+◌, ◌-◌, ◌<◌, ◌≤◌, ◌^◌, min, max, List, [], ◌∷◌, ◌++◌, map, length, take, drop, get_or, append-nil, append_assoc, length-drop, refl, sym, ap, subst, ◌∙◌, arith}
+use Rattle.std.proofs.Common.{◌≡◌, ◌⊎◌, inl, inr, Result, Ok, Err, ℕ, zero, suc, ◌+◌, ◌-◌, ◌<◌, ◌≤◌, ◌^◌, min, List, [], ◌∷◌, ◌++◌, map, length, take, drop, get_or, append-nil, append_assoc, length-drop, refl, sym, ap, subst, ◌∙◌, arith}
 use Rattle.std.specs.Prelude.{IsOk, OnErr}
 use Rattle.std.specs.List.{AllByRecursion}
 use Rattle.std.proofs.lemmas.Bool.{cases_lt}
@@ -74,15 +74,16 @@ cut_are (suc g) zero xs le = absurd (omega (arith, le))
 cut_are (suc g) (suc t) [] le = refl
 cut_are (suc g) (suc t) (x ∷ xs) le = cut_are g t xs (omega (arith, le))
 
--- a lane of messages from a number on, of which some were told and some are gone
-abbrev pub kept : ℕ → List Forward → ℕ → ℕ → ℕ → ℕ → KeptLane
-kept base all gone told took told_took = record {
-  lane = record { gone = base + gone; waiting = drop gone all; took = took };
+-- a lane of messages from a number on, of which some were told and some are gone; the numbers of those that wait may be higher
+abbrev pub kept : ℕ → ℕ → List Forward → ℕ → ℕ → ℕ → ℕ → KeptLane
+kept base shift all gone told took told_took = record {
+  lane = record { gone = base + shift + gone; waiting = drop gone all; took = took };
   told = record { gone = base; waiting = take told all; took = told_took };
 }
 
-pub comes_later : (base : ℕ) (all : List Forward) (gone told took told_took : ℕ) → gone ≤ length all → told ≤ length all → told_took ≤ took → IsLater (kept base all gone told took told_took)
-comes_later base all gone told took told_took few some rose = elim (cases_lt told gone) [
+pub comes_later : (base shift : ℕ) (all : List Forward) (gone told took told_took : ℕ) → gone ≤ length all → told ≤ length all → told_took ≤ took → (shift ≡ 0) ⊎ (told ≤ gone + shift)
+    → IsLater (kept base shift all gone told took told_took)
+comes_later base shift all gone told took told_took few some rose moved = elim (cases_lt told (gone + shift)) [
   | inl past ↦ record {
     gone = take told all;
     kept = [];
@@ -92,36 +93,46 @@ comes_later base all gone told took told_took few some rose = elim (cases_lt tol
     numbers = inr (refl, omega (arith, count_taken all told some, past));
     took = rose;
   }
-  | inr here ↦ record {
-    gone = take gone all;
-    kept = drop gone (take told all);
-    fresh = drop told all;
-    were = cut_were gone told all here;
-    are = cut_are gone told all here;
-    numbers = inl (omega (arith, count_taken all gone few));
-    took = rose;
-  }
+  | inr here ↦ elim moved [
+    | inl none ↦ record {
+      gone = take gone all;
+      kept = drop gone (take told all);
+      fresh = drop told all;
+      were = cut_were gone told all (omega (arith, here));
+      are = cut_are gone told all (omega (arith, here));
+      numbers = inl (omega (arith, count_taken all gone few, none));
+      took = rose;
+    }
+    | inr over ↦ record {
+      gone = take told all;
+      kept = [];
+      fresh = drop gone all;
+      were = sym (append-nil (take told all));
+      are = refl;
+      numbers = inr (refl, omega (arith, count_taken all told some, over));
+      took = rose;
+    }
+  ]
 ]
 
-pub below_end : (base gone : ℕ) (all : List Forward) → gone ≤ length all → base + length all < 2 ^ 62 → base + gone + length (drop gone all) < 2 ^ 62
-below_end base gone all few below = omega (arith, length-drop gone all, few, below)
+pub below_end : (base shift gone : ℕ) (all : List Forward) → gone ≤ length all → base + shift + length all < 2 ^ 62 → base + shift + gone + length (drop gone all) < 2 ^ 62
+below_end base shift gone all few below = omega (arith, length-drop gone all, few, below)
 
-pub changes_made : (peer base : ℕ) (all : List Forward) (gone told took told_took : ℕ) (old mid new : List Left) → gone ≤ length all → told ≤ length all
-    → mid ≡ old ++ removals peer (suc base) (min gone told) → new ≡ mid ++ map put (message_rows peer (suc (base + max gone told)) (drop (max gone told) all))
-    → new ≡ old ++ message_changes peer (kept base all gone told took told_took)
-changes_made peer base all gone told took told_took old mid new few some one two =
-    let k = kept base all gone told took told_took in
+pub changes_made : (peer base shift : ℕ) (all : List Forward) (gone told took told_took still : ℕ) (old mid new : List Left) → gone ≤ length all → told ≤ length all
+    → still ≡ told_count (kept base shift all gone told took told_took)
+    → mid ≡ old ++ removals peer (suc base) (told - still) → new ≡ mid ++ map put (message_rows peer (suc (base + shift + (gone + still))) (drop (gone + still) all))
+    → new ≡ old ++ message_changes peer (kept base shift all gone told took told_took)
+changes_made peer base shift all gone told took told_took still old mid new few some is one two =
+    let k = kept base shift all gone told took told_took in
     let count = count_taken all told some in
-    let gone_is : min gone told ≡ gone_count k = omega (arith, count) in
-    let told_is : told_count k ≡ told - gone = omega (arith, count) in
-    let from : base + max gone told ≡ base + gone + told_count k = omega (arith, told_is) in
-    let place : gone + (told - gone) ≡ max gone told = omega arith in
-    two ∙ ap (λ xs. xs ++ map put (message_rows peer (suc (base + max gone told)) (drop (max gone told) all))) one ∙ append_assoc old _ _
+    let gone_is : told - still ≡ gone_count k = omega (arith, count, is) in
+    let from : base + shift + (gone + still) ≡ base + shift + gone + told_count k = omega (arith, is) in
+    two ∙ ap (λ xs. xs ++ map put (message_rows peer (suc (base + shift + (gone + still))) (drop (gone + still) all))) one ∙ append_assoc old _ _
     ∙ λ i. old ++ (removals peer (suc base) (gone_is i) ++ map put (message_rows peer (suc (from i)) (
-    (ap (λ n. drop n all) (sym place) ∙ sym (drop-drop (told - gone) gone all) ∙ ap (λ n. drop n (drop gone all)) (sym told_is)) i)))
+    (sym (drop-drop still gone all) ∙ ap (λ n. drop n (drop gone all)) is) i)))
 
-pub last_is : (base gone : ℕ) (all : List Forward) → gone ≤ length all → base + length all ≡ base + gone + length (drop gone all)
-last_is base gone all few = omega (arith, length-drop gone all, few)
+pub last_is : (base shift gone : ℕ) (all : List Forward) → gone ≤ length all → base + shift + length all ≡ base + shift + gone + length (drop gone all)
+last_is base shift gone all few = omega (arith, length-drop gone all, few)
 
 pub told_last_is : (base told : ℕ) (all : List Forward) → told ≤ length all → base + told ≡ base + length (take told all)
 told_last_is base told all some = omega (arith, count_taken all told some)
@@ -173,17 +184,17 @@ all_told_so (k ∷ ks) e = (ap (λ (ls : List Messages). get_or ls 0 k.told) e, 
 pub told_at : (ks : List KeptLane) (i : ℕ) (k : KeptLane) → i < length ks → k ≡ get_or ks i k → told_of ks ≡ now_of ks → k.told ≡ k.lane
 told_at ks i k lt at e = subst (λ (x : KeptLane). x.told ≡ x.lane) (sym at) (All-from_recursion (λ (x : KeptLane). x.told ≡ x.lane) ks (all_told_so ks e) i k lt)
 
--- none of its messages is gone, and all were told
-pub none_gone : (base : ℕ) (all : List Forward) (gone told took told_took : ℕ) → (kept base all gone told took told_took).told ≡ (kept base all gone told took told_took).lane → gone ≡ 0
-none_gone base all gone told took told_took e =
-    let same : base ≡ base + gone = ap (λ (l : Messages). l.gone) e in
-    omega (arith, same)
+-- none of its messages is gone, their numbers are those that were told, and all were told
+pub none_gone : (base shift : ℕ) (all : List Forward) (gone told took told_took : ℕ) → (kept base shift all gone told took told_took).told ≡ (kept base shift all gone told took told_took).lane → (gone ≡ 0) × (shift ≡ 0)
+none_gone base shift all gone told took told_took e =
+    let same : base ≡ base + shift + gone = ap (λ (l : Messages). l.gone) e in
+    (omega (arith, same), omega (arith, same))
 
-pub told_all : (base : ℕ) (all : List Forward) (gone told took told_took : ℕ) → told ≤ length all → (kept base all gone told took told_took).told ≡ (kept base all gone told took told_took).lane → told ≡ length all
-told_all base all gone told took told_took some e =
-    let none = none_gone base all gone told took told_took e in
+pub told_all : (base shift : ℕ) (all : List Forward) (gone told took told_took : ℕ) → told ≤ length all → (kept base shift all gone told took told_took).told ≡ (kept base shift all gone told took told_took).lane → told ≡ length all
+told_all base shift all gone told took told_took some e =
+    let none = none_gone base shift all gone told took told_took e in
     let same : length (take told all) ≡ length (drop gone all) = ap (λ (l : Messages). length l.waiting) e in
-    omega (arith, none, same, count_taken all told some, length-drop gone all)
+    omega (arith, none.0, same, count_taken all told some, length-drop gone all)
 
-pub told_took_is : (base : ℕ) (all : List Forward) (gone told took told_took : ℕ) → (kept base all gone told took told_took).told ≡ (kept base all gone told took told_took).lane → told_took ≡ took
-told_took_is base all gone told took told_took e = ap (λ (l : Messages). l.took) e
+pub told_took_is : (base shift : ℕ) (all : List Forward) (gone told took told_took : ℕ) → (kept base shift all gone told took told_took).told ≡ (kept base shift all gone told took told_took).lane → told_took ≡ took
+told_took_is base shift all gone told took told_took e = ap (λ (l : Messages). l.took) e

@@ -1,11 +1,12 @@
 //! The lanes to and from one other node.
-ghost use Rattle.std.specs.Prelude.{[], ◌≡◌, ◌<◌, ◌≤◌, ◌+◌, ◌++◌, ◌^◌, ◌↔◌, suc, nat_eq, if◌then◌else◌, take, drop, length, map, OnOk, OnErr, IfOk, IsOk, IsTrue};
+ghost use Rattle.std.specs.Prelude.{[], ◌≡◌, ◌<◌, ◌≤◌, ◌+◌, ◌++◌, ◌^◌, ◌↔◌, true, suc, nat_eq, if◌then◌else◌, take, drop, length, map, OnOk, OnErr, IfOk, IsOk, IsTrue, Some};
 ghost use Rattle.row_store.specs.Rows.{entry_of};
-ghost use Rattle.bridge_lanes.specs.ChangeSteps.{IsSoundLane, message_changes, numbers_changes};
+ghost use Rattle.bridge_lanes.specs.ChangeSteps.{IsSoundLane, message_changes, numbers_changes, told_count};
 ghost use Rattle.bridge_lanes.specs.Changes.{left_of, new_kept, told_now};
 ghost use Rattle.bridge_lanes.specs.Reading.{IsLane, lane_in};
 ghost use Rattle.bridge_lanes.specs.Rows.{numbers_of, waiting_of};
-ghost use Rattle.bridge_lanes.specs.Lanes.{new_lane, with_got, with_took};
+ghost use Rattle.bridge_lanes.specs.Lanes.{new_lane, up_to, with_got, with_took};
+ghost use Rattle.bridge_lanes.specs.Openings.{is_behind, last_in, with_greeted, with_moved, with_passed, with_reached};
 ghost use Rattle.bridge_deltas.specs.Lane.{after_offer, first_frames, frames_from, next_number, offer_of, told_lane};
 
 use crate::offer::Offer;
@@ -28,8 +29,10 @@ const FIRST: usize = 64;
 /// Those that have been taken there stay until it is told that their rows go.
 #[derive(Drop)]
 pub(crate) struct Lane {
-    /// The number of the last message that went before those that are here.
+    /// The number of the last message that had a row and went before those that are here.
     base: u64,
+    /// How much higher their numbers are than the places behind it, and than those that they were told under.
+    shift: u64,
     messages: VecDeque<Forward>,
     /// How many of them have been taken there.
     gone: usize,
@@ -40,7 +43,7 @@ pub(crate) struct Lane {
 }
 
 impl Model for Lane {
-    ghost use Rattle.std.specs.Prelude.{◌<◌, ◌≤◌, ◌+◌, ◌^◌, take, drop, length};
+    ghost use Rattle.std.specs.Prelude.{◌≡◌, ◌⊎◌, ◌<◌, ◌≤◌, ◌+◌, ◌^◌, take, drop, length};
     ghost use Rattle.std.specs.List.{AllByRecursion};
     ghost use Rattle.bridge_frames.specs.Forwards.{forward};
     ghost use Rattle.bridge_lanes.specs.Changes.{KeptLane};
@@ -51,13 +54,14 @@ impl Model for Lane {
     ghost coded = { coded_kept };
 
     ghost view = { λ l. record {
-      lane = record { gone = l.base + l.gone; waiting = drop l.gone l.messages.items; took = l.took };
+      lane = record { gone = l.base + l.shift + l.gone; waiting = drop l.gone l.messages.items; took = l.took };
       told = record { gone = l.base; waiting = take l.told l.messages.items; took = l.told_took };
     } };
 
     ghost invariant = { λ l. (l.gone ≤ length l.messages.items) × (l.told ≤ length l.messages.items)
-        × (l.base + length l.messages.items < 2 ^ 62) × (length l.messages.items ≤ l.gone + 65536)
-        × (l.told_took ≤ l.took) × (l.took < 2 ^ 62) × AllByRecursion forward.Fits l.messages.items };
+        × (l.base + l.shift + length l.messages.items < 2 ^ 62) × (length l.messages.items ≤ l.gone + 65536)
+        × (l.told_took ≤ l.took) × (l.took < 2 ^ 62) × AllByRecursion forward.Fits l.messages.items
+        × ((l.shift ≡ 0) ⊎ (l.told ≤ l.gone + l.shift)) };
 }
 
 // Frames with the first messages from a place on, under the numbers after those that are gone.
@@ -106,6 +110,7 @@ impl Lane {
     {
         Lane {
             base: 0,
+            shift: 0,
             messages: VecDeque::new(alloc),
             gone: 0,
             told: 0,
@@ -118,7 +123,7 @@ impl Lane {
     pub fn is_new(&self) -> bool
         ensures { IsTrue result ↔ (self.now.lane ≡ new_lane) }
     {
-        self.base == 0 && self.messages.is_empty() && self.took == 0
+        self.last() == 0 && self.took == 0
     }
 
     /// Puts a message in, unless too many wait or the numbers are at their end.
@@ -132,7 +137,7 @@ impl Lane {
         if self.messages.len() - self.gone >= LANE_ROOM {
             return Ok(Offer::Full);
         }
-        let number = self.base + self.messages.len() as u64 + 1;
+        let number = self.last() + 1;
         if number >= NUMBERS_END {
             return Ok(Offer::AtEnd);
         }
@@ -146,7 +151,7 @@ impl Lane {
         ensures frames { IfOk result (λ out. out.items ≡ first_frames from to self.now.lane) }
         ensures memory { OnErr result (0 < length self.now.lane.waiting) }
     {
-        let gone = self.base + self.gone as u64;
+        let gone = self.base + self.shift + self.gone as u64;
         let out = frames_of(alloc, from, to, gone, &self.messages, self.gone)?;
         Ok(out)
     }
@@ -179,13 +184,82 @@ impl Lane {
         LaneNumber::of(self.took)
     }
 
+    /// The number before that of the first message that waits.
+    pub fn gone(&self) -> LaneNumber
+        ensures { result ≡ self.now.lane.gone }
+    {
+        LaneNumber::of(self.base + self.shift + self.gone as u64)
+    }
+
     /// The other node has taken the messages up to a number, and they no longer wait.
     pub fn got(&mut self, number: LaneNumber)
         ensures { self.new ≡ record self.old { lane = with_got number self.old.lane } }
     {
-        let past = number.get().saturating_sub(self.base + self.gone as u64);
+        self.gone += self.up_to(number.get());
+    }
+
+    // The number of the last message that was put in.
+    fn last(&self) -> u64
+        ensures same { result ≡ last_in self.now.lane }
+        ensures below { result < 2 ^ 62 }
+    {
+        self.base + self.shift + self.messages.len() as u64
+    }
+
+    // How many of those that wait are up to a number.
+    fn up_to(&self, number: u64) -> usize
+        ensures { result ≡ up_to number self.now.lane }
+    {
+        let past = number.saturating_sub(self.base + self.shift + self.gone as u64);
         let waiting = self.messages.len() - self.gone;
-        self.gone += past.min(waiting as u64) as usize;
+        past.min(waiting as u64) as usize
+    }
+
+    /// Whether the other node took more than had been put in at the opening, so that what was put in later is none of it.
+    pub fn is_behind(&self, opened: Option<u64>, number: LaneNumber) -> bool
+        ensures { result ≡ is_behind opened number self.now.lane }
+    {
+        let Some(opened) = opened else {
+            return false;
+        };
+        let left = self.messages.len() - self.gone - self.up_to(opened);
+        let from = self.last().max(number.get());
+        opened < number.get() && from + (left as u64) < NUMBERS_END
+    }
+
+    // What waited at the opening is gone, and what was put in later gets numbers after all that were given, and after one more.
+    fn move_up(&mut self, opened: u64, number: LaneNumber)
+        requires { is_behind (Some opened) number self.old.lane ≡ true }
+        ensures { self.new ≡ record self.old { lane = with_moved opened number self.old.lane } }
+    {
+        let from = self.last().max(number.get());
+        self.gone += self.up_to(opened);
+        self.shift = from - self.base - self.gone as u64;
+    }
+
+    // The other node has taken the messages up to a number: of these rows, or of those that are lost.
+    fn reach(&mut self, opened: Option<u64>, number: LaneNumber)
+        ensures { self.new ≡ record self.old { lane = with_reached opened number self.old.lane } }
+    {
+        match opened {
+            Some(last) if self.is_behind(opened, number) => self.move_up(last, number),
+            _ => self.got(number),
+        }
+    }
+
+    // The other node has nothing up to a number any more.
+    fn pass(&mut self, number: LaneNumber)
+        ensures { self.new ≡ record self.old { lane = with_passed number self.old.lane } }
+    {
+        self.took = self.took.max(number.get());
+    }
+
+    /// The other node has nothing up to one number any more, and has taken the messages up to another.
+    pub fn greet(&mut self, opened: Option<u64>, passed: LaneNumber, reached: LaneNumber)
+        ensures { self.new ≡ record self.old { lane = with_greeted opened passed reached self.old.lane } }
+    {
+        self.pass(passed);
+        self.reach(opened, reached);
     }
 
     /// The rows of the lanes have been told as they are: messages that have been taken are let go.
@@ -193,7 +267,8 @@ impl Lane {
         ensures { self.new ≡ told_now self.old }
     {
         let_go(&mut self.messages, self.gone);
-        self.base += self.gone as u64;
+        self.base += self.shift + self.gone as u64;
+        self.shift = 0;
         self.gone = 0;
         self.told = self.messages.len();
         self.told_took = self.took;
@@ -212,6 +287,7 @@ impl Lane {
         let told = messages.len();
         Lane {
             base: gone,
+            shift: 0,
             messages,
             gone: 0,
             told,
@@ -239,7 +315,7 @@ impl Lane {
         ensures begins { take (length out.old.items) out.new.items ≡ out.old.items }
         ensures none { waiting_of peer self.now.lane ≡ [] → IsOk result }
     {
-        append_rows(alloc, peer, self.base, &self.messages, self.gone, out)
+        append_rows(alloc, peer, self.base + self.shift, &self.messages, self.gone, out)
     }
 
     /// Appends the row of the numbers of the peer's lanes, if they have one: else it takes no memory. Where memory runs out `out`
@@ -254,8 +330,7 @@ impl Lane {
         ensures err { OnErr result (out.new.items ≡ out.old.items) }
         ensures none { numbers_of peer self.now.lane ≡ [] → IsOk result }
     {
-        let last_put = self.base + self.messages.len() as u64;
-        append_numbers(alloc, peer, last_put, self.took, out)
+        append_numbers(alloc, peer, self.last(), self.took, out)
     }
 
     /// What is told comes before what is. This does nothing; its contract is a law.
@@ -263,6 +338,15 @@ impl Lane {
         ensures { IsSoundLane self.now }
     {
         let _base = self.base;
+    }
+
+    // How many of those that wait have rows under their numbers.
+    fn still_told(&self) -> usize
+        ensures same { result ≡ told_count self.now }
+        ensures few { self.now.told.gone + result ≤ self.now.told.gone + length self.now.told.waiting }
+    {
+        let ahead = self.gone as u64 + self.shift;
+        (self.told as u64).saturating_sub(ahead) as usize
     }
 
     /// Appends what has changed of the rows of messages since they were told: where nothing has, no memory is taken.
@@ -275,9 +359,10 @@ impl Lane {
         ensures ok { OnOk result (map left_of out.new.items ≡ map left_of out.old.items ++ message_changes peer self.now) }
         ensures told { self.now.told ≡ self.now.lane → IsOk result }
     {
-        append_removals(alloc, peer, self.base, self.gone.min(self.told), out)?;
-        let from = self.gone.max(self.told);
-        append_puts(alloc, peer, self.base, &self.messages, from, out)
+        let still = self.still_told();
+        append_removals(alloc, peer, self.base, self.told - still, out)?;
+        let from = self.gone + still;
+        append_puts(alloc, peer, self.base + self.shift, &self.messages, from, out)
     }
 
     /// Appends what has changed of the row of the numbers since it was told: where nothing has, no memory is taken.
@@ -292,7 +377,7 @@ impl Lane {
         ensures told { self.now.told ≡ self.now.lane → IsOk result }
     {
         let told = (self.base + self.told as u64, self.told_took);
-        let now = (self.base + self.messages.len() as u64, self.took);
+        let now = (self.last(), self.took);
         append_numbers_change(alloc, peer, told, now, out)
     }
 }

@@ -1,5 +1,5 @@
 //! What a node keeps for the other nodes of its cluster.
-ghost use Rattle.std.specs.Prelude.{[], ◌≡◌, ◌⊎◌, ◌<◌, ◌-◌, ◌++◌, ◌↔◌, suc, length, nat_eq, if◌then◌else◌, slice_set, map, replicate, IfOk, IfErr, IfSome, IsErrOf, IsNone, IsOk, IsTrue, OnErr, OnOk};
+ghost use Rattle.std.specs.Prelude.{[], ◌≡◌, ◌⊎◌, ◌<◌, ◌-◌, ◌++◌, ◌↔◌, suc, length, nat_eq, if◌then◌else◌, slice_set, map, replicate, IfOk, IfErr, IfSome, IsErrOf, IsNone, IsOk, IsTrue, OnErr, OnOk, Some};
 ghost use Rattle.std.specs.FinSet as set;
 ghost use Rattle.std.specs.List.{AllByRecursion};
 ghost use Rattle.causal_context.specs.SetLattice.{IsSubset};
@@ -12,15 +12,16 @@ ghost use Rattle.row_store.specs.Rows.{entry_of};
 ghost use Rattle.bridge_lanes.specs.ChangeSteps.{IsSoundLane, message_changes, numbers_changes};
 ghost use Rattle.bridge_lanes.specs.Changes.{AreLaneChanges, left_of, new_kept, now_of, told_now, told_of};
 ghost use Rattle.bridge_lanes.specs.Reading.{AreLanes, AreLanesOf, IsLane, lane_in};
+ghost use Rattle.bridge_lanes.specs.Openings.{is_behind, opened_at};
 ghost use Rattle.bridge_lanes.specs.Rows.{each, numbers_of, rows_of, waiting_of};
 ghost use Rattle.bridge_deltas.specs.Lane.{after_offer, first_frames, next_number, offer_of, told_lane};
-ghost use Rattle.bridge_deltas.specs.Links.{all_told, belief_of, kept_of, new_links, opened_links, with_kept};
+ghost use Rattle.bridge_deltas.specs.Links.{all_told, belief_of, kept_of, new_links, opened_links, opening_of, with_given, with_hello, with_kept};
 ghost use Rattle.bridge_deltas.specs.Shipped.{IsShipped};
 
 use crate::buffer::{count_confirmed, keep, shipped};
 use crate::lane::Lane;
 use crate::offer::Offer;
-use bridge_frames::{BridgeFrame, Forward, LaneNumber};
+use bridge_frames::{BridgeFrame, Forward, Greeting, LaneNumber};
 use bridge_lanes::{ReadLane, read_lanes};
 use causal_context::{Context, Lattice};
 use mqtt_fields::{FieldFault, NoMemory};
@@ -39,6 +40,9 @@ pub struct Links {
     node: u16,
     nodes: u16,
     beliefs: Vec<Context>,
+    /// The number of the last message that had been put in for each peer when the node was opened: none once it was heard on a link,
+    /// or may have been given a later one.
+    openings: Vec<Option<u64>>,
     /// How many of the oldest deltas each peer is known to have taken.
     confirmed: Vec<usize>,
     deltas: VecDeque<ReplicaStore>,
@@ -57,6 +61,7 @@ impl Model for Links {
       node = l.node;
       nodes = l.nodes;
       beliefs = l.beliefs.items;
+      openings = l.openings.items;
       deltas = l.deltas.items;
       lanes = l.lanes.items;
     } };
@@ -65,6 +70,7 @@ impl Model for Links {
       node = l.node;
       nodes = l.nodes;
       beliefs = l.beliefs.items;
+      openings = l.openings.items;
       deltas = l.deltas.items;
       lanes = l.lanes.items;
     }) × AreConfirmed l.beliefs.items l.confirmed.items l.deltas.items };
@@ -79,6 +85,17 @@ fn no_beliefs(alloc: Global, nodes: u16) -> Result<Vec<Context>, NoMemory>
         beliefs.push(Context::new(alloc))?;
     }
     Ok(beliefs)
+}
+
+fn no_openings(alloc: Global, nodes: u16) -> Result<Vec<Option<u64>>, NoMemory>
+    ensures ok { IfOk result (λ o. o.items ≡ replicate nodes (Some 0)) }
+    ensures memory { OnErr result (0 < nodes) }
+{
+    let mut openings = Vec::new(alloc);
+    for _ in 0..nodes {
+        openings.push(Some(0))?;
+    }
+    Ok(openings)
 }
 
 fn no_counts(alloc: Global, nodes: u16) -> Result<Vec<usize>, NoMemory>
@@ -217,7 +234,21 @@ fn lanes_of(alloc: Global, read: Vec<ReadLane>) -> Result<Vec<Lane>, NoMemory>
     Ok(lanes)
 }
 
-// What a node keeps that has these lanes, and nothing else.
+// What had been put into lanes that rows say.
+fn openings_of(alloc: Global, read: &[ReadLane]) -> Result<Vec<Option<u64>>, NoMemory>
+    requires { AllByRecursion (λ r. IsLane (lane_in r)) read.now }
+    ensures ok { IfOk result (λ o. o.items ≡ map opened_at (map lane_in read.now)) }
+    ensures memory { OnErr result (0 < length read.now) }
+{
+    let mut openings = Vec::new(alloc);
+    for lane in read {
+        let last = lane.gone + lane.messages.len() as u64;
+        openings.push(Some(last))?;
+    }
+    Ok(openings)
+}
+
+// What a node keeps that has these lanes, and what had been put into them.
 fn opened(alloc: Global, node: u16, nodes: u16, read: Vec<ReadLane>) -> Result<Links, NoMemory>
     requires { AreLanes nodes (map lane_in read.items) }
     ensures ok { IfOk result (λ l. l ≡ opened_links node nodes (map lane_in read.items)) }
@@ -228,6 +259,7 @@ fn opened(alloc: Global, node: u16, nodes: u16, read: Vec<ReadLane>) -> Result<L
         node,
         nodes,
         beliefs: no_beliefs(alloc, nodes)?,
+        openings: openings_of(alloc, &read)?,
         confirmed: no_counts(alloc, nodes)?,
         deltas: VecDeque::new(alloc),
         lanes: lanes_of(alloc, read)?,
@@ -245,6 +277,7 @@ impl Links {
             node,
             nodes,
             beliefs: no_beliefs(alloc, nodes)?,
+            openings: no_openings(alloc, nodes)?,
             confirmed: no_counts(alloc, nodes)?,
             deltas: VecDeque::new(alloc),
             lanes: new_lanes(alloc, nodes)?,
@@ -376,6 +409,7 @@ impl Links {
     pub fn nodes(&self) -> u16
         ensures count { result ≡ self.now.nodes }
         ensures beliefs { length self.now.beliefs ≡ result }
+        ensures openings { length self.now.openings ≡ result }
         ensures lanes { length self.now.lanes ≡ result }
     {
         self.nodes
@@ -398,6 +432,51 @@ impl Links {
             ≡ with_kept peer (record k { lane = with_got number k.lane }) self.old }
     {
         self.lanes[peer as usize].got(number);
+    }
+
+    /// The peer says on a new link what it has. The dots that it has taken take the place of those that it was known to have: a new
+    /// link may lead to an earlier state of it. It has nothing of its lane up to one number any more, and has taken the messages for it
+    /// up to another: these no longer wait. Where that is more than had been put in when this node was opened, these rows are older than
+    /// what the peer took, and what was put in since gets new numbers.
+    pub fn greet(&mut self, peer: u16, greeting: Greeting)
+        requires { peer < self.old.nodes }
+        ensures { self.new ≡ with_hello peer greeting self.old }
+    {
+        let place = peer as usize;
+        let Greeting { gone, took, dots } = greeting;
+        let opening = self.openings[place];
+        self.lanes[place].greet(opening, gone, took);
+        self.openings[place] = None;
+        self.confirmed[place] = count_confirmed(&self.deltas, &dots, 0);
+        self.beliefs[place] = dots;
+    }
+
+    /// Whether the peer, which has taken the messages up to the number, took more than had been put in when this node was opened, so
+    /// that what was put in since is none of it.
+    pub fn is_behind(&self, peer: u16, number: LaneNumber) -> bool
+        requires { peer < self.now.nodes }
+        ensures { result ≡ is_behind (opening_of self.now peer) number (kept_of self.now peer).lane }
+    {
+        let place = peer as usize;
+        self.lanes[place].is_behind(self.openings[place], number)
+    }
+
+    /// What was put in since the opening may be given to the peer from now on.
+    pub fn may_give(&mut self, peer: u16)
+        requires { peer < self.old.nodes }
+        ensures { self.new ≡ with_given peer self.old }
+    {
+        self.openings[peer as usize] = None;
+    }
+
+    /// The number before that of the first message that waits for the peer: 0 for a node that the cluster lacks.
+    pub fn last_gone(&self, peer: u16) -> LaneNumber
+        ensures { result ≡ (kept_of self.now peer).lane.gone }
+    {
+        match self.lanes.get(peer as usize) {
+            Some(lane) => lane.gone(),
+            None => LaneNumber::of(0),
+        }
     }
 
     /// The lanes are such as rows can say, so that what is written is read again. This does nothing; its contract is a law.

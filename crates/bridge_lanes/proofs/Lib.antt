@@ -1,5 +1,6 @@
 pub mod Cuts
 pub mod Differing
+pub mod Greeting
 pub mod Keeping
 pub mod Keys
 pub mod LaneLists

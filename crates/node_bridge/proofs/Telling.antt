@@ -1,23 +1,25 @@
 -- What a bridge shows of the links in it, and the changes that are told of their lanes.
-use Rattle.std.proofs.Common.{◌≡◌, ℕ, Result, Ok, Err, Bool, true, false, cond, List, [], ◌∷◌, ◌++◌, map, get_or, refl, sym, ap, subst, ◌∙◌}
+use Rattle.std.proofs.Common.{◌≡◌, ℕ, None, Result, Ok, Err, Bool, true, false, cond, List, [], ◌∷◌, ◌++◌, map, get_or, refl, sym, ap, subst, ◌∙◌}
 use Rattle.std.specs.Prelude.{OnOk}
 use Rattle.std.proofs.Math.ListN.{set, get_or-map}
 use Rattle.std.proofs.Math.Seq.{map-set_same}
 use Rattle.std.proofs.lemmas.List.{map-set, set-get_or}
 use Rattle.bridge_frames.specs.declared.forward.Forward.{Forward}
+use Rattle.bridge_frames.specs.declared.greeting.Greeting.{Greeting}
 use Rattle.row_store.specs.declared.row.Change.{Change}
 use Rattle.bridge_lanes.specs.Lanes.{Lanes, new_lane, with_got, with_took}
+use Rattle.bridge_lanes.specs.Openings.{with_greeted}
 use Rattle.bridge_lanes.specs.Changes.{AreLaneChanges, KeptLane, new_kept, now_of, told_now, told_of}
 use Rattle.bridge_lanes.specs.Rows.{Messages}
 use Rattle.bridge_lanes.proofs.Named.{so_differ, so_lead}
 use Rattle.bridge_deltas.specs.declared.offer.Offer.{Offer}
 use Rattle.bridge_deltas.specs.declared.offer.Offer.TheVariants.{Queued, Full, AtEnd}
 use Rattle.bridge_deltas.specs.Lane.{after_offer}
-use Rattle.bridge_deltas.specs.Links.{LinksView, all_told, kept_of, with_kept}
-use Rattle.node_bridge.specs.View.{BridgeView, LanesTell, gets, lane_to, offered, takes, with_lane}
+use Rattle.bridge_deltas.specs.Links.{LinksView, all_told, kept_of, opening_of, with_kept}
+use Rattle.node_bridge.specs.View.{BridgeView, LanesTell, gets, greets, lane_to, offered, takes, with_lane}
 
 abbrev pub bridge_of : LinksView → BridgeView
-bridge_of l = record { beliefs = l.beliefs; deltas = l.deltas; lanes = now_of l.lanes }
+bridge_of l = record { beliefs = l.beliefs; openings = l.openings; deltas = l.deltas; lanes = now_of l.lanes }
 
 -- the lane to a node is another one
 abbrev pub IsWith : LinksView → ℕ → Messages → LinksView → Type 0
@@ -48,7 +50,7 @@ told_with ks peer lane = map-set_same (λ (x : KeptLane). x.told) ks peer (recor
 pub shows_lane : (l mid told : LinksView) (peer : ℕ) (lane : Messages) → IsWith l peer lane mid → told ≡ all_told mid → bridge_of told ≡ with_lane peer lane (bridge_of l)
 shows_lane l mid told peer lane with is =
     let made : LinksView = with_kept peer (record (kept_of l peer) { lane = lane }) l in
-    ap bridge_of (is ∙ ap all_told with) ∙ ap (λ (ls : Lanes Forward). record { beliefs = l.beliefs; deltas = l.deltas; lanes = ls })
+    ap bridge_of (is ∙ ap all_told with) ∙ ap (λ (ls : Lanes Forward). record { beliefs = l.beliefs; openings = l.openings; deltas = l.deltas; lanes = ls })
     (now_were made.lanes ∙ now_with l.lanes peer (record (kept_of l peer) { lane = lane }))
 
 pub lanes_tell : (l mid told : LinksView) (peer : ℕ) (lane : Messages) (before after : List Change) → told_of l.lanes ≡ now_of l.lanes → IsWith l peer lane mid → told ≡ all_told mid
@@ -99,6 +101,16 @@ shows_taken l peer number false = ap (λ lane. with_lane peer lane (bridge_of l)
 
 pub shows_got : (l : LinksView) (peer number : ℕ) → with_lane peer (with_got number (kept_of l peer).lane) (bridge_of l) ≡ gets peer number (bridge_of l)
 shows_got l peer number = ap (λ lane. with_lane peer (with_got number lane) (bridge_of l)) (kept_lane l peer)
+
+-- with what a node says of its dots, but not of the lanes
+abbrev pub heard : ℕ → Greeting → LinksView → LinksView
+heard peer g l = record l { beliefs = set l.beliefs peer g.dots; openings = set l.openings peer None }
+
+abbrev pub greeted_lane : ℕ → Greeting → LinksView → Messages
+greeted_lane peer g l = with_greeted (opening_of l peer) g.gone g.took (kept_of l peer).lane
+
+pub shows_greeted : (l : LinksView) (peer : ℕ) (g : Greeting) → with_lane peer (greeted_lane peer g l) (bridge_of (heard peer g l)) ≡ greets peer g (bridge_of l)
+shows_greeted l peer g = ap (λ lane. with_lane peer (with_greeted (opening_of l peer) g.gone g.took lane) (bridge_of (heard peer g l))) (kept_lane l peer)
 
 -- ---- changes that are told
 pub lanes_told : (old new : Lanes Forward) (before after own : List Change) → after ≡ before ++ own → AreLaneChanges old new own → LanesTell old before after new

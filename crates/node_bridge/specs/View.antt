@@ -1,6 +1,6 @@
 -- What a node keeps for the other nodes of its cluster, and what becomes of it.
-use Rattle.std.specs.Prelude.{◌≡◌, ◌⊎◌, ℕ, suc, ◌&&◌, nat_eq, nat_lt, Bool, true, false, List, [], ◌++◌, length, get_or, slice_set, replicate, Option, Some, None, if◌then◌else◌, refl}
-use Rattle.std.specs.Coded.{Coded, code_by, coded×, coded_list}
+use Rattle.std.specs.Prelude.{◌≡◌, ◌⊎◌, ℕ, suc, ◌&&◌, nat_eq, nat_lt, Bool, true, false, List, [], ◌++◌, length, get_or, slice_set, replicate, map, Option, Some, None, if◌then◌else◌, refl}
+use Rattle.std.specs.Coded.{Coded, code_by, coded×, coded_ℕ, coded_list, coded_option}
 use Rattle.std.specs.FinSet as set
 use Rattle.causal_context.specs.Dots.{Dots, coded_dot}
 use Rattle.causal_context.specs.SetLattice.{IsSubset}
@@ -8,7 +8,9 @@ use Rattle.replica_store.specs.States.{State, coded_state}
 use Rattle.row_store.specs.Leading.{AllDiffer, LeadWithin}
 use Rattle.row_store.specs.declared.row.Change.{Change}
 use Rattle.bridge_lanes.specs.Lanes.{Lanes, lane_of, with_put, with_took, with_got}
+use Rattle.bridge_lanes.specs.Openings.{Opening, is_behind, opened_at, with_greeted}
 use Rattle.bridge_frames.specs.declared.forward.Forward.{Forward}
+use Rattle.bridge_frames.specs.declared.greeting.Greeting.{Greeting}
 use Rattle.bridge_lanes.specs.Changes.{is_lane_kind}
 use Rattle.bridge_lanes.specs.Rows.{Messages, row_at}
 use Rattle.bridge_deltas.specs.declared.offer.Offer.{Offer}
@@ -17,20 +19,26 @@ use Rattle.bridge_deltas.specs.Buffer.{with_delta}
 use Rattle.bridge_deltas.specs.Lane.{coded_messages, offer_of}
 use Rattle.bridge_deltas.specs.Shipped.{IsShipped}
 
--- by the numbers of the other nodes, the dots that each is known to have taken; the last deltas that were made or merged here, the
--- oldest first; and, by the numbers of the other nodes, the lanes to and from each
+-- by the numbers of the other nodes, the dots that each is known to have taken, and what had been put in for it when the node was
+-- opened; the last deltas that were made or merged here, the oldest first; and, by the numbers of the other nodes, the lanes to and from
+-- each
 pub record BridgeView : Type 0 where
   pub beliefs : List Dots
+  pub openings : List Opening
   pub deltas : List State
   pub lanes : Lanes Forward
 
--- what is kept after a restart: the lanes, and nothing else
+-- what is kept after a restart: the lanes, and what had been put into them by then
 abbrev pub woken_bridge : Lanes Forward → BridgeView
-woken_bridge lanes = record { beliefs = replicate (length lanes) set.empty; deltas = []; lanes = lanes }
+woken_bridge lanes = record { beliefs = replicate (length lanes) set.empty; openings = map opened_at lanes; deltas = []; lanes = lanes }
 
 -- what is known of a node
 abbrev pub belief_of : BridgeView → ℕ → Dots
 belief_of b peer = get_or b.beliefs peer set.empty
+
+-- what had been put in for a node when this one was opened, until that node is heard or may be given more
+abbrev pub opening_of : BridgeView → ℕ → Opening
+opening_of b peer = get_or b.openings peer None
 
 -- the lanes to and from a node, if it has some
 abbrev pub lane_to : BridgeView → ℕ → Messages
@@ -86,6 +94,29 @@ takes peer number b = with_lane peer (with_took number (lane_to b peer)) b
 abbrev pub gets : ℕ → ℕ → BridgeView → BridgeView
 gets peer number b = with_lane peer (with_got number (lane_to b peer)) b
 
+-- ---- a new link
+-- what this node tells another one first: what is gone of its lane to it, what it took of the lane from it, and the dots that it has taken
+abbrev pub greeting_for : ℕ → BridgeView → State → Greeting
+greeting_for peer b s = let l = lane_to b peer in record { gone = l.gone; took = l.took; dots = s.taken }
+
+-- a node says first what it has: its dots are what is known of it now, it has nothing of its lane up to one number any more, and has
+-- taken the messages for it up to another
+abbrev pub greets : ℕ → Greeting → BridgeView → BridgeView
+greets peer g b = record b {
+  beliefs = slice_set b.beliefs peer g.dots;
+  openings = slice_set b.openings peer None;
+  lanes = slice_set b.lanes peer (with_greeted (opening_of b peer) g.gone g.took (lane_to b peer));
+}
+
+-- whether a node that has taken the messages up to the number took more than had been put in for it when this one was opened, so that
+-- the rows are older than what it took
+abbrev pub is_older : ℕ → ℕ → BridgeView → Bool
+is_older peer number b = has_lanes b peer && is_behind (opening_of b peer) number (lane_to b peer)
+
+-- a node may be given what was put in for it since the opening
+abbrev pub may_give : ℕ → BridgeView → BridgeView
+may_give peer b = record b { openings = slice_set b.openings peer None }
+
 -- changes are appended that lead from the rows of lanes before to those after, and name none that doesn't differ
 abbrev pub LanesTell : Lanes Forward → List Change → List Change → Lanes Forward → Type 0
 LanesTell old before after new = (own : List Change) × (after ≡ before ++ own) × LeadWithin is_lane_kind (row_at old) (row_at new) own × AllDiffer (row_at old) (row_at new) own
@@ -93,5 +124,6 @@ LanesTell old before after new = (own : List Change) × (after ≡ before ++ own
 -- it is stored as its parts
 abbrev pub coded_bridge : Coded BridgeView
 coded_bridge =
-    code_by (List Dots × (List State × Lanes Forward)) (coded× (coded_list (set.code coded_dot)) (coded× (coded_list coded_state) (coded_list coded_messages)))
-    (λ b. (b.beliefs, (b.deltas, b.lanes))) (λ p. record { beliefs = p.0; deltas = p.1.0; lanes = p.1.1 }) (λ _. refl)
+    code_by (List Dots × (List Opening × (List State × Lanes Forward)))
+    (coded× (coded_list (set.code coded_dot)) (coded× (coded_list (coded_option coded_ℕ)) (coded× (coded_list coded_state) (coded_list coded_messages))))
+    (λ b. (b.beliefs, (b.openings, (b.deltas, b.lanes)))) (λ p. record { beliefs = p.0; openings = p.1.0; deltas = p.1.1.0; lanes = p.1.1.1 }) (λ _. refl)

@@ -6,10 +6,10 @@ ghost use Rattle.bridge_deltas.specs.Lane.{first_frames, next_number};
 ghost use Rattle.bridge_deltas.specs.Links.{all_told};
 ghost use Rattle.bridge_lanes.specs.Changes.{now_of, told_of};
 ghost use Rattle.bridge_lanes.specs.Reading.{AreLanes};
-ghost use Rattle.node_bridge.specs.View.{IsToShip, LanesTell, belief_of, believes, gets, has_lanes, is_next, keeps, known_of, lane_to, offer_to, offered, takes};
+ghost use Rattle.node_bridge.specs.View.{IsToShip, LanesTell, belief_of, believes, gets, has_lanes, greets, is_next, is_older, keeps, known_of, lane_to, may_give, offer_to, offered, takes};
 
 use bridge_deltas::{Links, Offer};
-use bridge_frames::{BridgeFrame, Forward, LaneNumber};
+use bridge_frames::{BridgeFrame, Forward, Greeting, LaneNumber};
 use causal_context::Context;
 use mqtt_fields::NoMemory;
 use replica_store::ReplicaStore;
@@ -38,7 +38,7 @@ impl Model for Bridge {
 
     ghost coded = { coded_bridge };
 
-    ghost view = { λ b. record { beliefs = b.links.beliefs; deltas = b.links.deltas; lanes = now_of b.links.lanes } };
+    ghost view = { λ b. record { beliefs = b.links.beliefs; openings = b.links.openings; deltas = b.links.deltas; lanes = now_of b.links.lanes } };
 
     ghost invariant = { λ b. told_of b.links.lanes ≡ now_of b.links.lanes };
 }
@@ -67,7 +67,7 @@ impl Bridge {
     /// What a node keeps that has these lanes, whose rows were told as they are.
     pub fn of(links: Links) -> Bridge
         requires { told_of links.lanes ≡ now_of links.lanes }
-        ensures { result ≡ record { beliefs = links.beliefs; deltas = links.deltas; lanes = now_of links.lanes } }
+        ensures { result ≡ record { beliefs = links.beliefs; openings = links.openings; deltas = links.deltas; lanes = now_of links.lanes } }
     {
         Bridge { links }
     }
@@ -208,6 +208,50 @@ impl Bridge {
             return Ok(());
         }
         self.links.got(peer, number);
+        tell(&mut self.links, changes)
+    }
+
+    /// The number before that of the first message that waits for the peer.
+    pub fn last_gone(&self, peer: u16) -> LaneNumber
+        ensures { result ≡ (lane_to self.now peer).gone }
+    {
+        self.links.last_gone(peer)
+    }
+
+    /// Whether the peer, which has taken the messages up to the number, took more than had been put in for it when this node was opened:
+    /// so the rows are older than what it took.
+    pub fn is_older(&self, peer: u16, number: LaneNumber) -> bool
+        ensures { result ≡ is_older peer number self.now }
+    {
+        peer < self.links.nodes() && self.links.is_behind(peer, number)
+    }
+
+    /// The peer may be given what was put in for it since the opening. It takes no memory.
+    pub fn may_give(&mut self, peer: u16)
+        ensures { self.new ≡ may_give peer self.old }
+    {
+        if peer < self.links.nodes() {
+            self.links.may_give(peer);
+        }
+    }
+
+    /// The peer says on a new link what it has. Appends the changes of rows. Where the lanes stay as they are it takes no memory. After
+    /// want of it nothing is said of what is kept, and no change is appended.
+    pub fn greet(
+        &mut self,
+        peer: u16,
+        greeting: Greeting,
+        changes: &mut Vec<Change>,
+    ) -> Result<(), NoMemory>
+        ensures after { OnOk result (self.new ≡ greets peer greeting self.old) }
+        ensures tells { OnOk result (LanesTell self.old.lanes changes.old.items changes.new.items self.new.lanes) }
+        ensures err { OnErr result (changes.new.items ≡ changes.old.items) }
+        ensures nothing { (greets peer greeting self.old).lanes ≡ self.old.lanes → IsOk result }
+    {
+        if peer >= self.links.nodes() {
+            return Ok(());
+        }
+        self.links.greet(peer, greeting);
         tell(&mut self.links, changes)
     }
 

@@ -8,4 +8,4 @@ pub returns : goal.returns
 returns c =
     let l = c.self.inside in
     let i = c.self.invariant in
-    subst (λ (k : KeptLane). IsSoundLane k) c.self.view_is (comes_later l.base l.messages.items l.gone l.told l.took l.told_took i.0 i.1 i.4, below_end l.base l.gone l.messages.items i.0 i.2, i.5)
+    subst (λ (k : KeptLane). IsSoundLane k) c.self.view_is (comes_later l.base l.shift l.messages.items l.gone l.told l.took l.told_took i.0 i.1 i.4 i.7, below_end l.base l.shift l.gone l.messages.items i.0 i.2, i.5)
