@@ -1,27 +1,32 @@
 -- What nodes tell one another.
-use Rattle.std.specs.Prelude.{ℕ, List, Option, Some, None}
+use Rattle.std.specs.Prelude.{ℕ, Bool, List, Option, Some, None}
 use Rattle.bridge_deltas.specs.Lane.{first_frames}
 use Rattle.bridge_frames.specs.declared.body.FrameBody.{FrameBody}
 use Rattle.bridge_frames.specs.declared.body.FrameBody.TheVariants.{Hello, Delta, Know, Forward, Got}
 use Rattle.bridge_frames.specs.declared.forward.Forward.{Forward as Message}
 use Rattle.bridge_frames.specs.declared.frame.BridgeFrame.{BridgeFrame}
+use Rattle.bridge_frames.specs.declared.greeting.Greeting.{Greeting}
 use Rattle.bridge_frames.specs.Frames.{frame_in}
-use Rattle.node_bridge.specs.View.{IsToShip, is_next, lane_to}
+use Rattle.node_bridge.specs.View.{IsToShip, greeting_for, is_next, is_older, lane_to}
 use Rattle.replica_store.specs.States.{State}
 use Rattle.node_work.specs.declared.counts.Missed.TheVariants.{BadFrame}
 use Rattle.node_work.specs.Acts.{Store, Merged, Bridge}
 use Rattle.node_work.specs.Doings.{GivesBody, GivesFrame, Misses}
 use Rattle.node_work.specs.Frames.{is_for_node, is_other}
-use Rattle.node_work.specs.Held.Bridge.{Believed, Got as GotBy}
+use Rattle.node_work.specs.Held.Bridge.{Allowed, Believed, Got as GotBy, Greeted}
 use Rattle.node_work.specs.View.{Place, HeldView}
 use Rattle.node_work.specs.Working.{Doing, Returns, Acting, Looks, FindsWhere, If, Then, Each}
 use Rattle.node_clients.specs.Passing.{TakesForward}
 
 -- ---- of its own accord
 
--- a new link to another node of the cluster begins with Hello
+-- another node is told what this one has: the numbers of the lanes between them, and the dots that are taken now
+abbrev pub SaysHello : ℕ → Option (Unit {0}) → Doing
+SaysHello peer = GivesBody peer (λ h. Hello (greeting_for peer h.bridge h.store))
+
+-- a new link to another node of the cluster begins with it
 abbrev pub Greets : ℕ → Option (Unit {0}) → Doing
-Greets peer = Looks (λ p h. is_other p peer) (λ other. If other (GivesBody peer (λ h. Hello)) (Returns tt))
+Greets peer = Looks (λ p h. is_other p peer) (λ other. If other (SaysHello peer) (Returns tt))
 
 -- what another node may lack of the state goes to it, if there is any
 abbrev pub AreShipped : ℕ → Place → HeldView → Option State → Type 0
@@ -38,8 +43,12 @@ ShipsState peer = FindsWhere (AreShipped peer) (GivesState peer)
 abbrev pub ShipsMessages : ℕ → Option (Unit {0}) → Doing
 ShipsMessages peer = Looks (λ p h. first_frames p.id peer (lane_to h.bridge peer)) (Each GivesFrame)
 
+abbrev pub ShipsWhatWaits : ℕ → Option (Unit {0}) → Doing
+ShipsWhatWaits peer = Then (ShipsState peer) (λ _. ShipsMessages peer)
+
+-- from then on it may have what was put in for it since this node was opened
 abbrev pub ShipsTo : ℕ → Option (Unit {0}) → Doing
-ShipsTo peer = Then (ShipsState peer) (λ _. ShipsMessages peer)
+ShipsTo peer = Then (Acting (λ p h. Bridge (Allowed peer))) (λ _. ShipsWhatWaits peer)
 
 abbrev pub Ships : ℕ → Option (Unit {0}) → Doing
 Ships peer = Looks (λ p h. is_other p peer) (λ other. If other (ShipsTo peer) (Returns tt))
@@ -49,6 +58,14 @@ Ships peer = Looks (λ p h. is_other p peer) (λ other. If other (ShipsTo peer) 
 -- the dots that are taken now are told
 abbrev pub TellsTaken : ℕ → Option (Unit {0}) → Doing
 TellsTaken from = GivesBody from (λ h. Know h.store.taken)
+
+-- what another node says on a new link is answered with the dots that are taken now; where the rows are older than what it took, also with
+-- what this node has, since its numbers to it are new ones then
+abbrev pub AnswersHello : ℕ → Bool → Option (Unit {0}) → Doing
+AnswersHello from older = Then (TellsTaken from) (λ _. If older (SaysHello from) (Returns tt))
+
+abbrev pub TakesHello : ℕ → Greeting → Option (Unit {0}) → Doing
+TakesHello from g = Looks (λ p h. is_older from g.took h.bridge) (λ older. Then (Acting (λ p h. Bridge (Greeted from g))) (λ _. AnswersHello from older))
 
 -- a delta is merged, and answered with the dots that are taken then
 abbrev pub Merges : ℕ → State → Option (Unit {0}) → Doing
@@ -62,7 +79,7 @@ abbrev pub TakesMessage : ℕ → ℕ → Message → Option (Unit {0}) → Doin
 TakesMessage from number m = Then (TakesNext from number m) (λ _. GivesBody from (λ h. Got (lane_to h.bridge from).took))
 
 abbrev pub TakesBody : ℕ → FrameBody → Option (Unit {0}) → Doing
-TakesBody from Hello = TellsTaken from
+TakesBody from (Hello g) = TakesHello from g
 TakesBody from (Delta s) = Merges from s
 TakesBody from (Know dots) = Acting (λ p h. Bridge (Believed from dots))
 TakesBody from (Forward number m) = TakesMessage from number m

@@ -1,8 +1,8 @@
 //! What nodes tell one another.
 
-ghost use Rattle.std.specs.Prelude.{◌≡◌, ◌≢◌, false, Ok};
-ghost use Rattle.broker_node.specs.Bridge.{Greets, Ships, ShipsState, ShipsMessages, Hears, HearsFrame, TakesBody, TellsTaken, Merges, TakesMessage, TakesNext};
-ghost use Rattle.node_bridge.specs.View.{lane_to};
+ghost use Rattle.std.specs.Prelude.{◌≡◌, ◌≢◌, false, IfOk, Ok};
+ghost use Rattle.broker_node.specs.Bridge.{AnswersHello, Greets, SaysHello, Ships, ShipsState, ShipsMessages, ShipsWhatWaits, Hears, HearsFrame, TakesBody, TakesHello, TellsTaken, Merges, TakesMessage, TakesNext};
+ghost use Rattle.node_bridge.specs.View.{greeting_for, lane_to};
 ghost use Rattle.node_work.specs.Doings.{GivesBody};
 ghost use Rattle.node_work.specs.Frames.{is_for_node, is_other, names_nodes};
 ghost use Rattle.node_work.specs.Held.Bridge.{Carries};
@@ -10,7 +10,8 @@ ghost use Rattle.node_work.specs.View.{HeldView};
 ghost use Rattle.node_work.specs.Working.{ComesTo};
 ghost use Rattle.std.specs.Prelude.{Some};
 
-use bridge_frames::{BridgeFrame, Forward, FrameBody, LaneNumber, LinkFault};
+use bridge_frames::{BridgeFrame, Forward, FrameBody, Greeting, LaneNumber, LinkFault};
+use mqtt_fields::NoMemory;
 use node_clients::take_forward;
 use node_rows::{are_dots_among, is_state_among};
 use node_work::{Missed, NodeFault, Work};
@@ -43,7 +44,27 @@ pub fn greet(work: &mut Work, peer: u16) -> Result<(), NodeFault>
     if !is_other(work, peer) {
         return Ok(());
     }
-    give(work, peer, FrameBody::Hello)
+    say_hello(work, peer)
+}
+
+/// What another node is told that this one has.
+fn greeting_for(work: &Work, peer: u16) -> Result<Greeting, NoMemory>
+    ensures { IfOk result (λ g. g ≡ greeting_for peer work.now.held.bridge work.now.held.store) }
+{
+    let held = work.held();
+    Ok(Greeting {
+        gone: held.bridge().last_gone(peer),
+        took: held.bridge().last_taken(peer),
+        dots: held.store().taken().copy()?,
+    })
+}
+
+/// Tells another node what this one has.
+fn say_hello(work: &mut Work, peer: u16) -> Result<(), NodeFault>
+    ensures { ComesTo (λ x. x) result work.old work.new (SaysHello peer) }
+{
+    let greeting = greeting_for(work, peer)?;
+    give(work, peer, FrameBody::Hello(greeting))
 }
 
 /// Sends another node of the cluster what it may lack: of the state, and then of the messages that wait for it.
@@ -54,6 +75,13 @@ pub fn ship(work: &mut Work, peer: u16) -> Result<(), NodeFault>
     if !is_other(work, peer) {
         return Ok(());
     }
+    work.may_give(peer)?;
+    ship_what_waits(work, peer)
+}
+
+fn ship_what_waits(work: &mut Work, peer: u16) -> Result<(), NodeFault>
+    ensures { ComesTo (λ x. x) result work.old work.new (ShipsWhatWaits peer) }
+{
     ship_state(work, peer)?;
     ship_messages(work, peer)
 }
@@ -99,7 +127,7 @@ fn names_nodes(nodes: u16, body: &FrameBody) -> bool
     match body {
         FrameBody::Delta(state) => is_state_among(nodes, state),
         FrameBody::Know(dots) => are_dots_among(nodes, dots),
-        FrameBody::Hello => true,
+        FrameBody::Hello(greeting) => are_dots_among(nodes, &greeting.dots),
         FrameBody::Forward(..) => true,
         FrameBody::Got(_) => true,
     }
@@ -128,7 +156,7 @@ fn take(work: &mut Work, from: u16, body: FrameBody) -> Result<(), NodeFault>
     ensures { ComesTo (λ x. x) result work.old work.new (TakesBody from body) }
 {
     match body {
-        FrameBody::Hello => tell_taken(work, from),
+        FrameBody::Hello(greeting) => take_hello(work, from, greeting),
         FrameBody::Delta(state) => merge(work, from, state),
         FrameBody::Know(dots) => work.believe(from, &dots),
         FrameBody::Forward(number, message) => take_message(work, from, number, &message),
@@ -142,6 +170,26 @@ fn tell_taken(work: &mut Work, to: u16) -> Result<(), NodeFault>
 {
     let taken = work.held().store().taken().copy()?;
     give(work, to, FrameBody::Know(taken))
+}
+
+/// Takes what another node says on a new link, and answers.
+fn take_hello(work: &mut Work, from: u16, greeting: Greeting) -> Result<(), NodeFault>
+    ensures { ComesTo (λ x. x) result work.old work.new (TakesHello from greeting) }
+{
+    let older = work.held().bridge().is_older(from, greeting.took);
+    work.greet(from, greeting)?;
+    answer_hello(work, from, older)
+}
+
+/// Tells another node which dots are taken now, and what this node has, where its rows are older than what that one took.
+fn answer_hello(work: &mut Work, to: u16, older: bool) -> Result<(), NodeFault>
+    ensures { ComesTo (λ x. x) result work.old work.new (AnswersHello to older) }
+{
+    tell_taken(work, to)?;
+    if !older {
+        return Ok(());
+    }
+    say_hello(work, to)
 }
 
 /// Merges a delta, and answers with the dots that are taken now.

@@ -1,7 +1,7 @@
 //! What is done to what a node keeps for the other nodes.
 
 ghost use Rattle.std.specs.Prelude.{◌≡◌, true, IfErr, IfOk, OnOk};
-ghost use Rattle.node_bridge.specs.View.{LanesTell, believes, gets, is_next, offer_to, offered, takes};
+ghost use Rattle.node_bridge.specs.View.{LanesTell, believes, gets, greets, is_next, may_give, offer_to, offered, takes};
 ghost use Rattle.node_work.specs.Held.Bridge.{missed};
 ghost use Rattle.node_work.specs.Held.Sessions.{more};
 ghost use Rattle.node_work.specs.declared.fault.NodeFault.TheVariants.{NoMemory};
@@ -10,7 +10,7 @@ use crate::counts::Missed;
 use crate::fault::NodeFault;
 use crate::held::Held;
 use bridge_deltas::Offer;
-use bridge_frames::{Forward, LaneNumber};
+use bridge_frames::{Forward, Greeting, LaneNumber};
 use causal_context::Context;
 use row_store::Change;
 
@@ -72,6 +72,28 @@ impl Held {
     {
         self.bridge.believe(peer, dots)?;
         Ok(())
+    }
+
+    /// Another node says on a new link what it has.
+    pub fn greet(
+        &mut self,
+        peer: u16,
+        greeting: Greeting,
+        changes: &mut Vec<Change>,
+    ) -> Result<(), NodeFault>
+        ensures ok { OnOk result (self.new ≡ record self.old { bridge = greets peer greeting self.old.bridge }) }
+        ensures tells { OnOk result (LanesTell self.old.bridge.lanes changes.old.items changes.new.items self.new.bridge.lanes) }
+        ensures fault { IfErr result (λ e. e ≡ NoMemory) }
+    {
+        self.bridge.greet(peer, greeting, changes)?;
+        Ok(())
+    }
+
+    /// Another node may be given what was put in for it since this one was opened.
+    pub fn may_give(&mut self, peer: u16)
+        ensures { self.new ≡ record self.old { bridge = may_give peer self.old.bridge } }
+    {
+        self.bridge.may_give(peer);
     }
 
     /// Counts what is left out.

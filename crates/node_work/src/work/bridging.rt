@@ -7,7 +7,7 @@ ghost use Rattle.node_bridge.specs.View.{is_next};
 ghost use Rattle.node_work.specs.Acts.{Bridge};
 ghost use Rattle.node_work.specs.Doings.{GivesFrame, Misses, PutsInLane, RoutesBy};
 ghost use Rattle.node_work.specs.Handed.{IsHanded};
-ghost use Rattle.node_work.specs.Held.Bridge.{Believed, Carries, Got, Took};
+ghost use Rattle.node_work.specs.Held.Bridge.{Allowed, Believed, Carries, Got, Greeted, Took};
 ghost use Rattle.node_work.specs.Working.{ComesTo, Acting};
 
 use crate::counts::Missed;
@@ -16,7 +16,7 @@ use crate::frame::written_frame;
 use crate::outcome::Output;
 use crate::work::Work;
 use bridge_deltas::Offer;
-use bridge_frames::{BridgeFrame, Forward, LaneNumber, LinkFault};
+use bridge_frames::{BridgeFrame, Forward, Greeting, LaneNumber, LinkFault};
 use bridge_routes::Route;
 use causal_context::Context;
 
@@ -76,6 +76,23 @@ impl Work {
         ensures same { self.new.changes ≡ self.old.changes }
     {
         self.held.believe(peer, dots)
+    }
+
+    /// Another node says on a new link what it has.
+    pub fn greet(&mut self, peer: u16, greeting: Greeting) -> Result<(), NodeFault>
+        ensures { ComesTo (λ x. x) result self.old self.new (Acting (λ p h. Bridge (Greeted peer greeting))) }
+    {
+        self.held.greet(peer, greeting, &mut self.changes)
+    }
+
+    /// Another node may be given what was put in for it since this one was opened. It takes no memory.
+    pub fn may_give(&mut self, peer: u16) -> Result<(), NodeFault>
+        ensures comes { ComesTo (λ x. x) result self.old self.new (Acting (λ p h. Bridge (Allowed peer))) }
+        ensures same { self.new.changes ≡ self.old.changes }
+        ensures done { result ≡ Ok tt }
+    {
+        self.held.may_give(peer);
+        Ok(())
     }
 
     /// Takes the next message of another node's lane, with its copies, of which so many picks are lost.
