@@ -29,6 +29,11 @@ CONNACK, PUBLISH, PUBACK, SUBACK = 2, 3, 4, 9
 NO_ROOM = 0x97
 KNOW = 3
 
+# the kind of a Hello, and its format
+HELLO = 7
+
+FORMAT = bytes([0, 1])
+
 
 def text(word):
     return len(word).to_bytes(2, "big") + word.encode()
@@ -379,7 +384,7 @@ class Peer:
 
     def look(self):
         """Hello is answered by Know (docs/cluster.md)."""
-        self.to.sendall(frame(1, 1, 0, b""))
+        self.to.sendall(frame(HELLO, 1, 0, FORMAT + bytes(20)))
         while self.some(int.from_bytes(self.some(4), "big"))[0] != KNOW:
             pass
         self.served += 1
@@ -401,7 +406,7 @@ def noise(bridge, count, seed, port, listens):
             data = len(data).to_bytes(4, "big") + data
         elif kind == 2:
             # the head of a frame of node 1 for node 0, with noise behind it
-            data = frame(chance.randrange(1, 7), 1, 0, data)
+            data = frame(chance.randrange(1, 8), 1, 0, data)
         try:
             with opened(bridge) as each:
                 each.sendall(data)

@@ -149,7 +149,7 @@ fn got_at(bytes: &[u8]) -> Result<(FrameBody, &[u8]), FieldFault>
     ensures no_memory { IsErrOf result FieldFault.NoMemory → ⊥ }
 {
     let (number, rest) = number_at(bytes)?;
-    Ok((FrameBody::Got(number), rest))
+    Ok((FrameBody::Got(LaneNumber::of(number)), rest))
 }
 
 /// The body of a frame of this kind at the front, and the bytes after it.

@@ -50,7 +50,11 @@ impl Greeting {
         let (gone, rest) = number_at(rest)?;
         let (took, rest) = number_at(rest)?;
         let (dots, rest) = Context::at(alloc, rest)?;
-        let greeting = Greeting { gone, took, dots };
+        let greeting = Greeting {
+            gone: LaneNumber::of(gone),
+            took: LaneNumber::of(took),
+            dots,
+        };
         Ok((greeting, rest))
     }
 

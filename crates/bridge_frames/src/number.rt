@@ -1,5 +1,5 @@
 //! The numbers of messages in a lane.
-ghost use Rattle.std.specs.Prelude.{◌≡◌, ◌<◌, ◌^◌, IsErrOf};
+ghost use Rattle.std.specs.Prelude.{◌≡◌, ◌<◌, ◌^◌, IfOk, IsErrOf};
 ghost use Rattle.mqtt_fields.specs.Reading.{Gives};
 ghost use Rattle.bridge_frames.specs.Forwards.{got_number};
 
@@ -45,13 +45,14 @@ impl LaneNumber {
 /// The number at the front, and the bytes after it.
 ///
 /// Short where the bytes end inside it, Malformed from 2^62 on.
-pub(crate) fn number_at(bytes: &[u8]) -> Result<(LaneNumber, &[u8]), FieldFault>
+pub(crate) fn number_at(bytes: &[u8]) -> Result<(u64, &[u8]), FieldFault>
     ensures exact { Gives (λ x. (x.0, x.1.now)) result (got_number.at bytes.now) }
+    ensures below { IfOk result (λ x. x.0 < 2 ^ 62) }
     ensures no_memory { IsErrOf result FieldFault.NoMemory → ⊥ }
 {
     let (number, rest) = u64_at(bytes)?;
     if number >= NUMBERS_END {
         return Err(FieldFault::Malformed);
     }
-    Ok((LaneNumber::of(number), rest))
+    Ok((number, rest))
 }

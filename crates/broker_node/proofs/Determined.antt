@@ -1,16 +1,17 @@
 -- Each event of a node is determined.
-use Rattle.std.proofs.Common.{ℕ, List, map as map_list, Option, Some, None, inl, inr, refl, sym, ap, ◌∙◌, true≢false}
+use Rattle.std.proofs.Common.{ℕ, Bool, List, map as map_list, Option, Some, None, inl, inr, refl, sym, ap, ◌∙◌, true≢false}
 use Rattle.bridge_deltas.proofs.Shipping.{shipped_one}
 use Rattle.bridge_frames.specs.declared.body.FrameBody.{FrameBody}
 use Rattle.bridge_frames.specs.declared.body.FrameBody.TheVariants.{Hello, Delta, Know, Forward, Got}
 use Rattle.bridge_frames.specs.declared.forward.Forward.{Forward as Message}
 use Rattle.bridge_frames.specs.declared.frame.BridgeFrame.{BridgeFrame}
+use Rattle.bridge_frames.specs.declared.greeting.Greeting.{Greeting}
 use Rattle.bridge_frames.specs.Frames.{frame_in}
 use Rattle.session_table.specs.Dues.{Due}
 use Rattle.replica_store.specs.States.{State}
 use Rattle.law_sessions.specs.Runs.{closes, ticks}
 use Rattle.session_table.specs.Calls.{leaves, stays}
-use Rattle.node_bridge.specs.View.{belief_of, lane_to}
+use Rattle.node_bridge.specs.View.{belief_of, greeting_for, lane_to}
 use Rattle.node_work.specs.declared.counts.Missed.{Missed}
 use Rattle.node_work.specs.declared.counts.Missed.TheVariants.{BadFrame, FrameTooLarge, TableRefused}
 use Rattle.home_table.specs.Table.{Table}
@@ -21,10 +22,10 @@ use Rattle.node_clients.specs.Moving.{MovesAway}
 use Rattle.broker_node.specs.Moving.{AreAway, TakesNewerTable, SendsAway, TakesTable}
 use Rattle.node_work.specs.Acts.{Moved, Began, Bridge, Connection, Merged, Store}
 use Rattle.node_work.specs.Doings.{GivesBody, GivesFrame, Misses, OpensConnection, Removes, TakesMoment, is_small}
-use Rattle.node_work.specs.Held.Bridge.{Believed, Gave, Got as GotBy, Left_out}
+use Rattle.node_work.specs.Held.Bridge.{Believed, Cleared, Gave, Got as GotBy, Greeted, Left_out}
 use Rattle.node_work.specs.Held.Connections.{Opened}
 use Rattle.node_work.specs.View.{HeldView}
-use Rattle.node_work.specs.Working.{Returns, Acting, Each, Then}
+use Rattle.node_work.specs.Working.{Returns, Acting, Each, If, Then}
 use Rattle.node_clients.specs.Ending.{ClosesConnection}
 use Rattle.node_clients.specs.Passing.{TakesForward}
 use Rattle.node_clients.proofs.Determined.{Determined, IsAlone, returns_determined, acting_determined, numbered_determined, looks_determined, finds_determined, if_determined, then_determined, each_determined, calls_determined}
@@ -32,7 +33,7 @@ use Rattle.node_clients.proofs.DeterminedClients.{moves_away_determined, removes
 use Rattle.broker_node.specs.declared.event.Event.{Event}
 use Rattle.broker_node.specs.declared.event.EventKind.{EventKind}
 use Rattle.broker_node.specs.declared.event.EventKind.TheVariants as kinds
-use Rattle.broker_node.specs.Bridge.{AreShipped, GivesState, Greets, HearsFrame, Merges, Ships, ShipsMessages, ShipsState, ShipsTo, TakesBody, TakesMessage, TakesNext, TellsTaken}
+use Rattle.broker_node.specs.Bridge.{AnswersHello, AreShipped, GivesState, Greets, HearsFrame, Merges, SaysHello, Ships, ShipsMessages, ShipsState, ShipsTo, ShipsWhatWaits, TakesBody, TakesHello, TakesMessage, TakesNext, TellsTaken}
 use Rattle.broker_node.specs.Due.{ClosesStored, DoesDue, EndsConnections, EndsSessions, PartsFrom, PublishesWills, RunsOut, Starts, TicksOf}
 use Rattle.broker_node.specs.Turns.{AnswersEvent, Decides, Evicts, AwaitsStart, AnswersAfterDue, Turn}
 
@@ -48,9 +49,12 @@ gives_frame_determined f =
 gives_determined : (peer : ℕ) (body : HeldView → FrameBody) → Determined (GivesBody peer body)
 gives_determined peer body = looks_determined _ _ gives_frame_determined
 
+says_hello_determined : (peer : ℕ) → Determined (SaysHello peer)
+says_hello_determined peer = gives_determined peer (λ h. Hello (greeting_for peer h.bridge h.store))
+
 greets_determined : (peer : ℕ) → Determined (Greets peer)
 greets_determined peer =
-    looks_determined _ _ (λ other. if_determined other (GivesBody peer (λ h. Hello)) (Returns tt) (gives_determined peer (λ h. Hello)) (returns_determined tt))
+    looks_determined _ _ (λ other. if_determined other (SaysHello peer) (Returns tt) (says_hello_determined peer) (returns_determined tt))
 
 shipped_alone : (peer : ℕ) → IsAlone (AreShipped peer)
 shipped_alone peer p h None None sound a b = refl
@@ -64,16 +68,28 @@ gives_state_determined : (peer : ℕ) (s : Option State) → Determined (GivesSt
 gives_state_determined peer None = returns_determined tt
 gives_state_determined peer (Some s) = gives_determined peer (λ h. Delta s)
 
-ships_to_determined : (peer : ℕ) → Determined (ShipsTo peer)
-ships_to_determined peer =
+ships_what_waits_determined : (peer : ℕ) → Determined (ShipsWhatWaits peer)
+ships_what_waits_determined peer =
     then_determined (ShipsState peer) (λ _. ShipsMessages peer) (finds_determined (AreShipped peer) (GivesState peer) (shipped_alone peer) (gives_state_determined peer))
     (λ _. looks_determined _ _ (each_determined GivesFrame gives_frame_determined))
+
+ships_to_determined : (peer : ℕ) → Determined (ShipsTo peer)
+ships_to_determined peer = then_determined _ (λ _. ShipsWhatWaits peer) (acting_determined (λ p h. Bridge (Cleared peer))) (λ _. ships_what_waits_determined peer)
 
 ships_determined : (peer : ℕ) → Determined (Ships peer)
 ships_determined peer = looks_determined _ _ (λ other. if_determined other (ShipsTo peer) (Returns tt) (ships_to_determined peer) (returns_determined tt))
 
 tells_taken_determined : (from : ℕ) → Determined (TellsTaken from)
 tells_taken_determined from = gives_determined from (λ h. Know h.store.taken)
+
+answers_hello_determined : (from : ℕ) (older : Bool) → Determined (AnswersHello from older)
+answers_hello_determined from older =
+    then_determined (TellsTaken from) (λ _. If older (SaysHello from) (Returns tt)) (tells_taken_determined from)
+    (λ _. if_determined older (SaysHello from) (Returns tt) (says_hello_determined from) (returns_determined tt))
+
+takes_hello_determined : (from : ℕ) (g : Greeting) → Determined (TakesHello from g)
+takes_hello_determined from g =
+    looks_determined _ _ (λ older. then_determined _ (λ _. AnswersHello from older) (acting_determined (λ p h. Bridge (Greeted from g))) (λ _. answers_hello_determined from older))
 
 merges_determined : (from : ℕ) (s : State) → Determined (Merges from s)
 merges_determined from s = then_determined _ _ (acting_determined (λ p h. Store (Merged s))) (λ _. tells_taken_determined from)
@@ -85,7 +101,7 @@ takes_message_determined from number m =
     (λ _. gives_determined from (λ h. Got (lane_to h.bridge from).took))
 
 takes_determined : (from : ℕ) (body : FrameBody) → Determined (TakesBody from body)
-takes_determined from Hello = tells_taken_determined from
+takes_determined from (Hello g) = takes_hello_determined from g
 takes_determined from (Delta s) = merges_determined from s
 takes_determined from (Know dots) = acting_determined (λ p h. Bridge (Believed from dots))
 takes_determined from (Forward number m) = takes_message_determined from number m

@@ -95,7 +95,7 @@ stops_quiet x p h acts d = ap (gather handed_in) d.1
 append_nothing : (xs ys : List Act) → xs ≡ [] → ys ≡ [] → xs ++ ys ≡ []
 append_nothing xs ys e f = λ i. e i ++ f i
 
-acting_quiet : (a : Place → HeldView → Act) → ((p : Place) (h : HeldView) → handed_in (a p h) ≡ []) → Quiet (Acting a)
+pub acting_quiet : (a : Place → HeldView → Act) → ((p : Place) (h : HeldView) → handed_in (a p h) ≡ []) → Quiet (Acting a)
 acting_quiet a q x p h acts d = ap (gather handed_in) d.1 ∙ append_nothing (handed_in (a p h)) [] (q p h) refl
 
 numbered_by : (b : Bool) (a : Act) (x : Option (Unit {0})) (xs : List Act) → handed_in a ≡ [] → cond b ((x ≡ None) × (xs ≡ [])) ((x ≡ Some tt) × (xs ≡ a ∷ [])) → gather handed_in xs ≡ []

@@ -7,7 +7,7 @@ use Rattle.bridge_frames.specs.declared.body.FrameBody.TheVariants as bodies
 use Rattle.bridge_frames.specs.declared.forward.Forward.{Forward}
 use Rattle.bridge_frames.specs.declared.frame.BridgeFrame.{BridgeFrame}
 use Rattle.bridge_lanes.specs.Lanes.{Waits}
-use Rattle.node_bridge.specs.View.{BridgeView, IsToShip, lane_to}
+use Rattle.node_bridge.specs.View.{BridgeView, IsToShip, greeting_for, lane_to}
 use Rattle.replica_store.specs.States.{State}
 use Rattle.node_work.specs.declared.counts.Missed.TheVariants.{FrameTooLarge}
 use Rattle.node_work.specs.Acts.{Act, Bridge, Runs}
@@ -48,7 +48,7 @@ first_own p h peer =
 
 -- what a frame that goes out leaves as it was
 carries_still : (h k : HeldView) (to : ℕ) (body : FrameBody) → k.bridge ≡ h.bridge → k.store ≡ h.store → Carries h to body → Carries k to body
-carries_still h k to bodies.Hello bridge store d = tt
+carries_still h k to (bodies.Hello g) bridge store d = d ∙ (λ i. greeting_for to (sym bridge i) (sym store i))
 carries_still h k to (bodies.Delta t) bridge store d = subst (λ b. IsToShip to b k.store (Some t)) (sym bridge) (subst (λ s. IsToShip to h.bridge s (Some t)) (sym store) d)
 carries_still h k to (bodies.Know dots) bridge store d = d ∙ ap (λ (s : State). s.taken) (sym store)
 carries_still h k to (bodies.Forward number m) bridge store d = subst (λ b. Waits (lane_to b to) number m) (sym bridge) d

@@ -13,7 +13,7 @@ use Rattle.node_work.specs.declared.counts.Missed.TheVariants.{BadFrame}
 use Rattle.node_work.specs.Acts.{Store, Merged, Bridge}
 use Rattle.node_work.specs.Doings.{GivesBody, GivesFrame, Misses}
 use Rattle.node_work.specs.Frames.{is_for_node, is_other}
-use Rattle.node_work.specs.Held.Bridge.{Allowed, Believed, Got as GotBy, Greeted}
+use Rattle.node_work.specs.Held.Bridge.{Believed, Cleared, Got as GotBy, Greeted}
 use Rattle.node_work.specs.View.{Place, HeldView}
 use Rattle.node_work.specs.Working.{Doing, Returns, Acting, Looks, FindsWhere, If, Then, Each}
 use Rattle.node_clients.specs.Passing.{TakesForward}
@@ -48,7 +48,7 @@ ShipsWhatWaits peer = Then (ShipsState peer) (λ _. ShipsMessages peer)
 
 -- from then on it may have what was put in for it since this node was opened
 abbrev pub ShipsTo : ℕ → Option (Unit {0}) → Doing
-ShipsTo peer = Then (Acting (λ p h. Bridge (Allowed peer))) (λ _. ShipsWhatWaits peer)
+ShipsTo peer = Then (Acting (λ p h. Bridge (Cleared peer))) (λ _. ShipsWhatWaits peer)
 
 abbrev pub Ships : ℕ → Option (Unit {0}) → Doing
 Ships peer = Looks (λ p h. is_other p peer) (λ other. If other (ShipsTo peer) (Returns tt))

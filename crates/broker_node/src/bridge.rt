@@ -75,7 +75,7 @@ pub fn ship(work: &mut Work, peer: u16) -> Result<(), NodeFault>
     if !is_other(work, peer) {
         return Ok(());
     }
-    work.may_give(peer)?;
+    work.may_give(peer);
     ship_what_waits(work, peer)
 }
 
@@ -174,6 +174,7 @@ fn tell_taken(work: &mut Work, to: u16) -> Result<(), NodeFault>
 
 /// Takes what another node says on a new link, and answers.
 fn take_hello(work: &mut Work, from: u16, greeting: Greeting) -> Result<(), NodeFault>
+    requires { from ≢ work.old.place.id }
     ensures { ComesTo (λ x. x) result work.old work.new (TakesHello from greeting) }
 {
     let older = work.held().bridge().is_older(from, greeting.took);
@@ -186,10 +187,11 @@ fn answer_hello(work: &mut Work, to: u16, older: bool) -> Result<(), NodeFault>
     ensures { ComesTo (λ x. x) result work.old work.new (AnswersHello to older) }
 {
     tell_taken(work, to)?;
-    if !older {
-        return Ok(());
+    if older {
+        say_hello(work, to)
+    } else {
+        Ok(())
     }
-    say_hello(work, to)
 }
 
 /// Merges a delta, and answers with the dots that are taken now.

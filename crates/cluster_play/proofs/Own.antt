@@ -6,10 +6,11 @@ use Rattle.bridge_frames.specs.declared.forward.Forward.{Forward}
 use Rattle.home_table.specs.Table.{Table}
 use Rattle.bridge_lanes.specs.Rows.{Messages}
 use Rattle.bridge_lanes.specs.Lanes.{new_lane, up_to, with_got, with_put, with_took}
-use Rattle.node_bridge.specs.View.{lane_to}
+use Rattle.bridge_lanes.specs.Openings.{with_greeted}
+use Rattle.node_bridge.specs.View.{lane_to, opening_of}
 use Rattle.node_rows.specs.Reading.{HasNoLane}
 use Rattle.node_work.specs.Acts.{Act, MomentTaken, Began, Moved, Store, Connection, Session, Bridge, Out, Named, Acknowledged, Passed, Dropped, Made, Merged, Allowed, next}
-use Rattle.node_work.specs.Held.Bridge.{BridgeAct, Put, Took, Got, Believed, Gave, Left_out, MayBridge, bridged}
+use Rattle.node_work.specs.Held.Bridge.{BridgeAct, Put, Took, Got, Believed, Greeted, Cleared, Gave, Left_out, MayBridge, bridged}
 use Rattle.node_work.specs.Held.Connections.{Opened, Fed, Accepted, Roomed, Closed}
 use Rattle.node_work.specs.Held.Sessions.{Begun, Called, Over}
 use Rattle.node_work.specs.View.{Place, HeldView, fresh}
@@ -32,6 +33,8 @@ module _ (p : Place) where
     | inr e ↦ e ∙ none
   ]
   bridged_none h (Believed peer dots) none may = none
+  bridged_none h (Greeted peer g) none may = get_or-set_other h.bridge.lanes peer p.id (with_greeted (opening_of h.bridge peer) g.gone g.took (lane_to h.bridge peer)) new_lane (λ e. may (sym e)) ∙ none
+  bridged_none h (Cleared peer) none may = none
   bridged_none h (Gave f) none may = none
   bridged_none h (Left_out what) none may = none
 

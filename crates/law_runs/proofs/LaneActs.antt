@@ -17,7 +17,7 @@ use Rattle.bridge_lanes.proofs.LaneLists.{numbered_longer}
 use Rattle.bridge_lanes.proofs.Keeping.{AreKept, act_keeps, act_begins, waits_numbered}
 use Rattle.node_bridge.specs.View.{BridgeView, has_lanes, is_next, lane_to, offer_to}
 use Rattle.node_work.specs.Acts.{Act, MomentTaken, Began, Moved, Store, Connection, Session, Bridge, Out, Named, Acknowledged, Passed, Dropped, Runs, gather, heard_in}
-use Rattle.node_work.specs.Held.Bridge.{BridgeAct, Put, Took, Got, Believed, Gave, Left_out, Carries}
+use Rattle.node_work.specs.Held.Bridge.{BridgeAct, Put, Took, Got, Believed, Greeted, Cleared, Gave, Left_out, Carries}
 use Rattle.node_work.specs.Held.Connections.{Opened, Fed, Accepted, Roomed, Closed}
 use Rattle.node_work.specs.Held.Sessions.{Begun, Called, Over}
 use Rattle.node_work.specs.View.{Place, HeldView}
@@ -29,6 +29,8 @@ given_by (Put peer m) = []
 given_by (Took peer number m copies lost) = []
 given_by (Got peer number) = []
 given_by (Believed peer dots) = []
+given_by (Greeted peer g) = []
+given_by (Cleared peer) = []
 given_by (Gave f) = f ∷ []
 given_by (Left_out what) = []
 

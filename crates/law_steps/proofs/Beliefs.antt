@@ -12,7 +12,7 @@ use Rattle.node_work.specs.declared.counts.Counts.{Counts}
 use Rattle.node_work.specs.declared.counts.Missed.{Missed}
 use Rattle.node_work.specs.declared.counts.Missed.TheVariants.{LaneFull, BadFrame, FrameTooLarge, TableRefused}
 use Rattle.node_work.specs.Acts.{Act, MomentTaken, Began, Moved, Store, Connection, Session, Bridge, Out, Named, Acknowledged, Passed, Dropped, Made, Merged, Runs, next}
-use Rattle.node_work.specs.Held.Bridge.{BridgeAct, Put, Took, Got, Believed, Gave, Left_out, bridged, missed}
+use Rattle.node_work.specs.Held.Bridge.{BridgeAct, Put, Took, Got, Believed, Greeted, Cleared, Gave, Left_out, bridged, missed}
 use Rattle.node_work.specs.Held.Connections.{ConnectionAct, Opened, Fed, Accepted, Roomed, Closed, after_connection_act}
 use Rattle.node_work.specs.Held.Sessions.{SessionAct, Begun, Called, Over, called, counted}
 use Rattle.node_work.specs.View.{Place, HeldView, fresh}
@@ -112,6 +112,8 @@ alike_act h (Bridge (Left_out what)) s = record { beliefs = refl; bad = no_bad w
 alike_act h (Bridge (Took peer number m copies lost)) s = absurd s
 alike_act h (Bridge (Got peer number)) s = absurd s
 alike_act h (Bridge (Believed peer dots)) s = absurd s
+alike_act h (Bridge (Greeted peer g)) s = absurd s
+alike_act h (Bridge (Cleared peer)) s = absurd s
 alike_act h (Bridge (Gave f)) s = absurd s
 alike_act h (Connection a) s = alike_by h (after_connection_act h a) (connection_bridge h a) (connection_counts h a)
 alike_act h (Session a) s = record { beliefs = ap (λ (v : BridgeView). v.beliefs) (session_bridge h a); bad = session_bad h a }

@@ -41,11 +41,11 @@ now_told (l ∷ ls) = ap (λ xs. l ∷ xs) (now_told ls)
 pub all_told : (links : LinksView) (lanes : Lanes Forward) → AreOpenedWith links lanes → told_of links.lanes ≡ now_of links.lanes
 all_told links lanes o = ap (λ (l : LinksView). told_of l.lanes) o.2 ∙ told_told lanes ∙ sym (now_told lanes) ∙ ap (λ (l : LinksView). now_of l.lanes) (sym o.2)
 
-pub woken_with : (links : LinksView) (lanes : Lanes Forward) (b : BridgeView) → AreOpenedWith links lanes → AreLanes links.nodes (now_of links.lanes) → b ≡ record { beliefs = links.beliefs; deltas = links.deltas; lanes = now_of links.lanes } → b ≡ woken_bridge lanes
+pub woken_with : (links : LinksView) (lanes : Lanes Forward) (b : BridgeView) → AreOpenedWith links lanes → AreLanes links.nodes (now_of links.lanes) → b ≡ record { beliefs = links.beliefs; openings = links.openings; deltas = links.deltas; lanes = now_of links.lanes } → b ≡ woken_bridge lanes
 woken_with links lanes b o rows is =
     let now : now_of links.lanes ≡ lanes = ap (λ (l : LinksView). now_of l.lanes) o.2 ∙ now_told lanes in
     let count : o.1 ≡ length lanes = sym (ap (λ (l : LinksView). l.nodes) o.2) ∙ sym rows.count ∙ ap length now in
-    is ∙ (λ i. record { beliefs = (ap (λ (l : LinksView). l.beliefs) o.2 ∙ ap (λ n. replicate n set.empty) count) i; deltas = ap (λ (l : LinksView). l.deltas) o.2 i; lanes = now i })
+    is ∙ (λ i. record { beliefs = (ap (λ (l : LinksView). l.beliefs) o.2 ∙ ap (λ n. replicate n set.empty) count) i; openings = ap (λ (l : LinksView). l.openings) o.2 i; deltas = ap (λ (l : LinksView). l.deltas) o.2 i; lanes = now i })
 
 -- ---- lanes
 

@@ -1,11 +1,18 @@
 //! Worked examples of docs/cluster.md.
 
-use bridge_frames::{BridgeFrame, Forward, FrameBody, LinkFault, frame_length};
+use bridge_frames::{
+    BridgeFrame, Forward, FrameBody, Greeting, LaneNumber, LinkFault, frame_length,
+};
+use causal_context::{Context, Dot};
 use std::alloc::Global;
 use std::process::Abort;
 
-/// Hello from node 0 to node 1.
-const HELLO: [u8; 9] = [0, 0, 0, 5, 1, 0, 0, 0, 1];
+/// Hello from node 0 to node 1: the messages up to number 3 are gone, 5 is the last one that was taken, and so are the dots (0, 1) and
+/// (0, 2).
+const HELLO: [u8; 49] = [
+    0, 0, 0, 45, 7, 0, 0, 0, 1, 0, 1, 0, 0, 0, 0, 0, 0, 0, 3, 0, 0, 0, 0, 0, 0, 0, 5, 0, 0, 0, 1,
+    0, 0, 0, 0, 0, 0, 0, 0, 0, 1, 0, 0, 0, 0, 0, 0, 0, 2,
+];
 
 /// A message under number 1 from node 1 to node 0, for plain subscriptions and for `a` in `$share/g/t`: `x` under `t`, by `a`,
 /// at QoS 1.
@@ -80,8 +87,23 @@ fn got_is_below_the_end(rt: HostRuntime) {
     drop((frame, copy));
 }
 
-fn is_hello(frame: &BridgeFrame) -> bool {
-    frame.from == 0 && frame.to == 1 && matches!(frame.body, FrameBody::Hello)
+/// The dots (0, 1) and (0, 2).
+fn two_dots(rt: &impl Abort, alloc: Global) -> Context {
+    let mut dots = Context::new(alloc);
+    for number in [1, 2] {
+        let dot = Dot::new(0, number).expect(rt, "a dot");
+        dots.insert(dot).expect(rt, "memory");
+    }
+    dots
+}
+
+fn is_hello(frame: &BridgeFrame, dots: &Context) -> bool {
+    let FrameBody::Hello(greeting) = &frame.body else {
+        return false;
+    };
+    let is_of_nodes = frame.from == 0 && frame.to == 1;
+    let has_numbers = greeting.gone.get() == 3 && greeting.took.get() == 5;
+    is_of_nodes && has_numbers && greeting.dots.same(dots)
 }
 
 #[test]
@@ -90,13 +112,32 @@ fn hello_both_ways(rt: HostRuntime) {
     let hello = BridgeFrame {
         from: 0,
         to: 1,
-        body: FrameBody::Hello,
+        body: FrameBody::Hello(Greeting {
+            gone: LaneNumber::of(3),
+            took: LaneNumber::of(5),
+            dots: two_dots(&rt, alloc),
+        }),
     };
     assert!(rt; written(&rt, alloc, &hello).as_slice() == HELLO.as_slice());
     let read = read(&rt, alloc, &HELLO);
-    assert!(rt; is_hello(&read));
-    assert!(rt; is_bad(alloc, &HELLO[..8]));
-    drop((hello, read));
+    let copy = read.copy(alloc).expect(&rt, "memory");
+    let dots = two_dots(&rt, alloc);
+    assert!(rt; is_hello(&read, &dots) && is_hello(&copy, &dots));
+    assert!(rt; is_bad(alloc, &HELLO[..48]));
+    drop((hello, read, copy, dots));
+}
+
+// A Hello of format 2, one with a number of 2^62, and one of the kind that it had before are no frames.
+#[test]
+fn hello_of_another_format_is_bad(rt: HostRuntime) {
+    let alloc = rt.alloc();
+    let mut other = HELLO;
+    other[10] = 2;
+    let mut end = HELLO;
+    end[11] = 64;
+    let mut before = HELLO;
+    before[4] = 1;
+    assert!(rt; is_bad(alloc, &other) && is_bad(alloc, &end) && is_bad(alloc, &before));
 }
 
 /// The number and the message of a Forward.

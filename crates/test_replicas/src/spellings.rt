@@ -6,8 +6,15 @@ use std::alloc::Global;
 use std::process::Abort;
 
 /// What frames say, and their bytes in hexadecimal.
-const FRAMES: [(&str, &str); 13] = [
-    ("Hello", "00000005 01 0000 0001"),
+const FRAMES: [(&str, &str); 14] = [
+    (
+        "a Hello of what has put in, taken and made nothing",
+        "0000001b 07 0000 0001 0001 0000000000000000 0000000000000000 00000000",
+    ),
+    (
+        "a Hello after 3 messages, of what took 5, and (1, 1) and (1, 2)",
+        "0000002d 07 0001 0000 0001 0000000000000003 0000000000000005 00000001 0001 0000000000000001 0000000000000002",
+    ),
     ("a Know of no dot", "00000009 03 0001 0000 00000000"),
     (
         "a Know of (1, 1) and (1, 2)",

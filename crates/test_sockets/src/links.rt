@@ -157,7 +157,7 @@ const FORWARD: &[u8] = b"\0\0\0\x05\x04\0\x01\0\0";
 
 const DELTA: &[u8] = b"\0\0\0\x05\x06\0\x01\0\0";
 
-const HELLO: &[u8] = b"\0\0\0\x05\x01\0\x01\0\0";
+const HELLO: &[u8] = b"\0\0\0\x05\x07\0\x01\0\0";
 
 /// How often a peer was given this frame in so many turns, a millisecond after each other, where a link brings these bytes after five.
 fn supplied(rt: &impl Abort, alloc: Global, frame: &'static [u8], bytes: &[u8], turns: u64) -> u32 {
@@ -214,7 +214,7 @@ fn a_silent_peer_is_given_more_after_a_second(rt: HostRuntime) -> Result<(), Fai
         b"\0\0\0\x05\x05\x01\0\0\0",
         b"\0\0\0\x02\x05\0",
         b"\0\0\0\x05\x05\0\0\0",
-        b"\0\0\0\x05\x01\0\0\0\x01",
+        b"\0\0\0\x05\x07\0\0\0\x01",
         b"\0\0\0\x05\x04\0\0\0\x01",
         b"\0\0\0\x05\x06\0\0\0\x01",
     ];

@@ -1,14 +1,14 @@
 //! What a node does for the other nodes.
 
-ghost use Rattle.std.specs.Prelude.{◌≡◌, ◌≢◌, ℕ, true, List, Ok};
+ghost use Rattle.std.specs.Prelude.{◌≡◌, ◌≢◌, ℕ, true, List, Ok, Some};
 ghost use Rattle.bridge_frames.specs.declared.forward.Forward.{Forward};
 ghost use Rattle.bridge_routes.specs.declared.plain.PlainCopy.{PlainCopy as Copy};
 ghost use Rattle.node_bridge.specs.View.{is_next};
 ghost use Rattle.node_work.specs.Acts.{Bridge};
 ghost use Rattle.node_work.specs.Doings.{GivesFrame, Misses, PutsInLane, RoutesBy};
 ghost use Rattle.node_work.specs.Handed.{IsHanded};
-ghost use Rattle.node_work.specs.Held.Bridge.{Allowed, Believed, Carries, Got, Greeted, Took};
-ghost use Rattle.node_work.specs.Working.{ComesTo, Acting};
+ghost use Rattle.node_work.specs.Held.Bridge.{Believed, Cleared, Carries, Got, Greeted, Took};
+ghost use Rattle.node_work.specs.Working.{ComesTo, Acting, Did};
 
 use crate::counts::Missed;
 use crate::fault::NodeFault;
@@ -80,19 +80,18 @@ impl Work {
 
     /// Another node says on a new link what it has.
     pub fn greet(&mut self, peer: u16, greeting: Greeting) -> Result<(), NodeFault>
+        requires { peer ≢ self.old.place.id }
         ensures { ComesTo (λ x. x) result self.old self.new (Acting (λ p h. Bridge (Greeted peer greeting))) }
     {
         self.held.greet(peer, greeting, &mut self.changes)
     }
 
     /// Another node may be given what was put in for it since this one was opened. It takes no memory.
-    pub fn may_give(&mut self, peer: u16) -> Result<(), NodeFault>
-        ensures comes { ComesTo (λ x. x) result self.old self.new (Acting (λ p h. Bridge (Allowed peer))) }
+    pub fn may_give(&mut self, peer: u16)
+        ensures comes { Did self.old self.new (Acting (λ p h. Bridge (Cleared peer)) (Some tt)) }
         ensures same { self.new.changes ≡ self.old.changes }
-        ensures done { result ≡ Ok tt }
     {
         self.held.may_give(peer);
-        Ok(())
     }
 
     /// Takes the next message of another node's lane, with its copies, of which so many picks are lost.

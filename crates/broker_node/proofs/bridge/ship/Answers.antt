@@ -1,24 +1,17 @@
 use Rattle.std.proofs.Common.{sym, ◌∙◌}
+use Rattle.node_work.specs.Acts.{Bridge}
 use Rattle.node_work.specs.Frames.{is_other}
-use Rattle.node_work.specs.Working.{Returns}
-use Rattle.node_work.proofs.Working.{comes_when, then_goes, then_stops}
-use Rattle.broker_node.specs.Bridge.{ShipsMessages, ShipsState, ShipsTo}
+use Rattle.node_work.specs.Held.Bridge.{Cleared}
+use Rattle.node_work.specs.Working.{Acting, Returns}
+use Rattle.node_work.proofs.Working.{comes_when, then_goes}
+use Rattle.broker_node.specs.Bridge.{ShipsTo, ShipsWhatWaits}
 use Rattle.broker_node.proofs.bridge.ship.Goals as goal
-
-pub returns-in_err-ship_state-clause-comes : goal.returns-in_err-ship_state-clause-comes
-returns-in_err-ship_state-clause-comes c =
-    let w = c.args.work.now in
-    let peer = c.args.peer in
-    let r = c.from_residual.result in
-    let m = c.ship_state.new.work in
-    comes_when (λ x. x) r w m (λ p h. is_other p peer) (ShipsTo peer) (Returns tt) (sym c.is_other.ensures ∙ c.if-not-is_other.false)
-    (then_stops (ShipsState peer) (λ _. ShipsMessages peer) (λ x. x) (λ x. x) r c.in_err-ship_state.field-0.0 w m c.from_residual.ensures.1 c.in_err-ship_state.ensures)
 
 pub returns-clause-comes : goal.returns-clause-comes
 returns-clause-comes c =
     let w = c.args.work.now in
     let peer = c.args.peer in
-    let r = c.ship_messages.result in
-    let m = c.ship_messages.new.work in
+    let r = c.ship_what_waits.result in
+    let m = c.ship_what_waits.new.work in
     comes_when (λ x. x) r w m (λ p h. is_other p peer) (ShipsTo peer) (Returns tt) (sym c.is_other.ensures ∙ c.if-not-is_other.false)
-    (then_goes (ShipsState peer) (λ _. ShipsMessages peer) (λ x. x) r w c.ship_state.new.work m tt c.in_ok-ship_state.ensures c.ship_messages.ensures)
+    (then_goes (Acting (λ p h. Bridge (Cleared peer))) (λ _. ShipsWhatWaits peer) (λ x. x) r w c.may_give.new.self m tt c.may_give.ensures.comes c.ship_what_waits.ensures)
