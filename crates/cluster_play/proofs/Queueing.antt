@@ -36,13 +36,14 @@ use Rattle.bridge_frames.specs.declared.body.FrameBody.{FrameBody}
 use Rattle.bridge_frames.specs.declared.body.FrameBody.TheVariants as bodies
 use Rattle.bridge_frames.specs.declared.forward.Forward.{Forward}
 use Rattle.bridge_frames.specs.declared.frame.BridgeFrame.{BridgeFrame}
+use Rattle.bridge_frames.specs.declared.greeting.Greeting.{Greeting}
 use Rattle.bridge_frames.specs.Frames.{frame_in}
 use Rattle.bridge_routes.specs.declared.destinations.Route.{Route}
 use Rattle.bridge_routes.specs.declared.destinations.Route.TheVariants.{Nothing, Lane, TooLarge}
-use Rattle.node_bridge.specs.View.{lane_to, offer_to}
+use Rattle.node_bridge.specs.View.{greeting_for, is_older, lane_to, offer_to}
 use Rattle.node_work.specs.declared.counts.Missed.{Missed}
 use Rattle.node_work.specs.declared.counts.Missed.TheVariants.{LaneFull, BadFrame, FrameTooLarge, TableRefused}
-use Rattle.node_work.specs.Held.Bridge.{BridgeAct, Put as PutIn, Took, Got as GotBy, Believed, Gave, Left_out}
+use Rattle.node_work.specs.Held.Bridge.{BridgeAct, Put as PutIn, Took, Got as GotBy, Believed, Greeted, Cleared, Gave, Left_out}
 use Rattle.node_work.specs.Acts.{Act, MomentTaken, Began, Moved, Store, Connection, Session, Bridge, Out, Named, Acknowledged, Passed, Dropped, Made, Merged, Runs}
 use Rattle.node_work.specs.Calling.{CallsAt, Calls, Queues, QueuesOne}
 use Rattle.node_work.specs.Doings.{TakesMoment, MakesSubscribe, MakesRemove, MakesRemoveBelow, Removes, RemovesBelow, Sends, Disconnects, Redirects, Misses, PutsInLaneBy, Routes, RoutesBy, GivesBody, GivesFrame, is_small}
@@ -661,8 +662,21 @@ takes_next from number m =
     k_looks Answered answered _ (λ next. If next (passing.TakesForward from number m) (Returns tt))
     (λ next. k_if Answered answered next (passing.TakesForward from number m) (Returns tt) (takes_forward from number m) (k_returns Answered answered tt))
 
+says_hello : (peer : ℕ) → Keeps Answered (bridge.SaysHello peer)
+says_hello peer = gives peer (λ h. bodies.Hello (greeting_for peer h.bridge h.store))
+
+answers_hello : (from : ℕ) (older : Bool) → Keeps Answered (bridge.AnswersHello from older)
+answers_hello from older =
+    k_then Answered answered (bridge.TellsTaken from) (λ _. If older (bridge.SaysHello from) (Returns tt)) (gives from (λ h. bodies.Know h.store.taken))
+    (λ _. k_if Answered answered older (bridge.SaysHello from) (Returns tt) (says_hello from) (k_returns Answered answered tt))
+
+takes_hello : (from : ℕ) (g : Greeting) → Keeps Answered (bridge.TakesHello from g)
+takes_hello from g =
+    k_looks Answered answered (λ p h. is_older from g.took h.bridge) (λ older. Then (Acting (λ p h. Bridge (Greeted from g))) (λ _. bridge.AnswersHello from older))
+    (λ older. k_then Answered answered (Acting (λ p h. Bridge (Greeted from g))) (λ _. bridge.AnswersHello from older) (bridge_act (λ p h. Greeted from g)) (λ _. answers_hello from older))
+
 takes_body : (from : ℕ) (body : FrameBody) → Keeps Answered (bridge.TakesBody from body)
-takes_body from bodies.Hello = gives from (λ h. bodies.Know h.store.taken)
+takes_body from (bodies.Hello g) = takes_hello from g
 takes_body from (bodies.Delta s) =
     k_then Answered answered (Acting (λ p h. Store (Merged s))) (λ _. bridge.TellsTaken from) (k_acting Answered answered (λ p h. Store (Merged s)) (λ p h. (tt, tt))) (λ _. gives from (λ h. bodies.Know h.store.taken))
 takes_body from (bodies.Know dots) = bridge_act (λ p h. Believed from dots)
@@ -678,17 +692,20 @@ hears_frame (Some frame) =
 
 greets : (peer : ℕ) → Keeps Answered (bridge.Greets peer)
 greets peer =
-    k_looks Answered answered (λ p h. is_other p peer) (λ other. If other (GivesBody peer (λ h. bodies.Hello)) (Returns tt))
-    (λ other. k_if Answered answered other (GivesBody peer (λ h. bodies.Hello)) (Returns tt) (gives peer (λ h. bodies.Hello)) (k_returns Answered answered tt))
+    k_looks Answered answered (λ p h. is_other p peer) (λ other. If other (bridge.SaysHello peer) (Returns tt))
+    (λ other. k_if Answered answered other (bridge.SaysHello peer) (Returns tt) (says_hello peer) (k_returns Answered answered tt))
 
 gives_state : (peer : ℕ) (s : Option State) → Keeps Answered (bridge.GivesState peer s)
 gives_state peer None = k_returns Answered answered _
 gives_state peer (Some s) = gives peer (λ h. bodies.Delta s)
 
-ships_to : (peer : ℕ) → Keeps Answered (bridge.ShipsTo peer)
-ships_to peer =
+ships_what_waits : (peer : ℕ) → Keeps Answered (bridge.ShipsWhatWaits peer)
+ships_what_waits peer =
     k_then Answered answered (bridge.ShipsState peer) (λ _. bridge.ShipsMessages peer) (k_finds Answered answered (bridge.AreShipped peer) (bridge.GivesState peer) (gives_state peer))
     (λ _. k_looks Answered answered _ (Each GivesFrame) (λ fs. k_each Answered answered GivesFrame fs gives_frame))
+
+ships_to : (peer : ℕ) → Keeps Answered (bridge.ShipsTo peer)
+ships_to peer = k_then Answered answered (Acting (λ p h. Bridge (Cleared peer))) (λ _. bridge.ShipsWhatWaits peer) (bridge_act (λ p h. Cleared peer)) (λ _. ships_what_waits peer)
 
 ships : (peer : ℕ) → Keeps Answered (bridge.Ships peer)
 ships peer =
