@@ -5,9 +5,9 @@ use Rattle.bridge_frames.specs.declared.body.FrameBody.{FrameBody}
 use Rattle.bridge_frames.specs.declared.body.FrameBody.TheVariants.{Hello, Delta, Know, Forward, Got}
 use Rattle.status_tally.specs.Links.{head_of}
 
--- it says what its sender has taken, or brings some of it
+-- it is a Know, which says what its sender has taken, or brings some of it
 abbrev pub tells_by : FrameBody → Bool
-tells_by Hello = false
+tells_by (Hello greeting) = false
 tells_by (Delta state) = true
 tells_by (Know dots) = true
 tells_by (Forward number message) = false
